@@ -1,0 +1,19 @@
+-- The bytes that an item was given mean what it holds.
+use Rattle.std.proofs.Common.{◌≡◌, ℕ, List, Option, Some, None, refl, subst, Bor}
+use Rattle.std.specs.Option.{option_copied}
+use Rattle.jsonb_value.specs.NumCode.{NumCode}
+use Rattle.jsonb_value.specs.ExtCode.{ExtCode}
+use Rattle.jsonb.specs.declared.number_item.NumberItem.{NumberItem}
+use Rattle.jsonb.specs.declared.extension_item.ExtensionItem.{ExtensionItem}
+use Rattle.jsonb.specs.Held.{number_given, number_held, extension_given, extension_held}
+use Rattle.jsonb.proofs.PayloadLaws.{NumCode-number_in, ExtCode-extension_in}
+
+given_holds : (P : List ℕ → Type 0) (o : Option (Bor (List ℕ))) (bytes : List ℕ) → ((b : Bor (List ℕ)) → o ≡ Some b → P b.now) → option_copied o ≡ Some bytes → P bytes
+given_holds P None bytes holds e = let different : ⊥ = cc in absurd different
+given_holds P (Some b) bytes holds e = let same : b.now ≡ bytes = cc in subst P same (holds b refl)
+
+pub NumCode-given : (item : NumberItem) (bytes : List ℕ) → number_given item ≡ Some bytes → NumCode bytes (number_held item)
+NumCode-given item bytes = given_holds (λ p. NumCode p item.number) item.given bytes (λ b e. NumCode-number_in b.now item.number (item.means b e))
+
+pub ExtCode-given : (item : ExtensionItem) (bytes : List ℕ) → extension_given item ≡ Some bytes → ExtCode bytes (extension_held item)
+ExtCode-given item bytes = given_holds (λ p. ExtCode p (extension_held item)) item.given bytes (λ b e. ExtCode-extension_in b.now (extension_held item) (item.means b e))

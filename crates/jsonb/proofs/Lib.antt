@@ -1,0 +1,11 @@
+pub mod PayloadLaws
+pub mod Text
+pub mod Places
+pub mod KindLaws
+pub mod WalkLaws
+pub mod ItemLaws
+pub mod DocumentWalks
+pub mod HeldLaws
+pub mod Parts
+pub mod LookupLaws
+pub mod WholeWalks

@@ -1,0 +1,78 @@
+-- What items mean, and with what they are stored.
+use Rattle.std.specs.Prelude.{◌≡◌, ◌≢◌, ◌⊎◌, ◌+◌, ◌<◌, ◌^◌, ℕ, List, [], ◌++◌, length, true, false, Option, unwrap_or, ⊤}
+use Rattle.jsonb_value.specs.declared.number.Number.{Number}
+use Rattle.jsonb_value.specs.NumCode.{number_payload}
+use Rattle.jsonb_value.specs.ExtCode.{extension_of, extension_payload}
+use Rattle.jsonb_value.specs.Tree.{Tree, Extension}
+use Rattle.jsonb_value.specs.Tree as trees
+use Rattle.jsonb_codec.specs.declared.constants.TheConstants.{SCALAR_CONTAINER_TAG, NULL_TAG, STRING_TAG, NUMBER_TAG, FALSE_TAG, TRUE_TAG, CONTAINER_TAG, EXTENSION_TAG}
+use Rattle.jsonb_codec.specs.Word.{word}
+use Rattle.jsonb_codec.specs.Doc.{Doc, type_of}
+use Rattle.jsonb.specs.declared.code.Payload.{Payload}
+use Rattle.jsonb.specs.declared.code.Payload.TheVariants as payloads
+use Rattle.jsonb.specs.Shown.{Shown, null, boolean, number, text, extension, raw, owned}
+
+-- The item means the tree. A borrowed or owned document means the tree of its bytes.
+abbrev pub Means : Shown → Tree → Type 0
+Means null t = t ≡ trees.null
+Means (boolean b) t = t ≡ trees.boolean b
+Means (number given x) t = t ≡ trees.number x
+Means (text s) t = t ≡ trees.text s
+Means (extension given e) t = t ≡ trees.extension e
+Means (raw b) t = Doc b t
+Means (owned b) t = Doc b t
+
+-- a scalar's document, of its entry's type and its payload
+abbrev pub scalar_bytes : ℕ → List ℕ → List ℕ
+scalar_bytes type payload = word SCALAR_CONTAINER_TAG ++ (word (type + length payload) ++ payload)
+
+-- The document b of the tree t is stored with this type and payload: a scalar with its entry, an array or object whole.
+abbrev pub IsDocumentCode : Tree → List ℕ → ℕ → List ℕ → Type 0
+IsDocumentCode t b type payload =
+    ((type_of t ≢ CONTAINER_TAG) × ((type ≡ type_of t) × (b ≡ scalar_bytes type payload)))
+    ⊎ ((type_of t ≡ CONTAINER_TAG) × ((type ≡ CONTAINER_TAG) × (payload ≡ b)))
+
+-- the payload of a number or an extension value: as it was given, else as it is written
+abbrev pub stored_number : Option (List ℕ) → Number → List ℕ
+stored_number given x = unwrap_or given (number_payload x)
+
+abbrev pub stored_extension : Option (List ℕ) → Extension → List ℕ
+stored_extension given e = unwrap_or given (extension_payload e)
+
+-- the bytes of a payload that is to be stored
+abbrev pub payload_bytes : Payload → List ℕ
+payload_bytes (payloads.Bytes bytes) = bytes.now
+payload_bytes (payloads.Number x) = number_payload x
+payload_bytes (payloads.Extension value) = extension_payload (extension_of value)
+
+-- The item's entry has this type and payload. Bytes of no document have none.
+abbrev pub HasCode : Shown → ℕ → List ℕ → Type 0
+HasCode null type payload = (type ≡ NULL_TAG) × (payload ≡ [])
+HasCode (boolean false) type payload = (type ≡ FALSE_TAG) × (payload ≡ [])
+HasCode (boolean true) type payload = (type ≡ TRUE_TAG) × (payload ≡ [])
+HasCode (number given x) type payload = (type ≡ NUMBER_TAG) × (payload ≡ stored_number given x)
+HasCode (text s) type payload = (type ≡ STRING_TAG) × (payload ≡ s)
+HasCode (extension given e) type payload = (type ≡ EXTENSION_TAG) × (payload ≡ stored_extension given e)
+HasCode (raw b) type payload = (t : Tree) × (Doc b t × IsDocumentCode t b type payload)
+HasCode (owned b) type payload = (t : Tree) × (Doc b t × IsDocumentCode t b type payload)
+
+-- the bytes that an item becomes by itself: its own, or the scalar document of its code
+abbrev pub stored : Shown → List ℕ
+stored null = scalar_bytes NULL_TAG []
+stored (boolean false) = scalar_bytes FALSE_TAG []
+stored (boolean true) = scalar_bytes TRUE_TAG []
+stored (number given x) = scalar_bytes NUMBER_TAG (stored_number given x)
+stored (text s) = scalar_bytes STRING_TAG s
+stored (extension given e) = scalar_bytes EXTENSION_TAG (stored_extension given e)
+stored (raw b) = b
+stored (owned b) = b
+
+-- The payload that has to be written is not past its limit.
+abbrev pub CanBeStored : Shown → Type 0
+CanBeStored null = ⊤
+CanBeStored (boolean b) = ⊤
+CanBeStored (number given x) = length (stored_number given x) < 2 ^ 28
+CanBeStored (text s) = length s < 2 ^ 28
+CanBeStored (extension given e) = length (stored_extension given e) < 2 ^ 28
+CanBeStored (raw b) = ⊤
+CanBeStored (owned b) = ⊤

@@ -1,0 +1,12 @@
+-- What an entry that was read shows.
+use Rattle.std.specs.Prelude.{Result, Ok, Err}
+use Rattle.jsonb_value.specs.declared.error.Error.{Error}
+use Rattle.jsonb.specs.declared.entries.Entry as src
+use Rattle.jsonb.specs.Item.{Entry}
+
+abbrev pub entry_of : src.Entry → Entry
+entry_of entry = record { type = entry.type_code; payload = entry.payload.now }
+
+abbrev pub shown_entry : Result src.Entry Error → Result Entry Error
+shown_entry (Ok entry) = Ok (entry_of entry)
+shown_entry (Err e) = Err e

@@ -1,0 +1,15 @@
+pub mod Steps
+pub mod Raw
+pub mod Owned
+pub mod Kind
+pub mod Payloads
+pub mod Held
+pub mod Shown
+pub mod Item
+pub mod Entries
+pub mod Views
+pub mod Code
+pub mod Walk
+pub mod Walked
+pub mod Lookup
+pub mod Parts

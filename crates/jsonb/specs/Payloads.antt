@@ -1,0 +1,37 @@
+-- What the payloads of strings, numbers and extension values mean, as functions of their bytes.
+use Rattle.std.specs.Prelude.{ℕ, ◌==◌, ◌%◌, if◌then◌else◌, Bool, false, List, [], ◌∷◌, length, Option, Some, None}
+use Rattle.std.proofs.Common.{inl, inr}
+use Rattle.std.specs.Str.Lossy.{utf8_valid_len}
+use Rattle.jsonb_value.specs.declared.error.Error.{Error}
+use Rattle.jsonb_value.specs.declared.error.Error.TheVariants.{InvalidJsonbNumber, InvalidJsonbExtension}
+use Rattle.jsonb_value.specs.declared.number.Number.{Number}
+use Rattle.jsonb_value.specs.Tree.{Extension}
+use Rattle.jsonb_value.specs.NumCode.{NumCode}
+use Rattle.jsonb_value.specs.ExtCode.{ExtCode}
+use Rattle.jsonb_value.proofs.PayloadDecision.{Decided, decide_number, decide_extension}
+
+-- the bytes are UTF-8
+abbrev pub is_text : List ℕ → Bool
+is_text bytes = utf8_valid_len bytes == length bytes
+
+-- what was found, if anything was
+abbrev pub found : {A : Type 0} (P : A → Type 0) → Decided ((x : A) × P x) → Option A
+found P (inl h) = Some h.0
+found P (inr none) = None
+
+-- the number that a payload means
+unfoldable pub number_in : List ℕ → Option Number
+number_in p = found (NumCode p) (decide_number p)
+
+-- the extension value that a payload means
+unfoldable pub extension_in : List ℕ → Option Extension
+extension_in p = found (ExtCode p) (decide_extension p)
+
+-- the first byte is one that an extension value can have
+abbrev pub has_known_tag : List ℕ → Bool
+has_known_tag [] = false
+has_known_tag (tag ∷ rest) = tag % 16 == 0
+
+-- why a payload means no extension value
+abbrev pub extension_error : List ℕ → Error
+extension_error p = if has_known_tag p then InvalidJsonbNumber else InvalidJsonbExtension

@@ -1,0 +1,74 @@
+-- What items and iterators give on a document.
+use Rattle.std.specs.Prelude.{◌≡◌, ◌≢◌, ◌⊎◌, ◌<◌, ◌^◌, ℕ, List, [], ◌∷◌, length, Option, None, IsSomeAnd, Result, Ok, Err, IsOkAnd}
+use Rattle.jsonb_value.specs.declared.error.Error.{Error}
+use Rattle.jsonb_value.specs.Tree.{Tree, array, object, Trees, no_trees, tree, Pairs, no_pairs, pair, count, pair_count}
+use Rattle.jsonb_codec.specs.declared.constants.TheConstants.{CONTAINER_TAG}
+use Rattle.jsonb_codec.specs.Doc.{Payload, type_of}
+use Rattle.jsonb.specs.Shown.{Shown}
+use Rattle.jsonb.specs.Shown as items
+use Rattle.jsonb.specs.Item.{item_of}
+use Rattle.jsonb.specs.Code.{Means, HasCode}
+use Rattle.jsonb.specs.Walk.{Walk}
+
+-- The item is that of an entry of the tree: of its type and a payload that means it. So it means the tree and is stored as that entry.
+pub record IsItemOf (t : Tree) (x : Shown) : Type 0 where
+  pub payload : List ℕ
+  pub short : length payload < 2 ^ 28
+  pub payload_means : Payload t payload
+  pub item : item_of (type_of t) payload ≡ Ok x
+  pub means : Means x t
+  pub code : HasCode x (type_of t) payload
+
+-- The item of the document b of the tree: an array or object as all its bytes, a scalar as the item of its entry.
+abbrev pub IsItemIn : Tree → List ℕ → Shown → Type 0
+IsItemIn t b x = ((type_of t ≢ CONTAINER_TAG) × IsItemOf t x) ⊎ ((type_of t ≡ CONTAINER_TAG) × (x ≡ items.raw b))
+
+-- The items of these trees, in order, with no error.
+abbrev pub ShowsTrees : Trees → List (Result Shown Error) → Type 0
+ShowsTrees no_trees xs = xs ≡ []
+ShowsTrees (tree t ts) [] = ⊥
+ShowsTrees (tree t ts) (Ok x ∷ xs) = IsItemOf t x × ShowsTrees ts xs
+ShowsTrees (tree t ts) (Err e ∷ xs) = ⊥
+
+-- the keys of these pairs, each as the string
+abbrev pub shown_keys : Pairs → List (Result Shown Error)
+shown_keys no_pairs = []
+shown_keys (pair k t ps) = Ok (items.text k) ∷ shown_keys ps
+
+-- The items of the values of these pairs,
+abbrev pub ShowsValues : Pairs → List (Result Shown Error) → Type 0
+ShowsValues no_pairs xs = xs ≡ []
+ShowsValues (pair k t ps) [] = ⊥
+ShowsValues (pair k t ps) (Ok x ∷ xs) = IsItemOf t x × ShowsValues ps xs
+ShowsValues (pair k t ps) (Err e ∷ xs) = ⊥
+
+-- and each key with its value's item.
+abbrev pub ShowsPairs : Pairs → List (Result (List ℕ × Shown) Error) → Type 0
+ShowsPairs no_pairs xs = xs ≡ []
+ShowsPairs (pair k t ps) [] = ⊥
+ShowsPairs (pair k t ps) (Ok x ∷ xs) = (x.0 ≡ k) × (IsItemOf t x.1 × ShowsPairs ps xs)
+ShowsPairs (pair k t ps) (Err e ∷ xs) = ⊥
+
+-- there is an iterator of that count, for whose items this holds
+abbrev pub WalksOver : {A : Type 0} → ℕ → (List (Result A Error) → Type 0) → Result (Option (Walk A)) Error → Type 0
+WalksOver n Shows r = IsOkAnd r (λ o. IsSomeAnd o (λ walk. (walk.count ≡ n) × Shows walk.rest))
+
+-- An array's iterator shows its items, and there is none for any other tree;
+abbrev pub WalksArray : Tree → Result (Option (Walk Shown)) Error → Type 0
+WalksArray (array ts) r = WalksOver (count ts) (ShowsTrees ts) r
+WalksArray t r = r ≡ Ok None
+
+-- an object's iterators show its keys,
+abbrev pub WalksKeys : Tree → Result (Option (Walk Shown)) Error → Type 0
+WalksKeys (object ps) r = WalksOver (pair_count ps) (λ xs. xs ≡ shown_keys ps) r
+WalksKeys t r = r ≡ Ok None
+
+-- its values,
+abbrev pub WalksValues : Tree → Result (Option (Walk Shown)) Error → Type 0
+WalksValues (object ps) r = WalksOver (pair_count ps) (ShowsValues ps) r
+WalksValues t r = r ≡ Ok None
+
+-- and its pairs.
+abbrev pub WalksPairs : Tree → Result (Option (Walk (List ℕ × Shown))) Error → Type 0
+WalksPairs (object ps) r = WalksOver (pair_count ps) (ShowsPairs ps) r
+WalksPairs t r = r ≡ Ok None

@@ -1,0 +1,67 @@
+//! Extension values as items hold them: as the bytes that were given, or by value.
+
+ghost use Rattle.std.specs.Prelude.{◌≡◌, Some};
+ghost use Rattle.std.specs.Option.{ForSome};
+ghost use Rattle.jsonb_value.specs.ExtCode.{extension_of};
+ghost use Rattle.jsonb.specs.Payloads.{extension_in};
+
+use crate::code::Payload;
+use jsonb_value::{Error, ExtensionValue};
+
+/// An extension value, by value or as its payload's bytes. These are kept as they were given.
+#[derive(Clone, Copy, Debug)]
+pub struct ExtensionItem<'a> {
+    value: ExtensionValue<'a>,
+    given: Option<&'a [u8]>,
+    ghost means: { ForSome given (λ bytes. extension_in bytes.now ≡ Some (extension_of value)) },
+}
+
+impl<'a> ExtensionItem<'a> {
+    ghost use Rattle.std.specs.Prelude.{◌≡◌, IfOk, IfErr, OnErr, Some, None};
+    ghost use Rattle.jsonb_value.specs.Tree.{Extension};
+    ghost use Rattle.jsonb_value.specs.ExtCode.{ExtCode, extension_of};
+    ghost use Rattle.jsonb.specs.Held.{extension_given, extension_held};
+    ghost use Rattle.jsonb.specs.Payloads.{extension_error};
+    ghost use Rattle.jsonb.specs.Code.{stored_extension, payload_bytes};
+
+    /// The extension value that these bytes mean as a payload, held as these bytes. Else
+    /// `InvalidJsonbNumber` for a known first byte, `InvalidJsonbExtension` for another first
+    /// byte and for no bytes.
+    pub fn from_bytes(bytes: &'a [u8]) -> Result<ExtensionItem<'a>, Error>
+        ensures ok { IfOk result (λ item. ExtCode bytes.entry.now (extension_held item)) }
+        ensures given { IfOk result (λ item. extension_given item ≡ Some bytes.entry.now) }
+        ensures none { OnErr result ((e : Extension) → ExtCode bytes.entry.now e → ⊥) }
+        ensures err { IfErr result (λ e. e ≡ extension_error bytes.entry.now) }
+    {
+        let value = ExtensionValue::decode(bytes)?;
+        Ok(ExtensionItem {
+            value,
+            given: Some(bytes),
+        })
+    }
+
+    /// This extension value, by value.
+    pub fn from_value(value: ExtensionValue<'a>) -> ExtensionItem<'a>
+        ensures value { extension_held result ≡ extension_of value.entry }
+        ensures given { extension_given result ≡ None }
+    {
+        ExtensionItem { value, given: None }
+    }
+
+    /// The extension value.
+    pub fn as_extension_value(&self) -> ExtensionValue<'a>
+        ensures { extension_of result ≡ extension_held self.now }
+    {
+        self.value
+    }
+
+    /// The payload to store: the bytes as they were given, else those that are written.
+    pub(crate) fn payload(&self) -> Payload<'a>
+        ensures { payload_bytes result ≡ stored_extension (extension_given self.now) (extension_held self.now) }
+    {
+        match self.given {
+            Some(bytes) => Payload::Bytes(bytes),
+            None => Payload::Extension(self.as_extension_value()),
+        }
+    }
+}

@@ -1,0 +1,219 @@
+//! Values as they are handed out and stored: scalars, and documents by their bytes.
+
+ghost use Rattle.std.specs.Prelude.{◌≡◌, ◌≢◌, ◌↔◌, ◌⊎◌, None, Some, Ok, Err, option_map, IfOk, IfErr, IsOkAnd, IsSome, OnOk};
+ghost use Rattle.jsonb_value.specs.Tree.{Tree};
+ghost use Rattle.jsonb_value.specs.Value.{cow_bytes};
+ghost use Rattle.jsonb_codec.specs.Doc.{Doc, type_of};
+ghost use Rattle.jsonb.specs.Raw.{raw_bytes};
+ghost use Rattle.jsonb.specs.Shown.{Shown, shown, shown_item, null};
+ghost use Rattle.jsonb.specs.Item.{item_in, item_of, scalar_item, text_item, number_item, extension_item};
+ghost use Rattle.jsonb.specs.Entries.{entry_of};
+ghost use Rattle.jsonb.specs.Code.{stored, CanBeStored};
+ghost use Rattle.jsonb.specs.Walked.{IsItemIn};
+ghost use Rattle.jsonb.specs.Views.{kind_of_shown, raw_in, text_in};
+
+use crate::entries::{Entries, Entry};
+use crate::extension_item::ExtensionItem;
+use crate::item_type::JsonbItemType;
+use crate::number_item::NumberItem;
+use crate::owned::OwnedJsonb;
+use crate::raw::RawJsonb;
+use jsonb_codec::constants::{
+    CONTAINER_TAG, EXTENSION_TAG, FALSE_TAG, NULL_TAG, NUMBER_TAG, SCALAR_CONTAINER_TAG,
+    STRING_TAG, TRUE_TAG,
+};
+use jsonb_codec::read_header;
+use jsonb_value::Error;
+use std::alloc::Global;
+use std::borrow::CowStr;
+use std::str;
+
+/// A value: a scalar, or a document by its bytes, borrowed or owned. A scalar's document too may
+/// be held by its bytes.
+#[derive(Debug, Drop)]
+pub enum JsonbItem<'a> {
+    Null,
+    Boolean(bool),
+    Number(NumberItem<'a>),
+    String(CowStr<'a>),
+    Extension(ExtensionItem<'a>),
+    Raw(RawJsonb<'a>),
+    Owned(OwnedJsonb),
+}
+
+impl<'a> JsonbItem<'a> {
+    /// The item that these bytes hold: an array or object, told by the header alone, is all the
+    /// bytes as `Raw`; a scalar is the item of its one entry, and what follows its payload is not
+    /// looked at. `InvalidEOF` where the header or the entry is cut; `InvalidJsonb` for a header
+    /// or an entry of no kind, for a payload past the end, and for a container's entry under a
+    /// scalar's header; `InvalidUtf8`, `InvalidJsonbNumber` and `InvalidJsonbExtension` by what
+    /// the payload is.
+    pub fn from_raw_jsonb(raw: RawJsonb<'a>) -> Result<JsonbItem<'a>, Error>
+        ensures item { shown_item result ≡ item_in (raw_bytes raw.entry) }
+
+        // Of a document it is the item of its tree, with no error, and stored as these bytes again.
+        ensures document { (t : Tree) → Doc (raw_bytes raw.entry) t
+            → IsOkAnd result (λ item. IsItemIn t (raw_bytes raw.entry) (shown item)) }
+        ensures again { (t : Tree) → Doc (raw_bytes raw.entry) t
+            → IsOkAnd result (λ item. (stored (shown item) ≡ raw_bytes raw.entry)
+            × CanBeStored (shown item)) }
+    {
+        item_of_bytes(raw)
+    }
+
+    /// The kind: by the variant, for `Raw` and `Owned` that of their bytes, with
+    /// `RawJsonb::jsonb_item_type`'s refusals.
+    pub fn jsonb_item_type(&self) -> Result<JsonbItemType, Error>
+        ensures { result ≡ kind_of_shown (shown self.now) }
+    {
+        match self {
+            JsonbItem::Null => Ok(JsonbItemType::Null),
+            JsonbItem::Boolean(_) => Ok(JsonbItemType::Boolean),
+            JsonbItem::Number(_) => Ok(JsonbItemType::Number),
+            JsonbItem::String(_) => Ok(JsonbItemType::String),
+            JsonbItem::Extension(_) => Ok(JsonbItemType::Extension),
+            JsonbItem::Raw(raw) => raw.jsonb_item_type(),
+            JsonbItem::Owned(owned) => owned.as_raw().jsonb_item_type(),
+        }
+    }
+
+    /// The bytes of a `Raw`. `None` for every other variant.
+    pub fn as_raw_jsonb(&self) -> Option<RawJsonb<'a>>
+        ensures { option_map raw_bytes result ≡ raw_in (shown self.now) }
+    {
+        match self {
+            JsonbItem::Raw(raw) => Some(*raw),
+            _ => None,
+        }
+    }
+
+    /// Whether this is `Null`.
+    pub fn as_null(&self) -> Option<()>
+        ensures { IsSome result ↔ (shown self.now ≡ null) }
+    {
+        match self {
+            JsonbItem::Null => Some(()),
+            _ => None,
+        }
+    }
+
+    /// The text of a `String`: borrowed where the item borrows it, else a copy. `None` for every
+    /// other variant. Only memory can be refused.
+    pub fn as_str(&self, alloc: Global) -> Result<Option<CowStr<'a>>, Error>
+        ensures ok { IfOk result (λ text. option_map cow_bytes text ≡ text_in (shown self.now)) }
+        ensures memory { IfErr result (λ e. e ≡ Error.OutOfMemory) }
+    {
+        match self {
+            JsonbItem::String(text) => Ok(Some(clone_text(text, alloc)?)),
+            _ => Ok(None),
+        }
+    }
+
+    /// The same item: owned bytes and texts are copied, borrowed ones borrowed again. Only memory
+    /// can be refused.
+    pub fn clone(&self, alloc: Global) -> Result<JsonbItem<'a>, Error>
+        ensures ok { IfOk result (λ item. shown item ≡ shown self.now) }
+        ensures memory { IfErr result (λ e. e ≡ Error.OutOfMemory) }
+    {
+        match self {
+            JsonbItem::Null => Ok(JsonbItem::Null),
+            JsonbItem::Boolean(value) => Ok(JsonbItem::Boolean(*value)),
+            JsonbItem::Number(item) => Ok(JsonbItem::Number(*item)),
+            JsonbItem::String(text) => Ok(JsonbItem::String(clone_text(text, alloc)?)),
+            JsonbItem::Extension(item) => Ok(JsonbItem::Extension(*item)),
+            JsonbItem::Raw(raw) => Ok(JsonbItem::Raw(*raw)),
+            JsonbItem::Owned(owned) => Ok(JsonbItem::Owned(owned.clone(alloc)?)),
+        }
+    }
+}
+
+/// The text, whoever owns it.
+pub fn text_of<'t>(text: &'t CowStr<'_>) -> &'t str
+    ensures { result.now ≡ cow_bytes text.now }
+{
+    match text {
+        CowStr::Borrowed(text) => text,
+        CowStr::Owned(text) => text.as_str(),
+    }
+}
+
+// The same text, borrowed again or copied.
+fn clone_text<'a>(text: &CowStr<'a>, alloc: Global) -> Result<CowStr<'a>, Error>
+    ensures ok { IfOk result (λ copy. cow_bytes copy ≡ cow_bytes text.now) }
+    ensures memory { IfErr result (λ e. e ≡ Error.OutOfMemory) }
+{
+    match text {
+        CowStr::Borrowed(text) => Ok(CowStr::Borrowed(text)),
+        CowStr::Owned(text) => Ok(CowStr::Owned(String::from_str(alloc, text.as_str())?)),
+    }
+}
+
+/// The item of an entry: null and truth values by the type alone, a container's bytes not looked
+/// into. `InvalidUtf8`, `InvalidJsonbNumber` and `InvalidJsonbExtension` by what the payload is,
+/// `InvalidJsonb` for a type of no meaning.
+#[tactic(auto, unfolding(crate::specs::Item::item_of))]
+pub fn item_of_entry<'a>(entry: Entry<'a>) -> Result<JsonbItem<'a>, Error>
+    ensures { shown_item result ≡ item_of entry.entry.type_code entry.entry.payload.now }
+{
+    match entry.type_code {
+        NULL_TAG => Ok(JsonbItem::Null),
+        FALSE_TAG => Ok(JsonbItem::Boolean(false)),
+        TRUE_TAG => Ok(JsonbItem::Boolean(true)),
+        STRING_TAG => text_item(entry.payload),
+        NUMBER_TAG => number_item(entry.payload),
+        EXTENSION_TAG => extension_item(entry.payload),
+        CONTAINER_TAG => Ok(JsonbItem::Raw(RawJsonb::new(entry.payload))),
+        _ => Err(Error::InvalidJsonb),
+    }
+}
+
+// The same under a scalar's header, where no container can stand.
+#[tactic(auto, unfolding(crate::specs::Item::scalar_item))]
+fn scalar_item<'a>(entry: Entry<'a>) -> Result<JsonbItem<'a>, Error>
+    ensures { shown_item result ≡ scalar_item (entry_of entry.entry) }
+{
+    if entry.type_code == CONTAINER_TAG {
+        return Err(Error::InvalidJsonb);
+    }
+    item_of_entry(entry)
+}
+
+#[tactic(auto, using(crate::proofs::Text::is_text_yes, crate::proofs::Text::is_text_no))]
+fn text_item<'a>(bytes: &'a [u8]) -> Result<JsonbItem<'a>, Error>
+    ensures { shown_item result ≡ text_item bytes.now }
+{
+    match str::from_utf8(bytes) {
+        Ok(text) => Ok(JsonbItem::String(CowStr::Borrowed(text))),
+        Err(_) => Err(Error::InvalidUtf8),
+    }
+}
+
+fn number_item<'a>(bytes: &'a [u8]) -> Result<JsonbItem<'a>, Error>
+    ensures { shown_item result ≡ number_item bytes.now }
+{
+    Ok(JsonbItem::Number(NumberItem::from_bytes(bytes)?))
+}
+
+fn extension_item<'a>(bytes: &'a [u8]) -> Result<JsonbItem<'a>, Error>
+    ensures { shown_item result ≡ extension_item bytes.now }
+{
+    Ok(JsonbItem::Extension(ExtensionItem::from_bytes(bytes)?))
+}
+
+// The item that bytes hold.
+#[tactic(auto, unfolding(crate::specs::Item::item_in))]
+fn item_of_bytes<'a>(raw: RawJsonb<'a>) -> Result<JsonbItem<'a>, Error>
+    ensures { shown_item result ≡ item_in (raw_bytes raw.entry) }
+{
+    let bytes = raw.as_bytes();
+    let (tag, _) = read_header(bytes, 0)?;
+    if tag != SCALAR_CONTAINER_TAG {
+        return Ok(JsonbItem::Raw(raw));
+    }
+    let entries = Entries {
+        bytes,
+        place: 4,
+        start: 8,
+    };
+    scalar_item(entries.first()?)
+}

@@ -1,0 +1,84 @@
+//! Kinds of values.
+
+ghost use Rattle.std.specs.Prelude.{◌≡◌};
+ghost use Rattle.jsonb.specs.Kind.{kind, kind_of_type, kind_rank, rank_order};
+
+use jsonb_codec::constants::{
+    ARRAY_CONTAINER_TAG, EXTENSION_TAG, FALSE_TAG, NULL_TAG, NUMBER_TAG, OBJECT_CONTAINER_TAG,
+    STRING_TAG, TRUE_TAG,
+};
+use jsonb_codec::{read_header, read_jentry};
+use jsonb_value::Error;
+use std::cmp::Ordering;
+
+/// The kind of a value, of an array with the count of its items, of an object with that of its
+/// pairs. `==` compares kind and count.
+#[derive(Clone, Copy, Debug, PartialEq, Eq)]
+pub enum JsonbItemType {
+    Null,
+    Boolean,
+    Number,
+    String,
+    Extension,
+    Array(usize),
+    Object(usize),
+}
+
+impl JsonbItemType {
+    /// What the kinds alone say of the order of two values. The greatest is null, then arrays,
+    /// objects, strings, numbers, truth values and extension values. Null and null are `Equal`;
+    /// `None` for any other kind with itself, whatever the counts.
+    pub fn rank_cmp(&self, other: &Self) -> Option<Ordering>
+        ensures { result ≡ rank_order self.now other.now }
+    {
+        if let (JsonbItemType::Null, JsonbItemType::Null) = (self, other) {
+            return Some(Ordering::Equal);
+        }
+        match self.rank().cmp(&other.rank()) {
+            Ordering::Equal => None,
+            unequal => Some(unequal),
+        }
+    }
+
+    // The kind's place, rising.
+    fn rank(&self) -> u8
+        ensures { result ≡ kind_rank self.now }
+    {
+        match self {
+            JsonbItemType::Extension => 0,
+            JsonbItemType::Boolean => 1,
+            JsonbItemType::Number => 2,
+            JsonbItemType::String => 3,
+            JsonbItemType::Object(_) => 4,
+            JsonbItemType::Array(_) => 5,
+            JsonbItemType::Null => 6,
+        }
+    }
+
+    // The kind of a scalar whose entry has this type.
+    fn of_entry(type_code: u32) -> Result<JsonbItemType, Error>
+        ensures { result ≡ kind_of_type type_code }
+    {
+        match type_code {
+            NULL_TAG => Ok(JsonbItemType::Null),
+            FALSE_TAG | TRUE_TAG => Ok(JsonbItemType::Boolean),
+            NUMBER_TAG => Ok(JsonbItemType::Number),
+            STRING_TAG => Ok(JsonbItemType::String),
+            EXTENSION_TAG => Ok(JsonbItemType::Extension),
+            _ => Err(Error::InvalidJsonb),
+        }
+    }
+}
+
+/// The kind that bytes show by their first two words.
+#[tactic(auto, unfolding(crate::specs::Kind::kind))]
+pub fn kind_of(bytes: &[u8]) -> Result<JsonbItemType, Error>
+    ensures { result ≡ kind bytes.now }
+{
+    let (tag, count) = read_header(bytes, 0)?;
+    match tag {
+        ARRAY_CONTAINER_TAG => Ok(JsonbItemType::Array(count)),
+        OBJECT_CONTAINER_TAG => Ok(JsonbItemType::Object(count)),
+        _ => JsonbItemType::of_entry(read_jentry(bytes, 4)?.type_code),
+    }
+}

@@ -1,0 +1,36 @@
+//! Binary JSON documents, read in place: their kinds, items and iterators.
+#![tactic(auto)]
+
+mod code;
+mod entries;
+mod extension_item;
+mod item;
+mod item_type;
+mod iterator;
+mod lookup;
+mod number_item;
+mod owned;
+mod raw;
+mod reads;
+#[cfg(test)]
+mod tests;
+mod walks;
+
+pub use extension_item::ExtensionItem;
+pub use item::JsonbItem;
+pub use item_type::JsonbItemType;
+pub use iterator::{ArrayIterator, ObjectIterator, ObjectKeyIterator, ObjectValueIterator};
+pub use jsonb_codec::{
+    Decoder, Encoder, JEntry, JsonAstEncoder, constants, document_laws, is_canonical, is_document,
+    is_document_within, read_header, read_jentry, read_word, value_of,
+};
+pub use jsonb_value::{
+    Date, Decimal64, Decimal128, Error, ExtensionValue, Interval, JsonAst, Number, Object, Opaque,
+    Timestamp, TimestampTz, Value, extension_text, order_of_extension_values, order_of_meanings,
+    order_of_numbers, order_of_trees, parse_value, write_number, write_string,
+};
+pub use lookup::MAX_READS;
+pub use number_item::NumberItem;
+pub use owned::OwnedJsonb;
+pub use raw::RawJsonb;
+pub use reads::Reads;

@@ -1,0 +1,246 @@
+//! The value of a key, found in place with a counted number of reads.
+
+ghost use Rattle.std.specs.Prelude.{◌≡◌, ℕ, ◌+◌, ◌-◌, ◌*◌, ◌<◌, ◌≤◌, ◌↔◌, ◌^◌, Bool, List, length, take, drop, option_map, IfOk, IfErr, IfSome, IfNone, IsOk, IsOkAnd, OnOk};
+ghost use Rattle.std.specs.Fn.{FnReturnsAtPair};
+ghost use Rattle.jsonb_value.specs.Tree.{Tree};
+ghost use Rattle.jsonb_codec.specs.declared.constants.TheConstants.{OBJECT_CONTAINER_TAG};
+ghost use Rattle.jsonb_codec.specs.JEntry.{jentry_at};
+ghost use Rattle.jsonb_codec.specs.Doc.{Doc};
+ghost use Rattle.jsonb.specs.Raw.{raw_bytes};
+ghost use Rattle.jsonb.specs.Shown.{shown};
+ghost use Rattle.jsonb.specs.Item.{part_at, item_of};
+ghost use Rattle.jsonb.specs.Walk.{count_under};
+ghost use Rattle.jsonb.specs.Parts.{part_length, part_type, part_start, HasParts, NoneBefore, IsAccepted, IsNoneFound, IsValueFound};
+ghost use Rattle.jsonb.specs.Lookup.{header_count, IsRefusal, LooksUp, LooksUpIn, find, AnswersBy, IsItemFound};
+
+use crate::entries::Entry;
+use crate::item::{JsonbItem, item_of_entry};
+use crate::raw::RawJsonb;
+use crate::reads::Reads;
+use jsonb_codec::JEntry;
+use jsonb_codec::constants::{
+    ARRAY_CONTAINER_TAG, CONTAINER_HEADER_LEN_MASK, OBJECT_CONTAINER_TAG, SCALAR_CONTAINER_TAG,
+};
+use jsonb_value::Error;
+
+/// The greatest tally with which a look-up may begin.
+pub const MAX_READS: u64 = 9_223_372_036_854_775_807;
+
+// How many pairs there are: `None` where the header is that of an array or a scalar.
+#[tactic(auto, unfolding(crate::specs::Walk::count_under, crate::specs::Lookup::header_count))]
+fn count_pairs(bytes: &[u8], reads: &mut Reads) -> Result<Option<usize>, Error>
+    requires { reads.old < 2 ^ 63 }
+    ensures value { result ≡ count_under bytes.now OBJECT_CONTAINER_TAG }
+    ensures counted { IfOk result (λ count. IfSome count (λ n. n ≡ header_count bytes.now)) }
+    ensures small { IfOk result (λ count. IfSome count (λ n. n < 2 ^ 29)) }
+    ensures cost { OnOk result (reads.new ≡ reads.old + 1) }
+    ensures bound { (reads.old ≤ reads.new) × (reads.new ≤ reads.old + 1) }
+    ensures refused { IfErr result IsRefusal }
+{
+    let header = reads.word(bytes, 0)?;
+    let count = header & CONTAINER_HEADER_LEN_MASK;
+    match header - count {
+        OBJECT_CONTAINER_TAG => Ok(Some(count as usize)),
+        ARRAY_CONTAINER_TAG | SCALAR_CONTAINER_TAG => Ok(None),
+        _ => Err(Error::InvalidJsonb),
+    }
+}
+
+// The entry of this number: those of the keys, and behind them those of the values.
+#[tactic(auto, unfolding(crate::specs::Parts::part_length, crate::specs::Parts::part_type))]
+fn read_entry(bytes: &[u8], number: usize, reads: &mut Reads) -> Result<JEntry, Error>
+    requires number { number < 2 ^ 30 }
+    requires room { reads.old < u64.MAX }
+    ensures value { result ≡ jentry_at bytes.now (4 + 4 * number) }
+    ensures long { IfOk result (λ entry. entry.length ≡ part_length bytes.now number) }
+    ensures type_code { IfOk result (λ entry. entry.type_code ≡ part_type bytes.now number) }
+    ensures short { IfOk result (λ entry. entry.length < 2 ^ 28) }
+    ensures there { IsOk result ↔ (4 + 4 * number + 4 ≤ length bytes.now) }
+    ensures cut { IfErr result (λ e. e ≡ Error.InvalidEOF) }
+    ensures cost { OnOk result (reads.new ≡ reads.old + 1) }
+    ensures bound { (reads.old ≤ reads.new) × (reads.new ≤ reads.old + 1) }
+{
+    Ok(JEntry::decode_jentry(reads.word(bytes, 4 + 4 * number)?))
+}
+
+// That many bytes from a place on. `InvalidJsonb` where they run past the end.
+#[tactic(auto, unfolding(crate::specs::Item::part_at))]
+fn payload(bytes: &[u8], start: usize, size: usize) -> Result<&[u8], Error>
+    requires { start + size < 2 ^ 64 }
+    ensures value { IfOk result (λ part. part.now ≡ take size (drop start bytes.now)) }
+    ensures there { IsOk result ↔ (start + size ≤ length bytes.now) }
+    ensures past { IfErr result (λ e. e ≡ Error.InvalidJsonb) }
+{
+    bytes.get(start..start + size).ok_or(Error::InvalidJsonb)
+}
+
+// A pair whose key was accepted, and where that key ends.
+#[derive(Drop)]
+struct Accepted {
+    pair: usize,
+    end: usize,
+}
+
+// Asks about the keys of the name's length, in order, until one is accepted.
+#[tactic(auto, using(crate::proofs::Parts::length_before_bound, crate::proofs::Parts::part_fits))]
+fn accepted_key<F: Fn(&[u8], &[u8]) -> bool>(
+    bytes: &[u8],
+    count: usize,
+    name: &[u8],
+    eq_func: &F,
+    reads: &mut Reads,
+) -> Result<Option<Accepted>, Error>
+    requires count { count < 2 ^ 29 }
+    requires callable { (a b : _) → a.now ≡ name.now → length b.now ≡ length name.now → F.pre eq_func.now a b }
+    requires room { reads.old + count < 2 ^ 64 }
+    ensures none { IfOk result (λ answer. IfNone answer
+        (NoneBefore (λ key b. FnReturnsAtPair F.Fn eq_func.now name.now key b) (length name.now) bytes.now count count)) }
+    ensures some { IfOk result (λ answer. IfSome answer (λ accepted.
+        IsAccepted (λ key b. FnReturnsAtPair F.Fn eq_func.now name.now key b) (length name.now) bytes.now count accepted.pair)) }
+    ensures end { IfOk result (λ answer. IfSome answer (λ accepted. accepted.end ≡ part_start bytes.now count (accepted.pair + 1))) }
+    ensures none_cost { IfOk result (λ answer. IfNone answer (reads.new ≡ reads.old + count)) }
+    ensures some_cost { IfOk result (λ answer. IfSome answer (λ accepted. reads.new ≡ reads.old + accepted.pair + 1)) }
+    ensures bound { (reads.old ≤ reads.new) × (reads.new ≤ reads.old + count) }
+    ensures whole { HasParts bytes.now count → IsOk result }
+    ensures refused { IfErr result IsRefusal }
+{
+    let mut start = 4 + 8 * count;
+    for pair in 0..count {
+        let size = read_entry(bytes, pair, reads)?.length as usize;
+        if size == name.len() && eq_func(name, payload(bytes, start, size)?) {
+            return Ok(Some(Accepted {
+                pair,
+                end: start + size,
+            }));
+        }
+        start += size;
+    }
+    Ok(None)
+}
+
+// Where the payload of an entry begins, by the entries from another one on.
+#[tactic(auto, using(crate::proofs::Parts::length_before_bound, crate::proofs::Parts::part_fits))]
+fn skip_parts(
+    bytes: &[u8],
+    count: usize,
+    from: Accepted,
+    to: usize,
+    reads: &mut Reads,
+) -> Result<usize, Error>
+    requires start { from.end ≡ part_start bytes.now count (from.pair + 1) }
+    requires order { from.pair + 1 ≤ to }
+    requires count { count < 2 ^ 29 }
+    requires small { to < 2 ^ 30 }
+    requires room { reads.old + (to - from.pair) < 2 ^ 64 }
+    ensures start { IfOk result (λ place. place ≡ part_start bytes.now count to) }
+    ensures cost { OnOk result (reads.new + from.pair + 1 ≡ reads.old + to) }
+    ensures bound { (reads.old ≤ reads.new) × (reads.new + from.pair + 1 ≤ reads.old + to) }
+    ensures whole { HasParts bytes.now count → to ≤ 2 * count → IsOk result }
+    ensures refused { IfErr result IsRefusal }
+{
+    let mut place = from.end;
+    for number in from.pair + 1..to {
+        place += read_entry(bytes, number, reads)?.length as usize;
+    }
+    Ok(place)
+}
+
+// The entry of the value of the first key that is accepted, among so many pairs.
+#[tactic(auto, using(crate::proofs::Parts::length_before_bound, crate::proofs::Parts::part_fits))]
+fn find_value<'a, F: Fn(&[u8], &[u8]) -> bool>(
+    bytes: &'a [u8],
+    count: usize,
+    name: &str,
+    eq_func: &F,
+    reads: &mut Reads,
+) -> Result<Option<Entry<'a>>, Error>
+    requires count { count < 2 ^ 29 }
+    requires callable { (a b : _) → a.now ≡ name.now → length b.now ≡ length name.now → F.pre eq_func.now a b }
+    requires room { reads.old + 2 * count < 2 ^ 64 }
+    ensures none { IfOk result (λ answer. IfNone answer
+        (IsNoneFound (λ key b. FnReturnsAtPair F.Fn eq_func.now name.now key b) (length name.now)
+        bytes.now count (reads.new - reads.old))) }
+    ensures some { IfOk result (λ answer. IfSome answer (λ entry.
+        IsValueFound (λ key b. FnReturnsAtPair F.Fn eq_func.now name.now key b) (length name.now)
+        bytes.now count entry.type_code entry.payload.now (reads.new - reads.old))) }
+    ensures bound { (reads.old ≤ reads.new) × (reads.new ≤ reads.old + 2 * count) }
+    ensures whole { HasParts bytes.now count → IsOk result }
+    ensures refused { IfErr result IsRefusal }
+{
+    let Some(key) = accepted_key(bytes, count, name.as_bytes(), eq_func, reads)? else {
+        return Ok(None);
+    };
+    let wanted = count + key.pair;
+    let start = skip_parts(bytes, count, key, wanted, reads)?;
+    let entry = read_entry(bytes, wanted, reads)?;
+    Ok(Some(Entry {
+        type_code: entry.type_code,
+        payload: payload(bytes, start, entry.length as usize)?,
+    }))
+}
+
+impl<'a> RawJsonb<'a> {
+    /// The value of the first key, in stored order, that has the name's length in bytes and for
+    /// which `eq_func(name, key)` is true. `None` for a scalar, an array and `{}`, and where no key
+    /// is accepted. Keys of other lengths are not shown to the closure.
+    ///
+    /// Each word of the document is read by the tally: the header, each key's entry, and the
+    /// values' entries up to the wanted one. The tally must be at most `MAX_READS`.
+    ///
+    /// `InvalidEOF` where the header or an entry that is read is cut, `InvalidJsonb` for a header
+    /// of no kind, and where a key of the name's length or the value runs past the end;
+    /// `InvalidUtf8`, `InvalidJsonbNumber`, `InvalidJsonbExtension` and `InvalidJsonb` by what the
+    /// value's entry and payload are.
+    pub fn get_object_value_by_key_name_counted<F: Fn(&[u8], &[u8]) -> bool + Drop>(
+        &self,
+        name: &str,
+        eq_func: F,
+        reads: &mut Reads,
+    ) -> Result<Option<JsonbItem<'a>>, Error>
+        requires room { reads.old ≤ MAX_READS }
+        requires callable { (a b : _) → a.now ≡ name.now → length b.now ≡ length name.now → F.pre eq_func a b }
+        ensures bound { (reads.old ≤ reads.new) × (reads.new ≤ reads.old + (2 * header_count (raw_bytes self.now) + 1)) }
+        ensures refused { IfErr result IsRefusal }
+
+        // On a document, by the closure's own contract.
+        ensures document { (t : Tree) → Doc (raw_bytes self.now) t
+            → IsOkAnd result (λ found. LooksUp (λ key b. FnReturnsAtPair F.Fn eq_func name.now key b)
+            (length name.now) t (option_map shown found) (reads.new - reads.old)) }
+    {
+        let bytes = self.as_bytes();
+        let Some(count) = count_pairs(bytes, reads)? else {
+            return Ok(None);
+        };
+        let Some(entry) = find_value(bytes, count, name, &eq_func, reads)? else {
+            return Ok(None);
+        };
+        Ok(Some(item_of_entry(entry)?))
+    }
+
+    /// The same with a tally of its own.
+    pub fn get_object_value_by_key_name<F: Fn(&[u8], &[u8]) -> bool + Drop>(
+        &self,
+        name: &str,
+        eq_func: F,
+    ) -> Result<Option<JsonbItem<'a>>, Error>
+        requires callable { (a b : _) → a.now ≡ name.now → length b.now ≡ length name.now → F.pre eq_func a b }
+        ensures refused { IfErr result IsRefusal }
+
+        // On a document, by the closure's own contract,
+        ensures document { (t : Tree) → Doc (raw_bytes self.now) t
+            → IsOkAnd result (λ found. LooksUpIn (λ key b. FnReturnsAtPair F.Fn eq_func name.now key b)
+            (length name.now) t (option_map shown found)) }
+
+        // and where the closure answers by one test, what that test finds.
+        ensures found { (accepts : List ℕ → Bool)
+            → AnswersBy accepts (λ key b. FnReturnsAtPair F.Fn eq_func name.now key b) (length name.now)
+            → (t : Tree) → Doc (raw_bytes self.now) t
+            → IsOkAnd result (λ found. IsItemFound (find accepts (length name.now) t) (option_map shown found)) }
+    {
+        let mut reads = Reads::new();
+        self.get_object_value_by_key_name_counted(name, eq_func, &mut reads)
+    }
+}
+
+#[cfg(test)]
+mod tests;

@@ -1,0 +1,67 @@
+//! Numbers as items hold them: as the bytes that were given, or by value.
+
+ghost use Rattle.std.specs.Prelude.{◌≡◌, Some};
+ghost use Rattle.std.specs.Option.{ForSome};
+ghost use Rattle.jsonb.specs.Payloads.{number_in};
+
+use crate::code::Payload;
+use jsonb_value::{Error, Number};
+
+/// A number, by value or as its payload's bytes. These are kept as they were given.
+#[derive(Clone, Copy, Debug)]
+pub struct NumberItem<'a> {
+    number: Number,
+    given: Option<&'a [u8]>,
+    ghost means: { ForSome given (λ bytes. number_in bytes.now ≡ Some number) },
+}
+
+impl<'a> NumberItem<'a> {
+    ghost use Rattle.std.specs.Prelude.{◌≡◌, IfOk, IfErr, OnErr, Some, None};
+    ghost use Rattle.jsonb_value.specs.declared.number.Number.{Number};
+    ghost use Rattle.jsonb_value.specs.NumCode.{NumCode};
+    ghost use Rattle.jsonb.specs.Held.{number_given, number_held};
+    ghost use Rattle.jsonb.specs.Code.{stored_number, payload_bytes};
+
+    /// The number that these bytes mean as a payload, held as these bytes. `InvalidJsonbNumber`
+    /// where they mean none.
+    pub fn from_bytes(bytes: &'a [u8]) -> Result<NumberItem<'a>, Error>
+        ensures ok { IfOk result (λ item. NumCode bytes.entry.now (number_held item)) }
+        ensures given { IfOk result (λ item. number_given item ≡ Some bytes.entry.now) }
+        ensures none { OnErr result ((x : Number) → NumCode bytes.entry.now x → ⊥) }
+        ensures err { IfErr result (λ e. e ≡ Error.InvalidJsonbNumber) }
+    {
+        let number = Number::decode(bytes)?;
+        Ok(NumberItem {
+            number,
+            given: Some(bytes),
+        })
+    }
+
+    /// This number, by value.
+    pub fn from_number(number: Number) -> NumberItem<'a>
+        ensures number { number_held result ≡ number }
+        ensures given { number_given result ≡ None }
+    {
+        NumberItem {
+            number,
+            given: None,
+        }
+    }
+
+    /// The number.
+    pub fn as_number(&self) -> Number
+        ensures { result ≡ number_held self.now }
+    {
+        self.number
+    }
+
+    /// The payload to store: the bytes as they were given, else those that are written.
+    pub(crate) fn payload(&self) -> Payload<'a>
+        ensures { payload_bytes result ≡ stored_number (number_given self.now) (number_held self.now) }
+    {
+        match self.given {
+            Some(bytes) => Payload::Bytes(bytes),
+            None => Payload::Number(self.as_number()),
+        }
+    }
+}

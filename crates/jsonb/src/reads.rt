@@ -1,0 +1,52 @@
+//! Words of a document, counted as they are read.
+
+ghost use Rattle.std.specs.Prelude.{◌≡◌, ℕ, ◌+◌, ◌<◌, ◌^◌, OnOk, OnErr};
+ghost use Rattle.jsonb_codec.specs.Word.{word_at};
+
+use jsonb_codec::read_word;
+use jsonb_value::Error;
+use std::marker::Model;
+
+/// A tally of the words that were read. Only `word` raises it.
+#[derive(Debug, Drop)]
+pub struct Reads {
+    count: u64,
+}
+
+impl Model for Reads {
+    ghost Value = { ℕ };
+
+    ghost view = { λ reads. reads.count };
+
+    ghost invariant = { λ reads. reads.count < 2 ^ 64 };
+}
+
+impl Reads {
+    /// No word yet.
+    pub fn new() -> Self
+        ensures { result ≡ 0 }
+    {
+        Reads { count: 0 }
+    }
+
+    /// How many words were read.
+    pub fn count(&self) -> u64
+        ensures { result ≡ self.now }
+    {
+        self.count
+    }
+
+    /// The big endian word whose first byte stands at the index, and the tally raised by one.
+    /// `InvalidEOF` where four bytes are not there: the tally stays. The tally must be below the
+    /// greatest `u64`.
+    pub fn word(&mut self, bytes: &[u8], index: usize) -> Result<u32, Error>
+        requires { self.old < u64.MAX }
+        ensures word { result ≡ word_at bytes.now index }
+        ensures counted { OnOk result (self.new ≡ self.old + 1) }
+        ensures kept { OnErr result (self.new ≡ self.old) }
+    {
+        let word = read_word(bytes, index)?;
+        self.count += 1;
+        Ok(word)
+    }
+}

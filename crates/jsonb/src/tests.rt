@@ -1,0 +1,568 @@
+use crate::code::Payload;
+use crate::entries::Entry;
+use crate::item::item_of_entry;
+use crate::{
+    ArrayIterator, Error, ExtensionItem, ExtensionValue, JEntry, JsonbItem, JsonbItemType, Number,
+    NumberItem, ObjectIterator, ObjectKeyIterator, ObjectValueIterator, OwnedJsonb, RawJsonb,
+    read_header, read_jentry,
+};
+use jsonb_codec::constants::{OBJECT_CONTAINER_TAG, STRING_TAG};
+use std::alloc::Global;
+use std::borrow::CowStr;
+use std::cmp::Ordering;
+use std::collections::VecDeque;
+use std::fmt::Write;
+use std::str;
+use std::test::Fail;
+
+// How often each iterator is asked, past the end of each row.
+const ASKED: usize = 5;
+
+// The object {"aa":1,"ab":[2]}.
+const TWO_PAIRS: &str =
+    "40000002 10000002 10000002 20000002 5000000a 6161 6162 5001 80000001 20000002 5002";
+
+// The bytes of hexadecimal digits; all else is passed over.
+fn bytes_of(alloc: Global, text: &str) -> Result<Vec<u8>, Fail> {
+    let mut bytes = Vec::new(alloc);
+    let mut first = None;
+    for c in text.bytes() {
+        let digit = match c {
+            b'0'..=b'9' => c - b'0',
+            b'a'..=b'f' => c - b'a' + 10,
+            _ => continue,
+        };
+        match first {
+            Some(high) => {
+                let high: u8 = high;
+                bytes.push(high << 4 | digit)?;
+                first = None;
+            }
+            None => first = Some(digit),
+        }
+    }
+    Ok(bytes)
+}
+
+fn write_hex(text: &mut String, name: &str, bytes: &[u8]) -> Result<(), Fail> {
+    text.push_str(name)?;
+    for byte in bytes {
+        write!(text, "{byte:02x}")?;
+    }
+    Ok(())
+}
+
+fn write_payload(text: &mut String, name: &str, payload: Payload) -> Result<(), Fail> {
+    text.push_str(name)?;
+    match payload {
+        Payload::Bytes(bytes) => write_hex(text, " ", bytes),
+        Payload::Number(_) | Payload::Extension(_) => Ok(text.push_str(" by value")?),
+    }
+}
+
+fn write_item(text: &mut String, item: &JsonbItem) -> Result<(), Fail> {
+    match item {
+        JsonbItem::Null => Ok(text.push_str("null")?),
+        JsonbItem::Boolean(true) => Ok(text.push_str("true")?),
+        JsonbItem::Boolean(false) => Ok(text.push_str("false")?),
+        JsonbItem::Number(number) => write_payload(text, "number", number.payload()),
+        JsonbItem::String(CowStr::Borrowed(string)) => write_hex(
+            text,
+            "string ",
+            string.as_bytes(),
+        ),
+        JsonbItem::String(CowStr::Owned(string)) => write_hex(text, "copied ", string.as_bytes()),
+        JsonbItem::Extension(extension) => write_payload(text, "extension", extension.payload()),
+        JsonbItem::Raw(raw) => write_hex(text, "raw ", raw.as_bytes()),
+        JsonbItem::Owned(owned) => write_hex(text, "owned ", owned.as_bytes()),
+    }
+}
+
+// What an iterator gave, and a point where it gave none.
+fn write_given(text: &mut String, given: Option<Result<JsonbItem, Error>>) -> Result<(), Fail> {
+    match given {
+        Some(Ok(item)) => write_item(text, &item)?,
+        Some(Err(error)) => text.push_str(error.name())?,
+        None => text.push_str(".")?,
+    }
+    Ok(text.push_str("; ")?)
+}
+
+fn items_text(alloc: Global, bytes: &[u8]) -> Result<String, Fail> {
+    let mut text = String::new(alloc);
+    match ArrayIterator::new(RawJsonb::new(bytes)) {
+        Ok(Some(mut items)) => {
+            for _ in 0..ASKED {
+                write_given(&mut text, items.next())?;
+            }
+        }
+        Ok(None) => text.push_str("none")?,
+        Err(error) => text.push_str(error.name())?,
+    }
+    Ok(text)
+}
+
+fn keys_text(alloc: Global, bytes: &[u8]) -> Result<String, Fail> {
+    let mut text = String::new(alloc);
+    match ObjectKeyIterator::new(RawJsonb::new(bytes)) {
+        Ok(Some(mut keys)) => {
+            for _ in 0..ASKED {
+                write_given(&mut text, keys.next())?;
+            }
+        }
+        Ok(None) => text.push_str("none")?,
+        Err(error) => text.push_str(error.name())?,
+    }
+    Ok(text)
+}
+
+fn values_text(alloc: Global, bytes: &[u8]) -> Result<String, Fail> {
+    let mut text = String::new(alloc);
+    match ObjectValueIterator::new(RawJsonb::new(bytes)) {
+        Ok(Some(mut values)) => {
+            for _ in 0..ASKED {
+                write_given(&mut text, values.next())?;
+            }
+        }
+        Ok(None) => text.push_str("none")?,
+        Err(error) => text.push_str(error.name())?,
+    }
+    Ok(text)
+}
+
+fn pairs_text(alloc: Global, bytes: &[u8]) -> Result<String, Fail> {
+    let mut text = String::new(alloc);
+    match ObjectIterator::new(RawJsonb::new(bytes)) {
+        Ok(Some(mut pairs)) => {
+            for _ in 0..ASKED {
+                match pairs.next() {
+                    Some(Ok((key, value))) => {
+                        text.push_str(key)?;
+                        text.push_str(": ")?;
+                        write_given(&mut text, Some(Ok(value)))?;
+                    }
+                    Some(Err(error)) => write_given(&mut text, Some(Err(error)))?,
+                    None => write_given(&mut text, None)?,
+                }
+            }
+        }
+        Ok(None) => text.push_str("none")?,
+        Err(error) => text.push_str(error.name())?,
+    }
+    Ok(text)
+}
+
+fn raw_text(alloc: Global, bytes: &[u8]) -> Result<String, Fail> {
+    let mut text = String::new(alloc);
+    match JsonbItem::from_raw_jsonb(RawJsonb::new(bytes)) {
+        Ok(item) => write_item(&mut text, &item)?,
+        Err(error) => text.push_str(error.name())?,
+    }
+    Ok(text)
+}
+
+#[test]
+fn kinds_by_the_first_two_words(rt: HostRuntime) -> Result<(), Fail> {
+    let rows = [
+        ("", Err(Error::InvalidEOF)),
+        ("800000", Err(Error::InvalidEOF)),
+        ("60000000", Err(Error::InvalidJsonb)),
+        ("00000000", Err(Error::InvalidJsonb)),
+        ("9fffffff", Ok(JsonbItemType::Array(536870911))),
+        ("40000002", Ok(JsonbItemType::Object(2))),
+        ("20000000", Err(Error::InvalidEOF)),
+        ("20000000 100000", Err(Error::InvalidEOF)),
+        ("20000000 00000000", Ok(JsonbItemType::Null)),
+        ("3fffffff 10000001", Ok(JsonbItemType::String)),
+        ("20000000 20000001", Ok(JsonbItemType::Number)),
+        ("20000000 30000000", Ok(JsonbItemType::Boolean)),
+        ("20000000 c0000000", Ok(JsonbItemType::Boolean)),
+        ("20000000 50000004 80000000", Err(Error::InvalidJsonb)),
+        ("20000000 60000000", Ok(JsonbItemType::Extension)),
+        ("20000000 70000000", Err(Error::InvalidJsonb)),
+        ("3132333435363738", Ok(JsonbItemType::Boolean)),
+    ];
+    for (text, kind) in rows {
+        let bytes = bytes_of(rt.alloc(), text)?;
+        let raw = RawJsonb::new(&bytes);
+        assert_eq!(rt; raw.jsonb_item_type(), kind, "of {text}");
+        assert_eq!(rt; JsonbItem::Raw(raw).jsonb_item_type(), kind, "of {text}");
+    }
+    Ok(())
+}
+
+#[test]
+fn kinds_by_rank(rt: HostRuntime) {
+    let array = JsonbItemType::Array(3);
+    assert_eq!(rt; array.rank_cmp(&array), None);
+    assert_eq!(rt;
+        JsonbItemType::Null.rank_cmp(&JsonbItemType::Null),
+        Some(Ordering::Equal)
+    );
+    let objects = JsonbItemType::Object(9);
+    assert_eq!(rt;
+        JsonbItemType::Array(0).rank_cmp(&objects),
+        Some(Ordering::Greater)
+    );
+    let rank = JsonbItemType::Boolean.rank_cmp(&JsonbItemType::Extension);
+    assert_eq!(rt; rank, Some(Ordering::Greater));
+    assert!(rt; array == JsonbItemType::Array(3) && array != JsonbItemType::Array(4));
+}
+
+#[test]
+fn items_of_bytes(rt: HostRuntime) -> Result<(), Fail> {
+    let rows = [
+        ("20000000 20000001 00 ff", "number 00"),
+        ("20000000 00000000", "null"),
+        ("20000000 40000000", "true"),
+        ("20000000 30000000", "false"),
+        ("20000000 10000003 617364", "string 617364"),
+        ("20000000 60000004 00 010203", "extension 00010203"),
+        ("80000001", "raw 80000001"),
+        ("5fffffff 00", "raw 5fffffff00"),
+        ("", "InvalidEOF"),
+        ("200000", "InvalidEOF"),
+        ("00000000 00000000", "InvalidJsonb"),
+        ("20000000 100000", "InvalidEOF"),
+        ("20000000 10000003 6173", "InvalidJsonb"),
+        ("20000000 00000001", "InvalidJsonb"),
+        ("20000000 00000001 ff", "null"),
+        ("20000000 90000001 61", "string 61"),
+        ("20000000 50000004 80000000", "InvalidJsonb"),
+        ("20000000 70000000", "InvalidJsonb"),
+        ("20000000 10000001 ff", "InvalidUtf8"),
+        ("20000000 20000000", "InvalidJsonbNumber"),
+        ("20000000 60000002 1001", "InvalidJsonbNumber"),
+        ("20000000 60000002 4101", "InvalidJsonbExtension"),
+        ("20000000 60000000", "InvalidJsonbExtension"),
+    ];
+    for (text, item) in rows {
+        let bytes = bytes_of(rt.alloc(), text)?;
+        assert_eq!(rt; raw_text(rt.alloc(), &bytes)?.as_str(), item, "of {text}");
+    }
+    Ok(())
+}
+
+#[test]
+fn items_of_arrays(rt: HostRuntime) -> Result<(), Fail> {
+    let rows = [
+        (
+            "80000003 30000000 20000002 5000000e 500a 40000001 10000001 10000001 6b 76",
+            "false; number 500a; raw 4000000110000001100000016b76; .; .; ",
+        ),
+        (
+            "80000002 20000001 70000000 00",
+            "number 00; InvalidJsonb; .; .; .; ",
+        ),
+        ("9fffffff", "InvalidEOF; .; .; .; .; "),
+        ("80000000", ".; .; .; .; .; "),
+        ("80000002 00000000 100000", "InvalidJsonb; .; .; .; .; "),
+        (
+            "80000002 00000000 10000001",
+            "null; InvalidJsonb; .; .; .; ",
+        ),
+        ("80000002 10000001 00000000 ff", "InvalidUtf8; .; .; .; .; "),
+        ("80000001 20000001 10", "InvalidJsonbNumber; .; .; .; .; "),
+        (
+            "80000001 60000001 01",
+            "InvalidJsonbExtension; .; .; .; .; ",
+        ),
+        (
+            "80000002 80000001 10000001 0061",
+            "null; string 61; .; .; .; ",
+        ),
+        ("20000000", "none"),
+        ("40000000", "none"),
+        ("800000", "InvalidEOF"),
+        ("60000000", "InvalidJsonb"),
+    ];
+    for (text, items) in rows {
+        let bytes = bytes_of(rt.alloc(), text)?;
+        assert_eq!(rt;
+            items_text(rt.alloc(), &bytes)?.as_str(),
+            items,
+            "of {text}"
+        );
+    }
+    Ok(())
+}
+
+#[test]
+fn keys_values_and_pairs_of_objects(rt: HostRuntime) -> Result<(), Fail> {
+    let rows = [
+        (
+            "40000002 10000001 10000001 20000002 10000003 61 62 5001 313233",
+            "string 61; string 62; .; .; .; ",
+            "number 5001; string 313233; .; .; .; ",
+            "a: number 5001; b: string 313233; .; .; .; ",
+        ),
+        (
+            "40000001 20000001 00000000 00",
+            "number 00; .; .; .; .; ",
+            "null; .; .; .; .; ",
+            "InvalidJsonb; .; .; .; .; ",
+        ),
+        (
+            "5fffffff",
+            "InvalidEOF; .; .; .; .; ",
+            "InvalidEOF",
+            "InvalidEOF",
+        ),
+        (
+            "40000002 10000001",
+            "InvalidJsonb; .; .; .; .; ",
+            "InvalidEOF",
+            "InvalidEOF",
+        ),
+        (
+            "40000001 10000001 10000001 ff",
+            "InvalidUtf8; .; .; .; .; ",
+            "InvalidJsonb; .; .; .; .; ",
+            "InvalidUtf8; .; .; .; .; ",
+        ),
+        (
+            "40000001 10000000",
+            "InvalidJsonb; .; .; .; .; ",
+            "InvalidEOF; .; .; .; .; ",
+            "InvalidJsonb; .; .; .; .; ",
+        ),
+        (
+            "40000001 10000001 70000000 61",
+            "string 61; .; .; .; .; ",
+            "InvalidJsonb; .; .; .; .; ",
+            "InvalidJsonb; .; .; .; .; ",
+        ),
+        (
+            "40000001 10000001 20000001 61",
+            "string 61; .; .; .; .; ",
+            "InvalidJsonb; .; .; .; .; ",
+            "InvalidJsonb; .; .; .; .; ",
+        ),
+        (
+            "40000000",
+            ".; .; .; .; .; ",
+            ".; .; .; .; .; ",
+            ".; .; .; .; .; ",
+        ),
+        ("80000000", "none", "none", "none"),
+        ("20000000", "none", "none", "none"),
+        ("400000", "InvalidEOF", "InvalidEOF", "InvalidEOF"),
+        ("60000000", "InvalidJsonb", "InvalidJsonb", "InvalidJsonb"),
+    ];
+    for (text, keys, values, pairs) in rows {
+        let bytes = bytes_of(rt.alloc(), text)?;
+        assert_eq!(rt;
+            keys_text(rt.alloc(), &bytes)?.as_str(),
+            keys,
+            "keys of {text}"
+        );
+        assert_eq!(rt;
+            values_text(rt.alloc(), &bytes)?.as_str(),
+            values,
+            "values of {text}"
+        );
+        assert_eq!(rt;
+            pairs_text(rt.alloc(), &bytes)?.as_str(),
+            pairs,
+            "pairs of {text}"
+        );
+    }
+    Ok(())
+}
+
+#[test]
+fn length_stays(rt: HostRuntime) -> Result<(), Fail> {
+    let bytes = bytes_of(rt.alloc(), "9fffffff")?;
+    if let Some(mut items) = ArrayIterator::new(RawJsonb::new(&bytes))? {
+        let _ = items.next();
+        assert_eq!(rt; items.len(), 536870911);
+    }
+    let bytes = bytes_of(rt.alloc(), TWO_PAIRS)?;
+    let raw = RawJsonb::new(&bytes);
+    if let Some(mut keys) = ObjectKeyIterator::new(raw)? {
+        let _ = keys.next();
+        assert_eq!(rt; keys.len(), 2);
+    }
+    if let Some(mut values) = ObjectValueIterator::new(raw)? {
+        let _ = values.next();
+        assert_eq!(rt; values.len(), 2);
+    }
+    if let Some(mut pairs) = ObjectIterator::new(raw)? {
+        let _ = pairs.next();
+        assert_eq!(rt; pairs.len(), 2);
+    }
+    Ok(())
+}
+
+#[test]
+fn documents_of_items(rt: HostRuntime) -> Result<(), Fail> {
+    let zero = NumberItem::from_bytes(&[0x40, 0])?;
+    let minus = NumberItem::from_number(Number::Int64(-100));
+    let date = ExtensionItem::from_bytes(&[0x10, 0, 0, 0, 1])?;
+    let binary = ExtensionItem::from_value(ExtensionValue::Binary(&[1, 2, 3]));
+    let rows = [
+        (JsonbItem::Null, "20000000 00000000"),
+        (JsonbItem::Boolean(true), "20000000 40000000"),
+        (JsonbItem::Boolean(false), "20000000 30000000"),
+        (JsonbItem::Number(minus), "20000000 20000002 409c"),
+        (JsonbItem::Number(zero), "20000000 20000002 4000"),
+        (
+            JsonbItem::String(CowStr::Borrowed("asd")),
+            "20000000 10000003 617364",
+        ),
+        (JsonbItem::Extension(date), "20000000 60000005 1000000001"),
+        (JsonbItem::Extension(binary), "20000000 60000004 00010203"),
+        (JsonbItem::Raw(RawJsonb::new(&[1, 2])), "0102"),
+    ];
+    for (item, text) in rows {
+        let bytes = bytes_of(rt.alloc(), text)?;
+        let copy = item.clone(rt.alloc())?;
+        let document = OwnedJsonb::from_item(rt.alloc(), item)?;
+        assert_eq!(rt; document.as_bytes(), bytes.as_slice());
+        let again = OwnedJsonb::from_item(rt.alloc(), JsonbItem::Owned(document))?;
+        assert_eq!(rt; again.to_vec().as_slice(), bytes.as_slice());
+        let copied = OwnedJsonb::from_item(rt.alloc(), copy)?;
+        assert_eq!(rt; copied.as_bytes(), bytes.as_slice());
+    }
+    assert!(rt; NumberItem::from_bytes(&[]).is_err());
+    assert_eq!(rt; zero.as_number(), Number::Int64(0));
+    assert_eq!(rt;
+        binary.as_extension_value(),
+        ExtensionValue::Binary(&[1, 2, 3])
+    );
+    Ok(())
+}
+
+#[test]
+fn views_of_items(rt: HostRuntime) -> Result<(), Fail> {
+    let bytes = bytes_of(rt.alloc(), TWO_PAIRS)?;
+    let raw = RawJsonb::new(&bytes);
+    assert!(rt; raw.is_document() && !raw.is_empty());
+    let owned = raw.to_owned(rt.alloc())?;
+    let copy = owned.clone(rt.alloc())?;
+    assert_eq!(rt; copy.as_raw().as_bytes(), raw.as_bytes());
+    assert_eq!(rt; (copy.len(), copy.is_empty()), (36, false));
+    let given = RawJsonb::from(bytes.as_slice());
+    let item = JsonbItem::Raw(given);
+    assert!(rt; item.as_raw_jsonb().is_some() && item.as_null().is_none());
+    assert!(rt; JsonbItem::Null.as_null().is_some());
+    let string = JsonbItem::String(CowStr::Borrowed("a"));
+    assert!(rt; string.as_str(rt.alloc())?.is_some() && item.as_str(rt.alloc())?.is_none());
+    let kept = JsonbItem::Owned(OwnedJsonb::from(copy.to_vec()));
+    assert_eq!(rt; kept.jsonb_item_type()?, JsonbItemType::Object(2));
+    Ok(())
+}
+
+// The older form of the pairs' iterator: all key entries are read first, and kept in a queue.
+#[derive(Drop)]
+struct QueuedPairs<'a> {
+    bytes: &'a [u8],
+    keys: VecDeque<JEntry>,
+    place: usize,
+    key_start: usize,
+    start: usize,
+}
+
+fn part(bytes: &[u8], start: usize, length: u32) -> Result<&[u8], Error> {
+    let end = start.saturating_add(length as usize);
+    if bytes.len() < end || end < start {
+        return Err(Error::InvalidJsonb);
+    }
+    Ok(&bytes[start..end])
+}
+
+fn queued_pairs<'a>(alloc: Global, bytes: &'a [u8]) -> Result<Option<QueuedPairs<'a>>, Error> {
+    let (tag, count) = read_header(bytes, 0)?;
+    if tag != OBJECT_CONTAINER_TAG {
+        return Ok(None);
+    }
+    if bytes.len() / 4 <= count {
+        return Err(Error::InvalidEOF);
+    }
+    let mut keys = VecDeque::new(alloc);
+    let mut place: usize = 4;
+    let key_start = count.saturating_mul(8).saturating_add(4);
+    let mut start = key_start;
+    for _ in 0..count {
+        let key = read_jentry(bytes, place)?;
+        place = place.saturating_add(4);
+        start = start.saturating_add(key.length as usize);
+        keys.push_back(key)?;
+    }
+    Ok(Some(QueuedPairs {
+        bytes,
+        keys,
+        place,
+        key_start,
+        start,
+    }))
+}
+
+impl<'a> QueuedPairs<'a> {
+    fn next(&mut self) -> Option<Result<(&'a str, JsonbItem<'a>), Error>> {
+        let key = self.keys.pop_front()?;
+        let pair = self.pair(key);
+        if pair.is_err() {
+            self.keys.clear();
+        }
+        Some(pair)
+    }
+
+    fn pair(&mut self, key: JEntry) -> Result<(&'a str, JsonbItem<'a>), Error> {
+        if key.type_code != STRING_TAG {
+            return Err(Error::InvalidJsonb);
+        }
+        let name = match str::from_utf8(part(self.bytes, self.key_start, key.length)?) {
+            Ok(name) => name,
+            Err(_) => return Err(Error::InvalidUtf8),
+        };
+        let value = read_jentry(self.bytes, self.place)?;
+        let payload = part(self.bytes, self.start, value.length)?;
+        let item = item_of_entry(Entry {
+            type_code: value.type_code,
+            payload,
+        })?;
+        self.place = self.place.saturating_add(4);
+        self.key_start = self.key_start.saturating_add(key.length as usize);
+        self.start = self.start.saturating_add(value.length as usize);
+        Ok((name, item))
+    }
+}
+
+fn queued_text(alloc: Global, bytes: &[u8]) -> Result<String, Fail> {
+    let mut text = String::new(alloc);
+    match queued_pairs(alloc, bytes) {
+        Ok(Some(mut pairs)) => {
+            for _ in 0..ASKED {
+                match pairs.next() {
+                    Some(Ok((key, value))) => {
+                        text.push_str(key)?;
+                        text.push_str(": ")?;
+                        write_given(&mut text, Some(Ok(value)))?;
+                    }
+                    Some(Err(error)) => write_given(&mut text, Some(Err(error)))?,
+                    None => write_given(&mut text, None)?,
+                }
+            }
+        }
+        Ok(None) => text.push_str("none")?,
+        Err(error) => text.push_str(error.name())?,
+    }
+    Ok(text)
+}
+
+#[test]
+fn pairs_as_by_a_queue(rt: HostRuntime) -> Result<(), Fail> {
+    let mut bytes = bytes_of(rt.alloc(), TWO_PAIRS)?;
+    for place in 0..bytes.len() {
+        let before = bytes[place];
+        for value in 0..=255 {
+            bytes[place] = value;
+            let queued = queued_text(rt.alloc(), &bytes)?;
+            let pairs = pairs_text(rt.alloc(), &bytes)?;
+            assert_eq!(rt; pairs.as_str(), queued.as_str(), "{value} at {place}");
+        }
+        bytes[place] = before;
+    }
+    Ok(())
+}

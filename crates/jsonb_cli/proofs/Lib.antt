@@ -1,0 +1,7 @@
+pub mod Split
+pub mod Forms
+pub mod Written
+pub mod Replies
+pub mod Running
+pub mod Texts
+pub mod Answering

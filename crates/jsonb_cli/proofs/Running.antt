@@ -1,0 +1,211 @@
+-- What a run has done with its reader's bytes, where those are known.
+use Rattle.std.proofs.Common.{◌≡◌, ◌≢◌, ℕ, List, [], ◌∷◌, ◌++◌, length, refl, sym, ap, ◌∙◌, append_assoc, inr, arith}
+use Rattle.std.proofs.lemmas.List.{append-nil}
+use Rattle.std.proofs.lemmas.List.Elements.{All-nil, All-cons, All-append}
+use Rattle.std.specs.Prelude.{Option, Some, None, IfSome, Result, Ok, Err, OnOk, OnErr}
+use Rattle.std.specs.Io.KnownBytes.{Consumes, Keeps, IsAtEnd}
+use Rattle.jsonb_value.specs.ErrorName.{name_of}
+use Rattle.jsonb_value.specs.declared.error.Error.TheVariants.{OutOfMemory}
+use Rattle.jsonb_cli.specs.AnswerLine.{error_line}
+use Rattle.jsonb_cli.specs.Answers.{IsLineReply}
+use Rattle.jsonb_cli.specs.Lines.{ended, IsLine, none, more, AppendsReply, BeginsReply, AppendsReplies, AppendsBeginning, AppendsWhole}
+use Rattle.jsonb_cli.proofs.Written.{appends_nothing, appends_both}
+use Rattle.jsonb_cli.proofs.Replies.{no_feed, ended-append, Each-append, appends_no_last, appends_last, begins_last, replies_after_whole, beginning_after_whole, beginning_of_none, beginning_in_line}
+
+-- each line has a reply, if only that there was no memory
+reply_to : (line : List ℕ) → (reply : List ℕ) × IsLineReply line reply
+reply_to line = (error_line (name_of OutOfMemory), inr refl)
+
+-- ---- one line
+
+pub begins_nothing : (line : List ℕ) (known : Option (List ℕ)) → BeginsReply IsLineReply line known known
+begins_nothing line known =
+    let some = reply_to line in
+    record {
+      reply = some.0;
+      is_reply = some.1;
+      begun = record { written = []; unwritten = some.0 ++ 10 ∷ []; parts = refl; appends = appends_nothing known };
+    }
+
+-- ---- bytes that follow a begun line
+
+-- nothing yet
+pub whole_begins : (begun left : List ℕ) (known : Option (List ℕ)) → IsLine begun → AppendsWhole IsLineReply (begun ++ left) begun left known known
+whole_begins begun left known one = record {
+  lines = [];
+  replies = [];
+  parts = refl;
+  whole_lines = All-nil IsLine;
+  begun_line = one;
+  each = none;
+  appends = appends_nothing known;
+}
+
+-- a byte more of the begun line
+pub whole_byte : (input begun left : List ℕ) (old new : Option (List ℕ)) (b : ℕ) → AppendsWhole IsLineReply input begun (b ∷ left) old new → b ≢ 10
+    → AppendsWhole IsLineReply input (begun ++ b ∷ []) left old new
+whole_byte input begun left old new b so_far other = record {
+  lines = so_far.lines;
+  replies = so_far.replies;
+  parts = so_far.parts ∙ ap (λ es. ended so_far.lines ++ es) (sym (append_assoc begun (b ∷ []) left));
+  whole_lines = so_far.whole_lines;
+  begun_line = All-append no_feed begun (b ∷ []) so_far.begun_line (All-cons no_feed b [] other (All-nil no_feed));
+  each = so_far.each;
+  appends = so_far.appends;
+}
+
+-- the begun line ended, and was answered
+pub whole_line : (input begun left : List ℕ) (old mid new : Option (List ℕ)) → AppendsWhole IsLineReply input begun (10 ∷ left) old mid
+    → AppendsReply IsLineReply begun mid new → AppendsWhole IsLineReply input [] left old new
+whole_line input begun left old mid new so_far then = record {
+  lines = so_far.lines ++ begun ∷ [];
+  replies = so_far.replies ++ then.reply ∷ [];
+  parts = so_far.parts ∙ ap (λ es. ended so_far.lines ++ es) (sym (append_assoc begun (10 ∷ []) left))
+      ∙ sym (append_assoc (ended so_far.lines) (begun ++ 10 ∷ []) left) ∙ ap (λ es. es ++ left) (sym (ended-append so_far.lines (begun ∷ [])));
+  whole_lines = All-append IsLine so_far.lines (begun ∷ []) so_far.whole_lines (All-cons IsLine begun [] so_far.begun_line (All-nil IsLine));
+  begun_line = All-nil no_feed;
+  each = Each-append so_far.each (more then.is_reply none);
+  appends = rw (ended-append so_far.replies (then.reply ∷ []))
+      (appends_both old mid new (ended so_far.replies) (then.reply ++ 10 ∷ []) so_far.appends then.appends);
+}
+
+-- a fault with nothing more written
+pub whole_stops : (input begun left later : List ℕ) (old new : Option (List ℕ)) → AppendsWhole IsLineReply input begun left old new
+    → AppendsBeginning IsLineReply (input ++ later) old new
+whole_stops input begun left later old new so_far =
+    beginning_after_whole IsLineReply reply_to input begun left later old new new so_far (beginning_of_none IsLineReply reply_to new (begun ++ (left ++ later)))
+
+-- a fault within the reply to the begun line
+pub whole_faults : (input begun left later : List ℕ) (old mid new : Option (List ℕ)) → AppendsWhole IsLineReply input begun (10 ∷ left) old mid
+    → BeginsReply IsLineReply begun mid new → AppendsBeginning IsLineReply (input ++ later) old new
+whole_faults input begun left later old mid new so_far then =
+    beginning_after_whole IsLineReply reply_to input begun (10 ∷ left) later old mid new so_far
+    (beginning_in_line IsLineReply reply_to begun then.reply (left ++ later) mid new so_far.begun_line then.is_reply then.begun)
+
+-- ---- a last line with no line feed
+
+pub last_none : (rest : List ℕ) (known : Option (List ℕ)) → length rest ≡ 0 → AppendsReplies IsLineReply rest known known
+last_none [] known empty = appends_no_last IsLineReply reply_to [] known refl
+last_none (b ∷ rest) known empty = absurd (omega arith)
+
+pub last_answered : {T E : Type 0} (r : Result T E) (line : List ℕ) (old new : Option (List ℕ)) → line ≢ [] → IsLine line
+    → OnOk r (AppendsReply IsLineReply line old new) → OnOk r (AppendsReplies IsLineReply line old new)
+last_answered (Ok x) line old new some one then = appends_last IsLineReply reply_to line old new some one then
+last_answered (Err e) line old new some one then = tt
+
+pub last_faults : {T E : Type 0} (r : Result T E) (line : List ℕ) (old new : Option (List ℕ)) → line ≢ [] → IsLine line
+    → OnErr r (BeginsReply IsLineReply line old new) → OnErr r (AppendsBeginning IsLineReply line old new)
+last_faults (Ok x) line old new some one then = tt
+last_faults (Err e) line old new some one then = begins_last IsLineReply reply_to line old new some one then
+
+-- ---- all of a run, where the input may be unknown
+
+-- `AppendsWhole`, where the input is known
+abbrev pub IsAnswered : Option (List ℕ) → Option (List ℕ) → List ℕ → Option (List ℕ) → Option (List ℕ) → Type 0
+IsAnswered None left begun old new = Unit {0}
+IsAnswered (Some input) None begun old new = ⊥
+IsAnswered (Some input) (Some left) begun old new = AppendsWhole IsLineReply input begun left old new
+
+pub no_line : IsLine []
+no_line = All-nil no_feed
+
+pub run_begins : (input known : Option (List ℕ)) → IsAnswered input input [] known known
+run_begins None known = tt
+run_begins (Some input) known = whole_begins [] input known no_line
+
+-- a chunk was read and answered
+chunk_answered : (input begun left chunk after begun' : List ℕ) (old mid new : Option (List ℕ)) → AppendsWhole IsLineReply input begun left old mid
+    → left ≡ chunk ++ after → AppendsWhole IsLineReply (begun ++ chunk) begun' [] mid new → AppendsWhole IsLineReply input begun' after old new
+chunk_answered input begun left chunk after begun' old mid new so_far cut then = record {
+  lines = so_far.lines ++ then.lines;
+  replies = so_far.replies ++ then.replies;
+  parts =
+      so_far.parts ∙ ap (λ es. ended so_far.lines ++ (begun ++ es)) cut
+      ∙ ap (λ es. ended so_far.lines ++ es) (sym (append_assoc begun chunk after) ∙ ap (λ es. es ++ after) then.parts
+      ∙ append_assoc (ended then.lines) (begun' ++ []) after ∙ ap (λ es. ended then.lines ++ (es ++ after)) (append-nil begun'))
+      ∙ sym (append_assoc (ended so_far.lines) (ended then.lines) (begun' ++ after))
+      ∙ ap (λ es. es ++ (begun' ++ after)) (sym (ended-append so_far.lines then.lines));
+  whole_lines = All-append IsLine so_far.lines then.lines so_far.whole_lines then.whole_lines;
+  begun_line = then.begun_line;
+  each = Each-append so_far.each then.each;
+  appends = rw (ended-append so_far.replies then.replies)
+      (appends_both old mid new (ended so_far.replies) (ended then.replies) so_far.appends then.appends);
+}
+
+pub run_chunk : (input before after : Option (List ℕ)) (begun chunk begun' : List ℕ) (old mid new : Option (List ℕ)) → IsAnswered input before begun old mid
+    → Consumes before after chunk → AppendsWhole IsLineReply (begun ++ chunk) begun' [] mid new → IsAnswered input after begun' old new
+run_chunk None before after begun chunk begun' old mid new so_far read then = tt
+run_chunk (Some input) None after begun chunk begun' old mid new so_far read then = absurd so_far
+run_chunk (Some input) (Some before) None begun chunk begun' old mid new so_far read then = read
+run_chunk (Some input) (Some before) (Some after) begun chunk begun' old mid new so_far read then =
+    chunk_answered input begun before chunk after begun' old mid new so_far read then
+
+-- the reader's fault took no bytes
+pub run_kept : (input before after : Option (List ℕ)) (begun : List ℕ) (old new : Option (List ℕ)) → IsAnswered input before begun old new
+    → Keeps before after → IsAnswered input after begun old new
+run_kept None before after begun old new so_far kept = tt
+run_kept (Some input) None after begun old new so_far kept = absurd so_far
+run_kept (Some input) (Some before) None begun old new so_far kept = kept
+run_kept (Some input) (Some before) (Some after) begun old new so_far kept = rw kept so_far
+
+pub run_prompt : (input left : Option (List ℕ)) (begun : List ℕ) (old new : Option (List ℕ)) → IsAnswered input left begun old new
+    → IfSome input (λ i. IfSome left (λ l. (b : List ℕ) × AppendsWhole IsLineReply i b l old new))
+run_prompt None left begun old new so_far = tt
+run_prompt (Some input) None begun old new so_far = tt
+run_prompt (Some input) (Some left) begun old new so_far = (begun, so_far)
+
+-- a fault with nothing more written
+pub run_stops : (input left : Option (List ℕ)) (begun : List ℕ) (old new : Option (List ℕ)) → IsAnswered input left begun old new
+    → IfSome input (λ i. AppendsBeginning IsLineReply i old new)
+run_stops None left begun old new so_far = tt
+run_stops (Some input) None begun old new so_far = absurd so_far
+run_stops (Some input) (Some left) begun old new so_far = rw append-nil at (whole_stops input begun left [] old new so_far)
+
+-- a fault after a chunk was read, with what the chunk's answers left
+pub run_faults : (input before after : Option (List ℕ)) (begun chunk : List ℕ) (old mid new : Option (List ℕ)) → IsAnswered input before begun old mid
+    → Consumes before after chunk → ((later : List ℕ) → AppendsBeginning IsLineReply (begun ++ (chunk ++ later)) mid new)
+    → IfSome input (λ i. AppendsBeginning IsLineReply i old new)
+run_faults None before after begun chunk old mid new so_far read then = tt
+run_faults (Some input) None after begun chunk old mid new so_far read then = absurd so_far
+run_faults (Some input) (Some before) None begun chunk old mid new so_far read then = absurd read
+run_faults (Some input) (Some before) (Some after) begun chunk old mid new so_far read then =
+    rw append-nil at (beginning_after_whole IsLineReply reply_to input begun before [] old mid new so_far (rw (append-nil, read) (then after)))
+
+-- at the end of the input the begun line is the last
+at_end : (input : List ℕ) (before after : Option (List ℕ)) (begun : List ℕ) (old new : Option (List ℕ)) → IsAnswered (Some input) before begun old new
+    → Consumes before after [] → IsAtEnd after → AppendsWhole IsLineReply input begun [] old new
+at_end input None after begun old new so_far read end = absurd so_far
+at_end input (Some before) None begun old new so_far read end = absurd read
+at_end input (Some before) (Some after) begun old new so_far read end = let none : before ≡ [] = read ∙ end in rw none at so_far
+
+pub run_ends : (input before after : Option (List ℕ)) (begun : List ℕ) (old mid new : Option (List ℕ)) → IsAnswered input before begun old mid
+    → Consumes before after [] → IsAtEnd after → AppendsReplies IsLineReply begun mid new → IfSome input (λ i. AppendsReplies IsLineReply i old new)
+run_ends None before after begun old mid new so_far read end then = tt
+run_ends (Some input) before after begun old mid new so_far read end then =
+    replies_after_whole IsLineReply reply_to input begun old mid new (at_end input before after begun old mid so_far read end) then
+
+-- or the fault is in the last answer
+pub run_ends_early : (input before after : Option (List ℕ)) (begun : List ℕ) (old mid new : Option (List ℕ)) → IsAnswered input before begun old mid
+    → Consumes before after [] → IsAtEnd after → AppendsBeginning IsLineReply begun mid new → IfSome input (λ i. AppendsBeginning IsLineReply i old new)
+run_ends_early None before after begun old mid new so_far read end then = tt
+run_ends_early (Some input) before after begun old mid new so_far read end then =
+    let whole = at_end input before after begun old mid so_far read end in
+    rw append-nil at (beginning_after_whole IsLineReply reply_to input begun [] [] old mid new whole (rw append-nil then))
+
+-- ---- what a call's clauses say
+
+pub on_err : {T E : Type 0} (r : Result T E) (P : Type 0) → P → OnErr r P
+on_err (Ok x) P p = tt
+on_err (Err e) P p = p
+
+pub on_ok : {T E : Type 0} (r : Result T E) (P : Type 0) → P → OnOk r P
+on_ok (Ok x) P p = p
+on_ok (Err e) P p = tt
+
+pub ok_gives : {T E : Type 0} (r : Result T E) (P Q : Type 0) → (P → Q) → OnOk r P → OnOk r Q
+ok_gives (Ok x) P Q f p = f p
+ok_gives (Err e) P Q f p = tt
+
+pub err_gives : {T E : Type 0} (r : Result T E) (P Q : Type 0) → (P → Q) → OnErr r P → OnErr r Q
+err_gives (Ok x) P Q f p = tt
+err_gives (Err e) P Q f p = f p

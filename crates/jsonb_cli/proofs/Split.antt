@@ -1,0 +1,120 @@
+-- Bytes, split at spaces.
+use Rattle.std.proofs.Common.{◌≡◌, ◌≢◌, ◌⊎◌, inl, inr, ℕ, ◌==◌, Bool, true, false, cond, List, [], ◌∷◌, ◌++◌, refl, sym, ◌∙◌, arith}
+use Rattle.std.proofs.lemmas.Bool.Decides.{nat_tests}
+use Rattle.std.proofs.lemmas.List.{append-nil}
+use Rattle.std.proofs.lemmas.List.Elements.{All-nil, All-cons, All-head, All-tail}
+use Rattle.std.specs.Prelude.{All, Option, None, Some}
+use Rattle.std.specs.List.{slice_split, onto_first}
+use Rattle.std.specs.Borrow.{Bor}
+use Rattle.jsonb_cli.specs.Words.{IsWord, after_space, spaced, words_from}
+
+-- ---- one word, and the rest
+
+abbrev pub no_space : ℕ → Type 0
+no_space b = b ≢ 32
+
+head_differs : (b : ℕ) (word : List ℕ) → IsWord (b ∷ word) → (b == 32) ≡ false
+head_differs b word one = let other : b ≢ 32 = All-head no_space b word one in grind (arith, nat_tests)
+
+slice_split-word : (word : List ℕ) → IsWord word → slice_split (λ b. b == 32) word ≡ word ∷ []
+slice_split-word [] one = refl
+slice_split-word (b ∷ word) one = rw (head_differs b word one, slice_split-word word (All-tail no_space b word one))
+
+slice_split-space : (word rest : List ℕ) → IsWord word → slice_split (λ b. b == 32) (word ++ 32 ∷ rest) ≡ word ∷ slice_split (λ b. b == 32) rest
+slice_split-space [] rest one = refl
+slice_split-space (b ∷ word) rest one = rw (head_differs b word one, slice_split-space word rest (All-tail no_space b word one))
+
+slice_split-first : (bytes word : List ℕ) (rest : Option (Bor (List ℕ))) → IsWord word → bytes ≡ word ++ after_space rest
+    → slice_split (λ b. b == 32) bytes ≡ word ∷ words_from rest
+slice_split-first bytes word None one is = rw (is, append-nil word) (slice_split-word word one)
+slice_split-first bytes word (Some rest) one is = rw is (slice_split-space word rest.now one)
+
+-- the first word, and those behind the space
+pub words_from-first : (whole : Option (Bor (List ℕ))) (bytes : Bor (List ℕ)) (word : List ℕ) (rest : Option (Bor (List ℕ))) → whole ≡ Some bytes
+    → IsWord word → bytes.now ≡ word ++ after_space rest → words_from whole ≡ word ∷ words_from rest
+words_from-first whole bytes word rest some one is = rw some (slice_split-first bytes.now word rest one is)
+
+-- ---- all words
+
+spaced-onto_first : (b : ℕ) (parts : List (List ℕ)) (bytes : List ℕ) → spaced parts ≡ 32 ∷ bytes → spaced (onto_first b parts) ≡ 32 ∷ b ∷ bytes
+spaced-onto_first b [] bytes is = absurd cc
+spaced-onto_first b (part ∷ parts) bytes is = let rest : part ++ spaced parts ≡ bytes = cc in rw rest
+
+spaced-step : (b : ℕ) (t : Bool) (parts : List (List ℕ)) (bytes : List ℕ) → (b == 32) ≡ t → spaced parts ≡ 32 ∷ bytes
+    → spaced (cond t ([] ∷ parts) (onto_first b parts)) ≡ 32 ∷ b ∷ bytes
+spaced-step b true parts bytes test is = let space : b ≡ 32 = grind (arith, nat_tests) in rw (space, is)
+spaced-step b false parts bytes test is = spaced-onto_first b parts bytes is
+
+spaced-slice_split : (bytes : List ℕ) → spaced (slice_split (λ b. b == 32) bytes) ≡ 32 ∷ bytes
+spaced-slice_split [] = refl
+spaced-slice_split (b ∷ bytes) = spaced-step b (b == 32) (slice_split (λ b. b == 32) bytes) bytes refl (spaced-slice_split bytes)
+
+-- the words, put together again
+pub spaced-words_from : (rest : Option (Bor (List ℕ))) → spaced (words_from rest) ≡ after_space rest
+spaced-words_from None = refl
+spaced-words_from (Some rest) = spaced-slice_split rest.now
+
+words-onto_first : (b : ℕ) (parts : List (List ℕ)) → b ≢ 32 → All IsWord parts → All IsWord (onto_first b parts)
+words-onto_first b [] other words = All-cons IsWord (b ∷ []) [] (All-cons no_space b [] other (All-nil no_space)) words
+words-onto_first b (part ∷ parts) other words =
+    All-cons IsWord (b ∷ part) parts (All-cons no_space b part other (All-head IsWord part parts words)) (All-tail IsWord part parts words)
+
+words-step : (b : ℕ) (t : Bool) (parts : List (List ℕ)) → (b == 32) ≡ t → All IsWord parts → All IsWord (cond t ([] ∷ parts) (onto_first b parts))
+words-step b true parts test words = All-cons IsWord [] parts (All-nil no_space) words
+words-step b false parts test words = let other : b ≢ 32 = grind (arith, nat_tests) in words-onto_first b parts other words
+
+words-slice_split : (bytes : List ℕ) → All IsWord (slice_split (λ b. b == 32) bytes)
+words-slice_split [] = All-cons IsWord [] [] (All-nil no_space) (All-nil IsWord)
+words-slice_split (b ∷ bytes) = words-step b (b == 32) (slice_split (λ b. b == 32) bytes) refl (words-slice_split bytes)
+
+pub words_from-words : (rest : Option (Bor (List ℕ))) → All IsWord (words_from rest)
+words_from-words None = All-nil IsWord
+words_from-words (Some rest) = words-slice_split rest.now
+
+-- ---- bytes are cut at their first space in one way
+
+-- nothing, or a space and what follows it
+abbrev pub StartsAtSpace : List ℕ → Type 0
+StartsAtSpace bytes = (bytes ≡ []) ⊎ ((rest : List ℕ) × (bytes ≡ 32 ∷ rest))
+
+pub one_cut : (a b xs ys : List ℕ) → IsWord a → IsWord b → StartsAtSpace xs → StartsAtSpace ys → a ++ xs ≡ b ++ ys → (a ≡ b) × (xs ≡ ys)
+one_cut [] [] xs ys one_a one_b from_xs from_ys same = (refl, same)
+one_cut [] (b ∷ bs) xs ys one_a one_b (inl none) from_ys same = absurd cc
+one_cut [] (b ∷ bs) xs ys one_a one_b (inr (rest, is)) from_ys same =
+    let space : b ≡ 32 = cc in absurd (All-head no_space b bs one_b space)
+one_cut (a ∷ more) [] xs ys one_a one_b from_xs (inl none) same = absurd cc
+one_cut (a ∷ more) [] xs ys one_a one_b from_xs (inr (rest, is)) same =
+    let space : a ≡ 32 = cc in absurd (All-head no_space a more one_a space)
+one_cut (a ∷ others) (b ∷ bs) xs ys one_a one_b from_xs from_ys same =
+    let head : a ≡ b = cc in
+    let tails : others ++ xs ≡ bs ++ ys = cc in
+    let rest = one_cut others bs xs ys (All-tail no_space a others one_a) (All-tail no_space b bs one_b) from_xs from_ys tails in
+    let words : others ≡ bs = rest.0 in (cc, rest.1)
+
+pub after_space-starts : (rest : Option (Bor (List ℕ))) → StartsAtSpace (after_space rest)
+after_space-starts None = inl refl
+after_space-starts (Some rest) = inr (rest.now, refl)
+
+pub spaced-starts : (words : List (List ℕ)) → StartsAtSpace (spaced words)
+spaced-starts [] = inl refl
+spaced-starts (word ∷ words) = inr (word ++ spaced words, refl)
+
+-- a space is in no word
+pub spaced_no_word : (word more : List ℕ) → IsWord (word ++ 32 ∷ more) → ⊥
+spaced_no_word [] more one = All-head no_space 32 more one refl
+spaced_no_word (b ∷ word) more one = spaced_no_word word more (All-tail no_space b (word ++ 32 ∷ more) one)
+
+-- one word is not two
+pub one_word_alone : (bytes word : List ℕ) (rest : Option (Bor (List ℕ))) → rest ≡ None → IsWord word → bytes ≡ word ++ after_space rest
+    → (first more : List ℕ) → bytes ≡ first ++ 32 ∷ more → ⊥
+one_word_alone bytes word rest none one is first more two =
+    let alone : word ≡ bytes = sym (append-nil word) ∙ sym (rw none at is) in
+    spaced_no_word first more (rw (alone ∙ two) at one)
+
+-- and two words are not three
+pub three_words : (bytes left right word : List ℕ) (rest : Option (Bor (List ℕ))) (more : Bor (List ℕ)) → rest ≡ Some more → IsWord left
+    → bytes ≡ left ++ 32 ∷ right → right ≡ word ++ after_space rest → (l r : List ℕ) → IsWord l → IsWord r → bytes ≡ l ++ 32 ∷ r → ⊥
+three_words bytes left right word rest more some one_left parts right_is l r one_l one_r two =
+    let same : 32 ∷ right ≡ 32 ∷ r = (one_cut left l (32 ∷ right) (32 ∷ r) one_left one_l (inr (right, refl)) (inr (r, refl)) (sym parts ∙ two)).1 in
+    let last : r ≡ word ++ 32 ∷ more.now = (let e : right ≡ r = cc in sym e) ∙ rw some at right_is in
+    spaced_no_word word more.now (rw last at one_r)

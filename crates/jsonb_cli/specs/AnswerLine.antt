@@ -1,0 +1,34 @@
+-- The line that says what a command answered.
+use Rattle.std.specs.Prelude.{ℕ, List, ◌∷◌, ◌++◌, codes, Result, Ok, Err}
+use Rattle.std.specs.String.{string_bytes}
+use Rattle.std.specs.Fmt.{decimal}
+use Rattle.hex.specs.Hex.{encode_lower}
+use Rattle.jsonb_value.specs.ErrorName.{name_of}
+use Rattle.jsonb_cli.specs.declared.answer.Answer.{Answer}
+use Rattle.jsonb_cli.specs.declared.answer.Answer.TheVariants.{Hex, Text, Word, Counted}
+use Rattle.jsonb_cli.specs.declared.answer.Refusal.{Refusal}
+use Rattle.jsonb_cli.specs.declared.answer.Refusal.TheVariants.{BadCommand, BadHex, Call}
+
+abbrev pub ok_line : List ℕ → List ℕ
+ok_line words = codes "ok " ++ words
+
+abbrev pub error_line : List ℕ → List ℕ
+error_line name = codes "error " ++ name
+
+-- the word that says why
+abbrev pub refusal_name : Refusal → List ℕ
+refusal_name BadCommand = codes "BadCommand"
+refusal_name BadHex = codes "BadHex"
+refusal_name (Call error) = name_of error
+
+-- the words of an answer
+abbrev pub answer_words : Answer → List ℕ
+answer_words (Hex bytes) = encode_lower bytes.items
+answer_words (Text text) = string_bytes text
+answer_words (Word word) = word.now
+answer_words (Counted word count) = word.now ++ 32 ∷ decimal count
+
+-- the line, without its line feed
+abbrev pub outcome_line : Result Answer Refusal → List ℕ
+outcome_line (Ok answer) = ok_line (answer_words answer)
+outcome_line (Err refusal) = error_line (refusal_name refusal)

@@ -1,0 +1,23 @@
+-- Words between single spaces.
+use Rattle.std.specs.Prelude.{◌≢◌, ◌==◌, ℕ, List, [], ◌∷◌, ◌++◌, All, Option, None, Some}
+use Rattle.std.specs.List.{slice_split}
+use Rattle.std.specs.Borrow.{Bor}
+
+-- bytes without a space
+abbrev pub IsWord : List ℕ → Type 0
+IsWord bytes = All (λ b. b ≢ 32) bytes
+
+-- a space and what follows it, where there is one
+abbrev pub after_space : Option (Bor (List ℕ)) → List ℕ
+after_space None = []
+after_space (Some rest) = 32 ∷ rest.now
+
+-- words, each behind a space
+abbrev pub spaced : List (List ℕ) → List ℕ
+spaced [] = []
+spaced (word ∷ words) = 32 ∷ (word ++ spaced words)
+
+-- the words that follow a space: the parts between single spaces, each of which may be empty
+abbrev pub words_from : Option (Bor (List ℕ)) → List (List ℕ)
+words_from None = []
+words_from (Some rest) = slice_split (λ b. b == 32) rest.now

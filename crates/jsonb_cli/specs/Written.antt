@@ -1,0 +1,10 @@
+-- What was written of some bytes.
+use Rattle.std.specs.Prelude.{◌≡◌, ℕ, List, ◌++◌, Option}
+use Rattle.std.specs.Io.KnownBytes.{Appends}
+
+-- A beginning of the bytes was appended.
+pub record AppendsPrefix (old new : Option (List ℕ)) (bytes : List ℕ) : Type 0 where
+  pub written : List ℕ
+  pub unwritten : List ℕ
+  pub parts : bytes ≡ written ++ unwritten
+  pub appends : Appends old new written

@@ -1,0 +1,196 @@
+//! The commands: which line is one, and what each answers.
+
+ghost use Rattle.std.specs.Prelude.{◌≡◌, ◌⊎◌, ◌++◌, ℕ, List, codes, Err, IfSome, IfNone, IfOk, IfErr, OnOk, IsErrOf};
+ghost use Rattle.std.specs.String.{string_bytes};
+ghost use Rattle.jsonb_value.specs.declared.error.Error.TheVariants.{OutOfMemory};
+ghost use Rattle.jsonb_value.specs.Text.{compact};
+ghost use Rattle.jsonb_value.specs.Tree.{Tree};
+ghost use Rattle.jsonb_value.specs.Value.{tree_of};
+ghost use Rattle.jsonb_codec.specs.Canon.{canon, Fits};
+ghost use Rattle.jsonb_codec.specs.Doc.{Doc, IsDocument};
+ghost use Rattle.jsonb_cli.specs.Commands.{Form, IsOfForm};
+ghost use Rattle.jsonb_cli.specs.Parsed.{form_of};
+ghost use Rattle.jsonb_cli.specs.AnswerLine.{outcome_line};
+ghost use Rattle.jsonb_cli.specs.Answers.{IsEncAnswer, IsDecAnswer, IsFormAnswer, IsReply, IsLineReply, IsHexOf};
+
+use crate::answer::{Answer, Refusal};
+use crate::text::value_text;
+use crate::words::{Words, split_word};
+use hex::FromHexError;
+use jsonb_codec::{Encoder, is_document, value_of};
+use jsonb_value::{Error, Value, parse_value};
+use std::alloc::Global;
+use std::str;
+
+/// A line of a command, cut into the text or the words that the command is given.
+#[derive(Drop)]
+pub enum Command<'a> {
+    Enc(&'a [u8]),
+    Dec(&'a [u8]),
+    Pretty(&'a [u8]),
+    ItemType(&'a [u8]),
+    Get { document: &'a [u8], key: &'a [u8] },
+    Cmp { left: &'a [u8], right: &'a [u8] },
+    Arr(Words<'a>),
+    Canon(&'a [u8]),
+}
+
+impl<'a> Command<'a> {
+    /// The command of a line; `None` where the line is of no command's form.
+    pub fn parse(line: &'a [u8]) -> Option<Command<'a>>
+        ensures some { IfSome result (λ command. IsOfForm (form_of command) line.now) }
+        ensures none { IfNone result ((form : Form) → IsOfForm form line.now → ⊥) }
+    {
+        let (name, rest) = split_word(line);
+        if name == b"arr".as_slice() {
+            return Some(Command::Arr(Words::new(rest)));
+        }
+        let rest = rest?;
+        if name == b"enc".as_slice() {
+            Some(Command::Enc(rest))
+        } else if name == b"dec".as_slice() {
+            Some(Command::Dec(rest))
+        } else if name == b"pretty".as_slice() {
+            Some(Command::Pretty(rest))
+        } else if name == b"type".as_slice() {
+            Some(Command::ItemType(rest))
+        } else if name == b"get".as_slice() {
+            parse_get(rest)
+        } else if name == b"cmp".as_slice() {
+            parse_cmp(rest)
+        } else if name == b"canon".as_slice() {
+            Some(Command::Canon(rest))
+        } else {
+            None
+        }
+    }
+}
+
+// `get` is given a word, and a text behind the space that ends it.
+fn parse_get(words: &[u8]) -> Option<Command<'_>>
+    ensures some { IfSome result (λ command.
+        IsOfForm (form_of command) (codes "get " ++ words.now)) }
+    ensures none { IfNone result ((form : Form) →
+        IsOfForm form (codes "get " ++ words.now) → ⊥) }
+{
+    let (document, key) = split_word(words);
+    Some(Command::Get {
+        document,
+        key: key?,
+    })
+}
+
+// `cmp` is given two words.
+fn parse_cmp(words: &[u8]) -> Option<Command<'_>>
+    ensures some { IfSome result (λ command.
+        IsOfForm (form_of command) (codes "cmp " ++ words.now)) }
+    ensures none { IfNone result ((form : Form) →
+        IsOfForm form (codes "cmp " ++ words.now) → ⊥) }
+{
+    let (left, right) = split_word(words);
+    let (right, more) = split_word(right?);
+    match more {
+        None => Some(Command::Cmp { left, right }),
+        Some(_) => None,
+    }
+}
+
+impl Command<'_> {
+    /// What the command answers. Want of memory in its own calls is an answer too.
+    pub fn answer(&self, alloc: Global) -> Result<Answer, Refusal>
+        ensures { IsReply IsFormAnswer (form_of self.now) (outcome_line result) }
+    {
+        match self {
+            Command::Enc(text) => answer_enc(alloc, text),
+            Command::Dec(word) => answer_dec(alloc, word),
+            Command::Pretty(_)
+            | Command::ItemType(_)
+            | Command::Get { .. }
+            | Command::Cmp { .. }
+            | Command::Arr(_)
+            | Command::Canon(_) => Err(Refusal::BadCommand),
+        }
+    }
+}
+
+// The canonical document of a JSON text.
+fn answer_enc(alloc: Global, text: &[u8]) -> Result<Answer, Refusal>
+    ensures { IsReply IsEncAnswer text.now (outcome_line result) }
+{
+    let Ok(json) = str::from_utf8(text) else {
+        return Err(Refusal::Call(Error::InvalidUtf8));
+    };
+    match parse_value(alloc, json) {
+        Ok(value) => match document_of(alloc, &value) {
+            Ok(document) => Ok(Answer::Hex(document)),
+            Err(error) => Err(Refusal::Call(error)),
+        },
+        Err(error) => Err(Refusal::Call(error)),
+    }
+}
+
+// The canonical document of a value. `InvalidJsonb` where it has none.
+fn document_of(alloc: Global, value: &Value) -> Result<Vec<u8>, Error>
+    ensures ok { IfOk result (λ document. document.items ≡ canon (tree_of value.now)) }
+    ensures fits { OnOk result (Fits (tree_of value.now)) }
+    ensures past { result ≡ Err Error.InvalidJsonb → Fits (tree_of value.now) → ⊥ }
+    ensures only { IfErr result (λ e. (e ≡ Error.InvalidJsonb) ⊎ (e ≡ Error.OutOfMemory)) }
+{
+    let mut document = Vec::new(alloc);
+    let mut encoder = Encoder::new(&mut document);
+    encoder.encode(value)?;
+    Ok(document)
+}
+
+// The compact text of a document.
+fn answer_dec(alloc: Global, word: &[u8]) -> Result<Answer, Refusal>
+    ensures { IsReply IsDecAnswer word.now (outcome_line result) }
+{
+    match decoded(alloc, word) {
+        Ok(bytes) => match document_text(alloc, &bytes) {
+            Ok(text) => Ok(Answer::Text(text)),
+            Err(error) => Err(Refusal::Call(error)),
+        },
+        Err(refusal) => Err(refusal),
+    }
+}
+
+// The compact text of the tree that the bytes mean. `InvalidJsonb` where they are no document.
+fn document_text(alloc: Global, bytes: &[u8]) -> Result<String, Error>
+    ensures ok { IfOk result (λ text. (t : Tree) × (Doc bytes.now t × (string_bytes text ≡ compact t))) }
+    ensures none { result ≡ Err Error.InvalidJsonb → IsDocument bytes.now → ⊥ }
+    ensures only { IfErr result (λ e. (e ≡ Error.InvalidJsonb) ⊎ (e ≡ Error.OutOfMemory)) }
+{
+    if !is_document(bytes) {
+        return Err(Error::InvalidJsonb);
+    }
+    match value_of(alloc, bytes) {
+        Ok(value) => value_text(alloc, &value),
+        // They are a document, so only room can have been refused.
+        Err(_) => Err(Error::OutOfMemory),
+    }
+}
+
+/// What a line is answered: what its command answers, or that it is none.
+pub fn answer(alloc: Global, line: &[u8]) -> Result<Answer, Refusal>
+    ensures { IsLineReply line.now (outcome_line result) }
+{
+    match Command::parse(line) {
+        Some(command) => command.answer(alloc),
+        None => Err(Refusal::BadCommand),
+    }
+}
+
+/// The bytes of a hexadecimal word of either case; of an empty word none.
+pub fn decoded(alloc: Global, word: &[u8]) -> Result<Vec<u8>, Refusal>
+    ensures ok { IfOk result (λ bytes. IsHexOf bytes.items word.now) }
+    ensures bad { IsErrOf result Refusal.BadHex → (bytes : List ℕ) → IsHexOf bytes word.now → ⊥ }
+    ensures refused { IfErr result (λ refusal.
+        (refusal ≡ Refusal.BadHex) ⊎ (refusal ≡ Refusal.Call OutOfMemory)) }
+{
+    match hex::decode(alloc, word) {
+        Ok(bytes) => Ok(bytes),
+        Err(FromHexError::OutOfMemory) => Err(Refusal::Call(Error::OutOfMemory)),
+        Err(_) => Err(Refusal::BadHex),
+    }
+}

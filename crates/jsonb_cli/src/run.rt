@@ -1,0 +1,145 @@
+//! Lines in, answers out, over any reader and any writer.
+
+ghost use Rattle.std.specs.Prelude.{◌≡◌, ℕ, [], ◌++◌, List, OnOk, OnErr, IfSome, IsErrOf};
+ghost use Rattle.std.specs.Io.KnownBytes.{IsAtEnd};
+ghost use Rattle.jsonb_cli.specs.Answers.{IsLineReply};
+ghost use Rattle.jsonb_cli.specs.Lines.{IsLine, AppendsReply, BeginsReply};
+ghost use Rattle.jsonb_cli.specs.Lines.{AppendsReplies, AppendsBeginning, AppendsWhole};
+ghost use Rattle.jsonb_cli.specs.Fault.{fault_line};
+ghost use Rattle.jsonb_cli.specs.declared.run.RunError.TheVariants.{Memory};
+
+use crate::answer::written_line;
+use crate::command::answer;
+use crate::write::write_bytes;
+use std::alloc::{AllocError, AllocFailed, Global};
+use std::io::{Read, Write};
+
+/// Why a run ended early.
+#[derive(Clone, Copy, Debug, PartialEq, Eq)]
+pub enum RunError {
+    /// The reader failed, or never met the end of its input.
+    Read,
+    /// The writer failed, or took no byte.
+    Write,
+    /// The room for a line or for an answer was refused.
+    Memory,
+}
+
+impl RunError {
+    /// The line that says so on standard error.
+    pub fn line(&self) -> &'static str
+        ensures { result.now ≡ fault_line self.now }
+    {
+        match self {
+            RunError::Read => "jsonb_cli: read failed",
+            RunError::Write => "jsonb_cli: write failed",
+            RunError::Memory => "jsonb_cli: out of memory",
+        }
+    }
+}
+
+impl From<AllocError> for RunError {
+    ghost from_gives = { λ _ e. e ≡ Memory };
+
+    fn from(_error: AllocError) -> RunError {
+        RunError::Memory
+    }
+}
+
+impl<T: Drop> From<AllocFailed<T>> for RunError {
+    ghost from_gives = { λ _ e. e ≡ Memory };
+
+    fn from(_failed: AllocFailed<T>) -> RunError {
+        RunError::Memory
+    }
+}
+
+// Answers one line. The whole reply is made before its first byte is written.
+fn answer_line<W: Write>(alloc: Global, writer: &mut W, line: &[u8]) -> Result<(), RunError>
+    ensures ok { OnOk result (AppendsReply IsLineReply line.now
+        (W.contents writer.old) (W.contents writer.new)) }
+    ensures err { OnErr result (BeginsReply IsLineReply line.now
+        (W.contents writer.old) (W.contents writer.new)) }
+    ensures refused { IsErrOf result RunError.Read → ⊥ }
+{
+    let reply = written_line(alloc, &answer(alloc, line))?;
+    write_bytes(writer, reply.as_bytes())
+}
+
+// Goes on with a line that was begun: answers each line that ends in the chunk, and keeps what
+// follows.
+fn answer_chunk<W: Write>(
+    alloc: Global,
+    writer: &mut W,
+    begun: &mut Vec<u8>,
+    chunk: &[u8],
+) -> Result<(), RunError>
+    requires { IsLine begun.old.items }
+    ensures ok { OnOk result (AppendsWhole IsLineReply
+        (begun.old.items ++ chunk.now) begun.new.items []
+        (W.contents writer.old) (W.contents writer.new)) }
+    ensures err { OnErr result ((later : List ℕ) → AppendsBeginning IsLineReply
+        (begun.old.items ++ (chunk.now ++ later))
+        (W.contents writer.old) (W.contents writer.new)) }
+    ensures refused { IsErrOf result RunError.Read → ⊥ }
+{
+    for byte in chunk {
+        if *byte == b'\n' {
+            answer_line(alloc, writer, begun)?;
+            begun.clear();
+        } else {
+            begun.push(*byte)?;
+        }
+    }
+    Ok(())
+}
+
+// Answers the last line, if it has no line feed.
+fn answer_rest<W: Write>(alloc: Global, writer: &mut W, begun: &[u8]) -> Result<(), RunError>
+    requires { IsLine begun.now }
+    ensures ok { OnOk result (AppendsReplies IsLineReply begun.now
+        (W.contents writer.old) (W.contents writer.new)) }
+    ensures err { OnErr result (AppendsBeginning IsLineReply begun.now
+        (W.contents writer.old) (W.contents writer.new)) }
+    ensures refused { IsErrOf result RunError.Read → ⊥ }
+{
+    if begun.is_empty() {
+        return Ok(());
+    }
+    answer_line(alloc, writer, begun)
+}
+
+/// Answers each line of the reader's bytes to the writer by one line. A line is what stands before
+/// a line feed, and what follows the last one where it is not empty. All whole lines that were read
+/// are answered before the reader is asked again. After `Ok` all input was read, and its answers
+/// were written, in order and nothing else.
+///
+/// Where a command is refused memory, its answer is `error OutOfMemory` and the run goes on. After
+/// an error what was written is a beginning of such answers. `Read`: the reader failed, or was asked
+/// 18,446,744,073,709,551,615 times and met no end of input. `Write`: the writer failed, or took no
+/// byte. `Memory`: the room for a line or for an answer was refused.
+pub fn run<R: Read, W: Write>(alloc: Global, reader: &mut R, writer: &mut W) -> Result<(), RunError>
+    ensures done { OnOk result (IfSome (R.remaining reader.old) (λ input.
+        AppendsReplies IsLineReply input (W.contents writer.old) (W.contents writer.new))) }
+    ensures all_read { OnOk result (IsAtEnd (R.remaining reader.new)) }
+    ensures begun { OnErr result (IfSome (R.remaining reader.old) (λ input.
+        AppendsBeginning IsLineReply input (W.contents writer.old) (W.contents writer.new))) }
+
+    // After the reader's fault exactly the whole lines that it gave are answered.
+    ensures prompt { IsErrOf result RunError.Read → IfSome (R.remaining reader.old) (λ input.
+        IfSome (R.remaining reader.new) (λ left. (begun : List ℕ) × AppendsWhole IsLineReply
+        input begun left (W.contents writer.old) (W.contents writer.new))) }
+{
+    let mut begun = Vec::new(alloc);
+    let mut buffer = [0; 4096];
+    'reads: for _ in 0..u64::MAX {
+        let Ok(count) = reader.read(&mut buffer) else {
+            return Err(RunError::Read);
+        };
+        if count == 0 {
+            return answer_rest(alloc, writer, &begun);
+        }
+        answer_chunk(alloc, writer, &mut begun, &buffer[..count])?;
+    }
+    Err(RunError::Read)
+}

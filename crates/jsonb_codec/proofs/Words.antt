@@ -1,0 +1,60 @@
+-- Laws of words.
+use Rattle.std.proofs.Common.{◌≡◌, ℕ, zero, suc, ◌+◌, ◌-◌, ◌^◌, ◌<◌, ◌≤◌, List, [], ◌∷◌, ◌++◌, length, take, drop, get_or, refl, sym, ap, ◌∙◌, arith, length-append}
+use Rattle.std.specs.Int.{w32, from_be_bytes}
+use Rattle.std.proofs.lemmas.Nat.{be_bytes_4, from_be_bytes-to_be_bytes_4}
+use Rattle.std.proofs.Math.Seq.{take-length}
+use Rattle.jsonb_codec.specs.Word.{word}
+
+pub length-word : (k : ℕ) → length (word k) ≡ 4
+unfolding word
+length-word k = refl
+
+pub word-value : (k : ℕ) → k < 2 ^ 32 → from_be_bytes w32 (word k) ≡ k
+unfolding word
+word-value k h = from_be_bytes-to_be_bytes_4 k h
+
+-- two lists whose fronts are equally long
+pub same_parts : (a b x y : List ℕ) → length a ≡ length b → a ++ x ≡ b ++ y → (a ≡ b) × (x ≡ y)
+same_parts [] [] x y n e = (refl, e)
+same_parts [] (q ∷ b) x y n e = absurd (omega arith)
+same_parts (p ∷ a) [] x y n e = absurd (omega arith)
+same_parts (p ∷ a) (q ∷ b) x y n e =
+    let head : p ≡ q = cc in
+    let tail : a ++ x ≡ b ++ y = cc in
+    let rest = same_parts a b x y (omega arith) tail in
+    let front : a ≡ b = rest.0 in
+    (cc, rest.1)
+
+-- a word and what follows it are read in one way
+pub same_words : (k l : ℕ) (x y : List ℕ) → k < 2 ^ 32 → l < 2 ^ 32 → word k ++ x ≡ word l ++ y → (k ≡ l) × (x ≡ y)
+same_words k l x y hk hl e =
+    let parts = same_parts (word k) (word l) x y (length-word k ∙ sym (length-word l)) e in
+    (sym (word-value k hk) ∙ ap (from_be_bytes w32) parts.0 ∙ word-value l hl, parts.1)
+
+pub length-word-append : (k : ℕ) (x : List ℕ) → length (word k ++ x) ≡ 4 + length x
+length-word-append k x = length-append (word k) x ∙ ap (λ n. n + length x) (length-word k)
+
+abbrev pub four_of : List ℕ → List ℕ
+four_of xs = get_or xs 0 0 ∷ (get_or xs 1 0 ∷ (get_or xs 2 0 ∷ (get_or xs 3 0 ∷ [])))
+
+four_small : (xs : List ℕ) → ((i : ℕ) → get_or xs i 0 < 256) → (i : ℕ) → get_or (four_of xs) i 0 < 256
+four_small xs h zero = h 0
+four_small xs h (suc zero) = h 1
+four_small xs h (suc (suc zero)) = h 2
+four_small xs h (suc (suc (suc zero))) = h 3
+four_small xs h (suc (suc (suc (suc i)))) = omega arith
+
+split_four : (xs : List ℕ) → 4 ≤ length xs → xs ≡ four_of xs ++ take (length xs - 4) (drop 4 xs)
+split_four [] h = absurd (omega arith)
+split_four (a ∷ []) h = absurd (omega arith)
+split_four (a ∷ (b ∷ [])) h = absurd (omega arith)
+split_four (a ∷ (b ∷ (c ∷ []))) h = absurd (omega arith)
+split_four (a ∷ (b ∷ (c ∷ (d ∷ xs)))) h =
+    let n : length (a ∷ (b ∷ (c ∷ (d ∷ xs)))) - 4 ≡ length xs = omega arith in
+    sym (ap (λ (k : ℕ). a ∷ (b ∷ (c ∷ (d ∷ take k xs)))) n ∙ ap (λ (ys : List ℕ). a ∷ (b ∷ (c ∷ (d ∷ ys)))) (take-length xs))
+
+-- the word at the front, as a pattern [a, b, c, d, rest @ ..] takes it apart
+pub word_at_front : (xs : List ℕ) (n : ℕ) → 4 ≤ length xs → ((i : ℕ) → get_or xs i 0 < 256) → n ≡ from_be_bytes w32 (four_of xs) → xs ≡ word n ++ take (length xs - 4) (drop 4 xs)
+unfolding word
+word_at_front xs n h small is =
+    split_four xs h ∙ ap (λ (front : List ℕ). front ++ take (length xs - 4) (drop 4 xs)) (sym (be_bytes_4 (four_of xs) n refl (four_small xs small) is))

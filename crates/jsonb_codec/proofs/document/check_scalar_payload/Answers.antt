@@ -1,0 +1,28 @@
+use Rattle.std.proofs.Common.{inl, inr}
+use Rattle.jsonb_value.specs.ExtCode.{extension_of}
+use Rattle.jsonb_codec.proofs.Scalars.{empty_test, HasPayload-null, HasPayload-false, HasPayload-true, HasPayload-text, HasPayload-number, HasPayload-extension}
+use Rattle.jsonb_codec.proofs.document.check_scalar_payload.Goals as goal
+
+pub returns-in-0 : goal.returns-in-0
+returns-in-0 c =
+    let p = c.args.payload.now in
+    let empty = (empty_test _ p c.is_empty.ensures).0 c.if-is_empty.true in
+    elim c.in-0.is [
+      | inl null ↦ (HasPayload-null 0 c.args.tag p null).0 empty
+      | inr truth ↦ elim truth [
+        | inl untrue ↦ (HasPayload-false 0 c.args.tag p untrue).0 empty
+        | inr true_tag ↦ (HasPayload-true 0 c.args.tag p true_tag).0 empty
+      ]
+    ]
+
+pub returns-in-Ok : goal.returns-in-Ok
+returns-in-Ok c =
+    (HasPayload-text 0 c.args.tag c.args.payload.now c.in-268435456.is).0 c.in-Ok.ensures.cases.1
+
+pub returns-in-Ok-decode : goal.returns-in-Ok-decode
+returns-in-Ok-decode c =
+    (HasPayload-number 0 c.args.tag c.args.payload.now c.in-536870912.is).0 (c.in-Ok-decode.field-0, c.in-Ok-decode.ensures.ok)
+
+pub returns-in-Ok-decode-2 : goal.returns-in-Ok-decode-2
+returns-in-Ok-decode-2 c =
+    (HasPayload-extension 0 c.args.tag c.args.payload.now c.in-1610612736.is).0 (extension_of c.in-Ok-decode-2.field-0, c.in-Ok-decode-2.ensures.ok)

@@ -1,0 +1,103 @@
+-- Which bytes mean which tree.
+use Rattle.std.specs.Prelude.{◌≡◌, ◌≢◌, ◌⊎◌, ℕ, ◌+◌, ◌<◌, ◌^◌, List, [], ◌++◌, length, true, false}
+use Rattle.std.specs.Str.{IsUtf8}
+use Rattle.jsonb_value.specs.Tree.{Tree, null, boolean, number, text, extension, array, object, Trees, no_trees, tree, Pairs, no_pairs, pair, count, pair_count, Ascend}
+use Rattle.jsonb_value.specs.NumCode.{NumCode}
+use Rattle.jsonb_value.specs.ExtCode.{ExtCode}
+use Rattle.jsonb_codec.specs.declared.constants.TheConstants.{ARRAY_CONTAINER_TAG, OBJECT_CONTAINER_TAG, SCALAR_CONTAINER_TAG, NULL_TAG, STRING_TAG, NUMBER_TAG, FALSE_TAG, TRUE_TAG, CONTAINER_TAG, EXTENSION_TAG}
+use Rattle.jsonb_codec.specs.Word.{word}
+
+-- the type of the entry of a tree
+abbrev pub type_of : Tree → ℕ
+type_of null = NULL_TAG
+type_of (boolean false) = FALSE_TAG
+type_of (boolean true) = TRUE_TAG
+type_of (number x) = NUMBER_TAG
+type_of (text s) = STRING_TAG
+type_of (extension e) = EXTENSION_TAG
+type_of (array ts) = CONTAINER_TAG
+type_of (object ps) = CONTAINER_TAG
+
+-- Entry words, and the payloads that stand elsewhere in the same order: here none of them,
+pub record NoMore (entries payloads : List ℕ) : Type 0 where
+  pub no_entries : entries ≡ []
+  pub no_payloads : payloads ≡ []
+
+-- and here one in front of the others.
+pub record One (type : ℕ) (Means : List ℕ → Type 0) (Others : List ℕ → List ℕ → Type 0) (entries payloads : List ℕ) : Type 0 where
+  pub payload : List ℕ
+  pub other_entries : List ℕ
+  pub other_payloads : List ℕ
+  pub entries_are : entries ≡ word (type + length payload) ++ other_entries
+  pub payloads_are : payloads ≡ payload ++ other_payloads
+  pub short : length payload < 2 ^ 28
+  pub means : Means payload
+  pub others : Others other_entries other_payloads
+
+-- n entry words, and the n payloads behind them
+pub record Body (n : ℕ) (Items : List ℕ → List ℕ → Type 0) (bytes : List ℕ) : Type 0 where
+  pub few : n < 2 ^ 29
+  pub entries : List ℕ
+  pub payloads : List ℕ
+  pub parts : bytes ≡ entries ++ payloads
+  pub items : Items entries payloads
+
+-- the words of n keys, those of n values, the keys, the payloads of the values
+pub record PairsBody (n : ℕ) (Keys Values : List ℕ → List ℕ → Type 0) (bytes : List ℕ) : Type 0 where
+  pub few : n < 2 ^ 29
+  pub key_entries : List ℕ
+  pub value_entries : List ℕ
+  pub key_payloads : List ℕ
+  pub value_payloads : List ℕ
+  pub parts : bytes ≡ key_entries ++ (value_entries ++ (key_payloads ++ value_payloads))
+  pub keys : Keys key_entries key_payloads
+  pub values : Values value_entries value_payloads
+
+-- bytes behind a header word
+pub record Headed (header : ℕ) (Behind : List ℕ → Type 0) (bytes : List ℕ) : Type 0 where
+  pub rest : List ℕ
+  pub parts : bytes ≡ word header ++ rest
+  pub behind : Behind rest
+
+abbrev pub IsKey : List ℕ → List ℕ → Type 0
+IsKey k p = (p ≡ k) × IsUtf8 k
+
+abbrev pub Keys : Pairs → List ℕ → List ℕ → Type 0
+Keys no_pairs = NoMore
+Keys (pair k t ps) = One STRING_TAG (IsKey k) (Keys ps)
+
+abbrev mutual
+  -- The payload of an entry means the tree.
+  pub Payload : Tree → List ℕ → Type 0
+  Payload null = λ p. p ≡ []
+  Payload (boolean b) = λ p. p ≡ []
+  Payload (number x) = λ p. NumCode p x
+  Payload (text s) = λ p. IsKey s p
+  Payload (extension e) = λ p. ExtCode p e
+  Payload (array ts) = Headed (ARRAY_CONTAINER_TAG + count ts) (Body (count ts) (Children ts))
+  Payload (object ps) = λ p. Ascend ps × Headed (OBJECT_CONTAINER_TAG + pair_count ps) (PairsBody (pair_count ps) (Keys ps) (Values ps)) p
+
+  -- The entry words and the payloads of an array's children.
+  pub Children : Trees → List ℕ → List ℕ → Type 0
+  Children no_trees = NoMore
+  Children (tree t ts) = One (type_of t) (Payload t) (Children ts)
+
+  -- The same of an object's values.
+  pub Values : Pairs → List ℕ → List ℕ → Type 0
+  Values no_pairs = NoMore
+  Values (pair k t ps) = One (type_of t) (Payload t) (Values ps)
+
+-- A scalar behind its header: one entry word, and its payload.
+pub record Scalar (t : Tree) (bytes : List ℕ) : Type 0 where
+  pub payload : List ℕ
+  pub parts : bytes ≡ word SCALAR_CONTAINER_TAG ++ (word (type_of t + length payload) ++ payload)
+  pub short : length payload < 2 ^ 28
+  pub means : Payload t payload
+
+-- The bytes are a document of the tree: a scalar behind its header, or a whole array or object.
+abbrev pub Doc : List ℕ → Tree → Type 0
+Doc b t = ((type_of t ≢ CONTAINER_TAG) × Scalar t b) ⊎ ((type_of t ≡ CONTAINER_TAG) × Payload t b)
+
+-- The bytes are a document.
+abbrev pub IsDocument : List ℕ → Type 0
+IsDocument b = (t : Tree) × Doc b t

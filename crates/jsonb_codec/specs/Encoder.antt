@@ -1,0 +1,12 @@
+-- The buffer that an encoder was made with.
+use Rattle.std.specs.Prelude.{ℕ}
+use Rattle.std.specs.Global.{Vec}
+use Rattle.std.specs.Borrow.{MutBor}
+use Rattle.jsonb_codec.specs.declared.ser.Encoder.{Encoder}
+use Rattle.jsonb_codec.specs.declared.ser.JsonAstEncoder.{JsonAstEncoder}
+
+abbrev pub buffer : Encoder → MutBor (Vec ℕ)
+buffer e = e.buf
+
+abbrev pub ast_buffer : JsonAstEncoder → MutBor (Vec ℕ)
+ast_buffer e = e.buf

@@ -1,0 +1,17 @@
+-- Entry words.
+use Rattle.std.specs.Prelude.{ℕ, ◌-◌, ◌%◌, ◌^◌, List, Result, Ok, Err}
+use Rattle.jsonb_value.specs.declared.error.Error.{Error}
+use Rattle.jsonb_codec.specs.declared.jentry.JEntry.{JEntry}
+use Rattle.jsonb_codec.specs.Word.{word_at}
+
+-- the type and the length in an entry word, whose top bit is passed over
+abbrev pub jentry_of : ℕ → JEntry
+jentry_of k = record { type_code = k % 2 ^ 31 - k % 2 ^ 28; length = k % 2 ^ 28 }
+
+abbrev pub jentry_in : Result ℕ Error → Result JEntry Error
+jentry_in (Ok k) = Ok (jentry_of k)
+jentry_in (Err e) = Err e
+
+-- the entry whose first byte stands at the index
+abbrev pub jentry_at : List ℕ → ℕ → Result JEntry Error
+jentry_at bytes index = jentry_in (word_at bytes index)

@@ -1,0 +1,12 @@
+pub mod Word
+pub mod JEntry
+pub mod Doc
+pub mod Fault
+pub mod Parts
+pub mod Decoder
+pub mod Canon
+pub mod Canonical
+pub mod Depth
+pub mod Node
+pub mod Room
+pub mod Encoder

@@ -1,0 +1,355 @@
+//! Which byte strings are documents, and the first fault of those that are none.
+
+ghost use Rattle.std.specs.Prelude.{◌≡◌, ◌≢◌, ◌+◌, ◌*◌, ◌/◌, ◌%◌, ◌<◌, ◌≤◌, ◌^◌, ◌↔◌, ◌++◌, [], ℕ, List, length, take, drop, IsTrue, None, IfOk, IfErr, OnOk, OnErr, option_map};
+ghost use Rattle.jsonb_codec.specs.Word.{word};
+ghost use Rattle.jsonb_value.specs.Tree.{Tree};
+ghost use Rattle.jsonb_codec.specs.Doc.{Doc, IsDocument};
+ghost use Rattle.jsonb_codec.specs.Depth.{depth, size, IsDocumentWithin};
+ghost use Rattle.jsonb_codec.specs.Parts.{IsFault, Tells, HasScalar, HasPayload, HasArray, HasObject, HasChildren, HasKeys, IsAbove, IsKeyAfter};
+
+use crate::constants::{
+    ARRAY_CONTAINER_TAG, CONTAINER_TAG, EXTENSION_TAG, FALSE_TAG, NULL_TAG, NUMBER_TAG,
+    OBJECT_CONTAINER_TAG, SCALAR_CONTAINER_TAG, STRING_TAG, TRUE_TAG,
+};
+use crate::word::{Tagged, split_entry, split_header};
+use jsonb_value::{Error, ExtensionValue, Number};
+use std::cmp::Ordering;
+
+/// The laws of documents: each means one tree, and none properly begins another.
+pub fn document_laws()
+    ensures one_tree { (b : List ℕ) (t u : Tree) → Doc b t → Doc b u → t ≡ u }
+    ensures prefix_free { (a c : List ℕ) → IsDocument a → IsDocument (a ++ c) → c ≡ [] }
+{}
+
+/// Whether the bytes are a document. Where they are, they mean one tree, whose size and depth the
+/// number of bytes bounds, no proper beginning of them is a document, and none that is longer
+/// begins with them.
+pub fn is_document(bytes: &[u8]) -> bool
+    ensures exact { IsTrue result ↔ IsDocument bytes.now }
+    ensures one_tree { IsTrue result → (t u : Tree) → Doc bytes.now t → Doc bytes.now u → t ≡ u }
+    ensures no_beginning { IsTrue result → (a c : List ℕ) → bytes.now ≡ a ++ c → IsDocument a
+        → c ≡ [] }
+    ensures no_longer { IsTrue result → (c : List ℕ) → IsDocument (bytes.now ++ c) → c ≡ [] }
+    ensures size { IsTrue result → (t : Tree) → Doc bytes.now t → size t ≤ length bytes.now / 4 }
+    ensures depth { IsTrue result → (t : Tree) → Doc bytes.now t
+        → depth t ≤ (length bytes.now + 4) / 8 }
+{
+    // No document nests as deep as it has bytes.
+    is_document_within(bytes, bytes.len())
+}
+
+/// Whether the bytes are a document that nests at most that deep: a scalar has depth 0, an array
+/// or object 1 where it is empty, and otherwise one more than its deepest child.
+pub fn is_document_within(bytes: &[u8], depth: usize) -> bool
+    ensures { IsTrue result ↔ IsDocumentWithin depth bytes.now }
+{
+    check(FaultTable::Tree, depth, bytes).is_ok()
+}
+
+/// Which error a fault is: the two readers name some faults differently.
+#[derive(Clone, Copy)]
+pub enum FaultTable {
+    Tree,
+    Decoder,
+}
+
+impl FaultTable {
+    // Fewer than four bytes for the header of the whole.
+    fn header_cut(self) -> Error
+        ensures { IsFault self result }
+    {
+        match self {
+            FaultTable::Tree => Error::InvalidEOF,
+            FaultTable::Decoder => Error::InvalidJsonb,
+        }
+    }
+
+    // The same of a container inside.
+    fn inner_header_cut(self) -> Error
+        ensures { IsFault self result }
+    {
+        Error::InvalidEOF
+    }
+
+    // A header that is not allowed where it stands.
+    fn header_kind(self) -> Error
+        ensures { IsFault self result }
+    {
+        match self {
+            FaultTable::Tree => Error::InvalidJsonb,
+            FaultTable::Decoder => Error::InvalidJsonbHeader,
+        }
+    }
+
+    // Fewer entry words than the header counts.
+    fn entries_cut(self) -> Error
+        ensures { IsFault self result }
+    {
+        Error::InvalidEOF
+    }
+
+    // An entry word that is not allowed where it stands.
+    fn entry(self) -> Error
+        ensures { IsFault self result }
+    {
+        match self {
+            FaultTable::Tree => Error::InvalidJsonb,
+            FaultTable::Decoder => Error::InvalidJsonbJEntry,
+        }
+    }
+
+    // A payload that runs past the end of its container. An entry of no type, or a null or truth
+    // value with a length, is a fault of the entry.
+    fn bounds(self, tag: u32) -> Error
+        ensures { IsFault self result }
+    {
+        match (self, tag) {
+            (FaultTable::Tree, _) => Error::InvalidJsonb,
+            (FaultTable::Decoder, STRING_TAG) => Error::InvalidUtf8,
+            (FaultTable::Decoder, NUMBER_TAG) => Error::InvalidJsonbNumber,
+            (FaultTable::Decoder, EXTENSION_TAG) => Error::InvalidJsonbExtension,
+            (FaultTable::Decoder, CONTAINER_TAG) => Error::InvalidJsonb,
+            (FaultTable::Decoder, _) => self.entry(),
+        }
+    }
+
+    // Keys that are no strings or do not ascend strictly.
+    fn keys(self) -> Error
+        ensures { IsFault self result }
+    {
+        Error::InvalidJsonb
+    }
+
+    // Bytes behind the last payload.
+    fn left_over(self) -> Error
+        ensures { IsFault self result }
+    {
+        Error::InvalidJsonb
+    }
+}
+
+/// Goes through the bytes once, and answers the first fault by that table. A container more than
+/// `depth` deep is a fault, and is not looked into.
+pub fn check(faults: FaultTable, depth: usize, bytes: &[u8]) -> Result<(), Error>
+    ensures { Tells faults result (IsDocumentWithin depth bytes.now) }
+{
+    let Some(header) = split_header(bytes) else {
+        return Err(faults.header_cut());
+    };
+    if header.tag == SCALAR_CONTAINER_TAG {
+        check_scalar(faults, header.number, header.rest)
+    } else {
+        check_container(faults, depth, bytes)
+    }
+}
+
+// What stands behind the header of a scalar: one entry, and its payload.
+fn check_scalar(faults: FaultTable, count: usize, body: &[u8]) -> Result<(), Error>
+    requires { count < 2 ^ 29 }
+    ensures { Tells faults result (HasScalar (word (SCALAR_CONTAINER_TAG + count) ++ body.now)) }
+{
+    if count != 0 {
+        return Err(faults.header_kind());
+    }
+    let Some(entry) = split_entry(body) else {
+        return Err(faults.entries_cut());
+    };
+    if entry.tag == CONTAINER_TAG {
+        return Err(faults.entry());
+    }
+    let (payload, behind) = split_payload(faults, entry.tag, entry.number, entry.rest)?;
+    check_scalar_payload(faults, entry.tag, payload)?;
+    if !behind.is_empty() {
+        return Err(faults.left_over());
+    }
+    Ok(())
+}
+
+// A whole array or object.
+#[cycle(container)]
+fn check_container(faults: FaultTable, depth: usize, bytes: &[u8]) -> Result<(), Error>
+    ensures { Tells faults result (HasPayload depth CONTAINER_TAG bytes.now) }
+{
+    if depth == 0 {
+        return Err(Error::InvalidJsonb);
+    }
+    let Some(header) = split_header(bytes) else {
+        return Err(faults.inner_header_cut());
+    };
+    match header.tag {
+        ARRAY_CONTAINER_TAG => check_array(faults, depth - 1, header.number, header.rest),
+        OBJECT_CONTAINER_TAG => check_object(faults, depth - 1, header.number, header.rest),
+        _ => Err(faults.header_kind()),
+    }
+}
+
+// The entry words and payloads of an array of that many items.
+#[cycle(container)]
+fn check_array(faults: FaultTable, depth: usize, count: usize, body: &[u8]) -> Result<(), Error>
+    requires { count < 2 ^ 29 }
+    ensures { Tells faults result (HasArray depth count body.now) }
+{
+    if body.len() < 4 * count {
+        return Err(faults.entries_cut());
+    }
+    let (entries, payloads) = body.split_at(4 * count);
+    check_children(faults, depth, entries, payloads)
+}
+
+// The entry words and payloads of an object of that many pairs.
+#[cycle(container)]
+fn check_object(faults: FaultTable, depth: usize, count: usize, body: &[u8]) -> Result<(), Error>
+    requires { count < 2 ^ 29 }
+    ensures { Tells faults result (HasObject depth count body.now) }
+{
+    if body.len() < 8 * count {
+        return Err(faults.entries_cut());
+    }
+    let (key_entries, behind_keys) = body.split_at(4 * count);
+    let (value_entries, payloads) = behind_keys.split_at(4 * count);
+    let keys = check_keys(faults, depth, key_entries, payloads)?;
+    check_children(faults, depth, value_entries, keys.behind)?;
+    if keys.ascend {
+        Ok(())
+    } else {
+        Err(faults.keys())
+    }
+}
+
+// An array's items or an object's values, the last parts of their container.
+#[cycle(container)]
+fn check_children(
+    faults: FaultTable,
+    depth: usize,
+    entries: &[u8],
+    payloads: &[u8],
+) -> Result<(), Error>
+    requires { length entries.now % 4 ≡ 0 }
+    ensures { Tells faults result (HasChildren depth entries.now payloads.now) }
+{
+    let mut entries_left = entries;
+    let mut payloads_left = payloads;
+    while let Some(entry) = split_entry(entries_left) {
+        let (payload, behind) = split_payload(faults, entry.tag, entry.number, payloads_left)?;
+        check_payload(faults, depth, entry.tag, payload)?;
+        entries_left = entry.rest;
+        payloads_left = behind;
+    }
+    if payloads_left.is_empty() {
+        Ok(())
+    } else {
+        Err(faults.left_over())
+    }
+}
+
+// What was seen of an object's keys.
+#[derive(Clone, Copy)]
+struct Keys<'a> {
+    // They are strings, and ascend strictly.
+    ascend: bool,
+    behind: &'a [u8],
+}
+
+// An object's keys. Their order is a fault only after the values' own faults, so it is answered.
+#[cycle(container)]
+fn check_keys<'a>(
+    faults: FaultTable,
+    depth: usize,
+    entries: &[u8],
+    payloads: &'a [u8],
+) -> Result<Keys<'a>, Error>
+    requires { length entries.now % 4 ≡ 0 }
+    ensures keys { IfOk result (λ k. IsTrue k.ascend
+        → HasKeys None entries.now payloads.now k.behind.now) }
+    ensures ascend { IfOk result (λ k. (q : List ℕ) → HasKeys None entries.now payloads.now q
+        → IsTrue k.ascend) }
+    ensures shorter { IfOk result (λ k. length k.behind.now ≤ length payloads.now) }
+    ensures none { OnErr result
+        ((q : List ℕ) → HasKeys None entries.now payloads.now q → ⊥) }
+    ensures fault { IfErr result (IsFault faults) }
+{
+    let mut entries_left = entries;
+    let mut payloads_left = payloads;
+    let mut before: Option<&[u8]> = None;
+    let mut ascend = true;
+    while let Some(entry) = split_entry(entries_left) {
+        let (key, behind) = split_payload(faults, entry.tag, entry.number, payloads_left)?;
+        check_payload(faults, depth, entry.tag, key)?;
+        ascend &= is_key_after(before, entry.tag, key);
+        entries_left = entry.rest;
+        payloads_left = behind;
+        before = Some(key);
+    }
+    Ok(Keys {
+        ascend,
+        behind: payloads_left,
+    })
+}
+
+// Whether a child can be the key that follows that one.
+fn is_key_after(before: Option<&[u8]>, tag: u32, key: &[u8]) -> bool
+    ensures { IsTrue result ↔ IsKeyAfter (option_map (λ b. b.now) before.entry) tag key.now }
+{
+    let ascends = match before {
+        Some(before) => before.cmp(&key) == Ordering::Less,
+        None => true,
+    };
+    ascends && tag == STRING_TAG
+}
+
+// The payload of an entry, and what stands behind it.
+fn split_payload<'a>(
+    faults: FaultTable,
+    tag: u32,
+    number: usize,
+    payloads: &'a [u8],
+) -> Result<(&'a [u8], &'a [u8]), Error>
+    ensures payload { IfOk result (λ x. x.0.now ≡ take number payloads.now) }
+    ensures behind { IfOk result (λ x. x.1.now ≡ drop number payloads.now) }
+    ensures fits { OnOk result (number ≤ length payloads.now) }
+    ensures past { OnErr result (length payloads.now < number) }
+    ensures fault { IfErr result (IsFault faults) }
+{
+    if number > payloads.len() {
+        return Err(faults.bounds(tag));
+    }
+    Ok(payloads.split_at(number))
+}
+
+// The payload of an entry of this type.
+#[cycle(container)]
+fn check_payload(faults: FaultTable, depth: usize, tag: u32, payload: &[u8]) -> Result<(), Error>
+    ensures { Tells faults result (HasPayload depth tag payload.now) }
+{
+    if tag == CONTAINER_TAG {
+        check_container(faults, depth, payload)
+    } else {
+        check_scalar_payload(faults, tag, payload)
+    }
+}
+
+// The payload of an entry of this type, which is no container.
+fn check_scalar_payload(faults: FaultTable, tag: u32, payload: &[u8]) -> Result<(), Error>
+    requires { tag ≢ CONTAINER_TAG }
+    ensures { Tells faults result (HasPayload 0 tag payload.now) }
+{
+    match tag {
+        NULL_TAG | FALSE_TAG | TRUE_TAG if payload.is_empty() => Ok(()),
+        STRING_TAG => match str::from_utf8(payload) {
+            Ok(_) => Ok(()),
+            Err(_) => Err(Error::InvalidUtf8),
+        },
+        NUMBER_TAG => match Number::decode(payload) {
+            Ok(_) => Ok(()),
+            Err(error) => Err(error),
+        },
+        EXTENSION_TAG => match ExtensionValue::decode(payload) {
+            Ok(_) => Ok(()),
+            Err(error) => Err(error),
+        },
+        _ => Err(faults.entry()),
+    }
+}
+
+#[cfg(test)]
+mod tests;

@@ -1,0 +1,123 @@
+//! Entry words, taken apart and put together.
+
+ghost use Rattle.std.specs.Prelude.{◌≡◌, ◌≤◌, ◌+◌, ◌%◌, ◌^◌, bit_and, bit_or};
+
+use crate::constants::{
+    CONTAINER_TAG, EXTENSION_TAG, FALSE_TAG, JENTRY_OFF_LEN_MASK, JENTRY_TYPE_MASK, NULL_TAG,
+    NUMBER_TAG, STRING_TAG, TRUE_TAG,
+};
+
+/// The entry of a child: its type, and the length of its payload in bytes. Entries are ordered by
+/// type, then by length.
+#[derive(Clone, Copy, Debug, PartialEq, Eq, PartialOrd, Ord)]
+pub struct JEntry {
+    pub type_code: u32,
+    pub length: u32,
+}
+
+impl JEntry {
+    ghost use Rattle.jsonb_codec.specs.JEntry.{jentry_of};
+
+    /// The entry in a word: type and length stand behind their masks, the top bit is passed over.
+    pub fn decode_jentry(encoded: u32) -> JEntry
+        ensures value { result ≡ jentry_of encoded }
+        ensures type_code { result.type_code ≡ bit_and encoded JENTRY_TYPE_MASK }
+        ensures length { result.length ≡ bit_and encoded JENTRY_OFF_LEN_MASK }
+
+        // Encoded again it is the word without its top bit.
+        ensures again { bit_or result.type_code result.length ≡ encoded % 2 ^ 31 }
+    {
+        JEntry {
+            type_code: encoded & JENTRY_TYPE_MASK,
+            length: encoded & JENTRY_OFF_LEN_MASK,
+        }
+    }
+
+    /// The word of this entry.
+    pub fn encoded(&self) -> u32
+        ensures { result ≡ bit_or self.now.type_code self.now.length }
+    {
+        self.type_code | self.length
+    }
+
+    /// The entry of null.
+    pub fn make_null_jentry() -> JEntry
+        ensures type_code { result.type_code ≡ NULL_TAG }
+        ensures length { result.length ≡ 0 }
+    {
+        JEntry {
+            type_code: NULL_TAG,
+            length: 0,
+        }
+    }
+
+    /// The entry of true.
+    pub fn make_true_jentry() -> JEntry
+        ensures type_code { result.type_code ≡ TRUE_TAG }
+        ensures length { result.length ≡ 0 }
+    {
+        JEntry {
+            type_code: TRUE_TAG,
+            length: 0,
+        }
+    }
+
+    /// The entry of false.
+    pub fn make_false_jentry() -> JEntry
+        ensures type_code { result.type_code ≡ FALSE_TAG }
+        ensures length { result.length ≡ 0 }
+    {
+        JEntry {
+            type_code: FALSE_TAG,
+            length: 0,
+        }
+    }
+
+    /// The entry of a string of this many bytes.
+    pub fn make_string_jentry(length: usize) -> JEntry
+        requires { length ≤ JENTRY_OFF_LEN_MASK }
+        ensures type_code { result.type_code ≡ STRING_TAG }
+        ensures length { result.length ≡ length }
+    {
+        JEntry {
+            type_code: STRING_TAG,
+            length: length as u32,
+        }
+    }
+
+    /// The entry of a number whose payload has this many bytes.
+    pub fn make_number_jentry(length: usize) -> JEntry
+        requires { length ≤ JENTRY_OFF_LEN_MASK }
+        ensures type_code { result.type_code ≡ NUMBER_TAG }
+        ensures length { result.length ≡ length }
+    {
+        JEntry {
+            type_code: NUMBER_TAG,
+            length: length as u32,
+        }
+    }
+
+    /// The entry of an array or object of this many bytes, its header included.
+    pub fn make_container_jentry(length: usize) -> JEntry
+        requires { length ≤ JENTRY_OFF_LEN_MASK }
+        ensures type_code { result.type_code ≡ CONTAINER_TAG }
+        ensures length { result.length ≡ length }
+    {
+        JEntry {
+            type_code: CONTAINER_TAG,
+            length: length as u32,
+        }
+    }
+
+    /// The entry of an extension value whose payload has this many bytes.
+    pub fn make_extension_jentry(length: usize) -> JEntry
+        requires { length ≤ JENTRY_OFF_LEN_MASK }
+        ensures type_code { result.type_code ≡ EXTENSION_TAG }
+        ensures length { result.length ≡ length }
+    {
+        JEntry {
+            type_code: EXTENSION_TAG,
+            length: length as u32,
+        }
+    }
+}

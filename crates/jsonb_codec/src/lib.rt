@@ -1,0 +1,17 @@
+//! The binary form of JSON documents.
+#![tactic(auto)]
+
+mod canonical;
+pub mod constants;
+mod de;
+mod document;
+mod jentry;
+mod ser;
+mod word;
+
+pub use canonical::is_canonical;
+pub use de::{Decoder, value_of};
+pub use document::{document_laws, is_document, is_document_within};
+pub use jentry::JEntry;
+pub use ser::{Encoder, JsonAstEncoder};
+pub use word::{read_header, read_jentry, read_word};

@@ -1,0 +1,160 @@
+//! Values, written as documents.
+
+mod append;
+mod measure;
+mod node;
+
+ghost use Rattle.std.specs.Prelude.{◌≡◌, ◌≤◌, ◌+◌, ◌++◌, ◌↔◌, ◌⊎◌, length, vec_capacity, Err, IsOk, IfOk, IfErr, OnOk, OnErr};
+ghost use Rattle.jsonb_value.specs.Value.{tree_of};
+ghost use Rattle.jsonb_value.specs.Ast.{ast_tree, AscendEverywhere};
+ghost use Rattle.jsonb_value.specs.Tree.{Tree};
+ghost use Rattle.jsonb_value.specs.Norm.{norm};
+ghost use Rattle.jsonb_value.specs.WellFormed.{IsTree};
+ghost use Rattle.jsonb_codec.specs.Doc.{Doc};
+ghost use Rattle.jsonb_codec.specs.Canon.{canon, Fits};
+ghost use Rattle.jsonb_codec.specs.Node.{node_tree, NodeAscends};
+
+use append::append_document;
+use jsonb_value::{Error, JsonAst, Value};
+use measure::measure_document;
+use node::Node;
+
+/// Appends values to a buffer, each as its canonical document.
+#[derive(Drop)]
+pub struct Encoder<'a> {
+    buf: &'a mut Vec<u8>,
+}
+
+impl<'a> Encoder<'a> {
+    ghost use Rattle.jsonb_codec.specs.Encoder.{buffer};
+
+    /// An encoder that appends to `buf`.
+    pub fn new(buf: &'a mut Vec<u8>) -> Encoder<'a>
+        ensures same_buffer { (buffer result).ghost_name ≡ buf.entry.ghost_name }
+        ensures same_value { (buffer result).now ≡ buf.old }
+    {
+        Encoder { buf }
+    }
+
+    /// The length of the value's canonical document in bytes. `InvalidJsonb` where a payload, a
+    /// key or a count is past its limit.
+    pub fn measure(value: &Value<'_>) -> Result<usize, Error>
+        ensures len { IfOk result (λ m. m ≡ length (canon (tree_of value.now))) }
+        ensures fits { IsOk result ↔ Fits (tree_of value.now) }
+        ensures only { IfErr result (λ e. e ≡ Error.InvalidJsonb) }
+        ensures tree { OnOk result (IsTree (tree_of value.now)) }
+    {
+        measure_document(Node::of_value(value))
+    }
+
+    /// Appends the value's canonical document in one growth. `InvalidJsonb` where a payload, a key
+    /// or a count is past its limit, before memory is asked for, and else only `OutOfMemory`.
+    /// After a refusal the bytes of the buffer are as before.
+    pub fn encode(&mut self, value: &Value<'_>) -> Result<(), Error>
+        ensures same_buffer { (buffer self.new).ghost_name ≡ (buffer self.old).ghost_name }
+        ensures appended { OnOk result
+            ((buffer self.new).now.items ≡ (buffer self.old).now.items ++ canon (tree_of value.now)) }
+        ensures err { OnErr result ((buffer self.new).now.items ≡ (buffer self.old).now.items) }
+
+        // Which refusal comes: memory is asked for only where the value fits.
+        ensures fits { OnOk result (Fits (tree_of value.now)) }
+        ensures past { (result ≡ Err Error.InvalidJsonb) ↔ (Fits (tree_of value.now) → ⊥) }
+        ensures memory { result ≡ Err Error.OutOfMemory → Fits (tree_of value.now) }
+        ensures only { IfErr result (λ e. (e ≡ Error.InvalidJsonb) ⊎ (e ≡ Error.OutOfMemory)) }
+        ensures room { Fits (tree_of value.now)
+            → length (buffer self.old).now.items + length (canon (tree_of value.now)) ≤ vec_capacity (buffer self.old).now
+            → IsOk result }
+
+        // What was appended means the value with its zeros made one, and no other value shares it.
+        ensures tree { OnOk result (IsTree (tree_of value.now)) }
+        ensures means { OnOk result (Doc (canon (tree_of value.now)) (norm (tree_of value.now))) }
+        ensures told_apart { (t u : Tree) → IsTree t → IsTree u → Fits t → Fits u
+            → (canon t ≡ canon u) ↔ (norm t ≡ norm u) }
+    {
+        encode_node(self.buf, Node::of_value(value))
+    }
+}
+
+/// Appends values whose objects are lists of pairs, each as its canonical document.
+#[derive(Drop)]
+pub struct JsonAstEncoder<'a> {
+    buf: &'a mut Vec<u8>,
+}
+
+impl<'a> JsonAstEncoder<'a> {
+    ghost use Rattle.jsonb_codec.specs.Encoder.{ast_buffer};
+
+    /// An encoder that appends to `buf`.
+    pub fn new(buf: &'a mut Vec<u8>) -> JsonAstEncoder<'a>
+        ensures same_buffer { (ast_buffer result).ghost_name ≡ buf.entry.ghost_name }
+        ensures same_value { (ast_buffer result).now ≡ buf.old }
+    {
+        JsonAstEncoder { buf }
+    }
+
+    /// The length of the value's canonical document in bytes. Its keys must ascend
+    /// (`has_ascending_keys`). `InvalidJsonb` where a payload, a key or a count is past its limit.
+    pub fn measure(value: &JsonAst<'_>) -> Result<usize, Error>
+        requires { AscendEverywhere (ast_tree value.now) }
+        ensures len { IfOk result (λ m. m ≡ length (canon (ast_tree value.now))) }
+        ensures fits { IsOk result ↔ Fits (ast_tree value.now) }
+        ensures only { IfErr result (λ e. e ≡ Error.InvalidJsonb) }
+        ensures tree { OnOk result (IsTree (ast_tree value.now)) }
+    {
+        measure_document(Node::of_ast(value))
+    }
+
+    /// Appends the value's canonical document in one growth. Its keys must ascend
+    /// (`has_ascending_keys`). `InvalidJsonb` where a payload, a key or a count is past its limit,
+    /// before memory is asked for, and else only `OutOfMemory`. After a refusal the bytes of the
+    /// buffer are as before.
+    pub fn encode(&mut self, value: &JsonAst<'_>) -> Result<(), Error>
+        requires { AscendEverywhere (ast_tree value.now) }
+        ensures same_buffer { (ast_buffer self.new).ghost_name ≡ (ast_buffer self.old).ghost_name }
+        ensures appended { OnOk result
+            ((ast_buffer self.new).now.items ≡ (ast_buffer self.old).now.items ++ canon (ast_tree value.now)) }
+        ensures err { OnErr result ((ast_buffer self.new).now.items ≡ (ast_buffer self.old).now.items) }
+
+        // Which refusal comes: memory is asked for only where the value fits.
+        ensures fits { OnOk result (Fits (ast_tree value.now)) }
+        ensures past { (result ≡ Err Error.InvalidJsonb) ↔ (Fits (ast_tree value.now) → ⊥) }
+        ensures memory { result ≡ Err Error.OutOfMemory → Fits (ast_tree value.now) }
+        ensures only { IfErr result (λ e. (e ≡ Error.InvalidJsonb) ⊎ (e ≡ Error.OutOfMemory)) }
+        ensures room { Fits (ast_tree value.now)
+            → length (ast_buffer self.old).now.items + length (canon (ast_tree value.now)) ≤ vec_capacity (ast_buffer self.old).now
+            → IsOk result }
+
+        // What was appended means the value with its zeros made one, and no other value shares it.
+        ensures tree { OnOk result (IsTree (ast_tree value.now)) }
+        ensures means { OnOk result (Doc (canon (ast_tree value.now)) (norm (ast_tree value.now))) }
+        ensures told_apart { (t u : Tree) → IsTree t → IsTree u → Fits t → Fits u
+            → (canon t ≡ canon u) ↔ (norm t ≡ norm u) }
+    {
+        encode_node(self.buf, Node::of_ast(value))
+    }
+}
+
+// Measures, makes room once, and appends.
+fn encode_node(buf: &mut Vec<u8>, node: Node<'_, '_>) -> Result<(), Error>
+    ensures appended { OnOk result
+        (buf.new.items ≡ buf.old.items ++ canon (node_tree node.entry)) }
+    ensures err { OnErr result (buf.new.items ≡ buf.old.items) }
+    ensures fits { OnOk result (Fits (node_tree node.entry)) }
+    ensures past { (result ≡ Err Error.InvalidJsonb) ↔ (Fits (node_tree node.entry) → ⊥) }
+    ensures memory { result ≡ Err Error.OutOfMemory → Fits (node_tree node.entry) }
+    ensures only { IfErr result (λ e. (e ≡ Error.InvalidJsonb) ⊎ (e ≡ Error.OutOfMemory)) }
+    ensures room { Fits (node_tree node.entry)
+        → length buf.old.items + length (canon (node_tree node.entry)) ≤ vec_capacity buf.old
+        → IsOk result }
+    ensures tree { NodeAscends node.entry → OnOk result (IsTree (node_tree node.entry)) }
+    ensures means { NodeAscends node.entry
+        → OnOk result (Doc (canon (node_tree node.entry)) (norm (node_tree node.entry))) }
+{
+    let size = measure_document(node)?;
+    buf.try_reserve(size)?;
+    append_document(buf, node);
+    Ok(())
+}
+
+#[cfg(test)]
+mod tests;

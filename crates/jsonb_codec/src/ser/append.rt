@@ -1,0 +1,199 @@
+//! Documents, written front to back into a buffer with room for all of it.
+
+ghost use Rattle.std.specs.Prelude.{◌≡◌, ◌<◌, ◌^◌, ◌+◌, length};
+ghost use Rattle.jsonb_value.specs.Tree.{array, object};
+ghost use Rattle.jsonb_value.specs.NumCode.{number_payload};
+ghost use Rattle.jsonb_value.specs.ExtCode.{extension_payload, extension_of};
+ghost use Rattle.jsonb_codec.specs.Word.{word};
+ghost use Rattle.jsonb_codec.specs.Doc.{type_of};
+ghost use Rattle.jsonb_codec.specs.Canon.{payload_of, entries_of, payloads_of, key_entries, value_entries, key_payloads, value_payloads, canon, AllFit, PairsFit, FitsInside, FitsEntry, Fits};
+ghost use Rattle.jsonb_codec.specs.Node.{node_tree, items_trees, object_pairs};
+ghost use Rattle.jsonb_codec.specs.Room.{HasRoom, Appended};
+
+use super::measure::measure_entry;
+use super::node::{Items, Node, Pairs};
+use crate::constants::{
+    ARRAY_CONTAINER_TAG, CONTAINER_TAG, OBJECT_CONTAINER_TAG, SCALAR_CONTAINER_TAG, STRING_TAG,
+};
+use jsonb_value::{ExtensionValue, Number};
+
+/// Appends the canonical document of a value that fits.
+pub fn append_document(out: &mut Vec<u8>, node: Node<'_, '_>)
+    requires fits { Fits (node_tree node) }
+    requires room { HasRoom out.old (canon (node_tree node)) }
+    ensures { Appended out.old out.new (canon (node_tree node.entry)) }
+{
+    if node.entry_type() != CONTAINER_TAG {
+        append_word(out, SCALAR_CONTAINER_TAG);
+        append_entry(out, node);
+    }
+    append_payload(out, node);
+}
+
+fn append_bytes(out: &mut Vec<u8>, bytes: &[u8])
+    requires { HasRoom out.old bytes.now }
+    ensures { Appended out.old out.new bytes.now }
+{
+    let Ok(()) = out.extend_from_slice(bytes) else {
+        unreachable!();
+    };
+}
+
+// One word.
+#[tactic(auto, unfolding(crate::specs::Word::word))]
+fn append_word(out: &mut Vec<u8>, number: u32)
+    requires { HasRoom out.old (word number) }
+    ensures { Appended out.old out.new (word number) }
+{
+    append_bytes(out, &number.to_be_bytes());
+}
+
+// The entry word of a value.
+fn append_entry(out: &mut Vec<u8>, node: Node<'_, '_>)
+    requires fits { FitsEntry (node_tree node) }
+    requires room { HasRoom out.old
+        (word (type_of (node_tree node) + length (payload_of (node_tree node)))) }
+    ensures { Appended out.old out.new
+        (word (type_of (node_tree node.entry) + length (payload_of (node_tree node.entry)))) }
+{
+    let Some(length) = measure_entry(node) else {
+        unreachable!();
+    };
+    append_word(out, node.entry_type() + length as u32);
+}
+
+// The payload of a value.
+#[cycle(append)]
+fn append_payload(out: &mut Vec<u8>, node: Node<'_, '_>)
+    requires fits { Fits (node_tree node) }
+    requires room { HasRoom out.old (payload_of (node_tree node)) }
+    ensures { Appended out.old out.new (payload_of (node_tree node.entry)) }
+{
+    match node {
+        Node::Null | Node::Bool(_) => (),
+        Node::Text(text) => append_bytes(out, text.as_bytes()),
+        Node::Number(number) => append_number(out, number),
+        Node::Extension(value) => append_extension(out, value),
+        Node::Array(items) => append_items(out, items),
+        Node::Object(pairs) => append_pairs(out, pairs),
+    }
+}
+
+fn append_number(out: &mut Vec<u8>, number: Number)
+    requires { HasRoom out.old (number_payload number) }
+    ensures { Appended out.old out.new (number_payload number) }
+{
+    let Ok(_) = number.compact_encode(out) else {
+        unreachable!();
+    };
+}
+
+fn append_extension(out: &mut Vec<u8>, value: ExtensionValue<'_>)
+    requires fits { length (extension_payload (extension_of value)) < 2 ^ 28 }
+    requires room { HasRoom out.old (extension_payload (extension_of value)) }
+    ensures { Appended out.old out.new (extension_payload (extension_of value.entry)) }
+{
+    let Ok(_) = value.compact_encode(out) else {
+        unreachable!();
+    };
+}
+
+// The payload of an array.
+#[cycle(append)]
+fn append_items(out: &mut Vec<u8>, items: Items<'_, '_>)
+    requires fits { FitsInside (array (items_trees items)) }
+    requires room { HasRoom out.old (payload_of (array (items_trees items))) }
+    ensures { Appended out.old out.new (payload_of (array (items_trees items.entry))) }
+{
+    append_word(out, ARRAY_CONTAINER_TAG + items.len() as u32);
+    append_entries(out, items);
+    append_payloads(out, items);
+}
+
+// The entry words of an array's items.
+fn append_entries(out: &mut Vec<u8>, items: Items<'_, '_>)
+    requires fits { AllFit (items_trees items) }
+    requires room { HasRoom out.old (entries_of (items_trees items)) }
+    ensures { Appended out.old out.new (entries_of (items_trees items.entry)) }
+{
+    let mut left = items;
+    while let Some((item, others)) = left.split_first() {
+        append_entry(out, item);
+        left = others;
+    }
+}
+
+#[cycle(append)]
+fn append_payloads(out: &mut Vec<u8>, items: Items<'_, '_>)
+    requires fits { AllFit (items_trees items) }
+    requires room { HasRoom out.old (payloads_of (items_trees items)) }
+    ensures { Appended out.old out.new (payloads_of (items_trees items.entry)) }
+{
+    let mut left = items;
+    while let Some((item, others)) = left.split_first() {
+        append_payload(out, item);
+        left = others;
+    }
+}
+
+// The payload of an object.
+#[cycle(append)]
+fn append_pairs(out: &mut Vec<u8>, pairs: Pairs<'_, '_>)
+    requires fits { FitsInside (object (object_pairs pairs)) }
+    requires room { HasRoom out.old (payload_of (object (object_pairs pairs))) }
+    ensures { Appended out.old out.new (payload_of (object (object_pairs pairs.entry))) }
+{
+    append_word(out, OBJECT_CONTAINER_TAG + pairs.len() as u32);
+    append_key_entries(out, pairs);
+    append_value_entries(out, pairs);
+    append_keys(out, pairs);
+    append_values(out, pairs);
+}
+
+fn append_key_entries(out: &mut Vec<u8>, pairs: Pairs<'_, '_>)
+    requires fits { PairsFit (object_pairs pairs) }
+    requires room { HasRoom out.old (key_entries (object_pairs pairs)) }
+    ensures { Appended out.old out.new (key_entries (object_pairs pairs.entry)) }
+{
+    let mut left = pairs.walk();
+    while let Some((key, _, others)) = left.split_first() {
+        append_word(out, STRING_TAG + key.len() as u32);
+        left = others;
+    }
+}
+
+fn append_value_entries(out: &mut Vec<u8>, pairs: Pairs<'_, '_>)
+    requires fits { PairsFit (object_pairs pairs) }
+    requires room { HasRoom out.old (value_entries (object_pairs pairs)) }
+    ensures { Appended out.old out.new (value_entries (object_pairs pairs.entry)) }
+{
+    let mut left = pairs.walk();
+    while let Some((_, value, others)) = left.split_first() {
+        append_entry(out, value);
+        left = others;
+    }
+}
+
+fn append_keys(out: &mut Vec<u8>, pairs: Pairs<'_, '_>)
+    requires { HasRoom out.old (key_payloads (object_pairs pairs)) }
+    ensures { Appended out.old out.new (key_payloads (object_pairs pairs.entry)) }
+{
+    let mut left = pairs.walk();
+    while let Some((key, _, others)) = left.split_first() {
+        append_bytes(out, key.as_bytes());
+        left = others;
+    }
+}
+
+#[cycle(append)]
+fn append_values(out: &mut Vec<u8>, pairs: Pairs<'_, '_>)
+    requires fits { PairsFit (object_pairs pairs) }
+    requires room { HasRoom out.old (value_payloads (object_pairs pairs)) }
+    ensures { Appended out.old out.new (value_payloads (object_pairs pairs.entry)) }
+{
+    let mut left = pairs.walk();
+    while let Some((_, value, others)) = left.split_first() {
+        append_payload(out, value);
+        left = others;
+    }
+}

@@ -1,0 +1,139 @@
+//! How many bytes a document takes.
+
+ghost use Rattle.std.specs.Prelude.{◌≡◌, ◌≤◌, length, IfSome, IfNone, IfOk, IfErr, OnOk, OnErr, OnSome};
+ghost use Rattle.std.specs.Str.{IsUtf8};
+ghost use Rattle.jsonb_value.specs.Tree.{array, object, Ascend};
+ghost use Rattle.jsonb_value.specs.NumCode.{number_payload};
+ghost use Rattle.jsonb_value.specs.ExtCode.{extension_of, extension_payload};
+ghost use Rattle.jsonb_value.specs.WellFormed.{IsNumber, IsExtension, IsTree, AreTrees, ArePairs};
+ghost use Rattle.jsonb_codec.specs.Canon.{payload_of, canon, FitsInside, FitsEntry, Fits};
+ghost use Rattle.jsonb_codec.specs.Node.{node_tree, items_trees, object_pairs, NodeAscends, ItemsAscend, ObjectAscends};
+
+use super::node::{Items, Node, Pairs};
+use crate::constants::CONTAINER_TAG;
+use jsonb_value::{Error, ExtensionValue, Number};
+
+const MAX_PAYLOAD: usize = 0x0FFFFFFF;
+
+const MAX_COUNT: usize = 0x1FFFFFFF;
+
+/// The length of the canonical document. `InvalidJsonb` where the value does not fit.
+pub fn measure_document(node: Node<'_, '_>) -> Result<usize, Error>
+    ensures ok { IfOk result
+        (λ n. Fits (node_tree node.entry) × (n ≡ length (canon (node_tree node.entry)))) }
+    ensures tree { NodeAscends node.entry → OnOk result (IsTree (node_tree node.entry)) }
+    ensures err { OnErr result (Fits (node_tree node.entry) → ⊥) }
+    ensures only { IfErr result (λ e. e ≡ Error.InvalidJsonb) }
+{
+    if node.entry_type() == CONTAINER_TAG {
+        return measure_payload(node).ok_or(Error::InvalidJsonb);
+    }
+    match measure_entry(node) {
+        Some(length) => Ok(8 + length),
+        None => Err(Error::InvalidJsonb),
+    }
+}
+
+/// The length of a payload that has an entry.
+#[cycle(measure)]
+pub fn measure_entry(node: Node<'_, '_>) -> Option<usize>
+    ensures some { IfSome result (λ n. FitsEntry (node_tree node.entry)
+        × (n ≡ length (payload_of (node_tree node.entry)))) }
+    ensures tree { NodeAscends node.entry → OnSome result (IsTree (node_tree node.entry)) }
+    ensures none { IfNone result (FitsEntry (node_tree node.entry) → ⊥) }
+{
+    let length = measure_payload(node)?;
+    if length > MAX_PAYLOAD {
+        return None;
+    }
+    Some(length)
+}
+
+// The length of the payload.
+#[cycle(measure)]
+fn measure_payload(node: Node<'_, '_>) -> Option<usize>
+    ensures some { IfSome result (λ n. FitsInside (node_tree node.entry)
+        × (n ≡ length (payload_of (node_tree node.entry)))) }
+    ensures tree { NodeAscends node.entry → OnSome result (IsTree (node_tree node.entry)) }
+    ensures none { IfNone result (FitsInside (node_tree node.entry) → ⊥) }
+{
+    match node {
+        Node::Null | Node::Bool(_) => Some(0),
+        Node::Text(text) => Some(text_len(text)),
+        Node::Number(number) => Some(number_len(number)),
+        Node::Extension(value) => Some(extension_len(value)),
+        Node::Array(items) => measure_items(items),
+        Node::Object(pairs) => measure_pairs(pairs),
+    }
+}
+
+// What a program holds is within its type: a text is UTF-8,
+fn text_len(text: &str) -> usize
+    ensures len { result ≡ length text.now }
+    ensures utf8 { IsUtf8 text.now }
+{
+    text.len()
+}
+
+// a number within its width,
+fn number_len(number: Number) -> usize
+    ensures len { result ≡ length (number_payload number) }
+    ensures number { IsNumber number }
+{
+    number.compact_len()
+}
+
+// and so are the fields of an extension value.
+fn extension_len(value: ExtensionValue<'_>) -> usize
+    ensures len { result ≡ length (extension_payload (extension_of value.entry)) }
+    ensures extension { IsExtension (extension_of value.entry) }
+{
+    value.compact_len()
+}
+
+// The length of an array's payload.
+#[cycle(measure)]
+fn measure_items(items: Items<'_, '_>) -> Option<usize>
+    ensures some { IfSome result (λ n. FitsInside (array (items_trees items.entry))
+        × (n ≡ length (payload_of (array (items_trees items.entry))))) }
+    ensures tree { ItemsAscend items.entry → OnSome result (AreTrees (items_trees items.entry)) }
+    ensures none { IfNone result (FitsInside (array (items_trees items.entry)) → ⊥) }
+{
+    let count = items.len();
+    if count > MAX_COUNT {
+        return None;
+    }
+    let mut total = 4 + 4 * count;
+    let mut left = items;
+    while let Some((item, others)) = left.split_first() {
+        total += measure_entry(item)?;
+        left = others;
+    }
+    Some(total)
+}
+
+// The length of an object's payload.
+#[cycle(measure)]
+fn measure_pairs(pairs: Pairs<'_, '_>) -> Option<usize>
+    ensures some { IfSome result (λ n. FitsInside (object (object_pairs pairs.entry))
+        × (n ≡ length (payload_of (object (object_pairs pairs.entry))))) }
+    ensures tree { ObjectAscends pairs.entry
+        → OnSome result (IsTree (object (object_pairs pairs.entry))) }
+    ensures none { IfNone result (FitsInside (object (object_pairs pairs.entry)) → ⊥) }
+{
+    let count = pairs.len();
+    if count > MAX_COUNT {
+        return None;
+    }
+    let mut total = 4 + 8 * count;
+    let mut left = pairs.walk();
+    while let Some((key, value, others)) = left.split_first() {
+        let key_len = text_len(key);
+        if key_len > MAX_PAYLOAD {
+            return None;
+        }
+        total += key_len + measure_entry(value)?;
+        left = others;
+    }
+    Some(total)
+}

@@ -1,0 +1,258 @@
+//! Worked encodings.
+
+ghost use Rattle.std.specs.Prelude.{◌≡◌, Err, IfOk};
+ghost use Rattle.jsonb_value.specs.Value.{tree_of};
+ghost use Rattle.jsonb_codec.specs.Canon.{canon, Fits};
+
+use super::*;
+use jsonb_value::{Date, Decimal64, Decimal128, Interval, Number, Object, Timestamp, TimestampTz};
+use std::alloc::{AllocError, Global};
+use std::borrow::CowStr;
+use std::collections::BTreeMap;
+use std::fmt::Write;
+use std::str;
+use std::test::Fail;
+
+const MEBIBYTES_16: usize = 16_777_216;
+
+fn hex(alloc: Global, bytes: &[u8]) -> Result<String, AllocError> {
+    let mut text = String::new(alloc);
+    for byte in bytes {
+        write!(text, "{byte:02x}")?;
+    }
+    Ok(text)
+}
+
+// Hexadecimal digits, written with spaces between the parts.
+fn joined(alloc: Global, words: &str) -> Result<String, AllocError> {
+    let mut text = String::new(alloc);
+    for word in words.split(' ') {
+        text.push_str(word)?;
+    }
+    Ok(text)
+}
+
+// What a caller knows of its buffer once the encoder is gone.
+fn document(alloc: Global, value: &Value<'_>) -> Result<Vec<u8>, Error>
+    ensures ok { IfOk result (λ bytes. bytes.items ≡ canon (tree_of value.now)) }
+    ensures past { (Fits (tree_of value.now) → ⊥) → result ≡ Err Error.InvalidJsonb }
+{
+    let mut buf = Vec::new(alloc);
+    let mut encoder = Encoder::new(&mut buf);
+    encoder.encode(value)?;
+    Ok(buf)
+}
+
+fn encoded(alloc: Global, value: &Value<'_>) -> Result<String, Error> {
+    Ok(hex(alloc, &document(alloc, value)?)?)
+}
+
+fn text<'a>(text: &'a str) -> CowStr<'a> {
+    CowStr::Borrowed(text)
+}
+
+fn number<'a>(number: u64) -> Value<'a> {
+    Value::Number(Number::UInt64(number))
+}
+
+// An object of one pair.
+fn object<'a>(alloc: Global, key: &str, value: Value<'a>) -> Result<Value<'a>, Error> {
+    let mut pairs: Object<'a> = BTreeMap::new(alloc);
+    pairs.insert(key.to_string(alloc)?, value)?;
+    Ok(Value::Object(pairs))
+}
+
+#[test]
+fn scalars(rt: HostRuntime) -> Result<(), Fail> {
+    let rows = [
+        (Value::Null, "20000000 00000000"),
+        (Value::Bool(true), "20000000 40000000"),
+        (Value::Bool(false), "20000000 30000000"),
+        (Value::String(text("asd")), "20000000 10000003 617364"),
+        (Value::Binary(&[1, 2, 3]), "20000000 60000004 00 010203"),
+        (
+            Value::Date(Date { value: -1 }),
+            "20000000 60000005 10 ffffffff",
+        ),
+        (
+            Value::Timestamp(Timestamp { value: 1 }),
+            "20000000 60000009 20 0000000000000001",
+        ),
+        (
+            Value::Interval(Interval {
+                months: 10,
+                days: 20,
+                micros: 300,
+            }),
+            "20000000 60000011 40 0000000a 00000014 000000000000012c",
+        ),
+        (
+            Value::TimestampTz(TimestampTz {
+                offset: 28_800,
+                value: 1_760_140_800_000_000,
+            }),
+            "20000000 6000000d 30 000640d6b7238000 00007080",
+        ),
+    ];
+    for (value, document) in &rows {
+        assert_eq!(rt; encoded(rt.alloc(), value)?, joined(rt.alloc(), document)?);
+    }
+    Ok(())
+}
+
+#[test]
+fn numbers(rt: HostRuntime) -> Result<(), Fail> {
+    let rows = [
+        (Number::Int64(0), "20000000 20000001 00"),
+        (Number::Int64(-100), "20000000 20000002 409c"),
+        (Number::Int64(-128), "20000000 20000002 4080"),
+        (Number::Int64(-129), "20000000 20000003 40ff7f"),
+        (Number::Int64(128), "20000000 20000003 400080"),
+        (Number::Int64(-32_768), "20000000 20000003 408000"),
+        (Number::UInt64(255), "20000000 20000002 50ff"),
+        (Number::UInt64(256), "20000000 20000003 500100"),
+        (Number::UInt64(65_535), "20000000 20000003 50ffff"),
+        (
+            Number::UInt64(18_446_744_073_709_551_615),
+            "20000000 20000009 50ffffffffffffffff",
+        ),
+        (
+            Number::Decimal64(Decimal64 {
+                scale: 2,
+                value: 1234,
+            }),
+            "20000000 2000000a 70 00000000000004d2 02",
+        ),
+        (
+            Number::Decimal128(Decimal128 {
+                scale: 2,
+                value: 1234,
+            }),
+            "20000000 20000012 70 000000000000000000000000000004d2 02",
+        ),
+    ];
+    for (number, document) in rows {
+        let value = Value::Number(number);
+        assert_eq!(rt; encoded(rt.alloc(), &value)?, joined(rt.alloc(), document)?);
+    }
+    Ok(())
+}
+
+#[test]
+fn containers(rt: HostRuntime) -> Result<(), Fail> {
+    let alloc = rt.alloc();
+    let truths = Value::Array(vec![in alloc; Value::Bool(false), Value::Bool(true)]?);
+    let one = Value::Array(vec![in alloc; Value::Bool(false)]?);
+    let field = object(alloc, "field", Value::Bool(true))?;
+    let three = Value::Array(vec![in alloc; number(1), number(2), number(3)]?);
+    let pair = object(alloc, "k", Value::String(text("v")))?;
+    let rows = [
+        (truths, "80000002 30000000 40000000", 12),
+        (
+            object(alloc, "arr", one)?,
+            "40000001 10000003 50000008 617272 80000001 30000000",
+            23,
+        ),
+        (
+            object(alloc, "obj", field)?,
+            "40000001 10000003 50000011 6f626a 40000001 10000005 40000000 6669656c64",
+            32,
+        ),
+        (
+            Value::Array(vec![in alloc; number(1), Value::String(text("hello")), three]?),
+            "80000003 20000002 10000005 50000016 5001 68656c6c6f 80000003 20000002 20000002 20000002 5001 5002 5003",
+            45,
+        ),
+        (
+            Value::Array(vec![in alloc; Value::Bool(false), number(10), pair]?),
+            "80000003 30000000 20000002 5000000e 500a 40000001 10000001 10000001 6b 76",
+            32,
+        ),
+    ];
+    for (value, document, length) in &rows {
+        assert_eq!(rt; encoded(alloc, value)?, joined(alloc, document)?);
+        assert_eq!(rt; Encoder::measure(value), Ok(*length));
+    }
+    assert_eq!(rt; Encoder::measure(&Value::Null), Ok(8));
+    Ok(())
+}
+
+// An array that borrows one text so many times.
+fn borrowings<'a>(alloc: Global, text: &'a str, count: usize) -> Result<Value<'a>, Error> {
+    let mut items = Vec::new(alloc);
+    for _ in 0..count {
+        items.push(Value::String(CowStr::Borrowed(text)))?;
+    }
+    Ok(Value::Array(items))
+}
+
+#[test]
+fn limits(rt: HostRuntime) -> Result<(), Fail> {
+    let alloc = rt.alloc();
+    let letters = vec![in alloc; b'a'; MEBIBYTES_16]?;
+    let text = str::from_utf8(&letters)?;
+    let top = borrowings(alloc, text, 16)?;
+    assert_eq!(rt; Encoder::measure(&top), Ok(268_435_524));
+    let mut buf = Vec::new(alloc);
+    Encoder::new(&mut buf).encode(&top)?;
+    assert_eq!(rt; buf.len(), 268_435_524);
+
+    // Behind the tag of a binary value one byte less has room than a payload holds.
+    let binary = Value::Binary(&buf[..268_435_455]);
+    assert_eq!(rt; Encoder::measure(&binary), Err(Error::InvalidJsonb));
+    let binary = Value::Binary(&buf[..268_435_454]);
+    assert_eq!(rt; Encoder::measure(&binary), Ok(268_435_463));
+
+    let nested = Value::Array(vec![in alloc; top]?);
+    assert_eq!(rt; Encoder::measure(&nested), Err(Error::InvalidJsonb));
+    let mut buf = vec![in alloc; 0xaa]?;
+    assert_eq!(rt;
+        Encoder::new(&mut buf).encode(&nested),
+        Err(Error::InvalidJsonb)
+    );
+    assert_eq!(rt; hex(alloc, &buf)?.as_str(), "aa");
+    let nested = Value::Array(vec![in alloc; borrowings(alloc, text, 15)?]?);
+    assert_eq!(rt; Encoder::measure(&nested), Ok(251_658_312));
+    Ok(())
+}
+
+#[test]
+fn one_after_another(rt: HostRuntime) -> Result<(), Fail> {
+    let mut buf = vec![in rt.alloc(); 0xaa]?;
+    let mut encoder = Encoder::new(&mut buf);
+    encoder.encode(&Value::Null)?;
+    encoder.encode(&Value::Bool(true))?;
+    assert_eq!(rt;
+        hex(rt.alloc(), &buf)?,
+        joined(rt.alloc(), "aa 20000000 00000000 20000000 40000000")?
+    );
+    Ok(())
+}
+
+// An object of two pairs whose values are null and true.
+fn pairs_of<'a>(alloc: Global, first: &'a str, second: &'a str) -> Result<JsonAst<'a>, AllocError> {
+    let pairs = [
+        (text(first), JsonAst::Null, 7),
+        (text(second), JsonAst::Bool(true), 3),
+    ];
+    Ok(JsonAst::Object(Vec::from_array(alloc, pairs)?))
+}
+
+#[test]
+fn pairs_in_lists(rt: HostRuntime) -> Result<(), Fail> {
+    let alloc = rt.alloc();
+    let value = pairs_of(alloc, "a", "b")?;
+    assert!(rt; value.has_ascending_keys());
+    let mut buf = Vec::new(alloc);
+    JsonAstEncoder::new(&mut buf).encode(&value)?;
+    let document = "40000002 10000001 10000001 00000000 40000000 61 62";
+    assert_eq!(rt; hex(alloc, &buf)?, joined(alloc, document)?);
+    assert_eq!(rt; JsonAstEncoder::measure(&value), Ok(22));
+    for (first, second) in [("b", "a"), ("a", "a")] {
+        let value = pairs_of(alloc, first, second)?;
+        assert!(rt; !value.has_ascending_keys());
+        let outer = JsonAst::Array(vec![in alloc; value]?);
+        assert!(rt; !outer.has_ascending_keys());
+    }
+    Ok(())
+}

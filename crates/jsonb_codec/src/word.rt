@@ -1,0 +1,102 @@
+//! Words of 32 bits in bytes, read with a test of the bounds.
+
+ghost use Rattle.std.specs.Prelude.{◌≡◌, ◌+◌, ◌<◌, ◌%◌, ◌^◌, ◌++◌, length, IfSome, IfNone};
+ghost use Rattle.jsonb_codec.specs.Word.{word, word_at, header_at};
+ghost use Rattle.jsonb_codec.specs.JEntry.{jentry_at};
+
+use crate::constants::{
+    ARRAY_CONTAINER_TAG, CONTAINER_HEADER_LEN_MASK, JENTRY_OFF_LEN_MASK, OBJECT_CONTAINER_TAG,
+    SCALAR_CONTAINER_TAG,
+};
+use crate::jentry::JEntry;
+use jsonb_value::Error;
+
+/// The big endian word whose first byte stands at the index. `InvalidEOF` where four bytes are not
+/// there.
+pub fn read_word(bytes: &[u8], index: usize) -> Result<u32, Error>
+    ensures { result ≡ word_at bytes.now index }
+{
+    match bytes.get(index..) {
+        Some([a, b, c, d, ..]) => Ok(u32::from_be_bytes([*a, *b, *c, *d])),
+        _ => Err(Error::InvalidEOF),
+    }
+}
+
+/// The header whose first byte stands at the index: its kind, under the type mask, and its count.
+/// `InvalidEOF` where four bytes are not there, `InvalidJsonb` where the word names none of the
+/// three kinds.
+pub fn read_header(bytes: &[u8], index: usize) -> Result<(u32, usize), Error>
+    ensures { result ≡ header_at bytes.now index }
+{
+    let header = read_word(bytes, index)?;
+    let count = header & CONTAINER_HEADER_LEN_MASK;
+    match header - count {
+        kind @ (ARRAY_CONTAINER_TAG | OBJECT_CONTAINER_TAG | SCALAR_CONTAINER_TAG) => Ok((
+            kind,
+            count as usize,
+        )),
+        _ => Err(Error::InvalidJsonb),
+    }
+}
+
+/// The entry whose first byte stands at the index. `InvalidEOF` where four bytes are not there.
+pub fn read_jentry(bytes: &[u8], index: usize) -> Result<JEntry, Error>
+    ensures { result ≡ jentry_at bytes.now index }
+{
+    Ok(JEntry::decode_jentry(read_word(bytes, index)?))
+}
+
+/// A word that is a tag plus a number, and what follows it.
+#[derive(Clone, Copy)]
+pub struct Tagged<'a> {
+    pub tag: u32,
+    pub number: usize,
+    pub rest: &'a [u8],
+}
+
+// The word at the front, and what follows it.
+fn split_word(bytes: &[u8]) -> Option<(u32, &[u8])>
+    ensures found { IfSome result (λ x. bytes.now ≡ word x.0 ++ x.1.now) }
+    ensures small { IfSome result (λ x. x.0 < 2 ^ 32) }
+    ensures none { IfNone result (length bytes.now < 4) }
+{
+    match bytes {
+        [a, b, c, d, rest @ ..] => Some((u32::from_be_bytes([*a, *b, *c, *d]), rest)),
+        _ => None,
+    }
+}
+
+/// The entry word at the front: its type, and the length of its payload.
+pub fn split_entry(entries: &[u8]) -> Option<Tagged>
+    ensures found { IfSome result
+        (λ x. entries.now ≡ word (x.tag + x.number) ++ x.rest.now) }
+    ensures tag { IfSome result (λ x. x.tag % 2 ^ 28 ≡ 0) }
+    ensures number { IfSome result (λ x. x.number < 2 ^ 28) }
+    ensures small { IfSome result (λ x. x.tag + x.number < 2 ^ 32) }
+    ensures none { IfNone result (length entries.now < 4) }
+{
+    let (entry, rest) = split_word(entries)?;
+    let number = entry & JENTRY_OFF_LEN_MASK;
+    Some(Tagged {
+        tag: entry - number,
+        number: number as usize,
+        rest,
+    })
+}
+
+/// The header at the front: its kind, and the count of the children.
+pub fn split_header(bytes: &[u8]) -> Option<Tagged>
+    ensures found { IfSome result (λ x. bytes.now ≡ word (x.tag + x.number) ++ x.rest.now) }
+    ensures tag { IfSome result (λ x. x.tag % 2 ^ 29 ≡ 0) }
+    ensures number { IfSome result (λ x. x.number < 2 ^ 29) }
+    ensures small { IfSome result (λ x. x.tag + x.number < 2 ^ 32) }
+    ensures none { IfNone result (length bytes.now < 4) }
+{
+    let (header, rest) = split_word(bytes)?;
+    let number = header & CONTAINER_HEADER_LEN_MASK;
+    Some(Tagged {
+        tag: header - number,
+        number: number as usize,
+        rest,
+    })
+}

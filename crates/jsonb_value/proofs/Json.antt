@@ -1,0 +1,13 @@
+pub mod Tests
+pub mod Digits
+pub mod NumberLaws
+pub mod TextLaws
+pub mod ValueLaws
+pub mod SpelledLaws
+pub mod Shorter
+pub mod DigitLaws
+pub mod NumberSteps
+pub mod TextSteps
+pub mod ValueSteps
+pub mod Documents
+pub mod Examples

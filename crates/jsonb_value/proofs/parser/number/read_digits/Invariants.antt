@@ -1,0 +1,18 @@
+use Rattle.std.proofs.Common.{◌≡◌, ℕ, ◌+◌, chars, length}
+use denote.Text.{Utf8}
+use denote.Shadow.{shadow}
+use Rattle.std.specs.Str.Parse.{digits_value_after}
+use Rattle.jsonb_value.specs.Reader.Reading.{front_digits, after_digits}
+use Rattle.jsonb_value.specs.Reader.Digits.{Counts}
+use Rattle.jsonb_value.proofs.parser.number.read_digits.Given as goal
+
+-- what is left adds up to the whole
+abbrev pub invariant-digits : goal.invariant-digits
+invariant-digits l =
+    shadow (Utf8 l.rest)
+    × (l.digits.count + length (front_digits (chars l.rest)) ≡ length (front_digits (chars l.fn.text)))
+    × ((n : ℕ) → Counts n l.fn.start → (m : ℕ) × Counts m l.digits.value × (digits_value_after 10 m (front_digits (chars l.rest)) ≡ digits_value_after 10 n (front_digits (chars l.fn.text))))
+    × (after_digits (chars l.rest) ≡ after_digits (chars l.fn.text))
+
+abbrev pub decreases-digits : goal.decreases-digits
+decreases-digits l = length (chars l.rest)

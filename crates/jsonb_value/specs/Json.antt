@@ -1,0 +1,6 @@
+-- The texts of JSON, without exponents: characters, what they spell, and the tree that they mean.
+pub mod Characters
+pub mod Bind
+pub mod Numeral
+pub mod Piece
+pub mod Syntax

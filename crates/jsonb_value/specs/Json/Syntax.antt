@@ -1,0 +1,126 @@
+-- A text as it is spelled, white space and all: what it spells, and the tree that it means.
+use Rattle.std.specs.Prelude.{◌≡◌, ℕ, Bool, true, false, cond, ◌&&◌, List, [], ◌∷◌, ◌++◌, Option, Some, None, option_map, codes}
+use Rattle.std.specs.Ordering.{nat_cmp}
+use Rattle.std.specs.Cmp.Lexicographic.{slice_cmp}
+use Rattle.std.specs.BTreeMap.{insert_entry}
+use Rattle.jsonb_value.specs.Tree.{Tree, Pairs, null, array, object, text, number, boolean, no_trees, tree, no_pairs, pair}
+use Rattle.jsonb_value.specs.Value.{trees_of}
+use Rattle.jsonb_value.specs.Json.Characters.{quote, comma, colon, open_bracket, close_bracket, open_brace, close_brace, all_blank}
+use Rattle.jsonb_value.specs.Json.Bind.{◌>>=◌}
+use Rattle.jsonb_value.specs.Json.Numeral.{Numeral, numeral_text, numeral_meaning}
+use Rattle.jsonb_value.specs.Json.Piece.{Piece, pieces_text, pieces_meaning}
+
+mutual
+  -- A value as it is spelled.
+  pub data Syntax : Type 0 where
+    nothing : Syntax
+    truth : Bool → Syntax
+    numeral : Numeral → Syntax
+    string : List Piece → Syntax
+    empty_array : (blank : List ℕ) → Syntax
+    items : Element → Items → Syntax
+    empty_object : (blank : List ℕ) → Syntax
+    members : Member → Members → Syntax
+
+  -- A value between white space.
+  pub data Element : Type 0 where
+    element : (before : List ℕ) → Syntax → (after : List ℕ) → Element
+
+  -- What follows an item: the closing bracket, or a comma and the next.
+  pub data Items : Type 0 where
+    no_item : Items
+    next_item : Element → Items → Items
+
+  -- A key between white space, and behind a colon its value.
+  pub data Member : Type 0 where
+    member : (before : List ℕ) → List Piece → (after : List ℕ) → Element → Member
+
+  -- What follows a member: the closing brace, or a comma and the next.
+  pub data Members : Type 0 where
+    no_member : Members
+    next_member : Member → Members → Members
+
+-- the pieces between quotes
+abbrev pub string_text : List Piece → List ℕ
+string_text pieces = quote ∷ (pieces_text pieces ++ quote ∷ [])
+
+-- `true` and `false`
+abbrev pub truth_text : Bool → List ℕ
+truth_text true = codes "true"
+truth_text false = codes "false"
+
+-- what is spelled
+abbrev mutual
+  pub syntax_text : Syntax → List ℕ
+  syntax_text nothing = codes "null"
+  syntax_text (truth b) = truth_text b
+  syntax_text (numeral n) = numeral_text n
+  syntax_text (string pieces) = string_text pieces
+  syntax_text (empty_array blank) = open_bracket ∷ (blank ++ close_bracket ∷ [])
+  syntax_text (items x xs) = open_bracket ∷ (element_text x ++ items_text xs)
+  syntax_text (empty_object blank) = open_brace ∷ (blank ++ close_brace ∷ [])
+  syntax_text (members m ms) = open_brace ∷ (member_text m ++ members_text ms)
+
+  pub element_text : Element → List ℕ
+  element_text (element before x after) = before ++ (syntax_text x ++ after)
+
+  pub items_text : Items → List ℕ
+  items_text no_item = close_bracket ∷ []
+  items_text (next_item x xs) = comma ∷ (element_text x ++ items_text xs)
+
+  pub member_text : Member → List ℕ
+  member_text (member before key after x) = before ++ (string_text key ++ (after ++ colon ∷ element_text x))
+
+  pub members_text : Members → List ℕ
+  members_text no_member = close_brace ∷ []
+  members_text (next_member m ms) = comma ∷ (member_text m ++ members_text ms)
+
+-- an object's pairs, by the bytes of their keys
+abbrev pub Entries : Type 0
+Entries = List (List ℕ × Tree)
+
+-- the same as a part of a tree
+abbrev pub pairs : Entries → Pairs
+pairs [] = no_pairs
+pairs (e ∷ es) = pair e.0 e.1 (pairs es)
+
+-- The entries with these put in, one after another: each at its key's place in the order of bytes, instead of an equal key's.
+abbrev pub inserted : Entries → Entries → Entries
+inserted es [] = es
+inserted es (m ∷ ms) = inserted (insert_entry (slice_cmp nat_cmp) es m.0 m.1) ms
+
+-- the same, if what stands before and after is white space
+abbrev pub between : {A : Type 0} → List ℕ → List ℕ → Option A → Option A
+between before after x = cond (all_blank before && all_blank after) x None
+
+-- the tree, where what is spelled means one
+abbrev mutual
+  pub meaning : Syntax → Option Tree
+  meaning nothing = Some null
+  meaning (truth b) = Some (boolean b)
+  meaning (numeral n) = option_map number (numeral_meaning n)
+  meaning (string pieces) = option_map text (pieces_meaning pieces)
+  meaning (empty_array blank) = between blank [] (Some (array no_trees))
+  meaning (items x xs) = element_meaning x >>= λ t. items_meaning xs >>= λ ts. Some (array (tree t (trees_of ts)))
+  meaning (empty_object blank) = between blank [] (Some (object no_pairs))
+  meaning (members m ms) = member_meaning m >>= λ e. members_meaning ms >>= λ es. Some (object (pairs (inserted [] (e ∷ es))))
+
+  pub element_meaning : Element → Option Tree
+  element_meaning (element before x after) = between before after (meaning x)
+
+  pub items_meaning : Items → Option (List Tree)
+  items_meaning no_item = Some []
+  items_meaning (next_item x xs) = element_meaning x >>= λ t. items_meaning xs >>= λ ts. Some (t ∷ ts)
+
+  pub member_meaning : Member → Option (List ℕ × Tree)
+  member_meaning (member before key after x) = between before after (pieces_meaning key) >>= λ k. element_meaning x >>= λ t. Some (k, t)
+
+  pub members_meaning : Members → Option Entries
+  members_meaning no_member = Some []
+  members_meaning (next_member m ms) = member_meaning m >>= λ e. members_meaning ms >>= λ es. Some (e ∷ es)
+
+-- The characters are a text of JSON that means the tree.
+pub record Json (characters : List ℕ) (t : Tree) : Type 0 where
+  pub syntax : Element
+  pub is_spelled : characters ≡ element_text syntax
+  pub is_meant : element_meaning syntax ≡ Some t

@@ -1,0 +1,17 @@
+pub mod ErrorName
+pub mod Payload
+pub mod Opaque
+pub mod Tree
+pub mod NumCode
+pub mod ExtCode
+pub mod Value
+pub mod Ast
+pub mod Norm
+pub mod WellFormed
+pub mod Fraction
+pub mod Order
+pub mod TreeOrder
+pub mod Meaning
+pub mod Json
+pub mod Text
+pub mod Reader

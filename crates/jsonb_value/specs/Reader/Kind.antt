@@ -1,0 +1,13 @@
+-- The kinds of the code as those of the grammar.
+use Rattle.jsonb_value.specs.Reader.Reading.{Kind, null_kind, true_kind, false_kind, string_kind, array_kind, object_kind, number_kind}
+use Rattle.jsonb_value.specs.declared.parser.Kind as code
+use Rattle.jsonb_value.specs.declared.parser.Kind.TheVariants as kinds
+
+abbrev pub kind_view : code.Kind → Kind
+kind_view kinds.Null = null_kind
+kind_view kinds.True = true_kind
+kind_view kinds.False = false_kind
+kind_view kinds.String = string_kind
+kind_view kinds.Array = array_kind
+kind_view kinds.Object = object_kind
+kind_view kinds.Number = number_kind

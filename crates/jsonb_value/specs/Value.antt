@@ -1,0 +1,46 @@
+-- The tree that a `Value` stands for.
+use Rattle.std.specs.Prelude.{ℕ, List, [], ◌∷◌, map, String, string_bytes}
+use Rattle.std.specs.declared.alloc.Global.{Global}
+use Rattle.std.specs.declared.borrow.CowStr.{CowStr}
+use Rattle.std.specs.declared.borrow.CowStr.TheVariants.{Borrowed, Owned}
+use Rattle.jsonb_value.specs.Tree.{Tree, null, boolean, number, text, extension, array, object, binary, date, timestamp, timestamp_tz, interval, opaque, Trees, no_trees, tree, Pairs, no_pairs, pair}
+use Rattle.jsonb_value.specs.ExtCode.{opaque_tag, opaque_bytes}
+use Rattle.jsonb_value.specs.declared.value.Value.{Value, fold-Value}
+use Rattle.jsonb_value.specs.declared.value.Value.TheOpen.{Value-F}
+
+-- the bytes of a text, whoever owns them
+abbrev pub cow_bytes : CowStr Global → List ℕ
+cow_bytes (Borrowed s) = s.now
+cow_bytes (Owned s) = string_bytes s
+
+abbrev pub trees_of : List Tree → Trees
+trees_of [] = no_trees
+trees_of (t ∷ ts) = tree t (trees_of ts)
+
+abbrev pub pairs_of : List (String Global × Tree) → Pairs
+pairs_of [] = no_pairs
+pairs_of (p ∷ ps) = pair (string_bytes p.0) p.1 (pairs_of ps)
+
+-- one level, with each value inside already seen as its tree
+abbrev pub tree_step : Value-F Tree → Tree
+tree_step Value-F.Null = null
+tree_step (Value-F.Bool b) = boolean b
+tree_step (Value-F.String s) = text (cow_bytes s)
+tree_step (Value-F.Number x) = number x
+tree_step (Value-F.Binary bytes) = extension (binary bytes.now)
+tree_step (Value-F.Date d) = extension (date d)
+tree_step (Value-F.Timestamp t) = extension (timestamp t)
+tree_step (Value-F.TimestampTz t) = extension (timestamp_tz t)
+tree_step (Value-F.Interval i) = extension (interval i)
+tree_step (Value-F.Opaque o) = extension (opaque (opaque_tag o) (opaque_bytes o))
+tree_step (Value-F.Array v) = array (trees_of v.items)
+tree_step (Value-F.Object m) = object (pairs_of m.entries)
+
+abbrev pub tree_of : Value → Tree
+tree_of = fold-Value Tree tree_step
+
+abbrev pub items_view : List Value → Trees
+items_view vs = trees_of (map tree_of vs)
+
+abbrev pub pairs_view : List (String Global × Value) → Pairs
+pairs_view ms = pairs_of (map (λ m. (m.0, tree_of m.1)) ms)

@@ -1,0 +1,43 @@
+-- Which trees a program's value can have: numbers within their types, texts of UTF-8, keys that ascend.
+use Rattle.std.specs.Prelude.{◌<◌, ◌^◌, ⊤, FitsSigned}
+use Rattle.std.specs.Int.{w32, w64, w128}
+use Rattle.std.specs.Str.{IsUtf8}
+use Rattle.jsonb_value.specs.declared.number.Number.{Number}
+use Rattle.jsonb_value.specs.declared.number.Number.TheVariants.{Int64, UInt64, Decimal64, Decimal128}
+use Rattle.jsonb_value.specs.Opaque.{IsOpaqueTag}
+use Rattle.jsonb_value.specs.Tree.{Extension, binary, date, timestamp, timestamp_tz, interval, opaque, Tree, null, boolean, number, text, extension, array, object, Trees, no_trees, tree, Pairs, no_pairs, pair, Ascend}
+
+-- The number is within its type.
+abbrev pub IsNumber : Number → Type 0
+IsNumber (Int64 v) = FitsSigned w64 v
+IsNumber (UInt64 n) = n < 2 ^ 64
+IsNumber (Decimal64 d) = FitsSigned w64 d.value × (d.scale < 2 ^ 8)
+IsNumber (Decimal128 d) = FitsSigned w128 d.value × (d.scale < 2 ^ 8)
+
+-- The fields are within their types, and the tag is one of the eleven.
+abbrev pub IsExtension : Extension → Type 0
+IsExtension (binary bytes) = ⊤
+IsExtension (date d) = FitsSigned w32 d.value
+IsExtension (timestamp t) = FitsSigned w64 t.value
+IsExtension (timestamp_tz t) = FitsSigned w64 t.value × FitsSigned w32 t.offset
+IsExtension (interval i) = FitsSigned w32 i.months × (FitsSigned w32 i.days × FitsSigned w64 i.micros)
+IsExtension (opaque tag bytes) = IsOpaqueTag tag × (tag < 2 ^ 8)
+
+abbrev mutual
+  -- The same of all that is in the tree; its texts and keys are UTF-8, and keys ascend.
+  pub IsTree : Tree → Type 0
+  IsTree null = ⊤
+  IsTree (boolean b) = ⊤
+  IsTree (number x) = IsNumber x
+  IsTree (text s) = IsUtf8 s
+  IsTree (extension e) = IsExtension e
+  IsTree (array ts) = AreTrees ts
+  IsTree (object ps) = Ascend ps × ArePairs ps
+
+  pub AreTrees : Trees → Type 0
+  AreTrees no_trees = ⊤
+  AreTrees (tree t ts) = IsTree t × AreTrees ts
+
+  pub ArePairs : Pairs → Type 0
+  ArePairs no_pairs = ⊤
+  ArePairs (pair k t ps) = IsUtf8 k × (IsTree t × ArePairs ps)

@@ -1,0 +1,81 @@
+//! A value as a parser leaves it, its objects as lists of pairs.
+
+ghost use Rattle.std.specs.Prelude.{◌≡◌, ◌↔◌, IfSome, IsTrue, option_map};
+ghost use Rattle.std.specs.Ordering.{nat_cmp};
+ghost use Rattle.std.specs.Cmp.Lexicographic.{slice_cmp};
+ghost use Rattle.std.specs.declared.cmp.Ordering.TheVariants.{Less};
+
+use crate::number::Number;
+use std::borrow::CowStr;
+use std::cmp::Ordering;
+
+/// A value whose objects are lists of pairs in any order. The third member of a pair is the place
+/// where its key stood in a text: no document holds it.
+#[derive(Debug, Drop)]
+pub enum JsonAst<'a> {
+    Null,
+    Bool(bool),
+    String(CowStr<'a>),
+    Number(Number),
+    Array(Vec<JsonAst<'a>>),
+    Object(Vec<(CowStr<'a>, JsonAst<'a>, usize)>),
+}
+
+impl<'a> JsonAst<'a> {
+    ghost use Rattle.jsonb_value.specs.Ast.{ast_tree, AscendEverywhere};
+
+    /// Whether the keys of every object in the value ascend strictly by their bytes. Those of an
+    /// object of one pair or of none do.
+    #[cycle(ascending)]
+    pub fn has_ascending_keys(&self) -> bool
+        ensures { IsTrue result ↔ AscendEverywhere (ast_tree self.now) }
+    {
+        match self {
+            JsonAst::Array(items) => all_ascend(items),
+            JsonAst::Object(pairs) => pairs_ascend(pairs),
+            JsonAst::Null | JsonAst::Bool(_) | JsonAst::String(_) | JsonAst::Number(_) => true,
+        }
+    }
+}
+
+ghost use Rattle.jsonb_value.specs.Ast.{asts_view, ast_pairs_view, AllAscend, PairsAscend};
+ghost use Rattle.jsonb_value.specs.Tree.{Ascend};
+
+#[cycle(ascending)]
+fn all_ascend(items: &Vec<JsonAst<'_>>) -> bool
+    ensures { IsTrue result ↔ AllAscend (asts_view items.now.items) }
+{
+    for item in items {
+        if !item.has_ascending_keys() {
+            return false;
+        }
+    }
+    true
+}
+
+// Whether the keys ascend, and those inside each value too.
+#[cycle(ascending)]
+fn pairs_ascend(pairs: &Vec<(CowStr<'_>, JsonAst<'_>, usize)>) -> bool
+    ensures { IsTrue result
+        ↔ (Ascend (ast_pairs_view pairs.now.items) × PairsAscend (ast_pairs_view pairs.now.items)) }
+{
+    let mut before: Option<&str> = None;
+    for (key, value, _) in pairs {
+        if !is_above(before, key.as_str()) || !value.has_ascending_keys() {
+            return false;
+        }
+        before = Some(key.as_str());
+    }
+    true
+}
+
+// Whether the key is above the one before, where there is one.
+fn is_above(before: Option<&str>, key: &str) -> bool
+    ensures { IsTrue result
+        ↔ IfSome (option_map (λ b. b.now) before.entry) (λ b. slice_cmp nat_cmp b key.now ≡ Less) }
+{
+    match before {
+        Some(before) => before.cmp(key) == Ordering::Less,
+        None => true,
+    }
+}

@@ -1,0 +1,284 @@
+//! Values that JSON has no form of its own for, and their payloads.
+
+ghost use Rattle.std.specs.Prelude.{◌≡◌, ◌≤◌, ◌<◌, ◌^◌, ◌∷◌, ◌++◌, ◌⊎◌, Err, IfSome, IfNone, IfOk, IfErr, OnOk, OnErr, length, take, IsOk, vec_len, vec_capacity, ◌+◌};
+ghost use Rattle.std.specs.Int.{w32, w64};
+ghost use Rattle.jsonb_value.specs.Payload.{IsSigned};
+ghost use Rattle.jsonb_value.specs.Tree.{Extension, date, timestamp, timestamp_tz, interval};
+ghost use Rattle.jsonb_value.specs.ExtCode.{ExtCode, IsZoned, IsOldZoned, IsInterval, extension_of, extension_payload, HasKnownTag};
+
+use crate::constants::{
+    EXTENSION_BINARY, EXTENSION_DATE, EXTENSION_INTERVAL, EXTENSION_TIMESTAMP,
+    EXTENSION_TIMESTAMP_TZ,
+};
+use crate::error::Error;
+use crate::opaque::Opaque;
+use crate::payload::{append, i32_of, i64_of};
+
+// An entry has room for the tag and this many bytes.
+const MAX_DATA: usize = 0x0FFFFFFE;
+
+/// A date: days since 1970-01-01.
+#[derive(Clone, Copy, Debug, PartialEq, Eq)]
+pub struct Date {
+    pub value: i32,
+}
+
+/// A point in time: microseconds since 1970-01-01.
+#[derive(Clone, Copy, Debug, PartialEq, Eq)]
+pub struct Timestamp {
+    pub value: i64,
+}
+
+/// A point in time in microseconds, and the offset of its time zone in seconds.
+#[derive(Clone, Copy, Debug, PartialEq, Eq)]
+pub struct TimestampTz {
+    pub offset: i32,
+    pub value: i64,
+}
+
+/// A span of time in three parts.
+#[derive(Clone, Copy, Debug, PartialEq, Eq)]
+pub struct Interval {
+    pub months: i32,
+    pub days: i32,
+    pub micros: i64,
+}
+
+/// An extension value. `==` compares by structure.
+#[derive(Clone, Copy, Debug, PartialEq, Eq)]
+pub enum ExtensionValue<'a> {
+    Binary(&'a [u8]),
+    Date(Date),
+    Timestamp(Timestamp),
+    TimestampTz(TimestampTz),
+    Interval(Interval),
+    Opaque(Opaque<'a>),
+}
+
+impl<'a> ExtensionValue<'a> {
+    /// The extension value that a payload means. `InvalidJsonbNumber` for a known first byte with
+    /// another length, `InvalidJsonbExtension` for another first byte and for no bytes.
+    pub fn decode(bytes: &'a [u8]) -> Result<ExtensionValue<'a>, Error>
+        ensures ok { IfOk result (λ x. ExtCode bytes.now (extension_of x)) }
+        ensures none { OnErr result ((e : Extension) → ExtCode bytes.now e → ⊥) }
+        ensures length { result ≡ Err Error.InvalidJsonbNumber → HasKnownTag bytes.now }
+        ensures tag { result ≡ Err Error.InvalidJsonbExtension → HasKnownTag bytes.now → ⊥ }
+        ensures err { IfErr result
+            (λ e. (e ≡ Error.InvalidJsonbNumber) ⊎ (e ≡ Error.InvalidJsonbExtension)) }
+    {
+        match bytes {
+            [tag, rest @ ..] => tagged_extension(*tag, rest),
+            [] => Err(Error::InvalidJsonbExtension),
+        }
+    }
+
+    /// Appends the written payload, and answers its length. `InvalidJsonb` where binary or opaque
+    /// data are too long for an entry. After a refusal the bytes of `buf` are as before.
+    pub fn compact_encode(&self, buf: &mut Vec<u8>) -> Result<usize, Error>
+        ensures len { IfOk result (λ n. n ≡ length (extension_payload (extension_of self.now))) }
+        ensures appended { OnOk result
+            (buf.new.items ≡ buf.old.items ++ extension_payload (extension_of self.now)) }
+        ensures fits { OnOk result (length (extension_payload (extension_of self.now)) < 2 ^ 28) }
+        ensures err { OnErr result (buf.new.items ≡ buf.old.items) }
+        ensures past { result ≡ Err Error.InvalidJsonb
+            → 2 ^ 28 ≤ length (extension_payload (extension_of self.now)) }
+        ensures memory { result ≡ Err Error.OutOfMemory
+            → length (extension_payload (extension_of self.now)) < 2 ^ 28 }
+        ensures only { IfErr result (λ e. (e ≡ Error.InvalidJsonb) ⊎ (e ≡ Error.OutOfMemory)) }
+        ensures capacity { vec_capacity buf.old ≤ vec_capacity buf.new }
+        ensures room { length (extension_payload (extension_of self.now)) < 2 ^ 28
+            → vec_len buf.old + length (extension_payload (extension_of self.now)) ≤ vec_capacity buf.old
+            → IsOk result }
+    {
+        match self {
+            ExtensionValue::Binary(bytes) => append_data(buf, EXTENSION_BINARY, bytes),
+            ExtensionValue::Date(date) => append_date(buf, date),
+            ExtensionValue::Timestamp(timestamp) => append_timestamp(buf, timestamp),
+            ExtensionValue::TimestampTz(zoned) => append_zoned(buf, zoned),
+            ExtensionValue::Interval(interval) => append_interval(buf, interval),
+            ExtensionValue::Opaque(opaque) => append_data(buf, opaque.tag(), opaque.bytes()),
+        }
+    }
+
+    /// How many bytes the written payload has.
+    pub fn compact_len(&self) -> usize
+        ensures { result ≡ length (extension_payload (extension_of self.now)) }
+    {
+        match self {
+            ExtensionValue::Binary(bytes) => 1 + bytes.len(),
+            ExtensionValue::Date(_) => 5,
+            ExtensionValue::Timestamp(_) => 9,
+            ExtensionValue::TimestampTz(_) => 13,
+            ExtensionValue::Interval(_) => 17,
+            ExtensionValue::Opaque(opaque) => 1 + opaque.bytes().len(),
+        }
+    }
+}
+
+// The extension value of a payload that begins with this tag.
+fn tagged_extension<'a>(tag: u8, rest: &'a [u8]) -> Result<ExtensionValue<'a>, Error>
+    ensures ok { IfOk result (λ x. ExtCode (tag ∷ rest.now) (extension_of x)) }
+    ensures none { OnErr result ((e : Extension) → ExtCode (tag ∷ rest.now) e → ⊥) }
+    ensures length { result ≡ Err Error.InvalidJsonbNumber → HasKnownTag (tag ∷ rest.now) }
+    ensures tag { result ≡ Err Error.InvalidJsonbExtension → HasKnownTag (tag ∷ rest.now) → ⊥ }
+    ensures err { IfErr result
+        (λ e. (e ≡ Error.InvalidJsonbNumber) ⊎ (e ≡ Error.InvalidJsonbExtension)) }
+{
+    match tag {
+        EXTENSION_BINARY => Ok(ExtensionValue::Binary(rest)),
+        EXTENSION_DATE => match date_of(rest) {
+            Some(date) => Ok(ExtensionValue::Date(date)),
+            None => Err(Error::InvalidJsonbNumber),
+        },
+        EXTENSION_TIMESTAMP => match timestamp_of(rest) {
+            Some(timestamp) => Ok(ExtensionValue::Timestamp(timestamp)),
+            None => Err(Error::InvalidJsonbNumber),
+        },
+        EXTENSION_TIMESTAMP_TZ => match zoned_of(rest) {
+            Some(zoned) => Ok(ExtensionValue::TimestampTz(zoned)),
+            None => Err(Error::InvalidJsonbNumber),
+        },
+        EXTENSION_INTERVAL => match interval_of(rest) {
+            Some(interval) => Ok(ExtensionValue::Interval(interval)),
+            None => Err(Error::InvalidJsonbNumber),
+        },
+        _ => match Opaque::new(tag, rest) {
+            Some(opaque) => Ok(ExtensionValue::Opaque(opaque)),
+            None => Err(Error::InvalidJsonbExtension),
+        },
+    }
+}
+
+fn date_of(bytes: &[u8]) -> Option<Date>
+    ensures found { IfSome result (λ d. IsSigned w32 bytes.now d.value) }
+    ensures none { IfNone result ((d : Date) → IsSigned w32 bytes.now d.value → ⊥) }
+{
+    match bytes {
+        [a, b, c, d] => Some(Date {
+            value: i32::from_be_bytes([*a, *b, *c, *d]),
+        }),
+        _ => None,
+    }
+}
+
+fn timestamp_of(bytes: &[u8]) -> Option<Timestamp>
+    ensures found { IfSome result (λ t. IsSigned w64 bytes.now t.value) }
+    ensures none { IfNone result ((t : Timestamp) → IsSigned w64 bytes.now t.value → ⊥) }
+{
+    match bytes {
+        [a, b, c, d, e, f, g, h] => Some(Timestamp {
+            value: i64::from_be_bytes([*a, *b, *c, *d, *e, *f, *g, *h]),
+        }),
+        _ => None,
+    }
+}
+
+fn zoned_of(bytes: &[u8]) -> Option<TimestampTz>
+    ensures found { IfSome result (λ t. IsZoned bytes.now t ⊎ IsOldZoned bytes.now t) }
+    ensures none { IfNone result
+        ((t : TimestampTz) → (IsZoned bytes.now t ⊎ IsOldZoned bytes.now t) → ⊥) }
+{
+    match bytes.len() {
+        12 => Some(TimestampTz {
+            offset: i32_of(&bytes[8..]),
+            value: i64_of(bytes),
+        }),
+        9 => Some(TimestampTz {
+            offset: i32::from(i8::from_be_bytes([bytes[8]])) * 3600,
+            value: i64_of(bytes),
+        }),
+        _ => None,
+    }
+}
+
+fn interval_of(bytes: &[u8]) -> Option<Interval>
+    ensures found { IfSome result (IsInterval bytes.now) }
+    ensures none { IfNone result ((i : Interval) → IsInterval bytes.now i → ⊥) }
+{
+    if bytes.len() != 16 {
+        return None;
+    }
+    Some(Interval {
+        months: i32_of(bytes),
+        days: i32_of(&bytes[4..]),
+        micros: i64_of(&bytes[8..]),
+    })
+}
+
+// Bytes behind a tag. An entry has room for the tag and 0x0FFFFFFE bytes.
+fn append_data(buf: &mut Vec<u8>, tag: u8, bytes: &[u8]) -> Result<usize, Error>
+    ensures len { IfOk result (λ n. n ≡ length (tag ∷ bytes.now)) }
+    ensures appended { OnOk result (buf.new.items ≡ buf.old.items ++ tag ∷ bytes.now) }
+    ensures fits { OnOk result (length (tag ∷ bytes.now) < 2 ^ 28) }
+    ensures err { OnErr result (buf.new.items ≡ buf.old.items) }
+    ensures past { result ≡ Err Error.InvalidJsonb → 2 ^ 28 ≤ length (tag ∷ bytes.now) }
+    ensures memory { result ≡ Err Error.OutOfMemory → length (tag ∷ bytes.now) < 2 ^ 28 }
+    ensures only { IfErr result (λ e. (e ≡ Error.InvalidJsonb) ⊎ (e ≡ Error.OutOfMemory)) }
+    ensures capacity { vec_capacity buf.old ≤ vec_capacity buf.new }
+    ensures room { length (tag ∷ bytes.now) < 2 ^ 28
+        → vec_len buf.old + length (tag ∷ bytes.now) ≤ vec_capacity buf.old
+        → IsOk result }
+{
+    if bytes.len() > MAX_DATA {
+        return Err(Error::InvalidJsonb);
+    }
+    append(buf, tag, bytes, &[])
+}
+
+fn append_date(buf: &mut Vec<u8>, given: &Date) -> Result<usize, Error>
+    ensures len { IfOk result (λ n. n ≡ length (extension_payload (date given.now))) }
+    ensures appended { OnOk result (buf.new.items ≡ buf.old.items ++ extension_payload (date given.now)) }
+    ensures err { OnErr result (buf.new.items ≡ buf.old.items) }
+    ensures memory { IfErr result (λ e. e ≡ Error.OutOfMemory) }
+    ensures capacity { vec_capacity buf.old ≤ vec_capacity buf.new }
+    ensures room { vec_len buf.old + length (extension_payload (date given.now)) ≤ vec_capacity buf.old
+        → IsOk result }
+{
+    append(buf, EXTENSION_DATE, &given.value.to_be_bytes(), &[])
+}
+
+fn append_timestamp(buf: &mut Vec<u8>, given: &Timestamp) -> Result<usize, Error>
+    ensures len { IfOk result (λ n. n ≡ length (extension_payload (timestamp given.now))) }
+    ensures appended { OnOk result (buf.new.items ≡ buf.old.items ++ extension_payload (timestamp given.now)) }
+    ensures err { OnErr result (buf.new.items ≡ buf.old.items) }
+    ensures memory { IfErr result (λ e. e ≡ Error.OutOfMemory) }
+    ensures capacity { vec_capacity buf.old ≤ vec_capacity buf.new }
+    ensures room { vec_len buf.old + length (extension_payload (timestamp given.now)) ≤ vec_capacity buf.old
+        → IsOk result }
+{
+    append(buf, EXTENSION_TIMESTAMP, &given.value.to_be_bytes(), &[])
+}
+
+fn append_zoned(buf: &mut Vec<u8>, zoned: &TimestampTz) -> Result<usize, Error>
+    ensures len { IfOk result (λ n. n ≡ length (extension_payload (timestamp_tz zoned.now))) }
+    ensures appended { OnOk result (buf.new.items ≡ buf.old.items ++ extension_payload (timestamp_tz zoned.now)) }
+    ensures err { OnErr result (buf.new.items ≡ buf.old.items) }
+    ensures memory { IfErr result (λ e. e ≡ Error.OutOfMemory) }
+    ensures capacity { vec_capacity buf.old ≤ vec_capacity buf.new }
+    ensures room { vec_len buf.old + length (extension_payload (timestamp_tz zoned.now)) ≤ vec_capacity buf.old
+        → IsOk result }
+{
+    append(
+        buf,
+        EXTENSION_TIMESTAMP_TZ,
+        &zoned.value.to_be_bytes(),
+        &zoned.offset.to_be_bytes(),
+    )
+}
+
+fn append_interval(buf: &mut Vec<u8>, given: &Interval) -> Result<usize, Error>
+    ensures len { IfOk result (λ n. n ≡ length (extension_payload (interval given.now))) }
+    ensures appended { OnOk result (buf.new.items ≡ buf.old.items ++ extension_payload (interval given.now)) }
+    ensures err { OnErr result (buf.new.items ≡ buf.old.items) }
+    ensures memory { IfErr result (λ e. e ≡ Error.OutOfMemory) }
+    ensures capacity { vec_capacity buf.old ≤ vec_capacity buf.new }
+    ensures room { vec_len buf.old + length (extension_payload (interval given.now)) ≤ vec_capacity buf.old
+        → IsOk result }
+{
+    let d = given.days.to_be_bytes();
+    let m = given.micros.to_be_bytes();
+    let rest = [
+        d[0], d[1], d[2], d[3], m[0], m[1], m[2], m[3], m[4], m[5], m[6], m[7],
+    ];
+    append(buf, EXTENSION_INTERVAL, &given.months.to_be_bytes(), &rest)
+}

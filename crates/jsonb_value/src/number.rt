@@ -1,0 +1,252 @@
+//! Numbers, each kept with its kind, and their payloads.
+
+ghost use Rattle.std.specs.Prelude.{◌≡◌, ◌≤◌, ◌∷◌, ◌++◌, ℕ, ℤ, IfSome, IfNone, IfOk, IfErr, OnOk, OnErr, length, take, IsOk, vec_len, vec_capacity, ◌+◌};
+ghost use Rattle.std.specs.Int.{w64, w128};
+ghost use Rattle.jsonb_value.specs.declared.number.Number.{Number};
+ghost use Rattle.jsonb_value.specs.Payload.{IsSignedNumber, IsUnsignedNumber};
+ghost use Rattle.jsonb_value.specs.NumCode.{NumCode, number_payload, int_payload, uint_payload, decimal_payload};
+
+use crate::constants::{NUMBER_DECIMAL, NUMBER_INT, NUMBER_UINT, NUMBER_ZERO};
+use crate::error::Error;
+use crate::payload::{append, i64_of, i128_of};
+
+/// A decimal of 64 bits: `value` over ten to the power of `scale`.
+#[derive(Clone, Copy, Debug, PartialEq, Eq)]
+pub struct Decimal64 {
+    pub scale: u8,
+    pub value: i64,
+}
+
+/// A decimal of 128 bits: `value` over ten to the power of `scale`.
+#[derive(Clone, Copy, Debug, PartialEq, Eq)]
+pub struct Decimal128 {
+    pub scale: u8,
+    pub value: i128,
+}
+
+/// A number with its kind. `==` compares by structure: `Int64(5)` and `UInt64(5)` differ.
+#[derive(Clone, Copy, Debug, PartialEq, Eq)]
+pub enum Number {
+    Int64(i64),
+    UInt64(u64),
+    Decimal64(Decimal64),
+    Decimal128(Decimal128),
+}
+
+impl Number {
+    /// The number that a payload means: zero, a whole number of 1, 2, 4 or 8 bytes, or a decimal
+    /// in its written or its old form. `InvalidJsonbNumber` for every other byte string.
+    pub fn decode(bytes: &[u8]) -> Result<Number, Error>
+        ensures ok { IfOk result (λ x. NumCode bytes.now x) }
+        ensures only { (x : Number) → NumCode bytes.now x → result ≡ Ok x }
+        ensures err { IfErr result (λ e. e ≡ Error.InvalidJsonbNumber) }
+    {
+        match bytes {
+            [tag, rest @ ..] => tagged_of(*tag, rest).ok_or(Error::InvalidJsonbNumber),
+            [] => Err(Error::InvalidJsonbNumber),
+        }
+    }
+
+    /// Appends the written payload, the shortest for a whole number, and answers its length. Only
+    /// memory can be refused, and then the bytes of `buf` are as before.
+    pub fn compact_encode(&self, buf: &mut Vec<u8>) -> Result<usize, Error>
+        ensures len { IfOk result (λ n. n ≡ length (number_payload self.now)) }
+        ensures appended { OnOk result (buf.new.items ≡ buf.old.items ++ number_payload self.now) }
+        ensures err { OnErr result (buf.new.items ≡ buf.old.items) }
+        ensures memory { IfErr result (λ e. e ≡ Error.OutOfMemory) }
+        ensures capacity { vec_capacity buf.old ≤ vec_capacity buf.new }
+        ensures room { vec_len buf.old + length (number_payload self.now) ≤ vec_capacity buf.old
+            → IsOk result }
+    {
+        match self {
+            Number::Int64(value) => append_int(buf, *value),
+            Number::UInt64(value) => append_uint(buf, *value),
+            Number::Decimal64(decimal) => append_decimal64(buf, decimal),
+            Number::Decimal128(decimal) => append_decimal128(buf, decimal),
+        }
+    }
+
+    /// How many bytes the written payload has, at most 19.
+    pub fn compact_len(&self) -> usize
+        ensures len { result ≡ length (number_payload self.now) }
+        ensures most { result ≤ 19 }
+    {
+        match self {
+            Number::Int64(value) => int_len(*value),
+            Number::UInt64(value) => uint_len(*value),
+            Number::Decimal64(_) => 10,
+            Number::Decimal128(_) => 18,
+        }
+    }
+}
+
+// The number of a payload that begins with this tag.
+fn tagged_of(tag: u8, rest: &[u8]) -> Option<Number>
+    ensures found { IfSome result (λ x. NumCode (tag ∷ rest.now) x) }
+    ensures none { IfNone result ((x : Number) → NumCode (tag ∷ rest.now) x → ⊥) }
+{
+    match tag {
+        NUMBER_ZERO if rest.is_empty() => Some(Number::UInt64(0)),
+        NUMBER_INT => Some(Number::Int64(signed_of(rest)?)),
+        NUMBER_UINT => Some(Number::UInt64(unsigned_of(rest)?)),
+        NUMBER_DECIMAL => decimal_of(rest),
+        _ => None,
+    }
+}
+
+fn signed_of(bytes: &[u8]) -> Option<i64>
+    ensures found { IfSome result (λ v. IsSignedNumber bytes.now v) }
+    ensures none { IfNone result ((v : ℤ) → IsSignedNumber bytes.now v → ⊥) }
+{
+    match bytes {
+        [a] => Some(i64::from(i8::from_be_bytes([*a]))),
+        [a, b] => Some(i64::from(i16::from_be_bytes([*a, *b]))),
+        [a, b, c, d] => Some(i64::from(i32::from_be_bytes([*a, *b, *c, *d]))),
+        [a, b, c, d, e, f, g, h] => { Some(i64::from_be_bytes([*a, *b, *c, *d, *e, *f, *g, *h])) }
+        _ => None,
+    }
+}
+
+fn unsigned_of(bytes: &[u8]) -> Option<u64>
+    ensures found { IfSome result (λ v. IsUnsignedNumber bytes.now v) }
+    ensures none { IfNone result ((n : ℕ) → IsUnsignedNumber bytes.now n → ⊥) }
+{
+    match bytes {
+        [a] => Some(u64::from(*a)),
+        [a, b] => Some(u64::from(u16::from_be_bytes([*a, *b]))),
+        [a, b, c, d] => Some(u64::from(u32::from_be_bytes([*a, *b, *c, *d]))),
+        [a, b, c, d, e, f, g, h] => { Some(u64::from_be_bytes([*a, *b, *c, *d, *e, *f, *g, *h])) }
+        _ => None,
+    }
+}
+
+fn decimal_of(bytes: &[u8]) -> Option<Number>
+    ensures found { IfSome result (λ x. NumCode (112 ∷ bytes.now) x) }
+    ensures none { IfNone result ((x : Number) → NumCode (112 ∷ bytes.now) x → ⊥) }
+{
+    match bytes.len() {
+        9 => Some(Number::Decimal64(Decimal64 {
+            scale: bytes[8],
+            value: i64_of(bytes),
+        })),
+        17 => Some(Number::Decimal128(Decimal128 {
+            scale: bytes[16],
+            value: i128_of(bytes),
+        })),
+        18 => Some(Number::Decimal128(Decimal128 {
+            scale: bytes[17],
+            value: i128_of(bytes),
+        })),
+        _ => None,
+    }
+}
+
+fn int_len(value: i64) -> usize
+    ensures { result ≡ length (int_payload value) }
+{
+    if value == 0 {
+        1
+    } else if i8::try_from(value).is_ok() {
+        2
+    } else if i16::try_from(value).is_ok() {
+        3
+    } else if i32::try_from(value).is_ok() {
+        5
+    } else {
+        9
+    }
+}
+
+fn uint_len(value: u64) -> usize
+    ensures { result ≡ length (uint_payload value) }
+{
+    if value == 0 {
+        1
+    } else if value < 0x100 {
+        2
+    } else if value < 0x1_0000 {
+        3
+    } else if value < 0x1_0000_0000 {
+        5
+    } else {
+        9
+    }
+}
+
+fn append_int(buf: &mut Vec<u8>, value: i64) -> Result<usize, Error>
+    ensures len { IfOk result (λ n. n ≡ length (int_payload value)) }
+    ensures appended { OnOk result (buf.new.items ≡ buf.old.items ++ int_payload value) }
+    ensures err { OnErr result (buf.new.items ≡ buf.old.items) }
+    ensures memory { IfErr result (λ e. e ≡ Error.OutOfMemory) }
+    ensures capacity { vec_capacity buf.old ≤ vec_capacity buf.new }
+    ensures room { vec_len buf.old + length (int_payload value) ≤ vec_capacity buf.old
+        → IsOk result }
+{
+    if value == 0 {
+        append(buf, NUMBER_ZERO, &[], &[])
+    } else if let Ok(short) = i8::try_from(value) {
+        append(buf, NUMBER_INT, &short.to_be_bytes(), &[])
+    } else if let Ok(short) = i16::try_from(value) {
+        append(buf, NUMBER_INT, &short.to_be_bytes(), &[])
+    } else if let Ok(short) = i32::try_from(value) {
+        append(buf, NUMBER_INT, &short.to_be_bytes(), &[])
+    } else {
+        append(buf, NUMBER_INT, &value.to_be_bytes(), &[])
+    }
+}
+
+fn append_uint(buf: &mut Vec<u8>, value: u64) -> Result<usize, Error>
+    ensures len { IfOk result (λ n. n ≡ length (uint_payload value)) }
+    ensures appended { OnOk result (buf.new.items ≡ buf.old.items ++ uint_payload value) }
+    ensures err { OnErr result (buf.new.items ≡ buf.old.items) }
+    ensures memory { IfErr result (λ e. e ≡ Error.OutOfMemory) }
+    ensures capacity { vec_capacity buf.old ≤ vec_capacity buf.new }
+    ensures room { vec_len buf.old + length (uint_payload value) ≤ vec_capacity buf.old
+        → IsOk result }
+{
+    if value == 0 {
+        append(buf, NUMBER_ZERO, &[], &[])
+    } else if let Ok(short) = u8::try_from(value) {
+        append(buf, NUMBER_UINT, &[short], &[])
+    } else if let Ok(short) = u16::try_from(value) {
+        append(buf, NUMBER_UINT, &short.to_be_bytes(), &[])
+    } else if let Ok(short) = u32::try_from(value) {
+        append(buf, NUMBER_UINT, &short.to_be_bytes(), &[])
+    } else {
+        append(buf, NUMBER_UINT, &value.to_be_bytes(), &[])
+    }
+}
+
+fn append_decimal64(buf: &mut Vec<u8>, decimal: &Decimal64) -> Result<usize, Error>
+    ensures len { IfOk result (λ n. n ≡ length (decimal_payload w64 decimal.now.value decimal.now.scale)) }
+    ensures appended { OnOk result (buf.new.items ≡ buf.old.items ++ decimal_payload w64 decimal.now.value decimal.now.scale) }
+    ensures err { OnErr result (buf.new.items ≡ buf.old.items) }
+    ensures memory { IfErr result (λ e. e ≡ Error.OutOfMemory) }
+    ensures capacity { vec_capacity buf.old ≤ vec_capacity buf.new }
+    ensures room { vec_len buf.old + length (decimal_payload w64 decimal.now.value decimal.now.scale) ≤ vec_capacity buf.old
+        → IsOk result }
+{
+    append(
+        buf,
+        NUMBER_DECIMAL,
+        &decimal.value.to_be_bytes(),
+        &[decimal.scale],
+    )
+}
+
+fn append_decimal128(buf: &mut Vec<u8>, decimal: &Decimal128) -> Result<usize, Error>
+    ensures len { IfOk result (λ n. n ≡ length (decimal_payload w128 decimal.now.value decimal.now.scale)) }
+    ensures appended { OnOk result (buf.new.items ≡ buf.old.items ++ decimal_payload w128 decimal.now.value decimal.now.scale) }
+    ensures err { OnErr result (buf.new.items ≡ buf.old.items) }
+    ensures memory { IfErr result (λ e. e ≡ Error.OutOfMemory) }
+    ensures capacity { vec_capacity buf.old ≤ vec_capacity buf.new }
+    ensures room { vec_len buf.old + length (decimal_payload w128 decimal.now.value decimal.now.scale) ≤ vec_capacity buf.old
+        → IsOk result }
+{
+    append(
+        buf,
+        NUMBER_DECIMAL,
+        &decimal.value.to_be_bytes(),
+        &[decimal.scale],
+    )
+}

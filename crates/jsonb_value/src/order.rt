@@ -1,0 +1,147 @@
+//! The order of numbers and of extension values by what they mean, and the laws of the order of
+//! documents that stands on it.
+
+ghost use Rattle.std.specs.Prelude.{◌≡◌, ◌≢◌, ◌^◌, ◌*ℤ◌, pos};
+ghost use Rattle.std.specs.Cmp.{IsTotalOrder};
+ghost use Rattle.std.specs.Ordering.{nat_cmp, int_cmp};
+ghost use Rattle.jsonb_value.specs.ExtCode.{extension_of};
+ghost use Rattle.jsonb_value.specs.Meaning.{meaning_cmp};
+ghost use Rattle.jsonb_value.specs.Norm.{norm};
+ghost use Rattle.jsonb_value.specs.Order.{fraction_of, number_cmp, kind_of, extension_cmp};
+ghost use Rattle.jsonb_value.specs.Tree.{Tree, interval};
+ghost use Rattle.jsonb_value.specs.TreeOrder.{rank_of, tree_cmp};
+
+use crate::extension::{ExtensionValue, Interval};
+use crate::number::{Decimal128, Number};
+use std::cmp::Ordering;
+
+impl Number {
+    /// How the exact values of two numbers compare, whatever their kinds and scales. It is total,
+    /// and `Equal` also for numbers that `==` tells apart, as `Int64(5)` and `UInt64(5)`.
+    pub fn cmp_value(&self, other: &Number) -> Ordering
+        ensures { result ≡ number_cmp self.now other.now }
+    {
+        let left = self.widened();
+        let right = other.widened();
+        if left.scale <= right.scale {
+            cmp_scaled(left.value, right.scale - left.scale, right.value)
+        } else {
+            cmp_scaled(right.value, left.scale - right.scale, left.value).reverse()
+        }
+    }
+
+    // The same value as the kind that holds each.
+    fn widened(&self) -> Decimal128
+        ensures { fraction_of (Number.Decimal128 result) ≡ fraction_of self.now }
+    {
+        match *self {
+            Number::Int64(value) => Decimal128 {
+                scale: 0,
+                value: i128::from(value),
+            },
+            Number::UInt64(value) => Decimal128 {
+                scale: 0,
+                value: i128::from(value),
+            },
+            Number::Decimal64(decimal) => Decimal128 {
+                scale: decimal.scale,
+                value: i128::from(decimal.value),
+            },
+            Number::Decimal128(decimal) => decimal,
+        }
+    }
+}
+
+// How the value, multiplied by ten `steps` times, compares with the other. A product too large for
+// the type lies beyond all that the type holds, on the side of its sign.
+fn cmp_scaled(value: i128, steps: u8, other: i128) -> Ordering
+    ensures { result ≡ int_cmp (value *ℤ pos (10 ^ steps)) other }
+{
+    let mut scaled = value;
+    for _step in 0..steps {
+        match scaled.checked_mul(10) {
+            Some(product) => scaled = product,
+            None => return scaled.cmp(&0),
+        }
+    }
+    scaled.cmp(&other)
+}
+
+impl ExtensionValue<'_> {
+    /// First by kind, rising in the order of the variants, and then by what the values hold:
+    /// bytes; a date; a time; a time and then its offset; months, days and microseconds; a tag
+    /// and then its bytes. Byte strings compare lexicographically.
+    pub fn cmp_value(&self, other: &ExtensionValue<'_>) -> Ordering
+        ensures { result ≡ extension_cmp (extension_of self.now) (extension_of other.now) }
+    {
+        match (*self, *other) {
+            (ExtensionValue::Binary(left), ExtensionValue::Binary(right)) => left.cmp(right),
+            (ExtensionValue::Date(left), ExtensionValue::Date(right)) => {
+                left.value.cmp(&right.value)
+            }
+            (ExtensionValue::Timestamp(left), ExtensionValue::Timestamp(right)) => {
+                left.value.cmp(&right.value)
+            }
+            (ExtensionValue::TimestampTz(left), ExtensionValue::TimestampTz(right)) => {
+                (left.value, left.offset).cmp(&(right.value, right.offset))
+            }
+            (ExtensionValue::Interval(left), ExtensionValue::Interval(right)) => {
+                cmp_intervals(left, right)
+            }
+            (ExtensionValue::Opaque(left), ExtensionValue::Opaque(right)) => {
+                (left.tag(), left.bytes()).cmp(&(right.tag(), right.bytes()))
+            }
+            _ => self.kind().cmp(&other.kind()),
+        }
+    }
+
+    // Where the kind stands among the six.
+    fn kind(&self) -> u8
+        ensures { result ≡ kind_of (extension_of self.now) }
+    {
+        match self {
+            ExtensionValue::Binary(_) => 0,
+            ExtensionValue::Date(_) => 1,
+            ExtensionValue::Timestamp(_) => 2,
+            ExtensionValue::TimestampTz(_) => 3,
+            ExtensionValue::Interval(_) => 4,
+            ExtensionValue::Opaque(_) => 5,
+        }
+    }
+}
+
+fn cmp_intervals(left: Interval, right: Interval) -> Ordering
+    ensures { result ≡ extension_cmp (interval left) (interval right) }
+{
+    (left.months, left.days, left.micros).cmp(&(right.months, right.days, right.micros))
+}
+
+/// The order of numbers by value is total: asked the other way round it answers the reverse, it is
+/// transitive, and numbers that are `Equal` compare alike with every other.
+pub fn order_of_numbers()
+    ensures { IsTotalOrder number_cmp }
+{}
+
+/// So is the order of extension values.
+pub fn order_of_extension_values()
+    ensures { IsTotalOrder extension_cmp }
+{}
+
+/// So is the order of trees. Each tree is `Equal` to itself, kinds decide where they differ, and
+/// a signed and an unsigned zero count as the same.
+pub fn order_of_trees()
+    ensures total { IsTotalOrder tree_cmp }
+    ensures itself { (t : Tree) → tree_cmp t t ≡ Ordering.Equal }
+    ensures kinds { (t u : Tree) → rank_of t ≢ rank_of u
+        → tree_cmp t u ≡ nat_cmp (rank_of t) (rank_of u) }
+    ensures zeros_left { (t u : Tree) → tree_cmp (norm t) u ≡ tree_cmp t u }
+    ensures zeros_right { (t u : Tree) → tree_cmp t (norm u) ≡ tree_cmp t u }
+{}
+
+/// So is the order of what byte strings mean: a tree, or bytes that are no document.
+pub fn order_of_meanings()
+    ensures { IsTotalOrder meaning_cmp }
+{}
+
+#[cfg(test)]
+mod tests;

@@ -1,0 +1,201 @@
+//! Texts of JSON, read.
+
+ghost use Rattle.std.specs.Prelude.{◌≡◌, ◌⊎◌, ℕ, ◌<◌, ◌≤◌, ◌∷◌, List, Err, chars, length, string_bytes, IfOk, IfErr};
+ghost use Rattle.jsonb_value.specs.Tree.{Tree};
+ghost use Rattle.jsonb_value.specs.Json.Syntax.{Json};
+ghost use Rattle.jsonb_value.specs.Reader.Reading.{read_word, read_element, read_value, read_array, read_object, read_member, read_kind, kind_of, string_kind, number_kind};
+ghost use Rattle.jsonb_value.specs.Reader.Gives.{Gives};
+ghost use Rattle.jsonb_value.specs.Value.{tree_of};
+ghost use Rattle.jsonb_value.specs.Reader.Kind.{kind_view};
+
+mod cursor;
+mod number;
+mod string;
+#[cfg(test)]
+mod tests;
+
+use crate::error::Error;
+use crate::value::Value;
+use cursor::{after_all, after_char, skip_blank, split_first};
+use number::read_number;
+use std::alloc::Global;
+use std::collections::BTreeMap;
+use string::read_string;
+
+// What the first character of a value tells.
+#[derive(Clone, Copy)]
+enum Kind {
+    Null,
+    True,
+    False,
+    String,
+    Array,
+    Object,
+    Number,
+}
+
+fn kind_of(first: char) -> Kind
+    ensures { kind_view result ≡ kind_of first }
+{
+    match first {
+        'n' => Kind::Null,
+        't' => Kind::True,
+        'f' => Kind::False,
+        '"' => Kind::String,
+        '[' => Kind::Array,
+        '{' => Kind::Object,
+        _ => Kind::Number,
+    }
+}
+
+// The value, where the rest of its word follows.
+fn read_word<'a>(
+    text: &'a str,
+    word: &[char],
+    value: Value<'a>,
+) -> Result<(Value<'a>, &'a str), Error>
+    ensures { Gives (λ found. (tree_of found.0, chars found.1.now)) result (read_word word.now (tree_of value.entry) (chars text.now)) }
+{
+    match after_all(text, word) {
+        Some(rest) => Ok((value, rest)),
+        None => Err(Error::InvalidJson),
+    }
+}
+
+// A string as a value, behind the quote that opens it.
+fn read_quoted<'a>(alloc: Global, text: &'a str) -> Result<(Value<'a>, &'a str), Error>
+    ensures { (n : ℕ) → length (chars text.now) < n → Gives (λ found. (tree_of found.0, chars found.1.now)) result (read_kind (read_value n) n string_kind 34 (chars text.now)) }
+{
+    let (content, rest) = read_string(alloc, text)?;
+    Ok((Value::String(content), rest))
+}
+
+// A number as a value.
+fn read_numeral<'a>(text: &'a str) -> Result<(Value<'a>, &'a str), Error>
+    ensures { (n c : ℕ) (s : List ℕ) → chars text.now ≡ c ∷ s → Gives (λ found. (tree_of found.0, chars found.1.now)) result (read_kind (read_value n) n number_kind c s) }
+{
+    match read_number(text) {
+        Some((number, rest)) => Ok((Value::Number(number), rest)),
+        None => Err(Error::InvalidJson),
+    }
+}
+
+// A value between white space.
+#[cycle(reading)]
+fn read_element<'a>(alloc: Global, text: &'a str) -> Result<(Value<'a>, &'a str), Error>
+    ensures { (n : ℕ) → length (chars text.now) < n → Gives (λ found. (tree_of found.0, chars found.1.now)) result (read_element (read_value n) (chars text.now)) }
+{
+    let (value, rest) = read_value(alloc, skip_blank(text))?;
+    Ok((value, skip_blank(rest)))
+}
+
+// A value at the front of the text.
+#[cycle(reading)]
+fn read_value<'a>(alloc: Global, text: &'a str) -> Result<(Value<'a>, &'a str), Error>
+    ensures { (n : ℕ) → length (chars text.now) < n → Gives (λ found. (tree_of found.0, chars found.1.now)) result (read_value n (chars text.now)) }
+{
+    let Some((first, rest)) = split_first(text) else {
+        return Err(Error::InvalidJson);
+    };
+    match kind_of(first) {
+        Kind::Null => read_word(rest, &['u', 'l', 'l'], Value::Null),
+        Kind::True => read_word(rest, &['r', 'u', 'e'], Value::Bool(true)),
+        Kind::False => read_word(rest, &['a', 'l', 's', 'e'], Value::Bool(false)),
+        Kind::String => read_quoted(alloc, rest),
+        Kind::Array => read_array(alloc, rest),
+        Kind::Object => read_object(alloc, rest),
+        Kind::Number => read_numeral(text),
+    }
+}
+
+// The items of an array, behind the bracket that opens it.
+#[cycle(reading)]
+fn read_array<'a>(alloc: Global, text: &'a str) -> Result<(Value<'a>, &'a str), Error>
+    ensures { (n : ℕ) → length (chars text.now) < n → Gives (λ found. (tree_of found.0, chars found.1.now)) result (read_array (read_value n) n (chars text.now)) }
+{
+    let mut items = Vec::new(alloc);
+    if let Some(rest) = after_char(skip_blank(text), ']') {
+        return Ok((Value::Array(items), rest));
+    }
+    let mut rest = text;
+    'items: loop {
+        let (item, after) = read_element(alloc, rest)?;
+        items.push(item)?;
+        let Some((mark, after)) = split_first(after) else {
+            return Err(Error::InvalidJson);
+        };
+        if mark == ']' {
+            return Ok((Value::Array(items), after));
+        }
+        if mark != ',' {
+            return Err(Error::InvalidJson);
+        }
+        rest = after;
+    }
+}
+
+// The members of an object, behind the brace that opens it. Of equal keys the last value is kept.
+#[cycle(reading)]
+fn read_object<'a>(alloc: Global, text: &'a str) -> Result<(Value<'a>, &'a str), Error>
+    ensures { (n : ℕ) → length (chars text.now) < n → Gives (λ found. (tree_of found.0, chars found.1.now)) result (read_object (read_value n) n (chars text.now)) }
+{
+    let mut members = BTreeMap::new(alloc);
+    if let Some(rest) = after_char(skip_blank(text), '}') {
+        return Ok((Value::Object(members), rest));
+    }
+    let mut rest = text;
+    'members: loop {
+        let (key, value, after) = read_member(alloc, rest)?;
+        members.insert(key, value)?;
+        let Some((mark, after)) = split_first(after) else {
+            return Err(Error::InvalidJson);
+        };
+        if mark == '}' {
+            return Ok((Value::Object(members), after));
+        }
+        if mark != ',' {
+            return Err(Error::InvalidJson);
+        }
+        rest = after;
+    }
+}
+
+// A key between white space, and its value.
+#[cycle(reading)]
+fn read_member<'a>(alloc: Global, text: &'a str) -> Result<(String, Value<'a>, &'a str), Error>
+    ensures { (n turns : ℕ) → length (chars text.now) < n → length (chars text.now) ≤ turns → Gives (λ found. ((string_bytes found.0, tree_of found.1), chars found.2.now)) result (read_member (read_value n) turns (chars text.now)) }
+{
+    let Some(opened) = after_char(skip_blank(text), '"') else {
+        return Err(Error::InvalidJson);
+    };
+    let (key, after) = read_string(alloc, opened)?;
+    let key = key.into_owned(alloc)?;
+    let Some(behind) = after_char(skip_blank(after), ':') else {
+        return Err(Error::InvalidJson);
+    };
+    let (value, rest) = read_element(alloc, behind)?;
+    Ok((key, value, rest))
+}
+
+/// The value of a whole text. Strings without escapes are borrowed from the text.
+///
+/// The grammar is that of JSON without exponents, and every number has its kind from its value and
+/// from the count of digits behind its point: whole numbers are `UInt64` (`-0` too), `Int64`, or
+/// `Decimal128` of scale 0 within 128 bits; numbers with 1 to 255 digits behind the point are
+/// `Decimal64` or `Decimal128` of that scale. Of equal keys the last value is kept. Every other
+/// text is `InvalidJson`, so are larger numbers, lone surrogates and a byte order mark.
+pub fn parse_value<'a>(alloc: Global, text: &'a str) -> Result<Value<'a>, Error>
+    // What is read is what the text means.
+    ensures ok { IfOk result (λ value. Json (chars text.now) (tree_of value)) }
+    // What is refused means nothing.
+    ensures invalid { result ≡ Err Error.InvalidJson → (t : Tree) → Json (chars text.now) t → ⊥ }
+    ensures errors { IfErr result (λ e. (e ≡ Error.InvalidJson) ⊎ (e ≡ Error.OutOfMemory)) }
+    // No text means two trees.
+    ensures one { (t u : Tree) → Json (chars text.now) t → Json (chars text.now) u → t ≡ u }
+{
+    let (value, rest) = read_element(alloc, text)?;
+    match split_first(rest) {
+        None => Ok(value),
+        Some(_) => Err(Error::InvalidJson),
+    }
+}

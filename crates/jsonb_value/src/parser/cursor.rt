@@ -1,0 +1,45 @@
+//! Steps over the characters at the front of a text.
+
+ghost use Rattle.std.specs.Prelude.{◌≡◌, [], ◌∷◌, chars, option_map, MatchOption};
+ghost use Rattle.jsonb_value.specs.Reader.Reading.{skip_blank, expect, expect_all};
+
+/// The first character, and what follows it.
+pub fn split_first(text: &str) -> Option<(char, &str)>
+    ensures { MatchOption result (chars text.now ≡ []) (λ parts. chars text.now ≡ parts.0 ∷ chars parts.1.now) }
+{
+    let mut characters = text.chars();
+    let first = characters.next()?;
+    Some((first, characters.as_str()))
+}
+
+/// What follows the character, where it stands first.
+pub fn after_char(text: &str, expected: char) -> Option<&str>
+    ensures { option_map (λ rest. chars rest.now) result ≡ expect expected (chars text.now) }
+{
+    match split_first(text) {
+        Some((first, rest)) if first == expected => Some(rest),
+        _ => None,
+    }
+}
+
+/// What follows these characters, where they stand first.
+pub fn after_all<'a>(text: &'a str, expected: &[char]) -> Option<&'a str>
+    ensures { option_map (λ rest. chars rest.now) result ≡ expect_all expected.now (chars text.now) }
+{
+    let mut rest = text;
+    for character in expected {
+        rest = after_char(rest, *character)?;
+    }
+    Some(rest)
+}
+
+/// What follows the white space at the front.
+pub fn skip_blank(text: &str) -> &str
+    ensures { chars result.now ≡ skip_blank (chars text.now) }
+{
+    let mut rest = text;
+    'blanks: while let Some((' ' | '\t' | '\n' | '\r', after)) = split_first(rest) {
+        rest = after;
+    }
+    rest
+}

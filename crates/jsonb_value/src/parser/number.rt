@@ -1,0 +1,148 @@
+//! Reading a number.
+
+ghost use Rattle.std.specs.Prelude.{◌≡◌, ℕ, ◌+◌, ◌*◌, List, Some, None, chars, option_map, MatchOption, SomeIff, IsTrue};
+ghost use Rattle.std.specs.Char.{digit_value, is_ascii_digit};
+ghost use Rattle.std.specs.Str.Parse.{digits_value};
+ghost use Rattle.jsonb_value.specs.NumCode.{is_within};
+ghost use Rattle.jsonb_value.specs.Json.Numeral.{signed, number_of, whole_number, decimal_number};
+ghost use Rattle.jsonb_value.specs.Reader.Reading.{read_sign, read_whole, read_fraction, read_number, front_digits, after_digits};
+ghost use Rattle.jsonb_value.specs.Reader.Digits.{Counts, AreDigits};
+
+use crate::number::{Decimal64, Decimal128, Number};
+use crate::parser::cursor::{after_char, split_first};
+
+/// Digits, and the number that they make with those before them, unless it is past 128 bits.
+#[derive(Clone, Copy)]
+pub struct Digits {
+    pub count: usize,
+    pub value: Option<u128>,
+}
+
+// Whether a minus stands first, and what follows it.
+fn read_sign(text: &str) -> (bool, &str)
+    ensures { (result.0, chars result.1.now) ≡ read_sign (chars text.now) }
+{
+    match split_first(text) {
+        Some(('-', rest)) => (true, rest),
+        _ => (false, text),
+    }
+}
+
+// The number with one more digit.
+fn with_digit(value: Option<u128>, digit: char) -> Option<u128>
+    requires { IsTrue (is_ascii_digit digit) }
+    ensures { (n : ℕ) → Counts n value → Counts (n * 10 + digit_value digit) result }
+{
+    let digit = digit.to_digit(10)?;
+    value?.checked_mul(10)?.checked_add(u128::from(digit))
+}
+
+// The digits at the front, behind those of `start`, and what follows them.
+fn read_digits(start: Option<u128>, text: &str) -> (Digits, &str)
+    ensures digits { (n : ℕ) → Counts n start → AreDigits n (front_digits (chars text.now)) result.0 }
+    ensures rest { chars result.1.now ≡ after_digits (chars text.now) }
+{
+    let mut digits = Digits {
+        count: 0,
+        value: start,
+    };
+    let mut rest = text;
+    'digits: while let Some((digit, after)) = split_first(rest) {
+        if !digit.is_ascii_digit() {
+            break;
+        }
+        digits.count += 1;
+        digits.value = with_digit(digits.value, digit);
+        rest = after;
+    }
+    (digits, rest)
+}
+
+// `0`, or digits that begin with another: their number, unless it is too large, and what follows.
+fn read_whole(text: &str) -> Option<(Option<u128>, &str)>
+    ensures { MatchOption result (read_whole (chars text.now) ≡ None) (λ found. (ds : List ℕ) × (read_whole (chars text.now) ≡ Some (ds, chars found.1.now)) × Counts (digits_value 10 ds) found.0) }
+{
+    let (first, rest) = split_first(text)?;
+    if !first.is_ascii_digit() {
+        return None;
+    }
+    let value = with_digit(Some(0), first);
+    if first == '0' {
+        return Some((value, rest));
+    }
+    let (digits, rest) = read_digits(value, rest);
+    Some((digits.value, rest))
+}
+
+// The digits after a point, where one stands, behind those of `whole`.
+fn read_fraction(whole: Option<u128>, text: &str) -> Option<(Digits, &str)>
+    ensures { (n : ℕ) → Counts n whole → MatchOption result (read_fraction (chars text.now) ≡ None) (λ found. (ds : List ℕ) × (read_fraction (chars text.now) ≡ Some (ds, chars found.1.now)) × AreDigits n ds found.0) }
+{
+    let Some(rest) = after_char(text, '.') else {
+        let digits = Digits {
+            count: 0,
+            value: whole,
+        };
+        return Some((digits, text));
+    };
+    let (digits, rest) = read_digits(whole, rest);
+    if digits.count == 0 {
+        return None;
+    }
+    Some((digits, rest))
+}
+
+// The number of so many digits behind the point, if the value without the point is in range.
+fn number_of(scale: usize, value: i128) -> Option<Number>
+    ensures { result ≡ number_of scale value }
+{
+    if scale == 0 {
+        Some(whole_number(value))
+    } else {
+        Some(decimal_number(u8::try_from(scale).ok()?, value))
+    }
+}
+
+fn whole_number(value: i128) -> Number
+    ensures { Some result ≡ whole_number value }
+{
+    if let Ok(value) = u64::try_from(value) {
+        Number::UInt64(value)
+    } else if let Ok(value) = i64::try_from(value) {
+        Number::Int64(value)
+    } else {
+        Number::Decimal128(Decimal128 { scale: 0, value })
+    }
+}
+
+fn decimal_number(scale: u8, value: i128) -> Number
+    ensures { Some result ≡ decimal_number scale value }
+{
+    match i64::try_from(value) {
+        Ok(value) => Number::Decimal64(Decimal64 { scale, value }),
+        Err(_) => Number::Decimal128(Decimal128 { scale, value }),
+    }
+}
+
+// The magnitude with its sign, where it lies within the type.
+fn signed(is_negative: bool, magnitude: u128) -> Option<i128>
+    ensures { SomeIff result (IsTrue (is_within 127 (signed is_negative magnitude))) (signed is_negative magnitude) }
+{
+    if is_negative {
+        0i128.checked_sub_unsigned(magnitude)
+    } else {
+        i128::try_from(magnitude).ok()
+    }
+}
+
+/// The number at the front of the text, and what follows it.
+pub fn read_number(text: &str) -> Option<(Number, &str)>
+    ensures { option_map (λ found. (found.0, chars found.1.now)) result ≡ read_number (chars text.now) }
+{
+    let (is_negative, rest) = read_sign(text);
+    let (whole, rest) = read_whole(rest)?;
+    let (digits, rest) = read_fraction(whole, rest)?;
+    let value = signed(is_negative, digits.value?)?;
+    let number = number_of(digits.count, value)?;
+    Some((number, rest))
+}

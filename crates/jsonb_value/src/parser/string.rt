@@ -1,0 +1,183 @@
+//! Reading a string, behind the quote that opens it.
+
+ghost use Rattle.std.specs.Prelude.{◌≡◌, ℕ, ◌<◌, ◌++◌, true, [], Some, None, chars, length, option_map, string_bytes, encode_utf8_all, IfSome};
+ghost use Rattle.std.specs.List.{list_all, prefix_len};
+ghost use Rattle.jsonb_value.specs.Value.{cow_bytes};
+ghost use Rattle.jsonb_value.specs.Json.Piece.{unit4, unit_value, escape_value, unit_character, pair_character, is_plain};
+ghost use Rattle.jsonb_value.specs.Reader.Reading.{read_unit, read_second, read_character, read_escape, read_piece, read_text};
+ghost use Rattle.jsonb_value.specs.Reader.Gives.{Gives};
+
+use crate::error::Error;
+use crate::parser::cursor::{after_char, split_first};
+use std::alloc::Global;
+use std::borrow::CowStr;
+
+// Four hexadecimal digits, and what follows them.
+fn read_unit(text: &str) -> Option<(u32, &str)>
+    ensures value { option_map (λ found. (found.0, chars found.1.now)) result ≡ read_unit (chars text.now) }
+    ensures short { IfSome result (λ found. found.0 < 65536) }
+{
+    let (first, text) = split_first(text)?;
+    let (second, text) = split_first(text)?;
+    let (third, text) = split_first(text)?;
+    let (fourth, text) = split_first(text)?;
+    Some((unit_value(first, second, third, fourth)?, text))
+}
+
+// The number that four hexadecimal digits spell.
+fn unit_value(first: char, second: char, third: char, fourth: char) -> Option<u32>
+    ensures value { result ≡ unit_value (unit4 first second third fourth) }
+    ensures short { IfSome result (λ value. value < 65536) }
+{
+    Some(
+        first.to_digit(16)? * 4096
+            + second.to_digit(16)? * 256
+            + third.to_digit(16)? * 16
+            + fourth.to_digit(16)?,
+    )
+}
+
+// A further `\u` with its digits.
+fn read_second(text: &str) -> Option<(u32, &str)>
+    ensures value { option_map (λ found. (found.0, chars found.1.now)) result ≡ read_second (chars text.now) }
+    ensures short { IfSome result (λ found. found.0 < 65536) }
+{
+    let (backslash, text) = split_first(text)?;
+    let (letter, text) = split_first(text)?;
+    if backslash == '\\' && letter == 'u' {
+        read_unit(text)
+    } else {
+        None
+    }
+}
+
+// The character that the unit is, where it is no surrogate.
+fn unit_character(unit: u32) -> Option<char>
+    requires { unit < 65536 }
+    ensures { result ≡ unit_character unit }
+{
+    char::from_u32(unit)
+}
+
+// The character of a surrogate pair.
+fn pair_character(high: u32, low: u32) -> Option<char>
+    requires high_short { high < 65536 }
+    requires low_short { low < 65536 }
+    ensures { result ≡ pair_character high low }
+{
+    if (0xd800..0xdc00).contains(&high) && (0xdc00..0xe000).contains(&low) {
+        char::from_u32(0x10000 + (high - 0xd800) * 1024 + (low - 0xdc00))
+    } else {
+        None
+    }
+}
+
+// The character that begins with this unit.
+fn read_character(unit: u32, text: &str) -> Option<(char, &str)>
+    requires { unit < 65536 }
+    ensures { option_map (λ found. (found.0, chars found.1.now)) result ≡ read_character unit (chars text.now) }
+{
+    if (0xd800..0xdc00).contains(&unit) {
+        let (low, text) = read_second(text)?;
+        Some((pair_character(unit, low)?, text))
+    } else {
+        Some((unit_character(unit)?, text))
+    }
+}
+
+fn escape_value(letter: char) -> Option<char>
+    ensures { result ≡ escape_value letter }
+{
+    match letter {
+        '"' | '\\' | '/' => Some(letter),
+        'b' => Some('\u{8}'),
+        'f' => Some('\u{c}'),
+        'n' => Some('\n'),
+        'r' => Some('\r'),
+        't' => Some('\t'),
+        _ => None,
+    }
+}
+
+// What follows a backslash.
+fn read_escape(text: &str) -> Option<(char, &str)>
+    ensures { option_map (λ found. (found.0, chars found.1.now)) result ≡ read_escape (chars text.now) }
+{
+    let (letter, text) = split_first(text)?;
+    if letter == 'u' {
+        let (unit, text) = read_unit(text)?;
+        read_character(unit, text)
+    } else {
+        Some((escape_value(letter)?, text))
+    }
+}
+
+// One character, as it stands or escaped.
+fn read_piece(text: &str) -> Option<(char, &str)>
+    ensures { option_map (λ found. (found.0, chars found.1.now)) result ≡ read_piece (chars text.now) }
+{
+    let (first, rest) = split_first(text)?;
+    match first {
+        '\\' => read_escape(rest),
+        '"' | '\0'..='\u{1f}' => None,
+        _ => Some((first, rest)),
+    }
+}
+
+// Whether the byte is part of a character that stands for itself.
+fn is_plain(byte: u8) -> bool
+    ensures { result ≡ is_plain byte }
+{
+    byte >= 0x20 && byte != b'"' && byte != b'\\'
+}
+
+// How many bytes at the front are part of characters that stand for themselves.
+fn plain_len(bytes: &[u8]) -> usize
+    ensures { result ≡ prefix_len is_plain bytes.now }
+{
+    bytes.iter().take_while(|byte| is_plain(**byte)).count()
+}
+
+// The characters at the front that stand for themselves, and what follows them.
+fn split_plain(text: &str) -> (&str, &str)
+    ensures plain { list_all is_plain (chars result.0.now) ≡ true }
+    ensures whole { chars text.now ≡ chars result.0.now ++ chars result.1.now }
+    ensures bytes { encode_utf8_all (chars result.0.now) ≡ result.0.now }
+{
+    text.split_at(plain_len(text.as_bytes()))
+}
+
+// The string that begins with `front`, up to the quote that closes it, and what follows.
+fn read_escaped<'a>(alloc: Global, front: &str, text: &'a str) -> Result<(String, &'a str), Error>
+    ensures { (n : ℕ) → length (chars text.now) < n → Gives (λ found. (string_bytes found.0, chars found.1.now)) result (read_text n front.now (chars text.now)) }
+{
+    let mut content = String::from_str(alloc, front)?;
+    let mut rest = text;
+    'pieces: loop {
+        let Some((first, after)) = split_first(rest) else {
+            return Err(Error::InvalidJson);
+        };
+        if first == '"' {
+            return Ok((content, after));
+        }
+        let Some((character, after)) = read_piece(rest) else {
+            return Err(Error::InvalidJson);
+        };
+        content.push(character)?;
+        let (plain, after) = split_plain(after);
+        content.push_str(plain)?;
+        rest = after;
+    }
+}
+
+/// The string up to the quote that closes it, borrowed where it has no escape, and what follows.
+pub fn read_string<'a>(alloc: Global, text: &'a str) -> Result<(CowStr<'a>, &'a str), Error>
+    ensures { (n : ℕ) → length (chars text.now) < n → Gives (λ found. (cow_bytes found.0, chars found.1.now)) result (read_text n [] (chars text.now)) }
+{
+    let (front, rest) = split_plain(text);
+    if let Some(after) = after_char(rest, '"') {
+        return Ok((CowStr::Borrowed(front), after));
+    }
+    let (content, after) = read_escaped(alloc, front, rest)?;
+    Ok((CowStr::Owned(content), after))
+}

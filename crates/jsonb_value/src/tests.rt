@@ -1,0 +1,99 @@
+use crate::{Date, Decimal64, Error, ExtensionValue, Interval, Number, Opaque, Timestamp};
+use std::test::Fail;
+
+#[test]
+fn errors_display_their_names(rt: HostRuntime) -> Result<(), Fail> {
+    for (error, name) in [
+        (Error::InvalidEOF, "InvalidEOF"),
+        (Error::InvalidJsonb, "InvalidJsonb"),
+        (Error::InvalidJsonbHeader, "InvalidJsonbHeader"),
+        (Error::InvalidJsonbJEntry, "InvalidJsonbJEntry"),
+        (Error::InvalidJsonbNumber, "InvalidJsonbNumber"),
+        (Error::InvalidJsonbExtension, "InvalidJsonbExtension"),
+        (Error::InvalidUtf8, "InvalidUtf8"),
+        (Error::ObjectDuplicateKey, "ObjectDuplicateKey"),
+        (Error::InvalidJson, "InvalidJson"),
+        (Error::OutOfMemory, "OutOfMemory"),
+    ] {
+        assert_eq!(rt; error.name(), name);
+        assert_eq!(rt; format!(in rt.alloc(); "{error}")?.as_str(), name);
+    }
+    Ok(())
+}
+
+#[test]
+fn numbers_as_they_are_written(rt: HostRuntime) -> Result<(), Fail> {
+    for (number, payload) in [
+        (Number::Int64(0), [0x00].as_slice()),
+        (Number::UInt64(0), [0x00].as_slice()),
+        (Number::Int64(-100), [0x40, 0x9c].as_slice()),
+        (Number::Int64(-128), [0x40, 0x80].as_slice()),
+        (Number::Int64(-129), [0x40, 0xff, 0x7f].as_slice()),
+        (Number::Int64(128), [0x40, 0x00, 0x80].as_slice()),
+        (Number::Int64(-32768), [0x40, 0x80, 0x00].as_slice()),
+        (Number::UInt64(255), [0x50, 0xff].as_slice()),
+        (Number::UInt64(256), [0x50, 0x01, 0x00].as_slice()),
+        (Number::UInt64(65535), [0x50, 0xff, 0xff].as_slice()),
+        (
+            Number::UInt64(18446744073709551615),
+            [0x50, 0xff, 0xff, 0xff, 0xff, 0xff, 0xff, 0xff, 0xff].as_slice(),
+        ),
+        (
+            Number::Decimal64(Decimal64 {
+                scale: 2,
+                value: 1234,
+            }),
+            [0x70, 0, 0, 0, 0, 0, 0, 0x04, 0xd2, 0x02].as_slice(),
+        ),
+    ] {
+        let mut written = Vec::new(rt.alloc());
+        assert_eq!(rt; number.compact_encode(&mut written)?, payload.len());
+        assert_eq!(rt; written.as_slice(), payload);
+        assert_eq!(rt; number.compact_len(), payload.len());
+        assert!(rt; Number::decode(payload).is_ok());
+    }
+    Ok(())
+}
+
+#[test]
+fn extension_values_as_they_are_written(rt: HostRuntime) -> Result<(), Fail> {
+    assert!(rt; Opaque::new(0x40, b"").is_none());
+    assert!(rt; Opaque::new(0x41, b"").is_none());
+    assert!(rt; Opaque::new(0xf0, b"").is_some());
+    let Some(opaque) = Opaque::new(0x50, b"\xab\x01") else {
+        return Ok(());
+    };
+    for (value, payload) in [
+        (
+            ExtensionValue::Binary(b"\x01\x02\x03"),
+            [0x00, 1, 2, 3].as_slice(),
+        ),
+        (
+            ExtensionValue::Date(Date { value: -1 }),
+            [0x10, 0xff, 0xff, 0xff, 0xff].as_slice(),
+        ),
+        (
+            ExtensionValue::Timestamp(Timestamp { value: 1 }),
+            [0x20, 0, 0, 0, 0, 0, 0, 0, 1].as_slice(),
+        ),
+        (
+            ExtensionValue::Interval(Interval {
+                months: 10,
+                days: 20,
+                micros: 300,
+            }),
+            [0x40, 0, 0, 0, 10, 0, 0, 0, 20, 0, 0, 0, 0, 0, 0, 1, 44].as_slice(),
+        ),
+        (
+            ExtensionValue::Opaque(opaque),
+            [0x50, 0xab, 0x01].as_slice(),
+        ),
+    ] {
+        let mut written = Vec::new(rt.alloc());
+        assert_eq!(rt; value.compact_encode(&mut written)?, payload.len());
+        assert_eq!(rt; written.as_slice(), payload);
+        assert_eq!(rt; value.compact_len(), payload.len());
+        assert!(rt; ExtensionValue::decode(payload).is_ok());
+    }
+    Ok(())
+}

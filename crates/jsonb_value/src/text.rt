@@ -1,0 +1,209 @@
+//! The texts of numbers, strings and extension values.
+
+ghost use Rattle.std.specs.Prelude.{◌≡◌, ◌<◌, false, Some, position, flat_map};
+ghost use Rattle.std.specs.Fmt.{WritesStyledOnOk, digit_glyph};
+ghost use Rattle.jsonb_value.specs.ExtCode.{extension_of};
+ghost use Rattle.jsonb_value.specs.Tree.{timestamp_tz, interval};
+ghost use Rattle.jsonb_value.specs.Text.{number_text, decimal_text, pointed, hex_text, hex_byte, is_escaped, escape, byte_text, string_text, extension_text};
+
+use crate::extension::{ExtensionValue, Interval, TimestampTz};
+use crate::number::Number;
+use itoa::{Buffer, Integer};
+use std::fmt;
+
+#[cfg(test)]
+mod tests;
+
+/// Writes a number: a whole one in decimal, a decimal with as many digits behind the point as its
+/// scale says, and `-` exactly where the value is negative. Width and fill are passed over.
+pub fn write_number<W: fmt::Write>(number: &Number, f: &mut fmt::Formatter<W>) -> fmt::Result
+    ensures { WritesStyledOnOk W.write_str_gives f.old result (number_text number.now) f.new }
+{
+    match number {
+        Number::Int64(value) => write_whole(*value, f),
+        Number::UInt64(value) => write_whole(*value, f),
+        Number::Decimal64(decimal) => write_decimal(i128::from(decimal.value), decimal.scale, f),
+        Number::Decimal128(decimal) => write_decimal(decimal.value, decimal.scale, f),
+    }
+}
+
+/// Writes a string between quotes. `"`, `\` and the bytes below 0x20 are escaped, and all else
+/// stands as it is. Width and fill are passed over.
+#[tactic(auto, using(crate::proofs::Writing::joins))]
+pub fn write_string<W: fmt::Write>(text: &str, f: &mut fmt::Formatter<W>) -> fmt::Result
+    ensures { WritesStyledOnOk W.write_str_gives f.old result (string_text text.now) f.new }
+{
+    f.write_str("\"")?;
+    write_content(text, f)?;
+    f.write_str("\"")
+}
+
+/// Writes an extension value: bytes in lower-case hexadecimal, the others as whole numbers with
+/// single spaces between. In a document's text it stands between quotes, which are not written
+/// here. Width and fill are passed over.
+#[tactic(auto, using(crate::proofs::Writing::joins))]
+pub fn extension_text<W: fmt::Write>(
+    value: &ExtensionValue,
+    f: &mut fmt::Formatter<W>,
+) -> fmt::Result
+    ensures { WritesStyledOnOk W.write_str_gives f.old result (extension_text (extension_of value.now)) f.new }
+{
+    match value {
+        ExtensionValue::Binary(bytes) => write_hex(bytes, f),
+        ExtensionValue::Date(date) => write_whole(date.value, f),
+        ExtensionValue::Timestamp(timestamp) => write_whole(timestamp.value, f),
+        ExtensionValue::TimestampTz(zoned) => write_zoned(zoned, f),
+        ExtensionValue::Interval(interval) => write_interval(interval, f),
+        ExtensionValue::Opaque(opaque) => {
+            write_hex_byte(opaque.tag(), f)?;
+            write_hex(opaque.bytes(), f)
+        }
+    }
+}
+
+/// The text that `extension_text` writes.
+impl fmt::Display for ExtensionValue<'_> {
+    ghost output = { λ value. Some (extension_text (extension_of value)) };
+
+    ghost styled_output = { λ value _. Some (extension_text (extension_of value)) };
+
+    fn fmt<W: fmt::Write>(&self, f: &mut fmt::Formatter<W>) -> fmt::Result {
+        extension_text(self, f)
+    }
+}
+
+fn write_whole<I: Integer, W: fmt::Write>(value: I, f: &mut fmt::Formatter<W>) -> fmt::Result
+    ensures { WritesStyledOnOk W.write_str_gives f.old result (I.text value) f.new }
+{
+    f.write_str(Buffer::new().format(value))
+}
+
+#[tactic(auto, using(crate::proofs::Writing::joins))]
+fn write_decimal<W: fmt::Write>(value: i128, scale: u8, f: &mut fmt::Formatter<W>) -> fmt::Result
+    ensures { WritesStyledOnOk W.write_str_gives f.old result (decimal_text scale value) f.new }
+{
+    if scale == 0 {
+        return write_whole(value, f);
+    }
+    if value < 0 {
+        f.write_str("-")?;
+    }
+    write_fraction(value.unsigned_abs(), usize::from(scale), f)
+}
+
+// The magnitude of a decimal, with a point before its last digits.
+fn write_fraction<W: fmt::Write>(
+    magnitude: u128,
+    scale: usize,
+    f: &mut fmt::Formatter<W>,
+) -> fmt::Result
+    requires { 0 < scale }
+    ensures { WritesStyledOnOk W.write_str_gives f.old result (pointed scale magnitude) f.new }
+{
+    let mut buffer = Buffer::new();
+    let digits = buffer.format(magnitude);
+    if digits.len() > scale {
+        let (front, back) = digits.split_at(digits.len() - scale);
+        f.write_str(front)?;
+        f.write_str(".")?;
+        f.write_str(back)
+    } else {
+        f.write_str("0.")?;
+        f.write_repeated("0", scale - digits.len())?;
+        f.write_str(digits)
+    }
+}
+
+#[tactic(auto, using(crate::proofs::Writing::joins))]
+fn write_zoned<W: fmt::Write>(zoned: &TimestampTz, f: &mut fmt::Formatter<W>) -> fmt::Result
+    ensures { WritesStyledOnOk W.write_str_gives f.old result (extension_text (timestamp_tz zoned.now)) f.new }
+{
+    write_whole(zoned.value, f)?;
+    f.write_str(" ")?;
+    write_whole(zoned.offset, f)
+}
+
+#[tactic(auto, using(crate::proofs::Writing::joins))]
+fn write_interval<W: fmt::Write>(given: &Interval, f: &mut fmt::Formatter<W>) -> fmt::Result
+    ensures { WritesStyledOnOk W.write_str_gives f.old result (extension_text (interval given.now)) f.new }
+{
+    write_whole(given.months, f)?;
+    f.write_str(" ")?;
+    write_whole(given.days, f)?;
+    f.write_str(" ")?;
+    write_whole(given.micros, f)
+}
+
+fn write_hex<W: fmt::Write>(bytes: &[u8], f: &mut fmt::Formatter<W>) -> fmt::Result
+    ensures { WritesStyledOnOk W.write_str_gives f.old result (hex_text bytes.now) f.new }
+{
+    'bytes: for byte in bytes {
+        write_hex_byte(*byte, f)?;
+    }
+    Ok(())
+}
+
+#[tactic(auto, using(crate::proofs::Writing::joins))]
+fn write_hex_byte<W: fmt::Write>(byte: u8, f: &mut fmt::Formatter<W>) -> fmt::Result
+    ensures { WritesStyledOnOk W.write_str_gives f.old result (hex_byte byte) f.new }
+{
+    f.write_char(hex_digit(byte / 16))?;
+    f.write_char(hex_digit(byte % 16))
+}
+
+fn hex_digit(digit: u8) -> char
+    requires { digit < 16 }
+    ensures value { result ≡ digit_glyph false digit }
+    ensures ascii { result < 128 }
+{
+    char::from(if digit < 10 {
+        b'0' + digit
+    } else {
+        b'a' + (digit - 10)
+    })
+}
+
+// A string without its quotes: what needs no escape is written in runs.
+fn write_content<W: fmt::Write>(text: &str, f: &mut fmt::Formatter<W>) -> fmt::Result
+    ensures { WritesStyledOnOk W.write_str_gives f.old result (flat_map byte_text text.now) f.new }
+{
+    let mut rest = text;
+    'runs: while let Some(at) = first_escaped(rest) {
+        f.write_str(&rest[..at])?;
+        write_escape(rest.as_bytes()[at], f)?;
+        rest = &rest[at + 1..];
+    }
+    f.write_str(rest)
+}
+
+fn first_escaped(text: &str) -> Option<usize>
+    ensures { result ≡ position is_escaped text.now }
+{
+    text.as_bytes().iter().position(|byte| is_escaped(*byte))
+}
+
+fn is_escaped(byte: u8) -> bool
+    ensures { result ≡ is_escaped byte }
+{
+    byte == b'"' || byte == b'\\' || byte < 0x20
+}
+
+#[tactic(auto, using(crate::proofs::Writing::joins))]
+fn write_escape<W: fmt::Write>(byte: u8, f: &mut fmt::Formatter<W>) -> fmt::Result
+    requires { byte < 128 }
+    ensures { WritesStyledOnOk W.write_str_gives f.old result (escape byte) f.new }
+{
+    match byte {
+        b'"' => f.write_str("\\\""),
+        b'\\' => f.write_str("\\\\"),
+        0x08 => f.write_str("\\b"),
+        0x09 => f.write_str("\\t"),
+        0x0A => f.write_str("\\n"),
+        0x0C => f.write_str("\\f"),
+        0x0D => f.write_str("\\r"),
+        _ => {
+            f.write_str("\\u00")?;
+            write_hex_byte(byte, f)
+        }
+    }
+}
