@@ -161,24 +161,27 @@ const FAULTS: [(&str, &str, &str); 38] = [
     ),
 ];
 
+// What a decoder answers when it is asked again: it has no bytes after it was answered, and the
+// same bytes after a refusal.
+fn asked_again(first: &str) -> &str {
+    if first == "ok" { "InvalidJsonb" } else { first }
+}
+
+// Whether the bytes are a document, and what both readers answer, the decoder twice.
+fn answers(alloc: Global, text: &str) -> Result<(bool, [&'static str; 3]), Fail> {
+    let bytes = bytes_of(alloc, text)?;
+    let tree = name_of(&value_of(alloc, &bytes));
+    let mut reader = Decoder::new(&bytes);
+    let first = name_of(&reader.decode(alloc));
+    let again = name_of(&reader.decode(alloc));
+    Ok((is_document(&bytes), [tree, first, again]))
+}
+
 #[test]
 fn first_faults(rt: HostRuntime) -> Result<(), Fail> {
     for (text, tree, decoder) in FAULTS {
-        let bytes = bytes_of(rt.alloc(), text)?;
-        let answer = value_of(rt.alloc(), &bytes);
-        assert_eq!(rt; name_of(&answer), tree, "value_of {text}");
-        let mut reader = Decoder::new(&bytes);
-        let answer = reader.decode(rt.alloc());
-        assert_eq!(rt; name_of(&answer), decoder, "decode {text}");
-        // A decoder has no bytes after it was answered, and the same bytes after a refusal.
-        let again = if decoder == "ok" {
-            "InvalidJsonb"
-        } else {
-            decoder
-        };
-        let answer = reader.decode(rt.alloc());
-        assert_eq!(rt; name_of(&answer), again, "decode again {text}");
-        assert_eq!(rt; is_document(&bytes), decoder == "ok", "is_document {text}");
+        let expected = (decoder == "ok", [tree, decoder, asked_again(decoder)]);
+        assert_eq!(rt; answers(rt.alloc(), text)?, expected, "{text}");
     }
     Ok(())
 }

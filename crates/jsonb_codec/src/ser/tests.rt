@@ -186,33 +186,48 @@ fn borrowings<'a>(alloc: Global, text: &'a str, count: usize) -> Result<Value<'a
     Ok(Value::Array(items))
 }
 
+// The length of the document of that many of the bytes as binary data.
+fn binary_length(bytes: &[u8], count: usize) -> Option<Result<usize, Error>> {
+    let binary = Value::Binary(bytes.get(..count)?);
+    Some(Encoder::measure(&binary))
+}
+
 #[test]
-fn limits(rt: HostRuntime) -> Result<(), Fail> {
-    let alloc = rt.alloc();
-    let letters = vec![in alloc; b'a'; MEBIBYTES_16]?;
-    let text = str::from_utf8(&letters)?;
-    let top = borrowings(alloc, text, 16)?;
-    assert_eq!(rt; Encoder::measure(&top), Ok(268_435_524));
-    let mut buf = Vec::new(alloc);
-    Encoder::new(&mut buf).encode(&top)?;
-    assert_eq!(rt; buf.len(), 268_435_524);
-
+fn limit_of_binary_data(rt: HostRuntime) -> Result<(), Fail> {
+    let letters = vec![in rt.alloc(); b'a'; 268_435_455]?;
     // Behind the tag of a binary value one byte less has room than a payload holds.
-    let binary = Value::Binary(&buf[..268_435_455]);
-    assert_eq!(rt; Encoder::measure(&binary), Err(Error::InvalidJsonb));
-    let binary = Value::Binary(&buf[..268_435_454]);
-    assert_eq!(rt; Encoder::measure(&binary), Ok(268_435_463));
-
-    let nested = Value::Array(vec![in alloc; top]?);
-    assert_eq!(rt; Encoder::measure(&nested), Err(Error::InvalidJsonb));
-    let mut buf = vec![in alloc; 0xaa]?;
     assert_eq!(rt;
-        Encoder::new(&mut buf).encode(&nested),
-        Err(Error::InvalidJsonb)
+        binary_length(&letters, 268_435_455),
+        Some(Err(Error::InvalidJsonb))
     );
-    assert_eq!(rt; hex(alloc, &buf)?.as_str(), "aa");
-    let nested = Value::Array(vec![in alloc; borrowings(alloc, text, 15)?]?);
+    assert_eq!(rt; binary_length(&letters, 268_435_454), Some(Ok(268_435_463)));
+    Ok(())
+}
+
+#[test]
+fn limit_of_an_outer_array(rt: HostRuntime) -> Result<(), Fail> {
+    let letters = vec![in rt.alloc(); b'a'; MEBIBYTES_16]?;
+    let text = str::from_utf8(&letters)?;
+    let top = borrowings(rt.alloc(), text, 16)?;
+    let mut buf = Vec::new(rt.alloc());
+    Encoder::new(&mut buf).encode(&top)?;
+    assert_eq!(rt; Encoder::measure(&top), Ok(268_435_524));
+    assert_eq!(rt; buf.len(), 268_435_524);
+    Ok(())
+}
+
+#[test]
+fn limit_of_an_inner_array(rt: HostRuntime) -> Result<(), Fail> {
+    let letters = vec![in rt.alloc(); b'a'; MEBIBYTES_16]?;
+    let text = str::from_utf8(&letters)?;
+    let nested = Value::Array(vec![in rt.alloc(); borrowings(rt.alloc(), text, 15)?]?);
     assert_eq!(rt; Encoder::measure(&nested), Ok(251_658_312));
+    let nested = Value::Array(vec![in rt.alloc(); borrowings(rt.alloc(), text, 16)?]?);
+    assert_eq!(rt; Encoder::measure(&nested), Err(Error::InvalidJsonb));
+    let mut buf = vec![in rt.alloc(); 0xaa]?;
+    let refused = Encoder::new(&mut buf).encode(&nested);
+    assert_eq!(rt; refused, Err(Error::InvalidJsonb));
+    assert_eq!(rt; hex(rt.alloc(), &buf)?.as_str(), "aa");
     Ok(())
 }
 
