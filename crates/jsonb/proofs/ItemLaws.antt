@@ -9,7 +9,7 @@ use Rattle.jsonb_codec.specs.Word.{word, header_at}
 use Rattle.jsonb_codec.specs.Doc.{Doc, Scalar, Payload, type_of}
 use Rattle.jsonb.specs.declared.item.JsonbItem.{JsonbItem}
 use Rattle.jsonb.specs.Steps.{◌>>=◌}
-use Rattle.jsonb.specs.Shown.{Shown, null, boolean, number, text, extension, raw, shown, shown_item}
+use Rattle.jsonb.specs.Shown.{Shown, null, boolean, number, text, extension, raw, owned, shown, shown_item}
 use Rattle.jsonb.specs.Item.{Entry, item_of, number_found, extension_found, text_item, part_at, entry_at, item_at, scalar_item, item_under, item_in}
 use Rattle.jsonb.specs.Code.{Means, HasCode, stored, CanBeStored, scalar_bytes}
 use Rattle.jsonb.specs.Walked.{IsItemOf, IsItemIn}
@@ -109,3 +109,13 @@ item_in-Doc b t (inr (is, h)) = (raw b, (item_in-container b t is h, (inr (is, r
 pub shown_ok : (r : Result JsonbItem Error) (x : Shown) (P : Shown → Type 0) → shown_item r ≡ Ok x → P x → IsOkAnd r (λ item. P (shown item))
 shown_ok (Ok item) x P e h = let same : shown item ≡ x = cc in subst P (sym same) h
 shown_ok (Err e) x P q h = let different : ⊥ = cc in different
+
+-- the item of an entry can be stored
+pub IsItemOf-CanBeStored : (t : Tree) (x : Shown) → IsItemOf t x → CanBeStored x
+IsItemOf-CanBeStored t null item = tt
+IsItemOf-CanBeStored t (boolean b) item = tt
+IsItemOf-CanBeStored t (number given n) item = subst (λ (p : List ℕ). length p < 2 ^ 28) item.code.1 item.short
+IsItemOf-CanBeStored t (text s) item = subst (λ (p : List ℕ). length p < 2 ^ 28) item.code.1 item.short
+IsItemOf-CanBeStored t (extension given e) item = subst (λ (p : List ℕ). length p < 2 ^ 28) item.code.1 item.short
+IsItemOf-CanBeStored t (raw b) item = tt
+IsItemOf-CanBeStored t (owned b) item = tt

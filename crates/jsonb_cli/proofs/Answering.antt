@@ -1,19 +1,34 @@
 -- What the commands answer.
-use Rattle.std.proofs.Common.{◌≡◌, ◌⊎◌, ℕ, List, inl, inr, ap, chars}
+use Rattle.std.proofs.Common.{◌≡◌, ◌⊎◌, ℕ, List, Option, Some, None, Result, Ok, Err, refl, inl, inr, ap, subst, chars, option_map}
+use Rattle.std.specs.Prelude.{IfErr, OnOk}
+use Rattle.hex.specs.Hex.{encode_lower}
 use Rattle.std.specs.Str.{IsUtf8}
 use Rattle.jsonb_value.specs.ErrorName.{name_of}
 use Rattle.jsonb_value.specs.declared.error.Error.{Error}
 use Rattle.jsonb_value.specs.declared.error.Error.TheVariants.{InvalidJson, InvalidJsonb, OutOfMemory}
 use Rattle.jsonb_value.specs.Json.Syntax.{Json}
 use Rattle.jsonb_value.specs.Tree.{Tree}
+use Rattle.jsonb_value.specs.Tree as trees
+use Rattle.jsonb_value.specs.Value.{cow_bytes}
+use Rattle.std.specs.Cow.{cow_str_bytes}
+use Rattle.std.specs.declared.alloc.Global.{Global}
+use Rattle.std.specs.declared.borrow.CowStr.{CowStr}
+use Rattle.std.specs.declared.borrow.CowStr.TheVariants.{Borrowed, Owned}
 use Rattle.jsonb_codec.specs.Canon.{Fits}
-use Rattle.jsonb_codec.specs.Doc.{IsDocument}
+use Rattle.jsonb_codec.specs.Doc.{Doc, IsDocument}
+use Rattle.jsonb.specs.Code.{stored}
+use Rattle.jsonb.specs.Lookup.{IsItemFound}
+use Rattle.jsonb.specs.declared.item.JsonbItem.{JsonbItem}
+use Rattle.jsonb.specs.Shown.{Shown, shown}
+use Rattle.jsonb.specs.Walked.{IsItemOf}
+use Rattle.jsonb_cli.specs.declared.answer.Answer.{Answer}
 use Rattle.jsonb_cli.specs.declared.answer.Refusal.{Refusal}
 use Rattle.jsonb_cli.specs.declared.answer.Refusal.TheVariants.{BadHex, Call}
-use Rattle.jsonb_cli.specs.AnswerLine.{error_line, refusal_name}
-use Rattle.jsonb_cli.specs.Answers.{IsReply, IsEncAnswer, no_tree, too_large, IsDecAnswer, bad_hex, no_document, IsHexOf}
+use Rattle.jsonb_cli.specs.AnswerLine.{ok_line, error_line, refusal_name, outcome_line}
+use Rattle.jsonb_cli.specs.Answers as answers
+use Rattle.jsonb_cli.specs.Answers.{IsReply, IsEncAnswer, no_tree, too_large, IsDecAnswer, IsGetAnswer, no_name, IsName, value_of_key, bad_hex, no_document, IsHexOf}
 
-abbrev said_of : Error → List ℕ
+abbrev pub said_of : Error → List ℕ
 said_of e = error_line (name_of e)
 
 pub enc_unparsed : (text : List ℕ) (e : Error) → IsUtf8 text → (e ≡ InvalidJson) ⊎ (e ≡ OutOfMemory) → (e ≡ InvalidJson → (t : Tree) → Json (chars text) t → ⊥)
@@ -35,3 +50,35 @@ pub dec_unprinted : (word bytes : List ℕ) (e : Error) → IsHexOf bytes word �
     → IsReply IsDecAnswer word (error_line (name_of e))
 dec_unprinted word bytes e is_hex (inl is) none = inl (no_document bytes is_hex (none is) (ap said_of is))
 dec_unprinted word bytes e is_hex (inr is) none = inr (ap said_of is)
+
+pub get_unnamed : (word key bytes : List ℕ) (e : Error) → IsHexOf bytes word → IsUtf8 key → (e ≡ InvalidJson) ⊎ (e ≡ OutOfMemory)
+    → (e ≡ InvalidJson → (name : List ℕ) → Json (chars key) (trees.text name) → ⊥) → IsReply (IsGetAnswer word) key (error_line (name_of e))
+get_unnamed word key bytes e is_hex utf8 (inl is) none = inl (no_name bytes is_hex utf8 (λ name named. none is name named.1) (ap said_of is))
+get_unnamed word key bytes e is_hex utf8 (inr is) none = inr (ap said_of is)
+
+pub get_found : (word key bytes name : List ℕ) (t u : Tree) (x : Shown) (result : Result Answer Refusal) → IsHexOf bytes word → IsName name key → Doc bytes t
+    → value_of_key name t ≡ Some u → IsItemOf u x → OnOk result (outcome_line result ≡ ok_line (encode_lower (stored x)))
+    → IfErr result (λ refusal. refusal ≡ Call OutOfMemory) → IsReply (IsGetAnswer word) key (outcome_line result)
+get_found word key bytes name t u x (Ok answer) is_hex named means is item ok refused = inl (answers.found bytes name t u x is_hex named means is item ok)
+get_found word key bytes name t u x (Err refusal) is_hex named means is item ok refused = inr (ap (λ r. error_line (refusal_name r)) refused)
+
+-- what a look-up has found is an item of a value
+item_shown : (value : Option Tree) (x : Shown) → IsItemFound value (Some x) → (u : Tree) × ((value ≡ Some u) × IsItemOf u x)
+item_shown (Some u) x item = (u, (refl, item))
+item_shown None x none = absurd none
+
+pub item_found : (value : Option Tree) (found : Option JsonbItem) (item : JsonbItem) → found ≡ Some item → IsItemFound value (option_map shown found)
+    → (u : Tree) × ((value ≡ Some u) × IsItemOf u (shown item))
+item_found value found item is means = item_shown value (shown item) (subst (λ (o : Option JsonbItem). IsItemFound value (option_map shown o)) is means)
+
+nothing_shown : (value : Option Tree) → IsItemFound value None → value ≡ None
+nothing_shown None none = refl
+nothing_shown (Some u) none = absurd none
+
+pub nothing_found : (value : Option Tree) (found : Option JsonbItem) → found ≡ None → IsItemFound value (option_map shown found) → value ≡ None
+nothing_found value found is means = nothing_shown value (subst (λ (o : Option JsonbItem). IsItemFound value (option_map shown o)) is means)
+
+-- the bytes of a text, in either word for them
+pub cow_str_bytes-cow_bytes : (s : CowStr Global) → cow_str_bytes s ≡ cow_bytes s
+cow_str_bytes-cow_bytes (Borrowed s) = refl
+cow_str_bytes-cow_bytes (Owned s) = refl

@@ -1,14 +1,25 @@
 -- Which line answers a line.
-use Rattle.std.specs.Prelude.{◌≡◌, ◌⊎◌, ℕ, List, codes, chars, Ok}
+use Rattle.std.specs.Prelude.{◌≡◌, ◌⊎◌, ◌++◌, ◌∷◌, ℕ, List, length, nat_eq, codes, chars, Option, Some, None, Result, Ok, Err}
+use Rattle.std.specs.Cmp.Lexicographic.{pointwise}
+use Rattle.std.specs.Fmt.{decimal}
 use Rattle.std.specs.Str.{IsUtf8}
 use Rattle.hex.specs.Hex.{decode_of, encode_lower}
 use Rattle.jsonb_value.specs.ErrorName.{name_of}
+use Rattle.jsonb_value.specs.declared.error.Error.{Error}
 use Rattle.jsonb_value.specs.declared.error.Error.TheVariants.{InvalidJson, InvalidJsonb, InvalidUtf8, OutOfMemory}
 use Rattle.jsonb_value.specs.Json.Syntax.{Json}
 use Rattle.jsonb_value.specs.Text.{compact}
 use Rattle.jsonb_value.specs.Tree.{Tree}
+use Rattle.jsonb_value.specs.Tree as trees
 use Rattle.jsonb_codec.specs.Canon.{canon as canonical, Fits}
 use Rattle.jsonb_codec.specs.Doc.{Doc, IsDocument}
+use Rattle.jsonb.specs.Code.{stored}
+use Rattle.jsonb.specs.Kind.{kind}
+use Rattle.jsonb.specs.Lookup.{find}
+use Rattle.jsonb.specs.Shown.{Shown}
+use Rattle.jsonb.specs.Walked.{IsItemOf}
+use Rattle.jsonb.specs.declared.item_type.JsonbItemType.{JsonbItemType}
+use Rattle.jsonb.specs.declared.item_type.JsonbItemType.TheVariants.{Null, Boolean, Number, String, Extension, Array, Object}
 use Rattle.jsonb_cli.specs.AnswerLine.{ok_line, error_line}
 use Rattle.jsonb_cli.specs.Commands.{Form, enc, dec, pretty, item_type, get, cmp, arr, canon, IsOfForm}
 
@@ -33,13 +44,53 @@ pub data IsDecAnswer (word answer : List ℕ) : Type 0 where
   no_document : (bytes : List ℕ) → IsHexOf bytes word → (IsDocument bytes → ⊥) → answer ≡ error_line (name_of InvalidJsonb) → IsDecAnswer word answer
   printed : (bytes : List ℕ) (t : Tree) → IsHexOf bytes word → Doc bytes t → answer ≡ ok_line (compact t) → IsDecAnswer word answer
 
+-- the words for a kind
+abbrev pub kind_words : JsonbItemType → List ℕ
+kind_words Null = codes "null"
+kind_words Boolean = codes "boolean"
+kind_words Number = codes "number"
+kind_words String = codes "string"
+kind_words Extension = codes "extension"
+kind_words (Array count) = codes "array" ++ 32 ∷ decimal count
+kind_words (Object count) = codes "object" ++ 32 ∷ decimal count
+
+abbrev pub kind_line : Result JsonbItemType Error → List ℕ
+kind_line (Ok k) = ok_line (kind_words k)
+kind_line (Err e) = error_line (name_of e)
+
+-- The answer to `type`: the kind that the bytes show, or why they show none.
+pub data IsTypeAnswer (word answer : List ℕ) : Type 0 where
+  bad_hex : ((bytes : List ℕ) → IsHexOf bytes word → ⊥) → answer ≡ error_line (codes "BadHex") → IsTypeAnswer word answer
+  told : (bytes : List ℕ) → IsHexOf bytes word → answer ≡ kind_line (kind bytes) → IsTypeAnswer word answer
+
+-- The text of the key spells this name.
+abbrev pub IsName : List ℕ → List ℕ → Type 0
+IsName name key = IsUtf8 key × Json (chars key) (trees.text name)
+
+-- the value of the first key that is the name
+abbrev pub value_of_key : List ℕ → Tree → Option Tree
+value_of_key name t = find (pointwise nat_eq name) (length name) t
+
+-- The answer to `get`: the value of the key as a document of its own, with the payload that it has there, or why there is none.
+pub data IsGetAnswer (word key answer : List ℕ) : Type 0 where
+  bad_hex : ((bytes : List ℕ) → IsHexOf bytes word → ⊥) → answer ≡ error_line (codes "BadHex") → IsGetAnswer word key answer
+  not_text : (bytes : List ℕ) → IsHexOf bytes word → (IsUtf8 key → ⊥) → answer ≡ error_line (name_of InvalidUtf8) → IsGetAnswer word key answer
+  no_name : (bytes : List ℕ) → IsHexOf bytes word → IsUtf8 key → ((name : List ℕ) → IsName name key → ⊥) → answer ≡ error_line (name_of InvalidJson)
+      → IsGetAnswer word key answer
+  no_document : (bytes name : List ℕ) → IsHexOf bytes word → IsName name key → (IsDocument bytes → ⊥) → answer ≡ error_line (name_of InvalidJsonb)
+      → IsGetAnswer word key answer
+  none : (bytes name : List ℕ) (t : Tree) → IsHexOf bytes word → IsName name key → Doc bytes t → value_of_key name t ≡ None → answer ≡ ok_line (codes "none")
+      → IsGetAnswer word key answer
+  found : (bytes name : List ℕ) (t u : Tree) (x : Shown) → IsHexOf bytes word → IsName name key → Doc bytes t → value_of_key name t ≡ Some u → IsItemOf u x
+      → answer ≡ ok_line (encode_lower (stored x)) → IsGetAnswer word key answer
+
 -- the answer to a command
 abbrev pub IsFormAnswer : Form → List ℕ → Type 0
 IsFormAnswer (enc text) = IsEncAnswer text
 IsFormAnswer (dec word) = IsDecAnswer word
 IsFormAnswer (pretty word) = IsBadCommand
-IsFormAnswer (item_type word) = IsBadCommand
-IsFormAnswer (get word key) = IsBadCommand
+IsFormAnswer (item_type word) = IsTypeAnswer word
+IsFormAnswer (get word key) = IsGetAnswer word key
 IsFormAnswer (cmp left right) = IsBadCommand
 IsFormAnswer (arr words) = IsBadCommand
 IsFormAnswer (canon word) = IsBadCommand

@@ -14,6 +14,7 @@ ghost use Rattle.jsonb_cli.specs.AnswerLine.{outcome_line};
 ghost use Rattle.jsonb_cli.specs.Answers.{IsEncAnswer, IsDecAnswer, IsFormAnswer, IsReply, IsLineReply, IsHexOf};
 
 use crate::answer::{Answer, Refusal};
+use crate::calls::{answer_get, answer_type};
 use crate::text::value_text;
 use crate::words::{Words, split_word};
 use hex::FromHexError;
@@ -103,12 +104,11 @@ impl Command<'_> {
         match self {
             Command::Enc(text) => answer_enc(alloc, text),
             Command::Dec(word) => answer_dec(alloc, word),
-            Command::Pretty(_)
-            | Command::ItemType(_)
-            | Command::Get { .. }
-            | Command::Cmp { .. }
-            | Command::Arr(_)
-            | Command::Canon(_) => Err(Refusal::BadCommand),
+            Command::ItemType(word) => answer_type(alloc, word),
+            Command::Get { document, key } => answer_get(alloc, document, key),
+            Command::Pretty(_) | Command::Cmp { .. } | Command::Arr(_) | Command::Canon(_) => Err(
+                Refusal::BadCommand,
+            ),
         }
     }
 }

@@ -2,6 +2,7 @@
 #![tactic(auto)]
 
 mod answer;
+mod calls;
 mod command;
 mod run;
 #[cfg(test)]

@@ -242,7 +242,33 @@ fn answers_commands(rt: HostRuntime) -> Result<(), Fail> {
         ("dec 20000000200000024000", "ok 0"),
         ("dec 200000002000000250FF", "ok 255"),
         ("dec 200000006000000350ab01", r#"ok "50ab01""#),
+        ("type 2000000000000000", "ok null"),
+        ("type 3132333435363738", "ok boolean"),
+        ("type 200000002000000100", "ok number"),
+        ("type 2000000010000000", "ok string"),
+        ("type 200000006000000150", "ok extension"),
+        ("type 9fffffff", "ok array 536870911"),
+        ("type 40000000", "ok object 0"),
+        (r#"get 40000000 "a""#, "ok none"),
     ] {
+        let said = line_of(rt.alloc(), answer(rt.alloc(), line.as_bytes()))?;
+        assert_eq!(rt; said.as_str().trim_end(), expected);
+    }
+    Ok(())
+}
+
+// The object {"aa":1,"ab":[2]}.
+const OBJECT: &str = "400000021000000210000002200000025000000a616161625001800000012000000250\
+02";
+
+#[test]
+fn finds_values(rt: HostRuntime) -> Result<(), Fail> {
+    for (key, expected) in [
+        (r#""ab""#, "ok 80000001200000025002"),
+        (r#" "\u0061a" "#, "ok 20000000200000025001"),
+        (r#""zz""#, "ok none"),
+    ] {
+        let line = format!(in rt.alloc(); "get {OBJECT} {key}")?;
         let said = line_of(rt.alloc(), answer(rt.alloc(), line.as_bytes()))?;
         assert_eq!(rt; said.as_str().trim_end(), expected);
     }
@@ -261,7 +287,15 @@ fn refuses_commands(rt: HostRuntime) -> Result<(), Fail> {
         ("dec ", "error InvalidJsonb"),
         ("dec 8", "error BadHex"),
         ("dec 80000000\r", "error BadHex"),
-        (r#"get 40000000 "a""#, "error BadCommand"),
+        ("type ", "error InvalidEOF"),
+        ("type", "error BadCommand"),
+        ("type 00000000", "error InvalidJsonb"),
+        ("type zz", "error BadHex"),
+        (r#"get 8 "a""#, "error BadHex"),
+        ("get 40000000 a", "error InvalidJson"),
+        ("get 40000000 1", "error InvalidJson"),
+        (r#"get 01020304 "a""#, "error InvalidJsonb"),
+        ("get 40000000", "error BadCommand"),
     ] {
         let said = line_of(rt.alloc(), answer(rt.alloc(), line.as_bytes()))?;
         assert_eq!(rt; said.as_str().trim_end(), expected);

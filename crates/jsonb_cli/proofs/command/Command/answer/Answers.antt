@@ -5,3 +5,9 @@ returns-in-Enc c = rw c.in-Enc.is c.answer_enc.ensures
 
 pub returns-in-Dec : goal.returns-in-Dec
 returns-in-Dec c = rw c.in-Dec.is c.answer_dec.ensures
+
+pub returns-in-ItemType : goal.returns-in-ItemType
+returns-in-ItemType c = rw c.in-ItemType.is c.answer_type.ensures
+
+pub returns-in-Get : goal.returns-in-Get
+returns-in-Get c = rw c.in-Get.is c.answer_get.ensures

@@ -1,0 +1,17 @@
+#!/bin/sh
+# Times the library beside the Rust crate: run.sh BASELINE, a cargo project of the crate's own core named crate_baseline.
+set -eu
+here=$(cd "$(dirname "$0")" && pwd)
+baseline=$(cd "$1" && pwd)
+kit=$(dirname "$(rt doc)")
+scratch=$(mktemp -d)
+trap 'rm -rf "$scratch"' EXIT
+cp -r "$here/../crates" "$here/../crates.txt" "$scratch"
+echo "measured staticlib: jsonb jsonb_value jsonb_codec" >> "$scratch/crates.txt"
+mkdir -p "$scratch/crates/measured/src" "$baseline/examples"
+cp "$here/measured.rt" "$scratch/crates/measured/src/lib.rt"
+cp "$here/driver.rs" "$baseline/examples/driver.rs"
+(cd "$scratch" && git init -q && cd crates/measured && rt check && rt lib)
+cd "$baseline"
+RUSTFLAGS="-C target-cpu=x86-64-v2 -C link-arg=$scratch/crates/measured/out/libmeasured.a -C link-arg=$kit/c/liblibc_c.a -C link-arg=$kit/c/libos_c.a" \
+    cargo run --release --offline --example driver

@@ -1,0 +1,128 @@
+//! What the commands ask of the library.
+
+ghost use Rattle.std.specs.Prelude.{◌≡◌, ◌⊎◌, ℕ, List, nat_eq, length, chars, option_map, IfOk, IfErr, IfSome, IfNone, OnOk, IsOkAnd};
+ghost use Rattle.std.specs.Cmp.Lexicographic.{pointwise};
+ghost use Rattle.hex.specs.Hex.{encode_lower};
+ghost use Rattle.jsonb_value.specs.declared.error.Error.TheVariants.{OutOfMemory};
+ghost use Rattle.jsonb_value.specs.Json.Syntax.{Json};
+ghost use Rattle.jsonb_value.specs.Tree.{Tree, text};
+ghost use Rattle.jsonb_value.specs.Value.{cow_bytes, tree_of};
+ghost use Rattle.jsonb_codec.specs.Doc.{Doc, IsDocument};
+ghost use Rattle.jsonb.specs.Code.{stored, CanBeStored};
+ghost use Rattle.jsonb.specs.Lookup.{find, IsItemFound};
+ghost use Rattle.jsonb.specs.Shown.{shown};
+ghost use Rattle.jsonb_cli.specs.AnswerLine.{answer_words, ok_line, outcome_line};
+ghost use Rattle.jsonb_cli.specs.Answers.{IsTypeAnswer, IsGetAnswer, IsReply, kind_words};
+
+use crate::answer::{Answer, Refusal};
+use crate::command::decoded;
+use jsonb::{JsonbItem, JsonbItemType, OwnedJsonb, RawJsonb};
+use jsonb_value::{Error, Value, parse_value};
+use std::alloc::Global;
+use std::borrow::CowStr;
+use std::str;
+
+/// The kind that some bytes show.
+pub fn answer_type(alloc: Global, word: &[u8]) -> Result<Answer, Refusal>
+    ensures { IsReply IsTypeAnswer word.now (outcome_line result) }
+{
+    let bytes = decoded(alloc, word)?;
+    match RawJsonb::new(&bytes).jsonb_item_type() {
+        Ok(kind) => Ok(kind_answer(kind)),
+        Err(error) => Err(Refusal::Call(error)),
+    }
+}
+
+// The words for a kind.
+fn kind_answer(kind: JsonbItemType) -> Answer
+    ensures { answer_words result ≡ kind_words kind }
+{
+    match kind {
+        JsonbItemType::Null => Answer::Word("null"),
+        JsonbItemType::Boolean => Answer::Word("boolean"),
+        JsonbItemType::Number => Answer::Word("number"),
+        JsonbItemType::String => Answer::Word("string"),
+        JsonbItemType::Extension => Answer::Word("extension"),
+        JsonbItemType::Array(count) => Answer::Counted("array", count),
+        JsonbItemType::Object(count) => Answer::Counted("object", count),
+    }
+}
+
+/// The value of a key, as a document of its own.
+pub fn answer_get(alloc: Global, word: &[u8], key: &[u8]) -> Result<Answer, Refusal>
+    ensures { IsReply (IsGetAnswer word.now) key.now (outcome_line result) }
+{
+    let bytes = decoded(alloc, word)?;
+    let Ok(json) = str::from_utf8(key) else {
+        return Err(Refusal::Call(Error::InvalidUtf8));
+    };
+    let name = match parse_name(alloc, json) {
+        Ok(name) => name,
+        Err(error) => return Err(Refusal::Call(error)),
+    };
+    match value_named(&bytes, &name) {
+        Ok(Some(item)) => stored_answer(alloc, item),
+        Ok(None) => Ok(Answer::Word("none")),
+        Err(error) => Err(Refusal::Call(error)),
+    }
+}
+
+// The bytes that an item becomes.
+fn stored_answer(alloc: Global, item: JsonbItem) -> Result<Answer, Refusal>
+    ensures ok { OnOk result (outcome_line result ≡ ok_line (encode_lower (stored (shown item.entry)))) }
+    ensures memory { CanBeStored (shown item.entry) → IfErr result (λ refusal. refusal ≡ Refusal.Call OutOfMemory) }
+{
+    match OwnedJsonb::from_item(alloc, item) {
+        Ok(document) => Ok(Answer::Hex(document.to_vec())),
+        Err(error) => Err(Refusal::Call(error)),
+    }
+}
+
+// The name that a JSON text spells.
+fn parse_name<'a>(alloc: Global, json: &'a str) -> Result<CowStr<'a>, Error>
+    ensures ok { IfOk result (λ name. Json (chars json.now) (text (cow_bytes name))) }
+    ensures none { IfErr result (λ e. e ≡ Error.InvalidJson
+        → (name : List ℕ) → Json (chars json.now) (text name) → ⊥) }
+    ensures only { IfErr result (λ e. (e ≡ Error.InvalidJson) ⊎ (e ≡ Error.OutOfMemory)) }
+{
+    match parse_value(alloc, json) {
+        Ok(value) => string_of(value).ok_or(Error::InvalidJson),
+        Err(error) => Err(error),
+    }
+}
+
+// The text of a string.
+fn string_of<'a>(value: Value<'a>) -> Option<CowStr<'a>>
+    ensures some { IfSome result (λ name. tree_of value.entry ≡ text (cow_bytes name)) }
+    ensures none { IfNone result ((name : List ℕ) → tree_of value.entry ≡ text name → ⊥) }
+{
+    match value {
+        Value::String(name) => Some(name),
+        Value::Null
+        | Value::Bool(_)
+        | Value::Number(_)
+        | Value::Binary(_)
+        | Value::Date(_)
+        | Value::Timestamp(_)
+        | Value::TimestampTz(_)
+        | Value::Interval(_)
+        | Value::Opaque(_)
+        | Value::Array(_)
+        | Value::Object(_) => None,
+    }
+}
+
+// The value of the key of this name. `InvalidJsonb` where the bytes are no document.
+fn value_named<'a>(bytes: &'a [u8], name: &str) -> Result<Option<JsonbItem<'a>>, Error>
+    ensures found { (t : Tree) → Doc bytes.now t
+        → IsOkAnd result (λ item. IsItemFound (find (pointwise nat_eq name.now) (length name.now) t)
+        (option_map shown item)) }
+    ensures none { IfErr result (λ e. (e ≡ Error.InvalidJsonb) × (IsDocument bytes.now → ⊥)) }
+    ensures some { IfOk result (λ item. IsDocument bytes.now) }
+{
+    let raw = RawJsonb::new(bytes);
+    if !raw.is_document() {
+        return Err(Error::InvalidJsonb);
+    }
+    raw.get_object_value_by_key_name(name, |wanted, key| wanted == key)
+}
