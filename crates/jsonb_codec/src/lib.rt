@@ -6,12 +6,14 @@ pub mod constants;
 mod de;
 mod document;
 mod jentry;
+mod reread;
 mod ser;
 mod word;
 
-pub use canonical::is_canonical;
+pub use canonical::{append_canonical, is_canonical};
 pub use de::{Decoder, value_of};
 pub use document::{document_laws, is_document, is_document_within};
 pub use jentry::JEntry;
+pub use reread::printed_text_laws;
 pub use ser::{Encoder, JsonAstEncoder};
 pub use word::{read_header, read_jentry, read_word};
