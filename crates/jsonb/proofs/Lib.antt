@@ -9,3 +9,4 @@ pub mod HeldLaws
 pub mod Parts
 pub mod LookupLaws
 pub mod WholeWalks
+pub mod MeantLaws

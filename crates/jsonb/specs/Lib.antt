@@ -13,3 +13,4 @@ pub mod Walk
 pub mod Walked
 pub mod Lookup
 pub mod Parts
+pub mod Meant
