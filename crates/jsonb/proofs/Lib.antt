@@ -10,3 +10,7 @@ pub mod Parts
 pub mod LookupLaws
 pub mod WholeWalks
 pub mod MeantLaws
+pub mod ValueLaws
+pub mod Weights
+pub mod InStep
+pub mod UnlikeLaws

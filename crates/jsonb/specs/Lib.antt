@@ -14,3 +14,4 @@ pub mod Walked
 pub mod Lookup
 pub mod Parts
 pub mod Meant
+pub mod Values
