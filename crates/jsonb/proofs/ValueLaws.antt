@@ -1,5 +1,5 @@
 -- The items of a document are the values of its trees.
-use Rattle.std.proofs.Common.{◌≡◌, ◌+◌, ℕ, suc, Bool, true, false, if◌then◌else◌, List, Option, Some, None, Result, Ok, Err, IsOkAnd, refl, sym, ap, subst, ap₂, ◌∙◌, inl, inr, nat_eq, unwrap_or, eqb-true, arith}
+use Rattle.std.proofs.Common.{◌≡◌, ◌+◌, ℕ, suc, Bool, true, false, if◌then◌else◌, List, Option, Some, None, Result, Ok, Err, IsOkAnd, MatchOption, refl, sym, ap, subst, ap₂, ◌∙◌, inl, inr, nat_eq, unwrap_or, eqb-true, arith}
 use Rattle.std.proofs.lemmas.Bool.Decides.{nat_tests}
 use Rattle.std.specs.declared.cmp.Ordering.{Ordering}
 use Rattle.std.specs.declared.cmp.Ordering.TheVariants.{Equal}
@@ -10,17 +10,23 @@ use Rattle.jsonb_value.specs.declared.number.Number.{Number}
 use Rattle.jsonb_value.specs.Tree.{Tree, Extension}
 use Rattle.jsonb_value.specs.Tree as trees
 use Rattle.jsonb_value.specs.TreeOrder.{rank_of, tree_cmp}
-use Rattle.jsonb_codec.specs.Doc.{Doc, type_of}
+use Rattle.std.specs.Result.{result_ok}
+use Rattle.jsonb_value.specs.Meaning.{document, other_bytes}
+use Rattle.jsonb_codec.proofs.Unique.{Doc-unique}
+use Rattle.jsonb_codec.specs.Doc.{Doc, IsDocument, type_of}
+use Rattle.jsonb.specs.declared.item.JsonbItem.{JsonbItem}
 use Rattle.jsonb.specs.declared.item_type.JsonbItemType.{JsonbItemType}
 use Rattle.jsonb.specs.declared.item_type.JsonbItemType.TheVariants as kinds
 use Rattle.jsonb.specs.Code.{Means}
 use Rattle.jsonb.specs.Item.{item_of, number_found, extension_found}
 use Rattle.jsonb.specs.Kind.{kind_of_tree, kind_rank, rank_order}
 use Rattle.jsonb.specs.Payloads.{is_text, number_in, extension_in, extension_error}
-use Rattle.jsonb.specs.Shown.{Shown, null, boolean, number, text, extension, raw, owned}
+use Rattle.jsonb.specs.Shown.{Shown, null, boolean, number, text, extension, raw, owned, shown}
 use Rattle.jsonb.specs.Values.{IsValue}
 use Rattle.jsonb.specs.Views.{kind_of_shown}
 use Rattle.jsonb.specs.Walked.{IsItemOf, IsItemIn}
+use Rattle.jsonb.specs.Meant.{meaning_of}
+use Rattle.jsonb.proofs.MeantLaws.{meaning_of-document, meaning_of-other}
 use Rattle.jsonb.proofs.KindLaws.{kind-Doc}
 
 -- what an item of a scalar is
@@ -116,3 +122,21 @@ unwrap-kinds t u =
     unwrap-rank_order (kind_of_tree t) (kind_of_tree u)
     ∙ nat_cmp-suc (kind_rank (kind_of_tree t)) (kind_rank (kind_of_tree u))
     ∙ ap₂ nat_cmp (sym (rank_of-kind_rank t)) (sym (rank_of-kind_rank u))
+
+-- The item that a document's bytes hold is its value.
+pub value_found : (b : List ℕ) (r : Result JsonbItem Error) (o : Option JsonbItem) → IsDocument b → ((t : Tree) → Doc b t → IsOkAnd r (λ item. IsItemIn t b (shown item))) → o ≡ result_ok r
+    → MatchOption o (IsDocument b → ⊥) (λ item. (t : Tree) × (Doc b t × IsValue (shown item) t))
+value_found b (Ok item) o doc told e =
+    subst (λ (x : Option JsonbItem). MatchOption x (IsDocument b → ⊥) (λ item. (t : Tree) × (Doc b t × IsValue (shown item) t))) (sym e)
+    (doc.0, (doc.1, IsValue-IsItemIn doc.0 b (shown item) doc.1 (told doc.0 doc.1)))
+value_found b (Err q) o doc told e = absurd (told doc.0 doc.1)
+
+-- It is the value of the one tree of the document,
+pub value_again : (b : List ℕ) (x : Shown) → (t : Tree) × (Doc b t × IsValue x t) → (u : Tree) → Doc b u → IsValue x u
+value_again b x h u doc = subst (IsValue x) (Doc-unique b h.0 u h.1.0 doc) h.1.1
+
+-- which the bytes mean.
+pub value_meant : (b : List ℕ) (o : Option JsonbItem) → MatchOption o (IsDocument b → ⊥) (λ item. (t : Tree) × (Doc b t × IsValue (shown item) t))
+    → MatchOption o (meaning_of b ≡ other_bytes b) (λ item. (t : Tree) × ((meaning_of b ≡ document t) × IsValue (shown item) t))
+value_meant b (Some item) h = (h.0, (meaning_of-document b h.0 h.1.0, h.1.1))
+value_meant b None h = meaning_of-other b h
