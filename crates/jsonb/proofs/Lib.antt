@@ -14,3 +14,4 @@ pub mod ValueLaws
 pub mod Weights
 pub mod InStep
 pub mod UnlikeLaws
+pub mod OrderLaws

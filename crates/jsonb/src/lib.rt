@@ -32,7 +32,7 @@ pub use jsonb_value::{
 };
 pub use lookup::MAX_READS;
 pub use number_item::NumberItem;
-pub use order::meaning_laws;
+pub use order::{meaning_laws, order_of_bytes};
 pub use owned::OwnedJsonb;
 pub use raw::RawJsonb;
 pub use reads::Reads;

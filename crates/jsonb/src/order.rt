@@ -1,18 +1,20 @@
 //! The order of values by what they mean: of all bytes, and of items. No comparison takes memory.
 
 ghost use Rattle.std.specs.Prelude.{◌≡◌, ◌↔◌, ◌⊎◌, ◌∷◌, ℕ, List, None, Some, Ok, MatchOption, IfNone, IfSome, IsSomeAnd};
-ghost use Rattle.std.specs.Cmp.{on_total, eq_by_cmp_equiv, partial_equiv_from_equiv, partial_order_from_total};
+ghost use Rattle.std.specs.Cmp.{IsTotalOrder, on_total, eq_by_cmp_equiv, partial_equiv_from_equiv, partial_order_from_total};
 ghost use Rattle.std.specs.Cmp.Rules.{comparing};
 ghost use Rattle.std.specs.Cmp.Lexicographic.{slice_cmp};
 ghost use Rattle.std.specs.Ordering.{nat_cmp, ordering_then, on, eq_by_cmp, as_partial_cmp};
 ghost use Rattle.std.proofs.Common.{rules};
 ghost use Rattle.jsonb_value.specs.Meaning.{document, other_bytes, meaning_cmp};
+ghost use Rattle.jsonb_value.specs.Norm.{norm};
 ghost use Rattle.jsonb_value.specs.Tree.{Tree, Trees, Pairs, array, object};
 ghost use Rattle.jsonb_value.specs.TreeOrder.{rank_of, tree_cmp, trees_cmp, pairs_cmp};
 ghost use Rattle.jsonb_value.proofs.MeaningLaws.{meaning_cmp_total};
 ghost use Rattle.jsonb_codec.specs.declared.constants.TheConstants.{CONTAINER_TAG};
 ghost use Rattle.jsonb_codec.specs.Doc.{Doc, IsDocument, type_of};
 ghost use Rattle.jsonb.specs.Code.{Means};
+ghost use Rattle.jsonb.specs.Kind.{kind, rank_order};
 ghost use Rattle.jsonb.specs.Meant.{meaning_of, shown_meaning, raw_meaning, owned_meaning, item_meaning};
 ghost use Rattle.jsonb.specs.Raw.{raw_bytes};
 ghost use Rattle.jsonb.specs.Shown.{Shown, shown};
@@ -21,6 +23,7 @@ ghost use Rattle.jsonb.specs.Walk.{array_walk, pairs_walk};
 ghost use Rattle.jsonb.specs.Walked.{ShowsTrees, ShowsPairs};
 
 use crate::item::{JsonbItem, text_of};
+use crate::item_type::JsonbItemType;
 use crate::iterator::{ArrayIterator, ObjectIterator};
 use crate::owned::OwnedJsonb;
 use crate::raw::RawJsonb;
@@ -40,6 +43,27 @@ pub fn meaning_laws()
     ensures document { (b : List ℕ) (t : Tree) → Doc b t → meaning_of b ≡ document t }
     ensures other { (b : List ℕ) → (IsDocument b → ⊥) → meaning_of b ≡ other_bytes b }
     ensures item { (x : Shown) (t : Tree) → Means x t → shown_meaning x ≡ document t }
+{}
+
+/// The order of all bytes by what they mean is total. Two documents compare as their trees, so
+/// that documents of one tree are `Equal`, whatever their bytes, and so are items that mean one
+/// tree. Where `rank_cmp` tells of the kinds of two documents, it tells of the documents. A tree
+/// and its norm, which has a signed zero turned into an unsigned one, compare alike.
+pub fn order_of_bytes()
+    ensures total { IsTotalOrder (on meaning_of meaning_cmp) }
+    ensures trees { (l r : List ℕ) (t u : Tree) → Doc l t → Doc r u
+        → meaning_cmp (meaning_of l) (meaning_of r) ≡ tree_cmp t u }
+    ensures one_tree { (l r : List ℕ) (t : Tree) → Doc l t → Doc r t
+        → meaning_cmp (meaning_of l) (meaning_of r) ≡ Ordering.Equal }
+    ensures items { (x y : Shown) (t : Tree) → Means x t → Means y t
+        → meaning_cmp (shown_meaning x) (shown_meaning y) ≡ Ordering.Equal }
+    ensures kinds { (l r : List ℕ) (k m : JsonbItemType) (o : Ordering) → IsDocument l
+        → IsDocument r → kind l ≡ Ok k → kind r ≡ Ok m → rank_order k m ≡ Some o
+        → meaning_cmp (meaning_of l) (meaning_of r) ≡ o }
+    ensures norm_left { (l m r : List ℕ) (t : Tree) → Doc l t → Doc m (norm t)
+        → meaning_cmp (meaning_of m) (meaning_of r) ≡ meaning_cmp (meaning_of l) (meaning_of r) }
+    ensures norm_right { (l r m : List ℕ) (u : Tree) → Doc r u → Doc m (norm u)
+        → meaning_cmp (meaning_of l) (meaning_of m) ≡ meaning_cmp (meaning_of l) (meaning_of r) }
 {}
 
 // The order of two items by what they mean.
@@ -383,3 +407,6 @@ impl Ord for JsonbItem<'_> {
         cmp_meanings(self, other)
     }
 }
+
+#[cfg(test)]
+mod tests;
