@@ -9,3 +9,9 @@ pub mod HeldLaws
 pub mod Parts
 pub mod LookupLaws
 pub mod WholeWalks
+pub mod MeantLaws
+pub mod ValueLaws
+pub mod Weights
+pub mod InStep
+pub mod UnlikeLaws
+pub mod OrderLaws

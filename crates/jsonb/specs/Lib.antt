@@ -13,3 +13,5 @@ pub mod Walk
 pub mod Walked
 pub mod Lookup
 pub mod Parts
+pub mod Meant
+pub mod Values

@@ -1,0 +1,13 @@
+use Rattle.jsonb.proofs.OrderLaws.{bytes_total, bytes_cmp-trees, bytes_cmp-one_tree, items_cmp-one_tree, bytes_cmp-kinds, bytes_cmp-norm, bytes_cmp-right_norm}
+use Rattle.jsonb.proofs.order.order_of_bytes.Goals as goal
+
+pub returns : goal.returns
+returns c = record {
+  total = bytes_total;
+  trees = bytes_cmp-trees;
+  one_tree = bytes_cmp-one_tree;
+  items = items_cmp-one_tree;
+  kinds = bytes_cmp-kinds;
+  norm_left = bytes_cmp-norm;
+  norm_right = bytes_cmp-right_norm;
+}
