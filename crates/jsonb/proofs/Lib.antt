@@ -1,5 +1,5 @@
 pub mod PayloadLaws
-pub mod Text
+pub mod Utf8
 pub mod Places
 pub mod KindLaws
 pub mod WalkLaws
@@ -10,3 +10,5 @@ pub mod Parts
 pub mod LookupLaws
 pub mod WholeWalks
 pub mod MeantLaws
+pub mod Sizes
+pub mod LineLaws

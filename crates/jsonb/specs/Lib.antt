@@ -14,3 +14,5 @@ pub mod Walked
 pub mod Lookup
 pub mod Parts
 pub mod Meant
+pub mod Texts
+pub mod Lines

@@ -1,0 +1,99 @@
+-- The text of a container is that of its lines.
+use Rattle.std.proofs.Common.{◌≡◌, ◌≢◌, ℕ, suc, ◌+◌, ◌*◌, ◌<◌, ◌≤◌, ◌^◌, List, [], ◌∷◌, ◌++◌, codes, length, map, replicate, Option, Some, None, Result, Ok, Err, refl, sym, ap, ap₂, subst, ◌∙◌, inl, inr, arith, append_assoc}
+use Rattle.jsonb_value.specs.declared.error.Error.{Error}
+use Rattle.jsonb_value.specs.Tree.{Tree, null, boolean, number, text, extension, array, object, Trees, no_trees, tree, Pairs, no_pairs, pair}
+use Rattle.jsonb_value.specs.Meaning.{Meaning, document, other_bytes}
+use Rattle.jsonb_value.specs.Text.{Layout, inside, line_start, colon, laid_out, more_items, more_pairs, string_text}
+use Rattle.jsonb_codec.specs.Doc.{Doc, type_of}
+use Rattle.jsonb_codec.specs.Depth.{size}
+use Rattle.jsonb_codec.proofs.DepthLaws.{Doc-size}
+use Rattle.jsonb.specs.declared.item_type.JsonbItemType.{JsonbItemType}
+use Rattle.jsonb.specs.declared.item_type.JsonbItemType.TheVariants as kinds
+use Rattle.jsonb.specs.Kind.{kind_of_tree}
+use Rattle.jsonb.specs.Shown.{Shown}
+use Rattle.jsonb.specs.Code.{Means}
+use Rattle.jsonb.specs.Walked.{ShowsTrees, ShowsPairs}
+use Rattle.jsonb.specs.Meant.{meaning_of, shown_meaning}
+use Rattle.jsonb.specs.Texts.{meant_text}
+use Rattle.jsonb.specs.Lines.{more_lines, bracketed, item_text, pair_text, value_in, item_size, HasTree, AllInside}
+use Rattle.jsonb.proofs.MeantLaws.{meaning_of-document, shown_meaning-document}
+use Rattle.jsonb.proofs.Sizes.{AllSmaller}
+
+pub meant_text-Doc : (l : Layout) (b : List ℕ) (t : Tree) → Doc b t → meant_text l (meaning_of b) ≡ laid_out l t
+meant_text-Doc l b t doc = ap (meant_text l) (meaning_of-document b t doc)
+
+pub meant_text-Means : (l : Layout) (x : Shown) (t : Tree) → Means x t → meant_text l (shown_meaning x) ≡ laid_out l t
+meant_text-Means l x t h = ap (meant_text l) (shown_meaning-document x t h)
+
+-- a line behind the first
+behind : Layout → List ℕ → List ℕ → List ℕ
+behind l line more = codes "," ++ (line_start l ++ (line ++ more))
+
+more_lines-ShowsTrees : (l : Layout) (ts : Trees) (rs : List (Result Shown Error)) → ShowsTrees ts rs → more_lines l (map (item_text l) rs) ≡ more_items l ts
+unfolding behind
+more_lines-ShowsTrees l no_trees rs h = ap (λ (xs : List (Result Shown Error)). more_lines l (map (item_text l) xs)) h
+more_lines-ShowsTrees l (tree t ts) [] h = absurd h
+more_lines-ShowsTrees l (tree t ts) (Ok x ∷ rs) h = ap₂ (behind l) (meant_text-Means l x t h.0.means) (more_lines-ShowsTrees l ts rs h.1)
+more_lines-ShowsTrees l (tree t ts) (Err e ∷ rs) h = absurd h
+
+pub bracketed-ShowsTrees : (l : Layout) (ts : Trees) (rs : List (Result Shown Error)) → ShowsTrees ts rs
+    → bracketed l (codes "[") (codes "]") (map (item_text (inside l)) rs) ≡ laid_out l (array ts)
+bracketed-ShowsTrees l no_trees rs h = ap (λ (xs : List (Result Shown Error)). bracketed l (codes "[") (codes "]") (map (item_text (inside l)) xs)) h
+bracketed-ShowsTrees l (tree t ts) [] h = absurd h
+bracketed-ShowsTrees l (tree t ts) (Ok x ∷ rs) h =
+    ap₂ (λ (line more : List ℕ). codes "[" ++ (line_start (inside l) ++ (line ++ (more ++ (line_start l ++ codes "]")))))
+    (meant_text-Means (inside l) x t h.0.means) (more_lines-ShowsTrees (inside l) ts rs h.1)
+bracketed-ShowsTrees l (tree t ts) (Err e ∷ rs) h = absurd h
+
+-- a pair before what follows it
+pair-before : (l : Layout) (k t rest : List ℕ) → (string_text k ++ (colon l ++ t)) ++ rest ≡ string_text k ++ (colon l ++ (t ++ rest))
+pair-before l k t rest = append_assoc (string_text k) (colon l ++ t) rest ∙ ap (λ (x : List ℕ). string_text k ++ x) (append_assoc (colon l) t rest)
+
+more_lines-ShowsPairs : (l : Layout) (ps : Pairs) (rs : List (Result (List ℕ × Shown) Error)) → ShowsPairs ps rs → more_lines l (map (pair_text l) rs) ≡ more_pairs l ps
+more_lines-ShowsPairs l no_pairs rs h = ap (λ (xs : List (Result (List ℕ × Shown) Error)). more_lines l (map (pair_text l) xs)) h
+more_lines-ShowsPairs l (pair k t ps) [] h = absurd h
+more_lines-ShowsPairs l (pair k t ps) (Ok x ∷ rs) h =
+    let more = more_pairs l ps in
+    ap₂ (λ (key others : List ℕ). codes "," ++ (line_start l ++ ((string_text key ++ (colon l ++ meant_text l (shown_meaning x.1))) ++ others))) h.0 (more_lines-ShowsPairs l ps rs h.1.1)
+    ∙ ap (λ (value : List ℕ). codes "," ++ (line_start l ++ ((string_text k ++ (colon l ++ value)) ++ more))) (meant_text-Means l x.1 t h.1.0.means)
+    ∙ ap (λ (line : List ℕ). codes "," ++ (line_start l ++ line)) (pair-before l k (laid_out l t) more)
+more_lines-ShowsPairs l (pair k t ps) (Err e ∷ rs) h = absurd h
+
+pub bracketed-ShowsPairs : (l : Layout) (ps : Pairs) (rs : List (Result (List ℕ × Shown) Error)) → ShowsPairs ps rs
+    → bracketed l (codes "{") (codes "}") (map (pair_text (inside l)) rs) ≡ laid_out l (object ps)
+bracketed-ShowsPairs l no_pairs rs h = ap (λ (xs : List (Result (List ℕ × Shown) Error)). bracketed l (codes "{") (codes "}") (map (pair_text (inside l)) xs)) h
+bracketed-ShowsPairs l (pair k t ps) [] h = absurd h
+bracketed-ShowsPairs l (pair k t ps) (Ok x ∷ rs) h =
+    let i = inside l in
+    let end = line_start l ++ codes "}" in
+    let more = more_pairs i ps ++ end in
+    ap₂ (λ (key others : List ℕ). codes "{" ++ (line_start i ++ ((string_text key ++ (colon i ++ meant_text i (shown_meaning x.1))) ++ (others ++ end)))) h.0 (more_lines-ShowsPairs i ps rs h.1.1)
+    ∙ ap (λ (value : List ℕ). codes "{" ++ (line_start i ++ ((string_text k ++ (colon i ++ value)) ++ more))) (meant_text-Means i x.1 t h.1.0.means)
+    ∙ ap (λ (line : List ℕ). codes "{" ++ (line_start i ++ line)) (pair-before i k (laid_out i t) more)
+bracketed-ShowsPairs l (pair k t ps) (Err e ∷ rs) h = absurd h
+
+-- what is shown of a document's children has trees
+pub AllInside-ShowsTrees : (n : ℕ) (ts : Trees) (rs : List (Result Shown Error)) → ShowsTrees ts rs → AllSmaller n rs → AllInside n rs
+AllInside-ShowsTrees n no_trees rs h k = subst (AllInside n) (sym h) tt
+AllInside-ShowsTrees n (tree t ts) [] h k = absurd h
+AllInside-ShowsTrees n (tree t ts) (Ok x ∷ rs) h k = (((t, h.0.means), k.0), AllInside-ShowsTrees n ts rs h.1 k.1)
+AllInside-ShowsTrees n (tree t ts) (Err e ∷ rs) h k = absurd h
+
+pub AllInside-ShowsPairs : (n : ℕ) (ps : Pairs) (rs : List (Result (List ℕ × Shown) Error)) → ShowsPairs ps rs → AllSmaller n (map value_in rs) → AllInside n (map value_in rs)
+AllInside-ShowsPairs n no_pairs rs h k = subst (λ (xs : List (Result (List ℕ × Shown) Error)). AllInside n (map value_in xs)) (sym h) tt
+AllInside-ShowsPairs n (pair key t ps) [] h k = absurd h
+AllInside-ShowsPairs n (pair key t ps) (Ok x ∷ rs) h k = (((t, h.1.0.means), k.0), AllInside-ShowsPairs n ps rs h.1.1 k.1)
+AllInside-ShowsPairs n (pair key t ps) (Err e ∷ rs) h k = absurd h
+
+-- no document is shorter than its header
+size-some : (t : Tree) → 1 ≤ size t
+size-some null = omega arith
+size-some (boolean b) = omega arith
+size-some (number x) = omega arith
+size-some (text s) = omega arith
+size-some (extension e) = omega arith
+size-some (array ts) = omega arith
+size-some (object ps) = omega arith
+
+pub Doc-length : (b : List ℕ) (t : Tree) → Doc b t → 4 ≤ length b
+Doc-length b t doc = let some = size-some t in let room = Doc-size b t doc in omega arith
