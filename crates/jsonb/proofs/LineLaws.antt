@@ -1,9 +1,10 @@
 -- The text of a container is that of its lines.
-use Rattle.std.proofs.Common.{◌≡◌, ◌≢◌, ℕ, suc, ◌+◌, ◌*◌, ◌<◌, ◌≤◌, ◌^◌, List, [], ◌∷◌, ◌++◌, codes, length, map, replicate, Option, Some, None, Result, Ok, Err, refl, sym, ap, ap₂, subst, ◌∙◌, inl, inr, arith, append_assoc}
+use Rattle.std.proofs.Common.{◌≡◌, ◌≢◌, ℕ, zero, suc, ◌+◌, ◌*◌, ◌<◌, ◌≤◌, ◌^◌, List, [], ◌∷◌, ◌++◌, codes, length, map, replicate, IsOkAnd, IsSomeAnd, Option, Some, None, Result, Ok, Err, refl, sym, ap, ap₂, subst, ◌∙◌, inl, inr, arith, append_assoc}
+use Rattle.std.specs.List.{repeat}
 use Rattle.jsonb_value.specs.declared.error.Error.{Error}
 use Rattle.jsonb_value.specs.Tree.{Tree, null, boolean, number, text, extension, array, object, Trees, no_trees, tree, Pairs, no_pairs, pair}
 use Rattle.jsonb_value.specs.Meaning.{Meaning, document, other_bytes}
-use Rattle.jsonb_value.specs.Text.{Layout, inside, line_start, colon, laid_out, more_items, more_pairs, string_text}
+use Rattle.jsonb_value.specs.Text.{Layout, in_one_line, on_lines, inside, line_start, colon, laid_out, more_items, more_pairs, string_text}
 use Rattle.jsonb_codec.specs.Doc.{Doc, type_of}
 use Rattle.jsonb_codec.specs.Depth.{size}
 use Rattle.jsonb_codec.proofs.DepthLaws.{Doc-size}
@@ -12,6 +13,7 @@ use Rattle.jsonb.specs.declared.item_type.JsonbItemType.TheVariants as kinds
 use Rattle.jsonb.specs.Kind.{kind_of_tree}
 use Rattle.jsonb.specs.Shown.{Shown}
 use Rattle.jsonb.specs.Code.{Means}
+use Rattle.jsonb.specs.Walk.{Walk}
 use Rattle.jsonb.specs.Walked.{ShowsTrees, ShowsPairs}
 use Rattle.jsonb.specs.Meant.{meaning_of, shown_meaning}
 use Rattle.jsonb.specs.Texts.{meant_text}
@@ -59,6 +61,10 @@ more_lines-ShowsPairs l (pair k t ps) (Ok x ∷ rs) h =
     ∙ ap (λ (line : List ℕ). codes "," ++ (line_start l ++ line)) (pair-before l k (laid_out l t) more)
 more_lines-ShowsPairs l (pair k t ps) (Err e ∷ rs) h = absurd h
 
+colon-inside : (l : Layout) → colon (inside l) ≡ colon l
+colon-inside in_one_line = refl
+colon-inside (on_lines depth) = refl
+
 pub bracketed-ShowsPairs : (l : Layout) (ps : Pairs) (rs : List (Result (List ℕ × Shown) Error)) → ShowsPairs ps rs
     → bracketed l (codes "{") (codes "}") (map (pair_text (inside l)) rs) ≡ laid_out l (object ps)
 bracketed-ShowsPairs l no_pairs rs h = ap (λ (xs : List (Result (List ℕ × Shown) Error)). bracketed l (codes "{") (codes "}") (map (pair_text (inside l)) xs)) h
@@ -70,6 +76,7 @@ bracketed-ShowsPairs l (pair k t ps) (Ok x ∷ rs) h =
     ap₂ (λ (key others : List ℕ). codes "{" ++ (line_start i ++ ((string_text key ++ (colon i ++ meant_text i (shown_meaning x.1))) ++ (others ++ end)))) h.0 (more_lines-ShowsPairs i ps rs h.1.1)
     ∙ ap (λ (value : List ℕ). codes "{" ++ (line_start i ++ ((string_text k ++ (colon i ++ value)) ++ more))) (meant_text-Means i x.1 t h.1.0.means)
     ∙ ap (λ (line : List ℕ). codes "{" ++ (line_start i ++ line)) (pair-before i k (laid_out i t) more)
+    ∙ ap (λ (between : List ℕ). codes "{" ++ (line_start i ++ (string_text k ++ (between ++ (laid_out i t ++ more))))) (colon-inside l)
 bracketed-ShowsPairs l (pair k t ps) (Err e ∷ rs) h = absurd h
 
 -- what is shown of a document's children has trees
@@ -97,3 +104,23 @@ size-some (object ps) = omega arith
 
 pub Doc-length : (b : List ℕ) (t : Tree) → Doc b t → 4 ≤ length b
 Doc-length b t doc = let some = size-some t in let room = Doc-size b t doc in omega arith
+
+-- the walk over a document's children
+abbrev Walks : {A : Type 0} → ℕ → (List (Result A Error) → Type 0) → Result (Option (Walk A)) Error → Type 0
+Walks n Shows r = IsOkAnd r (λ o. IsSomeAnd o (λ walk. (walk.count ≡ n) × Shows walk.rest))
+
+pub walk_shows : {A : Type 0} (n : ℕ) (Shows : List (Result A Error) → Type 0) (r : Result (Option (Walk A)) Error) (walk : Walk A) → Walks n Shows r → r ≡ Ok (Some walk) → Shows walk.rest
+walk_shows n Shows r walk h e = (subst (Walks n Shows) e h).1
+
+pub walk_found : {A : Type 0} (n : ℕ) (Shows : List (Result A Error) → Type 0) (r : Result (Option (Walk A)) Error) → Walks n Shows r → (walk : Walk A) × (r ≡ Ok (Some walk))
+walk_found n Shows (Ok (Some walk)) h = (walk, refl)
+walk_found n Shows (Ok None) h = absurd h
+walk_found n Shows (Err e) h = absurd h
+
+-- two spaces for each container
+pub indent : (depth : ℕ) → repeat depth (codes "  ") ≡ replicate (2 * depth) 32
+indent zero = refl
+indent (suc n) = ap (λ (spaces : List ℕ). 32 ∷ 32 ∷ spaces) (indent n) ∙ ap (λ (k : ℕ). replicate k 32) (twice n)
+  where
+    twice : (n : ℕ) → suc (suc (2 * n)) ≡ 2 * suc n
+    twice n = omega arith

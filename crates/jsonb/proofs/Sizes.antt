@@ -107,11 +107,13 @@ pairs_from-smaller bytes (suc left) i j place start behind some =
 
 payloads_end-behind : (bytes : List ℕ) (left place start end : ℕ) → payloads_end bytes left place start ≡ Ok end → start ≤ end
 payloads_end-behind bytes zero place start end e = let same : start ≡ end = cc in omega arith
-payloads_end-behind bytes (suc left) place start end e = by (jentry_at bytes place) e
+payloads_end-behind bytes (suc left) place start end e =
+    by (jentry_at bytes place) (λ n is. payloads_end-behind bytes left (place + 4) (start + n) end is) e
   where
-    by : (r : Result JEntry Error) → (r >>= (λ (x : JEntry). payloads_end bytes left (place + 4) (start + x.length))) ≡ Ok end → start ≤ end
-    by (Ok x) e = let more = payloads_end-behind bytes left (place + 4) (start + x.length) end e in omega arith
-    by (Err x) e = let different : ⊥ = cc in absurd different
+    by : (r : Result JEntry Error) → ((n : ℕ) → payloads_end bytes left (place + 4) (start + n) ≡ Ok end → start + n ≤ end)
+        → (r >>= (λ (x : JEntry). payloads_end bytes left (place + 4) (start + x.length))) ≡ Ok end → start ≤ end
+    by (Ok x) others e = let more = others x.length e in omega arith
+    by (Err x) others e = let different : ⊥ = cc in absurd different
 
 -- the items of a whole array, and the values of a whole object
 array_walk-smaller : (bytes : List ℕ) (r : Result (Option ℕ) Error) (walk : Walk Shown) → 0 < length bytes

@@ -171,11 +171,11 @@ fn write_shown<W: fmt::Write>(raw: RawJsonb, f: &mut fmt::Formatter<W>) -> fmt::
 fn write_pretty<W: fmt::Write>(raw: RawJsonb, f: &mut fmt::Formatter<W>) -> fmt::Result
     ensures { WritesStyledOnOk W.write_str_gives f.old result (pretty_shown_text (raw_bytes raw.entry)) f.new }
 {
-    // No document is as short as this.
-    if raw.len() < 4 || !raw.is_document() {
-        return f.write_str("null");
+    if raw.is_document() {
+        write_document(raw, Layout::OnLines(0), f)
+    } else {
+        f.write_str("null")
     }
-    write_document(raw, Layout::OnLines(0), f)
 }
 
 // Bytes as text, one character at a time.
