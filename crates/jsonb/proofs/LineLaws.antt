@@ -124,3 +124,44 @@ indent (suc n) = ap (λ (spaces : List ℕ). 32 ∷ 32 ∷ spaces) (indent n) �
   where
     twice : (n : ℕ) → suc (suc (2 * n)) ≡ 2 * suc n
     twice n = omega arith
+
+-- a container's lines, written one after the other: the first,
+pub lines_begin : {A : Type 0} (line : A → List ℕ) (l : Layout) (front end all : List ℕ) (rest : List A) (x : A) (xs : List A) → bracketed l front end (map line rest) ≡ all → rest ≡ x ∷ xs
+    → (front ++ (line_start (inside l) ++ line x)) ++ (more_lines (inside l) (map line xs) ++ (line_start l ++ end)) ≡ all
+lines_begin {A} line l front end all rest x xs whole parts =
+    let more = more_lines (inside l) (map line xs) ++ (line_start l ++ end) in
+    append_assoc front (line_start (inside l) ++ line x) more
+    ∙ ap (λ (t : List ℕ). front ++ t) (append_assoc (line_start (inside l)) (line x) more)
+    ∙ sym (ap (λ (ys : List A). bracketed l front end (map line ys)) parts)
+    ∙ whole
+
+-- another,
+pub lines_next : {A : Type 0} (line : A → List ℕ) (i : Layout) (done end all : List ℕ) (rest : List A) (x : A) (xs : List A) → done ++ (more_lines i (map line rest) ++ end) ≡ all → rest ≡ x ∷ xs
+    → (done ++ (codes "," ++ (line_start i ++ line x))) ++ (more_lines i (map line xs) ++ end) ≡ all
+lines_next {A} line i done end all rest x xs whole parts =
+    let more = more_lines i (map line xs) in
+    let start = line_start i in
+    append_assoc done (codes "," ++ (start ++ line x)) (more ++ end)
+    ∙ ap (λ (t : List ℕ). done ++ (codes "," ++ t))
+    (append_assoc start (line x) (more ++ end)
+    ∙ ap (λ (t : List ℕ). start ++ t) (sym (append_assoc (line x) more end))
+    ∙ sym (append_assoc start (line x ++ more) end))
+    ∙ sym (ap (λ (ys : List A). done ++ (more_lines i (map line ys) ++ end)) parts)
+    ∙ whole
+
+-- and the bracket behind the last, or both where there is none
+pub lines_end : {A : Type 0} (line : A → List ℕ) (i : Layout) (done end all : List ℕ) (rest : List A) → done ++ (more_lines i (map line rest) ++ end) ≡ all → rest ≡ [] → done ++ end ≡ all
+lines_end {A} line i done end all rest whole none = sym (ap (λ (ys : List A). done ++ (more_lines i (map line ys) ++ end)) none) ∙ whole
+
+pub lines_none : {A : Type 0} (line : A → List ℕ) (l : Layout) (front end all : List ℕ) (rest : List A) → bracketed l front end (map line rest) ≡ all → rest ≡ [] → front ++ end ≡ all
+lines_none {A} line l front end all rest whole none = sym (ap (λ (ys : List A). bracketed l front end (map line ys)) none) ∙ whole
+
+-- the kind of an array's document
+pub array_of_kind : (b : List ℕ) (t : Tree) (n : ℕ) → Doc b t → kind_of_tree t ≡ kinds.Array n → (ts : Trees) × Doc b (array ts)
+array_of_kind b null n doc e = let different : ⊥ = cc in absurd different
+array_of_kind b (boolean x) n doc e = let different : ⊥ = cc in absurd different
+array_of_kind b (number x) n doc e = let different : ⊥ = cc in absurd different
+array_of_kind b (text s) n doc e = let different : ⊥ = cc in absurd different
+array_of_kind b (extension x) n doc e = let different : ⊥ = cc in absurd different
+array_of_kind b (array ts) n doc e = (ts, doc)
+array_of_kind b (object ps) n doc e = let different : ⊥ = cc in absurd different
