@@ -12,3 +12,4 @@ pub mod WholeWalks
 pub mod MeantLaws
 pub mod Sizes
 pub mod LineLaws
+pub mod TextLaws

@@ -1,7 +1,7 @@
 //! The texts of documents, written from their bytes in place, and documents of texts.
 
-ghost use Rattle.std.specs.Prelude.{◌≡◌, ◌≢◌, ◌⊎◌, ◌++◌, ◌<◌, List, Ok, Err, Some, chars, codes, length, map, string_bytes, IfOk, IfErr, OnOk};
-ghost use Rattle.std.specs.Fmt.{WritesStyledOnOk};
+ghost use Rattle.std.specs.Prelude.{◌≡◌, ◌≢◌, ◌⊎◌, ◌++◌, ◌<◌, List, Ok, Err, Some, chars, codes, length, map, string_bytes, IsOk, IfOk, IfErr, OnOk};
+ghost use Rattle.std.specs.Fmt.{WritesStyledOnOk, formatter_writer};
 ghost use Rattle.jsonb_value.specs.Tree.{Tree, Trees, Pairs, array, object};
 ghost use Rattle.jsonb_value.specs.Norm.{norm};
 ghost use Rattle.jsonb_value.specs.ExtCode.{extension_of};
@@ -43,10 +43,8 @@ impl<'a> RawJsonb<'a> {
         ensures memory { IfErr result (λ e. e ≡ Error.OutOfMemory) }
     {
         let mut f = fmt::Formatter::new(String::new(alloc));
-        match write_shown(*self, &mut f) {
-            Ok(()) => Ok(f.into_inner()),
-            Err(_) => Err(Error::OutOfMemory),
-        }
+        let answer = write_shown(*self, &mut f);
+        written(answer, f)
     }
 
     /// The text of a document with each item or pair on a line of its own, indented by two spaces
@@ -62,10 +60,8 @@ impl<'a> RawJsonb<'a> {
         ensures memory { IfErr result (λ e. e ≡ Error.OutOfMemory) }
     {
         let mut f = fmt::Formatter::new(String::new(alloc));
-        match write_pretty(*self, &mut f) {
-            Ok(()) => Ok(f.into_inner()),
-            Err(_) => Err(Error::OutOfMemory),
-        }
+        let answer = write_pretty(*self, &mut f);
+        written(answer, f)
     }
 }
 
@@ -108,6 +104,18 @@ impl fmt::Display for OwnedJsonb {
 
     fn fmt<W: fmt::Write>(&self, f: &mut fmt::Formatter<W>) -> fmt::Result {
         write_shown(self.as_raw(), f)
+    }
+}
+
+// What a `String` was given. It refuses only for want of memory.
+fn written(answer: fmt::Result, f: fmt::Formatter<String>) -> Result<String, Error>
+    ensures ok { OnOk result (IsOk answer) }
+    ensures text { IfOk result (λ text. text ≡ formatter_writer f) }
+    ensures memory { IfErr result (λ e. e ≡ Error.OutOfMemory) }
+{
+    match answer {
+        Ok(()) => Ok(f.into_inner()),
+        Err(_) => Err(Error::OutOfMemory),
     }
 }
 
