@@ -1,14 +1,12 @@
 -- The text of a container is that of its lines.
-use Rattle.std.proofs.Common.{◌≡◌, ◌≢◌, ℕ, zero, suc, ◌+◌, ◌*◌, ◌<◌, ◌≤◌, ◌^◌, List, [], ◌∷◌, ◌++◌, codes, length, map, replicate, IsOkAnd, IsSomeAnd, Option, Some, None, Result, Ok, Err, refl, sym, ap, ap₂, subst, ◌∙◌, inl, inr, arith, append_assoc}
+use Rattle.std.proofs.Common.{◌≡◌, ℕ, zero, suc, ◌*◌, ◌≤◌, List, [], ◌∷◌, ◌++◌, codes, length, map, replicate, IsOkAnd, IsSomeAnd, Option, Some, None, Result, Ok, Err, refl, sym, ap, ap₂, subst, ◌∙◌, arith, append_assoc}
 use Rattle.std.specs.List.{repeat}
 use Rattle.jsonb_value.specs.declared.error.Error.{Error}
 use Rattle.jsonb_value.specs.Tree.{Tree, null, boolean, number, text, extension, array, object, Trees, no_trees, tree, Pairs, no_pairs, pair}
-use Rattle.jsonb_value.specs.Meaning.{Meaning, document, other_bytes}
 use Rattle.jsonb_value.specs.Text.{Layout, in_one_line, on_lines, inside, line_start, colon, laid_out, more_items, more_pairs, string_text}
-use Rattle.jsonb_codec.specs.Doc.{Doc, type_of}
+use Rattle.jsonb_codec.specs.Doc.{Doc}
 use Rattle.jsonb_codec.specs.Depth.{size}
 use Rattle.jsonb_codec.proofs.DepthLaws.{Doc-size}
-use Rattle.jsonb.specs.declared.item_type.JsonbItemType.{JsonbItemType}
 use Rattle.jsonb.specs.declared.item_type.JsonbItemType.TheVariants as kinds
 use Rattle.jsonb.specs.Kind.{kind_of_tree}
 use Rattle.jsonb.specs.Shown.{Shown}
@@ -17,7 +15,7 @@ use Rattle.jsonb.specs.Walk.{Walk}
 use Rattle.jsonb.specs.Walked.{ShowsTrees, ShowsPairs}
 use Rattle.jsonb.specs.Meant.{meaning_of, shown_meaning}
 use Rattle.jsonb.specs.Texts.{meant_text}
-use Rattle.jsonb.specs.Lines.{more_lines, bracketed, item_text, pair_text, value_in, item_size, HasTree, AllInside}
+use Rattle.jsonb.specs.Lines.{more_lines, bracketed, item_text, pair_text, value_in, AllInside}
 use Rattle.jsonb.proofs.MeantLaws.{meaning_of-document, shown_meaning-document}
 use Rattle.jsonb.proofs.Sizes.{AllSmaller}
 

@@ -1,5 +1,5 @@
 -- What a container holds is shorter than the container.
-use Rattle.std.proofs.Common.{◌≡◌, ◌≢◌, ℕ, zero, suc, ◌+◌, ◌*◌, ◌==◌, nat_le, ◌<◌, ◌≤◌, Bool, true, false, List, [], ◌∷◌, length, map, take, drop, Option, Some, None, option_map, IfOk, IfSome, is_ok, if◌then◌else◌, Result, Ok, Err, refl, subst, arith, length-take, ne_eqb}
+use Rattle.std.proofs.Common.{◌≡◌, ◌≢◌, ℕ, zero, suc, ◌+◌, ◌*◌, ◌==◌, nat_le, ◌<◌, ◌≤◌, Bool, true, false, List, [], ◌∷◌, length, map, take, drop, Option, Some, None, option_map, IfOk, is_ok, if◌then◌else◌, Result, Ok, Err, refl, subst, arith, length-take, ne_eqb}
 use Rattle.std.specs.Prelude.{⊤}
 use Rattle.std.proofs.lemmas.Bool.Decides.{nat_tests}
 use Rattle.jsonb_value.specs.declared.error.Error.{Error}
@@ -10,8 +10,8 @@ use Rattle.jsonb_codec.specs.declared.jentry.JEntry.{JEntry}
 use Rattle.jsonb_codec.specs.JEntry.{jentry_at}
 use Rattle.jsonb.specs.Steps.{◌>>=◌}
 use Rattle.jsonb.specs.Payloads.{is_text, number_in, extension_in}
-use Rattle.jsonb.specs.Shown.{Shown, null, boolean, number, text, extension, raw}
-use Rattle.jsonb.specs.Item.{Entry, item_of, text_item, number_found, number_item, extension_found, extension_item, part_at, entry_at, item_at}
+use Rattle.jsonb.specs.Shown.{Shown, text}
+use Rattle.jsonb.specs.Item.{Entry, item_of, number_found, extension_found, part_at, entry_at, item_at}
 use Rattle.jsonb.specs.Walk.{Walk, length_at, items_from, key_at, pair_at, pairs_from, payloads_end, count_under, array_items, array_walk, pair_items, pairs_of, pairs_walk}
 use Rattle.jsonb.specs.Lines.{value_in, item_size, IsPlain}
 

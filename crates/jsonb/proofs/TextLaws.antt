@@ -1,5 +1,5 @@
 -- What the bytes of a document, and other bytes, print as.
-use Rattle.std.proofs.Common.{◌≡◌, ℕ, List, [], ◌∷◌, codes, length, Result, Ok, Err, refl, ap, subst, arith, String, string_bytes, sym, ◌++◌, ◌∙◌}
+use Rattle.std.proofs.Common.{◌≡◌, ℕ, List, [], ◌∷◌, codes, length, Result, Ok, Err, refl, ap, subst, arith, String, string_bytes, ◌++◌, ◌∙◌}
 use Rattle.std.specs.declared.fmt.Formatter.{Formatter}
 use Rattle.std.specs.declared.alloc.Global.{Global}
 use Rattle.std.specs.declared.fmt.Error as fmt

@@ -1,6 +1,6 @@
-use Rattle.std.proofs.Common.{rules, ◌≡◌, ◌++◌, ◌∷◌, [], List, ℕ, codes, length, map, refl, sym, ap, subst, ◌∙◌}
+use Rattle.std.proofs.Common.{rules, ◌≡◌, ◌++◌, ◌∷◌, [], codes, length, map, refl, sym, ap, subst, ◌∙◌}
 use Rattle.std.proofs.Output.{has_written_styled_of_eq}
-use Rattle.jsonb_value.specs.Text.{inside, line_start, colon, string_text}
+use Rattle.jsonb_value.specs.Text.{inside, line_start}
 use Rattle.jsonb_value.proofs.Writing.{joins_two, joins_three}
 use Rattle.jsonb.specs.Raw.{raw_bytes}
 use Rattle.jsonb.specs.Shown.{shown, shown_item, shown_pair}

@@ -1,4 +1,4 @@
-use Rattle.std.proofs.Common.{rules, ◌≡◌, ◌<◌, Ok, Some, length, sym, ap, ◌∙◌, arith}
+use Rattle.std.proofs.Common.{rules, ◌≡◌, Ok, Some, length, sym, ◌∙◌, arith}
 use Rattle.jsonb_value.specs.Tree.{array, count}
 use Rattle.jsonb.specs.Raw.{raw_bytes}
 use Rattle.jsonb.specs.Walked.{ShowsTrees}

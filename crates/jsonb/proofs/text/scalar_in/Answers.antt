@@ -1,4 +1,4 @@
-use Rattle.std.proofs.Common.{rules, ◌≡◌, Ok, IsOkAnd, inl, inr, subst}
+use Rattle.std.proofs.Common.{IsOkAnd, inl, inr, subst}
 use Rattle.jsonb.specs.Raw.{raw_bytes}
 use Rattle.jsonb.specs.Shown.{shown}
 use Rattle.jsonb.specs.Walked.{IsItemIn}

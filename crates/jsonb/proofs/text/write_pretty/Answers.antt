@@ -1,4 +1,4 @@
-use Rattle.std.proofs.Common.{rules, ◌≡◌, true, sym, ◌∙◌}
+use Rattle.std.proofs.Common.{sym, ◌∙◌}
 use Rattle.std.proofs.Output.{has_written_styled_of_eq}
 use Rattle.jsonb_value.specs.Text.{on_lines}
 use Rattle.jsonb_codec.specs.Doc.{IsDocument}

@@ -1,4 +1,4 @@
-use Rattle.std.proofs.Common.{rules, ◌≡◌, length, true, sym, ◌∙◌}
+use Rattle.std.proofs.Common.{◌≡◌, length, sym, ◌∙◌}
 use Rattle.std.proofs.Output.{has_written_styled_of_eq}
 use Rattle.jsonb_value.specs.Text.{in_one_line}
 use Rattle.jsonb_codec.specs.Doc.{IsDocument}

@@ -1,4 +1,3 @@
-use Rattle.std.proofs.Common.{rules}
 use Rattle.jsonb.specs.Raw.{raw_bytes}
 use Rattle.jsonb.proofs.TextLaws.{pretty_shown_text-Doc, pretty_shown_text-other, string_written, prints_as}
 use Rattle.jsonb.proofs.raw.RawJsonb.to_pretty_string.Goals as goal

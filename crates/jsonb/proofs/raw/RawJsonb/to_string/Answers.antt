@@ -1,4 +1,3 @@
-use Rattle.std.proofs.Common.{rules}
 use Rattle.jsonb.specs.Raw.{raw_bytes}
 use Rattle.jsonb.proofs.TextLaws.{shown_text-Doc, shown_text-other, string_written, prints_as}
 use Rattle.jsonb.proofs.raw.RawJsonb.to_string.Goals as goal
