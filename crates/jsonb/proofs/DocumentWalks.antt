@@ -12,7 +12,7 @@ use Rattle.jsonb.specs.Shown as items
 use Rattle.jsonb.specs.Item.{Entry, item_of, entry_at, item_at}
 use Rattle.jsonb.specs.Walk.{Walk, items_from, key_of, key_at, pair_at, pairs_from, payloads_end, count_if, count_under, array_items, array_walk, key_items, keys_walk, value_items, values_of, values_walk, pair_items, pairs_of, pairs_walk}
 use Rattle.jsonb.specs.Walked.{ShowsTrees, shown_keys, ShowsValues, ShowsPairs, WalksArray, WalksKeys, WalksValues, WalksPairs}
-use Rattle.jsonb.proofs.Text.{is_text_yes}
+use Rattle.jsonb.proofs.Utf8.{is_text_yes}
 use Rattle.jsonb.proofs.Places.{At, At-all, At-left, At-right, At-behind_word, length-word-append, jentry_at-At}
 use Rattle.jsonb.proofs.KindLaws.{IsTag-type_of, header_at-Scalar, header_at-array, header_at-object}
 use Rattle.jsonb.proofs.ItemLaws.{IsItemOf-Payload, entry_at-At, item_at-entry}

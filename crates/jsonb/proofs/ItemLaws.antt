@@ -14,7 +14,7 @@ use Rattle.jsonb.specs.Item.{Entry, item_of, number_found, extension_found, text
 use Rattle.jsonb.specs.Code.{Means, HasCode, stored, CanBeStored, scalar_bytes}
 use Rattle.jsonb.specs.Walked.{IsItemOf, IsItemIn}
 use Rattle.jsonb.proofs.PayloadLaws.{number_in-NumCode, extension_in-ExtCode}
-use Rattle.jsonb.proofs.Text.{is_text_yes}
+use Rattle.jsonb.proofs.Utf8.{is_text_yes}
 use Rattle.jsonb.proofs.Places.{At, At-left, part_at-At, jentry_at-At}
 use Rattle.jsonb.proofs.KindLaws.{IsTag-type_of, At-entry, header_at-Scalar, At-payload, header_at-array, header_at-object}
 

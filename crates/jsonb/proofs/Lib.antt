@@ -1,5 +1,5 @@
 pub mod PayloadLaws
-pub mod Text
+pub mod Utf8
 pub mod Places
 pub mod KindLaws
 pub mod WalkLaws
@@ -15,3 +15,6 @@ pub mod Weights
 pub mod InStep
 pub mod UnlikeLaws
 pub mod OrderLaws
+pub mod Sizes
+pub mod LineLaws
+pub mod TextLaws

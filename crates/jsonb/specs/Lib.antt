@@ -15,3 +15,5 @@ pub mod Lookup
 pub mod Parts
 pub mod Meant
 pub mod Values
+pub mod Texts
+pub mod Lines

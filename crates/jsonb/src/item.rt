@@ -178,7 +178,7 @@ fn scalar_item<'a>(entry: Entry<'a>) -> Result<JsonbItem<'a>, Error>
     item_of_entry(entry)
 }
 
-#[tactic(auto, using(crate::proofs::Text::is_text_yes, crate::proofs::Text::is_text_no))]
+#[tactic(auto, using(crate::proofs::Utf8::is_text_yes, crate::proofs::Utf8::is_text_no))]
 fn text_item<'a>(bytes: &'a [u8]) -> Result<JsonbItem<'a>, Error>
     ensures { shown_item result ≡ text_item bytes.now }
 {

@@ -343,7 +343,7 @@ struct PlacedKey<'a> {
 }
 
 // The key of the first entry, which must be a string of UTF-8.
-#[tactic(auto, using(crate::proofs::Text::is_text_yes, crate::proofs::Text::is_text_no), unfolding(crate::specs::Walk::key_at))]
+#[tactic(auto, using(crate::proofs::Utf8::is_text_yes, crate::proofs::Utf8::is_text_no), unfolding(crate::specs::Walk::key_at))]
 fn first_key<'a>(entries: Entries<'a>) -> Result<PlacedKey<'a>, Error>
     requires place { entries.place ≤ 2 ^ 34 }
     requires start { entries.start ≤ 2 ^ 63 }

@@ -16,6 +16,7 @@ mod raw;
 mod reads;
 #[cfg(test)]
 mod tests;
+mod text;
 mod walks;
 
 pub use extension_item::ExtensionItem;

@@ -23,7 +23,7 @@ const TWO_PAIRS: &str =
     "40000002 10000002 10000002 20000002 5000000a 6161 6162 5001 80000001 20000002 5002";
 
 // The bytes of hexadecimal digits; all else is passed over.
-fn bytes_of(alloc: Global, text: &str) -> Result<Vec<u8>, Fail> {
+pub fn bytes_of(alloc: Global, text: &str) -> Result<Vec<u8>, Fail> {
     let mut bytes = Vec::new(alloc);
     let mut first = None;
     for c in text.bytes() {

@@ -18,3 +18,4 @@ pub mod BigEndian
 pub mod PayloadLaws
 pub mod PayloadDecision
 pub mod Written
+pub mod NormTexts

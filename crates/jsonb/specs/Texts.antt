@@ -1,0 +1,43 @@
+-- What bytes print as.
+use Rattle.std.specs.Prelude.{ℕ, List, [], ◌∷◌, codes, encode_utf8_all}
+use Rattle.bstr.specs.Utf8.{lossy_chars}
+use Rattle.jsonb_value.specs.Meaning.{Meaning, document, other_bytes}
+use Rattle.jsonb_value.specs.Text.{Layout, in_one_line, on_lines, laid_out, compact, pretty}
+use Rattle.jsonb.specs.declared.text.Layout as given
+use Rattle.jsonb.specs.declared.text.Layout.TheVariants as layouts
+use Rattle.jsonb.specs.Meant.{meaning_of}
+
+-- the layout that the walk is given
+abbrev pub layout_of : given.Layout → Layout
+layout_of layouts.InOneLine = in_one_line
+layout_of (layouts.OnLines depth) = on_lines depth
+
+-- the text of a tree in a layout, and none of what is no document
+abbrev pub meant_text : Layout → Meaning → List ℕ
+meant_text l (document t) = laid_out l t
+meant_text l (other_bytes b) = []
+
+-- the text of any bytes, with U+FFFD for what is no UTF-8
+abbrev pub lossy_text : List ℕ → List ℕ
+lossy_text b = encode_utf8_all (lossy_chars b)
+
+-- the text of bytes that are no document
+abbrev pub other_text : List ℕ → List ℕ
+other_text [] = codes "null"
+other_text (x ∷ xs) = lossy_text (x ∷ xs)
+
+-- The compact text of a document, `null` for no bytes, and else the text of the bytes themselves,
+abbrev pub plain_text : Meaning → List ℕ
+plain_text (document t) = compact t
+plain_text (other_bytes b) = other_text b
+
+abbrev pub shown_text : List ℕ → List ℕ
+shown_text b = plain_text (meaning_of b)
+
+-- and the pretty text of a document, else `null`.
+abbrev pub lined_text : Meaning → List ℕ
+lined_text (document t) = pretty t
+lined_text (other_bytes b) = codes "null"
+
+abbrev pub pretty_shown_text : List ℕ → List ℕ
+pretty_shown_text b = lined_text (meaning_of b)
