@@ -9,3 +9,5 @@ pub mod HeldLaws
 pub mod Parts
 pub mod LookupLaws
 pub mod WholeWalks
+pub mod StoredLaws
+pub mod BuiltLaws

@@ -13,3 +13,7 @@ pub mod Walk
 pub mod Walked
 pub mod Lookup
 pub mod Parts
+pub mod Stored
+pub mod Building
+pub mod Children
+pub mod Built

@@ -1,6 +1,7 @@
 //! Binary JSON documents, read in place: their kinds, items and iterators.
 #![tactic(auto)]
 
+mod builder;
 mod code;
 mod entries;
 mod extension_item;
@@ -16,6 +17,7 @@ mod reads;
 mod tests;
 mod walks;
 
+pub use builder::ArrayBuilder;
 pub use extension_item::ExtensionItem;
 pub use item::JsonbItem;
 pub use item_type::JsonbItemType;

@@ -1,0 +1,53 @@
+-- Arrays and objects put together of items.
+use Rattle.std.specs.Prelude.{◌≡◌, ◌<◌, ◌^◌, ◌+◌, ⊤, ℕ, List, [], ◌∷◌, ◌++◌, length, map}
+use Rattle.jsonb_codec.specs.declared.constants.TheConstants.{ARRAY_CONTAINER_TAG, OBJECT_CONTAINER_TAG, STRING_TAG}
+use Rattle.jsonb_codec.specs.Word.{word}
+use Rattle.jsonb.specs.Shown.{Shown}
+use Rattle.jsonb.specs.Item.{Entry}
+use Rattle.jsonb.specs.Code.{HasCode}
+
+-- The items are stored with these entries, in this order.
+abbrev pub AreCodes : List Shown → List Entry → Type 0
+AreCodes [] codes = codes ≡ []
+AreCodes (x ∷ xs) [] = ⊥
+AreCodes (x ∷ xs) (c ∷ cs) = HasCode x c.type c.payload × AreCodes xs cs
+
+-- No payload is past its limit.
+abbrev pub AreShort : List Entry → Type 0
+AreShort [] = ⊤
+AreShort (c ∷ cs) = (length c.payload < 2 ^ 28) × AreShort cs
+
+-- the entry words, and the payloads behind them
+abbrev pub code_entries : List Entry → List ℕ
+code_entries [] = []
+code_entries (c ∷ cs) = word (c.type + length c.payload) ++ code_entries cs
+
+abbrev pub code_payloads : List Entry → List ℕ
+code_payloads [] = []
+code_payloads (c ∷ cs) = c.payload ++ code_payloads cs
+
+-- the array of these entries
+abbrev pub array_of : List Entry → List ℕ
+array_of codes = word (ARRAY_CONTAINER_TAG + length codes) ++ (code_entries codes ++ code_payloads codes)
+
+-- the entries of keys
+abbrev pub key_codes : List (List ℕ) → List Entry
+key_codes keys = map (λ k. record { type = STRING_TAG; payload = k }) keys
+
+-- the object of these keys, with these entries of their values
+abbrev pub object_of : List (List ℕ) → List Entry → List ℕ
+object_of keys codes =
+    word (OBJECT_CONTAINER_TAG + length codes)
+    ++ (code_entries (key_codes keys) ++ (code_entries codes ++ (code_payloads (key_codes keys) ++ code_payloads codes)))
+
+-- Each item has an entry, and no payload and no count is past its limit.
+pub record FitArray (xs : List Shown) : Type 0 where
+  pub codes : List Entry
+  pub are : AreCodes xs codes
+  pub short : AreShort codes
+  pub few : length codes < 2 ^ 29
+
+-- The bytes are the array of the items' entries, in order.
+pub record IsArrayOf (xs : List Shown) (bytes : List ℕ) : Type 0 where
+  pub fit : FitArray xs
+  pub written : bytes ≡ array_of fit.codes

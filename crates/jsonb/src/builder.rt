@@ -1,0 +1,95 @@
+//! Arrays and objects, put together of items.
+
+mod children;
+mod write;
+
+ghost use Rattle.std.specs.Prelude.{◌≡◌, ◌↔◌, ◌⊎◌, List, [], ◌∷◌, ◌++◌, map, Err, IfOk, IfErr, OnOk, OnErr};
+ghost use Rattle.jsonb.specs.Raw.{raw_bytes};
+ghost use Rattle.jsonb.specs.Owned.{owned_bytes};
+ghost use Rattle.jsonb.specs.Shown.{Shown, shown};
+ghost use Rattle.jsonb.specs.Shown as items;
+ghost use Rattle.jsonb.specs.Building.{FitArray, IsArrayOf};
+
+use crate::item::JsonbItem;
+use crate::owned::OwnedJsonb;
+use crate::raw::RawJsonb;
+use jsonb_value::Error;
+use std::alloc::Global;
+use std::marker::Model;
+use write::array_document;
+
+/// Items that become an array.
+#[derive(Drop)]
+pub struct ArrayBuilder<'a> {
+    items: Vec<JsonbItem<'a>>,
+}
+
+impl<'a> Model for ArrayBuilder<'a> {
+    ghost Value = { List Shown };
+
+    ghost view = { λ s. map shown s.items.items };
+}
+
+impl<'a> ArrayBuilder<'a> {
+    /// A builder of no items. No memory is asked for.
+    pub fn new(alloc: Global) -> Self
+        ensures { result ≡ [] }
+    {
+        ArrayBuilder {
+            items: Vec::new(alloc),
+        }
+    }
+
+    /// A builder of no items, with room for so many. Only memory can be refused.
+    pub fn with_capacity(alloc: Global, capacity: usize) -> Result<Self, Error>
+        ensures ok { IfOk result (λ builder. builder ≡ []) }
+        ensures memory { IfErr result (λ e. e ≡ Error.OutOfMemory) }
+    {
+        Ok(ArrayBuilder {
+            items: Vec::with_capacity(alloc, capacity)?,
+        })
+    }
+
+    /// Puts an item behind the others. Only memory can be refused: then the builder is as before,
+    /// and the item is dropped.
+    pub fn push_jsonb_item(&mut self, item: JsonbItem<'a>) -> Result<(), Error>
+        ensures pushed { OnOk result (self.new ≡ self.old ++ shown item.entry ∷ []) }
+        ensures err { OnErr result (self.new ≡ self.old) }
+        ensures memory { IfErr result (λ e. e ≡ Error.OutOfMemory) }
+    {
+        self.items.push(item)?;
+        Ok(())
+    }
+
+    /// Puts these bytes behind the others, as `push_jsonb_item` does the item of them.
+    pub fn push_raw_jsonb(&mut self, raw: RawJsonb<'a>) -> Result<(), Error>
+        ensures pushed { OnOk result (self.new ≡ self.old ++ items.raw (raw_bytes raw.entry) ∷ []) }
+        ensures err { OnErr result (self.new ≡ self.old) }
+        ensures memory { IfErr result (λ e. e ≡ Error.OutOfMemory) }
+    {
+        self.push_jsonb_item(JsonbItem::Raw(raw))
+    }
+
+    /// Puts these bytes behind the others, as `push_jsonb_item` does the item of them.
+    pub fn push_owned_jsonb(&mut self, owned: OwnedJsonb) -> Result<(), Error>
+        ensures pushed { OnOk result (self.new ≡ self.old ++ items.owned (owned_bytes owned) ∷ []) }
+        ensures err { OnErr result (self.new ≡ self.old) }
+        ensures memory { IfErr result (λ e. e ≡ Error.OutOfMemory) }
+    {
+        self.push_jsonb_item(JsonbItem::Owned(owned))
+    }
+
+    /// The array of the items, in the order that they came. A scalar, also the document of one,
+    /// stands in it as its entry and payload, and an array or object whole. `InvalidJsonb` where
+    /// bytes that were given are no document, a payload has more than 268,435,455 bytes or there
+    /// are more than 536,870,911 items, before memory is asked for; else only memory can be
+    /// refused.
+    pub fn build(self) -> Result<OwnedJsonb, Error>
+        ensures ok { IfOk result (λ owned. IsArrayOf self.entry (owned_bytes owned)) }
+        ensures past { (result ≡ Err Error.InvalidJsonb) ↔ (FitArray self.entry → ⊥) }
+        ensures memory { result ≡ Err Error.OutOfMemory → FitArray self.entry }
+        ensures only { IfErr result (λ e. (e ≡ Error.InvalidJsonb) ⊎ (e ≡ Error.OutOfMemory)) }
+    {
+        array_document(*self.items.allocator(), &self.items)
+    }
+}

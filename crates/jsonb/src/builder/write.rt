@@ -1,0 +1,93 @@
+//! Arrays and objects, measured first and then written front to back into one growth.
+
+ghost use Rattle.std.specs.Prelude.{◌≡◌, ◌≤◌, ◌<◌, ◌+◌, ◌^◌, length, map, IfOk, IfErr, OnOk, OnErr, Err, ◌⊎◌};
+ghost use Rattle.jsonb_codec.specs.Room.{HasRoom, Appended};
+ghost use Rattle.jsonb.specs.Owned.{owned_bytes};
+ghost use Rattle.jsonb.specs.Shown.{shown};
+ghost use Rattle.jsonb.specs.Stored.{codes_of, AreStorable};
+ghost use Rattle.jsonb.specs.Building.{code_entries, code_payloads, array_of, FitArray, IsArrayOf};
+ghost use Rattle.jsonb.specs.Children.{children_shown};
+
+use super::children::Children;
+use crate::code::append_word;
+use crate::item::JsonbItem;
+use crate::owned::OwnedJsonb;
+use jsonb_codec::constants::{ARRAY_CONTAINER_TAG, CONTAINER_HEADER_LEN_MASK};
+use jsonb_value::Error;
+use std::alloc::Global;
+
+/// The array of these items' entries. `InvalidJsonb` where an item has none, or a payload or the
+/// count is past its limit, before memory is asked for.
+pub fn array_document(alloc: Global, items: &[JsonbItem]) -> Result<OwnedJsonb, Error>
+    ensures ok { IfOk result (λ owned. IsArrayOf (map shown items.now) (owned_bytes owned)) }
+    ensures past { result ≡ Err Error.InvalidJsonb → FitArray (map shown items.now) → ⊥ }
+    ensures memory { result ≡ Err Error.OutOfMemory → FitArray (map shown items.now) }
+    ensures only { IfErr result (λ e. (e ≡ Error.InvalidJsonb) ⊎ (e ≡ Error.OutOfMemory)) }
+{
+    let size = measure_array(items)?;
+    let mut bytes = Vec::new(alloc);
+    bytes.try_reserve(size)?;
+    append_word(&mut bytes, ARRAY_CONTAINER_TAG + items.len() as u32);
+    append_entries(&mut bytes, Children::Items(items));
+    append_payloads(&mut bytes, Children::Items(items));
+    Ok(OwnedJsonb::new(bytes))
+}
+
+// The length of the array.
+fn measure_array(items: &[JsonbItem]) -> Result<usize, Error>
+    ensures ok { IfOk result (λ n. n ≡ length (array_of (codes_of (map shown items.now)))) }
+    ensures storable { OnOk result (AreStorable (map shown items.now)) }
+    ensures few { OnOk result (length (map shown items.now) < 2 ^ 29) }
+    ensures err { OnErr result (FitArray (map shown items.now) → ⊥) }
+    ensures only { IfErr result (λ e. e ≡ Error.InvalidJsonb) }
+{
+    let count = items.len();
+    if count > CONTAINER_HEADER_LEN_MASK as usize {
+        return Err(Error::InvalidJsonb);
+    }
+    Ok(4 + 4 * count + measure_payloads(Children::Items(items))?)
+}
+
+// The length of all payloads.
+fn measure_payloads(children: Children<'_, '_>) -> Result<usize, Error>
+    requires { length (children_shown children) < 2 ^ 29 }
+    ensures ok { IfOk result (λ n. n ≡ length (code_payloads (codes_of (children_shown children.entry)))) }
+    ensures small { IfOk result (λ n. n ≤ 2 ^ 57) }
+    ensures storable { OnOk result (AreStorable (children_shown children.entry)) }
+    ensures err { OnErr result (AreStorable (children_shown children.entry) → ⊥) }
+    ensures only { IfErr result (λ e. e ≡ Error.InvalidJsonb) }
+{
+    let mut total = 0;
+    let mut left = children;
+    while let Some((child, others)) = left.split_first() {
+        total += child.measure()?;
+        left = others;
+    }
+    Ok(total)
+}
+
+// The entry words.
+fn append_entries(out: &mut Vec<u8>, children: Children<'_, '_>)
+    requires storable { AreStorable (children_shown children) }
+    requires room { HasRoom out.old (code_entries (codes_of (children_shown children))) }
+    ensures { Appended out.old out.new (code_entries (codes_of (children_shown children.entry))) }
+{
+    let mut left = children;
+    while let Some((child, others)) = left.split_first() {
+        child.code().append_entry_to(out);
+        left = others;
+    }
+}
+
+// The payloads.
+fn append_payloads(out: &mut Vec<u8>, children: Children<'_, '_>)
+    requires storable { AreStorable (children_shown children) }
+    requires room { HasRoom out.old (code_payloads (codes_of (children_shown children))) }
+    ensures { Appended out.old out.new (code_payloads (codes_of (children_shown children.entry))) }
+{
+    let mut left = children;
+    while let Some((child, others)) = left.split_first() {
+        child.code().payload.append_to(out);
+        left = others;
+    }
+}
