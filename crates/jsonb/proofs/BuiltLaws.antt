@@ -14,8 +14,12 @@ use Rattle.jsonb.specs.Item.{Entry}
 use Rattle.jsonb.specs.Code.{scalar_bytes}
 use Rattle.jsonb.specs.Stored.{document_code, code_of, codes_of, AreStorable}
 use Rattle.jsonb.specs.Building.{AreShort, code_entries, code_payloads, array_of, FitArray, IsArrayOf}
-use Rattle.jsonb.specs.Built.{AreDocuments, AreCanonical}
+use Rattle.jsonb.specs.Built.{AreDocuments, AreCanonical, IsArrayOfInputs}
 use Rattle.jsonb.proofs.StoredLaws.{document_code-Scalar, document_code-container, same_payload, codes_of-AreCodes, AreCodes-codes_of, length-codes_of, AreStorable-FitArray}
+
+pub map-map : {A B C : Type 0} (g : B → C) (f : A → B) (xs : List A) → map g (map f xs) ≡ map (λ x. g (f x)) xs
+map-map g f [] = refl
+map-map {C = C} g f (x ∷ xs) = ap (λ (ys : List C). g (f x) ∷ ys) (map-map g f xs)
 
 -- the entry means the tree
 abbrev pub IsCodeOf : Entry → Tree → Type 0
@@ -131,3 +135,9 @@ canon-documents bs bytes h ts are =
       array_of-IsArrayOf xs bytes h
           ∙ ap₂ (λ (n : ℕ) (ys : List ℕ). word (2147483648 + n) ++ ys) w.counted (ap₂ (λ (ys zs : List ℕ). ys ++ zs) w.entries w.payloads),
     )
+
+-- what is built of inputs
+pub IsArrayOfInputs-IsArrayOf : (bs : List (List ℕ)) (xs : List Shown) (bytes : List ℕ) → xs ≡ map raw bs → IsArrayOf xs bytes → IsArrayOfInputs bs bytes
+IsArrayOfInputs-IsArrayOf bs xs bytes same h =
+    let array = subst (λ (ys : List Shown). IsArrayOf ys bytes) same h in
+    record { array = array; document = Doc-documents bs bytes array; canonical = canon-documents bs bytes array }

@@ -8,7 +8,9 @@ ghost use Rattle.jsonb.specs.Raw.{raw_bytes};
 ghost use Rattle.jsonb.specs.Owned.{owned_bytes};
 ghost use Rattle.jsonb.specs.Shown.{Shown, shown};
 ghost use Rattle.jsonb.specs.Shown as items;
+ghost use Rattle.std.specs.Iterator.{IsFinite};
 ghost use Rattle.jsonb.specs.Building.{FitArray, IsArrayOf};
+ghost use Rattle.jsonb.specs.Built.{IsArrayOfInputs, TakesAll};
 
 use crate::item::JsonbItem;
 use crate::owned::OwnedJsonb;
@@ -91,5 +93,32 @@ impl<'a> ArrayBuilder<'a> {
         ensures only { IfErr result (λ e. (e ≡ Error.InvalidJsonb) ⊎ (e ≡ Error.OutOfMemory)) }
     {
         array_document(*self.items.allocator(), &self.items)
+    }
+}
+
+impl OwnedJsonb {
+    /// The array of these documents, in the order that they come: a scalar stands in it as its
+    /// entry and payload, and an array or object whole. `InvalidJsonb` where an input is no
+    /// document, a payload has more than 268,435,455 bytes or there are more than 536,870,911
+    /// inputs; else only memory can be refused. The iterator must end.
+    pub fn build_array<'a, I: IntoIterator<Item = RawJsonb<'a>>>(
+        alloc: Global,
+        inputs: I,
+    ) -> Result<OwnedJsonb, Error>
+    where
+        I::IntoIter: Drop,
+        requires { (it : I.IntoIter) → I.into_iter_gives inputs it
+            → I.IntoIter.can_next it × IsFinite (I.IntoIter.remaining it) }
+        ensures ok { IfOk result (λ owned. TakesAll I.into_iter_gives I.IntoIter.next_gives inputs
+            (λ xs. IsArrayOfInputs (map raw_bytes xs) (owned_bytes owned))) }
+        ensures past { result ≡ Err Error.InvalidJsonb → TakesAll I.into_iter_gives I.IntoIter.next_gives inputs
+            (λ xs. FitArray (map (λ x. items.raw (raw_bytes x)) xs) → ⊥) }
+        ensures only { IfErr result (λ e. (e ≡ Error.InvalidJsonb) ⊎ (e ≡ Error.OutOfMemory)) }
+    {
+        let mut builder = ArrayBuilder::new(alloc);
+        for input in inputs {
+            builder.push_raw_jsonb(input)?;
+        }
+        builder.build()
     }
 }
