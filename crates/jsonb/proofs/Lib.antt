@@ -11,3 +11,4 @@ pub mod LookupLaws
 pub mod WholeWalks
 pub mod StoredLaws
 pub mod BuiltLaws
+pub mod ObjectLaws

@@ -1,5 +1,11 @@
 -- Arrays and objects put together of items.
-use Rattle.std.specs.Prelude.{◌≡◌, ◌<◌, ◌^◌, ◌+◌, ⊤, ℕ, List, [], ◌∷◌, ◌++◌, length, map}
+use Rattle.std.specs.Prelude.{◌≡◌, ◌<◌, ◌^◌, ◌+◌, ⊤, ℕ, Bool, List, [], ◌∷◌, ◌++◌, length, map}
+use Rattle.std.specs.List.{list_any}
+use Rattle.std.specs.Map.{keys_of, values_of}
+use Rattle.std.specs.Str.{bytes_eq}
+use Rattle.std.specs.Ordering.{nat_cmp}
+use Rattle.std.specs.Cmp.Lexicographic.{slice_cmp}
+use Rattle.std.specs.BTreeMap.{insert_entry}
 use Rattle.jsonb_codec.specs.declared.constants.TheConstants.{ARRAY_CONTAINER_TAG, OBJECT_CONTAINER_TAG, STRING_TAG}
 use Rattle.jsonb_codec.specs.Word.{word}
 use Rattle.jsonb.specs.Shown.{Shown}
@@ -51,3 +57,24 @@ pub record FitArray (xs : List Shown) : Type 0 where
 pub record IsArrayOf (xs : List Shown) (bytes : List ℕ) : Type 0 where
   pub fit : FitArray xs
   pub written : bytes ≡ array_of fit.codes
+
+-- a pair of that key is there
+abbrev pub has_key : {A : Type 0} → List (List ℕ × A) → List ℕ → Bool
+has_key pairs key = list_any (bytes_eq key) (keys_of pairs)
+
+-- the pairs with one more, in the place that its key's bytes give it
+abbrev pub with_pair : {A : Type 0} → List (List ℕ × A) → List ℕ → A → List (List ℕ × A)
+with_pair pairs key x = insert_entry (slice_cmp nat_cmp) pairs key x
+
+-- Each value has an entry, and no key, no payload and no count is past its limit.
+pub record FitObject (pairs : List (List ℕ × Shown)) : Type 0 where
+  pub codes : List Entry
+  pub are : AreCodes (values_of pairs) codes
+  pub short : AreShort codes
+  pub short_keys : AreShort (key_codes (keys_of pairs))
+  pub few : length codes < 2 ^ 29
+
+-- The bytes are the object of the keys and the values' entries, in order.
+pub record IsObjectOf (pairs : List (List ℕ × Shown)) (bytes : List ℕ) : Type 0 where
+  pub fit : FitObject pairs
+  pub written : bytes ≡ object_of (keys_of pairs) fit.codes

@@ -3,13 +3,14 @@
 mod children;
 mod write;
 
-ghost use Rattle.std.specs.Prelude.{◌≡◌, ◌↔◌, ◌⊎◌, List, [], ◌∷◌, ◌++◌, map, Err, IfOk, IfErr, OnOk, OnErr};
+ghost use Rattle.std.specs.Prelude.{◌≡◌, ◌↔◌, ◌⊎◌, List, [], ◌∷◌, ◌++◌, ℕ, map, Err, IsTrue, IfOk, IfErr, OnOk, OnErr};
 ghost use Rattle.jsonb.specs.Raw.{raw_bytes};
 ghost use Rattle.jsonb.specs.Owned.{owned_bytes};
 ghost use Rattle.jsonb.specs.Shown.{Shown, shown};
 ghost use Rattle.jsonb.specs.Shown as items;
 ghost use Rattle.std.specs.Iterator.{IsFinite};
-ghost use Rattle.jsonb.specs.Building.{FitArray, IsArrayOf};
+ghost use Rattle.jsonb.specs.Building.{FitArray, IsArrayOf, has_key, with_pair, FitObject, IsObjectOf};
+ghost use Rattle.jsonb.specs.Children.{pairs_shown};
 ghost use Rattle.jsonb.specs.Built.{IsArrayOfInputs, TakesAll};
 
 use crate::item::JsonbItem;
@@ -17,8 +18,9 @@ use crate::owned::OwnedJsonb;
 use crate::raw::RawJsonb;
 use jsonb_value::Error;
 use std::alloc::Global;
+use std::collections::BTreeMap;
 use std::marker::Model;
-use write::array_document;
+use write::{array_document, object_document};
 
 /// Items that become an array.
 #[derive(Drop)]
@@ -93,6 +95,88 @@ impl<'a> ArrayBuilder<'a> {
         ensures only { IfErr result (λ e. (e ≡ Error.InvalidJsonb) ⊎ (e ≡ Error.OutOfMemory)) }
     {
         array_document(*self.items.allocator(), &self.items)
+    }
+}
+
+/// Pairs of keys and items that become an object.
+#[derive(Drop)]
+pub struct ObjectBuilder<'a> {
+    pairs: BTreeMap<&'a str, JsonbItem<'a>>,
+    alloc: Global,
+}
+
+impl<'a> Model for ObjectBuilder<'a> {
+    ghost Value = { List (List ℕ × Shown) };
+
+    ghost view = { λ s. pairs_shown s.pairs.entries };
+}
+
+impl<'a> ObjectBuilder<'a> {
+    /// A builder of no pairs. No memory is asked for.
+    pub fn new(alloc: Global) -> Self
+        ensures { result ≡ [] }
+    {
+        ObjectBuilder {
+            pairs: BTreeMap::new(alloc),
+            alloc,
+        }
+    }
+
+    /// Whether a pair of this key is there.
+    pub fn contains_key(&self, key: &str) -> bool
+        ensures { result ≡ has_key self.now key.now }
+    {
+        self.pairs.contains_key(key)
+    }
+
+    /// Puts a pair in the place that its key's bytes give it. `ObjectDuplicateKey` where the key
+    /// is there; else only memory can be refused. After a refusal the builder is as before, and
+    /// the item is dropped.
+    pub fn push_jsonb_item(&mut self, key: &'a str, item: JsonbItem<'a>) -> Result<(), Error>
+        ensures pushed { OnOk result (self.new ≡ with_pair self.old key.entry.now (shown item.entry)) }
+        ensures duplicate { (result ≡ Err Error.ObjectDuplicateKey) ↔ IsTrue (has_key self.old key.entry.now) }
+        ensures err { OnErr result (self.new ≡ self.old) }
+        ensures only { IfErr result (λ e. (e ≡ Error.ObjectDuplicateKey) ⊎ (e ≡ Error.OutOfMemory)) }
+    {
+        if self.contains_key(key) {
+            return Err(Error::ObjectDuplicateKey);
+        }
+        self.pairs.insert(key, item)?;
+        Ok(())
+    }
+
+    /// Puts these bytes at a key, as `push_jsonb_item` does the item of them.
+    pub fn push_raw_jsonb(&mut self, key: &'a str, raw: RawJsonb<'a>) -> Result<(), Error>
+        ensures pushed { OnOk result (self.new ≡ with_pair self.old key.entry.now (items.raw (raw_bytes raw.entry))) }
+        ensures duplicate { (result ≡ Err Error.ObjectDuplicateKey) ↔ IsTrue (has_key self.old key.entry.now) }
+        ensures err { OnErr result (self.new ≡ self.old) }
+        ensures only { IfErr result (λ e. (e ≡ Error.ObjectDuplicateKey) ⊎ (e ≡ Error.OutOfMemory)) }
+    {
+        self.push_jsonb_item(key, JsonbItem::Raw(raw))
+    }
+
+    /// Puts these bytes at a key, as `push_jsonb_item` does the item of them.
+    pub fn push_owned_jsonb(&mut self, key: &'a str, owned: OwnedJsonb) -> Result<(), Error>
+        ensures pushed { OnOk result (self.new ≡ with_pair self.old key.entry.now (items.owned (owned_bytes owned))) }
+        ensures duplicate { (result ≡ Err Error.ObjectDuplicateKey) ↔ IsTrue (has_key self.old key.entry.now) }
+        ensures err { OnErr result (self.new ≡ self.old) }
+        ensures only { IfErr result (λ e. (e ≡ Error.ObjectDuplicateKey) ⊎ (e ≡ Error.OutOfMemory)) }
+    {
+        self.push_jsonb_item(key, JsonbItem::Owned(owned))
+    }
+
+    /// The object of the pairs, keys ascending by their bytes. A scalar, also the document of one,
+    /// stands in it as its entry and payload, and an array or object whole. `InvalidJsonb` where
+    /// bytes that were given are no document, a key or a payload has more than 268,435,455 bytes
+    /// or there are more than 536,870,911 pairs, before memory is asked for; else only memory can
+    /// be refused.
+    pub fn build(self) -> Result<OwnedJsonb, Error>
+        ensures ok { IfOk result (λ owned. IsObjectOf self.entry (owned_bytes owned)) }
+        ensures past { (result ≡ Err Error.InvalidJsonb) ↔ (FitObject self.entry → ⊥) }
+        ensures memory { result ≡ Err Error.OutOfMemory → FitObject self.entry }
+        ensures only { IfErr result (λ e. (e ≡ Error.InvalidJsonb) ⊎ (e ≡ Error.OutOfMemory)) }
+    {
+        object_document(self.alloc, &self.pairs)
     }
 }
 

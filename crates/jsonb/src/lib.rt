@@ -17,7 +17,7 @@ mod reads;
 mod tests;
 mod walks;
 
-pub use builder::ArrayBuilder;
+pub use builder::{ArrayBuilder, ObjectBuilder};
 pub use extension_item::ExtensionItem;
 pub use item::JsonbItem;
 pub use item_type::JsonbItemType;

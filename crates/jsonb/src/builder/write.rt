@@ -5,16 +5,19 @@ ghost use Rattle.jsonb_codec.specs.Room.{HasRoom, Appended};
 ghost use Rattle.jsonb.specs.Owned.{owned_bytes};
 ghost use Rattle.jsonb.specs.Shown.{shown};
 ghost use Rattle.jsonb.specs.Stored.{codes_of, AreStorable};
-ghost use Rattle.jsonb.specs.Building.{code_entries, code_payloads, array_of, FitArray, IsArrayOf};
-ghost use Rattle.jsonb.specs.Children.{children_shown};
+ghost use Rattle.jsonb.specs.Building.{code_entries, code_payloads, array_of, FitArray, IsArrayOf, FitObject, IsObjectOf};
+ghost use Rattle.jsonb.specs.Children.{children_shown, pairs_shown, key_texts, value_items, object_parts};
 
 use super::children::Children;
 use crate::code::append_word;
 use crate::item::JsonbItem;
 use crate::owned::OwnedJsonb;
-use jsonb_codec::constants::{ARRAY_CONTAINER_TAG, CONTAINER_HEADER_LEN_MASK};
+use jsonb_codec::constants::{
+    ARRAY_CONTAINER_TAG, CONTAINER_HEADER_LEN_MASK, OBJECT_CONTAINER_TAG,
+};
 use jsonb_value::Error;
 use std::alloc::Global;
+use std::collections::BTreeMap;
 
 /// The array of these items' entries. `InvalidJsonb` where an item has none, or a payload or the
 /// count is past its limit, before memory is asked for.
@@ -46,6 +49,46 @@ fn measure_array(items: &[JsonbItem]) -> Result<usize, Error>
         return Err(Error::InvalidJsonb);
     }
     Ok(4 + 4 * count + measure_payloads(Children::Items(items))?)
+}
+
+/// The object of these keys and of these items' entries. `InvalidJsonb` where an item has none, or
+/// a key, a payload or the count is past its limit, before memory is asked for.
+pub fn object_document<'a>(
+    alloc: Global,
+    pairs: &BTreeMap<&'a str, JsonbItem<'a>>,
+) -> Result<OwnedJsonb, Error>
+    ensures ok { IfOk result (λ owned. IsObjectOf (pairs_shown pairs.now.entries) (owned_bytes owned)) }
+    ensures past { result ≡ Err Error.InvalidJsonb → FitObject (pairs_shown pairs.now.entries) → ⊥ }
+    ensures memory { result ≡ Err Error.OutOfMemory → FitObject (pairs_shown pairs.now.entries) }
+    ensures only { IfErr result (λ e. (e ≡ Error.InvalidJsonb) ⊎ (e ≡ Error.OutOfMemory)) }
+{
+    let size = measure_object(pairs)?;
+    let mut bytes = Vec::new(alloc);
+    bytes.try_reserve(size)?;
+    append_word(&mut bytes, OBJECT_CONTAINER_TAG + pairs.len() as u32);
+    append_entries(&mut bytes, Children::Keys(pairs.iter()));
+    append_entries(&mut bytes, Children::Values(pairs.iter()));
+    append_payloads(&mut bytes, Children::Keys(pairs.iter()));
+    append_payloads(&mut bytes, Children::Values(pairs.iter()));
+    Ok(OwnedJsonb::new(bytes))
+}
+
+// The length of the object.
+fn measure_object<'a>(pairs: &BTreeMap<&'a str, JsonbItem<'a>>) -> Result<usize, Error>
+    ensures ok { IfOk result (λ n. n ≡ length (object_parts (length pairs.now.entries) (key_texts pairs.now.entries) (value_items pairs.now.entries))) }
+    ensures keys { OnOk result (AreStorable (key_texts pairs.now.entries)) }
+    ensures values { OnOk result (AreStorable (value_items pairs.now.entries)) }
+    ensures few { OnOk result (length pairs.now.entries < 2 ^ 29) }
+    ensures err { OnErr result (FitObject (pairs_shown pairs.now.entries) → ⊥) }
+    ensures only { IfErr result (λ e. e ≡ Error.InvalidJsonb) }
+{
+    let count = pairs.len();
+    if count > CONTAINER_HEADER_LEN_MASK as usize {
+        return Err(Error::InvalidJsonb);
+    }
+    let keys = measure_payloads(Children::Keys(pairs.iter()))?;
+    let values = measure_payloads(Children::Values(pairs.iter()))?;
+    Ok(4 + 8 * count + keys + values)
 }
 
 // The length of all payloads.
