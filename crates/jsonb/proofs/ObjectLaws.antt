@@ -3,9 +3,10 @@ use Rattle.std.proofs.Common.{◌≡◌, ℕ, ◌+◌, ◌*◌, ◌<◌, ◌^◌
 use Rattle.std.proofs.lemmas.List.{length-map}
 use Rattle.std.proofs.lemmas.Map.Text.{is_eq-slice_cmp}
 use Rattle.std.specs.Prelude.{is_some}
-use Rattle.std.specs.List.{list_any}
+use Rattle.std.specs.List.{AllByRecursion, list_any}
 use Rattle.std.specs.Map.{keys_of, values_of, lookup}
 use Rattle.std.specs.Str.{bytes_eq}
+use Rattle.std.specs.List.Sorted.{IsStrictlySortedBy}
 use Rattle.std.specs.BTreeMap.{insert_entry, is_at}
 use Rattle.std.specs.Ordering.{nat_cmp, match_ordering}
 use Rattle.std.specs.Cmp.Lexicographic.{slice_cmp}
@@ -16,9 +17,9 @@ use Rattle.jsonb_codec.proofs.Words.{length-word-append}
 use Rattle.jsonb.specs.declared.item.JsonbItem.{JsonbItem}
 use Rattle.jsonb.specs.Shown.{Shown, shown, text}
 use Rattle.jsonb.specs.Item.{Entry}
-use Rattle.jsonb.specs.Stored.{codes_of, AreStorable}
+use Rattle.jsonb.specs.Stored.{codes_of, AreStorable, AreHeld}
 use Rattle.jsonb.specs.Children.{pairs_shown, key_texts, value_items, object_parts}
-use Rattle.jsonb.specs.Building.{AreCodes, AreShort, code_entries, code_payloads, key_codes, object_of, FitObject, IsObjectOf, has_key, with_pair}
+use Rattle.jsonb.specs.Building.{AreCodes, AreShort, code_entries, code_payloads, key_codes, object_of, AreTexts, AreKeys, FitObject, IsObjectOf, has_key, with_pair}
 use Rattle.jsonb.proofs.StoredLaws.{AreCodes-codes_of, codes_of-AreCodes, length-codes_of, length-code_entries}
 
 -- the pairs of a map's entries
@@ -128,3 +129,20 @@ with_pair-step Greater e es key item more = ap (λ (ps : List (List ℕ × Shown
 pub with_pair-entries : (es : Entries) (key : Bor (List ℕ)) (item : JsonbItem) → pairs_shown (insert_entry key_cmp es key item) ≡ with_pair (pairs_shown es) key.now (shown item)
 with_pair-entries [] key item = refl
 with_pair-entries (e ∷ es) key item = with_pair-step (slice_cmp nat_cmp key.now e.0.now) e es key item (with_pair-entries es key item)
+
+-- A map's keys are texts that ascend.
+AreTexts-AreHeld : (es : Entries) → AreHeld (key_texts es) → AreTexts (keys_of (pairs_shown es))
+AreTexts-AreHeld [] h = tt
+AreTexts-AreHeld (e ∷ es) h = (h.0, AreTexts-AreHeld es h.1)
+
+above-keys : (k : Bor (List ℕ)) (es : Entries) → AllByRecursion (λ y. key_cmp k y ≡ Less) (keys_of es) → AllByRecursion (λ y. slice_cmp nat_cmp k.now y ≡ Less) (keys_of (pairs_shown es))
+above-keys k [] h = tt
+above-keys k (e ∷ es) h = (h.0, above-keys k es h.1)
+
+IsStrictlySortedBy-keys : (es : Entries) → IsStrictlySortedBy key_cmp (keys_of es) → IsStrictlySortedBy (slice_cmp nat_cmp) (keys_of (pairs_shown es))
+unfolding IsStrictlySortedBy
+IsStrictlySortedBy-keys [] h = tt
+IsStrictlySortedBy-keys (e ∷ es) h = (above-keys e.0 es h.0, IsStrictlySortedBy-keys es h.1)
+
+pub AreKeys-AreHeld : (es : Entries) → AreHeld (key_texts es) → IsStrictlySortedBy key_cmp (keys_of es) → AreKeys (keys_of (pairs_shown es))
+AreKeys-AreHeld es held sorted = record { texts = AreTexts-AreHeld es held; ascend = IsStrictlySortedBy-keys es sorted }

@@ -2,7 +2,8 @@
 use Rattle.std.specs.Prelude.{◌≡◌, ◌<◌, ◌^◌, ◌+◌, ⊤, ℕ, Bool, List, [], ◌∷◌, ◌++◌, length, map}
 use Rattle.std.specs.List.{list_any}
 use Rattle.std.specs.Map.{keys_of, values_of}
-use Rattle.std.specs.Str.{bytes_eq}
+use Rattle.std.specs.Str.{bytes_eq, IsUtf8}
+use Rattle.std.specs.List.Sorted.{IsStrictlySortedBy}
 use Rattle.std.specs.Ordering.{nat_cmp}
 use Rattle.std.specs.Cmp.Lexicographic.{slice_cmp}
 use Rattle.std.specs.BTreeMap.{insert_entry}
@@ -78,3 +79,13 @@ pub record FitObject (pairs : List (List ℕ × Shown)) : Type 0 where
 pub record IsObjectOf (pairs : List (List ℕ × Shown)) (bytes : List ℕ) : Type 0 where
   pub fit : FitObject pairs
   pub written : bytes ≡ object_of (keys_of pairs) fit.codes
+
+-- Each key is UTF-8,
+abbrev pub AreTexts : List (List ℕ) → Type 0
+AreTexts [] = ⊤
+AreTexts (k ∷ ks) = IsUtf8 k × AreTexts ks
+
+-- and its bytes are above those of the key before.
+pub record AreKeys (keys : List (List ℕ)) : Type 0 where
+  pub texts : AreTexts keys
+  pub ascend : IsStrictlySortedBy (slice_cmp nat_cmp) keys

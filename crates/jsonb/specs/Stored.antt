@@ -1,7 +1,11 @@
 -- The entry that is written for an item, as a function of what the item shows.
-use Rattle.std.specs.Prelude.{◌==◌, ◌<◌, ◌^◌, if◌then◌else◌, ⊤, ℕ, List, [], ◌∷◌, length, map, true, false, Option, None, unwrap_or, Result, Ok, Err}
+use Rattle.std.specs.Prelude.{◌==◌, ◌<◌, ◌^◌, if◌then◌else◌, ⊤, ℕ, List, [], ◌∷◌, length, map, true, false, Option, Some, None, unwrap_or, Result, Ok, Err}
 use Rattle.std.specs.Result.{result_ok}
 use Rattle.jsonb_value.specs.declared.error.Error.{Error}
+use Rattle.std.specs.Str.{IsUtf8}
+use Rattle.jsonb_value.specs.NumCode.{NumCode}
+use Rattle.jsonb_value.specs.ExtCode.{ExtCode}
+use Rattle.jsonb_value.specs.WellFormed.{IsNumber, IsExtension}
 use Rattle.jsonb_codec.specs.declared.constants.TheConstants.{SCALAR_CONTAINER_TAG, NULL_TAG, STRING_TAG, NUMBER_TAG, FALSE_TAG, TRUE_TAG, CONTAINER_TAG, EXTENSION_TAG}
 use Rattle.jsonb_codec.specs.Word.{header_at}
 use Rattle.jsonb_codec.specs.Doc.{IsDocument}
@@ -52,3 +56,19 @@ AreStorable (x ∷ xs) = IsStorable x × AreStorable xs
 
 abbrev pub codes_of : List Shown → List Entry
 codes_of xs = map code_of xs
+
+-- What an item holds is as its type has it: a number within its width, a text of UTF-8, bytes that were given those of the value.
+abbrev pub IsHeld : Shown → Type 0
+IsHeld null = ⊤
+IsHeld (boolean b) = ⊤
+IsHeld (number None x) = IsNumber x
+IsHeld (number (Some p) x) = NumCode p x
+IsHeld (text s) = IsUtf8 s
+IsHeld (extension None e) = IsExtension e
+IsHeld (extension (Some p) e) = ExtCode p e
+IsHeld (raw b) = ⊤
+IsHeld (owned b) = ⊤
+
+abbrev pub AreHeld : List Shown → Type 0
+AreHeld [] = ⊤
+AreHeld (x ∷ xs) = IsHeld x × AreHeld xs

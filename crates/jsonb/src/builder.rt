@@ -9,7 +9,8 @@ ghost use Rattle.jsonb.specs.Owned.{owned_bytes};
 ghost use Rattle.jsonb.specs.Shown.{Shown, shown};
 ghost use Rattle.jsonb.specs.Shown as items;
 ghost use Rattle.std.specs.Iterator.{IsFinite};
-ghost use Rattle.jsonb.specs.Building.{FitArray, IsArrayOf, has_key, with_pair, FitObject, IsObjectOf};
+ghost use Rattle.jsonb.specs.Building.{FitArray, IsArrayOf, has_key, with_pair, FitObject, IsObjectOf, AreKeys};
+ghost use Rattle.std.specs.Map.{keys_of};
 ghost use Rattle.jsonb.specs.Children.{pairs_shown};
 ghost use Rattle.jsonb.specs.Built.{IsArrayOfInputs, TakesAll};
 
@@ -172,6 +173,7 @@ impl<'a> ObjectBuilder<'a> {
     /// be refused.
     pub fn build(self) -> Result<OwnedJsonb, Error>
         ensures ok { IfOk result (λ owned. IsObjectOf self.entry (owned_bytes owned)) }
+        ensures keys { OnOk result (AreKeys (keys_of self.entry)) }
         ensures past { (result ≡ Err Error.InvalidJsonb) ↔ (FitObject self.entry → ⊥) }
         ensures memory { result ≡ Err Error.OutOfMemory → FitObject self.entry }
         ensures only { IfErr result (λ e. (e ≡ Error.InvalidJsonb) ⊎ (e ≡ Error.OutOfMemory)) }

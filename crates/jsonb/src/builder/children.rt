@@ -1,10 +1,11 @@
 //! What is stored in a container that is built: items, and an object's keys.
 
-ghost use Rattle.std.specs.Prelude.{◌≡◌, ◌↔◌, ◌∷◌, [], length, IsTrue, None, option_map, IfOk, IfErr, OnErr, MatchOption};
+ghost use Rattle.std.specs.Prelude.{◌≡◌, ◌↔◌, ◌∷◌, [], length, IsTrue, None, option_map, IfOk, IfErr, OnErr, MatchOption, OnOk};
+ghost use Rattle.std.specs.Str.{IsUtf8};
 ghost use Rattle.jsonb.specs.Shown.{shown};
 ghost use Rattle.jsonb.specs.Entries.{entry_of};
 ghost use Rattle.jsonb.specs.Code.{shown_code};
-ghost use Rattle.jsonb.specs.Stored.{scalar_entry, document_code, code_of, IsStored, IsStorable};
+ghost use Rattle.jsonb.specs.Stored.{scalar_entry, document_code, code_of, IsStored, IsStorable, IsHeld};
 ghost use Rattle.jsonb.specs.Children.{child_shown, children_shown};
 
 use crate::code::{Code, Payload};
@@ -62,6 +63,7 @@ impl<'s, 'a> Child<'s, 'a> {
     pub fn measure(self) -> Result<usize, Error>
         ensures ok { IfOk result (λ n. IsStorable (child_shown self.entry)
             × (n ≡ length (code_of (child_shown self.entry)).payload)) }
+        ensures held { OnOk result (IsHeld (child_shown self.entry)) }
         ensures err { OnErr result (IsStorable (child_shown self.entry) → ⊥) }
         ensures only { IfErr result (λ e. e ≡ Error.InvalidJsonb) }
     {
@@ -88,7 +90,8 @@ impl<'s, 'a> Child<'s, 'a> {
 
     /// The type of the entry, and the payload.
     pub fn code(self) -> Code<'s>
-        ensures { shown_code result ≡ code_of (child_shown self.entry) }
+        ensures code { shown_code result ≡ code_of (child_shown self.entry) }
+        ensures held { IsHeld (child_shown self.entry) }
     {
         match self {
             Child::Key(key) => text_code(key),
@@ -101,6 +104,7 @@ impl<'s, 'a> Child<'s, 'a> {
 fn text_code(text: &str) -> Code
     ensures type_code { result.type_code ≡ STRING_TAG }
     ensures payload { (shown_code result).payload ≡ text.now }
+    ensures held { IsUtf8 text.now }
 {
     Code {
         type_code: STRING_TAG,
@@ -110,7 +114,8 @@ fn text_code(text: &str) -> Code
 
 // With what an item is stored: bytes that were given as they were given.
 fn item_code<'s>(item: &'s JsonbItem<'_>) -> Code<'s>
-    ensures { shown_code result ≡ code_of (shown item.now) }
+    ensures code { shown_code result ≡ code_of (shown item.now) }
+    ensures held { IsHeld (shown item.now) }
 {
     let (type_code, payload) = match item {
         JsonbItem::Null => (NULL_TAG, Payload::Bytes(&[])),

@@ -4,8 +4,9 @@ ghost use Rattle.std.specs.Prelude.{◌≡◌, ◌≤◌, ◌<◌, ◌+◌, ◌^
 ghost use Rattle.jsonb_codec.specs.Room.{HasRoom, Appended};
 ghost use Rattle.jsonb.specs.Owned.{owned_bytes};
 ghost use Rattle.jsonb.specs.Shown.{shown};
-ghost use Rattle.jsonb.specs.Stored.{codes_of, AreStorable};
-ghost use Rattle.jsonb.specs.Building.{code_entries, code_payloads, array_of, FitArray, IsArrayOf, FitObject, IsObjectOf};
+ghost use Rattle.jsonb.specs.Stored.{codes_of, AreStorable, AreHeld};
+ghost use Rattle.jsonb.specs.Building.{code_entries, code_payloads, array_of, FitArray, IsArrayOf, FitObject, IsObjectOf, AreKeys};
+ghost use Rattle.std.specs.Map.{keys_of};
 ghost use Rattle.jsonb.specs.Children.{children_shown, pairs_shown, key_texts, value_items, object_parts};
 
 use super::children::Children;
@@ -23,6 +24,7 @@ use std::collections::BTreeMap;
 /// count is past its limit, before memory is asked for.
 pub fn array_document(alloc: Global, items: &[JsonbItem]) -> Result<OwnedJsonb, Error>
     ensures ok { IfOk result (λ owned. IsArrayOf (map shown items.now) (owned_bytes owned)) }
+    ensures held { OnOk result (AreHeld (map shown items.now)) }
     ensures past { result ≡ Err Error.InvalidJsonb → FitArray (map shown items.now) → ⊥ }
     ensures memory { result ≡ Err Error.OutOfMemory → FitArray (map shown items.now) }
     ensures only { IfErr result (λ e. (e ≡ Error.InvalidJsonb) ⊎ (e ≡ Error.OutOfMemory)) }
@@ -38,6 +40,7 @@ pub fn array_document(alloc: Global, items: &[JsonbItem]) -> Result<OwnedJsonb, 
 
 // The length of the array.
 fn measure_array(items: &[JsonbItem]) -> Result<usize, Error>
+    ensures held { OnOk result (AreHeld (map shown items.now)) }
     ensures ok { IfOk result (λ n. n ≡ length (array_of (codes_of (map shown items.now)))) }
     ensures storable { OnOk result (AreStorable (map shown items.now)) }
     ensures few { OnOk result (length (map shown items.now) < 2 ^ 29) }
@@ -58,6 +61,8 @@ pub fn object_document<'a>(
     pairs: &BTreeMap<&'a str, JsonbItem<'a>>,
 ) -> Result<OwnedJsonb, Error>
     ensures ok { IfOk result (λ owned. IsObjectOf (pairs_shown pairs.now.entries) (owned_bytes owned)) }
+    ensures held { OnOk result (AreHeld (value_items pairs.now.entries)) }
+    ensures keys { OnOk result (AreKeys (keys_of (pairs_shown pairs.now.entries))) }
     ensures past { result ≡ Err Error.InvalidJsonb → FitObject (pairs_shown pairs.now.entries) → ⊥ }
     ensures memory { result ≡ Err Error.OutOfMemory → FitObject (pairs_shown pairs.now.entries) }
     ensures only { IfErr result (λ e. (e ≡ Error.InvalidJsonb) ⊎ (e ≡ Error.OutOfMemory)) }
@@ -76,6 +81,8 @@ pub fn object_document<'a>(
 // The length of the object.
 fn measure_object<'a>(pairs: &BTreeMap<&'a str, JsonbItem<'a>>) -> Result<usize, Error>
     ensures ok { IfOk result (λ n. n ≡ length (object_parts (length pairs.now.entries) (key_texts pairs.now.entries) (value_items pairs.now.entries))) }
+    ensures held_keys { OnOk result (AreHeld (key_texts pairs.now.entries)) }
+    ensures held { OnOk result (AreHeld (value_items pairs.now.entries)) }
     ensures keys { OnOk result (AreStorable (key_texts pairs.now.entries)) }
     ensures values { OnOk result (AreStorable (value_items pairs.now.entries)) }
     ensures few { OnOk result (length pairs.now.entries < 2 ^ 29) }
@@ -97,6 +104,7 @@ fn measure_payloads(children: Children<'_, '_>) -> Result<usize, Error>
     ensures ok { IfOk result (λ n. n ≡ length (code_payloads (codes_of (children_shown children.entry)))) }
     ensures small { IfOk result (λ n. n ≤ 2 ^ 57) }
     ensures storable { OnOk result (AreStorable (children_shown children.entry)) }
+    ensures held { OnOk result (AreHeld (children_shown children.entry)) }
     ensures err { OnErr result (AreStorable (children_shown children.entry) → ⊥) }
     ensures only { IfErr result (λ e. e ≡ Error.InvalidJsonb) }
 {

@@ -1,5 +1,5 @@
 use Rattle.std.proofs.Common.{◌≡◌, ◌≤◌, ◌+◌, ◌*◌, ◌^◌, length}
-use Rattle.jsonb.specs.Stored.{codes_of, AreStorable}
+use Rattle.jsonb.specs.Stored.{codes_of, AreStorable, AreHeld}
 use Rattle.jsonb.specs.Building.{code_payloads}
 use Rattle.jsonb.specs.Children.{children_shown}
 use Rattle.jsonb.proofs.builder.write.measure_payloads.Given as goal
@@ -12,6 +12,7 @@ invariant-loop-child l =
     record {
       onward : AreStorable all → AreStorable left;
       back : AreStorable left → AreStorable all;
+      held : AreHeld left → AreHeld all;
       total : l.total + length (code_payloads (codes_of left)) ≡ length (code_payloads (codes_of all));
       small : l.total + 2 ^ 28 * length left ≤ 2 ^ 28 * length all;
     }

@@ -1,5 +1,5 @@
 use Rattle.std.proofs.Common.{rules, refl, length}
-use Rattle.jsonb.proofs.ObjectLaws.{FitObject-AreStorable, IsObjectOf-parts}
+use Rattle.jsonb.proofs.ObjectLaws.{FitObject-AreStorable, IsObjectOf-parts, AreKeys-AreHeld}
 use Rattle.jsonb.proofs.builder.write.object_document.Goals as goal
 
 pub returns-in_err-try_reserve-clause-memory : goal.returns-in_err-try_reserve-clause-memory
@@ -11,3 +11,6 @@ returns-clause-ok c =
     IsObjectOf-parts c.args.pairs.now.entries size.keys size.values size.few (length c.args.pairs.now.entries) c.append_word.new.out.items
     c.append_entries.new.out.items c.append_entries-2.new.out.items c.append_payloads.new.out.items c.append_payloads-2.new.out.items _ refl
     (search rules) (search rules) (search rules) (search rules) (search rules) c.new.ensures
+
+pub returns-clause-keys : goal.returns-clause-keys
+returns-clause-keys c = AreKeys-AreHeld c.args.pairs.now.entries c.in_ok-size.ensures.held_keys c.len.ensures.ordered
