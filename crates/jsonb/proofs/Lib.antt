@@ -12,3 +12,5 @@ pub mod WholeWalks
 pub mod StoredLaws
 pub mod BuiltLaws
 pub mod ObjectLaws
+pub mod InputLaws
+pub mod BuiltObjects

@@ -67,6 +67,14 @@ has_key pairs key = list_any (bytes_eq key) (keys_of pairs)
 abbrev pub with_pair : {A : Type 0} → List (List ℕ × A) → List ℕ → A → List (List ℕ × A)
 with_pair pairs key x = insert_entry (slice_cmp nat_cmp) pairs key x
 
+-- these pairs put in one after the other, and pairs in the order of their keys
+abbrev pub with_pairs : {A : Type 0} → List (List ℕ × A) → List (List ℕ × A) → List (List ℕ × A)
+with_pairs pairs [] = pairs
+with_pairs pairs (x ∷ xs) = with_pairs (with_pair pairs x.0 x.1) xs
+
+abbrev pub in_order : {A : Type 0} → List (List ℕ × A) → List (List ℕ × A)
+in_order xs = with_pairs [] xs
+
 -- Each value has an entry, and no key, no payload and no count is past its limit.
 pub record FitObject (pairs : List (List ℕ × Shown)) : Type 0 where
   pub codes : List Entry

@@ -12,7 +12,7 @@ ghost use Rattle.std.specs.Iterator.{IsFinite};
 ghost use Rattle.jsonb.specs.Building.{FitArray, IsArrayOf, has_key, with_pair, FitObject, IsObjectOf, AreKeys};
 ghost use Rattle.std.specs.Map.{keys_of};
 ghost use Rattle.jsonb.specs.Children.{pairs_shown};
-ghost use Rattle.jsonb.specs.Built.{IsArrayOfInputs, TakesAll};
+ghost use Rattle.jsonb.specs.Built.{IsArrayOfInputs, IsObjectOfInputs, MakeNoObject, input_pair, raw_pairs, TakesAll, TakesUpTo};
 
 use crate::item::JsonbItem;
 use crate::owned::OwnedJsonb;
@@ -204,6 +204,35 @@ impl OwnedJsonb {
         let mut builder = ArrayBuilder::new(alloc);
         for input in inputs {
             builder.push_raw_jsonb(input)?;
+        }
+        builder.build()
+    }
+
+    /// The object of these documents at their keys, keys ascending by their bytes: a scalar stands
+    /// in it as its entry and payload, and an array or object whole. `ObjectDuplicateKey` at the
+    /// first key that came before; else `InvalidJsonb` where an input is no document, a key or a
+    /// payload has more than 268,435,455 bytes or there are more than 536,870,911 inputs; else
+    /// only memory can be refused. The iterator must end.
+    pub fn build_object<'a, I: IntoIterator<Item = (&'a str, RawJsonb<'a>)>>(
+        alloc: Global,
+        inputs: I,
+    ) -> Result<OwnedJsonb, Error>
+    where
+        I::IntoIter: Drop,
+        requires { (it : I.IntoIter) → I.into_iter_gives inputs it
+            → I.IntoIter.can_next it × IsFinite (I.IntoIter.remaining it) }
+        ensures ok { IfOk result (λ owned. TakesAll I.into_iter_gives I.IntoIter.next_gives inputs
+            (λ xs. IsObjectOfInputs (map input_pair xs) (owned_bytes owned))) }
+        ensures past { result ≡ Err Error.InvalidJsonb → TakesAll I.into_iter_gives I.IntoIter.next_gives inputs
+            (λ xs. MakeNoObject (map input_pair xs)) }
+        ensures duplicate { result ≡ Err Error.ObjectDuplicateKey → TakesUpTo I.into_iter_gives I.IntoIter.next_gives inputs
+            (λ xs x. IsTrue (has_key (map input_pair xs) x.0.now)) }
+        ensures only { IfErr result (λ e. (e ≡ Error.InvalidJsonb)
+            ⊎ ((e ≡ Error.ObjectDuplicateKey) ⊎ (e ≡ Error.OutOfMemory))) }
+    {
+        let mut builder = ObjectBuilder::new(alloc);
+        for (key, input) in inputs {
+            builder.push_raw_jsonb(key, input)?;
         }
         builder.build()
     }
