@@ -14,3 +14,8 @@ pub mod BuiltLaws
 pub mod ObjectLaws
 pub mod InputLaws
 pub mod BuiltObjects
+pub mod MeantLaws
+pub mod ValueLaws
+pub mod Weights
+pub mod InStep
+pub mod UnlikeLaws

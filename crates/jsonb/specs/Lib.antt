@@ -17,3 +17,5 @@ pub mod Stored
 pub mod Building
 pub mod Children
 pub mod Built
+pub mod Meant
+pub mod Values

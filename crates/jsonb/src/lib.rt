@@ -10,6 +10,7 @@ mod item_type;
 mod iterator;
 mod lookup;
 mod number_item;
+mod order;
 mod owned;
 mod raw;
 mod reads;
@@ -33,6 +34,7 @@ pub use jsonb_value::{
 };
 pub use lookup::MAX_READS;
 pub use number_item::NumberItem;
+pub use order::meaning_laws;
 pub use owned::OwnedJsonb;
 pub use raw::RawJsonb;
 pub use reads::Reads;

@@ -1,0 +1,58 @@
+-- What `meaning_of` answers, and the items that mean a tree.
+use Rattle.std.proofs.Common.{◌≡◌, ℕ, List, inl, inr, refl, sym, ap, subst}
+use Rattle.jsonb_value.specs.Tree.{Tree}
+use Rattle.jsonb_value.specs.Meaning.{document, other_bytes}
+use Rattle.jsonb_value.proofs.PayloadDecision.{Decided}
+use Rattle.jsonb_codec.specs.Doc.{Doc, IsDocument}
+use Rattle.jsonb_codec.proofs.Decision.{decide}
+use Rattle.jsonb_codec.proofs.Unique.{Doc-unique}
+use Rattle.jsonb.specs.Code.{Means}
+use Rattle.jsonb.specs.Meant.{meaning_found, meaning_of, shown_meaning}
+use Rattle.jsonb.specs.Shown.{Shown, null, boolean, number, text, extension, raw, owned}
+
+meaning_found-document : (b : List ℕ) (t : Tree) → Doc b t → (d : Decided (IsDocument b)) → meaning_found b d ≡ document t
+meaning_found-document b t doc (inl found) = ap document (Doc-unique b found.0 t found.1 doc)
+meaning_found-document b t doc (inr none) = absurd (none (t, doc))
+
+meaning_found-other : (b : List ℕ) → (IsDocument b → ⊥) → (d : Decided (IsDocument b)) → meaning_found b d ≡ other_bytes b
+meaning_found-other b none (inl found) = absurd (none found)
+meaning_found-other b none (inr other) = refl
+
+-- A document means its tree,
+pub meaning_of-document : (b : List ℕ) (t : Tree) → Doc b t → meaning_of b ≡ document t
+unfolding meaning_of
+meaning_of-document b t doc = meaning_found-document b t doc (decide b)
+
+-- and bytes that are no document mean themselves.
+pub meaning_of-other : (b : List ℕ) → (IsDocument b → ⊥) → meaning_of b ≡ other_bytes b
+unfolding meaning_of
+meaning_of-other b none = meaning_found-other b none (decide b)
+
+Doc-meaning_found : (b : List ℕ) (t : Tree) → (d : Decided (IsDocument b)) → meaning_found b d ≡ document t → Doc b t
+Doc-meaning_found b t (inl found) e = let same : found.0 ≡ t = cc in subst (Doc b) same found.1
+Doc-meaning_found b t (inr none) e = let different : ⊥ = cc in absurd different
+
+-- Bytes that mean a tree are a document of it.
+pub Doc-meaning_of : (b : List ℕ) (t : Tree) → meaning_of b ≡ document t → Doc b t
+unfolding meaning_of
+Doc-meaning_of b t e = Doc-meaning_found b t (decide b) e
+
+-- An item that means a tree has it as its meaning.
+pub shown_meaning-document : (x : Shown) (t : Tree) → Means x t → shown_meaning x ≡ document t
+shown_meaning-document null t e = ap document (sym e)
+shown_meaning-document (boolean b) t e = ap document (sym e)
+shown_meaning-document (number given x) t e = ap document (sym e)
+shown_meaning-document (text s) t e = ap document (sym e)
+shown_meaning-document (extension given x) t e = ap document (sym e)
+shown_meaning-document (raw b) t doc = meaning_of-document b t doc
+shown_meaning-document (owned b) t doc = meaning_of-document b t doc
+
+-- Where the meaning is a tree, the item means it.
+pub Means-shown_meaning : (x : Shown) (t : Tree) → shown_meaning x ≡ document t → Means x t
+Means-shown_meaning null t e = cc
+Means-shown_meaning (boolean b) t e = cc
+Means-shown_meaning (number given x) t e = cc
+Means-shown_meaning (text s) t e = cc
+Means-shown_meaning (extension given x) t e = cc
+Means-shown_meaning (raw b) t e = Doc-meaning_of b t e
+Means-shown_meaning (owned b) t e = Doc-meaning_of b t e
