@@ -19,3 +19,5 @@ pub mod ValueLaws
 pub mod Weights
 pub mod InStep
 pub mod UnlikeLaws
+pub mod BuiltMeanings
+pub mod Classes

@@ -30,7 +30,7 @@ codes_of-key_texts : (es : Entries) → codes_of (key_texts es) ≡ key_codes (k
 codes_of-key_texts [] = refl
 codes_of-key_texts (e ∷ es) = ap (λ (cs : List Entry). record { type = 268435456; payload = e.0.now } ∷ cs) (codes_of-key_texts es)
 
-value_items-values_of : (es : Entries) → value_items es ≡ values_of (pairs_shown es)
+pub value_items-values_of : (es : Entries) → value_items es ≡ values_of (pairs_shown es)
 value_items-values_of [] = refl
 value_items-values_of (e ∷ es) = ap (λ (xs : List Shown). shown e.1 ∷ xs) (value_items-values_of es)
 

@@ -7,7 +7,7 @@ use Rattle.std.specs.Map.{keys_of}
 use Rattle.std.specs.Str.{bytes_eq}
 use Rattle.jsonb_value.specs.Tree.{Tree, Trees, no_trees, tree, Pairs, no_pairs, pair}
 use Rattle.jsonb_value.specs.Tree as trees
-use Rattle.jsonb_value.specs.Norm.{norms}
+use Rattle.jsonb_value.specs.Norm.{norms, norm_pairs}
 use Rattle.jsonb_value.specs.WellFormed.{IsTree}
 use Rattle.jsonb_codec.specs.Doc.{Doc}
 use Rattle.jsonb_codec.specs.Canon.{canon, Fits}
@@ -22,6 +22,12 @@ abbrev pub AllMean : List Shown → Trees → Type 0
 AllMean [] ts = ts ≡ no_trees
 AllMean (x ∷ xs) no_trees = ⊥
 AllMean (x ∷ xs) (tree t ts) = Means x t × AllMean xs ts
+
+-- The same of pairs: the keys are theirs, and the items mean their trees.
+abbrev pub AllMeanAt : List (List ℕ × Shown) → Pairs → Type 0
+AllMeanAt [] ps = ps ≡ no_pairs
+AllMeanAt (x ∷ xs) no_pairs = ⊥
+AllMeanAt (x ∷ xs) (pair k t ps) = (x.0 ≡ k) × (Means x.1 t × AllMeanAt xs ps)
 
 -- The byte strings are documents of these trees,
 abbrev pub AreDocuments : List (List ℕ) → Trees → Type 0
@@ -40,6 +46,12 @@ pub record IsArrayUpToZeros (ts : Trees) (bytes : List ℕ) : Type 0 where
   pub stored : Trees
   pub document : Doc bytes (trees.array stored)
   pub same : norms stored ≡ norms ts
+
+-- The same of an object of pairs.
+pub record IsObjectUpToZeros (ps : Pairs) (bytes : List ℕ) : Type 0 where
+  pub stored : Pairs
+  pub document : Doc bytes (trees.object stored)
+  pub same : norm_pairs stored ≡ norm_pairs ps
 
 -- The bytes are the array of these inputs: of documents a document of the array of their trees, of canonical ones the canonical one.
 pub record IsArrayOfInputs (inputs : List (List ℕ)) (bytes : List ℕ) : Type 0 where

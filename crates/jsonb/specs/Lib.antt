@@ -19,3 +19,4 @@ pub mod Children
 pub mod Built
 pub mod Meant
 pub mod Values
+pub mod Tally

@@ -1,9 +1,11 @@
 //! Arrays and objects, put together of items.
 
 mod children;
+mod distinct;
 mod write;
 
 ghost use Rattle.std.specs.Prelude.{◌≡◌, ◌↔◌, ◌⊎◌, List, [], ◌∷◌, ◌++◌, ℕ, map, Err, IsTrue, IfOk, IfErr, OnOk, OnErr};
+ghost use Rattle.jsonb_value.specs.Tree.{Trees, Pairs};
 ghost use Rattle.jsonb.specs.Raw.{raw_bytes};
 ghost use Rattle.jsonb.specs.Owned.{owned_bytes};
 ghost use Rattle.jsonb.specs.Shown.{Shown, shown};
@@ -12,7 +14,7 @@ ghost use Rattle.std.specs.Iterator.{IsFinite};
 ghost use Rattle.jsonb.specs.Building.{FitArray, IsArrayOf, has_key, with_pair, FitObject, IsObjectOf, AreKeys};
 ghost use Rattle.std.specs.Map.{keys_of};
 ghost use Rattle.jsonb.specs.Children.{pairs_shown};
-ghost use Rattle.jsonb.specs.Built.{IsArrayOfInputs, IsObjectOfInputs, MakeNoObject, input_pair, raw_pairs, TakesAll, TakesUpTo};
+ghost use Rattle.jsonb.specs.Built.{AllMean, AllMeanAt, IsArrayUpToZeros, IsObjectUpToZeros, IsArrayOfInputs, IsObjectOfInputs, MakeNoObject, input_pair, raw_pairs, TakesAll, TakesUpTo};
 
 use crate::item::JsonbItem;
 use crate::owned::OwnedJsonb;
@@ -21,6 +23,7 @@ use jsonb_value::Error;
 use std::alloc::Global;
 use std::collections::BTreeMap;
 use std::marker::Model;
+pub use distinct::ArrayDistinctBuilder;
 use write::{array_document, object_document};
 
 /// Items that become an array.
@@ -91,6 +94,8 @@ impl<'a> ArrayBuilder<'a> {
     /// refused.
     pub fn build(self) -> Result<OwnedJsonb, Error>
         ensures ok { IfOk result (λ owned. IsArrayOf self.entry (owned_bytes owned)) }
+        ensures means { IfOk result (λ owned. (ts : Trees) → AllMean self.entry ts
+            → IsArrayUpToZeros ts (owned_bytes owned)) }
         ensures past { (result ≡ Err Error.InvalidJsonb) ↔ (FitArray self.entry → ⊥) }
         ensures memory { result ≡ Err Error.OutOfMemory → FitArray self.entry }
         ensures only { IfErr result (λ e. (e ≡ Error.InvalidJsonb) ⊎ (e ≡ Error.OutOfMemory)) }
@@ -174,6 +179,8 @@ impl<'a> ObjectBuilder<'a> {
     pub fn build(self) -> Result<OwnedJsonb, Error>
         ensures ok { IfOk result (λ owned. IsObjectOf self.entry (owned_bytes owned)) }
         ensures keys { OnOk result (AreKeys (keys_of self.entry)) }
+        ensures means { IfOk result (λ owned. (ps : Pairs) → AllMeanAt self.entry ps
+            → IsObjectUpToZeros ps (owned_bytes owned)) }
         ensures past { (result ≡ Err Error.InvalidJsonb) ↔ (FitObject self.entry → ⊥) }
         ensures memory { result ≡ Err Error.OutOfMemory → FitObject self.entry }
         ensures only { IfErr result (λ e. (e ≡ Error.InvalidJsonb) ⊎ (e ≡ Error.OutOfMemory)) }

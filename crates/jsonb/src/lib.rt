@@ -18,7 +18,7 @@ mod reads;
 mod tests;
 mod walks;
 
-pub use builder::{ArrayBuilder, ObjectBuilder};
+pub use builder::{ArrayBuilder, ArrayDistinctBuilder, ObjectBuilder};
 pub use extension_item::ExtensionItem;
 pub use item::JsonbItem;
 pub use item_type::JsonbItemType;

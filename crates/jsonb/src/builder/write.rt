@@ -6,7 +6,7 @@ ghost use Rattle.jsonb.specs.Owned.{owned_bytes};
 ghost use Rattle.jsonb.specs.Shown.{shown};
 ghost use Rattle.jsonb.specs.Stored.{codes_of, AreStorable, AreHeld};
 ghost use Rattle.jsonb.specs.Building.{code_entries, code_payloads, array_of, FitArray, IsArrayOf, FitObject, IsObjectOf, AreKeys};
-ghost use Rattle.std.specs.Map.{keys_of};
+ghost use Rattle.std.specs.Map.{keys_of, values_of};
 ghost use Rattle.jsonb.specs.Children.{children_shown, pairs_shown, key_texts, value_items, object_parts};
 
 use super::children::Children;
@@ -61,7 +61,7 @@ pub fn object_document<'a>(
     pairs: &BTreeMap<&'a str, JsonbItem<'a>>,
 ) -> Result<OwnedJsonb, Error>
     ensures ok { IfOk result (λ owned. IsObjectOf (pairs_shown pairs.now.entries) (owned_bytes owned)) }
-    ensures held { OnOk result (AreHeld (value_items pairs.now.entries)) }
+    ensures held { OnOk result (AreHeld (values_of (pairs_shown pairs.now.entries))) }
     ensures keys { OnOk result (AreKeys (keys_of (pairs_shown pairs.now.entries))) }
     ensures past { result ≡ Err Error.InvalidJsonb → FitObject (pairs_shown pairs.now.entries) → ⊥ }
     ensures memory { result ≡ Err Error.OutOfMemory → FitObject (pairs_shown pairs.now.entries) }

@@ -1,5 +1,6 @@
-use Rattle.std.proofs.Common.{rules, refl, length}
-use Rattle.jsonb.proofs.ObjectLaws.{FitObject-AreStorable, IsObjectOf-parts, AreKeys-AreHeld}
+use Rattle.std.proofs.Common.{rules, refl, subst, length}
+use Rattle.jsonb.specs.Stored.{AreHeld}
+use Rattle.jsonb.proofs.ObjectLaws.{FitObject-AreStorable, IsObjectOf-parts, AreKeys-AreHeld, value_items-values_of}
 use Rattle.jsonb.proofs.builder.write.object_document.Goals as goal
 
 pub returns-in_err-try_reserve-clause-memory : goal.returns-in_err-try_reserve-clause-memory
@@ -14,3 +15,6 @@ returns-clause-ok c =
 
 pub returns-clause-keys : goal.returns-clause-keys
 returns-clause-keys c = AreKeys-AreHeld c.args.pairs.now.entries c.in_ok-size.ensures.held_keys c.len.ensures.ordered
+
+pub returns-clause-held : goal.returns-clause-held
+returns-clause-held c = subst AreHeld (value_items-values_of c.args.pairs.now.entries) c.in_ok-size.ensures.held
