@@ -1,8 +1,7 @@
 -- Equal items have one count, and are both listed or both not.
 use Rattle.std.proofs.Common.{◌≡◌, ℕ, ◌-◌, List, [], ◌∷◌, ◌++◌, Bool, true, false, refl, ap, sym, cond, arith, ◌∙◌, subst, map, rules}
-use Rattle.std.specs.Prelude.{Option, Some, is_some, unwrap_or}
+use Rattle.std.specs.Prelude.{Some, is_some, unwrap_or}
 use Rattle.std.specs.List.{list_any}
-use Rattle.std.specs.Map.{lookup}
 use Rattle.std.proofs.lemmas.List.Folds.{list_any-append}
 use Rattle.std.proofs.lemmas.Cmp.{on_total, eq_by_cmp_equiv}
 use Rattle.std.specs.Cmp.{IsEquivalence}
@@ -10,13 +9,10 @@ use Rattle.jsonb_value.proofs.MeaningLaws.{meaning_cmp_total}
 use Rattle.jsonb.specs.declared.item.JsonbItem.{JsonbItem}
 use Rattle.jsonb.specs.Shown.{Shown, shown}
 use Rattle.jsonb.specs.Meant.{shown_meaning}
-use Rattle.jsonb.specs.Tally.{Tally, same_meaning, has_equal, count_of}
+use Rattle.jsonb.specs.Tally.{Tally, same_meaning, has_equal, count_at, SetsCount, Lists, count_of}
 
 same_meaning_equivalence : IsEquivalence same_meaning
 same_meaning_equivalence = eq_by_cmp_equiv (on_total shown_meaning meaning_cmp_total)
-
-abbrev count_at : List (JsonbItem × ℕ) → Shown → Option ℕ
-count_at counts x = lookup (λ key. same_meaning x (shown key)) counts
 
 pub lookup_same : (x y : Shown) (counts : List (JsonbItem × ℕ)) → same_meaning x y ≡ true → count_at counts x ≡ count_at counts y
 lookup_same x y [] same = refl
@@ -25,10 +21,6 @@ lookup_same x y (e ∷ es) same = rw (same_meaning_equivalence.congr x y (shown 
 pub has_equal_same : (x y : Shown) (list : List Shown) → same_meaning x y ≡ true → has_equal list x ≡ has_equal list y
 has_equal_same x y [] same = refl
 has_equal_same x y (e ∷ es) same = rw (same_meaning_equivalence.congr x y e same, has_equal_same x y es same) refl
-
--- the counts are as before, but for the class of x, which has n
-abbrev pub SetsCount : List (JsonbItem × ℕ) → List (JsonbItem × ℕ) → Shown → ℕ → Type 0
-SetsCount old new x n = (item : JsonbItem) → count_at new (shown item) ≡ cond (same_meaning x (shown item)) (Some n) (count_at old (shown item))
 
 abbrev count_in : List (JsonbItem × ℕ) → Shown → ℕ
 count_in counts x = unwrap_or (count_at counts x) 0
@@ -57,10 +49,7 @@ count_of_kept tally x none item = case (same_meaning x (shown item)) refl where
   case true same = let level : count_of tally x ≡ count_of tally (shown item) = ap (λ o. unwrap_or o 0) (lookup_same x (shown item) tally.counts same) in omega arith
   case false other = refl
 
--- a class has a count exactly if it is listed
-abbrev pub Lists : List Shown → List (JsonbItem × ℕ) → Type 0
-Lists list counts = (item : JsonbItem) → is_some (count_at counts (shown item)) ≡ has_equal list (shown item)
-
+-- A class has a count exactly if it is listed,
 -- and so after the count of a listed class was set
 pub lists_known : (list : List Shown) (old new : List (JsonbItem × ℕ)) (x : Shown) (n : ℕ) → Lists list old → SetsCount old new x n
     → is_some (count_at old x) ≡ true → Lists list new

@@ -1,5 +1,5 @@
 -- What a builder of distinct items holds, whatever keeps it.
-use Rattle.std.specs.Prelude.{ℕ, Bool, List, if◌then◌else◌, ◌+◌, ◌-◌, ◌≡◌, ◌++◌, [], ◌∷◌, unwrap_or}
+use Rattle.std.specs.Prelude.{ℕ, Bool, Option, Some, is_some, List, if◌then◌else◌, ◌+◌, ◌-◌, ◌≡◌, ◌++◌, [], ◌∷◌, unwrap_or}
 use Rattle.std.specs.List.{list_any}
 use Rattle.std.specs.Map.{lookup}
 use Rattle.std.specs.Ordering.{on, eq_by_cmp}
@@ -21,9 +21,21 @@ same_meaning = eq_by_cmp (on shown_meaning meaning_cmp)
 abbrev pub has_equal : List Shown → Shown → Bool
 has_equal list x = list_any (same_meaning x) list
 
+-- the count of the item's class, where it has one
+abbrev pub count_at : List (JsonbItem × ℕ) → Shown → Option ℕ
+count_at counts x = lookup (λ key. same_meaning x (shown key)) counts
+
+-- The counts are as before, but for the class of the item, which has n.
+abbrev pub SetsCount : List (JsonbItem × ℕ) → List (JsonbItem × ℕ) → Shown → ℕ → Type 0
+SetsCount old new x n = (item : JsonbItem) → count_at new (shown item) ≡ (if same_meaning x (shown item) then Some n else count_at old (shown item))
+
+-- A class has a count exactly if the list has one of it.
+abbrev pub Lists : List Shown → List (JsonbItem × ℕ) → Type 0
+Lists list counts = (item : JsonbItem) → is_some (count_at counts (shown item)) ≡ has_equal list (shown item)
+
 -- how often the item's class counts
 abbrev pub count_of : Tally → Shown → ℕ
-count_of tally x = unwrap_or (lookup (λ key. same_meaning x (shown key)) tally.counts) 0
+count_of tally x = unwrap_or (count_at tally.counts x) 0
 
 -- the list after an item came
 abbrev pub list_with : List Shown → Shown → List Shown

@@ -19,11 +19,11 @@ ghost use Rattle.jsonb.specs.Built.{AllMean, AllMeanAt, IsArrayUpToZeros, IsObje
 use crate::item::JsonbItem;
 use crate::owned::OwnedJsonb;
 use crate::raw::RawJsonb;
+pub use distinct::ArrayDistinctBuilder;
 use jsonb_value::Error;
 use std::alloc::Global;
 use std::collections::BTreeMap;
 use std::marker::Model;
-pub use distinct::ArrayDistinctBuilder;
 use write::{array_document, object_document};
 
 /// Items that become an array.

@@ -1,19 +1,15 @@
 //! An array of distinct items, and how often each came.
 
-ghost use Rattle.std.specs.Prelude.{◌≡◌, ◌≢◌, ◌⊎◌, ◌↔◌, ◌+◌, ◌<◌, [], false, map, is_some, Err, IsSome, IfOk, IfErr, OnOk, OnErr};
-ghost use Rattle.std.specs.BTreeMap.{get};
-ghost use Rattle.std.specs.Ordering.{on};
-ghost use Rattle.jsonb_value.specs.Meaning.{meaning_cmp};
+ghost use Rattle.std.specs.Prelude.{◌≡◌, ◌≢◌, ◌⊎◌, ◌↔◌, ◌+◌, ◌<◌, [], true, false, map, is_some, Err, IsSome, IsOk, IfOk, IfErr, OnOk, OnErr};
 ghost use Rattle.jsonb_value.specs.Tree.{Trees};
 ghost use Rattle.jsonb.specs.declared.item.JsonbItem.{JsonbItem};
 ghost use Rattle.jsonb.specs.Raw.{raw_bytes};
 ghost use Rattle.jsonb.specs.Owned.{owned_bytes};
 ghost use Rattle.jsonb.specs.Shown.{shown};
 ghost use Rattle.jsonb.specs.Shown as items;
-ghost use Rattle.jsonb.specs.Meant.{item_meaning};
 ghost use Rattle.jsonb.specs.Building.{FitArray, IsArrayOf};
 ghost use Rattle.jsonb.specs.Built.{AllMean, IsArrayUpToZeros};
-ghost use Rattle.jsonb.specs.Tally.{Tally, has_equal, count_of, list_with, CountsOneMore, CountsOneLess};
+ghost use Rattle.jsonb.specs.Tally.{Tally, has_equal, count_at, SetsCount, Lists, count_of, list_with, CountsOneMore, CountsOneLess};
 
 use super::write::array_document;
 use crate::item::JsonbItem;
@@ -37,9 +33,7 @@ impl<'a> Model for ArrayDistinctBuilder<'a> {
 
     ghost view = { λ s. record { list = map shown s.list.items; counts = s.counts.entries } };
 
-    // A class has a count exactly if the list has one of it.
-    ghost invariant = { λ s. (x : JsonbItem)
-        → is_some (get (on item_meaning meaning_cmp) s.counts x) ≡ has_equal (map shown s.list.items) (shown x) };
+    ghost invariant = { λ s. Lists (map shown s.list.items) s.counts.entries };
 }
 
 impl<'a> ArrayDistinctBuilder<'a> {
@@ -58,6 +52,7 @@ impl<'a> ArrayDistinctBuilder<'a> {
     /// Counts an item, and puts it behind the others of the list unless the list has an equal one.
     /// `InvalidJsonb` where its count is the greatest `usize`; else only memory can be refused.
     /// After a refusal the builder is as before, and the item is dropped.
+    #[tactic(auto, using(crate::proofs::Classes::lookup_same, crate::proofs::Classes::has_equal_same))]
     pub fn push_jsonb_item(&mut self, item: JsonbItem<'a>) -> Result<(), Error>
         ensures list { OnOk result (self.new.list ≡ list_with self.old.list (shown item.entry)) }
         ensures counts { OnOk result (CountsOneMore self.old self.new (shown item.entry)) }
@@ -67,16 +62,13 @@ impl<'a> ArrayDistinctBuilder<'a> {
         ensures err { OnErr result (self.new ≡ self.old) }
         ensures only { IfErr result (λ e. (e ≡ Error.InvalidJsonb) ⊎ (e ≡ Error.OutOfMemory)) }
     {
-        match self.counts.get(&item).copied() {
+        match count_in(&self.counts, &item) {
             Some(usize::MAX) => Err(Error::InvalidJsonb),
-            Some(count) => {
-                self.counts.insert(item, count + 1)?;
-                Ok(())
-            }
+            Some(count) => set_count(&mut self.counts, item, count + 1),
             None => {
                 let key = item.clone(*self.list.allocator())?;
                 self.list.try_reserve(1)?;
-                self.counts.insert(key, 1)?;
+                set_count(&mut self.counts, key, 1)?;
                 self.list.push(item)?;
                 Ok(())
             }
@@ -99,14 +91,15 @@ impl<'a> ArrayDistinctBuilder<'a> {
 
     /// Takes one off the count of an item's equal. `None` where there is none, or its count is 0.
     /// The list stays as it is. No memory is asked for.
+    #[tactic(auto, using(crate::proofs::Classes::lookup_same, crate::proofs::Classes::has_equal_same))]
     pub fn pop_jsonb_item(&mut self, item: JsonbItem<'a>) -> Option<()>
         ensures known { IsSome result ↔ (count_of self.old (shown item.entry) ≢ 0) }
         ensures list { self.new.list ≡ self.old.list }
         ensures counts { CountsOneLess self.old self.new (shown item.entry) }
     {
-        let count = self.counts.get(&item).copied()?.checked_sub(1)?;
-        match self.counts.insert(item, count) {
-            Ok(_) => Some(()),
+        let count = count_in(&self.counts, &item)?.checked_sub(1)?;
+        match set_count(&mut self.counts, item, count) {
+            Ok(()) => Some(()),
             // The item's equal is there, so no memory was asked for.
             Err(_) => unreachable!(),
         }
@@ -133,4 +126,27 @@ impl<'a> ArrayDistinctBuilder<'a> {
     {
         array_document(*self.list.allocator(), &self.list)
     }
+}
+
+// How often the item's equals came, where one did.
+fn count_in<'a>(counts: &BTreeMap<JsonbItem<'a>, usize>, item: &JsonbItem<'a>) -> Option<usize>
+    ensures { result ≡ count_at counts.now.entries (shown item.now) }
+{
+    counts.get(item).copied()
+}
+
+// Sets the count of the item and its equals. Only memory can be refused, and only where none came.
+fn set_count<'a>(
+    counts: &mut BTreeMap<JsonbItem<'a>, usize>,
+    item: JsonbItem<'a>,
+    count: usize,
+) -> Result<(), Error>
+    ensures set { OnOk result
+        (SetsCount counts.old.entries counts.new.entries (shown item.entry) count) }
+    ensures err { OnErr result (counts.new.entries ≡ counts.old.entries) }
+    ensures known { is_some (count_at counts.old.entries (shown item.entry)) ≡ true → IsOk result }
+    ensures memory { IfErr result (λ e. e ≡ Error.OutOfMemory) }
+{
+    counts.insert(item, count)?;
+    Ok(())
 }

@@ -141,8 +141,8 @@ cmp_containers-returns-in-Some-Some t c = λ v u i d j e.
     let left = c.in-Some-Some.ensures in let right = c.in-Some-Some.ensures' in
     on_containers (λ v. Doc (raw_bytes c.args.left) v → c.cmp_items.result ≡ tree_cmp v u)
     (λ ts d. on_containers (λ u. Doc (raw_bytes c.args.right) u → c.cmp_items.result ≡ tree_cmp (array ts) u)
-        (λ us e. c.cmp_items.ensures ts us (left.array ts d) (right.array us e))
-        (λ qs e. let other = right.object qs e in let never : ⊥ = cc in absurd never) u j e)
+    (λ us e. c.cmp_items.ensures ts us (left.array ts d) (right.array us e))
+    (λ qs e. let other = right.object qs e in let never : ⊥ = cc in absurd never) u j e)
     (λ ps d. let other = left.object ps d in let never : ⊥ = cc in absurd never) v i d
 
 pub cmp_containers-returns-in-Some-None : goal.cmp_containers-returns-in-Some-None
@@ -158,7 +158,7 @@ cmp_containers-returns-in-None-Some t c = λ v u i d j e.
     on_containers (λ v. Doc (raw_bytes c.args.left) v → Less ≡ tree_cmp v u)
     (λ ts d. absurd (left.array ts d))
     (λ ps d. on_containers (λ u. Doc (raw_bytes c.args.right) u → Less ≡ tree_cmp (object ps) u) (λ us e. refl)
-        (λ qs e. let other = right.object qs e in let never : ⊥ = cc in absurd never) u j e) v i d
+    (λ qs e. let other = right.object qs e in let never : ⊥ = cc in absurd never) u j e) v i d
 
 pub cmp_containers-returns-in-None-None : goal.cmp_containers-returns-in-None-None
 cmp_containers-returns-in-None-None t c = λ v u i d j e.
@@ -166,7 +166,7 @@ cmp_containers-returns-in-None-None t c = λ v u i d j e.
     on_containers (λ v. Doc (raw_bytes c.args.left) v → c.cmp_objects.result ≡ tree_cmp v u)
     (λ ts d. absurd (left.array ts d))
     (λ ps d. on_containers (λ u. Doc (raw_bytes c.args.right) u → c.cmp_objects.result ≡ tree_cmp (object ps) u) (λ us e. absurd (right.array us e))
-        (λ qs e. c.cmp_objects.ensures ps qs d e) u j e) v i d
+    (λ qs e. c.cmp_objects.ensures ps qs d e) u j e) v i d
 
 pub cmp_objects-cmp_pairs-requires : goal.cmp_objects-cmp_pairs-requires
 cmp_objects-cmp_pairs-requires t c =
@@ -175,9 +175,11 @@ cmp_objects-cmp_pairs-requires t c =
 
 pub cmp_values-returns-in_default : goal.cmp_values-returns-in_default
 cmp_values-returns-in_default t c = λ v u h k.
-    c.cmp_kinds.ensures v u h k ∙ (elim c.in_default.branch [ cmp_values-in_default-via-in-Boolean+in_default w ↦ boolean_alone _ _ v u h k _ w.in_default.is-0 w.in_default.not-Boolean-1
-    | cmp_values-in_default-via-in-Number+in_default w ↦ number_alone _ _ v u h k _ w.in_default.is-0 w.in_default.not-Number-1
-    | cmp_values-in_default-via-in-String+in_default w ↦ text_alone _ _ v u h k _ w.in_default.is-0 w.in_default.not-String-1
-    | cmp_values-in_default-via-in-Extension+in_default w ↦ extension_alone _ _ v u h k _ w.in_default.is-0 w.in_default.not-Extension-1
-    | cmp_values-in_default-via-in-Raw+in_default w ↦ raw_alone _ _ v u h k _ w.in_default.is-0 w.in_default.not-Raw-1
-    | cmp_values-in_default-via-in_default w ↦ null_with _ v u h w.in_default.not-Boolean-0 w.in_default.not-Number-0 w.in_default.not-String-0 w.in_default.not-Extension-0 w.in_default.not-Raw-0 ])
+    c.cmp_kinds.ensures v u h k ∙ (elim c.in_default.branch [
+      | cmp_values-in_default-via-in-Boolean+in_default w ↦ boolean_alone _ _ v u h k _ w.in_default.is-0 w.in_default.not-Boolean-1
+      | cmp_values-in_default-via-in-Number+in_default w ↦ number_alone _ _ v u h k _ w.in_default.is-0 w.in_default.not-Number-1
+      | cmp_values-in_default-via-in-String+in_default w ↦ text_alone _ _ v u h k _ w.in_default.is-0 w.in_default.not-String-1
+      | cmp_values-in_default-via-in-Extension+in_default w ↦ extension_alone _ _ v u h k _ w.in_default.is-0 w.in_default.not-Extension-1
+      | cmp_values-in_default-via-in-Raw+in_default w ↦ raw_alone _ _ v u h k _ w.in_default.is-0 w.in_default.not-Raw-1
+      | cmp_values-in_default-via-in_default w ↦ null_with _ v u h w.in_default.not-Boolean-0 w.in_default.not-Number-0 w.in_default.not-String-0 w.in_default.not-Extension-0 w.in_default.not-Raw-0
+    ])
