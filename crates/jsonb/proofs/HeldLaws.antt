@@ -1,10 +1,12 @@
 -- The bytes that an item was given mean what it holds.
-use Rattle.std.proofs.Common.{◌≡◌, ℕ, List, Option, Some, None, refl, subst, Bor}
+use Rattle.std.proofs.Common.{◌≡◌, ℕ, List, Option, Some, None, refl, sym, ap, subst, Bor}
 use Rattle.std.specs.Option.{option_copied}
 use Rattle.jsonb_value.specs.NumCode.{NumCode}
 use Rattle.jsonb_value.specs.ExtCode.{ExtCode}
 use Rattle.jsonb.specs.declared.number_item.NumberItem.{NumberItem}
 use Rattle.jsonb.specs.declared.extension_item.ExtensionItem.{ExtensionItem}
+use Rattle.jsonb.specs.Shown.{number, extension}
+use Rattle.jsonb.specs.Stored.{IsHeld}
 use Rattle.jsonb.specs.Held.{number_given, number_held, extension_given, extension_held}
 use Rattle.jsonb.proofs.PayloadLaws.{NumCode-number_in, ExtCode-extension_in}
 
@@ -17,3 +19,12 @@ NumCode-given item bytes = given_holds (λ p. NumCode p item.number) item.given 
 
 pub ExtCode-given : (item : ExtensionItem) (bytes : List ℕ) → extension_given item ≡ Some bytes → ExtCode bytes (extension_held item)
 ExtCode-given item bytes = given_holds (λ p. ExtCode p (extension_held item)) item.given bytes (λ b e. ExtCode-extension_in b.now (extension_held item) (item.means b e))
+
+-- So what an item holds is as its type has it.
+pub IsHeld-number_given : (item : NumberItem) (bytes : Bor (List ℕ)) → item.given ≡ Some bytes → IsHeld (number (number_given item) (number_held item))
+IsHeld-number_given item bytes e =
+    subst (λ (o : Option (Bor (List ℕ))). IsHeld (number (option_copied o) item.number)) (sym e) (NumCode-given item bytes.now (ap option_copied e))
+
+pub IsHeld-extension_given : (item : ExtensionItem) (bytes : Bor (List ℕ)) → item.given ≡ Some bytes → IsHeld (extension (extension_given item) (extension_held item))
+IsHeld-extension_given item bytes e =
+    subst (λ (o : Option (Bor (List ℕ))). IsHeld (extension (option_copied o) (extension_held item))) (sym e) (ExtCode-given item bytes.now (ap option_copied e))

@@ -73,7 +73,7 @@ scalar_item-other : (entry : Entry) → entry.type ≢ 1342177280 → scalar_ite
 unfolding scalar_item
 scalar_item-other entry other = rw (ne_eqb entry.type 1342177280 other) refl
 
-entry_at-Scalar : (b : List ℕ) (t : Tree) (h : Scalar t b) → entry_at b 4 8 ≡ Ok record { type = type_of t; payload = h.payload }
+pub entry_at-Scalar : (b : List ℕ) (t : Tree) (h : Scalar t b) → entry_at b 4 8 ≡ Ok record { type = type_of t; payload = h.payload }
 entry_at-Scalar b t h = entry_at-At b 4 8 t h.payload h.short (At-left b 4 _ h.payload (At-entry b t h)) (At-payload b t h)
 
 item_in-scalar : (b : List ℕ) (t : Tree) → type_of t ≢ 1342177280 → (h : Scalar t b) → item_in b ≡ item_of (type_of t) h.payload

@@ -9,6 +9,11 @@ pub mod HeldLaws
 pub mod Parts
 pub mod LookupLaws
 pub mod WholeWalks
+pub mod StoredLaws
+pub mod BuiltLaws
+pub mod ObjectLaws
+pub mod InputLaws
+pub mod BuiltObjects
 pub mod MeantLaws
 pub mod ValueLaws
 pub mod Weights
@@ -18,3 +23,5 @@ pub mod OrderLaws
 pub mod Sizes
 pub mod LineLaws
 pub mod TextLaws
+pub mod BuiltMeanings
+pub mod Classes

@@ -10,7 +10,9 @@ use Rattle.jsonb_codec.specs.Word.{word}
 use Rattle.jsonb_codec.specs.Doc.{Doc, type_of}
 use Rattle.jsonb.specs.declared.code.Payload.{Payload}
 use Rattle.jsonb.specs.declared.code.Payload.TheVariants as payloads
+use Rattle.jsonb.specs.declared.code.Code.{Code}
 use Rattle.jsonb.specs.Shown.{Shown, null, boolean, number, text, extension, raw, owned}
+use Rattle.jsonb.specs.Item.{Entry}
 
 -- The item means the tree. A borrowed or owned document means the tree of its bytes.
 abbrev pub Means : Shown → Tree → Type 0
@@ -44,6 +46,10 @@ abbrev pub payload_bytes : Payload → List ℕ
 payload_bytes (payloads.Bytes bytes) = bytes.now
 payload_bytes (payloads.Number x) = number_payload x
 payload_bytes (payloads.Extension value) = extension_payload (extension_of value)
+
+-- the entry of a code that is to be stored
+abbrev pub shown_code : Code → Entry
+shown_code code = record { type = code.type_code; payload = payload_bytes code.payload }
 
 -- The item's entry has this type and payload. Bytes of no document have none.
 abbrev pub HasCode : Shown → ℕ → List ℕ → Type 0

@@ -13,7 +13,12 @@ pub mod Walk
 pub mod Walked
 pub mod Lookup
 pub mod Parts
+pub mod Stored
+pub mod Building
+pub mod Children
+pub mod Built
 pub mod Meant
 pub mod Values
 pub mod Texts
 pub mod Lines
+pub mod Tally

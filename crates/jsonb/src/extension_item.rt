@@ -22,6 +22,8 @@ impl<'a> ExtensionItem<'a> {
     ghost use Rattle.jsonb_value.specs.ExtCode.{ExtCode, extension_of};
     ghost use Rattle.jsonb.specs.Held.{extension_given, extension_held};
     ghost use Rattle.jsonb.specs.Payloads.{extension_error};
+    ghost use Rattle.jsonb.specs.Shown.{extension};
+    ghost use Rattle.jsonb.specs.Stored.{IsHeld};
     ghost use Rattle.jsonb.specs.Code.{stored_extension, payload_bytes};
 
     /// The extension value that these bytes mean as a payload, held as these bytes. Else
@@ -57,7 +59,8 @@ impl<'a> ExtensionItem<'a> {
 
     /// The payload to store: the bytes as they were given, else those that are written.
     pub(crate) fn payload(&self) -> Payload<'a>
-        ensures { payload_bytes result ≡ stored_extension (extension_given self.now) (extension_held self.now) }
+        ensures bytes { payload_bytes result ≡ stored_extension (extension_given self.now) (extension_held self.now) }
+        ensures held { IsHeld (extension (extension_given self.now) (extension_held self.now)) }
     {
         match self.given {
             Some(bytes) => Payload::Bytes(bytes),

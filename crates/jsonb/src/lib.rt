@@ -2,6 +2,7 @@
 #![tactic(auto)]
 
 mod canonical;
+mod builder;
 mod code;
 mod entries;
 mod extension_item;
@@ -19,6 +20,7 @@ mod tests;
 mod text;
 mod walks;
 
+pub use builder::{ArrayBuilder, ArrayDistinctBuilder, ObjectBuilder};
 pub use extension_item::ExtensionItem;
 pub use item::JsonbItem;
 pub use item_type::JsonbItemType;

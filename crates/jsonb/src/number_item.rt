@@ -20,6 +20,8 @@ impl<'a> NumberItem<'a> {
     ghost use Rattle.jsonb_value.specs.declared.number.Number.{Number};
     ghost use Rattle.jsonb_value.specs.NumCode.{NumCode};
     ghost use Rattle.jsonb.specs.Held.{number_given, number_held};
+    ghost use Rattle.jsonb.specs.Shown.{number};
+    ghost use Rattle.jsonb.specs.Stored.{IsHeld};
     ghost use Rattle.jsonb.specs.Code.{stored_number, payload_bytes};
 
     /// The number that these bytes mean as a payload, held as these bytes. `InvalidJsonbNumber`
@@ -57,7 +59,8 @@ impl<'a> NumberItem<'a> {
 
     /// The payload to store: the bytes as they were given, else those that are written.
     pub(crate) fn payload(&self) -> Payload<'a>
-        ensures { payload_bytes result ≡ stored_number (number_given self.now) (number_held self.now) }
+        ensures bytes { payload_bytes result ≡ stored_number (number_given self.now) (number_held self.now) }
+        ensures held { IsHeld (number (number_given self.now) (number_held self.now)) }
     {
         match self.given {
             Some(bytes) => Payload::Bytes(bytes),

@@ -4,7 +4,7 @@ ghost use Rattle.std.specs.Prelude.{◌≡◌, ◌↔◌, ◌≤◌, ◌<◌, �
 ghost use Rattle.jsonb.specs.Owned.{owned_bytes};
 ghost use Rattle.jsonb.specs.Code.{scalar_bytes, payload_bytes};
 
-use crate::code::{Payload, scalar_document};
+use crate::code::{Code, Payload, scalar_document};
 use crate::item::{JsonbItem, text_of};
 use crate::raw::RawJsonb;
 use jsonb_codec::constants::{
@@ -137,5 +137,5 @@ fn of_scalar(alloc: Global, type_code: u32, payload: Payload) -> Result<OwnedJso
         → length (payload_bytes payload.entry) < 2 ^ 28 }
     ensures only { IfErr result (λ e. (e ≡ Error.InvalidJsonb) ⊎ (e ≡ Error.OutOfMemory)) }
 {
-    Ok(OwnedJsonb::new(scalar_document(alloc, type_code, payload)?))
+    Ok(OwnedJsonb::new(scalar_document(alloc, Code { type_code, payload })?))
 }

@@ -1,0 +1,100 @@
+-- What is built, by the trees of what it is built of.
+use Rattle.std.specs.Prelude.{◌≡◌, List, [], ◌∷◌, ℕ, Option, Some, map}
+use Rattle.std.specs.Iterator.{Drains, YieldsThen}
+use Rattle.std.specs.Borrow.{Bor}
+use Rattle.std.specs.List.{IsDistinct}
+use Rattle.std.specs.Map.{keys_of}
+use Rattle.std.specs.Str.{bytes_eq}
+use Rattle.jsonb_value.specs.Tree.{Tree, Trees, no_trees, tree, Pairs, no_pairs, pair}
+use Rattle.jsonb_value.specs.Tree as trees
+use Rattle.jsonb_value.specs.Norm.{norms, norm_pairs}
+use Rattle.jsonb_value.specs.WellFormed.{IsTree}
+use Rattle.jsonb_codec.specs.Doc.{Doc}
+use Rattle.jsonb_codec.specs.Canon.{canon, Fits}
+use Rattle.jsonb.specs.declared.raw.RawJsonb.{RawJsonb}
+use Rattle.jsonb.specs.Raw.{raw_bytes}
+use Rattle.jsonb.specs.Shown.{Shown, raw}
+use Rattle.jsonb.specs.Code.{Means}
+use Rattle.jsonb.specs.Building.{IsArrayOf, in_order, FitObject, IsObjectOf}
+
+-- The items mean these trees, in this order.
+abbrev pub AllMean : List Shown → Trees → Type 0
+AllMean [] ts = ts ≡ no_trees
+AllMean (x ∷ xs) no_trees = ⊥
+AllMean (x ∷ xs) (tree t ts) = Means x t × AllMean xs ts
+
+-- The same of pairs: the keys are theirs, and the items mean their trees.
+abbrev pub AllMeanAt : List (List ℕ × Shown) → Pairs → Type 0
+AllMeanAt [] ps = ps ≡ no_pairs
+AllMeanAt (x ∷ xs) no_pairs = ⊥
+AllMeanAt (x ∷ xs) (pair k t ps) = (x.0 ≡ k) × (Means x.1 t × AllMeanAt xs ps)
+
+-- The byte strings are documents of these trees,
+abbrev pub AreDocuments : List (List ℕ) → Trees → Type 0
+AreDocuments [] ts = ts ≡ no_trees
+AreDocuments (b ∷ bs) no_trees = ⊥
+AreDocuments (b ∷ bs) (tree t ts) = Doc b t × AreDocuments bs ts
+
+-- or the canonical ones.
+abbrev pub AreCanonical : List (List ℕ) → Trees → Type 0
+AreCanonical [] ts = ts ≡ no_trees
+AreCanonical (b ∷ bs) no_trees = ⊥
+AreCanonical (b ∷ bs) (tree t ts) = (IsTree t × (Fits t × (canon t ≡ b))) × AreCanonical bs ts
+
+-- The bytes are a document of the array of the trees, but for zeros, which may have been made one.
+pub record IsArrayUpToZeros (ts : Trees) (bytes : List ℕ) : Type 0 where
+  pub stored : Trees
+  pub document : Doc bytes (trees.array stored)
+  pub same : norms stored ≡ norms ts
+
+-- The same of an object of pairs.
+pub record IsObjectUpToZeros (ps : Pairs) (bytes : List ℕ) : Type 0 where
+  pub stored : Pairs
+  pub document : Doc bytes (trees.object stored)
+  pub same : norm_pairs stored ≡ norm_pairs ps
+
+-- The bytes are the array of these inputs: of documents a document of the array of their trees, of canonical ones the canonical one.
+pub record IsArrayOfInputs (inputs : List (List ℕ)) (bytes : List ℕ) : Type 0 where
+  pub array : IsArrayOf (map raw inputs) bytes
+  pub document : (ts : Trees) → AreDocuments inputs ts → Doc bytes (trees.array ts)
+  pub canonical : (ts : Trees) → AreCanonical inputs ts → Fits (trees.array ts) × (bytes ≡ canon (trees.array ts))
+
+-- The keys are those of these pairs, and the byte strings documents of their trees,
+abbrev pub ArePairDocuments : List (List ℕ × List ℕ) → Pairs → Type 0
+ArePairDocuments [] ps = ps ≡ no_pairs
+ArePairDocuments (x ∷ xs) no_pairs = ⊥
+ArePairDocuments (x ∷ xs) (pair k t ps) = (x.0 ≡ k) × (Doc x.1 t × ArePairDocuments xs ps)
+
+-- or the canonical ones.
+abbrev pub ArePairsCanonical : List (List ℕ × List ℕ) → Pairs → Type 0
+ArePairsCanonical [] ps = ps ≡ no_pairs
+ArePairsCanonical (x ∷ xs) no_pairs = ⊥
+ArePairsCanonical (x ∷ xs) (pair k t ps) = (x.0 ≡ k) × ((IsTree t × (Fits t × (canon t ≡ x.1))) × ArePairsCanonical xs ps)
+
+-- byte strings at keys, as the items of them
+abbrev pub raw_pairs : List (List ℕ × List ℕ) → List (List ℕ × Shown)
+raw_pairs xs = map (λ x. (x.0, raw x.1)) xs
+
+-- a key and bytes that are given
+abbrev pub input_pair : Bor (List ℕ) × RawJsonb → List ℕ × List ℕ
+input_pair x = (x.0.now, raw_bytes x.1)
+
+-- The bytes are the object of these inputs, no two of which have one key: of documents a document of the object of their trees, of canonical ones the canonical one.
+pub record IsObjectOfInputs (inputs : List (List ℕ × List ℕ)) (bytes : List ℕ) : Type 0 where
+  pub distinct : IsDistinct bytes_eq (keys_of inputs)
+  pub object : IsObjectOf (raw_pairs (in_order inputs)) bytes
+  pub document : (ps : Pairs) → ArePairDocuments (in_order inputs) ps → Doc bytes (trees.object ps)
+  pub canonical : (ps : Pairs) → ArePairsCanonical (in_order inputs) ps → Fits (trees.object ps) × (bytes ≡ canon (trees.object ps))
+
+-- No two of these inputs have one key, and of them no object can be made.
+pub record MakeNoObject (inputs : List (List ℕ × List ℕ)) : Type 0 where
+  pub distinct : IsDistinct bytes_eq (keys_of inputs)
+  pub none : FitObject (raw_pairs (in_order inputs)) → ⊥
+
+-- The iterator that was made of a value gave some items up to its end, of which this holds.
+abbrev pub TakesAll : {C S A : Type 0} → (C → S → Type 0) → (S → Option A → S → Type 0) → C → (List A → Type 0) → Type 0
+TakesAll {C} {S} {A} makes steps source P = (it : S) × ((xs : List A) × (makes source it × (Drains steps it xs × P xs)))
+
+-- It gave some items and then one more, of which this holds.
+abbrev pub TakesUpTo : {C S A : Type 0} → (C → S → Type 0) → (S → Option A → S → Type 0) → C → (List A → A → Type 0) → Type 0
+TakesUpTo {C} {S} {A} makes steps source P = (it : S) × ((xs : List A) × ((x : A) × ((rest : S) × (makes source it × (YieldsThen steps it xs (Some x) rest × P xs x)))))

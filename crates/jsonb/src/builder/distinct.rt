@@ -1,0 +1,152 @@
+//! An array of distinct items, and how often each came.
+
+ghost use Rattle.std.specs.Prelude.{◌≡◌, ◌≢◌, ◌⊎◌, ◌↔◌, ◌+◌, ◌<◌, [], true, false, map, is_some, Err, IsSome, IsOk, IfOk, IfErr, OnOk, OnErr};
+ghost use Rattle.jsonb_value.specs.Tree.{Trees};
+ghost use Rattle.jsonb.specs.declared.item.JsonbItem.{JsonbItem};
+ghost use Rattle.jsonb.specs.Raw.{raw_bytes};
+ghost use Rattle.jsonb.specs.Owned.{owned_bytes};
+ghost use Rattle.jsonb.specs.Shown.{shown};
+ghost use Rattle.jsonb.specs.Shown as items;
+ghost use Rattle.jsonb.specs.Building.{FitArray, IsArrayOf};
+ghost use Rattle.jsonb.specs.Built.{AllMean, IsArrayUpToZeros};
+ghost use Rattle.jsonb.specs.Tally.{Tally, has_equal, count_at, SetsCount, Lists, count_of, list_with, CountsOneMore, CountsOneLess};
+
+use super::write::array_document;
+use crate::item::JsonbItem;
+use crate::owned::OwnedJsonb;
+use crate::raw::RawJsonb;
+use jsonb_value::Error;
+use std::alloc::Global;
+use std::collections::BTreeMap;
+use std::marker::Model;
+
+/// Items that become an array of those that are distinct. Two items are equal where they mean the
+/// same. The first of equal items is kept in a list, with a count of how often it came.
+#[derive(Drop)]
+pub struct ArrayDistinctBuilder<'a> {
+    list: Vec<JsonbItem<'a>>,
+    counts: BTreeMap<JsonbItem<'a>, usize>,
+}
+
+impl<'a> Model for ArrayDistinctBuilder<'a> {
+    ghost Value = { Tally };
+
+    ghost view = { λ s. record { list = map shown s.list.items; counts = s.counts.entries } };
+
+    ghost invariant = { λ s. Lists (map shown s.list.items) s.counts.entries };
+}
+
+impl<'a> ArrayDistinctBuilder<'a> {
+    /// A builder of no items, with room in its list for so many. Only memory can be refused.
+    pub fn new(alloc: Global, capacity: usize) -> Result<Self, Error>
+        ensures list { IfOk result (λ builder. builder.list ≡ []) }
+        ensures counts { IfOk result (λ builder. (x : JsonbItem) → count_of builder (shown x) ≡ 0) }
+        ensures memory { IfErr result (λ e. e ≡ Error.OutOfMemory) }
+    {
+        Ok(ArrayDistinctBuilder {
+            list: Vec::with_capacity(alloc, capacity)?,
+            counts: BTreeMap::new(alloc),
+        })
+    }
+
+    /// Counts an item, and puts it behind the others of the list unless the list has an equal one.
+    /// `InvalidJsonb` where its count is the greatest `usize`; else only memory can be refused.
+    /// After a refusal the builder is as before, and the item is dropped.
+    #[tactic(auto, using(crate::proofs::Classes::lookup_same, crate::proofs::Classes::has_equal_same))]
+    pub fn push_jsonb_item(&mut self, item: JsonbItem<'a>) -> Result<(), Error>
+        ensures list { OnOk result (self.new.list ≡ list_with self.old.list (shown item.entry)) }
+        ensures counts { OnOk result (CountsOneMore self.old self.new (shown item.entry)) }
+        ensures unlisted { has_equal self.old.list (shown item.entry) ≡ false
+            → count_of self.old (shown item.entry) ≡ 0 }
+        ensures full { (result ≡ Err Error.InvalidJsonb) ↔ (count_of self.old (shown item.entry) ≡ usize.MAX) }
+        ensures err { OnErr result (self.new ≡ self.old) }
+        ensures only { IfErr result (λ e. (e ≡ Error.InvalidJsonb) ⊎ (e ≡ Error.OutOfMemory)) }
+    {
+        match count_in(&self.counts, &item) {
+            Some(usize::MAX) => Err(Error::InvalidJsonb),
+            Some(count) => set_count(&mut self.counts, item, count + 1),
+            None => {
+                let key = item.clone(*self.list.allocator())?;
+                self.list.try_reserve(1)?;
+                set_count(&mut self.counts, key, 1)?;
+                self.list.push(item)?;
+                Ok(())
+            }
+        }
+    }
+
+    /// Counts these bytes, as `push_jsonb_item` does the item of them.
+    pub fn push_raw_jsonb(&mut self, raw: RawJsonb<'a>) -> Result<(), Error>
+        ensures list { OnOk result (self.new.list ≡ list_with self.old.list (items.raw (raw_bytes raw.entry))) }
+        ensures counts { OnOk result (CountsOneMore self.old self.new (items.raw (raw_bytes raw.entry))) }
+        ensures unlisted { has_equal self.old.list (items.raw (raw_bytes raw.entry)) ≡ false
+            → count_of self.old (items.raw (raw_bytes raw.entry)) ≡ 0 }
+        ensures full { (result ≡ Err Error.InvalidJsonb)
+            ↔ (count_of self.old (items.raw (raw_bytes raw.entry)) ≡ usize.MAX) }
+        ensures err { OnErr result (self.new ≡ self.old) }
+        ensures only { IfErr result (λ e. (e ≡ Error.InvalidJsonb) ⊎ (e ≡ Error.OutOfMemory)) }
+    {
+        self.push_jsonb_item(JsonbItem::Raw(raw))
+    }
+
+    /// Takes one off the count of an item's equal. `None` where there is none, or its count is 0.
+    /// The list stays as it is. No memory is asked for.
+    #[tactic(auto, using(crate::proofs::Classes::lookup_same, crate::proofs::Classes::has_equal_same))]
+    pub fn pop_jsonb_item(&mut self, item: JsonbItem<'a>) -> Option<()>
+        ensures known { IsSome result ↔ (count_of self.old (shown item.entry) ≢ 0) }
+        ensures list { self.new.list ≡ self.old.list }
+        ensures counts { CountsOneLess self.old self.new (shown item.entry) }
+    {
+        let count = count_in(&self.counts, &item)?.checked_sub(1)?;
+        match set_count(&mut self.counts, item, count) {
+            Ok(()) => Some(()),
+            // The item's equal is there, so no memory was asked for.
+            Err(_) => unreachable!(),
+        }
+    }
+
+    /// Takes one off the count of these bytes, as `pop_jsonb_item` does of the item of them.
+    pub fn pop_raw_jsonb(&mut self, raw: RawJsonb<'a>) -> Option<()>
+        ensures known { IsSome result
+            ↔ (count_of self.old (items.raw (raw_bytes raw.entry)) ≢ 0) }
+        ensures list { self.new.list ≡ self.old.list }
+        ensures counts { CountsOneLess self.old self.new (items.raw (raw_bytes raw.entry)) }
+    {
+        self.pop_jsonb_item(JsonbItem::Raw(raw))
+    }
+
+    /// The array of the list's items, whatever their counts, as `ArrayBuilder::build` makes it.
+    pub fn build(self) -> Result<OwnedJsonb, Error>
+        ensures ok { IfOk result (λ owned. IsArrayOf self.entry.list (owned_bytes owned)) }
+        ensures means { IfOk result (λ owned. (ts : Trees) → AllMean self.entry.list ts
+            → IsArrayUpToZeros ts (owned_bytes owned)) }
+        ensures past { (result ≡ Err Error.InvalidJsonb) ↔ (FitArray self.entry.list → ⊥) }
+        ensures memory { result ≡ Err Error.OutOfMemory → FitArray self.entry.list }
+        ensures only { IfErr result (λ e. (e ≡ Error.InvalidJsonb) ⊎ (e ≡ Error.OutOfMemory)) }
+    {
+        array_document(*self.list.allocator(), &self.list)
+    }
+}
+
+// How often the item's equals came, where one did.
+fn count_in<'a>(counts: &BTreeMap<JsonbItem<'a>, usize>, item: &JsonbItem<'a>) -> Option<usize>
+    ensures { result ≡ count_at counts.now.entries (shown item.now) }
+{
+    counts.get(item).copied()
+}
+
+// Sets the count of the item and its equals. Only memory can be refused, and only where none came.
+fn set_count<'a>(
+    counts: &mut BTreeMap<JsonbItem<'a>, usize>,
+    item: JsonbItem<'a>,
+    count: usize,
+) -> Result<(), Error>
+    ensures set { OnOk result
+        (SetsCount counts.old.entries counts.new.entries (shown item.entry) count) }
+    ensures err { OnErr result (counts.new.entries ≡ counts.old.entries) }
+    ensures known { is_some (count_at counts.old.entries (shown item.entry)) ≡ true → IsOk result }
+    ensures memory { IfErr result (λ e. e ≡ Error.OutOfMemory) }
+{
+    counts.insert(item, count)?;
+    Ok(())
+}

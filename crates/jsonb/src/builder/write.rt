@@ -1,0 +1,144 @@
+//! Arrays and objects, measured first and then written front to back into one growth.
+
+ghost use Rattle.std.specs.Prelude.{◌≡◌, ◌≤◌, ◌<◌, ◌+◌, ◌^◌, length, map, IfOk, IfErr, OnOk, OnErr, Err, ◌⊎◌};
+ghost use Rattle.jsonb_codec.specs.Room.{HasRoom, Appended};
+ghost use Rattle.jsonb.specs.Owned.{owned_bytes};
+ghost use Rattle.jsonb.specs.Shown.{shown};
+ghost use Rattle.jsonb.specs.Stored.{codes_of, AreStorable, AreHeld};
+ghost use Rattle.jsonb.specs.Building.{code_entries, code_payloads, array_of, FitArray, IsArrayOf, FitObject, IsObjectOf, AreKeys};
+ghost use Rattle.std.specs.Map.{keys_of, values_of};
+ghost use Rattle.jsonb.specs.Children.{children_shown, pairs_shown, key_texts, value_items, object_parts};
+
+use super::children::Children;
+use crate::code::append_word;
+use crate::item::JsonbItem;
+use crate::owned::OwnedJsonb;
+use jsonb_codec::constants::{
+    ARRAY_CONTAINER_TAG, CONTAINER_HEADER_LEN_MASK, OBJECT_CONTAINER_TAG,
+};
+use jsonb_value::Error;
+use std::alloc::Global;
+use std::collections::BTreeMap;
+
+/// The array of these items' entries. `InvalidJsonb` where an item has none, or a payload or the
+/// count is past its limit, before memory is asked for.
+pub fn array_document(alloc: Global, items: &[JsonbItem]) -> Result<OwnedJsonb, Error>
+    ensures ok { IfOk result (λ owned. IsArrayOf (map shown items.now) (owned_bytes owned)) }
+    ensures held { OnOk result (AreHeld (map shown items.now)) }
+    ensures past { result ≡ Err Error.InvalidJsonb → FitArray (map shown items.now) → ⊥ }
+    ensures memory { result ≡ Err Error.OutOfMemory → FitArray (map shown items.now) }
+    ensures only { IfErr result (λ e. (e ≡ Error.InvalidJsonb) ⊎ (e ≡ Error.OutOfMemory)) }
+{
+    let size = measure_array(items)?;
+    let mut bytes = Vec::new(alloc);
+    bytes.try_reserve(size)?;
+    append_word(&mut bytes, ARRAY_CONTAINER_TAG + items.len() as u32);
+    append_entries(&mut bytes, Children::Items(items));
+    append_payloads(&mut bytes, Children::Items(items));
+    Ok(OwnedJsonb::new(bytes))
+}
+
+// The length of the array.
+fn measure_array(items: &[JsonbItem]) -> Result<usize, Error>
+    ensures held { OnOk result (AreHeld (map shown items.now)) }
+    ensures ok { IfOk result (λ n. n ≡ length (array_of (codes_of (map shown items.now)))) }
+    ensures storable { OnOk result (AreStorable (map shown items.now)) }
+    ensures few { OnOk result (length (map shown items.now) < 2 ^ 29) }
+    ensures err { OnErr result (FitArray (map shown items.now) → ⊥) }
+    ensures only { IfErr result (λ e. e ≡ Error.InvalidJsonb) }
+{
+    let count = items.len();
+    if count > CONTAINER_HEADER_LEN_MASK as usize {
+        return Err(Error::InvalidJsonb);
+    }
+    Ok(4 + 4 * count + measure_payloads(Children::Items(items))?)
+}
+
+/// The object of these keys and of these items' entries. `InvalidJsonb` where an item has none, or
+/// a key, a payload or the count is past its limit, before memory is asked for.
+pub fn object_document<'a>(
+    alloc: Global,
+    pairs: &BTreeMap<&'a str, JsonbItem<'a>>,
+) -> Result<OwnedJsonb, Error>
+    ensures ok { IfOk result (λ owned. IsObjectOf (pairs_shown pairs.now.entries) (owned_bytes owned)) }
+    ensures held { OnOk result (AreHeld (values_of (pairs_shown pairs.now.entries))) }
+    ensures keys { OnOk result (AreKeys (keys_of (pairs_shown pairs.now.entries))) }
+    ensures past { result ≡ Err Error.InvalidJsonb → FitObject (pairs_shown pairs.now.entries) → ⊥ }
+    ensures memory { result ≡ Err Error.OutOfMemory → FitObject (pairs_shown pairs.now.entries) }
+    ensures only { IfErr result (λ e. (e ≡ Error.InvalidJsonb) ⊎ (e ≡ Error.OutOfMemory)) }
+{
+    let size = measure_object(pairs)?;
+    let mut bytes = Vec::new(alloc);
+    bytes.try_reserve(size)?;
+    append_word(&mut bytes, OBJECT_CONTAINER_TAG + pairs.len() as u32);
+    append_entries(&mut bytes, Children::Keys(pairs.iter()));
+    append_entries(&mut bytes, Children::Values(pairs.iter()));
+    append_payloads(&mut bytes, Children::Keys(pairs.iter()));
+    append_payloads(&mut bytes, Children::Values(pairs.iter()));
+    Ok(OwnedJsonb::new(bytes))
+}
+
+// The length of the object.
+fn measure_object<'a>(pairs: &BTreeMap<&'a str, JsonbItem<'a>>) -> Result<usize, Error>
+    ensures ok { IfOk result (λ n. n ≡ length (object_parts (length pairs.now.entries) (key_texts pairs.now.entries) (value_items pairs.now.entries))) }
+    ensures held_keys { OnOk result (AreHeld (key_texts pairs.now.entries)) }
+    ensures held { OnOk result (AreHeld (value_items pairs.now.entries)) }
+    ensures keys { OnOk result (AreStorable (key_texts pairs.now.entries)) }
+    ensures values { OnOk result (AreStorable (value_items pairs.now.entries)) }
+    ensures few { OnOk result (length pairs.now.entries < 2 ^ 29) }
+    ensures err { OnErr result (FitObject (pairs_shown pairs.now.entries) → ⊥) }
+    ensures only { IfErr result (λ e. e ≡ Error.InvalidJsonb) }
+{
+    let count = pairs.len();
+    if count > CONTAINER_HEADER_LEN_MASK as usize {
+        return Err(Error::InvalidJsonb);
+    }
+    let keys = measure_payloads(Children::Keys(pairs.iter()))?;
+    let values = measure_payloads(Children::Values(pairs.iter()))?;
+    Ok(4 + 8 * count + keys + values)
+}
+
+// The length of all payloads.
+fn measure_payloads(children: Children<'_, '_>) -> Result<usize, Error>
+    requires { length (children_shown children) < 2 ^ 29 }
+    ensures ok { IfOk result (λ n. n ≡ length (code_payloads (codes_of (children_shown children.entry)))) }
+    ensures small { IfOk result (λ n. n ≤ 2 ^ 57) }
+    ensures storable { OnOk result (AreStorable (children_shown children.entry)) }
+    ensures held { OnOk result (AreHeld (children_shown children.entry)) }
+    ensures err { OnErr result (AreStorable (children_shown children.entry) → ⊥) }
+    ensures only { IfErr result (λ e. e ≡ Error.InvalidJsonb) }
+{
+    let mut total = 0;
+    let mut left = children;
+    while let Some((child, others)) = left.split_first() {
+        total += child.measure()?;
+        left = others;
+    }
+    Ok(total)
+}
+
+// The entry words.
+fn append_entries(out: &mut Vec<u8>, children: Children<'_, '_>)
+    requires storable { AreStorable (children_shown children) }
+    requires room { HasRoom out.old (code_entries (codes_of (children_shown children))) }
+    ensures { Appended out.old out.new (code_entries (codes_of (children_shown children.entry))) }
+{
+    let mut left = children;
+    while let Some((child, others)) = left.split_first() {
+        child.code().append_entry_to(out);
+        left = others;
+    }
+}
+
+// The payloads.
+fn append_payloads(out: &mut Vec<u8>, children: Children<'_, '_>)
+    requires storable { AreStorable (children_shown children) }
+    requires room { HasRoom out.old (code_payloads (codes_of (children_shown children))) }
+    ensures { Appended out.old out.new (code_payloads (codes_of (children_shown children.entry))) }
+{
+    let mut left = children;
+    while let Some((child, others)) = left.split_first() {
+        child.code().payload.append_to(out);
+        left = others;
+    }
+}
