@@ -1,8 +1,8 @@
 //! Binary JSON documents, read in place: their kinds, items and iterators.
 #![tactic(auto)]
 
-mod canonical;
 mod builder;
+mod canonical;
 mod code;
 mod entries;
 mod extension_item;
