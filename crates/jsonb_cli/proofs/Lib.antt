@@ -3,5 +3,4 @@ pub mod Forms
 pub mod Written
 pub mod Replies
 pub mod Running
-pub mod Texts
 pub mod Answering

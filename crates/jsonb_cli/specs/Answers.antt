@@ -1,29 +1,35 @@
 -- Which line answers a line.
-use Rattle.std.specs.Prelude.{◌≡◌, ◌⊎◌, ◌++◌, ◌∷◌, ℕ, List, length, nat_eq, codes, chars, Option, Some, None, Result, Ok, Err}
+use Rattle.std.specs.Prelude.{◌≡◌, ◌⊎◌, ◌++◌, ◌∷◌, ℕ, List, length, map, nat_eq, codes, chars, Option, Some, None, Result, Ok, Err}
 use Rattle.std.specs.Cmp.Lexicographic.{pointwise}
 use Rattle.std.specs.Fmt.{decimal}
+use Rattle.std.specs.declared.cmp.Ordering.{Ordering}
+use Rattle.std.specs.declared.cmp.Ordering.TheVariants.{Less, Equal, Greater}
 use Rattle.std.specs.Str.{IsUtf8}
 use Rattle.hex.specs.Hex.{decode_of, encode_lower}
 use Rattle.jsonb_value.specs.ErrorName.{name_of}
 use Rattle.jsonb_value.specs.declared.error.Error.{Error}
 use Rattle.jsonb_value.specs.declared.error.Error.TheVariants.{InvalidJson, InvalidJsonb, InvalidUtf8, OutOfMemory}
 use Rattle.jsonb_value.specs.Json.Syntax.{Json}
-use Rattle.jsonb_value.specs.Text.{compact}
+use Rattle.jsonb_value.specs.Text.{compact, pretty as pretty_text}
+use Rattle.jsonb_value.specs.Meaning.{meaning_cmp}
 use Rattle.jsonb_value.specs.Tree.{Tree}
 use Rattle.jsonb_value.specs.Tree as trees
 use Rattle.jsonb_codec.specs.Canon.{canon as canonical, Fits}
 use Rattle.jsonb_codec.specs.Doc.{Doc, IsDocument}
+use Rattle.jsonb.specs.Building.{FitArray, IsArrayOf}
 use Rattle.jsonb.specs.Code.{stored}
 use Rattle.jsonb.specs.Kind.{kind}
 use Rattle.jsonb.specs.Lookup.{find}
-use Rattle.jsonb.specs.Shown.{Shown}
+use Rattle.jsonb.specs.Meant.{meaning_of}
+use Rattle.jsonb.specs.Shown.{Shown, owned}
 use Rattle.jsonb.specs.Walked.{IsItemOf}
 use Rattle.jsonb.specs.declared.item_type.JsonbItemType.{JsonbItemType}
 use Rattle.jsonb.specs.declared.item_type.JsonbItemType.TheVariants.{Null, Boolean, Number, String, Extension, Array, Object}
 use Rattle.jsonb_cli.specs.AnswerLine.{ok_line, error_line}
+use Rattle.jsonb_cli.specs.Lines.{Each}
 use Rattle.jsonb_cli.specs.Commands.{Form, enc, dec, pretty, item_type, get, cmp, arr, canon, IsOfForm}
 
--- the answer to a line of no form, and to a command that is not there yet
+-- the answer to a line of no form
 abbrev pub IsBadCommand : List ℕ → Type 0
 IsBadCommand answer = answer ≡ error_line (codes "BadCommand")
 
@@ -43,6 +49,12 @@ pub data IsDecAnswer (word answer : List ℕ) : Type 0 where
   bad_hex : ((bytes : List ℕ) → IsHexOf bytes word → ⊥) → answer ≡ error_line (codes "BadHex") → IsDecAnswer word answer
   no_document : (bytes : List ℕ) → IsHexOf bytes word → (IsDocument bytes → ⊥) → answer ≡ error_line (name_of InvalidJsonb) → IsDecAnswer word answer
   printed : (bytes : List ℕ) (t : Tree) → IsHexOf bytes word → Doc bytes t → answer ≡ ok_line (compact t) → IsDecAnswer word answer
+
+-- The answer to `pretty`: the pretty text in hexadecimal.
+pub data IsPrettyAnswer (word answer : List ℕ) : Type 0 where
+  bad_hex : ((bytes : List ℕ) → IsHexOf bytes word → ⊥) → answer ≡ error_line (codes "BadHex") → IsPrettyAnswer word answer
+  no_document : (bytes : List ℕ) → IsHexOf bytes word → (IsDocument bytes → ⊥) → answer ≡ error_line (name_of InvalidJsonb) → IsPrettyAnswer word answer
+  printed : (bytes : List ℕ) (t : Tree) → IsHexOf bytes word → Doc bytes t → answer ≡ ok_line (encode_lower (pretty_text t)) → IsPrettyAnswer word answer
 
 -- the words for a kind
 abbrev pub kind_words : JsonbItemType → List ℕ
@@ -84,16 +96,43 @@ pub data IsGetAnswer (word key answer : List ℕ) : Type 0 where
   found : (bytes name : List ℕ) (t u : Tree) (x : Shown) → IsHexOf bytes word → IsName name key → Doc bytes t → value_of_key name t ≡ Some u → IsItemOf u x
       → answer ≡ ok_line (encode_lower (stored x)) → IsGetAnswer word key answer
 
+-- the words for an order
+abbrev pub order_words : Ordering → List ℕ
+order_words Less = codes "less"
+order_words Equal = codes "equal"
+order_words Greater = codes "greater"
+
+-- The answer to `cmp`: the order of what the bytes mean.
+pub data IsCmpAnswer (left right answer : List ℕ) : Type 0 where
+  bad_left : ((bytes : List ℕ) → IsHexOf bytes left → ⊥) → answer ≡ error_line (codes "BadHex") → IsCmpAnswer left right answer
+  bad_right : ((bytes : List ℕ) → IsHexOf bytes right → ⊥) → answer ≡ error_line (codes "BadHex") → IsCmpAnswer left right answer
+  told : (x y : List ℕ) → IsHexOf x left → IsHexOf y right → answer ≡ ok_line (order_words (meaning_cmp (meaning_of x) (meaning_of y))) → IsCmpAnswer left right answer
+
+-- The answer to `arr`: the array of the documents, in order, or why there is none.
+pub data IsArrAnswer (words : List (List ℕ)) (answer : List ℕ) : Type 0 where
+  bad_hex : (before after : List (List ℕ)) (word : List ℕ) → words ≡ before ++ word ∷ after → ((bytes : List ℕ) → IsHexOf bytes word → ⊥)
+      → answer ≡ error_line (codes "BadHex") → IsArrAnswer words answer
+  no_array : (inputs : List (List ℕ)) → Each IsHexOf inputs words → (FitArray (map owned inputs) → ⊥) → answer ≡ error_line (name_of InvalidJsonb)
+      → IsArrAnswer words answer
+  built : (inputs : List (List ℕ)) (bytes : List ℕ) → Each IsHexOf inputs words → IsArrayOf (map owned inputs) bytes → answer ≡ ok_line (encode_lower bytes)
+      → IsArrAnswer words answer
+
+-- The answer to `canon`: the canonical document of the tree, or why there is none.
+pub data IsCanonAnswer (word answer : List ℕ) : Type 0 where
+  bad_hex : ((bytes : List ℕ) → IsHexOf bytes word → ⊥) → answer ≡ error_line (codes "BadHex") → IsCanonAnswer word answer
+  no_tree : (bytes : List ℕ) → IsHexOf bytes word → ((t : Tree) → Doc bytes t → Fits t → ⊥) → answer ≡ error_line (name_of InvalidJsonb) → IsCanonAnswer word answer
+  written : (bytes : List ℕ) (t : Tree) → IsHexOf bytes word → Doc bytes t → Fits t → answer ≡ ok_line (encode_lower (canonical t)) → IsCanonAnswer word answer
+
 -- the answer to a command
 abbrev pub IsFormAnswer : Form → List ℕ → Type 0
 IsFormAnswer (enc text) = IsEncAnswer text
 IsFormAnswer (dec word) = IsDecAnswer word
-IsFormAnswer (pretty word) = IsBadCommand
+IsFormAnswer (pretty word) = IsPrettyAnswer word
 IsFormAnswer (item_type word) = IsTypeAnswer word
 IsFormAnswer (get word key) = IsGetAnswer word key
-IsFormAnswer (cmp left right) = IsBadCommand
-IsFormAnswer (arr words) = IsBadCommand
-IsFormAnswer (canon word) = IsBadCommand
+IsFormAnswer (cmp left right) = IsCmpAnswer left right
+IsFormAnswer (arr words) = IsArrAnswer words
+IsFormAnswer (canon word) = IsCanonAnswer word
 
 -- The answer to a line is that of its command, and of a line of no form `error BadCommand`.
 pub data IsAnswer (line answer : List ℕ) : Type 0 where

@@ -12,15 +12,110 @@ ghost use Rattle.jsonb.specs.Code.{stored, CanBeStored};
 ghost use Rattle.jsonb.specs.Lookup.{find, IsItemFound};
 ghost use Rattle.jsonb.specs.Shown.{shown};
 ghost use Rattle.jsonb_cli.specs.AnswerLine.{answer_words, ok_line, outcome_line};
-ghost use Rattle.jsonb_cli.specs.Answers.{IsTypeAnswer, IsGetAnswer, IsReply, kind_words};
+ghost use Rattle.jsonb_cli.specs.Answers.{IsEncAnswer, IsDecAnswer, IsPrettyAnswer, IsTypeAnswer, IsGetAnswer, IsCmpAnswer, IsArrAnswer, IsCanonAnswer, IsReply, kind_words, order_words};
 
 use crate::answer::{Answer, Refusal};
 use crate::command::decoded;
-use jsonb::{JsonbItem, JsonbItemType, OwnedJsonb, RawJsonb};
-use jsonb_value::{Error, Value, parse_value};
+use crate::words::Words;
+use jsonb::{
+    ArrayBuilder, Error, JsonbItem, JsonbItemType, OwnedJsonb, RawJsonb, Value, parse_value,
+};
 use std::alloc::Global;
 use std::borrow::CowStr;
+use std::cmp::Ordering;
 use std::str;
+
+/// The canonical document of a JSON text.
+pub fn answer_enc(alloc: Global, text: &[u8]) -> Result<Answer, Refusal>
+    ensures { IsReply IsEncAnswer text.now (outcome_line result) }
+{
+    let Ok(json) = str::from_utf8(text) else {
+        return Err(Refusal::Call(Error::InvalidUtf8));
+    };
+    match OwnedJsonb::parse(alloc, json) {
+        Ok(document) => Ok(Answer::Hex(document.to_vec())),
+        Err(error) => Err(Refusal::Call(error)),
+    }
+}
+
+/// The compact text of a document.
+pub fn answer_dec(alloc: Global, word: &[u8]) -> Result<Answer, Refusal>
+    ensures { IsReply IsDecAnswer word.now (outcome_line result) }
+{
+    let bytes = decoded(alloc, word)?;
+    let raw = RawJsonb::new(&bytes);
+    if !raw.is_document() {
+        return Err(Refusal::Call(Error::InvalidJsonb));
+    }
+    match raw.to_string(alloc) {
+        Ok(text) => Ok(Answer::Text(text)),
+        Err(error) => Err(Refusal::Call(error)),
+    }
+}
+
+/// The pretty text of a document, in hexadecimal since it has lines.
+pub fn answer_pretty(alloc: Global, word: &[u8]) -> Result<Answer, Refusal>
+    ensures { IsReply IsPrettyAnswer word.now (outcome_line result) }
+{
+    let bytes = decoded(alloc, word)?;
+    let raw = RawJsonb::new(&bytes);
+    if !raw.is_document() {
+        return Err(Refusal::Call(Error::InvalidJsonb));
+    }
+    match raw.to_pretty_string(alloc) {
+        Ok(text) => Ok(Answer::Hex(text.into_bytes())),
+        Err(error) => Err(Refusal::Call(error)),
+    }
+}
+
+/// The order of two byte strings.
+pub fn answer_cmp(alloc: Global, left: &[u8], right: &[u8]) -> Result<Answer, Refusal>
+    ensures { IsReply (IsCmpAnswer left.now) right.now (outcome_line result) }
+{
+    let left = decoded(alloc, left)?;
+    let right = decoded(alloc, right)?;
+    let order = RawJsonb::new(&left).cmp(&RawJsonb::new(&right));
+    Ok(Answer::Word(order_word(order)))
+}
+
+// The word for an order.
+fn order_word(order: Ordering) -> &'static str
+    ensures { result.now ≡ order_words order }
+{
+    match order {
+        Ordering::Less => "less",
+        Ordering::Equal => "equal",
+        Ordering::Greater => "greater",
+    }
+}
+
+/// The array of some documents.
+pub fn answer_arr(alloc: Global, words: Words) -> Result<Answer, Refusal>
+    ensures { IsReply IsArrAnswer words.entry (outcome_line result) }
+{
+    let mut builder = ArrayBuilder::new(alloc);
+    for word in words {
+        let document = OwnedJsonb::new(decoded(alloc, word)?);
+        if builder.push_owned_jsonb(document).is_err() {
+            return Err(Refusal::Call(Error::OutOfMemory));
+        }
+    }
+    match builder.build() {
+        Ok(array) => Ok(Answer::Hex(array.to_vec())),
+        Err(error) => Err(Refusal::Call(error)),
+    }
+}
+
+/// The canonical document of a document's tree.
+pub fn answer_canon(alloc: Global, word: &[u8]) -> Result<Answer, Refusal>
+    ensures { IsReply IsCanonAnswer word.now (outcome_line result) }
+{
+    let bytes = decoded(alloc, word)?;
+    match RawJsonb::new(&bytes).to_canonical(alloc) {
+        Ok(document) => Ok(Answer::Hex(document.to_vec())),
+        Err(error) => Err(Refusal::Call(error)),
+    }
+}
 
 /// The kind that some bytes show.
 pub fn answer_type(alloc: Global, word: &[u8]) -> Result<Answer, Refusal>

@@ -14,14 +14,14 @@ ghost use Rattle.jsonb_cli.specs.AnswerLine.{outcome_line};
 ghost use Rattle.jsonb_cli.specs.Answers.{IsEncAnswer, IsDecAnswer, IsFormAnswer, IsReply, IsLineReply, IsHexOf};
 
 use crate::answer::{Answer, Refusal};
-use crate::calls::{answer_get, answer_type};
-use crate::text::value_text;
+use crate::calls::{
+    answer_arr, answer_canon, answer_cmp, answer_dec, answer_enc, answer_get, answer_pretty,
+    answer_type,
+};
 use crate::words::{Words, split_word};
 use hex::FromHexError;
-use jsonb_codec::{Encoder, is_document, value_of};
-use jsonb_value::{Error, Value, parse_value};
+use jsonb::Error;
 use std::alloc::Global;
-use std::str;
 
 /// A line of a command, cut into the text or the words that the command is given.
 #[derive(Drop)]
@@ -98,76 +98,19 @@ fn parse_cmp(words: &[u8]) -> Option<Command<'_>>
 
 impl Command<'_> {
     /// What the command answers. Want of memory in its own calls is an answer too.
-    pub fn answer(&self, alloc: Global) -> Result<Answer, Refusal>
-        ensures { IsReply IsFormAnswer (form_of self.now) (outcome_line result) }
+    pub fn answer(self, alloc: Global) -> Result<Answer, Refusal>
+        ensures { IsReply IsFormAnswer (form_of self.entry) (outcome_line result) }
     {
         match self {
             Command::Enc(text) => answer_enc(alloc, text),
             Command::Dec(word) => answer_dec(alloc, word),
+            Command::Pretty(word) => answer_pretty(alloc, word),
             Command::ItemType(word) => answer_type(alloc, word),
             Command::Get { document, key } => answer_get(alloc, document, key),
-            Command::Pretty(_) | Command::Cmp { .. } | Command::Arr(_) | Command::Canon(_) => Err(
-                Refusal::BadCommand,
-            ),
+            Command::Cmp { left, right } => answer_cmp(alloc, left, right),
+            Command::Arr(words) => answer_arr(alloc, words),
+            Command::Canon(word) => answer_canon(alloc, word),
         }
-    }
-}
-
-// The canonical document of a JSON text.
-fn answer_enc(alloc: Global, text: &[u8]) -> Result<Answer, Refusal>
-    ensures { IsReply IsEncAnswer text.now (outcome_line result) }
-{
-    let Ok(json) = str::from_utf8(text) else {
-        return Err(Refusal::Call(Error::InvalidUtf8));
-    };
-    match parse_value(alloc, json) {
-        Ok(value) => match document_of(alloc, &value) {
-            Ok(document) => Ok(Answer::Hex(document)),
-            Err(error) => Err(Refusal::Call(error)),
-        },
-        Err(error) => Err(Refusal::Call(error)),
-    }
-}
-
-// The canonical document of a value. `InvalidJsonb` where it has none.
-fn document_of(alloc: Global, value: &Value) -> Result<Vec<u8>, Error>
-    ensures ok { IfOk result (λ document. document.items ≡ canon (tree_of value.now)) }
-    ensures fits { OnOk result (Fits (tree_of value.now)) }
-    ensures past { result ≡ Err Error.InvalidJsonb → Fits (tree_of value.now) → ⊥ }
-    ensures only { IfErr result (λ e. (e ≡ Error.InvalidJsonb) ⊎ (e ≡ Error.OutOfMemory)) }
-{
-    let mut document = Vec::new(alloc);
-    let mut encoder = Encoder::new(&mut document);
-    encoder.encode(value)?;
-    Ok(document)
-}
-
-// The compact text of a document.
-fn answer_dec(alloc: Global, word: &[u8]) -> Result<Answer, Refusal>
-    ensures { IsReply IsDecAnswer word.now (outcome_line result) }
-{
-    match decoded(alloc, word) {
-        Ok(bytes) => match document_text(alloc, &bytes) {
-            Ok(text) => Ok(Answer::Text(text)),
-            Err(error) => Err(Refusal::Call(error)),
-        },
-        Err(refusal) => Err(refusal),
-    }
-}
-
-// The compact text of the tree that the bytes mean. `InvalidJsonb` where they are no document.
-fn document_text(alloc: Global, bytes: &[u8]) -> Result<String, Error>
-    ensures ok { IfOk result (λ text. (t : Tree) × (Doc bytes.now t × (string_bytes text ≡ compact t))) }
-    ensures none { result ≡ Err Error.InvalidJsonb → IsDocument bytes.now → ⊥ }
-    ensures only { IfErr result (λ e. (e ≡ Error.InvalidJsonb) ⊎ (e ≡ Error.OutOfMemory)) }
-{
-    if !is_document(bytes) {
-        return Err(Error::InvalidJsonb);
-    }
-    match value_of(alloc, bytes) {
-        Ok(value) => value_text(alloc, &value),
-        // They are a document, so only room can have been refused.
-        Err(_) => Err(Error::OutOfMemory),
     }
 }
 

@@ -7,7 +7,6 @@ mod command;
 mod run;
 #[cfg(test)]
 mod tests;
-mod text;
 mod words;
 mod write;
 
