@@ -1,15 +1,18 @@
 //! What the commands ask of the library.
 
 ghost use Rattle.std.specs.Prelude.{◌≡◌, ◌⊎◌, ℕ, List, nat_eq, length, chars, option_map, IfOk, IfErr, IfSome, IfNone, OnOk, IsOkAnd};
+ghost use Rattle.std.specs.String.{string_bytes};
 ghost use Rattle.std.specs.Cmp.Lexicographic.{pointwise};
 ghost use Rattle.hex.specs.Hex.{encode_lower};
 ghost use Rattle.jsonb_value.specs.declared.error.Error.TheVariants.{OutOfMemory};
 ghost use Rattle.jsonb_value.specs.Json.Syntax.{Json};
+ghost use Rattle.jsonb_value.specs.Text.{compact, pretty};
 ghost use Rattle.jsonb_value.specs.Tree.{Tree, text};
 ghost use Rattle.jsonb_value.specs.Value.{cow_bytes, tree_of};
 ghost use Rattle.jsonb_codec.specs.Doc.{Doc, IsDocument};
 ghost use Rattle.jsonb.specs.Code.{stored, CanBeStored};
 ghost use Rattle.jsonb.specs.Lookup.{find, IsItemFound};
+ghost use Rattle.jsonb.specs.Raw.{raw_bytes};
 ghost use Rattle.jsonb.specs.Shown.{shown};
 ghost use Rattle.jsonb_cli.specs.AnswerLine.{answer_words, ok_line, outcome_line};
 ghost use Rattle.jsonb_cli.specs.Answers.{IsEncAnswer, IsDecAnswer, IsPrettyAnswer, IsTypeAnswer, IsGetAnswer, IsCmpAnswer, IsArrAnswer, IsCanonAnswer, IsReply, kind_words, order_words};
@@ -43,11 +46,7 @@ pub fn answer_dec(alloc: Global, word: &[u8]) -> Result<Answer, Refusal>
     ensures { IsReply IsDecAnswer word.now (outcome_line result) }
 {
     let bytes = decoded(alloc, word)?;
-    let raw = RawJsonb::new(&bytes);
-    if !raw.is_document() {
-        return Err(Refusal::Call(Error::InvalidJsonb));
-    }
-    match raw.to_string(alloc) {
+    match document_text(alloc, &bytes) {
         Ok(text) => Ok(Answer::Text(text)),
         Err(error) => Err(Refusal::Call(error)),
     }
@@ -58,13 +57,47 @@ pub fn answer_pretty(alloc: Global, word: &[u8]) -> Result<Answer, Refusal>
     ensures { IsReply IsPrettyAnswer word.now (outcome_line result) }
 {
     let bytes = decoded(alloc, word)?;
-    let raw = RawJsonb::new(&bytes);
-    if !raw.is_document() {
-        return Err(Refusal::Call(Error::InvalidJsonb));
-    }
-    match raw.to_pretty_string(alloc) {
+    match pretty_document_text(alloc, &bytes) {
         Ok(text) => Ok(Answer::Hex(text.into_bytes())),
         Err(error) => Err(Refusal::Call(error)),
+    }
+}
+
+// A view of a document. `InvalidJsonb` where the bytes are none.
+fn document_in(bytes: &[u8]) -> Result<RawJsonb<'_>, Error>
+    ensures ok { IfOk result (λ raw. raw_bytes raw ≡ bytes.now) }
+    ensures document { OnOk result (IsDocument bytes.now) }
+    ensures none { IfErr result (λ e. (e ≡ Error.InvalidJsonb) × (IsDocument bytes.now → ⊥)) }
+{
+    let raw = RawJsonb::new(bytes);
+    if raw.is_document() {
+        Ok(raw)
+    } else {
+        Err(Error::InvalidJsonb)
+    }
+}
+
+// The compact text of the tree that the bytes mean.
+fn document_text(alloc: Global, bytes: &[u8]) -> Result<String, Error>
+    ensures ok { IfOk result (λ text. (t : Tree) × (Doc bytes.now t × (string_bytes text ≡ compact t))) }
+    ensures none { IfErr result (λ e. e ≡ Error.InvalidJsonb → IsDocument bytes.now → ⊥) }
+    ensures only { IfErr result (λ e. (e ≡ Error.InvalidJsonb) ⊎ (e ≡ Error.OutOfMemory)) }
+{
+    match document_in(bytes) {
+        Ok(raw) => raw.to_string(alloc),
+        Err(error) => Err(error),
+    }
+}
+
+// The pretty text of the tree that the bytes mean.
+fn pretty_document_text(alloc: Global, bytes: &[u8]) -> Result<String, Error>
+    ensures ok { IfOk result (λ text. (t : Tree) × (Doc bytes.now t × (string_bytes text ≡ pretty t))) }
+    ensures none { IfErr result (λ e. e ≡ Error.InvalidJsonb → IsDocument bytes.now → ⊥) }
+    ensures only { IfErr result (λ e. (e ≡ Error.InvalidJsonb) ⊎ (e ≡ Error.OutOfMemory)) }
+{
+    match document_in(bytes) {
+        Ok(raw) => raw.to_pretty_string(alloc),
+        Err(error) => Err(error),
     }
 }
 
@@ -215,9 +248,6 @@ fn value_named<'a>(bytes: &'a [u8], name: &str) -> Result<Option<JsonbItem<'a>>,
     ensures none { IfErr result (λ e. (e ≡ Error.InvalidJsonb) × (IsDocument bytes.now → ⊥)) }
     ensures some { IfOk result (λ item. IsDocument bytes.now) }
 {
-    let raw = RawJsonb::new(bytes);
-    if !raw.is_document() {
-        return Err(Error::InvalidJsonb);
-    }
+    let raw = document_in(bytes)?;
     raw.get_object_value_by_key_name(name, |wanted, key| wanted == key)
 }

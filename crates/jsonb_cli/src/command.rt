@@ -1,17 +1,11 @@
 //! The commands: which line is one, and what each answers.
 
-ghost use Rattle.std.specs.Prelude.{◌≡◌, ◌⊎◌, ◌++◌, ℕ, List, codes, Err, IfSome, IfNone, IfOk, IfErr, OnOk, IsErrOf};
-ghost use Rattle.std.specs.String.{string_bytes};
+ghost use Rattle.std.specs.Prelude.{◌≡◌, ◌⊎◌, ◌++◌, ℕ, List, codes, IfSome, IfNone, IfOk, IfErr, IsErrOf};
 ghost use Rattle.jsonb_value.specs.declared.error.Error.TheVariants.{OutOfMemory};
-ghost use Rattle.jsonb_value.specs.Text.{compact};
-ghost use Rattle.jsonb_value.specs.Tree.{Tree};
-ghost use Rattle.jsonb_value.specs.Value.{tree_of};
-ghost use Rattle.jsonb_codec.specs.Canon.{canon, Fits};
-ghost use Rattle.jsonb_codec.specs.Doc.{Doc, IsDocument};
 ghost use Rattle.jsonb_cli.specs.Commands.{Form, IsOfForm};
 ghost use Rattle.jsonb_cli.specs.Parsed.{form_of};
 ghost use Rattle.jsonb_cli.specs.AnswerLine.{outcome_line};
-ghost use Rattle.jsonb_cli.specs.Answers.{IsEncAnswer, IsDecAnswer, IsFormAnswer, IsReply, IsLineReply, IsHexOf};
+ghost use Rattle.jsonb_cli.specs.Answers.{IsFormAnswer, IsReply, IsLineReply, IsHexOf};
 
 use crate::answer::{Answer, Refusal};
 use crate::calls::{

@@ -250,6 +250,22 @@ fn answers_commands(rt: HostRuntime) -> Result<(), Fail> {
         ("type 9fffffff", "ok array 536870911"),
         ("type 40000000", "ok object 0"),
         (r#"get 40000000 "a""#, "ok none"),
+        (
+            "pretty 40000002100000011000000120000002100000056162500168656c6c6f",
+            "ok 7b0a20202261223a20312c0a20202262223a202268656c6c6f220a7d",
+        ),
+        ("cmp 80000000 2000000000000000", "ok less"),
+        ("cmp 20000000200000025005 20000000200000024005", "ok equal"),
+        ("cmp 80000000 ", "ok greater"),
+        (
+            "arr 20000000200000025001 2000000000000000",
+            "ok 8000000220000002000000005001",
+        ),
+        ("arr", "ok 80000000"),
+        (
+            "canon 200000006000000a30000640d6b723800008",
+            "ok 200000006000000d30000640d6b723800000007080",
+        ),
     ] {
         let said = line_of(rt.alloc(), answer(rt.alloc(), line.as_bytes()))?;
         assert_eq!(rt; said.as_str().trim_end(), expected);
@@ -296,6 +312,13 @@ fn refuses_commands(rt: HostRuntime) -> Result<(), Fail> {
         ("get 40000000 1", "error InvalidJson"),
         (r#"get 01020304 "a""#, "error InvalidJsonb"),
         ("get 40000000", "error BadCommand"),
+        ("pretty 01020304", "error InvalidJsonb"),
+        ("cmp 80000000", "error BadCommand"),
+        ("cmp 80000000 8", "error BadHex"),
+        ("arr 01020304", "error InvalidJsonb"),
+        ("arr 01020304 8", "error BadHex"),
+        ("arr ", "error InvalidJsonb"),
+        ("canon 01020304", "error InvalidJsonb"),
     ] {
         let said = line_of(rt.alloc(), answer(rt.alloc(), line.as_bytes()))?;
         assert_eq!(rt; said.as_str().trim_end(), expected);
