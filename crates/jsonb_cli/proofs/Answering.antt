@@ -1,6 +1,7 @@
 -- What the commands answer.
-use Rattle.std.proofs.Common.{◌≡◌, ◌⊎◌, ℕ, List, Option, Some, None, Result, Ok, Err, refl, inl, inr, ap, subst, chars, option_map}
+use Rattle.std.proofs.Common.{◌≡◌, ◌⊎◌, ◌∷◌, ◌++◌, [], ℕ, List, map, append_assoc, sym, ◌∙◌, Option, Some, None, Result, Ok, Err, refl, inl, inr, ap, subst, chars, option_map}
 use Rattle.std.specs.Prelude.{IfErr, OnOk}
+use Rattle.std.proofs.lemmas.List.{append-nil, map-append}
 use Rattle.hex.specs.Hex.{encode_lower}
 use Rattle.std.specs.Str.{IsUtf8}
 use Rattle.jsonb_value.specs.ErrorName.{name_of}
@@ -16,30 +17,37 @@ use Rattle.std.specs.declared.borrow.CowStr.{CowStr}
 use Rattle.std.specs.declared.borrow.CowStr.TheVariants.{Borrowed, Owned}
 use Rattle.jsonb_codec.specs.Canon.{Fits}
 use Rattle.jsonb_codec.specs.Doc.{Doc, IsDocument}
+use Rattle.jsonb.specs.Building.{FitArray, IsArrayOf}
 use Rattle.jsonb.specs.Code.{stored}
 use Rattle.jsonb.specs.Lookup.{IsItemFound}
 use Rattle.jsonb.specs.declared.item.JsonbItem.{JsonbItem}
-use Rattle.jsonb.specs.Shown.{Shown, shown}
+use Rattle.jsonb.specs.Shown.{Shown, shown, owned}
 use Rattle.jsonb.specs.Walked.{IsItemOf}
 use Rattle.jsonb_cli.specs.declared.answer.Answer.{Answer}
 use Rattle.jsonb_cli.specs.declared.answer.Refusal.{Refusal}
 use Rattle.jsonb_cli.specs.declared.answer.Refusal.TheVariants.{BadHex, Call}
+use Rattle.jsonb_cli.specs.Lines as lines
+use Rattle.jsonb_cli.specs.Lines.{Each}
+use Rattle.jsonb_cli.proofs.Replies.{Each-append}
 use Rattle.jsonb_cli.specs.AnswerLine.{ok_line, error_line, refusal_name, outcome_line}
 use Rattle.jsonb_cli.specs.Answers as answers
-use Rattle.jsonb_cli.specs.Answers.{IsReply, IsEncAnswer, no_tree, too_large, IsDecAnswer, IsGetAnswer, no_name, IsName, value_of_key, bad_hex, no_document, IsHexOf}
+use Rattle.jsonb_cli.specs.Answers.{IsReply, IsEncAnswer, no_tree, too_large, IsDecAnswer, IsPrettyAnswer, IsArrAnswer, no_array, built, IsCanonAnswer, IsGetAnswer, no_name, IsName, value_of_key, bad_hex, no_document, IsHexOf}
 
 abbrev pub said_of : Error → List ℕ
 said_of e = error_line (name_of e)
 
-pub enc_unparsed : (text : List ℕ) (e : Error) → IsUtf8 text → (e ≡ InvalidJson) ⊎ (e ≡ OutOfMemory) → (e ≡ InvalidJson → (t : Tree) → Json (chars text) t → ⊥)
-    → IsReply IsEncAnswer text (error_line (name_of e))
-enc_unparsed text e utf8 (inl is) none = inl (no_tree utf8 (none is) (ap said_of is))
-enc_unparsed text e utf8 (inr is) none = inr (ap said_of is)
+-- no tree is meant by the text, or one that does not fit
+abbrev pub MeansNothing : List ℕ → Type 0
+MeansNothing text = (t : Tree) → Json (chars text) t → ⊥
 
-pub enc_unfit : (text : List ℕ) (t : Tree) (e : Error) → IsUtf8 text → Json (chars text) t → (e ≡ InvalidJsonb) ⊎ (e ≡ OutOfMemory) → (e ≡ InvalidJsonb → Fits t → ⊥)
-    → IsReply IsEncAnswer text (error_line (name_of e))
-enc_unfit text t e utf8 means (inl is) past = inl (too_large t utf8 means (past is) (ap said_of is))
-enc_unfit text t e utf8 means (inr is) past = inr (ap said_of is)
+abbrev pub MeansUnfit : List ℕ → Type 0
+MeansUnfit text = (t : Tree) × (Json (chars text) t × (Fits t → ⊥))
+
+pub enc_refused : (text : List ℕ) (e : Error) → IsUtf8 text → (e ≡ InvalidJson) ⊎ ((e ≡ InvalidJsonb) ⊎ (e ≡ OutOfMemory)) → (e ≡ InvalidJson → MeansNothing text)
+    → (e ≡ InvalidJsonb → MeansUnfit text) → IsReply IsEncAnswer text (error_line (name_of e))
+enc_refused text e utf8 (inl is) none past = inl (no_tree utf8 (none is) (ap said_of is))
+enc_refused text e utf8 (inr (inl is)) none past = let (t, (means, unfit)) = past is in inl (too_large t utf8 means unfit (ap said_of is))
+enc_refused text e utf8 (inr (inr is)) none past = inr (ap said_of is)
 
 pub dec_unread : (word : List ℕ) (refusal : Refusal) → (refusal ≡ BadHex) ⊎ (refusal ≡ Call OutOfMemory) → (refusal ≡ BadHex → (bytes : List ℕ) → IsHexOf bytes word → ⊥)
     → IsReply IsDecAnswer word (error_line (refusal_name refusal))
@@ -50,6 +58,20 @@ pub dec_unprinted : (word bytes : List ℕ) (e : Error) → IsHexOf bytes word �
     → IsReply IsDecAnswer word (error_line (name_of e))
 dec_unprinted word bytes e is_hex (inl is) none = inl (no_document bytes is_hex (none is) (ap said_of is))
 dec_unprinted word bytes e is_hex (inr is) none = inr (ap said_of is)
+
+pub pretty_unprinted : (word bytes : List ℕ) (e : Error) → IsHexOf bytes word → (e ≡ InvalidJsonb) ⊎ (e ≡ OutOfMemory) → (e ≡ InvalidJsonb → IsDocument bytes → ⊥)
+    → IsReply IsPrettyAnswer word (error_line (name_of e))
+pretty_unprinted word bytes e is_hex (inl is) none = inl (no_document bytes is_hex (none is) (ap said_of is))
+pretty_unprinted word bytes e is_hex (inr is) none = inr (ap said_of is)
+
+-- no tree that the bytes mean can be written
+abbrev pub WrittenNowhere : List ℕ → Type 0
+WrittenNowhere bytes = (t : Tree) → Doc bytes t → Fits t → ⊥
+
+pub canon_unwritten : (word bytes : List ℕ) (e : Error) → IsHexOf bytes word → (e ≡ InvalidJsonb) ⊎ (e ≡ OutOfMemory) → (e ≡ InvalidJsonb → WrittenNowhere bytes)
+    → IsReply IsCanonAnswer word (error_line (name_of e))
+canon_unwritten word bytes e is_hex (inl is) none = inl (no_tree bytes is_hex (none is) (ap said_of is))
+canon_unwritten word bytes e is_hex (inr is) none = inr (ap said_of is)
 
 pub get_unnamed : (word key bytes : List ℕ) (e : Error) → IsHexOf bytes word → IsUtf8 key → (e ≡ InvalidJson) ⊎ (e ≡ OutOfMemory)
     → (e ≡ InvalidJson → (name : List ℕ) → Json (chars key) (trees.text name) → ⊥) → IsReply (IsGetAnswer word) key (error_line (name_of e))
@@ -82,3 +104,46 @@ nothing_found value found is means = nothing_shown value (subst (λ (o : Option 
 pub cow_str_bytes-cow_bytes : (s : CowStr Global) → cow_str_bytes s ≡ cow_bytes s
 cow_str_bytes-cow_bytes (Borrowed s) = refl
 cow_str_bytes-cow_bytes (Owned s) = refl
+
+-- the words that were read, the bytes that they spell, and what the builder holds of them
+pub record IsRead (words rest : List (List ℕ)) (held : List Shown) : Type 0 where
+  pub inputs : List (List ℕ)
+  pub before : List (List ℕ)
+  pub parts : words ≡ before ++ rest
+  pub hex : Each IsHexOf inputs before
+  pub holds : held ≡ map owned inputs
+
+pub nothing_read : (words rest : List (List ℕ)) (held : List Shown) → rest ≡ words → held ≡ [] → IsRead words rest held
+nothing_read words rest held same empty = record { inputs = []; before = []; parts = sym same; hex = lines.none; holds = empty }
+
+pub one_more_read : (words rest left : List (List ℕ)) (held new : List Shown) (word bytes : List ℕ) → IsRead words rest held → rest ≡ word ∷ left → IsHexOf bytes word
+    → new ≡ held ++ owned bytes ∷ [] → IsRead words left new
+one_more_read words rest left held new word bytes read is hex pushed = record {
+  inputs = read.inputs ++ bytes ∷ [];
+  before = read.before ++ word ∷ [];
+  parts = read.parts ∙ ap (λ (l : List (List ℕ)). read.before ++ l) is ∙ sym (append_assoc read.before (word ∷ []) left);
+  hex = Each-append read.hex (lines.more hex lines.none);
+  holds = pushed ∙ ap (λ (l : List Shown). l ++ owned bytes ∷ []) read.holds ∙ sym (map-append owned read.inputs (bytes ∷ []));
+}
+
+pub arr_unread : (words rest left : List (List ℕ)) (held : List Shown) (word : List ℕ) (refusal : Refusal) → IsRead words rest held → rest ≡ word ∷ left
+    → (refusal ≡ BadHex) ⊎ (refusal ≡ Call OutOfMemory) → (refusal ≡ BadHex → (bytes : List ℕ) → IsHexOf bytes word → ⊥)
+    → IsReply IsArrAnswer words (error_line (refusal_name refusal))
+arr_unread words rest left held word refusal read is (inl bad) none =
+    inl (bad_hex read.before left word (read.parts ∙ ap (λ (l : List (List ℕ)). read.before ++ l) is) (none bad) (ap (λ r. error_line (refusal_name r)) bad))
+arr_unread words rest left held word refusal read is (inr memory) none = inr (ap (λ r. error_line (refusal_name r)) memory)
+
+all_read : (words rest : List (List ℕ)) (held : List Shown) (read : IsRead words rest held) → rest ≡ [] → Each IsHexOf read.inputs words
+all_read words rest held read end =
+    subst (λ (l : List (List ℕ)). Each IsHexOf read.inputs l) (sym (read.parts ∙ ap (λ (l : List (List ℕ)). read.before ++ l) end ∙ append-nil read.before)) read.hex
+
+pub arr_built : (words rest : List (List ℕ)) (held : List Shown) (bytes : List ℕ) → IsRead words rest held → rest ≡ [] → IsArrayOf held bytes
+    → IsReply IsArrAnswer words (ok_line (encode_lower bytes))
+arr_built words rest held bytes read end array =
+    inl (built read.inputs bytes (all_read words rest held read end) (subst (λ (xs : List Shown). IsArrayOf xs bytes) read.holds array) refl)
+
+pub arr_unbuilt : (words rest : List (List ℕ)) (held : List Shown) (e : Error) → IsRead words rest held → rest ≡ [] → (e ≡ InvalidJsonb) ⊎ (e ≡ OutOfMemory)
+    → (e ≡ InvalidJsonb → FitArray held → ⊥) → IsReply IsArrAnswer words (error_line (name_of e))
+arr_unbuilt words rest held e read end (inl is) unfit =
+    inl (no_array read.inputs (all_read words rest held read end) (subst (λ (xs : List Shown). FitArray xs → ⊥) read.holds (unfit is)) (ap said_of is))
+arr_unbuilt words rest held e read end (inr is) unfit = inr (ap said_of is)

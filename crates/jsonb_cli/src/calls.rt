@@ -1,6 +1,6 @@
 //! What the commands ask of the library.
 
-ghost use Rattle.std.specs.Prelude.{◌≡◌, ◌⊎◌, ℕ, List, nat_eq, length, chars, option_map, IfOk, IfErr, IfSome, IfNone, OnOk, IsOkAnd};
+ghost use Rattle.std.specs.Prelude.{◌≡◌, ◌⊎◌, ◌++◌, ◌∷◌, [], ℕ, List, nat_eq, length, chars, option_map, IfOk, IfErr, IfSome, IfNone, OnOk, IsOkAnd, IsErrOf};
 ghost use Rattle.std.specs.String.{string_bytes};
 ghost use Rattle.std.specs.Cmp.Lexicographic.{pointwise};
 ghost use Rattle.hex.specs.Hex.{encode_lower};
@@ -13,9 +13,9 @@ ghost use Rattle.jsonb_codec.specs.Doc.{Doc, IsDocument};
 ghost use Rattle.jsonb.specs.Code.{stored, CanBeStored};
 ghost use Rattle.jsonb.specs.Lookup.{find, IsItemFound};
 ghost use Rattle.jsonb.specs.Raw.{raw_bytes};
-ghost use Rattle.jsonb.specs.Shown.{shown};
+ghost use Rattle.jsonb.specs.Shown.{shown, owned};
 ghost use Rattle.jsonb_cli.specs.AnswerLine.{answer_words, ok_line, outcome_line};
-ghost use Rattle.jsonb_cli.specs.Answers.{IsEncAnswer, IsDecAnswer, IsPrettyAnswer, IsTypeAnswer, IsGetAnswer, IsCmpAnswer, IsArrAnswer, IsCanonAnswer, IsReply, kind_words, order_words};
+ghost use Rattle.jsonb_cli.specs.Answers.{IsEncAnswer, IsDecAnswer, IsPrettyAnswer, IsTypeAnswer, IsGetAnswer, IsCmpAnswer, IsArrAnswer, IsCanonAnswer, IsReply, IsHexOf, kind_words, order_words};
 
 use crate::answer::{Answer, Refusal};
 use crate::command::decoded;
@@ -128,15 +128,29 @@ pub fn answer_arr(alloc: Global, words: Words) -> Result<Answer, Refusal>
 {
     let mut builder = ArrayBuilder::new(alloc);
     for word in words {
-        let document = OwnedJsonb::new(decoded(alloc, word)?);
-        if builder.push_owned_jsonb(document).is_err() {
-            return Err(Refusal::Call(Error::OutOfMemory));
+        if let Err(refusal) = push_document(alloc, &mut builder, word) {
+            return Err(refusal);
         }
     }
     match builder.build() {
         Ok(array) => Ok(Answer::Hex(array.to_vec())),
         Err(error) => Err(Refusal::Call(error)),
     }
+}
+
+// Puts the bytes of a hexadecimal word behind the others.
+fn push_document(alloc: Global, builder: &mut ArrayBuilder, word: &[u8]) -> Result<(), Refusal>
+    ensures ok { OnOk result ((bytes : List ℕ) × (IsHexOf bytes word.now
+        × (builder.new ≡ builder.old ++ owned bytes ∷ []))) }
+    ensures bad { IsErrOf result Refusal.BadHex → (bytes : List ℕ) → IsHexOf bytes word.now → ⊥ }
+    ensures refused { IfErr result (λ refusal.
+        (refusal ≡ Refusal.BadHex) ⊎ (refusal ≡ Refusal.Call OutOfMemory)) }
+{
+    let document = OwnedJsonb::new(decoded(alloc, word)?);
+    if builder.push_owned_jsonb(document).is_err() {
+        return Err(Refusal::Call(Error::OutOfMemory));
+    }
+    Ok(())
 }
 
 /// The canonical document of a document's tree.
