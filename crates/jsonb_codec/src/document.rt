@@ -1,6 +1,7 @@
 //! Which byte strings are documents, and the first fault of those that are none.
 
 ghost use Rattle.std.specs.Prelude.{◌≡◌, ◌≢◌, ◌+◌, ◌*◌, ◌/◌, ◌%◌, ◌<◌, ◌≤◌, ◌^◌, ◌↔◌, ◌++◌, [], ℕ, List, length, take, drop, IsTrue, None, IfOk, IfErr, OnOk, OnErr, option_map};
+ghost use Rattle.std.specs.List.{All};
 ghost use Rattle.jsonb_codec.specs.Word.{word};
 ghost use Rattle.jsonb_value.specs.Tree.{Tree};
 ghost use Rattle.jsonb_codec.specs.Doc.{Doc, IsDocument};
@@ -23,7 +24,8 @@ pub fn document_laws()
 
 /// Whether the bytes are a document. Where they are, they mean one tree, whose size and depth the
 /// number of bytes bounds, no proper beginning of them is a document, and none that is longer
-/// begins with them.
+/// begins with them. Where none of them is zero, there are more than 4,294,967,296 of them: no
+/// text of usual length is a document.
 pub fn is_document(bytes: &[u8]) -> bool
     ensures exact { IsTrue result ↔ IsDocument bytes.now }
     ensures one_tree { IsTrue result → (t u : Tree) → Doc bytes.now t → Doc bytes.now u → t ≡ u }
@@ -33,6 +35,7 @@ pub fn is_document(bytes: &[u8]) -> bool
     ensures size { IsTrue result → (t : Tree) → Doc bytes.now t → size t ≤ length bytes.now / 4 }
     ensures depth { IsTrue result → (t : Tree) → Doc bytes.now t
         → depth t ≤ (length bytes.now + 4) / 8 }
+    ensures no_zero { IsTrue result → All (λ b. b ≢ 0) bytes.now → 4294967296 < length bytes.now }
 {
     // No document nests as deep as it has bytes.
     is_document_within(bytes, bytes.len())
