@@ -10,6 +10,7 @@ pub mod DepthLaws
 pub mod CanonLaws
 pub mod CanonicalSteps
 pub mod CanonicalWhole
+pub mod Rewriting
 pub mod WellFormed
 pub mod Decision
 pub mod ZeroLaws

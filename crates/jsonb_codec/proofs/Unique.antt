@@ -112,7 +112,7 @@ mutual
   same_tree t (boolean false) e p h k = absurd (omega arith)
   same_tree t u e p h k = absurd (omega arith)
 
-  same_trees : (ts us : Trees) → SameTrees ts us
+  pub same_trees : (ts us : Trees) → SameTrees ts us
   same_trees no_trees no_trees e p q c h k same =
       (refl, sym (sym k.no_payloads ∙ same ∙ ap (λ (x : List ℕ). x ++ c) h.no_payloads))
   same_trees no_trees (tree u us) e p q c h k same = let n = length-One _ _ _ e q k in let z = ap length h.no_entries in absurd (omega arith)

@@ -6,6 +6,7 @@ pub mod Parts
 pub mod Decoder
 pub mod Canon
 pub mod Canonical
+pub mod Rewriting
 pub mod Depth
 pub mod Node
 pub mod Room

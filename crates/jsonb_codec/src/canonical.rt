@@ -1,4 +1,7 @@
-//! Which byte strings are canonical documents.
+//! Which byte strings are canonical documents, and the canonical form of every document.
+
+mod parts;
+mod rewrite;
 
 ghost use Rattle.std.specs.Prelude.{◌≡◌, ◌*◌, ◌<◌, ◌^◌, ◌↔◌, IsTrue};
 ghost use Rattle.jsonb_codec.specs.Doc.{IsDocument};
@@ -11,6 +14,7 @@ use crate::constants::{
 use crate::document::is_document;
 use crate::word::{split_entry, split_header};
 use jsonb_value::{ExtensionValue, Number};
+pub use rewrite::append_canonical;
 
 /// Whether the bytes are the one document that is written for some tree: a document in which each
 /// whole number stands in the fewest bytes, zero as the one byte 0, and no decimal and no point in

@@ -9,7 +9,7 @@ mod jentry;
 mod ser;
 mod word;
 
-pub use canonical::is_canonical;
+pub use canonical::{append_canonical, is_canonical};
 pub use de::{Decoder, value_of};
 pub use document::{document_laws, is_document, is_document_within};
 pub use jentry::JEntry;

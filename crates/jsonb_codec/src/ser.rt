@@ -1,7 +1,7 @@
 //! Values, written as documents.
 
-mod append;
-mod measure;
+pub mod append;
+pub mod measure;
 mod node;
 
 ghost use Rattle.std.specs.Prelude.{◌≡◌, ◌≤◌, ◌+◌, ◌++◌, ◌↔◌, ◌⊎◌, length, vec_capacity, Err, IsOk, IfOk, IfErr, OnOk, OnErr};

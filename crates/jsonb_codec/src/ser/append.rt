@@ -30,7 +30,8 @@ pub fn append_document(out: &mut Vec<u8>, node: Node<'_, '_>)
     append_payload(out, node);
 }
 
-fn append_bytes(out: &mut Vec<u8>, bytes: &[u8])
+/// Appends the bytes as they are.
+pub fn append_bytes(out: &mut Vec<u8>, bytes: &[u8])
     requires { HasRoom out.old bytes.now }
     ensures { Appended out.old out.new bytes.now }
 {
@@ -39,9 +40,9 @@ fn append_bytes(out: &mut Vec<u8>, bytes: &[u8])
     };
 }
 
-// One word.
+/// Appends one word.
 #[tactic(auto, unfolding(crate::specs::Word::word))]
-fn append_word(out: &mut Vec<u8>, number: u32)
+pub fn append_word(out: &mut Vec<u8>, number: u32)
     requires { HasRoom out.old (word number) }
     ensures { Appended out.old out.new (word number) }
 {
@@ -79,7 +80,8 @@ fn append_payload(out: &mut Vec<u8>, node: Node<'_, '_>)
     }
 }
 
-fn append_number(out: &mut Vec<u8>, number: Number)
+/// Appends a number's payload.
+pub fn append_number(out: &mut Vec<u8>, number: Number)
     requires { HasRoom out.old (number_payload number) }
     ensures { Appended out.old out.new (number_payload number) }
 {
@@ -88,7 +90,8 @@ fn append_number(out: &mut Vec<u8>, number: Number)
     };
 }
 
-fn append_extension(out: &mut Vec<u8>, value: ExtensionValue<'_>)
+/// Appends an extension value's payload.
+pub fn append_extension(out: &mut Vec<u8>, value: ExtensionValue<'_>)
     requires fits { length (extension_payload (extension_of value)) < 2 ^ 28 }
     requires room { HasRoom out.old (extension_payload (extension_of value)) }
     ensures { Appended out.old out.new (extension_payload (extension_of value.entry)) }

@@ -13,7 +13,8 @@ use super::node::{Items, Node, Pairs};
 use crate::constants::CONTAINER_TAG;
 use jsonb_value::{Error, ExtensionValue, Number};
 
-const MAX_PAYLOAD: usize = 0x0FFFFFFF;
+/// The longest payload that an entry can have.
+pub const MAX_PAYLOAD: usize = 0x0FFFFFFF;
 
 const MAX_COUNT: usize = 0x1FFFFFFF;
 

@@ -1,0 +1,255 @@
+-- The children of a container, whether it is an array or an object, and how it is written as they are.
+use Rattle.std.proofs.Common.{◌≡◌, ◌≢◌, inl, inr, ◌<◌, ◌+◌, ◌*◌, ◌%◌, ◌^◌, ℕ, List, ◌++◌, length, take, drop, true, false, refl, sym, ap, ap₂, subst, ◌∙◌, arith, length-append, append-nil, append_assoc, [], Option, Some, None, IfNone}
+use Rattle.std.specs.Global.{Vec}
+use Rattle.jsonb_value.specs.Tree.{Tree, boolean, text, array, object, Trees, no_trees, tree, Pairs, no_pairs, pair, count, pair_count}
+use Rattle.jsonb_value.proofs.ExtCodes.{front_of, back_of}
+use Rattle.jsonb_codec.specs.Word.{word}
+use Rattle.jsonb_codec.specs.Doc.{type_of, Doc, Keys, Values, Children, Payload}
+use Rattle.jsonb_codec.specs.Depth.{depth}
+use Rattle.jsonb_codec.specs.Parts.{IsPayloadOf}
+use Rattle.jsonb_codec.specs.Canon.{payload_of, entries_of, payloads_of, key_entries, key_payloads, value_entries, value_payloads, FitsEntry, AllFit, PairsFit}
+use Rattle.jsonb_codec.specs.Canonical.{AreSomeChildren}
+use Rattle.jsonb_codec.specs.Room.{HasRoom, Appended}
+use Rattle.jsonb_codec.specs.Rewriting.{FirstChild, Opened}
+use Rattle.jsonb_codec.proofs.Words.{same_words}
+use Rattle.jsonb_codec.proofs.Unique.{same_trees}
+use Rattle.jsonb_codec.proofs.Entries.{IsType, IsType-type_of, same_entry, length-Children, length-Keys, length-Values}
+use Rattle.jsonb_codec.proofs.Steps.{Read, no_container}
+
+-- an object's values, and its keys as texts before other children
+abbrev values_of : Pairs → Trees
+values_of no_pairs = no_trees
+values_of (pair k t ps) = tree t (values_of ps)
+
+abbrev keys_and : Pairs → Trees → Trees
+keys_and no_pairs us = us
+keys_and (pair k t ps) us = tree (text k) (keys_and ps us)
+
+-- they stand where the object's do
+Children-values_of : (ps : Pairs) (e p : List ℕ) → Values ps e p → Children (values_of ps) e p
+Children-values_of no_pairs e p h = h
+Children-values_of (pair k t ps) e p h = record {
+  payload = h.payload;
+  other_entries = h.other_entries;
+  other_payloads = h.other_payloads;
+  entries_are = h.entries_are;
+  payloads_are = h.payloads_are;
+  short = h.short;
+  means = h.means;
+  others = Children-values_of ps h.other_entries h.other_payloads h.others;
+}
+
+Children-keys_and : (ps : Pairs) (us : Trees) (ke kp e p : List ℕ) → Keys ps ke kp → Children us e p → Children (keys_and ps us) (ke ++ e) (kp ++ p)
+Children-keys_and no_pairs us ke kp e p k h =
+    subst (λ x. Children us (x ++ e) (kp ++ p)) (sym k.no_entries) (subst (λ x. Children us e (x ++ p)) (sym k.no_payloads) h)
+Children-keys_and (pair key t ps) us ke kp e p k h = record {
+  payload = k.payload;
+  other_entries = k.other_entries ++ e;
+  other_payloads = k.other_payloads ++ p;
+  entries_are = ap (λ (x : List ℕ). x ++ e) k.entries_are ∙ append_assoc (word (268435456 + length k.payload)) k.other_entries e;
+  payloads_are = ap (λ (x : List ℕ). x ++ p) k.payloads_are ∙ append_assoc k.payload k.other_payloads p;
+  short = k.short;
+  means = k.means;
+  others = Children-keys_and ps us k.other_entries k.other_payloads e p k.others h;
+}
+
+-- they are written as the object's are
+entries_of-values_of : (ps : Pairs) → entries_of (values_of ps) ≡ value_entries ps
+entries_of-values_of no_pairs = refl
+entries_of-values_of (pair k t ps) = ap (λ (x : List ℕ). word (type_of t + length (payload_of t)) ++ x) (entries_of-values_of ps)
+
+payloads_of-values_of : (ps : Pairs) → payloads_of (values_of ps) ≡ value_payloads ps
+payloads_of-values_of no_pairs = refl
+payloads_of-values_of (pair k t ps) = ap (λ (x : List ℕ). payload_of t ++ x) (payloads_of-values_of ps)
+
+entries_of-keys_and : (ps : Pairs) (us : Trees) → entries_of (keys_and ps us) ≡ key_entries ps ++ entries_of us
+entries_of-keys_and no_pairs us = refl
+entries_of-keys_and (pair k t ps) us =
+    let head = word (268435456 + length k) in
+    ap (λ (x : List ℕ). head ++ x) (entries_of-keys_and ps us) ∙ sym (append_assoc head (key_entries ps) (entries_of us))
+
+payloads_of-keys_and : (ps : Pairs) (us : Trees) → payloads_of (keys_and ps us) ≡ key_payloads ps ++ payloads_of us
+payloads_of-keys_and no_pairs us = refl
+payloads_of-keys_and (pair k t ps) us =
+    ap (λ (x : List ℕ). k ++ x) (payloads_of-keys_and ps us) ∙ sym (append_assoc k (key_payloads ps) (payloads_of us))
+
+-- and fit exactly if the object's do
+AllFit-keys_and : (ps : Pairs) (us : Trees) → PairsFit ps → AllFit us → AllFit (keys_and ps us)
+AllFit-keys_and no_pairs us f h = h
+AllFit-keys_and (pair k t ps) us f h = ((tt, f.0.0), AllFit-keys_and ps us f.1 h)
+
+AllFit-values_of : (ps : Pairs) → PairsFit ps → AllFit (values_of ps)
+AllFit-values_of no_pairs f = tt
+AllFit-values_of (pair k t ps) f = (f.0.1, AllFit-values_of ps f.1)
+
+AllFit-behind : (ps : Pairs) (us : Trees) → AllFit (keys_and ps us) → AllFit us
+AllFit-behind no_pairs us h = h
+AllFit-behind (pair k t ps) us h = AllFit-behind ps us h.1
+
+PairsFit-keys_and : (ps : Pairs) (us : Trees) → AllFit (keys_and ps us) → AllFit (values_of ps) → PairsFit ps
+PairsFit-keys_and no_pairs us h v = tt
+PairsFit-keys_and (pair k t ps) us h v = ((h.0.1, v.0), PairsFit-keys_and ps us h.1 v.1)
+
+-- The same bytes are the same children.
+pub Children-unique : (ts us : Trees) (e p : List ℕ) → Children ts e p → Children us e p → ts ≡ us
+Children-unique ts us e p h k = (same_trees ts us e p p [] h k (sym (append-nil p))).0
+
+module _ (tag n : ℕ) (rest b : List ℕ) (parts : b ≡ word (tag + n) ++ rest) (high : tag % 2 ^ 29 ≡ 0) (number : n < 2 ^ 29) (small : tag + n < 2 ^ 32) where
+  -- A container whose header was read, and the m words behind it.
+  pub opened_as : (m : ℕ) → (tag ≡ 2147483648 → m ≡ n) → (tag ≡ 1073741824 → m ≡ 2 * n) → (t : Tree) → IsPayloadOf 1342177280 b t → Opened t (tag + n) (take (4 * m) rest) (drop (4 * m) rest)
+  opened_as m one two (array ts) (q, h) =
+      let few = h.behind.few in
+      let words = same_words (2147483648 + count ts) (tag + n) _ _ (omega arith) small (sym h.parts ∙ parts) in
+      let is : tag ≡ 2147483648 = omega (arith, words.0) in
+      let e = h.behind.entries in
+      let p = h.behind.payloads in
+      let body : rest ≡ e ++ p = sym words.1 ∙ h.behind.parts in
+      let len : length e ≡ 4 * m = omega (arith, length-Children ts e p h.behind.items, words.0, one is) in
+      record {
+        children = ts;
+        are = subst (λ x. Children ts x (drop (4 * m) rest)) (sym (front_of (4 * m) e p rest body len)) (subst (Children ts e) (sym (back_of (4 * m) e p rest body len)) h.behind.items);
+        fit = (λ a. (few, a), λ f. f.1);
+        written = ap (λ (k : ℕ). word k ++ (entries_of ts ++ payloads_of ts)) words.0;
+      }
+  opened_as m one two (object ps) (q, (ascend, h)) =
+      let few = h.behind.few in
+      let words = same_words (1073741824 + pair_count ps) (tag + n) _ _ (omega arith) small (sym h.parts ∙ parts) in
+      let is : tag ≡ 1073741824 = omega (arith, words.0) in
+      let k = h.behind in
+      let e = k.key_entries ++ k.value_entries in
+      let p = k.key_payloads ++ k.value_payloads in
+      let us = values_of ps in
+      let body : rest ≡ e ++ p = sym words.1 ∙ k.parts ∙ sym (append_assoc k.key_entries k.value_entries p) in
+      let len : length e ≡ 4 * m = omega (arith, length-append k.key_entries k.value_entries, length-Keys ps k.key_entries k.key_payloads k.keys, length-Values ps k.value_entries k.value_payloads k.values, words.0, two is) in
+      let items : Children (keys_and ps us) e p = Children-keys_and ps us k.key_entries k.key_payloads k.value_entries k.value_payloads k.keys (Children-values_of ps k.value_entries k.value_payloads k.values) in
+      let es : entries_of (keys_and ps us) ≡ key_entries ps ++ value_entries ps = entries_of-keys_and ps us ∙ ap (λ (x : List ℕ). key_entries ps ++ x) (entries_of-values_of ps) in
+      let qs : payloads_of (keys_and ps us) ≡ key_payloads ps ++ value_payloads ps = payloads_of-keys_and ps us ∙ ap (λ (x : List ℕ). key_payloads ps ++ x) (payloads_of-values_of ps) in
+      record {
+        children = keys_and ps us;
+        are = subst (λ x. Children (keys_and ps us) x (drop (4 * m) rest)) (sym (front_of (4 * m) e p rest body len)) (subst (Children (keys_and ps us) e) (sym (back_of (4 * m) e p rest body len)) items);
+        fit = (λ a. (few, PairsFit-keys_and ps us a (AllFit-behind ps us a)), λ f. AllFit-keys_and ps us f.1 (AllFit-values_of ps f.1));
+        written =
+            ap₂ (λ (j : ℕ) (x : List ℕ). word j ++ x) words.0
+            (sym (append_assoc (key_entries ps) (value_entries ps) (key_payloads ps ++ value_payloads ps)) ∙ ap₂ (λ (x y : List ℕ). x ++ y) (sym es) (sym qs));
+      }
+  opened_as m one two (boolean true) (q, h) = absurd (omega arith)
+  opened_as m one two (boolean false) (q, h) = absurd (omega arith)
+  opened_as m one two t (q, h) = absurd (omega arith)
+
+  -- A document of another header is one container,
+  pub document_whole : tag ≢ 536870912 → (t : Tree) → Doc b t → IsPayloadOf 1342177280 b t
+  document_whole other t (inr h) = h
+  document_whole other t (inl (q, h)) =
+      let words = same_words 536870912 (tag + n) _ _ (omega arith) small (sym h.parts ∙ parts) in
+      absurd (other (omega (arith, words.0)))
+
+  -- and of a scalar's it is the entry behind it.
+  pub document_part : tag ≡ 536870912 → (ty k : ℕ) (p : List ℕ) → Read ty k p rest → (t : Tree) → Doc b t → IsPayloadOf ty p t
+  document_part is ty k p read t (inr (q, h)) = absurd (no_container tag n rest b parts high number small (omega arith) (omega arith) (depth t) (t, (omega arith, (q, h))))
+  document_part is ty k p read t (inl (q, h)) =
+      let words = same_words 536870912 (tag + n) _ _ (omega arith) small (sym h.parts ∙ parts) in
+      let short = h.short in
+      let ht = IsType-type_of t in
+      let hu : IsType ty = record { high = read.tag; room = omega (arith, read.tag, read.small) } in
+      let inner = same_words (type_of t + length h.payload) (ty + k) _ _ (omega (arith, ht.room)) read.small (words.1 ∙ read.parts) in
+      let entry = same_entry (type_of t) ty (length h.payload) k ht hu short read.number inner.0 in
+      (entry.0, subst (Payload t) inner.1 h.means)
+
+-- ---- children, gone through one after another
+
+pub refuses : {A : Type 0} (r : Option A) (P : Type 0) → P → IfNone r P
+refuses None P h = h
+refuses (Some x) P h = tt
+
+-- What is measured of them, and those that are left.
+pub record Measured (all_entries all_payloads : List ℕ) (total : ℕ) (entries payloads : List ℕ) : Type 0 where
+  pub all : Trees
+  pub are_all : Children all all_entries all_payloads
+  pub left : Trees
+  pub are_left : Children left entries payloads
+  pub onward : AllFit all → AllFit left
+  pub back : AllFit left → AllFit all
+  pub sum : total + length (payloads_of left) ≡ length (payloads_of all)
+
+pub measured_start : (e p : List ℕ) → AreSomeChildren e p → Measured e p 0 e p
+measured_start e p (ts, h) = record { all = ts; are_all = h; left = ts; are_left = h; onward = λ f. f; back = λ f. f; sum = omega arith }
+
+module _ (ae ap_all : List ℕ) (total : ℕ) (e p : List ℕ) (m : Measured ae ap_all total e p) (ty : ℕ) (q e2 p2 : List ℕ) (f : FirstChild m.left ty q e2 p2) where
+  measured_fit : AllFit m.left → FitsEntry f.first × AllFit f.others
+  measured_fit h = let both = subst AllFit f.are h in (record { inside = both.0.0; short = both.0.1 }, both.1)
+
+  pub measured_on : (n : ℕ) → ((t : Tree) → IsPayloadOf ty q t → FitsEntry t × (n ≡ length (payload_of t))) → Measured ae ap_all (total + n) e2 p2
+  measured_on n known =
+      let here = known f.first f.is in
+      let parts : length (payloads_of m.left) ≡ n + length (payloads_of f.others) =
+      ap (λ (ts : Trees). length (payloads_of ts)) f.are ∙ omega (arith, length-append (payload_of f.first) (payloads_of f.others), here.1) in
+      record {
+        all = m.all;
+        are_all = m.are_all;
+        left = f.others;
+        are_left = f.behind;
+        onward = λ h. (measured_fit (m.onward h)).1;
+        back = λ h. m.back (subst AllFit (sym f.are) ((here.0.inside, here.0.short), h));
+        sum = omega (arith, m.sum, parts);
+      }
+
+  pub measured_past : ((t : Tree) → IsPayloadOf ty q t → FitsEntry t → ⊥) → (ts : Trees) → Children ts ae ap_all → AllFit ts → ⊥
+  measured_past none ts h fit =
+      let same : ts ≡ m.all = Children-unique ts m.all ae ap_all h m.are_all in
+      none f.first f.is (measured_fit (m.onward (subst AllFit same fit))).0
+
+pub measured_end : (ae qs : List ℕ) (total : ℕ) (e p : List ℕ) → (m : Measured ae qs total e p) → m.left ≡ no_trees → (ts : Trees) → Children ts ae qs → AllFit ts × (total ≡ length (payloads_of ts))
+measured_end ae qs total e p m none ts h =
+    let same : m.all ≡ ts = Children-unique m.all ts ae qs m.are_all h in
+    let sum : total + 0 ≡ length (payloads_of ts) = ap (λ (us : Trees). total + length (payloads_of us)) (sym none) ∙ m.sum ∙ ap (λ (us : Trees). length (payloads_of us)) same in
+    (subst AllFit same (m.back (subst AllFit (sym none) tt)), omega (arith, sum))
+
+-- What is written of them, and those that are left.
+pub record Written (Bytes : Trees → List ℕ) (old now : Vec ℕ) (all_entries all_payloads entries payloads : List ℕ) : Type 0 where
+  pub all : Trees
+  pub are_all : Children all all_entries all_payloads
+  pub left : Trees
+  pub are_left : Children left entries payloads
+  pub fit : AllFit left
+  pub room : HasRoom now (Bytes left)
+  pub bytes : now.items ++ Bytes left ≡ old.items ++ Bytes all
+
+pub written_start : (Bytes : Trees → List ℕ) (v : Vec ℕ) (e p : List ℕ) → ((ts : Trees) × (Children ts e p × (AllFit ts × HasRoom v (Bytes ts)))) → Written Bytes v v e p e p
+written_start Bytes v e p (ts, (h, (fit, room))) = record { all = ts; are_all = h; left = ts; are_left = h; fit = fit; room = room; bytes = refl }
+
+module _ (Bytes : Trees → List ℕ) (One : Tree → List ℕ) (law : (t : Tree) (us : Trees) → Bytes (tree t us) ≡ One t ++ Bytes us) (old now : Vec ℕ) (ae qs e p : List ℕ) (w : Written Bytes old now ae qs e p) (ty : ℕ) (q e2 p2 : List ℕ) (f : FirstChild w.left ty q e2 p2) where
+  both_parts : Bytes w.left ≡ One f.first ++ Bytes f.others
+  both_parts = ap Bytes f.are ∙ law f.first f.others
+
+  pub written_next : (t : Tree) × (IsPayloadOf ty q t × (FitsEntry t × HasRoom now (One t)))
+  written_next =
+      let fit = subst AllFit f.are w.fit in
+      let long : length (Bytes w.left) ≡ length (One f.first) + length (Bytes f.others) = ap length both_parts ∙ length-append (One f.first) (Bytes f.others) in
+      let room = w.room in
+      (f.first, (f.is, (record { inside = fit.0.0; short = fit.0.1 }, omega arith)))
+
+  pub written_on : (new : Vec ℕ) → ((t : Tree) → IsPayloadOf ty q t → Appended now new (One t)) → Written Bytes old new ae qs e2 p2
+  written_on new known =
+      let here = known f.first f.is in
+      let fit = subst AllFit f.are w.fit in
+      let long : length (Bytes w.left) ≡ length (One f.first) + length (Bytes f.others) = ap length both_parts ∙ length-append (One f.first) (Bytes f.others) in
+      let grown : length new.items ≡ length now.items + length (One f.first) = ap length here.items ∙ length-append now.items (One f.first) in
+      let room = w.room in
+      let kept = here.capacity in
+      record {
+        all = w.all;
+        are_all = w.are_all;
+        left = f.others;
+        are_left = f.behind;
+        fit = fit.1;
+        room = omega arith;
+        bytes =
+            ap (λ (x : List ℕ). x ++ Bytes f.others) here.items ∙ append_assoc now.items (One f.first) (Bytes f.others)
+            ∙ ap (λ (x : List ℕ). now.items ++ x) (sym both_parts) ∙ w.bytes;
+      }
+
+pub written_end : (Bytes : Trees → List ℕ) (old now : Vec ℕ) (ae qs e p : List ℕ) → Bytes no_trees ≡ [] → (w : Written Bytes old now ae qs e p) → w.left ≡ no_trees → (ts : Trees) → Children ts ae qs → now.items ≡ old.items ++ Bytes ts
+written_end Bytes old now ae qs e p nothing w none ts h =
+    let same : w.all ≡ ts = Children-unique w.all ts ae qs w.are_all h in
+    let last : Bytes w.left ≡ [] = ap Bytes none ∙ nothing in
+    sym (append-nil now.items) ∙ ap (λ (x : List ℕ). now.items ++ x) (sym last) ∙ w.bytes ∙ ap (λ (us : Trees). old.items ++ Bytes us) same

@@ -1,0 +1,24 @@
+use Rattle.std.proofs.Common.{ℕ, List, ◌++◌, refl, ap, ◌∙◌, arith}
+use Rattle.jsonb_codec.specs.Canon.{canon}
+use Rattle.jsonb_codec.proofs.canonical.rewrite.append_canonical.Goals as goal
+
+pub returns-in_default-clause-past : goal.returns-in_default-clause-past
+returns-in_default-clause-past c = (λ _ t h fit. c.in_default.ensures.none t (c.split_document-whole.ensures.means t h) fit, λ _. refl)
+
+pub returns-in_default-clause-room : goal.returns-in_default-clause-room
+returns-in_default-clause-room c t h fit room = absurd (c.in_default.ensures.none t (c.split_document-whole.ensures.means t h) fit)
+
+pub returns-in_err-try_reserve-clause-memory : goal.returns-in_err-try_reserve-clause-memory
+returns-in_err-try_reserve-clause-memory c _ =
+    let whole = c.is_document.ensures.exact.0 c.if-not-is_document.false in
+    (whole.0, (whole.1, (c.in-Some.ensures.some whole.0 (c.split_document-whole.ensures.means whole.0 whole.1)).0))
+
+pub returns-clause-appended : goal.returns-clause-appended
+returns-clause-appended c t h =
+    let part = c.split_document-whole.ensures.means t h in
+    ((c.in-Some.ensures.some t part).0, (c.append_document.ensures t part).items ∙ ap (λ (x : List ℕ). x ++ canon t) c.try_reserve.ensures.items)
+
+pub returns-in_err-try_reserve-clause-room : goal.returns-in_err-try_reserve-clause-room
+returns-in_err-try_reserve-clause-room c t h fit room =
+    let long = (c.in-Some.ensures.some t (c.split_document-whole.ensures.means t h)).1 in
+    absurd (omega (arith, c.in_err-try_reserve.ensures.full))
