@@ -1,6 +1,7 @@
 //! Binary JSON documents, read in place: their kinds, items and iterators.
 #![tactic(auto)]
 
+mod canonical;
 mod code;
 mod entries;
 mod extension_item;
@@ -21,7 +22,7 @@ pub use item::JsonbItem;
 pub use item_type::JsonbItemType;
 pub use iterator::{ArrayIterator, ObjectIterator, ObjectKeyIterator, ObjectValueIterator};
 pub use jsonb_codec::{
-    Decoder, Encoder, JEntry, JsonAstEncoder, constants, document_laws, is_canonical, is_document,
+    Decoder, Encoder, JEntry, JsonAstEncoder, append_canonical, constants, document_laws, is_canonical, is_document,
     is_document_within, read_header, read_jentry, read_word, value_of,
 };
 pub use jsonb_value::{

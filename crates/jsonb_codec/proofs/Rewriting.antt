@@ -1,18 +1,24 @@
 -- The children of a container, whether it is an array or an object, and how it is written as they are.
-use Rattle.std.proofs.Common.{◌≡◌, ◌≢◌, inl, inr, ◌<◌, ◌+◌, ◌*◌, ◌%◌, ◌^◌, ℕ, List, ◌++◌, length, take, drop, true, false, refl, sym, ap, ap₂, subst, ◌∙◌, arith, length-append, append-nil, append_assoc, [], Option, Some, None, IfNone}
+use Rattle.std.proofs.Common.{◌≡◌, ◌↔◌, ◌≢◌, inl, inr, ◌<◌, ◌+◌, ◌*◌, ◌%◌, ◌^◌, ℕ, List, ◌++◌, length, take, drop, true, false, refl, sym, ap, ap₂, subst, ◌∙◌, arith, length-append, append-nil, append_assoc, [], Option, Some, None, IfNone}
 use Rattle.std.specs.Global.{Vec}
-use Rattle.jsonb_value.specs.Tree.{Tree, boolean, text, array, object, Trees, no_trees, tree, Pairs, no_pairs, pair, count, pair_count}
+use Rattle.jsonb_value.specs.Tree.{Tree, null, boolean, number, text, extension, array, object, Trees, no_trees, tree, Pairs, no_pairs, pair, count, pair_count}
+use Rattle.std.specs.declared.cmp.Ordering.TheVariants.{Equal}
+use Rattle.jsonb_value.specs.Norm.{norm, norms, norm_pairs}
+use Rattle.jsonb_value.specs.TreeOrder.{tree_cmp}
+use Rattle.jsonb_value.specs.WellFormed.{IsTree}
+use Rattle.jsonb_value.proofs.KindLaws.{norm_tied}
 use Rattle.jsonb_value.proofs.ExtCodes.{front_of, back_of}
 use Rattle.jsonb_codec.specs.Word.{word}
 use Rattle.jsonb_codec.specs.Doc.{type_of, Doc, Keys, Values, Children, Payload}
 use Rattle.jsonb_codec.specs.Depth.{depth}
 use Rattle.jsonb_codec.specs.Parts.{IsPayloadOf}
-use Rattle.jsonb_codec.specs.Canon.{payload_of, entries_of, payloads_of, key_entries, key_payloads, value_entries, value_payloads, FitsEntry, AllFit, PairsFit}
-use Rattle.jsonb_codec.specs.Canonical.{AreSomeChildren}
+use Rattle.jsonb_codec.specs.Canon.{canon, Fits, FitsInside, payload_of, entries_of, payloads_of, key_entries, key_payloads, value_entries, value_payloads, FitsEntry, AllFit, PairsFit}
+use Rattle.jsonb_codec.specs.Canonical.{IsCanonical, AreSomeChildren}
 use Rattle.jsonb_codec.specs.Room.{HasRoom, Appended}
 use Rattle.jsonb_codec.specs.Rewriting.{FirstChild, Opened}
 use Rattle.jsonb_codec.proofs.Words.{same_words}
-use Rattle.jsonb_codec.proofs.Unique.{same_trees}
+use Rattle.jsonb_codec.proofs.Unique.{same_trees, Doc-unique}
+use Rattle.jsonb_codec.proofs.CanonLaws.{type_of-norm, count-norms, pair_count-norm_pairs, payload_of-norm, canon-norm, Doc-canon}
 use Rattle.jsonb_codec.proofs.Entries.{IsType, IsType-type_of, same_entry, length-Children, length-Keys, length-Values}
 use Rattle.jsonb_codec.proofs.Steps.{Read, no_container}
 
@@ -253,3 +259,52 @@ written_end Bytes old now ae qs e p nothing w none ts h =
     let same : w.all ≡ ts = Children-unique w.all ts ae qs w.are_all h in
     let last : Bytes w.left ≡ [] = ap Bytes none ∙ nothing in
     sym (append-nil now.items) ∙ ap (λ (x : List ℕ). now.items ++ x) (sym last) ∙ w.bytes ∙ ap (λ (us : Trees). old.items ++ Bytes us) same
+
+-- ---- what was written, beside the bytes that were read
+
+mutual
+  FitsInside-norm : (t : Tree) → FitsInside t → FitsInside (norm t)
+  FitsInside-norm null h = tt
+  FitsInside-norm (boolean b) h = tt
+  FitsInside-norm (number x) h = tt
+  FitsInside-norm (text s) h = tt
+  FitsInside-norm (extension e) h = tt
+  FitsInside-norm (array ts) h = (subst (λ n. n < 2 ^ 29) (sym (count-norms ts)) h.0, AllFit-norms ts h.1)
+  FitsInside-norm (object ps) h = (subst (λ n. n < 2 ^ 29) (sym (pair_count-norm_pairs ps)) h.0, PairsFit-norm_pairs ps h.1)
+
+  AllFit-norms : (ts : Trees) → AllFit ts → AllFit (norms ts)
+  AllFit-norms no_trees h = tt
+  AllFit-norms (tree t ts) h = ((FitsInside-norm t h.0.0, subst (λ (x : List ℕ). length x < 2 ^ 28) (sym (payload_of-norm t)) h.0.1), AllFit-norms ts h.1)
+
+  PairsFit-norm_pairs : (ps : Pairs) → PairsFit ps → PairsFit (norm_pairs ps)
+  PairsFit-norm_pairs no_pairs h = tt
+  PairsFit-norm_pairs (pair k t ps) h =
+      ((h.0.0, (FitsInside-norm t h.0.1.0, subst (λ (x : List ℕ). length x < 2 ^ 28) (sym (payload_of-norm t)) h.0.1.1)), PairsFit-norm_pairs ps h.1)
+
+-- The normal form of a tree that fits does.
+pub Fits-norm : (t : Tree) → Fits t → Fits (norm t)
+Fits-norm t h = record {
+  inside = FitsInside-norm t h.inside;
+  short = λ other. subst (λ (x : List ℕ). length x < 2 ^ 28) (sym (payload_of-norm t)) (h.short (λ e. other (type_of-norm t ∙ e)));
+}
+
+-- The canonical document is the source exactly where that was canonical,
+pub canonical_same : (b : List ℕ) (t : Tree) → IsTree t → Doc b t → Fits t → (canon t ≡ b) ↔ IsCanonical b
+canonical_same b t ok h fit = (
+  λ e. (t, (ok, (fit, e))),
+  λ (u, (good, (fits, e))).
+      let same : norm u ≡ t = Doc-unique b (norm u) t (subst (λ x. Doc x (norm u)) e (Doc-canon u good fits)) h in
+      ap canon (sym same) ∙ canon-norm u ∙ e,
+)
+
+-- means a tree that is written as it is itself,
+pub canonical_twice : (b : List ℕ) (t : Tree) → b ≡ canon t → IsTree t → Fits t → (u : Tree) → Doc b u → Fits u × (canon u ≡ b)
+canonical_twice b t e ok fit u h =
+    let same : norm t ≡ u = Doc-unique b (norm t) u (subst (λ x. Doc x (norm t)) (sym e) (Doc-canon t ok fit)) h in
+    (subst Fits same (Fits-norm t fit), ap canon (sym same) ∙ canon-norm t ∙ sym e)
+
+-- and one that is Equal to its source's.
+pub canonical_equal : (b : List ℕ) (t : Tree) → b ≡ canon t → IsTree t → Fits t → (u : Tree) → Doc b u → tree_cmp u t ≡ Equal
+canonical_equal b t e ok fit u h =
+    let same : norm t ≡ u = Doc-unique b (norm t) u (subst (λ x. Doc x (norm t)) (sym e) (Doc-canon t ok fit)) h in
+    ap (λ (x : Tree). tree_cmp x t) (sym same) ∙ norm_tied t

@@ -3,6 +3,7 @@
 ghost use Rattle.std.specs.Prelude.{◌≡◌, ◌<◌, ◌≤◌, ◌^◌, ◌+◌, ◌++◌, ◌↔◌, ◌⊎◌, length, vec_capacity, Err, IsOk, IfSome, IfNone, IfErr, OnOk, OnErr};
 ghost use Rattle.jsonb_value.specs.Tree.{Tree, Trees, number, extension};
 ghost use Rattle.jsonb_value.specs.ExtCode.{extension_of};
+ghost use Rattle.jsonb_value.specs.WellFormed.{IsTree};
 ghost use Rattle.jsonb_codec.specs.Word.{word};
 ghost use Rattle.jsonb_codec.specs.Doc.{type_of, Doc, IsDocument, Children};
 ghost use Rattle.jsonb_codec.specs.Parts.{IsPayloadOf};
@@ -25,6 +26,7 @@ pub fn append_canonical(buf: &mut Vec<u8>, bytes: &[u8]) -> Result<(), Error>
     ensures document { OnOk result (IsDocument bytes.now) }
     ensures appended { OnOk result ((t : Tree) → Doc bytes.now t
         → Fits t × (buf.new.items ≡ buf.old.items ++ canon t)) }
+    ensures tree { OnOk result ((t : Tree) → Doc bytes.now t → IsTree t) }
     ensures err { OnErr result (buf.new.items ≡ buf.old.items) }
 
     // Which refusal comes: memory is asked for only where the tree fits.

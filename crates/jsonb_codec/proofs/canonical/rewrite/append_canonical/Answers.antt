@@ -1,5 +1,6 @@
 use Rattle.std.proofs.Common.{ℕ, List, ◌++◌, refl, ap, ◌∙◌, arith}
 use Rattle.jsonb_codec.specs.Canon.{canon}
+use Rattle.jsonb_codec.proofs.WellFormed.{IsTree-Doc}
 use Rattle.jsonb_codec.proofs.canonical.rewrite.append_canonical.Goals as goal
 
 pub returns-in_default-clause-past : goal.returns-in_default-clause-past
@@ -22,3 +23,6 @@ pub returns-in_err-try_reserve-clause-room : goal.returns-in_err-try_reserve-cla
 returns-in_err-try_reserve-clause-room c t h fit room =
     let long = (c.in-Some.ensures.some t (c.split_document-whole.ensures.means t h)).1 in
     absurd (omega (arith, c.in_err-try_reserve.ensures.full))
+
+pub returns-clause-tree : goal.returns-clause-tree
+returns-clause-tree c t h = IsTree-Doc c.args.bytes.now t (λ i. omega (arith, c.type_inv.bytes i)) h
