@@ -6,7 +6,7 @@ use Rattle.std.proofs.lemmas.Fmt.{decimal_digit, decimal_step_wide}
 use Rattle.std.specs.List.{repeat}
 use Rattle.jsonb_value.specs.Text.{front_of, last_digits, pointed}
 
-length-last_digits : (s m : ℕ) → length (last_digits s m) ≡ s
+pub length-last_digits : (s m : ℕ) → length (last_digits s m) ≡ s
 length-last_digits zero m = refl
 length-last_digits (suc s) m = length-append (last_digits s (m / 10)) ((48 + m % 10) ∷ []) ∙ omega (arith, length-last_digits s (m / 10))
 

@@ -13,7 +13,7 @@ use Rattle.jsonb_value.specs.Text.{is_escaped, escape, byte_text}
 pub is_escaped-ascii : (b : ℕ) → is_escaped b ≡ true → b < 128
 is_escaped-ascii b escaped = grind (arith, nat_tests)
 
-plain_front : (xs : List ℕ) → ((k : ℕ) → k < length xs → is_escaped (get_or xs k 0) ≡ false) → flat_map byte_text xs ≡ xs
+pub plain_front : (xs : List ℕ) → ((k : ℕ) → k < length xs → is_escaped (get_or xs k 0) ≡ false) → flat_map byte_text xs ≡ xs
 plain_front [] plain = refl
 plain_front (x ∷ xs) plain =
     let first : is_escaped x ≡ false = plain 0 (omega arith) in

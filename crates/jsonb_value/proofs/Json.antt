@@ -1,4 +1,5 @@
 pub mod Tests
+pub mod PrintedNumbers
 pub mod Digits
 pub mod NumberLaws
 pub mod TextLaws
