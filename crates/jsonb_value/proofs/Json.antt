@@ -1,5 +1,8 @@
 pub mod Tests
 pub mod PrintedNumbers
+pub mod PrintedText
+pub mod Same
+pub mod PrintedTrees
 pub mod Digits
 pub mod NumberLaws
 pub mod TextLaws

@@ -8,6 +8,7 @@ pub mod Value
 pub mod Ast
 pub mod Norm
 pub mod WellFormed
+pub mod Plain
 pub mod Fraction
 pub mod Order
 pub mod TreeOrder

@@ -1,5 +1,5 @@
 -- What is printed of a number means a number of the same worth, which is written in no more bytes.
-use Rattle.std.proofs.Common.{◌≡◌, ◌↔◌, ℕ, ℤ, zero, suc, pos, negsuc, ◌+◌, ◌*◌, ◌/◌, ◌%◌, ◌<◌, ◌≤◌, ◌^◌, Bool, true, false, if◌then◌else◌, inl, inr, Some, refl, sym, ap, subst, ◌∙◌, List, [], ◌∷◌, ◌++◌, length, arith, eqb-true, length-append, append-nil, lit<}
+use Rattle.std.proofs.Common.{◌≡◌, ℕ, ℤ, zero, suc, pos, negsuc, ◌+◌, ◌*◌, ◌/◌, ◌%◌, ◌<◌, ◌≤◌, ◌^◌, Bool, true, false, if◌then◌else◌, inl, inr, Some, refl, sym, ap, ◌∙◌, List, [], ◌∷◌, ◌++◌, length, arith, eqb-true, length-append, append-nil}
 use Rattle.std.specs.Prelude.{◌==◌, nat_lt, decimal, unsigned_abs, FitsSigned}
 use Rattle.std.specs.Int.{Width, w8, w16, w32, w64, w128, byte_len, to_be_bytes, cast_unsigned, is_negative}
 use Rattle.std.specs.Char.{is_ascii_digit, digit_value}
@@ -13,7 +13,7 @@ use Rattle.jsonb_value.specs.Order.{fraction_of}
 use Rattle.jsonb_value.specs.WellFormed.{IsNumber}
 use Rattle.jsonb_value.specs.Text.{front_of, last_digits, decimal_text, number_text}
 use Rattle.jsonb_value.specs.Json.Characters.{point, zero_digit, all_digits}
-use Rattle.jsonb_value.specs.Json.Numeral.{Numeral, sign_text, fraction_text, numeral_text, is_whole, is_numeral, signed, value_without_point, whole_number, wide_number, decimal_number, number_of, numeral_meaning}
+use Rattle.jsonb_value.specs.Json.Numeral.{Numeral, fraction_text, numeral_text, is_whole, is_numeral, signed, value_without_point, wide_number, number_of, numeral_meaning}
 use Rattle.jsonb_value.proofs.BigEndian.{length-to_be_bytes}
 use Rattle.jsonb_value.proofs.PayloadLaws.{by_test}
 use Rattle.jsonb_value.proofs.Decimals.{length-last_digits}

@@ -1,0 +1,22 @@
+-- Which trees hold no extension value.
+use Rattle.std.specs.Prelude.{⊤}
+use Rattle.jsonb_value.specs.Tree.{Tree, null, boolean, number, text, extension, array, object, Trees, no_trees, tree, Pairs, no_pairs, pair}
+
+-- There is none in the tree: their texts are those of strings, so a text that is read again gives none.
+abbrev mutual
+  pub IsPlain : Tree → Type 0
+  IsPlain null = ⊤
+  IsPlain (boolean b) = ⊤
+  IsPlain (number x) = ⊤
+  IsPlain (text s) = ⊤
+  IsPlain (extension e) = ⊥
+  IsPlain (array ts) = ArePlain ts
+  IsPlain (object ps) = PairsPlain ps
+
+  pub ArePlain : Trees → Type 0
+  ArePlain no_trees = ⊤
+  ArePlain (tree t ts) = IsPlain t × ArePlain ts
+
+  pub PairsPlain : Pairs → Type 0
+  PairsPlain no_pairs = ⊤
+  PairsPlain (pair k t ps) = IsPlain t × PairsPlain ps
