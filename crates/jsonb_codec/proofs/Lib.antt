@@ -11,6 +11,7 @@ pub mod CanonLaws
 pub mod CanonicalSteps
 pub mod CanonicalWhole
 pub mod Rewriting
+pub mod RereadLaws
 pub mod WellFormed
 pub mod Decision
 pub mod ZeroLaws

@@ -6,6 +6,7 @@ pub mod constants;
 mod de;
 mod document;
 mod jentry;
+mod reread;
 mod ser;
 mod word;
 
@@ -13,5 +14,6 @@ pub use canonical::{append_canonical, is_canonical};
 pub use de::{Decoder, value_of};
 pub use document::{document_laws, is_document, is_document_within};
 pub use jentry::JEntry;
+pub use reread::printed_text_laws;
 pub use ser::{Encoder, JsonAstEncoder};
 pub use word::{read_header, read_jentry, read_word};
