@@ -62,3 +62,6 @@ impl<'a> RawJsonb<'a> {
         Ok(OwnedJsonb::new(bytes))
     }
 }
+
+#[cfg(test)]
+mod tests;
