@@ -1,8 +1,8 @@
 -- A tree that is read again from its text fits where the tree that was printed does.
-use Rattle.std.proofs.Common.{◌≡◌, ◌≤◌, ◌<◌, ◌+◌, ◌*◌, ◌^◌, ℕ, suc, Bool, List, ◌++◌, length, chars, refl, sym, ap, ◌∙◌, arith, length-append}
+use Rattle.std.proofs.Common.{◌≡◌, ◌≤◌, suc, Bool, length, chars, refl, ap, ◌∙◌, arith, length-append}
 use Rattle.jsonb_value.specs.Plain.{IsPlain}
 use Rattle.jsonb_value.specs.Text.{Layout, laid_out}
-use Rattle.jsonb_value.specs.Tree.{Tree, null, boolean, number, text, extension, array, object, Trees, no_trees, tree, Pairs, no_pairs, pair, count, pair_count}
+use Rattle.jsonb_value.specs.Tree.{Tree, null, boolean, number, text, array, object, Trees, no_trees, tree, Pairs, no_pairs, pair, count, pair_count}
 use Rattle.jsonb_value.specs.WellFormed.{IsTree}
 use Rattle.jsonb_value.proofs.Json.Same.{IsSame, AreSame, PairsSame}
 use Rattle.jsonb_value.proofs.Json.PrintedTrees.{reread_tree}

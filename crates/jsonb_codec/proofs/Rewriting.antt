@@ -1,6 +1,9 @@
 -- The children of a container, whether it is an array or an object, and how it is written as they are.
 use Rattle.std.proofs.Common.{◌≡◌, ◌↔◌, ◌≢◌, inl, inr, ◌<◌, ◌+◌, ◌*◌, ◌%◌, ◌^◌, ℕ, List, ◌++◌, length, take, drop, true, false, refl, sym, ap, ap₂, subst, ◌∙◌, arith, length-append, append-nil, append_assoc, [], Option, Some, None, IfNone}
 use Rattle.std.specs.Global.{Vec}
+use Rattle.std.specs.Prelude.{Result, Ok, Err, IsErrAnd}
+use Rattle.jsonb_value.specs.declared.error.Error.{Error}
+use Rattle.jsonb_value.specs.declared.error.Error.TheVariants.{InvalidJsonb, OutOfMemory}
 use Rattle.jsonb_value.specs.Tree.{Tree, null, boolean, number, text, extension, array, object, Trees, no_trees, tree, Pairs, no_pairs, pair, count, pair_count}
 use Rattle.std.specs.declared.cmp.Ordering.TheVariants.{Equal}
 use Rattle.jsonb_value.specs.Norm.{norm, norms, norm_pairs}
@@ -163,6 +166,12 @@ module _ (tag n : ℕ) (rest b : List ℕ) (parts : b ≡ word (tag + n) ++ rest
 
 -- ---- children, gone through one after another
 
+-- want of memory is no fault of the bytes
+pub no_fault : {A : Type 0} (r : Result A Error) → IsErrAnd r (λ e. e ≡ OutOfMemory) → r ≡ Err InvalidJsonb → ⊥
+no_fault (Ok x) h e = cc
+no_fault (Err x) h e = let same : x ≡ InvalidJsonb = cc in let never : OutOfMemory ≡ InvalidJsonb = sym h ∙ same in cc
+
+-- a refusal is given with its reason
 pub refuses : {A : Type 0} (r : Option A) (P : Type 0) → P → IfNone r P
 refuses None P h = h
 refuses (Some x) P h = tt

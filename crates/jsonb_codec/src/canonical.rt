@@ -3,17 +3,13 @@
 mod parts;
 mod rewrite;
 
-ghost use Rattle.std.specs.Prelude.{◌≡◌, ◌*◌, ◌<◌, ◌^◌, ◌↔◌, IsTrue};
-ghost use Rattle.jsonb_codec.specs.Doc.{IsDocument};
+ghost use Rattle.std.specs.Prelude.{◌↔◌, IsTrue};
 ghost use Rattle.jsonb_codec.specs.Canonical.{IsCanonical, IsSomePayload, AreSomeChildren, IsWritten, AreWritten};
 
-use crate::constants::{
-    ARRAY_CONTAINER_TAG, CONTAINER_TAG, EXTENSION_TAG, NUMBER_TAG, OBJECT_CONTAINER_TAG,
-    SCALAR_CONTAINER_TAG,
-};
+use crate::constants::{CONTAINER_TAG, EXTENSION_TAG, NUMBER_TAG};
 use crate::document::is_document;
-use crate::word::{split_entry, split_header};
 use jsonb_value::{ExtensionValue, Number};
+use parts::{Part, split_child, split_container, split_document};
 pub use rewrite::append_canonical;
 
 /// Whether the bytes are the one document that is written for some tree: a document in which each
@@ -22,36 +18,19 @@ pub use rewrite::append_canonical;
 pub fn is_canonical(bytes: &[u8]) -> bool
     ensures { IsTrue result ↔ IsCanonical bytes.now }
 {
-    is_document(bytes) && is_written(bytes)
+    is_document(bytes) && is_written(split_document(bytes))
 }
 
-// Whether each payload of a document is as it is written.
-fn is_written(bytes: &[u8]) -> bool
-    requires { IsDocument bytes.now }
-    ensures { IsTrue result ↔ IsCanonical bytes.now }
-{
-    let Some(header) = split_header(bytes) else {
-        return false;
-    };
-    if header.tag != SCALAR_CONTAINER_TAG {
-        return is_written_container(bytes);
-    }
-    match split_entry(header.rest) {
-        Some(entry) => is_written_payload(entry.tag, entry.rest),
-        None => false,
-    }
-}
-
-// The payload of an entry of this type.
+// Whether each payload is as it is written.
 #[cycle(written)]
-fn is_written_payload(tag: u32, payload: &[u8]) -> bool
-    requires { IsSomePayload tag payload.now }
-    ensures { IsTrue result ↔ IsWritten tag payload.now }
+fn is_written(part: Part<'_>) -> bool
+    requires { IsSomePayload part.tag part.payload.now }
+    ensures { IsTrue result ↔ IsWritten part.entry.tag part.entry.payload.now }
 {
-    match tag {
-        NUMBER_TAG => is_written_number(payload),
-        EXTENSION_TAG => is_written_extension(payload),
-        CONTAINER_TAG => is_written_container(payload),
+    match part.tag {
+        NUMBER_TAG => is_written_number(part.payload),
+        EXTENSION_TAG => is_written_extension(part.payload),
+        CONTAINER_TAG => is_written_container(part.payload),
         _ => true,
     }
 }
@@ -83,26 +62,8 @@ fn is_written_container(bytes: &[u8]) -> bool
     requires { IsSomePayload CONTAINER_TAG bytes.now }
     ensures { IsTrue result ↔ IsWritten CONTAINER_TAG bytes.now }
 {
-    let Some(header) = split_header(bytes) else {
-        return false;
-    };
-    let words = entry_words(header.tag, header.number);
-    let (entries, payloads) = header.rest.split_at(4 * words);
-    are_written(entries, payloads)
-}
-
-// How many entry words stand behind a header. An object's keys have theirs before its values'.
-fn entry_words(tag: u32, count: usize) -> usize
-    requires { count < 2 ^ 29 }
-    ensures array { tag ≡ ARRAY_CONTAINER_TAG → result ≡ count }
-    ensures object { tag ≡ OBJECT_CONTAINER_TAG → result ≡ 2 * count }
-    ensures few { result < 2 ^ 30 }
-{
-    if tag == OBJECT_CONTAINER_TAG {
-        2 * count
-    } else {
-        count
-    }
+    let container = split_container(bytes);
+    are_written(container.entries, container.payloads)
 }
 
 // The children of a container, an object's keys and then its values.
@@ -113,13 +74,12 @@ fn are_written(entries: &[u8], payloads: &[u8]) -> bool
 {
     let mut entries_left = entries;
     let mut payloads_left = payloads;
-    while let Some(entry) = split_entry(entries_left) {
-        let (payload, behind) = payloads_left.split_at(entry.number);
-        if !is_written_payload(entry.tag, payload) {
+    while let Some(child) = split_child(entries_left, payloads_left) {
+        if !is_written(child.part) {
             return false;
         }
-        entries_left = entry.rest;
-        payloads_left = behind;
+        entries_left = child.entries;
+        payloads_left = child.payloads;
     }
     true
 }

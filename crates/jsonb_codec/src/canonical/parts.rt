@@ -1,14 +1,15 @@
 //! The parts of a document, one after another where they stand.
 
-ghost use Rattle.std.specs.Prelude.{◌≡◌, ◌+◌, ◌<◌, ◌^◌, length, IfSome, IfNone};
+ghost use Rattle.std.specs.Prelude.{◌≡◌, ◌↔◌, ◌+◌, ◌*◌, ◌<◌, ◌≤◌, ◌^◌, length, IfSome, IfNone};
 ghost use Rattle.jsonb_value.specs.Tree.{Tree, Trees, no_trees};
 ghost use Rattle.jsonb_codec.specs.Doc.{Doc, Children, IsDocument};
 ghost use Rattle.jsonb_codec.specs.Parts.{IsPayloadOf};
-ghost use Rattle.jsonb_codec.specs.Canonical.{IsSomePayload, AreSomeChildren};
+ghost use Rattle.jsonb_codec.specs.Canonical.{IsCanonical, IsSomePayload, AreSomeChildren, IsWritten, AreWritten};
 ghost use Rattle.jsonb_codec.specs.Rewriting.{FirstChild, Opened};
 
-use super::entry_words;
-use crate::constants::{CONTAINER_TAG, SCALAR_CONTAINER_TAG};
+use crate::constants::{
+    ARRAY_CONTAINER_TAG, CONTAINER_TAG, OBJECT_CONTAINER_TAG, SCALAR_CONTAINER_TAG,
+};
 use crate::word::{split_entry, split_header};
 
 /// An entry's type, and its payload.
@@ -23,6 +24,7 @@ pub fn split_document(bytes: &[u8]) -> Part
     requires { IsDocument bytes.now }
     ensures some { IsSomePayload result.tag result.payload.now }
     ensures means { (t : Tree) → Doc bytes.now t → IsPayloadOf result.tag result.payload.now t }
+    ensures written { IsWritten result.tag result.payload.now ↔ IsCanonical bytes.now }
 {
     let Some(header) = split_header(bytes) else {
         unreachable!();
@@ -56,6 +58,8 @@ pub fn split_container(bytes: &[u8]) -> Container
     ensures some { AreSomeChildren result.entries.now result.payloads.now }
     ensures opened { (t : Tree) → IsPayloadOf CONTAINER_TAG bytes.now t
         → Opened t result.header result.entries.now result.payloads.now }
+    ensures written { AreWritten result.entries.now result.payloads.now
+        ↔ IsWritten CONTAINER_TAG bytes.now }
     ensures few { length result.entries.now < 2 ^ 32 }
     ensures len { length bytes.now ≡ 4 + (length result.entries.now + length result.payloads.now) }
 {
@@ -68,6 +72,20 @@ pub fn split_container(bytes: &[u8]) -> Container
         header: header.tag + header.number as u32,
         entries,
         payloads,
+    }
+}
+
+// How many entry words stand behind a header. An object's keys have theirs before its values'.
+fn entry_words(tag: u32, count: usize) -> usize
+    requires { count < 2 ^ 29 }
+    ensures array { tag ≡ ARRAY_CONTAINER_TAG → result ≡ count }
+    ensures object { tag ≡ OBJECT_CONTAINER_TAG → result ≡ 2 * count }
+    ensures few { result < 2 ^ 30 }
+{
+    if tag == OBJECT_CONTAINER_TAG {
+        2 * count
+    } else {
+        count
     }
 }
 
@@ -86,10 +104,13 @@ pub fn split_child<'a>(entries: &'a [u8], payloads: &'a [u8]) -> Option<Child<'a
     ensures others { IfSome result (λ c. AreSomeChildren c.entries.now c.payloads.now) }
     ensures first { IfSome result (λ c. (ts : Trees) → Children ts entries.now payloads.now
         → FirstChild ts c.part.tag c.part.payload.now c.entries.now c.payloads.now) }
+    ensures written { IfSome result (λ c. AreWritten entries.now payloads.now
+        ↔ (IsWritten c.part.tag c.part.payload.now × AreWritten c.entries.now c.payloads.now)) }
+    ensures last { IfNone result (AreWritten entries.now payloads.now) }
     ensures entries_len { IfSome result (λ c. length entries.now ≡ 4 + length c.entries.now) }
     ensures payloads_len { IfSome result
         (λ c. length payloads.now ≡ length c.part.payload.now + length c.payloads.now) }
-    ensures tag { IfSome result (λ c. c.part.tag + 2 ^ 28 < 2 ^ 32 + 1) }
+    ensures tag { IfSome result (λ c. c.part.tag + 2 ^ 28 ≤ 2 ^ 32) }
     ensures none { IfNone result
         ((ts : Trees) → Children ts entries.now payloads.now → ts ≡ no_trees) }
 {

@@ -1,4 +1,5 @@
 use Rattle.std.proofs.Common.{◌+◌, ◌*◌, length, take, sym, ap, subst, ◌∙◌, arith}
+use Rattle.jsonb_codec.specs.Canonical.{AreWritten}
 use Rattle.jsonb_codec.specs.Rewriting.{Opened}
 use Rattle.jsonb_codec.proofs.Words.{length-word-append}
 use Rattle.jsonb_codec.proofs.CanonicalSteps.{some_short}
@@ -30,3 +31,16 @@ pub returns-clause-len : goal.returns-clause-len
 returns-clause-len c =
     let h = c.in-Some.header in
     omega (arith, ap length c.in-Some.ensures.found ∙ length-word-append (h.tag + h.number) h.rest.now, c.split_at.ensures.front_len, c.split_at.ensures.back_len)
+
+pub returns-clause-written : goal.returns-clause-written
+returns-clause-written c =
+    let h = c.in-Some.header in let g = c.in-Some.ensures in
+    let w = c.entry_words-words in
+    let o = opened h.tag h.number h.rest.now c.args.bytes.now g.found g.tag g.number g.small w.result w.ensures.array w.ensures.object c.requires in
+    let front = c.split_at.ensures.front in
+    let back = c.split_at.ensures.back in
+    let e = take (4 * w.result) h.rest.now in
+    let p = c.split_at.result.1.now in (
+      λ yes. o.written.0 (subst (AreWritten e) back (subst (λ x. AreWritten x p) front yes)),
+      λ is. subst (λ x. AreWritten x p) (sym front) (subst (AreWritten e) (sym back) (o.written.1 is)),
+    )

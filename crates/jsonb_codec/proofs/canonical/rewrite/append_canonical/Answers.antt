@@ -1,6 +1,7 @@
 use Rattle.std.proofs.Common.{ℕ, List, ◌++◌, refl, ap, ◌∙◌, arith}
 use Rattle.jsonb_codec.specs.Canon.{canon}
 use Rattle.jsonb_codec.proofs.WellFormed.{IsTree-Doc}
+use Rattle.jsonb_codec.proofs.Rewriting.{no_fault}
 use Rattle.jsonb_codec.proofs.canonical.rewrite.append_canonical.Goals as goal
 
 pub returns-in_default-clause-past : goal.returns-in_default-clause-past
@@ -26,3 +27,19 @@ returns-in_err-try_reserve-clause-room c t h fit room =
 
 pub returns-clause-tree : goal.returns-clause-tree
 returns-clause-tree c t h = IsTree-Doc c.args.bytes.now t (λ i. omega (arith, c.type_inv.bytes i)) h
+
+pub returns-clause-past : goal.returns-clause-past
+returns-clause-past c = (
+  λ e. absurd (let never : ⊥ = cc in never),
+  λ none.
+      let whole = c.is_document.ensures.exact.0 c.if-not-is_document.false in
+      absurd (none whole.0 whole.1 (c.in-Some.ensures.some whole.0 (c.split_document-whole.ensures.means whole.0 whole.1)).0),
+)
+
+pub returns-in_err-try_reserve-clause-past : goal.returns-in_err-try_reserve-clause-past
+returns-in_err-try_reserve-clause-past c = (
+  λ e. absurd (no_fault c.from_residual.result c.from_residual.ensures.1 e),
+  λ none.
+      let whole = c.is_document.ensures.exact.0 c.if-not-is_document.false in
+      absurd (none whole.0 whole.1 (c.in-Some.ensures.some whole.0 (c.split_document-whole.ensures.means whole.0 whole.1)).0),
+)
