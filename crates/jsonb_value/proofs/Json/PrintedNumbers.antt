@@ -115,9 +115,6 @@ fraction_meaning scale z fits =
 abbrev most : ℕ → List ℕ → Type 0
 most k bs = length bs ≤ k
 
-unsigned_at_most : (w : Width) (n k : ℕ) → length (to_be_bytes w n) ≤ k → most k (to_be_bytes w n)
-unsigned_at_most w n k h = h
-
 shortest_unsigned-8 : (n : ℕ) → most 8 (shortest_unsigned n)
 shortest_unsigned-8 n =
     by_test (most 8) (nat_lt n (2 ^ 8)) _ _ (λ _. omega (arith, length-to_be_bytes w8 n))
