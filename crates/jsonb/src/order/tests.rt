@@ -1,7 +1,7 @@
 //! Worked answers of the order, on documents and on other bytes.
 
 use super::*;
-use crate::{ExtensionItem, ExtensionValue, NumberItem};
+use crate::{ExtensionItem, ExtensionValue, NumberItem, OwnedJsonb};
 use jsonb_value::{Decimal64, Number};
 use std::alloc::Global;
 use std::test::Fail;
