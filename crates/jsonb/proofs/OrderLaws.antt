@@ -1,26 +1,24 @@
 -- The order of bytes by what they mean.
-use Rattle.std.proofs.Common.{◌≡◌, ◌==◌, ◌≢◌, ℕ, suc, Bool, true, false, if◌then◌else◌, List, Option, Some, None, Ok, nat_eq, refl, sym, ap, ap₂, subst, ◌∙◌, eqb-true}
+use Rattle.std.proofs.Common.{◌≡◌, ℕ, List, Some, Ok, sym, ap₂, ◌∙◌}
 use Rattle.std.specs.declared.cmp.Ordering.{Ordering}
 use Rattle.std.specs.declared.cmp.Ordering.TheVariants.{Equal}
-use Rattle.std.specs.Ordering.{nat_cmp, on}
+use Rattle.std.specs.Ordering.{on}
 use Rattle.std.specs.Cmp.{IsTotalOrder}
 use Rattle.std.proofs.lemmas.Cmp.{on_total, alike_right}
-use Rattle.jsonb_value.specs.Meaning.{Meaning, document, other_bytes, meaning_cmp}
+use Rattle.jsonb_value.specs.Meaning.{Meaning, meaning_cmp}
 use Rattle.jsonb_value.specs.Norm.{norm}
 use Rattle.jsonb_value.specs.Tree.{Tree, null, boolean, number, text, extension, array, object}
-use Rattle.jsonb_value.specs.TreeOrder.{rank_of, tree_cmp}
-use Rattle.jsonb_value.proofs.KindLaws.{tree_cmp-itself, tree_cmp-by_rank, tree_cmp-norm, tree_cmp-right_norm}
+use Rattle.jsonb_value.specs.TreeOrder.{tree_cmp}
+use Rattle.jsonb_value.proofs.KindLaws.{tree_cmp-itself, tree_cmp-norm}
 use Rattle.jsonb_value.proofs.MeaningLaws.{meaning_cmp_total}
 use Rattle.jsonb_codec.specs.Doc.{Doc, IsDocument}
 use Rattle.jsonb.specs.declared.item_type.JsonbItemType.{JsonbItemType}
-use Rattle.jsonb.specs.declared.item_type.JsonbItemType.TheVariants as kinds
 use Rattle.jsonb.specs.Code.{Means}
-use Rattle.jsonb.specs.Kind.{kind, kind_of_tree, kind_rank, rank_order}
+use Rattle.jsonb.specs.Kind.{kind, kind_of_tree, rank_order}
 use Rattle.jsonb.specs.Meant.{meaning_of, shown_meaning}
 use Rattle.jsonb.specs.Shown.{Shown}
 use Rattle.jsonb.proofs.KindLaws.{kind-Doc}
 use Rattle.jsonb.proofs.MeantLaws.{meaning_of-document, shown_meaning-document}
-use Rattle.jsonb.proofs.ValueLaws.{unwrap-kinds}
 
 pub bytes_total : IsTotalOrder (on meaning_of meaning_cmp)
 bytes_total = on_total meaning_of meaning_cmp_total

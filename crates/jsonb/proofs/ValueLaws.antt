@@ -1,7 +1,6 @@
 -- The items of a document are the values of its trees.
-use Rattle.std.proofs.Common.{◌≡◌, ◌+◌, ℕ, suc, Bool, true, false, if◌then◌else◌, List, Option, Some, None, Result, Ok, Err, IsOkAnd, MatchOption, refl, sym, ap, subst, ap₂, ◌∙◌, inl, inr, nat_eq, unwrap_or, eqb-true, arith}
+use Rattle.std.proofs.Common.{◌≡◌, ℕ, suc, Bool, true, false, if◌then◌else◌, List, Option, Some, None, Result, Ok, Err, IsOkAnd, MatchOption, refl, sym, ap, subst, ap₂, ◌∙◌, inl, inr, nat_eq, unwrap_or, eqb-true, arith}
 use Rattle.std.proofs.lemmas.Bool.Decides.{nat_tests}
-use Rattle.std.specs.declared.cmp.Ordering.{Ordering}
 use Rattle.std.specs.declared.cmp.Ordering.TheVariants.{Equal}
 use Rattle.std.specs.Ordering.{nat_cmp}
 use Rattle.jsonb_value.specs.declared.error.Error.{Error}
@@ -9,7 +8,7 @@ use Rattle.jsonb_value.specs.declared.error.Error.TheVariants.{InvalidUtf8}
 use Rattle.jsonb_value.specs.declared.number.Number.{Number}
 use Rattle.jsonb_value.specs.Tree.{Tree, Extension}
 use Rattle.jsonb_value.specs.Tree as trees
-use Rattle.jsonb_value.specs.TreeOrder.{rank_of, tree_cmp}
+use Rattle.jsonb_value.specs.TreeOrder.{rank_of}
 use Rattle.std.specs.Result.{result_ok}
 use Rattle.jsonb_value.specs.Meaning.{document, other_bytes}
 use Rattle.jsonb_codec.proofs.Unique.{Doc-unique}
@@ -20,7 +19,7 @@ use Rattle.jsonb.specs.declared.item_type.JsonbItemType.TheVariants as kinds
 use Rattle.jsonb.specs.Code.{Means}
 use Rattle.jsonb.specs.Item.{item_of, number_found, extension_found}
 use Rattle.jsonb.specs.Kind.{kind_of_tree, kind_rank, rank_order}
-use Rattle.jsonb.specs.Payloads.{is_text, number_in, extension_in, extension_error}
+use Rattle.jsonb.specs.Payloads.{is_text, number_in, extension_in}
 use Rattle.jsonb.specs.Shown.{Shown, null, boolean, number, text, extension, raw, owned, shown}
 use Rattle.jsonb.specs.Values.{IsValue}
 use Rattle.jsonb.specs.Views.{kind_of_shown}

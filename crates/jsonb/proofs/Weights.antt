@@ -1,5 +1,5 @@
 -- Each item that an iterator gives holds fewer bytes than the container.
-use Rattle.std.proofs.Common.{◌≡◌, ◌+◌, ◌*◌, ◌<◌, ◌≤◌, ℕ, zero, suc, max, Bool, true, false, if◌then◌else◌, List, [], ◌∷◌, length, take, drop, Option, Some, None, option_map, IfOk, IfSome, Result, Ok, Err, is_ok, nat_eq, nat_le, refl, sym, ap, subst, ◌∙◌, arith, length-drop}
+use Rattle.std.proofs.Common.{◌≡◌, ◌+◌, ◌*◌, ◌<◌, ◌≤◌, ℕ, zero, suc, max, Bool, true, false, if◌then◌else◌, List, [], ◌∷◌, length, take, drop, Option, Some, None, option_map, IfOk, IfSome, Result, Ok, Err, is_ok, nat_le, refl, sym, ap, subst, arith}
 use Rattle.std.proofs.lemmas.Bool.{leb-true}
 use Rattle.std.proofs.lemmas.List.{length-take}
 use Rattle.jsonb_value.specs.declared.error.Error.{Error}
@@ -9,8 +9,8 @@ use Rattle.jsonb_value.specs.Tree.{Extension}
 use Rattle.jsonb_codec.specs.declared.jentry.JEntry.{JEntry}
 use Rattle.jsonb_codec.specs.JEntry.{jentry_at}
 use Rattle.jsonb.specs.Item.{Entry, text_item, number_item, extension_item, number_found, extension_found, item_of, part_at, entry_at, item_at}
-use Rattle.jsonb.specs.Payloads.{is_text, number_in, extension_in, extension_error}
-use Rattle.jsonb.specs.Shown.{Shown, null, boolean, number, text, extension, raw, owned}
+use Rattle.jsonb.specs.Payloads.{is_text, number_in, extension_in}
+use Rattle.jsonb.specs.Shown.{Shown, null, boolean, number, text, extension, raw}
 use Rattle.jsonb.specs.Steps.{◌>>=◌}
 use Rattle.jsonb.specs.Values.{bytes_in}
 use Rattle.jsonb.specs.Walk.{Walk, length_at, items_from, key_at, pair_at, pairs_from, payloads_end, count_under, array_items, array_walk, pair_items, pairs_of, pairs_walk}

@@ -1,31 +1,33 @@
 //! The order of values by what they mean: of all bytes, and of items. No comparison takes memory.
 
-ghost use Rattle.std.specs.Prelude.{◌≡◌, ◌↔◌, ◌⊎◌, ◌∷◌, ℕ, List, None, Some, Ok, MatchOption, IfNone, IfSome, IsSomeAnd};
-ghost use Rattle.std.specs.Cmp.{IsTotalOrder, on_total, eq_by_cmp_equiv, partial_equiv_from_equiv, partial_order_from_total};
-ghost use Rattle.std.specs.Cmp.Rules.{comparing};
+ghost use Rattle.std.specs.Prelude.{◌≡◌, ◌∷◌, ℕ, List, None, Some, Ok, MatchOption, IfNone, IfSome, IsSomeAnd};
+ghost use Rattle.std.specs.Cmp.{IsTotalOrder};
 ghost use Rattle.std.specs.Cmp.Lexicographic.{slice_cmp};
-ghost use Rattle.std.specs.Ordering.{nat_cmp, ordering_then, on, eq_by_cmp, as_partial_cmp};
-ghost use Rattle.std.proofs.Common.{rules};
+ghost use Rattle.std.specs.Ordering.{nat_cmp, ordering_then, on};
 ghost use Rattle.jsonb_value.specs.Meaning.{document, other_bytes, meaning_cmp};
 ghost use Rattle.jsonb_value.specs.Norm.{norm};
 ghost use Rattle.jsonb_value.specs.Tree.{Tree, Trees, Pairs, array, object};
 ghost use Rattle.jsonb_value.specs.TreeOrder.{rank_of, tree_cmp, trees_cmp, pairs_cmp};
-ghost use Rattle.jsonb_value.proofs.MeaningLaws.{meaning_cmp_total};
 ghost use Rattle.jsonb_codec.specs.declared.constants.TheConstants.{CONTAINER_TAG};
 ghost use Rattle.jsonb_codec.specs.Doc.{Doc, IsDocument, type_of};
 ghost use Rattle.jsonb.specs.Code.{Means};
 ghost use Rattle.jsonb.specs.Kind.{kind, rank_order};
-ghost use Rattle.jsonb.specs.Meant.{meaning_of, shown_meaning, raw_meaning, owned_meaning, item_meaning};
+ghost use Rattle.jsonb.specs.Meant.{meaning_of, shown_meaning, item_meaning};
 ghost use Rattle.jsonb.specs.Raw.{raw_bytes};
 ghost use Rattle.jsonb.specs.Shown.{Shown, shown};
 ghost use Rattle.jsonb.specs.Values.{IsValue, HasNoMore, bytes_in};
 ghost use Rattle.jsonb.specs.Walk.{array_walk, pairs_walk};
 ghost use Rattle.jsonb.specs.Walked.{ShowsTrees, ShowsPairs};
 
+mod item;
+mod owned;
+mod raw;
+#[cfg(test)]
+mod tests;
+
 use crate::item::{JsonbItem, text_of};
 use crate::item_type::JsonbItemType;
 use crate::iterator::{ArrayIterator, ObjectIterator};
-use crate::owned::OwnedJsonb;
 use crate::raw::RawJsonb;
 use std::borrow::CowStr;
 use std::cmp::Ordering;
@@ -66,8 +68,8 @@ pub fn order_of_bytes()
         → meaning_cmp (meaning_of l) (meaning_of m) ≡ meaning_cmp (meaning_of l) (meaning_of r) }
 {}
 
-// The order of two items by what they mean.
-fn cmp_meanings(left: &JsonbItem<'_>, right: &JsonbItem<'_>) -> Ordering
+/// The order of two items by what they mean.
+pub fn cmp_meanings(left: &JsonbItem<'_>, right: &JsonbItem<'_>) -> Ordering
     ensures { result ≡ meaning_cmp (item_meaning left.now) (item_meaning right.now) }
 {
     match (value_of(left), value_of(right)) {
@@ -94,8 +96,8 @@ fn value_of<'i>(item: &'i JsonbItem<'_>) -> Option<JsonbItem<'i>>
     }
 }
 
-// The value of a document. `None` where the bytes are none.
-fn value_in<'a>(raw: RawJsonb<'a>) -> Option<JsonbItem<'a>>
+/// The value of a document. `None` where the bytes are none.
+pub fn value_in<'a>(raw: RawJsonb<'a>) -> Option<JsonbItem<'a>>
     ensures { MatchOption result (IsDocument (raw_bytes raw.entry) → ⊥)
         (λ value. (t : Tree) × (Doc (raw_bytes raw.entry) t × IsValue (shown value) t)) }
 {
@@ -117,9 +119,9 @@ fn bytes_of<'i>(item: &'i JsonbItem<'_>) -> &'i [u8]
     }
 }
 
-// The order of two values.
+/// The order of two values.
 #[cycle(values)]
-fn cmp_values(left: &JsonbItem<'_>, right: &JsonbItem<'_>) -> Ordering
+pub fn cmp_values(left: &JsonbItem<'_>, right: &JsonbItem<'_>) -> Ordering
     ensures { (t u : Tree) → IsValue (shown left.now) t → IsValue (shown right.now) u
         → result ≡ tree_cmp t u }
 {
@@ -271,142 +273,3 @@ fn cmp_pair(left: &Pair<'_>, right: &Pair<'_>) -> Ordering
         unequal => unequal,
     }
 }
-
-impl RawJsonb<'_> {
-    /// The order of the values of two documents, as `cmp` gives it: `None` where either side is
-    /// no document.
-    pub fn try_cmp(&self, other: &RawJsonb<'_>) -> Option<Ordering>
-        ensures none { (result ≡ None) ↔ ((IsDocument (raw_bytes self.now) → ⊥)
-            ⊎ (IsDocument (raw_bytes other.now) → ⊥)) }
-        ensures order { (t u : Tree) → Doc (raw_bytes self.now) t → Doc (raw_bytes other.now) u
-            → result ≡ Some (tree_cmp t u) }
-        ensures cmp { IfSome result
-            (λ order. order ≡ meaning_cmp (raw_meaning self.now) (raw_meaning other.now)) }
-    {
-        match (value_in(*self), value_in(*other)) {
-            (Some(left), Some(right)) => Some(cmp_values(&left, &right)),
-            _ => None,
-        }
-    }
-}
-
-impl PartialEq for RawJsonb<'_> {
-    ghost eq = { eq_by_cmp (on raw_meaning meaning_cmp) };
-
-    ghost laws = { partial_equiv_from_equiv (eq_by_cmp_equiv (on_total raw_meaning meaning_cmp_total)) };
-
-    fn eq(&self, other: &Self) -> bool {
-        self.cmp(other).is_eq()
-    }
-}
-
-impl Eq for RawJsonb<'_> {
-    ghost laws = { eq_by_cmp_equiv (on_total raw_meaning meaning_cmp_total) };
-}
-
-impl PartialOrd for RawJsonb<'_> {
-    ghost partial_cmp = { as_partial_cmp (on raw_meaning meaning_cmp) };
-
-    ghost laws = { partial_order_from_total (on_total raw_meaning meaning_cmp_total) };
-
-    fn partial_cmp(&self, other: &Self) -> Option<Ordering> {
-        Some(self.cmp(other))
-    }
-}
-
-impl Ord for RawJsonb<'_> {
-    ghost cmp = { on raw_meaning meaning_cmp };
-
-    ghost total = { on_total raw_meaning meaning_cmp_total };
-
-    ghost matches_partial_cmp = { Prim.search (comparing, rules) };
-
-    ghost matches_eq = { Prim.search (comparing, rules) };
-
-    /// The order of all bytes by what they mean. Documents stand below all other bytes, and these
-    /// compare as bytes.
-    fn cmp(&self, other: &Self) -> Ordering {
-        cmp_meanings(&JsonbItem::Raw(*self), &JsonbItem::Raw(*other))
-    }
-}
-
-impl PartialEq for OwnedJsonb {
-    ghost eq = { eq_by_cmp (on owned_meaning meaning_cmp) };
-
-    ghost laws = { partial_equiv_from_equiv (eq_by_cmp_equiv (on_total owned_meaning meaning_cmp_total)) };
-
-    fn eq(&self, other: &Self) -> bool {
-        self.cmp(other).is_eq()
-    }
-}
-
-impl Eq for OwnedJsonb {
-    ghost laws = { eq_by_cmp_equiv (on_total owned_meaning meaning_cmp_total) };
-}
-
-impl PartialOrd for OwnedJsonb {
-    ghost partial_cmp = { as_partial_cmp (on owned_meaning meaning_cmp) };
-
-    ghost laws = { partial_order_from_total (on_total owned_meaning meaning_cmp_total) };
-
-    fn partial_cmp(&self, other: &Self) -> Option<Ordering> {
-        Some(self.cmp(other))
-    }
-}
-
-impl Ord for OwnedJsonb {
-    ghost cmp = { on owned_meaning meaning_cmp };
-
-    ghost total = { on_total owned_meaning meaning_cmp_total };
-
-    ghost matches_partial_cmp = { Prim.search (comparing, rules) };
-
-    ghost matches_eq = { Prim.search (comparing, rules) };
-
-    /// The order of the bytes by what they mean, as of `RawJsonb`.
-    fn cmp(&self, other: &Self) -> Ordering {
-        self.as_raw().cmp(&other.as_raw())
-    }
-}
-
-impl PartialEq for JsonbItem<'_> {
-    ghost eq = { eq_by_cmp (on item_meaning meaning_cmp) };
-
-    ghost laws = { partial_equiv_from_equiv (eq_by_cmp_equiv (on_total item_meaning meaning_cmp_total)) };
-
-    fn eq(&self, other: &Self) -> bool {
-        self.cmp(other).is_eq()
-    }
-}
-
-impl Eq for JsonbItem<'_> {
-    ghost laws = { eq_by_cmp_equiv (on_total item_meaning meaning_cmp_total) };
-}
-
-impl PartialOrd for JsonbItem<'_> {
-    ghost partial_cmp = { as_partial_cmp (on item_meaning meaning_cmp) };
-
-    ghost laws = { partial_order_from_total (on_total item_meaning meaning_cmp_total) };
-
-    fn partial_cmp(&self, other: &Self) -> Option<Ordering> {
-        Some(self.cmp(other))
-    }
-}
-
-impl Ord for JsonbItem<'_> {
-    ghost cmp = { on item_meaning meaning_cmp };
-
-    ghost total = { on_total item_meaning meaning_cmp_total };
-
-    ghost matches_partial_cmp = { Prim.search (comparing, rules) };
-
-    ghost matches_eq = { Prim.search (comparing, rules) };
-
-    /// The order of items by what they mean: a document counts as its value, however it is held.
-    fn cmp(&self, other: &Self) -> Ordering {
-        cmp_meanings(self, other)
-    }
-}
-
-#[cfg(test)]
-mod tests;

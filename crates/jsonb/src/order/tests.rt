@@ -1,13 +1,16 @@
 //! Worked answers of the order, on documents and on other bytes.
 
 use super::*;
-use crate::{ExtensionItem, ExtensionValue, NumberItem};
+use crate::{ExtensionItem, ExtensionValue, NumberItem, OwnedJsonb};
 use jsonb_value::{Decimal64, Number};
 use std::alloc::Global;
 use std::test::Fail;
 
 // The first place of bytes that are no document.
 const NO_DOCUMENT: usize = 50;
+
+// The object {"a":1,"b":"123"}.
+const OBJECT: &[u8] = b"\x40\0\0\x02\x10\0\0\x01\x10\0\0\x01\x20\0\0\x02\x10\0\0\x03ab\x50\x01123";
 
 // Bytes, each with its place among them: those of one place are equal.
 const PLACED: [(usize, &str); 59] = [
@@ -197,6 +200,15 @@ fn triples(rt: HostRuntime) -> Result<(), Fail> {
     let values = placed(rt.alloc())?;
     assert_eq!(rt; counted(&values), [3481, 0, 205_379, 0]);
     Ok(())
+}
+
+// It runs too where the first request for memory is refused, as it makes none.
+#[test]
+fn without_memory(rt: HostRuntime) {
+    let raw = RawJsonb::new(OBJECT);
+    assert_eq!(rt; raw.cmp(&raw), Ordering::Equal);
+    assert_eq!(rt; raw.try_cmp(&raw), Some(Ordering::Equal));
+    assert_eq!(rt; raw.try_cmp(&RawJsonb::new(b"")), None);
 }
 
 #[test]

@@ -1,4 +1,4 @@
-use Rattle.std.proofs.Common.{◌≡◌, ◌≤◌, ◌∷◌, true, false, List, ℕ, Result, Ok, refl, sym, ap, ◌∙◌, arith}
+use Rattle.std.proofs.Common.{◌≡◌, ◌≤◌, ◌∷◌, false, List, ℕ, Result, Ok, refl, sym, ◌∙◌, arith}
 use Rattle.std.specs.declared.cmp.Ordering.{Ordering}
 use Rattle.std.specs.declared.cmp.Ordering.TheVariants.{Less, Greater}
 use Rattle.std.specs.Ordering.{is_ne, nat_cmp, ordering_then}
@@ -12,7 +12,7 @@ use Rattle.jsonb.specs.Shown.{Shown}
 use Rattle.jsonb.specs.Values.{IsValue, bytes_in}
 use Rattle.jsonb.specs.Walked.{ShowsTrees, ShowsPairs}
 use Rattle.jsonb.proofs.InStep.{on_containers, ItemsLeft, PairsLeft, first_decides, others_decide, items_ended, left_items_ended, right_items_ended, items_step, pairs_ended, left_pairs_ended, right_pairs_ended, pairs_step}
-use Rattle.jsonb.proofs.Weights.{array_walk-weight, pairs_walk-weight, weight-one, weight-others, item_weight, pair_weight, pair_bytes}
+use Rattle.jsonb.proofs.Weights.{array_walk-weight, pairs_walk-weight, weight-others, item_weight, pair_weight, pair_bytes}
 use Rattle.jsonb.proofs.UnlikeLaws.{boolean_alone, number_alone, text_alone, extension_alone, raw_alone, null_with}
 use Rattle.jsonb.proofs.order.+values.Goals as goal
 use Rattle.jsonb.proofs.order.+values.Goals.{cmp_values-in_default-via-in-Boolean+in_default, cmp_values-in_default-via-in-Number+in_default, cmp_values-in_default-via-in-String+in_default, cmp_values-in_default-via-in-Extension+in_default, cmp_values-in_default-via-in-Raw+in_default, cmp_values-in_default-via-in_default}

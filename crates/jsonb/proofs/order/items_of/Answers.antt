@@ -1,4 +1,4 @@
-use Rattle.std.proofs.Common.{◌≡◌, Option, Result, IsSomeAnd, None, sym, ap, subst, ◌∙◌}
+use Rattle.std.proofs.Common.{Option, Result, IsSomeAnd, None, sym, ap, subst, ◌∙◌}
 use Rattle.std.specs.Result.{result_unwrap_or}
 use Rattle.jsonb_value.specs.declared.error.Error.{Error}
 use Rattle.jsonb_value.specs.Tree.{array, object, count}

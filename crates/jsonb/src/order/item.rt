@@ -1,0 +1,52 @@
+//! The order of items.
+
+ghost use Rattle.std.specs.Cmp.{on_total, eq_by_cmp_equiv, partial_equiv_from_equiv, partial_order_from_total};
+ghost use Rattle.std.specs.Cmp.Rules.{comparing};
+ghost use Rattle.std.specs.Ordering.{on, eq_by_cmp, as_partial_cmp};
+ghost use Rattle.std.proofs.Common.{rules};
+ghost use Rattle.jsonb_value.specs.Meaning.{meaning_cmp};
+ghost use Rattle.jsonb_value.proofs.MeaningLaws.{meaning_cmp_total};
+ghost use Rattle.jsonb.specs.Meant.{item_meaning};
+
+use super::cmp_meanings;
+use crate::item::JsonbItem;
+use std::cmp::Ordering;
+
+impl PartialEq for JsonbItem<'_> {
+    ghost eq = { eq_by_cmp (on item_meaning meaning_cmp) };
+
+    ghost laws = { partial_equiv_from_equiv (eq_by_cmp_equiv (on_total item_meaning meaning_cmp_total)) };
+
+    fn eq(&self, other: &Self) -> bool {
+        self.cmp(other).is_eq()
+    }
+}
+
+impl Eq for JsonbItem<'_> {
+    ghost laws = { eq_by_cmp_equiv (on_total item_meaning meaning_cmp_total) };
+}
+
+impl PartialOrd for JsonbItem<'_> {
+    ghost partial_cmp = { as_partial_cmp (on item_meaning meaning_cmp) };
+
+    ghost laws = { partial_order_from_total (on_total item_meaning meaning_cmp_total) };
+
+    fn partial_cmp(&self, other: &Self) -> Option<Ordering> {
+        Some(self.cmp(other))
+    }
+}
+
+impl Ord for JsonbItem<'_> {
+    ghost cmp = { on item_meaning meaning_cmp };
+
+    ghost total = { on_total item_meaning meaning_cmp_total };
+
+    ghost matches_partial_cmp = { Prim.search (comparing, rules) };
+
+    ghost matches_eq = { Prim.search (comparing, rules) };
+
+    /// The order of items by what they mean: a document counts as its value, however it is held.
+    fn cmp(&self, other: &Self) -> Ordering {
+        cmp_meanings(self, other)
+    }
+}

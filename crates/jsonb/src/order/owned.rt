@@ -1,0 +1,51 @@
+//! The order of owned documents and of all other owned bytes.
+
+ghost use Rattle.std.specs.Cmp.{on_total, eq_by_cmp_equiv, partial_equiv_from_equiv, partial_order_from_total};
+ghost use Rattle.std.specs.Cmp.Rules.{comparing};
+ghost use Rattle.std.specs.Ordering.{on, eq_by_cmp, as_partial_cmp};
+ghost use Rattle.std.proofs.Common.{rules};
+ghost use Rattle.jsonb_value.specs.Meaning.{meaning_cmp};
+ghost use Rattle.jsonb_value.proofs.MeaningLaws.{meaning_cmp_total};
+ghost use Rattle.jsonb.specs.Meant.{owned_meaning};
+
+use crate::owned::OwnedJsonb;
+use std::cmp::Ordering;
+
+impl PartialEq for OwnedJsonb {
+    ghost eq = { eq_by_cmp (on owned_meaning meaning_cmp) };
+
+    ghost laws = { partial_equiv_from_equiv (eq_by_cmp_equiv (on_total owned_meaning meaning_cmp_total)) };
+
+    fn eq(&self, other: &Self) -> bool {
+        self.cmp(other).is_eq()
+    }
+}
+
+impl Eq for OwnedJsonb {
+    ghost laws = { eq_by_cmp_equiv (on_total owned_meaning meaning_cmp_total) };
+}
+
+impl PartialOrd for OwnedJsonb {
+    ghost partial_cmp = { as_partial_cmp (on owned_meaning meaning_cmp) };
+
+    ghost laws = { partial_order_from_total (on_total owned_meaning meaning_cmp_total) };
+
+    fn partial_cmp(&self, other: &Self) -> Option<Ordering> {
+        Some(self.cmp(other))
+    }
+}
+
+impl Ord for OwnedJsonb {
+    ghost cmp = { on owned_meaning meaning_cmp };
+
+    ghost total = { on_total owned_meaning meaning_cmp_total };
+
+    ghost matches_partial_cmp = { Prim.search (comparing, rules) };
+
+    ghost matches_eq = { Prim.search (comparing, rules) };
+
+    /// The order of the bytes by what they mean, as of `RawJsonb`.
+    fn cmp(&self, other: &Self) -> Ordering {
+        self.as_raw().cmp(&other.as_raw())
+    }
+}
