@@ -13,7 +13,7 @@ use Rattle.jsonb.specs.Payloads.{is_text, number_in, extension_in}
 use Rattle.jsonb.specs.Shown.{Shown, text}
 use Rattle.jsonb.specs.Item.{Entry, item_of, number_found, extension_found, part_at, entry_at, item_at}
 use Rattle.jsonb.specs.Walk.{Walk, length_at, items_from, key_at, pair_at, pairs_from, payloads_end, count_under, array_items, array_walk, pair_items, pairs_of, pairs_walk}
-use Rattle.jsonb.specs.Lines.{value_in, item_size, IsPlain}
+use Rattle.jsonb.specs.Lines.{value_in, item_size, IsScalar}
 
 -- each is shorter than so many bytes
 abbrev pub AllSmaller : ℕ → List (Result Shown Error) → Type 0
@@ -146,19 +146,19 @@ pub pairs_walk-AllSmaller : (bytes : List ℕ) (walk : Walk (List ℕ × Shown))
 pairs_walk-AllSmaller bytes walk some e = pairs_walk-smaller bytes (count_under bytes 1073741824) walk some e
 
 -- an entry that is no container's holds no document by its bytes
-plain-if : (b : Bool) (x y : Result Shown Error) → IfOk x IsPlain → IfOk y IsPlain → IfOk (if b then x else y) IsPlain
+plain-if : (b : Bool) (x y : Result Shown Error) → IfOk x IsScalar → IfOk y IsScalar → IfOk (if b then x else y) IsScalar
 plain-if true x y h k = h
 plain-if false x y h k = k
 
-plain-number : (p : List ℕ) (o : Option Number) → IfOk (number_found p o) IsPlain
+plain-number : (p : List ℕ) (o : Option Number) → IfOk (number_found p o) IsScalar
 plain-number p (Some x) = tt
 plain-number p None = tt
 
-plain-extension : (p : List ℕ) (o : Option Extension) → IfOk (extension_found p o) IsPlain
+plain-extension : (p : List ℕ) (o : Option Extension) → IfOk (extension_found p o) IsScalar
 plain-extension p (Some x) = tt
 plain-extension p None = tt
 
-plain-item_of : (type : ℕ) (p : List ℕ) → type ≢ 1342177280 → IfOk (item_of type p) IsPlain
+plain-item_of : (type : ℕ) (p : List ℕ) → type ≢ 1342177280 → IfOk (item_of type p) IsScalar
 unfolding item_of
 plain-item_of type p other =
     plain-if (type == 0) _ _ tt
@@ -169,5 +169,5 @@ plain-item_of type p other =
     (plain-if (type == 1610612736) _ _ (plain-extension p (extension_in p))
     (rw (ne_eqb type 1342177280 other) tt))))))
 
-pub IsPlain-item_of : (type : ℕ) (p : List ℕ) (x : Shown) → type ≢ 1342177280 → item_of type p ≡ Ok x → IsPlain x
-IsPlain-item_of type p x other e = subst (λ (r : Result Shown Error). IfOk r IsPlain) e (plain-item_of type p other)
+pub IsScalar-item_of : (type : ℕ) (p : List ℕ) (x : Shown) → type ≢ 1342177280 → item_of type p ≡ Ok x → IsScalar x
+IsScalar-item_of type p x other e = subst (λ (r : Result Shown Error). IfOk r IsScalar) e (plain-item_of type p other)

@@ -1,15 +1,19 @@
 -- What the bytes of a document, and other bytes, print as.
-use Rattle.std.proofs.Common.{◌≡◌, ℕ, List, [], ◌∷◌, codes, length, Result, Ok, Err, refl, ap, subst, arith, String, string_bytes, ◌++◌, ◌∙◌}
+use Rattle.std.proofs.Common.{◌≡◌, ℕ, List, [], ◌∷◌, codes, length, Result, Ok, Err, refl, sym, ap, subst, arith, String, string_bytes, ◌++◌, ◌∙◌}
 use Rattle.std.specs.declared.fmt.Formatter.{Formatter}
 use Rattle.std.specs.declared.alloc.Global.{Global}
 use Rattle.std.specs.declared.fmt.Error as fmt
-use Rattle.std.specs.Prelude.{IsOk, IfOk, OnOk}
+use Rattle.std.specs.Prelude.{IsOk, IfOk, OnOk, All, chars, ◌≢◌, ◌≤◌}
 use Rattle.jsonb_value.specs.declared.error.Error.{Error}
 use Rattle.std.specs.Fmt.{HasWrittenStyled, formatter_writer}
 use Rattle.jsonb_value.specs.Tree.{Tree}
 use Rattle.jsonb_value.specs.Text.{compact, pretty}
 use Rattle.jsonb_value.proofs.Writing.{string_bytes-written}
+use Rattle.jsonb_codec.specs.Reread.{MeansAgain}
 use Rattle.jsonb_codec.specs.Doc.{Doc, IsDocument}
+use Rattle.jsonb_codec.proofs.ZeroLaws.{Doc-least}
+use Rattle.bstr.proofs.lemmas.EncodeLemmas.{lossy_chars-utf8}
+use Rattle.std.specs.Str.{IsUtf8}
 use Rattle.jsonb.specs.Texts.{lossy_text, other_text, plain_text, shown_text, lined_text, pretty_shown_text}
 use Rattle.jsonb.proofs.MeantLaws.{meaning_of-document, meaning_of-other}
 
@@ -51,3 +55,16 @@ string_written empty f g bs answer (Err e) all none start on is = tt
 
 pub prints_as : (r : Result (String Global) Error) (a b : List ℕ) → IfOk r (λ text. string_bytes text ≡ a) → a ≡ b → IfOk r (λ text. string_bytes text ≡ b)
 prints_as r a b h same = subst (λ (x : List ℕ). IfOk r (λ text. string_bytes text ≡ x)) same h
+
+-- a text that is read back
+pub reads_again : (r : Result (String Global) Error) (a : List ℕ) (t : Tree) → IfOk r (λ text. string_bytes text ≡ a) → MeansAgain (chars a) t → IfOk r (λ text. MeansAgain (chars (string_bytes text)) t)
+reads_again (Ok text) a t h again = subst (λ (x : List ℕ). MeansAgain (chars x) t) (sym h) again
+reads_again (Err e) a t h again = tt
+
+-- a text that is no document
+pub other_text-short : (b : List ℕ) → IsUtf8 b → (b ≡ [] → ⊥) → other_text b ≡ b
+other_text-short [] utf8 some = absurd (some refl)
+other_text-short (x ∷ xs) utf8 some = lossy_chars-utf8 (x ∷ xs) utf8
+
+pub short_text : (b : List ℕ) → All (λ x. x ≢ 0) b → length b ≤ 4294967296 → IsDocument b → ⊥
+short_text b zeros short d = let long = Doc-least b d.0 d.1 zeros in omega arith

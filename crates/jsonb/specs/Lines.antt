@@ -57,14 +57,14 @@ AllInside n [] = ⊤
 AllInside n (r ∷ rs) = (HasTree r × (item_size r < n)) × AllInside n rs
 
 -- The item is no document by its bytes.
-abbrev pub IsPlain : Shown → Type 0
-IsPlain null = ⊤
-IsPlain (boolean b) = ⊤
-IsPlain (number given x) = ⊤
-IsPlain (text s) = ⊤
-IsPlain (extension given e) = ⊤
-IsPlain (raw b) = ⊥
-IsPlain (owned b) = ⊥
+abbrev pub IsScalar : Shown → Type 0
+IsScalar null = ⊤
+IsScalar (boolean b) = ⊤
+IsScalar (number given x) = ⊤
+IsScalar (text s) = ⊤
+IsScalar (extension given e) = ⊤
+IsScalar (raw b) = ⊥
+IsScalar (owned b) = ⊥
 
 -- The indentation of so many more containers can be counted.
 abbrev pub HasRoom : Layout → ℕ → Type 0

@@ -41,3 +41,4 @@ pub use order::{meaning_laws, order_of_bytes};
 pub use owned::OwnedJsonb;
 pub use raw::RawJsonb;
 pub use reads::Reads;
+pub use text::text_laws;

@@ -1,15 +1,19 @@
 //! The texts of documents, written from their bytes in place, and documents of texts.
 
-ghost use Rattle.std.specs.Prelude.{◌≡◌, ◌≢◌, ◌⊎◌, ◌++◌, ◌<◌, List, Ok, Err, Some, chars, codes, length, map, string_bytes, IsOk, IfOk, IfErr, OnOk};
+ghost use Rattle.std.specs.Prelude.{◌≡◌, ◌≢◌, ◌⊎◌, ◌++◌, ◌≤◌, ◌<◌, List, [], All, Ok, Err, Some, chars, codes, length, map, string_bytes, IsOk, IfOk, IfErr, OnOk};
+ghost use Rattle.std.specs.Str.{IsUtf8};
 ghost use Rattle.std.specs.Fmt.{WritesStyledOnOk, formatter_writer};
 ghost use Rattle.jsonb_value.specs.Tree.{Tree, Trees, Pairs, array, object};
 ghost use Rattle.jsonb_value.specs.Norm.{norm};
+ghost use Rattle.jsonb_value.specs.Plain.{IsPlain};
+ghost use Rattle.jsonb_value.specs.WellFormed.{IsTree};
 ghost use Rattle.jsonb_value.specs.ExtCode.{extension_of};
 ghost use Rattle.jsonb_value.specs.Json.Syntax.{Json};
 ghost use Rattle.jsonb_value.specs.Text as texts;
 ghost use Rattle.jsonb_value.specs.Text.{compact, pretty, inside, line_start, colon, quoted, extension_text};
 ghost use Rattle.jsonb_codec.specs.declared.constants.TheConstants.{CONTAINER_TAG};
 ghost use Rattle.jsonb_codec.specs.Canon.{canon, Fits};
+ghost use Rattle.jsonb_codec.specs.Reread.{MeansAgain};
 ghost use Rattle.jsonb_codec.specs.Doc.{Doc, IsDocument, type_of};
 ghost use Rattle.jsonb.specs.Raw.{raw_bytes};
 ghost use Rattle.jsonb.specs.Owned.{owned_bytes};
@@ -18,7 +22,7 @@ ghost use Rattle.jsonb.specs.Shown.{shown, shown_item, shown_pair};
 ghost use Rattle.jsonb.specs.Code.{Means};
 ghost use Rattle.jsonb.specs.Meant.{meaning_of, shown_meaning};
 ghost use Rattle.jsonb.specs.Texts.{layout_of, meant_text, lossy_text, other_text, shown_text, pretty_shown_text};
-ghost use Rattle.jsonb.specs.Lines.{bracketed, item_text, pair_text, value_in, item_size, HasTree, AllInside, IsPlain, HasRoom};
+ghost use Rattle.jsonb.specs.Lines.{bracketed, item_text, pair_text, value_in, item_size, HasTree, AllInside, IsScalar, HasRoom};
 
 use crate::item::{JsonbItem, text_of};
 use crate::item_type::JsonbItemType;
@@ -34,12 +38,20 @@ use std::fmt;
 impl<'a> RawJsonb<'a> {
     /// The text of the bytes: of a document its compact text, of no bytes `null`, of all others
     /// their own text, in which U+FFFD stands for what is no UTF-8. Only memory can be refused.
+    ///
+    /// The text of a document without extension values is read back by `parse` as an equal
+    /// document. A text without a zero byte of at most 4,294,967,296 bytes comes back unchanged.
     pub fn to_string(&self, alloc: Global) -> Result<String, Error>
         ensures shown { IfOk result (λ text. string_bytes text ≡ shown_text (raw_bytes self.now)) }
         ensures document { (t : Tree) → Doc (raw_bytes self.now) t
             → IfOk result (λ text. string_bytes text ≡ compact t) }
         ensures other { (IsDocument (raw_bytes self.now) → ⊥)
             → IfOk result (λ text. string_bytes text ≡ other_text (raw_bytes self.now)) }
+        ensures read_again { (t : Tree) → Doc (raw_bytes self.now) t → IsTree t → IsPlain t → Fits t
+            → IfOk result (λ text. MeansAgain (chars (string_bytes text)) t) }
+        ensures short_text { IsUtf8 (raw_bytes self.now) → All (λ b. b ≢ 0) (raw_bytes self.now)
+            → raw_bytes self.now ≢ [] → length (raw_bytes self.now) ≤ 4294967296
+            → IfOk result (λ text. string_bytes text ≡ raw_bytes self.now) }
         ensures memory { IfErr result (λ e. e ≡ Error.OutOfMemory) }
     {
         let mut f = fmt::Formatter::new(String::new(alloc));
@@ -49,7 +61,8 @@ impl<'a> RawJsonb<'a> {
 
     /// The text of a document with each item or pair on a line of its own, indented by two spaces
     /// for each container round it; `null` of bytes that are no document. Only memory can be
-    /// refused.
+    /// refused. The text of a document without extension values is read back by `parse` as an
+    /// equal document.
     pub fn to_pretty_string(&self, alloc: Global) -> Result<String, Error>
         ensures shown { IfOk result
             (λ text. string_bytes text ≡ pretty_shown_text (raw_bytes self.now)) }
@@ -57,6 +70,8 @@ impl<'a> RawJsonb<'a> {
             → IfOk result (λ text. string_bytes text ≡ pretty t) }
         ensures other { (IsDocument (raw_bytes self.now) → ⊥)
             → IfOk result (λ text. string_bytes text ≡ codes "null") }
+        ensures read_again { (t : Tree) → Doc (raw_bytes self.now) t → IsTree t → IsPlain t → Fits t
+            → IfOk result (λ text. MeansAgain (chars (string_bytes text)) t) }
         ensures memory { IfErr result (λ e. e ≡ Error.OutOfMemory) }
     {
         let mut f = fmt::Formatter::new(String::new(alloc));
@@ -106,6 +121,13 @@ impl fmt::Display for OwnedJsonb {
         write_shown(self.as_raw(), f)
     }
 }
+
+/// The laws of texts: they do not tell a tree from its normal form, in which the two zeros of whole
+/// numbers are one.
+pub fn text_laws()
+    ensures compact { (t : Tree) → compact (norm t) ≡ compact t }
+    ensures pretty { (t : Tree) → pretty (norm t) ≡ pretty t }
+{}
 
 // What a `String` was given. It refuses only for want of memory.
 fn written(answer: fmt::Result, f: fmt::Formatter<String>) -> Result<String, Error>
@@ -320,7 +342,7 @@ fn write_item<W: fmt::Write>(
 
 // The text of an item that is no document.
 fn write_scalar<W: fmt::Write>(item: &JsonbItem, f: &mut fmt::Formatter<W>) -> fmt::Result
-    requires { IsPlain (shown item.now) }
+    requires { IsScalar (shown item.now) }
     ensures { (l : texts.Layout)
         → WritesStyledOnOk W.write_str_gives f.old result (meant_text l (shown_meaning (shown item.now))) f.new }
 {
@@ -357,7 +379,7 @@ fn kind_in(raw: RawJsonb) -> JsonbItemType
 
 fn scalar_in(raw: RawJsonb<'_>) -> JsonbItem<'_>
     requires { (t : Tree) × (Doc (raw_bytes raw) t × (type_of t ≢ CONTAINER_TAG)) }
-    ensures plain { IsPlain (shown result) }
+    ensures plain { IsScalar (shown result) }
     ensures means { (t : Tree) → Doc (raw_bytes raw.entry) t → Means (shown result) t }
 {
     let Ok(item) = JsonbItem::from_raw_jsonb(raw) else {

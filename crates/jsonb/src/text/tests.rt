@@ -215,18 +215,25 @@ impl fmt::Write for Narrow {
     }
 }
 
+// Whether a writer with so much room took the whole text, and what it took.
+fn taken(alloc: Global, owned: &OwnedJsonb, room: usize) -> (bool, String) {
+    let taken = String::new(alloc);
+    let mut f = fmt::Formatter::new(Narrow { taken, room });
+    let answer = fmt::Display::fmt(owned, &mut f);
+    let Narrow { taken, .. } = f.into_inner();
+    (answer.is_ok(), taken)
+}
+
 #[test]
 fn a_writer_that_refuses(rt: HostRuntime) -> Result<(), Fail> {
     for (document, text, _) in TEXTS {
         let owned = OwnedJsonb::new(bytes_of(rt.alloc(), document)?);
-        for room in 0..=text.len() {
-            let taken = String::new(rt.alloc());
-            let mut f = fmt::Formatter::new(Narrow { taken, room });
-            let answer = fmt::Display::fmt(&owned, &mut f);
-            let Narrow { taken, .. } = f.into_inner();
-            assert_eq!(rt; answer.is_ok(), room == text.len());
-            assert!(rt; text.starts_with(taken.as_str()));
+        for room in 0..text.len() {
+            let (all, front) = taken(rt.alloc(), &owned, room);
+            assert!(rt; !all && text.starts_with(front.as_str()));
         }
+        let (all, whole) = taken(rt.alloc(), &owned, text.len());
+        assert!(rt; all && whole.as_str() == text);
     }
     Ok(())
 }

@@ -1,5 +1,7 @@
+use Rattle.jsonb_value.specs.Text.{on_lines}
+use Rattle.jsonb_codec.proofs.RereadLaws.{reread_text}
 use Rattle.jsonb.specs.Raw.{raw_bytes}
-use Rattle.jsonb.proofs.TextLaws.{pretty_shown_text-Doc, pretty_shown_text-other, string_written, prints_as}
+use Rattle.jsonb.proofs.TextLaws.{pretty_shown_text-Doc, pretty_shown_text-other, string_written, prints_as, reads_again}
 use Rattle.jsonb.proofs.raw.RawJsonb.to_pretty_string.Goals as goal
 
 pub returns-clause-shown : goal.returns-clause-shown
@@ -11,3 +13,6 @@ returns-clause-document c t doc = prints_as _ _ _ (returns-clause-shown c) (pret
 
 pub returns-clause-other : goal.returns-clause-other
 returns-clause-other c none = prints_as _ _ _ (returns-clause-shown c) (pretty_shown_text-other (raw_bytes c.args.self.now) none)
+
+pub returns-clause-read_again : goal.returns-clause-read_again
+returns-clause-read_again c t doc tree plain fits = reads_again _ _ t (returns-clause-document c t doc) (reread_text (on_lines 0) t tree plain fits)

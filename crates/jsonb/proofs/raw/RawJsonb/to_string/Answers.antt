@@ -1,5 +1,7 @@
+use Rattle.jsonb_value.specs.Text.{in_one_line}
+use Rattle.jsonb_codec.proofs.RereadLaws.{reread_text}
 use Rattle.jsonb.specs.Raw.{raw_bytes}
-use Rattle.jsonb.proofs.TextLaws.{shown_text-Doc, shown_text-other, string_written, prints_as}
+use Rattle.jsonb.proofs.TextLaws.{shown_text-Doc, shown_text-other, string_written, prints_as, reads_again, other_text-short, short_text}
 use Rattle.jsonb.proofs.raw.RawJsonb.to_string.Goals as goal
 
 pub returns-clause-shown : goal.returns-clause-shown
@@ -11,3 +13,11 @@ returns-clause-document c t doc = prints_as _ _ _ (returns-clause-shown c) (show
 
 pub returns-clause-other : goal.returns-clause-other
 returns-clause-other c none = prints_as _ _ _ (returns-clause-shown c) (shown_text-other (raw_bytes c.args.self.now) none)
+
+pub returns-clause-read_again : goal.returns-clause-read_again
+returns-clause-read_again c t doc tree plain fits = reads_again _ _ t (returns-clause-document c t doc) (reread_text in_one_line t tree plain fits)
+
+pub returns-clause-short_text : goal.returns-clause-short_text
+returns-clause-short_text c utf8 zeros some short =
+    let b = raw_bytes c.args.self.now in
+    prints_as _ _ _ (returns-clause-other c (short_text b zeros short)) (other_text-short b utf8 some)
