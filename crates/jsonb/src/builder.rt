@@ -244,3 +244,6 @@ impl OwnedJsonb {
         builder.build()
     }
 }
+
+#[cfg(test)]
+mod tests;

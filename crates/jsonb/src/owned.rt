@@ -2,14 +2,11 @@
 
 ghost use Rattle.std.specs.Prelude.{◌≡◌, ◌↔◌, ◌≤◌, ◌<◌, ◌^◌, ◌⊎◌, length, Err, IfOk, IfErr, OnOk, IsTrue};
 ghost use Rattle.jsonb.specs.Owned.{owned_bytes};
-ghost use Rattle.jsonb.specs.Code.{scalar_bytes, payload_bytes};
+ghost use Rattle.jsonb.specs.Code.{scalar_bytes, shown_code};
 
-use crate::code::{Code, Payload, scalar_document};
-use crate::item::{JsonbItem, text_of};
+use crate::code::{Code, item_code, scalar_document};
+use crate::item::JsonbItem;
 use crate::raw::RawJsonb;
-use jsonb_codec::constants::{
-    EXTENSION_TAG, FALSE_TAG, NULL_TAG, NUMBER_TAG, STRING_TAG, TRUE_TAG,
-};
 use jsonb_value::Error;
 use std::alloc::Global;
 
@@ -56,16 +53,7 @@ impl OwnedJsonb {
         match item {
             JsonbItem::Raw(raw) => raw.to_owned(alloc),
             JsonbItem::Owned(owned) => Ok(owned),
-            JsonbItem::Null => of_scalar(alloc, NULL_TAG, Payload::Bytes(&[])),
-            JsonbItem::Boolean(false) => of_scalar(alloc, FALSE_TAG, Payload::Bytes(&[])),
-            JsonbItem::Boolean(true) => of_scalar(alloc, TRUE_TAG, Payload::Bytes(&[])),
-            JsonbItem::Number(number) => of_scalar(alloc, NUMBER_TAG, number.payload()),
-            JsonbItem::String(text) => of_scalar(
-                alloc,
-                STRING_TAG,
-                Payload::Bytes(text_of(&text).as_bytes()),
-            ),
-            JsonbItem::Extension(extension) => of_scalar(alloc, EXTENSION_TAG, extension.payload()),
+            scalar => of_scalar(alloc, item_code(&scalar)),
         }
     }
 
@@ -126,16 +114,16 @@ impl From<Vec<u8>> for OwnedJsonb {
 }
 
 // The scalar document of an entry.
-fn of_scalar(alloc: Global, type_code: u32, payload: Payload) -> Result<OwnedJsonb, Error>
-    requires { type_code ≤ 0x60000000 }
-    ensures ok { IfOk result
-        (λ owned. owned_bytes owned ≡ scalar_bytes type_code (payload_bytes payload.entry)) }
-    ensures fits { OnOk result (length (payload_bytes payload.entry) < 2 ^ 28) }
+fn of_scalar(alloc: Global, code: Code) -> Result<OwnedJsonb, Error>
+    requires { code.type_code ≤ 0x60000000 }
+    ensures ok { IfOk result (λ owned. owned_bytes owned
+        ≡ scalar_bytes (shown_code code.entry).type (shown_code code.entry).payload) }
+    ensures fits { OnOk result (length (shown_code code.entry).payload < 2 ^ 28) }
     ensures past { result ≡ Err Error.InvalidJsonb
-        → 2 ^ 28 ≤ length (payload_bytes payload.entry) }
+        → 2 ^ 28 ≤ length (shown_code code.entry).payload }
     ensures memory { result ≡ Err Error.OutOfMemory
-        → length (payload_bytes payload.entry) < 2 ^ 28 }
+        → length (shown_code code.entry).payload < 2 ^ 28 }
     ensures only { IfErr result (λ e. (e ≡ Error.InvalidJsonb) ⊎ (e ≡ Error.OutOfMemory)) }
 {
-    Ok(OwnedJsonb::new(scalar_document(alloc, Code { type_code, payload })?))
+    Ok(OwnedJsonb::new(scalar_document(alloc, code)?))
 }

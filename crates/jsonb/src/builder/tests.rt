@@ -1,0 +1,244 @@
+use crate::{
+    ArrayBuilder, ArrayDistinctBuilder, Decimal64, Encoder, Error, JsonbItem, Number, NumberItem,
+    ObjectBuilder, OwnedJsonb, RawJsonb, Value,
+};
+use std::alloc::Global;
+use std::borrow::CowStr;
+use std::fmt::Write;
+use std::str;
+use std::test::Fail;
+
+// How long the text of the largest rows is.
+const MEBIBYTES_16: usize = 16_777_216;
+
+fn hex(alloc: Global, bytes: &[u8]) -> Result<String, Fail> {
+    let mut text = String::new(alloc);
+    for byte in bytes {
+        write!(text, "{byte:02x}")?;
+    }
+    Ok(text)
+}
+
+// A row's digits without its spaces.
+fn joined(alloc: Global, row: &str) -> Result<String, Fail> {
+    let mut text = String::new(alloc);
+    for word in row.split(' ') {
+        text.push_str(word)?;
+    }
+    Ok(text)
+}
+
+// The document of a value.
+fn document(alloc: Global, value: &Value) -> Result<OwnedJsonb, Error> {
+    let mut bytes = Vec::new(alloc);
+    Encoder::new(&mut bytes).encode(value)?;
+    Ok(OwnedJsonb::new(bytes))
+}
+
+fn number(number: u64) -> Value<'static> {
+    Value::Number(Number::UInt64(number))
+}
+
+fn by_value<'a>(number: Number) -> JsonbItem<'a> {
+    JsonbItem::Number(NumberItem::from_number(number))
+}
+
+fn text(text: &str) -> CowStr<'_> {
+    CowStr::Borrowed(text)
+}
+
+// What an array builder builds of one item.
+fn array_of(alloc: Global, item: JsonbItem) -> Result<String, Fail> {
+    let mut builder = ArrayBuilder::new(alloc);
+    builder.push_jsonb_item(item)?;
+    hex(alloc, builder.build()?.as_bytes())
+}
+
+#[test]
+fn numbers_by_value_and_as_given(rt: HostRuntime) -> Result<(), Fail> {
+    let alloc = rt.alloc();
+    let zero = array_of(alloc, by_value(Number::Int64(0)))?;
+    assert_eq!(rt; zero, joined(alloc, "80000001 20000001 00")?);
+    let given = JsonbItem::Number(NumberItem::from_bytes(&[0x40, 0])?);
+    let zero = array_of(alloc, given)?;
+    assert_eq!(rt; zero, joined(alloc, "80000001 20000002 4000")?);
+    Ok(())
+}
+
+// A document, and behind it one byte too many.
+fn too_long(alloc: Global) -> Result<OwnedJsonb, Error> {
+    OwnedJsonb::from_bytes(alloc, &[0x20, 0, 0, 0, 0x20, 0, 0, 1, 0, 0xff])
+}
+
+#[test]
+fn bytes_are_checked_when_built(rt: HostRuntime) -> Result<(), Fail> {
+    let alloc = rt.alloc();
+    let item = too_long(alloc)?;
+    let mut items = ArrayBuilder::with_capacity(alloc, 1)?;
+    items.push_raw_jsonb(item.as_raw())?;
+    assert_eq!(rt; items.build().err(), Some(Error::InvalidJsonb));
+    let mut pairs = ObjectBuilder::new(alloc);
+    pairs.push_owned_jsonb("a", too_long(alloc)?)?;
+    assert_eq!(rt; pairs.build().err(), Some(Error::InvalidJsonb));
+    let item = too_long(alloc)?;
+    let mut distinct = ArrayDistinctBuilder::new(alloc, 1)?;
+    distinct.push_raw_jsonb(item.as_raw())?;
+    assert_eq!(rt; distinct.build().err(), Some(Error::InvalidJsonb));
+    Ok(())
+}
+
+#[test]
+fn containers_inside(rt: HostRuntime) -> Result<(), Fail> {
+    let alloc = rt.alloc();
+    let mut items = ArrayBuilder::new(alloc);
+    items.push_owned_jsonb(document(alloc, &Value::Bool(false))?)?;
+    let inner = items.build()?;
+    let mut pairs = ObjectBuilder::new(alloc);
+    pairs.push_raw_jsonb("arr", inner.as_raw())?;
+    assert_eq!(rt;
+        hex(alloc, pairs.build()?.as_bytes())?,
+        joined(alloc, "40000001 10000003 50000008 617272 80000001 30000000")?
+    );
+
+    let mut pairs = ObjectBuilder::new(alloc);
+    pairs.push_jsonb_item("field", JsonbItem::Boolean(true))?;
+    assert!(rt; pairs.contains_key("field") && !pairs.contains_key("obj"));
+    let inner = pairs.build()?;
+    let mut pairs = ObjectBuilder::new(alloc);
+    pairs.push_owned_jsonb("obj", inner)?;
+    let row = "40000001 10000003 50000011 6f626a 40000001 10000005 40000000 6669656c64";
+    assert_eq!(rt; hex(alloc, pairs.build()?.as_bytes())?, joined(alloc, row)?);
+    Ok(())
+}
+
+#[test]
+fn arrays_of_documents(rt: HostRuntime) -> Result<(), Fail> {
+    let alloc = rt.alloc();
+    let one = document(alloc, &number(1))?;
+    let two = document(alloc, &number(2))?;
+    let three = document(alloc, &number(3))?;
+    let hello = document(alloc, &Value::String(text("hello")))?;
+    let null = document(alloc, &Value::Null)?;
+    let inner = OwnedJsonb::build_array(alloc, [one.as_raw(), two.as_raw(), three.as_raw()])?;
+    let outer = OwnedJsonb::build_array(alloc, [one.as_raw(), hello.as_raw(), inner.as_raw()])?;
+    let row =
+        "80000003 20000002 10000005 50000016 5001 68656c6c6f 80000003 20000002 20000002 20000002 5001 5002 5003";
+    assert_eq!(rt; hex(alloc, outer.as_bytes())?, joined(alloc, row)?);
+
+    let pair = OwnedJsonb::build_array(alloc, [one.as_raw(), null.as_raw()])?;
+    assert_eq!(rt;
+        hex(alloc, pair.as_bytes())?,
+        joined(alloc, "80000002 20000002 00000000 5001")?
+    );
+    let none = OwnedJsonb::build_array(alloc, [])?;
+    assert_eq!(rt; hex(alloc, none.as_bytes())?.as_str(), "80000000");
+    Ok(())
+}
+
+// A document at a key.
+fn at<'a>(key: &'a str, document: &'a OwnedJsonb) -> (&'a str, RawJsonb<'a>) {
+    (key, document.as_raw())
+}
+
+#[test]
+fn objects_of_documents(rt: HostRuntime) -> Result<(), Fail> {
+    let alloc = rt.alloc();
+    let one = document(alloc, &number(1))?;
+    let two = document(alloc, &number(2))?;
+    let pairs = [at("b", &one), at("a", &two)];
+    let object = OwnedJsonb::build_object(alloc, pairs)?;
+    let row = "40000002 10000001 10000001 20000002 20000002 61 62 5002 5001";
+    assert_eq!(rt; hex(alloc, object.as_bytes())?, joined(alloc, row)?);
+    Ok(())
+}
+
+#[test]
+fn a_key_is_tested_before_a_document(rt: HostRuntime) -> Result<(), Fail> {
+    let alloc = rt.alloc();
+    let one = document(alloc, &number(1))?;
+    let other = OwnedJsonb::from_bytes(alloc, &[1, 2, 3, 4])?;
+    let pairs = [at("a", &one), at("a", &other)];
+    let twice = OwnedJsonb::build_object(alloc, pairs);
+    assert_eq!(rt; twice.err(), Some(Error::ObjectDuplicateKey));
+    Ok(())
+}
+
+#[test]
+fn each_input_is_a_document(rt: HostRuntime) -> Result<(), Fail> {
+    let alloc = rt.alloc();
+    let other = OwnedJsonb::from_bytes(alloc, &[1, 2, 3, 4])?;
+    let refused = OwnedJsonb::build_object(alloc, [at("a", &other)]);
+    assert_eq!(rt; refused.err(), Some(Error::InvalidJsonb));
+    let other = OwnedJsonb::from_bytes(alloc, &[1, 2, 3, 4])?;
+    let refused = OwnedJsonb::build_array(alloc, [other.as_raw()]);
+    assert_eq!(rt; refused.err(), Some(Error::InvalidJsonb));
+    Ok(())
+}
+
+#[test]
+fn the_first_of_equal_items(rt: HostRuntime) -> Result<(), Fail> {
+    let alloc = rt.alloc();
+    let five = document(alloc, &number(5))?;
+    let mut builder = ArrayDistinctBuilder::new(alloc, 0)?;
+    builder.push_raw_jsonb(five.as_raw())?;
+    builder.push_jsonb_item(by_value(Number::Decimal64(Decimal64 {
+        scale: 1,
+        value: 50,
+    })))?;
+    builder.push_jsonb_item(JsonbItem::String(text("x")))?;
+    assert_eq!(rt; builder.pop_raw_jsonb(five.as_raw()), Some(()));
+    assert_eq!(rt;
+        builder.pop_jsonb_item(by_value(Number::Int64(5))),
+        Some(())
+    );
+    assert_eq!(rt; builder.pop_raw_jsonb(five.as_raw()), None);
+    builder.push_raw_jsonb(five.as_raw())?;
+    assert_eq!(rt;
+        hex(alloc, builder.build()?.as_bytes())?,
+        joined(alloc, "80000002 20000002 10000001 5005 78")?
+    );
+    Ok(())
+}
+
+// Where the first push finds no memory, the builder is as before and takes the second.
+#[test]
+fn a_second_push_is_taken(rt: HostRuntime) -> Result<(), Fail> {
+    let alloc = rt.alloc();
+    let x = OwnedJsonb::from_item(alloc, JsonbItem::String(text("x")))?;
+    let mut builder = ArrayDistinctBuilder::new(alloc, 1)?;
+    builder.push_jsonb_item(by_value(Number::UInt64(5)))?;
+    if builder.push_raw_jsonb(x.as_raw()).is_err() {
+        assert_eq!(rt; builder.pop_raw_jsonb(x.as_raw()), None);
+        builder.push_raw_jsonb(x.as_raw())?;
+    }
+    assert_eq!(rt;
+        hex(alloc, builder.build()?.as_bytes())?,
+        joined(alloc, "80000002 20000002 10000001 5005 78")?
+    );
+    Ok(())
+}
+
+// The array that borrows one text so many times.
+fn borrowings(alloc: Global, text: &str, count: usize) -> Result<OwnedJsonb, Error> {
+    let mut builder = ArrayBuilder::new(alloc);
+    for _ in 0..count {
+        builder.push_jsonb_item(JsonbItem::String(CowStr::Borrowed(text)))?;
+    }
+    builder.build()
+}
+
+#[test]
+fn arrays_too_long_for_an_entry(rt: HostRuntime) -> Result<(), Fail> {
+    let alloc = rt.alloc();
+    let letters = vec![in alloc; b'a'; MEBIBYTES_16]?;
+    let letters = str::from_utf8(&letters)?;
+    let array = borrowings(alloc, letters, 16)?;
+    assert_eq!(rt; array.len(), 268_435_524);
+    let nested = OwnedJsonb::build_array(alloc, [array.as_raw()]);
+    assert_eq!(rt; nested.err(), Some(Error::InvalidJsonb));
+    drop(array);
+    let array = borrowings(alloc, letters, 15)?;
+    let nested = OwnedJsonb::build_array(alloc, [array.as_raw()])?;
+    assert_eq!(rt; nested.len(), 251_658_312);
+    Ok(())
+}
