@@ -44,12 +44,7 @@ fn answer_one(alloc: Global, name: &[u8], word: &[u8]) -> Result<String, Refusal
     }
 }
 
-fn answer_two(
-    alloc: Global,
-    name: &[u8],
-    left: &[u8],
-    right: &[u8],
-) -> Result<String, Refusal> {
+fn answer_two(alloc: Global, name: &[u8], left: &[u8], right: &[u8]) -> Result<String, Refusal> {
     match name {
         b"within" => documents::within(alloc, left, right),
         b"lookup" => lookup::lookup(alloc, Keys::Exact, left, right),

@@ -11,6 +11,8 @@ mod lookup;
 mod order;
 mod payloads;
 mod refusal;
+#[cfg(test)]
+mod tests;
 mod texts;
 mod walks;
 mod words;

@@ -15,10 +15,16 @@ pub fn number(alloc: Global, word: &[u8]) -> Result<String, Refusal> {
         Number::Int64(value) => format!(in alloc; "ok int64 {value} {written}"),
         Number::UInt64(value) => format!(in alloc; "ok uint64 {value} {written}"),
         Number::Decimal64(decimal) => {
-            format!(in alloc; "ok decimal64 {} {} {written}", decimal.value, decimal.scale)
+            format!(in alloc;
+                "ok decimal64 {} {} {written}",
+                decimal.value, decimal.scale
+            )
         }
         Number::Decimal128(decimal) => {
-            format!(in alloc; "ok decimal128 {} {} {written}", decimal.value, decimal.scale)
+            format!(in alloc;
+                "ok decimal128 {} {} {written}",
+                decimal.value, decimal.scale
+            )
         }
     }?)
 }
