@@ -1,0 +1,105 @@
+//! Arrays and objects, put together of bytes.
+
+use crate::line::{decoded, key_of, ok_hex};
+use crate::refusal::Refusal;
+use jsonb::{ArrayDistinctBuilder, OwnedJsonb, RawJsonb};
+use std::alloc::Global;
+
+/// The array of some documents.
+pub fn array_of(alloc: Global, words: &[&[u8]]) -> Result<String, Refusal> {
+    let mut inputs = Vec::new(alloc);
+    for word in words {
+        inputs.push(decoded(alloc, word)?)?;
+    }
+    let array = OwnedJsonb::build_array(alloc, inputs.iter().map(|bytes| RawJsonb::new(bytes)))?;
+    ok_hex(alloc, array.as_bytes())
+}
+
+// The bytes of a key and of its value.
+#[derive(Drop)]
+struct Pair {
+    key: Vec<u8>,
+    value: Vec<u8>,
+}
+
+/// The object of some keys and documents.
+pub fn object_of(alloc: Global, words: &[&[u8]]) -> Result<String, Refusal> {
+    let pairs = pairs_in(alloc, words)?;
+    let mut inputs = Vec::new(alloc);
+    for pair in &pairs {
+        inputs.push((key_of(&pair.key)?, RawJsonb::new(&pair.value)))?;
+    }
+    let object = OwnedJsonb::build_object(alloc, inputs)?;
+    ok_hex(alloc, object.as_bytes())
+}
+
+// The pairs of words with a `=` between key and value.
+fn pairs_in(alloc: Global, words: &[&[u8]]) -> Result<Vec<Pair>, Refusal> {
+    if !words.iter().all(|word| word.contains(&b'=')) {
+        return Err(Refusal::BadCommand);
+    }
+    let mut pairs = Vec::new(alloc);
+    for word in words {
+        let (key, value) = split_pair(word)?;
+        pairs.push(Pair {
+            key: decoded(alloc, key)?,
+            value: decoded(alloc, value)?,
+        })?;
+    }
+    Ok(pairs)
+}
+
+// What stands before the first `=`, and behind it.
+fn split_pair(word: &[u8]) -> Result<(&[u8], &[u8]), Refusal> {
+    let Some(place) = word.iter().position(|byte| *byte == b'=') else {
+        return Err(Refusal::BadCommand);
+    };
+    Ok((&word[..place], &word[place + 1..]))
+}
+
+// A push or a pop of bytes.
+#[derive(Drop)]
+enum Step {
+    Push(Vec<u8>),
+    Pop(Vec<u8>),
+}
+
+/// The array of distinct items after some pushes and pops, behind what each pop answered.
+pub fn distinct(alloc: Global, words: &[&[u8]]) -> Result<String, Refusal> {
+    let steps = steps_in(alloc, words)?;
+    let mut builder = ArrayDistinctBuilder::new(alloc, 0)?;
+    let mut text = String::new(alloc);
+    for step in &steps {
+        match step {
+            Step::Push(bytes) => builder.push_raw_jsonb(RawJsonb::new(bytes))?,
+            Step::Pop(bytes) => {
+                let popped = builder.pop_raw_jsonb(RawJsonb::new(bytes));
+                text.push_str(if popped.is_some() { "some " } else { "none " })?;
+            }
+        }
+    }
+    match builder.build() {
+        Ok(array) => text.push_str(&ok_hex(alloc, array.as_bytes())?)?,
+        Err(error) => {
+            text.push_str("error ")?;
+            text.push_str(error.name())?;
+        }
+    }
+    Ok(text)
+}
+
+// The steps of words that begin with `+` or `-`.
+fn steps_in(alloc: Global, words: &[&[u8]]) -> Result<Vec<Step>, Refusal> {
+    if !words.iter().all(|word| matches!(word, [b'+' | b'-', ..])) {
+        return Err(Refusal::BadCommand);
+    }
+    let mut steps = Vec::new(alloc);
+    for word in words {
+        match word {
+            [b'+', rest @ ..] => steps.push(Step::Push(decoded(alloc, rest)?))?,
+            [b'-', rest @ ..] => steps.push(Step::Pop(decoded(alloc, rest)?))?,
+            _ => return Err(Refusal::BadCommand),
+        }
+    }
+    Ok(steps)
+}

@@ -1,0 +1,48 @@
+//! Items and their kinds.
+
+use crate::line::{decoded, fixed};
+use crate::refusal::Refusal;
+use jsonb::{JsonbItem, JsonbItemType, OwnedJsonb, RawJsonb};
+use std::alloc::Global;
+
+/// The kind that the bytes show.
+pub fn item_type(alloc: Global, word: &[u8]) -> Result<String, Refusal> {
+    let bytes = decoded(alloc, word)?;
+    match RawJsonb::new(&bytes).jsonb_item_type()? {
+        JsonbItemType::Null => fixed(alloc, "ok null"),
+        JsonbItemType::Boolean => fixed(alloc, "ok boolean"),
+        JsonbItemType::Number => fixed(alloc, "ok number"),
+        JsonbItemType::String => fixed(alloc, "ok string"),
+        JsonbItemType::Extension => fixed(alloc, "ok extension"),
+        JsonbItemType::Array(count) => Ok(format!(in alloc; "ok array {count}")?),
+        JsonbItemType::Object(count) => Ok(format!(in alloc; "ok object {count}")?),
+    }
+}
+
+/// The item that the bytes hold.
+pub fn item(alloc: Global, word: &[u8]) -> Result<String, Refusal> {
+    let bytes = decoded(alloc, word)?;
+    let item = JsonbItem::from_raw_jsonb(RawJsonb::new(&bytes))?;
+    let shown = shown_item(alloc, item)?;
+    Ok(format!(in alloc; "ok {shown}")?)
+}
+
+/// An item's variant, and the bytes that it becomes.
+pub fn shown_item(alloc: Global, item: JsonbItem<'_>) -> Result<String, Refusal> {
+    let variant = variant_of(&item);
+    let owned = OwnedJsonb::from_item(alloc, item)?;
+    let bytes = hex::encode(alloc, owned.as_bytes())?;
+    Ok(format!(in alloc; "{variant} {bytes}")?)
+}
+
+fn variant_of(item: &JsonbItem<'_>) -> &'static str {
+    match item {
+        JsonbItem::Null => "null",
+        JsonbItem::Boolean(_) => "boolean",
+        JsonbItem::Number(_) => "number",
+        JsonbItem::String(_) => "string",
+        JsonbItem::Extension(_) => "extension",
+        JsonbItem::Raw(_) => "raw",
+        JsonbItem::Owned(_) => "owned",
+    }
+}

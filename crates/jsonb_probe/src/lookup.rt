@@ -1,0 +1,46 @@
+//! The look-up of a key, with its count of reads.
+
+use crate::items::shown_item;
+use crate::line::{decoded, key_of};
+use crate::refusal::Refusal;
+use jsonb::{RawJsonb, Reads};
+use std::alloc::Global;
+
+/// When a key is the wanted one.
+#[derive(Clone, Copy)]
+pub enum Keys {
+    /// Where it has the same bytes.
+    Exact,
+    /// Where it has, but for the case of ASCII letters.
+    AnyCase,
+}
+
+impl Keys {
+    fn is_wanted(self, wanted: &[u8], key: &[u8]) -> bool {
+        match self {
+            Keys::Exact => wanted == key,
+            Keys::AnyCase => wanted.eq_ignore_ascii_case(key),
+        }
+    }
+}
+
+/// How many words were read, and the value that was found.
+pub fn lookup(alloc: Global, keys: Keys, document: &[u8], key: &[u8]) -> Result<String, Refusal> {
+    let bytes = decoded(alloc, document)?;
+    let key = decoded(alloc, key)?;
+    let mut reads = Reads::new();
+    let found = RawJsonb::new(&bytes).get_object_value_by_key_name_counted(
+        key_of(&key)?,
+        |wanted, key| keys.is_wanted(wanted, key),
+        &mut reads,
+    );
+    let count = reads.count();
+    match found {
+        Ok(Some(item)) => {
+            let shown = shown_item(alloc, item)?;
+            Ok(format!(in alloc; "reads {count} {shown}")?)
+        }
+        Ok(None) => Ok(format!(in alloc; "reads {count} none")?),
+        Err(error) => Ok(format!(in alloc; "reads {count} error {}", error.name())?),
+    }
+}

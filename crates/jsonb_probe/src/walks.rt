@@ -1,0 +1,114 @@
+//! Walks over the children of an array or object, to their end and one step beyond.
+
+use crate::items::shown_item;
+use crate::line::{decoded, fixed};
+use crate::refusal::Refusal;
+use jsonb::{
+    ArrayIterator, Error, JsonbItem, ObjectIterator, ObjectKeyIterator, ObjectValueIterator,
+    RawJsonb,
+};
+use std::alloc::Global;
+
+/// The items of an array.
+pub fn array(alloc: Global, word: &[u8]) -> Result<String, Refusal> {
+    let bytes = decoded(alloc, word)?;
+    let Some(mut items) = ArrayIterator::new(RawJsonb::new(&bytes))? else {
+        return fixed(alloc, "none");
+    };
+    let mut text = begun(alloc, items.len())?;
+    for item in &mut items {
+        push_item(alloc, &mut text, item)?;
+    }
+    ended(alloc, &text, items.len(), items.next().is_some())
+}
+
+/// The keys of an object.
+pub fn keys(alloc: Global, word: &[u8]) -> Result<String, Refusal> {
+    let bytes = decoded(alloc, word)?;
+    let Some(mut keys) = ObjectKeyIterator::new(RawJsonb::new(&bytes))? else {
+        return fixed(alloc, "none");
+    };
+    let mut text = begun(alloc, keys.len())?;
+    for key in &mut keys {
+        push_item(alloc, &mut text, key)?;
+    }
+    ended(alloc, &text, keys.len(), keys.next().is_some())
+}
+
+/// The values of an object.
+pub fn values(alloc: Global, word: &[u8]) -> Result<String, Refusal> {
+    let bytes = decoded(alloc, word)?;
+    let Some(mut values) = ObjectValueIterator::new(RawJsonb::new(&bytes))? else {
+        return fixed(alloc, "none");
+    };
+    let mut text = begun(alloc, values.len())?;
+    for value in &mut values {
+        push_item(alloc, &mut text, value)?;
+    }
+    ended(alloc, &text, values.len(), values.next().is_some())
+}
+
+/// The pairs of an object.
+pub fn pairs(alloc: Global, word: &[u8]) -> Result<String, Refusal> {
+    let bytes = decoded(alloc, word)?;
+    let Some(mut pairs) = ObjectIterator::new(RawJsonb::new(&bytes))? else {
+        return fixed(alloc, "none");
+    };
+    let mut text = begun(alloc, pairs.len())?;
+    for pair in &mut pairs {
+        push_pair(alloc, &mut text, pair)?;
+    }
+    ended(alloc, &text, pairs.len(), pairs.next().is_some())
+}
+
+// How many children there are.
+fn begun(alloc: Global, len: usize) -> Result<String, Refusal> {
+    Ok(format!(in alloc; "len {len}")?)
+}
+
+// What a walk gave: an item, or why it ended.
+fn push_item(
+    alloc: Global,
+    text: &mut String,
+    given: Result<JsonbItem<'_>, Error>,
+) -> Result<(), Refusal> {
+    match given {
+        Ok(item) => push_part(text, &shown_item(alloc, item)?),
+        Err(error) => push_error(text, error),
+    }
+}
+
+// What a walk gave: a key with its value, or why it ended.
+fn push_pair(
+    alloc: Global,
+    text: &mut String,
+    given: Result<(&str, JsonbItem<'_>), Error>,
+) -> Result<(), Refusal> {
+    match given {
+        Ok((key, value)) => {
+            push_part(text, &hex::encode(alloc, key)?)?;
+            text.push_str(" ")?;
+            text.push_str(&shown_item(alloc, value)?)?;
+            Ok(())
+        }
+        Err(error) => push_error(text, error),
+    }
+}
+
+fn push_error(text: &mut String, error: Error) -> Result<(), Refusal> {
+    push_part(text, "error ")?;
+    text.push_str(error.name())?;
+    Ok(())
+}
+
+fn push_part(text: &mut String, part: &str) -> Result<(), Refusal> {
+    text.push_str(" | ")?;
+    text.push_str(part)?;
+    Ok(())
+}
+
+// The length behind the end, and whether the walk goes on from there.
+fn ended(alloc: Global, text: &str, len: usize, again: bool) -> Result<String, Refusal> {
+    let again = if again { " again" } else { "" };
+    Ok(format!(in alloc; "{text} | end {len}{again}")?)
+}
