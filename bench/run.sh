@@ -9,7 +9,7 @@ trap 'rm -rf "$scratch"' EXIT
 cp -r "$here/../crates" "$here/../crates.txt" "$scratch"
 echo "measured staticlib: jsonb jsonb_value jsonb_codec" >> "$scratch/crates.txt"
 mkdir -p "$scratch/crates/measured/src" "$baseline/examples"
-cp "$here/measured.rt" "$scratch/crates/measured/src/lib.rt"
+cp "$here/measured.rt.in" "$scratch/crates/measured/src/lib.rt"
 cp "$here/driver.rs" "$baseline/examples/driver.rs"
 (cd "$scratch" && git init -q && cd crates/measured && rt check && rt lib)
 cd "$baseline"
