@@ -22,3 +22,4 @@ pub mod Values
 pub mod Texts
 pub mod Lines
 pub mod Tally
+pub mod Asked
