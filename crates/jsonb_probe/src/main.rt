@@ -1,5 +1,5 @@
-//! Asks the whole library, a line at a time: each line of standard input names a call and gives it
-//! its bytes, and is answered by one line on standard output.
+//! Asks the library, a line at a time: each line of standard input names a call and gives it its
+//! bytes, and is answered by one line on standard output.
 #![tactic(auto)]
 
 mod builders;
