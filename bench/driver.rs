@@ -11,6 +11,9 @@ extern "C" {
     fn measured_build(bytes: *const u8, length: usize) -> bool;
     fn measured_encode(bytes: *const u8, length: usize, times: usize) -> usize;
     fn measured_find(bytes: *const u8, length: usize, name: *const u8, name_length: usize) -> bool;
+    fn measured_cmp(left: *const u8, left_length: usize, right: *const u8, right_length: usize) -> i32;
+    fn measured_print(bytes: *const u8, length: usize) -> usize;
+    fn measured_parse(text: *const u8, length: usize) -> usize;
 }
 
 // The median of the seconds that a call takes.
@@ -98,7 +101,67 @@ fn look_ups() {
     }
 }
 
+fn encoded(value: &Value) -> Vec<u8> {
+    let mut bytes = Vec::new();
+    api::encode(value, &mut bytes);
+    bytes
+}
+
+fn sorts() {
+    let shapes: [(&str, fn(usize) -> Value<'static>); 3] = [
+        ("numbers", |i| Value::Number(Number::UInt64((i as u64 * 7919) % 1_000_003))),
+        ("strings", |i| string(format!("value {}", (i * 7919) % 1_000_003))),
+        ("objects", |i| {
+            let pairs = (0..4).map(|k| (format!("key{k}"), Value::Number(Number::UInt64(((i * 7919 + k * i) % 100_003) as u64))));
+            Value::Object(pairs.collect::<BTreeMap<_, _>>())
+        }),
+    ];
+    for (name, shape) in shapes {
+        let documents: Vec<Vec<u8>> = (0..100_000).map(|i| encoded(&shape(i))).collect();
+        let size = documents.iter().map(Vec::len).sum();
+        let ours = seconds(|| {
+            let mut all: Vec<&[u8]> = documents.iter().map(Vec::as_slice).collect();
+            all.sort_by(|l, r| unsafe { measured_cmp(l.as_ptr(), l.len(), r.as_ptr(), r.len()) }.cmp(&0));
+            all[0].len()
+        });
+        let theirs = seconds(|| {
+            let mut all: Vec<RawJsonb> = documents.iter().map(|d| RawJsonb::new(d)).collect();
+            all.sort();
+            all[0].len()
+        });
+        report(name, "sort", size, ours, theirs);
+    }
+}
+
+fn texts() {
+    let item = |i: usize| format!(r#"{{"id":{i},"name":"name of {i}","price":{}.{:02},"tags":["a","b\n{i}"],"on":true}}"#, i % 1000, i % 100);
+    let text = format!("[{}]", (0..130_000).map(item).collect::<Vec<_>>().join(","));
+    let value: serde_json::Value = serde_json::from_str(&text).unwrap();
+    let length = text.len();
+    let parse = seconds(|| unsafe { measured_parse(text.as_ptr(), length) });
+    let from_str = seconds(|| serde_json::from_str::<serde_json::Value>(&text).is_ok() as usize);
+    report("text", "parse", length, parse, from_str);
+    let objects = encoded(&objects());
+    let printed = unsafe { measured_print(objects.as_ptr(), objects.len()) };
+    let print = seconds(|| unsafe { measured_print(objects.as_ptr(), objects.len()) });
+    let tree: serde_json::Value = objects_as_json();
+    let to_string = seconds(|| serde_json::to_string(&tree).unwrap().len());
+    assert_eq!(printed, serde_json::to_string(&tree).unwrap().len());
+    report("objects", "print", printed, print, to_string);
+    drop(value);
+}
+
+fn objects_as_json() -> serde_json::Value {
+    let object = |i: usize| {
+        let pairs = (0..10).map(|k| (format!("key{k:02}"), serde_json::Value::String(format!("value {i} {k}"))));
+        serde_json::Value::Object(pairs.collect())
+    };
+    serde_json::Value::Array((0..10_000).map(object).collect())
+}
+
 fn main() {
     documents();
     look_ups();
+    sorts();
+    texts();
 }
