@@ -1,19 +1,19 @@
 -- What is built of documents is a document.
-use Rattle.std.proofs.Common.{◌≡◌, ◌≢◌, ℕ, suc, ◌+◌, ◌<◌, ◌^◌, List, [], ◌∷◌, ◌++◌, length, map, refl, sym, ap, ap₂, subst, ◌∙◌, inl, inr}
+use Rattle.std.proofs.Common.{◌≡◌, ℕ, suc, ◌+◌, ◌<◌, ◌^◌, List, [], ◌∷◌, ◌++◌, length, map, refl, sym, ap, ap₂, subst, ◌∙◌, inl, inr}
 use Rattle.jsonb_value.specs.Tree.{Tree, Trees, no_trees, tree, array, count}
-use Rattle.jsonb_value.specs.Norm.{norm, norms}
+use Rattle.jsonb_value.specs.Norm.{norm}
 use Rattle.jsonb_value.specs.WellFormed.{IsTree}
 use Rattle.jsonb_codec.specs.Word.{word}
-use Rattle.jsonb_codec.specs.Doc.{Doc, Scalar, Payload, Children, type_of}
+use Rattle.jsonb_codec.specs.Doc.{Doc, Children, type_of}
 use Rattle.jsonb_codec.specs.Parts.{IsPayloadOf}
-use Rattle.jsonb_codec.specs.Canon.{canon, payload_of, entries_of, payloads_of, FitsInside, FitsEntry, AllFit, Fits}
+use Rattle.jsonb_codec.specs.Canon.{canon, payload_of, entries_of, payloads_of, AllFit, Fits}
 use Rattle.jsonb_codec.proofs.Lengths.{canon-scalar, canon-container}
 use Rattle.jsonb_codec.proofs.CanonLaws.{Doc-canon, type_of-norm}
 use Rattle.jsonb.specs.Shown.{Shown, raw}
 use Rattle.jsonb.specs.Item.{Entry}
 use Rattle.jsonb.specs.Code.{scalar_bytes}
-use Rattle.jsonb.specs.Stored.{document_code, code_of, codes_of, AreStorable}
-use Rattle.jsonb.specs.Building.{AreShort, code_entries, code_payloads, array_of, FitArray, IsArrayOf}
+use Rattle.jsonb.specs.Stored.{document_code, codes_of}
+use Rattle.jsonb.specs.Building.{AreShort, code_entries, code_payloads, array_of, IsArrayOf}
 use Rattle.jsonb.specs.Built.{AreDocuments, AreCanonical, IsArrayOfInputs}
 use Rattle.jsonb.proofs.StoredLaws.{document_code-Scalar, document_code-container, same_payload, codes_of-AreCodes, AreCodes-codes_of, length-codes_of, AreStorable-FitArray}
 

@@ -1,5 +1,5 @@
 -- What is built means what its items mean, but for zeros.
-use Rattle.std.proofs.Common.{◌≡◌, ℕ, ◌<◌, ◌^◌, List, [], ◌∷◌, length, Option, Some, None, true, false, refl, sym, ap, ap₂, subst, ◌∙◌}
+use Rattle.std.proofs.Common.{◌≡◌, ℕ, ◌<◌, ◌^◌, List, [], ◌∷◌, Some, None, true, false, refl, sym, ap, ap₂, subst, ◌∙◌}
 use Rattle.std.specs.Map.{keys_of, values_of}
 use Rattle.std.proofs.Common.{zero, suc, pos, negsuc}
 use Rattle.jsonb_value.specs.declared.number.Number.{Number}
@@ -8,12 +8,12 @@ use Rattle.jsonb_value.specs.Tree.{Tree, Trees, no_trees, tree, array, Pairs, no
 use Rattle.jsonb_value.specs.Tree as trees
 use Rattle.jsonb_value.specs.Norm.{norm_number, norm, norms, norm_pairs}
 use Rattle.jsonb_value.proofs.PayloadLaws.{NumCode-number_payload, ExtCode-extension_payload}
-use Rattle.jsonb_codec.specs.Doc.{Doc, Payload}
+use Rattle.jsonb_codec.specs.Doc.{Doc}
 use Rattle.jsonb.specs.Shown.{Shown, null, boolean, number, text, extension, raw, owned}
 use Rattle.jsonb.specs.Item.{Entry}
 use Rattle.jsonb.specs.Code.{Means}
 use Rattle.jsonb.specs.Stored.{code_of, codes_of, IsStored, IsHeld, AreStorable, AreHeld}
-use Rattle.jsonb.specs.Building.{AreKeys, AreShort, array_of, IsArrayOf, object_of, IsObjectOf}
+use Rattle.jsonb.specs.Building.{AreKeys, IsArrayOf, IsObjectOf}
 use Rattle.jsonb.specs.Built.{AllMean, AllMeanAt, IsArrayUpToZeros, IsObjectUpToZeros}
 use Rattle.jsonb.proofs.StoredLaws.{AreCodes-codes_of, codes_of-AreCodes, length-codes_of, AreStorable-FitArray}
 use Rattle.jsonb.proofs.BuiltLaws.{IsCodeOf, AreCodesOf, IsCodeOf-document_code, Doc-array_of, array_of-IsArrayOf}

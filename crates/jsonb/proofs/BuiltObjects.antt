@@ -1,5 +1,5 @@
 -- What is built of documents at keys is a document.
-use Rattle.std.proofs.Common.{◌≡◌, ℕ, suc, ◌+◌, ◌<◌, ◌^◌, List, [], ◌∷◌, ◌++◌, length, map, Some, Result, Ok, Err, IfOk, OnOk, refl, sym, ap, ap₂, subst, ◌∙◌, inl, inr}
+use Rattle.std.proofs.Common.{◌≡◌, ℕ, suc, ◌+◌, ◌<◌, ◌^◌, List, [], ◌∷◌, ◌++◌, length, Some, Result, Ok, Err, IfOk, OnOk, refl, sym, ap, ap₂, subst, ◌∙◌, inr}
 use Rattle.std.specs.Map.{keys_of, values_of}
 use Rattle.std.specs.List.Sorted.{IsStrictlySortedBy}
 use Rattle.std.specs.List.{IsDistinct}
@@ -7,14 +7,14 @@ use Rattle.std.specs.Str.{bytes_eq, IsUtf8}
 use Rattle.std.specs.declared.cmp.Ordering.TheVariants.{Less}
 use Rattle.std.specs.Ordering.{nat_cmp}
 use Rattle.std.specs.Cmp.Lexicographic.{slice_cmp}
-use Rattle.jsonb_value.specs.Tree.{Tree, Pairs, no_pairs, pair, object, pair_count, Ascends, Ascend}
+use Rattle.jsonb_value.specs.Tree.{Pairs, no_pairs, pair, object, pair_count, Ascends, Ascend}
 use Rattle.jsonb_codec.specs.Word.{word}
-use Rattle.jsonb_codec.specs.Doc.{Doc, Keys, Values, type_of}
-use Rattle.jsonb_codec.specs.Canon.{canon, payload_of, key_entries, key_payloads, value_entries, value_payloads, PairsFit, Fits}
-use Rattle.jsonb.specs.Shown.{Shown, raw}
+use Rattle.jsonb_codec.specs.Doc.{Doc, Keys, Values}
+use Rattle.jsonb_codec.specs.Canon.{canon, key_entries, key_payloads, value_entries, value_payloads, PairsFit, Fits}
+use Rattle.jsonb.specs.Shown.{Shown}
 use Rattle.jsonb.specs.Item.{Entry}
-use Rattle.jsonb.specs.Stored.{document_code, codes_of}
-use Rattle.jsonb.specs.Building.{AreTexts, AreKeys, AreShort, code_entries, code_payloads, key_codes, object_of, in_order, FitObject, IsObjectOf}
+use Rattle.jsonb.specs.Stored.{codes_of}
+use Rattle.jsonb.specs.Building.{AreTexts, AreKeys, AreShort, code_entries, code_payloads, key_codes, object_of, in_order, IsObjectOf}
 use Rattle.jsonb.specs.Built.{ArePairDocuments, ArePairsCanonical, raw_pairs, IsObjectOfInputs}
 use Rattle.jsonb.proofs.StoredLaws.{codes_of-AreCodes}
 use Rattle.jsonb.proofs.BuiltLaws.{IsCodeOf, IsCodeOf-document_code, document_code-canon}

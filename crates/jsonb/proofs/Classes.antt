@@ -1,7 +1,6 @@
 -- Equal items have one count, and are both listed or both not.
-use Rattle.std.proofs.Common.{◌≡◌, ℕ, ◌-◌, List, [], ◌∷◌, ◌++◌, Bool, true, false, refl, ap, sym, cond, arith, ◌∙◌, subst, map, rules}
+use Rattle.std.proofs.Common.{◌≡◌, ℕ, ◌-◌, List, [], ◌∷◌, ◌++◌, Bool, true, false, refl, ap, sym, cond, arith, ◌∙◌, subst}
 use Rattle.std.specs.Prelude.{Some, is_some, unwrap_or}
-use Rattle.std.specs.List.{list_any}
 use Rattle.std.proofs.lemmas.List.Folds.{list_any-append}
 use Rattle.std.proofs.lemmas.Cmp.{on_total, eq_by_cmp_equiv}
 use Rattle.std.specs.Cmp.{IsEquivalence}

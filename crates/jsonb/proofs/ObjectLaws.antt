@@ -1,9 +1,9 @@
 -- What is stored for the pairs of a map.
-use Rattle.std.proofs.Common.{◌≡◌, ℕ, ◌+◌, ◌*◌, ◌<◌, ◌^◌, List, [], ◌∷◌, ◌++◌, length, map, Bor, Bool, true, false, cond, refl, sym, ap, ap₂, subst, ◌∙◌, arith, append_assoc, length-append, Some, ◌||◌}
+use Rattle.std.proofs.Common.{◌≡◌, ℕ, ◌+◌, ◌*◌, ◌<◌, ◌^◌, List, [], ◌∷◌, ◌++◌, length, Bor, Bool, true, false, cond, refl, sym, ap, subst, ◌∙◌, arith, append_assoc, length-append, Some, ◌||◌}
 use Rattle.std.proofs.lemmas.List.{length-map}
 use Rattle.std.proofs.lemmas.Map.Text.{is_eq-slice_cmp}
 use Rattle.std.specs.Prelude.{is_some}
-use Rattle.std.specs.List.{AllByRecursion, list_any}
+use Rattle.std.specs.List.{AllByRecursion}
 use Rattle.std.specs.Map.{keys_of, values_of, lookup}
 use Rattle.std.specs.Str.{bytes_eq}
 use Rattle.std.specs.List.Sorted.{IsStrictlySortedBy}
@@ -15,11 +15,11 @@ use Rattle.std.specs.declared.cmp.Ordering.TheVariants.{Less, Equal, Greater}
 use Rattle.jsonb_codec.specs.Word.{word}
 use Rattle.jsonb_codec.proofs.Words.{length-word-append}
 use Rattle.jsonb.specs.declared.item.JsonbItem.{JsonbItem}
-use Rattle.jsonb.specs.Shown.{Shown, shown, text}
+use Rattle.jsonb.specs.Shown.{Shown, shown}
 use Rattle.jsonb.specs.Item.{Entry}
 use Rattle.jsonb.specs.Stored.{codes_of, AreStorable, AreHeld}
 use Rattle.jsonb.specs.Children.{pairs_shown, key_texts, value_items, object_parts}
-use Rattle.jsonb.specs.Building.{AreCodes, AreShort, code_entries, code_payloads, key_codes, object_of, AreTexts, AreKeys, FitObject, IsObjectOf, has_key, with_pair}
+use Rattle.jsonb.specs.Building.{AreCodes, AreShort, code_entries, code_payloads, key_codes, AreTexts, AreKeys, FitObject, IsObjectOf, has_key, with_pair}
 use Rattle.jsonb.proofs.StoredLaws.{AreCodes-codes_of, codes_of-AreCodes, length-codes_of, length-code_entries}
 
 -- the pairs of a map's entries

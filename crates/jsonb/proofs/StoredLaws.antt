@@ -1,5 +1,5 @@
 -- The entry that is written for an item is the one that it has.
-use Rattle.std.proofs.Common.{◌≡◌, ◌≢◌, ℕ, ◌+◌, ◌*◌, ◌<◌, ◌≤◌, ◌^◌, List, [], ◌∷◌, ◌++◌, length, map, Option, Some, None, unwrap_or, true, false, Result, refl, sym, ap, ap₂, subst, ◌∙◌, inl, inr, arith, length-append, append_assoc}
+use Rattle.std.proofs.Common.{◌≡◌, ℕ, ◌+◌, ◌*◌, ◌<◌, ◌≤◌, ◌^◌, List, [], ◌∷◌, ◌++◌, length, Option, Some, None, unwrap_or, true, false, Result, refl, sym, ap, ap₂, subst, ◌∙◌, inl, inr, arith, length-append, append_assoc}
 use Rattle.std.proofs.lemmas.List.{length-map}
 use Rattle.std.specs.Result.{result_ok}
 use Rattle.jsonb_value.specs.declared.error.Error.{Error}
@@ -8,11 +8,10 @@ use Rattle.jsonb_value.specs.Tree as trees
 use Rattle.jsonb_codec.specs.Word.{word}
 use Rattle.jsonb_codec.specs.Doc.{Doc, Scalar, Payload, type_of}
 use Rattle.jsonb_codec.proofs.Words.{length-word, length-word-append, same_parts}
-use Rattle.jsonb_codec.proofs.Entries.{IsType, IsType-type_of}
 use Rattle.jsonb.specs.Shown.{Shown, null, boolean, number, text, extension, raw, owned}
 use Rattle.jsonb.specs.Item.{Entry}
 use Rattle.jsonb.specs.Code.{HasCode, IsDocumentCode, scalar_bytes}
-use Rattle.jsonb.specs.Stored.{entry_under, scalar_entry, document_code, code_of, IsStored, IsStorable, AreStorable, codes_of}
+use Rattle.jsonb.specs.Stored.{entry_under, scalar_entry, document_code, code_of, IsStored, AreStorable, codes_of}
 use Rattle.jsonb.specs.Building.{AreCodes, AreShort, code_entries, code_payloads, array_of, FitArray, IsArrayOf}
 use Rattle.jsonb.proofs.KindLaws.{header_at-Scalar, header_at-array, header_at-object}
 use Rattle.jsonb.proofs.ItemLaws.{entry_at-Scalar}

@@ -14,7 +14,7 @@ ghost use Rattle.std.specs.Iterator.{IsFinite};
 ghost use Rattle.jsonb.specs.Building.{FitArray, IsArrayOf, has_key, with_pair, FitObject, IsObjectOf, AreKeys};
 ghost use Rattle.std.specs.Map.{keys_of};
 ghost use Rattle.jsonb.specs.Children.{pairs_shown};
-ghost use Rattle.jsonb.specs.Built.{AllMean, AllMeanAt, IsArrayUpToZeros, IsObjectUpToZeros, IsArrayOfInputs, IsObjectOfInputs, MakeNoObject, input_pair, raw_pairs, TakesAll, TakesUpTo};
+ghost use Rattle.jsonb.specs.Built.{AllMean, AllMeanAt, IsArrayUpToZeros, IsObjectUpToZeros, IsArrayOfInputs, IsObjectOfInputs, MakeNoObject, input_pair, TakesAll, TakesUpTo};
 
 use crate::item::JsonbItem;
 use crate::owned::OwnedJsonb;

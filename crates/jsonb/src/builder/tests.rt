@@ -47,6 +47,15 @@ fn text(text: &str) -> CowStr<'_> {
     CowStr::Borrowed(text)
 }
 
+// Why a build was refused. Want of memory is handed on.
+fn refusal(built: Result<OwnedJsonb, Error>) -> Result<Option<Error>, Error> {
+    match built {
+        Ok(_) => Ok(None),
+        Err(Error::OutOfMemory) => Err(Error::OutOfMemory),
+        Err(error) => Ok(Some(error)),
+    }
+}
+
 // What an array builder builds of one item.
 fn array_of(alloc: Global, item: JsonbItem) -> Result<String, Fail> {
     let mut builder = ArrayBuilder::new(alloc);
@@ -76,14 +85,14 @@ fn bytes_are_checked_when_built(rt: HostRuntime) -> Result<(), Fail> {
     let item = too_long(alloc)?;
     let mut items = ArrayBuilder::with_capacity(alloc, 1)?;
     items.push_raw_jsonb(item.as_raw())?;
-    assert_eq!(rt; items.build().err(), Some(Error::InvalidJsonb));
+    assert_eq!(rt; refusal(items.build())?, Some(Error::InvalidJsonb));
     let mut pairs = ObjectBuilder::new(alloc);
     pairs.push_owned_jsonb("a", too_long(alloc)?)?;
-    assert_eq!(rt; pairs.build().err(), Some(Error::InvalidJsonb));
+    assert_eq!(rt; refusal(pairs.build())?, Some(Error::InvalidJsonb));
     let item = too_long(alloc)?;
     let mut distinct = ArrayDistinctBuilder::new(alloc, 1)?;
     distinct.push_raw_jsonb(item.as_raw())?;
-    assert_eq!(rt; distinct.build().err(), Some(Error::InvalidJsonb));
+    assert_eq!(rt; refusal(distinct.build())?, Some(Error::InvalidJsonb));
     Ok(())
 }
 
@@ -159,7 +168,7 @@ fn a_key_is_tested_before_a_document(rt: HostRuntime) -> Result<(), Fail> {
     let other = OwnedJsonb::from_bytes(alloc, &[1, 2, 3, 4])?;
     let pairs = [at("a", &one), at("a", &other)];
     let twice = OwnedJsonb::build_object(alloc, pairs);
-    assert_eq!(rt; twice.err(), Some(Error::ObjectDuplicateKey));
+    assert_eq!(rt; refusal(twice)?, Some(Error::ObjectDuplicateKey));
     Ok(())
 }
 
@@ -168,10 +177,10 @@ fn each_input_is_a_document(rt: HostRuntime) -> Result<(), Fail> {
     let alloc = rt.alloc();
     let other = OwnedJsonb::from_bytes(alloc, &[1, 2, 3, 4])?;
     let refused = OwnedJsonb::build_object(alloc, [at("a", &other)]);
-    assert_eq!(rt; refused.err(), Some(Error::InvalidJsonb));
+    assert_eq!(rt; refusal(refused)?, Some(Error::InvalidJsonb));
     let other = OwnedJsonb::from_bytes(alloc, &[1, 2, 3, 4])?;
     let refused = OwnedJsonb::build_array(alloc, [other.as_raw()]);
-    assert_eq!(rt; refused.err(), Some(Error::InvalidJsonb));
+    assert_eq!(rt; refusal(refused)?, Some(Error::InvalidJsonb));
     Ok(())
 }
 
@@ -235,7 +244,7 @@ fn arrays_too_long_for_an_entry(rt: HostRuntime) -> Result<(), Fail> {
     let array = borrowings(alloc, letters, 16)?;
     assert_eq!(rt; array.len(), 268_435_524);
     let nested = OwnedJsonb::build_array(alloc, [array.as_raw()]);
-    assert_eq!(rt; nested.err(), Some(Error::InvalidJsonb));
+    assert_eq!(rt; refusal(nested)?, Some(Error::InvalidJsonb));
     drop(array);
     let array = borrowings(alloc, letters, 15)?;
     let nested = OwnedJsonb::build_array(alloc, [array.as_raw()])?;

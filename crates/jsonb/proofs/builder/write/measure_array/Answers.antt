@@ -1,4 +1,4 @@
-use Rattle.std.proofs.Common.{map, arith, sym, ◌∙◌}
+use Rattle.std.proofs.Common.{map, arith}
 use Rattle.std.proofs.lemmas.List.{length-map}
 use Rattle.jsonb_codec.proofs.Scalars.{on_err}
 use Rattle.jsonb.specs.Shown.{shown}

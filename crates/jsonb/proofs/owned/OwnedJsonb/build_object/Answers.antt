@@ -1,6 +1,5 @@
-use Rattle.std.proofs.Common.{◌≡◌, ◌∙◌, sym, subst, ℕ, List, Bor, Bool, map, false, Err, IsTrue, rules}
+use Rattle.std.proofs.Common.{◌≡◌, subst, ℕ, List, Bor, map, Err, IsTrue, rules}
 use Rattle.std.specs.List.{IsDistinct}
-use Rattle.std.specs.Str.{bytes_eq}
 use Rattle.std.proofs.lemmas.Result.{IfOk-weaker}
 use Rattle.std.specs.Map.{keys_of}
 use Rattle.jsonb_value.specs.declared.error.Error.TheVariants.{ObjectDuplicateKey}
