@@ -1,0 +1,164 @@
+#!/usr/bin/env python3
+"""Runs the tests of every crate, and the program jsonb_cli, with their first request for memory refused, then their
+second, and so on up to a run that meets no refusal.
+
+    tools/refuse_each.py [CRATE ..]
+
+It takes the programs that `rt ci` leaves in crates/*/out, of all crates where none is named, and a C compiler (CC, or
+cc) for tools/refuse_request.c.
+
+A run of a test passes where the test does, and, once a request was refused, where the test hands on want of memory as
+its error: a failed assertion is a wrong answer. The run behind the last refusal must pass. The tests of a module
+`unrefused` must make no request at all. A run of the program passes where each line of output is the right answer or
+`error OutOfMemory`; once a request was refused, also where it ends by saying so and has written the first of such lines.
+
+A run repeats what comes before the refused request, so all runs of a test with very many requests would take hours. Of a
+test of more than 400 requests 200 are refused, the first and the last among them and the others spread evenly, and of one
+of more than 10,000 requests 20. The tests in tools/refusals_passed_over are left out; that file says why.
+
+The last line counts the runs. The status is 1 where a run gave a wrong answer, or a series did not come to its end.
+"""
+import collections
+import concurrent.futures
+import os
+import re
+import shlex
+import subprocess
+import sys
+import tempfile
+
+TOP = os.path.dirname(os.path.dirname(os.path.abspath(__file__)))
+# How a test writes that memory was refused: by a library's error, or one of the standard library.
+REFUSAL = re.compile(rb"[Ee]rror: (OutOfMemory|Memory|AllocError|AllocFailed)\b")
+# Two lines, an answer to each, and what is left where the run ends for want of memory.
+TWO_LINES = (b"type 80000000\nenc [false,true]\n", b"ok array 0\nok 800000023000000040000000\n")
+OUT_OF_MEMORY = b"jsonb_cli: out of memory\n"
+
+Series = collections.namedtuple("Series", "name words given is_right")
+Run = collections.namedtuple("Run", "status output errors is_refused requests")
+
+
+class Wrong(Exception):
+    """What was wrong with a run."""
+
+
+def is_right_test(run):
+    return run.status == 0 or (run.is_refused and run.status == 101 and bool(REFUSAL.match(run.errors)))
+
+
+def program_judge(wanted):
+    """Judges runs of the program whose right answers are these lines."""
+
+    def is_right(run):
+        lines, right = run.output.splitlines(), wanted.splitlines()
+        if run.status == 0:
+            is_whole = len(lines) == len(right) and not run.errors
+        else:
+            is_whole = run.is_refused and run.status == 1 and run.errors == OUT_OF_MEMORY and len(lines) <= len(right)
+        return is_whole and all(it == to or (run.is_refused and it == b"error OutOfMemory") for it, to in zip(lines, right))
+
+    return is_right
+
+
+def refused(series, number, work):
+    """Runs a program with one request refused, or none for number 0."""
+    with tempfile.NamedTemporaryFile(dir=work) as report:
+        said = {"REFUSE_REQUEST": str(number), "REFUSE_REPORT": report.name, "LD_PRELOAD": f"{work}/refuse.so"}
+        ran = subprocess.run(series.words, input=series.given, capture_output=True, timeout=120, env={**os.environ, **said})
+        lines = report.read().split()
+    requests = int(lines[-1]) if lines and lines[-1] != b"refused" else None
+    return Run(ran.returncode, ran.stdout, ran.stderr, b"refused" in lines, requests)
+
+
+def chosen(requests):
+    """The numbers of the requests that are refused, in a series of so many."""
+    most = requests if requests <= 400 else 200 if requests <= 10000 else 20
+    return sorted({1 + at * (requests - 1) // max(most - 1, 1) for at in range(most)})
+
+
+def run_series(series, work):
+    """Runs one series, and returns its requests and how many runs there were."""
+
+    def judged(number, is_reached):
+        run = refused(series, number, work)
+        if run.is_refused != is_reached:
+            raise Wrong(f"request {number} was {'not ' * is_reached}reached")
+        if not series.is_right(run) or (run.requests is None and run.status >= 0 and not is_reached):
+            said = (run.output[-200:] + run.errors[-200:]).decode(errors="replace")
+            raise Wrong(f"request {number} refused, wrong answer: status {run.status}\n{said}")
+        return run
+
+    requests = judged(0, False).requests
+    if "unrefused::" in series.name and requests:
+        raise Wrong(f"makes {requests} requests")
+    numbers = chosen(requests)
+    for number in numbers:
+        judged(number, True)
+    judged(requests + 1, False)
+    return requests, len(numbers) + 2
+
+
+def passed_over():
+    with open(f"{TOP}/tools/refusals_passed_over", encoding="utf-8") as lines:
+        return {line.split()[0] for line in lines if line.strip() and not line.startswith("#")}
+
+
+def series_of_tests(crate, left_out):
+    program = f"{TOP}/crates/{crate}/out/{crate}_tests"
+    if not os.path.exists(program):
+        return []
+    listed = subprocess.run([program, "--list"], capture_output=True, text=True, check=True).stdout
+    names = [line.removesuffix(": test") for line in listed.splitlines() if line.endswith(": test")]
+    return [Series(f"{crate} {it}", [program, it], b"", is_right_test) for it in names if f"{crate}::{it}" not in left_out]
+
+
+def series_of_program():
+    folder = f"{TOP}/crates/jsonb_cli"
+    with open(f"{folder}/stdin", "rb") as given, open(f"{folder}/stdout", "rb") as wanted:
+        inputs = {"two lines": TWO_LINES, "its own lines": (given.read(), wanted.read())}
+    words = [f"{folder}/out/jsonb_cli"]
+    return [Series(f"jsonb_cli on {name}", words, given, program_judge(wanted)) for name, (given, wanted) in inputs.items()]
+
+
+def crates_of_repository():
+    with open(f"{TOP}/crates.txt", encoding="utf-8") as lines:
+        return [line.split(":")[0].split()[0] for line in lines if ":" in line and not line.startswith("#")]
+
+
+def has_one_request(counts):
+    """Whether the encoding of a small tree makes one request at most: two tests differ by it alone."""
+    with_it, without = (counts.get(f"jsonb_rows memory::counted_{it}_an_encoding", 0) for it in ("with", "without"))
+    return with_it - without <= 1
+
+
+def main(names):
+    left_out, crates = passed_over(), names or crates_of_repository()
+    all_series = [it for crate in crates for it in series_of_tests(crate, left_out)]
+    if "jsonb_cli" in crates:
+        all_series += series_of_program()
+    counts, runs, failed = {}, 0, 0
+    with tempfile.TemporaryDirectory() as work, concurrent.futures.ThreadPoolExecutor(os.cpu_count()) as pool:
+        compiler = shlex.split(os.environ.get("CC", "cc"))
+        shim = ["-O2", "-shared", "-fPIC", "-o", f"{work}/refuse.so", f"{TOP}/tools/refuse_request.c", "-ldl"]
+        subprocess.run([*compiler, *shim], check=True)
+        started = [(it, pool.submit(run_series, it, work)) for it in all_series]
+        for series, given in started:
+            try:
+                counts[series.name], more = given.result()
+                runs += more
+                print(f"{series.name}: {counts[series.name]} requests, {more} runs", flush=True)
+            except (Wrong, OSError, subprocess.TimeoutExpired) as error:
+                failed += 1
+                print(f"{series.name}: FAILED: {error}", flush=True)
+    if not has_one_request(counts):
+        failed += 1
+        print("an encoding makes more than one request: FAILED")
+    if not counts:
+        print("no built tests in crates/*/out: run rt ci first")
+        return 1
+    print(f"{len(counts)} series, {runs} runs, {failed} failed")
+    return 1 if failed else 0
+
+
+if __name__ == "__main__":
+    sys.exit(main(sys.argv[1:]))
