@@ -30,8 +30,20 @@ import tempfile
 TOP = os.path.dirname(os.path.dirname(os.path.abspath(__file__)))
 # How a test writes that memory was refused: by a library's error, or one of the standard library.
 REFUSAL = re.compile(rb"[Ee]rror: (OutOfMemory|Memory|AllocError|AllocFailed)\b")
-# Two lines, an answer to each, and what is left where the run ends for want of memory.
-TWO_LINES = (b"type 80000000\nenc [false,true]\n", b"ok array 0\nok 800000023000000040000000\n")
+# Lines for the program, and their answers: one of each command, and two that are refused.
+LINES = [
+    ("type 80000000", "ok array 0"),
+    ("enc [false,true]", "ok 800000023000000040000000"),
+    ("dec 400000021000000110000001200000022000000a616240f970000000000000009602", 'ok {"a":-7,"b":1.50}'),
+    ("pretty 80000000", "ok 5b5d"),
+    ('get 400000021000000210000002200000025000000a61616162500180000001200000025002 "ab"', "ok 80000001200000025002"),
+    ("cmp 20000000200000025005 20000000200000024005", "ok equal"),
+    ("arr 20000000200000025001 2000000000000000", "ok 8000000220000002000000005001"),
+    ("canon 200000006000000a30000640d6b723800008", "ok 200000006000000d30000640d6b723800000007080"),
+    ("enc 1e5", "error InvalidJson"),
+    ("", "error BadCommand"),
+]
+# What the program says where its run ends for want of memory.
 OUT_OF_MEMORY = b"jsonb_cli: out of memory\n"
 
 Series = collections.namedtuple("Series", "name words given is_right")
@@ -113,11 +125,10 @@ def series_of_tests(crate, left_out):
 
 
 def series_of_program():
-    folder = f"{TOP}/crates/jsonb_cli"
-    with open(f"{folder}/stdin", "rb") as given, open(f"{folder}/stdout", "rb") as wanted:
-        inputs = {"two lines": TWO_LINES, "its own lines": (given.read(), wanted.read())}
-    words = [f"{folder}/out/jsonb_cli"]
-    return [Series(f"jsonb_cli on {name}", words, given, program_judge(wanted)) for name, (given, wanted) in inputs.items()]
+    words = [f"{TOP}/crates/jsonb_cli/out/jsonb_cli"]
+    inputs = {"two lines": LINES[:2], "lines of each command": LINES}
+    told = [(name, *("".join(f"{it}\n" for it in column).encode() for column in zip(*rows))) for name, rows in inputs.items()]
+    return [Series(f"jsonb_cli on {name}", words, given, program_judge(wanted)) for name, given, wanted in told]
 
 
 def crates_of_repository():

@@ -1,5 +1,5 @@
 // What each call that takes memory leaves behind where a request is refused. A test ends in the right
-// answer, or hands on the error once it has seen what the refusal left: tools/refuse_each.sh runs it
+// answer, or hands on the error once it has seen what the refusal left: tools/refuse_each.py runs it
 // with each of its requests refused in turn.
 use crate::known::encoded;
 use jsonb::{

@@ -1,4 +1,4 @@
-// Calls that take no memory: tools/refuse_each.sh sees that these tests make no request for any.
+// Calls that take no memory: tools/refuse_each.py sees that these tests make no request for any.
 use jsonb::{
     ArrayIterator, Encoder, ExtensionItem, JsonbItem, JsonbItemType, Number, NumberItem,
     ObjectIterator, ObjectKeyIterator, ObjectValueIterator, RawJsonb, Reads, Value, is_canonical,
