@@ -25,7 +25,7 @@ fn pairs_are_walked(rt: HostRuntime) -> Result<(), Fail> {
     assert!(rt; value == JsonbItem::Number(NumberItem::from_number(Number::UInt64(1))));
     let (key, value) = pairs.next().ok_or("no second pair")??;
     assert_eq!(rt; key, "b");
-    assert!(rt; matches!(value, JsonbItem::String(text) if text.as_str() == "123"));
+    assert!(rt; matches!(&value, JsonbItem::String(text) if text.as_str() == "123"));
     assert!(rt; pairs.next().is_none());
     Ok(())
 }
@@ -49,7 +49,7 @@ fn items_keys_and_values_are_walked(rt: HostRuntime) -> Result<(), Fail> {
     assert!(rt; items.next().ok_or("no item")?? == five);
     let mut keys = ObjectKeyIterator::new(RawJsonb::new(&OBJECT))?.ok_or("no object")?;
     let key = keys.next().ok_or("no key")??;
-    assert!(rt; matches!(key, JsonbItem::String(text) if text.as_str() == "a"));
+    assert!(rt; matches!(&key, JsonbItem::String(text) if text.as_str() == "a"));
     let mut values = ObjectValueIterator::new(RawJsonb::new(&OBJECT))?.ok_or("no object")?;
     let one = JsonbItem::Number(NumberItem::from_number(Number::UInt64(1)));
     assert!(rt; values.next().ok_or("no value")?? == one);
@@ -83,7 +83,7 @@ fn a_key_is_looked_up(rt: HostRuntime) -> Result<(), Fail> {
         &mut reads,
     )?;
     let value = found.ok_or("not found")?;
-    assert!(rt; matches!(value, JsonbItem::String(text) if text.as_str() == "123"));
+    assert!(rt; matches!(&value, JsonbItem::String(text) if text.as_str() == "123"));
     assert_eq!(rt; reads.count(), 5);
     assert!(rt; reads.word(&OBJECT, 24).is_err());
     assert_eq!(rt; reads.count(), 5);
