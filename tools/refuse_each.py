@@ -29,7 +29,7 @@ import tempfile
 
 TOP = os.path.dirname(os.path.dirname(os.path.abspath(__file__)))
 # How a test writes that memory was refused: by a library's error, or one of the standard library.
-REFUSAL = re.compile(rb"[Ee]rror: (OutOfMemory|Memory|AllocError|AllocFailed)\b")
+REFUSAL = re.compile(rb"[Ee]rror: (OutOfMemory|Call\(OutOfMemory\)|Memory|AllocError|AllocFailed)")
 # Lines for the program, and their answers: one of each command, and two that are refused.
 LINES = [
     ("type 80000000", "ok array 0"),

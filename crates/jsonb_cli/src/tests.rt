@@ -132,6 +132,10 @@ fn writes_a_beginning_before_a_fault(rt: HostRuntime) -> Result<(), Fail> {
     };
     let outcome = with_memory(run(rt.alloc(), &mut reader, &mut writer))?;
     assert_eq!(rt; outcome, Err(RunError::Write));
+    // Where the command was refused memory, its answer is another.
+    if writer.taken.as_slice() == b"error".as_slice() {
+        return Err(AllocError.into());
+    }
     assert_eq!(rt; writer.taken.as_slice(), b"ok 80".as_slice());
     Ok(())
 }
@@ -166,11 +170,14 @@ fn answers_a_line_before_a_fault(rt: HostRuntime) -> Result<(), Fail> {
         bytes: b"type 80000000\n".as_slice(),
         good: 14,
     };
-    let mut bytes = [0u8; 11];
+    let mut bytes = [0u8; 18];
     let mut room = bytes.as_mut_slice();
     let outcome = with_memory(run(rt.alloc(), &mut reader, &mut room))?;
     assert_eq!(rt; outcome, Err(RunError::Read));
-    assert_eq!(rt; bytes.as_slice(), b"ok array 0\n".as_slice());
+    if bytes.as_slice() == b"error OutOfMemory\n".as_slice() {
+        return Err(AllocError.into());
+    }
+    assert_eq!(rt; bytes.as_slice(), b"ok array 0\n\0\0\0\0\0\0\0".as_slice());
     Ok(())
 }
 
@@ -178,23 +185,18 @@ fn answers_a_line_before_a_fault(rt: HostRuntime) -> Result<(), Fail> {
 #[test]
 fn answers_two_lines(rt: HostRuntime) -> Result<(), Fail> {
     let mut reader: &[u8] = b"type 80000000\nenc [false,true]\n";
-    let mut bytes = [0u8; 39];
+    let mut bytes = [0u8; 64];
     let mut room = bytes.as_mut_slice();
     let outcome = run(rt.alloc(), &mut reader, &mut room);
     let left = room.len();
     let written = bytes.len().saturating_sub(left);
     let text = str::from_utf8(bytes.get(..written).ok_or("more than there is room")?)?;
-    match outcome {
-        Ok(()) if text == "ok array 0\nok 800000023000000040000000\n" => Ok(()),
-        Ok(()) => {
-            assert_eq!(rt; text, "ok array 0\nerror OutOfMemory\n");
-            Err(AllocError.into())
-        }
-        Err(error) => {
-            assert_eq!(rt; error, RunError::Memory);
-            assert!(rt; text.is_empty() || text == "ok array 0\n");
-            Err(error.into())
-        }
+    match (outcome, text) {
+        (Ok(()), "ok array 0\nok 800000023000000040000000\n") => Ok(()),
+        (Ok(()), "error OutOfMemory\nok 800000023000000040000000\n")
+        | (Ok(()), "ok array 0\nerror OutOfMemory\n")
+        | (Err(RunError::Memory), "" | "ok array 0\n") => Err(AllocError.into()),
+        _ => Err("another answer".into()),
     }
 }
 
