@@ -121,7 +121,7 @@ def series_of_tests(crate, left_out):
     if not os.path.exists(program):
         raise SystemExit(f"crates/{crate}/out has no built tests: run rt ci first")
     listed = subprocess.run([program, "--list"], capture_output=True, text=True, check=True).stdout
-    names = [line.removesuffix(": test") for line in listed.splitlines() if line.endswith(": test")]
+    names = [line[: -len(": test")] for line in listed.splitlines() if line.endswith(": test")]
     unknown = {it for it in left_out if it.startswith(f"{crate}::")} - {f"{crate}::{it}" for it in names}
     if unknown:
         raise SystemExit(f"tools/refusals_passed_over names no test: {', '.join(sorted(unknown))}")
