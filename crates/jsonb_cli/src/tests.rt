@@ -7,9 +7,9 @@ use crate::command::{answer, decoded};
 use crate::run::{RunError, run};
 use jsonb_value::Error;
 use std::alloc::{AllocError, Global};
-use std::io;
 use std::io::{ErrorKind, Read, Write};
 use std::test::Fail;
+use std::{io, str};
 
 /// Gives one byte at a time.
 #[derive(Drop)]
@@ -132,6 +132,10 @@ fn writes_a_beginning_before_a_fault(rt: HostRuntime) -> Result<(), Fail> {
     };
     let outcome = with_memory(run(rt.alloc(), &mut reader, &mut writer))?;
     assert_eq!(rt; outcome, Err(RunError::Write));
+    // Where the command was refused memory, its answer is another.
+    if writer.taken.as_slice() == b"error".as_slice() {
+        return Err(AllocError.into());
+    }
     assert_eq!(rt; writer.taken.as_slice(), b"ok 80".as_slice());
     Ok(())
 }
@@ -161,6 +165,42 @@ fn answers_what_was_read_before_a_fault(rt: HostRuntime) -> Result<(), Fail> {
 }
 
 #[test]
+fn answers_a_line_before_a_fault(rt: HostRuntime) -> Result<(), Fail> {
+    let mut reader = FailingReader {
+        bytes: b"type 80000000\n".as_slice(),
+        good: 14,
+    };
+    let mut bytes = [0u8; 18];
+    let mut room = bytes.as_mut_slice();
+    let outcome = with_memory(run(rt.alloc(), &mut reader, &mut room))?;
+    assert_eq!(rt; outcome, Err(RunError::Read));
+    if bytes.as_slice() == b"error OutOfMemory\n".as_slice() {
+        return Err(AllocError.into());
+    }
+    assert_eq!(rt; bytes.as_slice(), b"ok array 0\n\0\0\0\0\0\0\0".as_slice());
+    Ok(())
+}
+
+// Where a request is refused, a line is answered so or the run ends there.
+#[test]
+fn answers_two_lines(rt: HostRuntime) -> Result<(), Fail> {
+    let mut reader: &[u8] = b"type 80000000\nenc [false,true]\n";
+    let mut bytes = [0u8; 64];
+    let mut room = bytes.as_mut_slice();
+    let outcome = run(rt.alloc(), &mut reader, &mut room);
+    let left = room.len();
+    let written = bytes.len().saturating_sub(left);
+    let text = str::from_utf8(bytes.get(..written).ok_or("more than there is room")?)?;
+    match (outcome, text) {
+        (Ok(()), "ok array 0\nok 800000023000000040000000\n") => Ok(()),
+        (Ok(()), "error OutOfMemory\nok 800000023000000040000000\n")
+        | (Ok(()), "ok array 0\nerror OutOfMemory\n")
+        | (Err(RunError::Memory), "" | "ok array 0\n") => Err(AllocError.into()),
+        _ => Err("another answer".into()),
+    }
+}
+
+#[test]
 fn tells_faults(rt: HostRuntime) {
     assert_eq!(rt; RunError::Read.line(), "jsonb_cli: read failed");
     assert_eq!(rt; RunError::Write.line(), "jsonb_cli: write failed");
@@ -173,8 +213,11 @@ fn reads_hexadecimal_of_either_case(rt: HostRuntime) -> Result<(), Fail> {
     assert_eq!(rt; bytes?.as_slice(), [0, 255, 255, 171].as_slice());
     assert_eq!(rt; decoded(rt.alloc(), b"".as_slice())?.len(), 0);
     for word in ["8", "zz", "8 ", "0x80", "80\r"] {
-        let refused = decoded(rt.alloc(), word.as_bytes());
-        assert_eq!(rt; refused.err(), Some(Refusal::BadHex), "{word}");
+        let refused = decoded(rt.alloc(), word.as_bytes()).err();
+        if refused == Some(Refusal::Call(Error::OutOfMemory)) {
+            return Err(AllocError.into());
+        }
+        assert_eq!(rt; refused, Some(Refusal::BadHex), "{word}");
     }
     Ok(())
 }
@@ -210,7 +253,11 @@ fn writes_each_kind_of_answer(rt: HostRuntime) -> Result<(), Fail> {
     Ok(())
 }
 
+// The line of an outcome. Want of memory is handed on: a run with a refused request may meet it.
 fn line_of(alloc: Global, outcome: Result<Answer, Refusal>) -> Result<String, AllocError> {
+    if matches!(&outcome, Err(Refusal::Call(Error::OutOfMemory))) {
+        return Err(AllocError);
+    }
     written_line(alloc, &outcome)
 }
 

@@ -1,15 +1,19 @@
 //! Which refusal a line meets first, and lines that give a command nothing.
 
 use crate::command::answer;
-use std::alloc::Global;
+use std::alloc::{AllocError, Global};
 use std::test::Fail;
 
-// What a line is answered.
+// What a line is answered. Want of memory is handed on: a run with a refused request may meet it.
 fn said(alloc: Global, line: &str) -> Result<String, Fail> {
-    match answer(alloc, line.as_bytes()) {
-        Ok(text) => Ok(text),
-        Err(refusal) => Ok(format!(in alloc; "error {}", refusal.name())?),
+    let text = match answer(alloc, line.as_bytes()) {
+        Ok(text) => text,
+        Err(refusal) => format!(in alloc; "error {}", refusal.name())?,
+    };
+    if text.as_str().ends_with("error OutOfMemory") {
+        return Err(AllocError.into());
     }
+    Ok(text)
 }
 
 #[test]

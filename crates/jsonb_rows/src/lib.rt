@@ -1,4 +1,5 @@
-//! Tests that cross crates: known documents read and written, cut and changed, and tables of faults.
+//! Tests that cross crates: known documents read and written, cut and changed, tables of faults, and what is left
+//! where memory is refused.
 #![tactic(auto)]
 
 #[cfg(test)]
@@ -10,4 +11,8 @@ mod faults;
 #[cfg(test)]
 mod known;
 #[cfg(test)]
+mod memory;
+#[cfg(test)]
 mod readers;
+#[cfg(test)]
+mod unrefused;

@@ -1,0 +1,78 @@
+#!/usr/bin/env bash
+# Runs the program jsonb_cli with its standard streams closed, full or broken, and with memory refused, and compares its
+# status, its line on standard error and what it wrote with what it must say.
+#
+#     tools/main_faults.sh [PROGRAM]
+#
+# PROGRAM is what `rt ci` or `rt run` leaves, crates/jsonb_cli/out/jsonb_cli, if none is given. A C compiler ($CC, or
+# cc) is needed for tools/refuse_request.c, and /dev/full. The status is 1 where a case differs.
+set -uo pipefail
+top=$(cd "$(dirname "$0")/.." && pwd)
+program=${1:-$top/crates/jsonb_cli/out/jsonb_cli}
+work=$(mktemp -d)
+trap 'rm -rf "$work"' EXIT
+if [ ! -x "$program" ]; then
+    echo "$program is not there: run rt ci first" >&2
+    exit 1
+fi
+${CC:-cc} -O2 -shared -fPIC -o "$work/refuse.so" "$top/tools/refuse_request.c" -ldl || exit 1
+printf 'enc [false,true]\n' > "$work/line"
+answer='ok 800000023000000040000000'
+failed=0
+
+# Judges the run that ended with status $2: its standard error must be the text $4 and its output $5.
+expect() {
+    local name=$1 status=$2 right_status=$3 right_errors=$4 right_output=$5 errors output
+    errors=$(cat "$work/errors")
+    output=$(cat "$work/output")
+    if [ "$status" = "$right_status" ] && [ "$errors" = "$right_errors" ] && [ "$output" = "$right_output" ]; then
+        echo "$name: ok"
+    else
+        echo "$name: FAILED: status $status, standard error '$errors', output '$output'"
+        failed=1
+    fi
+    : > "$work/errors"
+    : > "$work/output"
+}
+
+: > "$work/errors"
+: > "$work/output"
+
+"$program" < "$work/line" > "$work/output" 2> "$work/errors"
+expect 'a line' $? 0 '' "$answer"
+
+"$program" --help a b < "$work/line" > "$work/output" 2> "$work/errors"
+expect 'arguments are passed over' $? 0 '' "$answer"
+
+"$program" < /dev/null > "$work/output" 2> "$work/errors"
+expect 'no input' $? 0 '' ''
+
+"$program" < /dev/null 2> "$work/errors" >&-
+expect 'no input and output closed' $? 0 '' ''
+
+"$program" <&- > "$work/output" 2> "$work/errors"
+expect 'input closed' $? 1 'jsonb_cli: read failed' ''
+
+"$program" < "$work" > "$work/output" 2> "$work/errors"
+expect 'input is a folder' $? 1 'jsonb_cli: read failed' ''
+
+"$program" < "$work/line" 2> "$work/errors" >&-
+expect 'output closed' $? 1 'jsonb_cli: write failed' ''
+
+"$program" < "$work/line" > /dev/full 2> "$work/errors"
+expect 'output full' $? 1 'jsonb_cli: write failed' ''
+
+# The line comes once nothing reads the answers any more.
+{ sleep 1; cat "$work/line"; } | { "$program" 2> "$work/errors"; echo $? > "$work/status"; } | true
+expect 'output a broken pipe' "$(cat "$work/status")" 1 'jsonb_cli: write failed' ''
+
+REFUSE_REQUEST=1 LD_PRELOAD=$work/refuse.so "$program" < "$work/line" > "$work/output" 2> "$work/errors"
+expect 'memory refused' $? 1 'jsonb_cli: out of memory' ''
+
+"$program" <&- > "$work/output" 2>&-
+expect 'input and standard error closed' $? 1 '' ''
+
+"$program" < "$work/line" > /dev/full 2> /dev/full
+expect 'output and standard error full' $? 1 '' ''
+
+exit $failed
