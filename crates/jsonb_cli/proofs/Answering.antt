@@ -49,11 +49,6 @@ enc_refused text e utf8 (inl is) none past = inl (no_tree utf8 (none is) (ap sai
 enc_refused text e utf8 (inr (inl is)) none past = let (t, (means, unfit)) = past is in inl (too_large t utf8 means unfit (ap said_of is))
 enc_refused text e utf8 (inr (inr is)) none past = inr (ap said_of is)
 
-pub dec_unread : (word : List ℕ) (refusal : Refusal) → (refusal ≡ BadHex) ⊎ (refusal ≡ Call OutOfMemory) → (refusal ≡ BadHex → (bytes : List ℕ) → IsHexOf bytes word → ⊥)
-    → IsReply IsDecAnswer word (error_line (refusal_name refusal))
-dec_unread word refusal (inl is) none = inl (bad_hex (none is) (ap (λ r. error_line (refusal_name r)) is))
-dec_unread word refusal (inr is) none = inr (ap (λ r. error_line (refusal_name r)) is)
-
 pub dec_unprinted : (word bytes : List ℕ) (e : Error) → IsHexOf bytes word → (e ≡ InvalidJsonb) ⊎ (e ≡ OutOfMemory) → (e ≡ InvalidJsonb → IsDocument bytes → ⊥)
     → IsReply IsDecAnswer word (error_line (name_of e))
 dec_unprinted word bytes e is_hex (inl is) none = inl (no_document bytes is_hex (none is) (ap said_of is))

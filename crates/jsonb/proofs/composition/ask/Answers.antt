@@ -1,4 +1,4 @@
-use Rattle.std.proofs.Common.{rules, ◌≡◌, Option, Some, None, Ok, is_some, option_map, refl, ◌∙◌}
+use Rattle.std.proofs.Common.{◌≡◌, Option, Some, None, is_some, option_map, refl, ◌∙◌}
 use Rattle.jsonb_value.specs.Tree.{Tree}
 use Rattle.jsonb.specs.declared.item.JsonbItem.{JsonbItem}
 use Rattle.jsonb.specs.Kind.{kind_of_tree}

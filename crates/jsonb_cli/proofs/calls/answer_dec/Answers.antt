@@ -1,4 +1,4 @@
-use Rattle.std.proofs.Common.{ℕ, List, inl, ap, ◌∙◌}
+use Rattle.std.proofs.Common.{ℕ, List, inl, ap}
 use Rattle.jsonb_cli.specs.AnswerLine.{ok_line}
 use Rattle.jsonb_cli.specs.Answers.{printed}
 use Rattle.jsonb_cli.proofs.Answering.{dec_unprinted}

@@ -1,4 +1,4 @@
-use Rattle.std.proofs.Common.{rules, ◌≡◌, ℕ, List, ap, subst, sym, refl, ◌∙◌, inl, chars}
+use Rattle.std.proofs.Common.{rules, ◌≡◌, ap, subst, sym, refl, ◌∙◌, inl, chars}
 use Rattle.std.specs.Str.{IsUtf8}
 use Rattle.jsonb_value.specs.Json.Syntax.{Json}
 use Rattle.jsonb_value.specs.Tree.{text}

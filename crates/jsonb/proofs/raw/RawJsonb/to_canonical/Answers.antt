@@ -2,7 +2,7 @@ use Rattle.std.proofs.Common.{◌≡◌, ◌↔◌, ℕ, List, ◌++◌, ap, sub
 use Rattle.jsonb_value.specs.Norm.{norm}
 use Rattle.jsonb_value.specs.Tree.{Tree}
 use Rattle.jsonb_codec.specs.Doc.{Doc}
-use Rattle.jsonb_codec.specs.Canon.{canon, Fits}
+use Rattle.jsonb_codec.specs.Canon.{canon}
 use Rattle.jsonb_codec.specs.Canonical.{IsCanonical}
 use Rattle.jsonb_codec.proofs.CanonLaws.{Doc-canon}
 use Rattle.jsonb_codec.proofs.Rewriting.{canonical_same, canonical_twice, canonical_equal}
