@@ -1,10 +1,10 @@
 #!/usr/bin/env python3
-"""Runs the tests of every crate, and the program jsonb_cli, with their first request for memory refused, then their
+"""Runs the tests of every crate that has some, and the program jsonb_cli, with their first request for memory refused, then their
 second, and so on up to a run that meets no refusal.
 
     tools/refuse_each.py [CRATE ..]
 
-It takes the programs that `rt ci` leaves in crates/*/out, of all crates where none is named, and a C compiler (CC, or
+It takes the programs that `rt ci` leaves in crates/*/out, of all such crates where none is named, and a C compiler (CC, or
 cc) for tools/refuse_request.c.
 
 A run of a test passes where the test does, and, once a request was refused, where the test hands on want of memory as
@@ -20,7 +20,9 @@ The last line counts the runs. The status is 1 where a run gave a wrong answer, 
 """
 import collections
 import concurrent.futures
+import glob
 import os
+import pathlib
 import re
 import shlex
 import subprocess
@@ -135,9 +137,15 @@ def series_of_program():
     return [Series(f"jsonb_cli on {name}", words, given, program_judge(wanted)) for name, given, wanted in told]
 
 
-def crates_of_repository():
+def has_tests(crate):
+    files = glob.glob(f"{TOP}/crates/{crate}/src/**/*.rt", recursive=True)
+    return any("#[test]" in pathlib.Path(it).read_text(encoding="utf-8") for it in files)
+
+
+def crates_with_tests():
     with open(f"{TOP}/crates.txt", encoding="utf-8") as lines:
-        return [line.split(":")[0].split()[0] for line in lines if ":" in line and not line.startswith("#")]
+        listed = [line.split(":")[0].split()[0] for line in lines if ":" in line and not line.startswith("#")]
+    return [it for it in listed if has_tests(it)]
 
 
 def has_one_request(counts):
@@ -147,7 +155,7 @@ def has_one_request(counts):
 
 
 def main(names):
-    left_out, crates = passed_over(), names or crates_of_repository()
+    left_out, crates = passed_over(), names or crates_with_tests()
     all_series = [it for crate in crates for it in series_of_tests(crate, left_out)]
     if "jsonb_cli" in crates:
         all_series += series_of_program()

@@ -244,6 +244,3 @@ impl OwnedJsonb {
         builder.build()
     }
 }
-
-#[cfg(test)]
-mod tests;

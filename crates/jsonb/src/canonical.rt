@@ -62,6 +62,3 @@ impl<'a> RawJsonb<'a> {
         Ok(OwnedJsonb::new(bytes))
     }
 }
-
-#[cfg(test)]
-mod tests;

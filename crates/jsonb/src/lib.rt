@@ -16,8 +16,6 @@ mod order;
 mod owned;
 mod raw;
 mod reads;
-#[cfg(test)]
-mod tests;
 mod text;
 mod walks;
 

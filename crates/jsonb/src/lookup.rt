@@ -241,6 +241,3 @@ impl<'a> RawJsonb<'a> {
         self.get_object_value_by_key_name_counted(name, eq_func, &mut reads)
     }
 }
-
-#[cfg(test)]
-mod tests;

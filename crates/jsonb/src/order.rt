@@ -22,8 +22,6 @@ ghost use Rattle.jsonb.specs.Walked.{ShowsTrees, ShowsPairs};
 mod item;
 mod owned;
 mod raw;
-#[cfg(test)]
-mod tests;
 
 use crate::item::{JsonbItem, text_of};
 use crate::item_type::JsonbItemType;

@@ -413,6 +413,3 @@ fn pairs_in(raw: RawJsonb<'_>) -> ObjectIterator<'_>
     };
     pairs
 }
-
-#[cfg(test)]
-mod tests;

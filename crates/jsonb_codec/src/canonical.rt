@@ -83,6 +83,3 @@ fn are_written(entries: &[u8], payloads: &[u8]) -> bool
     }
     true
 }
-
-#[cfg(test)]
-mod tests;

@@ -275,6 +275,3 @@ fn entry_of(entries: &[u8]) -> Tagged
     };
     entry
 }
-
-#[cfg(test)]
-mod tests;

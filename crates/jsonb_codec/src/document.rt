@@ -353,6 +353,3 @@ fn check_scalar_payload(faults: FaultTable, tag: u32, payload: &[u8]) -> Result<
         _ => Err(faults.entry()),
     }
 }
-
-#[cfg(test)]
-mod tests;

@@ -155,6 +155,3 @@ fn encode_node(buf: &mut Vec<u8>, node: Node<'_, '_>) -> Result<(), Error>
     append_document(buf, node);
     Ok(())
 }
-
-#[cfg(test)]
-mod tests;

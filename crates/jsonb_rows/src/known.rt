@@ -1,11 +1,15 @@
 // Known documents, and what the tests share.
+ghost use Rattle.std.specs.Prelude.{◌≡◌, Err, IfOk};
+ghost use Rattle.jsonb_value.specs.Value.{tree_of};
+ghost use Rattle.jsonb_codec.specs.Canon.{canon, Fits};
+
 use jsonb_codec::{Decoder, Encoder, value_of};
 use jsonb_value::{Error, Value};
 use std::alloc::Global;
 use std::test::Fail;
 
 /// Documents that both readers take.
-pub const DOCUMENTS: [&str; 43] = [
+pub const DOCUMENTS: [&str; 45] = [
     "800000023000000040000000",
     "8000000330000000200000025000000e500a400000011000000110000001 6b76",
     "20000000 20000001 00",
@@ -49,6 +53,8 @@ pub const DOCUMENTS: [&str; 43] = [
     "20000000 60000009 20 0000000000000001",
     "20000000 60000011 40 0000000a 00000014 000000000000012c",
     "20000000 60000003 50ab01",
+    "20000000 20000009 50ffffffffffffffff",
+    "40000001 10000000 00000000",
 ];
 
 /// The bytes of a hexadecimal text, in which spaces are passed over.
@@ -62,8 +68,11 @@ pub fn bytes_of(alloc: Global, text: &str) -> Result<Vec<u8>, Fail> {
     Ok(hex::decode(alloc, digits.as_str())?)
 }
 
-/// The canonical document of a value.
-pub fn encoded(alloc: Global, value: &Value) -> Result<Vec<u8>, Error> {
+/// The canonical document of a value: what a caller knows of its buffer once the encoder is gone.
+pub fn encoded(alloc: Global, value: &Value) -> Result<Vec<u8>, Error>
+    ensures ok { IfOk result (λ bytes. bytes.items ≡ canon (tree_of value.now)) }
+    ensures past { (Fits (tree_of value.now) → ⊥) → result ≡ Err Error.InvalidJsonb }
+{
     let mut bytes = Vec::new(alloc);
     Encoder::new(&mut bytes).encode(value)?;
     Ok(bytes)

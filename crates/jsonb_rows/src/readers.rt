@@ -2,6 +2,7 @@
 use crate::known::{bytes_of, decoded, encoded, outcome, read_as_tree};
 use jsonb_codec::{Decoder, value_of};
 use jsonb_value::{Decimal128, Error, Number, TimestampTz, Value};
+use std::borrow::CowStr;
 use std::test::Fail;
 
 #[test]
@@ -88,6 +89,44 @@ fn faults_by_name(rt: HostRuntime) -> Result<(), Fail> {
             "InvalidJsonbNumber",
         ),
         ("800000013000000100", "InvalidJsonb", "InvalidJsonbJEntry"),
+        ("800000", "InvalidEOF", "InvalidJsonb"),
+        ("20000000 000000", "InvalidEOF", "InvalidEOF"),
+        ("5fffffff", "InvalidEOF", "InvalidEOF"),
+        ("80000001 70000000", "InvalidJsonb", "InvalidJsonbJEntry"),
+        ("80000001 30000002 00", "InvalidJsonb", "InvalidJsonbJEntry"),
+        ("80000001 20000005 50", "InvalidJsonb", "InvalidJsonbNumber"),
+        (
+            "80000001 60000005 00",
+            "InvalidJsonb",
+            "InvalidJsonbExtension",
+        ),
+        ("80000001 50000005 80000000", "InvalidJsonb", "InvalidJsonb"),
+        (
+            "80000002 50000008 10000001 80000001 10000001 61",
+            "InvalidJsonb",
+            "InvalidUtf8",
+        ),
+        ("20000000 00000000 00", "InvalidJsonb", "InvalidJsonb"),
+        (
+            "40000001 00000000 20000001 00",
+            "InvalidJsonb",
+            "InvalidJsonb",
+        ),
+        (
+            "40000001 20000001 00000000 01",
+            "InvalidJsonbNumber",
+            "InvalidJsonbNumber",
+        ),
+        (
+            "40000001 50000008 00000000 80000001 20000000",
+            "InvalidJsonbNumber",
+            "InvalidJsonbNumber",
+        ),
+        (
+            "40000002 10000001 10000001 00000000 20000001 62 61 01",
+            "InvalidJsonbNumber",
+            "InvalidJsonbNumber",
+        ),
     ] {
         let bytes = bytes_of(alloc, text)?;
         assert_eq!(rt; outcome(&read_as_tree(alloc, &bytes)), tree_fault, "{text}");
@@ -107,6 +146,22 @@ fn a_decoder_is_asked_again(rt: HostRuntime) -> Result<(), Fail> {
     let mut decoder = Decoder::new(&refused);
     assert!(rt; matches!(decoder.decode(alloc), Err(Error::InvalidJsonbHeader)));
     assert!(rt; matches!(decoder.decode(alloc), Err(Error::InvalidJsonbHeader)));
+    Ok(())
+}
+
+#[test]
+fn pairs_are_read_by_their_keys(rt: HostRuntime) -> Result<(), Fail> {
+    let alloc = rt.alloc();
+    let object = bytes_of(
+        alloc,
+        "40000002 10000001 10000001 20000002 10000003 61 62 5001 313233",
+    )?;
+    let Value::Object(pairs) = value_of(alloc, &object)? else {
+        return Ok(assert!(rt; false));
+    };
+    assert_eq!(rt; pairs.len(), 2);
+    assert!(rt; matches!(pairs.get("a"), Some(Value::Number(Number::UInt64(1)))));
+    assert!(rt; matches!(pairs.get("b"), Some(Value::String(CowStr::Borrowed("123")))));
     Ok(())
 }
 

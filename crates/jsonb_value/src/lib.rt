@@ -10,8 +10,6 @@ mod opaque;
 mod order;
 mod parser;
 mod payload;
-#[cfg(test)]
-mod tests;
 mod text;
 mod value;
 

@@ -142,6 +142,3 @@ pub fn order_of_trees()
 pub fn order_of_meanings()
     ensures { IsTotalOrder meaning_cmp }
 {}
-
-#[cfg(test)]
-mod tests;

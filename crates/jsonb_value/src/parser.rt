@@ -11,8 +11,6 @@ ghost use Rattle.jsonb_value.specs.Reader.Kind.{kind_view};
 mod cursor;
 mod number;
 mod string;
-#[cfg(test)]
-mod tests;
 
 use crate::error::Error;
 use crate::value::Value;

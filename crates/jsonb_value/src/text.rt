@@ -11,9 +11,6 @@ use crate::number::Number;
 use itoa::{Buffer, Integer};
 use std::fmt;
 
-#[cfg(test)]
-mod tests;
-
 /// Writes a number: a whole one in decimal, a decimal with as many digits behind the point as its
 /// scale says, and `-` exactly where the value is negative. Width and fill are passed over.
 pub fn write_number<W: fmt::Write>(number: &Number, f: &mut fmt::Formatter<W>) -> fmt::Result

@@ -1,4 +1,5 @@
-use crate::{Date, Decimal64, Error, ExtensionValue, Interval, Number, Opaque, Timestamp};
+// Names of errors, and payloads as they are written.
+use jsonb::{Date, Decimal64, Error, ExtensionValue, Interval, Number, Opaque, Timestamp};
 use std::test::Fail;
 
 #[test]

@@ -1,9 +1,7 @@
-//! Worked answers of both comparisons.
-
-use super::*;
-use crate::extension::{Date, Timestamp, TimestampTz};
-use crate::number::Decimal64;
-use crate::opaque::Opaque;
+// Worked answers of the orders of numbers and of extension values.
+use jsonb::{
+    Date, Decimal64, Decimal128, ExtensionValue, Interval, Number, Opaque, Timestamp, TimestampTz,
+};
 
 const TEN_TO_38: i128 = 100_000_000_000_000_000_000_000_000_000_000_000_000;
 

@@ -1,51 +1,16 @@
-//! Worked encodings.
-
-ghost use Rattle.std.specs.Prelude.{◌≡◌, Err, IfOk};
-ghost use Rattle.jsonb_value.specs.Value.{tree_of};
-ghost use Rattle.jsonb_codec.specs.Canon.{canon, Fits};
-
-use super::*;
-use jsonb_value::{Date, Decimal64, Decimal128, Interval, Number, Object, Timestamp, TimestampTz};
+// Worked encodings.
+use crate::known::{bytes_of, encoded};
+use jsonb::{
+    Date, Decimal64, Decimal128, Encoder, Error, Interval, JsonAst, JsonAstEncoder, Number, Object,
+    Timestamp, TimestampTz, Value,
+};
 use std::alloc::{AllocError, Global};
 use std::borrow::CowStr;
 use std::collections::BTreeMap;
-use std::fmt::Write;
 use std::str;
 use std::test::Fail;
 
 const MEBIBYTES_16: usize = 16_777_216;
-
-fn hex(alloc: Global, bytes: &[u8]) -> Result<String, AllocError> {
-    let mut text = String::new(alloc);
-    for byte in bytes {
-        write!(text, "{byte:02x}")?;
-    }
-    Ok(text)
-}
-
-// Hexadecimal digits, written with spaces between the parts.
-fn joined(alloc: Global, words: &str) -> Result<String, AllocError> {
-    let mut text = String::new(alloc);
-    for word in words.split(' ') {
-        text.push_str(word)?;
-    }
-    Ok(text)
-}
-
-// What a caller knows of its buffer once the encoder is gone.
-fn document(alloc: Global, value: &Value<'_>) -> Result<Vec<u8>, Error>
-    ensures ok { IfOk result (λ bytes. bytes.items ≡ canon (tree_of value.now)) }
-    ensures past { (Fits (tree_of value.now) → ⊥) → result ≡ Err Error.InvalidJsonb }
-{
-    let mut buf = Vec::new(alloc);
-    let mut encoder = Encoder::new(&mut buf);
-    encoder.encode(value)?;
-    Ok(buf)
-}
-
-fn encoded(alloc: Global, value: &Value<'_>) -> Result<String, Error> {
-    Ok(hex(alloc, &document(alloc, value)?)?)
-}
 
 fn text<'a>(text: &'a str) -> CowStr<'a> {
     CowStr::Borrowed(text)
@@ -95,7 +60,10 @@ fn scalars(rt: HostRuntime) -> Result<(), Fail> {
         ),
     ];
     for (value, document) in &rows {
-        assert_eq!(rt; encoded(rt.alloc(), value)?, joined(rt.alloc(), document)?);
+        assert_eq!(rt;
+            encoded(rt.alloc(), value)?,
+            bytes_of(rt.alloc(), document)?
+        );
     }
     Ok(())
 }
@@ -133,7 +101,10 @@ fn numbers(rt: HostRuntime) -> Result<(), Fail> {
     ];
     for (number, document) in rows {
         let value = Value::Number(number);
-        assert_eq!(rt; encoded(rt.alloc(), &value)?, joined(rt.alloc(), document)?);
+        assert_eq!(rt;
+            encoded(rt.alloc(), &value)?,
+            bytes_of(rt.alloc(), document)?
+        );
     }
     Ok(())
 }
@@ -170,7 +141,7 @@ fn containers(rt: HostRuntime) -> Result<(), Fail> {
         ),
     ];
     for (value, document, length) in &rows {
-        assert_eq!(rt; encoded(alloc, value)?, joined(alloc, document)?);
+        assert_eq!(rt; encoded(alloc, value)?, bytes_of(alloc, document)?);
         assert_eq!(rt; Encoder::measure(value), Ok(*length));
     }
     assert_eq!(rt; Encoder::measure(&Value::Null), Ok(8));
@@ -227,7 +198,7 @@ fn limit_of_an_inner_array(rt: HostRuntime) -> Result<(), Fail> {
     let mut buf = vec![in rt.alloc(); 0xaa]?;
     let refused = Encoder::new(&mut buf).encode(&nested);
     assert_eq!(rt; refused, Err(Error::InvalidJsonb));
-    assert_eq!(rt; hex(rt.alloc(), &buf)?.as_str(), "aa");
+    assert_eq!(rt; buf.as_slice(), [0xaa].as_slice());
     Ok(())
 }
 
@@ -238,8 +209,8 @@ fn one_after_another(rt: HostRuntime) -> Result<(), Fail> {
     encoder.encode(&Value::Null)?;
     encoder.encode(&Value::Bool(true))?;
     assert_eq!(rt;
-        hex(rt.alloc(), &buf)?,
-        joined(rt.alloc(), "aa 20000000 00000000 20000000 40000000")?
+        buf,
+        bytes_of(rt.alloc(), "aa 20000000 00000000 20000000 40000000")?
     );
     Ok(())
 }
@@ -261,7 +232,7 @@ fn pairs_in_lists(rt: HostRuntime) -> Result<(), Fail> {
     let mut buf = Vec::new(alloc);
     JsonAstEncoder::new(&mut buf).encode(&value)?;
     let document = "40000002 10000001 10000001 00000000 40000000 61 62";
-    assert_eq!(rt; hex(alloc, &buf)?, joined(alloc, document)?);
+    assert_eq!(rt; buf, bytes_of(alloc, document)?);
     assert_eq!(rt; JsonAstEncoder::measure(&value), Ok(22));
     for (first, second) in [("b", "a"), ("a", "a")] {
         let value = pairs_of(alloc, first, second)?;

@@ -1,38 +1,20 @@
-use crate::{
-    ArrayBuilder, ArrayDistinctBuilder, Decimal64, Encoder, Error, JsonbItem, Number, NumberItem,
+// What the builders build, and what they refuse.
+use crate::known::{bytes_of, encoded};
+use jsonb::{
+    ArrayBuilder, ArrayDistinctBuilder, Decimal64, Error, JsonbItem, Number, NumberItem,
     ObjectBuilder, OwnedJsonb, RawJsonb, Value,
 };
 use std::alloc::Global;
 use std::borrow::CowStr;
-use std::fmt::Write;
 use std::str;
 use std::test::Fail;
 
 // How long the text of the largest rows is.
 const MEBIBYTES_16: usize = 16_777_216;
 
-fn hex(alloc: Global, bytes: &[u8]) -> Result<String, Fail> {
-    let mut text = String::new(alloc);
-    for byte in bytes {
-        write!(text, "{byte:02x}")?;
-    }
-    Ok(text)
-}
-
-// A row's digits without its spaces.
-fn joined(alloc: Global, row: &str) -> Result<String, Fail> {
-    let mut text = String::new(alloc);
-    for word in row.split(' ') {
-        text.push_str(word)?;
-    }
-    Ok(text)
-}
-
 // The document of a value.
 fn document(alloc: Global, value: &Value) -> Result<OwnedJsonb, Error> {
-    let mut bytes = Vec::new(alloc);
-    Encoder::new(&mut bytes).encode(value)?;
-    Ok(OwnedJsonb::new(bytes))
+    Ok(OwnedJsonb::new(encoded(alloc, value)?))
 }
 
 fn number(number: u64) -> Value<'static> {
@@ -57,20 +39,26 @@ fn refusal(built: Result<OwnedJsonb, Error>) -> Result<Option<Error>, Error> {
 }
 
 // What an array builder builds of one item.
-fn array_of(alloc: Global, item: JsonbItem) -> Result<String, Fail> {
+fn array_of(alloc: Global, item: JsonbItem) -> Result<OwnedJsonb, Error> {
     let mut builder = ArrayBuilder::new(alloc);
     builder.push_jsonb_item(item)?;
-    hex(alloc, builder.build()?.as_bytes())
+    builder.build()
 }
 
 #[test]
 fn numbers_by_value_and_as_given(rt: HostRuntime) -> Result<(), Fail> {
     let alloc = rt.alloc();
     let zero = array_of(alloc, by_value(Number::Int64(0)))?;
-    assert_eq!(rt; zero, joined(alloc, "80000001 20000001 00")?);
+    assert_eq!(rt;
+        zero.as_bytes(),
+        bytes_of(alloc, "80000001 20000001 00")?.as_slice()
+    );
     let given = JsonbItem::Number(NumberItem::from_bytes(&[0x40, 0])?);
     let zero = array_of(alloc, given)?;
-    assert_eq!(rt; zero, joined(alloc, "80000001 20000002 4000")?);
+    assert_eq!(rt;
+        zero.as_bytes(),
+        bytes_of(alloc, "80000001 20000002 4000")?.as_slice()
+    );
     Ok(())
 }
 
@@ -105,8 +93,8 @@ fn containers_inside(rt: HostRuntime) -> Result<(), Fail> {
     let mut pairs = ObjectBuilder::new(alloc);
     pairs.push_raw_jsonb("arr", inner.as_raw())?;
     assert_eq!(rt;
-        hex(alloc, pairs.build()?.as_bytes())?,
-        joined(alloc, "40000001 10000003 50000008 617272 80000001 30000000")?
+        pairs.build()?.as_bytes(),
+        bytes_of(alloc, "40000001 10000003 50000008 617272 80000001 30000000")?.as_slice()
     );
 
     let mut pairs = ObjectBuilder::new(alloc);
@@ -116,7 +104,7 @@ fn containers_inside(rt: HostRuntime) -> Result<(), Fail> {
     let mut pairs = ObjectBuilder::new(alloc);
     pairs.push_owned_jsonb("obj", inner)?;
     let row = "40000001 10000003 50000011 6f626a 40000001 10000005 40000000 6669656c64";
-    assert_eq!(rt; hex(alloc, pairs.build()?.as_bytes())?, joined(alloc, row)?);
+    assert_eq!(rt; pairs.build()?.as_bytes(), bytes_of(alloc, row)?.as_slice());
     Ok(())
 }
 
@@ -132,15 +120,15 @@ fn arrays_of_documents(rt: HostRuntime) -> Result<(), Fail> {
     let outer = OwnedJsonb::build_array(alloc, [one.as_raw(), hello.as_raw(), inner.as_raw()])?;
     let row =
         "80000003 20000002 10000005 50000016 5001 68656c6c6f 80000003 20000002 20000002 20000002 5001 5002 5003";
-    assert_eq!(rt; hex(alloc, outer.as_bytes())?, joined(alloc, row)?);
+    assert_eq!(rt; outer.as_bytes(), bytes_of(alloc, row)?.as_slice());
 
     let pair = OwnedJsonb::build_array(alloc, [one.as_raw(), null.as_raw()])?;
     assert_eq!(rt;
-        hex(alloc, pair.as_bytes())?,
-        joined(alloc, "80000002 20000002 00000000 5001")?
+        pair.as_bytes(),
+        bytes_of(alloc, "80000002 20000002 00000000 5001")?.as_slice()
     );
     let none = OwnedJsonb::build_array(alloc, [])?;
-    assert_eq!(rt; hex(alloc, none.as_bytes())?.as_str(), "80000000");
+    assert_eq!(rt; none.as_bytes(), bytes_of(alloc, "80000000")?.as_slice());
     Ok(())
 }
 
@@ -157,7 +145,7 @@ fn objects_of_documents(rt: HostRuntime) -> Result<(), Fail> {
     let pairs = [at("b", &one), at("a", &two)];
     let object = OwnedJsonb::build_object(alloc, pairs)?;
     let row = "40000002 10000001 10000001 20000002 20000002 61 62 5002 5001";
-    assert_eq!(rt; hex(alloc, object.as_bytes())?, joined(alloc, row)?);
+    assert_eq!(rt; object.as_bytes(), bytes_of(alloc, row)?.as_slice());
     Ok(())
 }
 
@@ -203,8 +191,8 @@ fn the_first_of_equal_items(rt: HostRuntime) -> Result<(), Fail> {
     assert_eq!(rt; builder.pop_raw_jsonb(five.as_raw()), None);
     builder.push_raw_jsonb(five.as_raw())?;
     assert_eq!(rt;
-        hex(alloc, builder.build()?.as_bytes())?,
-        joined(alloc, "80000002 20000002 10000001 5005 78")?
+        builder.build()?.as_bytes(),
+        bytes_of(alloc, "80000002 20000002 10000001 5005 78")?.as_slice()
     );
     Ok(())
 }
@@ -221,8 +209,8 @@ fn a_second_push_is_taken(rt: HostRuntime) -> Result<(), Fail> {
         builder.push_raw_jsonb(x.as_raw())?;
     }
     assert_eq!(rt;
-        hex(alloc, builder.build()?.as_bytes())?,
-        joined(alloc, "80000002 20000002 10000001 5005 78")?
+        builder.build()?.as_bytes(),
+        bytes_of(alloc, "80000002 20000002 10000001 5005 78")?.as_slice()
     );
     Ok(())
 }

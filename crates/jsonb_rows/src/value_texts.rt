@@ -1,10 +1,10 @@
-//! Texts from outside, as tables, and a writer that refuses in mid-text.
-
-use super::*;
-use crate::extension::{Date, Timestamp};
-use crate::number::{Decimal64, Decimal128};
-use crate::opaque::Opaque;
+// Texts of numbers, strings and extension values from outside, as tables, and a writer that refuses in mid-text.
+use jsonb::{
+    Date, Decimal64, Decimal128, ExtensionValue, Interval, Number, Opaque, Timestamp, TimestampTz,
+    extension_text, write_number, write_string,
+};
 use std::alloc::{AllocError, Global};
+use std::fmt;
 use std::test::Fail;
 
 /// Takes so many bytes, and refuses a piece that is too long for what is left.

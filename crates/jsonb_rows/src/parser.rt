@@ -1,7 +1,5 @@
-use crate::error::Error;
-use crate::number::{Decimal64, Decimal128, Number};
-use crate::parser::parse_value;
-use crate::value::Value;
+// Texts, and the values that are read of them.
+use jsonb::{Decimal64, Decimal128, Error, Number, Value, parse_value};
 use std::alloc::Global;
 use std::borrow::CowStr;
 

@@ -1,18 +1,13 @@
-use crate::code::Payload;
-use crate::entries::Entry;
-use crate::item::item_of_entry;
-use crate::{
-    ArrayIterator, Error, ExtensionItem, ExtensionValue, JEntry, JsonbItem, JsonbItemType, Number,
+// Kinds, items and walks of documents and of other bytes, as tables.
+use crate::known::bytes_of;
+use jsonb::{
+    ArrayIterator, Error, ExtensionItem, ExtensionValue, JsonbItem, JsonbItemType, Number,
     NumberItem, ObjectIterator, ObjectKeyIterator, ObjectValueIterator, OwnedJsonb, RawJsonb,
-    read_header, read_jentry,
 };
-use jsonb_codec::constants::{OBJECT_CONTAINER_TAG, STRING_TAG};
 use std::alloc::Global;
 use std::borrow::CowStr;
 use std::cmp::Ordering;
-use std::collections::VecDeque;
 use std::fmt::Write;
-use std::str;
 use std::test::Fail;
 
 // How often each iterator is asked, past the end of each row.
@@ -22,29 +17,8 @@ const ASKED: usize = 5;
 const TWO_PAIRS: &str =
     "40000002 10000002 10000002 20000002 5000000a 6161 6162 5001 80000001 20000002 5002";
 
-// The bytes of hexadecimal digits; all else is passed over.
-pub fn bytes_of(alloc: Global, text: &str) -> Result<Vec<u8>, Fail> {
-    let mut bytes = Vec::new(alloc);
-    let mut first = None;
-    for c in text.bytes() {
-        let digit = match c {
-            b'0'..=b'9' => c - b'0',
-            b'a'..=b'f' => c - b'a' + 10,
-            _ => continue,
-        };
-        match first {
-            Some(high) => {
-                let high: u8 = high;
-                bytes.push(high << 4 | digit)?;
-                first = None;
-            }
-            None => first = Some(digit),
-        }
-    }
-    Ok(bytes)
-}
-
-fn write_hex(text: &mut String, name: &str, bytes: &[u8]) -> Result<(), Fail> {
+/// Writes a name and bytes.
+pub fn write_hex(text: &mut String, name: &str, bytes: &[u8]) -> Result<(), Fail> {
     text.push_str(name)?;
     for byte in bytes {
         write!(text, "{byte:02x}")?;
@@ -52,36 +26,48 @@ fn write_hex(text: &mut String, name: &str, bytes: &[u8]) -> Result<(), Fail> {
     Ok(())
 }
 
-fn write_payload(text: &mut String, name: &str, payload: Payload) -> Result<(), Fail> {
-    text.push_str(name)?;
-    match payload {
-        Payload::Bytes(bytes) => write_hex(text, " ", bytes),
-        Payload::Number(_) | Payload::Extension(_) => Ok(text.push_str(" by value")?),
-    }
+// A scalar's payload, as it is stored.
+fn write_payload(
+    text: &mut String,
+    name: &str,
+    alloc: Global,
+    item: &JsonbItem,
+) -> Result<(), Fail> {
+    let document = OwnedJsonb::from_item(alloc, item.clone(alloc)?)?;
+    write_hex(
+        text,
+        name,
+        document.as_bytes().get(8..).ok_or("no payload")?,
+    )
 }
 
-fn write_item(text: &mut String, item: &JsonbItem) -> Result<(), Fail> {
+/// Writes what an item is.
+pub fn write_item(alloc: Global, text: &mut String, item: &JsonbItem) -> Result<(), Fail> {
     match item {
         JsonbItem::Null => Ok(text.push_str("null")?),
         JsonbItem::Boolean(true) => Ok(text.push_str("true")?),
         JsonbItem::Boolean(false) => Ok(text.push_str("false")?),
-        JsonbItem::Number(number) => write_payload(text, "number", number.payload()),
+        JsonbItem::Number(_) => write_payload(text, "number ", alloc, item),
         JsonbItem::String(CowStr::Borrowed(string)) => write_hex(
             text,
             "string ",
             string.as_bytes(),
         ),
         JsonbItem::String(CowStr::Owned(string)) => write_hex(text, "copied ", string.as_bytes()),
-        JsonbItem::Extension(extension) => write_payload(text, "extension", extension.payload()),
+        JsonbItem::Extension(_) => write_payload(text, "extension ", alloc, item),
         JsonbItem::Raw(raw) => write_hex(text, "raw ", raw.as_bytes()),
         JsonbItem::Owned(owned) => write_hex(text, "owned ", owned.as_bytes()),
     }
 }
 
 // What an iterator gave, and a point where it gave none.
-fn write_given(text: &mut String, given: Option<Result<JsonbItem, Error>>) -> Result<(), Fail> {
+fn write_given(
+    alloc: Global,
+    text: &mut String,
+    given: Option<Result<JsonbItem, Error>>,
+) -> Result<(), Fail> {
     match given {
-        Some(Ok(item)) => write_item(text, &item)?,
+        Some(Ok(item)) => write_item(alloc, text, &item)?,
         Some(Err(error)) => text.push_str(error.name())?,
         None => text.push_str(".")?,
     }
@@ -93,7 +79,7 @@ fn items_text(alloc: Global, bytes: &[u8]) -> Result<String, Fail> {
     match ArrayIterator::new(RawJsonb::new(bytes)) {
         Ok(Some(mut items)) => {
             for _ in 0..ASKED {
-                write_given(&mut text, items.next())?;
+                write_given(alloc, &mut text, items.next())?;
             }
         }
         Ok(None) => text.push_str("none")?,
@@ -107,7 +93,7 @@ fn keys_text(alloc: Global, bytes: &[u8]) -> Result<String, Fail> {
     match ObjectKeyIterator::new(RawJsonb::new(bytes)) {
         Ok(Some(mut keys)) => {
             for _ in 0..ASKED {
-                write_given(&mut text, keys.next())?;
+                write_given(alloc, &mut text, keys.next())?;
             }
         }
         Ok(None) => text.push_str("none")?,
@@ -121,7 +107,7 @@ fn values_text(alloc: Global, bytes: &[u8]) -> Result<String, Fail> {
     match ObjectValueIterator::new(RawJsonb::new(bytes)) {
         Ok(Some(mut values)) => {
             for _ in 0..ASKED {
-                write_given(&mut text, values.next())?;
+                write_given(alloc, &mut text, values.next())?;
             }
         }
         Ok(None) => text.push_str("none")?,
@@ -130,7 +116,8 @@ fn values_text(alloc: Global, bytes: &[u8]) -> Result<String, Fail> {
     Ok(text)
 }
 
-fn pairs_text(alloc: Global, bytes: &[u8]) -> Result<String, Fail> {
+/// What a walk over the pairs gives.
+pub fn pairs_text(alloc: Global, bytes: &[u8]) -> Result<String, Fail> {
     let mut text = String::new(alloc);
     match ObjectIterator::new(RawJsonb::new(bytes)) {
         Ok(Some(mut pairs)) => {
@@ -139,10 +126,10 @@ fn pairs_text(alloc: Global, bytes: &[u8]) -> Result<String, Fail> {
                     Some(Ok((key, value))) => {
                         text.push_str(key)?;
                         text.push_str(": ")?;
-                        write_given(&mut text, Some(Ok(value)))?;
+                        write_given(alloc, &mut text, Some(Ok(value)))?;
                     }
-                    Some(Err(error)) => write_given(&mut text, Some(Err(error)))?,
-                    None => write_given(&mut text, None)?,
+                    Some(Err(error)) => write_given(alloc, &mut text, Some(Err(error)))?,
+                    None => write_given(alloc, &mut text, None)?,
                 }
             }
         }
@@ -155,7 +142,7 @@ fn pairs_text(alloc: Global, bytes: &[u8]) -> Result<String, Fail> {
 fn raw_text(alloc: Global, bytes: &[u8]) -> Result<String, Fail> {
     let mut text = String::new(alloc);
     match JsonbItem::from_raw_jsonb(RawJsonb::new(bytes)) {
-        Ok(item) => write_item(&mut text, &item)?,
+        Ok(item) => write_item(alloc, &mut text, &item)?,
         Err(error) => text.push_str(error.name())?,
     }
     Ok(text)
@@ -450,119 +437,5 @@ fn views_of_items(rt: HostRuntime) -> Result<(), Fail> {
     assert!(rt; string.as_str(rt.alloc())?.is_some() && item.as_str(rt.alloc())?.is_none());
     let kept = JsonbItem::Owned(OwnedJsonb::from(copy.to_vec()));
     assert_eq!(rt; kept.jsonb_item_type()?, JsonbItemType::Object(2));
-    Ok(())
-}
-
-// The older form of the pairs' iterator: all key entries are read first, and kept in a queue.
-#[derive(Drop)]
-struct QueuedPairs<'a> {
-    bytes: &'a [u8],
-    keys: VecDeque<JEntry>,
-    place: usize,
-    key_start: usize,
-    start: usize,
-}
-
-fn part(bytes: &[u8], start: usize, length: u32) -> Result<&[u8], Error> {
-    let end = start.saturating_add(length as usize);
-    if bytes.len() < end || end < start {
-        return Err(Error::InvalidJsonb);
-    }
-    Ok(&bytes[start..end])
-}
-
-fn queued_pairs<'a>(alloc: Global, bytes: &'a [u8]) -> Result<Option<QueuedPairs<'a>>, Error> {
-    let (tag, count) = read_header(bytes, 0)?;
-    if tag != OBJECT_CONTAINER_TAG {
-        return Ok(None);
-    }
-    if bytes.len() / 4 <= count {
-        return Err(Error::InvalidEOF);
-    }
-    let mut keys = VecDeque::new(alloc);
-    let mut place: usize = 4;
-    let key_start = count.saturating_mul(8).saturating_add(4);
-    let mut start = key_start;
-    for _ in 0..count {
-        let key = read_jentry(bytes, place)?;
-        place = place.saturating_add(4);
-        start = start.saturating_add(key.length as usize);
-        keys.push_back(key)?;
-    }
-    Ok(Some(QueuedPairs {
-        bytes,
-        keys,
-        place,
-        key_start,
-        start,
-    }))
-}
-
-impl<'a> QueuedPairs<'a> {
-    fn next(&mut self) -> Option<Result<(&'a str, JsonbItem<'a>), Error>> {
-        let key = self.keys.pop_front()?;
-        let pair = self.pair(key);
-        if pair.is_err() {
-            self.keys.clear();
-        }
-        Some(pair)
-    }
-
-    fn pair(&mut self, key: JEntry) -> Result<(&'a str, JsonbItem<'a>), Error> {
-        if key.type_code != STRING_TAG {
-            return Err(Error::InvalidJsonb);
-        }
-        let name = match str::from_utf8(part(self.bytes, self.key_start, key.length)?) {
-            Ok(name) => name,
-            Err(_) => return Err(Error::InvalidUtf8),
-        };
-        let value = read_jentry(self.bytes, self.place)?;
-        let payload = part(self.bytes, self.start, value.length)?;
-        let item = item_of_entry(Entry {
-            type_code: value.type_code,
-            payload,
-        })?;
-        self.place = self.place.saturating_add(4);
-        self.key_start = self.key_start.saturating_add(key.length as usize);
-        self.start = self.start.saturating_add(value.length as usize);
-        Ok((name, item))
-    }
-}
-
-fn queued_text(alloc: Global, bytes: &[u8]) -> Result<String, Fail> {
-    let mut text = String::new(alloc);
-    match queued_pairs(alloc, bytes) {
-        Ok(Some(mut pairs)) => {
-            for _ in 0..ASKED {
-                match pairs.next() {
-                    Some(Ok((key, value))) => {
-                        text.push_str(key)?;
-                        text.push_str(": ")?;
-                        write_given(&mut text, Some(Ok(value)))?;
-                    }
-                    Some(Err(error)) => write_given(&mut text, Some(Err(error)))?,
-                    None => write_given(&mut text, None)?,
-                }
-            }
-        }
-        Ok(None) => text.push_str("none")?,
-        Err(error) => text.push_str(error.name())?,
-    }
-    Ok(text)
-}
-
-#[test]
-fn pairs_as_by_a_queue(rt: HostRuntime) -> Result<(), Fail> {
-    let mut bytes = bytes_of(rt.alloc(), TWO_PAIRS)?;
-    for place in 0..bytes.len() {
-        let before = bytes[place];
-        for value in 0..=255 {
-            bytes[place] = value;
-            let queued = queued_text(rt.alloc(), &bytes)?;
-            let pairs = pairs_text(rt.alloc(), &bytes)?;
-            assert_eq!(rt; pairs.as_str(), queued.as_str(), "{value} at {place}");
-        }
-        bytes[place] = before;
-    }
     Ok(())
 }

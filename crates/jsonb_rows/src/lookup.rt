@@ -8,8 +8,8 @@ ghost use Rattle.jsonb.specs.Raw.{raw_bytes};
 ghost use Rattle.jsonb.specs.Shown.{shown};
 ghost use Rattle.jsonb.specs.Lookup.{find, IsItemFound};
 
-use super::*;
-use jsonb_value::Number;
+use crate::known::bytes_of;
+use jsonb::{Error, JsonbItem, Number, RawJsonb, Reads};
 use std::alloc::Global;
 use std::fmt::Write;
 use std::test::Fail;
@@ -20,25 +20,6 @@ const OBJECT: &str =
 
 // How many bytes it has.
 const OBJECT_LEN: usize = 36;
-
-// The bytes of hexadecimal digits; all else is passed over.
-fn bytes_of(alloc: Global, text: &str) -> Result<Vec<u8>, Fail> {
-    let mut bytes = Vec::new(alloc);
-    let mut high = None;
-    for c in text.chars() {
-        let Some(digit) = c.to_digit(16) else {
-            continue;
-        };
-        match high {
-            None => high = Some(digit),
-            Some(first) => {
-                bytes.push(((first << 4 | digit) & 0xFF) as u8)?;
-                high = None;
-            }
-        }
-    }
-    Ok(bytes)
-}
 
 // A plain find, as its caller knows it.
 fn find_by_name<'a>(raw: RawJsonb<'a>, name: &str) -> Result<Option<JsonbItem<'a>>, Error>

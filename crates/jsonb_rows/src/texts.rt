@@ -1,7 +1,8 @@
-//! Texts from outside, as tables, and a writer that refuses in mid-text.
-
-use super::*;
-use crate::tests::bytes_of;
+// Texts from outside, as tables, and a writer that refuses in mid-text.
+use crate::known::bytes_of;
+use jsonb::{Error, OwnedJsonb, RawJsonb};
+use std::alloc::Global;
+use std::fmt;
 use std::test::Fail;
 
 // Documents, and other bytes, with their two texts.

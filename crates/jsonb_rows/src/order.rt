@@ -1,9 +1,11 @@
-//! Worked answers of the order, on documents and on other bytes.
-
-use super::*;
-use crate::{ExtensionItem, ExtensionValue, NumberItem, OwnedJsonb};
-use jsonb_value::{Decimal64, Number};
+// Worked answers of the order, on documents and on other bytes.
+use crate::known::bytes_of;
+use jsonb::{
+    Decimal64, ExtensionItem, ExtensionValue, JsonbItem, Number, NumberItem, OwnedJsonb, RawJsonb,
+};
 use std::alloc::Global;
+use std::borrow::CowStr;
+use std::cmp::Ordering;
 use std::test::Fail;
 
 // The first place of bytes that are no document.
@@ -94,30 +96,11 @@ const PLACED: [(usize, &str); 59] = [
     (59, "9fffffff"),
 ];
 
-// The bytes of hexadecimal digits; all else is passed over.
-fn parsed(alloc: Global, text: &str) -> Result<OwnedJsonb, Fail> {
-    let mut bytes = Vec::new(alloc);
-    let mut high = None;
-    for c in text.chars() {
-        let Some(digit) = c.to_digit(16) else {
-            continue;
-        };
-        match high {
-            None => high = Some(digit),
-            Some(first) => {
-                bytes.push(((first << 4 | digit) & 0xFF) as u8)?;
-                high = None;
-            }
-        }
-    }
-    Ok(OwnedJsonb::new(bytes))
-}
-
 // The bytes of the table, with their places.
 fn placed(alloc: Global) -> Result<Vec<(usize, OwnedJsonb)>, Fail> {
     let mut values = Vec::new(alloc);
     for (place, text) in &PLACED {
-        values.push((*place, parsed(alloc, text)?))?;
+        values.push((*place, OwnedJsonb::new(bytes_of(alloc, text)?)))?;
     }
     Ok(values)
 }
@@ -213,7 +196,7 @@ fn without_memory(rt: HostRuntime) {
 
 #[test]
 fn five_as_items(rt: HostRuntime) -> Result<(), Fail> {
-    let owned = parsed(rt.alloc(), "20000000 20000002 5005")?;
+    let owned = OwnedJsonb::new(bytes_of(rt.alloc(), "20000000 20000002 5005")?);
     let copy = owned.clone(rt.alloc())?;
     let five = Number::Decimal64(Decimal64 {
         scale: 1,
