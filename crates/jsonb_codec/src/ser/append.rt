@@ -31,6 +31,7 @@ pub fn append_document(out: &mut Vec<u8>, node: Node<'_, '_>)
 }
 
 /// Appends the bytes as they are.
+#[inline(always)]
 pub fn append_bytes(out: &mut Vec<u8>, bytes: &[u8])
     requires { HasRoom out.old bytes.now }
     ensures { Appended out.old out.new bytes.now }
@@ -42,6 +43,7 @@ pub fn append_bytes(out: &mut Vec<u8>, bytes: &[u8])
 
 /// Appends one word.
 #[tactic(auto, unfolding(crate::specs::Word::word))]
+#[inline(always)]
 pub fn append_word(out: &mut Vec<u8>, number: u32)
     requires { HasRoom out.old (word number) }
     ensures { Appended out.old out.new (word number) }
@@ -65,6 +67,7 @@ fn append_entry(out: &mut Vec<u8>, node: Node<'_, '_>)
 
 // The payload of a value.
 #[cycle(append)]
+#[inline(always)]
 fn append_payload(out: &mut Vec<u8>, node: Node<'_, '_>)
     requires fits { Fits (node_tree node) }
     requires room { HasRoom out.old (payload_of (node_tree node)) }
@@ -81,6 +84,7 @@ fn append_payload(out: &mut Vec<u8>, node: Node<'_, '_>)
 }
 
 /// Appends a number's payload.
+#[inline(always)]
 pub fn append_number(out: &mut Vec<u8>, number: Number)
     requires { HasRoom out.old (number_payload number) }
     ensures { Appended out.old out.new (number_payload number) }
@@ -116,6 +120,7 @@ fn append_items(out: &mut Vec<u8>, items: Items<'_, '_>)
 }
 
 // Room for entry words, which are put there once what they stand for is written.
+#[inline(always)]
 fn append_zeros(out: &mut Vec<u8>, count: usize)
     requires { length out.old.items + count ≤ vec_capacity out.old }
     ensures { Appended out.old out.new (replicate count 0) }
@@ -127,6 +132,7 @@ fn append_zeros(out: &mut Vec<u8>, count: usize)
 
 // One word over the four bytes at the place.
 #[tactic(auto, unfolding(crate::specs::Word::word))]
+#[inline(always)]
 fn put_word(out: &mut Vec<u8>, place: usize, number: u32)
     requires { place + 4 ≤ length out.old.items }
     ensures { Filled place (word number) [] out.old out.new }
@@ -136,6 +142,7 @@ fn put_word(out: &mut Vec<u8>, place: usize, number: u32)
 
 // The payload of a value inside another, and its entry word at the place.
 #[cycle(append)]
+#[inline(always)]
 fn append_child(out: &mut Vec<u8>, place: usize, node: Node<'_, '_>)
     requires fits { FitsEntry (node_tree node) }
     requires place { place + 4 ≤ length out.old.items }
@@ -150,6 +157,7 @@ fn append_child(out: &mut Vec<u8>, place: usize, node: Node<'_, '_>)
 
 // The payloads of an array's items, and their entry words from the place on.
 #[cycle(append)]
+#[inline(always)]
 fn append_children(out: &mut Vec<u8>, place: usize, items: Items<'_, '_>)
     requires fits { AllFit (items_trees items) }
     requires place { place + 4 * count (items_trees items) ≤ length out.old.items }
@@ -182,6 +190,7 @@ fn append_pairs(out: &mut Vec<u8>, pairs: Pairs<'_, '_>)
 }
 
 // A key, and its entry word at the place.
+#[inline(always)]
 fn append_key(out: &mut Vec<u8>, place: usize, key: &str)
     requires fits { length key.now < 2 ^ 28 }
     requires place { place + 4 ≤ length out.old.items }
@@ -193,6 +202,7 @@ fn append_key(out: &mut Vec<u8>, place: usize, key: &str)
 }
 
 // The keys of an object, and their entry words from the place on.
+#[inline(always)]
 fn append_keys(out: &mut Vec<u8>, place: usize, pairs: Pairs<'_, '_>)
     requires fits { PairsFit (object_pairs pairs) }
     requires place { place + 4 * pair_count (object_pairs pairs) ≤ length out.old.items }
@@ -211,6 +221,7 @@ fn append_keys(out: &mut Vec<u8>, place: usize, pairs: Pairs<'_, '_>)
 
 // The payloads of an object's values, and their entry words from the place on.
 #[cycle(append)]
+#[inline(always)]
 fn append_values(out: &mut Vec<u8>, place: usize, pairs: Pairs<'_, '_>)
     requires fits { PairsFit (object_pairs pairs) }
     requires place { place + 4 * pair_count (object_pairs pairs) ≤ length out.old.items }
