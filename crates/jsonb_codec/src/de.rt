@@ -106,6 +106,7 @@ fn build<'a>(alloc: Global, bytes: &'a [u8]) -> Result<Value<'a>, Error>
 
 // The value of a payload.
 #[cycle(value)]
+#[inline(always)]
 fn build_payload<'a>(alloc: Global, tag: u32, payload: &'a [u8]) -> Result<Value<'a>, Error>
     requires { (t : Tree) × IsPayloadOf tag payload.now t }
     ensures ok { IfOk result (λ v. IsPayloadOf tag payload.now (tree_of v)) }
@@ -194,6 +195,7 @@ fn after_keys<'a>(key_entries: &[u8], payloads: &'a [u8]) -> &'a [u8]
 }
 
 // The value of a payload that is no container.
+#[inline(always)]
 fn build_scalar<'a>(tag: u32, payload: &'a [u8]) -> Value<'a>
     requires scalar { tag ≢ CONTAINER_TAG }
     requires means { (t : Tree) × IsPayloadOf tag payload.now t }
@@ -209,6 +211,7 @@ fn build_scalar<'a>(tag: u32, payload: &'a [u8]) -> Value<'a>
     }
 }
 
+#[inline(always)]
 fn text_of(payload: &[u8]) -> &str
     requires { IsUtf8 payload.now }
     ensures { result.now ≡ payload.now }
@@ -216,6 +219,7 @@ fn text_of(payload: &[u8]) -> &str
     unsafe { str::from_utf8_unchecked(payload) }
 }
 
+#[inline(always)]
 fn number_of(payload: &[u8]) -> Number
     requires { (x : Number) × NumCode payload.now x }
     ensures { NumCode payload.now result }
@@ -250,6 +254,7 @@ fn value_of_extension<'a>(given: ExtensionValue<'a>) -> Value<'a>
 }
 
 // The header and the entry at the front, where one is there.
+#[inline(always)]
 fn header_of(bytes: &[u8]) -> Tagged
     requires { 4 ≤ length bytes.now }
     ensures found { bytes.now ≡ word (result.tag + result.number) ++ result.rest.now }
@@ -263,6 +268,7 @@ fn header_of(bytes: &[u8]) -> Tagged
     header
 }
 
+#[inline(always)]
 fn entry_of(entries: &[u8]) -> Tagged
     requires { 4 ≤ length entries.now }
     ensures found { entries.now ≡ word (result.tag + result.number) ++ result.rest.now }

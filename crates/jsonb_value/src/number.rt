@@ -38,6 +38,7 @@ pub enum Number {
 impl Number {
     /// The number that a payload means: zero, a whole number of 1, 2, 4 or 8 bytes, or a decimal
     /// in its written or its old form. `InvalidJsonbNumber` for every other byte string.
+    #[inline(always)]
     pub fn decode(bytes: &[u8]) -> Result<Number, Error>
         ensures ok { IfOk result (λ x. NumCode bytes.now x) }
         ensures only { (x : Number) → NumCode bytes.now x → result ≡ Ok x }
@@ -85,6 +86,7 @@ impl Number {
 }
 
 // The number of a payload that begins with this tag.
+#[inline(always)]
 fn tagged_of(tag: u8, rest: &[u8]) -> Option<Number>
     ensures found { IfSome result (λ x. NumCode (tag ∷ rest.now) x) }
     ensures none { IfNone result ((x : Number) → NumCode (tag ∷ rest.now) x → ⊥) }
@@ -98,6 +100,7 @@ fn tagged_of(tag: u8, rest: &[u8]) -> Option<Number>
     }
 }
 
+#[inline(always)]
 fn signed_of(bytes: &[u8]) -> Option<i64>
     ensures found { IfSome result (λ v. IsSignedNumber bytes.now v) }
     ensures none { IfNone result ((v : ℤ) → IsSignedNumber bytes.now v → ⊥) }
@@ -111,6 +114,7 @@ fn signed_of(bytes: &[u8]) -> Option<i64>
     }
 }
 
+#[inline(always)]
 fn unsigned_of(bytes: &[u8]) -> Option<u64>
     ensures found { IfSome result (λ v. IsUnsignedNumber bytes.now v) }
     ensures none { IfNone result ((n : ℕ) → IsUnsignedNumber bytes.now n → ⊥) }
@@ -124,6 +128,7 @@ fn unsigned_of(bytes: &[u8]) -> Option<u64>
     }
 }
 
+#[inline(always)]
 fn decimal_of(bytes: &[u8]) -> Option<Number>
     ensures found { IfSome result (λ x. NumCode (112 ∷ bytes.now) x) }
     ensures none { IfNone result ((x : Number) → NumCode (112 ∷ bytes.now) x → ⊥) }

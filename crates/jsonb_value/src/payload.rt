@@ -15,6 +15,7 @@ pub fn i32_of(bytes: &[u8]) -> i32
 }
 
 /// The number in the first eight bytes.
+#[inline(always)]
 pub fn i64_of(bytes: &[u8]) -> i64
     requires { 8 ≤ length bytes.now }
     ensures { IsSigned w64 (take 8 bytes.now) result }
@@ -25,6 +26,7 @@ pub fn i64_of(bytes: &[u8]) -> i64
 }
 
 /// The number in the first sixteen bytes.
+#[inline(always)]
 pub fn i128_of(bytes: &[u8]) -> i128
     requires { 16 ≤ length bytes.now }
     ensures { IsSigned w128 (take 16 bytes.now) result }
