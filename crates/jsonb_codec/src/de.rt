@@ -1,7 +1,8 @@
 //! Documents read into values: the check, and then a build that only memory can refuse.
 
-ghost use Rattle.std.specs.Prelude.{◌≡◌, ◌≢◌, ◌⊎◌, ◌+◌, ◌%◌, ◌<◌, ◌≤◌, ◌^◌, ◌++◌, [], ℕ, List, length, IfOk, IfErr, OnOk, OnErr};
+ghost use Rattle.std.specs.Prelude.{◌≡◌, ◌≢◌, ◌⊎◌, ◌+◌, ◌%◌, ◌<◌, ◌≤◌, ◌^◌, ◌++◌, ◌∷◌, [], ℕ, List, length, IfOk, IfErr, OnOk, OnErr};
 ghost use Rattle.std.specs.Str.{IsUtf8};
+ghost use Rattle.jsonb_value.specs.declared.value.Value.{Value};
 ghost use Rattle.jsonb_value.specs.declared.number.Number.{Number};
 ghost use Rattle.jsonb_value.specs.NumCode.{NumCode};
 ghost use Rattle.jsonb_value.specs.ExtCode.{ExtCode, extension_of};
@@ -119,6 +120,29 @@ fn build_payload<'a>(alloc: Global, tag: u32, payload: &'a [u8]) -> Result<Value
     }
 }
 
+// Pushes the value of a payload. Each kind is pushed where it is made, since a value is large to
+// move.
+#[cycle(value)]
+#[inline(always)]
+fn push_payload<'a>(
+    alloc: Global,
+    items: &mut Vec<Value<'a>>,
+    tag: u32,
+    payload: &'a [u8],
+) -> Result<(), Error>
+    requires { (t : Tree) × IsPayloadOf tag payload.now t }
+    ensures ok { OnOk result ((v : Value) × ((items.new.items ≡ items.old.items ++ v ∷ [])
+        × IsPayloadOf tag payload.now (tree_of v))) }
+    ensures memory { IfErr result (λ e. e ≡ Error.OutOfMemory) }
+{
+    if tag == CONTAINER_TAG {
+        items.push(build_container(alloc, payload)?)?;
+    } else {
+        items.push(build_scalar(tag, payload))?;
+    }
+    Ok(())
+}
+
 // The value of a whole array or object.
 #[cycle(value)]
 fn build_container<'a>(alloc: Global, bytes: &'a [u8]) -> Result<Value<'a>, Error>
@@ -145,7 +169,7 @@ fn build_items<'a>(alloc: Global, count: usize, body: &'a [u8]) -> Result<Vec<Va
     let mut items = Vec::with_capacity(alloc, count)?;
     while let Some(entry) = split_entry(entries_left) {
         let (payload, behind) = payloads_left.split_at(entry.number);
-        items.push(build_payload(alloc, entry.tag, payload)?)?;
+        push_payload(alloc, &mut items, entry.tag, payload)?;
         entries_left = entry.rest;
         payloads_left = behind;
     }
