@@ -1,7 +1,8 @@
 //! Documents read into values: the check, and then a build that only memory can refuse.
 
-ghost use Rattle.std.specs.Prelude.{◌≡◌, ◌≢◌, ◌⊎◌, ◌+◌, ◌%◌, ◌<◌, ◌≤◌, ◌^◌, ◌++◌, [], ℕ, List, length, IfOk, IfErr, OnOk, OnErr};
+ghost use Rattle.std.specs.Prelude.{◌≡◌, ◌≢◌, ◌⊎◌, ◌+◌, ◌%◌, ◌<◌, ◌≤◌, ◌^◌, ◌++◌, ◌∷◌, [], ℕ, List, length, IfOk, IfErr, OnOk, OnErr};
 ghost use Rattle.std.specs.Str.{IsUtf8};
+ghost use Rattle.jsonb_value.specs.declared.value.Value.{Value};
 ghost use Rattle.jsonb_value.specs.declared.number.Number.{Number};
 ghost use Rattle.jsonb_value.specs.NumCode.{NumCode};
 ghost use Rattle.jsonb_value.specs.ExtCode.{ExtCode, extension_of};
@@ -106,6 +107,7 @@ fn build<'a>(alloc: Global, bytes: &'a [u8]) -> Result<Value<'a>, Error>
 
 // The value of a payload.
 #[cycle(value)]
+#[inline(always)]
 fn build_payload<'a>(alloc: Global, tag: u32, payload: &'a [u8]) -> Result<Value<'a>, Error>
     requires { (t : Tree) × IsPayloadOf tag payload.now t }
     ensures ok { IfOk result (λ v. IsPayloadOf tag payload.now (tree_of v)) }
@@ -116,6 +118,29 @@ fn build_payload<'a>(alloc: Global, tag: u32, payload: &'a [u8]) -> Result<Value
     } else {
         Ok(build_scalar(tag, payload))
     }
+}
+
+// Pushes the value of a payload. Each kind is pushed where it is made, since a value is large to
+// move.
+#[cycle(value)]
+#[inline(always)]
+fn push_payload<'a>(
+    alloc: Global,
+    items: &mut Vec<Value<'a>>,
+    tag: u32,
+    payload: &'a [u8],
+) -> Result<(), Error>
+    requires { (t : Tree) × IsPayloadOf tag payload.now t }
+    ensures ok { OnOk result ((v : Value) × ((items.new.items ≡ items.old.items ++ v ∷ [])
+        × IsPayloadOf tag payload.now (tree_of v))) }
+    ensures memory { IfErr result (λ e. e ≡ Error.OutOfMemory) }
+{
+    if tag == CONTAINER_TAG {
+        items.push(build_container(alloc, payload)?)?;
+    } else {
+        items.push(build_scalar(tag, payload))?;
+    }
+    Ok(())
 }
 
 // The value of a whole array or object.
@@ -144,7 +169,7 @@ fn build_items<'a>(alloc: Global, count: usize, body: &'a [u8]) -> Result<Vec<Va
     let mut items = Vec::with_capacity(alloc, count)?;
     while let Some(entry) = split_entry(entries_left) {
         let (payload, behind) = payloads_left.split_at(entry.number);
-        items.push(build_payload(alloc, entry.tag, payload)?)?;
+        push_payload(alloc, &mut items, entry.tag, payload)?;
         entries_left = entry.rest;
         payloads_left = behind;
     }
@@ -194,6 +219,7 @@ fn after_keys<'a>(key_entries: &[u8], payloads: &'a [u8]) -> &'a [u8]
 }
 
 // The value of a payload that is no container.
+#[inline(always)]
 fn build_scalar<'a>(tag: u32, payload: &'a [u8]) -> Value<'a>
     requires scalar { tag ≢ CONTAINER_TAG }
     requires means { (t : Tree) × IsPayloadOf tag payload.now t }
@@ -209,6 +235,7 @@ fn build_scalar<'a>(tag: u32, payload: &'a [u8]) -> Value<'a>
     }
 }
 
+#[inline(always)]
 fn text_of(payload: &[u8]) -> &str
     requires { IsUtf8 payload.now }
     ensures { result.now ≡ payload.now }
@@ -216,6 +243,7 @@ fn text_of(payload: &[u8]) -> &str
     unsafe { str::from_utf8_unchecked(payload) }
 }
 
+#[inline(always)]
 fn number_of(payload: &[u8]) -> Number
     requires { (x : Number) × NumCode payload.now x }
     ensures { NumCode payload.now result }
@@ -250,6 +278,7 @@ fn value_of_extension<'a>(given: ExtensionValue<'a>) -> Value<'a>
 }
 
 // The header and the entry at the front, where one is there.
+#[inline(always)]
 fn header_of(bytes: &[u8]) -> Tagged
     requires { 4 ≤ length bytes.now }
     ensures found { bytes.now ≡ word (result.tag + result.number) ++ result.rest.now }
@@ -263,6 +292,7 @@ fn header_of(bytes: &[u8]) -> Tagged
     header
 }
 
+#[inline(always)]
 fn entry_of(entries: &[u8]) -> Tagged
     requires { 4 ≤ length entries.now }
     ensures found { entries.now ≡ word (result.tag + result.number) ++ result.rest.now }

@@ -55,6 +55,7 @@ pub struct Tagged<'a> {
 }
 
 // The word at the front, and what follows it.
+#[inline(always)]
 fn split_word(bytes: &[u8]) -> Option<(u32, &[u8])>
     ensures found { IfSome result (λ x. bytes.now ≡ word x.0 ++ x.1.now) }
     ensures small { IfSome result (λ x. x.0 < 2 ^ 32) }
@@ -67,6 +68,7 @@ fn split_word(bytes: &[u8]) -> Option<(u32, &[u8])>
 }
 
 /// The entry word at the front: its type, and the length of its payload.
+#[inline(always)]
 pub fn split_entry(entries: &[u8]) -> Option<Tagged>
     ensures found { IfSome result
         (λ x. entries.now ≡ word (x.tag + x.number) ++ x.rest.now) }
@@ -85,6 +87,7 @@ pub fn split_entry(entries: &[u8]) -> Option<Tagged>
 }
 
 /// The header at the front: its kind, and the count of the children.
+#[inline(always)]
 pub fn split_header(bytes: &[u8]) -> Option<Tagged>
     ensures found { IfSome result (λ x. bytes.now ≡ word (x.tag + x.number) ++ x.rest.now) }
     ensures tag { IfSome result (λ x. x.tag % 2 ^ 29 ≡ 0) }

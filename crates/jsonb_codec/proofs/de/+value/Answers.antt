@@ -65,8 +65,8 @@ build_items-split_at-requires-in-Some t c =
     let f = first_tree e.tag e.number e.rest.now l.entries_left.now l.payloads_left.now read w.0 w.1.1 in
     f.fits
 
-pub build_items-build_payload-requires : goal.build_items-build_payload-requires
-build_items-build_payload-requires t c =
+pub build_items-push_payload-requires : goal.build_items-push_payload-requires
+build_items-push_payload-requires t c =
     let l = c.loop-entry in let e = c.in-Some.entry in let k = c.in-Some.ensures in
     let read : Read e.tag e.number e.rest.now l.entries_left.now = record { parts = k.found; tag = k.tag; number = k.number; small = k.small } in
     let w = l.invariant.left l.invariant.some.0 l.invariant.some.1 in
@@ -92,11 +92,11 @@ build_items-loop-entry-preserved t c =
       left = λ ts h.
           let w = l.invariant.left ts h in
           let f = first_tree e.tag e.number e.rest.now l.entries_left.now l.payloads_left.now read w.0 w.1.1 in
-          let v = c.in_ok-build_payload.field-0 in
-          let same = meant e.tag c.split_at-in-Some.result.0.now (tree_of v) f.first c.in_ok-build_payload.ensures.ok (subst (λ x. IsPayloadOf e.tag x f.first) (sym split.front) f.is) in (
+          let v = c.in_ok-push_payload.ensures.ok in
+          let same = meant e.tag c.split_at-in-Some.result.0.now (tree_of v.0) f.first v.1.1 (subst (λ x. IsPayloadOf e.tag x f.first) (sym split.front) f.is) in (
             f.others,
             (
-              trees_and-push l.items.items c.push.new.self.items v ts w.0 f.others f.first w.1.0 f.are same c.in_ok-push.ensures.items,
+              trees_and-push l.items.items c.push_payload.new.items.items v.0 ts w.0 f.others f.first w.1.0 f.are same v.1.0,
               subst (Children f.others e.rest.now) (sym split.back) f.behind,
             ),
           );

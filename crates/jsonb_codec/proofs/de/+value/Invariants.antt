@@ -10,6 +10,9 @@ use Rattle.jsonb_codec.proofs.de.+value.Given as goal
 abbrev pub decreases-build_payload : goal.decreases-build_payload
 decreases-build_payload l = 4 * length l.payload.now + 3
 
+abbrev pub decreases-push_payload : goal.decreases-push_payload
+decreases-push_payload l = 4 * length l.payload.now + 3
+
 abbrev pub decreases-build_container : goal.decreases-build_container
 decreases-build_container l = 4 * length l.bytes.now + 2
 
