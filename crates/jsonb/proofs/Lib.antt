@@ -16,7 +16,6 @@ pub mod InputLaws
 pub mod BuiltObjects
 pub mod MeantLaws
 pub mod ValueLaws
-pub mod Weights
 pub mod InStep
 pub mod UnlikeLaws
 pub mod OrderLaws
