@@ -2,7 +2,7 @@ use Rattle.std.proofs.Common.{arith}
 use Rattle.jsonb_codec.proofs.Steps.{Read}
 use Rattle.jsonb_codec.proofs.CanonicalWhole.{canonical_container, document_entry, document_scalar, document_too_short}
 use Rattle.jsonb_codec.proofs.Rewriting.{document_whole, document_part}
-use Rattle.jsonb_codec.proofs.canonical.parts.split_document.Goals as goal
+use Rattle.jsonb_codec.proofs.parts.split_document.Goals as goal
 
 pub unreachable-requires : goal.unreachable-requires
 unreachable-requires c = document_too_short c.args.bytes.now c.in_default.ensures.none c.requires

@@ -5,7 +5,7 @@ use Rattle.jsonb_codec.specs.Canonical.{IsSomePayload, AreSomeChildren, IsWritte
 use Rattle.jsonb_codec.proofs.Words.{length-word-append}
 use Rattle.jsonb_codec.proofs.Steps.{Read, first_tree, children_end}
 use Rattle.jsonb_codec.proofs.CanonicalSteps.{some_onward, some_fit, written_onward, written_back, written_end}
-use Rattle.jsonb_codec.proofs.canonical.parts.split_child.Goals as goal
+use Rattle.jsonb_codec.proofs.parts.split_child.Goals as goal
 
 pub returns-in_default-clause-none : goal.returns-in_default-clause-none
 returns-in_default-clause-none c ts h = (children_end ts c.args.entries.now c.args.payloads.now c.in_default.ensures.none h).0

@@ -5,7 +5,7 @@ use Rattle.jsonb_codec.proofs.Words.{length-word-append}
 use Rattle.jsonb_codec.proofs.CanonicalSteps.{some_short}
 use Rattle.jsonb_codec.proofs.CanonicalWhole.{opened}
 use Rattle.jsonb_codec.proofs.Rewriting.{opened_as}
-use Rattle.jsonb_codec.proofs.canonical.parts.split_container.Goals as goal
+use Rattle.jsonb_codec.proofs.parts.split_container.Goals as goal
 
 pub unreachable-requires : goal.unreachable-requires
 unreachable-requires c = some_short c.args.bytes.now c.in_default.ensures.none c.requires
