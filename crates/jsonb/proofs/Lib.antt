@@ -20,7 +20,6 @@ pub mod Weights
 pub mod InStep
 pub mod UnlikeLaws
 pub mod OrderLaws
-pub mod Sizes
 pub mod LineLaws
 pub mod TextLaws
 pub mod BuiltMeanings
