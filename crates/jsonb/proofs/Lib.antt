@@ -19,7 +19,6 @@ pub mod ValueLaws
 pub mod InStep
 pub mod UnlikeLaws
 pub mod OrderLaws
-pub mod Sizes
 pub mod LineLaws
 pub mod TextLaws
 pub mod BuiltMeanings

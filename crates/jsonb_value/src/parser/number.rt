@@ -11,6 +11,9 @@ ghost use Rattle.jsonb_value.specs.Reader.Digits.{Counts, AreDigits};
 use crate::number::{Decimal64, Decimal128, Number};
 use crate::parser::cursor::{after_char, split_first};
 
+// Below this a number with one more digit fits in 64 bits.
+const SHORT: u128 = 1 << 60;
+
 /// Digits, and the number that they make with those before them, unless it is past 128 bits.
 #[derive(Clone, Copy)]
 pub struct Digits {
@@ -28,13 +31,18 @@ fn read_sign(text: &str) -> (bool, &str)
     }
 }
 
-// The number with one more digit.
+// The number with one more digit. Short numbers need one word.
+#[inline(always)]
 fn with_digit(value: Option<u128>, digit: char) -> Option<u128>
     requires { IsTrue (is_ascii_digit digit) }
     ensures { (n : ℕ) → Counts n value → Counts (n * 10 + digit_value digit) result }
 {
     let digit = digit.to_digit(10)?;
-    value?.checked_mul(10)?.checked_add(u128::from(digit))
+    let value = value?;
+    if value < SHORT {
+        return Some(u128::from(value as u64 * 10 + u64::from(digit)));
+    }
+    value.checked_mul(10)?.checked_add(u128::from(digit))
 }
 
 // The digits at the front, behind those of `start`, and what follows them.

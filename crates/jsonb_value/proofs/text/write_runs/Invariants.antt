@@ -3,7 +3,7 @@ use denote.Text.{Utf8}
 use denote.Shadow.{shadow}
 use Rattle.std.specs.Fmt.{IsFlush, HasWrittenStyled}
 use Rattle.jsonb_value.specs.Text.{byte_text}
-use Rattle.jsonb_value.proofs.text.write_content.Given as goal
+use Rattle.jsonb_value.proofs.text.write_runs.Given as goal
 
 abbrev pub invariant-runs : goal.invariant-runs
 invariant-runs g l =
