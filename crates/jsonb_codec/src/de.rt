@@ -1,6 +1,7 @@
 //! Documents read into values: the check, and then a build that only memory can refuse.
 
-ghost use Rattle.std.specs.Prelude.{◌≡◌, ◌≢◌, ◌⊎◌, ◌+◌, ◌%◌, ◌<◌, ◌≤◌, ◌^◌, ◌++◌, ◌∷◌, [], ℕ, List, length, IfOk, IfErr, OnOk, OnErr};
+ghost use Rattle.std.specs.Prelude.{◌≡◌, ◌≢◌, ◌⊎◌, ◌+◌, ◌%◌, ◌<◌, ◌≤◌, ◌^◌, ◌++◌, ◌∷◌, [], ℕ, List, length, string_cmp, IfOk, IfErr, OnOk, OnErr};
+ghost use Rattle.std.specs.BTreeMap.{insert_entry};
 ghost use Rattle.std.specs.Str.{IsUtf8};
 ghost use Rattle.jsonb_value.specs.declared.value.Value.{Value};
 ghost use Rattle.jsonb_value.specs.declared.number.Number.{Number};
@@ -105,21 +106,6 @@ fn build<'a>(alloc: Global, bytes: &'a [u8]) -> Result<Value<'a>, Error>
     }
 }
 
-// The value of a payload.
-#[cycle(value)]
-#[inline(always)]
-fn build_payload<'a>(alloc: Global, tag: u32, payload: &'a [u8]) -> Result<Value<'a>, Error>
-    requires { (t : Tree) × IsPayloadOf tag payload.now t }
-    ensures ok { IfOk result (λ v. IsPayloadOf tag payload.now (tree_of v)) }
-    ensures memory { IfErr result (λ e. e ≡ Error.OutOfMemory) }
-{
-    if tag == CONTAINER_TAG {
-        build_container(alloc, payload)
-    } else {
-        Ok(build_scalar(tag, payload))
-    }
-}
-
 // Pushes the value of a payload. Each kind is pushed where it is made, since a value is large to
 // move.
 #[cycle(value)]
@@ -140,6 +126,31 @@ fn push_payload<'a>(
     } else {
         items.push(build_scalar(tag, payload))?;
     }
+    Ok(())
+}
+
+// Puts the value of a payload under the key.
+#[cycle(value)]
+#[inline(always)]
+fn insert_payload<'a>(
+    alloc: Global,
+    pairs: &mut Object<'a>,
+    key: String,
+    tag: u32,
+    payload: &'a [u8],
+) -> Result<(), Error>
+    requires { (t : Tree) × IsPayloadOf tag payload.now t }
+    ensures ok { OnOk result ((v : Value)
+        × ((pairs.new.entries ≡ insert_entry string_cmp pairs.old.entries key v)
+        × IsPayloadOf tag payload.now (tree_of v))) }
+    ensures memory { IfErr result (λ e. e ≡ Error.OutOfMemory) }
+{
+    let value = if tag == CONTAINER_TAG {
+        build_container(alloc, payload)?
+    } else {
+        build_scalar(tag, payload)
+    };
+    drop(pairs.insert(key, value)?);
     Ok(())
 }
 
@@ -192,8 +203,7 @@ fn build_pairs<'a>(alloc: Global, count: usize, body: &'a [u8]) -> Result<Object
         let (key, keys_behind) = keys_left.split_at(key_entry.number);
         let (payload, values_behind) = values_left.split_at(value_entry.number);
         let key = String::from_str(alloc, text_of(key))?;
-        let value = build_payload(alloc, value_entry.tag, payload)?;
-        drop(pairs.insert(key, value)?);
+        insert_payload(alloc, &mut pairs, key, value_entry.tag, payload)?;
         key_entries_left = key_entry.rest;
         value_entries_left = value_entry.rest;
         keys_left = keys_behind;

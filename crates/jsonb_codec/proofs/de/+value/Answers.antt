@@ -191,8 +191,8 @@ build_pairs-text_of-requires t c =
     let f = first_key e.tag e.number e.rest.now l.key_entries_left.now l.keys_left.now read c.after_keys-values_left.result.now w.0 w.1.1.0 in
     subst IsUtf8 (sym (c.split_at-in-Some.ensures.front ∙ f.key_is)) f.utf8
 
-pub build_pairs-build_payload-requires : goal.build_pairs-build_payload-requires
-build_pairs-build_payload-requires t c =
+pub build_pairs-insert_payload-requires : goal.build_pairs-insert_payload-requires
+build_pairs-insert_payload-requires t c =
     let l = c.loop-key_entry in let e = c.in-Some.key_entry in let k = c.in-Some.ensures in
     let read : Read e.tag e.number e.rest.now l.key_entries_left.now = record { parts = k.found; tag = k.tag; number = k.number; small = k.small } in
     let w = l.invariant.left l.invariant.some.0 l.invariant.some.1 in
@@ -230,12 +230,12 @@ build_pairs-loop-key_entry-preserved t c =
           let f = first_key e.tag e.number e.rest.now l.key_entries_left.now l.keys_left.now read q w.0 w.1.1.0 in
           let u = first_value v.tag v.number v.rest.now l.value_entries_left.now l.values_left.now value_read f.key f.value w.0 f.others f.are w.1.1.1 in
           let key = c.in_ok-key.key in
-          let value = c.in_ok-value.value in
+          let put = c.in_ok-insert_payload.ensures.ok in
           let is : string_bytes key ≡ f.key = c.in_ok-key.ensures.ok ∙ c.text_of.ensures ∙ keys.front ∙ f.key_is in
-          let same = meant v.tag c.split_at-in-Some-2.result.0.now (tree_of value) f.value c.in_ok-value.ensures.ok (subst (λ x. IsPayloadOf v.tag x f.value) (sym values.front) (u.type, u.means)) in (
+          let same = meant v.tag c.split_at-in-Some-2.result.0.now (tree_of put.0) f.value put.1.1 (subst (λ x. IsPayloadOf v.tag x f.value) (sym values.front) (u.type, u.means)) in (
             f.others,
             (
-              pairs_and-push l.pairs.entries c.insert.new.self.entries key value ps w.0 f.others f.key f.value h.ascend w.1.0 f.are is same c.in_ok-insert.ensures.entries,
+              pairs_and-push l.pairs.entries c.insert_payload.new.pairs.entries key put.0 ps w.0 f.others f.key f.value h.ascend w.1.0 f.are is same put.1.0,
               (
                 subst (λ x. KeysThen f.others e.rest.now x q) (sym keys.back) f.behind,
                 subst (Values f.others v.rest.now) (sym values.back) u.others,

@@ -7,8 +7,8 @@ use Rattle.jsonb_codec.proofs.KeySteps.{IsPairs}
 use Rattle.jsonb_codec.proofs.Building.{trees_and, pairs_and}
 use Rattle.jsonb_codec.proofs.de.+value.Given as goal
 
-abbrev pub decreases-build_payload : goal.decreases-build_payload
-decreases-build_payload l = 4 * length l.payload.now + 3
+abbrev pub decreases-insert_payload : goal.decreases-insert_payload
+decreases-insert_payload l = 4 * length l.payload.now + 3
 
 abbrev pub decreases-push_payload : goal.decreases-push_payload
 decreases-push_payload l = 4 * length l.payload.now + 3
