@@ -1,6 +1,7 @@
 //! Documents read into values: the check, and then a build that only memory can refuse.
 
-ghost use Rattle.std.specs.Prelude.{◌≡◌, ◌≢◌, ◌⊎◌, ◌++◌, ◌∷◌, [], IfOk, IfErr, OnOk, OnErr};
+ghost use Rattle.std.specs.Prelude.{◌≡◌, ◌≢◌, ◌⊎◌, ◌++◌, ◌∷◌, [], string_cmp, IfOk, IfErr, OnOk, OnErr};
+ghost use Rattle.std.specs.BTreeMap.{insert_entry};
 ghost use Rattle.jsonb_value.specs.declared.value.Value.{Value};
 ghost use Rattle.jsonb_value.specs.ExtCode.{extension_of};
 ghost use Rattle.jsonb_value.specs.Tree.{Tree, Trees, Pairs, Ascend, extension};
@@ -94,22 +95,11 @@ fn build<'a>(alloc: Global, bytes: &'a [u8]) -> Result<Value<'a>, Error>
     ensures ok { IfOk result (λ v. Doc bytes.now (tree_of v)) }
     ensures memory { IfErr result (λ e. e ≡ Error.OutOfMemory) }
 {
-    build_part(alloc, split_document(bytes))
-}
-
-// The value of a part.
-#[cycle(value)]
-#[inline(always)]
-fn build_part<'a>(alloc: Global, part: Part<'a>) -> Result<Value<'a>, Error>
-    requires { IsSomePayload part.tag part.payload.now }
-    ensures ok { IfOk result (λ v. (t : Tree) → IsPayloadOf part.entry.tag part.entry.payload.now t
-        → tree_of v ≡ t) }
-    ensures memory { IfErr result (λ e. e ≡ Error.OutOfMemory) }
-{
-    if part.tag == CONTAINER_TAG {
-        build_container(alloc, part.payload)
+    let whole = split_document(bytes);
+    if whole.tag == CONTAINER_TAG {
+        build_container(alloc, whole.payload)
     } else {
-        Ok(build_scalar(part.tag, part.payload))
+        Ok(build_scalar(whole.tag, whole.payload))
     }
 }
 
@@ -128,6 +118,30 @@ fn push_part<'a>(alloc: Global, items: &mut Vec<Value<'a>>, part: Part<'a>) -> R
     } else {
         items.push(build_scalar(part.tag, part.payload))?;
     }
+    Ok(())
+}
+
+// Puts the value of a part under the key.
+#[cycle(value)]
+#[inline(always)]
+fn insert_part<'a>(
+    alloc: Global,
+    members: &mut Object<'a>,
+    key: String,
+    part: Part<'a>,
+) -> Result<(), Error>
+    requires { IsSomePayload part.tag part.payload.now }
+    ensures ok { OnOk result ((v : Value)
+        × ((members.new.entries ≡ insert_entry string_cmp members.old.entries key v)
+        × ((t : Tree) → IsPayloadOf part.entry.tag part.entry.payload.now t → tree_of v ≡ t))) }
+    ensures memory { IfErr result (λ e. e ≡ Error.OutOfMemory) }
+{
+    let value = if part.tag == CONTAINER_TAG {
+        build_container(alloc, part.payload)?
+    } else {
+        build_scalar(part.tag, part.payload)
+    };
+    drop(members.insert(key, value)?);
     Ok(())
 }
 
@@ -175,8 +189,7 @@ fn build_members<'a>(alloc: Global, members: Members<'a>) -> Result<Object<'a>, 
     let mut built = BTreeMap::new(alloc);
     while let Some(member) = split_member(left) {
         let key = String::from_str(alloc, member.key)?;
-        let value = build_part(alloc, member.value)?;
-        drop(built.insert(key, value)?);
+        insert_part(alloc, &mut built, key, member.value)?;
         left = member.behind;
     }
     Ok(built)

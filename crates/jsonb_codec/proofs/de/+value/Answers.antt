@@ -22,8 +22,8 @@ build_items-returns-clause-ok t c ts are =
     let (us, (whole, left)) = c.loop-child.invariant.left ts are in
     sym (whole ∙ ap (trees_and vs) (c.in_default.ensures.none us left) ∙ trees_and-none vs)
 
-pub build_members-build_part-requires : goal.build_members-build_part-requires
-build_members-build_part-requires t c =
+pub build_members-insert_part-requires : goal.build_members-insert_part-requires
+build_members-insert_part-requires t c =
     let l = c.loop-member in
     let (ps, are) = l.invariant.some in
     let f = c.in-Some.ensures.first ps are in
@@ -32,6 +32,7 @@ build_members-build_part-requires t c =
 pub build_members-loop-member-preserved : goal.build_members-loop-member-preserved
 build_members-loop-member-preserved t c =
     let l = c.loop-member in let k = c.in-Some.ensures in
+    let (v, (more, same)) = c.in_ok-insert_part.ensures.ok in
     let (ps, are) = l.invariant.some in
     let first = k.first ps are in
     record {
@@ -39,7 +40,7 @@ build_members-loop-member-preserved t c =
       left = λ all ascend whole_are.
           let (us, (whole, left)) = l.invariant.left all ascend whole_are in
           let f = k.first us left in
-          (f.others, (pairs_and-push l.built.entries c.insert.new.self.entries c.in_ok-key.key c.in_ok-value.value all us f.others c.in-Some.member.key.now f.value ascend whole f.are c.in_ok-key.ensures.ok (c.in_ok-value.ensures.ok f.value f.is) c.in_ok-insert.ensures.entries, f.left));
+          (f.others, (pairs_and-push l.built.entries c.insert_part.new.members.entries c.in_ok-key.key v all us f.others c.in-Some.member.key.now f.value ascend whole f.are c.in_ok-key.ensures.ok (same f.value f.is) more, f.left));
       shorter = omega (arith, k.values_len, l.invariant.shorter);
     }
 
