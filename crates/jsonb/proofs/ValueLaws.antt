@@ -11,7 +11,6 @@ use Rattle.jsonb_value.specs.Tree as trees
 use Rattle.jsonb_value.specs.TreeOrder.{rank_of}
 use Rattle.std.specs.Result.{result_ok}
 use Rattle.jsonb_value.specs.Meaning.{document, other_bytes}
-use Rattle.jsonb_codec.proofs.Unique.{Doc-unique}
 use Rattle.jsonb_codec.specs.Doc.{Doc, IsDocument, type_of}
 use Rattle.jsonb.specs.declared.item.JsonbItem.{JsonbItem}
 use Rattle.jsonb.specs.declared.item_type.JsonbItemType.{JsonbItemType}
@@ -73,7 +72,7 @@ value_of_item t (raw b) p m e = (raw_container t p b e, m)
 value_of_item t (owned b) p m e = none_owned t p b e
 
 -- The item of an entry of a tree is its value,
-pub IsValue-IsItemOf : (t : Tree) (x : Shown) → IsItemOf t x → IsValue x t
+IsValue-IsItemOf : (t : Tree) (x : Shown) → IsItemOf t x → IsValue x t
 IsValue-IsItemOf t x h = value_of_item t x h.payload h.means h.item
 
 -- and so is the item of its document.

@@ -13,18 +13,26 @@ use jsonb_value::Error;
 
 /// The big endian word whose first byte stands at the index. `InvalidEOF` where four bytes are not
 /// there.
+#[inline]
 pub fn read_word(bytes: &[u8], index: usize) -> Result<u32, Error>
     ensures { result ≡ word_at bytes.now index }
 {
-    match bytes.get(index..) {
-        Some([a, b, c, d, ..]) => Ok(u32::from_be_bytes([*a, *b, *c, *d])),
-        _ => Err(Error::InvalidEOF),
+    // The last place is found without the index, so that a loop tests each word once.
+    if bytes.len() < 4 || bytes.len() - 4 < index {
+        return Err(Error::InvalidEOF);
     }
+    Ok(u32::from_be_bytes([
+        bytes[index],
+        bytes[index + 1],
+        bytes[index + 2],
+        bytes[index + 3],
+    ]))
 }
 
 /// The header whose first byte stands at the index: its kind, under the type mask, and its count.
 /// `InvalidEOF` where four bytes are not there, `InvalidJsonb` where the word names none of the
 /// three kinds.
+#[inline]
 pub fn read_header(bytes: &[u8], index: usize) -> Result<(u32, usize), Error>
     ensures { result ≡ header_at bytes.now index }
 {
@@ -40,6 +48,7 @@ pub fn read_header(bytes: &[u8], index: usize) -> Result<(u32, usize), Error>
 }
 
 /// The entry whose first byte stands at the index. `InvalidEOF` where four bytes are not there.
+#[inline(always)]
 pub fn read_jentry(bytes: &[u8], index: usize) -> Result<JEntry, Error>
     ensures { result ≡ jentry_at bytes.now index }
 {

@@ -29,11 +29,10 @@ impl RawJsonb<'_> {
         ensures cmp { IfSome result
             (λ order. order ≡ meaning_cmp (raw_meaning self.now) (raw_meaning other.now)) }
     {
-        if self.is_document() && other.is_document() {
-            Some(cmp_documents(self.as_bytes(), other.as_bytes()))
-        } else {
-            None
+        if !self.is_document() || !other.is_document() {
+            return None;
         }
+        Some(cmp_documents(self.as_bytes(), other.as_bytes()))
     }
 }
 

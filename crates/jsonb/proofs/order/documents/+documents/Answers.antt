@@ -1,6 +1,6 @@
-use Rattle.std.proofs.Common.{◌+◌, ◌*◌, sym, arith}
+use Rattle.std.proofs.Common.{sym, arith}
 use Rattle.jsonb_codec.specs.declared.parts.Items.{Items}
-use Rattle.jsonb.proofs.InStep.{ItemsLeft, PairsLeft, first_decides, others_decide, items_step, pairs_ended, left_pairs_ended, right_pairs_ended, keys_step, values_step}
+use Rattle.jsonb.proofs.InStep.{ItemsLeft, first_decides, others_decide, items_step, pairs_ended, left_pairs_ended, right_pairs_ended, keys_step, values_step}
 use Rattle.jsonb.proofs.order.documents.+documents.Goals as goal
 
 pub cmp_items-split_child-requires : goal.cmp_items-split_child-requires
