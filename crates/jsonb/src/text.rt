@@ -55,7 +55,9 @@ impl<'a> RawJsonb<'a> {
             → IfOk result (λ text. string_bytes text ≡ raw_bytes self.now) }
         ensures memory { IfErr result (λ e. e ≡ Error.OutOfMemory) }
     {
-        let mut f = fmt::Formatter::new(String::new(alloc));
+        // The text is about as long as the bytes.
+        let text = String::with_capacity(alloc, self.len())?;
+        let mut f = fmt::Formatter::new(text);
         let answer = write_shown(*self, &mut f);
         written(answer, f)
     }
