@@ -238,6 +238,7 @@ fn write_document<W: fmt::Write>(
 
 // The text of a part of a document, by its type and payload.
 #[cycle(text)]
+#[inline(always)]
 fn write_part<W: fmt::Write>(
     tag: u32,
     payload: &[u8],
@@ -251,11 +252,25 @@ fn write_part<W: fmt::Write>(
 {
     match tag {
         STRING_TAG => write_string(text_in(payload), f),
-        CONTAINER_TAG => match split_contents(payload) {
-            Contents::Array(items) => write_items(items, layout, f),
-            Contents::Object(members) => write_members(members, layout, f),
-        },
+        CONTAINER_TAG => write_container(payload, layout, f),
         _ => write_scalar(tag, payload, f),
+    }
+}
+
+#[cycle(text)]
+fn write_container<W: fmt::Write>(
+    bytes: &[u8],
+    layout: Layout,
+    f: &mut fmt::Formatter<W>,
+) -> fmt::Result
+    requires some { IsSomePayload CONTAINER_TAG bytes.now }
+    requires room { HasRoom (layout_of layout) (length bytes.now) }
+    ensures { (t : Tree) → IsPayloadOf CONTAINER_TAG bytes.now t
+        → WritesStyledOnOk W.write_str_gives f.old result (laid_out (layout_of layout) t) f.new }
+{
+    match split_contents(bytes) {
+        Contents::Array(items) => write_items(items, layout, f),
+        Contents::Object(members) => write_members(members, layout, f),
     }
 }
 
