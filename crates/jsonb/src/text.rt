@@ -27,7 +27,9 @@ use crate::owned::OwnedJsonb;
 use crate::raw::RawJsonb;
 use bstr::ByteSlice;
 use jsonb_codec::Encoder;
-use jsonb_codec::constants::{CONTAINER_TAG, FALSE_TAG, NULL_TAG, NUMBER_TAG, STRING_TAG, TRUE_TAG};
+use jsonb_codec::constants::{
+    CONTAINER_TAG, FALSE_TAG, NULL_TAG, NUMBER_TAG, STRING_TAG, TRUE_TAG,
+};
 use jsonb_codec::parts::{
     Contents, Items, Members, Part, extension_in, number_in, split_child, split_contents,
     split_document, split_member, text_in,
@@ -370,11 +372,7 @@ fn write_member<W: fmt::Write>(
 }
 
 // The text of a part that is no container.
-fn write_scalar<W: fmt::Write>(
-    tag: u32,
-    payload: &[u8],
-    f: &mut fmt::Formatter<W>,
-) -> fmt::Result
+fn write_scalar<W: fmt::Write>(tag: u32, payload: &[u8], f: &mut fmt::Formatter<W>) -> fmt::Result
     requires some { IsSomePayload tag payload.now }
     requires scalar { (tag ≢ CONTAINER_TAG) × (tag ≢ STRING_TAG) }
     ensures { (l : texts.Layout) (t : Tree) → IsPayloadOf tag payload.now t
