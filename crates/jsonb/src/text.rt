@@ -27,7 +27,9 @@ use crate::owned::OwnedJsonb;
 use crate::raw::RawJsonb;
 use bstr::ByteSlice;
 use jsonb_codec::Encoder;
-use jsonb_codec::constants::{CONTAINER_TAG, FALSE_TAG, NULL_TAG, NUMBER_TAG, STRING_TAG, TRUE_TAG};
+use jsonb_codec::constants::{
+    CONTAINER_TAG, FALSE_TAG, NULL_TAG, NUMBER_TAG, STRING_TAG, TRUE_TAG,
+};
 use jsonb_codec::parts::{
     Contents, Items, Members, Part, extension_in, number_in, split_child, split_contents,
     split_document, split_member, text_in,
@@ -55,7 +57,9 @@ impl<'a> RawJsonb<'a> {
             → IfOk result (λ text. string_bytes text ≡ raw_bytes self.now) }
         ensures memory { IfErr result (λ e. e ≡ Error.OutOfMemory) }
     {
-        let mut f = fmt::Formatter::new(String::new(alloc));
+        // The text is about as long as the bytes.
+        let text = String::with_capacity(alloc, self.len())?;
+        let mut f = fmt::Formatter::new(text);
         let answer = write_shown(*self, &mut f);
         written(answer, f)
     }
@@ -236,6 +240,7 @@ fn write_document<W: fmt::Write>(
 
 // The text of a part of a document, by its type and payload.
 #[cycle(text)]
+#[inline(always)]
 fn write_part<W: fmt::Write>(
     tag: u32,
     payload: &[u8],
@@ -249,11 +254,25 @@ fn write_part<W: fmt::Write>(
 {
     match tag {
         STRING_TAG => write_string(text_in(payload), f),
-        CONTAINER_TAG => match split_contents(payload) {
-            Contents::Array(items) => write_items(items, layout, f),
-            Contents::Object(members) => write_members(members, layout, f),
-        },
+        CONTAINER_TAG => write_container(payload, layout, f),
         _ => write_scalar(tag, payload, f),
+    }
+}
+
+#[cycle(text)]
+fn write_container<W: fmt::Write>(
+    bytes: &[u8],
+    layout: Layout,
+    f: &mut fmt::Formatter<W>,
+) -> fmt::Result
+    requires some { IsSomePayload CONTAINER_TAG bytes.now }
+    requires room { HasRoom (layout_of layout) (length bytes.now) }
+    ensures { (t : Tree) → IsPayloadOf CONTAINER_TAG bytes.now t
+        → WritesStyledOnOk W.write_str_gives f.old result (laid_out (layout_of layout) t) f.new }
+{
+    match split_contents(bytes) {
+        Contents::Array(items) => write_items(items, layout, f),
+        Contents::Object(members) => write_members(members, layout, f),
     }
 }
 
@@ -353,11 +372,7 @@ fn write_member<W: fmt::Write>(
 }
 
 // The text of a part that is no container.
-fn write_scalar<W: fmt::Write>(
-    tag: u32,
-    payload: &[u8],
-    f: &mut fmt::Formatter<W>,
-) -> fmt::Result
+fn write_scalar<W: fmt::Write>(tag: u32, payload: &[u8], f: &mut fmt::Formatter<W>) -> fmt::Result
     requires some { IsSomePayload tag payload.now }
     requires scalar { (tag ≢ CONTAINER_TAG) × (tag ≢ STRING_TAG) }
     ensures { (l : texts.Layout) (t : Tree) → IsPayloadOf tag payload.now t

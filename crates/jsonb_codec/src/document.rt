@@ -342,6 +342,8 @@ fn check_scalar_payload(faults: FaultTable, tag: u32, payload: &[u8]) -> Result<
 {
     match tag {
         NULL_TAG | FALSE_TAG | TRUE_TAG if payload.is_empty() => Ok(()),
+        // Most texts are ASCII, which is sooner told.
+        STRING_TAG if payload.is_ascii() => Ok(()),
         STRING_TAG => match str::from_utf8(payload) {
             Ok(_) => Ok(()),
             Err(_) => Err(Error::InvalidUtf8),

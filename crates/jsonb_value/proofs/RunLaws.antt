@@ -1,13 +1,13 @@
 -- Runs of bytes that are not escaped, seen a vector at a time through the mask of those that are.
-use Rattle.std.proofs.Common.{◌≡◌, ℕ, ◌+◌, ◌<◌, ◌≤◌, ◌%◌, ◌^◌, Bool, true, false, not, cond, eqb, ltb, ◌||◌, ◌==◌, nat_lt, List, [], ◌∷◌, map, length, drop, replicate, bit_or, refl, sym, ap, ap₂, ◌∙◌, inl, inr, get_or, position, Some, None, arith}
-use Rattle.std.proofs.lemmas.Bool.{cases_Bool, eq-eqb, ne_eqb, eqb-true, ltb-true, ltb-false, lt-ltb, not-true}
+use Rattle.std.proofs.Common.{◌≡◌, ℕ, ◌+◌, ◌<◌, ◌≤◌, ◌%◌, ◌^◌, Bool, true, false, not, cond, eqb, ltb, ◌||◌, ◌==◌, List, [], ◌∷◌, map, length, drop, replicate, bit_or, refl, sym, ap, ap₂, ◌∙◌, inl, inr, get_or, arith}
+use Rattle.std.proofs.lemmas.Bool.{cases_Bool, eq-eqb, ne_eqb, eqb-true, not-true}
 use Rattle.std.proofs.lemmas.Bool.Decides.{nat_tests}
 use Rattle.std.proofs.lemmas.Simd.{zip2_splat, zip2_of_maps, mask_l-mod, none_from_empty_mask, chunk-drop, length-chunk, leading_from_mask_l, trailing_mask_l}
 use Rattle.std.proofs.lemmas.List.{length-map}
 use Rattle.std.proofs.lemmas.List.Sums.{prefix_len_passes}
 use Rattle.std.proofs.lemmas.List.Folds.{prefix_len-append}
 use Rattle.std.specs.Bool.{OnTrue}
-use Rattle.std.specs.List.{prefix_len, position_or_len}
+use Rattle.std.specs.List.{prefix_len}
 use Rattle.std.specs.Simd.Lanes.{top, mask_l, chunk}
 use lib.Lanes.{zip2}
 use lib.Count.{count_trailing_zeros}
@@ -52,14 +52,7 @@ on_true false P f = tt
 pub none_escaped : (bytes : List ℕ) (i n mask : ℕ) → i + n ≤ length bytes → mask ≡ mask_l (map is_escaped (chunk i n bytes)) → OnTrue (mask == 0) (NoneEscaped bytes i (i + n))
 none_escaped bytes i n mask within is = on_true _ _ (λ e. none_from_empty_mask is_escaped bytes i n 0 within (sym is ∙ eqb-true mask 0 e))
 
-pub NoneEscaped-joined : (bytes : List ℕ) (i j k l : ℕ) → NoneEscaped bytes i j → NoneEscaped bytes k l → k ≤ j → NoneEscaped bytes i l
-NoneEscaped-joined bytes i j k l front back meet m from upto =
-    elim (cases_Bool (nat_lt m j)) [
-      | inl early ↦ front m from (ltb-true m j early)
-      | inr late ↦ let past = ltb-false m j late in back m (omega arith) upto
-    ]
-
-pub is_plain-not_escaped : (b : ℕ) → is_plain b ≡ not (is_escaped b)
+is_plain-not_escaped : (b : ℕ) → is_plain b ≡ not (is_escaped b)
 is_plain-not_escaped b = grind (arith, nat_tests)
 
 same_run : (xs : List ℕ) → prefix_len is_plain xs ≡ prefix_len (λ x. not (is_escaped x)) xs
@@ -93,26 +86,6 @@ run_stops bytes i n within few some =
     ∙ ap (λ b. cond b (length c + prefix_len is_plain (drop (i + n) bytes)) (prefix_len is_plain c)) (ne_eqb _ _ (λ (e : prefix_len is_plain c ≡ length c). omega (arith, whole_run c (sym (same_run c) ∙ e))))
     ∙ same_run c
     ∙ sym (trailing_mask_l is_escaped 64 c (omega (arith, length-chunk i n bytes within)) some)
-
--- where the run ends, the first escaped byte stands
-plain_then_escaped : (xs : List ℕ) → prefix_len is_plain xs ≡ position_or_len is_escaped xs
-plain_then_escaped [] = refl
-plain_then_escaped (x ∷ xs) = elim (cases_Bool (is_escaped x)) [
-  | inl escaped ↦ rw (is_plain-not_escaped x, escaped) refl
-  | inr plain ↦ rw (is_plain-not_escaped x, plain) (ap (λ n. 1 + n) (plain_then_escaped xs))
-]
-
-pub position-within : (xs : List ℕ) (n : ℕ) → n ≡ prefix_len is_plain xs → n < length xs → position is_escaped xs ≡ Some n
-position-within xs n is within =
-    let same : position_or_len is_escaped xs ≡ n = sym (is ∙ plain_then_escaped xs) in
-    let test : nat_lt n (length xs) ≡ true = lt-ltb n (length xs) within in
-    rw (same, test) refl
-
-pub position-past : (xs : List ℕ) (n : ℕ) → n ≡ prefix_len is_plain xs → length xs ≤ n → position is_escaped xs ≡ None
-position-past xs n is past =
-    let same : position_or_len is_escaped xs ≡ n = sym (is ∙ plain_then_escaped xs) in
-    let test : nat_lt n (length xs) ≡ false = grind (arith, nat_tests) in
-    rw (same, test) refl
 
 pub none_escaped_in_run : (xs : List ℕ) (n : ℕ) → n ≡ prefix_len is_plain xs → OnTrue (n == length xs) (NoneEscaped xs 0 (length xs))
 none_escaped_in_run xs n is = on_true (n == length xs) (NoneEscaped xs 0 (length xs)) (λ e k from upto.

@@ -22,6 +22,7 @@ pub struct Digits {
 }
 
 // Whether a minus stands first, and what follows it.
+#[inline(always)]
 fn read_sign(text: &str) -> (bool, &str)
     ensures { (result.0, chars result.1.now) ≡ read_sign (chars text.now) }
 {
@@ -46,6 +47,7 @@ fn with_digit(value: Option<u128>, digit: char) -> Option<u128>
 }
 
 // The digits at the front, behind those of `start`, and what follows them.
+#[inline(always)]
 fn read_digits(start: Option<u128>, text: &str) -> (Digits, &str)
     ensures digits { (n : ℕ) → Counts n start → AreDigits n (front_digits (chars text.now)) result.0 }
     ensures rest { chars result.1.now ≡ after_digits (chars text.now) }
@@ -67,6 +69,7 @@ fn read_digits(start: Option<u128>, text: &str) -> (Digits, &str)
 }
 
 // `0`, or digits that begin with another: their number, unless it is too large, and what follows.
+#[inline(always)]
 fn read_whole(text: &str) -> Option<(Option<u128>, &str)>
     ensures { MatchOption result (read_whole (chars text.now) ≡ None) (λ found. (ds : List ℕ) × (read_whole (chars text.now) ≡ Some (ds, chars found.1.now)) × Counts (digits_value 10 ds) found.0) }
 {
@@ -83,6 +86,7 @@ fn read_whole(text: &str) -> Option<(Option<u128>, &str)>
 }
 
 // The digits after a point, where one stands, behind those of `whole`.
+#[inline(always)]
 fn read_fraction(whole: Option<u128>, text: &str) -> Option<(Digits, &str)>
     ensures { (n : ℕ) → Counts n whole → MatchOption result (read_fraction (chars text.now) ≡ None) (λ found. (ds : List ℕ) × (read_fraction (chars text.now) ≡ Some (ds, chars found.1.now)) × AreDigits n ds found.0) }
 {

@@ -136,6 +136,7 @@ fn split_plain(text: &str) -> (&str, &str)
 }
 
 // The string that begins with `front`, up to the quote that closes it, and what follows.
+#[inline(never)]
 fn read_escaped<'a>(alloc: Global, front: &str, text: &'a str) -> Result<(String, &'a str), Error>
     ensures { (n : ℕ) → length (chars text.now) < n → Gives (λ found. (string_bytes found.0, chars found.1.now)) result (read_text n front.now (chars text.now)) }
 {
@@ -159,6 +160,7 @@ fn read_escaped<'a>(alloc: Global, front: &str, text: &'a str) -> Result<(String
 }
 
 /// The string up to the quote that closes it, borrowed where it has no escape, and what follows.
+#[inline(always)]
 pub fn read_string<'a>(alloc: Global, text: &'a str) -> Result<(CowStr<'a>, &'a str), Error>
     ensures { (n : ℕ) → length (chars text.now) < n → Gives (λ found. (cow_bytes found.0, chars found.1.now)) result (read_text n [] (chars text.now)) }
 {

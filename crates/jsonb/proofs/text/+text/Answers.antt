@@ -2,16 +2,14 @@ use Rattle.std.proofs.Common.{rules, ◌≡◌, ◌++◌, codes, length, refl, s
 use Rattle.jsonb_value.specs.Tree.{array, object}
 use Rattle.jsonb_value.specs.Text.{inside, line_start, laid_out}
 use Rattle.jsonb_value.proofs.Writing.{joins_two, joins_three}
-use Rattle.jsonb_codec.specs.declared.constants.TheConstants.{CONTAINER_TAG}
 use Rattle.jsonb.specs.Texts.{layout_of}
 use Rattle.jsonb.specs.Lines.{more_lines, item_lines, pair_lines, pair_text, HasRoom}
 use Rattle.jsonb.proofs.LineLaws.{items_begin, pairs_begin, lines_next, HasRoom-inside}
 use Rattle.jsonb.proofs.text.+text.Goals as goal
 
-pub write_part-returns-in-Object : goal.write_part-returns-in-Object
-write_part-returns-in-Object g t c u h =
-    let tag : c.args.tag ≡ CONTAINER_TAG = search rules in
-    let (ps, (is, are)) = c.in-Object.ensures.contents u (h.0 ∙ tag, h.1) in
+pub write_container-returns-in-Object : goal.write_container-returns-in-Object
+write_container-returns-in-Object g t c u h =
+    let (ps, (is, are)) = c.in-Object.ensures.contents u h in
     rw is (c.write_members.ensures ps are)
 
 pub write_part-returns-in_default : goal.write_part-returns-in_default

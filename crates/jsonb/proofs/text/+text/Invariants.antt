@@ -9,19 +9,22 @@ use Rattle.jsonb.specs.Lines.{more_lines, item_lines, pair_lines}
 use Rattle.jsonb.proofs.text.+text.Given as goal
 
 abbrev pub decreases-write_part : goal.decreases-write_part
-decreases-write_part g l = 4 * length l.payload.now
+decreases-write_part g l = 4 * length l.payload.now + 1
+
+abbrev pub decreases-write_container : goal.decreases-write_container
+decreases-write_container g l = 4 * length l.bytes.now
 
 abbrev pub decreases-write_items : goal.decreases-write_items
-decreases-write_items g l = 4 * length l.items.payloads.now + 2
+decreases-write_items g l = 4 * length l.items.payloads.now + 3
 
 abbrev pub decreases-write_line : goal.decreases-write_line
-decreases-write_line g l = 4 * length l.item.payload.now + 1
+decreases-write_line g l = 4 * length l.item.payload.now + 2
 
 abbrev pub decreases-write_members : goal.decreases-write_members
-decreases-write_members g l = 4 * length l.members.values.now + 2
+decreases-write_members g l = 4 * length l.members.values.now + 3
 
 abbrev pub decreases-write_member : goal.decreases-write_member
-decreases-write_member g l = 4 * length l.value.payload.now + 1
+decreases-write_member g l = 4 * length l.value.payload.now + 2
 
 -- what is written, and before the last bracket what is left to write
 abbrev pub invariant-write_items-items : goal.invariant-write_items-items

@@ -1,5 +1,5 @@
-use Rattle.std.proofs.Common.{rules, arith, length, flat_map, ◌≡◌}
-use Rattle.jsonb_value.specs.Text.{byte_text, NoneEscaped}
+use Rattle.std.proofs.Common.{rules, arith, length}
+use Rattle.jsonb_value.specs.Text.{NoneEscaped}
 use Rattle.jsonb_value.proofs.Escapes.{plain_front}
 use Rattle.jsonb_value.proofs.text.write_content.Goals as goal
 
