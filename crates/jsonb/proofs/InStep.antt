@@ -1,26 +1,24 @@
 -- Two walks in step: what is left of them, and what that says of the whole.
-use Rattle.std.proofs.Common.{◌≡◌, ℕ, true, false, List, [], ◌∷◌, Option, Some, None, Result, Ok, Err, IsOkAnd, IsSomeAnd, refl, sym, ap, ap₂, subst, ◌∙◌, arith}
-use Rattle.std.specs.Result.{result_unwrap_or}
+use Rattle.std.proofs.Common.{◌≡◌, ◌≢◌, ℕ, true, false, List, refl, sym, ap, ap₂, subst, ◌∙◌, arith}
 use Rattle.std.specs.declared.cmp.Ordering.{Ordering}
 use Rattle.std.specs.declared.cmp.Ordering.TheVariants.{Less, Equal, Greater}
 use Rattle.std.specs.Ordering.{is_ne, nat_cmp, ordering_then}
 use Rattle.std.specs.Cmp.Lexicographic.{slice_cmp}
-use Rattle.jsonb_value.specs.declared.error.Error.{Error}
-use Rattle.jsonb_value.specs.Tree.{Tree, null, boolean, number, text, extension, array, object, Trees, no_trees, tree, Pairs, no_pairs, pair}
+use Rattle.jsonb_value.specs.Tree.{Tree, null, boolean, number, text, extension, array, object, Trees, no_trees, Pairs, no_pairs}
 use Rattle.jsonb_value.specs.TreeOrder.{tree_cmp, trees_cmp, pairs_cmp}
-use Rattle.jsonb_value.proofs.TreeLaws.{then_assoc}
+use Rattle.jsonb_codec.specs.declared.parts.Items.{Items}
+use Rattle.jsonb_codec.specs.declared.parts.Members.{Members}
+use Rattle.jsonb_codec.specs.Contents.{AreItems, AreMembers, FirstMember}
 use Rattle.jsonb_codec.specs.Doc.{type_of}
-use Rattle.jsonb.specs.Shown.{Shown}
-use Rattle.jsonb.specs.Values.{IsValue, HasNoMore}
-use Rattle.jsonb.specs.Walk.{Walk}
-use Rattle.jsonb.specs.Walked.{ShowsTrees, ShowsPairs}
-use Rattle.jsonb.proofs.ValueLaws.{IsValue-IsItemOf}
+use Rattle.jsonb_codec.specs.Parts.{IsPayloadOf}
+use Rattle.jsonb_codec.specs.Rewriting.{FirstChild}
+use Rattle.jsonb.specs.Ranks.{type_rank}
 
 -- The first two decide, or else what is left behind them.
-pub record Behind {A : Type 0} (Left : List A → List A → Ordering → Type 0) (left right : List A) (order whole : Ordering) : Type 0 where
+pub record Behind (Left : Ordering → Type 0) (order whole : Ordering) : Type 0 where
   pub behind : Ordering
   pub whole_is : whole ≡ ordering_then order behind
-  pub others : Left left right behind
+  pub others : Left behind
 
 unequal_first : (order behind : Ordering) → is_ne order ≡ true → order ≡ ordering_then order behind
 unequal_first Less behind e = refl
@@ -32,150 +30,108 @@ equal_first Less behind e = let never : ⊥ = cc in absurd never
 equal_first Equal behind e = refl
 equal_first Greater behind e = let never : ⊥ = cc in absurd never
 
-pub first_decides : {A : Type 0} (Left : List A → List A → Ordering → Type 0) (left right : List A) (order whole : Ordering) → Behind Left left right order whole → is_ne order ≡ true → order ≡ whole
-first_decides Left left right order whole h e = unequal_first order h.behind e ∙ sym h.whole_is
+pub first_decides : (Left : Ordering → Type 0) (order whole : Ordering) → Behind Left order whole → is_ne order ≡ true → order ≡ whole
+first_decides Left order whole h e = unequal_first order h.behind e ∙ sym h.whole_is
 
-pub others_decide : {A : Type 0} (Left : List A → List A → Ordering → Type 0) (left right : List A) (order whole : Ordering) → Behind Left left right order whole → is_ne order ≡ false → Left left right whole
-others_decide Left left right order whole h e = subst (Left left right) (equal_first order h.behind e ∙ sym h.whole_is) h.others
+pub others_decide : (Left : Ordering → Type 0) (order whole : Ordering) → Behind Left order whole → is_ne order ≡ false → Left whole
+others_decide Left order whole h e = subst Left (equal_first order h.behind e ∙ sym h.whole_is) h.others
 
 -- The order of two arrays is that of what is left of them.
-pub record ItemsLeft (left right : List (Result Shown Error)) (whole : Ordering) : Type 0 where
+pub record ItemsLeft (left right : Items) (whole : Ordering) : Type 0 where
   pub left_trees : Trees
   pub right_trees : Trees
-  pub left_shown : ShowsTrees left_trees left
-  pub right_shown : ShowsTrees right_trees right
+  pub left_are : AreItems left_trees left
+  pub right_are : AreItems right_trees right
   pub same_order : whole ≡ trees_cmp left_trees right_trees
 
--- both have ended
-items_equal : (ts us : Trees) (left right : List (Result Shown Error)) → ShowsTrees ts left → ShowsTrees us right → HasNoMore left → HasNoMore right → Equal ≡ trees_cmp ts us
-items_equal no_trees no_trees left right h k a b = refl
-items_equal no_trees (tree u us) left [] h k a b = absurd k
-items_equal no_trees (tree u us) left (Ok y ∷ ys) h k a b = absurd (b y ys refl)
-items_equal no_trees (tree u us) left (Err e ∷ ys) h k a b = absurd k
-items_equal (tree t ts) us [] right h k a b = absurd h
-items_equal (tree t ts) us (Ok x ∷ xs) right h k a b = absurd (a x xs refl)
-items_equal (tree t ts) us (Err e ∷ xs) right h k a b = absurd h
+module _ (left right : Items) (whole : Ordering) (h : ItemsLeft left right whole) where
+  pub items_ended : h.left_trees ≡ no_trees → h.right_trees ≡ no_trees → Equal ≡ whole
+  items_ended a b = sym (h.same_order ∙ ap₂ trees_cmp a b)
 
-pub items_ended : (left right : List (Result Shown Error)) (whole : Ordering) → ItemsLeft left right whole → HasNoMore left → HasNoMore right → Equal ≡ whole
-items_ended left right whole h a b = items_equal h.left_trees h.right_trees left right h.left_shown h.right_shown a b ∙ sym h.same_order
+  pub left_items_ended : (ty : ℕ) (p e q : List ℕ) → h.left_trees ≡ no_trees → FirstChild h.right_trees ty p e q → Less ≡ whole
+  left_items_ended ty p e q a g = sym (h.same_order ∙ ap₂ trees_cmp a g.are)
 
--- the left one alone
-items_less : (ts us : Trees) (left : List (Result Shown Error)) (y : Result Shown Error) (ys : List (Result Shown Error)) → ShowsTrees ts left → ShowsTrees us (y ∷ ys) → HasNoMore left → Less ≡ trees_cmp ts us
-items_less no_trees no_trees left y ys h k a = let never : ⊥ = cc k in absurd never
-items_less no_trees (tree u us) left y ys h k a = refl
-items_less (tree t ts) us [] y ys h k a = absurd h
-items_less (tree t ts) us (Ok x ∷ xs) y ys h k a = absurd (a x xs refl)
-items_less (tree t ts) us (Err e ∷ xs) y ys h k a = absurd h
+  pub right_items_ended : (ty : ℕ) (p e q : List ℕ) → FirstChild h.left_trees ty p e q → h.right_trees ≡ no_trees → Greater ≡ whole
+  right_items_ended ty p e q f b = sym (h.same_order ∙ ap₂ trees_cmp f.are b)
 
-pub left_items_ended : (left right : List (Result Shown Error)) (y : Result Shown Error) (ys : List (Result Shown Error)) (whole : Ordering) → ItemsLeft left right whole → HasNoMore left → right ≡ y ∷ ys → Less ≡ whole
-left_items_ended left right y ys whole h a b = items_less h.left_trees h.right_trees left y ys h.left_shown (subst (ShowsTrees h.right_trees) b h.right_shown) a ∙ sym h.same_order
-
--- the right one alone
-items_greater : (ts us : Trees) (right : List (Result Shown Error)) (x : Result Shown Error) (xs : List (Result Shown Error)) → ShowsTrees ts (x ∷ xs) → ShowsTrees us right → HasNoMore right → Greater ≡ trees_cmp ts us
-items_greater no_trees us right x xs h k b = let never : ⊥ = cc h in absurd never
-items_greater (tree t ts) no_trees right x xs h k b = refl
-items_greater (tree t ts) (tree u us) [] x xs h k b = absurd k
-items_greater (tree t ts) (tree u us) (Ok y ∷ ys) x xs h k b = absurd (b y ys refl)
-items_greater (tree t ts) (tree u us) (Err e ∷ ys) x xs h k b = absurd k
-
-pub right_items_ended : (left right : List (Result Shown Error)) (x : Result Shown Error) (xs : List (Result Shown Error)) (whole : Ordering) → ItemsLeft left right whole → left ≡ x ∷ xs → HasNoMore right → Greater ≡ whole
-right_items_ended left right x xs whole h a b = items_greater h.left_trees h.right_trees right x xs (subst (ShowsTrees h.left_trees) a h.left_shown) h.right_shown b ∙ sym h.same_order
-
--- both have an item
-items_front : (ts us : Trees) (x y : Shown) (xs ys : List (Result Shown Error)) (order whole : Ordering) → ShowsTrees ts (Ok x ∷ xs) → ShowsTrees us (Ok y ∷ ys)
-    → ((t u : Tree) → IsValue x t → IsValue y u → order ≡ tree_cmp t u) → whole ≡ trees_cmp ts us → Behind ItemsLeft xs ys order whole
-items_front no_trees us x y xs ys order whole h k told same = let never : ⊥ = cc h in absurd never
-items_front (tree t ts) no_trees x y xs ys order whole h k told same = let never : ⊥ = cc k in absurd never
-items_front (tree t ts) (tree u us) x y xs ys order whole h k told same =
-    let first : order ≡ tree_cmp t u = told t u (IsValue-IsItemOf t x h.0) (IsValue-IsItemOf u y k.0) in
-    record {
-      behind = trees_cmp ts us;
-      whole_is = same ∙ ap (λ (o : Ordering). ordering_then o (trees_cmp ts us)) (sym first);
-      others = record { left_trees = ts; right_trees = us; left_shown = h.1; right_shown = k.1; same_order = refl };
-    }
-
-pub items_step : (left right : List (Result Shown Error)) (x y : Shown) (xs ys : List (Result Shown Error)) (order whole : Ordering) → ItemsLeft left right whole → left ≡ Ok x ∷ xs → right ≡ Ok y ∷ ys
-    → ((t u : Tree) → IsValue x t → IsValue y u → order ≡ tree_cmp t u) → Behind ItemsLeft xs ys order whole
-items_step left right x y xs ys order whole h a b told =
-    items_front h.left_trees h.right_trees x y xs ys order whole (subst (ShowsTrees h.left_trees) a h.left_shown) (subst (ShowsTrees h.right_trees) b h.right_shown) told h.same_order
+  pub items_step : (order : Ordering) (ty uy : ℕ) (p q : List ℕ) (xs ys : Items)
+      → FirstChild h.left_trees ty p xs.entries.now xs.payloads.now → FirstChild h.right_trees uy q ys.entries.now ys.payloads.now
+      → ((t u : Tree) → IsPayloadOf ty p t → IsPayloadOf uy q u → order ≡ tree_cmp t u) → Behind (ItemsLeft xs ys) order whole
+  items_step order ty uy p q xs ys f g told = record {
+    behind = trees_cmp f.others g.others;
+    whole_is = h.same_order ∙ ap₂ trees_cmp f.are g.are ∙ ap (λ (o : Ordering). ordering_then o (trees_cmp f.others g.others)) (sym (told f.first g.first f.is g.is));
+    others = record { left_trees = f.others; right_trees = g.others; left_are = f.behind; right_are = g.behind; same_order = refl };
+  }
 
 -- The order of two objects is that of what is left of them.
-pub record PairsLeft (left right : List (Result (List ℕ × Shown) Error)) (whole : Ordering) : Type 0 where
+pub record PairsLeft (left right : Members) (whole : Ordering) : Type 0 where
   pub left_pairs : Pairs
   pub right_pairs : Pairs
-  pub left_shown : ShowsPairs left_pairs left
-  pub right_shown : ShowsPairs right_pairs right
+  pub left_are : AreMembers left_pairs left
+  pub right_are : AreMembers right_pairs right
   pub same_order : whole ≡ pairs_cmp left_pairs right_pairs
 
--- both have ended
-pairs_equal : (ps qs : Pairs) (left right : List (Result (List ℕ × Shown) Error)) → ShowsPairs ps left → ShowsPairs qs right → HasNoMore left → HasNoMore right → Equal ≡ pairs_cmp ps qs
-pairs_equal no_pairs no_pairs left right h k a b = refl
-pairs_equal no_pairs (pair l u qs) left [] h k a b = absurd k
-pairs_equal no_pairs (pair l u qs) left (Ok y ∷ ys) h k a b = absurd (b y ys refl)
-pairs_equal no_pairs (pair l u qs) left (Err e ∷ ys) h k a b = absurd k
-pairs_equal (pair m t ps) qs [] right h k a b = absurd h
-pairs_equal (pair m t ps) qs (Ok x ∷ xs) right h k a b = absurd (a x xs refl)
-pairs_equal (pair m t ps) qs (Err e ∷ xs) right h k a b = absurd h
+module _ (left right : Members) (whole : Ordering) (h : PairsLeft left right whole) where
+  pub pairs_ended : h.left_pairs ≡ no_pairs → h.right_pairs ≡ no_pairs → Equal ≡ whole
+  pairs_ended a b = sym (h.same_order ∙ ap₂ pairs_cmp a b)
 
-pub pairs_ended : (left right : List (Result (List ℕ × Shown) Error)) (whole : Ordering) → PairsLeft left right whole → HasNoMore left → HasNoMore right → Equal ≡ whole
-pairs_ended left right whole h a b = pairs_equal h.left_pairs h.right_pairs left right h.left_shown h.right_shown a b ∙ sym h.same_order
+  pub left_pairs_ended : (k : List ℕ) (ty : ℕ) (p : List ℕ) (ys : Members) → h.left_pairs ≡ no_pairs → FirstMember h.right_pairs k ty p ys → Less ≡ whole
+  left_pairs_ended k ty p ys a g = sym (h.same_order ∙ ap₂ pairs_cmp a g.are)
 
--- the left one alone
-pairs_less : (ps qs : Pairs) (left : List (Result (List ℕ × Shown) Error)) (y : Result (List ℕ × Shown) Error) (ys : List (Result (List ℕ × Shown) Error)) → ShowsPairs ps left → ShowsPairs qs (y ∷ ys) → HasNoMore left → Less ≡ pairs_cmp ps qs
-pairs_less no_pairs no_pairs left y ys h k a = let never : ⊥ = cc k in absurd never
-pairs_less no_pairs (pair l u qs) left y ys h k a = refl
-pairs_less (pair m t ps) qs [] y ys h k a = absurd h
-pairs_less (pair m t ps) qs (Ok x ∷ xs) y ys h k a = absurd (a x xs refl)
-pairs_less (pair m t ps) qs (Err e ∷ xs) y ys h k a = absurd h
+  pub right_pairs_ended : (k : List ℕ) (ty : ℕ) (p : List ℕ) (xs : Members) → FirstMember h.left_pairs k ty p xs → h.right_pairs ≡ no_pairs → Greater ≡ whole
+  right_pairs_ended k ty p xs f b = sym (h.same_order ∙ ap₂ pairs_cmp f.are b)
 
-pub left_pairs_ended : (left right : List (Result (List ℕ × Shown) Error)) (y : Result (List ℕ × Shown) Error) (ys : List (Result (List ℕ × Shown) Error)) (whole : Ordering) → PairsLeft left right whole → HasNoMore left → right ≡ y ∷ ys → Less ≡ whole
-left_pairs_ended left right y ys whole h a b = pairs_less h.left_pairs h.right_pairs left y ys h.left_shown (subst (ShowsPairs h.right_pairs) b h.right_shown) a ∙ sym h.same_order
-
--- the right one alone
-pairs_greater : (ps qs : Pairs) (right : List (Result (List ℕ × Shown) Error)) (x : Result (List ℕ × Shown) Error) (xs : List (Result (List ℕ × Shown) Error)) → ShowsPairs ps (x ∷ xs) → ShowsPairs qs right → HasNoMore right → Greater ≡ pairs_cmp ps qs
-pairs_greater no_pairs qs right x xs h k b = let never : ⊥ = cc h in absurd never
-pairs_greater (pair m t ps) no_pairs right x xs h k b = refl
-pairs_greater (pair m t ps) (pair l u qs) [] x xs h k b = absurd k
-pairs_greater (pair m t ps) (pair l u qs) (Ok y ∷ ys) x xs h k b = absurd (b y ys refl)
-pairs_greater (pair m t ps) (pair l u qs) (Err e ∷ ys) x xs h k b = absurd k
-
-pub right_pairs_ended : (left right : List (Result (List ℕ × Shown) Error)) (x : Result (List ℕ × Shown) Error) (xs : List (Result (List ℕ × Shown) Error)) (whole : Ordering) → PairsLeft left right whole → left ≡ x ∷ xs → HasNoMore right → Greater ≡ whole
-right_pairs_ended left right x xs whole h a b = pairs_greater h.left_pairs h.right_pairs right x xs (subst (ShowsPairs h.left_pairs) a h.left_shown) h.right_shown b ∙ sym h.same_order
-
--- both have a pair
-pairs_front : (ps qs : Pairs) (x y : List ℕ × Shown) (xs ys : List (Result (List ℕ × Shown) Error)) (order whole : Ordering) → ShowsPairs ps (Ok x ∷ xs) → ShowsPairs qs (Ok y ∷ ys)
-    → ((t u : Tree) → IsValue x.1 t → IsValue y.1 u → order ≡ ordering_then (slice_cmp nat_cmp x.0 y.0) (tree_cmp t u)) → whole ≡ pairs_cmp ps qs → Behind PairsLeft xs ys order whole
-pairs_front no_pairs qs x y xs ys order whole h k told same = let never : ⊥ = cc h in absurd never
-pairs_front (pair m t ps) no_pairs x y xs ys order whole h k told same = let never : ⊥ = cc k in absurd never
-pairs_front (pair m t ps) (pair l u qs) x y xs ys order whole h k told same =
-    let first : order ≡ ordering_then (slice_cmp nat_cmp x.0 y.0) (tree_cmp t u) = told t u (IsValue-IsItemOf t x.1 h.1.0) (IsValue-IsItemOf u y.1 k.1.0) in
-    let keys : slice_cmp nat_cmp x.0 y.0 ≡ slice_cmp nat_cmp m l = ap₂ (slice_cmp nat_cmp) h.0 k.0 in
-    let here : order ≡ ordering_then (slice_cmp nat_cmp m l) (tree_cmp t u) = first ∙ ap (λ (o : Ordering). ordering_then o (tree_cmp t u)) keys in
-    record {
-      behind = pairs_cmp ps qs;
-      whole_is = same ∙ sym (then_assoc (slice_cmp nat_cmp m l) (tree_cmp t u) (pairs_cmp ps qs)) ∙ ap (λ (o : Ordering). ordering_then o (pairs_cmp ps qs)) (sym here);
-      others = record { left_pairs = ps; right_pairs = qs; left_shown = h.1.1; right_shown = k.1.1; same_order = refl };
+  module _ (k l : List ℕ) (ty uy : ℕ) (p q : List ℕ) (xs ys : Members) (f : FirstMember h.left_pairs k ty p xs) (g : FirstMember h.right_pairs l uy q ys) where
+    -- the keys decide, or else the values and what is left behind them
+    pub keys_step : (order : Ordering) → order ≡ slice_cmp nat_cmp k l → Behind (λ o. o ≡ ordering_then (tree_cmp f.value g.value) (pairs_cmp f.others g.others)) order whole
+    keys_step order told = record {
+      behind = ordering_then (tree_cmp f.value g.value) (pairs_cmp f.others g.others);
+      whole_is = h.same_order ∙ ap₂ pairs_cmp f.are g.are ∙ ap (λ (o : Ordering). ordering_then o (ordering_then (tree_cmp f.value g.value) (pairs_cmp f.others g.others))) (sym told);
+      others = refl;
     }
 
-pub pairs_step : (left right : List (Result (List ℕ × Shown) Error)) (x y : List ℕ × Shown) (xs ys : List (Result (List ℕ × Shown) Error)) (order whole : Ordering) → PairsLeft left right whole
-    → left ≡ Ok x ∷ xs → right ≡ Ok y ∷ ys → ((t u : Tree) → IsValue x.1 t → IsValue y.1 u → order ≡ ordering_then (slice_cmp nat_cmp x.0 y.0) (tree_cmp t u)) → Behind PairsLeft xs ys order whole
-pairs_step left right x y xs ys order whole h a b told =
-    pairs_front h.left_pairs h.right_pairs x y xs ys order whole (subst (ShowsPairs h.left_pairs) a h.left_shown) (subst (ShowsPairs h.right_pairs) b h.right_shown) told h.same_order
+    pub values_step : (order : Ordering) → whole ≡ ordering_then (tree_cmp f.value g.value) (pairs_cmp f.others g.others)
+        → ((t u : Tree) → IsPayloadOf ty p t → IsPayloadOf uy q u → order ≡ tree_cmp t u) → Behind (PairsLeft xs ys) order whole
+    values_step order left_is told = record {
+      behind = pairs_cmp f.others g.others;
+      whole_is = left_is ∙ ap (λ (o : Ordering). ordering_then o (pairs_cmp f.others g.others)) (sym (told f.value g.value f.is g.is));
+      others = record { left_pairs = f.others; right_pairs = g.others; left_are = f.left; right_are = g.left; same_order = refl };
+    }
 
--- what the iterator of a document gives, if there is one
-pub walk_shows : {A : Type 0} (Shows : List (Result A Error) → Type 0) (n : ℕ) (r : Result (Option (Walk A)) Error) → IsOkAnd r (λ o. IsSomeAnd o (λ walk. (walk.count ≡ n) × Shows walk.rest))
-    → IsSomeAnd (result_unwrap_or r None) (λ walk. Shows walk.rest)
-walk_shows Shows n (Ok (Some walk)) h = h.1
-walk_shows Shows n (Ok None) h = h
-walk_shows Shows n (Err e) h = absurd h
+-- Parts of different types stand as their types do,
+pub type_rank-tree_cmp : (t u : Tree) → type_of t ≢ type_of u → nat_cmp (type_rank t) (type_rank u) ≡ tree_cmp t u
+type_rank-tree_cmp null null e = absurd (e refl)
+type_rank-tree_cmp (boolean true) (boolean true) e = absurd (e refl)
+type_rank-tree_cmp (boolean false) (boolean false) e = absurd (e refl)
+type_rank-tree_cmp (number x) (number y) e = absurd (e refl)
+type_rank-tree_cmp (text s) (text r) e = absurd (e refl)
+type_rank-tree_cmp (extension x) (extension y) e = absurd (e refl)
+type_rank-tree_cmp (array ts) (array us) e = absurd (e refl)
+type_rank-tree_cmp (array ts) (object us) e = absurd (e refl)
+type_rank-tree_cmp (object ts) (array us) e = absurd (e refl)
+type_rank-tree_cmp (object ts) (object us) e = absurd (e refl)
+type_rank-tree_cmp (boolean true) (boolean false) e = refl
+type_rank-tree_cmp (boolean false) (boolean true) e = refl
+type_rank-tree_cmp (boolean true) u e = refl
+type_rank-tree_cmp (boolean false) u e = refl
+type_rank-tree_cmp t (boolean true) e = refl
+type_rank-tree_cmp t (boolean false) e = refl
+type_rank-tree_cmp t u e = refl
 
--- What holds of arrays and of objects holds of all whose type is a container's.
-pub on_containers : (P : Tree → Type 0) → ((ts : Trees) → P (array ts)) → ((ps : Pairs) → P (object ps)) → (t : Tree) → type_of t ≡ 1342177280 → P t
-on_containers P a o (array ts) e = a ts
-on_containers P a o (object ps) e = o ps
-on_containers P a o null e = absurd (omega arith)
-on_containers P a o (boolean true) e = absurd (omega arith)
-on_containers P a o (boolean false) e = absurd (omega arith)
-on_containers P a o (number x) e = absurd (omega arith)
-on_containers P a o (text s) e = absurd (omega arith)
-on_containers P a o (extension x) e = absurd (omega arith)
+-- and of one type that has no payload they are the same.
+pub no_payload-tree_cmp : (t u : Tree) (ty : ℕ) → type_of t ≡ ty → type_of u ≡ ty → ty ≢ 268435456 → ty ≢ 536870912 → ty ≢ 1610612736 → ty ≢ 1342177280 → Equal ≡ tree_cmp t u
+no_payload-tree_cmp (text s) u ty a b w x y z = absurd (w (sym a))
+no_payload-tree_cmp (number n) u ty a b w x y z = absurd (x (sym a))
+no_payload-tree_cmp (extension n) u ty a b w x y z = absurd (y (sym a))
+no_payload-tree_cmp (array n) u ty a b w x y z = absurd (z (sym a))
+no_payload-tree_cmp (object n) u ty a b w x y z = absurd (z (sym a))
+no_payload-tree_cmp null null ty a b w x y z = refl
+no_payload-tree_cmp (boolean true) (boolean true) ty a b w x y z = refl
+no_payload-tree_cmp (boolean false) (boolean false) ty a b w x y z = refl
+no_payload-tree_cmp null (boolean true) ty a b w x y z = absurd (omega arith)
+no_payload-tree_cmp null (boolean false) ty a b w x y z = absurd (omega arith)
+no_payload-tree_cmp (boolean true) (boolean false) ty a b w x y z = absurd (omega arith)
+no_payload-tree_cmp (boolean false) (boolean true) ty a b w x y z = absurd (omega arith)
+no_payload-tree_cmp (boolean true) u ty a b w x y z = absurd (omega arith)
+no_payload-tree_cmp (boolean false) u ty a b w x y z = absurd (omega arith)
+no_payload-tree_cmp null u ty a b w x y z = absurd (omega arith)

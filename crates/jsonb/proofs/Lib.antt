@@ -16,11 +16,9 @@ pub mod InputLaws
 pub mod BuiltObjects
 pub mod MeantLaws
 pub mod ValueLaws
-pub mod Weights
 pub mod InStep
 pub mod UnlikeLaws
 pub mod OrderLaws
-pub mod Sizes
 pub mod LineLaws
 pub mod TextLaws
 pub mod BuiltMeanings

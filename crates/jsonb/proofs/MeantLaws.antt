@@ -1,13 +1,20 @@
 -- What `meaning_of` answers, and the items that mean a tree.
 use Rattle.std.proofs.Common.{◌≡◌, ℕ, List, inl, inr, refl, sym, ap, subst}
 use Rattle.jsonb_value.specs.Tree.{Tree}
+use Rattle.jsonb_value.specs.Tree as trees
+use Rattle.jsonb_value.specs.Value.{cow_bytes}
 use Rattle.jsonb_value.specs.Meaning.{document, other_bytes}
 use Rattle.jsonb_value.proofs.PayloadDecision.{Decided}
 use Rattle.jsonb_codec.specs.Doc.{Doc, IsDocument}
 use Rattle.jsonb_codec.proofs.Decision.{decide}
 use Rattle.jsonb_codec.proofs.Unique.{Doc-unique}
+use Rattle.jsonb.specs.declared.item.JsonbItem.{JsonbItem}
+use Rattle.jsonb.specs.declared.item.JsonbItem.TheVariants as items
+use Rattle.jsonb.specs.declared.owned.OwnedJsonb.{OwnedJsonb}
+use Rattle.jsonb.specs.declared.raw.RawJsonb.{RawJsonb}
 use Rattle.jsonb.specs.Code.{Means}
-use Rattle.jsonb.specs.Meant.{meaning_found, meaning_of, shown_meaning}
+use Rattle.jsonb.specs.Held.{number_held, extension_held}
+use Rattle.jsonb.specs.Meant.{meaning_found, meaning_of, shown_meaning, item_meaning}
 use Rattle.jsonb.specs.Shown.{Shown, null, boolean, number, text, extension, raw, owned}
 
 meaning_found-document : (b : List ℕ) (t : Tree) → Doc b t → (d : Decided (IsDocument b)) → meaning_found b d ≡ document t
@@ -56,3 +63,13 @@ Means-shown_meaning (text s) t e = cc
 Means-shown_meaning (extension given x) t e = cc
 Means-shown_meaning (raw b) t e = Doc-meaning_of b t e
 Means-shown_meaning (owned b) t e = Doc-meaning_of b t e
+
+-- An item that holds no bytes means the tree that it holds.
+pub value_meaning : (x : JsonbItem) → ((r : RawJsonb) → x ≡ items.Raw r → ⊥) → ((o : OwnedJsonb) → x ≡ items.Owned o → ⊥) → (t : Tree) × (item_meaning x ≡ document t)
+value_meaning items.Null r o = (trees.null, refl)
+value_meaning (items.Boolean b) r o = (trees.boolean b, refl)
+value_meaning (items.Number n) r o = (trees.number (number_held n), refl)
+value_meaning (items.String s) r o = (trees.text (cow_bytes s), refl)
+value_meaning (items.Extension e) r o = (trees.extension (extension_held e), refl)
+value_meaning (items.Raw b) r o = absurd (r b refl)
+value_meaning (items.Owned b) r o = absurd (o b refl)

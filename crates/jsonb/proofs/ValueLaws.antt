@@ -11,7 +11,6 @@ use Rattle.jsonb_value.specs.Tree as trees
 use Rattle.jsonb_value.specs.TreeOrder.{rank_of}
 use Rattle.std.specs.Result.{result_ok}
 use Rattle.jsonb_value.specs.Meaning.{document, other_bytes}
-use Rattle.jsonb_codec.proofs.Unique.{Doc-unique}
 use Rattle.jsonb_codec.specs.Doc.{Doc, IsDocument, type_of}
 use Rattle.jsonb.specs.declared.item.JsonbItem.{JsonbItem}
 use Rattle.jsonb.specs.declared.item_type.JsonbItemType.{JsonbItemType}
@@ -73,7 +72,7 @@ value_of_item t (raw b) p m e = (raw_container t p b e, m)
 value_of_item t (owned b) p m e = none_owned t p b e
 
 -- The item of an entry of a tree is its value,
-pub IsValue-IsItemOf : (t : Tree) (x : Shown) → IsItemOf t x → IsValue x t
+IsValue-IsItemOf : (t : Tree) (x : Shown) → IsItemOf t x → IsValue x t
 IsValue-IsItemOf t x h = value_of_item t x h.payload h.means h.item
 
 -- and so is the item of its document.
@@ -130,11 +129,7 @@ value_found b (Ok item) o doc told e =
     (doc.0, (doc.1, IsValue-IsItemIn doc.0 b (shown item) doc.1 (told doc.0 doc.1)))
 value_found b (Err q) o doc told e = absurd (told doc.0 doc.1)
 
--- It is the value of the one tree of the document,
-pub value_again : (b : List ℕ) (x : Shown) → (t : Tree) × (Doc b t × IsValue x t) → (u : Tree) → Doc b u → IsValue x u
-value_again b x h u doc = subst (IsValue x) (Doc-unique b h.0 u h.1.0 doc) h.1.1
-
--- which the bytes mean.
+-- The bytes mean its tree.
 pub value_meant : (b : List ℕ) (o : Option JsonbItem) → MatchOption o (IsDocument b → ⊥) (λ item. (t : Tree) × (Doc b t × IsValue (shown item) t))
     → MatchOption o (meaning_of b ≡ other_bytes b) (λ item. (t : Tree) × ((meaning_of b ≡ document t) × IsValue (shown item) t))
 value_meant b (Some item) h = (h.0, (meaning_of-document b h.0 h.1.0, h.1.1))

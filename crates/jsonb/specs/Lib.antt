@@ -2,6 +2,7 @@ pub mod Steps
 pub mod Raw
 pub mod Owned
 pub mod Kind
+pub mod Ranks
 pub mod Payloads
 pub mod Held
 pub mod Shown

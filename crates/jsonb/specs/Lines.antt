@@ -1,12 +1,7 @@
--- The text of a container by its lines, and which items have a text.
-use Rattle.std.specs.Prelude.{◌+◌, ◌<◌, ◌^◌, ℕ, ⊤, List, [], ◌∷◌, ◌++◌, codes, length, Result, Ok, Err}
-use Rattle.jsonb_value.specs.declared.error.Error.{Error}
-use Rattle.jsonb_value.specs.Tree.{Tree}
-use Rattle.jsonb_value.specs.Text.{Layout, in_one_line, on_lines, inside, line_start, colon, string_text}
-use Rattle.jsonb.specs.Shown.{Shown, null, boolean, number, text, extension, raw, owned}
-use Rattle.jsonb.specs.Code.{Means}
-use Rattle.jsonb.specs.Meant.{shown_meaning}
-use Rattle.jsonb.specs.Texts.{meant_text}
+-- The text of a container by its lines.
+use Rattle.std.specs.Prelude.{◌+◌, ◌<◌, ◌^◌, ℕ, ⊤, List, [], ◌∷◌, ◌++◌, codes}
+use Rattle.jsonb_value.specs.Tree.{Tree, Trees, no_trees, tree, Pairs, no_pairs, pair}
+use Rattle.jsonb_value.specs.Text.{Layout, in_one_line, on_lines, inside, line_start, colon, laid_out, string_text}
 
 -- the lines behind the first
 abbrev pub more_lines : Layout → List (List ℕ) → List ℕ
@@ -18,53 +13,18 @@ abbrev pub bracketed : Layout → List ℕ → List ℕ → List (List ℕ) → 
 bracketed l front end [] = front ++ end
 bracketed l front end (line ∷ lines) = front ++ (line_start (inside l) ++ (line ++ (more_lines (inside l) lines ++ (line_start l ++ end))))
 
--- the text of an item, and of a pair
-abbrev pub item_text : Layout → Result Shown Error → List ℕ
-item_text l (Ok x) = meant_text l (shown_meaning x)
-item_text l (Err e) = []
+-- the text of a pair
+abbrev pub pair_text : Layout → List ℕ → Tree → List ℕ
+pair_text l k t = string_text k ++ (colon l ++ laid_out l t)
 
-abbrev pub pair_text : Layout → Result (List ℕ × Shown) Error → List ℕ
-pair_text l (Ok p) = string_text p.0 ++ (colon l ++ meant_text l (shown_meaning p.1))
-pair_text l (Err e) = []
+-- the lines of an array's items, and of an object's pairs
+abbrev pub item_lines : Layout → Trees → List (List ℕ)
+item_lines l no_trees = []
+item_lines l (tree t ts) = laid_out l t ∷ item_lines l ts
 
--- the item of a pair
-abbrev pub value_in : Result (List ℕ × Shown) Error → Result Shown Error
-value_in (Ok p) = Ok p.1
-value_in (Err e) = Err e
-
--- how many bytes an item borrows or owns
-abbrev pub shown_size : Shown → ℕ
-shown_size null = 0
-shown_size (boolean b) = 0
-shown_size (number given x) = 0
-shown_size (text s) = 0
-shown_size (extension given e) = 0
-shown_size (raw b) = length b
-shown_size (owned b) = length b
-
-abbrev pub item_size : Result Shown Error → ℕ
-item_size (Ok x) = shown_size x
-item_size (Err e) = 0
-
--- There is an item, and it means a tree.
-abbrev pub HasTree : Result Shown Error → Type 0
-HasTree (Ok x) = (t : Tree) × Means x t
-HasTree (Err e) = ⊥
-
--- Each of the items means a tree, and borrows or owns less than so many bytes.
-abbrev pub AllInside : ℕ → List (Result Shown Error) → Type 0
-AllInside n [] = ⊤
-AllInside n (r ∷ rs) = (HasTree r × (item_size r < n)) × AllInside n rs
-
--- The item is no document by its bytes.
-abbrev pub IsScalar : Shown → Type 0
-IsScalar null = ⊤
-IsScalar (boolean b) = ⊤
-IsScalar (number given x) = ⊤
-IsScalar (text s) = ⊤
-IsScalar (extension given e) = ⊤
-IsScalar (raw b) = ⊥
-IsScalar (owned b) = ⊥
+abbrev pub pair_lines : Layout → Pairs → List (List ℕ)
+pair_lines l no_pairs = []
+pair_lines l (pair k t ps) = pair_text l k t ∷ pair_lines l ps
 
 -- The indentation of so many more containers can be counted.
 abbrev pub HasRoom : Layout → ℕ → Type 0

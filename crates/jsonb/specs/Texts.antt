@@ -2,7 +2,7 @@
 use Rattle.std.specs.Prelude.{ℕ, List, [], ◌∷◌, codes, encode_utf8_all}
 use Rattle.bstr.specs.Utf8.{lossy_chars}
 use Rattle.jsonb_value.specs.Meaning.{Meaning, document, other_bytes}
-use Rattle.jsonb_value.specs.Text.{Layout, in_one_line, on_lines, laid_out, compact, pretty}
+use Rattle.jsonb_value.specs.Text.{Layout, in_one_line, on_lines, compact, pretty}
 use Rattle.jsonb.specs.declared.text.Layout as given
 use Rattle.jsonb.specs.declared.text.Layout.TheVariants as layouts
 use Rattle.jsonb.specs.Meant.{meaning_of}
@@ -11,11 +11,6 @@ use Rattle.jsonb.specs.Meant.{meaning_of}
 abbrev pub layout_of : given.Layout → Layout
 layout_of layouts.InOneLine = in_one_line
 layout_of (layouts.OnLines depth) = on_lines depth
-
--- the text of a tree in a layout, and none of what is no document
-abbrev pub meant_text : Layout → Meaning → List ℕ
-meant_text l (document t) = laid_out l t
-meant_text l (other_bytes b) = []
 
 -- the text of any bytes, with U+FFFD for what is no UTF-8
 abbrev pub lossy_text : List ℕ → List ℕ

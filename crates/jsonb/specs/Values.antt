@@ -1,6 +1,5 @@
 -- Items that hold their value without a document around it, as the iterators give them.
-use Rattle.std.specs.Prelude.{◌≡◌, ℕ, List, [], ◌∷◌, Result, Ok}
-use Rattle.jsonb_value.specs.declared.error.Error.{Error}
+use Rattle.std.specs.Prelude.{◌≡◌, ℕ, List, []}
 use Rattle.jsonb_value.specs.Tree.{Tree}
 use Rattle.jsonb_value.specs.Tree as trees
 use Rattle.jsonb_codec.specs.declared.constants.TheConstants.{CONTAINER_TAG}
@@ -26,7 +25,3 @@ bytes_in (text s) = []
 bytes_in (extension given e) = []
 bytes_in (raw b) = b
 bytes_in (owned b) = b
-
--- No value is first: an iterator has ended or gives an error.
-abbrev pub HasNoMore : {A : Type 0} → List (Result A Error) → Type 0
-HasNoMore {A} xs = (x : A) (others : List (Result A Error)) → xs ≡ Ok x ∷ others → ⊥

@@ -47,6 +47,7 @@ fn count_pairs(bytes: &[u8], reads: &mut Reads) -> Result<Option<usize>, Error>
 }
 
 // The entry of this number: those of the keys, and behind them those of the values.
+#[inline(always)]
 #[tactic(auto, unfolding(crate::specs::Parts::part_length, crate::specs::Parts::part_type))]
 fn read_entry(bytes: &[u8], number: usize, reads: &mut Reads) -> Result<JEntry, Error>
     requires number { number < 2 ^ 30 }
@@ -64,6 +65,7 @@ fn read_entry(bytes: &[u8], number: usize, reads: &mut Reads) -> Result<JEntry, 
 }
 
 // That many bytes from a place on. `InvalidJsonb` where they run past the end.
+#[inline(always)]
 #[tactic(auto, unfolding(crate::specs::Item::part_at))]
 fn payload(bytes: &[u8], start: usize, size: usize) -> Result<&[u8], Error>
     requires { start + size < 2 ^ 64 }
@@ -71,7 +73,11 @@ fn payload(bytes: &[u8], start: usize, size: usize) -> Result<&[u8], Error>
     ensures there { IsOk result ↔ (start + size ≤ length bytes.now) }
     ensures past { IfErr result (λ e. e ≡ Error.InvalidJsonb) }
 {
-    bytes.get(start..start + size).ok_or(Error::InvalidJsonb)
+    let end = start + size;
+    if bytes.len() < end {
+        return Err(Error::InvalidJsonb);
+    }
+    Ok(&bytes[start..end])
 }
 
 // A pair whose key was accepted, and where that key ends.

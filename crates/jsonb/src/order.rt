@@ -1,41 +1,32 @@
 //! The order of values by what they mean: of all bytes, and of items. No comparison takes memory.
 
-ghost use Rattle.std.specs.Prelude.{◌≡◌, ◌∷◌, ℕ, List, None, Some, Ok, MatchOption, IfNone, IfSome, IsSomeAnd};
+ghost use Rattle.std.specs.Prelude.{◌≡◌, ℕ, List, Some, Ok, MatchOption};
 ghost use Rattle.std.specs.Cmp.{IsTotalOrder};
-ghost use Rattle.std.specs.Cmp.Lexicographic.{slice_cmp};
-ghost use Rattle.std.specs.Ordering.{nat_cmp, ordering_then, on};
+ghost use Rattle.std.specs.Ordering.{nat_cmp, on};
 ghost use Rattle.jsonb_value.specs.Meaning.{document, other_bytes, meaning_cmp};
 ghost use Rattle.jsonb_value.specs.Norm.{norm};
-ghost use Rattle.jsonb_value.specs.Tree.{Tree, Trees, Pairs, array, object};
-ghost use Rattle.jsonb_value.specs.TreeOrder.{rank_of, tree_cmp, trees_cmp, pairs_cmp};
-ghost use Rattle.jsonb_codec.specs.declared.constants.TheConstants.{CONTAINER_TAG};
-ghost use Rattle.jsonb_codec.specs.Doc.{Doc, IsDocument, type_of};
+ghost use Rattle.jsonb_value.specs.Tree.{Tree};
+ghost use Rattle.jsonb_value.specs.TreeOrder.{rank_of, tree_cmp};
+ghost use Rattle.jsonb_codec.specs.Doc.{Doc, IsDocument};
 ghost use Rattle.jsonb.specs.Code.{Means};
 ghost use Rattle.jsonb.specs.Kind.{kind, rank_order};
 ghost use Rattle.jsonb.specs.Meant.{meaning_of, shown_meaning, item_meaning};
 ghost use Rattle.jsonb.specs.Raw.{raw_bytes};
 ghost use Rattle.jsonb.specs.Shown.{Shown, shown};
-ghost use Rattle.jsonb.specs.Values.{IsValue, HasNoMore, bytes_in};
-ghost use Rattle.jsonb.specs.Walk.{array_walk, pairs_walk};
-ghost use Rattle.jsonb.specs.Walked.{ShowsTrees, ShowsPairs};
+ghost use Rattle.jsonb.specs.Values.{IsValue, bytes_in};
 
+mod documents;
 mod item;
 mod owned;
 mod raw;
 
 use crate::item::{JsonbItem, text_of};
 use crate::item_type::JsonbItemType;
-use crate::iterator::{ArrayIterator, ObjectIterator};
 use crate::raw::RawJsonb;
+use documents::{cmp_containers, cmp_documents};
+use jsonb_codec::is_document;
 use std::borrow::CowStr;
 use std::cmp::Ordering;
-
-// A pair of an object.
-#[derive(Drop)]
-struct Pair<'a> {
-    key: &'a str,
-    value: JsonbItem<'a>,
-}
 
 /// What bytes and items mean: a document its tree, all other bytes themselves, and an item the
 /// tree that it holds, or what its bytes mean.
@@ -66,15 +57,41 @@ pub fn order_of_bytes()
         → meaning_cmp (meaning_of l) (meaning_of m) ≡ meaning_cmp (meaning_of l) (meaning_of r) }
 {}
 
+/// The order of all bytes by what they mean.
+pub fn cmp_bytes(left: &[u8], right: &[u8]) -> Ordering
+    ensures { result ≡ meaning_cmp (meaning_of left.now) (meaning_of right.now) }
+{
+    match (is_document(left), is_document(right)) {
+        (true, true) => cmp_documents(left, right),
+        (true, false) => Ordering::Less,
+        (false, true) => Ordering::Greater,
+        (false, false) => left.cmp(&right),
+    }
+}
+
 /// The order of two items by what they mean.
 pub fn cmp_meanings(left: &JsonbItem<'_>, right: &JsonbItem<'_>) -> Ordering
     ensures { result ≡ meaning_cmp (item_meaning left.now) (item_meaning right.now) }
 {
+    if let (Some(left), Some(right)) = (bytes_of(left), bytes_of(right)) {
+        return cmp_bytes(left, right);
+    }
     match (value_of(left), value_of(right)) {
         (Some(left), Some(right)) => cmp_values(&left, &right),
         (Some(_), None) => Ordering::Less,
-        (None, Some(_)) => Ordering::Greater,
-        (None, None) => bytes_of(left).cmp(bytes_of(right)),
+        (None, _) => Ordering::Greater,
+    }
+}
+
+// The bytes of an item that holds bytes.
+fn bytes_of<'i>(item: &'i JsonbItem<'_>) -> Option<&'i [u8]>
+    ensures { MatchOption result ((t : Tree) × (item_meaning item.now ≡ document t))
+        (λ bytes. item_meaning item.now ≡ meaning_of bytes.now) }
+{
+    match item {
+        JsonbItem::Raw(raw) => Some(raw.as_bytes()),
+        JsonbItem::Owned(owned) => Some(owned.as_bytes()),
+        _ => None,
     }
 }
 
@@ -94,8 +111,8 @@ fn value_of<'i>(item: &'i JsonbItem<'_>) -> Option<JsonbItem<'i>>
     }
 }
 
-/// The value of a document. `None` where the bytes are none.
-pub fn value_in<'a>(raw: RawJsonb<'a>) -> Option<JsonbItem<'a>>
+// The value of a document. `None` where the bytes are none.
+fn value_in<'a>(raw: RawJsonb<'a>) -> Option<JsonbItem<'a>>
     ensures { MatchOption result (IsDocument (raw_bytes raw.entry) → ⊥)
         (λ value. (t : Tree) × (Doc (raw_bytes raw.entry) t × IsValue (shown value) t)) }
 {
@@ -106,20 +123,10 @@ pub fn value_in<'a>(raw: RawJsonb<'a>) -> Option<JsonbItem<'a>>
     }
 }
 
-// The bytes of an item that holds bytes.
-fn bytes_of<'i>(item: &'i JsonbItem<'_>) -> &'i [u8]
-    ensures { result.now ≡ bytes_in (shown item.now) }
-{
-    match item {
-        JsonbItem::Raw(raw) => raw.as_bytes(),
-        JsonbItem::Owned(owned) => owned.as_bytes(),
-        _ => &[],
-    }
-}
-
-/// The order of two values.
-#[cycle(values)]
-pub fn cmp_values(left: &JsonbItem<'_>, right: &JsonbItem<'_>) -> Ordering
+// The order of two values.
+fn cmp_values(left: &JsonbItem<'_>, right: &JsonbItem<'_>) -> Ordering
+    requires left { (t : Tree) × IsValue (shown left.now) t }
+    requires right { (t : Tree) × IsValue (shown right.now) t }
     ensures { (t u : Tree) → IsValue (shown left.now) t → IsValue (shown right.now) u
         → result ≡ tree_cmp t u }
 {
@@ -133,7 +140,9 @@ pub fn cmp_values(left: &JsonbItem<'_>, right: &JsonbItem<'_>) -> Ordering
             left.as_extension_value()
                 .cmp_value(&right.as_extension_value())
         }
-        (JsonbItem::Raw(left), JsonbItem::Raw(right)) => cmp_containers(*left, *right),
+        (JsonbItem::Raw(left), JsonbItem::Raw(right)) => {
+            cmp_containers(left.as_bytes(), right.as_bytes())
+        }
         _ => cmp_kinds(left, right),
     }
 }
@@ -147,127 +156,5 @@ fn cmp_kinds(left: &JsonbItem<'_>, right: &JsonbItem<'_>) -> Ordering
         (Ok(left), Ok(right)) => left.rank_cmp(&right).unwrap_or(Ordering::Equal),
         // Each value has a kind.
         _ => Ordering::Equal,
-    }
-}
-
-// The order of two documents that are arrays or objects: an array is above each object.
-#[cycle(values)]
-fn cmp_containers(left: RawJsonb<'_>, right: RawJsonb<'_>) -> Ordering
-    ensures { (t u : Tree) → type_of t ≡ CONTAINER_TAG → Doc (raw_bytes left.entry) t
-        → type_of u ≡ CONTAINER_TAG → Doc (raw_bytes right.entry) u → result ≡ tree_cmp t u }
-{
-    match (items_of(left), items_of(right)) {
-        (Some(left), Some(right)) => cmp_items(left, right),
-        (Some(_), None) => Ordering::Greater,
-        (None, Some(_)) => Ordering::Less,
-        (None, None) => cmp_objects(left, right),
-    }
-}
-
-// The items of a document that is an array, and nothing of another.
-fn items_of<'a>(raw: RawJsonb<'a>) -> Option<ArrayIterator<'a>>
-    ensures walk { IfSome result (λ items. array_walk (raw_bytes raw.entry) ≡ Ok (Some items)) }
-    ensures array { (ts : Trees) → Doc (raw_bytes raw.entry) (array ts)
-        → IsSomeAnd result (λ items. ShowsTrees ts items.rest) }
-    ensures object { (ps : Pairs) → Doc (raw_bytes raw.entry) (object ps) → result ≡ None }
-{
-    ArrayIterator::new(raw).unwrap_or(None)
-}
-
-// The order of two arrays: item by item, and then the shorter is less.
-#[cycle(values)]
-fn cmp_items(mut left: ArrayIterator<'_>, mut right: ArrayIterator<'_>) -> Ordering
-    ensures { (ts us : Trees) → ShowsTrees ts left.entry.rest → ShowsTrees us right.entry.rest
-        → result ≡ trees_cmp ts us }
-{
-    'items: loop {
-        match (next_item(&mut left), next_item(&mut right)) {
-            (None, None) => return Ordering::Equal,
-            (None, Some(_)) => return Ordering::Less,
-            (Some(_), None) => return Ordering::Greater,
-            (Some(left_item), Some(right_item)) => {
-                let order = cmp_values(&left_item, &right_item);
-                if order.is_ne() {
-                    return order;
-                }
-            }
-        }
-    }
-}
-
-// The next item of an array. No document gives an error.
-fn next_item<'a>(items: &mut ArrayIterator<'a>) -> Option<JsonbItem<'a>>
-    ensures some { IfSome result (λ item. items.old.rest ≡ Ok (shown item) ∷ items.new.rest) }
-    ensures none { IfNone result (HasNoMore items.old.rest) }
-{
-    match items.next() {
-        Some(Ok(item)) => Some(item),
-        _ => None,
-    }
-}
-
-// The order of two documents that are objects.
-#[cycle(values)]
-fn cmp_objects(left: RawJsonb<'_>, right: RawJsonb<'_>) -> Ordering
-    ensures { (ps qs : Pairs) → Doc (raw_bytes left.entry) (object ps)
-        → Doc (raw_bytes right.entry) (object qs) → result ≡ pairs_cmp ps qs }
-{
-    match (pairs_of(left), pairs_of(right)) {
-        (Some(left), Some(right)) => cmp_pairs(left, right),
-        // Each object has pairs.
-        _ => Ordering::Equal,
-    }
-}
-
-// The pairs of a document that is an object.
-fn pairs_of<'a>(raw: RawJsonb<'a>) -> Option<ObjectIterator<'a>>
-    ensures walk { IfSome result (λ pairs. pairs_walk (raw_bytes raw.entry) ≡ Ok (Some pairs)) }
-    ensures object { (ps : Pairs) → Doc (raw_bytes raw.entry) (object ps)
-        → IsSomeAnd result (λ pairs. ShowsPairs ps pairs.rest) }
-{
-    ObjectIterator::new(raw).unwrap_or(None)
-}
-
-// The order of two objects: pair by pair, and then the one with fewer pairs is less.
-#[cycle(values)]
-fn cmp_pairs(mut left: ObjectIterator<'_>, mut right: ObjectIterator<'_>) -> Ordering
-    ensures { (ps qs : Pairs) → ShowsPairs ps left.entry.rest → ShowsPairs qs right.entry.rest
-        → result ≡ pairs_cmp ps qs }
-{
-    'pairs: loop {
-        match (next_pair(&mut left), next_pair(&mut right)) {
-            (None, None) => return Ordering::Equal,
-            (None, Some(_)) => return Ordering::Less,
-            (Some(_), None) => return Ordering::Greater,
-            (Some(left_pair), Some(right_pair)) => {
-                let order = cmp_pair(&left_pair, &right_pair);
-                if order.is_ne() {
-                    return order;
-                }
-            }
-        }
-    }
-}
-
-// The next pair of an object. No document gives an error.
-fn next_pair<'a>(pairs: &mut ObjectIterator<'a>) -> Option<Pair<'a>>
-    ensures some { IfSome result (λ pair. pairs.old.rest ≡ Ok (pair.key.now, shown pair.value) ∷ pairs.new.rest) }
-    ensures none { IfNone result (HasNoMore pairs.old.rest) }
-{
-    match pairs.next() {
-        Some(Ok((key, value))) => Some(Pair { key, value }),
-        _ => None,
-    }
-}
-
-// The order of two pairs: the key by its bytes, and then the value.
-#[cycle(values)]
-fn cmp_pair(left: &Pair<'_>, right: &Pair<'_>) -> Ordering
-    ensures { (t u : Tree) → IsValue (shown left.now.value) t → IsValue (shown right.now.value) u
-        → result ≡ ordering_then (slice_cmp nat_cmp left.now.key.now right.now.key.now) (tree_cmp t u) }
-{
-    match left.key.cmp(right.key) {
-        Ordering::Equal => cmp_values(&left.value, &right.value),
-        unequal => unequal,
     }
 }

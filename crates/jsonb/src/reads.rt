@@ -39,6 +39,7 @@ impl Reads {
     /// The big endian word whose first byte stands at the index, and the tally raised by one.
     /// `InvalidEOF` where four bytes are not there: the tally stays. The tally must be below the
     /// greatest `u64`.
+    #[inline(always)]
     pub fn word(&mut self, bytes: &[u8], index: usize) -> Result<u32, Error>
         requires { self.old < u64.MAX }
         ensures word { result ≡ word_at bytes.now index }

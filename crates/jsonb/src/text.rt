@@ -1,6 +1,6 @@
 //! The texts of documents, written from their bytes in place, and documents of texts.
 
-ghost use Rattle.std.specs.Prelude.{◌≡◌, ◌≢◌, ◌⊎◌, ◌++◌, ◌≤◌, ◌<◌, List, [], All, Ok, Err, Some, chars, codes, length, map, string_bytes, IsOk, IfOk, IfErr, OnOk};
+ghost use Rattle.std.specs.Prelude.{◌≡◌, ◌≢◌, ◌⊎◌, ◌++◌, ◌+◌, ◌^◌, ◌≤◌, ◌<◌, ℕ, List, [], All, Err, Some, chars, codes, length, string_bytes, IsOk, IfOk, IfErr, OnOk};
 ghost use Rattle.std.specs.Str.{IsUtf8};
 ghost use Rattle.std.specs.Fmt.{WritesStyledOnOk, formatter_writer};
 ghost use Rattle.jsonb_value.specs.Tree.{Tree, Trees, Pairs, array, object};
@@ -10,27 +10,30 @@ ghost use Rattle.jsonb_value.specs.WellFormed.{IsTree};
 ghost use Rattle.jsonb_value.specs.ExtCode.{extension_of};
 ghost use Rattle.jsonb_value.specs.Json.Syntax.{Json};
 ghost use Rattle.jsonb_value.specs.Text as texts;
-ghost use Rattle.jsonb_value.specs.Text.{compact, pretty, inside, line_start, colon, quoted, extension_text};
-ghost use Rattle.jsonb_codec.specs.declared.constants.TheConstants.{CONTAINER_TAG};
+ghost use Rattle.jsonb_value.specs.Text.{compact, pretty, inside, line_start, colon, laid_out, quoted, extension_text};
+ghost use Rattle.jsonb_codec.specs.declared.constants.TheConstants.{CONTAINER_TAG, STRING_TAG};
 ghost use Rattle.jsonb_codec.specs.Canon.{canon, Fits};
+ghost use Rattle.jsonb_codec.specs.Canonical.{IsSomePayload};
+ghost use Rattle.jsonb_codec.specs.Contents.{AreItems, AreMembers};
+ghost use Rattle.jsonb_codec.specs.Parts.{IsPayloadOf};
 ghost use Rattle.jsonb_codec.specs.Reread.{MeansAgain};
-ghost use Rattle.jsonb_codec.specs.Doc.{Doc, IsDocument, type_of};
+ghost use Rattle.jsonb_codec.specs.Doc.{Doc, IsDocument};
 ghost use Rattle.jsonb.specs.Raw.{raw_bytes};
 ghost use Rattle.jsonb.specs.Owned.{owned_bytes};
-ghost use Rattle.jsonb.specs.Kind.{kind_of_tree};
-ghost use Rattle.jsonb.specs.Shown.{shown, shown_item, shown_pair};
-ghost use Rattle.jsonb.specs.Code.{Means};
-ghost use Rattle.jsonb.specs.Meant.{meaning_of, shown_meaning};
-ghost use Rattle.jsonb.specs.Texts.{layout_of, meant_text, lossy_text, other_text, shown_text, pretty_shown_text};
-ghost use Rattle.jsonb.specs.Lines.{bracketed, item_text, pair_text, value_in, item_size, HasTree, AllInside, IsScalar, HasRoom};
+ghost use Rattle.jsonb.specs.Texts.{layout_of, lossy_text, other_text, shown_text, pretty_shown_text};
+ghost use Rattle.jsonb.specs.Lines.{pair_text, HasRoom};
 
-use crate::item::{JsonbItem, text_of};
-use crate::item_type::JsonbItemType;
-use crate::iterator::{ArrayIterator, ObjectIterator};
 use crate::owned::OwnedJsonb;
 use crate::raw::RawJsonb;
 use bstr::ByteSlice;
 use jsonb_codec::Encoder;
+use jsonb_codec::constants::{
+    CONTAINER_TAG, FALSE_TAG, NULL_TAG, NUMBER_TAG, STRING_TAG, TRUE_TAG,
+};
+use jsonb_codec::parts::{
+    Contents, Items, Members, Part, extension_in, number_in, split_child, split_contents,
+    split_document, split_member, text_in,
+};
 use jsonb_value::{Error, ExtensionValue, extension_text, parse_value, write_number, write_string};
 use std::alloc::Global;
 use std::fmt;
@@ -54,7 +57,9 @@ impl<'a> RawJsonb<'a> {
             → IfOk result (λ text. string_bytes text ≡ raw_bytes self.now) }
         ensures memory { IfErr result (λ e. e ≡ Error.OutOfMemory) }
     {
-        let mut f = fmt::Formatter::new(String::new(alloc));
+        // The text is about as long as the bytes.
+        let text = String::with_capacity(alloc, self.len())?;
+        let mut f = fmt::Formatter::new(text);
         let answer = write_shown(*self, &mut f);
         written(answer, f)
     }
@@ -219,42 +224,82 @@ fn write_lossy<W: fmt::Write>(bytes: &[u8], f: &mut fmt::Formatter<W>) -> fmt::R
 }
 
 // The text of a document.
-#[cycle(text)]
 fn write_document<W: fmt::Write>(
     raw: RawJsonb,
     layout: Layout,
     f: &mut fmt::Formatter<W>,
 ) -> fmt::Result
     requires document { IsDocument (raw_bytes raw) }
-    requires room { HasRoom (layout_of layout) (length (raw_bytes raw)) }
-    ensures { WritesStyledOnOk W.write_str_gives f.old result (meant_text (layout_of layout) (meaning_of (raw_bytes raw.entry))) f.new }
+    requires room { (n : ℕ) → n < 2 ^ 64 → HasRoom (layout_of layout) n }
+    ensures { (t : Tree) → Doc (raw_bytes raw.entry) t
+        → WritesStyledOnOk W.write_str_gives f.old result (laid_out (layout_of layout) t) f.new }
 {
-    match kind_in(raw) {
-        JsonbItemType::Array(_) => write_array(raw, layout, f),
-        JsonbItemType::Object(_) => write_object(raw, layout, f),
-        _ => write_scalar(&scalar_in(raw), f),
+    let whole = split_document(raw.as_bytes());
+    write_part(whole.tag, whole.payload, layout, f)
+}
+
+// The text of a part of a document, by its type and payload.
+#[cycle(text)]
+#[inline(always)]
+fn write_part<W: fmt::Write>(
+    tag: u32,
+    payload: &[u8],
+    layout: Layout,
+    f: &mut fmt::Formatter<W>,
+) -> fmt::Result
+    requires some { IsSomePayload tag payload.now }
+    requires room { HasRoom (layout_of layout) (length payload.now) }
+    ensures { (t : Tree) → IsPayloadOf tag payload.now t
+        → WritesStyledOnOk W.write_str_gives f.old result (laid_out (layout_of layout) t) f.new }
+{
+    match tag {
+        STRING_TAG => write_string(text_in(payload), f),
+        CONTAINER_TAG => write_container(payload, layout, f),
+        _ => write_scalar(tag, payload, f),
     }
 }
 
 #[cycle(text)]
-fn write_array<W: fmt::Write>(
-    raw: RawJsonb,
+fn write_container<W: fmt::Write>(
+    bytes: &[u8],
     layout: Layout,
     f: &mut fmt::Formatter<W>,
 ) -> fmt::Result
-    requires array { (ts : Trees) × Doc (raw_bytes raw) (array ts) }
-    requires room { HasRoom (layout_of layout) (length (raw_bytes raw)) }
-    ensures { WritesStyledOnOk W.write_str_gives f.old result (meant_text (layout_of layout) (meaning_of (raw_bytes raw.entry))) f.new }
+    requires some { IsSomePayload CONTAINER_TAG bytes.now }
+    requires room { HasRoom (layout_of layout) (length bytes.now) }
+    ensures { (t : Tree) → IsPayloadOf CONTAINER_TAG bytes.now t
+        → WritesStyledOnOk W.write_str_gives f.old result (laid_out (layout_of layout) t) f.new }
 {
-    let mut items = items_in(raw);
-    let Some(first) = items.next() else {
+    match split_contents(bytes) {
+        Contents::Array(items) => write_items(items, layout, f),
+        Contents::Object(members) => write_members(members, layout, f),
+    }
+}
+
+#[cycle(text)]
+#[inline(always)]
+fn write_items<W: fmt::Write>(
+    items: Items<'_>,
+    layout: Layout,
+    f: &mut fmt::Formatter<W>,
+) -> fmt::Result
+    requires array { (ts : Trees) × AreItems ts items }
+    requires room { HasRoom (layout_of layout) (1 + length items.payloads.now) }
+    ensures { (ts : Trees) → AreItems ts items.entry
+        → WritesStyledOnOk W.write_str_gives f.old result (laid_out (layout_of layout) (array ts)) f.new }
+{
+    let Some(first) = split_child(items.entries, items.payloads) else {
         return f.write_str("[]");
     };
     f.write_str("[")?;
-    write_line(first, layout.inside(), f)?;
-    'items: for item in items {
+    write_line(first.part, layout.inside(), f)?;
+    let mut entries = first.entries;
+    let mut payloads = first.payloads;
+    'items: while let Some(next) = split_child(entries, payloads) {
         f.write_str(",")?;
-        write_line(item, layout.inside(), f)?;
+        write_line(next.part, layout.inside(), f)?;
+        entries = next.entries;
+        payloads = next.payloads;
     }
     layout.start_line(f)?;
     f.write_str("]")
@@ -262,40 +307,44 @@ fn write_array<W: fmt::Write>(
 
 // An item that stands in an array.
 #[cycle(text)]
+#[inline(always)]
 fn write_line<W: fmt::Write>(
-    item: Result<JsonbItem, Error>,
+    item: Part<'_>,
     layout: Layout,
     f: &mut fmt::Formatter<W>,
 ) -> fmt::Result
-    requires tree { HasTree (shown_item item) }
-    requires room { HasRoom (layout_of layout) (item_size (shown_item item)) }
-    ensures { WritesStyledOnOk W.write_str_gives f.old result
-        (line_start (layout_of layout) ++ item_text (layout_of layout) (shown_item item.entry)) f.new }
+    requires some { IsSomePayload item.tag item.payload.now }
+    requires room { HasRoom (layout_of layout) (length item.payload.now) }
+    ensures { (t : Tree) → IsPayloadOf item.entry.tag item.entry.payload.now t
+        → WritesStyledOnOk W.write_str_gives f.old result
+        (line_start (layout_of layout) ++ laid_out (layout_of layout) t) f.new }
 {
-    let Ok(item) = item else { unreachable!() };
     layout.start_line(f)?;
-    write_item(&item, layout, f)
+    write_part(item.tag, item.payload, layout, f)
 }
 
 #[cycle(text)]
-fn write_object<W: fmt::Write>(
-    raw: RawJsonb,
+#[inline(always)]
+fn write_members<W: fmt::Write>(
+    members: Members<'_>,
     layout: Layout,
     f: &mut fmt::Formatter<W>,
 ) -> fmt::Result
-    requires object { (ps : Pairs) × Doc (raw_bytes raw) (object ps) }
-    requires room { HasRoom (layout_of layout) (length (raw_bytes raw)) }
-    ensures { WritesStyledOnOk W.write_str_gives f.old result (meant_text (layout_of layout) (meaning_of (raw_bytes raw.entry))) f.new }
+    requires object { (ps : Pairs) × AreMembers ps members }
+    requires room { HasRoom (layout_of layout) (1 + length members.values.now) }
+    ensures { (ps : Pairs) → AreMembers ps members.entry
+        → WritesStyledOnOk W.write_str_gives f.old result (laid_out (layout_of layout) (object ps)) f.new }
 {
-    let mut pairs = pairs_in(raw);
-    let Some(first) = pairs.next() else {
+    let Some(first) = split_member(members) else {
         return f.write_str("{}");
     };
     f.write_str("{")?;
-    write_pair(first, layout.inside(), f)?;
-    'pairs: for pair in pairs {
+    write_member(first.key, first.value, layout.inside(), f)?;
+    let mut rest = first.behind;
+    'members: while let Some(next) = split_member(rest) {
         f.write_str(",")?;
-        write_pair(pair, layout.inside(), f)?;
+        write_member(next.key, next.value, layout.inside(), f)?;
+        rest = next.behind;
     }
     layout.start_line(f)?;
     f.write_str("}")
@@ -303,57 +352,38 @@ fn write_object<W: fmt::Write>(
 
 // A pair that stands in an object.
 #[cycle(text)]
-fn write_pair<W: fmt::Write>(
-    pair: Result<(&str, JsonbItem), Error>,
+#[inline(always)]
+fn write_member<W: fmt::Write>(
+    key: &str,
+    value: Part<'_>,
     layout: Layout,
     f: &mut fmt::Formatter<W>,
 ) -> fmt::Result
-    requires tree { HasTree (value_in (shown_pair pair)) }
-    requires room { HasRoom (layout_of layout) (item_size (value_in (shown_pair pair))) }
-    ensures { WritesStyledOnOk W.write_str_gives f.old result
-        (line_start (layout_of layout) ++ pair_text (layout_of layout) (shown_pair pair.entry)) f.new }
+    requires some { IsSomePayload value.tag value.payload.now }
+    requires room { HasRoom (layout_of layout) (length value.payload.now) }
+    ensures { (t : Tree) → IsPayloadOf value.entry.tag value.entry.payload.now t
+        → WritesStyledOnOk W.write_str_gives f.old result
+        (line_start (layout_of layout) ++ pair_text (layout_of layout) key.now t) f.new }
 {
-    let Ok((key, value)) = pair else {
-        unreachable!()
-    };
     layout.start_line(f)?;
     write_string(key, f)?;
     f.write_str(layout.colon())?;
-    write_item(&value, layout, f)
+    write_part(value.tag, value.payload, layout, f)
 }
 
-// The text of what an item means.
-#[cycle(text)]
-fn write_item<W: fmt::Write>(
-    item: &JsonbItem,
-    layout: Layout,
-    f: &mut fmt::Formatter<W>,
-) -> fmt::Result
-    requires tree { HasTree (Ok (shown item.now)) }
-    requires room { HasRoom (layout_of layout) (item_size (Ok (shown item.now))) }
-    ensures { WritesStyledOnOk W.write_str_gives f.old result (meant_text (layout_of layout) (shown_meaning (shown item.now))) f.new }
+// The text of a part that is no container.
+fn write_scalar<W: fmt::Write>(tag: u32, payload: &[u8], f: &mut fmt::Formatter<W>) -> fmt::Result
+    requires some { IsSomePayload tag payload.now }
+    requires scalar { (tag ≢ CONTAINER_TAG) × (tag ≢ STRING_TAG) }
+    ensures { (l : texts.Layout) (t : Tree) → IsPayloadOf tag payload.now t
+        → WritesStyledOnOk W.write_str_gives f.old result (laid_out l t) f.new }
 {
-    match item {
-        JsonbItem::Raw(raw) => write_document(*raw, layout, f),
-        JsonbItem::Owned(owned) => write_document(owned.as_raw(), layout, f),
-        _ => write_scalar(item, f),
-    }
-}
-
-// The text of an item that is no document.
-fn write_scalar<W: fmt::Write>(item: &JsonbItem, f: &mut fmt::Formatter<W>) -> fmt::Result
-    requires { IsScalar (shown item.now) }
-    ensures { (l : texts.Layout)
-        → WritesStyledOnOk W.write_str_gives f.old result (meant_text l (shown_meaning (shown item.now))) f.new }
-{
-    match item {
-        JsonbItem::Null => f.write_str("null"),
-        JsonbItem::Boolean(true) => f.write_str("true"),
-        JsonbItem::Boolean(false) => f.write_str("false"),
-        JsonbItem::Number(number) => write_number(&number.as_number(), f),
-        JsonbItem::String(text) => write_string(text_of(text), f),
-        JsonbItem::Extension(extension) => write_quoted(&extension.as_extension_value(), f),
-        JsonbItem::Raw(_) | JsonbItem::Owned(_) => unreachable!(),
+    match tag {
+        NULL_TAG => f.write_str("null"),
+        TRUE_TAG => f.write_str("true"),
+        FALSE_TAG => f.write_str("false"),
+        NUMBER_TAG => write_number(&number_in(payload), f),
+        _ => write_quoted(&extension_in(payload), f),
     }
 }
 
@@ -364,52 +394,4 @@ fn write_quoted<W: fmt::Write>(value: &ExtensionValue, f: &mut fmt::Formatter<W>
     f.write_str("\"")?;
     extension_text(value, f)?;
     f.write_str("\"")
-}
-
-// What a document holds, by its kind.
-fn kind_in(raw: RawJsonb) -> JsonbItemType
-    requires { IsDocument (raw_bytes raw) }
-    ensures { (t : Tree) → Doc (raw_bytes raw.entry) t → result ≡ kind_of_tree t }
-{
-    let Ok(kind) = raw.jsonb_item_type() else {
-        unreachable!()
-    };
-    kind
-}
-
-fn scalar_in(raw: RawJsonb<'_>) -> JsonbItem<'_>
-    requires { (t : Tree) × (Doc (raw_bytes raw) t × (type_of t ≢ CONTAINER_TAG)) }
-    ensures plain { IsScalar (shown result) }
-    ensures means { (t : Tree) → Doc (raw_bytes raw.entry) t → Means (shown result) t }
-{
-    let Ok(item) = JsonbItem::from_raw_jsonb(raw) else {
-        unreachable!()
-    };
-    item
-}
-
-fn items_in(raw: RawJsonb<'_>) -> ArrayIterator<'_>
-    requires { (ts : Trees) × Doc (raw_bytes raw) (array ts) }
-    ensures text { (l : texts.Layout)
-        → bracketed l (codes "[") (codes "]") (map (item_text (inside l)) result.rest)
-        ≡ meant_text l (meaning_of (raw_bytes raw.entry)) }
-    ensures inside { AllInside (length (raw_bytes raw.entry)) result.rest }
-{
-    let Ok(Some(items)) = ArrayIterator::new(raw) else {
-        unreachable!()
-    };
-    items
-}
-
-fn pairs_in(raw: RawJsonb<'_>) -> ObjectIterator<'_>
-    requires { (ps : Pairs) × Doc (raw_bytes raw) (object ps) }
-    ensures text { (l : texts.Layout)
-        → bracketed l (codes "{") (codes "}") (map (pair_text (inside l)) result.rest)
-        ≡ meant_text l (meaning_of (raw_bytes raw.entry)) }
-    ensures inside { AllInside (length (raw_bytes raw.entry)) (map value_in result.rest) }
-{
-    let Ok(Some(pairs)) = ObjectIterator::new(raw) else {
-        unreachable!()
-    };
-    pairs
 }

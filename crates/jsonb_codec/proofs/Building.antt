@@ -70,9 +70,6 @@ value_room k t ps others e p are h = let m = length-Values ps e p h in let n = a
 pub first_value : (ty n : ℕ) (rest e p : List ℕ) → Read ty n rest e → (k : List ℕ) (t : Tree) (ps others : Pairs) → ps ≡ pair k t others → Values ps e p → Front (type_of t) ty n (Payload t) (Values others) rest p
 first_value ty n rest e p read k t ps others are h = front_one ty n rest e p read (type_of t) (Payload t) (Values others) (IsType-type_of t) (subst (λ x. Values x e p) are h)
 
-pub values_end : (ps : Pairs) (e p : List ℕ) → ps ≡ no_pairs → Values ps e p → (e ≡ []) × (p ≡ [])
-values_end ps e p are h = let none = subst (λ x. Values x e p) are h in (none.no_entries, none.no_payloads)
-
 -- bytes of one type mean one tree
 pub meant : (ty : ℕ) (p : List ℕ) (t u : Tree) → IsPayloadOf ty p t → IsPayloadOf ty p u → t ≡ u
 meant ty p t u h k = same_tree t u (h.0 ∙ sym k.0) p h.1 k.1

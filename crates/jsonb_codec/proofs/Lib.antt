@@ -18,3 +18,4 @@ pub mod ZeroLaws
 pub mod Vectors
 pub mod Sorted
 pub mod Building
+pub mod Filling

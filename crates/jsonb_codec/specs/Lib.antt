@@ -7,6 +7,7 @@ pub mod Decoder
 pub mod Canon
 pub mod Canonical
 pub mod Rewriting
+pub mod Contents
 pub mod Reread
 pub mod Depth
 pub mod Node

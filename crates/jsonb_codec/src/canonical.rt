@@ -1,6 +1,5 @@
 //! Which byte strings are canonical documents, and the canonical form of every document.
 
-mod parts;
 mod rewrite;
 
 ghost use Rattle.std.specs.Prelude.{◌↔◌, IsTrue};
@@ -8,8 +7,8 @@ ghost use Rattle.jsonb_codec.specs.Canonical.{IsCanonical, IsSomePayload, AreSom
 
 use crate::constants::{CONTAINER_TAG, EXTENSION_TAG, NUMBER_TAG};
 use crate::document::is_document;
+use crate::parts::{Part, split_child, split_container, split_document};
 use jsonb_value::{ExtensionValue, Number};
-use parts::{Part, split_child, split_container, split_document};
 pub use rewrite::append_canonical;
 
 /// Whether the bytes are the one document that is written for some tree: a document in which each

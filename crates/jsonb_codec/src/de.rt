@@ -1,24 +1,24 @@
 //! Documents read into values: the check, and then a build that only memory can refuse.
 
-ghost use Rattle.std.specs.Prelude.{◌≡◌, ◌≢◌, ◌⊎◌, ◌+◌, ◌%◌, ◌<◌, ◌≤◌, ◌^◌, ◌++◌, [], ℕ, List, length, IfOk, IfErr, OnOk, OnErr};
-ghost use Rattle.std.specs.Str.{IsUtf8};
-ghost use Rattle.jsonb_value.specs.declared.number.Number.{Number};
-ghost use Rattle.jsonb_value.specs.NumCode.{NumCode};
-ghost use Rattle.jsonb_value.specs.ExtCode.{ExtCode, extension_of};
-ghost use Rattle.jsonb_value.specs.Tree.{Tree, Trees, Pairs, Extension, extension};
+ghost use Rattle.std.specs.Prelude.{◌≡◌, ◌≢◌, ◌⊎◌, ◌++◌, ◌∷◌, [], string_cmp, IfOk, IfErr, OnOk, OnErr};
+ghost use Rattle.std.specs.BTreeMap.{insert_entry};
+ghost use Rattle.jsonb_value.specs.declared.value.Value.{Value};
+ghost use Rattle.jsonb_value.specs.ExtCode.{extension_of};
+ghost use Rattle.jsonb_value.specs.Tree.{Tree, Trees, Pairs, Ascend, extension};
 ghost use Rattle.jsonb_value.specs.Value.{tree_of, items_view, pairs_view};
-ghost use Rattle.jsonb_codec.specs.Word.{word};
 ghost use Rattle.jsonb_codec.specs.Doc.{Doc, IsDocument};
 ghost use Rattle.jsonb_codec.specs.Fault.{IsTreeFault, IsDecoderFault};
-ghost use Rattle.jsonb_codec.specs.Parts.{IsFault, IsPayloadOf, IsArray, IsObject, KeysThen};
+ghost use Rattle.jsonb_codec.specs.Parts.{IsFault, IsPayloadOf};
+ghost use Rattle.jsonb_codec.specs.Canonical.{IsSomePayload, AreSomeChildren};
+ghost use Rattle.jsonb_codec.specs.Contents.{AreItems, AreMembers};
 
-use crate::constants::{
-    ARRAY_CONTAINER_TAG, CONTAINER_TAG, FALSE_TAG, NULL_TAG, NUMBER_TAG, SCALAR_CONTAINER_TAG,
-    STRING_TAG, TRUE_TAG,
-};
+use crate::constants::{CONTAINER_TAG, FALSE_TAG, NULL_TAG, NUMBER_TAG, STRING_TAG, TRUE_TAG};
 use crate::document::{FaultTable, check};
-use crate::word::{Tagged, split_entry, split_header};
-use jsonb_value::{Error, ExtensionValue, Number, Object, Value};
+use crate::parts::{
+    Contents, Items, Members, Part, extension_in, number_in, split_child, split_contents,
+    split_document, split_member, text_in,
+};
+use jsonb_value::{Error, ExtensionValue, Object, Value};
 use std::alloc::Global;
 use std::borrow::CowStr;
 use std::collections::BTreeMap;
@@ -95,145 +95,121 @@ fn build<'a>(alloc: Global, bytes: &'a [u8]) -> Result<Value<'a>, Error>
     ensures ok { IfOk result (λ v. Doc bytes.now (tree_of v)) }
     ensures memory { IfErr result (λ e. e ≡ Error.OutOfMemory) }
 {
-    let header = header_of(bytes);
-    if header.tag == SCALAR_CONTAINER_TAG {
-        let entry = entry_of(header.rest);
-        Ok(build_scalar(entry.tag, entry.rest))
+    let whole = split_document(bytes);
+    if whole.tag == CONTAINER_TAG {
+        build_container(alloc, whole.payload)
     } else {
-        build_container(alloc, bytes)
+        Ok(build_scalar(whole.tag, whole.payload))
     }
 }
 
-// The value of a payload.
+// Pushes the value of a part. Each kind is pushed where it is made, since a value is large to
+// move.
 #[cycle(value)]
-fn build_payload<'a>(alloc: Global, tag: u32, payload: &'a [u8]) -> Result<Value<'a>, Error>
-    requires { (t : Tree) × IsPayloadOf tag payload.now t }
-    ensures ok { IfOk result (λ v. IsPayloadOf tag payload.now (tree_of v)) }
+#[inline(always)]
+fn push_part<'a>(alloc: Global, items: &mut Vec<Value<'a>>, part: Part<'a>) -> Result<(), Error>
+    requires { IsSomePayload part.tag part.payload.now }
+    ensures ok { OnOk result ((v : Value) × ((items.new.items ≡ items.old.items ++ v ∷ [])
+        × ((t : Tree) → IsPayloadOf part.entry.tag part.entry.payload.now t → tree_of v ≡ t))) }
     ensures memory { IfErr result (λ e. e ≡ Error.OutOfMemory) }
 {
-    if tag == CONTAINER_TAG {
-        build_container(alloc, payload)
+    if part.tag == CONTAINER_TAG {
+        items.push(build_container(alloc, part.payload)?)?;
     } else {
-        Ok(build_scalar(tag, payload))
+        items.push(build_scalar(part.tag, part.payload))?;
     }
+    Ok(())
+}
+
+// Puts the value of a part under the key.
+#[cycle(value)]
+#[inline(always)]
+fn insert_part<'a>(
+    alloc: Global,
+    members: &mut Object<'a>,
+    key: String,
+    part: Part<'a>,
+) -> Result<(), Error>
+    requires { IsSomePayload part.tag part.payload.now }
+    ensures ok { OnOk result ((v : Value)
+        × ((members.new.entries ≡ insert_entry string_cmp members.old.entries key v)
+        × ((t : Tree) → IsPayloadOf part.entry.tag part.entry.payload.now t → tree_of v ≡ t))) }
+    ensures memory { IfErr result (λ e. e ≡ Error.OutOfMemory) }
+{
+    let value = if part.tag == CONTAINER_TAG {
+        build_container(alloc, part.payload)?
+    } else {
+        build_scalar(part.tag, part.payload)
+    };
+    drop(members.insert(key, value)?);
+    Ok(())
 }
 
 // The value of a whole array or object.
 #[cycle(value)]
 fn build_container<'a>(alloc: Global, bytes: &'a [u8]) -> Result<Value<'a>, Error>
-    requires { (t : Tree) × IsPayloadOf CONTAINER_TAG bytes.now t }
-    ensures ok { IfOk result (λ v. IsPayloadOf CONTAINER_TAG bytes.now (tree_of v)) }
+    requires { IsSomePayload CONTAINER_TAG bytes.now }
+    ensures ok { IfOk result (λ v. (t : Tree) → IsPayloadOf CONTAINER_TAG bytes.now t → tree_of v ≡ t) }
     ensures memory { IfErr result (λ e. e ≡ Error.OutOfMemory) }
 {
-    let header = header_of(bytes);
-    if header.tag == ARRAY_CONTAINER_TAG {
-        Ok(Value::Array(build_items(alloc, header.number, header.rest)?))
-    } else {
-        Ok(Value::Object(build_pairs(alloc, header.number, header.rest)?))
+    match split_contents(bytes) {
+        Contents::Array(items) => Ok(Value::Array(build_items(alloc, items)?)),
+        Contents::Object(members) => Ok(Value::Object(build_members(alloc, members)?)),
     }
 }
 
-// The items of an array of that many.
+// The items of an array.
 #[cycle(value)]
-fn build_items<'a>(alloc: Global, count: usize, body: &'a [u8]) -> Result<Vec<Value<'a>>, Error>
-    requires { (ts : Trees) × IsArray count body.now ts }
-    ensures ok { IfOk result (λ v. IsArray count body.now (items_view v.items)) }
+fn build_items<'a>(alloc: Global, items: Items<'a>) -> Result<Vec<Value<'a>>, Error>
+    requires { AreSomeChildren items.entries.now items.payloads.now }
+    ensures ok { IfOk result (λ v. (ts : Trees) → AreItems ts items.entry → items_view v.items ≡ ts) }
     ensures memory { IfErr result (λ e. e ≡ Error.OutOfMemory) }
 {
-    let (mut entries_left, mut payloads_left) = body.split_at(4 * count);
-    let mut items = Vec::with_capacity(alloc, count)?;
-    while let Some(entry) = split_entry(entries_left) {
-        let (payload, behind) = payloads_left.split_at(entry.number);
-        items.push(build_payload(alloc, entry.tag, payload)?)?;
-        entries_left = entry.rest;
-        payloads_left = behind;
+    let mut left = items;
+    let mut built = Vec::with_capacity(alloc, items.entries.len() / 4)?;
+    while let Some(child) = split_child(left.entries, left.payloads) {
+        push_part(alloc, &mut built, child.part)?;
+        left = Items {
+            entries: child.entries,
+            payloads: child.payloads,
+        };
     }
-    Ok(items)
+    Ok(built)
 }
 
-// The pairs of an object of that many. Its keys ascend, so each is put behind those before it.
+// The members of an object. Their keys ascend, so each is put behind those before it.
 #[cycle(value)]
-fn build_pairs<'a>(alloc: Global, count: usize, body: &'a [u8]) -> Result<Object<'a>, Error>
-    requires { (ps : Pairs) × IsObject count body.now ps }
-    ensures ok { IfOk result (λ m. IsObject count body.now (pairs_view m.entries)) }
+fn build_members<'a>(alloc: Global, members: Members<'a>) -> Result<Object<'a>, Error>
+    requires { (ps : Pairs) × AreMembers ps members }
+    ensures ok { IfOk result (λ m. (ps : Pairs) → Ascend ps → AreMembers ps members.entry
+        → pairs_view m.entries ≡ ps) }
     ensures memory { IfErr result (λ e. e ≡ Error.OutOfMemory) }
 {
-    let (mut key_entries_left, behind_keys) = body.split_at(4 * count);
-    let (mut value_entries_left, mut keys_left) = behind_keys.split_at(4 * count);
-    let mut values_left = after_keys(key_entries_left, keys_left);
-    let mut pairs = BTreeMap::new(alloc);
-    while let Some(key_entry) = split_entry(key_entries_left) {
-        let value_entry = entry_of(value_entries_left);
-        let (key, keys_behind) = keys_left.split_at(key_entry.number);
-        let (payload, values_behind) = values_left.split_at(value_entry.number);
-        let key = String::from_str(alloc, text_of(key))?;
-        let value = build_payload(alloc, value_entry.tag, payload)?;
-        drop(pairs.insert(key, value)?);
-        key_entries_left = key_entry.rest;
-        value_entries_left = value_entry.rest;
-        keys_left = keys_behind;
-        values_left = values_behind;
+    let mut left = members;
+    let mut built = BTreeMap::new(alloc);
+    while let Some(member) = split_member(left) {
+        let key = String::from_str(alloc, member.key)?;
+        insert_part(alloc, &mut built, key, member.value)?;
+        left = member.behind;
     }
-    Ok(pairs)
-}
-
-// What stands behind the keys of these entries.
-fn after_keys<'a>(key_entries: &[u8], payloads: &'a [u8]) -> &'a [u8]
-    requires { (ps : Pairs) × ((q : List ℕ) × KeysThen ps key_entries.now payloads.now q) }
-    ensures { (ps : Pairs) (q : List ℕ) → KeysThen ps key_entries.now payloads.now q
-        → result.now ≡ q }
-{
-    let mut entries_left = key_entries;
-    let mut payloads_left = payloads;
-    while let Some(entry) = split_entry(entries_left) {
-        let (_, behind) = payloads_left.split_at(entry.number);
-        entries_left = entry.rest;
-        payloads_left = behind;
-    }
-    payloads_left
+    Ok(built)
 }
 
 // The value of a payload that is no container.
+#[inline(always)]
 fn build_scalar<'a>(tag: u32, payload: &'a [u8]) -> Value<'a>
     requires scalar { tag ≢ CONTAINER_TAG }
-    requires means { (t : Tree) × IsPayloadOf tag payload.now t }
-    ensures { IsPayloadOf tag payload.now (tree_of result) }
+    requires some { IsSomePayload tag payload.now }
+    ensures { (t : Tree) → IsPayloadOf tag payload.now t → tree_of result ≡ t }
 {
     match tag {
         NULL_TAG => Value::Null,
         FALSE_TAG => Value::Bool(false),
         TRUE_TAG => Value::Bool(true),
-        STRING_TAG => Value::String(CowStr::Borrowed(text_of(payload))),
-        NUMBER_TAG => Value::Number(number_of(payload)),
+        STRING_TAG => Value::String(CowStr::Borrowed(text_in(payload))),
+        NUMBER_TAG => Value::Number(number_in(payload)),
         _ => value_of_extension(extension_in(payload)),
     }
-}
-
-fn text_of(payload: &[u8]) -> &str
-    requires { IsUtf8 payload.now }
-    ensures { result.now ≡ payload.now }
-{
-    unsafe { str::from_utf8_unchecked(payload) }
-}
-
-fn number_of(payload: &[u8]) -> Number
-    requires { (x : Number) × NumCode payload.now x }
-    ensures { NumCode payload.now result }
-{
-    let Ok(number) = Number::decode(payload) else {
-        unreachable!()
-    };
-    number
-}
-
-fn extension_in<'a>(payload: &'a [u8]) -> ExtensionValue<'a>
-    requires { (x : Extension) × ExtCode payload.now x }
-    ensures { ExtCode payload.now (extension_of result) }
-{
-    let Ok(extension) = ExtensionValue::decode(payload) else {
-        unreachable!()
-    };
-    extension
 }
 
 fn value_of_extension<'a>(given: ExtensionValue<'a>) -> Value<'a>
@@ -247,31 +223,4 @@ fn value_of_extension<'a>(given: ExtensionValue<'a>) -> Value<'a>
         ExtensionValue::Interval(interval) => Value::Interval(interval),
         ExtensionValue::Opaque(opaque) => Value::Opaque(opaque),
     }
-}
-
-// The header and the entry at the front, where one is there.
-fn header_of(bytes: &[u8]) -> Tagged
-    requires { 4 ≤ length bytes.now }
-    ensures found { bytes.now ≡ word (result.tag + result.number) ++ result.rest.now }
-    ensures tag { result.tag % 2 ^ 29 ≡ 0 }
-    ensures number { result.number < 2 ^ 29 }
-    ensures small { result.tag + result.number < 2 ^ 32 }
-{
-    let Some(header) = split_header(bytes) else {
-        unreachable!()
-    };
-    header
-}
-
-fn entry_of(entries: &[u8]) -> Tagged
-    requires { 4 ≤ length entries.now }
-    ensures found { entries.now ≡ word (result.tag + result.number) ++ result.rest.now }
-    ensures tag { result.tag % 2 ^ 28 ≡ 0 }
-    ensures number { result.number < 2 ^ 28 }
-    ensures small { result.tag + result.number < 2 ^ 32 }
-{
-    let Some(entry) = split_entry(entries) else {
-        unreachable!()
-    };
-    entry
 }

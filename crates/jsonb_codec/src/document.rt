@@ -290,6 +290,7 @@ fn check_keys<'a>(
 }
 
 // Whether a child can be the key that follows that one.
+#[inline(always)]
 fn is_key_after(before: Option<&[u8]>, tag: u32, key: &[u8]) -> bool
     ensures { IsTrue result ↔ IsKeyAfter (option_map (λ b. b.now) before.entry) tag key.now }
 {
@@ -301,6 +302,7 @@ fn is_key_after(before: Option<&[u8]>, tag: u32, key: &[u8]) -> bool
 }
 
 // The payload of an entry, and what stands behind it.
+#[inline(always)]
 fn split_payload<'a>(
     faults: FaultTable,
     tag: u32,
@@ -321,6 +323,7 @@ fn split_payload<'a>(
 
 // The payload of an entry of this type.
 #[cycle(container)]
+#[inline(always)]
 fn check_payload(faults: FaultTable, depth: usize, tag: u32, payload: &[u8]) -> Result<(), Error>
     ensures { Tells faults result (HasPayload depth tag payload.now) }
 {
@@ -332,12 +335,15 @@ fn check_payload(faults: FaultTable, depth: usize, tag: u32, payload: &[u8]) -> 
 }
 
 // The payload of an entry of this type, which is no container.
+#[inline(always)]
 fn check_scalar_payload(faults: FaultTable, tag: u32, payload: &[u8]) -> Result<(), Error>
     requires { tag ≢ CONTAINER_TAG }
     ensures { Tells faults result (HasPayload 0 tag payload.now) }
 {
     match tag {
         NULL_TAG | FALSE_TAG | TRUE_TAG if payload.is_empty() => Ok(()),
+        // Most texts are ASCII, which is sooner told.
+        STRING_TAG if payload.is_ascii() => Ok(()),
         STRING_TAG => match str::from_utf8(payload) {
             Ok(_) => Ok(()),
             Err(_) => Err(Error::InvalidUtf8),

@@ -19,6 +19,7 @@ impl JEntry {
     ghost use Rattle.jsonb_codec.specs.JEntry.{jentry_of};
 
     /// The entry in a word: type and length stand behind their masks, the top bit is passed over.
+    #[inline(always)]
     pub fn decode_jentry(encoded: u32) -> JEntry
         ensures value { result ≡ jentry_of encoded }
         ensures type_code { result.type_code ≡ bit_and encoded JENTRY_TYPE_MASK }

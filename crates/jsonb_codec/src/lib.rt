@@ -6,6 +6,7 @@ pub mod constants;
 mod de;
 mod document;
 mod jentry;
+pub mod parts;
 mod reread;
 mod ser;
 mod word;

@@ -13,18 +13,26 @@ use jsonb_value::Error;
 
 /// The big endian word whose first byte stands at the index. `InvalidEOF` where four bytes are not
 /// there.
+#[inline]
 pub fn read_word(bytes: &[u8], index: usize) -> Result<u32, Error>
     ensures { result ≡ word_at bytes.now index }
 {
-    match bytes.get(index..) {
-        Some([a, b, c, d, ..]) => Ok(u32::from_be_bytes([*a, *b, *c, *d])),
-        _ => Err(Error::InvalidEOF),
+    // The last place is found without the index, so that a loop tests each word once.
+    if bytes.len() < 4 || bytes.len() - 4 < index {
+        return Err(Error::InvalidEOF);
     }
+    Ok(u32::from_be_bytes([
+        bytes[index],
+        bytes[index + 1],
+        bytes[index + 2],
+        bytes[index + 3],
+    ]))
 }
 
 /// The header whose first byte stands at the index: its kind, under the type mask, and its count.
 /// `InvalidEOF` where four bytes are not there, `InvalidJsonb` where the word names none of the
 /// three kinds.
+#[inline]
 pub fn read_header(bytes: &[u8], index: usize) -> Result<(u32, usize), Error>
     ensures { result ≡ header_at bytes.now index }
 {
@@ -40,6 +48,7 @@ pub fn read_header(bytes: &[u8], index: usize) -> Result<(u32, usize), Error>
 }
 
 /// The entry whose first byte stands at the index. `InvalidEOF` where four bytes are not there.
+#[inline(always)]
 pub fn read_jentry(bytes: &[u8], index: usize) -> Result<JEntry, Error>
     ensures { result ≡ jentry_at bytes.now index }
 {
@@ -55,6 +64,7 @@ pub struct Tagged<'a> {
 }
 
 // The word at the front, and what follows it.
+#[inline(always)]
 fn split_word(bytes: &[u8]) -> Option<(u32, &[u8])>
     ensures found { IfSome result (λ x. bytes.now ≡ word x.0 ++ x.1.now) }
     ensures small { IfSome result (λ x. x.0 < 2 ^ 32) }
@@ -67,6 +77,7 @@ fn split_word(bytes: &[u8]) -> Option<(u32, &[u8])>
 }
 
 /// The entry word at the front: its type, and the length of its payload.
+#[inline(always)]
 pub fn split_entry(entries: &[u8]) -> Option<Tagged>
     ensures found { IfSome result
         (λ x. entries.now ≡ word (x.tag + x.number) ++ x.rest.now) }
@@ -85,6 +96,7 @@ pub fn split_entry(entries: &[u8]) -> Option<Tagged>
 }
 
 /// The header at the front: its kind, and the count of the children.
+#[inline(always)]
 pub fn split_header(bytes: &[u8]) -> Option<Tagged>
     ensures found { IfSome result (λ x. bytes.now ≡ word (x.tag + x.number) ++ x.rest.now) }
     ensures tag { IfSome result (λ x. x.tag % 2 ^ 29 ≡ 0) }

@@ -13,6 +13,7 @@ pub mod Json
 pub mod Writing
 pub mod Decimals
 pub mod Escapes
+pub mod RunLaws
 pub mod TextVectors
 pub mod BigEndian
 pub mod PayloadLaws

@@ -1,5 +1,5 @@
 -- The text of numbers, strings, extension values and whole trees, as bytes.
-use Rattle.std.specs.Prelude.{ℕ, zero, suc, ◌*◌, ◌+◌, ◌/◌, ◌%◌, ℤ, Bool, true, false, ◌||◌, ◌==◌, nat_lt, if◌then◌else◌, List, [], ◌∷◌, ◌++◌, codes, replicate, flat_map, decimal, unsigned_abs}
+use Rattle.std.specs.Prelude.{◌≡◌, ◌<◌, ◌≤◌, get_or, ℕ, zero, suc, ◌*◌, ◌+◌, ◌/◌, ◌%◌, ℤ, Bool, true, false, ◌||◌, ◌==◌, nat_lt, if◌then◌else◌, List, [], ◌∷◌, ◌++◌, codes, replicate, flat_map, decimal, unsigned_abs}
 use Rattle.std.specs.Int.{is_negative}
 use Rattle.std.specs.Fmt.{signed_decimal, sign_text, digit_glyph}
 use Rattle.jsonb_value.specs.declared.number.Number.{Number}
@@ -41,6 +41,10 @@ hex_text bytes = flat_map hex_byte bytes
 -- `"`, `\` and the bytes below 0x20
 abbrev pub is_escaped : ℕ → Bool
 is_escaped b = b == 34 || b == 92 || nat_lt b 32
+
+-- no byte from one place up to another is escaped
+abbrev pub NoneEscaped : List ℕ → ℕ → ℕ → Type 0
+NoneEscaped bytes from upto = (k : ℕ) → from ≤ k → k < upto → is_escaped (get_or bytes k 0) ≡ false
 
 -- a backslash and the byte itself, or its letter, or `u00` and two digits
 abbrev pub escape : ℕ → List ℕ

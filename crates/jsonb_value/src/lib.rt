@@ -10,6 +10,7 @@ mod opaque;
 mod order;
 mod parser;
 mod payload;
+mod runs;
 mod text;
 mod value;
 

@@ -8,7 +8,9 @@ ghost use Rattle.jsonb_value.specs.NumCode.{NumCode, number_payload, int_payload
 
 use crate::constants::{NUMBER_DECIMAL, NUMBER_INT, NUMBER_UINT, NUMBER_ZERO};
 use crate::error::Error;
-use crate::payload::{append, i64_of, i128_of};
+use crate::payload::{
+    append, append_whole, i64_of, i128_of, tagged_1, tagged_2, tagged_4, tagged_8,
+};
 
 /// A decimal of 64 bits: `value` over ten to the power of `scale`.
 #[derive(Clone, Copy, Debug, PartialEq, Eq)]
@@ -36,6 +38,7 @@ pub enum Number {
 impl Number {
     /// The number that a payload means: zero, a whole number of 1, 2, 4 or 8 bytes, or a decimal
     /// in its written or its old form. `InvalidJsonbNumber` for every other byte string.
+    #[inline(always)]
     pub fn decode(bytes: &[u8]) -> Result<Number, Error>
         ensures ok { IfOk result (λ x. NumCode bytes.now x) }
         ensures only { (x : Number) → NumCode bytes.now x → result ≡ Ok x }
@@ -49,6 +52,7 @@ impl Number {
 
     /// Appends the written payload, the shortest for a whole number, and answers its length. Only
     /// memory can be refused, and then the bytes of `buf` are as before.
+    #[inline(always)]
     pub fn compact_encode(&self, buf: &mut Vec<u8>) -> Result<usize, Error>
         ensures len { IfOk result (λ n. n ≡ length (number_payload self.now)) }
         ensures appended { OnOk result (buf.new.items ≡ buf.old.items ++ number_payload self.now) }
@@ -67,6 +71,7 @@ impl Number {
     }
 
     /// How many bytes the written payload has, at most 19.
+    #[inline(always)]
     pub fn compact_len(&self) -> usize
         ensures len { result ≡ length (number_payload self.now) }
         ensures most { result ≤ 19 }
@@ -81,6 +86,7 @@ impl Number {
 }
 
 // The number of a payload that begins with this tag.
+#[inline(always)]
 fn tagged_of(tag: u8, rest: &[u8]) -> Option<Number>
     ensures found { IfSome result (λ x. NumCode (tag ∷ rest.now) x) }
     ensures none { IfNone result ((x : Number) → NumCode (tag ∷ rest.now) x → ⊥) }
@@ -94,6 +100,7 @@ fn tagged_of(tag: u8, rest: &[u8]) -> Option<Number>
     }
 }
 
+#[inline(always)]
 fn signed_of(bytes: &[u8]) -> Option<i64>
     ensures found { IfSome result (λ v. IsSignedNumber bytes.now v) }
     ensures none { IfNone result ((v : ℤ) → IsSignedNumber bytes.now v → ⊥) }
@@ -107,6 +114,7 @@ fn signed_of(bytes: &[u8]) -> Option<i64>
     }
 }
 
+#[inline(always)]
 fn unsigned_of(bytes: &[u8]) -> Option<u64>
     ensures found { IfSome result (λ v. IsUnsignedNumber bytes.now v) }
     ensures none { IfNone result ((n : ℕ) → IsUnsignedNumber bytes.now n → ⊥) }
@@ -120,6 +128,7 @@ fn unsigned_of(bytes: &[u8]) -> Option<u64>
     }
 }
 
+#[inline(always)]
 fn decimal_of(bytes: &[u8]) -> Option<Number>
     ensures found { IfSome result (λ x. NumCode (112 ∷ bytes.now) x) }
     ensures none { IfNone result ((x : Number) → NumCode (112 ∷ bytes.now) x → ⊥) }
@@ -141,6 +150,7 @@ fn decimal_of(bytes: &[u8]) -> Option<Number>
     }
 }
 
+#[inline(always)]
 fn int_len(value: i64) -> usize
     ensures { result ≡ length (int_payload value) }
 {
@@ -157,6 +167,7 @@ fn int_len(value: i64) -> usize
     }
 }
 
+#[inline(always)]
 fn uint_len(value: u64) -> usize
     ensures { result ≡ length (uint_payload value) }
 {
@@ -173,6 +184,7 @@ fn uint_len(value: u64) -> usize
     }
 }
 
+#[inline(always)]
 fn append_int(buf: &mut Vec<u8>, value: i64) -> Result<usize, Error>
     ensures len { IfOk result (λ n. n ≡ length (int_payload value)) }
     ensures appended { OnOk result (buf.new.items ≡ buf.old.items ++ int_payload value) }
@@ -183,18 +195,19 @@ fn append_int(buf: &mut Vec<u8>, value: i64) -> Result<usize, Error>
         → IsOk result }
 {
     if value == 0 {
-        append(buf, NUMBER_ZERO, &[], &[])
+        append_whole(buf, &[NUMBER_ZERO])
     } else if let Ok(short) = i8::try_from(value) {
-        append(buf, NUMBER_INT, &short.to_be_bytes(), &[])
+        append_whole(buf, &tagged_1(NUMBER_INT, short.to_be_bytes()))
     } else if let Ok(short) = i16::try_from(value) {
-        append(buf, NUMBER_INT, &short.to_be_bytes(), &[])
+        append_whole(buf, &tagged_2(NUMBER_INT, short.to_be_bytes()))
     } else if let Ok(short) = i32::try_from(value) {
-        append(buf, NUMBER_INT, &short.to_be_bytes(), &[])
+        append_whole(buf, &tagged_4(NUMBER_INT, short.to_be_bytes()))
     } else {
-        append(buf, NUMBER_INT, &value.to_be_bytes(), &[])
+        append_whole(buf, &tagged_8(NUMBER_INT, value.to_be_bytes()))
     }
 }
 
+#[inline(always)]
 fn append_uint(buf: &mut Vec<u8>, value: u64) -> Result<usize, Error>
     ensures len { IfOk result (λ n. n ≡ length (uint_payload value)) }
     ensures appended { OnOk result (buf.new.items ≡ buf.old.items ++ uint_payload value) }
@@ -205,15 +218,15 @@ fn append_uint(buf: &mut Vec<u8>, value: u64) -> Result<usize, Error>
         → IsOk result }
 {
     if value == 0 {
-        append(buf, NUMBER_ZERO, &[], &[])
+        append_whole(buf, &[NUMBER_ZERO])
     } else if let Ok(short) = u8::try_from(value) {
-        append(buf, NUMBER_UINT, &[short], &[])
+        append_whole(buf, &[NUMBER_UINT, short])
     } else if let Ok(short) = u16::try_from(value) {
-        append(buf, NUMBER_UINT, &short.to_be_bytes(), &[])
+        append_whole(buf, &tagged_2(NUMBER_UINT, short.to_be_bytes()))
     } else if let Ok(short) = u32::try_from(value) {
-        append(buf, NUMBER_UINT, &short.to_be_bytes(), &[])
+        append_whole(buf, &tagged_4(NUMBER_UINT, short.to_be_bytes()))
     } else {
-        append(buf, NUMBER_UINT, &value.to_be_bytes(), &[])
+        append_whole(buf, &tagged_8(NUMBER_UINT, value.to_be_bytes()))
     }
 }
 

@@ -15,6 +15,7 @@ pub fn i32_of(bytes: &[u8]) -> i32
 }
 
 /// The number in the first eight bytes.
+#[inline(always)]
 pub fn i64_of(bytes: &[u8]) -> i64
     requires { 8 ≤ length bytes.now }
     ensures { IsSigned w64 (take 8 bytes.now) result }
@@ -25,6 +26,7 @@ pub fn i64_of(bytes: &[u8]) -> i64
 }
 
 /// The number in the first sixteen bytes.
+#[inline(always)]
 pub fn i128_of(bytes: &[u8]) -> i128
     requires { 16 ≤ length bytes.now }
     ensures { IsSigned w128 (take 16 bytes.now) result }
@@ -53,4 +55,54 @@ pub fn append(buf: &mut Vec<u8>, tag: u8, value: &[u8], tail: &[u8]) -> Result<u
     buf.extend_from_slice(value)?;
     buf.extend_from_slice(tail)?;
     Ok(size)
+}
+
+/// Appends a payload, all of it or nothing, and answers its length.
+#[inline(always)]
+pub fn append_whole(buf: &mut Vec<u8>, payload: &[u8]) -> Result<usize, Error>
+    ensures len { IfOk result (λ n. n ≡ length payload.now) }
+    ensures appended { OnOk result (buf.new.items ≡ buf.old.items ++ payload.now) }
+    ensures err { OnErr result (buf.new.items ≡ buf.old.items) }
+    ensures memory { IfErr result (λ e. e ≡ Error.OutOfMemory) }
+    ensures capacity { vec_capacity buf.old ≤ vec_capacity buf.new }
+    ensures room { vec_len buf.old + length payload.now ≤ vec_capacity buf.old → IsOk result }
+{
+    buf.extend_from_slice(payload)?;
+    Ok(payload.len())
+}
+
+/// A tag and what stands behind it, in one array, so that they are appended at once.
+#[inline(always)]
+pub fn tagged_1(tag: u8, bytes: [u8; 1]) -> [u8; 2]
+    ensures { result ≡ tag ∷ bytes }
+{
+    let [a] = bytes;
+    [tag, a]
+}
+
+/// The same of two bytes,
+#[inline(always)]
+pub fn tagged_2(tag: u8, bytes: [u8; 2]) -> [u8; 3]
+    ensures { result ≡ tag ∷ bytes }
+{
+    let [a, b] = bytes;
+    [tag, a, b]
+}
+
+/// of four
+#[inline(always)]
+pub fn tagged_4(tag: u8, bytes: [u8; 4]) -> [u8; 5]
+    ensures { result ≡ tag ∷ bytes }
+{
+    let [a, b, c, d] = bytes;
+    [tag, a, b, c, d]
+}
+
+/// and of eight.
+#[inline(always)]
+pub fn tagged_8(tag: u8, bytes: [u8; 8]) -> [u8; 9]
+    ensures { result ≡ tag ∷ bytes }
+{
+    let [a, b, c, d, e, f, g, h] = bytes;
+    [tag, a, b, c, d, e, f, g, h]
 }

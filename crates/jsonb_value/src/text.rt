@@ -8,6 +8,7 @@ ghost use Rattle.jsonb_value.specs.Text.{number_text, decimal_text, pointed, hex
 
 use crate::extension::{ExtensionValue, Interval, TimestampTz};
 use crate::number::Number;
+use crate::runs::{is_all_plain, plain_len};
 use itoa::{Buffer, Integer};
 use std::fmt;
 
@@ -160,8 +161,21 @@ fn hex_digit(digit: u8) -> char
     })
 }
 
-// A string without its quotes: what needs no escape is written in runs.
+// A string without its quotes.
+#[inline(always)]
 fn write_content<W: fmt::Write>(text: &str, f: &mut fmt::Formatter<W>) -> fmt::Result
+    ensures { WritesStyledOnOk W.write_str_gives f.old result (flat_map byte_text text.now) f.new }
+{
+    if is_all_plain(text.as_bytes()) {
+        f.write_str(text)
+    } else {
+        write_runs(text, f)
+    }
+}
+
+// What needs no escape is written in runs.
+#[inline(never)]
+fn write_runs<W: fmt::Write>(text: &str, f: &mut fmt::Formatter<W>) -> fmt::Result
     ensures { WritesStyledOnOk W.write_str_gives f.old result (flat_map byte_text text.now) f.new }
 {
     let mut rest = text;
@@ -176,13 +190,8 @@ fn write_content<W: fmt::Write>(text: &str, f: &mut fmt::Formatter<W>) -> fmt::R
 fn first_escaped(text: &str) -> Option<usize>
     ensures { result ≡ position is_escaped text.now }
 {
-    text.as_bytes().iter().position(|byte| is_escaped(*byte))
-}
-
-fn is_escaped(byte: u8) -> bool
-    ensures { result ≡ is_escaped byte }
-{
-    byte == b'"' || byte == b'\\' || byte < 0x20
+    let at = plain_len(text.as_bytes());
+    if at < text.len() { Some(at) } else { None }
 }
 
 #[tactic(auto, using(crate::proofs::Writing::joins))]

@@ -13,8 +13,8 @@ ghost use Rattle.jsonb_codec.specs.Doc.{Doc, IsDocument};
 ghost use Rattle.jsonb.specs.Meant.{raw_meaning};
 ghost use Rattle.jsonb.specs.Raw.{raw_bytes};
 
-use super::{cmp_meanings, cmp_values, value_in};
-use crate::item::JsonbItem;
+use super::cmp_bytes;
+use super::documents::cmp_documents;
 use crate::raw::RawJsonb;
 use std::cmp::Ordering;
 
@@ -29,10 +29,10 @@ impl RawJsonb<'_> {
         ensures cmp { IfSome result
             (λ order. order ≡ meaning_cmp (raw_meaning self.now) (raw_meaning other.now)) }
     {
-        match (value_in(*self), value_in(*other)) {
-            (Some(left), Some(right)) => Some(cmp_values(&left, &right)),
-            _ => None,
+        if !self.is_document() || !other.is_document() {
+            return None;
         }
+        Some(cmp_documents(self.as_bytes(), other.as_bytes()))
     }
 }
 
@@ -72,6 +72,6 @@ impl Ord for RawJsonb<'_> {
     /// The order of all bytes by what they mean. Documents stand below all other bytes, and these
     /// compare as bytes.
     fn cmp(&self, other: &Self) -> Ordering {
-        cmp_meanings(&JsonbItem::Raw(*self), &JsonbItem::Raw(*other))
+        cmp_bytes(self.as_bytes(), other.as_bytes())
     }
 }

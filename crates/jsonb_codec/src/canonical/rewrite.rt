@@ -1,8 +1,7 @@
 //! The canonical document of what a document means, written while the document is read.
 
 ghost use Rattle.std.specs.Prelude.{◌≡◌, ◌<◌, ◌≤◌, ◌^◌, ◌+◌, ◌++◌, ◌↔◌, ◌⊎◌, length, vec_capacity, Err, IsOk, IfSome, IfNone, IfErr, OnOk, OnErr};
-ghost use Rattle.jsonb_value.specs.Tree.{Tree, Trees, number, extension};
-ghost use Rattle.jsonb_value.specs.ExtCode.{extension_of};
+ghost use Rattle.jsonb_value.specs.Tree.{Tree, Trees};
 ghost use Rattle.jsonb_value.specs.WellFormed.{IsTree};
 ghost use Rattle.jsonb_codec.specs.Word.{word};
 ghost use Rattle.jsonb_codec.specs.Doc.{type_of, Doc, IsDocument, Children};
@@ -11,12 +10,12 @@ ghost use Rattle.jsonb_codec.specs.Canon.{payload_of, entries_of, payloads_of, c
 ghost use Rattle.jsonb_codec.specs.Canonical.{IsSomePayload, AreSomeChildren};
 ghost use Rattle.jsonb_codec.specs.Room.{HasRoom, Appended};
 
-use super::parts::{Part, split_child, split_container, split_document};
 use crate::constants::{CONTAINER_TAG, EXTENSION_TAG, NUMBER_TAG, SCALAR_CONTAINER_TAG};
 use crate::document::is_document;
+use crate::parts::{Part, extension_in, number_in, split_child, split_container, split_document};
 use crate::ser::append::{append_bytes, append_extension, append_number, append_word};
 use crate::ser::measure::MAX_PAYLOAD;
-use jsonb_value::{Error, ExtensionValue, Number};
+use jsonb_value::Error;
 
 /// Appends the canonical document of the tree that the bytes mean, in one growth and without a
 /// tree built. `InvalidJsonb` where the bytes are no document, and where a payload of their tree
@@ -95,28 +94,6 @@ fn measure_payload(part: Part<'_>) -> Option<usize>
         CONTAINER_TAG => measure_container(part.payload),
         _ => Some(part.payload.len()),
     }
-}
-
-// The number of a payload that means one,
-fn number_in(payload: &[u8]) -> Number
-    requires { IsSomePayload NUMBER_TAG payload.now }
-    ensures { (t : Tree) → IsPayloadOf NUMBER_TAG payload.now t → t ≡ number result }
-{
-    let Ok(number) = Number::decode(payload) else {
-        unreachable!();
-    };
-    number
-}
-
-// and the extension value.
-fn extension_in(payload: &[u8]) -> ExtensionValue
-    requires { IsSomePayload EXTENSION_TAG payload.now }
-    ensures { (t : Tree) → IsPayloadOf EXTENSION_TAG payload.now t → t ≡ extension (extension_of result) }
-{
-    let Ok(value) = ExtensionValue::decode(payload) else {
-        unreachable!();
-    };
-    value
 }
 
 #[cycle(measure)]

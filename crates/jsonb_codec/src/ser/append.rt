@@ -1,14 +1,14 @@
 //! Documents, written front to back into a buffer with room for all of it.
 
-ghost use Rattle.std.specs.Prelude.{◌≡◌, ◌<◌, ◌^◌, ◌+◌, length};
-ghost use Rattle.jsonb_value.specs.Tree.{array, object};
+ghost use Rattle.std.specs.Prelude.{◌≡◌, ◌<◌, ◌≤◌, ◌^◌, ◌+◌, ◌*◌, [], length, replicate, vec_capacity};
+ghost use Rattle.jsonb_value.specs.Tree.{array, object, count, pair_count};
 ghost use Rattle.jsonb_value.specs.NumCode.{number_payload};
 ghost use Rattle.jsonb_value.specs.ExtCode.{extension_payload, extension_of};
 ghost use Rattle.jsonb_codec.specs.Word.{word};
 ghost use Rattle.jsonb_codec.specs.Doc.{type_of};
 ghost use Rattle.jsonb_codec.specs.Canon.{payload_of, entries_of, payloads_of, key_entries, value_entries, key_payloads, value_payloads, canon, AllFit, PairsFit, FitsInside, FitsEntry, Fits};
 ghost use Rattle.jsonb_codec.specs.Node.{node_tree, items_trees, object_pairs};
-ghost use Rattle.jsonb_codec.specs.Room.{HasRoom, Appended};
+ghost use Rattle.jsonb_codec.specs.Room.{HasRoom, Appended, Filled};
 
 use super::measure::measure_entry;
 use super::node::{Items, Node, Pairs};
@@ -31,6 +31,7 @@ pub fn append_document(out: &mut Vec<u8>, node: Node<'_, '_>)
 }
 
 /// Appends the bytes as they are.
+#[inline(always)]
 pub fn append_bytes(out: &mut Vec<u8>, bytes: &[u8])
     requires { HasRoom out.old bytes.now }
     ensures { Appended out.old out.new bytes.now }
@@ -42,6 +43,7 @@ pub fn append_bytes(out: &mut Vec<u8>, bytes: &[u8])
 
 /// Appends one word.
 #[tactic(auto, unfolding(crate::specs::Word::word))]
+#[inline(always)]
 pub fn append_word(out: &mut Vec<u8>, number: u32)
     requires { HasRoom out.old (word number) }
     ensures { Appended out.old out.new (word number) }
@@ -49,7 +51,7 @@ pub fn append_word(out: &mut Vec<u8>, number: u32)
     append_bytes(out, &number.to_be_bytes());
 }
 
-// The entry word of a value.
+// The entry word of a scalar.
 fn append_entry(out: &mut Vec<u8>, node: Node<'_, '_>)
     requires fits { FitsEntry (node_tree node) }
     requires room { HasRoom out.old
@@ -65,6 +67,7 @@ fn append_entry(out: &mut Vec<u8>, node: Node<'_, '_>)
 
 // The payload of a value.
 #[cycle(append)]
+#[inline(always)]
 fn append_payload(out: &mut Vec<u8>, node: Node<'_, '_>)
     requires fits { Fits (node_tree node) }
     requires room { HasRoom out.old (payload_of (node_tree node)) }
@@ -81,6 +84,7 @@ fn append_payload(out: &mut Vec<u8>, node: Node<'_, '_>)
 }
 
 /// Appends a number's payload.
+#[inline(always)]
 pub fn append_number(out: &mut Vec<u8>, number: Number)
     requires { HasRoom out.old (number_payload number) }
     ensures { Appended out.old out.new (number_payload number) }
@@ -108,33 +112,64 @@ fn append_items(out: &mut Vec<u8>, items: Items<'_, '_>)
     requires room { HasRoom out.old (payload_of (array (items_trees items))) }
     ensures { Appended out.old out.new (payload_of (array (items_trees items.entry))) }
 {
-    append_word(out, ARRAY_CONTAINER_TAG + items.len() as u32);
-    append_entries(out, items);
-    append_payloads(out, items);
+    let count = items.len();
+    append_word(out, ARRAY_CONTAINER_TAG + count as u32);
+    let place = out.len();
+    append_zeros(out, 4 * count);
+    append_children(out, place, items);
 }
 
-// The entry words of an array's items.
-fn append_entries(out: &mut Vec<u8>, items: Items<'_, '_>)
-    requires fits { AllFit (items_trees items) }
-    requires room { HasRoom out.old (entries_of (items_trees items)) }
-    ensures { Appended out.old out.new (entries_of (items_trees items.entry)) }
+// Room for entry words, which are put there once what they stand for is written.
+#[inline(always)]
+fn append_zeros(out: &mut Vec<u8>, count: usize)
+    requires { length out.old.items + count ≤ vec_capacity out.old }
+    ensures { Appended out.old out.new (replicate count 0) }
 {
-    let mut left = items;
-    while let Some((item, others)) = left.split_first() {
-        append_entry(out, item);
-        left = others;
-    }
+    let Ok(()) = out.resize(out.len() + count, 0) else {
+        unreachable!();
+    };
 }
 
+// One word over the four bytes at the place.
+#[tactic(auto, unfolding(crate::specs::Word::word))]
+#[inline(always)]
+fn put_word(out: &mut Vec<u8>, place: usize, number: u32)
+    requires { place + 4 ≤ length out.old.items }
+    ensures { Filled place (word number) [] out.old out.new }
+{
+    out[place..place + 4].copy_from_slice(&number.to_be_bytes());
+}
+
+// The payload of a value inside another, and its entry word at the place.
 #[cycle(append)]
-fn append_payloads(out: &mut Vec<u8>, items: Items<'_, '_>)
-    requires fits { AllFit (items_trees items) }
-    requires room { HasRoom out.old (payloads_of (items_trees items)) }
-    ensures { Appended out.old out.new (payloads_of (items_trees items.entry)) }
+#[inline(always)]
+fn append_child(out: &mut Vec<u8>, place: usize, node: Node<'_, '_>)
+    requires fits { FitsEntry (node_tree node) }
+    requires place { place + 4 ≤ length out.old.items }
+    requires room { HasRoom out.old (payload_of (node_tree node)) }
+    ensures { Filled place (word (type_of (node_tree node.entry) + length (payload_of (node_tree node.entry))))
+        (payload_of (node_tree node.entry)) out.old out.new }
 {
+    let start = out.len();
+    append_payload(out, node);
+    put_word(out, place, node.entry_type() + (out.len() - start) as u32);
+}
+
+// The payloads of an array's items, and their entry words from the place on.
+#[cycle(append)]
+#[inline(always)]
+fn append_children(out: &mut Vec<u8>, place: usize, items: Items<'_, '_>)
+    requires fits { AllFit (items_trees items) }
+    requires place { place + 4 * count (items_trees items) ≤ length out.old.items }
+    requires room { HasRoom out.old (payloads_of (items_trees items)) }
+    ensures { Filled place (entries_of (items_trees items.entry)) (payloads_of (items_trees items.entry))
+        out.old out.new }
+{
+    let mut entry = place;
     let mut left = items;
     while let Some((item, others)) = left.split_first() {
-        append_payload(out, item);
+        append_child(out, entry, item);
+        entry += 4;
         left = others;
     }
 }
@@ -146,57 +181,59 @@ fn append_pairs(out: &mut Vec<u8>, pairs: Pairs<'_, '_>)
     requires room { HasRoom out.old (payload_of (object (object_pairs pairs))) }
     ensures { Appended out.old out.new (payload_of (object (object_pairs pairs.entry))) }
 {
-    append_word(out, OBJECT_CONTAINER_TAG + pairs.len() as u32);
-    append_key_entries(out, pairs);
-    append_value_entries(out, pairs);
-    append_keys(out, pairs);
-    append_values(out, pairs);
+    let count = pairs.len();
+    append_word(out, OBJECT_CONTAINER_TAG + count as u32);
+    let place = out.len();
+    append_zeros(out, 8 * count);
+    append_keys(out, place, pairs);
+    append_values(out, place + 4 * count, pairs);
 }
 
-fn append_key_entries(out: &mut Vec<u8>, pairs: Pairs<'_, '_>)
-    requires fits { PairsFit (object_pairs pairs) }
-    requires room { HasRoom out.old (key_entries (object_pairs pairs)) }
-    ensures { Appended out.old out.new (key_entries (object_pairs pairs.entry)) }
+// A key, and its entry word at the place.
+#[inline(always)]
+fn append_key(out: &mut Vec<u8>, place: usize, key: &str)
+    requires fits { length key.now < 2 ^ 28 }
+    requires place { place + 4 ≤ length out.old.items }
+    requires room { HasRoom out.old key.now }
+    ensures { Filled place (word (STRING_TAG + length key.now)) key.now out.old out.new }
 {
+    append_bytes(out, key.as_bytes());
+    put_word(out, place, STRING_TAG + key.len() as u32);
+}
+
+// The keys of an object, and their entry words from the place on.
+#[inline(always)]
+fn append_keys(out: &mut Vec<u8>, place: usize, pairs: Pairs<'_, '_>)
+    requires fits { PairsFit (object_pairs pairs) }
+    requires place { place + 4 * pair_count (object_pairs pairs) ≤ length out.old.items }
+    requires room { HasRoom out.old (key_payloads (object_pairs pairs)) }
+    ensures { Filled place (key_entries (object_pairs pairs.entry)) (key_payloads (object_pairs pairs.entry))
+        out.old out.new }
+{
+    let mut entry = place;
     let mut left = pairs.walk();
     while let Some((key, _, others)) = left.split_first() {
-        append_word(out, STRING_TAG + key.len() as u32);
+        append_key(out, entry, key);
+        entry += 4;
         left = others;
     }
 }
 
-fn append_value_entries(out: &mut Vec<u8>, pairs: Pairs<'_, '_>)
-    requires fits { PairsFit (object_pairs pairs) }
-    requires room { HasRoom out.old (value_entries (object_pairs pairs)) }
-    ensures { Appended out.old out.new (value_entries (object_pairs pairs.entry)) }
-{
-    let mut left = pairs.walk();
-    while let Some((_, value, others)) = left.split_first() {
-        append_entry(out, value);
-        left = others;
-    }
-}
-
-fn append_keys(out: &mut Vec<u8>, pairs: Pairs<'_, '_>)
-    requires { HasRoom out.old (key_payloads (object_pairs pairs)) }
-    ensures { Appended out.old out.new (key_payloads (object_pairs pairs.entry)) }
-{
-    let mut left = pairs.walk();
-    while let Some((key, _, others)) = left.split_first() {
-        append_bytes(out, key.as_bytes());
-        left = others;
-    }
-}
-
+// The payloads of an object's values, and their entry words from the place on.
 #[cycle(append)]
-fn append_values(out: &mut Vec<u8>, pairs: Pairs<'_, '_>)
+#[inline(always)]
+fn append_values(out: &mut Vec<u8>, place: usize, pairs: Pairs<'_, '_>)
     requires fits { PairsFit (object_pairs pairs) }
+    requires place { place + 4 * pair_count (object_pairs pairs) ≤ length out.old.items }
     requires room { HasRoom out.old (value_payloads (object_pairs pairs)) }
-    ensures { Appended out.old out.new (value_payloads (object_pairs pairs.entry)) }
+    ensures { Filled place (value_entries (object_pairs pairs.entry)) (value_payloads (object_pairs pairs.entry))
+        out.old out.new }
 {
+    let mut entry = place;
     let mut left = pairs.walk();
     while let Some((_, value, others)) = left.split_first() {
-        append_payload(out, value);
+        append_child(out, entry, value);
+        entry += 4;
         left = others;
     }
 }

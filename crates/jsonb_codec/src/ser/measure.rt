@@ -37,6 +37,7 @@ pub fn measure_document(node: Node<'_, '_>) -> Result<usize, Error>
 
 /// The length of a payload that has an entry.
 #[cycle(measure)]
+#[inline(always)]
 pub fn measure_entry(node: Node<'_, '_>) -> Option<usize>
     ensures some { IfSome result (λ n. FitsEntry (node_tree node.entry)
         × (n ≡ length (payload_of (node_tree node.entry)))) }
@@ -52,6 +53,7 @@ pub fn measure_entry(node: Node<'_, '_>) -> Option<usize>
 
 // The length of the payload.
 #[cycle(measure)]
+#[inline(always)]
 fn measure_payload(node: Node<'_, '_>) -> Option<usize>
     ensures some { IfSome result (λ n. FitsInside (node_tree node.entry)
         × (n ≡ length (payload_of (node_tree node.entry)))) }
@@ -69,6 +71,7 @@ fn measure_payload(node: Node<'_, '_>) -> Option<usize>
 }
 
 // What a program holds is within its type: a text is UTF-8,
+#[inline(always)]
 fn text_len(text: &str) -> usize
     ensures len { result ≡ length text.now }
     ensures utf8 { IsUtf8 text.now }
@@ -77,6 +80,7 @@ fn text_len(text: &str) -> usize
 }
 
 // a number within its width,
+#[inline(always)]
 fn number_len(number: Number) -> usize
     ensures len { result ≡ length (number_payload number) }
     ensures number { IsNumber number }
@@ -85,6 +89,7 @@ fn number_len(number: Number) -> usize
 }
 
 // and so are the fields of an extension value.
+#[inline(always)]
 fn extension_len(value: ExtensionValue<'_>) -> usize
     ensures len { result ≡ length (extension_payload (extension_of value.entry)) }
     ensures extension { IsExtension (extension_of value.entry) }

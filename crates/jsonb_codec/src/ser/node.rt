@@ -49,6 +49,7 @@ pub enum PairsLeft<'s, 'a> {
 
 impl<'s, 'a> Node<'s, 'a> {
     /// The node of a `Value`, whose objects have their keys in order.
+    #[inline(always)]
     pub fn of_value(value: &'s Value<'a>) -> Node<'s, 'a>
         ensures tree { node_tree result ≡ tree_of value.now }
         ensures ascends { NodeAscends result }
@@ -70,6 +71,7 @@ impl<'s, 'a> Node<'s, 'a> {
     }
 
     /// The node of a `JsonAst`, whose objects have their keys as given.
+    #[inline(always)]
     pub fn of_ast(value: &'s JsonAst<'a>) -> Node<'s, 'a>
         ensures tree { node_tree result ≡ ast_tree value.now }
         ensures ascends { AscendEverywhere (ast_tree value.now) → NodeAscends result }
@@ -85,6 +87,7 @@ impl<'s, 'a> Node<'s, 'a> {
     }
 
     /// The type of the value's entry.
+    #[inline(always)]
     pub fn entry_type(self) -> u32
         ensures value { result ≡ type_of (node_tree self.entry) }
         ensures small { result ≤ 0x60000000 }
@@ -103,6 +106,7 @@ impl<'s, 'a> Node<'s, 'a> {
 
 impl<'s, 'a> Items<'s, 'a> {
     /// How many items there are.
+    #[inline(always)]
     pub fn len(self) -> usize
         ensures { result ≡ count (items_trees self.entry) }
     {
@@ -113,6 +117,7 @@ impl<'s, 'a> Items<'s, 'a> {
     }
 
     /// The first item, and the others.
+    #[inline(always)]
     pub fn split_first(self) -> Option<(Node<'s, 'a>, Items<'s, 'a>)>
         ensures trees { MatchOption result (items_trees self.entry ≡ no_trees)
             (λ x. items_trees self.entry ≡ tree (node_tree x.0) (items_trees x.1)) }
@@ -131,6 +136,7 @@ impl<'s, 'a> Items<'s, 'a> {
 
 impl<'s, 'a> Pairs<'s, 'a> {
     /// How many pairs there are.
+    #[inline(always)]
     pub fn len(self) -> usize
         ensures { result ≡ pair_count (object_pairs self.entry) }
     {
@@ -141,6 +147,7 @@ impl<'s, 'a> Pairs<'s, 'a> {
     }
 
     /// A walk over all of them.
+    #[inline(always)]
     pub fn walk(self) -> PairsLeft<'s, 'a>
         ensures pairs { left_pairs result ≡ object_pairs self.entry }
         ensures ascend { ObjectAscends self.entry
@@ -155,6 +162,7 @@ impl<'s, 'a> Pairs<'s, 'a> {
 
 impl<'s, 'a> PairsLeft<'s, 'a> {
     /// The first key and its value, and the other pairs.
+    #[inline(always)]
     pub fn split_first(self) -> Option<(&'s str, Node<'s, 'a>, PairsLeft<'s, 'a>)>
         ensures pairs { MatchOption result (left_pairs self.entry ≡ no_pairs)
             (λ x. left_pairs self.entry ≡ pair x.0.now (node_tree x.1) (left_pairs x.2)) }

@@ -1,7 +1,7 @@
 -- What is printed of a number means a number of the same worth, which is written in no more bytes.
 use Rattle.std.proofs.Common.{◌≡◌, ℕ, ℤ, zero, suc, pos, negsuc, ◌+◌, ◌*◌, ◌/◌, ◌%◌, ◌<◌, ◌≤◌, ◌^◌, Bool, true, false, if◌then◌else◌, inl, inr, Some, refl, sym, ap, ◌∙◌, List, [], ◌∷◌, ◌++◌, length, arith, eqb-true, length-append, append-nil}
 use Rattle.std.specs.Prelude.{◌==◌, nat_lt, decimal, unsigned_abs, FitsSigned}
-use Rattle.std.specs.Int.{Width, w8, w16, w32, w64, w128, byte_len, to_be_bytes, cast_unsigned, is_negative}
+use Rattle.std.specs.Int.{Width, w8, w16, w32, w64, w128, byte_len, cast_unsigned, is_negative}
 use Rattle.std.specs.Char.{is_ascii_digit, digit_value}
 use Rattle.std.specs.Str.Parse.{digits_value, digits_value_after}
 use Rattle.std.proofs.lemmas.Fmt.{decimal_by_steps_wide, decimal_is_IsNumeral_wide}

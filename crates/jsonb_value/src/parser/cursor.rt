@@ -1,9 +1,11 @@
 //! Steps over the characters at the front of a text.
 
 ghost use Rattle.std.specs.Prelude.{◌≡◌, [], ◌∷◌, chars, option_map, MatchOption};
+ghost use Rattle.jsonb_value.specs.Json.Characters.{is_blank};
 ghost use Rattle.jsonb_value.specs.Reader.Reading.{skip_blank, expect, expect_all};
 
 /// The first character, and what follows it.
+#[inline(always)]
 pub fn split_first(text: &str) -> Option<(char, &str)>
     ensures { MatchOption result (chars text.now ≡ []) (λ parts. chars text.now ≡ parts.0 ∷ chars parts.1.now) }
 {
@@ -13,6 +15,7 @@ pub fn split_first(text: &str) -> Option<(char, &str)>
 }
 
 /// What follows the character, where it stands first.
+#[inline(always)]
 pub fn after_char(text: &str, expected: char) -> Option<&str>
     ensures { option_map (λ rest. chars rest.now) result ≡ expect expected (chars text.now) }
 {
@@ -33,12 +36,24 @@ pub fn after_all<'a>(text: &'a str, expected: &[char]) -> Option<&'a str>
     Some(rest)
 }
 
+// One test tells most characters that are no white space.
+#[inline(always)]
+fn is_blank(character: char) -> bool
+    ensures { result ≡ is_blank character }
+{
+    character <= ' ' && matches!(character, ' ' | '\t' | '\n' | '\r')
+}
+
 /// What follows the white space at the front.
+#[inline(always)]
 pub fn skip_blank(text: &str) -> &str
     ensures { chars result.now ≡ skip_blank (chars text.now) }
 {
     let mut rest = text;
-    'blanks: while let Some((' ' | '\t' | '\n' | '\r', after)) = split_first(rest) {
+    'blanks: while let Some((first, after)) = split_first(rest) {
+        if !is_blank(first) {
+            break;
+        }
         rest = after;
     }
     rest

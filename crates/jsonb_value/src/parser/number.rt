@@ -11,6 +11,9 @@ ghost use Rattle.jsonb_value.specs.Reader.Digits.{Counts, AreDigits};
 use crate::number::{Decimal64, Decimal128, Number};
 use crate::parser::cursor::{after_char, split_first};
 
+// Below this a number with one more digit fits in 64 bits.
+const SHORT: u128 = 1 << 60;
+
 /// Digits, and the number that they make with those before them, unless it is past 128 bits.
 #[derive(Clone, Copy)]
 pub struct Digits {
@@ -19,6 +22,7 @@ pub struct Digits {
 }
 
 // Whether a minus stands first, and what follows it.
+#[inline(always)]
 fn read_sign(text: &str) -> (bool, &str)
     ensures { (result.0, chars result.1.now) ≡ read_sign (chars text.now) }
 {
@@ -28,16 +32,22 @@ fn read_sign(text: &str) -> (bool, &str)
     }
 }
 
-// The number with one more digit.
+// The number with one more digit. Short numbers need one word.
+#[inline(always)]
 fn with_digit(value: Option<u128>, digit: char) -> Option<u128>
     requires { IsTrue (is_ascii_digit digit) }
     ensures { (n : ℕ) → Counts n value → Counts (n * 10 + digit_value digit) result }
 {
     let digit = digit.to_digit(10)?;
-    value?.checked_mul(10)?.checked_add(u128::from(digit))
+    let value = value?;
+    if value < SHORT {
+        return Some(u128::from(value as u64 * 10 + u64::from(digit)));
+    }
+    value.checked_mul(10)?.checked_add(u128::from(digit))
 }
 
 // The digits at the front, behind those of `start`, and what follows them.
+#[inline(always)]
 fn read_digits(start: Option<u128>, text: &str) -> (Digits, &str)
     ensures digits { (n : ℕ) → Counts n start → AreDigits n (front_digits (chars text.now)) result.0 }
     ensures rest { chars result.1.now ≡ after_digits (chars text.now) }
@@ -59,6 +69,7 @@ fn read_digits(start: Option<u128>, text: &str) -> (Digits, &str)
 }
 
 // `0`, or digits that begin with another: their number, unless it is too large, and what follows.
+#[inline(always)]
 fn read_whole(text: &str) -> Option<(Option<u128>, &str)>
     ensures { MatchOption result (read_whole (chars text.now) ≡ None) (λ found. (ds : List ℕ) × (read_whole (chars text.now) ≡ Some (ds, chars found.1.now)) × Counts (digits_value 10 ds) found.0) }
 {
@@ -75,6 +86,7 @@ fn read_whole(text: &str) -> Option<(Option<u128>, &str)>
 }
 
 // The digits after a point, where one stands, behind those of `whole`.
+#[inline(always)]
 fn read_fraction(whole: Option<u128>, text: &str) -> Option<(Digits, &str)>
     ensures { (n : ℕ) → Counts n whole → MatchOption result (read_fraction (chars text.now) ≡ None) (λ found. (ds : List ℕ) × (read_fraction (chars text.now) ≡ Some (ds, chars found.1.now)) × AreDigits n ds found.0) }
 {

@@ -1,7 +1,7 @@
 //! Reading a string, behind the quote that opens it.
 
 ghost use Rattle.std.specs.Prelude.{◌≡◌, ℕ, ◌<◌, ◌++◌, true, [], Some, None, chars, length, option_map, string_bytes, encode_utf8_all, IfSome};
-ghost use Rattle.std.specs.List.{list_all, prefix_len};
+ghost use Rattle.std.specs.List.{list_all};
 ghost use Rattle.jsonb_value.specs.Value.{cow_bytes};
 ghost use Rattle.jsonb_value.specs.Json.Piece.{unit4, unit_value, escape_value, unit_character, pair_character, is_plain};
 ghost use Rattle.jsonb_value.specs.Reader.Reading.{read_unit, read_second, read_character, read_escape, read_piece, read_text};
@@ -9,6 +9,7 @@ ghost use Rattle.jsonb_value.specs.Reader.Gives.{Gives};
 
 use crate::error::Error;
 use crate::parser::cursor::{after_char, split_first};
+use crate::runs::plain_len;
 use std::alloc::Global;
 use std::borrow::CowStr;
 
@@ -124,21 +125,8 @@ fn read_piece(text: &str) -> Option<(char, &str)>
     }
 }
 
-// Whether the byte is part of a character that stands for itself.
-fn is_plain(byte: u8) -> bool
-    ensures { result ≡ is_plain byte }
-{
-    byte >= 0x20 && byte != b'"' && byte != b'\\'
-}
-
-// How many bytes at the front are part of characters that stand for themselves.
-fn plain_len(bytes: &[u8]) -> usize
-    ensures { result ≡ prefix_len is_plain bytes.now }
-{
-    bytes.iter().take_while(|byte| is_plain(**byte)).count()
-}
-
 // The characters at the front that stand for themselves, and what follows them.
+#[inline(always)]
 fn split_plain(text: &str) -> (&str, &str)
     ensures plain { list_all is_plain (chars result.0.now) ≡ true }
     ensures whole { chars text.now ≡ chars result.0.now ++ chars result.1.now }
@@ -148,6 +136,7 @@ fn split_plain(text: &str) -> (&str, &str)
 }
 
 // The string that begins with `front`, up to the quote that closes it, and what follows.
+#[inline(never)]
 fn read_escaped<'a>(alloc: Global, front: &str, text: &'a str) -> Result<(String, &'a str), Error>
     ensures { (n : ℕ) → length (chars text.now) < n → Gives (λ found. (string_bytes found.0, chars found.1.now)) result (read_text n front.now (chars text.now)) }
 {
@@ -171,6 +160,7 @@ fn read_escaped<'a>(alloc: Global, front: &str, text: &'a str) -> Result<(String
 }
 
 /// The string up to the quote that closes it, borrowed where it has no escape, and what follows.
+#[inline(always)]
 pub fn read_string<'a>(alloc: Global, text: &'a str) -> Result<(CowStr<'a>, &'a str), Error>
     ensures { (n : ℕ) → length (chars text.now) < n → Gives (λ found. (cow_bytes found.0, chars found.1.now)) result (read_text n [] (chars text.now)) }
 {

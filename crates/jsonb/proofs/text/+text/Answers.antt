@@ -1,131 +1,157 @@
-use Rattle.std.proofs.Common.{rules, ◌≡◌, ◌++◌, ◌∷◌, [], codes, length, map, refl, sym, ap, subst, ◌∙◌}
-use Rattle.std.proofs.Output.{has_written_styled_of_eq}
-use Rattle.jsonb_value.specs.Text.{inside, line_start}
+use Rattle.std.proofs.Common.{rules, ◌≡◌, ◌++◌, codes, length, refl, sym, ap, subst, ◌∙◌, arith}
+use Rattle.jsonb_value.specs.Tree.{array, object}
+use Rattle.jsonb_value.specs.Text.{inside, line_start, laid_out}
 use Rattle.jsonb_value.proofs.Writing.{joins_two, joins_three}
-use Rattle.jsonb.specs.Raw.{raw_bytes}
-use Rattle.jsonb.specs.Shown.{shown, shown_item, shown_pair}
-use Rattle.jsonb.specs.Meant.{shown_meaning}
-use Rattle.jsonb.specs.Texts.{layout_of, meant_text}
-use Rattle.jsonb.specs.Lines.{item_text, pair_text, value_in, AllInside}
-use Rattle.jsonb.proofs.LineLaws.{meant_text-Doc, meant_text-Means, array_of_kind, lines_begin, lines_next, lines_end}
+use Rattle.jsonb.specs.Texts.{layout_of}
+use Rattle.jsonb.specs.Lines.{more_lines, item_lines, pair_lines, pair_text, HasRoom}
+use Rattle.jsonb.proofs.LineLaws.{items_begin, pairs_begin, lines_next, HasRoom-inside}
 use Rattle.jsonb.proofs.text.+text.Goals as goal
 
-pub write_document-write_array-requires : goal.write_document-write_array-requires
-write_document-write_array-requires g t c κs within =
-    let (u, doc) = c.requires.document in
-    let kind = sym (c.kind_in.ensures u doc) ∙ c.in-Array.is in
-    (search rules, (search rules, (array_of_kind (raw_bytes c.args.raw) u c.in-Array.field-0 doc kind, c.requires.room)))
+pub write_container-returns-in-Object : goal.write_container-returns-in-Object
+write_container-returns-in-Object g t c u h =
+    let (ps, (is, are)) = c.in-Object.ensures.contents u h in
+    rw is (c.write_members.ensures ps are)
 
-pub write_document-returns-in_default : goal.write_document-returns-in_default
-write_document-returns-in_default g t c flush ok =
-    let (u, doc) = c.requires.document in
-    let l = layout_of c.args.layout in
-    let same = meant_text-Means l (shown c.scalar_in.result) u (c.scalar_in.ensures.means u doc) ∙ sym (meant_text-Doc l (raw_bytes c.args.raw) u doc) in
-    has_written_styled_of_eq _ _ _ _ _ same (c.write_scalar.ensures l flush ok)
-
-pub write_item-returns-in_default : goal.write_item-returns-in_default
-write_item-returns-in_default g t c flush ok = c.write_scalar.ensures (layout_of c.args.layout) flush ok
+pub write_part-returns-in_default : goal.write_part-returns-in_default
+write_part-returns-in_default g t c u h = c.write_scalar.ensures (layout_of c.args.layout) u h
 
 pub write_line-returns : goal.write_line-returns
-write_line-returns g t c flush ok =
+write_line-returns g t c u h flush ok =
     let one = c.start_line.ensures flush (search rules) in
-    let two = c.write_item.ensures one.flush ok in
-    rw c.in-Ok.is (joins_two _ _ _ _ _ _ _ one two refl)
+    let two = c.write_part.ensures u h one.flush ok in
+    joins_two _ _ _ _ _ _ _ one two refl
 
-pub write_array-items-init : goal.write_array-items-init
-write_array-items-init g t c =
-    let l = layout_of c.args.layout in
-    let x = shown_item c.in-Some.first in
-    let rest = c.items_in-items.result.rest in
-    let xs = c.into_iter-item-iterator.result.rest in
-    let parts : rest ≡ x ∷ xs = search rules in (
-      (subst (AllInside (length (raw_bytes c.args.raw))) parts c.items_in-items.ensures.inside).1,
-      codes "[" ++ (line_start (inside l) ++ item_text (inside l) x),
-      lines_begin (item_text (inside l)) l (codes "[") (codes "]") _ rest x xs (c.items_in-items.ensures.text l) parts,
-      λ flush.
-          let one = c.write_str-2.ensures.styled flush (search rules) in
-          let two = c.write_line.ensures one.flush (search rules) in
-          joins_two _ _ _ _ _ _ _ one two (ap (λ i. codes "[" ++ (line_start i ++ item_text i x)) c.inside.ensures),
-    )
+pub write_items-items-init : goal.write_items-items-init
+write_items-items-init g t c = (
+  omega (arith, c.in-Some.ensures.payloads_len),
+  λ ts are.
+      let l = layout_of c.args.layout in
+      let f = c.in-Some.ensures.first ts are in (
+        f.others,
+        codes "[" ++ (line_start (inside l) ++ laid_out (inside l) f.first),
+        f.behind,
+        items_begin l ts f.first f.others f.are,
+        λ flush.
+            let one = c.write_str-2.ensures.styled flush (search rules) in
+            let two = c.write_line.ensures f.first f.is one.flush (search rules) in
+            joins_two _ _ _ _ _ _ _ one two (ap (λ i. codes "[" ++ (line_start i ++ laid_out i f.first)) c.inside.ensures),
+      ),
+)
 
-pub write_array-items-preserved : goal.write_array-items-preserved
-write_array-items-preserved g t c =
-    let l = layout_of c.args.layout in
-    let x = shown_item c.in-Some-item.item in
-    let rest = c.items.item-iterator.rest in
-    let xs = c.next-in-items.new.self.rest in
-    let parts : rest ≡ x ∷ xs = search rules in
-    let (all, done, whole, writes) = c.items.invariant in (
-      (subst (AllInside (length (raw_bytes c.args.raw))) parts all).1,
-      done ++ (codes "," ++ (line_start (inside l) ++ item_text (inside l) x)),
-      lines_next (item_text (inside l)) (inside l) done (line_start l ++ codes "]") _ rest x xs whole parts,
-      λ flush.
-          let so_far = writes flush in
-          let one = c.write_str-in-items.ensures.styled so_far.flush (search rules) in
-          let two = c.write_line-in-items.ensures one.flush (search rules) in
-          joins_three _ _ _ _ _ _ _ _ _ so_far one two (ap (λ i. done ++ (codes "," ++ (line_start i ++ item_text i x))) c.inside-in-items.ensures),
-    )
+pub write_items-items-preserved : goal.write_items-items-preserved
+write_items-items-preserved g t c = (
+  omega (arith, c.in-Some-split_child.ensures.payloads_len, c.items.invariant.0),
+  λ ts are.
+      let l = layout_of c.args.layout in
+      let end = line_start l ++ codes "]" in
+      let (others, done, left, whole, writes) = c.items.invariant.1 ts are in
+      let f = c.in-Some-split_child.ensures.first others left in
+      let line = laid_out (inside l) f.first in (
+        f.others,
+        done ++ (codes "," ++ (line_start (inside l) ++ line)),
+        f.behind,
+        lines_next (inside l) done end _ line (item_lines (inside l) f.others) (subst (λ x. done ++ (more_lines (inside l) (item_lines (inside l) x) ++ end) ≡ laid_out l (array ts)) f.are whole),
+        λ flush.
+            let so_far = writes flush in
+            let one = c.write_str-in-Some-split_child.ensures.styled so_far.flush (search rules) in
+            let two = c.write_line-in-Some-split_child.ensures f.first f.is one.flush (search rules) in
+            joins_three _ _ _ _ _ _ _ _ _ so_far one two (ap (λ i. done ++ (codes "," ++ (line_start i ++ laid_out i f.first))) c.inside-in-Some-split_child.ensures),
+      ),
+)
 
-pub write_array-returns : goal.write_array-returns
-write_array-returns g t c flush ok =
+pub write_items-returns : goal.write_items-returns
+write_items-returns g t c ts are flush ok =
     let l = layout_of c.args.layout in
-    let none : c.items.item-iterator.rest ≡ [] = search rules in
-    let (all, done, whole, writes) = c.items.invariant in
+    let end = line_start l ++ codes "]" in
+    let (others, done, left, whole, writes) = c.items.invariant.1 ts are in
+    let none = c.in_default-split_child.ensures.none others left in
     let so_far = writes flush in
     let one = c.start_line.ensures so_far.flush (search rules) in
     let two = c.write_str-3.ensures.styled one.flush ok in
-    joins_three _ _ _ _ _ _ _ _ _ so_far one two (lines_end (item_text (inside l)) (inside l) done (line_start l ++ codes "]") _ _ whole none)
+    joins_three _ _ _ _ _ _ _ _ _ so_far one two (subst (λ x. done ++ (more_lines (inside l) (item_lines (inside l) x) ++ end) ≡ laid_out l (array ts)) none whole)
 
-pub write_pair-returns : goal.write_pair-returns
-write_pair-returns g t c flush ok =
+pub write_member-returns : goal.write_member-returns
+write_member-returns g t c u h flush ok =
     let one = c.start_line.ensures flush (search rules) in
     let two = c.write_string.ensures one.flush (search rules) in
     let three = c.write_str.ensures.styled two.flush (search rules) in
-    let four = c.write_item.ensures three.flush ok in
-    let value = meant_text (layout_of c.args.layout) (shown_meaning (shown c.in-Ok.value)) in
+    let four = c.write_part.ensures u h three.flush ok in
+    let value = laid_out (layout_of c.args.layout) u in
     let ends = joins_two _ _ _ _ _ _ _ three four (ap (λ between. between ++ value) c.colon.ensures) in
-    rw c.in-Ok.is (joins_three _ _ _ _ _ _ _ _ _ one two ends refl)
+    joins_three _ _ _ _ _ _ _ _ _ one two ends refl
 
-pub write_object-pairs-init : goal.write_object-pairs-init
-write_object-pairs-init g t c =
-    let l = layout_of c.args.layout in
-    let x = shown_pair c.in-Some.first in
-    let rest = c.pairs_in-pairs.result.rest in
-    let xs = c.into_iter-pair-iterator.result.rest in
-    let parts : rest ≡ x ∷ xs = search rules in (
-      (subst (λ ys. AllInside (length (raw_bytes c.args.raw)) (map value_in ys)) parts c.pairs_in-pairs.ensures.inside).1,
-      codes "{" ++ (line_start (inside l) ++ pair_text (inside l) x),
-      lines_begin (pair_text (inside l)) l (codes "{") (codes "}") _ rest x xs (c.pairs_in-pairs.ensures.text l) parts,
-      λ flush.
-          let one = c.write_str-2.ensures.styled flush (search rules) in
-          let two = c.write_pair.ensures one.flush (search rules) in
-          joins_two _ _ _ _ _ _ _ one two (ap (λ i. codes "{" ++ (line_start i ++ pair_text i x)) c.inside.ensures),
-    )
+pub write_members-returns-in_default : goal.write_members-returns-in_default
+write_members-returns-in_default g t c ps are = rw (c.in_default.ensures.none ps are) c.write_str.ensures.styled
 
-pub write_object-pairs-preserved : goal.write_object-pairs-preserved
-write_object-pairs-preserved g t c =
-    let l = layout_of c.args.layout in
-    let x = shown_pair c.in-Some-pair.pair in
-    let rest = c.pairs.pair-iterator.rest in
-    let xs = c.next-in-pairs.new.self.rest in
-    let parts : rest ≡ x ∷ xs = search rules in
-    let (all, done, whole, writes) = c.pairs.invariant in (
-      (subst (λ ys. AllInside (length (raw_bytes c.args.raw)) (map value_in ys)) parts all).1,
-      done ++ (codes "," ++ (line_start (inside l) ++ pair_text (inside l) x)),
-      lines_next (pair_text (inside l)) (inside l) done (line_start l ++ codes "}") _ rest x xs whole parts,
-      λ flush.
-          let so_far = writes flush in
-          let one = c.write_str-in-pairs.ensures.styled so_far.flush (search rules) in
-          let two = c.write_pair-in-pairs.ensures one.flush (search rules) in
-          joins_three _ _ _ _ _ _ _ _ _ so_far one two (ap (λ i. done ++ (codes "," ++ (line_start i ++ pair_text i x))) c.inside-in-pairs.ensures),
-    )
+pub write_members-write_member-requires : goal.write_members-write_member-requires
+write_members-write_member-requires g t c κs within =
+    let (ps, are) = c.requires.object in
+    let f = c.in-Some.ensures.first ps are in
+    let room = subst (λ x. HasRoom x (length c.in-Some.first.value.payload.now)) (sym c.inside.ensures) (HasRoom-inside _ _ _ c.requires.room (omega (arith, c.in-Some.ensures.values_len))) in
+    (search rules, (search rules, ((f.value, f.is), room)))
 
-pub write_object-returns : goal.write_object-returns
-write_object-returns g t c flush ok =
+pub write_members-members-init : goal.write_members-members-init
+write_members-members-init g t c = (
+  omega (arith, c.in-Some.ensures.values_len),
+  λ ps are.
+      let l = layout_of c.args.layout in
+      let f = c.in-Some.ensures.first ps are in
+      let k = c.in-Some.first.key.now in (
+        f.others,
+        codes "{" ++ (line_start (inside l) ++ pair_text (inside l) k f.value),
+        f.left,
+        pairs_begin l ps k f.value f.others f.are,
+        λ flush.
+            let one = c.write_str-2.ensures.styled flush (search rules) in
+            let two = c.write_member.ensures f.value f.is one.flush (search rules) in
+            joins_two _ _ _ _ _ _ _ one two (ap (λ i. codes "{" ++ (line_start i ++ pair_text i k f.value)) c.inside.ensures),
+      ),
+)
+
+pub write_members-split_member-requires-in-members : goal.write_members-split_member-requires-in-members
+write_members-split_member-requires-in-members g t c =
+    let (ps, are) = c.requires.object in
+    let (others, done, left, whole, writes) = c.members.invariant.1 ps are in
+    (others, left)
+
+pub write_members-write_member-requires-in-Some-split_member : goal.write_members-write_member-requires-in-Some-split_member
+write_members-write_member-requires-in-Some-split_member g t c κs within =
+    let (ps, are) = c.requires.object in
+    let (others, done, left, whole, writes) = c.members.invariant.1 ps are in
+    let f = c.in-Some-split_member.ensures.first others left in
+    let next = c.in-Some-split_member.next in
+    let room = subst (λ x. HasRoom x (length next.value.payload.now)) (sym c.inside-in-Some-split_member.ensures) (HasRoom-inside _ _ _ c.requires.room (omega (arith, c.in-Some-split_member.ensures.values_len, c.members.invariant.0))) in
+    (search rules, (search rules, ((f.value, f.is), room)))
+
+pub write_members-members-preserved : goal.write_members-members-preserved
+write_members-members-preserved g t c = (
+  omega (arith, c.in-Some-split_member.ensures.values_len, c.members.invariant.0),
+  λ ps are.
+      let l = layout_of c.args.layout in
+      let end = line_start l ++ codes "}" in
+      let (others, done, left, whole, writes) = c.members.invariant.1 ps are in
+      let f = c.in-Some-split_member.ensures.first others left in
+      let k = c.in-Some-split_member.next.key.now in
+      let line = pair_text (inside l) k f.value in (
+        f.others,
+        done ++ (codes "," ++ (line_start (inside l) ++ line)),
+        f.left,
+        lines_next (inside l) done end _ line (pair_lines (inside l) f.others) (subst (λ x. done ++ (more_lines (inside l) (pair_lines (inside l) x) ++ end) ≡ laid_out l (object ps)) f.are whole),
+        λ flush.
+            let so_far = writes flush in
+            let one = c.write_str-in-Some-split_member.ensures.styled so_far.flush (search rules) in
+            let two = c.write_member-in-Some-split_member.ensures f.value f.is one.flush (search rules) in
+            joins_three _ _ _ _ _ _ _ _ _ so_far one two (ap (λ i. done ++ (codes "," ++ (line_start i ++ pair_text i k f.value))) c.inside-in-Some-split_member.ensures),
+      ),
+)
+
+pub write_members-returns : goal.write_members-returns
+write_members-returns g t c ps are flush ok =
     let l = layout_of c.args.layout in
-    let none : c.pairs.pair-iterator.rest ≡ [] = search rules in
-    let (all, done, whole, writes) = c.pairs.invariant in
+    let end = line_start l ++ codes "}" in
+    let (others, done, left, whole, writes) = c.members.invariant.1 ps are in
+    let none = c.in_default-split_member.ensures.none others left in
     let so_far = writes flush in
     let one = c.start_line.ensures so_far.flush (search rules) in
     let two = c.write_str-3.ensures.styled one.flush ok in
-    joins_three _ _ _ _ _ _ _ _ _ so_far one two (lines_end (pair_text (inside l)) (inside l) done (line_start l ++ codes "}") _ _ whole none)
+    joins_three _ _ _ _ _ _ _ _ _ so_far one two (subst (λ x. done ++ (more_lines (inside l) (pair_lines (inside l) x) ++ end) ≡ laid_out l (object ps)) none whole)

@@ -1,9 +1,7 @@
-use Rattle.std.proofs.Common.{sym, ◌∙◌}
+use Rattle.std.proofs.Common.{sym}
 use Rattle.std.proofs.Output.{has_written_styled_of_eq}
-use Rattle.jsonb_value.specs.Text.{on_lines}
 use Rattle.jsonb_codec.specs.Doc.{IsDocument}
 use Rattle.jsonb.specs.Raw.{raw_bytes}
-use Rattle.jsonb.proofs.LineLaws.{meant_text-Doc}
 use Rattle.jsonb.proofs.TextLaws.{pretty_shown_text-Doc, pretty_shown_text-other}
 use Rattle.jsonb.proofs.text.write_pretty.Goals as goal
 
@@ -11,7 +9,7 @@ pub returns-then-is_document : goal.returns-then-is_document
 returns-then-is_document g c flush ok =
     let b = raw_bytes c.args.raw in
     let (t, doc) = c.is_document.ensures.0 c.if-is_document.true in
-    has_written_styled_of_eq _ _ _ _ _ (meant_text-Doc (on_lines 0) b t doc ∙ sym (pretty_shown_text-Doc b t doc)) (c.write_document.ensures flush ok)
+    has_written_styled_of_eq _ _ _ _ _ (sym (pretty_shown_text-Doc b t doc)) (c.write_document.ensures t doc flush ok)
 
 pub returns-else-is_document : goal.returns-else-is_document
 returns-else-is_document g c flush ok =

@@ -1,9 +1,7 @@
 use Rattle.std.proofs.Common.{◌≡◌, length, sym, ◌∙◌}
 use Rattle.std.proofs.Output.{has_written_styled_of_eq}
-use Rattle.jsonb_value.specs.Text.{in_one_line}
 use Rattle.jsonb_codec.specs.Doc.{IsDocument}
 use Rattle.jsonb.specs.Raw.{raw_bytes}
-use Rattle.jsonb.proofs.LineLaws.{meant_text-Doc}
 use Rattle.jsonb.proofs.TextLaws.{shown_text-Doc, shown_text-other, other_text-empty, other_text-some}
 use Rattle.jsonb.proofs.text.write_shown.Goals as goal
 
@@ -11,7 +9,7 @@ pub returns-then-is_document : goal.returns-then-is_document
 returns-then-is_document g c flush ok =
     let b = raw_bytes c.args.raw in
     let (t, doc) = c.is_document.ensures.0 c.if-is_document.true in
-    has_written_styled_of_eq _ _ _ _ _ (meant_text-Doc in_one_line b t doc ∙ sym (shown_text-Doc b t doc)) (c.write_document.ensures flush ok)
+    has_written_styled_of_eq _ _ _ _ _ (sym (shown_text-Doc b t doc)) (c.write_document.ensures t doc flush ok)
 
 pub returns-then-is_empty : goal.returns-then-is_empty
 returns-then-is_empty g c flush ok =

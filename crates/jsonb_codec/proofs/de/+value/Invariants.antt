@@ -1,42 +1,44 @@
 use Rattle.std.proofs.Common.{◌≡◌, ◌+◌, ◌*◌, ◌≤◌, length, map}
-use Rattle.jsonb_value.specs.Tree.{Trees, Pairs}
+use Rattle.jsonb_value.specs.Tree.{Trees, Pairs, Ascend}
 use Rattle.jsonb_value.specs.Value.{tree_of}
-use Rattle.jsonb_codec.specs.Doc.{Children, Values}
-use Rattle.jsonb_codec.specs.Parts.{KeysThen}
-use Rattle.jsonb_codec.proofs.KeySteps.{IsPairs}
-use Rattle.jsonb_codec.proofs.Building.{trees_and, pairs_and}
+use Rattle.jsonb_codec.specs.Canonical.{AreSomeChildren}
+use Rattle.jsonb_codec.specs.Contents.{AreItems, AreMembers}
+use Rattle.jsonb_codec.proofs.Building.{trees_and, pairs_and, seen}
 use Rattle.jsonb_codec.proofs.de.+value.Given as goal
 
-abbrev pub decreases-build_payload : goal.decreases-build_payload
-decreases-build_payload l = 4 * length l.payload.now + 3
+abbrev pub decreases-insert_part : goal.decreases-insert_part
+decreases-insert_part l = 4 * length l.part.payload.now + 3
+
+abbrev pub decreases-push_part : goal.decreases-push_part
+decreases-push_part l = 4 * length l.part.payload.now + 3
 
 abbrev pub decreases-build_container : goal.decreases-build_container
 decreases-build_container l = 4 * length l.bytes.now + 2
 
 abbrev pub decreases-build_items : goal.decreases-build_items
-decreases-build_items l = 4 * length l.body.now + 8
+decreases-build_items l = 4 * length l.items.payloads.now + 4
 
-abbrev pub decreases-build_pairs : goal.decreases-build_pairs
-decreases-build_pairs l = 4 * length l.body.now + 8
+abbrev pub decreases-build_members : goal.decreases-build_members
+decreases-build_members l = 4 * length l.members.values.now + 4
 
 -- The items so far, and those that are left, are the items of the whole.
-abbrev pub invariant-build_items-loop-entry : goal.invariant-build_items-loop-entry
-invariant-build_items-loop-entry l = record {
-  some : (ts : Trees) × Children ts l.initial.entries_left l.initial.payloads_left;
-  left : (ts : Trees) → Children ts l.initial.entries_left l.initial.payloads_left → (others : Trees) × ((ts ≡ trees_and (map tree_of l.items.items) others) × Children others l.entries_left l.payloads_left);
-  shorter : length l.payloads_left ≤ length l.initial.payloads_left;
+abbrev pub invariant-build_items-loop-child : goal.invariant-build_items-loop-child
+invariant-build_items-loop-child l = record {
+  some : AreSomeChildren l.left.entries.now l.left.payloads.now;
+  left : (ts : Trees) → AreItems ts l.fn.items → (others : Trees) × ((ts ≡ trees_and (map tree_of l.built.items) others) × AreItems others l.left);
+  shorter : length l.left.payloads.now ≤ length l.fn.items.payloads.now;
 }
 
-abbrev pub decreases-build_items-loop-entry : goal.decreases-build_items-loop-entry
-decreases-build_items-loop-entry l = length l.entries_left
+abbrev pub decreases-build_items-loop-child : goal.decreases-build_items-loop-child
+decreases-build_items-loop-child l = length l.left.entries.now
 
--- The pairs so far, and those that are left, are the pairs of the whole.
-abbrev pub invariant-build_pairs-loop-key_entry : goal.invariant-build_pairs-loop-key_entry
-invariant-build_pairs-loop-key_entry l = record {
-  some : (ps : Pairs) × IsPairs l.initial.key_entries_left l.initial.value_entries_left l.initial.keys_left l.initial.values_left ps;
-  left : (ps : Pairs) → IsPairs l.initial.key_entries_left l.initial.value_entries_left l.initial.keys_left l.initial.values_left ps → (others : Pairs) × ((ps ≡ pairs_and (map (λ m. (m.0, tree_of m.1)) l.pairs.entries) others) × (KeysThen others l.key_entries_left l.keys_left l.initial.values_left × Values others l.value_entries_left l.values_left));
-  shorter : length l.values_left ≤ length l.initial.values_left;
+-- The members so far, and those that are left, are the members of the whole.
+abbrev pub invariant-build_members-loop-member : goal.invariant-build_members-loop-member
+invariant-build_members-loop-member l = record {
+  some : (ps : Pairs) × AreMembers ps l.left;
+  left : (ps : Pairs) → Ascend ps → AreMembers ps l.fn.members → (others : Pairs) × ((ps ≡ pairs_and (seen l.built.entries) others) × AreMembers others l.left);
+  shorter : length l.left.values.now ≤ length l.fn.members.values.now;
 }
 
-abbrev pub decreases-build_pairs-loop-key_entry : goal.decreases-build_pairs-loop-key_entry
-decreases-build_pairs-loop-key_entry l = length l.key_entries_left
+abbrev pub decreases-build_members-loop-member : goal.decreases-build_members-loop-member
+decreases-build_members-loop-member l = length l.left.key_entries.now

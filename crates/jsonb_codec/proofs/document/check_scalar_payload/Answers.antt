@@ -1,4 +1,5 @@
-use Rattle.std.proofs.Common.{inl, inr}
+use Rattle.std.proofs.Common.{inl, inr, rules}
+use Rattle.std.proofs.lemmas.Str.{IsUtf8-from_ascii}
 use Rattle.jsonb_value.specs.ExtCode.{extension_of}
 use Rattle.jsonb_codec.proofs.Scalars.{empty_test, HasPayload-null, HasPayload-false, HasPayload-true, HasPayload-text, HasPayload-number, HasPayload-extension}
 use Rattle.jsonb_codec.proofs.document.check_scalar_payload.Goals as goal
@@ -26,3 +27,7 @@ returns-in-Ok-decode c =
 pub returns-in-Ok-decode-2 : goal.returns-in-Ok-decode-2
 returns-in-Ok-decode-2 c =
     (HasPayload-extension 0 c.args.tag c.args.payload.now c.in-1610612736.is).0 (extension_of c.in-Ok-decode-2.field-0, c.in-Ok-decode-2.ensures.ok)
+
+pub returns-in-268435456 : goal.returns-in-268435456
+returns-in-268435456 c =
+    (HasPayload-text 0 c.args.tag c.args.payload.now c.in-268435456.is).0 (IsUtf8-from_ascii c.args.payload.now (search rules))

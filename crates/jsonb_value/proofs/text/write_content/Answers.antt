@@ -1,54 +1,10 @@
-use Rattle.std.proofs.Common.{◌≡◌, ◌++◌, ℕ, List, get_or, take, flat_map, refl, sym, ap, ◌∙◌, arith, rules, append_assoc}
-use Rattle.std.proofs.lemmas.Grind.{common_steps}
-use Rattle.std.proofs.lemmas.Str.{IsCharBoundary-after_ascii, IsCharBoundary-before_ascii}
-use Rattle.jsonb_value.specs.Text.{byte_text, escape}
-use Rattle.jsonb_value.proofs.Escapes.{IsRun-found, content-plain}
-use Rattle.jsonb_value.proofs.Writing.{joins_two, joins_three}
+use Rattle.std.proofs.Common.{rules, arith, length}
+use Rattle.jsonb_value.specs.Text.{NoneEscaped}
+use Rattle.jsonb_value.proofs.Escapes.{plain_front}
 use Rattle.jsonb_value.proofs.text.write_content.Goals as goal
 
-pub range-requires-clause-end_boundary : goal.range-requires-clause-end_boundary
-range-requires-clause-end_boundary g c =
-    let run = IsRun-found c.runs.rest.now c.in-Some.at (search rules) in
-    IsCharBoundary-before_ascii c.runs.rest.now c.in-Some.at run.within run.ascii
-
-pub write_escape-requires : goal.write_escape-requires
-write_escape-requires g c =
-    let run = IsRun-found c.runs.rest.now c.in-Some.at (search rules) in
-    rw c.as_bytes.ensures.value run.ascii
-
-pub range_from-rest-requires : goal.range_from-rest-requires
-range_from-rest-requires g c some =
-    let run = IsRun-found c.runs.rest.now c.in-Some.at (search rules) in
-    IsCharBoundary-after_ascii c.runs.rest.now c.in-Some.at c.runs.invariant.0 run.within run.ascii
-
-pub runs-preserved : goal.runs-preserved
-runs-preserved g c =
-    let rest = c.runs.rest.now in
-    let at = c.in-Some.at in
-    let run = IsRun-found rest at (search rules) in
-    let (text, done, whole, writes) = c.runs.invariant in
-    let front = c.range.result.now in
-    let escaped = escape (get_or c.as_bytes.result.now at 0) in
-    let left = c.range_from-rest.result.now in
-    let before : front ≡ take at rest = c.range.ensures.value ∙ grind (arith, common_steps) in
-    let parts : flat_map byte_text rest ≡ front ++ (escaped ++ flat_map byte_text left) =
-    rw (before, c.as_bytes.ensures.value, c.range_from-rest.ensures.value) run.content in (
-      c.range_from-rest.utf8,
-      done ++ (front ++ escaped),
-      append_assoc done (front ++ escaped) (flat_map byte_text left)
-          ∙ ap (λ (l : List ℕ). done ++ l) (append_assoc front escaped (flat_map byte_text left) ∙ sym parts)
-          ∙ whole,
-      λ flush.
-          let so_far = writes flush in
-          let one = c.write_str.ensures.styled so_far.flush (search rules) in
-          let two = c.write_escape.ensures one.flush (search rules) in
-          joins_three _ _ _ _ _ _ _ _ _ so_far one two refl,
-    )
-
-pub returns : goal.returns
-returns g c flush ok =
-    let rest = c.runs.rest.now in
-    let (text, done, whole, writes) = c.runs.invariant in
-    let plain : flat_map byte_text rest ≡ rest = content-plain rest (search rules) in
-    let so_far = writes flush in
-    joins_two _ _ _ _ _ _ _ so_far (c.write_str-2.ensures.styled so_far.flush ok) (rw plain at whole)
+pub returns-then-is_all_plain : goal.returns-then-is_all_plain
+returns-then-is_all_plain g c =
+    let text = c.args.text.now in
+    let plain : NoneEscaped text 0 (length text) = search rules in
+    rw (plain_front text (λ k below. plain k (omega arith) below)) c.write_str.ensures.styled

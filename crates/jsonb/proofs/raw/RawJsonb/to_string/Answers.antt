@@ -6,7 +6,7 @@ use Rattle.jsonb.proofs.raw.RawJsonb.to_string.Goals as goal
 
 pub returns-clause-shown : goal.returns-clause-shown
 returns-clause-shown c =
-    string_written c.new.result _ _ _ _ _ (c.write_shown-answer.ensures c.new-f.ensures.plain.flush) c.new.ensures.bytes c.new-f.ensures.writer c.written.ensures.ok c.written.ensures.text
+    string_written c.in_ok-text.text _ _ _ _ _ (c.write_shown-answer.ensures c.new-f.ensures.plain.flush) c.in_ok-text.ensures.bytes c.new-f.ensures.writer c.written.ensures.ok c.written.ensures.text
 
 pub returns-clause-document : goal.returns-clause-document
 returns-clause-document c t doc = prints_as _ _ _ (returns-clause-shown c) (shown_text-Doc (raw_bytes c.args.self.now) t doc)

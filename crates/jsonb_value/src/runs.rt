@@ -1,0 +1,97 @@
+//! Runs of bytes that stand for themselves in a string of JSON, tested several at a time.
+
+ghost use Rattle.std.specs.Prelude.{◌≡◌, ◌+◌, ◌≤◌, length, map};
+ghost use Rattle.std.specs.Bool.{OnTrue};
+ghost use Rattle.std.specs.List.{prefix_len};
+ghost use Rattle.std.specs.Simd.Lanes.{mask_l};
+ghost use Rattle.jsonb_value.specs.Json.Piece.{is_plain};
+ghost use Rattle.jsonb_value.specs.Text.{is_escaped, NoneEscaped};
+
+use std::simd::Simd;
+use std::simd::prelude::*;
+
+// Whether the byte stands for itself.
+fn is_plain(byte: u8) -> bool
+    ensures { result ≡ is_plain byte }
+{
+    byte >= 0x20 && byte != b'"' && byte != b'\\'
+}
+
+// The lanes that hold an escaped byte, a bit for each.
+#[inline(always)]
+fn escaped_lanes<const N: usize>(lanes: Simd<u8, N>) -> u64
+    requires { N ≤ 64 }
+    ensures { result ≡ mask_l (map is_escaped lanes.entry) }
+{
+    let escaped = lanes.simd_eq(Simd::splat(b'"'))
+        | lanes.simd_eq(Simd::splat(b'\\'))
+        | lanes.simd_lt(Simd::splat(0x20));
+    escaped.to_bitmask()
+}
+
+// Whether the N bytes at this place stand for themselves.
+#[inline(always)]
+fn is_plain_at<const N: usize>(bytes: &[u8], at: usize) -> bool
+    requires few { N ≤ 64 }
+    requires within { at + N ≤ length bytes.now }
+    ensures { OnTrue result (NoneEscaped bytes.now at (at + N)) }
+{
+    escaped_lanes(Simd::<u8, N>::from_slice(&bytes[at..])) == 0
+}
+
+#[inline(always)]
+fn is_plain_long(bytes: &[u8]) -> bool
+    requires { 16 ≤ length bytes.now }
+    ensures { OnTrue result (NoneEscaped bytes.now 0 (length bytes.now)) }
+{
+    let last = bytes.len() - 16;
+    let mut at = 0;
+    'vectors: while at < last {
+        if !is_plain_at::<16>(bytes, at) {
+            return false;
+        }
+        at += 16;
+    }
+    is_plain_at::<16>(bytes, last)
+}
+
+/// Whether all bytes stand for themselves. Vectors that overlap cover the bytes.
+#[inline(always)]
+pub fn is_all_plain(bytes: &[u8]) -> bool
+    ensures { OnTrue result (NoneEscaped bytes.now 0 (length bytes.now)) }
+{
+    let len = bytes.len();
+    if len >= 16 {
+        is_plain_long(bytes)
+    } else if len >= 8 {
+        is_plain_at::<8>(bytes, 0) && is_plain_at::<8>(bytes, len - 8)
+    } else if len >= 4 {
+        is_plain_at::<4>(bytes, 0) && is_plain_at::<4>(bytes, len - 4)
+    } else {
+        plain_len_by_one(bytes) == len
+    }
+}
+
+#[inline(always)]
+fn plain_len_by_one(bytes: &[u8]) -> usize
+    ensures count { result ≡ prefix_len is_plain bytes.now }
+    ensures within { result ≤ length bytes.now }
+{
+    bytes.iter().take_while(|byte| is_plain(**byte)).count()
+}
+
+/// How many bytes at the front stand for themselves.
+#[inline(always)]
+pub fn plain_len(bytes: &[u8]) -> usize
+    ensures { result ≡ prefix_len is_plain bytes.now }
+{
+    let mut at = 0;
+    'vectors: while bytes.len() - at >= 16 {
+        let escaped = escaped_lanes(u8x16::from_slice(&bytes[at..]));
+        if escaped != 0 {
+            return at + escaped.trailing_zeros() as usize;
+        }
+        at += 16;
+    }
+    at + plain_len_by_one(&bytes[at..])
+}
