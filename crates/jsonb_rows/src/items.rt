@@ -10,11 +10,11 @@ use std::cmp::Ordering;
 use std::fmt::Write;
 use std::test::Fail;
 
-// How often each iterator is asked, past the end of each row.
-const ASKED: usize = 5;
+/// How often each iterator is asked, past the end of each row.
+pub const ASKED: usize = 5;
 
-// The object {"aa":1,"ab":[2]}.
-const TWO_PAIRS: &str =
+/// The object {"aa":1,"ab":[2]}.
+pub const TWO_PAIRS: &str =
     "40000002 10000002 10000002 20000002 5000000a 6161 6162 5001 80000001 20000002 5002";
 
 /// Writes a name and bytes.

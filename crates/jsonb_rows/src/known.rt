@@ -6,6 +6,7 @@ ghost use Rattle.jsonb_codec.specs.Canon.{canon, Fits};
 use jsonb_codec::{Decoder, Encoder, value_of};
 use jsonb_value::{Error, Value};
 use std::alloc::Global;
+use std::fmt;
 use std::test::Fail;
 
 /// Documents that both readers take.
@@ -93,5 +94,22 @@ pub fn outcome(read: &Result<Vec<u8>, Error>) -> &'static str {
     match read {
         Ok(_) => "ok",
         Err(error) => error.name(),
+    }
+}
+
+/// A writer that takes so many bytes, and refuses a piece that is too long for what is left.
+#[derive(Drop)]
+pub struct Narrow {
+    pub taken: String,
+    pub room: usize,
+}
+
+impl fmt::Write for Narrow {
+    fn write_str(&mut self, piece: &str) -> fmt::Result {
+        if piece.len() > self.room {
+            return Err(fmt::Error);
+        }
+        self.room -= piece.len();
+        self.taken.push_str(piece).map_err(|_| fmt::Error)
     }
 }

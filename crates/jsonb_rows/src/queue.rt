@@ -1,5 +1,5 @@
 // The walk over pairs beside its older form, which reads all key entries first and keeps them in a queue.
-use crate::items::{pairs_text, write_hex, write_item};
+use crate::items::{ASKED, TWO_PAIRS, pairs_text, write_hex, write_item};
 use crate::known::bytes_of;
 use jsonb::{Error, JEntry, JsonbItem, RawJsonb, read_header, read_jentry};
 use jsonb_codec::constants::{
@@ -9,13 +9,6 @@ use std::alloc::Global;
 use std::collections::VecDeque;
 use std::str;
 use std::test::Fail;
-
-// How often the walk is asked, past its end.
-const ASKED: usize = 5;
-
-// The object {"aa":1,"ab":[2]}.
-const TWO_PAIRS: &str =
-    "40000002 10000002 10000002 20000002 5000000a 6161 6162 5001 80000001 20000002 5002";
 
 // The walk, and where it stands.
 #[derive(Drop)]

@@ -1,5 +1,5 @@
 // Texts from outside, as tables, and a writer that refuses in mid-text.
-use crate::known::bytes_of;
+use crate::known::{Narrow, bytes_of};
 use jsonb::{Error, OwnedJsonb, RawJsonb};
 use std::alloc::Global;
 use std::fmt;
@@ -197,23 +197,6 @@ fn texts_that_are_refused(rt: HostRuntime) -> Result<(), Fail> {
         }
     }
     Ok(())
-}
-
-/// Takes so many bytes, and refuses a piece that is too long for what is left.
-#[derive(Drop)]
-struct Narrow {
-    taken: String,
-    room: usize,
-}
-
-impl fmt::Write for Narrow {
-    fn write_str(&mut self, piece: &str) -> fmt::Result {
-        if piece.len() > self.room {
-            return Err(fmt::Error);
-        }
-        self.room -= piece.len();
-        self.taken.push_str(piece).map_err(|_| fmt::Error)
-    }
 }
 
 // Whether a writer with so much room took the whole text, and what it took.

@@ -1,4 +1,5 @@
 // Texts of numbers, strings and extension values from outside, as tables, and a writer that refuses in mid-text.
+use crate::known::Narrow;
 use jsonb::{
     Date, Decimal64, Decimal128, ExtensionValue, Interval, Number, Opaque, Timestamp, TimestampTz,
     extension_text, write_number, write_string,
@@ -6,23 +7,6 @@ use jsonb::{
 use std::alloc::{AllocError, Global};
 use std::fmt;
 use std::test::Fail;
-
-/// Takes so many bytes, and refuses a piece that is too long for what is left.
-#[derive(Drop)]
-struct Narrow {
-    taken: String,
-    room: usize,
-}
-
-impl fmt::Write for Narrow {
-    fn write_str(&mut self, piece: &str) -> fmt::Result {
-        if piece.len() > self.room {
-            return Err(fmt::Error);
-        }
-        self.room -= piece.len();
-        self.taken.push_str(piece).map_err(|_| fmt::Error)
-    }
-}
 
 fn with_room(alloc: Global, room: usize) -> fmt::Formatter<Narrow> {
     let taken = String::new(alloc);

@@ -119,9 +119,9 @@ fn append_items(out: &mut Vec<u8>, items: Items<'_, '_>)
     append_children(out, place, items);
 }
 
-// Room for entry words, which are put there once what they stand for is written.
+/// Room for entry words, which are put there once what they stand for is written.
 #[inline(always)]
-fn append_zeros(out: &mut Vec<u8>, count: usize)
+pub fn append_zeros(out: &mut Vec<u8>, count: usize)
     requires { length out.old.items + count ≤ vec_capacity out.old }
     ensures { Appended out.old out.new (replicate count 0) }
 {
@@ -130,10 +130,10 @@ fn append_zeros(out: &mut Vec<u8>, count: usize)
     };
 }
 
-// One word over the four bytes at the place.
+/// Puts one word over the four bytes at the place.
 #[tactic(auto, unfolding(crate::specs::Word::word))]
 #[inline(always)]
-fn put_word(out: &mut Vec<u8>, place: usize, number: u32)
+pub fn put_word(out: &mut Vec<u8>, place: usize, number: u32)
     requires { place + 4 ≤ length out.old.items }
     ensures { Filled place (word number) [] out.old out.new }
 {
