@@ -141,6 +141,17 @@ fn insert_part<'a>(
     } else {
         build_scalar(part.tag, part.payload)
     };
+    insert_member(members, key, value)
+}
+
+// Puts the value under the key. What that takes of the stack is not held while values inside are
+// built.
+#[inline(never)]
+fn insert_member<'a>(members: &mut Object<'a>, key: String, value: Value<'a>) -> Result<(), Error>
+    ensures ok { OnOk result
+        (members.new.entries ≡ insert_entry string_cmp members.old.entries key value.entry) }
+    ensures memory { IfErr result (λ e. e ≡ Error.OutOfMemory) }
+{
     drop(members.insert(key, value)?);
     Ok(())
 }

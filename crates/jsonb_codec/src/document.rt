@@ -26,6 +26,7 @@ pub fn document_laws()
 /// number of bytes bounds, no proper beginning of them is a document, and none that is longer
 /// begins with them. Where none of them is zero, there are more than 4,294,967,296 of them: no
 /// text of usual length is a document.
+#[inline(always)]
 pub fn is_document(bytes: &[u8]) -> bool
     ensures exact { IsTrue result ↔ IsDocument bytes.now }
     ensures one_tree { IsTrue result → (t u : Tree) → Doc bytes.now t → Doc bytes.now u → t ≡ u }
@@ -43,6 +44,7 @@ pub fn is_document(bytes: &[u8]) -> bool
 
 /// Whether the bytes are a document that nests at most that deep: a scalar has depth 0, an array
 /// or object 1 where it is empty, and otherwise one more than its deepest child.
+#[inline(always)]
 pub fn is_document_within(bytes: &[u8], depth: usize) -> bool
     ensures { IsTrue result ↔ IsDocumentWithin depth bytes.now }
 {
@@ -133,6 +135,7 @@ impl FaultTable {
 
 /// Goes through the bytes once, and answers the first fault by that table. A container more than
 /// `depth` deep is a fault, and is not looked into.
+#[inline(always)]
 pub fn check(faults: FaultTable, depth: usize, bytes: &[u8]) -> Result<(), Error>
     ensures { Tells faults result (IsDocumentWithin depth bytes.now) }
 {
@@ -147,6 +150,7 @@ pub fn check(faults: FaultTable, depth: usize, bytes: &[u8]) -> Result<(), Error
 }
 
 // What stands behind the header of a scalar: one entry, and its payload.
+#[inline(always)]
 fn check_scalar(faults: FaultTable, count: usize, body: &[u8]) -> Result<(), Error>
     requires { count < 2 ^ 29 }
     ensures { Tells faults result (HasScalar (word (SCALAR_CONTAINER_TAG + count) ++ body.now)) }

@@ -108,6 +108,7 @@ fn read_value<'a>(alloc: Global, text: &'a str) -> Result<(Value<'a>, &'a str), 
 
 // The items of an array, behind the bracket that opens it.
 #[cycle(reading)]
+#[inline(never)]
 fn read_array<'a>(alloc: Global, text: &'a str) -> Result<(Value<'a>, &'a str), Error>
     ensures { (n : ℕ) → length (chars text.now) < n → Gives (λ found. (tree_of found.0, chars found.1.now)) result (read_array (read_value n) n (chars text.now)) }
 {
@@ -134,6 +135,7 @@ fn read_array<'a>(alloc: Global, text: &'a str) -> Result<(Value<'a>, &'a str), 
 
 // The members of an object, behind the brace that opens it. Of equal keys the last value is kept.
 #[cycle(reading)]
+#[inline(never)]
 fn read_object<'a>(alloc: Global, text: &'a str) -> Result<(Value<'a>, &'a str), Error>
     ensures { (n : ℕ) → length (chars text.now) < n → Gives (λ found. (tree_of found.0, chars found.1.now)) result (read_object (read_value n) n (chars text.now)) }
 {
