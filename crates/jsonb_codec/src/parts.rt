@@ -204,9 +204,9 @@ fn split_members(count: usize, body: &[u8]) -> Members
     }
 }
 
-/// What stands behind the keys of these entries.
+// What stands behind the keys of these entries.
 #[inline(always)]
-pub fn after_keys<'a>(key_entries: &[u8], payloads: &'a [u8]) -> &'a [u8]
+fn after_keys<'a>(key_entries: &[u8], payloads: &'a [u8]) -> &'a [u8]
     requires { (ps : Pairs) × ((q : List ℕ) × KeysThen ps key_entries.now payloads.now q) }
     ensures { (ps : Pairs) (q : List ℕ) → KeysThen ps key_entries.now payloads.now q
         → result.now ≡ q }
