@@ -1,5 +1,5 @@
 -- The children of a container, whether it is an array or an object, and how it is written as they are.
-use Rattle.std.proofs.Common.{◌≡◌, ◌↔◌, ◌≢◌, inl, inr, ◌<◌, ◌≤◌, ◌+◌, ◌*◌, ◌%◌, ◌^◌, ℕ, List, ◌++◌, length, take, drop, true, false, refl, sym, ap, ap₂, subst, ◌∙◌, arith, length-append, append-nil, append_assoc, [], Option, Some, None, IfNone}
+use Rattle.std.proofs.Common.{◌≡◌, ◌↔◌, ◌≢◌, inl, inr, ◌<◌, ◌+◌, ◌*◌, ◌%◌, ◌^◌, ℕ, List, ◌++◌, length, take, drop, true, false, refl, sym, ap, ap₂, subst, ◌∙◌, arith, length-append, append-nil, append_assoc, [], Option, Some, None, IfNone}
 use Rattle.std.specs.Global.{Vec}
 use Rattle.std.specs.Prelude.{Result, Ok, Err, IsErrAnd}
 use Rattle.jsonb_value.specs.declared.error.Error.{Error}
@@ -17,14 +17,12 @@ use Rattle.jsonb_codec.specs.Depth.{depth}
 use Rattle.jsonb_codec.specs.Parts.{IsPayloadOf}
 use Rattle.jsonb_codec.specs.Canon.{canon, Fits, FitsInside, payload_of, entries_of, payloads_of, key_entries, key_payloads, value_entries, value_payloads, FitsEntry, AllFit, PairsFit}
 use Rattle.jsonb_codec.specs.Canonical.{IsCanonical, AreSomeChildren}
-use Rattle.jsonb_codec.specs.Room.{HasRoom, Filled, filled}
+use Rattle.jsonb_codec.specs.Room.{HasRoom, Appended}
 use Rattle.jsonb_codec.specs.Rewriting.{FirstChild, Opened}
-use Rattle.jsonb_codec.proofs.Words.{same_words, length-word-append}
+use Rattle.jsonb_codec.proofs.Words.{same_words}
 use Rattle.jsonb_codec.proofs.Unique.{same_trees, Doc-unique}
 use Rattle.jsonb_codec.proofs.CanonLaws.{type_of-norm, count-norms, pair_count-norm_pairs, payload_of-norm, canon-norm, Doc-canon}
 use Rattle.jsonb_codec.proofs.Entries.{IsType, IsType-type_of, same_entry, length-Children, length-Keys, length-Values}
-use Rattle.jsonb_codec.proofs.Lengths.{length-entries_of}
-use Rattle.jsonb_codec.proofs.Filling.{filled-nil, Filled-next, length-Filled}
 use Rattle.jsonb_codec.proofs.Steps.{Read, no_container}
 
 -- an object's values, and its keys as texts before other children
@@ -166,19 +164,6 @@ module _ (tag n : ℕ) (rest b : List ℕ) (parts : b ≡ word (tag + n) ++ rest
       let entry = same_entry (type_of t) ty (length h.payload) k ht hu short read.number inner.0 in
       (entry.0, subst (Payload t) inner.1 h.means)
 
--- ---- lengths of what is written
-
--- the entry words are as many as were read
-pub length-written_entries : (ts : Trees) (e p : List ℕ) → Children ts e p → length (entries_of ts) ≡ length e
-length-written_entries ts e p h = length-entries_of ts ∙ sym (length-Children ts e p h)
-
--- a header, the entry words, the payloads
-pub length-Opened : (t : Tree) (header : ℕ) (e p : List ℕ) → (o : Opened t header e p) → length (payload_of t) ≡ 4 + (length e + length (payloads_of o.children))
-length-Opened t header e p o =
-    let words = length-written_entries o.children e p o.are in
-    let written = ap length o.written ∙ length-word-append header (entries_of o.children ++ payloads_of o.children) in
-    omega (arith, written, length-append (entries_of o.children) (payloads_of o.children), words)
-
 -- ---- children, gone through one after another
 
 -- want of memory is no fault of the bytes
@@ -234,53 +219,55 @@ measured_end ae qs total e p m none ts h =
     let sum : total + 0 ≡ length (payloads_of ts) = ap (λ (us : Trees). total + length (payloads_of us)) (sym none) ∙ m.sum ∙ ap (λ (us : Trees). length (payloads_of us)) same in
     (subst AllFit same (m.back (subst AllFit (sym none) tt)), omega (arith, sum))
 
--- What is written of them, and those that are left: with these it is the whole.
-pub record Written (place : ℕ) (old now : Vec ℕ) (all_entries all_payloads : List ℕ) (entry : ℕ) (entries payloads : List ℕ) : Type 0 where
+-- What is written of them, and those that are left.
+pub record Written (Bytes : Trees → List ℕ) (old now : Vec ℕ) (all_entries all_payloads entries payloads : List ℕ) : Type 0 where
   pub all : Trees
   pub are_all : Children all all_entries all_payloads
   pub left : Trees
   pub are_left : Children left entries payloads
   pub fit : AllFit left
-  pub room : HasRoom now (payloads_of left)
-  pub bytes : filled entry (entries_of left) (payloads_of left) now.items ≡ filled place (entries_of all) (payloads_of all) old.items
+  pub room : HasRoom now (Bytes left)
+  pub bytes : now.items ++ Bytes left ≡ old.items ++ Bytes all
 
-pub written_start : (place : ℕ) (v : Vec ℕ) (e p : List ℕ) → ((ts : Trees) × (Children ts e p × (AllFit ts × HasRoom v (payloads_of ts)))) → Written place v v e p place e p
-written_start place v e p (ts, (h, (fit, room))) = record { all = ts; are_all = h; left = ts; are_left = h; fit = fit; room = room; bytes = refl }
+pub written_start : (Bytes : Trees → List ℕ) (v : Vec ℕ) (e p : List ℕ) → ((ts : Trees) × (Children ts e p × (AllFit ts × HasRoom v (Bytes ts)))) → Written Bytes v v e p e p
+written_start Bytes v e p (ts, (h, (fit, room))) = record { all = ts; are_all = h; left = ts; are_left = h; fit = fit; room = room; bytes = refl }
 
-module _ (place : ℕ) (old now : Vec ℕ) (ae qs : List ℕ) (entry : ℕ) (e p : List ℕ) (w : Written place old now ae qs entry e p) (ty : ℕ) (q e2 p2 : List ℕ) (f : FirstChild w.left ty q e2 p2) where
-  both_payloads : length (payloads_of w.left) ≡ length (payload_of f.first) + length (payloads_of f.others)
-  both_payloads = ap (λ (ts : Trees). length (payloads_of ts)) f.are ∙ length-append (payload_of f.first) (payloads_of f.others)
+module _ (Bytes : Trees → List ℕ) (One : Tree → List ℕ) (law : (t : Tree) (us : Trees) → Bytes (tree t us) ≡ One t ++ Bytes us) (old now : Vec ℕ) (ae qs e p : List ℕ) (w : Written Bytes old now ae qs e p) (ty : ℕ) (q e2 p2 : List ℕ) (f : FirstChild w.left ty q e2 p2) where
+  both_parts : Bytes w.left ≡ One f.first ++ Bytes f.others
+  both_parts = ap Bytes f.are ∙ law f.first f.others
 
-  pub written_next : (t : Tree) × (IsPayloadOf ty q t × (FitsEntry t × HasRoom now (payload_of t)))
+  pub written_next : (t : Tree) × (IsPayloadOf ty q t × (FitsEntry t × HasRoom now (One t)))
   written_next =
       let fit = subst AllFit f.are w.fit in
-      (f.first, (f.is, (record { inside = fit.0.0; short = fit.0.1 }, omega (arith, both_payloads, w.room))))
+      let long : length (Bytes w.left) ≡ length (One f.first) + length (Bytes f.others) = ap length both_parts ∙ length-append (One f.first) (Bytes f.others) in
+      let room = w.room in
+      (f.first, (f.is, (record { inside = fit.0.0; short = fit.0.1 }, omega arith)))
 
-  pub written_on : (new : Vec ℕ) → entry + length e ≤ length now.items → length e ≡ 4 + length e2
-      → ((t : Tree) → IsPayloadOf ty q t → Filled entry (word (type_of t + length (payload_of t))) (payload_of t) now new) → Written place old new ae qs (entry + 4) e2 p2
-  written_on new few long known =
+  pub written_on : (new : Vec ℕ) → ((t : Tree) → IsPayloadOf ty q t → Appended now new (One t)) → Written Bytes old new ae qs e2 p2
+  written_on new known =
       let here = known f.first f.is in
-      let k = type_of f.first + length (payload_of f.first) in
-      let words = length-written_entries f.others e2 p2 f.behind in
-      let longer = length-Filled entry k (payload_of f.first) here (omega (arith, few, long)) in
+      let fit = subst AllFit f.are w.fit in
+      let long : length (Bytes w.left) ≡ length (One f.first) + length (Bytes f.others) = ap length both_parts ∙ length-append (One f.first) (Bytes f.others) in
+      let grown : length new.items ≡ length now.items + length (One f.first) = ap length here.items ∙ length-append now.items (One f.first) in
+      let room = w.room in
+      let kept = here.capacity in
       record {
         all = w.all;
         are_all = w.are_all;
         left = f.others;
         are_left = f.behind;
-        fit = (subst AllFit f.are w.fit).1;
-        room = omega (arith, both_payloads, longer, w.room, here.capacity);
+        fit = fit.1;
+        room = omega arith;
         bytes =
-            Filled-next entry k (entries_of f.others) (payload_of f.first) (payloads_of f.others) here (omega (arith, few, long, words))
-            ∙ ap (λ (ts : Trees). filled entry (entries_of ts) (payloads_of ts) now.items) (sym f.are) ∙ w.bytes;
+            ap (λ (x : List ℕ). x ++ Bytes f.others) here.items ∙ append_assoc now.items (One f.first) (Bytes f.others)
+            ∙ ap (λ (x : List ℕ). now.items ++ x) (sym both_parts) ∙ w.bytes;
       }
 
-pub written_end : (place : ℕ) (old now : Vec ℕ) (ae qs : List ℕ) (entry : ℕ) (e p : List ℕ) → (w : Written place old now ae qs entry e p) → w.left ≡ no_trees
-    → (ts : Trees) → Children ts ae qs → now.items ≡ filled place (entries_of ts) (payloads_of ts) old.items
-written_end place old now ae qs entry e p w none ts h =
+pub written_end : (Bytes : Trees → List ℕ) (old now : Vec ℕ) (ae qs e p : List ℕ) → Bytes no_trees ≡ [] → (w : Written Bytes old now ae qs e p) → w.left ≡ no_trees → (ts : Trees) → Children ts ae qs → now.items ≡ old.items ++ Bytes ts
+written_end Bytes old now ae qs e p nothing w none ts h =
     let same : w.all ≡ ts = Children-unique w.all ts ae qs w.are_all h in
-    sym (filled-nil entry now.items) ∙ ap (λ (us : Trees). filled entry (entries_of us) (payloads_of us) now.items) (sym none)
-    ∙ w.bytes ∙ ap (λ (us : Trees). filled place (entries_of us) (payloads_of us) old.items) same
+    let last : Bytes w.left ≡ [] = ap Bytes none ∙ nothing in
+    sym (append-nil now.items) ∙ ap (λ (x : List ℕ). now.items ++ x) (sym last) ∙ w.bytes ∙ ap (λ (us : Trees). old.items ++ Bytes us) same
 
 -- ---- what was written, beside the bytes that were read
 

@@ -8,14 +8,12 @@ ghost use Rattle.jsonb_codec.specs.Doc.{type_of, Doc, IsDocument, Children};
 ghost use Rattle.jsonb_codec.specs.Parts.{IsPayloadOf};
 ghost use Rattle.jsonb_codec.specs.Canon.{payload_of, entries_of, payloads_of, canon, AllFit, FitsInside, FitsEntry, Fits};
 ghost use Rattle.jsonb_codec.specs.Canonical.{IsSomePayload, AreSomeChildren};
-ghost use Rattle.jsonb_codec.specs.Room.{HasRoom, Appended, Filled};
+ghost use Rattle.jsonb_codec.specs.Room.{HasRoom, Appended};
 
 use crate::constants::{CONTAINER_TAG, EXTENSION_TAG, NUMBER_TAG, SCALAR_CONTAINER_TAG};
 use crate::document::is_document;
 use crate::parts::{Part, extension_in, number_in, split_child, split_container, split_document};
-use crate::ser::append::{
-    append_bytes, append_extension, append_number, append_word, append_zeros, put_word,
-};
+use crate::ser::append::{append_bytes, append_extension, append_number, append_word};
 use crate::ser::measure::MAX_PAYLOAD;
 use jsonb_value::Error;
 
@@ -147,7 +145,7 @@ fn append_document(out: &mut Vec<u8>, whole: Part<'_>)
     append_payload(out, whole);
 }
 
-// The entry word of a scalar.
+// The entry word of what is written.
 fn append_entry(out: &mut Vec<u8>, part: Part<'_>)
     requires { (t : Tree) × (IsPayloadOf part.tag part.payload.now t
         × (FitsEntry t × HasRoom out.old (word (type_of t + length (payload_of t))))) }
@@ -185,42 +183,38 @@ fn append_container(out: &mut Vec<u8>, bytes: &[u8])
 {
     let container = split_container(bytes);
     append_word(out, container.header);
-    let place = out.len();
-    append_zeros(out, container.entries.len());
-    append_children(out, place, container.entries, container.payloads);
+    append_entries(out, container.entries, container.payloads);
+    append_payloads(out, container.entries, container.payloads);
 }
 
-// The payload of a child, and its entry word at the place.
-#[cycle(append)]
-#[inline(always)]
-fn append_child(out: &mut Vec<u8>, place: usize, part: Part<'_>)
-    requires child { (t : Tree) × (IsPayloadOf part.tag part.payload.now t
-        × (FitsEntry t × HasRoom out.old (payload_of t))) }
-    requires place { place + 4 ≤ length out.old.items }
-    ensures { (t : Tree) → IsPayloadOf part.entry.tag part.entry.payload.now t
-        → Filled place (word (type_of t + length (payload_of t))) (payload_of t) out.old out.new }
-{
-    let start = out.len();
-    append_payload(out, part);
-    put_word(out, place, part.tag + (out.len() - start) as u32);
-}
-
-// The payloads of children, and their entry words from the place on.
-#[cycle(append)]
-#[inline(always)]
-fn append_children(out: &mut Vec<u8>, place: usize, entries: &[u8], payloads: &[u8])
-    requires children { (ts : Trees) × (Children ts entries.now payloads.now
-        × (AllFit ts × HasRoom out.old (payloads_of ts))) }
-    requires place { place + length entries.now ≤ length out.old.items }
+// The entry words of children.
+fn append_entries(out: &mut Vec<u8>, entries: &[u8], payloads: &[u8])
+    requires { (ts : Trees) × (Children ts entries.now payloads.now
+        × (AllFit ts × HasRoom out.old (entries_of ts))) }
     ensures { (ts : Trees) → Children ts entries.now payloads.now
-        → Filled place (entries_of ts) (payloads_of ts) out.old out.new }
+        → Appended out.old out.new (entries_of ts) }
 {
-    let mut entry = place;
     let mut entries_left = entries;
     let mut payloads_left = payloads;
     while let Some(child) = split_child(entries_left, payloads_left) {
-        append_child(out, entry, child.part);
-        entry += 4;
+        append_entry(out, child.part);
+        entries_left = child.entries;
+        payloads_left = child.payloads;
+    }
+}
+
+// And their payloads.
+#[cycle(append)]
+fn append_payloads(out: &mut Vec<u8>, entries: &[u8], payloads: &[u8])
+    requires { (ts : Trees) × (Children ts entries.now payloads.now
+        × (AllFit ts × HasRoom out.old (payloads_of ts))) }
+    ensures { (ts : Trees) → Children ts entries.now payloads.now
+        → Appended out.old out.new (payloads_of ts) }
+{
+    let mut entries_left = entries;
+    let mut payloads_left = payloads;
+    while let Some(child) = split_child(entries_left, payloads_left) {
+        append_payload(out, child.part);
         entries_left = child.entries;
         payloads_left = child.payloads;
     }

@@ -1,5 +1,9 @@
-use Rattle.std.proofs.Common.{arith}
-use Rattle.jsonb_codec.proofs.Rewriting.{length-Opened, refuses, measured_past, measured_end}
+use Rattle.std.proofs.Common.{◌++◌, length, ap, ◌∙◌, arith, length-append}
+use Rattle.jsonb_codec.specs.Canon.{entries_of, payloads_of}
+use Rattle.jsonb_codec.proofs.Words.{length-word-append}
+use Rattle.jsonb_codec.proofs.Entries.{length-Children}
+use Rattle.jsonb_codec.proofs.Lengths.{length-entries_of}
+use Rattle.jsonb_codec.proofs.Rewriting.{refuses, measured_past, measured_end}
 use Rattle.jsonb_codec.proofs.canonical.rewrite.+measure.Goals as goal
 
 pub measure_container-returns-clause-some : goal.measure_container-returns-clause-some
@@ -7,7 +11,8 @@ measure_container-returns-clause-some t c tree h =
     let parts = c.split_container-container.result in
     let o = c.split_container-container.ensures.opened tree h in
     let m = c.in_ok-payloads.ensures.some o.children o.are in
-    (o.fit.0 m.0, omega (arith, length-Opened tree parts.header parts.entries.now parts.payloads.now o, m.1))
+    let written = ap length o.written ∙ length-word-append parts.header (entries_of o.children ++ payloads_of o.children) in
+    (o.fit.0 m.0, omega (arith, written, length-append (entries_of o.children) (payloads_of o.children), length-entries_of o.children, length-Children o.children parts.entries.now parts.payloads.now o.are, m.1))
 
 pub measure_payloads-returns-in_err-total-clause-none : goal.measure_payloads-returns-in_err-total-clause-none
 measure_payloads-returns-in_err-total-clause-none t c =
