@@ -29,7 +29,7 @@ abbrev pub node_tree : Node → Tree
 node_tree nodes.Null = null
 node_tree (nodes.Bool b) = boolean b
 node_tree (nodes.Text s) = text s.now
-node_tree (nodes.Number x) = number x
+node_tree (nodes.Number x) = number x.now
 node_tree (nodes.Extension e) = extension (extension_of e)
 node_tree (nodes.Array xs) = array (items_trees xs)
 node_tree (nodes.Object ps) = object (object_pairs ps)

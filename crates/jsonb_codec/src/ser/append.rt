@@ -2,6 +2,8 @@
 
 ghost use Rattle.std.specs.Prelude.{◌≡◌, ◌<◌, ◌≤◌, ◌^◌, ◌+◌, ◌*◌, [], length, replicate, vec_capacity};
 ghost use Rattle.jsonb_value.specs.Tree.{array, object, count, pair_count};
+ghost use Rattle.jsonb_value.specs.Value.{items_view, pairs_view};
+ghost use Rattle.jsonb_value.specs.Ast.{asts_view, ast_pairs_view};
 ghost use Rattle.jsonb_value.specs.NumCode.{number_payload};
 ghost use Rattle.jsonb_value.specs.ExtCode.{extension_payload, extension_of};
 ghost use Rattle.jsonb_codec.specs.Word.{word};
@@ -11,11 +13,11 @@ ghost use Rattle.jsonb_codec.specs.Node.{node_tree, items_trees, object_pairs};
 ghost use Rattle.jsonb_codec.specs.Room.{HasRoom, Appended, Filled};
 
 use super::measure::measure_entry;
-use super::node::{Items, Node, Pairs};
+use super::node::{AstPair, Items, Node, Pairs};
 use crate::constants::{
     ARRAY_CONTAINER_TAG, CONTAINER_TAG, OBJECT_CONTAINER_TAG, SCALAR_CONTAINER_TAG, STRING_TAG,
 };
-use jsonb_value::{ExtensionValue, Number};
+use jsonb_value::{ExtensionValue, JsonAst, Number, Object, Value};
 
 /// Appends the canonical document of a value that fits.
 pub fn append_document(out: &mut Vec<u8>, node: Node<'_, '_>)
@@ -76,10 +78,12 @@ fn append_payload(out: &mut Vec<u8>, node: Node<'_, '_>)
     match node {
         Node::Null | Node::Bool(_) => (),
         Node::Text(text) => append_bytes(out, text.as_bytes()),
-        Node::Number(number) => append_number(out, number),
+        Node::Number(number) => append_number(out, *number),
         Node::Extension(value) => append_extension(out, value),
-        Node::Array(items) => append_items(out, items),
-        Node::Object(pairs) => append_pairs(out, pairs),
+        Node::Array(Items::Values(items)) => append_value_items(out, items),
+        Node::Array(Items::Asts(items)) => append_ast_items(out, items),
+        Node::Object(Pairs::Values(pairs)) => append_value_pairs(out, pairs),
+        Node::Object(Pairs::Asts(pairs)) => append_ast_pairs(out, pairs),
     }
 }
 
@@ -105,8 +109,46 @@ pub fn append_extension(out: &mut Vec<u8>, value: ExtensionValue<'_>)
     };
 }
 
+// The four below are functions of their own, so that the code of each knows what it walks over.
+#[cycle(append)]
+fn append_value_items(out: &mut Vec<u8>, items: &[Value<'_>])
+    requires fits { FitsInside (array (items_view items.now)) }
+    requires room { HasRoom out.old (payload_of (array (items_view items.now))) }
+    ensures { Appended out.old out.new (payload_of (array (items_view items.now))) }
+{
+    append_items(out, Items::Values(items));
+}
+
+#[cycle(append)]
+fn append_ast_items(out: &mut Vec<u8>, items: &[JsonAst<'_>])
+    requires fits { FitsInside (array (asts_view items.now)) }
+    requires room { HasRoom out.old (payload_of (array (asts_view items.now))) }
+    ensures { Appended out.old out.new (payload_of (array (asts_view items.now))) }
+{
+    append_items(out, Items::Asts(items));
+}
+
+#[cycle(append)]
+fn append_value_pairs(out: &mut Vec<u8>, pairs: &Object<'_>)
+    requires fits { FitsInside (object (pairs_view pairs.now.entries)) }
+    requires room { HasRoom out.old (payload_of (object (pairs_view pairs.now.entries))) }
+    ensures { Appended out.old out.new (payload_of (object (pairs_view pairs.now.entries))) }
+{
+    append_pairs(out, Pairs::Values(pairs));
+}
+
+#[cycle(append)]
+fn append_ast_pairs(out: &mut Vec<u8>, pairs: &[AstPair<'_>])
+    requires fits { FitsInside (object (ast_pairs_view pairs.now)) }
+    requires room { HasRoom out.old (payload_of (object (ast_pairs_view pairs.now))) }
+    ensures { Appended out.old out.new (payload_of (object (ast_pairs_view pairs.now))) }
+{
+    append_pairs(out, Pairs::Asts(pairs));
+}
+
 // The payload of an array.
 #[cycle(append)]
+#[inline(always)]
 fn append_items(out: &mut Vec<u8>, items: Items<'_, '_>)
     requires fits { FitsInside (array (items_trees items)) }
     requires room { HasRoom out.old (payload_of (array (items_trees items))) }
@@ -176,6 +218,7 @@ fn append_children(out: &mut Vec<u8>, place: usize, items: Items<'_, '_>)
 
 // The payload of an object.
 #[cycle(append)]
+#[inline(always)]
 fn append_pairs(out: &mut Vec<u8>, pairs: Pairs<'_, '_>)
     requires fits { FitsInside (object (object_pairs pairs)) }
     requires room { HasRoom out.old (payload_of (object (object_pairs pairs))) }

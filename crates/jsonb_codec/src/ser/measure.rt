@@ -3,15 +3,17 @@
 ghost use Rattle.std.specs.Prelude.{◌≡◌, ◌≤◌, length, IfSome, IfNone, IfOk, IfErr, OnOk, OnErr, OnSome};
 ghost use Rattle.std.specs.Str.{IsUtf8};
 ghost use Rattle.jsonb_value.specs.Tree.{array, object, Ascend};
+ghost use Rattle.jsonb_value.specs.Value.{items_view, pairs_view};
+ghost use Rattle.jsonb_value.specs.Ast.{asts_view, ast_pairs_view, AllAscend, PairsAscend};
 ghost use Rattle.jsonb_value.specs.NumCode.{number_payload};
 ghost use Rattle.jsonb_value.specs.ExtCode.{extension_of, extension_payload};
 ghost use Rattle.jsonb_value.specs.WellFormed.{IsNumber, IsExtension, IsTree, AreTrees, ArePairs};
 ghost use Rattle.jsonb_codec.specs.Canon.{payload_of, canon, FitsInside, FitsEntry, Fits};
 ghost use Rattle.jsonb_codec.specs.Node.{node_tree, items_trees, object_pairs, NodeAscends, ItemsAscend, ObjectAscends};
 
-use super::node::{Items, Node, Pairs};
+use super::node::{AstPair, Items, Node, Pairs};
 use crate::constants::CONTAINER_TAG;
-use jsonb_value::{Error, ExtensionValue, Number};
+use jsonb_value::{Error, ExtensionValue, JsonAst, Number, Object, Value};
 
 /// The longest payload that an entry can have.
 pub const MAX_PAYLOAD: usize = 0x0FFFFFFF;
@@ -63,10 +65,12 @@ fn measure_payload(node: Node<'_, '_>) -> Option<usize>
     match node {
         Node::Null | Node::Bool(_) => Some(0),
         Node::Text(text) => Some(text_len(text)),
-        Node::Number(number) => Some(number_len(number)),
+        Node::Number(number) => Some(number_len(*number)),
         Node::Extension(value) => Some(extension_len(value)),
-        Node::Array(items) => measure_items(items),
-        Node::Object(pairs) => measure_pairs(pairs),
+        Node::Array(Items::Values(items)) => measure_value_items(items),
+        Node::Array(Items::Asts(items)) => measure_ast_items(items),
+        Node::Object(Pairs::Values(pairs)) => measure_value_pairs(pairs),
+        Node::Object(Pairs::Asts(pairs)) => measure_ast_pairs(pairs),
     }
 }
 
@@ -97,8 +101,51 @@ fn extension_len(value: ExtensionValue<'_>) -> usize
     value.compact_len()
 }
 
+// The four below are functions of their own, so that the code of each knows what it walks over.
+#[cycle(measure)]
+fn measure_value_items(items: &[Value<'_>]) -> Option<usize>
+    ensures some { IfSome result (λ n. FitsInside (array (items_view items.now))
+        × (n ≡ length (payload_of (array (items_view items.now))))) }
+    ensures tree { OnSome result (AreTrees (items_view items.now)) }
+    ensures none { IfNone result (FitsInside (array (items_view items.now)) → ⊥) }
+{
+    measure_items(Items::Values(items))
+}
+
+#[cycle(measure)]
+fn measure_ast_items(items: &[JsonAst<'_>]) -> Option<usize>
+    ensures some { IfSome result (λ n. FitsInside (array (asts_view items.now))
+        × (n ≡ length (payload_of (array (asts_view items.now))))) }
+    ensures tree { AllAscend (asts_view items.now) → OnSome result (AreTrees (asts_view items.now)) }
+    ensures none { IfNone result (FitsInside (array (asts_view items.now)) → ⊥) }
+{
+    measure_items(Items::Asts(items))
+}
+
+#[cycle(measure)]
+fn measure_value_pairs(pairs: &Object<'_>) -> Option<usize>
+    ensures some { IfSome result (λ n. FitsInside (object (pairs_view pairs.now.entries))
+        × (n ≡ length (payload_of (object (pairs_view pairs.now.entries))))) }
+    ensures tree { OnSome result (IsTree (object (pairs_view pairs.now.entries))) }
+    ensures none { IfNone result (FitsInside (object (pairs_view pairs.now.entries)) → ⊥) }
+{
+    measure_pairs(Pairs::Values(pairs))
+}
+
+#[cycle(measure)]
+fn measure_ast_pairs(pairs: &[AstPair<'_>]) -> Option<usize>
+    ensures some { IfSome result (λ n. FitsInside (object (ast_pairs_view pairs.now))
+        × (n ≡ length (payload_of (object (ast_pairs_view pairs.now))))) }
+    ensures tree { Ascend (ast_pairs_view pairs.now) × PairsAscend (ast_pairs_view pairs.now)
+        → OnSome result (IsTree (object (ast_pairs_view pairs.now))) }
+    ensures none { IfNone result (FitsInside (object (ast_pairs_view pairs.now)) → ⊥) }
+{
+    measure_pairs(Pairs::Asts(pairs))
+}
+
 // The length of an array's payload.
 #[cycle(measure)]
+#[inline(always)]
 fn measure_items(items: Items<'_, '_>) -> Option<usize>
     ensures some { IfSome result (λ n. FitsInside (array (items_trees items.entry))
         × (n ≡ length (payload_of (array (items_trees items.entry))))) }
@@ -120,6 +167,7 @@ fn measure_items(items: Items<'_, '_>) -> Option<usize>
 
 // The length of an object's payload.
 #[cycle(measure)]
+#[inline(always)]
 fn measure_pairs(pairs: Pairs<'_, '_>) -> Option<usize>
     ensures some { IfSome result (λ n. FitsInside (object (object_pairs pairs.entry))
         × (n ≡ length (payload_of (object (object_pairs pairs.entry))))) }

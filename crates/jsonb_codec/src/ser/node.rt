@@ -20,11 +20,14 @@ pub enum Node<'s, 'a> {
     Null,
     Bool(bool),
     Text(&'s str),
-    Number(Number),
+    Number(&'s Number),
     Extension(ExtensionValue<'a>),
     Array(Items<'s, 'a>),
     Object(Pairs<'s, 'a>),
 }
+
+/// A pair of an object that is a list.
+pub type AstPair<'a> = (CowStr<'a>, JsonAst<'a>, usize);
 
 /// The items of an array.
 #[derive(Clone, Copy)]
@@ -37,14 +40,14 @@ pub enum Items<'s, 'a> {
 #[derive(Clone, Copy)]
 pub enum Pairs<'s, 'a> {
     Values(&'s Object<'a>),
-    Asts(&'s [(CowStr<'a>, JsonAst<'a>, usize)]),
+    Asts(&'s [AstPair<'a>]),
 }
 
 /// The pairs that a walk over an object has left.
 #[derive(Drop)]
 pub enum PairsLeft<'s, 'a> {
     Values(btree_map::Iter<'s, String, Value<'a>>),
-    Asts(&'s [(CowStr<'a>, JsonAst<'a>, usize)]),
+    Asts(&'s [AstPair<'a>]),
 }
 
 impl<'s, 'a> Node<'s, 'a> {
@@ -58,7 +61,7 @@ impl<'s, 'a> Node<'s, 'a> {
             Value::Null => Node::Null,
             Value::Bool(truth) => Node::Bool(*truth),
             Value::String(text) => Node::Text(text.as_str()),
-            Value::Number(number) => Node::Number(*number),
+            Value::Number(number) => Node::Number(number),
             Value::Binary(bytes) => Node::Extension(ExtensionValue::Binary(bytes)),
             Value::Date(date) => Node::Extension(ExtensionValue::Date(*date)),
             Value::Timestamp(timestamp) => Node::Extension(ExtensionValue::Timestamp(*timestamp)),
@@ -80,7 +83,7 @@ impl<'s, 'a> Node<'s, 'a> {
             JsonAst::Null => Node::Null,
             JsonAst::Bool(truth) => Node::Bool(*truth),
             JsonAst::String(text) => Node::Text(text.as_str()),
-            JsonAst::Number(number) => Node::Number(*number),
+            JsonAst::Number(number) => Node::Number(number),
             JsonAst::Array(items) => Node::Array(Items::Asts(items)),
             JsonAst::Object(pairs) => Node::Object(Pairs::Asts(pairs)),
         }

@@ -1,5 +1,7 @@
 use Rattle.std.proofs.Common.{◌≡◌, ◌≤◌, ◌+◌, ◌*◌, length, vec_capacity}
 use Rattle.jsonb_value.specs.Tree.{count, pair_count}
+use Rattle.jsonb_value.specs.Value.{items_view, pairs_view}
+use Rattle.jsonb_value.specs.Ast.{asts_view, ast_pairs_view}
 use Rattle.jsonb_codec.specs.Canon.{entries_of, payloads_of, value_entries, value_payloads, AllFit, PairsFit}
 use Rattle.jsonb_codec.specs.Depth.{size, sizes, pair_sizes}
 use Rattle.jsonb_codec.specs.Node.{node_tree, items_trees, object_pairs, left_pairs}
@@ -8,22 +10,34 @@ use Rattle.jsonb_codec.proofs.ser.append.+append.Given as goal
 
 -- A tree is larger than what stands in it.
 abbrev pub decreases-append_payload : goal.decreases-append_payload
-decreases-append_payload l = 4 * size (node_tree l.node)
+decreases-append_payload l = 5 * size (node_tree l.node)
 
 abbrev pub decreases-append_child : goal.decreases-append_child
-decreases-append_child l = 4 * size (node_tree l.node) + 1
+decreases-append_child l = 5 * size (node_tree l.node) + 1
 
 abbrev pub decreases-append_items : goal.decreases-append_items
-decreases-append_items l = 4 * sizes (items_trees l.items) + 3
+decreases-append_items l = 5 * sizes (items_trees l.items) + 3
 
 abbrev pub decreases-append_children : goal.decreases-append_children
-decreases-append_children l = 4 * sizes (items_trees l.items) + 2
+decreases-append_children l = 5 * sizes (items_trees l.items) + 2
 
 abbrev pub decreases-append_pairs : goal.decreases-append_pairs
-decreases-append_pairs l = 4 * pair_sizes (object_pairs l.pairs) + 3
+decreases-append_pairs l = 5 * pair_sizes (object_pairs l.pairs) + 3
 
 abbrev pub decreases-append_values : goal.decreases-append_values
-decreases-append_values l = 4 * pair_sizes (object_pairs l.pairs) + 2
+decreases-append_values l = 5 * pair_sizes (object_pairs l.pairs) + 2
+
+abbrev pub decreases-append_value_items : goal.decreases-append_value_items
+decreases-append_value_items l = 5 * sizes (items_view l.items.now) + 4
+
+abbrev pub decreases-append_ast_items : goal.decreases-append_ast_items
+decreases-append_ast_items l = 5 * sizes (asts_view l.items.now) + 4
+
+abbrev pub decreases-append_value_pairs : goal.decreases-append_value_pairs
+decreases-append_value_pairs l = 5 * pair_sizes (pairs_view l.pairs.now.entries) + 4
+
+abbrev pub decreases-append_ast_pairs : goal.decreases-append_ast_pairs
+decreases-append_ast_pairs l = 5 * pair_sizes (ast_pairs_view l.pairs.now) + 4
 
 -- What is written and what is left to write is the whole.
 abbrev pub invariant-append_children-loop-item : goal.invariant-append_children-loop-item

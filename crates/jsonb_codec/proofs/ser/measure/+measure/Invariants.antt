@@ -1,5 +1,7 @@
 use Rattle.std.proofs.Common.{◌≡◌, ◌≤◌, ◌+◌, ◌*◌, ◌^◌, length}
 use Rattle.jsonb_value.specs.Tree.{count, pair_count}
+use Rattle.jsonb_value.specs.Value.{items_view, pairs_view}
+use Rattle.jsonb_value.specs.Ast.{asts_view, ast_pairs_view}
 use Rattle.jsonb_value.specs.WellFormed.{AreTrees, ArePairs}
 use Rattle.jsonb_codec.specs.Canon.{payloads_of, AllFit, PairsFit, key_payloads, value_payloads}
 use Rattle.jsonb_codec.specs.Depth.{size, sizes, pair_sizes}
@@ -8,16 +10,28 @@ use Rattle.jsonb_codec.proofs.ser.measure.+measure.Given as goal
 
 -- A tree is larger than what stands in it.
 abbrev pub decreases-measure_entry : goal.decreases-measure_entry
-decreases-measure_entry l = 3 * size (node_tree l.node) + 1
+decreases-measure_entry l = 4 * size (node_tree l.node) + 1
 
 abbrev pub decreases-measure_payload : goal.decreases-measure_payload
-decreases-measure_payload l = 3 * size (node_tree l.node)
+decreases-measure_payload l = 4 * size (node_tree l.node)
 
 abbrev pub decreases-measure_items : goal.decreases-measure_items
-decreases-measure_items l = 3 * sizes (items_trees l.items) + 2
+decreases-measure_items l = 4 * sizes (items_trees l.items) + 2
 
 abbrev pub decreases-measure_pairs : goal.decreases-measure_pairs
-decreases-measure_pairs l = 3 * pair_sizes (object_pairs l.pairs) + 2
+decreases-measure_pairs l = 4 * pair_sizes (object_pairs l.pairs) + 2
+
+abbrev pub decreases-measure_value_items : goal.decreases-measure_value_items
+decreases-measure_value_items l = 4 * sizes (items_view l.items.now) + 3
+
+abbrev pub decreases-measure_ast_items : goal.decreases-measure_ast_items
+decreases-measure_ast_items l = 4 * sizes (asts_view l.items.now) + 3
+
+abbrev pub decreases-measure_value_pairs : goal.decreases-measure_value_pairs
+decreases-measure_value_pairs l = 4 * pair_sizes (pairs_view l.pairs.now.entries) + 3
+
+abbrev pub decreases-measure_ast_pairs : goal.decreases-measure_ast_pairs
+decreases-measure_ast_pairs l = 4 * pair_sizes (ast_pairs_view l.pairs.now) + 3
 
 -- What is left fits exactly if the whole does, and is what the total lacks.
 abbrev pub invariant-measure_items-loop-item : goal.invariant-measure_items-loop-item
