@@ -1,3 +1,4 @@
+pub mod Appending
 pub mod Words
 pub mod Entries
 pub mod Unique
@@ -18,4 +19,3 @@ pub mod ZeroLaws
 pub mod Vectors
 pub mod Sorted
 pub mod Building
-pub mod Filling

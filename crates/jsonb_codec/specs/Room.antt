@@ -1,6 +1,8 @@
 -- A buffer that is written into room made before.
-use Rattle.std.specs.Prelude.{◌≡◌, ◌≤◌, ◌+◌, ℕ, List, ◌++◌, length, take, drop, vec_capacity}
+use Rattle.std.specs.Prelude.{◌≡◌, ◌≤◌, ◌+◌, ℕ, List, ◌++◌, length, vec_capacity}
 use Rattle.std.specs.Global.{Vec}
+use Rattle.jsonb_value.specs.Tree.{Trees, no_trees, tree, Pairs, no_pairs, pair}
+use Rattle.jsonb_codec.specs.Canon.{payload_of}
 
 -- There is room for the bytes behind those of the buffer.
 abbrev pub HasRoom : Vec ℕ → List ℕ → Type 0
@@ -11,11 +13,11 @@ pub record Appended (old new : Vec ℕ) (bytes : List ℕ) : Type 0 where
   pub items : new.items ≡ old.items ++ bytes
   pub capacity : vec_capacity old ≤ vec_capacity new
 
--- Words put over the bytes at the place, and payloads behind them all.
-abbrev pub filled : ℕ → List ℕ → List ℕ → List ℕ → List ℕ
-filled place words payloads bytes = take place bytes ++ (words ++ (drop (place + length words) bytes ++ payloads))
+-- The length of the last payload, and of none the given one.
+abbrev pub last_length : ℕ → Trees → ℕ
+last_length n no_trees = n
+last_length n (tree t ts) = last_length (length (payload_of t)) ts
 
--- That was done to the buffer, and it holds no less than before.
-pub record Filled (place : ℕ) (words payloads : List ℕ) (old new : Vec ℕ) : Type 0 where
-  pub items : new.items ≡ filled place words payloads old.items
-  pub capacity : vec_capacity old ≤ vec_capacity new
+abbrev pub last_value_length : ℕ → Pairs → ℕ
+last_value_length n no_pairs = n
+last_value_length n (pair k t ps) = last_value_length (length (payload_of t)) ps

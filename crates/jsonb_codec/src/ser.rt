@@ -152,6 +152,6 @@ fn encode_node(buf: &mut Vec<u8>, node: Node<'_, '_>) -> Result<(), Error>
 {
     let size = measure_document(node)?;
     buf.try_reserve(size)?;
-    append_document(buf, node);
+    append_document(buf, node, size);
     Ok(())
 }

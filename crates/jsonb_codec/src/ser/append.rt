@@ -1,6 +1,10 @@
 //! Documents, written front to back into a buffer with room for all of it.
+//!
+//! An entry word comes before what it stands for, so a payload's length is to be known when its
+//! entry is written. Where the length of a container is known, that of its last child is what the
+//! others leave of it, so a chain of containers is not measured again at each level.
 
-ghost use Rattle.std.specs.Prelude.{◌≡◌, ◌<◌, ◌≤◌, ◌^◌, ◌+◌, ◌*◌, [], length, replicate, vec_capacity};
+ghost use Rattle.std.specs.Prelude.{◌≡◌, ◌<◌, ◌^◌, ◌+◌, length, ◌≤◌, Some, IfSome};
 ghost use Rattle.jsonb_value.specs.Tree.{array, object, count, pair_count};
 ghost use Rattle.jsonb_value.specs.Value.{items_view, pairs_view};
 ghost use Rattle.jsonb_value.specs.Ast.{asts_view, ast_pairs_view};
@@ -10,7 +14,7 @@ ghost use Rattle.jsonb_codec.specs.Word.{word};
 ghost use Rattle.jsonb_codec.specs.Doc.{type_of};
 ghost use Rattle.jsonb_codec.specs.Canon.{payload_of, entries_of, payloads_of, key_entries, value_entries, key_payloads, value_payloads, canon, AllFit, PairsFit, FitsInside, FitsEntry, Fits};
 ghost use Rattle.jsonb_codec.specs.Node.{node_tree, items_trees, object_pairs};
-ghost use Rattle.jsonb_codec.specs.Room.{HasRoom, Appended, Filled};
+ghost use Rattle.jsonb_codec.specs.Room.{HasRoom, Appended, last_length, last_value_length};
 
 use super::measure::measure_entry;
 use super::node::{AstPair, Items, Node, Pairs};
@@ -19,17 +23,20 @@ use crate::constants::{
 };
 use jsonb_value::{ExtensionValue, JsonAst, Number, Object, Value};
 
-/// Appends the canonical document of a value that fits.
-pub fn append_document(out: &mut Vec<u8>, node: Node<'_, '_>)
+/// Appends the canonical document of a value that fits, which has that length.
+pub fn append_document(out: &mut Vec<u8>, node: Node<'_, '_>, size: usize)
     requires fits { Fits (node_tree node) }
+    requires size { size ≡ length (canon (node_tree node)) }
     requires room { HasRoom out.old (canon (node_tree node)) }
     ensures { Appended out.old out.new (canon (node_tree node.entry)) }
 {
-    if node.entry_type() != CONTAINER_TAG {
-        append_word(out, SCALAR_CONTAINER_TAG);
-        append_entry(out, node);
+    if node.entry_type() == CONTAINER_TAG {
+        append_payload(out, node, Some(size));
+        return;
     }
-    append_payload(out, node);
+    append_word(out, SCALAR_CONTAINER_TAG);
+    append_entry(out, node, size - 8);
+    append_payload(out, node, None);
 }
 
 /// Appends the bytes as they are.
@@ -53,25 +60,25 @@ pub fn append_word(out: &mut Vec<u8>, number: u32)
     append_bytes(out, &number.to_be_bytes());
 }
 
-// The entry word of a scalar.
-fn append_entry(out: &mut Vec<u8>, node: Node<'_, '_>)
-    requires fits { FitsEntry (node_tree node) }
+// The entry word of a value whose payload has that length.
+#[inline(always)]
+fn append_entry(out: &mut Vec<u8>, node: Node<'_, '_>, size: usize)
+    requires size { size ≡ length (payload_of (node_tree node)) }
+    requires short { length (payload_of (node_tree node)) < 2 ^ 28 }
     requires room { HasRoom out.old
         (word (type_of (node_tree node) + length (payload_of (node_tree node)))) }
     ensures { Appended out.old out.new
         (word (type_of (node_tree node.entry) + length (payload_of (node_tree node.entry)))) }
 {
-    let Some(length) = measure_entry(node) else {
-        unreachable!();
-    };
-    append_word(out, node.entry_type() + length as u32);
+    append_word(out, node.entry_type() + size as u32);
 }
 
-// The payload of a value.
+// The payload of a value. The length of a container is given where it is known.
 #[cycle(append)]
 #[inline(always)]
-fn append_payload(out: &mut Vec<u8>, node: Node<'_, '_>)
+fn append_payload(out: &mut Vec<u8>, node: Node<'_, '_>, size: Option<usize>)
     requires fits { Fits (node_tree node) }
+    requires size { IfSome size (λ n. n ≡ length (payload_of (node_tree node))) }
     requires room { HasRoom out.old (payload_of (node_tree node)) }
     ensures { Appended out.old out.new (payload_of (node_tree node.entry)) }
 {
@@ -80,10 +87,10 @@ fn append_payload(out: &mut Vec<u8>, node: Node<'_, '_>)
         Node::Text(text) => append_bytes(out, text.as_bytes()),
         Node::Number(number) => append_number(out, *number),
         Node::Extension(value) => append_extension(out, value),
-        Node::Array(Items::Values(items)) => append_value_items(out, items),
-        Node::Array(Items::Asts(items)) => append_ast_items(out, items),
-        Node::Object(Pairs::Values(pairs)) => append_value_pairs(out, pairs),
-        Node::Object(Pairs::Asts(pairs)) => append_ast_pairs(out, pairs),
+        Node::Array(Items::Values(items)) => append_value_items(out, items, size),
+        Node::Array(Items::Asts(items)) => append_ast_items(out, items, size),
+        Node::Object(Pairs::Values(pairs)) => append_value_pairs(out, pairs, size),
+        Node::Object(Pairs::Asts(pairs)) => append_ast_pairs(out, pairs, size),
     }
 }
 
@@ -111,107 +118,137 @@ pub fn append_extension(out: &mut Vec<u8>, value: ExtensionValue<'_>)
 
 // The four below are functions of their own, so that the code of each knows what it walks over.
 #[cycle(append)]
-fn append_value_items(out: &mut Vec<u8>, items: &[Value<'_>])
+fn append_value_items(out: &mut Vec<u8>, items: &[Value<'_>], size: Option<usize>)
     requires fits { FitsInside (array (items_view items.now)) }
+    requires size { IfSome size (λ n. n ≡ length (payload_of (array (items_view items.now)))) }
     requires room { HasRoom out.old (payload_of (array (items_view items.now))) }
     ensures { Appended out.old out.new (payload_of (array (items_view items.now))) }
 {
-    append_items(out, Items::Values(items));
+    append_items(out, Items::Values(items), size);
 }
 
 #[cycle(append)]
-fn append_ast_items(out: &mut Vec<u8>, items: &[JsonAst<'_>])
+fn append_ast_items(out: &mut Vec<u8>, items: &[JsonAst<'_>], size: Option<usize>)
     requires fits { FitsInside (array (asts_view items.now)) }
+    requires size { IfSome size (λ n. n ≡ length (payload_of (array (asts_view items.now)))) }
     requires room { HasRoom out.old (payload_of (array (asts_view items.now))) }
     ensures { Appended out.old out.new (payload_of (array (asts_view items.now))) }
 {
-    append_items(out, Items::Asts(items));
+    append_items(out, Items::Asts(items), size);
 }
 
 #[cycle(append)]
-fn append_value_pairs(out: &mut Vec<u8>, pairs: &Object<'_>)
+fn append_value_pairs(out: &mut Vec<u8>, pairs: &Object<'_>, size: Option<usize>)
     requires fits { FitsInside (object (pairs_view pairs.now.entries)) }
+    requires size { IfSome size (λ n. n ≡ length (payload_of (object (pairs_view pairs.now.entries)))) }
     requires room { HasRoom out.old (payload_of (object (pairs_view pairs.now.entries))) }
     ensures { Appended out.old out.new (payload_of (object (pairs_view pairs.now.entries))) }
 {
-    append_pairs(out, Pairs::Values(pairs));
+    append_pairs(out, Pairs::Values(pairs), size);
 }
 
 #[cycle(append)]
-fn append_ast_pairs(out: &mut Vec<u8>, pairs: &[AstPair<'_>])
+fn append_ast_pairs(out: &mut Vec<u8>, pairs: &[AstPair<'_>], size: Option<usize>)
     requires fits { FitsInside (object (ast_pairs_view pairs.now)) }
+    requires size { IfSome size (λ n. n ≡ length (payload_of (object (ast_pairs_view pairs.now)))) }
     requires room { HasRoom out.old (payload_of (object (ast_pairs_view pairs.now))) }
     ensures { Appended out.old out.new (payload_of (object (ast_pairs_view pairs.now))) }
 {
-    append_pairs(out, Pairs::Asts(pairs));
+    append_pairs(out, Pairs::Asts(pairs), size);
 }
 
 // The payload of an array.
 #[cycle(append)]
 #[inline(always)]
-fn append_items(out: &mut Vec<u8>, items: Items<'_, '_>)
+fn append_items(out: &mut Vec<u8>, items: Items<'_, '_>, size: Option<usize>)
     requires fits { FitsInside (array (items_trees items)) }
+    requires size { IfSome size (λ n. n ≡ length (payload_of (array (items_trees items)))) }
     requires room { HasRoom out.old (payload_of (array (items_trees items))) }
     ensures { Appended out.old out.new (payload_of (array (items_trees items.entry))) }
 {
     let count = items.len();
     append_word(out, ARRAY_CONTAINER_TAG + count as u32);
-    let place = out.len();
-    append_zeros(out, 4 * count);
-    append_children(out, place, items);
+    let last = append_entries(out, items, payloads_size(size, 4 + 4 * count));
+    append_payloads(out, items, last);
 }
 
-/// Room for entry words, which are put there once what they stand for is written.
+// What is left of a length, where it is known.
 #[inline(always)]
-pub fn append_zeros(out: &mut Vec<u8>, count: usize)
-    requires { length out.old.items + count ≤ vec_capacity out.old }
-    ensures { Appended out.old out.new (replicate count 0) }
+fn payloads_size(size: Option<usize>, before: usize) -> Option<usize>
+    requires { IfSome size (λ n. before ≤ n) }
+    ensures { IfSome result (λ n. size ≡ Some (before + n)) }
 {
-    let Ok(()) = out.resize(out.len() + count, 0) else {
+    match size {
+        Some(size) => Some(size - before),
+        None => None,
+    }
+}
+
+// The length of a child's payload: of the last one what the payloads before it leave, where the
+// length of all is known.
+#[inline(always)]
+fn child_size(node: Node<'_, '_>, behind: usize, before: usize, size: Option<usize>) -> usize
+    requires fits { FitsEntry (node_tree node) }
+    requires last { behind ≡ 0 → IfSome size (λ n. n ≡ before + length (payload_of (node_tree node))) }
+    ensures { result ≡ length (payload_of (node_tree node.entry)) }
+{
+    match size {
+        Some(size) if behind == 0 => size - before,
+        _ => measured_size(node),
+    }
+}
+
+// The length of the last child's payload is known, and no other's.
+#[inline(always)]
+fn known_size(behind: usize, last: usize) -> Option<usize>
+    ensures { IfSome result (λ n. (behind ≡ 0) × (n ≡ last)) }
+{
+    if behind == 0 { Some(last) } else { None }
+}
+
+fn measured_size(node: Node<'_, '_>) -> usize
+    requires { FitsEntry (node_tree node) }
+    ensures { result ≡ length (payload_of (node_tree node.entry)) }
+{
+    let Some(size) = measure_entry(node) else {
         unreachable!();
     };
+    size
 }
 
-/// Puts one word over the four bytes at the place.
-#[tactic(auto, unfolding(crate::specs::Word::word))]
-#[inline(always)]
-pub fn put_word(out: &mut Vec<u8>, place: usize, number: u32)
-    requires { place + 4 ≤ length out.old.items }
-    ensures { Filled place (word number) [] out.old out.new }
-{
-    out[place..place + 4].copy_from_slice(&number.to_be_bytes());
-}
-
-// The payload of a value inside another, and its entry word at the place.
-#[cycle(append)]
-#[inline(always)]
-fn append_child(out: &mut Vec<u8>, place: usize, node: Node<'_, '_>)
-    requires fits { FitsEntry (node_tree node) }
-    requires place { place + 4 ≤ length out.old.items }
-    requires room { HasRoom out.old (payload_of (node_tree node)) }
-    ensures { Filled place (word (type_of (node_tree node.entry) + length (payload_of (node_tree node.entry))))
-        (payload_of (node_tree node.entry)) out.old out.new }
-{
-    let start = out.len();
-    append_payload(out, node);
-    put_word(out, place, node.entry_type() + (out.len() - start) as u32);
-}
-
-// The payloads of an array's items, and their entry words from the place on.
-#[cycle(append)]
-#[inline(always)]
-fn append_children(out: &mut Vec<u8>, place: usize, items: Items<'_, '_>)
+// The entry words of an array's items. The length of the last payload.
+fn append_entries(out: &mut Vec<u8>, items: Items<'_, '_>, size: Option<usize>) -> usize
     requires fits { AllFit (items_trees items) }
-    requires place { place + 4 * count (items_trees items) ≤ length out.old.items }
-    requires room { HasRoom out.old (payloads_of (items_trees items)) }
-    ensures { Filled place (entries_of (items_trees items.entry)) (payloads_of (items_trees items.entry))
-        out.old out.new }
+    requires size { IfSome size (λ n. n ≡ length (payloads_of (items_trees items))) }
+    requires small { length (payloads_of (items_trees items)) < 2 ^ 63 }
+    requires room { HasRoom out.old (entries_of (items_trees items)) }
+    ensures written { Appended out.old out.new (entries_of (items_trees items.entry)) }
+    ensures last { result ≡ last_length 0 (items_trees items.entry) }
 {
-    let mut entry = place;
+    let mut left = items;
+    let mut before = 0;
+    let mut last = 0;
+    while let Some((item, others)) = left.split_first() {
+        last = child_size(item, others.len(), before, size);
+        append_entry(out, item, last);
+        before += last;
+        left = others;
+    }
+    last
+}
+
+// The payloads of an array's items, of which the last has that length.
+#[cycle(append)]
+#[inline(always)]
+fn append_payloads(out: &mut Vec<u8>, items: Items<'_, '_>, last: usize)
+    requires fits { AllFit (items_trees items) }
+    requires last { last ≡ last_length 0 (items_trees items) }
+    requires room { HasRoom out.old (payloads_of (items_trees items)) }
+    ensures { Appended out.old out.new (payloads_of (items_trees items.entry)) }
+{
     let mut left = items;
     while let Some((item, others)) = left.split_first() {
-        append_child(out, entry, item);
-        entry += 4;
+        append_payload(out, item, known_size(others.len(), last));
         left = others;
     }
 }
@@ -219,64 +256,89 @@ fn append_children(out: &mut Vec<u8>, place: usize, items: Items<'_, '_>)
 // The payload of an object.
 #[cycle(append)]
 #[inline(always)]
-fn append_pairs(out: &mut Vec<u8>, pairs: Pairs<'_, '_>)
+fn append_pairs(out: &mut Vec<u8>, pairs: Pairs<'_, '_>, size: Option<usize>)
     requires fits { FitsInside (object (object_pairs pairs)) }
+    requires size { IfSome size (λ n. n ≡ length (payload_of (object (object_pairs pairs)))) }
     requires room { HasRoom out.old (payload_of (object (object_pairs pairs))) }
     ensures { Appended out.old out.new (payload_of (object (object_pairs pairs.entry))) }
 {
     let count = pairs.len();
     append_word(out, OBJECT_CONTAINER_TAG + count as u32);
-    let place = out.len();
-    append_zeros(out, 8 * count);
-    append_keys(out, place, pairs);
-    append_values(out, place + 4 * count, pairs);
+    let keys = append_key_entries(out, pairs);
+    let last = append_value_entries(out, pairs, payloads_size(size, 4 + 8 * count + keys));
+    append_keys(out, pairs);
+    append_values(out, pairs, last);
 }
 
-// A key, and its entry word at the place.
+// The entry words of an object's keys. The length of all keys.
 #[inline(always)]
-fn append_key(out: &mut Vec<u8>, place: usize, key: &str)
-    requires fits { length key.now < 2 ^ 28 }
-    requires place { place + 4 ≤ length out.old.items }
-    requires room { HasRoom out.old key.now }
-    ensures { Filled place (word (STRING_TAG + length key.now)) key.now out.old out.new }
-{
-    append_bytes(out, key.as_bytes());
-    put_word(out, place, STRING_TAG + key.len() as u32);
-}
-
-// The keys of an object, and their entry words from the place on.
-#[inline(always)]
-fn append_keys(out: &mut Vec<u8>, place: usize, pairs: Pairs<'_, '_>)
+fn append_key_entries(out: &mut Vec<u8>, pairs: Pairs<'_, '_>) -> usize
     requires fits { PairsFit (object_pairs pairs) }
-    requires place { place + 4 * pair_count (object_pairs pairs) ≤ length out.old.items }
-    requires room { HasRoom out.old (key_payloads (object_pairs pairs)) }
-    ensures { Filled place (key_entries (object_pairs pairs.entry)) (key_payloads (object_pairs pairs.entry))
-        out.old out.new }
+    requires small { length (key_payloads (object_pairs pairs)) < 2 ^ 63 }
+    requires room { HasRoom out.old (key_entries (object_pairs pairs)) }
+    ensures written { Appended out.old out.new (key_entries (object_pairs pairs.entry)) }
+    ensures size { result ≡ length (key_payloads (object_pairs pairs.entry)) }
 {
-    let mut entry = place;
+    let mut left = pairs.walk();
+    let mut size = 0;
+    while let Some((key, _, others)) = left.split_first() {
+        append_word(out, STRING_TAG + key.len() as u32);
+        size += key.len();
+        left = others;
+    }
+    size
+}
+
+// The entry words of an object's values. The length of the last payload.
+fn append_value_entries(out: &mut Vec<u8>, pairs: Pairs<'_, '_>, size: Option<usize>) -> usize
+    requires fits { PairsFit (object_pairs pairs) }
+    requires size { IfSome size (λ n. n ≡ length (value_payloads (object_pairs pairs))) }
+    requires small { length (value_payloads (object_pairs pairs)) < 2 ^ 63 }
+    requires room { HasRoom out.old (value_entries (object_pairs pairs)) }
+    ensures written { Appended out.old out.new (value_entries (object_pairs pairs.entry)) }
+    ensures last { result ≡ last_value_length 0 (object_pairs pairs.entry) }
+{
+    let mut left = pairs.walk();
+    let mut count = pairs.len();
+    let mut before = 0;
+    let mut last = 0;
+    while let Some((_, value, others)) = left.split_first() {
+        count -= 1;
+        last = child_size(value, count, before, size);
+        append_entry(out, value, last);
+        before += last;
+        left = others;
+    }
+    last
+}
+
+// The keys of an object.
+#[inline(always)]
+fn append_keys(out: &mut Vec<u8>, pairs: Pairs<'_, '_>)
+    requires { HasRoom out.old (key_payloads (object_pairs pairs)) }
+    ensures { Appended out.old out.new (key_payloads (object_pairs pairs.entry)) }
+{
     let mut left = pairs.walk();
     while let Some((key, _, others)) = left.split_first() {
-        append_key(out, entry, key);
-        entry += 4;
+        append_bytes(out, key.as_bytes());
         left = others;
     }
 }
 
-// The payloads of an object's values, and their entry words from the place on.
+// The payloads of an object's values, of which the last has that length.
 #[cycle(append)]
 #[inline(always)]
-fn append_values(out: &mut Vec<u8>, place: usize, pairs: Pairs<'_, '_>)
+fn append_values(out: &mut Vec<u8>, pairs: Pairs<'_, '_>, last: usize)
     requires fits { PairsFit (object_pairs pairs) }
-    requires place { place + 4 * pair_count (object_pairs pairs) ≤ length out.old.items }
+    requires last { last ≡ last_value_length 0 (object_pairs pairs) }
     requires room { HasRoom out.old (value_payloads (object_pairs pairs)) }
-    ensures { Filled place (value_entries (object_pairs pairs.entry)) (value_payloads (object_pairs pairs.entry))
-        out.old out.new }
+    ensures { Appended out.old out.new (value_payloads (object_pairs pairs.entry)) }
 {
-    let mut entry = place;
     let mut left = pairs.walk();
+    let mut count = pairs.len();
     while let Some((_, value, others)) = left.split_first() {
-        append_child(out, entry, value);
-        entry += 4;
+        count -= 1;
+        append_payload(out, value, known_size(count, last));
         left = others;
     }
 }

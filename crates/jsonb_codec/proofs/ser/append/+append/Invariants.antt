@@ -1,25 +1,22 @@
-use Rattle.std.proofs.Common.{◌≡◌, ◌≤◌, ◌+◌, ◌*◌, length, vec_capacity}
+use Rattle.std.proofs.Common.{◌≡◌, ◌≤◌, ◌+◌, ◌*◌, ◌++◌, vec_capacity}
 use Rattle.jsonb_value.specs.Tree.{count, pair_count}
 use Rattle.jsonb_value.specs.Value.{items_view, pairs_view}
 use Rattle.jsonb_value.specs.Ast.{asts_view, ast_pairs_view}
-use Rattle.jsonb_codec.specs.Canon.{entries_of, payloads_of, value_entries, value_payloads, AllFit, PairsFit}
+use Rattle.jsonb_codec.specs.Canon.{payloads_of, value_payloads, AllFit, PairsFit}
 use Rattle.jsonb_codec.specs.Depth.{size, sizes, pair_sizes}
 use Rattle.jsonb_codec.specs.Node.{node_tree, items_trees, object_pairs, left_pairs}
-use Rattle.jsonb_codec.specs.Room.{HasRoom, filled}
+use Rattle.jsonb_codec.specs.Room.{HasRoom, last_length, last_value_length}
 use Rattle.jsonb_codec.proofs.ser.append.+append.Given as goal
 
 -- A tree is larger than what stands in it.
 abbrev pub decreases-append_payload : goal.decreases-append_payload
 decreases-append_payload l = 5 * size (node_tree l.node)
 
-abbrev pub decreases-append_child : goal.decreases-append_child
-decreases-append_child l = 5 * size (node_tree l.node) + 1
-
 abbrev pub decreases-append_items : goal.decreases-append_items
 decreases-append_items l = 5 * sizes (items_trees l.items) + 3
 
-abbrev pub decreases-append_children : goal.decreases-append_children
-decreases-append_children l = 5 * sizes (items_trees l.items) + 2
+abbrev pub decreases-append_payloads : goal.decreases-append_payloads
+decreases-append_payloads l = 5 * sizes (items_trees l.items) + 2
 
 abbrev pub decreases-append_pairs : goal.decreases-append_pairs
 decreases-append_pairs l = 5 * pair_sizes (object_pairs l.pairs) + 3
@@ -39,22 +36,22 @@ decreases-append_value_pairs l = 5 * pair_sizes (pairs_view l.pairs.now.entries)
 abbrev pub decreases-append_ast_pairs : goal.decreases-append_ast_pairs
 decreases-append_ast_pairs l = 5 * pair_sizes (ast_pairs_view l.pairs.now) + 4
 
--- What is written and what is left to write is the whole.
-abbrev pub invariant-append_children-loop-item : goal.invariant-append_children-loop-item
-invariant-append_children-loop-item l =
+-- What is written and what is left to write is the whole, and the last of what is left has the given length.
+abbrev pub invariant-append_payloads-loop-item : goal.invariant-append_payloads-loop-item
+invariant-append_payloads-loop-item l =
     let all = items_trees l.fn.items in
     let left = items_trees l.left in
     record {
       fit : AllFit left;
-      place : l.entry + 4 * count left ≤ length l.out.items;
       room : HasRoom l.out (payloads_of left);
-      written : filled l.entry (entries_of left) (payloads_of left) l.out.items ≡ filled l.fn.place (entries_of all) (payloads_of all) l.fn.out.items;
+      written : l.out.items ++ payloads_of left ≡ l.fn.out.items ++ payloads_of all;
       capacity : vec_capacity l.fn.out ≤ vec_capacity l.out;
       smaller : sizes left ≤ sizes all;
+      last : (count left ≡ 0 → ⊥) → l.last ≡ last_length 0 left;
     }
 
-abbrev pub decreases-append_children-loop-item : goal.decreases-append_children-loop-item
-decreases-append_children-loop-item l = count (items_trees l.left)
+abbrev pub decreases-append_payloads-loop-item : goal.decreases-append_payloads-loop-item
+decreases-append_payloads-loop-item l = count (items_trees l.left)
 
 abbrev pub invariant-append_values-loop-value : goal.invariant-append_values-loop-value
 invariant-append_values-loop-value l =
@@ -62,11 +59,12 @@ invariant-append_values-loop-value l =
     let left = left_pairs l.left in
     record {
       fit : PairsFit left;
-      place : l.entry + 4 * pair_count left ≤ length l.out.items;
       room : HasRoom l.out (value_payloads left);
-      written : filled l.entry (value_entries left) (value_payloads left) l.out.items ≡ filled l.fn.place (value_entries all) (value_payloads all) l.fn.out.items;
+      written : l.out.items ++ value_payloads left ≡ l.fn.out.items ++ value_payloads all;
       capacity : vec_capacity l.fn.out ≤ vec_capacity l.out;
       smaller : pair_sizes left ≤ pair_sizes all;
+      count : l.count ≡ pair_count left;
+      last : (pair_count left ≡ 0 → ⊥) → l.last ≡ last_value_length 0 left;
     }
 
 abbrev pub decreases-append_values-loop-value : goal.decreases-append_values-loop-value

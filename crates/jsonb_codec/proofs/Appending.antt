@@ -1,0 +1,38 @@
+-- Parts appended one after the other, and the length of the last.
+use Rattle.std.proofs.Common.{◌≡◌, ℕ, ◌+◌, List, ◌++◌, Vec, Global, length, refl, ap, ◌∙◌, arith, length-append}
+use Rattle.std.proofs.lemmas.List.{append_assoc}
+use Rattle.jsonb_value.specs.Tree.{Trees, no_trees, tree, Pairs, no_pairs, pair, count, pair_count}
+use Rattle.jsonb_codec.specs.Canon.{payloads_of, value_payloads}
+use Rattle.jsonb_codec.specs.Room.{Appended, last_length, last_value_length}
+
+pub length-Appended : {old new : Vec ℕ Global} {bytes : List ℕ} → Appended old new bytes → length new.items ≡ length old.items + length bytes
+length-Appended {old} {new} {bytes} h = ap length h.items ∙ length-append old.items bytes
+
+-- What was appended is left out of what is to be appended.
+pub append-Appended : {old new : Vec ℕ Global} {bytes : List ℕ} (more : List ℕ) → Appended old new bytes → new.items ++ more ≡ old.items ++ (bytes ++ more)
+append-Appended {old} {new} {bytes} more h = ap (λ x. x ++ more) h.items ∙ append_assoc old.items bytes more
+
+pub length-payloads_of-none : (ts : Trees) → count ts ≡ 0 → length (payloads_of ts) ≡ 0
+length-payloads_of-none no_trees h = refl
+length-payloads_of-none (tree t ts) h = absurd (omega (arith, h))
+
+pub length-value_payloads-none : (ps : Pairs) → pair_count ps ≡ 0 → length (value_payloads ps) ≡ 0
+length-value_payloads-none no_pairs h = refl
+length-value_payloads-none (pair k t ps) h = absurd (omega (arith, h))
+
+-- Where there is a last one, its length does not depend on the length given, and where there is none it is that.
+pub last_length-none : (n : ℕ) (ts : Trees) → count ts ≡ 0 → last_length n ts ≡ n
+last_length-none n no_trees h = refl
+last_length-none n (tree t ts) h = absurd (omega (arith, h))
+
+pub last_value_length-none : (n : ℕ) (ps : Pairs) → pair_count ps ≡ 0 → last_value_length n ps ≡ n
+last_value_length-none n no_pairs h = refl
+last_value_length-none n (pair k t ps) h = absurd (omega (arith, h))
+
+pub last_length-some : (m n : ℕ) (ts : Trees) → (count ts ≡ 0 → ⊥) → last_length m ts ≡ last_length n ts
+last_length-some m n no_trees some = absurd (some refl)
+last_length-some m n (tree t ts) some = refl
+
+pub last_value_length-some : (m n : ℕ) (ps : Pairs) → (pair_count ps ≡ 0 → ⊥) → last_value_length m ps ≡ last_value_length n ps
+last_value_length-some m n no_pairs some = absurd (some refl)
+last_value_length-some m n (pair k t ps) some = refl

@@ -1,0 +1,37 @@
+use Rattle.std.proofs.Common.{◌+◌, length, length-append, arith, le_trans, ◌∙◌}
+use Rattle.std.proofs.lemmas.Option.{IfSome_then}
+use Rattle.jsonb_codec.specs.Doc.{type_of}
+use Rattle.jsonb_codec.specs.Canon.{payload_of, payloads_of, entries_of}
+use Rattle.jsonb_codec.specs.Node.{node_tree, items_trees}
+use Rattle.jsonb_codec.proofs.Appending.{length-Appended, append-Appended, length-payloads_of-none}
+use Rattle.jsonb_codec.proofs.Words.{length-word, length-word-append}
+use Rattle.jsonb_codec.proofs.ser.append.append_entries.Goals as goal
+
+pub child_size-last-requires-clause-last : goal.child_size-last-requires-clause-last
+child_size-last-requires-clause-last c none =
+    let others = items_trees c.in-Some.others in
+    let before = rw c.in-Some.ensures.trees at c.loop-item.invariant in
+    let payloads = length-append (payload_of (node_tree c.in-Some.item)) (payloads_of others) in
+    let nothing = length-payloads_of-none others (omega (arith, none, c.len.ensures)) in
+    IfSome_then c.args.size c.requires.size (λ n h. omega (arith, h, before.before, payloads, nothing))
+
+pub loop-item-preserved : goal.loop-item-preserved
+loop-item-preserved c =
+    let l = c.loop-item in
+    let first = node_tree c.in-Some.item in
+    let others = items_trees c.in-Some.others in
+    let k = type_of first + length (payload_of first) in
+    let before = rw c.in-Some.ensures.trees at l.invariant in
+    let payloads = length-append (payload_of first) (payloads_of others) in
+    let longer = length-Appended c.append_entry.ensures in
+    record {
+      fit = before.fit.1;
+      room = omega (arith, before.room, longer, length-word k, length-word-append k (entries_of others), c.append_entry.ensures.capacity);
+      written = append-Appended (entries_of others) c.append_entry.ensures ∙ before.written;
+      capacity = le_trans before.capacity c.append_entry.ensures.capacity;
+      before = omega (arith, before.before, payloads, c.child_size-last.ensures);
+      last = rw c.child_size-last.ensures before.last;
+    }
+
+pub returns-clause-last : goal.returns-clause-last
+returns-clause-last c = (rw c.in_default.ensures.trees at c.loop-item.invariant).last

@@ -1,0 +1,22 @@
+use Rattle.std.proofs.Common.{◌≡◌, ◌≤◌, ◌+◌, ◌++◌, length, vec_capacity}
+use Rattle.jsonb_value.specs.Tree.{count}
+use Rattle.jsonb_codec.specs.Canon.{entries_of, payloads_of, AllFit}
+use Rattle.jsonb_codec.specs.Node.{items_trees}
+use Rattle.jsonb_codec.specs.Room.{HasRoom, last_length}
+use Rattle.jsonb_codec.proofs.ser.append.append_entries.Given as goal
+
+abbrev pub invariant-loop-item : goal.invariant-loop-item
+invariant-loop-item l =
+    let all = items_trees l.fn.items in
+    let left = items_trees l.left in
+    record {
+      fit : AllFit left;
+      room : HasRoom l.out (entries_of left);
+      written : l.out.items ++ entries_of left ≡ l.fn.out.items ++ entries_of all;
+      capacity : vec_capacity l.fn.out ≤ vec_capacity l.out;
+      before : l.before + length (payloads_of left) ≡ length (payloads_of all);
+      last : last_length l.last left ≡ last_length 0 all;
+    }
+
+abbrev pub decreases-loop-item : goal.decreases-loop-item
+decreases-loop-item l = count (items_trees l.left)

@@ -1,0 +1,21 @@
+use Rattle.std.proofs.Common.{◌≡◌, ◌≤◌, ◌+◌, ◌++◌, length, vec_capacity}
+use Rattle.jsonb_value.specs.Tree.{pair_count}
+use Rattle.jsonb_codec.specs.Canon.{key_entries, key_payloads, PairsFit}
+use Rattle.jsonb_codec.specs.Node.{object_pairs, left_pairs}
+use Rattle.jsonb_codec.specs.Room.{HasRoom}
+use Rattle.jsonb_codec.proofs.ser.append.append_key_entries.Given as goal
+
+abbrev pub invariant-loop-key : goal.invariant-loop-key
+invariant-loop-key l =
+    let all = object_pairs l.fn.pairs in
+    let left = left_pairs l.left in
+    record {
+      fit : PairsFit left;
+      room : HasRoom l.out (key_entries left);
+      written : l.out.items ++ key_entries left ≡ l.fn.out.items ++ key_entries all;
+      capacity : vec_capacity l.fn.out ≤ vec_capacity l.out;
+      size : l.size + length (key_payloads left) ≡ length (key_payloads all);
+    }
+
+abbrev pub decreases-loop-key : goal.decreases-loop-key
+decreases-loop-key l = pair_count (left_pairs l.left)

@@ -1,0 +1,38 @@
+use Rattle.std.proofs.Common.{◌+◌, length, length-append, arith, le_trans, ◌∙◌}
+use Rattle.std.proofs.lemmas.Option.{IfSome_then}
+use Rattle.jsonb_codec.specs.Doc.{type_of}
+use Rattle.jsonb_codec.specs.Canon.{payload_of, value_payloads, value_entries}
+use Rattle.jsonb_codec.specs.Node.{node_tree, left_pairs}
+use Rattle.jsonb_codec.proofs.Appending.{length-Appended, append-Appended, length-value_payloads-none}
+use Rattle.jsonb_codec.proofs.Words.{length-word, length-word-append}
+use Rattle.jsonb_codec.proofs.ser.append.append_value_entries.Goals as goal
+
+pub child_size-last-requires-clause-last : goal.child_size-last-requires-clause-last
+child_size-last-requires-clause-last c none =
+    let others = left_pairs c.in-Some.others in
+    let before = rw c.in-Some.ensures.pairs at c.loop-value.invariant in
+    let payloads = length-append (payload_of (node_tree c.in-Some.value)) (value_payloads others) in
+    let nothing = length-value_payloads-none others (omega (arith, none, before.count)) in
+    IfSome_then c.args.size c.requires.size (λ n h. omega (arith, h, before.before, payloads, nothing))
+
+pub loop-value-preserved : goal.loop-value-preserved
+loop-value-preserved c =
+    let l = c.loop-value in
+    let first = node_tree c.in-Some.value in
+    let others = left_pairs c.in-Some.others in
+    let k = type_of first + length (payload_of first) in
+    let before = rw c.in-Some.ensures.pairs at l.invariant in
+    let payloads = length-append (payload_of first) (value_payloads others) in
+    let longer = length-Appended c.append_entry.ensures in
+    record {
+      fit = before.fit.1;
+      room = omega (arith, before.room, longer, length-word k, length-word-append k (value_entries others), c.append_entry.ensures.capacity);
+      written = append-Appended (value_entries others) c.append_entry.ensures ∙ before.written;
+      capacity = le_trans before.capacity c.append_entry.ensures.capacity;
+      count = omega (arith, before.count);
+      before = omega (arith, before.before, payloads, c.child_size-last.ensures);
+      last = rw c.child_size-last.ensures before.last;
+    }
+
+pub returns-clause-last : goal.returns-clause-last
+returns-clause-last c = (rw c.in_default.ensures.pairs at c.loop-value.invariant).last
