@@ -206,6 +206,7 @@ fn known_size(behind: usize, last: usize) -> Option<usize>
     if behind == 0 { Some(last) } else { None }
 }
 
+#[inline(always)]
 fn measured_size(node: Node<'_, '_>) -> usize
     requires { FitsEntry (node_tree node) }
     ensures { result ≡ length (payload_of (node_tree node.entry)) }
@@ -217,6 +218,7 @@ fn measured_size(node: Node<'_, '_>) -> usize
 }
 
 // The entry words of an array's items. The length of the last payload.
+#[inline(always)]
 fn append_entries(out: &mut Vec<u8>, items: Items<'_, '_>, size: Option<usize>) -> usize
     requires fits { AllFit (items_trees items) }
     requires size { IfSome size (λ n. n ≡ length (payloads_of (items_trees items))) }
@@ -290,6 +292,7 @@ fn append_key_entries(out: &mut Vec<u8>, pairs: Pairs<'_, '_>) -> usize
 }
 
 // The entry words of an object's values. The length of the last payload.
+#[inline(always)]
 fn append_value_entries(out: &mut Vec<u8>, pairs: Pairs<'_, '_>, size: Option<usize>) -> usize
     requires fits { PairsFit (object_pairs pairs) }
     requires size { IfSome size (λ n. n ≡ length (value_payloads (object_pairs pairs))) }
