@@ -182,11 +182,12 @@ fn measure_pairs(pairs: Pairs<'_, '_>) -> Option<usize>
     let mut total = 4 + 8 * count;
     let mut left = pairs.walk();
     while let Some((key, value, others)) = left.split_first() {
+        let value_len = measure_entry(value)?;
         let key_len = text_len(key);
         if key_len > MAX_PAYLOAD {
             return None;
         }
-        total += key_len + measure_entry(value)?;
+        total += key_len + value_len;
         left = others;
     }
     Some(total)

@@ -174,6 +174,10 @@ impl<'s, 'a> PairsLeft<'s, 'a> {
     {
         match self {
             PairsLeft::Values(mut pairs) => {
+                // Cheaper than to look for a next leaf behind the last pair.
+                if pairs.len() == 0 {
+                    return None;
+                }
                 let (key, value) = pairs.next()?;
                 Some((
                     key.as_str(),
