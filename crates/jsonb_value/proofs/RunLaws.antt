@@ -1,9 +1,9 @@
 -- Runs of bytes that are not escaped, seen a vector at a time through the mask of those that are.
-use Rattle.std.proofs.Common.{◌≡◌, ℕ, ◌+◌, ◌<◌, ◌≤◌, ◌%◌, ◌^◌, Bool, true, false, not, cond, eqb, ltb, ◌||◌, ◌==◌, List, [], ◌∷◌, map, length, drop, replicate, bit_or, refl, sym, ap, ap₂, ◌∙◌, inl, inr, get_or, arith}
-use Rattle.std.proofs.lemmas.Bool.{cases_Bool, eq-eqb, ne_eqb, eqb-true, not-true}
+use Rattle.std.proofs.Common.{◌≡◌, ℕ, ◌+◌, ◌<◌, ◌≤◌, ◌%◌, ◌^◌, Bool, true, false, not, cond, eqb, ltb, ◌||◌, ◌==◌, List, [], ◌∷◌, map, length, drop, replicate, bit_or, refl, sym, ap, ap₂, ◌∙◌, inl, inr, get_or, take, ◌-◌, arith}
+use Rattle.std.proofs.lemmas.Bool.{cases_lt, cases_Bool, eq-eqb, ne_eqb, eqb-true, not-true}
 use Rattle.std.proofs.lemmas.Bool.Decides.{nat_tests}
-use Rattle.std.proofs.lemmas.Simd.{zip2_splat, zip2_of_maps, mask_l-mod, none_from_empty_mask, chunk-drop, length-chunk, leading_from_mask_l, trailing_mask_l}
-use Rattle.std.proofs.lemmas.List.{length-map}
+use Rattle.std.proofs.lemmas.Simd.{zip2_splat, zip2_of_maps, mask_l-mod, none_from_empty_mask, chunk-drop, length-chunk, leading_from_mask_l, trailing_mask_l, get_or-chunk}
+use Rattle.std.proofs.lemmas.List.{length-map, length-append, length-take-le, take_all, get_or_append_left, get_or-append_right, get_or-take}
 use Rattle.std.proofs.lemmas.List.Sums.{prefix_len_passes}
 use Rattle.std.proofs.lemmas.List.Folds.{prefix_len-append}
 use Rattle.std.specs.Bool.{OnTrue}
@@ -12,7 +12,7 @@ use Rattle.std.specs.Simd.Lanes.{top, mask_l, chunk}
 use lib.Lanes.{zip2}
 use lib.Count.{count_trailing_zeros}
 use Rattle.jsonb_value.specs.Json.Piece.{is_plain}
-use Rattle.jsonb_value.specs.Text.{is_escaped, NoneEscaped}
+use Rattle.jsonb_value.specs.Text.{is_escaped, ends, NoneEscaped}
 
 abbrev hit : ℕ → ℕ → ℕ
 hit a b = cond (eqb a b) 255 0
@@ -51,6 +51,40 @@ on_true false P f = tt
 -- an empty mask says that no byte under it is escaped
 pub none_escaped : (bytes : List ℕ) (i n mask : ℕ) → i + n ≤ length bytes → mask ≡ mask_l (map is_escaped (chunk i n bytes)) → OnTrue (mask == 0) (NoneEscaped bytes i (i + n))
 none_escaped bytes i n mask within is = on_true _ _ (λ e. none_from_empty_mask is_escaped bytes i n 0 within (sym is ∙ eqb-true mask 0 e))
+
+pub length-ends : (n : ℕ) (bytes : List ℕ) → n ≤ length bytes → length (ends n bytes) ≡ n + n
+length-ends n bytes within =
+    length-append (take n bytes) (chunk (length bytes - n) n bytes)
+    ∙ ap₂ (λ a b. a + b) (length-take-le n bytes within) (length-chunk (length bytes - n) n bytes (omega (arith, within)))
+
+get_or-ends_front : (n : ℕ) (bytes : List ℕ) (k : ℕ) → n ≤ length bytes → k < n → get_or (ends n bytes) k 0 ≡ get_or bytes k 0
+get_or-ends_front n bytes k within below =
+    get_or_append_left (take n bytes) (chunk (length bytes - n) n bytes) 0 k (omega (arith, length-take-le n bytes within))
+    ∙ get_or-take n bytes k 0 below
+
+get_or-ends_back : (n : ℕ) (bytes : List ℕ) (k : ℕ) → n ≤ length bytes → k < n → get_or (ends n bytes) (n + k) 0 ≡ get_or bytes (length bytes - n + k) 0
+get_or-ends_back n bytes k within below =
+    get_or-append_right (take n bytes) (chunk (length bytes - n) n bytes) n (n + k) 0 (length-take-le n bytes within) (omega arith)
+    ∙ ap (λ i. get_or (chunk (length bytes - n) n bytes) i 0) (omega arith)
+    ∙ get_or-chunk (length bytes - n) n bytes k 0 below
+
+-- each byte is among those at the front or those at the end
+none_from_ends : (bytes : List ℕ) (n : ℕ) → n ≤ length bytes → length bytes ≤ n + n → NoneEscaped (ends n bytes) 0 (n + n) → NoneEscaped bytes 0 (length bytes)
+none_from_ends bytes n within covers none k from upto = elim (cases_lt k n) [
+  | inl front ↦ sym (ap is_escaped (get_or-ends_front n bytes k within front)) ∙ none k (omega arith) (omega arith)
+  | inr behind ↦
+    let j = k - (length bytes - n) in
+    ap (λ i. is_escaped (get_or bytes i 0)) (omega arith)
+    ∙ sym (ap is_escaped (get_or-ends_back n bytes j within (omega arith)))
+    ∙ none (n + j) (omega arith) (omega arith)
+]
+
+-- an empty mask of both ends says that no byte is escaped
+pub none_escaped_at_ends : (bytes : List ℕ) (n mask : ℕ) → n ≤ length bytes → length bytes ≤ n + n → mask ≡ mask_l (map is_escaped (ends n bytes)) → OnTrue (mask == 0) (NoneEscaped bytes 0 (length bytes))
+none_escaped_at_ends bytes n mask within covers is = on_true _ _ (λ e.
+    let whole : chunk 0 (n + n) (ends n bytes) ≡ ends n bytes = take_all (n + n) (ends n bytes) (omega (arith, length-ends n bytes within)) in
+    none_from_ends bytes n within covers (λ k from upto.
+        none_from_empty_mask is_escaped (ends n bytes) 0 (n + n) 0 (omega (arith, length-ends n bytes within)) (rw whole (sym is ∙ eqb-true mask 0 e)) k from (omega arith)))
 
 is_plain-not_escaped : (b : ℕ) → is_plain b ≡ not (is_escaped b)
 is_plain-not_escaped b = grind (arith, nat_tests)

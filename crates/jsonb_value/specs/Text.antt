@@ -1,6 +1,7 @@
 -- The text of numbers, strings, extension values and whole trees, as bytes.
-use Rattle.std.specs.Prelude.{◌≡◌, ◌<◌, ◌≤◌, get_or, ℕ, zero, suc, ◌*◌, ◌+◌, ◌/◌, ◌%◌, ℤ, Bool, true, false, ◌||◌, ◌==◌, nat_lt, if◌then◌else◌, List, [], ◌∷◌, ◌++◌, codes, replicate, flat_map, decimal, unsigned_abs}
+use Rattle.std.specs.Prelude.{take, length, ◌-◌, ◌≡◌, ◌<◌, ◌≤◌, get_or, ℕ, zero, suc, ◌*◌, ◌+◌, ◌/◌, ◌%◌, ℤ, Bool, true, false, ◌||◌, ◌==◌, nat_lt, if◌then◌else◌, List, [], ◌∷◌, ◌++◌, codes, replicate, flat_map, decimal, unsigned_abs}
 use Rattle.std.specs.Int.{is_negative}
+use Rattle.std.specs.Simd.Lanes.{chunk}
 use Rattle.std.specs.Fmt.{signed_decimal, sign_text, digit_glyph}
 use Rattle.jsonb_value.specs.declared.number.Number.{Number}
 use Rattle.jsonb_value.specs.declared.number.Number.TheVariants.{Int64, UInt64, Decimal64, Decimal128}
@@ -45,6 +46,10 @@ is_escaped b = b == 34 || b == 92 || nat_lt b 32
 -- no byte from one place up to another is escaped
 abbrev pub NoneEscaped : List ℕ → ℕ → ℕ → Type 0
 NoneEscaped bytes from upto = (k : ℕ) → from ≤ k → k < upto → is_escaped (get_or bytes k 0) ≡ false
+
+-- so many bytes at the front, and so many at the end
+abbrev pub ends : ℕ → List ℕ → List ℕ
+ends n bytes = take n bytes ++ chunk (length bytes - n) n bytes
 
 -- a backslash and the byte itself, or its letter, or `u00` and two digits
 abbrev pub escape : ℕ → List ℕ

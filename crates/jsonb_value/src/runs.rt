@@ -5,7 +5,7 @@ ghost use Rattle.std.specs.Bool.{OnTrue};
 ghost use Rattle.std.specs.List.{prefix_len};
 ghost use Rattle.std.specs.Simd.Lanes.{mask_l};
 ghost use Rattle.jsonb_value.specs.Json.Piece.{is_plain};
-ghost use Rattle.jsonb_value.specs.Text.{is_escaped, NoneEscaped};
+ghost use Rattle.jsonb_value.specs.Text.{is_escaped, ends, NoneEscaped};
 
 use std::simd::Simd;
 use std::simd::prelude::*;
@@ -55,6 +55,31 @@ fn is_plain_long(bytes: &[u8]) -> bool
     is_plain_at::<16>(bytes, last)
 }
 
+// The first eight and the last eight bytes.
+#[inline(always)]
+fn ends_of_eight(bytes: &[u8]) -> u8x16
+    requires { 8 ≤ length bytes.now }
+    ensures { result ≡ ends 8 bytes.now }
+{
+    let front = u8x8::from_slice(bytes);
+    let back = u8x8::from_slice(&bytes[bytes.len() - 8..]);
+    front.shuffle(
+        back,
+        [0, 1, 2, 3, 4, 5, 6, 7, 8, 9, 10, 11, 12, 13, 14, 15],
+    )
+}
+
+// The first four and the last four bytes.
+#[inline(always)]
+fn ends_of_four(bytes: &[u8]) -> u8x8
+    requires { 4 ≤ length bytes.now }
+    ensures { result ≡ ends 4 bytes.now }
+{
+    let front = u8x4::from_slice(bytes);
+    let back = u8x4::from_slice(&bytes[bytes.len() - 4..]);
+    front.shuffle(back, [0, 1, 2, 3, 4, 5, 6, 7])
+}
+
 /// Whether all bytes stand for themselves. Vectors that overlap cover the bytes.
 #[inline(always)]
 pub fn is_all_plain(bytes: &[u8]) -> bool
@@ -64,9 +89,9 @@ pub fn is_all_plain(bytes: &[u8]) -> bool
     if len >= 16 {
         is_plain_long(bytes)
     } else if len >= 8 {
-        is_plain_at::<8>(bytes, 0) && is_plain_at::<8>(bytes, len - 8)
+        escaped_lanes(ends_of_eight(bytes)) == 0
     } else if len >= 4 {
-        is_plain_at::<4>(bytes, 0) && is_plain_at::<4>(bytes, len - 4)
+        escaped_lanes(ends_of_four(bytes)) == 0
     } else {
         plain_len_by_one(bytes) == len
     }
