@@ -404,10 +404,8 @@ fn check_scalar_payload(faults: FaultTable, tag: u32, payload: &[u8]) -> Result<
     match tag {
         NULL_TAG | FALSE_TAG | TRUE_TAG if payload.is_empty() => Ok(()),
         STRING_TAG => check_text(faults, payload),
-        NUMBER_TAG => match Number::decode(payload) {
-            Ok(_) => Ok(()),
-            Err(error) => Err(error),
-        },
+        NUMBER_TAG if Number::is_payload(payload) => Ok(()),
+        NUMBER_TAG => Err(Error::InvalidJsonbNumber),
         EXTENSION_TAG => match ExtensionValue::decode(payload) {
             Ok(_) => Ok(()),
             Err(error) => Err(error),

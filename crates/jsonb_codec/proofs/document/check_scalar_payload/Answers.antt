@@ -19,10 +19,10 @@ pub returns-in-268435456 : goal.returns-in-268435456
 returns-in-268435456 c =
     tells_iff c.args.faults c.check_text.result c.check_text.ensures (HasPayload-text 0 c.args.tag c.args.payload.now c.in-268435456.is)
 
+pub returns-in-536870912 : goal.returns-in-536870912
+returns-in-536870912 c =
+    (HasPayload-number 0 c.args.tag c.args.payload.now c.in-536870912.is).0 (c.is_payload.ensures.0 c.if-is_payload.true)
+
 pub returns-in-Ok : goal.returns-in-Ok
 returns-in-Ok c =
-    (HasPayload-number 0 c.args.tag c.args.payload.now c.in-536870912.is).0 (c.in-Ok.field-0, c.in-Ok.ensures.ok)
-
-pub returns-in-Ok-decode : goal.returns-in-Ok-decode
-returns-in-Ok-decode c =
-    (HasPayload-extension 0 c.args.tag c.args.payload.now c.in-1610612736.is).0 (extension_of c.in-Ok-decode.field-0, c.in-Ok-decode.ensures.ok)
+    (HasPayload-extension 0 c.args.tag c.args.payload.now c.in-1610612736.is).0 (extension_of c.in-Ok.field-0, c.in-Ok.ensures.ok)
