@@ -1,7 +1,7 @@
 -- A payload of a known first byte means a number by its length alone.
-use Rattle.std.proofs.Common.{◌≡◌, ◌↔◌, ◌⊎◌, ℕ, ℤ, List, [], ◌∷◌, length, take, get_or, inl, inr, refl, sym, ap, subst, ◌∙◌, arith}
+use Rattle.std.proofs.Common.{◌≡◌, ◌≢◌, ◌≤◌, ◌↔◌, ◌⊎◌, IsTrue, false, ℕ, zero, suc, ℤ, List, [], ◌∷◌, length, take, get_or, inl, inr, refl, sym, ap, subst, ◌∙◌, arith}
 use Rattle.std.proofs.lemmas.List.{length-take-le}
-use Rattle.std.specs.Int.{Width, w8, w16, w32, w64, w128, byte_len, from_be_bytes, cast_signed}
+use Rattle.std.specs.Int.{is_power_of_two, Width, w8, w16, w32, w64, w128, byte_len, from_be_bytes, cast_signed}
 use Rattle.jsonb_value.specs.declared.number.Number.{Number}
 use Rattle.jsonb_value.specs.declared.number.Number.TheVariants.{Int64, UInt64, Decimal64, Decimal128}
 use Rattle.jsonb_value.specs.Payload.{IsSigned, IsSignedNumber, IsUnsignedNumber, IsWholeLength, IsDecimalLength}
@@ -80,3 +80,26 @@ NumCode-zero tag n e rest len = (
 -- a test of one of two facts that hold together is a test of the other
 pub tested : {P Q R : Type 0} → (P ↔ Q) → (Q ↔ R) → P ↔ R
 tested f g = (λ p. g.0 (f.0 p), λ r. f.1 (g.1 r))
+
+not_whole : {P : Type 0} (n : ℕ) → n ≢ 1 → n ≢ 2 → n ≢ 4 → n ≢ 8 → IsWholeLength n → P
+not_whole n a b c d (inl e) = absurd (a e)
+not_whole n a b c d (inr (inl e)) = absurd (b e)
+not_whole n a b c d (inr (inr (inl e))) = absurd (c e)
+not_whole n a b c d (inr (inr (inr e))) = absurd (d e)
+
+no_power : {P : Type 0} → IsTrue false → P
+no_power h = let never : ⊥ = cc in absurd never
+
+-- the lengths of whole numbers are the powers of two up to 8
+pub is_power_of_two-whole : (n : ℕ) → n ≤ 8 → IsTrue (is_power_of_two n) ↔ IsWholeLength n
+unfolding lib.Count.ones
+is_power_of_two-whole zero le = (λ h. no_power h, not_whole 0 (λ e. omega arith) (λ e. omega arith) (λ e. omega arith) (λ e. omega arith))
+is_power_of_two-whole (suc zero) le = (λ h. inl refl, λ w. refl)
+is_power_of_two-whole (suc (suc zero)) le = (λ h. inr (inl refl), λ w. refl)
+is_power_of_two-whole (suc (suc (suc zero))) le = (λ h. no_power h, not_whole 3 (λ e. omega arith) (λ e. omega arith) (λ e. omega arith) (λ e. omega arith))
+is_power_of_two-whole (suc (suc (suc (suc zero)))) le = (λ h. inr (inr (inl refl)), λ w. refl)
+is_power_of_two-whole (suc (suc (suc (suc (suc zero))))) le = (λ h. no_power h, not_whole 5 (λ e. omega arith) (λ e. omega arith) (λ e. omega arith) (λ e. omega arith))
+is_power_of_two-whole (suc (suc (suc (suc (suc (suc zero)))))) le = (λ h. no_power h, not_whole 6 (λ e. omega arith) (λ e. omega arith) (λ e. omega arith) (λ e. omega arith))
+is_power_of_two-whole (suc (suc (suc (suc (suc (suc (suc zero))))))) le = (λ h. no_power h, not_whole 7 (λ e. omega arith) (λ e. omega arith) (λ e. omega arith) (λ e. omega arith))
+is_power_of_two-whole (suc (suc (suc (suc (suc (suc (suc (suc zero)))))))) le = (λ h. inr (inr (inr refl)), λ w. refl)
+is_power_of_two-whole (suc (suc (suc (suc (suc (suc (suc (suc (suc n))))))))) le = absurd (omega arith)

@@ -110,12 +110,13 @@ fn is_tagged(tag: u8, count: usize) -> bool
     }
 }
 
-// Whether so many bytes are a whole number.
+// Whether so many bytes are a whole number. There is no branch for each length, since which comes
+// next is not foreseen.
 #[inline(always)]
 fn is_whole_length(length: usize) -> bool
     ensures { IsTrue result ↔ IsWholeLength length }
 {
-    matches!(length, 1 | 2 | 4 | 8)
+    length <= 8 && length.is_power_of_two()
 }
 
 // Whether so many bytes are a decimal.
