@@ -24,7 +24,7 @@ use crate::item::{JsonbItem, text_of};
 use crate::item_type::JsonbItemType;
 use crate::raw::RawJsonb;
 use documents::{cmp_containers, cmp_documents};
-use jsonb_codec::is_document;
+use jsonb_codec::{document_text, is_document};
 use std::borrow::CowStr;
 use std::cmp::Ordering;
 
@@ -61,6 +61,10 @@ pub fn order_of_bytes()
 pub fn cmp_bytes(left: &[u8], right: &[u8]) -> Ordering
     ensures { result ≡ meaning_cmp (meaning_of left.now) (meaning_of right.now) }
 {
+    // Strings are compared most, and are told from all else by two words.
+    if let (Some(left), Some(right)) = (document_text(left), document_text(right)) {
+        return left.cmp(right);
+    }
     match (is_document(left), is_document(right)) {
         (true, true) => cmp_documents(left, right),
         (true, false) => Ordering::Less,

@@ -1,5 +1,5 @@
 -- What one key more says about the bytes behind it, and how keys and values make the pairs of an object.
-use Rattle.std.proofs.Common.{◌≡◌, ◌↔◌, Bool, IsTrue, max, ℕ, ◌+◌, ◌*◌, ◌^◌, ◌<◌, ◌≤◌, List, [], ◌++◌, Option, Some, None, length, take, drop, refl, sym, ap, ap₂, subst, ◌∙◌, arith, length-append, append_assoc}
+use Rattle.std.proofs.Common.{◌≡◌, ◌↔◌, Bool, IsTrue, max, ℕ, ◌+◌, ◌-◌, ◌*◌, ◌^◌, ◌<◌, ◌≤◌, List, [], ◌++◌, Option, Some, None, length, take, drop, refl, sym, ap, ap₂, subst, ◌∙◌, arith, length-append, append_assoc}
 use Rattle.std.proofs.lemmas.List.{take-append-drop, length-take-le}
 use Rattle.std.specs.Str.{IsUtf8}
 use Rattle.jsonb_value.specs.Tree.{Tree, null, Trees, no_trees, tree, Pairs, no_pairs, pair, count, pair_count, Ascends, Ascend}
@@ -8,7 +8,7 @@ use Rattle.jsonb_codec.specs.Word.{word}
 use Rattle.jsonb_codec.specs.Doc.{Keys, Values, Children}
 use Rattle.jsonb_codec.specs.Depth.{depth, depths, pair_depths}
 use Rattle.jsonb_codec.specs.Parts.{IsObject, KeysThen, HasChildren, HasObject, HasKeys, IsAbove}
-use Rattle.jsonb_codec.proofs.Words.{same_words, same_parts}
+use Rattle.jsonb_codec.proofs.Words.{length-word-append, same_words, same_parts}
 use Rattle.jsonb_codec.proofs.Entries.{IsType, IsType-text, same_entry, length-One, length-Children, length-Values, length-Keys}
 use Rattle.jsonb_codec.proofs.Steps.{Read, not_at_end}
 use Rattle.jsonb_codec.proofs.Unique.{length_keys}
@@ -102,6 +102,24 @@ keys_none before e p none = (no_pairs, (tt, ([], (refl, record { no_entries = no
 pub keys_once : (before : Option (List ℕ)) (e p q r : List ℕ) → HasKeys before e p q → HasKeys before e p r → q ≡ r
 keys_once before e p q r (ps, (a, (front, (parts, h)))) (qs, (b, (other, (again, k)))) =
     (same_parts front other q r (length_keys ps qs e front other h k) (sym parts ∙ again)).1
+
+-- The entry word of a key is that of a string.
+pub key_entry : (k : ℕ) (rest e p q : List ℕ) (ps : Pairs) → e ≡ word k ++ rest → k < 2 ^ 32 → KeysThen ps e p q
+    → (268435456 ≤ k) × Read 268435456 (k - 268435456) rest e
+key_entry k rest e p q no_pairs parts small (front, (_, h)) =
+    let long = ap length (sym h.no_entries ∙ parts) ∙ length-word-append k rest in absurd (omega arith)
+key_entry k rest e p q (pair key t ps) parts small (front, (_, h)) =
+    let short = h.short in
+    let words = same_words (268435456 + length h.payload) k _ _ (omega arith) small (sym h.entries_are ∙ parts) in
+    let whole : 268435456 + (k - 268435456) ≡ k = omega (arith, words.0) in (
+      omega (arith, words.0),
+      record {
+        parts = parts ∙ ap (λ (n : ℕ). word n ++ rest) (sym whole);
+        tag = refl;
+        number = omega (arith, words.0);
+        small = omega (arith, words.0);
+      },
+    )
 
 -- the keys of these pairs, with these values
 abbrev pub with_values : Pairs → Trees → Pairs

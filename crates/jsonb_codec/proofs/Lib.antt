@@ -3,6 +3,7 @@ pub mod Words
 pub mod Entries
 pub mod Unique
 pub mod Scalars
+mod TextDocuments
 pub mod Steps
 pub mod KeySteps
 pub mod Lengths

@@ -1,9 +1,12 @@
 //! Which byte strings are documents, and the first fault of those that are none.
 
-ghost use Rattle.std.specs.Prelude.{◌≡◌, ◌≢◌, ◌+◌, ◌*◌, ◌/◌, ◌%◌, ◌<◌, ◌≤◌, ◌^◌, ◌↔◌, ◌++◌, [], ℕ, List, length, take, drop, IsTrue, None, IfOk, IfErr, OnOk, OnErr, option_map};
+ghost use Rattle.std.specs.Prelude.{◌≡◌, ◌≢◌, ◌+◌, ◌*◌, ◌/◌, ◌%◌, ◌<◌, ◌≤◌, ◌^◌, ◌↔◌, ◌++◌, [], ℕ, List, length, take, drop, IsTrue, None, IfOk, IfErr, IfSome, IfNone, OnOk, OnErr, option_map};
+ghost use Rattle.std.specs.Cmp.Lexicographic.{slice_cmp};
 ghost use Rattle.std.specs.List.{All};
+ghost use Rattle.std.specs.Ordering.{nat_cmp};
+ghost use Rattle.std.specs.Str.{IsUtf8};
 ghost use Rattle.jsonb_codec.specs.Word.{word};
-ghost use Rattle.jsonb_value.specs.Tree.{Tree};
+ghost use Rattle.jsonb_value.specs.Tree.{Tree, text};
 ghost use Rattle.jsonb_codec.specs.Doc.{Doc, IsDocument};
 ghost use Rattle.jsonb_codec.specs.Depth.{depth, size, IsDocumentWithin};
 ghost use Rattle.jsonb_codec.specs.Parts.{IsFault, Tells, HasScalar, HasPayload, HasArray, HasObject, HasChildren, HasKeys, IsAbove, IsKeyAfter};
@@ -12,7 +15,7 @@ use crate::constants::{
     ARRAY_CONTAINER_TAG, CONTAINER_TAG, EXTENSION_TAG, FALSE_TAG, NULL_TAG, NUMBER_TAG,
     OBJECT_CONTAINER_TAG, SCALAR_CONTAINER_TAG, STRING_TAG, TRUE_TAG,
 };
-use crate::word::{Tagged, split_entry, split_header};
+use crate::word::{Tagged, split_entry, split_header, split_word};
 use jsonb_value::{Error, ExtensionValue, Number};
 use std::cmp::Ordering;
 
@@ -49,6 +52,26 @@ pub fn is_document_within(bytes: &[u8], depth: usize) -> bool
     ensures { IsTrue result ↔ IsDocumentWithin depth bytes.now }
 {
     check(FaultTable::Tree, depth, bytes).is_ok()
+}
+
+/// The text of a document that is a string. `None` for all other bytes.
+#[inline(always)]
+pub fn document_text(bytes: &[u8]) -> Option<&str>
+    ensures some { IfSome result (λ s. Doc bytes.now (text s.now)) }
+    ensures none { IfNone result ((s : List ℕ) → Doc bytes.now (text s) → ⊥) }
+{
+    let (header, body) = split_word(bytes)?;
+    let entry = split_entry(body)?;
+    if header != SCALAR_CONTAINER_TAG
+        || entry.tag != STRING_TAG
+        || entry.number != entry.rest.len()
+    {
+        return None;
+    }
+    match check_text(FaultTable::Tree, entry.rest) {
+        Ok(()) => Some(unsafe { str::from_utf8_unchecked(entry.rest) }),
+        Err(_) => None,
+    }
 }
 
 /// Which error a fault is: the two readers name some faults differently.
@@ -281,7 +304,7 @@ fn check_keys<'a>(
     let mut ascend = true;
     while let Some(entry) = split_entry(entries_left) {
         let (key, behind) = split_payload(faults, entry.tag, entry.number, payloads_left)?;
-        check_payload(faults, depth, entry.tag, key)?;
+        check_key(faults, depth, entry.tag, key)?;
         ascend &= is_key_after(before, entry.tag, key);
         entries_left = entry.rest;
         payloads_left = behind;
@@ -299,10 +322,21 @@ fn is_key_after(before: Option<&[u8]>, tag: u32, key: &[u8]) -> bool
     ensures { IsTrue result ↔ IsKeyAfter (option_map (λ b. b.now) before.entry) tag key.now }
 {
     let ascends = match before {
-        Some(before) => before.cmp(&key) == Ordering::Less,
+        Some(before) => is_below(before, key),
         None => true,
     };
     ascends && tag == STRING_TAG
+}
+
+// Whether the bytes are below those. Mostly the first words tell.
+#[inline(always)]
+fn is_below(left: &[u8], right: &[u8]) -> bool
+    ensures { IsTrue result ↔ (slice_cmp nat_cmp left.now right.now ≡ Ordering.Less) }
+{
+    match (split_word(left), split_word(right)) {
+        (Some((first, _)), Some((second, _))) if first != second => first < second,
+        _ => left.cmp(&right) == Ordering::Less,
+    }
 }
 
 // The payload of an entry, and what stands behind it.
@@ -323,6 +357,29 @@ fn split_payload<'a>(
         return Err(faults.bounds(tag));
     }
     Ok(payloads.split_at(number))
+}
+
+// The payload of a key, which is hardly ever anything but a string.
+#[cycle(container)]
+#[inline(always)]
+fn check_key(faults: FaultTable, depth: usize, tag: u32, payload: &[u8]) -> Result<(), Error>
+    ensures { Tells faults result (HasPayload depth tag payload.now) }
+{
+    if tag == STRING_TAG {
+        check_text(faults, payload)
+    } else {
+        check_no_key(faults, depth, tag, payload)
+    }
+}
+
+// The payload of an entry that stands for a key and is none.
+#[cycle(container)]
+#[cold]
+#[inline(never)]
+fn check_no_key(faults: FaultTable, depth: usize, tag: u32, payload: &[u8]) -> Result<(), Error>
+    ensures { Tells faults result (HasPayload depth tag payload.now) }
+{
+    check_payload(faults, depth, tag, payload)
 }
 
 // The payload of an entry of this type.
@@ -346,20 +403,36 @@ fn check_scalar_payload(faults: FaultTable, tag: u32, payload: &[u8]) -> Result<
 {
     match tag {
         NULL_TAG | FALSE_TAG | TRUE_TAG if payload.is_empty() => Ok(()),
-        // Most texts are ASCII, which is sooner told.
-        STRING_TAG if payload.is_ascii() => Ok(()),
-        STRING_TAG => match str::from_utf8(payload) {
-            Ok(_) => Ok(()),
-            Err(_) => Err(Error::InvalidUtf8),
-        },
-        NUMBER_TAG => match Number::decode(payload) {
-            Ok(_) => Ok(()),
-            Err(error) => Err(error),
-        },
+        STRING_TAG => check_text(faults, payload),
+        NUMBER_TAG if Number::is_payload(payload) => Ok(()),
+        NUMBER_TAG => Err(Error::InvalidJsonbNumber),
         EXTENSION_TAG => match ExtensionValue::decode(payload) {
             Ok(_) => Ok(()),
             Err(error) => Err(error),
         },
         _ => Err(faults.entry()),
+    }
+}
+
+// The payload of a string. Most are ASCII, which is sooner told.
+#[inline(always)]
+fn check_text(faults: FaultTable, payload: &[u8]) -> Result<(), Error>
+    ensures { Tells faults result (IsUtf8 payload.now) }
+{
+    if payload.is_ascii() {
+        Ok(())
+    } else {
+        check_utf8(faults, payload)
+    }
+}
+
+// The payload of a string that is not ASCII.
+#[inline(never)]
+fn check_utf8(faults: FaultTable, payload: &[u8]) -> Result<(), Error>
+    ensures { Tells faults result (IsUtf8 payload.now) }
+{
+    match str::from_utf8(payload) {
+        Ok(_) => Ok(()),
+        Err(_) => Err(Error::InvalidUtf8),
     }
 }

@@ -15,7 +15,7 @@ use crate::constants::{
     ARRAY_CONTAINER_TAG, CONTAINER_TAG, EXTENSION_TAG, NUMBER_TAG, OBJECT_CONTAINER_TAG,
     SCALAR_CONTAINER_TAG, STRING_TAG,
 };
-use crate::word::{split_entry, split_header};
+use crate::word::{split_entry, split_header, split_word};
 use jsonb_value::{ExtensionValue, Number};
 
 /// An entry's type, and its payload.
@@ -213,9 +213,11 @@ fn after_keys<'a>(key_entries: &[u8], payloads: &'a [u8]) -> &'a [u8]
 {
     let mut entries_left = key_entries;
     let mut payloads_left = payloads;
-    while let Some(entry) = split_entry(entries_left) {
-        let (_, behind) = payloads_left.split_at(entry.number);
-        entries_left = entry.rest;
+    while let Some((entry, rest)) = split_word(entries_left) {
+        // Each is of a string, which needs no mask.
+        let length = (entry - STRING_TAG) as usize;
+        let (_, behind) = payloads_left.split_at(length);
+        entries_left = rest;
         payloads_left = behind;
     }
     payloads_left

@@ -63,9 +63,9 @@ pub struct Tagged<'a> {
     pub rest: &'a [u8],
 }
 
-// The word at the front, and what follows it.
+/// The word at the front, and what follows it.
 #[inline(always)]
-fn split_word(bytes: &[u8]) -> Option<(u32, &[u8])>
+pub fn split_word(bytes: &[u8]) -> Option<(u32, &[u8])>
     ensures found { IfSome result (λ x. bytes.now ≡ word x.0 ++ x.1.now) }
     ensures small { IfSome result (λ x. x.0 < 2 ^ 32) }
     ensures none { IfNone result (length bytes.now < 4) }

@@ -18,5 +18,6 @@ pub mod TextVectors
 pub mod BigEndian
 pub mod PayloadLaws
 pub mod PayloadDecision
+mod PayloadLengths
 pub mod Written
 pub mod NormTexts

@@ -65,7 +65,7 @@ decide_unsigned : (bs : List ℕ) → Decided ((n : ℕ) × IsUnsignedNumber bs 
 decide_unsigned bs = decide_widths (λ w v. IsUnsigned w bs v) bs (λ w n. (from_be_bytes w bs, record { len = n; value = refl })) (λ w v h. h.len)
 
 -- a decimal has one of three lengths
-decimal_lengths : (rest : List ℕ) (x : Number) → NumCode (112 ∷ rest) x → (length rest ≡ 9) ⊎ ((length rest ≡ 17) ⊎ (length rest ≡ 18))
+pub decimal_lengths : (rest : List ℕ) (x : Number) → NumCode (112 ∷ rest) x → (length rest ≡ 9) ⊎ ((length rest ≡ 17) ⊎ (length rest ≡ 18))
 decimal_lengths rest (Int64 v) (bs, (e, h)) = absurd (omega (arith, ap first_of e))
 decimal_lengths rest (UInt64 n) (inl (e, z)) = absurd (omega (arith, ap first_of e))
 decimal_lengths rest (UInt64 n) (inr (bs, (e, h))) = absurd (omega (arith, ap first_of e))

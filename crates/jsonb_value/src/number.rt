@@ -1,9 +1,9 @@
 //! Numbers, each kept with its kind, and their payloads.
 
-ghost use Rattle.std.specs.Prelude.{◌≡◌, ◌≤◌, ◌∷◌, ◌++◌, ℕ, ℤ, IfSome, IfNone, IfOk, IfErr, OnOk, OnErr, length, take, IsOk, vec_len, vec_capacity, ◌+◌};
+ghost use Rattle.std.specs.Prelude.{◌≡◌, ◌↔◌, ◌≤◌, ◌∷◌, ◌++◌, ℕ, ℤ, List, IsTrue, IfSome, IfNone, IfOk, IfErr, OnOk, OnErr, length, take, IsOk, vec_len, vec_capacity, ◌+◌};
 ghost use Rattle.std.specs.Int.{w64, w128};
 ghost use Rattle.jsonb_value.specs.declared.number.Number.{Number};
-ghost use Rattle.jsonb_value.specs.Payload.{IsSignedNumber, IsUnsignedNumber};
+ghost use Rattle.jsonb_value.specs.Payload.{IsSignedNumber, IsUnsignedNumber, IsWholeLength, IsDecimalLength};
 ghost use Rattle.jsonb_value.specs.NumCode.{NumCode, number_payload, int_payload, uint_payload, decimal_payload};
 
 use crate::constants::{NUMBER_DECIMAL, NUMBER_INT, NUMBER_UINT, NUMBER_ZERO};
@@ -50,6 +50,17 @@ impl Number {
         }
     }
 
+    /// Whether the bytes are the payload of some number.
+    #[inline(always)]
+    pub fn is_payload(bytes: &[u8]) -> bool
+        ensures { IsTrue result ↔ ((x : Number) × NumCode bytes.now x) }
+    {
+        match bytes {
+            [tag, rest @ ..] => is_tagged(*tag, rest.len()),
+            [] => false,
+        }
+    }
+
     /// Appends the written payload, the shortest for a whole number, and answers its length. Only
     /// memory can be refused, and then the bytes of `buf` are as before.
     #[inline(always)]
@@ -83,6 +94,37 @@ impl Number {
             Number::Decimal128(_) => 18,
         }
     }
+}
+
+// Whether so many bytes behind this tag are a number.
+#[inline(always)]
+fn is_tagged(tag: u8, count: usize) -> bool
+    ensures { (rest : List ℕ) → length rest ≡ count
+        → (IsTrue result ↔ ((x : Number) × NumCode (tag ∷ rest) x)) }
+{
+    match tag {
+        NUMBER_INT | NUMBER_UINT => is_whole_length(count),
+        NUMBER_DECIMAL => is_decimal_length(count),
+        NUMBER_ZERO => count == 0,
+        _ => false,
+    }
+}
+
+// Whether so many bytes are a whole number. There is no branch for each length, since which comes
+// next is not foreseen.
+#[inline(always)]
+fn is_whole_length(length: usize) -> bool
+    ensures { IsTrue result ↔ IsWholeLength length }
+{
+    length <= 8 && length.is_power_of_two()
+}
+
+// Whether so many bytes are a decimal.
+#[inline(always)]
+fn is_decimal_length(length: usize) -> bool
+    ensures { IsTrue result ↔ IsDecimalLength length }
+{
+    matches!(length, 9 | 17 | 18)
 }
 
 // The number of a payload that begins with this tag.

@@ -18,19 +18,19 @@ use std::cmp::Ordering;
 impl Number {
     /// How the exact values of two numbers compare, whatever their kinds and scales. It is total,
     /// and `Equal` also for numbers that `==` tells apart, as `Int64(5)` and `UInt64(5)`.
+    #[inline(always)]
     pub fn cmp_value(&self, other: &Number) -> Ordering
         ensures { result ≡ number_cmp self.now other.now }
     {
-        let left = self.widened();
-        let right = other.widened();
-        if left.scale <= right.scale {
-            cmp_scaled(left.value, right.scale - left.scale, right.value)
-        } else {
-            cmp_scaled(right.value, left.scale - right.scale, left.value).reverse()
+        match (*self, *other) {
+            (Number::Int64(left), Number::Int64(right)) => left.cmp(&right),
+            (Number::UInt64(left), Number::UInt64(right)) => left.cmp(&right),
+            _ => cmp_decimals(self.widened(), other.widened()),
         }
     }
 
     // The same value as the kind that holds each.
+    #[inline(always)]
     fn widened(&self) -> Decimal128
         ensures { fraction_of (Number.Decimal128 result) ≡ fraction_of self.now }
     {
@@ -49,6 +49,18 @@ impl Number {
             },
             Number::Decimal128(decimal) => decimal,
         }
+    }
+}
+
+// How the values of two decimals compare.
+#[inline(never)]
+fn cmp_decimals(left: Decimal128, right: Decimal128) -> Ordering
+    ensures { result ≡ number_cmp (Number.Decimal128 left) (Number.Decimal128 right) }
+{
+    if left.scale <= right.scale {
+        cmp_scaled(left.value, right.scale - left.scale, right.value)
+    } else {
+        cmp_scaled(right.value, left.scale - right.scale, left.value).reverse()
     }
 }
 

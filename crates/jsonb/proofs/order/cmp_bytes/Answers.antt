@@ -1,11 +1,17 @@
 use Rattle.std.proofs.Common.{◌↔◌, ℕ, List, false, IsTrue, refl, sym, ◌∙◌}
 use Rattle.jsonb_value.specs.Meaning.{meaning_cmp}
+use Rattle.jsonb_value.specs.Tree.{text}
 use Rattle.jsonb_codec.specs.Doc.{IsDocument}
 use Rattle.jsonb.proofs.MeantLaws.{meaning_of-document, meaning_of-other}
 use Rattle.jsonb.proofs.order.cmp_bytes.Goals as goal
 
 no_document : (b : List ℕ) → IsTrue false ↔ IsDocument b → IsDocument b → ⊥
 no_document b told d = let is = told.1 d in cc
+
+pub returns-in-Some-Some : goal.returns-in-Some-Some
+returns-in-Some-Some c =
+    let s = c.in-Some-Some in
+    c.cmp.ensures ∙ sym (λ i. meaning_cmp (meaning_of-document _ (text s.left.now) s.ensures.some i) (meaning_of-document _ (text s.right.now) s.ensures'.some i))
 
 pub returns-in-true-true : goal.returns-in-true-true
 returns-in-true-true c =
@@ -25,4 +31,4 @@ returns-in-false-true c =
 
 pub returns-in-false-false : goal.returns-in-false-false
 returns-in-false-false c =
-    c.cmp.ensures ∙ sym (λ i. meaning_cmp (meaning_of-other _ (no_document _ c.in-false-false.ensures.exact) i) (meaning_of-other _ (no_document _ c.in-false-false.ensures'.exact) i))
+    c.cmp-in-false-false.ensures ∙ sym (λ i. meaning_cmp (meaning_of-other _ (no_document _ c.in-false-false.ensures.exact) i) (meaning_of-other _ (no_document _ c.in-false-false.ensures'.exact) i))

@@ -108,16 +108,16 @@ check_keys-returns-in_err-key-clause-none t c =
     let fits = keys_fit e.tag e.number e.rest.now l.entries_left.now l.payloads_left.now read _ q (l.invariant.onward q h).1 in
     let never : ⊥ = omega arith in never)
 
-pub check_keys-returns-in_err-check_payload-clause-none :
-    goal.check_keys-returns-in_err-check_payload-clause-none
-check_keys-returns-in_err-check_payload-clause-none t c =
+pub check_keys-returns-in_err-check_key-clause-none :
+    goal.check_keys-returns-in_err-check_key-clause-none
+check_keys-returns-in_err-check_key-clause-none t c =
     let l = c.loop-entry in let e = c.in-Some.entry in let k = c.in-Some.ensures in
     let read : Read e.tag e.number e.rest.now l.entries_left.now = record { parts = k.found; tag = k.tag; number = k.number; small = k.small } in
-    on_err c.from_residual-in_err-check_payload.result (λ q h.
+    on_err c.from_residual-in_err-check_key.result (λ q h.
     let left = (l.invariant.onward q h).1 in
     let type = keys_type e.tag e.number e.rest.now l.entries_left.now l.payloads_left.now read _ q left in
     let first = keys_first e.tag e.number e.rest.now l.entries_left.now l.payloads_left.now read _ q left in
-    c.in_err-check_payload.ensures.1 ((HasPayload-text c.args.depth e.tag c.in_ok-key.key.now type).0 (subst IsUtf8 (sym c.in_ok-key.ensures.payload) first.1)))
+    c.in_err-check_key.ensures.1 ((HasPayload-text c.args.depth e.tag c.in_ok-key.key.now type).0 (subst IsUtf8 (sym c.in_ok-key.ensures.payload) first.1)))
 
 pub check_keys-loop-entry-smaller : goal.check_keys-loop-entry-smaller
 check_keys-loop-entry-smaller t c =
@@ -149,7 +149,7 @@ check_keys-loop-entry-preserved t c =
       back = λ yes q h.
           let both = both_true l.ascend _ yes in
           let is_key = next.0 both.1 in
-          let is_text = (HasPayload-text c.args.depth e.tag key is_key.0).1 c.in_ok-check_payload.ensures in
+          let is_text = (HasPayload-text c.args.depth e.tag key is_key.0).1 c.in_ok-check_key.ensures in
           let more = subst (λ x. HasKeys (Some x) e.rest.now (drop e.number p) q) split.payload (subst (λ y. HasKeys (Some key) e.rest.now y q) split.behind h) in
           l.invariant.back both.0 q (keys_back e.tag e.number e.rest.now l.entries_left.now p read before is_key.0 split.fits
           (subst (IsAbove before) split.payload is_key.1) (subst IsUtf8 split.payload is_text) q more);
@@ -232,3 +232,7 @@ check_object-returns-else-keys t c =
     let k = c.in_ok-keys.keys in
     let either = object_iff c.args.count c.args.body.now ke ve p parts c.split_at.ensures.front_len c.split_at-2.ensures.front_len c.args.depth c.requires k.behind.now k.ascend c.in_ok-keys.ensures.keys c.in_ok-keys.ensures.ascend c.in_ok-check_children.ensures in
     (c.keys.ensures, λ object. let never = sym c.if-keys.false ∙ either.1 object in cc)
+
+pub check_key-returns-then-tag-eq-STRING_TAG : goal.check_key-returns-then-tag-eq-STRING_TAG
+check_key-returns-then-tag-eq-STRING_TAG t c =
+    tells_iff c.args.faults c.check_text.result c.check_text.ensures (HasPayload-text c.args.depth c.args.tag c.args.payload.now c.if-tag-eq-STRING_TAG.true)

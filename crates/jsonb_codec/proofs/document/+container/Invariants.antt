@@ -5,6 +5,12 @@ use Rattle.jsonb_codec.proofs.document.+container.Given as goal
 abbrev pub decreases-check_payload : goal.decreases-check_payload
 decreases-check_payload l = 4 * length l.payload.now + 3
 
+abbrev pub decreases-check_no_key : goal.decreases-check_no_key
+decreases-check_no_key l = 4 * length l.payload.now + 4
+
+abbrev pub decreases-check_key : goal.decreases-check_key
+decreases-check_key l = 4 * length l.payload.now + 5
+
 abbrev pub decreases-check_container : goal.decreases-check_container
 decreases-check_container l = 4 * length l.bytes.now + 2
 

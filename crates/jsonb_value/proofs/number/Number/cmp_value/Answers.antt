@@ -1,27 +1,7 @@
-use Rattle.std.proofs.Common.{ap, ◌∙◌, rules, arith, FitsSigned}
-use Rattle.std.specs.Int.{w128}
-use Rattle.std.specs.Ordering.{ordering_reverse}
-use Rattle.std.proofs.lemmas.Int.{to_z-of_z}
-use Rattle.jsonb_value.specs.declared.number.Number.TheVariants.{Decimal128}
+use Rattle.std.proofs.Common.{◌∙◌}
 use Rattle.jsonb_value.specs.Fraction.{fraction_cmp}
-use Rattle.jsonb_value.specs.Order.{fraction_of}
-use Rattle.jsonb_value.proofs.FractionLaws.{aligned, aligned_back}
 use Rattle.jsonb_value.proofs.number.Number.cmp_value.Goals as goal
 
-pub returns-then-left-right : goal.returns-then-left-right
-returns-then-left-right c =
-    let left = c.widened-left.result in
-    let right = c.widened-right.result in
-    let left_fits : FitsSigned w128 left.value = search rules in
-    let right_fits : FitsSigned w128 right.value = search rules in
-    let answer = simp to_z-of_z at c.cmp_scaled.ensures in
-    answer ∙ aligned (fraction_of (Decimal128 left)) (fraction_of (Decimal128 right)) c.if-left-right.true ∙ (λ i. fraction_cmp (c.widened-left.ensures i) (c.widened-right.ensures i))
-
-pub returns-else-left-right : goal.returns-else-left-right
-returns-else-left-right c =
-    let left = c.widened-left.result in
-    let right = c.widened-right.result in
-    let left_fits : FitsSigned w128 left.value = search rules in
-    let right_fits : FitsSigned w128 right.value = search rules in
-    let answer = simp to_z-of_z at c.cmp_scaled-else-left-right.ensures in
-    c.reverse.ensures ∙ ap ordering_reverse answer ∙ aligned_back (fraction_of (Decimal128 left)) (fraction_of (Decimal128 right)) (omega (arith, c.if-left-right.false)) ∙ (λ i. fraction_cmp (c.widened-left.ensures i) (c.widened-right.ensures i))
+pub returns-in_default : goal.returns-in_default
+returns-in_default c =
+    c.cmp_decimals.ensures ∙ (λ i. fraction_cmp (c.widened.ensures i) (c.widened-in_default.ensures i))
