@@ -4,7 +4,7 @@
 //! entry is written. Where the length of a container is known, that of its last child is what the
 //! others leave of it, so a chain of containers is not measured again at each level.
 
-ghost use Rattle.std.specs.Prelude.{◌≡◌, ◌<◌, ◌^◌, ◌+◌, length, ◌≤◌, Some, IfSome};
+ghost use Rattle.std.specs.Prelude.{◌≡◌, ◌≢◌, ◌≤◌, ◌<◌, ◌^◌, ◌+◌, length, Some, None, IfSome, IfNone};
 ghost use Rattle.jsonb_value.specs.Tree.{array, object, count, pair_count};
 ghost use Rattle.jsonb_value.specs.Value.{items_view, pairs_view};
 ghost use Rattle.jsonb_value.specs.Ast.{asts_view, ast_pairs_view};
@@ -176,7 +176,8 @@ fn append_items(out: &mut Vec<u8>, items: Items<'_, '_>, size: Option<usize>)
 #[inline(always)]
 fn payloads_size(size: Option<usize>, before: usize) -> Option<usize>
     requires { IfSome size (λ n. before ≤ n) }
-    ensures { IfSome result (λ n. size ≡ Some (before + n)) }
+    ensures left { IfSome result (λ n. size ≡ Some (before + n)) }
+    ensures none { IfNone result (size ≡ None) }
 {
     match size {
         Some(size) => Some(size - before),
@@ -201,7 +202,8 @@ fn child_size(node: Node<'_, '_>, behind: usize, before: usize, size: Option<usi
 // The length of the last child's payload is known, and no other's.
 #[inline(always)]
 fn known_size(behind: usize, last: usize) -> Option<usize>
-    ensures { IfSome result (λ n. (behind ≡ 0) × (n ≡ last)) }
+    ensures last { IfSome result (λ n. (behind ≡ 0) × (n ≡ last)) }
+    ensures none { IfNone result (behind ≢ 0) }
 {
     if behind == 0 { Some(last) } else { None }
 }

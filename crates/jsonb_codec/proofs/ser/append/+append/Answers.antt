@@ -12,7 +12,7 @@ append_items-payloads_size-requires t c =
 
 pub append_items-append_entries-last-requires-clause-size : goal.append_items-append_entries-last-requires-clause-size
 append_items-append_entries-last-requires-clause-size t c =
-    IfSome_then c.payloads_size.result c.payloads_size.ensures
+    IfSome_then c.payloads_size.result c.payloads_size.ensures.left
     (λ n h. omega (arith, rw h at c.requires.size, length-payload_of-array (items_trees c.args.items), c.len-count.ensures))
 
 pub append_pairs-payloads_size-requires : goal.append_pairs-payloads_size-requires
@@ -21,7 +21,7 @@ append_pairs-payloads_size-requires t c =
 
 pub append_pairs-append_value_entries-last-requires-clause-size : goal.append_pairs-append_value_entries-last-requires-clause-size
 append_pairs-append_value_entries-last-requires-clause-size t c =
-    IfSome_then c.payloads_size.result c.payloads_size.ensures
+    IfSome_then c.payloads_size.result c.payloads_size.ensures.left
     (λ n h. omega (arith, rw h at c.requires.size, length-payload_of-object (object_pairs c.args.pairs), c.len-count.ensures, c.append_key_entries-keys.ensures.size))
 
 pub append_payloads-append_payload-requires : goal.append_payloads-append_payload-requires
@@ -30,7 +30,7 @@ append_payloads-append_payload-requires t c =
     let before = rw c.in-Some.ensures.trees at c.loop-item.invariant in
     let payloads = length-append (payload_of (node_tree c.in-Some.item)) (payloads_of others) in
     let last = before.last (λ none. absurd (omega (arith, none))) in
-    let size = IfSome_then c.known_size.result c.known_size.ensures (λ n h. h.1 ∙ (last ∙ last_length-none (length (payload_of (node_tree c.in-Some.item))) others (omega (arith, h.0, c.len.ensures)))) in
+    let size = IfSome_then c.known_size.result c.known_size.ensures.last (λ n h. h.1 ∙ (last ∙ last_length-none (length (payload_of (node_tree c.in-Some.item))) others (omega (arith, h.0, c.len.ensures)))) in
     (omega (arith, before.smaller), (record { inside = before.fit.0.0; short = λ other. before.fit.0.1 }, (size, omega (arith, before.room, payloads))))
 
 pub append_payloads-loop-item-preserved : goal.append_payloads-loop-item-preserved
@@ -56,7 +56,7 @@ append_values-append_payload-requires t c =
     let before = rw c.in-Some.ensures.pairs at c.loop-value.invariant in
     let payloads = length-append (payload_of (node_tree c.in-Some.value)) (value_payloads others) in
     let last = before.last (λ none. absurd (omega (arith, none))) in
-    let size = IfSome_then c.known_size.result c.known_size.ensures (λ n h. h.1 ∙ (last ∙ last_value_length-none (length (payload_of (node_tree c.in-Some.value))) others (omega (arith, h.0, before.count)))) in
+    let size = IfSome_then c.known_size.result c.known_size.ensures.last (λ n h. h.1 ∙ (last ∙ last_value_length-none (length (payload_of (node_tree c.in-Some.value))) others (omega (arith, h.0, before.count)))) in
     (omega (arith, before.smaller), (record { inside = before.fit.0.1.0; short = λ other. before.fit.0.1.1 }, (size, omega (arith, before.room, payloads))))
 
 pub append_values-loop-value-preserved : goal.append_values-loop-value-preserved
