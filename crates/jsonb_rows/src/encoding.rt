@@ -68,38 +68,40 @@ fn scalars(rt: HostRuntime) -> Result<(), Fail> {
     Ok(())
 }
 
+// Numbers, and their documents.
+const NUMBERS: &[(Number, &str)] = &[
+    (Number::Int64(0), "20000000 20000001 00"),
+    (Number::Int64(-100), "20000000 20000002 409c"),
+    (Number::Int64(-128), "20000000 20000002 4080"),
+    (Number::Int64(-129), "20000000 20000003 40ff7f"),
+    (Number::Int64(128), "20000000 20000003 400080"),
+    (Number::Int64(-32_768), "20000000 20000003 408000"),
+    (Number::UInt64(255), "20000000 20000002 50ff"),
+    (Number::UInt64(256), "20000000 20000003 500100"),
+    (Number::UInt64(65_535), "20000000 20000003 50ffff"),
+    (
+        Number::UInt64(18_446_744_073_709_551_615),
+        "20000000 20000009 50ffffffffffffffff",
+    ),
+    (
+        Number::Decimal64(Decimal64 {
+            scale: 2,
+            value: 1234,
+        }),
+        "20000000 2000000a 70 00000000000004d2 02",
+    ),
+    (
+        Number::Decimal128(Decimal128 {
+            scale: 2,
+            value: 1234,
+        }),
+        "20000000 20000012 70 000000000000000000000000000004d2 02",
+    ),
+];
+
 #[test]
 fn numbers(rt: HostRuntime) -> Result<(), Fail> {
-    let rows = [
-        (Number::Int64(0), "20000000 20000001 00"),
-        (Number::Int64(-100), "20000000 20000002 409c"),
-        (Number::Int64(-128), "20000000 20000002 4080"),
-        (Number::Int64(-129), "20000000 20000003 40ff7f"),
-        (Number::Int64(128), "20000000 20000003 400080"),
-        (Number::Int64(-32_768), "20000000 20000003 408000"),
-        (Number::UInt64(255), "20000000 20000002 50ff"),
-        (Number::UInt64(256), "20000000 20000003 500100"),
-        (Number::UInt64(65_535), "20000000 20000003 50ffff"),
-        (
-            Number::UInt64(18_446_744_073_709_551_615),
-            "20000000 20000009 50ffffffffffffffff",
-        ),
-        (
-            Number::Decimal64(Decimal64 {
-                scale: 2,
-                value: 1234,
-            }),
-            "20000000 2000000a 70 00000000000004d2 02",
-        ),
-        (
-            Number::Decimal128(Decimal128 {
-                scale: 2,
-                value: 1234,
-            }),
-            "20000000 20000012 70 000000000000000000000000000004d2 02",
-        ),
-    ];
-    for (number, document) in rows {
+    for &(number, document) in NUMBERS {
         let value = Value::Number(number);
         assert_eq!(rt;
             encoded(rt.alloc(), &value)?,

@@ -148,28 +148,30 @@ fn raw_text(alloc: Global, bytes: &[u8]) -> Result<String, Fail> {
     Ok(text)
 }
 
+// Bytes, and the kind that they tell.
+const KINDS: &[(&str, Result<JsonbItemType, Error>)] = &[
+    ("", Err(Error::InvalidEOF)),
+    ("800000", Err(Error::InvalidEOF)),
+    ("60000000", Err(Error::InvalidJsonb)),
+    ("00000000", Err(Error::InvalidJsonb)),
+    ("9fffffff", Ok(JsonbItemType::Array(536870911))),
+    ("40000002", Ok(JsonbItemType::Object(2))),
+    ("20000000", Err(Error::InvalidEOF)),
+    ("20000000 100000", Err(Error::InvalidEOF)),
+    ("20000000 00000000", Ok(JsonbItemType::Null)),
+    ("3fffffff 10000001", Ok(JsonbItemType::String)),
+    ("20000000 20000001", Ok(JsonbItemType::Number)),
+    ("20000000 30000000", Ok(JsonbItemType::Boolean)),
+    ("20000000 c0000000", Ok(JsonbItemType::Boolean)),
+    ("20000000 50000004 80000000", Err(Error::InvalidJsonb)),
+    ("20000000 60000000", Ok(JsonbItemType::Extension)),
+    ("20000000 70000000", Err(Error::InvalidJsonb)),
+    ("3132333435363738", Ok(JsonbItemType::Boolean)),
+];
+
 #[test]
 fn kinds_by_the_first_two_words(rt: HostRuntime) -> Result<(), Fail> {
-    let rows = [
-        ("", Err(Error::InvalidEOF)),
-        ("800000", Err(Error::InvalidEOF)),
-        ("60000000", Err(Error::InvalidJsonb)),
-        ("00000000", Err(Error::InvalidJsonb)),
-        ("9fffffff", Ok(JsonbItemType::Array(536870911))),
-        ("40000002", Ok(JsonbItemType::Object(2))),
-        ("20000000", Err(Error::InvalidEOF)),
-        ("20000000 100000", Err(Error::InvalidEOF)),
-        ("20000000 00000000", Ok(JsonbItemType::Null)),
-        ("3fffffff 10000001", Ok(JsonbItemType::String)),
-        ("20000000 20000001", Ok(JsonbItemType::Number)),
-        ("20000000 30000000", Ok(JsonbItemType::Boolean)),
-        ("20000000 c0000000", Ok(JsonbItemType::Boolean)),
-        ("20000000 50000004 80000000", Err(Error::InvalidJsonb)),
-        ("20000000 60000000", Ok(JsonbItemType::Extension)),
-        ("20000000 70000000", Err(Error::InvalidJsonb)),
-        ("3132333435363738", Ok(JsonbItemType::Boolean)),
-    ];
-    for (text, kind) in rows {
+    for &(text, kind) in KINDS {
         let bytes = bytes_of(rt.alloc(), text)?;
         let raw = RawJsonb::new(&bytes);
         assert_eq!(rt; raw.jsonb_item_type(), kind, "of {text}");
@@ -196,74 +198,78 @@ fn kinds_by_rank(rt: HostRuntime) {
     assert!(rt; array == JsonbItemType::Array(3) && array != JsonbItemType::Array(4));
 }
 
+// Bytes, and the item that they are.
+const ITEMS: &[(&str, &str)] = &[
+    ("20000000 20000001 00 ff", "number 00"),
+    ("20000000 00000000", "null"),
+    ("20000000 40000000", "true"),
+    ("20000000 30000000", "false"),
+    ("20000000 10000003 617364", "string 617364"),
+    ("20000000 60000004 00 010203", "extension 00010203"),
+    ("80000001", "raw 80000001"),
+    ("5fffffff 00", "raw 5fffffff00"),
+    ("", "InvalidEOF"),
+    ("200000", "InvalidEOF"),
+    ("00000000 00000000", "InvalidJsonb"),
+    ("20000000 100000", "InvalidEOF"),
+    ("20000000 10000003 6173", "InvalidJsonb"),
+    ("20000000 00000001", "InvalidJsonb"),
+    ("20000000 00000001 ff", "null"),
+    ("20000000 90000001 61", "string 61"),
+    ("20000000 50000004 80000000", "InvalidJsonb"),
+    ("20000000 70000000", "InvalidJsonb"),
+    ("20000000 10000001 ff", "InvalidUtf8"),
+    ("20000000 20000000", "InvalidJsonbNumber"),
+    ("20000000 60000002 1001", "InvalidJsonbNumber"),
+    ("20000000 60000002 4101", "InvalidJsonbExtension"),
+    ("20000000 60000000", "InvalidJsonbExtension"),
+];
+
 #[test]
 fn items_of_bytes(rt: HostRuntime) -> Result<(), Fail> {
-    let rows = [
-        ("20000000 20000001 00 ff", "number 00"),
-        ("20000000 00000000", "null"),
-        ("20000000 40000000", "true"),
-        ("20000000 30000000", "false"),
-        ("20000000 10000003 617364", "string 617364"),
-        ("20000000 60000004 00 010203", "extension 00010203"),
-        ("80000001", "raw 80000001"),
-        ("5fffffff 00", "raw 5fffffff00"),
-        ("", "InvalidEOF"),
-        ("200000", "InvalidEOF"),
-        ("00000000 00000000", "InvalidJsonb"),
-        ("20000000 100000", "InvalidEOF"),
-        ("20000000 10000003 6173", "InvalidJsonb"),
-        ("20000000 00000001", "InvalidJsonb"),
-        ("20000000 00000001 ff", "null"),
-        ("20000000 90000001 61", "string 61"),
-        ("20000000 50000004 80000000", "InvalidJsonb"),
-        ("20000000 70000000", "InvalidJsonb"),
-        ("20000000 10000001 ff", "InvalidUtf8"),
-        ("20000000 20000000", "InvalidJsonbNumber"),
-        ("20000000 60000002 1001", "InvalidJsonbNumber"),
-        ("20000000 60000002 4101", "InvalidJsonbExtension"),
-        ("20000000 60000000", "InvalidJsonbExtension"),
-    ];
-    for (text, item) in rows {
+    for &(text, item) in ITEMS {
         let bytes = bytes_of(rt.alloc(), text)?;
         assert_eq!(rt; raw_text(rt.alloc(), &bytes)?.as_str(), item, "of {text}");
     }
     Ok(())
 }
 
+// Bytes, and what a walk over their items gives.
+const ARRAYS: &[(&str, &str)] = &[
+    (
+        "80000003 30000000 20000002 5000000e 500a 40000001 10000001 10000001 6b 76",
+        "false; number 500a; raw 4000000110000001100000016b76; .; .; ",
+    ),
+    (
+        "80000002 20000001 70000000 00",
+        "number 00; InvalidJsonb; .; .; .; ",
+    ),
+    ("9fffffff", "InvalidEOF; .; .; .; .; "),
+    ("80000000", ".; .; .; .; .; "),
+    ("80000002 00000000 100000", "InvalidJsonb; .; .; .; .; "),
+    (
+        "80000002 00000000 10000001",
+        "null; InvalidJsonb; .; .; .; ",
+    ),
+    ("80000002 10000001 00000000 ff", "InvalidUtf8; .; .; .; .; "),
+    ("80000001 20000001 10", "InvalidJsonbNumber; .; .; .; .; "),
+    (
+        "80000001 60000001 01",
+        "InvalidJsonbExtension; .; .; .; .; ",
+    ),
+    (
+        "80000002 80000001 10000001 0061",
+        "null; string 61; .; .; .; ",
+    ),
+    ("20000000", "none"),
+    ("40000000", "none"),
+    ("800000", "InvalidEOF"),
+    ("60000000", "InvalidJsonb"),
+];
+
 #[test]
 fn items_of_arrays(rt: HostRuntime) -> Result<(), Fail> {
-    let rows = [
-        (
-            "80000003 30000000 20000002 5000000e 500a 40000001 10000001 10000001 6b 76",
-            "false; number 500a; raw 4000000110000001100000016b76; .; .; ",
-        ),
-        (
-            "80000002 20000001 70000000 00",
-            "number 00; InvalidJsonb; .; .; .; ",
-        ),
-        ("9fffffff", "InvalidEOF; .; .; .; .; "),
-        ("80000000", ".; .; .; .; .; "),
-        ("80000002 00000000 100000", "InvalidJsonb; .; .; .; .; "),
-        (
-            "80000002 00000000 10000001",
-            "null; InvalidJsonb; .; .; .; ",
-        ),
-        ("80000002 10000001 00000000 ff", "InvalidUtf8; .; .; .; .; "),
-        ("80000001 20000001 10", "InvalidJsonbNumber; .; .; .; .; "),
-        (
-            "80000001 60000001 01",
-            "InvalidJsonbExtension; .; .; .; .; ",
-        ),
-        (
-            "80000002 80000001 10000001 0061",
-            "null; string 61; .; .; .; ",
-        ),
-        ("20000000", "none"),
-        ("40000000", "none"),
-        ("800000", "InvalidEOF"),
-        ("60000000", "InvalidJsonb"),
-    ];
-    for (text, items) in rows {
+    for &(text, items) in ARRAYS {
         let bytes = bytes_of(rt.alloc(), text)?;
         assert_eq!(rt;
             items_text(rt.alloc(), &bytes)?.as_str(),
@@ -274,69 +280,71 @@ fn items_of_arrays(rt: HostRuntime) -> Result<(), Fail> {
     Ok(())
 }
 
+// Bytes, and what walks over their keys, values and pairs give.
+const OBJECTS: &[(&str, &str, &str, &str)] = &[
+    (
+        "40000002 10000001 10000001 20000002 10000003 61 62 5001 313233",
+        "string 61; string 62; .; .; .; ",
+        "number 5001; string 313233; .; .; .; ",
+        "a: number 5001; b: string 313233; .; .; .; ",
+    ),
+    (
+        "40000001 20000001 00000000 00",
+        "number 00; .; .; .; .; ",
+        "null; .; .; .; .; ",
+        "InvalidJsonb; .; .; .; .; ",
+    ),
+    (
+        "5fffffff",
+        "InvalidEOF; .; .; .; .; ",
+        "InvalidEOF",
+        "InvalidEOF",
+    ),
+    (
+        "40000002 10000001",
+        "InvalidJsonb; .; .; .; .; ",
+        "InvalidEOF",
+        "InvalidEOF",
+    ),
+    (
+        "40000001 10000001 10000001 ff",
+        "InvalidUtf8; .; .; .; .; ",
+        "InvalidJsonb; .; .; .; .; ",
+        "InvalidUtf8; .; .; .; .; ",
+    ),
+    (
+        "40000001 10000000",
+        "InvalidJsonb; .; .; .; .; ",
+        "InvalidEOF; .; .; .; .; ",
+        "InvalidJsonb; .; .; .; .; ",
+    ),
+    (
+        "40000001 10000001 70000000 61",
+        "string 61; .; .; .; .; ",
+        "InvalidJsonb; .; .; .; .; ",
+        "InvalidJsonb; .; .; .; .; ",
+    ),
+    (
+        "40000001 10000001 20000001 61",
+        "string 61; .; .; .; .; ",
+        "InvalidJsonb; .; .; .; .; ",
+        "InvalidJsonb; .; .; .; .; ",
+    ),
+    (
+        "40000000",
+        ".; .; .; .; .; ",
+        ".; .; .; .; .; ",
+        ".; .; .; .; .; ",
+    ),
+    ("80000000", "none", "none", "none"),
+    ("20000000", "none", "none", "none"),
+    ("400000", "InvalidEOF", "InvalidEOF", "InvalidEOF"),
+    ("60000000", "InvalidJsonb", "InvalidJsonb", "InvalidJsonb"),
+];
+
 #[test]
 fn keys_values_and_pairs_of_objects(rt: HostRuntime) -> Result<(), Fail> {
-    let rows = [
-        (
-            "40000002 10000001 10000001 20000002 10000003 61 62 5001 313233",
-            "string 61; string 62; .; .; .; ",
-            "number 5001; string 313233; .; .; .; ",
-            "a: number 5001; b: string 313233; .; .; .; ",
-        ),
-        (
-            "40000001 20000001 00000000 00",
-            "number 00; .; .; .; .; ",
-            "null; .; .; .; .; ",
-            "InvalidJsonb; .; .; .; .; ",
-        ),
-        (
-            "5fffffff",
-            "InvalidEOF; .; .; .; .; ",
-            "InvalidEOF",
-            "InvalidEOF",
-        ),
-        (
-            "40000002 10000001",
-            "InvalidJsonb; .; .; .; .; ",
-            "InvalidEOF",
-            "InvalidEOF",
-        ),
-        (
-            "40000001 10000001 10000001 ff",
-            "InvalidUtf8; .; .; .; .; ",
-            "InvalidJsonb; .; .; .; .; ",
-            "InvalidUtf8; .; .; .; .; ",
-        ),
-        (
-            "40000001 10000000",
-            "InvalidJsonb; .; .; .; .; ",
-            "InvalidEOF; .; .; .; .; ",
-            "InvalidJsonb; .; .; .; .; ",
-        ),
-        (
-            "40000001 10000001 70000000 61",
-            "string 61; .; .; .; .; ",
-            "InvalidJsonb; .; .; .; .; ",
-            "InvalidJsonb; .; .; .; .; ",
-        ),
-        (
-            "40000001 10000001 20000001 61",
-            "string 61; .; .; .; .; ",
-            "InvalidJsonb; .; .; .; .; ",
-            "InvalidJsonb; .; .; .; .; ",
-        ),
-        (
-            "40000000",
-            ".; .; .; .; .; ",
-            ".; .; .; .; .; ",
-            ".; .; .; .; .; ",
-        ),
-        ("80000000", "none", "none", "none"),
-        ("20000000", "none", "none", "none"),
-        ("400000", "InvalidEOF", "InvalidEOF", "InvalidEOF"),
-        ("60000000", "InvalidJsonb", "InvalidJsonb", "InvalidJsonb"),
-    ];
-    for (text, keys, values, pairs) in rows {
+    for &(text, keys, values, pairs) in OBJECTS {
         let bytes = bytes_of(rt.alloc(), text)?;
         assert_eq!(rt;
             keys_text(rt.alloc(), &bytes)?.as_str(),

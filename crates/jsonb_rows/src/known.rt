@@ -10,7 +10,7 @@ use std::fmt;
 use std::test::Fail;
 
 /// Documents that both readers take.
-pub const DOCUMENTS: [&str; 45] = [
+pub const DOCUMENTS: &[&str] = &[
     "800000023000000040000000",
     "8000000330000000200000025000000e500a400000011000000110000001 6b76",
     "20000000 20000001 00",

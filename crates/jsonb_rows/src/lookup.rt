@@ -95,30 +95,32 @@ fn words(rt: HostRuntime) -> Result<(), Fail> {
     Ok(())
 }
 
+// Documents and other bytes, a name, and what is answered.
+const LOOK_UPS: &[(&str, &str, &str)] = &[
+    (OBJECT, "ab", "raw 80000001200000025002, 5"),
+    (OBJECT, "aa", "number 1, 4"),
+    (OBJECT, "zz", "none, 3"),
+    (OBJECT, "a", "none, 3"),
+    (OBJECT, "", "none, 3"),
+    ("40000000", "a", "none, 1"),
+    ("80000000", "a", "none, 1"),
+    ("20000000 00000000", "a", "none, 1"),
+    // Keys that do not ascend.
+    (
+        "40000002 10000001 10000001 00000000 00000000 62 61",
+        "a",
+        "null, 5",
+    ),
+    ("5fffffff", "a", "InvalidEOF, 1"),
+    ("400000", "a", "InvalidEOF, 0"),
+    ("", "a", "InvalidEOF, 0"),
+    ("01020304", "a", "InvalidJsonb, 1"),
+    ("c0000000", "a", "InvalidJsonb, 1"),
+];
+
 #[test]
 fn worked_look_ups(rt: HostRuntime) -> Result<(), Fail> {
-    let rows = [
-        (OBJECT, "ab", "raw 80000001200000025002, 5"),
-        (OBJECT, "aa", "number 1, 4"),
-        (OBJECT, "zz", "none, 3"),
-        (OBJECT, "a", "none, 3"),
-        (OBJECT, "", "none, 3"),
-        ("40000000", "a", "none, 1"),
-        ("80000000", "a", "none, 1"),
-        ("20000000 00000000", "a", "none, 1"),
-        // Keys that do not ascend.
-        (
-            "40000002 10000001 10000001 00000000 00000000 62 61",
-            "a",
-            "null, 5",
-        ),
-        ("5fffffff", "a", "InvalidEOF, 1"),
-        ("400000", "a", "InvalidEOF, 0"),
-        ("", "a", "InvalidEOF, 0"),
-        ("01020304", "a", "InvalidJsonb, 1"),
-        ("c0000000", "a", "InvalidJsonb, 1"),
-    ];
-    for (bytes, name, answer) in rows {
+    for &(bytes, name, answer) in LOOK_UPS {
         let bytes = bytes_of(rt.alloc(), bytes)?;
         for text in answers(rt.alloc(), &bytes, name)? {
             assert_eq!(rt; text.as_str(), answer);
@@ -149,7 +151,7 @@ fn other_closures(rt: HostRuntime) -> Result<(), Fail> {
 }
 
 // Names, from which to which length the object is cut, and what is answered then.
-const CUTS: [(&str, usize, usize, &str); 20] = [
+const CUTS: &[(&str, usize, usize, &str)] = &[
     ("ab", 0, 4, "InvalidEOF, 0"),
     ("ab", 4, 8, "InvalidEOF, 1"),
     ("ab", 8, 22, "InvalidJsonb, 2"),
@@ -176,7 +178,7 @@ const CUTS: [(&str, usize, usize, &str); 20] = [
 fn cut_bytes(rt: HostRuntime) -> Result<(), Fail> {
     let bytes = bytes_of(rt.alloc(), OBJECT)?;
     assert_eq!(rt; bytes.len(), OBJECT_LEN);
-    for (name, from, to, answer) in CUTS {
+    for &(name, from, to, answer) in CUTS {
         for end in from..to {
             let Some(cut) = bytes.get(..end) else {
                 continue;
@@ -190,7 +192,7 @@ fn cut_bytes(rt: HostRuntime) -> Result<(), Fail> {
 }
 
 // Which byte of the object is changed to what, a name, and what is answered then.
-const CHANGES: [(usize, u8, &str, &str); 17] = [
+const CHANGES: &[(usize, u8, &str, &str)] = &[
     // The header.
     (0, 0x00, "ab", "InvalidJsonb, 1"),
     (0, 0x20, "ab", "none, 1"),
@@ -215,7 +217,7 @@ const CHANGES: [(usize, u8, &str, &str); 17] = [
 
 #[test]
 fn changed_bytes(rt: HostRuntime) -> Result<(), Fail> {
-    for (place, byte, name, answer) in CHANGES {
+    for &(place, byte, name, answer) in CHANGES {
         let mut bytes = bytes_of(rt.alloc(), OBJECT)?;
         if let Some(old) = bytes.get_mut(place) {
             *old = byte;

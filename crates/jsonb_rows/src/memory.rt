@@ -312,7 +312,7 @@ fn an_array_builder_is_as_before_a_document(rt: HostRuntime) -> Result<(), Fail>
 }
 
 // More pairs than have room at one place of a map.
-const KEYS: [&str; 16] = [
+const KEYS: &[&str] = &[
     "a", "b", "c", "d", "e", "f", "g", "h", "i", "j", "k", "l", "m", "n", "o", "p",
 ];
 
@@ -323,7 +323,7 @@ const PAIRS: &str =
 fn an_object_builder_is_as_before(rt: HostRuntime) -> Result<(), Fail> {
     let mut builder = ObjectBuilder::new(rt.alloc());
     let mut refused = None;
-    for key in KEYS {
+    for &key in KEYS {
         if let Err(error) = builder.push_raw_jsonb(key, RawJsonb::new(&ONE)) {
             assert!(rt; !builder.contains_key(key));
             builder.push_raw_jsonb(key, RawJsonb::new(&ONE))?;

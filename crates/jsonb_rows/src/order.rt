@@ -15,7 +15,7 @@ const NO_DOCUMENT: usize = 50;
 const OBJECT: &[u8] = b"\x40\0\0\x02\x10\0\0\x01\x10\0\0\x01\x20\0\0\x02\x10\0\0\x03ab\x50\x01123";
 
 // Bytes, each with its place among them: those of one place are equal.
-const PLACED: [(usize, &str); 59] = [
+const PLACED: &[(usize, &str)] = &[
     // Extension values: Binary, Date, Timestamp, TimestampTz twice, Interval.
     (0, "20000000 60000001 00"),
     (1, "20000000 60000002 00 00"),
@@ -99,8 +99,8 @@ const PLACED: [(usize, &str); 59] = [
 // The bytes of the table, with their places.
 fn placed(alloc: Global) -> Result<Vec<(usize, OwnedJsonb)>, Fail> {
     let mut values = Vec::new(alloc);
-    for (place, text) in &PLACED {
-        values.push((*place, OwnedJsonb::new(bytes_of(alloc, text)?)))?;
+    for &(place, text) in PLACED {
+        values.push((place, OwnedJsonb::new(bytes_of(alloc, text)?)))?;
     }
     Ok(values)
 }

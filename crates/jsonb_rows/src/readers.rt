@@ -5,129 +5,132 @@ use jsonb_value::{Decimal128, Error, Number, TimestampTz, Value};
 use std::borrow::CowStr;
 use std::test::Fail;
 
+// Bytes, the fault of the tree reader and the decoder's.
+const FAULTS: &[(&str, &str, &str)] = &[
+    (
+        "20000000 20000009 60 3ff8000000000000",
+        "InvalidJsonbNumber",
+        "InvalidJsonbNumber",
+    ),
+    (
+        "20000000 20000000",
+        "InvalidJsonbNumber",
+        "InvalidJsonbNumber",
+    ),
+    (
+        "20000000 60000000",
+        "InvalidJsonbExtension",
+        "InvalidJsonbExtension",
+    ),
+    (
+        "20000000 60000002 41 01",
+        "InvalidJsonbExtension",
+        "InvalidJsonbExtension",
+    ),
+    (
+        "20000000 60000002 10 01",
+        "InvalidJsonbNumber",
+        "InvalidJsonbNumber",
+    ),
+    ("20000000 10000001 ff", "InvalidUtf8", "InvalidUtf8"),
+    (
+        "20000000 20000002 0000",
+        "InvalidJsonbNumber",
+        "InvalidJsonbNumber",
+    ),
+    (
+        "20000000 50000004 80000000",
+        "InvalidJsonb",
+        "InvalidJsonbJEntry",
+    ),
+    (
+        "80000001 50000005 80000000 00",
+        "InvalidJsonb",
+        "InvalidJsonb",
+    ),
+    ("20000001 00000000", "InvalidJsonb", "InvalidJsonbHeader"),
+    ("80000001 50000004 9fffffff", "InvalidEOF", "InvalidEOF"),
+    ("9fffffff", "InvalidEOF", "InvalidEOF"),
+    ("", "InvalidEOF", "InvalidJsonb"),
+    ("00000000", "InvalidJsonb", "InvalidJsonbHeader"),
+    ("80000001 50000003 800000", "InvalidEOF", "InvalidEOF"),
+    (
+        "80000001 50000004 20000000",
+        "InvalidJsonb",
+        "InvalidJsonbHeader",
+    ),
+    ("80000001 10000005 61", "InvalidJsonb", "InvalidUtf8"),
+    ("80000001 80000000", "InvalidJsonb", "InvalidJsonbJEntry"),
+    (
+        "40000002 10000001 10000001 20000002 10000003 61 62 5001 3132",
+        "InvalidJsonb",
+        "InvalidUtf8",
+    ),
+    (
+        "40000002 10000001 10000001 20000002 10000003 61 62 5001 313233 00",
+        "InvalidJsonb",
+        "InvalidJsonb",
+    ),
+    (
+        "40000002 10000001 10000001 00000000 00000000 62 61",
+        "InvalidJsonb",
+        "InvalidJsonb",
+    ),
+    (
+        "40000002 10000001 10000001 00000000 00000000 61 61",
+        "InvalidJsonb",
+        "InvalidJsonb",
+    ),
+    (
+        "40000001 00000000 20000001 01",
+        "InvalidJsonbNumber",
+        "InvalidJsonbNumber",
+    ),
+    ("800000013000000100", "InvalidJsonb", "InvalidJsonbJEntry"),
+    ("800000", "InvalidEOF", "InvalidJsonb"),
+    ("20000000 000000", "InvalidEOF", "InvalidEOF"),
+    ("5fffffff", "InvalidEOF", "InvalidEOF"),
+    ("80000001 70000000", "InvalidJsonb", "InvalidJsonbJEntry"),
+    ("80000001 30000002 00", "InvalidJsonb", "InvalidJsonbJEntry"),
+    ("80000001 20000005 50", "InvalidJsonb", "InvalidJsonbNumber"),
+    (
+        "80000001 60000005 00",
+        "InvalidJsonb",
+        "InvalidJsonbExtension",
+    ),
+    ("80000001 50000005 80000000", "InvalidJsonb", "InvalidJsonb"),
+    (
+        "80000002 50000008 10000001 80000001 10000001 61",
+        "InvalidJsonb",
+        "InvalidUtf8",
+    ),
+    ("20000000 00000000 00", "InvalidJsonb", "InvalidJsonb"),
+    (
+        "40000001 00000000 20000001 00",
+        "InvalidJsonb",
+        "InvalidJsonb",
+    ),
+    (
+        "40000001 20000001 00000000 01",
+        "InvalidJsonbNumber",
+        "InvalidJsonbNumber",
+    ),
+    (
+        "40000001 50000008 00000000 80000001 20000000",
+        "InvalidJsonbNumber",
+        "InvalidJsonbNumber",
+    ),
+    (
+        "40000002 10000001 10000001 00000000 20000001 62 61 01",
+        "InvalidJsonbNumber",
+        "InvalidJsonbNumber",
+    ),
+];
+
 #[test]
 fn faults_by_name(rt: HostRuntime) -> Result<(), Fail> {
     let alloc = rt.alloc();
-    for (text, tree_fault, decoder_fault) in [
-        (
-            "20000000 20000009 60 3ff8000000000000",
-            "InvalidJsonbNumber",
-            "InvalidJsonbNumber",
-        ),
-        (
-            "20000000 20000000",
-            "InvalidJsonbNumber",
-            "InvalidJsonbNumber",
-        ),
-        (
-            "20000000 60000000",
-            "InvalidJsonbExtension",
-            "InvalidJsonbExtension",
-        ),
-        (
-            "20000000 60000002 41 01",
-            "InvalidJsonbExtension",
-            "InvalidJsonbExtension",
-        ),
-        (
-            "20000000 60000002 10 01",
-            "InvalidJsonbNumber",
-            "InvalidJsonbNumber",
-        ),
-        ("20000000 10000001 ff", "InvalidUtf8", "InvalidUtf8"),
-        (
-            "20000000 20000002 0000",
-            "InvalidJsonbNumber",
-            "InvalidJsonbNumber",
-        ),
-        (
-            "20000000 50000004 80000000",
-            "InvalidJsonb",
-            "InvalidJsonbJEntry",
-        ),
-        (
-            "80000001 50000005 80000000 00",
-            "InvalidJsonb",
-            "InvalidJsonb",
-        ),
-        ("20000001 00000000", "InvalidJsonb", "InvalidJsonbHeader"),
-        ("80000001 50000004 9fffffff", "InvalidEOF", "InvalidEOF"),
-        ("9fffffff", "InvalidEOF", "InvalidEOF"),
-        ("", "InvalidEOF", "InvalidJsonb"),
-        ("00000000", "InvalidJsonb", "InvalidJsonbHeader"),
-        ("80000001 50000003 800000", "InvalidEOF", "InvalidEOF"),
-        (
-            "80000001 50000004 20000000",
-            "InvalidJsonb",
-            "InvalidJsonbHeader",
-        ),
-        ("80000001 10000005 61", "InvalidJsonb", "InvalidUtf8"),
-        ("80000001 80000000", "InvalidJsonb", "InvalidJsonbJEntry"),
-        (
-            "40000002 10000001 10000001 20000002 10000003 61 62 5001 3132",
-            "InvalidJsonb",
-            "InvalidUtf8",
-        ),
-        (
-            "40000002 10000001 10000001 20000002 10000003 61 62 5001 313233 00",
-            "InvalidJsonb",
-            "InvalidJsonb",
-        ),
-        (
-            "40000002 10000001 10000001 00000000 00000000 62 61",
-            "InvalidJsonb",
-            "InvalidJsonb",
-        ),
-        (
-            "40000002 10000001 10000001 00000000 00000000 61 61",
-            "InvalidJsonb",
-            "InvalidJsonb",
-        ),
-        (
-            "40000001 00000000 20000001 01",
-            "InvalidJsonbNumber",
-            "InvalidJsonbNumber",
-        ),
-        ("800000013000000100", "InvalidJsonb", "InvalidJsonbJEntry"),
-        ("800000", "InvalidEOF", "InvalidJsonb"),
-        ("20000000 000000", "InvalidEOF", "InvalidEOF"),
-        ("5fffffff", "InvalidEOF", "InvalidEOF"),
-        ("80000001 70000000", "InvalidJsonb", "InvalidJsonbJEntry"),
-        ("80000001 30000002 00", "InvalidJsonb", "InvalidJsonbJEntry"),
-        ("80000001 20000005 50", "InvalidJsonb", "InvalidJsonbNumber"),
-        (
-            "80000001 60000005 00",
-            "InvalidJsonb",
-            "InvalidJsonbExtension",
-        ),
-        ("80000001 50000005 80000000", "InvalidJsonb", "InvalidJsonb"),
-        (
-            "80000002 50000008 10000001 80000001 10000001 61",
-            "InvalidJsonb",
-            "InvalidUtf8",
-        ),
-        ("20000000 00000000 00", "InvalidJsonb", "InvalidJsonb"),
-        (
-            "40000001 00000000 20000001 00",
-            "InvalidJsonb",
-            "InvalidJsonb",
-        ),
-        (
-            "40000001 20000001 00000000 01",
-            "InvalidJsonbNumber",
-            "InvalidJsonbNumber",
-        ),
-        (
-            "40000001 50000008 00000000 80000001 20000000",
-            "InvalidJsonbNumber",
-            "InvalidJsonbNumber",
-        ),
-        (
-            "40000002 10000001 10000001 00000000 20000001 62 61 01",
-            "InvalidJsonbNumber",
-            "InvalidJsonbNumber",
-        ),
-    ] {
+    for &(text, tree_fault, decoder_fault) in FAULTS {
         let bytes = bytes_of(alloc, text)?;
         assert_eq!(rt; outcome(&read_as_tree(alloc, &bytes)), tree_fault, "{text}");
         assert_eq!(rt; outcome(&decoded(alloc, &bytes)), decoder_fault, "{text}");

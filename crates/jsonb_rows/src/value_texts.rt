@@ -106,21 +106,23 @@ fn numbers_of_the_greatest_scale(rt: HostRuntime) -> Result<(), Fail> {
     Ok(())
 }
 
+// Strings, and their texts.
+const STRINGS: &[(&str, &str)] = &[
+    ("", "\"\""),
+    (
+        "a\"\n\u{1}\u{7f}/\u{e9}",
+        "\"a\\\"\\n\\u0001\u{7f}/\u{e9}\"",
+    ),
+    (
+        "\u{8}\t\n\u{c}\r\\\u{1f} \u{0}",
+        "\"\\b\\t\\n\\f\\r\\\\\\u001f \\u0000\"",
+    ),
+    ("\u{1f600}\"\u{1f600}", "\"\u{1f600}\\\"\u{1f600}\""),
+];
+
 #[test]
 fn strings(rt: HostRuntime) -> Result<(), Fail> {
-    let table = [
-        ("", "\"\""),
-        (
-            "a\"\n\u{1}\u{7f}/\u{e9}",
-            "\"a\\\"\\n\\u0001\u{7f}/\u{e9}\"",
-        ),
-        (
-            "\u{8}\t\n\u{c}\r\\\u{1f} \u{0}",
-            "\"\\b\\t\\n\\f\\r\\\\\\u001f \\u0000\"",
-        ),
-        ("\u{1f600}\"\u{1f600}", "\"\u{1f600}\\\"\u{1f600}\""),
-    ];
-    for (content, text) in table {
+    for &(content, text) in STRINGS {
         assert_eq!(rt; string_text(rt.alloc(), content)?.as_str(), text);
     }
     Ok(())
