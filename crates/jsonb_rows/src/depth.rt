@@ -1,5 +1,5 @@
 // How deep and how large a document of some length can be.
-use crate::known::{bytes_of, decoded, read_as_tree};
+use crate::known::{assert_bytes, bytes_of, decoded, read_as_tree};
 use jsonb_codec::{is_document, is_document_within};
 use std::alloc::Global;
 use std::test::Fail;
@@ -24,7 +24,7 @@ fn arrays_nest_as_deep_as_bytes_allow(rt: HostRuntime) -> Result<(), Fail> {
     let Some(entry) = bytes.get(4..8) else {
         return Ok(());
     };
-    assert_eq!(rt; entry, bytes_of(alloc, "50000ff4")?.as_slice());
+    assert_bytes(&rt, alloc, entry, "50000ff4")?;
     assert!(rt; is_document(&bytes));
     assert!(rt; is_document_within(&bytes, 512));
     assert!(rt; !is_document_within(&bytes, 511));

@@ -1,5 +1,5 @@
 // Kinds, items and walks of documents and of other bytes, as tables.
-use crate::known::bytes_of;
+use crate::known::{assert_bytes, bytes_of};
 use jsonb::{
     ArrayIterator, Error, ExtensionItem, ExtensionValue, JsonbItem, JsonbItemType, Number,
     NumberItem, ObjectIterator, ObjectKeyIterator, ObjectValueIterator, OwnedJsonb, RawJsonb,
@@ -8,6 +8,7 @@ use std::alloc::Global;
 use std::borrow::CowStr;
 use std::cmp::Ordering;
 use std::fmt::Write;
+use std::process::Abort;
 use std::test::Fail;
 
 /// How often each iterator is asked, past the end of each row.
@@ -365,28 +366,61 @@ fn keys_values_and_pairs_of_objects(rt: HostRuntime) -> Result<(), Fail> {
     Ok(())
 }
 
+fn items_length(bytes: &[u8]) -> Result<Option<usize>, Error> {
+    let Some(mut items) = ArrayIterator::new(RawJsonb::new(bytes))? else {
+        return Ok(None);
+    };
+    let _ = items.next();
+    Ok(Some(items.len()))
+}
+
+fn keys_length(bytes: &[u8]) -> Result<Option<usize>, Error> {
+    let Some(mut keys) = ObjectKeyIterator::new(RawJsonb::new(bytes))? else {
+        return Ok(None);
+    };
+    let _ = keys.next();
+    Ok(Some(keys.len()))
+}
+
+fn values_length(bytes: &[u8]) -> Result<Option<usize>, Error> {
+    let Some(mut values) = ObjectValueIterator::new(RawJsonb::new(bytes))? else {
+        return Ok(None);
+    };
+    let _ = values.next();
+    Ok(Some(values.len()))
+}
+
+fn pairs_length(bytes: &[u8]) -> Result<Option<usize>, Error> {
+    let Some(mut pairs) = ObjectIterator::new(RawJsonb::new(bytes))? else {
+        return Ok(None);
+    };
+    let _ = pairs.next();
+    Ok(Some(pairs.len()))
+}
+
 #[test]
 fn length_stays(rt: HostRuntime) -> Result<(), Fail> {
     let bytes = bytes_of(rt.alloc(), "9fffffff")?;
-    if let Some(mut items) = ArrayIterator::new(RawJsonb::new(&bytes))? {
-        let _ = items.next();
-        assert_eq!(rt; items.len(), 536870911);
-    }
+    assert_eq!(rt; items_length(&bytes)?, Some(536870911));
     let bytes = bytes_of(rt.alloc(), TWO_PAIRS)?;
-    let raw = RawJsonb::new(&bytes);
-    if let Some(mut keys) = ObjectKeyIterator::new(raw)? {
-        let _ = keys.next();
-        assert_eq!(rt; keys.len(), 2);
-    }
-    if let Some(mut values) = ObjectValueIterator::new(raw)? {
-        let _ = values.next();
-        assert_eq!(rt; values.len(), 2);
-    }
-    if let Some(mut pairs) = ObjectIterator::new(raw)? {
-        let _ = pairs.next();
-        assert_eq!(rt; pairs.len(), 2);
-    }
+    let lengths = [
+        keys_length(&bytes)?,
+        values_length(&bytes)?,
+        pairs_length(&bytes)?,
+    ];
+    assert!(rt; lengths == [Some(2); 3]);
     Ok(())
+}
+
+// Ends a test in which an item, a copy of it or its document is stored as other bytes.
+fn assert_stored(rt: &impl Abort, alloc: Global, item: JsonbItem, text: &str) -> Result<(), Fail> {
+    let copy = item.clone(alloc)?;
+    let document = OwnedJsonb::from_item(alloc, item)?;
+    assert_bytes(rt, alloc, document.as_bytes(), text)?;
+    let again = OwnedJsonb::from_item(alloc, JsonbItem::Owned(document))?;
+    assert_bytes(rt, alloc, &again.to_vec(), text)?;
+    let copied = OwnedJsonb::from_item(alloc, copy)?;
+    assert_bytes(rt, alloc, copied.as_bytes(), text)
 }
 
 #[test]
@@ -410,14 +444,7 @@ fn documents_of_items(rt: HostRuntime) -> Result<(), Fail> {
         (JsonbItem::Raw(RawJsonb::new(&[1, 2])), "0102"),
     ];
     for (item, text) in rows {
-        let bytes = bytes_of(rt.alloc(), text)?;
-        let copy = item.clone(rt.alloc())?;
-        let document = OwnedJsonb::from_item(rt.alloc(), item)?;
-        assert_eq!(rt; document.as_bytes(), bytes.as_slice());
-        let again = OwnedJsonb::from_item(rt.alloc(), JsonbItem::Owned(document))?;
-        assert_eq!(rt; again.to_vec().as_slice(), bytes.as_slice());
-        let copied = OwnedJsonb::from_item(rt.alloc(), copy)?;
-        assert_eq!(rt; copied.as_bytes(), bytes.as_slice());
+        assert_stored(&rt, rt.alloc(), item, text)?;
     }
     assert!(rt; NumberItem::from_bytes(&[]).is_err());
     assert_eq!(rt; zero.as_number(), Number::Int64(0));
@@ -428,22 +455,31 @@ fn documents_of_items(rt: HostRuntime) -> Result<(), Fail> {
     Ok(())
 }
 
+// Ends a test in which an item that views bytes is told for another, or another for it.
+fn assert_view(rt: &impl Abort, alloc: Global, item: JsonbItem) -> Result<(), Fail> {
+    assert!(rt; item.as_raw_jsonb().is_some() && item.as_null().is_none());
+    assert!(rt; JsonbItem::Null.as_null().is_some());
+    let string = JsonbItem::String(CowStr::Borrowed("a"));
+    assert!(rt; string.as_str(alloc)?.is_some() && item.as_str(alloc)?.is_none());
+    Ok(())
+}
+
+// Ends a test in which a copy of the two pairs is another document.
+fn assert_copy(rt: &impl Abort, copy: OwnedJsonb, raw: RawJsonb) -> Result<(), Fail> {
+    assert_eq!(rt; copy.as_raw().as_bytes(), raw.as_bytes());
+    assert_eq!(rt; (copy.len(), copy.is_empty()), (36, false));
+    let kept = JsonbItem::Owned(OwnedJsonb::from(copy.to_vec()));
+    assert_eq!(rt; kept.jsonb_item_type()?, JsonbItemType::Object(2));
+    Ok(())
+}
+
 #[test]
 fn views_of_items(rt: HostRuntime) -> Result<(), Fail> {
     let bytes = bytes_of(rt.alloc(), TWO_PAIRS)?;
     let raw = RawJsonb::new(&bytes);
     assert!(rt; raw.is_document() && !raw.is_empty());
     let owned = raw.to_owned(rt.alloc())?;
-    let copy = owned.clone(rt.alloc())?;
-    assert_eq!(rt; copy.as_raw().as_bytes(), raw.as_bytes());
-    assert_eq!(rt; (copy.len(), copy.is_empty()), (36, false));
+    assert_copy(&rt, owned.clone(rt.alloc())?, raw)?;
     let given = RawJsonb::from(bytes.as_slice());
-    let item = JsonbItem::Raw(given);
-    assert!(rt; item.as_raw_jsonb().is_some() && item.as_null().is_none());
-    assert!(rt; JsonbItem::Null.as_null().is_some());
-    let string = JsonbItem::String(CowStr::Borrowed("a"));
-    assert!(rt; string.as_str(rt.alloc())?.is_some() && item.as_str(rt.alloc())?.is_none());
-    let kept = JsonbItem::Owned(OwnedJsonb::from(copy.to_vec()));
-    assert_eq!(rt; kept.jsonb_item_type()?, JsonbItemType::Object(2));
-    Ok(())
+    assert_view(&rt, rt.alloc(), JsonbItem::Raw(given))
 }

@@ -129,24 +129,36 @@ fn worked_look_ups(rt: HostRuntime) -> Result<(), Fail> {
     Ok(())
 }
 
+// The first value whose key has the length of the name: the closure accepts all it is asked about.
+fn first_of_length(alloc: Global, raw: RawJsonb, name: &str) -> Result<String, Fail> {
+    let found = raw.get_object_value_by_key_name(name, |_, _| true);
+    written(alloc, found, 0)
+}
+
+// What a look-up that passes over the case of letters answers.
+fn in_any_case(alloc: Global, raw: RawJsonb, name: &str) -> Result<String, Fail> {
+    let mut reads = Reads::new();
+    let found = raw.get_object_value_by_key_name_counted(
+        name,
+        |wanted, key| wanted.eq_ignore_ascii_case(key),
+        &mut reads,
+    );
+    written(alloc, found, reads.count())
+}
+
 #[test]
 fn other_closures(rt: HostRuntime) -> Result<(), Fail> {
     let bytes = bytes_of(rt.alloc(), OBJECT)?;
     let raw = RawJsonb::new(&bytes);
-    let mut reads = Reads::new();
-    let any_case = raw.get_object_value_by_key_name_counted(
-        "AB",
-        |wanted, key| wanted.eq_ignore_ascii_case(key),
-        &mut reads,
-    );
-    let text = written(rt.alloc(), any_case, reads.count())?;
+    let text = in_any_case(rt.alloc(), raw, "AB")?;
     assert_eq!(rt; text.as_str(), "raw 80000001200000025002, 5");
 
     // A closure that accepts all it is asked about is not asked about keys of other lengths.
-    let other = raw.get_object_value_by_key_name("a", |_, _| true);
-    assert_eq!(rt; written(rt.alloc(), other, 0)?.as_str(), "none, 0");
-    let first = raw.get_object_value_by_key_name("zz", |_, _| true);
-    assert_eq!(rt; written(rt.alloc(), first, 0)?.as_str(), "number 1, 0");
+    assert_eq!(rt; first_of_length(rt.alloc(), raw, "a")?.as_str(), "none, 0");
+    assert_eq!(rt;
+        first_of_length(rt.alloc(), raw, "zz")?.as_str(),
+        "number 1, 0"
+    );
     Ok(())
 }
 

@@ -111,9 +111,11 @@ fn by_places(rt: HostRuntime) -> Result<(), Fail> {
     for (i, left) in &values {
         for (j, right) in &values {
             let order = i.cmp(j);
-            assert_eq!(rt; left.cmp(right), order, "at {i} and {j}");
-            assert_eq!(rt; left.partial_cmp(right), Some(order), "at {i} and {j}");
-            assert_eq!(rt; left == right, i == j, "at {i} and {j}");
+            assert_eq!(rt;
+                (left.cmp(right), left.partial_cmp(right), left == right),
+                (order, Some(order), i == j),
+                "at {i} and {j}"
+            );
         }
     }
     Ok(())
@@ -127,9 +129,11 @@ fn views_by_places(rt: HostRuntime) -> Result<(), Fail> {
             let left = left.as_raw();
             let right = right.as_raw();
             let order = i.cmp(j);
-            assert_eq!(rt; left.cmp(&right), order, "at {i} and {j}");
-            assert_eq!(rt; left.partial_cmp(&right), Some(order), "at {i} and {j}");
-            assert_eq!(rt; left == right, i == j, "at {i} and {j}");
+            assert_eq!(rt;
+                (left.cmp(&right), left.partial_cmp(&right), left == right),
+                (order, Some(order), i == j),
+                "at {i} and {j}"
+            );
             let both = *i < NO_DOCUMENT && *j < NO_DOCUMENT;
             assert_eq!(rt;
                 left.try_cmp(&right),

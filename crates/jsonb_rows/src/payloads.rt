@@ -1,5 +1,7 @@
 // Names of errors, and payloads as they are written.
 use jsonb::{Date, Decimal64, Error, ExtensionValue, Interval, Number, Opaque, Timestamp};
+use std::alloc::Global;
+use std::process::Abort;
 use std::test::Fail;
 
 // Errors, and their names.
@@ -62,6 +64,21 @@ fn numbers_as_they_are_written(rt: HostRuntime) -> Result<(), Fail> {
     Ok(())
 }
 
+// Ends a test in which an extension value's payload is another.
+fn assert_payload(
+    rt: &impl Abort,
+    alloc: Global,
+    value: ExtensionValue,
+    payload: &[u8],
+) -> Result<(), Fail> {
+    let mut written = Vec::new(alloc);
+    assert_eq!(rt; value.compact_encode(&mut written)?, payload.len());
+    assert_eq!(rt; written.as_slice(), payload);
+    assert_eq!(rt; value.compact_len(), payload.len());
+    assert!(rt; ExtensionValue::decode(payload).is_ok());
+    Ok(())
+}
+
 #[test]
 fn extension_values_as_they_are_written(rt: HostRuntime) -> Result<(), Fail> {
     assert!(rt; Opaque::new(0x40, b"").is_none());
@@ -96,11 +113,7 @@ fn extension_values_as_they_are_written(rt: HostRuntime) -> Result<(), Fail> {
             [0x50, 0xab, 0x01].as_slice(),
         ),
     ] {
-        let mut written = Vec::new(rt.alloc());
-        assert_eq!(rt; value.compact_encode(&mut written)?, payload.len());
-        assert_eq!(rt; written.as_slice(), payload);
-        assert_eq!(rt; value.compact_len(), payload.len());
-        assert!(rt; ExtensionValue::decode(payload).is_ok());
+        assert_payload(&rt, rt.alloc(), value, payload)?;
     }
     Ok(())
 }

@@ -1,5 +1,5 @@
 // Texts from outside, as tables, and a writer that refuses in mid-text.
-use crate::known::{Narrow, bytes_of};
+use crate::known::{Narrow, assert_bytes, bytes_of};
 use jsonb::{Error, OwnedJsonb, RawJsonb};
 use std::alloc::Global;
 use std::fmt;
@@ -94,6 +94,11 @@ fn texts_of_documents(rt: HostRuntime) -> Result<(), Fail> {
     Ok(())
 }
 
+// The text that Display writes, which passes over width and fill.
+fn displayed(alloc: Global, owned: &OwnedJsonb) -> Result<String, Fail> {
+    Ok(format!(in alloc; "{owned:*>50}")?)
+}
+
 #[test]
 fn texts_of_other_bytes(rt: HostRuntime) -> Result<(), Fail> {
     for &(other, text) in OTHERS {
@@ -102,17 +107,22 @@ fn texts_of_other_bytes(rt: HostRuntime) -> Result<(), Fail> {
         assert_eq!(rt; raw.to_string(rt.alloc())?.as_str(), text);
         assert_eq!(rt; raw.to_pretty_string(rt.alloc())?.as_str(), "null");
         let owned = OwnedJsonb::new(bytes);
-        assert_eq!(rt; format!(in rt.alloc(); "{owned:*>50}")?.as_str(), text);
+        assert_eq!(rt; displayed(rt.alloc(), &owned)?.as_str(), text);
     }
     Ok(())
+}
+
+// The text that Display writes with neither.
+fn plain(alloc: Global, owned: &OwnedJsonb) -> Result<String, Fail> {
+    Ok(format!(in alloc; "{owned}")?)
 }
 
 #[test]
 fn display_passes_over_width_and_fill(rt: HostRuntime) -> Result<(), Fail> {
     for &(document, text, _) in TEXTS {
         let owned = OwnedJsonb::new(bytes_of(rt.alloc(), document)?);
-        assert_eq!(rt; format!(in rt.alloc(); "{owned}")?.as_str(), text);
-        assert_eq!(rt; format!(in rt.alloc(); "{owned:*>50}")?.as_str(), text);
+        assert_eq!(rt; plain(rt.alloc(), &owned)?.as_str(), text);
+        assert_eq!(rt; displayed(rt.alloc(), &owned)?.as_str(), text);
     }
     Ok(())
 }
@@ -164,17 +174,12 @@ const READ: &[(&str, &str)] = &[
 fn documents_of_texts(rt: HostRuntime) -> Result<(), Fail> {
     for &(text, document) in READ {
         let owned = OwnedJsonb::parse(rt.alloc(), text)?;
-        assert_eq!(rt;
-            owned.as_bytes(),
-            bytes_of(rt.alloc(), document)?.as_slice()
-        );
+        assert_bytes(&rt, rt.alloc(), owned.as_bytes(), document)?;
     }
     let zeros = format!(in rt.alloc(); "0.{:0<255}", "")?;
     let owned = OwnedJsonb::parse(rt.alloc(), zeros.as_str())?;
-    assert_eq!(rt;
-        owned.as_bytes(),
-        bytes_of(rt.alloc(), "20000000 2000000a 70 0000000000000000 ff")?.as_slice()
-    );
+    let row = "20000000 2000000a 70 0000000000000000 ff";
+    assert_bytes(&rt, rt.alloc(), owned.as_bytes(), row)?;
     assert_eq!(rt; owned.as_raw().to_string(rt.alloc())?, zeros);
     Ok(())
 }
