@@ -1,5 +1,5 @@
 // What the builders build, and what they refuse.
-use crate::known::{bytes_of, encoded};
+use crate::known::{assert_bytes, encoded};
 use jsonb::{
     ArrayBuilder, ArrayDistinctBuilder, Decimal64, Error, JsonbItem, Number, NumberItem,
     ObjectBuilder, OwnedJsonb, RawJsonb, Value,
@@ -49,17 +49,10 @@ fn array_of(alloc: Global, item: JsonbItem) -> Result<OwnedJsonb, Error> {
 fn numbers_by_value_and_as_given(rt: HostRuntime) -> Result<(), Fail> {
     let alloc = rt.alloc();
     let zero = array_of(alloc, by_value(Number::Int64(0)))?;
-    assert_eq!(rt;
-        zero.as_bytes(),
-        bytes_of(alloc, "80000001 20000001 00")?.as_slice()
-    );
+    assert_bytes(&rt, alloc, zero.as_bytes(), "80000001 20000001 00")?;
     let given = JsonbItem::Number(NumberItem::from_bytes(&[0x40, 0])?);
     let zero = array_of(alloc, given)?;
-    assert_eq!(rt;
-        zero.as_bytes(),
-        bytes_of(alloc, "80000001 20000002 4000")?.as_slice()
-    );
-    Ok(())
+    assert_bytes(&rt, alloc, zero.as_bytes(), "80000001 20000002 4000")
 }
 
 // A document, and behind it one byte too many.
@@ -67,69 +60,101 @@ fn too_long(alloc: Global) -> Result<OwnedJsonb, Error> {
     OwnedJsonb::from_bytes(alloc, &[0x20, 0, 0, 0, 0x20, 0, 0, 1, 0, 0xff])
 }
 
-#[test]
-fn bytes_are_checked_when_built(rt: HostRuntime) -> Result<(), Fail> {
-    let alloc = rt.alloc();
+// Why an array of that document is refused.
+fn array_refusal(alloc: Global) -> Result<Option<Error>, Error> {
     let item = too_long(alloc)?;
     let mut items = ArrayBuilder::with_capacity(alloc, 1)?;
     items.push_raw_jsonb(item.as_raw())?;
-    assert_eq!(rt; refusal(items.build())?, Some(Error::InvalidJsonb));
+    refusal(items.build())
+}
+
+// Why an object with that document is refused.
+fn object_refusal(alloc: Global) -> Result<Option<Error>, Error> {
     let mut pairs = ObjectBuilder::new(alloc);
     pairs.push_owned_jsonb("a", too_long(alloc)?)?;
-    assert_eq!(rt; refusal(pairs.build())?, Some(Error::InvalidJsonb));
+    refusal(pairs.build())
+}
+
+// Why an array of that document and of no equal ones is refused.
+fn distinct_refusal(alloc: Global) -> Result<Option<Error>, Error> {
     let item = too_long(alloc)?;
     let mut distinct = ArrayDistinctBuilder::new(alloc, 1)?;
     distinct.push_raw_jsonb(item.as_raw())?;
-    assert_eq!(rt; refusal(distinct.build())?, Some(Error::InvalidJsonb));
-    Ok(())
+    refusal(distinct.build())
 }
 
 #[test]
-fn containers_inside(rt: HostRuntime) -> Result<(), Fail> {
+fn bytes_are_checked_when_built(rt: HostRuntime) -> Result<(), Fail> {
     let alloc = rt.alloc();
+    assert_eq!(rt; array_refusal(alloc)?, Some(Error::InvalidJsonb));
+    assert_eq!(rt; object_refusal(alloc)?, Some(Error::InvalidJsonb));
+    assert_eq!(rt; distinct_refusal(alloc)?, Some(Error::InvalidJsonb));
+    Ok(())
+}
+
+// The object {"arr":[false]}.
+fn array_inside(alloc: Global) -> Result<OwnedJsonb, Error> {
     let mut items = ArrayBuilder::new(alloc);
     items.push_owned_jsonb(document(alloc, &Value::Bool(false))?)?;
     let inner = items.build()?;
     let mut pairs = ObjectBuilder::new(alloc);
     pairs.push_raw_jsonb("arr", inner.as_raw())?;
-    assert_eq!(rt;
-        pairs.build()?.as_bytes(),
-        bytes_of(alloc, "40000001 10000003 50000008 617272 80000001 30000000")?.as_slice()
-    );
+    pairs.build()
+}
 
+// The object of one document at a key.
+fn object_of(alloc: Global, key: &str, document: OwnedJsonb) -> Result<OwnedJsonb, Error> {
+    let mut pairs = ObjectBuilder::new(alloc);
+    pairs.push_owned_jsonb(key, document)?;
+    pairs.build()
+}
+
+#[test]
+fn containers_inside(rt: HostRuntime) -> Result<(), Fail> {
+    let alloc = rt.alloc();
+    let row = "40000001 10000003 50000008 617272 80000001 30000000";
+    assert_bytes(&rt, alloc, array_inside(alloc)?.as_bytes(), row)?;
     let mut pairs = ObjectBuilder::new(alloc);
     pairs.push_jsonb_item("field", JsonbItem::Boolean(true))?;
     assert!(rt; pairs.contains_key("field") && !pairs.contains_key("obj"));
-    let inner = pairs.build()?;
-    let mut pairs = ObjectBuilder::new(alloc);
-    pairs.push_owned_jsonb("obj", inner)?;
+    let outer = object_of(alloc, "obj", pairs.build()?)?;
     let row = "40000001 10000003 50000011 6f626a 40000001 10000005 40000000 6669656c64";
-    assert_eq!(rt; pairs.build()?.as_bytes(), bytes_of(alloc, row)?.as_slice());
-    Ok(())
+    assert_bytes(&rt, alloc, outer.as_bytes(), row)
+}
+
+// The array [1,2,3].
+fn array_of_three(alloc: Global) -> Result<OwnedJsonb, Error> {
+    let one = document(alloc, &number(1))?;
+    let two = document(alloc, &number(2))?;
+    let three = document(alloc, &number(3))?;
+    OwnedJsonb::build_array(alloc, [one.as_raw(), two.as_raw(), three.as_raw()])
+}
+
+// The array [1,"hello",[1,2,3]].
+fn array_in_array(alloc: Global) -> Result<OwnedJsonb, Error> {
+    let one = document(alloc, &number(1))?;
+    let hello = document(alloc, &Value::String(text("hello")))?;
+    let inner = array_of_three(alloc)?;
+    OwnedJsonb::build_array(alloc, [one.as_raw(), hello.as_raw(), inner.as_raw()])
+}
+
+// The array [1,null].
+fn one_and_null(alloc: Global) -> Result<OwnedJsonb, Error> {
+    let one = document(alloc, &number(1))?;
+    let null = document(alloc, &Value::Null)?;
+    OwnedJsonb::build_array(alloc, [one.as_raw(), null.as_raw()])
 }
 
 #[test]
 fn arrays_of_documents(rt: HostRuntime) -> Result<(), Fail> {
     let alloc = rt.alloc();
-    let one = document(alloc, &number(1))?;
-    let two = document(alloc, &number(2))?;
-    let three = document(alloc, &number(3))?;
-    let hello = document(alloc, &Value::String(text("hello")))?;
-    let null = document(alloc, &Value::Null)?;
-    let inner = OwnedJsonb::build_array(alloc, [one.as_raw(), two.as_raw(), three.as_raw()])?;
-    let outer = OwnedJsonb::build_array(alloc, [one.as_raw(), hello.as_raw(), inner.as_raw()])?;
     let row =
         "80000003 20000002 10000005 50000016 5001 68656c6c6f 80000003 20000002 20000002 20000002 5001 5002 5003";
-    assert_eq!(rt; outer.as_bytes(), bytes_of(alloc, row)?.as_slice());
-
-    let pair = OwnedJsonb::build_array(alloc, [one.as_raw(), null.as_raw()])?;
-    assert_eq!(rt;
-        pair.as_bytes(),
-        bytes_of(alloc, "80000002 20000002 00000000 5001")?.as_slice()
-    );
+    assert_bytes(&rt, alloc, array_in_array(alloc)?.as_bytes(), row)?;
+    let row = "80000002 20000002 00000000 5001";
+    assert_bytes(&rt, alloc, one_and_null(alloc)?.as_bytes(), row)?;
     let none = OwnedJsonb::build_array(alloc, [])?;
-    assert_eq!(rt; none.as_bytes(), bytes_of(alloc, "80000000")?.as_slice());
-    Ok(())
+    assert_bytes(&rt, alloc, none.as_bytes(), "80000000")
 }
 
 // A document at a key.
@@ -145,8 +170,7 @@ fn objects_of_documents(rt: HostRuntime) -> Result<(), Fail> {
     let pairs = [at("b", &one), at("a", &two)];
     let object = OwnedJsonb::build_object(alloc, pairs)?;
     let row = "40000002 10000001 10000001 20000002 20000002 61 62 5002 5001";
-    assert_eq!(rt; object.as_bytes(), bytes_of(alloc, row)?.as_slice());
-    Ok(())
+    assert_bytes(&rt, alloc, object.as_bytes(), row)
 }
 
 #[test]
@@ -172,29 +196,36 @@ fn each_input_is_a_document(rt: HostRuntime) -> Result<(), Fail> {
     Ok(())
 }
 
-#[test]
-fn the_first_of_equal_items(rt: HostRuntime) -> Result<(), Fail> {
-    let alloc = rt.alloc();
-    let five = document(alloc, &number(5))?;
+// A builder of the number 5 twice, and of "x".
+fn five_twice_and_x<'a>(
+    alloc: Global,
+    five: RawJsonb<'a>,
+) -> Result<ArrayDistinctBuilder<'a>, Error> {
     let mut builder = ArrayDistinctBuilder::new(alloc, 0)?;
-    builder.push_raw_jsonb(five.as_raw())?;
+    builder.push_raw_jsonb(five)?;
     builder.push_jsonb_item(by_value(Number::Decimal64(Decimal64 {
         scale: 1,
         value: 50,
     })))?;
     builder.push_jsonb_item(JsonbItem::String(text("x")))?;
-    assert_eq!(rt; builder.pop_raw_jsonb(five.as_raw()), Some(()));
-    assert_eq!(rt;
+    Ok(builder)
+}
+
+#[test]
+fn the_first_of_equal_items(rt: HostRuntime) -> Result<(), Fail> {
+    let alloc = rt.alloc();
+    let document = document(alloc, &number(5))?;
+    let five = document.as_raw();
+    let mut builder = five_twice_and_x(alloc, five)?;
+    let popped = [
+        builder.pop_raw_jsonb(five),
         builder.pop_jsonb_item(by_value(Number::Int64(5))),
-        Some(())
-    );
-    assert_eq!(rt; builder.pop_raw_jsonb(five.as_raw()), None);
-    builder.push_raw_jsonb(five.as_raw())?;
-    assert_eq!(rt;
-        builder.build()?.as_bytes(),
-        bytes_of(alloc, "80000002 20000002 10000001 5005 78")?.as_slice()
-    );
-    Ok(())
+        builder.pop_raw_jsonb(five),
+    ];
+    assert!(rt; popped == [Some(()), Some(()), None]);
+    builder.push_raw_jsonb(five)?;
+    let row = "80000002 20000002 10000001 5005 78";
+    assert_bytes(&rt, alloc, builder.build()?.as_bytes(), row)
 }
 
 // Where the first push finds no memory, the builder is as before and takes the second.
@@ -208,11 +239,8 @@ fn a_second_push_is_taken(rt: HostRuntime) -> Result<(), Fail> {
         assert_eq!(rt; builder.pop_raw_jsonb(x.as_raw()), None);
         builder.push_raw_jsonb(x.as_raw())?;
     }
-    assert_eq!(rt;
-        builder.build()?.as_bytes(),
-        bytes_of(alloc, "80000002 20000002 10000001 5005 78")?.as_slice()
-    );
-    Ok(())
+    let row = "80000002 20000002 10000001 5005 78";
+    assert_bytes(&rt, alloc, builder.build()?.as_bytes(), row)
 }
 
 // The array that borrows one text so many times.

@@ -4,7 +4,7 @@ use std::test::Fail;
 
 // Zeros and small numbers in too many bytes, an old decimal and an old point in time, alone and
 // inside, each with its canonical form.
-const OLD: [(&[u8], &[u8]); 7] = [
+const OLD: &[(&[u8], &[u8])] = &[
     (
         b"\x20\0\0\0\x20\0\0\x02\x40\x00",
         b"\x20\0\0\0\x20\0\0\x01\x00",
@@ -36,7 +36,7 @@ const OLD: [(&[u8], &[u8]); 7] = [
 ];
 
 // What is canonical already: 5 and 5.0 among them, which stay apart.
-const CANONICAL: [&[u8]; 6] = [
+const CANONICAL: &[&[u8]] = &[
     b"\x80\0\0\0",
     b"\x20\0\0\0\0\0\0\0",
     b"\x20\0\0\0\x20\0\0\x02\x50\x05",
@@ -47,12 +47,12 @@ const CANONICAL: [&[u8]; 6] = [
 
 #[test]
 fn canonical_forms(rt: HostRuntime) -> Result<(), Fail> {
-    for (source, canonical) in OLD {
+    for &(source, canonical) in OLD {
         let raw = RawJsonb::new(source);
         assert!(rt; raw.is_document() && !raw.is_canonical());
         assert_eq!(rt; raw.to_canonical(rt.alloc())?.as_bytes(), canonical);
     }
-    for bytes in CANONICAL {
+    for &bytes in CANONICAL {
         let raw = RawJsonb::new(bytes);
         assert!(rt; raw.is_canonical());
         assert_eq!(rt; raw.to_canonical(rt.alloc())?.as_bytes(), bytes);
@@ -68,7 +68,7 @@ fn no_canonical_form(rt: HostRuntime) {
 }
 
 // Documents as they are written.
-const WRITTEN: [&[u8]; 13] = [
+const WRITTEN: &[&[u8]] = &[
     b"\x20\0\0\0\0\0\0\0",
     b"\x20\0\0\0\x20\0\0\x01\x00",
     b"\x20\0\0\0\x20\0\0\x02\x40\x9c",
@@ -85,7 +85,7 @@ const WRITTEN: [&[u8]; 13] = [
 ];
 
 // Zeros and small numbers in too many bytes, an old decimal and an old time zone, each also inside.
-const OTHER: [&[u8]; 10] = [
+const OTHER: &[&[u8]] = &[
     b"\x20\0\0\0\x20\0\0\x02\x40\x00",
     b"\x20\0\0\0\x20\0\0\x02\x50\x00",
     b"\x20\0\0\0\x20\0\0\x03\x40\x00\x05",
@@ -98,21 +98,21 @@ const OTHER: [&[u8]; 10] = [
     b"\x80\0\0\x01\x60\0\0\x0a\x30\0\0\0\0\0\0\0\x01\x02",
 ];
 
-const NO_DOCUMENTS: [&[u8]; 3] = [b"", b"\x20\0\0\0\0\0\0\0\0", b"\x80\0\0\x01\x50\0\0\0"];
+const NO_DOCUMENTS: &[&[u8]] = &[b"", b"\x20\0\0\0\0\0\0\0\0", b"\x80\0\0\x01\x50\0\0\0"];
 
 #[test]
 fn written_forms(rt: HostRuntime) {
-    for bytes in WRITTEN {
+    for &bytes in WRITTEN {
         assert!(rt; is_canonical(bytes));
     }
 }
 
 #[test]
 fn other_forms(rt: HostRuntime) {
-    for bytes in OTHER {
+    for &bytes in OTHER {
         assert!(rt; is_document(bytes) && !is_canonical(bytes));
     }
-    for bytes in NO_DOCUMENTS {
+    for &bytes in NO_DOCUMENTS {
         assert!(rt; !is_canonical(bytes));
     }
 }

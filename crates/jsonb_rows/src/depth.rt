@@ -1,5 +1,5 @@
 // How deep and how large a document of some length can be.
-use crate::known::{bytes_of, decoded, read_as_tree};
+use crate::known::{assert_bytes, bytes_of, decoded, read_as_tree};
 use jsonb_codec::{is_document, is_document_within};
 use std::alloc::Global;
 use std::test::Fail;
@@ -24,7 +24,7 @@ fn arrays_nest_as_deep_as_bytes_allow(rt: HostRuntime) -> Result<(), Fail> {
     let Some(entry) = bytes.get(4..8) else {
         return Ok(());
     };
-    assert_eq!(rt; entry, bytes_of(alloc, "50000ff4")?.as_slice());
+    assert_bytes(&rt, alloc, entry, "50000ff4")?;
     assert!(rt; is_document(&bytes));
     assert!(rt; is_document_within(&bytes, 512));
     assert!(rt; !is_document_within(&bytes, 511));
@@ -33,17 +33,20 @@ fn arrays_nest_as_deep_as_bytes_allow(rt: HostRuntime) -> Result<(), Fail> {
     Ok(())
 }
 
+// Documents, and how deep they nest.
+const DEPTHS: &[(&str, usize)] = &[
+    ("20000000 00000000", 0_usize),
+    ("20000000 20000002 5005", 0),
+    ("80000000", 1),
+    ("40000000", 1),
+    ("40000001 10000000 00000000", 1),
+    ("80000002 50000004 50000004 80000000 40000000", 2),
+];
+
 #[test]
 fn scalars_are_within_no_level(rt: HostRuntime) -> Result<(), Fail> {
     let alloc = rt.alloc();
-    for (text, depth) in [
-        ("20000000 00000000", 0_usize),
-        ("20000000 20000002 5005", 0),
-        ("80000000", 1),
-        ("40000000", 1),
-        ("40000001 10000000 00000000", 1),
-        ("80000002 50000004 50000004 80000000 40000000", 2),
-    ] {
+    for &(text, depth) in DEPTHS {
         let bytes = bytes_of(alloc, text)?;
         assert!(rt; is_document_within(&bytes, depth), "{text}");
         if depth > 0 {

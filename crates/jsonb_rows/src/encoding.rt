@@ -1,5 +1,5 @@
 // Worked encodings.
-use crate::known::{bytes_of, encoded};
+use crate::known::{assert_bytes, bytes_of, encoded};
 use jsonb::{
     Date, Decimal64, Decimal128, Encoder, Error, Interval, JsonAst, JsonAstEncoder, Number, Object,
     Timestamp, TimestampTz, Value,
@@ -7,6 +7,7 @@ use jsonb::{
 use std::alloc::{AllocError, Global};
 use std::borrow::CowStr;
 use std::collections::BTreeMap;
+use std::process::Abort;
 use std::str;
 use std::test::Fail;
 
@@ -68,38 +69,40 @@ fn scalars(rt: HostRuntime) -> Result<(), Fail> {
     Ok(())
 }
 
+// Numbers, and their documents.
+const NUMBERS: &[(Number, &str)] = &[
+    (Number::Int64(0), "20000000 20000001 00"),
+    (Number::Int64(-100), "20000000 20000002 409c"),
+    (Number::Int64(-128), "20000000 20000002 4080"),
+    (Number::Int64(-129), "20000000 20000003 40ff7f"),
+    (Number::Int64(128), "20000000 20000003 400080"),
+    (Number::Int64(-32_768), "20000000 20000003 408000"),
+    (Number::UInt64(255), "20000000 20000002 50ff"),
+    (Number::UInt64(256), "20000000 20000003 500100"),
+    (Number::UInt64(65_535), "20000000 20000003 50ffff"),
+    (
+        Number::UInt64(18_446_744_073_709_551_615),
+        "20000000 20000009 50ffffffffffffffff",
+    ),
+    (
+        Number::Decimal64(Decimal64 {
+            scale: 2,
+            value: 1234,
+        }),
+        "20000000 2000000a 70 00000000000004d2 02",
+    ),
+    (
+        Number::Decimal128(Decimal128 {
+            scale: 2,
+            value: 1234,
+        }),
+        "20000000 20000012 70 000000000000000000000000000004d2 02",
+    ),
+];
+
 #[test]
 fn numbers(rt: HostRuntime) -> Result<(), Fail> {
-    let rows = [
-        (Number::Int64(0), "20000000 20000001 00"),
-        (Number::Int64(-100), "20000000 20000002 409c"),
-        (Number::Int64(-128), "20000000 20000002 4080"),
-        (Number::Int64(-129), "20000000 20000003 40ff7f"),
-        (Number::Int64(128), "20000000 20000003 400080"),
-        (Number::Int64(-32_768), "20000000 20000003 408000"),
-        (Number::UInt64(255), "20000000 20000002 50ff"),
-        (Number::UInt64(256), "20000000 20000003 500100"),
-        (Number::UInt64(65_535), "20000000 20000003 50ffff"),
-        (
-            Number::UInt64(18_446_744_073_709_551_615),
-            "20000000 20000009 50ffffffffffffffff",
-        ),
-        (
-            Number::Decimal64(Decimal64 {
-                scale: 2,
-                value: 1234,
-            }),
-            "20000000 2000000a 70 00000000000004d2 02",
-        ),
-        (
-            Number::Decimal128(Decimal128 {
-                scale: 2,
-                value: 1234,
-            }),
-            "20000000 20000012 70 000000000000000000000000000004d2 02",
-        ),
-    ];
-    for (number, document) in rows {
+    for &(number, document) in NUMBERS {
         let value = Value::Number(number);
         assert_eq!(rt;
             encoded(rt.alloc(), &value)?,
@@ -109,43 +112,69 @@ fn numbers(rt: HostRuntime) -> Result<(), Fail> {
     Ok(())
 }
 
+// The array [false,true].
+fn two_truths(alloc: Global) -> Result<Value<'static>, Error> {
+    let items = vec![in alloc; Value::Bool(false), Value::Bool(true)]?;
+    Ok(Value::Array(items))
+}
+
+// The object {"arr":[false]}.
+fn array_in_object(alloc: Global) -> Result<Value<'static>, Error> {
+    let items = vec![in alloc; Value::Bool(false)]?;
+    object(alloc, "arr", Value::Array(items))
+}
+
+// The object {"obj":{"field":true}}.
+fn object_in_object(alloc: Global) -> Result<Value<'static>, Error> {
+    object(alloc, "obj", object(alloc, "field", Value::Bool(true))?)
+}
+
+// Ends a test in which a value's document is another.
+fn assert_encoded(
+    rt: &impl Abort,
+    alloc: Global,
+    value: Value,
+    document: &str,
+    length: usize,
+) -> Result<(), Fail> {
+    assert_bytes(rt, alloc, &encoded(alloc, &value)?, document)?;
+    assert_eq!(rt; Encoder::measure(&value), Ok(length));
+    Ok(())
+}
+
+// The array [1,"hello",[1,2,3]].
+fn array_in_array(alloc: Global) -> Result<Value<'static>, Error> {
+    let three = vec![in alloc; number(1), number(2), number(3)]?;
+    let items = vec![in alloc;
+        number(1),
+        Value::String(text("hello")),
+        Value::Array(three),
+    ]?;
+    Ok(Value::Array(items))
+}
+
+// The array [false,10,{"k":"v"}].
+fn object_in_array(alloc: Global) -> Result<Value<'static>, Error> {
+    let pair = object(alloc, "k", Value::String(text("v")))?;
+    let items = vec![in alloc; Value::Bool(false), number(10), pair]?;
+    Ok(Value::Array(items))
+}
+
 #[test]
 fn containers(rt: HostRuntime) -> Result<(), Fail> {
     let alloc = rt.alloc();
-    let truths = Value::Array(vec![in alloc; Value::Bool(false), Value::Bool(true)]?);
-    let one = Value::Array(vec![in alloc; Value::Bool(false)]?);
-    let field = object(alloc, "field", Value::Bool(true))?;
-    let three = Value::Array(vec![in alloc; number(1), number(2), number(3)]?);
-    let pair = object(alloc, "k", Value::String(text("v")))?;
-    let rows = [
-        (truths, "80000002 30000000 40000000", 12),
-        (
-            object(alloc, "arr", one)?,
-            "40000001 10000003 50000008 617272 80000001 30000000",
-            23,
-        ),
-        (
-            object(alloc, "obj", field)?,
-            "40000001 10000003 50000011 6f626a 40000001 10000005 40000000 6669656c64",
-            32,
-        ),
-        (
-            Value::Array(vec![in alloc; number(1), Value::String(text("hello")), three]?),
-            "80000003 20000002 10000005 50000016 5001 68656c6c6f 80000003 20000002 20000002 20000002 5001 5002 5003",
-            45,
-        ),
-        (
-            Value::Array(vec![in alloc; Value::Bool(false), number(10), pair]?),
-            "80000003 30000000 20000002 5000000e 500a 40000001 10000001 10000001 6b 76",
-            32,
-        ),
-    ];
-    for (value, document, length) in &rows {
-        assert_eq!(rt; encoded(alloc, value)?, bytes_of(alloc, document)?);
-        assert_eq!(rt; Encoder::measure(value), Ok(*length));
-    }
     assert_eq!(rt; Encoder::measure(&Value::Null), Ok(8));
-    Ok(())
+    let row = "80000002 30000000 40000000";
+    assert_encoded(&rt, alloc, two_truths(alloc)?, row, 12)?;
+    let row = "40000001 10000003 50000008 617272 80000001 30000000";
+    assert_encoded(&rt, alloc, array_in_object(alloc)?, row, 23)?;
+    let row = "40000001 10000003 50000011 6f626a 40000001 10000005 40000000 6669656c64";
+    assert_encoded(&rt, alloc, object_in_object(alloc)?, row, 32)?;
+    let row =
+        "80000003 20000002 10000005 50000016 5001 68656c6c6f 80000003 20000002 20000002 20000002 5001 5002 5003";
+    assert_encoded(&rt, alloc, array_in_array(alloc)?, row, 45)?;
+    let row = "80000003 30000000 20000002 5000000e 500a 40000001 10000001 10000001 6b 76";
+    assert_encoded(&rt, alloc, object_in_array(alloc)?, row, 32)
 }
 
 // An array that borrows one text so many times.
@@ -187,19 +216,29 @@ fn limit_of_an_outer_array(rt: HostRuntime) -> Result<(), Fail> {
     Ok(())
 }
 
+// An array that holds the array that borrows one text so many times.
+fn nested<'a>(alloc: Global, text: &'a str, count: usize) -> Result<Value<'a>, Error> {
+    let inner = borrowings(alloc, text, count)?;
+    Ok(Value::Array(vec![in alloc; inner]?))
+}
+
+// Ends a test in which a value is taken, or leaves other bytes than there were.
+fn assert_refused(rt: &impl Abort, alloc: Global, value: &Value) -> Result<(), Fail> {
+    assert_eq!(rt; Encoder::measure(value), Err(Error::InvalidJsonb));
+    let mut buf = vec![in alloc; 0xaa]?;
+    let refused = Encoder::new(&mut buf).encode(value);
+    assert_eq!(rt; refused, Err(Error::InvalidJsonb));
+    assert_eq!(rt; buf.as_slice(), [0xaa].as_slice());
+    Ok(())
+}
+
 #[test]
 fn limit_of_an_inner_array(rt: HostRuntime) -> Result<(), Fail> {
     let letters = vec![in rt.alloc(); b'a'; MEBIBYTES_16]?;
     let text = str::from_utf8(&letters)?;
-    let nested = Value::Array(vec![in rt.alloc(); borrowings(rt.alloc(), text, 15)?]?);
-    assert_eq!(rt; Encoder::measure(&nested), Ok(251_658_312));
-    let nested = Value::Array(vec![in rt.alloc(); borrowings(rt.alloc(), text, 16)?]?);
-    assert_eq!(rt; Encoder::measure(&nested), Err(Error::InvalidJsonb));
-    let mut buf = vec![in rt.alloc(); 0xaa]?;
-    let refused = Encoder::new(&mut buf).encode(&nested);
-    assert_eq!(rt; refused, Err(Error::InvalidJsonb));
-    assert_eq!(rt; buf.as_slice(), [0xaa].as_slice());
-    Ok(())
+    let taken = nested(rt.alloc(), text, 15)?;
+    assert_eq!(rt; Encoder::measure(&taken), Ok(251_658_312));
+    assert_refused(&rt, rt.alloc(), &nested(rt.alloc(), text, 16)?)
 }
 
 #[test]
@@ -224,6 +263,14 @@ fn pairs_of<'a>(alloc: Global, first: &'a str, second: &'a str) -> Result<JsonAs
     Ok(JsonAst::Object(Vec::from_array(alloc, pairs)?))
 }
 
+// Whether the keys of such an object ascend, and those of an array that holds it.
+fn ascending(alloc: Global, first: &str, second: &str) -> Result<[bool; 2], Fail> {
+    let value = pairs_of(alloc, first, second)?;
+    let alone = value.has_ascending_keys();
+    let outer = JsonAst::Array(vec![in alloc; value]?);
+    Ok([alone, outer.has_ascending_keys()])
+}
+
 #[test]
 fn pairs_in_lists(rt: HostRuntime) -> Result<(), Fail> {
     let alloc = rt.alloc();
@@ -231,14 +278,9 @@ fn pairs_in_lists(rt: HostRuntime) -> Result<(), Fail> {
     assert!(rt; value.has_ascending_keys());
     let mut buf = Vec::new(alloc);
     JsonAstEncoder::new(&mut buf).encode(&value)?;
-    let document = "40000002 10000001 10000001 00000000 40000000 61 62";
-    assert_eq!(rt; buf, bytes_of(alloc, document)?);
     assert_eq!(rt; JsonAstEncoder::measure(&value), Ok(22));
-    for (first, second) in [("b", "a"), ("a", "a")] {
-        let value = pairs_of(alloc, first, second)?;
-        assert!(rt; !value.has_ascending_keys());
-        let outer = JsonAst::Array(vec![in alloc; value]?);
-        assert!(rt; !outer.has_ascending_keys());
-    }
-    Ok(())
+    assert!(rt; ascending(alloc, "b", "a")? == [false, false]);
+    assert!(rt; ascending(alloc, "a", "a")? == [false, false]);
+    let document = "40000002 10000001 10000001 00000000 40000000 61 62";
+    assert_bytes(&rt, alloc, &buf, document)
 }

@@ -1,5 +1,5 @@
 // Kinds, items and walks of documents and of other bytes, as tables.
-use crate::known::bytes_of;
+use crate::known::{assert_bytes, bytes_of};
 use jsonb::{
     ArrayIterator, Error, ExtensionItem, ExtensionValue, JsonbItem, JsonbItemType, Number,
     NumberItem, ObjectIterator, ObjectKeyIterator, ObjectValueIterator, OwnedJsonb, RawJsonb,
@@ -8,6 +8,7 @@ use std::alloc::Global;
 use std::borrow::CowStr;
 use std::cmp::Ordering;
 use std::fmt::Write;
+use std::process::Abort;
 use std::test::Fail;
 
 /// How often each iterator is asked, past the end of each row.
@@ -148,28 +149,30 @@ fn raw_text(alloc: Global, bytes: &[u8]) -> Result<String, Fail> {
     Ok(text)
 }
 
+// Bytes, and the kind that they tell.
+const KINDS: &[(&str, Result<JsonbItemType, Error>)] = &[
+    ("", Err(Error::InvalidEOF)),
+    ("800000", Err(Error::InvalidEOF)),
+    ("60000000", Err(Error::InvalidJsonb)),
+    ("00000000", Err(Error::InvalidJsonb)),
+    ("9fffffff", Ok(JsonbItemType::Array(536870911))),
+    ("40000002", Ok(JsonbItemType::Object(2))),
+    ("20000000", Err(Error::InvalidEOF)),
+    ("20000000 100000", Err(Error::InvalidEOF)),
+    ("20000000 00000000", Ok(JsonbItemType::Null)),
+    ("3fffffff 10000001", Ok(JsonbItemType::String)),
+    ("20000000 20000001", Ok(JsonbItemType::Number)),
+    ("20000000 30000000", Ok(JsonbItemType::Boolean)),
+    ("20000000 c0000000", Ok(JsonbItemType::Boolean)),
+    ("20000000 50000004 80000000", Err(Error::InvalidJsonb)),
+    ("20000000 60000000", Ok(JsonbItemType::Extension)),
+    ("20000000 70000000", Err(Error::InvalidJsonb)),
+    ("3132333435363738", Ok(JsonbItemType::Boolean)),
+];
+
 #[test]
 fn kinds_by_the_first_two_words(rt: HostRuntime) -> Result<(), Fail> {
-    let rows = [
-        ("", Err(Error::InvalidEOF)),
-        ("800000", Err(Error::InvalidEOF)),
-        ("60000000", Err(Error::InvalidJsonb)),
-        ("00000000", Err(Error::InvalidJsonb)),
-        ("9fffffff", Ok(JsonbItemType::Array(536870911))),
-        ("40000002", Ok(JsonbItemType::Object(2))),
-        ("20000000", Err(Error::InvalidEOF)),
-        ("20000000 100000", Err(Error::InvalidEOF)),
-        ("20000000 00000000", Ok(JsonbItemType::Null)),
-        ("3fffffff 10000001", Ok(JsonbItemType::String)),
-        ("20000000 20000001", Ok(JsonbItemType::Number)),
-        ("20000000 30000000", Ok(JsonbItemType::Boolean)),
-        ("20000000 c0000000", Ok(JsonbItemType::Boolean)),
-        ("20000000 50000004 80000000", Err(Error::InvalidJsonb)),
-        ("20000000 60000000", Ok(JsonbItemType::Extension)),
-        ("20000000 70000000", Err(Error::InvalidJsonb)),
-        ("3132333435363738", Ok(JsonbItemType::Boolean)),
-    ];
-    for (text, kind) in rows {
+    for &(text, kind) in KINDS {
         let bytes = bytes_of(rt.alloc(), text)?;
         let raw = RawJsonb::new(&bytes);
         assert_eq!(rt; raw.jsonb_item_type(), kind, "of {text}");
@@ -196,74 +199,78 @@ fn kinds_by_rank(rt: HostRuntime) {
     assert!(rt; array == JsonbItemType::Array(3) && array != JsonbItemType::Array(4));
 }
 
+// Bytes, and the item that they are.
+const ITEMS: &[(&str, &str)] = &[
+    ("20000000 20000001 00 ff", "number 00"),
+    ("20000000 00000000", "null"),
+    ("20000000 40000000", "true"),
+    ("20000000 30000000", "false"),
+    ("20000000 10000003 617364", "string 617364"),
+    ("20000000 60000004 00 010203", "extension 00010203"),
+    ("80000001", "raw 80000001"),
+    ("5fffffff 00", "raw 5fffffff00"),
+    ("", "InvalidEOF"),
+    ("200000", "InvalidEOF"),
+    ("00000000 00000000", "InvalidJsonb"),
+    ("20000000 100000", "InvalidEOF"),
+    ("20000000 10000003 6173", "InvalidJsonb"),
+    ("20000000 00000001", "InvalidJsonb"),
+    ("20000000 00000001 ff", "null"),
+    ("20000000 90000001 61", "string 61"),
+    ("20000000 50000004 80000000", "InvalidJsonb"),
+    ("20000000 70000000", "InvalidJsonb"),
+    ("20000000 10000001 ff", "InvalidUtf8"),
+    ("20000000 20000000", "InvalidJsonbNumber"),
+    ("20000000 60000002 1001", "InvalidJsonbNumber"),
+    ("20000000 60000002 4101", "InvalidJsonbExtension"),
+    ("20000000 60000000", "InvalidJsonbExtension"),
+];
+
 #[test]
 fn items_of_bytes(rt: HostRuntime) -> Result<(), Fail> {
-    let rows = [
-        ("20000000 20000001 00 ff", "number 00"),
-        ("20000000 00000000", "null"),
-        ("20000000 40000000", "true"),
-        ("20000000 30000000", "false"),
-        ("20000000 10000003 617364", "string 617364"),
-        ("20000000 60000004 00 010203", "extension 00010203"),
-        ("80000001", "raw 80000001"),
-        ("5fffffff 00", "raw 5fffffff00"),
-        ("", "InvalidEOF"),
-        ("200000", "InvalidEOF"),
-        ("00000000 00000000", "InvalidJsonb"),
-        ("20000000 100000", "InvalidEOF"),
-        ("20000000 10000003 6173", "InvalidJsonb"),
-        ("20000000 00000001", "InvalidJsonb"),
-        ("20000000 00000001 ff", "null"),
-        ("20000000 90000001 61", "string 61"),
-        ("20000000 50000004 80000000", "InvalidJsonb"),
-        ("20000000 70000000", "InvalidJsonb"),
-        ("20000000 10000001 ff", "InvalidUtf8"),
-        ("20000000 20000000", "InvalidJsonbNumber"),
-        ("20000000 60000002 1001", "InvalidJsonbNumber"),
-        ("20000000 60000002 4101", "InvalidJsonbExtension"),
-        ("20000000 60000000", "InvalidJsonbExtension"),
-    ];
-    for (text, item) in rows {
+    for &(text, item) in ITEMS {
         let bytes = bytes_of(rt.alloc(), text)?;
         assert_eq!(rt; raw_text(rt.alloc(), &bytes)?.as_str(), item, "of {text}");
     }
     Ok(())
 }
 
+// Bytes, and what a walk over their items gives.
+const ARRAYS: &[(&str, &str)] = &[
+    (
+        "80000003 30000000 20000002 5000000e 500a 40000001 10000001 10000001 6b 76",
+        "false; number 500a; raw 4000000110000001100000016b76; .; .; ",
+    ),
+    (
+        "80000002 20000001 70000000 00",
+        "number 00; InvalidJsonb; .; .; .; ",
+    ),
+    ("9fffffff", "InvalidEOF; .; .; .; .; "),
+    ("80000000", ".; .; .; .; .; "),
+    ("80000002 00000000 100000", "InvalidJsonb; .; .; .; .; "),
+    (
+        "80000002 00000000 10000001",
+        "null; InvalidJsonb; .; .; .; ",
+    ),
+    ("80000002 10000001 00000000 ff", "InvalidUtf8; .; .; .; .; "),
+    ("80000001 20000001 10", "InvalidJsonbNumber; .; .; .; .; "),
+    (
+        "80000001 60000001 01",
+        "InvalidJsonbExtension; .; .; .; .; ",
+    ),
+    (
+        "80000002 80000001 10000001 0061",
+        "null; string 61; .; .; .; ",
+    ),
+    ("20000000", "none"),
+    ("40000000", "none"),
+    ("800000", "InvalidEOF"),
+    ("60000000", "InvalidJsonb"),
+];
+
 #[test]
 fn items_of_arrays(rt: HostRuntime) -> Result<(), Fail> {
-    let rows = [
-        (
-            "80000003 30000000 20000002 5000000e 500a 40000001 10000001 10000001 6b 76",
-            "false; number 500a; raw 4000000110000001100000016b76; .; .; ",
-        ),
-        (
-            "80000002 20000001 70000000 00",
-            "number 00; InvalidJsonb; .; .; .; ",
-        ),
-        ("9fffffff", "InvalidEOF; .; .; .; .; "),
-        ("80000000", ".; .; .; .; .; "),
-        ("80000002 00000000 100000", "InvalidJsonb; .; .; .; .; "),
-        (
-            "80000002 00000000 10000001",
-            "null; InvalidJsonb; .; .; .; ",
-        ),
-        ("80000002 10000001 00000000 ff", "InvalidUtf8; .; .; .; .; "),
-        ("80000001 20000001 10", "InvalidJsonbNumber; .; .; .; .; "),
-        (
-            "80000001 60000001 01",
-            "InvalidJsonbExtension; .; .; .; .; ",
-        ),
-        (
-            "80000002 80000001 10000001 0061",
-            "null; string 61; .; .; .; ",
-        ),
-        ("20000000", "none"),
-        ("40000000", "none"),
-        ("800000", "InvalidEOF"),
-        ("60000000", "InvalidJsonb"),
-    ];
-    for (text, items) in rows {
+    for &(text, items) in ARRAYS {
         let bytes = bytes_of(rt.alloc(), text)?;
         assert_eq!(rt;
             items_text(rt.alloc(), &bytes)?.as_str(),
@@ -274,69 +281,71 @@ fn items_of_arrays(rt: HostRuntime) -> Result<(), Fail> {
     Ok(())
 }
 
+// Bytes, and what walks over their keys, values and pairs give.
+const OBJECTS: &[(&str, &str, &str, &str)] = &[
+    (
+        "40000002 10000001 10000001 20000002 10000003 61 62 5001 313233",
+        "string 61; string 62; .; .; .; ",
+        "number 5001; string 313233; .; .; .; ",
+        "a: number 5001; b: string 313233; .; .; .; ",
+    ),
+    (
+        "40000001 20000001 00000000 00",
+        "number 00; .; .; .; .; ",
+        "null; .; .; .; .; ",
+        "InvalidJsonb; .; .; .; .; ",
+    ),
+    (
+        "5fffffff",
+        "InvalidEOF; .; .; .; .; ",
+        "InvalidEOF",
+        "InvalidEOF",
+    ),
+    (
+        "40000002 10000001",
+        "InvalidJsonb; .; .; .; .; ",
+        "InvalidEOF",
+        "InvalidEOF",
+    ),
+    (
+        "40000001 10000001 10000001 ff",
+        "InvalidUtf8; .; .; .; .; ",
+        "InvalidJsonb; .; .; .; .; ",
+        "InvalidUtf8; .; .; .; .; ",
+    ),
+    (
+        "40000001 10000000",
+        "InvalidJsonb; .; .; .; .; ",
+        "InvalidEOF; .; .; .; .; ",
+        "InvalidJsonb; .; .; .; .; ",
+    ),
+    (
+        "40000001 10000001 70000000 61",
+        "string 61; .; .; .; .; ",
+        "InvalidJsonb; .; .; .; .; ",
+        "InvalidJsonb; .; .; .; .; ",
+    ),
+    (
+        "40000001 10000001 20000001 61",
+        "string 61; .; .; .; .; ",
+        "InvalidJsonb; .; .; .; .; ",
+        "InvalidJsonb; .; .; .; .; ",
+    ),
+    (
+        "40000000",
+        ".; .; .; .; .; ",
+        ".; .; .; .; .; ",
+        ".; .; .; .; .; ",
+    ),
+    ("80000000", "none", "none", "none"),
+    ("20000000", "none", "none", "none"),
+    ("400000", "InvalidEOF", "InvalidEOF", "InvalidEOF"),
+    ("60000000", "InvalidJsonb", "InvalidJsonb", "InvalidJsonb"),
+];
+
 #[test]
 fn keys_values_and_pairs_of_objects(rt: HostRuntime) -> Result<(), Fail> {
-    let rows = [
-        (
-            "40000002 10000001 10000001 20000002 10000003 61 62 5001 313233",
-            "string 61; string 62; .; .; .; ",
-            "number 5001; string 313233; .; .; .; ",
-            "a: number 5001; b: string 313233; .; .; .; ",
-        ),
-        (
-            "40000001 20000001 00000000 00",
-            "number 00; .; .; .; .; ",
-            "null; .; .; .; .; ",
-            "InvalidJsonb; .; .; .; .; ",
-        ),
-        (
-            "5fffffff",
-            "InvalidEOF; .; .; .; .; ",
-            "InvalidEOF",
-            "InvalidEOF",
-        ),
-        (
-            "40000002 10000001",
-            "InvalidJsonb; .; .; .; .; ",
-            "InvalidEOF",
-            "InvalidEOF",
-        ),
-        (
-            "40000001 10000001 10000001 ff",
-            "InvalidUtf8; .; .; .; .; ",
-            "InvalidJsonb; .; .; .; .; ",
-            "InvalidUtf8; .; .; .; .; ",
-        ),
-        (
-            "40000001 10000000",
-            "InvalidJsonb; .; .; .; .; ",
-            "InvalidEOF; .; .; .; .; ",
-            "InvalidJsonb; .; .; .; .; ",
-        ),
-        (
-            "40000001 10000001 70000000 61",
-            "string 61; .; .; .; .; ",
-            "InvalidJsonb; .; .; .; .; ",
-            "InvalidJsonb; .; .; .; .; ",
-        ),
-        (
-            "40000001 10000001 20000001 61",
-            "string 61; .; .; .; .; ",
-            "InvalidJsonb; .; .; .; .; ",
-            "InvalidJsonb; .; .; .; .; ",
-        ),
-        (
-            "40000000",
-            ".; .; .; .; .; ",
-            ".; .; .; .; .; ",
-            ".; .; .; .; .; ",
-        ),
-        ("80000000", "none", "none", "none"),
-        ("20000000", "none", "none", "none"),
-        ("400000", "InvalidEOF", "InvalidEOF", "InvalidEOF"),
-        ("60000000", "InvalidJsonb", "InvalidJsonb", "InvalidJsonb"),
-    ];
-    for (text, keys, values, pairs) in rows {
+    for &(text, keys, values, pairs) in OBJECTS {
         let bytes = bytes_of(rt.alloc(), text)?;
         assert_eq!(rt;
             keys_text(rt.alloc(), &bytes)?.as_str(),
@@ -357,28 +366,61 @@ fn keys_values_and_pairs_of_objects(rt: HostRuntime) -> Result<(), Fail> {
     Ok(())
 }
 
+fn items_length(bytes: &[u8]) -> Result<Option<usize>, Error> {
+    let Some(mut items) = ArrayIterator::new(RawJsonb::new(bytes))? else {
+        return Ok(None);
+    };
+    let _ = items.next();
+    Ok(Some(items.len()))
+}
+
+fn keys_length(bytes: &[u8]) -> Result<Option<usize>, Error> {
+    let Some(mut keys) = ObjectKeyIterator::new(RawJsonb::new(bytes))? else {
+        return Ok(None);
+    };
+    let _ = keys.next();
+    Ok(Some(keys.len()))
+}
+
+fn values_length(bytes: &[u8]) -> Result<Option<usize>, Error> {
+    let Some(mut values) = ObjectValueIterator::new(RawJsonb::new(bytes))? else {
+        return Ok(None);
+    };
+    let _ = values.next();
+    Ok(Some(values.len()))
+}
+
+fn pairs_length(bytes: &[u8]) -> Result<Option<usize>, Error> {
+    let Some(mut pairs) = ObjectIterator::new(RawJsonb::new(bytes))? else {
+        return Ok(None);
+    };
+    let _ = pairs.next();
+    Ok(Some(pairs.len()))
+}
+
 #[test]
 fn length_stays(rt: HostRuntime) -> Result<(), Fail> {
     let bytes = bytes_of(rt.alloc(), "9fffffff")?;
-    if let Some(mut items) = ArrayIterator::new(RawJsonb::new(&bytes))? {
-        let _ = items.next();
-        assert_eq!(rt; items.len(), 536870911);
-    }
+    assert_eq!(rt; items_length(&bytes)?, Some(536870911));
     let bytes = bytes_of(rt.alloc(), TWO_PAIRS)?;
-    let raw = RawJsonb::new(&bytes);
-    if let Some(mut keys) = ObjectKeyIterator::new(raw)? {
-        let _ = keys.next();
-        assert_eq!(rt; keys.len(), 2);
-    }
-    if let Some(mut values) = ObjectValueIterator::new(raw)? {
-        let _ = values.next();
-        assert_eq!(rt; values.len(), 2);
-    }
-    if let Some(mut pairs) = ObjectIterator::new(raw)? {
-        let _ = pairs.next();
-        assert_eq!(rt; pairs.len(), 2);
-    }
+    let lengths = [
+        keys_length(&bytes)?,
+        values_length(&bytes)?,
+        pairs_length(&bytes)?,
+    ];
+    assert!(rt; lengths == [Some(2); 3]);
     Ok(())
+}
+
+// Ends a test in which an item, a copy of it or its document is stored as other bytes.
+fn assert_stored(rt: &impl Abort, alloc: Global, item: JsonbItem, text: &str) -> Result<(), Fail> {
+    let copy = item.clone(alloc)?;
+    let document = OwnedJsonb::from_item(alloc, item)?;
+    assert_bytes(rt, alloc, document.as_bytes(), text)?;
+    let again = OwnedJsonb::from_item(alloc, JsonbItem::Owned(document))?;
+    assert_bytes(rt, alloc, &again.to_vec(), text)?;
+    let copied = OwnedJsonb::from_item(alloc, copy)?;
+    assert_bytes(rt, alloc, copied.as_bytes(), text)
 }
 
 #[test]
@@ -402,14 +444,7 @@ fn documents_of_items(rt: HostRuntime) -> Result<(), Fail> {
         (JsonbItem::Raw(RawJsonb::new(&[1, 2])), "0102"),
     ];
     for (item, text) in rows {
-        let bytes = bytes_of(rt.alloc(), text)?;
-        let copy = item.clone(rt.alloc())?;
-        let document = OwnedJsonb::from_item(rt.alloc(), item)?;
-        assert_eq!(rt; document.as_bytes(), bytes.as_slice());
-        let again = OwnedJsonb::from_item(rt.alloc(), JsonbItem::Owned(document))?;
-        assert_eq!(rt; again.to_vec().as_slice(), bytes.as_slice());
-        let copied = OwnedJsonb::from_item(rt.alloc(), copy)?;
-        assert_eq!(rt; copied.as_bytes(), bytes.as_slice());
+        assert_stored(&rt, rt.alloc(), item, text)?;
     }
     assert!(rt; NumberItem::from_bytes(&[]).is_err());
     assert_eq!(rt; zero.as_number(), Number::Int64(0));
@@ -420,22 +455,31 @@ fn documents_of_items(rt: HostRuntime) -> Result<(), Fail> {
     Ok(())
 }
 
+// Ends a test in which an item that views bytes is told for another, or another for it.
+fn assert_view(rt: &impl Abort, alloc: Global, item: JsonbItem) -> Result<(), Fail> {
+    assert!(rt; item.as_raw_jsonb().is_some() && item.as_null().is_none());
+    assert!(rt; JsonbItem::Null.as_null().is_some());
+    let string = JsonbItem::String(CowStr::Borrowed("a"));
+    assert!(rt; string.as_str(alloc)?.is_some() && item.as_str(alloc)?.is_none());
+    Ok(())
+}
+
+// Ends a test in which a copy of the two pairs is another document.
+fn assert_copy(rt: &impl Abort, copy: OwnedJsonb, raw: RawJsonb) -> Result<(), Fail> {
+    assert_eq!(rt; copy.as_raw().as_bytes(), raw.as_bytes());
+    assert_eq!(rt; (copy.len(), copy.is_empty()), (36, false));
+    let kept = JsonbItem::Owned(OwnedJsonb::from(copy.to_vec()));
+    assert_eq!(rt; kept.jsonb_item_type()?, JsonbItemType::Object(2));
+    Ok(())
+}
+
 #[test]
 fn views_of_items(rt: HostRuntime) -> Result<(), Fail> {
     let bytes = bytes_of(rt.alloc(), TWO_PAIRS)?;
     let raw = RawJsonb::new(&bytes);
     assert!(rt; raw.is_document() && !raw.is_empty());
     let owned = raw.to_owned(rt.alloc())?;
-    let copy = owned.clone(rt.alloc())?;
-    assert_eq!(rt; copy.as_raw().as_bytes(), raw.as_bytes());
-    assert_eq!(rt; (copy.len(), copy.is_empty()), (36, false));
+    assert_copy(&rt, owned.clone(rt.alloc())?, raw)?;
     let given = RawJsonb::from(bytes.as_slice());
-    let item = JsonbItem::Raw(given);
-    assert!(rt; item.as_raw_jsonb().is_some() && item.as_null().is_none());
-    assert!(rt; JsonbItem::Null.as_null().is_some());
-    let string = JsonbItem::String(CowStr::Borrowed("a"));
-    assert!(rt; string.as_str(rt.alloc())?.is_some() && item.as_str(rt.alloc())?.is_none());
-    let kept = JsonbItem::Owned(OwnedJsonb::from(copy.to_vec()));
-    assert_eq!(rt; kept.jsonb_item_type()?, JsonbItemType::Object(2));
-    Ok(())
+    assert_view(&rt, rt.alloc(), JsonbItem::Raw(given))
 }

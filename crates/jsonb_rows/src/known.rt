@@ -7,10 +7,11 @@ use jsonb_codec::{Decoder, Encoder, value_of};
 use jsonb_value::{Error, Value};
 use std::alloc::Global;
 use std::fmt;
+use std::process::Abort;
 use std::test::Fail;
 
 /// Documents that both readers take.
-pub const DOCUMENTS: [&str; 45] = [
+pub const DOCUMENTS: &[&str] = &[
     "800000023000000040000000",
     "8000000330000000200000025000000e500a400000011000000110000001 6b76",
     "20000000 20000001 00",
@@ -77,6 +78,13 @@ pub fn encoded(alloc: Global, value: &Value) -> Result<Vec<u8>, Error>
     let mut bytes = Vec::new(alloc);
     Encoder::new(&mut bytes).encode(value)?;
     Ok(bytes)
+}
+
+/// Ends a test in which bytes are not those of a hexadecimal text.
+pub fn assert_bytes(rt: &impl Abort, alloc: Global, bytes: &[u8], text: &str) -> Result<(), Fail> {
+    let expected = bytes_of(alloc, text)?;
+    assert_eq!(rt; bytes, expected.as_slice());
+    Ok(())
 }
 
 /// What the tree reader makes of the bytes, encoded again.

@@ -1,5 +1,8 @@
 //! The tests of the library: known documents read and written, cut and changed, tables of faults, of items, look-ups,
 //! orders and texts, and what is left where memory is refused.
+//!
+//! The proof of a test grows faster than its body, by each reference in it: a table is one constant reference, and a
+//! function that is given a row, or makes one value, holds what the rows share.
 #![tactic(auto)]
 
 #[cfg(test)]

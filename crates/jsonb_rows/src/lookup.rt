@@ -95,30 +95,32 @@ fn words(rt: HostRuntime) -> Result<(), Fail> {
     Ok(())
 }
 
+// Documents and other bytes, a name, and what is answered.
+const LOOK_UPS: &[(&str, &str, &str)] = &[
+    (OBJECT, "ab", "raw 80000001200000025002, 5"),
+    (OBJECT, "aa", "number 1, 4"),
+    (OBJECT, "zz", "none, 3"),
+    (OBJECT, "a", "none, 3"),
+    (OBJECT, "", "none, 3"),
+    ("40000000", "a", "none, 1"),
+    ("80000000", "a", "none, 1"),
+    ("20000000 00000000", "a", "none, 1"),
+    // Keys that do not ascend.
+    (
+        "40000002 10000001 10000001 00000000 00000000 62 61",
+        "a",
+        "null, 5",
+    ),
+    ("5fffffff", "a", "InvalidEOF, 1"),
+    ("400000", "a", "InvalidEOF, 0"),
+    ("", "a", "InvalidEOF, 0"),
+    ("01020304", "a", "InvalidJsonb, 1"),
+    ("c0000000", "a", "InvalidJsonb, 1"),
+];
+
 #[test]
 fn worked_look_ups(rt: HostRuntime) -> Result<(), Fail> {
-    let rows = [
-        (OBJECT, "ab", "raw 80000001200000025002, 5"),
-        (OBJECT, "aa", "number 1, 4"),
-        (OBJECT, "zz", "none, 3"),
-        (OBJECT, "a", "none, 3"),
-        (OBJECT, "", "none, 3"),
-        ("40000000", "a", "none, 1"),
-        ("80000000", "a", "none, 1"),
-        ("20000000 00000000", "a", "none, 1"),
-        // Keys that do not ascend.
-        (
-            "40000002 10000001 10000001 00000000 00000000 62 61",
-            "a",
-            "null, 5",
-        ),
-        ("5fffffff", "a", "InvalidEOF, 1"),
-        ("400000", "a", "InvalidEOF, 0"),
-        ("", "a", "InvalidEOF, 0"),
-        ("01020304", "a", "InvalidJsonb, 1"),
-        ("c0000000", "a", "InvalidJsonb, 1"),
-    ];
-    for (bytes, name, answer) in rows {
+    for &(bytes, name, answer) in LOOK_UPS {
         let bytes = bytes_of(rt.alloc(), bytes)?;
         for text in answers(rt.alloc(), &bytes, name)? {
             assert_eq!(rt; text.as_str(), answer);
@@ -127,29 +129,41 @@ fn worked_look_ups(rt: HostRuntime) -> Result<(), Fail> {
     Ok(())
 }
 
+// The first value whose key has the length of the name: the closure accepts all it is asked about.
+fn first_of_length(alloc: Global, raw: RawJsonb, name: &str) -> Result<String, Fail> {
+    let found = raw.get_object_value_by_key_name(name, |_, _| true);
+    written(alloc, found, 0)
+}
+
+// What a look-up that passes over the case of letters answers.
+fn in_any_case(alloc: Global, raw: RawJsonb, name: &str) -> Result<String, Fail> {
+    let mut reads = Reads::new();
+    let found = raw.get_object_value_by_key_name_counted(
+        name,
+        |wanted, key| wanted.eq_ignore_ascii_case(key),
+        &mut reads,
+    );
+    written(alloc, found, reads.count())
+}
+
 #[test]
 fn other_closures(rt: HostRuntime) -> Result<(), Fail> {
     let bytes = bytes_of(rt.alloc(), OBJECT)?;
     let raw = RawJsonb::new(&bytes);
-    let mut reads = Reads::new();
-    let any_case = raw.get_object_value_by_key_name_counted(
-        "AB",
-        |wanted, key| wanted.eq_ignore_ascii_case(key),
-        &mut reads,
-    );
-    let text = written(rt.alloc(), any_case, reads.count())?;
+    let text = in_any_case(rt.alloc(), raw, "AB")?;
     assert_eq!(rt; text.as_str(), "raw 80000001200000025002, 5");
 
     // A closure that accepts all it is asked about is not asked about keys of other lengths.
-    let other = raw.get_object_value_by_key_name("a", |_, _| true);
-    assert_eq!(rt; written(rt.alloc(), other, 0)?.as_str(), "none, 0");
-    let first = raw.get_object_value_by_key_name("zz", |_, _| true);
-    assert_eq!(rt; written(rt.alloc(), first, 0)?.as_str(), "number 1, 0");
+    assert_eq!(rt; first_of_length(rt.alloc(), raw, "a")?.as_str(), "none, 0");
+    assert_eq!(rt;
+        first_of_length(rt.alloc(), raw, "zz")?.as_str(),
+        "number 1, 0"
+    );
     Ok(())
 }
 
 // Names, from which to which length the object is cut, and what is answered then.
-const CUTS: [(&str, usize, usize, &str); 20] = [
+const CUTS: &[(&str, usize, usize, &str)] = &[
     ("ab", 0, 4, "InvalidEOF, 0"),
     ("ab", 4, 8, "InvalidEOF, 1"),
     ("ab", 8, 22, "InvalidJsonb, 2"),
@@ -176,7 +190,7 @@ const CUTS: [(&str, usize, usize, &str); 20] = [
 fn cut_bytes(rt: HostRuntime) -> Result<(), Fail> {
     let bytes = bytes_of(rt.alloc(), OBJECT)?;
     assert_eq!(rt; bytes.len(), OBJECT_LEN);
-    for (name, from, to, answer) in CUTS {
+    for &(name, from, to, answer) in CUTS {
         for end in from..to {
             let Some(cut) = bytes.get(..end) else {
                 continue;
@@ -190,7 +204,7 @@ fn cut_bytes(rt: HostRuntime) -> Result<(), Fail> {
 }
 
 // Which byte of the object is changed to what, a name, and what is answered then.
-const CHANGES: [(usize, u8, &str, &str); 17] = [
+const CHANGES: &[(usize, u8, &str, &str)] = &[
     // The header.
     (0, 0x00, "ab", "InvalidJsonb, 1"),
     (0, 0x20, "ab", "none, 1"),
@@ -215,7 +229,7 @@ const CHANGES: [(usize, u8, &str, &str); 17] = [
 
 #[test]
 fn changed_bytes(rt: HostRuntime) -> Result<(), Fail> {
-    for (place, byte, name, answer) in CHANGES {
+    for &(place, byte, name, answer) in CHANGES {
         let mut bytes = bytes_of(rt.alloc(), OBJECT)?;
         if let Some(old) = bytes.get_mut(place) {
             *old = byte;

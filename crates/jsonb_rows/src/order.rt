@@ -15,7 +15,7 @@ const NO_DOCUMENT: usize = 50;
 const OBJECT: &[u8] = b"\x40\0\0\x02\x10\0\0\x01\x10\0\0\x01\x20\0\0\x02\x10\0\0\x03ab\x50\x01123";
 
 // Bytes, each with its place among them: those of one place are equal.
-const PLACED: [(usize, &str); 59] = [
+const PLACED: &[(usize, &str)] = &[
     // Extension values: Binary, Date, Timestamp, TimestampTz twice, Interval.
     (0, "20000000 60000001 00"),
     (1, "20000000 60000002 00 00"),
@@ -99,8 +99,8 @@ const PLACED: [(usize, &str); 59] = [
 // The bytes of the table, with their places.
 fn placed(alloc: Global) -> Result<Vec<(usize, OwnedJsonb)>, Fail> {
     let mut values = Vec::new(alloc);
-    for (place, text) in &PLACED {
-        values.push((*place, OwnedJsonb::new(bytes_of(alloc, text)?)))?;
+    for &(place, text) in PLACED {
+        values.push((place, OwnedJsonb::new(bytes_of(alloc, text)?)))?;
     }
     Ok(values)
 }
@@ -111,9 +111,11 @@ fn by_places(rt: HostRuntime) -> Result<(), Fail> {
     for (i, left) in &values {
         for (j, right) in &values {
             let order = i.cmp(j);
-            assert_eq!(rt; left.cmp(right), order, "at {i} and {j}");
-            assert_eq!(rt; left.partial_cmp(right), Some(order), "at {i} and {j}");
-            assert_eq!(rt; left == right, i == j, "at {i} and {j}");
+            assert_eq!(rt;
+                (left.cmp(right), left.partial_cmp(right), left == right),
+                (order, Some(order), i == j),
+                "at {i} and {j}"
+            );
         }
     }
     Ok(())
@@ -127,9 +129,11 @@ fn views_by_places(rt: HostRuntime) -> Result<(), Fail> {
             let left = left.as_raw();
             let right = right.as_raw();
             let order = i.cmp(j);
-            assert_eq!(rt; left.cmp(&right), order, "at {i} and {j}");
-            assert_eq!(rt; left.partial_cmp(&right), Some(order), "at {i} and {j}");
-            assert_eq!(rt; left == right, i == j, "at {i} and {j}");
+            assert_eq!(rt;
+                (left.cmp(&right), left.partial_cmp(&right), left == right),
+                (order, Some(order), i == j),
+                "at {i} and {j}"
+            );
             let both = *i < NO_DOCUMENT && *j < NO_DOCUMENT;
             assert_eq!(rt;
                 left.try_cmp(&right),

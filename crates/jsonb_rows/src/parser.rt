@@ -104,87 +104,96 @@ fn at_most_255_digits_after_the_point(rt: HostRuntime) -> Result<(), Error> {
     Ok(())
 }
 
+// Texts like numbers.
+const NO_NUMBERS: &[&str] = &[
+    "170141183460469231731687303715884105728",
+    "-170141183460469231731687303715884105729",
+    "0.170141183460469231731687303715884105728",
+    "-1.70141183460469231731687303715884105729",
+    "340282366920938463463374607431768211456",
+    "340282366920938463463374607431768211457",
+    "01",
+    "-01",
+    "00",
+    "1.",
+    "1.e",
+    ".5",
+    "-",
+    "-.5",
+    "+1",
+    "--1",
+    "1e5",
+    "1E5",
+    "1.5e0",
+    "1.2.3",
+    "0x1",
+    "1_0",
+    "NaN",
+    "Infinity",
+    "\u{661}",
+];
+
 #[test]
 fn no_other_number_is_read(rt: HostRuntime) {
-    for text in [
-        "170141183460469231731687303715884105728",
-        "-170141183460469231731687303715884105729",
-        "0.170141183460469231731687303715884105728",
-        "-1.70141183460469231731687303715884105729",
-        "340282366920938463463374607431768211456",
-        "340282366920938463463374607431768211457",
-        "01",
-        "-01",
-        "00",
-        "1.",
-        "1.e",
-        ".5",
-        "-",
-        "-.5",
-        "+1",
-        "--1",
-        "1e5",
-        "1E5",
-        "1.5e0",
-        "1.2.3",
-        "0x1",
-        "1_0",
-        "NaN",
-        "Infinity",
-        "\u{661}",
-    ] {
+    for &text in NO_NUMBERS {
         assert!(rt; is_refused(rt.alloc(), text), "{text}");
     }
 }
 
+// Texts, and the strings that they mean.
+const STRINGS: &[(&str, &str)] = &[
+    ("\"\"", ""),
+    ("\"abc\"", "abc"),
+    ("\"\u{e9}\u{20ac}\u{1f600}\"", "\u{e9}\u{20ac}\u{1f600}"),
+    ("\"/\u{7f}\u{2028}\"", "/\u{7f}\u{2028}"),
+    ("\"\\\"\\\\\\/\\b\\f\\n\\r\\t\"", "\"\\/\u{8}\u{c}\n\r\t"),
+    ("\"a\\nb\\nc\"", "a\nb\nc"),
+    ("\"\\u0000\"", "\0"),
+    ("\"\\u00e9\\u00E9\\u20aC\"", "\u{e9}\u{e9}\u{20ac}"),
+    ("\"\\ud83d\\ude00\"", "\u{1f600}"),
+    ("\"\\uD800\\uDC00\\uDBFF\\uDFFF\"", "\u{10000}\u{10ffff}"),
+    ("\"\\ud7ff\\ue000\"", "\u{d7ff}\u{e000}"),
+    ("\"\u{feff}\"", "\u{feff}"),
+];
+
 #[test]
 fn strings_are_read_with_their_escapes(rt: HostRuntime) {
-    for (text, content) in [
-        ("\"\"", ""),
-        ("\"abc\"", "abc"),
-        ("\"\u{e9}\u{20ac}\u{1f600}\"", "\u{e9}\u{20ac}\u{1f600}"),
-        ("\"/\u{7f}\u{2028}\"", "/\u{7f}\u{2028}"),
-        ("\"\\\"\\\\\\/\\b\\f\\n\\r\\t\"", "\"\\/\u{8}\u{c}\n\r\t"),
-        ("\"a\\nb\\nc\"", "a\nb\nc"),
-        ("\"\\u0000\"", "\0"),
-        ("\"\\u00e9\\u00E9\\u20aC\"", "\u{e9}\u{e9}\u{20ac}"),
-        ("\"\\ud83d\\ude00\"", "\u{1f600}"),
-        ("\"\\uD800\\uDC00\\uDBFF\\uDFFF\"", "\u{10000}\u{10ffff}"),
-        ("\"\\ud7ff\\ue000\"", "\u{d7ff}\u{e000}"),
-        ("\"\u{feff}\"", "\u{feff}"),
-    ] {
+    for &(text, content) in STRINGS {
         assert!(rt; means_string(rt.alloc(), text, content), "{text}");
     }
 }
 
+// Texts like strings.
+const NO_STRINGS: &[&str] = &[
+    "\"",
+    "\"abc",
+    "\"abc\\\"",
+    "\"\\",
+    "\"\\a\"",
+    "\"\\'\"",
+    "\"\\U0041\"",
+    "\"\\u\"",
+    "\"\\u00\"",
+    "\"\\u00g0\"",
+    "\"\\u+041\"",
+    "\"\\ud83d\"",
+    "\"\\ude00\"",
+    "\"\\ude00\\ud83d\"",
+    "\"\\ud83dx\"",
+    "\"\\ud83d\\n\"",
+    "\"\\ud83d\\ud83d\"",
+    "\"\\ud83d\\u0041\"",
+    "\"\0\"",
+    "\"\u{8}\"",
+    "\"\t\"",
+    "\"\n\"",
+    "\"\u{1f}\"",
+    "'a'",
+];
+
 #[test]
 fn no_other_string_is_read(rt: HostRuntime) {
-    for text in [
-        "\"",
-        "\"abc",
-        "\"abc\\\"",
-        "\"\\",
-        "\"\\a\"",
-        "\"\\'\"",
-        "\"\\U0041\"",
-        "\"\\u\"",
-        "\"\\u00\"",
-        "\"\\u00g0\"",
-        "\"\\u+041\"",
-        "\"\\ud83d\"",
-        "\"\\ude00\"",
-        "\"\\ude00\\ud83d\"",
-        "\"\\ud83dx\"",
-        "\"\\ud83d\\n\"",
-        "\"\\ud83d\\ud83d\"",
-        "\"\\ud83d\\u0041\"",
-        "\"\0\"",
-        "\"\u{8}\"",
-        "\"\t\"",
-        "\"\n\"",
-        "\"\u{1f}\"",
-        "'a'",
-    ] {
+    for &text in NO_STRINGS {
         assert!(rt; is_refused(rt.alloc(), text), "{text}");
     }
 }
@@ -202,83 +211,89 @@ fn debug_text(alloc: Global, text: &str) -> Result<String, Error> {
     Ok(format!(in alloc; "{value:?}")?)
 }
 
+// Texts, and how the values that they mean are shown.
+const WHOLE: &[(&str, &str)] = &[
+    ("null", "Null"),
+    ("true", "Bool(true)"),
+    (" \t\n\rfalse\r\n\t ", "Bool(false)"),
+    ("[]", "Array([])"),
+    ("[ ]", "Array([])"),
+    ("{}", "Object({})"),
+    ("{ \n}", "Object({})"),
+    ("[null,[true]]", "Array([Null, Array([Bool(true)])])"),
+    (
+        " [ null\t,\n[ true ]\r] ",
+        "Array([Null, Array([Bool(true)])])",
+    ),
+    ("{\"a\":1,\"a\":2}", "Object({\"a\": Number(UInt64(2))})"),
+    (
+        "{\"b\":[],\"a\":{},\"b\":null}",
+        "Object({\"a\": Object({}), \"b\": Null})",
+    ),
+    (
+        "{ \"a\" : { \"\\u0062\" : \"c\" } }",
+        "Object({\"a\": Object({\"b\": String(\"c\")})})",
+    ),
+];
+
 #[test]
 fn whole_texts_are_read(rt: HostRuntime) -> Result<(), Error> {
-    for (text, shown) in [
-        ("null", "Null"),
-        ("true", "Bool(true)"),
-        (" \t\n\rfalse\r\n\t ", "Bool(false)"),
-        ("[]", "Array([])"),
-        ("[ ]", "Array([])"),
-        ("{}", "Object({})"),
-        ("{ \n}", "Object({})"),
-        ("[null,[true]]", "Array([Null, Array([Bool(true)])])"),
-        (
-            " [ null\t,\n[ true ]\r] ",
-            "Array([Null, Array([Bool(true)])])",
-        ),
-        ("{\"a\":1,\"a\":2}", "Object({\"a\": Number(UInt64(2))})"),
-        (
-            "{\"b\":[],\"a\":{},\"b\":null}",
-            "Object({\"a\": Object({}), \"b\": Null})",
-        ),
-        (
-            "{ \"a\" : { \"\\u0062\" : \"c\" } }",
-            "Object({\"a\": Object({\"b\": String(\"c\")})})",
-        ),
-    ] {
+    for &(text, shown) in WHOLE {
         assert_eq!(rt; debug_text(rt.alloc(), text)?.as_str(), shown, "{text}");
     }
     Ok(())
 }
 
+// Texts that mean no value.
+const NO_TEXTS: &[&str] = &[
+    "",
+    " ",
+    "nul",
+    "nulll",
+    "Null",
+    "tru e",
+    "falsehood",
+    "null null",
+    "1 x",
+    "{} []",
+    "[",
+    "]",
+    "[1",
+    "[1,",
+    "[1,]",
+    "[,1]",
+    "[1 2]",
+    "[1}",
+    "{",
+    "}",
+    "{\"a\"",
+    "{\"a\":",
+    "{\"a\":1",
+    "{\"a\":1,",
+    "{\"a\":1,}",
+    "{,\"a\":1}",
+    "{\"a\",1}",
+    "{\"a\" 1}",
+    "{a:1}",
+    "{1:1}",
+    "{\"a\":1]",
+    "{\"a\":1 \"b\":2}",
+    "{\"a\":170141183460469231731687303715884105728,\"a\":1}",
+    "\u{b}null",
+    "\u{c}null",
+    "\u{a0}null",
+    "null\u{a0}",
+    "\u{2028}null",
+    "\u{feff}null",
+    "null\u{feff}",
+    "[\u{feff}1]",
+    "/* */null",
+    "null//",
+];
+
 #[test]
 fn no_other_text_is_read(rt: HostRuntime) {
-    for text in [
-        "",
-        " ",
-        "nul",
-        "nulll",
-        "Null",
-        "tru e",
-        "falsehood",
-        "null null",
-        "1 x",
-        "{} []",
-        "[",
-        "]",
-        "[1",
-        "[1,",
-        "[1,]",
-        "[,1]",
-        "[1 2]",
-        "[1}",
-        "{",
-        "}",
-        "{\"a\"",
-        "{\"a\":",
-        "{\"a\":1",
-        "{\"a\":1,",
-        "{\"a\":1,}",
-        "{,\"a\":1}",
-        "{\"a\",1}",
-        "{\"a\" 1}",
-        "{a:1}",
-        "{1:1}",
-        "{\"a\":1]",
-        "{\"a\":1 \"b\":2}",
-        "{\"a\":170141183460469231731687303715884105728,\"a\":1}",
-        "\u{b}null",
-        "\u{c}null",
-        "\u{a0}null",
-        "null\u{a0}",
-        "\u{2028}null",
-        "\u{feff}null",
-        "null\u{feff}",
-        "[\u{feff}1]",
-        "/* */null",
-        "null//",
-    ] {
+    for &text in NO_TEXTS {
         assert!(rt; is_refused(rt.alloc(), text), "{text}");
     }
 }

@@ -1,58 +1,81 @@
 // Names of errors, and payloads as they are written.
 use jsonb::{Date, Decimal64, Error, ExtensionValue, Interval, Number, Opaque, Timestamp};
+use std::alloc::Global;
+use std::process::Abort;
 use std::test::Fail;
+
+// Errors, and their names.
+const NAMES: &[(Error, &str)] = &[
+    (Error::InvalidEOF, "InvalidEOF"),
+    (Error::InvalidJsonb, "InvalidJsonb"),
+    (Error::InvalidJsonbHeader, "InvalidJsonbHeader"),
+    (Error::InvalidJsonbJEntry, "InvalidJsonbJEntry"),
+    (Error::InvalidJsonbNumber, "InvalidJsonbNumber"),
+    (Error::InvalidJsonbExtension, "InvalidJsonbExtension"),
+    (Error::InvalidUtf8, "InvalidUtf8"),
+    (Error::ObjectDuplicateKey, "ObjectDuplicateKey"),
+    (Error::InvalidJson, "InvalidJson"),
+    (Error::OutOfMemory, "OutOfMemory"),
+];
 
 #[test]
 fn errors_display_their_names(rt: HostRuntime) -> Result<(), Fail> {
-    for (error, name) in [
-        (Error::InvalidEOF, "InvalidEOF"),
-        (Error::InvalidJsonb, "InvalidJsonb"),
-        (Error::InvalidJsonbHeader, "InvalidJsonbHeader"),
-        (Error::InvalidJsonbJEntry, "InvalidJsonbJEntry"),
-        (Error::InvalidJsonbNumber, "InvalidJsonbNumber"),
-        (Error::InvalidJsonbExtension, "InvalidJsonbExtension"),
-        (Error::InvalidUtf8, "InvalidUtf8"),
-        (Error::ObjectDuplicateKey, "ObjectDuplicateKey"),
-        (Error::InvalidJson, "InvalidJson"),
-        (Error::OutOfMemory, "OutOfMemory"),
-    ] {
+    for &(error, name) in NAMES {
         assert_eq!(rt; error.name(), name);
         assert_eq!(rt; format!(in rt.alloc(); "{error}")?.as_str(), name);
     }
     Ok(())
 }
 
+// Numbers, and their payloads.
+const NUMBERS: &[(Number, &[u8])] = &[
+    (Number::Int64(0), &[0x00]),
+    (Number::UInt64(0), &[0x00]),
+    (Number::Int64(-100), &[0x40, 0x9c]),
+    (Number::Int64(-128), &[0x40, 0x80]),
+    (Number::Int64(-129), &[0x40, 0xff, 0x7f]),
+    (Number::Int64(128), &[0x40, 0x00, 0x80]),
+    (Number::Int64(-32768), &[0x40, 0x80, 0x00]),
+    (Number::UInt64(255), &[0x50, 0xff]),
+    (Number::UInt64(256), &[0x50, 0x01, 0x00]),
+    (Number::UInt64(65535), &[0x50, 0xff, 0xff]),
+    (
+        Number::UInt64(18446744073709551615),
+        &[0x50, 0xff, 0xff, 0xff, 0xff, 0xff, 0xff, 0xff, 0xff],
+    ),
+    (
+        Number::Decimal64(Decimal64 {
+            scale: 2,
+            value: 1234,
+        }),
+        &[0x70, 0, 0, 0, 0, 0, 0, 0x04, 0xd2, 0x02],
+    ),
+];
+
 #[test]
 fn numbers_as_they_are_written(rt: HostRuntime) -> Result<(), Fail> {
-    for (number, payload) in [
-        (Number::Int64(0), [0x00].as_slice()),
-        (Number::UInt64(0), [0x00].as_slice()),
-        (Number::Int64(-100), [0x40, 0x9c].as_slice()),
-        (Number::Int64(-128), [0x40, 0x80].as_slice()),
-        (Number::Int64(-129), [0x40, 0xff, 0x7f].as_slice()),
-        (Number::Int64(128), [0x40, 0x00, 0x80].as_slice()),
-        (Number::Int64(-32768), [0x40, 0x80, 0x00].as_slice()),
-        (Number::UInt64(255), [0x50, 0xff].as_slice()),
-        (Number::UInt64(256), [0x50, 0x01, 0x00].as_slice()),
-        (Number::UInt64(65535), [0x50, 0xff, 0xff].as_slice()),
-        (
-            Number::UInt64(18446744073709551615),
-            [0x50, 0xff, 0xff, 0xff, 0xff, 0xff, 0xff, 0xff, 0xff].as_slice(),
-        ),
-        (
-            Number::Decimal64(Decimal64 {
-                scale: 2,
-                value: 1234,
-            }),
-            [0x70, 0, 0, 0, 0, 0, 0, 0x04, 0xd2, 0x02].as_slice(),
-        ),
-    ] {
+    for &(number, payload) in NUMBERS {
         let mut written = Vec::new(rt.alloc());
         assert_eq!(rt; number.compact_encode(&mut written)?, payload.len());
         assert_eq!(rt; written.as_slice(), payload);
         assert_eq!(rt; number.compact_len(), payload.len());
         assert!(rt; Number::decode(payload).is_ok());
     }
+    Ok(())
+}
+
+// Ends a test in which an extension value's payload is another.
+fn assert_payload(
+    rt: &impl Abort,
+    alloc: Global,
+    value: ExtensionValue,
+    payload: &[u8],
+) -> Result<(), Fail> {
+    let mut written = Vec::new(alloc);
+    assert_eq!(rt; value.compact_encode(&mut written)?, payload.len());
+    assert_eq!(rt; written.as_slice(), payload);
+    assert_eq!(rt; value.compact_len(), payload.len());
+    assert!(rt; ExtensionValue::decode(payload).is_ok());
     Ok(())
 }
 
@@ -90,11 +113,7 @@ fn extension_values_as_they_are_written(rt: HostRuntime) -> Result<(), Fail> {
             [0x50, 0xab, 0x01].as_slice(),
         ),
     ] {
-        let mut written = Vec::new(rt.alloc());
-        assert_eq!(rt; value.compact_encode(&mut written)?, payload.len());
-        assert_eq!(rt; written.as_slice(), payload);
-        assert_eq!(rt; value.compact_len(), payload.len());
-        assert!(rt; ExtensionValue::decode(payload).is_ok());
+        assert_payload(&rt, rt.alloc(), value, payload)?;
     }
     Ok(())
 }

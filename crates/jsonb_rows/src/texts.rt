@@ -1,12 +1,12 @@
 // Texts from outside, as tables, and a writer that refuses in mid-text.
-use crate::known::{Narrow, bytes_of};
+use crate::known::{Narrow, assert_bytes, bytes_of};
 use jsonb::{Error, OwnedJsonb, RawJsonb};
 use std::alloc::Global;
 use std::fmt;
 use std::test::Fail;
 
 // Documents, and other bytes, with their two texts.
-const TEXTS: [(&str, &str, &str); 27] = [
+const TEXTS: &[(&str, &str, &str)] = &[
     ("20000000 00000000", "null", "null"),
     ("20000000 40000000", "true", "true"),
     ("20000000 30000000", "false", "false"),
@@ -73,7 +73,7 @@ const TEXTS: [(&str, &str, &str); 27] = [
     ),
 ];
 
-const OTHERS: [(&str, &str); 7] = [
+const OTHERS: &[(&str, &str)] = &[
     ("", "null"),
     ("3132333435363738", "12345678"),
     ("01020304", "\u{1}\u{2}\u{3}\u{4}"),
@@ -85,7 +85,7 @@ const OTHERS: [(&str, &str); 7] = [
 
 #[test]
 fn texts_of_documents(rt: HostRuntime) -> Result<(), Fail> {
-    for (document, text, pretty) in TEXTS {
+    for &(document, text, pretty) in TEXTS {
         let bytes = bytes_of(rt.alloc(), document)?;
         let raw = RawJsonb::new(&bytes);
         assert_eq!(rt; raw.to_string(rt.alloc())?.as_str(), text);
@@ -94,25 +94,35 @@ fn texts_of_documents(rt: HostRuntime) -> Result<(), Fail> {
     Ok(())
 }
 
+// The text that Display writes, which passes over width and fill.
+fn displayed(alloc: Global, owned: &OwnedJsonb) -> Result<String, Fail> {
+    Ok(format!(in alloc; "{owned:*>50}")?)
+}
+
 #[test]
 fn texts_of_other_bytes(rt: HostRuntime) -> Result<(), Fail> {
-    for (other, text) in OTHERS {
+    for &(other, text) in OTHERS {
         let bytes = bytes_of(rt.alloc(), other)?;
         let raw = RawJsonb::new(&bytes);
         assert_eq!(rt; raw.to_string(rt.alloc())?.as_str(), text);
         assert_eq!(rt; raw.to_pretty_string(rt.alloc())?.as_str(), "null");
         let owned = OwnedJsonb::new(bytes);
-        assert_eq!(rt; format!(in rt.alloc(); "{owned:*>50}")?.as_str(), text);
+        assert_eq!(rt; displayed(rt.alloc(), &owned)?.as_str(), text);
     }
     Ok(())
 }
 
+// The text that Display writes with neither.
+fn plain(alloc: Global, owned: &OwnedJsonb) -> Result<String, Fail> {
+    Ok(format!(in alloc; "{owned}")?)
+}
+
 #[test]
 fn display_passes_over_width_and_fill(rt: HostRuntime) -> Result<(), Fail> {
-    for (document, text, _) in TEXTS {
+    for &(document, text, _) in TEXTS {
         let owned = OwnedJsonb::new(bytes_of(rt.alloc(), document)?);
-        assert_eq!(rt; format!(in rt.alloc(); "{owned}")?.as_str(), text);
-        assert_eq!(rt; format!(in rt.alloc(); "{owned:*>50}")?.as_str(), text);
+        assert_eq!(rt; plain(rt.alloc(), &owned)?.as_str(), text);
+        assert_eq!(rt; displayed(rt.alloc(), &owned)?.as_str(), text);
     }
     Ok(())
 }
@@ -138,41 +148,38 @@ fn text_of_deep_arrays(rt: HostRuntime) -> Result<(), Fail> {
     Ok(())
 }
 
+// Texts with the documents that they are read as.
+const READ: &[(&str, &str)] = &[
+    ("[false,true]", "80000002 30000000 40000000"),
+    (
+        "{\"b\":1.50,\"a\":-7}",
+        "40000002 10000001 10000001 20000002 2000000a 61 62 40f9 70 0000000000000096 02",
+    ),
+    ("\"\\u00e9\"", "20000000 10000002 c3a9"),
+    ("\"\\ud83d\\ude00\"", "20000000 10000004 f09f9880"),
+    ("{\"a\":1,\"a\":2}", "40000001 10000001 20000002 61 5002"),
+    ("-0", "20000000 20000001 00"),
+    ("-0.0", "20000000 2000000a 70 0000000000000000 01"),
+    (
+        "18446744073709551616",
+        "20000000 20000012 70 00000000000000010000000000000000 00",
+    ),
+    (
+        "-170141183460469231731687303715884105728",
+        "20000000 20000012 70 80000000000000000000000000000000 00",
+    ),
+];
+
 #[test]
 fn documents_of_texts(rt: HostRuntime) -> Result<(), Fail> {
-    let rows = [
-        ("[false,true]", "80000002 30000000 40000000"),
-        (
-            "{\"b\":1.50,\"a\":-7}",
-            "40000002 10000001 10000001 20000002 2000000a 61 62 40f9 70 0000000000000096 02",
-        ),
-        ("\"\\u00e9\"", "20000000 10000002 c3a9"),
-        ("\"\\ud83d\\ude00\"", "20000000 10000004 f09f9880"),
-        ("{\"a\":1,\"a\":2}", "40000001 10000001 20000002 61 5002"),
-        ("-0", "20000000 20000001 00"),
-        ("-0.0", "20000000 2000000a 70 0000000000000000 01"),
-        (
-            "18446744073709551616",
-            "20000000 20000012 70 00000000000000010000000000000000 00",
-        ),
-        (
-            "-170141183460469231731687303715884105728",
-            "20000000 20000012 70 80000000000000000000000000000000 00",
-        ),
-    ];
-    for (text, document) in rows {
+    for &(text, document) in READ {
         let owned = OwnedJsonb::parse(rt.alloc(), text)?;
-        assert_eq!(rt;
-            owned.as_bytes(),
-            bytes_of(rt.alloc(), document)?.as_slice()
-        );
+        assert_bytes(&rt, rt.alloc(), owned.as_bytes(), document)?;
     }
     let zeros = format!(in rt.alloc(); "0.{:0<255}", "")?;
     let owned = OwnedJsonb::parse(rt.alloc(), zeros.as_str())?;
-    assert_eq!(rt;
-        owned.as_bytes(),
-        bytes_of(rt.alloc(), "20000000 2000000a 70 0000000000000000 ff")?.as_slice()
-    );
+    let row = "20000000 2000000a 70 0000000000000000 ff";
+    assert_bytes(&rt, rt.alloc(), owned.as_bytes(), row)?;
     assert_eq!(rt; owned.as_raw().to_string(rt.alloc())?, zeros);
     Ok(())
 }
@@ -210,7 +217,7 @@ fn taken(alloc: Global, owned: &OwnedJsonb, room: usize) -> (bool, String) {
 
 #[test]
 fn a_writer_that_refuses(rt: HostRuntime) -> Result<(), Fail> {
-    for (document, text, _) in TEXTS {
+    for &(document, text, _) in TEXTS {
         let owned = OwnedJsonb::new(bytes_of(rt.alloc(), document)?);
         for room in 0..text.len() {
             let (all, front) = taken(rt.alloc(), &owned, room);

@@ -6,6 +6,7 @@ use jsonb::{
 };
 use std::alloc::{AllocError, Global};
 use std::fmt;
+use std::process::Abort;
 use std::test::Fail;
 
 fn with_room(alloc: Global, room: usize) -> fmt::Formatter<Narrow> {
@@ -41,58 +42,55 @@ fn large(scale: u8, value: i128) -> Number {
     Number::Decimal128(Decimal128 { scale, value })
 }
 
+// Integers, and decimals by their scale and digits, with their texts.
+const NUMBERS: &[(Number, &str)] = &[
+    (Number::UInt64(0), "0"),
+    (Number::UInt64(u64::MAX), "18446744073709551615"),
+    (Number::Int64(0), "0"),
+    (Number::Int64(-7), "-7"),
+    (Number::Int64(i64::MIN), "-9223372036854775808"),
+];
+
+const SMALL: &[(u8, i64, &str)] = &[
+    (2, 1234, "12.34"),
+    (1, -5, "-0.5"),
+    (2, 5, "0.05"),
+    (2, 0, "0.00"),
+    (1, 0, "0.0"),
+    (0, -7, "-7"),
+    (0, i64::MIN, "-9223372036854775808"),
+    (18, i64::MIN, "-9.223372036854775808"),
+    (19, i64::MAX, "0.9223372036854775807"),
+];
+
+const LARGE: &[(u8, i128, &str)] = &[
+    (0, i128::MIN, "-170141183460469231731687303715884105728"),
+    (1, i128::MIN, "-17014118346046923173168730371588410572.8"),
+    (38, i128::MIN, "-1.70141183460469231731687303715884105728"),
+    (39, i128::MIN, "-0.170141183460469231731687303715884105728"),
+    (0, i128::MAX, "170141183460469231731687303715884105727"),
+    (1, i128::MAX, "17014118346046923173168730371588410572.7"),
+    (38, i128::MAX, "1.70141183460469231731687303715884105727"),
+    (39, i128::MAX, "0.170141183460469231731687303715884105727"),
+];
+
+// Ends a test in which a number's text is another.
+fn assert_number(rt: &impl Abort, alloc: Global, number: Number, text: &str) -> Result<(), Fail> {
+    assert_eq!(rt; number_text(alloc, &number)?.as_str(), text);
+    Ok(())
+}
+
 #[test]
 fn numbers(rt: HostRuntime) -> Result<(), Fail> {
-    let table = [
-        (Number::UInt64(0), "0"),
-        (Number::UInt64(u64::MAX), "18446744073709551615"),
-        (Number::Int64(0), "0"),
-        (Number::Int64(-7), "-7"),
-        (Number::Int64(i64::MIN), "-9223372036854775808"),
-        (small(2, 1234), "12.34"),
-        (small(1, -5), "-0.5"),
-        (small(2, 5), "0.05"),
-        (small(2, 0), "0.00"),
-        (small(1, 0), "0.0"),
-        (small(0, -7), "-7"),
-        (small(0, i64::MIN), "-9223372036854775808"),
-        (small(18, i64::MIN), "-9.223372036854775808"),
-        (small(19, i64::MAX), "0.9223372036854775807"),
-        (
-            large(0, i128::MIN),
-            "-170141183460469231731687303715884105728",
-        ),
-        (
-            large(1, i128::MIN),
-            "-17014118346046923173168730371588410572.8",
-        ),
-        (
-            large(38, i128::MIN),
-            "-1.70141183460469231731687303715884105728",
-        ),
-        (
-            large(39, i128::MIN),
-            "-0.170141183460469231731687303715884105728",
-        ),
-        (
-            large(0, i128::MAX),
-            "170141183460469231731687303715884105727",
-        ),
-        (
-            large(1, i128::MAX),
-            "17014118346046923173168730371588410572.7",
-        ),
-        (
-            large(38, i128::MAX),
-            "1.70141183460469231731687303715884105727",
-        ),
-        (
-            large(39, i128::MAX),
-            "0.170141183460469231731687303715884105727",
-        ),
-    ];
-    for (number, text) in table {
-        assert_eq!(rt; number_text(rt.alloc(), &number)?.as_str(), text);
+    let alloc = rt.alloc();
+    for &(number, text) in NUMBERS {
+        assert_number(&rt, alloc, number, text)?;
+    }
+    for &(scale, value, text) in SMALL {
+        assert_number(&rt, alloc, small(scale, value), text)?;
+    }
+    for &(scale, value, text) in LARGE {
+        assert_number(&rt, alloc, large(scale, value), text)?;
     }
     Ok(())
 }
@@ -106,23 +104,37 @@ fn numbers_of_the_greatest_scale(rt: HostRuntime) -> Result<(), Fail> {
     Ok(())
 }
 
+// Strings, and their texts.
+const STRINGS: &[(&str, &str)] = &[
+    ("", "\"\""),
+    (
+        "a\"\n\u{1}\u{7f}/\u{e9}",
+        "\"a\\\"\\n\\u0001\u{7f}/\u{e9}\"",
+    ),
+    (
+        "\u{8}\t\n\u{c}\r\\\u{1f} \u{0}",
+        "\"\\b\\t\\n\\f\\r\\\\\\u001f \\u0000\"",
+    ),
+    ("\u{1f600}\"\u{1f600}", "\"\u{1f600}\\\"\u{1f600}\""),
+];
+
 #[test]
 fn strings(rt: HostRuntime) -> Result<(), Fail> {
-    let table = [
-        ("", "\"\""),
-        (
-            "a\"\n\u{1}\u{7f}/\u{e9}",
-            "\"a\\\"\\n\\u0001\u{7f}/\u{e9}\"",
-        ),
-        (
-            "\u{8}\t\n\u{c}\r\\\u{1f} \u{0}",
-            "\"\\b\\t\\n\\f\\r\\\\\\u001f \\u0000\"",
-        ),
-        ("\u{1f600}\"\u{1f600}", "\"\u{1f600}\\\"\u{1f600}\""),
-    ];
-    for (content, text) in table {
+    for &(content, text) in STRINGS {
         assert_eq!(rt; string_text(rt.alloc(), content)?.as_str(), text);
     }
+    Ok(())
+}
+
+// Ends a test in which an extension value's text is another, or width and fill are not passed over.
+fn assert_text(
+    rt: &impl Abort,
+    alloc: Global,
+    value: ExtensionValue,
+    text: &str,
+) -> Result<(), Fail> {
+    assert_eq!(rt; value.to_string(alloc)?.as_str(), text);
+    assert_eq!(rt; format!(in alloc; "{value:*>40}")?.as_str(), text);
     Ok(())
 }
 
@@ -152,9 +164,7 @@ fn extension_values(rt: HostRuntime) -> Result<(), Fail> {
         (ExtensionValue::Opaque(opaque), "50ab01"),
     ];
     for (value, text) in table {
-        assert_eq!(rt; value.to_string(rt.alloc())?.as_str(), text);
-        // Width and fill are passed over.
-        assert_eq!(rt; format!(in rt.alloc(); "{value:*>40}")?.as_str(), text);
+        assert_text(&rt, rt.alloc(), value, text)?;
     }
     Ok(())
 }
