@@ -73,10 +73,10 @@ none_from_ends : (bytes : List ℕ) (n : ℕ) → n ≤ length bytes → length 
 none_from_ends bytes n within covers none k from upto = elim (cases_lt k n) [
   | inl front ↦ sym (ap is_escaped (get_or-ends_front n bytes k within front)) ∙ none k (omega arith) (omega arith)
   | inr behind ↦
-    let j = k - (length bytes - n) in
-    ap (λ i. is_escaped (get_or bytes i 0)) (omega arith)
-    ∙ sym (ap is_escaped (get_or-ends_back n bytes j within (omega arith)))
-    ∙ none (n + j) (omega arith) (omega arith)
+      let j = k - (length bytes - n) in
+      ap (λ i. is_escaped (get_or bytes i 0)) (omega arith)
+      ∙ sym (ap is_escaped (get_or-ends_back n bytes j within (omega arith)))
+      ∙ none (n + j) (omega arith) (omega arith)
 ]
 
 -- an empty mask of both ends says that no byte is escaped
@@ -84,7 +84,7 @@ pub none_escaped_at_ends : (bytes : List ℕ) (n mask : ℕ) → n ≤ length by
 none_escaped_at_ends bytes n mask within covers is = on_true _ _ (λ e.
     let whole : chunk 0 (n + n) (ends n bytes) ≡ ends n bytes = take_all (n + n) (ends n bytes) (omega (arith, length-ends n bytes within)) in
     none_from_ends bytes n within covers (λ k from upto.
-        none_from_empty_mask is_escaped (ends n bytes) 0 (n + n) 0 (omega (arith, length-ends n bytes within)) (rw whole (sym is ∙ eqb-true mask 0 e)) k from (omega arith)))
+    none_from_empty_mask is_escaped (ends n bytes) 0 (n + n) 0 (omega (arith, length-ends n bytes within)) (rw whole (sym is ∙ eqb-true mask 0 e)) k from (omega arith)))
 
 is_plain-not_escaped : (b : ℕ) → is_plain b ≡ not (is_escaped b)
 is_plain-not_escaped b = grind (arith, nat_tests)

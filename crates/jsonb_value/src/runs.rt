@@ -63,10 +63,7 @@ fn ends_of_eight(bytes: &[u8]) -> u8x16
 {
     let front = u8x8::from_slice(bytes);
     let back = u8x8::from_slice(&bytes[bytes.len() - 8..]);
-    front.shuffle(
-        back,
-        [0, 1, 2, 3, 4, 5, 6, 7, 8, 9, 10, 11, 12, 13, 14, 15],
-    )
+    front.shuffle(back, [0, 1, 2, 3, 4, 5, 6, 7, 8, 9, 10, 11, 12, 13, 14, 15])
 }
 
 // The first four and the last four bytes.
