@@ -51,9 +51,19 @@ fn deep() -> Value<'static> {
     })
 }
 
-fn keyed(count: usize) -> Value<'static> {
-    let pairs = (0..count).map(|k| (format!("key{k:06}"), Value::Number(Number::UInt64(k as u64))));
+// An object of so many keys: of numbers in order, which begin alike, or of numbers scattered, which
+// differ from their first bytes on.
+fn keyed(count: usize, name: fn(usize) -> String) -> Value<'static> {
+    let pairs = (0..count).map(|k| (name(k), Value::Number(Number::UInt64(k as u64))));
     Value::Object(pairs.collect::<BTreeMap<_, _>>())
+}
+
+fn numbered(number: usize) -> String {
+    format!("key{number:06}")
+}
+
+fn scattered(number: usize) -> String {
+    format!("{:08x}x", (number as u32).wrapping_mul(2_654_435_761))
 }
 
 fn report(name: &str, what: &str, bytes: usize, ours: f64, theirs: f64) {
@@ -86,18 +96,25 @@ fn documents() {
 }
 
 fn look_ups() {
-    for count in [10, 1_000, 100_000] {
-        let mut bytes = Vec::new();
-        api::encode(&keyed(count), &mut bytes);
-        for (place, key) in [("first", 0), ("middle", count / 2), ("last", count - 1)] {
-            let name = format!("key{key:06}");
-            let turns = 1_000_000 / count;
-            let ours = seconds(|| {
-                (0..turns).filter(|_| unsafe { measured_find(black_box(bytes.as_ptr()), bytes.len(), name.as_ptr(), name.len()) }).count()
-            });
-            let theirs = seconds(|| (0..turns).filter(|_| api::has(black_box(&bytes), &name)).count());
-            println!("{place:6} of {count:6} keys {:10.1} ns, the crate {:10.1} ns: {:.2} of its time", ours * 1e9 / turns as f64, theirs * 1e9 / turns as f64, ours / theirs);
+    for (shape, name) in [("numbered", numbered as fn(usize) -> String), ("scattered", scattered)] {
+        for count in [10, 1_000, 100_000] {
+            look_up(shape, count, name);
         }
+    }
+}
+
+fn look_up(shape: &str, count: usize, name: fn(usize) -> String) {
+    let value = keyed(count, name);
+    let bytes = encoded(&value);
+    let Value::Object(pairs) = &value else { unreachable!() };
+    let turns = 1_000_000 / count;
+    for (place, key) in [("first", 0), ("middle", count / 2), ("last", count - 1)] {
+        let name = pairs.keys().nth(key).unwrap();
+        let ours = seconds(|| {
+            (0..turns).filter(|_| unsafe { measured_find(black_box(bytes.as_ptr()), bytes.len(), name.as_ptr(), name.len()) }).count()
+        });
+        let theirs = seconds(|| (0..turns).filter(|_| api::has(black_box(&bytes), name)).count());
+        println!("{place:6} of {count:6} {shape:9} {:10.1} ns, the crate {:10.1} ns: {:.2} of its time", ours * 1e9 / turns as f64, theirs * 1e9 / turns as f64, ours / theirs);
     }
 }
 
