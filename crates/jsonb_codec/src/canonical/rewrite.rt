@@ -8,12 +8,14 @@ ghost use Rattle.jsonb_codec.specs.Doc.{type_of, Doc, IsDocument, Children};
 ghost use Rattle.jsonb_codec.specs.Parts.{IsPayloadOf};
 ghost use Rattle.jsonb_codec.specs.Canon.{payload_of, entries_of, payloads_of, canon, AllFit, FitsInside, FitsEntry, Fits};
 ghost use Rattle.jsonb_codec.specs.Canonical.{IsSomePayload, AreSomeChildren};
-ghost use Rattle.jsonb_codec.specs.Room.{HasRoom, Appended};
+ghost use Rattle.jsonb_codec.specs.Room.{HasRoom, Appended, last_length};
 
 use crate::constants::{CONTAINER_TAG, EXTENSION_TAG, NUMBER_TAG, SCALAR_CONTAINER_TAG};
 use crate::document::is_document;
 use crate::parts::{Part, extension_in, number_in, split_child, split_container, split_document};
-use crate::ser::append::{append_bytes, append_extension, append_number, append_word};
+use crate::ser::append::{
+    append_bytes, append_extension, append_number, append_word, known_size, payloads_size,
+};
 use crate::ser::measure::MAX_PAYLOAD;
 use jsonb_value::Error;
 
@@ -44,7 +46,7 @@ pub fn append_canonical(buf: &mut Vec<u8>, bytes: &[u8]) -> Result<(), Error>
         return Err(Error::InvalidJsonb);
     };
     buf.try_reserve(size)?;
-    append_document(buf, whole);
+    append_document(buf, whole, size);
     Ok(())
 }
 
@@ -131,90 +133,129 @@ fn measure_payloads(entries: &[u8], payloads: &[u8]) -> Option<usize>
     Some(total)
 }
 
-// Appends the canonical document, where there is room for all of it.
-fn append_document(out: &mut Vec<u8>, whole: Part<'_>)
-    requires { (t : Tree) × (IsPayloadOf whole.tag whole.payload.now t
+// Appends the canonical document, which has that length, where there is room for all of it.
+fn append_document(out: &mut Vec<u8>, whole: Part<'_>, size: usize)
+    requires document { (t : Tree) × (IsPayloadOf whole.tag whole.payload.now t
         × (Fits t × HasRoom out.old (canon t))) }
+    requires size { (t : Tree) → IsPayloadOf whole.tag whole.payload.now t → size ≡ length (canon t) }
     ensures { (t : Tree) → IsPayloadOf whole.entry.tag whole.entry.payload.now t
         → Appended out.old out.new (canon t) }
 {
-    if whole.tag != CONTAINER_TAG {
-        append_word(out, SCALAR_CONTAINER_TAG);
-        append_entry(out, whole);
+    if whole.tag == CONTAINER_TAG {
+        append_payload(out, whole, Some(size));
+        return;
     }
-    append_payload(out, whole);
+    append_word(out, SCALAR_CONTAINER_TAG);
+    append_entry(out, whole, size - 8);
+    append_payload(out, whole, None);
 }
 
-// The entry word of what is written.
-fn append_entry(out: &mut Vec<u8>, part: Part<'_>)
-    requires { (t : Tree) × (IsPayloadOf part.tag part.payload.now t
+// The entry word of what is written with that length.
+fn append_entry(out: &mut Vec<u8>, part: Part<'_>, size: usize)
+    requires child { (t : Tree) × (IsPayloadOf part.tag part.payload.now t
         × (FitsEntry t × HasRoom out.old (word (type_of t + length (payload_of t))))) }
+    requires size { (t : Tree) → IsPayloadOf part.tag part.payload.now t → size ≡ length (payload_of t) }
     ensures { (t : Tree) → IsPayloadOf part.entry.tag part.entry.payload.now t
         → Appended out.old out.new (word (type_of t + length (payload_of t))) }
 {
-    let Some(length) = measure_entry(part) else {
-        unreachable!();
-    };
-    append_word(out, part.tag + length as u32);
+    append_word(out, part.tag + size as u32);
 }
 
-// A payload, as it is written.
+// A payload, as it is written. The length of a container is given where it is known.
 #[cycle(append)]
-fn append_payload(out: &mut Vec<u8>, part: Part<'_>)
-    requires { (t : Tree) × (IsPayloadOf part.tag part.payload.now t
+fn append_payload(out: &mut Vec<u8>, part: Part<'_>, size: Option<usize>)
+    requires part { (t : Tree) × (IsPayloadOf part.tag part.payload.now t
         × (Fits t × HasRoom out.old (payload_of t))) }
+    requires size { (t : Tree) → IsPayloadOf part.tag part.payload.now t → IfSome size (λ n. n ≡ length (payload_of t)) }
     ensures { (t : Tree) → IsPayloadOf part.entry.tag part.entry.payload.now t
         → Appended out.old out.new (payload_of t) }
 {
     match part.tag {
         NUMBER_TAG => append_number(out, number_in(part.payload)),
         EXTENSION_TAG => append_extension(out, extension_in(part.payload)),
-        CONTAINER_TAG => append_container(out, part.payload),
+        CONTAINER_TAG => append_container(out, part.payload, size),
         _ => append_bytes(out, part.payload),
     }
 }
 
+// A container's payload, as the encoders write it.
 #[cycle(append)]
-fn append_container(out: &mut Vec<u8>, bytes: &[u8])
-    requires { (t : Tree) × (IsPayloadOf CONTAINER_TAG bytes.now t
+fn append_container(out: &mut Vec<u8>, bytes: &[u8], size: Option<usize>)
+    requires container { (t : Tree) × (IsPayloadOf CONTAINER_TAG bytes.now t
         × (FitsInside t × HasRoom out.old (payload_of t))) }
+    requires size { (t : Tree) → IsPayloadOf CONTAINER_TAG bytes.now t → IfSome size (λ n. n ≡ length (payload_of t)) }
     ensures { (t : Tree) → IsPayloadOf CONTAINER_TAG bytes.now t
         → Appended out.old out.new (payload_of t) }
 {
     let container = split_container(bytes);
     append_word(out, container.header);
-    append_entries(out, container.entries, container.payloads);
-    append_payloads(out, container.entries, container.payloads);
+    let inside = payloads_size(size, 4 + container.entries.len());
+    let last = append_entries(out, container.entries, container.payloads, inside);
+    append_payloads(out, container.entries, container.payloads, last);
 }
 
-// The entry words of children.
-fn append_entries(out: &mut Vec<u8>, entries: &[u8], payloads: &[u8])
-    requires { (ts : Trees) × (Children ts entries.now payloads.now
-        × (AllFit ts × HasRoom out.old (entries_of ts))) }
-    ensures { (ts : Trees) → Children ts entries.now payloads.now
-        → Appended out.old out.new (entries_of ts) }
+// The length of a child's payload: of the last one what the payloads before it leave, where the
+// length of all is known.
+fn child_size(part: Part<'_>, behind: usize, before: usize, size: Option<usize>) -> usize
+    requires { (t : Tree) × (IsPayloadOf part.tag part.payload.now t
+        × (FitsEntry t × (behind ≡ 0 → IfSome size (λ n. n ≡ before + length (payload_of t))))) }
+    ensures { (t : Tree) → IsPayloadOf part.entry.tag part.entry.payload.now t
+        → result ≡ length (payload_of t) }
 {
-    let mut entries_left = entries;
-    let mut payloads_left = payloads;
-    while let Some(child) = split_child(entries_left, payloads_left) {
-        append_entry(out, child.part);
-        entries_left = child.entries;
-        payloads_left = child.payloads;
+    match size {
+        Some(size) if behind == 0 => size - before,
+        _ => measured_size(part),
     }
 }
 
-// And their payloads.
+fn measured_size(part: Part<'_>) -> usize
+    requires { (t : Tree) × (IsPayloadOf part.tag part.payload.now t × FitsEntry t) }
+    ensures { (t : Tree) → IsPayloadOf part.entry.tag part.entry.payload.now t
+        → result ≡ length (payload_of t) }
+{
+    let Some(size) = measure_entry(part) else {
+        unreachable!();
+    };
+    size
+}
+
+// The entry words of children. The length of the last payload.
+fn append_entries(out: &mut Vec<u8>, entries: &[u8], payloads: &[u8], size: Option<usize>) -> usize
+    requires children { (ts : Trees) × (Children ts entries.now payloads.now
+        × (AllFit ts × HasRoom out.old (entries_of ts))) }
+    requires size { (ts : Trees) → Children ts entries.now payloads.now → IfSome size (λ n. n ≡ length (payloads_of ts)) }
+    requires small { (ts : Trees) → Children ts entries.now payloads.now → length (payloads_of ts) < 2 ^ 63 }
+    ensures written { (ts : Trees) → Children ts entries.now payloads.now
+        → Appended out.old out.new (entries_of ts) }
+    ensures last { (ts : Trees) → Children ts entries.now payloads.now → result ≡ last_length 0 ts }
+{
+    let mut entries_left = entries;
+    let mut payloads_left = payloads;
+    let mut before = 0;
+    let mut last = 0;
+    while let Some(child) = split_child(entries_left, payloads_left) {
+        last = child_size(child.part, child.entries.len(), before, size);
+        append_entry(out, child.part, last);
+        before += last;
+        entries_left = child.entries;
+        payloads_left = child.payloads;
+    }
+    last
+}
+
+// And their payloads, of which the last has that length.
 #[cycle(append)]
-fn append_payloads(out: &mut Vec<u8>, entries: &[u8], payloads: &[u8])
-    requires { (ts : Trees) × (Children ts entries.now payloads.now
+fn append_payloads(out: &mut Vec<u8>, entries: &[u8], payloads: &[u8], last: usize)
+    requires children { (ts : Trees) × (Children ts entries.now payloads.now
         × (AllFit ts × HasRoom out.old (payloads_of ts))) }
+    requires last { (ts : Trees) → Children ts entries.now payloads.now → last ≡ last_length 0 ts }
     ensures { (ts : Trees) → Children ts entries.now payloads.now
         → Appended out.old out.new (payloads_of ts) }
 {
     let mut entries_left = entries;
     let mut payloads_left = payloads;
     while let Some(child) = split_child(entries_left, payloads_left) {
-        append_payload(out, child.part);
+        append_payload(out, child.part, known_size(child.entries.len(), last));
         entries_left = child.entries;
         payloads_left = child.payloads;
     }

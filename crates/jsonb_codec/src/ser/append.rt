@@ -172,9 +172,9 @@ fn append_items(out: &mut Vec<u8>, items: Items<'_, '_>, size: Option<usize>)
     append_payloads(out, items, last);
 }
 
-// What is left of a length, where it is known.
+/// What is left of a length, where it is known.
 #[inline(always)]
-fn payloads_size(size: Option<usize>, before: usize) -> Option<usize>
+pub fn payloads_size(size: Option<usize>, before: usize) -> Option<usize>
     requires { IfSome size (λ n. before ≤ n) }
     ensures left { IfSome result (λ n. size ≡ Some (before + n)) }
     ensures none { IfNone result (size ≡ None) }
@@ -199,9 +199,9 @@ fn child_size(node: Node<'_, '_>, behind: usize, before: usize, size: Option<usi
     }
 }
 
-// The length of the last child's payload is known, and no other's.
+/// The length of the last child's payload is known, and no other's.
 #[inline(always)]
-fn known_size(behind: usize, last: usize) -> Option<usize>
+pub fn known_size(behind: usize, last: usize) -> Option<usize>
     ensures last { IfSome result (λ n. (behind ≡ 0) × (n ≡ last)) }
     ensures none { IfNone result (behind ≢ 0) }
 {

@@ -1,6 +1,5 @@
 use Rattle.std.proofs.Common.{◌≤◌, ◌+◌, ◌*◌, length, vec_capacity}
-use Rattle.jsonb_codec.specs.Canon.{payloads_of}
-use Rattle.jsonb_codec.proofs.Rewriting.{Written}
+use Rattle.jsonb_codec.proofs.Rewriting.{Followed}
 use Rattle.jsonb_codec.proofs.canonical.rewrite.+append.Given as goal
 
 -- A payload is longer than those inside it.
@@ -15,7 +14,7 @@ decreases-append_payloads l = 4 * (length l.entries.now + length l.payloads.now)
 
 abbrev pub invariant-append_payloads-loop-child : goal.invariant-append_payloads-loop-child
 invariant-append_payloads-loop-child l = record {
-  written : Written payloads_of l.fn.out l.out l.entries l.payloads l.entries_left l.payloads_left;
+  followed : Followed l.fn.out l.out l.entries l.payloads l.last l.entries_left l.payloads_left;
   capacity : vec_capacity l.fn.out ≤ vec_capacity l.out;
   payloads_shorter : length l.payloads_left ≤ length l.payloads;
 }

@@ -1,11 +1,10 @@
 use Rattle.std.proofs.Common.{◌≤◌, length, vec_capacity}
-use Rattle.jsonb_codec.specs.Canon.{entries_of}
-use Rattle.jsonb_codec.proofs.Rewriting.{Written}
+use Rattle.jsonb_codec.proofs.Rewriting.{Entered}
 use Rattle.jsonb_codec.proofs.canonical.rewrite.append_entries.Given as goal
 
 abbrev pub invariant-loop-child : goal.invariant-loop-child
 invariant-loop-child l = record {
-  written : Written entries_of l.fn.out l.out l.entries l.payloads l.entries_left l.payloads_left;
+  entered : Entered l.fn.out l.out l.entries l.payloads l.before l.last l.entries_left l.payloads_left;
   capacity : vec_capacity l.fn.out ≤ vec_capacity l.out;
 }
 
