@@ -16,7 +16,7 @@ ghost use Rattle.jsonb_codec.specs.Canon.{payload_of, entries_of, payloads_of, k
 ghost use Rattle.jsonb_codec.specs.Node.{node_tree, items_trees, object_pairs};
 ghost use Rattle.jsonb_codec.specs.Room.{HasRoom, Appended, last_length, last_value_length};
 
-use super::measure::measure_entry;
+use super::measure::measure_payload;
 use super::node::{AstPair, Items, Node, Pairs};
 use crate::constants::{
     ARRAY_CONTAINER_TAG, CONTAINER_TAG, OBJECT_CONTAINER_TAG, SCALAR_CONTAINER_TAG, STRING_TAG,
@@ -35,7 +35,7 @@ pub fn append_document(out: &mut Vec<u8>, node: Node<'_, '_>, size: usize)
         return;
     }
     append_word(out, SCALAR_CONTAINER_TAG);
-    append_entry(out, node, size - 8);
+    append_entry(out, node, Some(size - 8));
     append_payload(out, node, None);
 }
 
@@ -60,17 +60,50 @@ pub fn append_word(out: &mut Vec<u8>, number: u32)
     append_bytes(out, &number.to_be_bytes());
 }
 
-// The entry word of a value whose payload has that length.
+// The entry word of a value, and the length of its payload. That of a container is given where it
+// is known.
 #[inline(always)]
-fn append_entry(out: &mut Vec<u8>, node: Node<'_, '_>, size: usize)
-    requires size { size ≡ length (payload_of (node_tree node)) }
-    requires short { length (payload_of (node_tree node)) < 2 ^ 28 }
+fn append_entry(out: &mut Vec<u8>, node: Node<'_, '_>, known: Option<usize>) -> usize
+    requires fits { FitsEntry (node_tree node) }
+    requires known { IfSome known (λ n. n ≡ length (payload_of (node_tree node))) }
     requires room { HasRoom out.old
         (word (type_of (node_tree node) + length (payload_of (node_tree node)))) }
-    ensures { Appended out.old out.new
+    ensures written { Appended out.old out.new
         (word (type_of (node_tree node.entry) + length (payload_of (node_tree node.entry)))) }
+    ensures size { result ≡ length (payload_of (node_tree node.entry)) }
 {
-    append_word(out, node.entry_type() + size as u32);
+    // Type and length side by side, so that the code looks at the value's kind once.
+    let entry_type = node.entry_type();
+    let size = payload_size(node, known);
+    append_word(out, entry_type + size as u32);
+    size
+}
+
+// The length of a payload. That of a container is measured where it is not known.
+#[inline(always)]
+fn payload_size(node: Node<'_, '_>, known: Option<usize>) -> usize
+    requires fits { FitsEntry (node_tree node) }
+    requires known { IfSome known (λ n. n ≡ length (payload_of (node_tree node))) }
+    ensures { result ≡ length (payload_of (node_tree node.entry)) }
+{
+    match node {
+        Node::Array(_) | Node::Object(_) => match known {
+            Some(size) => size,
+            None => measured_size(node),
+        },
+        _ => measured_size(node),
+    }
+}
+
+#[inline(always)]
+fn measured_size(node: Node<'_, '_>) -> usize
+    requires { FitsEntry (node_tree node) }
+    ensures { result ≡ length (payload_of (node_tree node.entry)) }
+{
+    let Some(size) = measure_payload(node) else {
+        unreachable!();
+    };
+    size
 }
 
 // The payload of a value. The length of a container is given where it is known.
@@ -185,17 +218,17 @@ pub fn payloads_size(size: Option<usize>, before: usize) -> Option<usize>
     }
 }
 
-// The length of a child's payload: of the last one what the payloads before it leave, where the
-// length of all is known.
+// The length of the last child's payload: what the payloads before it leave of the length of all,
+// where that is known.
 #[inline(always)]
-fn child_size(node: Node<'_, '_>, behind: usize, before: usize, size: Option<usize>) -> usize
-    requires fits { FitsEntry (node_tree node) }
-    requires last { behind ≡ 0 → IfSome size (λ n. n ≡ before + length (payload_of (node_tree node))) }
-    ensures { result ≡ length (payload_of (node_tree node.entry)) }
+fn last_size(behind: usize, before: usize, size: Option<usize>) -> Option<usize>
+    requires { behind ≡ 0 → IfSome size (λ n. before ≤ n) }
+    ensures last { IfSome result (λ n. (behind ≡ 0) × (size ≡ Some (before + n))) }
+    ensures none { IfNone result (behind ≡ 0 → size ≡ None) }
 {
     match size {
-        Some(size) if behind == 0 => size - before,
-        _ => measured_size(node),
+        Some(size) if behind == 0 => Some(size - before),
+        _ => None,
     }
 }
 
@@ -206,17 +239,6 @@ pub fn known_size(behind: usize, last: usize) -> Option<usize>
     ensures none { IfNone result (behind ≢ 0) }
 {
     if behind == 0 { Some(last) } else { None }
-}
-
-#[inline(always)]
-fn measured_size(node: Node<'_, '_>) -> usize
-    requires { FitsEntry (node_tree node) }
-    ensures { result ≡ length (payload_of (node_tree node.entry)) }
-{
-    let Some(size) = measure_entry(node) else {
-        unreachable!();
-    };
-    size
 }
 
 // The entry words of an array's items. The length of the last payload.
@@ -233,8 +255,7 @@ fn append_entries(out: &mut Vec<u8>, items: Items<'_, '_>, size: Option<usize>) 
     let mut before = 0;
     let mut last = 0;
     while let Some((item, others)) = left.split_first() {
-        last = child_size(item, others.len(), before, size);
-        append_entry(out, item, last);
+        last = append_entry(out, item, last_size(others.len(), before, size));
         before += last;
         left = others;
     }
@@ -309,8 +330,7 @@ fn append_value_entries(out: &mut Vec<u8>, pairs: Pairs<'_, '_>, size: Option<us
     let mut last = 0;
     while let Some((_, value, others)) = left.split_first() {
         count -= 1;
-        last = child_size(value, count, before, size);
-        append_entry(out, value, last);
+        last = append_entry(out, value, last_size(count, before, size));
         before += last;
         left = others;
     }

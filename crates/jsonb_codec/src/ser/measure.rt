@@ -37,10 +37,10 @@ pub fn measure_document(node: Node<'_, '_>) -> Result<usize, Error>
     }
 }
 
-/// The length of a payload that has an entry.
+// The length of a payload that has an entry.
 #[cycle(measure)]
 #[inline(always)]
-pub fn measure_entry(node: Node<'_, '_>) -> Option<usize>
+fn measure_entry(node: Node<'_, '_>) -> Option<usize>
     ensures some { IfSome result (λ n. FitsEntry (node_tree node.entry)
         × (n ≡ length (payload_of (node_tree node.entry)))) }
     ensures tree { NodeAscends node.entry → OnSome result (IsTree (node_tree node.entry)) }
@@ -53,10 +53,10 @@ pub fn measure_entry(node: Node<'_, '_>) -> Option<usize>
     Some(length)
 }
 
-// The length of the payload.
+/// The length of the payload.
 #[cycle(measure)]
 #[inline(always)]
-fn measure_payload(node: Node<'_, '_>) -> Option<usize>
+pub fn measure_payload(node: Node<'_, '_>) -> Option<usize>
     ensures some { IfSome result (λ n. FitsInside (node_tree node.entry)
         × (n ≡ length (payload_of (node_tree node.entry)))) }
     ensures tree { NodeAscends node.entry → OnSome result (IsTree (node_tree node.entry)) }

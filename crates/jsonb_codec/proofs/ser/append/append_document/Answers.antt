@@ -8,7 +8,11 @@ overflow_sub-size c =
     let scalar = length-canon-scalar (node_tree c.args.node) (λ is. c.if-entry_type-eq-CONTAINER_TAG.false (c.entry_type.ensures.value ∙ is)) in
     omega (arith, c.requires.size, scalar)
 
-pub append_entry-requires-clause-size : goal.append_entry-requires-clause-size
-append_entry-requires-clause-size c =
+pub append_entry-requires-clause-known : goal.append_entry-requires-clause-known
+append_entry-requires-clause-known c =
     let scalar = length-canon-scalar (node_tree c.args.node) (λ is. c.if-entry_type-eq-CONTAINER_TAG.false (c.entry_type.ensures.value ∙ is)) in
     omega (arith, c.requires.size, scalar)
+
+pub append_entry-requires-clause-fits : goal.append_entry-requires-clause-fits
+append_entry-requires-clause-fits c =
+    record { inside = c.requires.fits.inside; short = c.requires.fits.short (λ is. c.if-entry_type-eq-CONTAINER_TAG.false (c.entry_type.ensures.value ∙ is)) }

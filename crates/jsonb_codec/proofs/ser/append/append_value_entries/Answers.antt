@@ -7,13 +7,18 @@ use Rattle.jsonb_codec.proofs.Appending.{length-Appended, append-Appended, lengt
 use Rattle.jsonb_codec.proofs.Words.{length-word, length-word-append}
 use Rattle.jsonb_codec.proofs.ser.append.append_value_entries.Goals as goal
 
-pub child_size-last-requires-clause-last : goal.child_size-last-requires-clause-last
-child_size-last-requires-clause-last c none =
+pub last_size-requires : goal.last_size-requires
+last_size-requires c none =
+    let before = rw c.in-Some.ensures.pairs at c.loop-value.invariant in
+    IfSome_then c.args.size c.requires.size (λ n h. omega (arith, h, before.before))
+
+pub append_entry-last-requires-clause-known : goal.append_entry-last-requires-clause-known
+append_entry-last-requires-clause-known c =
     let others = left_pairs c.in-Some.others in
     let before = rw c.in-Some.ensures.pairs at c.loop-value.invariant in
     let payloads = length-append (payload_of (node_tree c.in-Some.value)) (value_payloads others) in
-    let nothing = length-value_payloads-none others (omega (arith, none, before.count)) in
-    IfSome_then c.args.size c.requires.size (λ n h. omega (arith, h, before.before, payloads, nothing))
+    IfSome_then c.last_size.result c.last_size.ensures.last
+    (λ n h. omega (arith, rw h.1 at c.requires.size, before.before, payloads, length-value_payloads-none others (omega (arith, h.0, before.count))))
 
 pub loop-value-preserved : goal.loop-value-preserved
 loop-value-preserved c =
@@ -23,15 +28,15 @@ loop-value-preserved c =
     let k = type_of first + length (payload_of first) in
     let before = rw c.in-Some.ensures.pairs at l.invariant in
     let payloads = length-append (payload_of first) (value_payloads others) in
-    let longer = length-Appended c.append_entry.ensures in
+    let longer = length-Appended c.append_entry-last.ensures.written in
     record {
       fit = before.fit.1;
-      room = omega (arith, before.room, longer, length-word k, length-word-append k (value_entries others), c.append_entry.ensures.capacity);
-      written = append-Appended (value_entries others) c.append_entry.ensures ∙ before.written;
-      capacity = le_trans before.capacity c.append_entry.ensures.capacity;
+      room = omega (arith, before.room, longer, length-word k, length-word-append k (value_entries others), c.append_entry-last.ensures.written.capacity);
+      written = append-Appended (value_entries others) c.append_entry-last.ensures.written ∙ before.written;
+      capacity = le_trans before.capacity c.append_entry-last.ensures.written.capacity;
       count = omega (arith, before.count);
-      before = omega (arith, before.before, payloads, c.child_size-last.ensures);
-      last = rw c.child_size-last.ensures before.last;
+      before = omega (arith, before.before, payloads, c.append_entry-last.ensures.size);
+      last = rw c.append_entry-last.ensures.size before.last;
     }
 
 pub returns-clause-last : goal.returns-clause-last
