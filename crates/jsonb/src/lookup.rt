@@ -17,10 +17,8 @@ use crate::entries::Entry;
 use crate::item::{JsonbItem, item_of_entry};
 use crate::raw::RawJsonb;
 use crate::reads::Reads;
-use jsonb_codec::JEntry;
-use jsonb_codec::constants::{
-    ARRAY_CONTAINER_TAG, CONTAINER_HEADER_LEN_MASK, OBJECT_CONTAINER_TAG, SCALAR_CONTAINER_TAG,
-};
+use jsonb_codec::constants::OBJECT_CONTAINER_TAG;
+use jsonb_codec::{JEntry, decode_header};
 use jsonb_value::Error;
 
 /// The greatest tally with which a look-up may begin.
@@ -37,12 +35,9 @@ fn count_pairs(bytes: &[u8], reads: &mut Reads) -> Result<Option<usize>, Error>
     ensures bound { (reads.old ≤ reads.new) × (reads.new ≤ reads.old + 1) }
     ensures refused { IfErr result IsRefusal }
 {
-    let header = reads.word(bytes, 0)?;
-    let count = header & CONTAINER_HEADER_LEN_MASK;
-    match header - count {
-        OBJECT_CONTAINER_TAG => Ok(Some(count as usize)),
-        ARRAY_CONTAINER_TAG | SCALAR_CONTAINER_TAG => Ok(None),
-        _ => Err(Error::InvalidJsonb),
+    match decode_header(reads.word(bytes, 0)?)? {
+        (OBJECT_CONTAINER_TAG, count) => Ok(Some(count)),
+        _ => Ok(None),
     }
 }
 

@@ -17,4 +17,4 @@ pub use document::{document_laws, document_text, is_document, is_document_within
 pub use jentry::JEntry;
 pub use reread::printed_text_laws;
 pub use ser::{Encoder, JsonAstEncoder};
-pub use word::{read_header, read_jentry, read_word};
+pub use word::{decode_header, read_header, read_jentry, read_word};

@@ -1,7 +1,7 @@
 //! Words of 32 bits in bytes, read with a test of the bounds.
 
 ghost use Rattle.std.specs.Prelude.{◌≡◌, ◌+◌, ◌<◌, ◌%◌, ◌^◌, ◌++◌, length, IfSome, IfNone};
-ghost use Rattle.jsonb_codec.specs.Word.{word, word_at, header_at};
+ghost use Rattle.jsonb_codec.specs.Word.{word, word_at, header_of, header_at};
 ghost use Rattle.jsonb_codec.specs.JEntry.{jentry_at};
 
 use crate::constants::{
@@ -36,7 +36,15 @@ pub fn read_word(bytes: &[u8], index: usize) -> Result<u32, Error>
 pub fn read_header(bytes: &[u8], index: usize) -> Result<(u32, usize), Error>
     ensures { result ≡ header_at bytes.now index }
 {
-    let header = read_word(bytes, index)?;
+    decode_header(read_word(bytes, index)?)
+}
+
+/// The header that a word is: its kind, under the type mask, and its count. `InvalidJsonb` where
+/// the word names none of the three kinds.
+#[inline]
+pub fn decode_header(header: u32) -> Result<(u32, usize), Error>
+    ensures { result ≡ header_of header }
+{
     let count = header & CONTAINER_HEADER_LEN_MASK;
     match header - count {
         kind @ (ARRAY_CONTAINER_TAG | OBJECT_CONTAINER_TAG | SCALAR_CONTAINER_TAG) => Ok((

@@ -14,7 +14,8 @@ use crate::constants::{CONTAINER_TAG, EXTENSION_TAG, NUMBER_TAG, SCALAR_CONTAINE
 use crate::document::is_document;
 use crate::parts::{Part, extension_in, number_in, split_child, split_container, split_document};
 use crate::ser::append::{
-    append_bytes, append_extension, append_number, append_word, known_size, payloads_size,
+    append_bytes, append_extension, append_number, append_word, known_size, last_size,
+    payloads_size,
 };
 use crate::ser::measure::MAX_PAYLOAD;
 use jsonb_value::Error;
@@ -202,9 +203,9 @@ fn child_size(part: Part<'_>, behind: usize, before: usize, size: Option<usize>)
     ensures { (t : Tree) → IsPayloadOf part.entry.tag part.entry.payload.now t
         → result ≡ length (payload_of t) }
 {
-    match size {
-        Some(size) if behind == 0 => size - before,
-        _ => measured_size(part),
+    match last_size(behind, before, size) {
+        Some(size) => size,
+        None => measured_size(part),
     }
 }
 

@@ -218,10 +218,10 @@ pub fn payloads_size(size: Option<usize>, before: usize) -> Option<usize>
     }
 }
 
-// The length of the last child's payload: what the payloads before it leave of the length of all,
-// where that is known.
+/// The length of the last child's payload: what the payloads before it leave of the length of all,
+/// where that is known.
 #[inline(always)]
-fn last_size(behind: usize, before: usize, size: Option<usize>) -> Option<usize>
+pub fn last_size(behind: usize, before: usize, size: Option<usize>) -> Option<usize>
     requires { behind ≡ 0 → IfSome size (λ n. before ≤ n) }
     ensures last { IfSome result (λ n. (behind ≡ 0) × (size ≡ Some (before + n))) }
     ensures none { IfNone result (behind ≡ 0 → size ≡ None) }

@@ -8,5 +8,5 @@ pub returns-in-Some : goal.returns-in-Some
 returns-in-Some c t h =
     let (tree, (is, (_, last))) = c.requires in
     let same = ap (λ (u : Tree). length (payload_of u)) (same_tree tree t (is.0 ∙ sym h.0) c.args.part.payload.now is.1 h.1) in
-    let known = last c.if-behind-eq0.true in
-    omega (arith, rw c.in-Some.is at known, same)
+    let known = c.in-Some.ensures.last in
+    omega (arith, rw known.1 at (last known.0), same)
