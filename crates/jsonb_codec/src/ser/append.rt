@@ -74,14 +74,14 @@ fn append_entry(out: &mut Vec<u8>, node: Node<'_, '_>, known: Option<usize>) -> 
 {
     // Type and length side by side, so that the code looks at the value's kind once.
     let entry_type = node.entry_type();
-    let size = payload_size(node, known);
+    let size = measured_unless_known(node, known);
     append_word(out, entry_type + size as u32);
     size
 }
 
 // The length of a payload. That of a container is measured where it is not known.
 #[inline(always)]
-fn payload_size(node: Node<'_, '_>, known: Option<usize>) -> usize
+fn measured_unless_known(node: Node<'_, '_>, known: Option<usize>) -> usize
     requires fits { FitsEntry (node_tree node) }
     requires known { IfSome known (λ n. n ≡ length (payload_of (node_tree node))) }
     ensures { result ≡ length (payload_of (node_tree node.entry)) }
