@@ -95,8 +95,8 @@ fn encode(name: &str, value: &Value, bytes: &[u8]) {
     let (start, length) = (bytes.as_ptr(), bytes.len());
     assert_eq!(unsafe { measured_encode(start, length, 1) }, length);
     let turns = |times| move || unsafe { measured_encode(start, length, times) };
-    let (once, eleven) = fastest(turns(1), turns(11));
-    let (_, theirs) = fastest(turns(1), || (0..10).map(|_| encoded(value).len()).sum());
+    let (eleven, theirs) = fastest(turns(11), || (0..10).map(|_| encoded(value).len()).sum());
+    let (once, _) = fastest(turns(1), || encoded(value).len());
     report(name, "encode", 10 * length, eleven - once, theirs);
 }
 
