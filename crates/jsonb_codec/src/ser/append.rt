@@ -35,7 +35,7 @@ pub fn append_document(out: &mut Vec<u8>, node: Node<'_, '_>, size: usize)
         return;
     }
     append_word(out, SCALAR_CONTAINER_TAG);
-    append_entry(out, node, Some(size - 8));
+    append_entry(out, node, None);
     append_payload(out, node, None);
 }
 
