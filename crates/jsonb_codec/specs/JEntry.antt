@@ -1,5 +1,7 @@
 -- Entry words.
 use Rattle.std.specs.Prelude.{ℕ, ◌-◌, ◌%◌, ◌^◌, List, Result, Ok, Err}
+use Rattle.std.specs.Ordering.{nat_cmp, on, then_cmp}
+use Rattle.std.specs.declared.cmp.Ordering.{Ordering}
 use Rattle.jsonb_value.specs.declared.error.Error.{Error}
 use Rattle.jsonb_codec.specs.declared.jentry.JEntry.{JEntry}
 use Rattle.jsonb_codec.specs.Word.{word_at}
@@ -15,3 +17,7 @@ jentry_in (Err e) = Err e
 -- the entry whose first byte stands at the index
 abbrev pub jentry_at : List ℕ → ℕ → Result JEntry Error
 jentry_at bytes index = jentry_in (word_at bytes index)
+
+-- the order of entries: by type, then by length
+abbrev pub jentry_cmp : JEntry → JEntry → Ordering
+jentry_cmp = then_cmp (on (λ e. e.type_code) nat_cmp) (on (λ e. e.length) nat_cmp)

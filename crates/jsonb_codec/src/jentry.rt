@@ -1,15 +1,21 @@
 //! Entry words, taken apart and put together.
 
 ghost use Rattle.std.specs.Prelude.{◌≡◌, ◌≤◌, ◌+◌, ◌%◌, ◌^◌, bit_and, bit_or};
+ghost use Rattle.std.specs.Ordering.{as_partial_cmp};
+ghost use Rattle.std.specs.Cmp.{partial_order_from_own_ties};
+ghost use Rattle.std.specs.Cmp.Rules.{comparing};
+ghost use Rattle.std.proofs.Common.{rules};
+ghost use Rattle.jsonb_codec.specs.JEntry.{jentry_cmp};
 
 use crate::constants::{
     CONTAINER_TAG, EXTENSION_TAG, FALSE_TAG, JENTRY_OFF_LEN_MASK, JENTRY_TYPE_MASK, NULL_TAG,
     NUMBER_TAG, STRING_TAG, TRUE_TAG,
 };
+use std::cmp::Ordering;
 
 /// The entry of a child: its type, and the length of its payload in bytes. Entries are ordered by
 /// type, then by length.
-#[derive(Clone, Copy, Debug, PartialEq, Eq, PartialOrd, Ord)]
+#[derive(Clone, Copy, Debug, PartialEq, Eq)]
 pub struct JEntry {
     pub type_code: u32,
     pub length: u32,
@@ -120,5 +126,34 @@ impl JEntry {
             type_code: EXTENSION_TAG,
             length: length as u32,
         }
+    }
+}
+
+impl PartialOrd for JEntry {
+    ghost partial_cmp = { as_partial_cmp jentry_cmp };
+
+    ghost laws = { partial_order_from_own_ties
+        (Prim.search (comparing, rules))
+        (Prim.search (comparing, rules)) };
+
+    fn partial_cmp(&self, other: &Self) -> Option<Ordering> {
+        Some(self.cmp(other))
+    }
+}
+
+impl Ord for JEntry {
+    ghost cmp = { jentry_cmp };
+
+    ghost total = { Prim.search (comparing, rules) };
+
+    ghost matches_partial_cmp = { Prim.search (comparing, rules) };
+
+    ghost matches_eq = { Prim.search (comparing, rules) };
+
+    /// The order of entries: by type, then by length.
+    fn cmp(&self, other: &Self) -> Ordering {
+        self.type_code
+            .cmp(&other.type_code)
+            .then(self.length.cmp(&other.length))
     }
 }
