@@ -65,9 +65,10 @@ impl<'a> Encoder<'a> {
             → length (buffer self.old).now.items + length (canon (tree_of value.now)) ≤ vec_capacity (buffer self.old).now
             → IsOk result }
 
-        // What was appended means the value with its zeros made one, and no other value shares it.
+        // The canonical document of a tree that fits means the tree with its zeros made one, and
+        // no other tree shares it.
         ensures tree { OnOk result (IsTree (tree_of value.now)) }
-        ensures means { OnOk result (Doc (canon (tree_of value.now)) (norm (tree_of value.now))) }
+        ensures means { (t : Tree) → IsTree t → Fits t → Doc (canon t) (norm t) }
         ensures told_apart { (t u : Tree) → IsTree t → IsTree u → Fits t → Fits u
             → (canon t ≡ canon u) ↔ (norm t ≡ norm u) }
     {
@@ -124,9 +125,10 @@ impl<'a> JsonAstEncoder<'a> {
             → length (ast_buffer self.old).now.items + length (canon (ast_tree value.now)) ≤ vec_capacity (ast_buffer self.old).now
             → IsOk result }
 
-        // What was appended means the value with its zeros made one, and no other value shares it.
+        // The canonical document of a tree that fits means the tree with its zeros made one, and
+        // no other tree shares it.
         ensures tree { OnOk result (IsTree (ast_tree value.now)) }
-        ensures means { OnOk result (Doc (canon (ast_tree value.now)) (norm (ast_tree value.now))) }
+        ensures means { (t : Tree) → IsTree t → Fits t → Doc (canon t) (norm t) }
         ensures told_apart { (t u : Tree) → IsTree t → IsTree u → Fits t → Fits u
             → (canon t ≡ canon u) ↔ (norm t ≡ norm u) }
     {
@@ -147,8 +149,6 @@ fn encode_node(buf: &mut Vec<u8>, node: Node<'_, '_>) -> Result<(), Error>
         → length buf.old.items + length (canon (node_tree node.entry)) ≤ vec_capacity buf.old
         → IsOk result }
     ensures tree { NodeAscends node.entry → OnOk result (IsTree (node_tree node.entry)) }
-    ensures means { NodeAscends node.entry
-        → OnOk result (Doc (canon (node_tree node.entry)) (norm (node_tree node.entry))) }
 {
     let size = measure_document(node)?;
     buf.try_reserve(size)?;

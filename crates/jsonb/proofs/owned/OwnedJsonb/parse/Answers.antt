@@ -22,7 +22,7 @@ returns-clause-means c t h =
     let value = c.in_ok-value.ensures in
     let u = tree_of c.in_ok-value.value in
     let bytes : owned_bytes c.new-2.result ≡ canon u = search rules in
-    subst (λ x. Doc (owned_bytes c.new-2.result) (norm x)) (value.one u t value.ok h) (subst (λ b. Doc b (norm u)) (sym bytes) c.in_ok-encode.ensures.means)
+    subst (λ x. Doc (owned_bytes c.new-2.result) (norm x)) (value.one u t value.ok h) (subst (λ b. Doc b (norm u)) (sym bytes) (c.in_ok-encode.ensures.means u c.in_ok-encode.ensures.tree c.in_ok-encode.ensures.fits))
 
 pub returns-clause-prints : goal.returns-clause-prints
 returns-clause-prints c t h = shown_text-Doc (owned_bytes c.new-2.result) (norm t) (returns-clause-means c t h) ∙ laid_out-norm in_one_line t
