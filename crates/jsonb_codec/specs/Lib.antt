@@ -10,6 +10,7 @@ pub mod Rewriting
 pub mod Contents
 pub mod Reread
 pub mod Depth
+pub mod Payloads
 pub mod Node
 pub mod Room
 pub mod Encoder

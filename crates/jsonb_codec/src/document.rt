@@ -9,6 +9,7 @@ ghost use Rattle.jsonb_codec.specs.Word.{word};
 ghost use Rattle.jsonb_value.specs.Tree.{Tree, text};
 ghost use Rattle.jsonb_codec.specs.Doc.{Doc, IsDocument};
 ghost use Rattle.jsonb_codec.specs.Depth.{depth, size, IsDocumentWithin};
+ghost use Rattle.jsonb_codec.specs.Payloads.{payloads_in};
 ghost use Rattle.jsonb_codec.specs.Parts.{IsFault, Tells, HasScalar, HasPayload, HasArray, HasObject, HasChildren, HasKeys, IsAbove, IsKeyAfter};
 
 use crate::constants::{
@@ -27,8 +28,9 @@ pub fn document_laws()
 
 /// Whether the bytes are a document. Where they are, they mean one tree, whose size and depth the
 /// number of bytes bounds, no proper beginning of them is a document, and none that is longer
-/// begins with them. Where none of them is zero, there are more than 4,294,967,296 of them: no
-/// text of usual length is a document.
+/// begins with them. Where none of them is zero, they hold at least 65,793 payloads, each of at
+/// least 65,793 bytes, so there are more than 4,294,967,296 of them: no text of usual length is a
+/// document.
 #[inline(always)]
 pub fn is_document(bytes: &[u8]) -> bool
     ensures exact { IsTrue result ↔ IsDocument bytes.now }
@@ -39,6 +41,11 @@ pub fn is_document(bytes: &[u8]) -> bool
     ensures size { IsTrue result → (t : Tree) → Doc bytes.now t → size t ≤ length bytes.now / 4 }
     ensures depth { IsTrue result → (t : Tree) → Doc bytes.now t
         → depth t ≤ (length bytes.now + 4) / 8 }
+    ensures many_payloads { IsTrue result → All (λ b. b ≢ 0) bytes.now
+        → (t : Tree) (d : Doc bytes.now t) → 65793 ≤ length (payloads_in bytes.now t d) }
+    ensures long_payloads { IsTrue result → All (λ b. b ≢ 0) bytes.now
+        → (t : Tree) (d : Doc bytes.now t)
+        → All (λ p. 65793 ≤ length p) (payloads_in bytes.now t d) }
     ensures no_zero { IsTrue result → All (λ b. b ≢ 0) bytes.now → 4294967296 < length bytes.now }
 {
     // No document nests as deep as it has bytes.

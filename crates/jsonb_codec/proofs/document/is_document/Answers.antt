@@ -2,7 +2,7 @@ use Rattle.std.proofs.Common.{subst, arith}
 use Rattle.jsonb_codec.specs.Doc.{IsDocument}
 use Rattle.jsonb_codec.proofs.Unique.{Doc-unique, Doc-prefix_free}
 use Rattle.jsonb_codec.proofs.DepthLaws.{Doc-depth, Doc-size}
-use Rattle.jsonb_codec.proofs.ZeroLaws.{Doc-least}
+use Rattle.jsonb_codec.proofs.ZeroLaws.{Doc-least, Doc-long}
 use Rattle.jsonb_codec.proofs.Scalars.{iff_trans}
 use Rattle.jsonb_codec.proofs.Steps.{document_within_length}
 use Rattle.jsonb_codec.proofs.document.is_document.Goals as goal
@@ -30,6 +30,12 @@ returns-clause-size c is t h = let few = Doc-size c.args.bytes.now t h in omega 
 
 pub returns-clause-depth : goal.returns-clause-depth
 returns-clause-depth c is t h = let flat = Doc-depth c.args.bytes.now t h in omega arith
+
+pub returns-clause-many_payloads : goal.returns-clause-many_payloads
+returns-clause-many_payloads c is zero_free t h = (Doc-long c.args.bytes.now t h zero_free).0
+
+pub returns-clause-long_payloads : goal.returns-clause-long_payloads
+returns-clause-long_payloads c is zero_free t h = (Doc-long c.args.bytes.now t h zero_free).1
 
 pub returns-clause-no_zero : goal.returns-clause-no_zero
 returns-clause-no_zero c is zero_free =
