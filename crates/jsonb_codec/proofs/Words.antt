@@ -9,6 +9,7 @@ use Rattle.std.specs.Cmp.Lexicographic.{slice_cmp}
 use Rattle.std.specs.Ordering.{MatchOrdering, nat_cmp, ordering_then, ordering_reverse}
 use Rattle.std.specs.declared.cmp.Ordering.{Ordering}
 use Rattle.std.specs.declared.cmp.Ordering.TheVariants.{Less, Equal, Greater}
+use Rattle.byteorder.specs.Endian.{big_number}
 use Rattle.jsonb_codec.specs.Word.{word}
 
 pub length-word : (k : ℕ) → length (word k) ≡ 4
@@ -59,11 +60,11 @@ split_four (a ∷ (b ∷ (c ∷ (d ∷ xs)))) h =
     let n : length (a ∷ (b ∷ (c ∷ (d ∷ xs)))) - 4 ≡ length xs = omega arith in
     sym (ap (λ (k : ℕ). a ∷ (b ∷ (c ∷ (d ∷ take k xs)))) n ∙ ap (λ (ys : List ℕ). a ∷ (b ∷ (c ∷ (d ∷ ys)))) (take-length xs))
 
--- the word at the front, as a pattern [a, b, c, d, rest @ ..] takes it apart
-pub word_at_front : (xs : List ℕ) (n : ℕ) → 4 ≤ length xs → ((i : ℕ) → get_or xs i 0 < 256) → n ≡ from_be_bytes w32 (four_of xs) → xs ≡ word n ++ take (length xs - 4) (drop 4 xs)
+-- the word at the front, as it is read, and what follows it
+pub word_at_front : (xs : List ℕ) (n : ℕ) → 4 ≤ length xs → ((i : ℕ) → get_or xs i 0 < 256) → n ≡ big_number 4 xs → xs ≡ word n ++ take (length xs - 4) (drop 4 xs)
 unfolding word
 word_at_front xs n h small is =
-    split_four xs h ∙ ap (λ (front : List ℕ). front ++ take (length xs - 4) (drop 4 xs)) (sym (be_bytes_4 (four_of xs) n refl (four_small xs small) is))
+    split_four xs h ∙ ap (λ (front : List ℕ). front ++ take (length xs - 4) (drop 4 xs)) (sym (be_bytes_4 (four_of xs) n refl (four_small xs small) (omega (arith, is))))
 
 ordering_then-less : (a b : ℕ) (o : Ordering) → a ≤ b → (a ≡ b → o ≡ Less) → ordering_then (nat_cmp a b) o ≡ Less
 ordering_then-less a b o le eq = by (nat_cmp a b) (ranked a b _ refl)

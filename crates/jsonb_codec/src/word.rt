@@ -9,6 +9,7 @@ use crate::constants::{
     SCALAR_CONTAINER_TAG,
 };
 use crate::jentry::JEntry;
+use byteorder::{BigEndian, ByteOrder};
 use jsonb_value::Error;
 
 /// The big endian word whose first byte stands at the index. `InvalidEOF` where four bytes are not
@@ -21,12 +22,7 @@ pub fn read_word(bytes: &[u8], index: usize) -> Result<u32, Error>
     if bytes.len() < 4 || bytes.len() - 4 < index {
         return Err(Error::InvalidEOF);
     }
-    Ok(u32::from_be_bytes([
-        bytes[index],
-        bytes[index + 1],
-        bytes[index + 2],
-        bytes[index + 3],
-    ]))
+    Ok(BigEndian::read_u32(&bytes[index..]))
 }
 
 /// The header whose first byte stands at the index: its kind, under the type mask, and its count.
@@ -78,10 +74,10 @@ pub fn split_word(bytes: &[u8]) -> Option<(u32, &[u8])>
     ensures small { IfSome result (λ x. x.0 < 2 ^ 32) }
     ensures none { IfNone result (length bytes.now < 4) }
 {
-    match bytes {
-        [a, b, c, d, rest @ ..] => Some((u32::from_be_bytes([*a, *b, *c, *d]), rest)),
-        _ => None,
+    if bytes.len() < 4 {
+        return None;
     }
+    Some((BigEndian::read_u32(bytes), &bytes[4..]))
 }
 
 /// The entry word at the front: its type, and the length of its payload.
