@@ -12,6 +12,8 @@ mod canonical;
 #[cfg(test)]
 mod changed;
 #[cfg(test)]
+mod constants;
+#[cfg(test)]
 mod depth;
 #[cfg(test)]
 mod encoding;
