@@ -25,6 +25,17 @@ pub fn read_word(bytes: &[u8], index: usize) -> Result<u32, Error>
     Ok(BigEndian::read_u32(&bytes[index..]))
 }
 
+/// The bytes of a word.
+#[tactic(auto, unfolding(crate::specs::Word::word))]
+#[inline(always)]
+pub fn word_bytes(number: u32) -> [u8; 4]
+    ensures { result ≡ word number }
+{
+    let mut bytes = [0; 4];
+    BigEndian::write_u32(&mut bytes, number);
+    bytes
+}
+
 /// The header whose first byte stands at the index: its kind, under the type mask, and its count.
 /// `InvalidEOF` where four bytes are not there, `InvalidJsonb` where the word names none of the
 /// three kinds.

@@ -21,6 +21,7 @@ use super::node::{AstPair, Items, Node, Pairs};
 use crate::constants::{
     ARRAY_CONTAINER_TAG, CONTAINER_TAG, OBJECT_CONTAINER_TAG, SCALAR_CONTAINER_TAG, STRING_TAG,
 };
+use crate::word::word_bytes;
 use jsonb_value::{ExtensionValue, JsonAst, Number, Object, Value};
 
 /// Appends the canonical document of a value that fits, which has that length.
@@ -57,7 +58,7 @@ pub fn append_word(out: &mut Vec<u8>, number: u32)
     requires { HasRoom out.old (word number) }
     ensures { Appended out.old out.new (word number) }
 {
-    append_bytes(out, &number.to_be_bytes());
+    append_bytes(out, &word_bytes(number));
 }
 
 // The entry word of a value, and the length of its payload. That of a container is given where it
