@@ -39,7 +39,7 @@ pub fn value_of<'a>(alloc: Global, bytes: &'a [u8]) -> Result<Value<'a>, Error>
 }
 
 /// Reads the document that its bytes are, and then holds no bytes.
-#[derive(Debug, Drop)]
+#[derive(Drop)]
 pub struct Decoder<'a> {
     bytes: &'a [u8],
 }
