@@ -122,10 +122,6 @@ IsOldDecimal-from xs v e h =
     split_last 17 xs e ∙ ap (λ front. front ++ get_or xs 17 0 ∷ []) (take_more xs 16 0 (omega arith)) in
     (take 16 xs, (get_or xs 16 0, (split ∙ append_assoc (take 16 xs) (get_or xs 16 0 ∷ []) (get_or xs 17 0 ∷ []), h)))
 
--- a signed number that was cast to its bits and back
-pub recast : (w : Width) (v : ℤ) (P : ℤ → Type 0) → SFits w v → P v → P (to_z w (of_z w v))
-recast w v P fits h = subst P (sym (to_z-of_z w v fits)) h
-
 -- what a payload can begin with
 pub NumCode-first : (t : ℕ) (rest : List ℕ) (x : Number) → NumCode (t ∷ rest) x → ((t ≡ 0) × (rest ≡ [])) ⊎ ((t ≡ 64) ⊎ ((t ≡ 80) ⊎ (t ≡ 112)))
 NumCode-first t rest (Int64 v) (bs, (e, h)) = inr (inl (ap first_of e))
@@ -159,6 +155,6 @@ split_first (x ∷ xs) h =
     let n : length (x ∷ xs) - 1 ≡ length xs = omega arith in
     sym (ap (λ (k : ℕ). x ∷ take k xs) n ∙ ap (λ (ys : List ℕ). x ∷ ys) (take-length xs))
 
--- the bytes that `to_be_bytes` gives of a signed number
-pub written_bytes : (w : Width) (v : ℤ) (bytes : List ℕ) → SFits w v → bytes ≡ signed_bytes w (to_z w (of_z w v)) → bytes ≡ signed_bytes w v
-written_bytes w v bytes fits e = e ∙ ap (signed_bytes w) (to_z-of_z w v fits)
+-- the bytes that are written of a signed number
+pub written_bytes : (w : Width) (v : ℤ) (rest bytes : List ℕ) → SFits w v → bytes ≡ signed_bytes w (to_z w (of_z w v)) ++ rest → bytes ≡ signed_bytes w v ++ rest
+written_bytes w v rest bytes fits e = e ∙ ap (λ (z : ℤ). signed_bytes w z ++ rest) (to_z-of_z w v fits)

@@ -1,8 +1,7 @@
 -- The payload of an extension value means one value at most.
 use Rattle.std.proofs.Common.{◌≡◌, ◌≢◌, ◌≤◌, ◌⊎◌, ◌+◌, ℕ, ℤ, pos, List, [], ◌∷◌, ◌++◌, length, take, drop, cond, eqb, refl, sym, ap, ap₂, subst, ◌∙◌, inl, inr, arith, length-append, length-drop, get_or, ◌-◌}
-use Rattle.std.proofs.lemmas.Int.{to_z-of_z}
 use Rattle.std.proofs.lemmas.Bool.Decides.{nat_tests}
-use mir.Val.{SFits, of_z, to_z}
+use mir.Val.{to_z}
 use Rattle.jsonb_value.proofs.Codes.{split_last}
 use Rattle.std.specs.Prelude.{◌*ℤ◌}
 use Rattle.std.proofs.Math.Seq.{take-append_seam, drop-append_seam, take-length}
@@ -142,10 +141,6 @@ pub whole_front : (k n : ℕ) (xs : List ℕ) → length xs ≡ n + k → take n
 whole_front k n xs e =
     let m : n ≡ length (drop k xs) = omega (arith, length-drop k xs) in
     ap (take n) (whole_rest k xs) ∙ ap (λ (i : ℕ). take i (drop k xs)) m ∙ take-length (drop k xs)
-
--- a signed number that was cast to its bits and back
-pub signed_cast : (w : Width) (bytes : List ℕ) (v : ℤ) → SFits w v → IsSigned w bytes v → IsSigned w bytes (to_z w (of_z w v))
-signed_cast w bytes v fits h = subst (IsSigned w bytes) (sym (to_z-of_z w v fits)) h
 
 pub IsZoned-from : (bytes : List ℕ) (o v : ℤ) → length bytes ≡ 12 → IsSigned w32 (take 4 (take (length bytes - 8) (drop 8 bytes))) o → IsSigned w64 (take 8 bytes) v → IsZoned bytes record { offset = o; value = v }
 IsZoned-from bytes o v n h k = record {

@@ -12,7 +12,8 @@ use crate::constants::{
 };
 use crate::error::Error;
 use crate::opaque::Opaque;
-use crate::payload::{append, i32_of, i64_of};
+use crate::payload::{append, append_tagged};
+use byteorder::{BigEndian, ByteOrder};
 
 // An entry has room for the tag and this many bytes.
 const MAX_DATA: usize = 0x0FFFFFFE;
@@ -153,9 +154,9 @@ fn date_of(bytes: &[u8]) -> Option<Date>
     ensures found { IfSome result (λ d. IsSigned w32 bytes.now d.value) }
     ensures none { IfNone result ((d : Date) → IsSigned w32 bytes.now d.value → ⊥) }
 {
-    match bytes {
-        [a, b, c, d] => Some(Date {
-            value: i32::from_be_bytes([*a, *b, *c, *d]),
+    match bytes.len() {
+        4 => Some(Date {
+            value: BigEndian::read_i32(bytes),
         }),
         _ => None,
     }
@@ -165,9 +166,9 @@ fn timestamp_of(bytes: &[u8]) -> Option<Timestamp>
     ensures found { IfSome result (λ t. IsSigned w64 bytes.now t.value) }
     ensures none { IfNone result ((t : Timestamp) → IsSigned w64 bytes.now t.value → ⊥) }
 {
-    match bytes {
-        [a, b, c, d, e, f, g, h] => Some(Timestamp {
-            value: i64::from_be_bytes([*a, *b, *c, *d, *e, *f, *g, *h]),
+    match bytes.len() {
+        8 => Some(Timestamp {
+            value: BigEndian::read_i64(bytes),
         }),
         _ => None,
     }
@@ -180,12 +181,12 @@ fn zoned_of(bytes: &[u8]) -> Option<TimestampTz>
 {
     match bytes.len() {
         12 => Some(TimestampTz {
-            offset: i32_of(&bytes[8..]),
-            value: i64_of(bytes),
+            offset: BigEndian::read_i32(&bytes[8..]),
+            value: BigEndian::read_i64(bytes),
         }),
         9 => Some(TimestampTz {
-            offset: i32::from(i8::from_be_bytes([bytes[8]])) * 3600,
-            value: i64_of(bytes),
+            offset: i32::from(bytes[8].cast_signed()) * 3600,
+            value: BigEndian::read_i64(bytes),
         }),
         _ => None,
     }
@@ -199,9 +200,9 @@ fn interval_of(bytes: &[u8]) -> Option<Interval>
         return None;
     }
     Some(Interval {
-        months: i32_of(bytes),
-        days: i32_of(&bytes[4..]),
-        micros: i64_of(&bytes[8..]),
+        months: BigEndian::read_i32(bytes),
+        days: BigEndian::read_i32(&bytes[4..]),
+        micros: BigEndian::read_i64(&bytes[8..]),
     })
 }
 
@@ -222,7 +223,7 @@ fn append_data(buf: &mut Vec<u8>, tag: u8, bytes: &[u8]) -> Result<usize, Error>
     if bytes.len() > MAX_DATA {
         return Err(Error::InvalidJsonb);
     }
-    append(buf, tag, bytes, &[])
+    append_tagged(buf, tag, bytes)
 }
 
 fn append_date(buf: &mut Vec<u8>, given: &Date) -> Result<usize, Error>
@@ -234,7 +235,9 @@ fn append_date(buf: &mut Vec<u8>, given: &Date) -> Result<usize, Error>
     ensures room { vec_len buf.old + length (extension_payload (date given.now)) ≤ vec_capacity buf.old
         → IsOk result }
 {
-    append(buf, EXTENSION_DATE, &given.value.to_be_bytes(), &[])
+    let mut payload = [EXTENSION_DATE, 0, 0, 0, 0];
+    BigEndian::write_i32(&mut payload[1..], given.value);
+    append(buf, &payload)
 }
 
 fn append_timestamp(buf: &mut Vec<u8>, given: &Timestamp) -> Result<usize, Error>
@@ -246,7 +249,9 @@ fn append_timestamp(buf: &mut Vec<u8>, given: &Timestamp) -> Result<usize, Error
     ensures room { vec_len buf.old + length (extension_payload (timestamp given.now)) ≤ vec_capacity buf.old
         → IsOk result }
 {
-    append(buf, EXTENSION_TIMESTAMP, &given.value.to_be_bytes(), &[])
+    let mut payload = [EXTENSION_TIMESTAMP, 0, 0, 0, 0, 0, 0, 0, 0];
+    BigEndian::write_i64(&mut payload[1..], given.value);
+    append(buf, &payload)
 }
 
 fn append_zoned(buf: &mut Vec<u8>, zoned: &TimestampTz) -> Result<usize, Error>
@@ -258,12 +263,11 @@ fn append_zoned(buf: &mut Vec<u8>, zoned: &TimestampTz) -> Result<usize, Error>
     ensures room { vec_len buf.old + length (extension_payload (timestamp_tz zoned.now)) ≤ vec_capacity buf.old
         → IsOk result }
 {
-    append(
-        buf,
-        EXTENSION_TIMESTAMP_TZ,
-        &zoned.value.to_be_bytes(),
-        &zoned.offset.to_be_bytes(),
-    )
+    let mut payload = [0; 13];
+    payload[0] = EXTENSION_TIMESTAMP_TZ;
+    BigEndian::write_i64(&mut payload[1..], zoned.value);
+    BigEndian::write_i32(&mut payload[9..], zoned.offset);
+    append(buf, &payload)
 }
 
 fn append_interval(buf: &mut Vec<u8>, given: &Interval) -> Result<usize, Error>
@@ -275,10 +279,10 @@ fn append_interval(buf: &mut Vec<u8>, given: &Interval) -> Result<usize, Error>
     ensures room { vec_len buf.old + length (extension_payload (interval given.now)) ≤ vec_capacity buf.old
         → IsOk result }
 {
-    let d = given.days.to_be_bytes();
-    let m = given.micros.to_be_bytes();
-    let rest = [
-        d[0], d[1], d[2], d[3], m[0], m[1], m[2], m[3], m[4], m[5], m[6], m[7],
-    ];
-    append(buf, EXTENSION_INTERVAL, &given.months.to_be_bytes(), &rest)
+    let mut payload = [0; 17];
+    payload[0] = EXTENSION_INTERVAL;
+    BigEndian::write_i32(&mut payload[1..], given.months);
+    BigEndian::write_i32(&mut payload[5..], given.days);
+    BigEndian::write_i64(&mut payload[9..], given.micros);
+    append(buf, &payload)
 }

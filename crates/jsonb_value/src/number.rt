@@ -8,9 +8,8 @@ ghost use Rattle.jsonb_value.specs.NumCode.{NumCode, number_payload, int_payload
 
 use crate::constants::{NUMBER_DECIMAL, NUMBER_INT, NUMBER_UINT, NUMBER_ZERO};
 use crate::error::Error;
-use crate::payload::{
-    append, append_whole, i64_of, i128_of, tagged_1, tagged_2, tagged_4, tagged_8,
-};
+use crate::payload::append;
+use byteorder::{BigEndian, ByteOrder};
 
 /// A decimal of 64 bits: `value` over ten to the power of `scale`.
 #[derive(Clone, Copy, Debug, PartialEq, Eq)]
@@ -148,10 +147,10 @@ fn signed_of(bytes: &[u8]) -> Option<i64>
     ensures none { IfNone result ((v : ℤ) → IsSignedNumber bytes.now v → ⊥) }
 {
     match bytes {
-        [a] => Some(i64::from(i8::from_be_bytes([*a]))),
-        [a, b] => Some(i64::from(i16::from_be_bytes([*a, *b]))),
-        [a, b, c, d] => Some(i64::from(i32::from_be_bytes([*a, *b, *c, *d]))),
-        [a, b, c, d, e, f, g, h] => { Some(i64::from_be_bytes([*a, *b, *c, *d, *e, *f, *g, *h])) }
+        [byte] => Some(i64::from(byte.cast_signed())),
+        [_, _] => Some(i64::from(BigEndian::read_i16(bytes))),
+        [_, _, _, _] => Some(i64::from(BigEndian::read_i32(bytes))),
+        [_, _, _, _, _, _, _, _] => Some(BigEndian::read_i64(bytes)),
         _ => None,
     }
 }
@@ -162,10 +161,10 @@ fn unsigned_of(bytes: &[u8]) -> Option<u64>
     ensures none { IfNone result ((n : ℕ) → IsUnsignedNumber bytes.now n → ⊥) }
 {
     match bytes {
-        [a] => Some(u64::from(*a)),
-        [a, b] => Some(u64::from(u16::from_be_bytes([*a, *b]))),
-        [a, b, c, d] => Some(u64::from(u32::from_be_bytes([*a, *b, *c, *d]))),
-        [a, b, c, d, e, f, g, h] => { Some(u64::from_be_bytes([*a, *b, *c, *d, *e, *f, *g, *h])) }
+        [byte] => Some(u64::from(*byte)),
+        [_, _] => Some(u64::from(BigEndian::read_u16(bytes))),
+        [_, _, _, _] => Some(u64::from(BigEndian::read_u32(bytes))),
+        [_, _, _, _, _, _, _, _] => Some(BigEndian::read_u64(bytes)),
         _ => None,
     }
 }
@@ -178,15 +177,15 @@ fn decimal_of(bytes: &[u8]) -> Option<Number>
     match bytes.len() {
         9 => Some(Number::Decimal64(Decimal64 {
             scale: bytes[8],
-            value: i64_of(bytes),
+            value: BigEndian::read_i64(bytes),
         })),
         17 => Some(Number::Decimal128(Decimal128 {
             scale: bytes[16],
-            value: i128_of(bytes),
+            value: BigEndian::read_i128(bytes),
         })),
         18 => Some(Number::Decimal128(Decimal128 {
             scale: bytes[17],
-            value: i128_of(bytes),
+            value: BigEndian::read_i128(bytes),
         })),
         _ => None,
     }
@@ -237,15 +236,21 @@ fn append_int(buf: &mut Vec<u8>, value: i64) -> Result<usize, Error>
         → IsOk result }
 {
     if value == 0 {
-        append_whole(buf, &[NUMBER_ZERO])
+        append(buf, &[NUMBER_ZERO])
     } else if let Ok(short) = i8::try_from(value) {
-        append_whole(buf, &tagged_1(NUMBER_INT, short.to_be_bytes()))
+        append(buf, &[NUMBER_INT, short.cast_unsigned()])
     } else if let Ok(short) = i16::try_from(value) {
-        append_whole(buf, &tagged_2(NUMBER_INT, short.to_be_bytes()))
+        let mut payload = [NUMBER_INT, 0, 0];
+        BigEndian::write_i16(&mut payload[1..], short);
+        append(buf, &payload)
     } else if let Ok(short) = i32::try_from(value) {
-        append_whole(buf, &tagged_4(NUMBER_INT, short.to_be_bytes()))
+        let mut payload = [NUMBER_INT, 0, 0, 0, 0];
+        BigEndian::write_i32(&mut payload[1..], short);
+        append(buf, &payload)
     } else {
-        append_whole(buf, &tagged_8(NUMBER_INT, value.to_be_bytes()))
+        let mut payload = [NUMBER_INT, 0, 0, 0, 0, 0, 0, 0, 0];
+        BigEndian::write_i64(&mut payload[1..], value);
+        append(buf, &payload)
     }
 }
 
@@ -260,15 +265,21 @@ fn append_uint(buf: &mut Vec<u8>, value: u64) -> Result<usize, Error>
         → IsOk result }
 {
     if value == 0 {
-        append_whole(buf, &[NUMBER_ZERO])
+        append(buf, &[NUMBER_ZERO])
     } else if let Ok(short) = u8::try_from(value) {
-        append_whole(buf, &[NUMBER_UINT, short])
+        append(buf, &[NUMBER_UINT, short])
     } else if let Ok(short) = u16::try_from(value) {
-        append_whole(buf, &tagged_2(NUMBER_UINT, short.to_be_bytes()))
+        let mut payload = [NUMBER_UINT, 0, 0];
+        BigEndian::write_u16(&mut payload[1..], short);
+        append(buf, &payload)
     } else if let Ok(short) = u32::try_from(value) {
-        append_whole(buf, &tagged_4(NUMBER_UINT, short.to_be_bytes()))
+        let mut payload = [NUMBER_UINT, 0, 0, 0, 0];
+        BigEndian::write_u32(&mut payload[1..], short);
+        append(buf, &payload)
     } else {
-        append_whole(buf, &tagged_8(NUMBER_UINT, value.to_be_bytes()))
+        let mut payload = [NUMBER_UINT, 0, 0, 0, 0, 0, 0, 0, 0];
+        BigEndian::write_u64(&mut payload[1..], value);
+        append(buf, &payload)
     }
 }
 
@@ -281,12 +292,11 @@ fn append_decimal64(buf: &mut Vec<u8>, decimal: &Decimal64) -> Result<usize, Err
     ensures room { vec_len buf.old + length (decimal_payload w64 decimal.now.value decimal.now.scale) ≤ vec_capacity buf.old
         → IsOk result }
 {
-    append(
-        buf,
-        NUMBER_DECIMAL,
-        &decimal.value.to_be_bytes(),
-        &[decimal.scale],
-    )
+    let mut payload = [0; 10];
+    payload[0] = NUMBER_DECIMAL;
+    BigEndian::write_i64(&mut payload[1..], decimal.value);
+    payload[9] = decimal.scale;
+    append(buf, &payload)
 }
 
 fn append_decimal128(buf: &mut Vec<u8>, decimal: &Decimal128) -> Result<usize, Error>
@@ -298,10 +308,9 @@ fn append_decimal128(buf: &mut Vec<u8>, decimal: &Decimal128) -> Result<usize, E
     ensures room { vec_len buf.old + length (decimal_payload w128 decimal.now.value decimal.now.scale) ≤ vec_capacity buf.old
         → IsOk result }
 {
-    append(
-        buf,
-        NUMBER_DECIMAL,
-        &decimal.value.to_be_bytes(),
-        &[decimal.scale],
-    )
+    let mut payload = [0; 18];
+    payload[0] = NUMBER_DECIMAL;
+    BigEndian::write_i128(&mut payload[1..], decimal.value);
+    payload[17] = decimal.scale;
+    append(buf, &payload)
 }

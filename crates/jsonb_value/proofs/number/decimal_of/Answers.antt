@@ -1,24 +1,20 @@
-use Rattle.std.proofs.Common.{refl, inl, inr, rules, take}
+use Rattle.std.proofs.Common.{refl, inl, inr, rules}
 use Rattle.std.specs.Int.{w64, w128}
-use mir.Val.{SFits}
-use Rattle.jsonb_value.specs.Payload.{IsSigned}
-use Rattle.jsonb_value.proofs.Codes.{IsDecimal-from, IsOldDecimal-from, recast}
+use Rattle.jsonb_value.proofs.BigEndian.{IsSigned-read}
+use Rattle.jsonb_value.proofs.Codes.{IsDecimal-from, IsOldDecimal-from}
 use Rattle.jsonb_value.proofs.number.decimal_of.Goals as goal
 
 pub returns-in-9-clause-found : goal.returns-in-9-clause-found
 returns-in-9-clause-found c =
-    let bytes = c.args.bytes.now in
-    let fits : SFits w64 c.i64_of.result = search rules in
-    (bytes, (refl, IsDecimal-from w64 8 bytes _ (search rules) (recast w64 _ (IsSigned w64 (take 8 bytes)) fits c.i64_of.ensures)))
+    let value = IsSigned-read w64 c.args.bytes.now _ (search rules) (search rules) c.read_i64.ensures in
+    (_, (refl, IsDecimal-from w64 8 _ _ c.in-9.is value))
 
 pub returns-in-17-clause-found : goal.returns-in-17-clause-found
 returns-in-17-clause-found c =
-    let bytes = c.args.bytes.now in
-    let fits : SFits w128 c.i128_of.result = search rules in
-    (bytes, (refl, inl (IsDecimal-from w128 16 bytes _ (search rules) (recast w128 _ (IsSigned w128 (take 16 bytes)) fits c.i128_of.ensures))))
+    let value = IsSigned-read w128 c.args.bytes.now _ (search rules) (search rules) c.read_i128.ensures in
+    (_, (refl, inl (IsDecimal-from w128 16 _ _ c.in-17.is value)))
 
 pub returns-in-18-clause-found : goal.returns-in-18-clause-found
 returns-in-18-clause-found c =
-    let bytes = c.args.bytes.now in
-    let fits : SFits w128 c.i128_of-in-18.result = search rules in
-    (bytes, (refl, inr (IsOldDecimal-from bytes _ (search rules) (recast w128 _ (IsSigned w128 (take 16 bytes)) fits c.i128_of-in-18.ensures))))
+    let value = IsSigned-read w128 c.args.bytes.now _ (search rules) (search rules) c.read_i128-in-18.ensures in
+    (_, (refl, inr (IsOldDecimal-from _ _ c.in-18.is value)))
