@@ -30,11 +30,11 @@ pub const EXTENSION_BINARY: u8 = 0x00;
 /// A date.
 pub const EXTENSION_DATE: u8 = 0x10;
 
-/// A point in time.
+/// A timestamp.
 pub const EXTENSION_TIMESTAMP: u8 = 0x20;
 
-/// A point in time with an offset.
+/// A timestamp, and the offset of its time zone.
 pub const EXTENSION_TIMESTAMP_TZ: u8 = 0x30;
 
-/// A span of months, days and microseconds.
+/// An interval: months, days and micros.
 pub const EXTENSION_INTERVAL: u8 = 0x40;

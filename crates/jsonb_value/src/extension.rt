@@ -18,26 +18,27 @@ use byteorder::{BigEndian, ByteOrder};
 // An entry has room for the tag and this many bytes.
 const MAX_DATA: usize = 0x0FFFFFFE;
 
-/// A date: days since 1970-01-01.
+/// A date, as the number that is stored for it. The format does not say what the number counts.
 #[derive(Clone, Copy, Debug, PartialEq, Eq)]
 pub struct Date {
     pub value: i32,
 }
 
-/// A point in time: microseconds since 1970-01-01.
+/// A timestamp, as the number that is stored for it. The format gives it neither a unit nor a
+/// beginning.
 #[derive(Clone, Copy, Debug, PartialEq, Eq)]
 pub struct Timestamp {
     pub value: i64,
 }
 
-/// A point in time in microseconds, and the offset of its time zone in seconds.
+/// A timestamp, as in `Timestamp`, and the offset of its time zone in seconds.
 #[derive(Clone, Copy, Debug, PartialEq, Eq)]
 pub struct TimestampTz {
     pub offset: i32,
     pub value: i64,
 }
 
-/// A span of time in three parts.
+/// An interval: months, days and micros, each a number of its own.
 #[derive(Clone, Copy, Debug, PartialEq, Eq)]
 pub struct Interval {
     pub months: i32,

@@ -81,8 +81,8 @@ fn cmp_scaled(value: i128, steps: u8, other: i128) -> Ordering
 
 impl ExtensionValue<'_> {
     /// First by kind, rising in the order of the variants, and then by what the values hold:
-    /// bytes; a date; a time; a time and then its offset; months, days and microseconds; a tag
-    /// and then its bytes. Byte strings compare lexicographically.
+    /// bytes; a date; a timestamp; a timestamp and then its offset; months, days and micros; a
+    /// tag and then its bytes. Byte strings compare lexicographically.
     pub fn cmp_value(&self, other: &ExtensionValue<'_>) -> Ordering
         ensures { result ≡ extension_cmp (extension_of self.now) (extension_of other.now) }
     {

@@ -9,6 +9,8 @@ use std::collections::BTreeMap;
 /// An object's pairs, in the order of their keys.
 pub type Object<'a> = BTreeMap<String, Value<'a>>;
 
+/// A value that owns its arrays, objects and keys. Its strings are owned or borrowed; binary data
+/// and the bytes of opaque values are borrowed.
 #[derive(Debug, Drop)]
 pub enum Value<'a> {
     Null,
