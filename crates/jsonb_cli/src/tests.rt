@@ -1,90 +1,318 @@
 //! Lines and their answers, and runs that meet a fault. The readers and writers take no memory.
 
-ghost use Rattle.std.specs.Prelude.{Some, [], take, ◌≤◌};
-
-use crate::answer::{Answer, Refusal, written_line};
-use crate::command::{answer, decoded};
 use crate::run::{RunError, run};
-use jsonb_value::Error;
-use std::alloc::{AllocError, Global};
+use std::alloc::AllocError;
+use std::cell::Cell;
 use std::io::{ErrorKind, Read, Write};
 use std::test::Fail;
 use std::{io, str};
 
-/// Gives one byte at a time.
-#[derive(Drop)]
-struct OneByteReader<'a> {
-    bytes: &'a [u8],
-}
+// Known lines of each command, and their answers.
+const LINES: &str = "\
+enc [false,true]\n\
+enc {\"b\":1.50,\"a\":-7}\n\
+dec 400000021000000110000001200000022000000a616240f970000000000000009602\n\
+pretty 40000002100000011000000120000002100000056162500168656c6c6f\n\
+type 9fffffff\n\
+type \n\
+type\n\
+\n\
+arr 20000000200000025001 2000000000000000\n\
+arr\n\
+arr 01020304\n\
+enc 1e5\n\
+dec 80000000\r\n\
+dec 200000002000000250FF\n\
+dec 3132333435363738\n\
+get 40000000 \"a\"\n\
+enc [0,-128, 65535]\n\
+enc null\n\
+enc -0\n\
+enc [ ]\n\
+enc 18446744073709551615\n\
+dec 20000000200000024000\n\
+dec 800000013000000100\n\
+dec 9fffffff\n\
+dec 8\n\
+get 400000021000000210000002200000025000000a61616162500180000001200000025002 \"ab\"\n\
+get 400000021000000210000002200000025000000a61616162500180000001200000025002 \"aa\"\n\
+get 400000021000000210000002200000025000000a61616162500180000001200000025002 \"zz\"\n\
+get 8 \"a\"\n\
+get 40000000 a\n\
+get 01020304 \"a\"\n\
+get 40000000\n\
+cmp 20000000200000025005 200000002000000a70000000000000003201\n\
+cmp  \n\
+cmp 80000000 \n\
+cmp \n\
+arr 20000000200000024000\n\
+arr \n\
+arr 80000000 zz\n\
+enc \"\\u00e9\"\n\
+enc \"\\ud83d\\ude00\"\n\
+enc \"\\ud83d\"\n\
+enc 01\n\
+enc 1.\n\
+enc \n\
+get 40000000 1\n\
+enc {\"a\":1,\"a\":2}\n\
+enc -0.0\n\
+dec 200000002000000a70000000000000000001\n\
+enc 18446744073709551616\n\
+enc 170141183460469231731687303715884105728\n\
+pretty 2000000000000000\n\
+pretty 80000000\n\
+canon 20000000200000024000\n\
+canon 2000000020000009500000000000000005\n\
+canon 80000000\n\
+canon 8\n\
+canon 01020304\n\
+canon\n\
+canon 200000006000000a30000640d6b723800008\n\
+canon 8000000150000012800000016000000a30000640d6b723800008\n\
+dec 200000006000000350ab01\n\
+type 200000006000000150\n\
+arr 200000006000000150\n\
+canon 200000006000000350ab01\n\
+cmp 200000006000000150 2000000030000000\n\
+dec 20000000600000024101\n\
+cmp zz\n\
+cmp zz z\n\
+dec\n\
+";
 
-impl Read for OneByteReader<'_> {
-    ghost remaining = { λ reader. Some reader.bytes.now };
+const ANSWERS: &str = "\
+ok 800000023000000040000000\n\
+ok 400000021000000110000001200000022000000a616240f970000000000000009602\n\
+ok {\"a\":-7,\"b\":1.50}\n\
+ok 7b0a20202261223a20312c0a20202262223a202268656c6c6f220a7d\n\
+ok array 536870911\n\
+error InvalidEOF\n\
+error BadCommand\n\
+error BadCommand\n\
+ok 8000000220000002000000005001\n\
+ok 80000000\n\
+error InvalidJsonb\n\
+error InvalidJson\n\
+error BadHex\n\
+ok 255\n\
+error InvalidJsonb\n\
+ok none\n\
+ok 8000000320000001200000022000000300408050ffff\n\
+ok 2000000000000000\n\
+ok 200000002000000100\n\
+ok 80000000\n\
+ok 200000002000000950ffffffffffffffff\n\
+ok 0\n\
+error InvalidJsonb\n\
+error InvalidJsonb\n\
+error BadHex\n\
+ok 80000001200000025002\n\
+ok 20000000200000025001\n\
+ok none\n\
+error BadHex\n\
+error InvalidJson\n\
+error InvalidJsonb\n\
+error BadCommand\n\
+ok equal\n\
+ok equal\n\
+ok less\n\
+error BadCommand\n\
+ok 80000001200000024000\n\
+error InvalidJsonb\n\
+error BadHex\n\
+ok 2000000010000002c3a9\n\
+ok 2000000010000004f09f9880\n\
+error InvalidJson\n\
+error InvalidJson\n\
+error InvalidJson\n\
+error InvalidJson\n\
+error InvalidJson\n\
+ok 400000011000000120000002615002\n\
+ok 200000002000000a70000000000000000001\n\
+ok 0.0\n\
+ok 2000000020000012700000000000000001000000000000000000\n\
+error InvalidJson\n\
+ok 6e756c6c\n\
+ok 5b5d\n\
+ok 200000002000000100\n\
+ok 20000000200000025005\n\
+ok 80000000\n\
+error BadHex\n\
+error InvalidJsonb\n\
+error BadCommand\n\
+ok 200000006000000d30000640d6b723800000007080\n\
+ok 8000000150000015800000016000000d30000640d6b723800000007080\n\
+ok \"50ab01\"\n\
+ok extension\n\
+ok 800000016000000150\n\
+ok 200000006000000350ab01\n\
+ok less\n\
+error InvalidJsonb\n\
+error BadCommand\n\
+error BadHex\n\
+error BadCommand\n\
+";
 
-    fn read(&mut self, buf: &mut [u8]) -> io::Result<usize> {
-        let count = buf.len().min(self.bytes.len()).min(1);
-        buf[..count].copy_from_slice(&self.bytes[..count]);
-        self.bytes = &self.bytes[count..];
-        Ok(count)
+#[test]
+fn answers_each_line(rt: HostRuntime) -> Result<(), Fail> {
+    let mut bytes = [0; 4096];
+    let mut room = bytes.as_mut_slice();
+    run(rt.alloc(), &mut LINES.as_bytes(), &mut room)?;
+    let left = room.len();
+    let said = written(&bytes, left)?;
+    for (answer, expected) in said.lines().zip(ANSWERS.lines()) {
+        assert_eq!(rt; answer, expected);
     }
+    assert_eq!(rt; said.len(), ANSWERS.len());
+    Ok(())
 }
 
-/// Gives its first `good` bytes, and then fails.
+// The text that was written into a room of which so many bytes are left. Want of memory is handed on:
+// a run with a refused request may answer so.
+fn written(room: &[u8], left: usize) -> Result<&str, Fail> {
+    let count = room.len().saturating_sub(left);
+    let text = str::from_utf8(room.get(..count).ok_or("more than there is room")?)?;
+    if text.contains("error OutOfMemory") {
+        return Err(AllocError.into());
+    }
+    Ok(text)
+}
+
+#[test]
+fn writes_nothing_for_no_input(rt: HostRuntime) -> Result<(), Fail> {
+    let mut room: &mut [u8] = &mut [];
+    run(rt.alloc(), &mut b"".as_slice(), &mut room)?;
+    Ok(())
+}
+
+/// Gives some bytes, and no more until each line that it gave is answered.
 #[derive(Drop)]
-struct FailingReader<'a> {
+struct WaitingReader<'a> {
     bytes: &'a [u8],
-    good: usize,
+    given: usize,
+    answered: &'a Cell<usize>,
 }
 
-impl Read for FailingReader<'_> {
-    ghost remaining = { λ reader. Some reader.bytes.now };
-
+impl Read for WaitingReader<'_> {
     fn read(&mut self, buf: &mut [u8]) -> io::Result<usize> {
-        if self.good == 0 {
+        if self.answered.get() != self.given {
             return Err(io::Error::from(ErrorKind::Other));
         }
-        let count = self.good.min(buf.len()).min(self.bytes.len());
-        buf[..count].copy_from_slice(&self.bytes[..count]);
-        self.bytes = &self.bytes[count..];
-        self.good -= count;
+        let mut piece = self.bytes.get(..20).unwrap_or(self.bytes);
+        let count = piece.read(buf)?;
+        self.bytes = self.bytes.get(count..).unwrap_or(b"");
+        self.given = self
+            .given
+            .saturating_add(lines_in(buf.get(..count).unwrap_or(b"")));
         Ok(count)
     }
 }
 
-/// Takes five bytes, and then fails.
+/// Takes all bytes, and tells how many lines they ended.
 #[derive(Drop)]
-struct FailingWriter {
-    taken: [u8; 5],
-    count: usize,
-    ghost within: { count ≤ 5 },
+struct CountingWriter<'a> {
+    answered: &'a Cell<usize>,
 }
 
-impl Write for FailingWriter {
-    ghost contents = { λ writer. Some (take writer.count writer.taken) };
-
+impl Write for CountingWriter<'_> {
     fn write(&mut self, buf: &[u8]) -> io::Result<usize> {
-        let count = buf.len().min(5 - self.count);
-        if count == 0 {
+        self.answered
+            .set(self.answered.get().saturating_add(lines_in(buf)));
+        Ok(buf.len())
+    }
+
+    fn flush(&mut self) -> io::Result<()> {
+        Ok(())
+    }
+}
+
+fn lines_in(bytes: &[u8]) -> usize {
+    bytes.iter().filter(|byte| **byte == b'\n').count()
+}
+
+#[test]
+fn answers_before_it_reads_on(rt: HostRuntime) -> Result<(), Fail> {
+    let answered = Cell::new(0);
+    let mut reader = WaitingReader {
+        bytes: LINES.as_bytes(),
+        given: 0,
+        answered: &answered,
+    };
+    let mut writer = CountingWriter {
+        answered: &answered,
+    };
+    run(rt.alloc(), &mut reader, &mut writer)?;
+    assert_eq!(rt; answered.get(), lines_in(LINES.as_bytes()));
+    Ok(())
+}
+
+/// Gives what comes before its fault, fails once, and would then give what comes behind.
+#[derive(Drop)]
+struct FaultyReader<'a> {
+    before: &'a [u8],
+    has_failed: bool,
+    behind: &'a [u8],
+}
+
+impl Read for FaultyReader<'_> {
+    fn read(&mut self, buf: &mut [u8]) -> io::Result<usize> {
+        if self.has_failed {
+            return self.behind.read(buf);
+        }
+        if self.before.is_empty() {
+            self.has_failed = true;
             return Err(io::Error::from(ErrorKind::Other));
         }
-        self.taken[self.count..self.count + count].copy_from_slice(&buf[..count]);
-        self.count += count;
-        Ok(count)
-    }
-
-    fn flush(&mut self) -> io::Result<()> {
-        Ok(())
+        self.before.read(buf)
     }
 }
 
-/// Takes no byte, and says so.
+#[test]
+fn ends_at_a_fault_of_its_reader(rt: HostRuntime) -> Result<(), Fail> {
+    for (before, behind, expected) in [
+        ("", "arr\n", ""),
+        ("type 80000000", "\narr\n", ""),
+        ("type 80000000\n", "arr\n", "ok array 0\n"),
+        ("type 80000000\narr", "\narr\n", "ok array 0\n"),
+    ] {
+        let mut reader = FaultyReader {
+            before: before.as_bytes(),
+            has_failed: false,
+            behind: behind.as_bytes(),
+        };
+        let mut bytes = [0; 64];
+        let mut room = bytes.as_mut_slice();
+        let outcome = with_memory(run(rt.alloc(), &mut reader, &mut room))?;
+        let left = room.len();
+        assert_eq!(rt; written(&bytes, left)?, expected);
+        assert_eq!(rt; outcome, Err(RunError::Read));
+    }
+    Ok(())
+}
+
+/// Takes the bytes that it has room for, fails once, and would then take the next ones.
 #[derive(Drop)]
-struct FullWriter;
+struct FaultyWriter<'a> {
+    room: &'a mut [u8],
+    has_failed: bool,
+    takes_no_byte: bool,
+    room_behind: &'a mut [u8],
+}
 
-impl Write for FullWriter {
-    ghost contents = { λ _. Some [] };
-
-    fn write(&mut self, _buf: &[u8]) -> io::Result<usize> {
-        Ok(0)
+impl Write for FaultyWriter<'_> {
+    fn write(&mut self, buf: &[u8]) -> io::Result<usize> {
+        if self.has_failed {
+            return self.room_behind.write(buf);
+        }
+        if !self.room.is_empty() {
+            return self.room.write(buf);
+        }
+        self.has_failed = true;
+        if self.takes_no_byte {
+            return Ok(0);
+        }
+        Err(io::Error::from(ErrorKind::Other))
     }
 
     fn flush(&mut self) -> io::Result<()> {
@@ -92,8 +320,37 @@ impl Write for FullWriter {
     }
 }
 
-/// Hands on want of memory, which a run with a refused request may meet, and gives any other
-/// outcome.
+#[test]
+fn ends_at_a_fault_of_its_writer(rt: HostRuntime) -> Result<(), Fail> {
+    for (count, takes_no_byte, expected) in [
+        (0, false, ""),
+        (0, true, ""),
+        (5, false, "ok 80"),
+        (5, true, "ok 80"),
+    ] {
+        let mut bytes = [b' '; 64];
+        let (room, room_behind) = bytes.split_at_mut(count);
+        let mut writer = FaultyWriter {
+            room,
+            has_failed: false,
+            takes_no_byte,
+            room_behind,
+        };
+        let mut reader = b"enc [false,true]\narr\n".as_slice();
+        let outcome = with_memory(run(rt.alloc(), &mut reader, &mut writer))?;
+        let said = str::from_utf8(&bytes)?.trim_end();
+        // Where the command was refused memory, its answer is another.
+        if said == "error" {
+            return Err(AllocError.into());
+        }
+        assert_eq!(rt; said, expected);
+        assert_eq!(rt; outcome, Err(RunError::Write));
+    }
+    Ok(())
+}
+
+// Hands on want of memory, which a run with a refused request may meet, and gives any other
+// outcome.
 fn with_memory(outcome: Result<(), RunError>) -> Result<Result<(), RunError>, RunError> {
     match outcome {
         Err(RunError::Memory) => Err(RunError::Memory),
@@ -102,277 +359,8 @@ fn with_memory(outcome: Result<(), RunError>) -> Result<Result<(), RunError>, Ru
 }
 
 #[test]
-fn answers_each_line(rt: HostRuntime) -> Result<(), Fail> {
-    for input in ["\nno\n\nlast", "\nno\n\nlast\n"] {
-        let mut reader = OneByteReader {
-            bytes: input.as_bytes(),
-        };
-        let mut bytes = [0u8; 4 * 17];
-        let mut room = bytes.as_mut_slice();
-        run(rt.alloc(), &mut reader, &mut room)?;
-        let bad = b"error BadCommand\nerror BadCommand\nerror BadCommand\nerror BadCommand\n";
-        assert_eq!(rt; bytes.as_slice(), bad.as_slice());
-    }
-    Ok(())
-}
-
-#[test]
-fn writes_nothing_for_no_input(rt: HostRuntime) -> Result<(), Fail> {
-    let mut reader: &[u8] = b"";
-    run(rt.alloc(), &mut reader, &mut FullWriter)?;
-    Ok(())
-}
-
-#[test]
-fn writes_a_beginning_before_a_fault(rt: HostRuntime) -> Result<(), Fail> {
-    let mut reader: &[u8] = b"enc [false,true]";
-    let mut writer = FailingWriter {
-        taken: [0; 5],
-        count: 0,
-    };
-    let outcome = with_memory(run(rt.alloc(), &mut reader, &mut writer))?;
-    assert_eq!(rt; outcome, Err(RunError::Write));
-    // Where the command was refused memory, its answer is another.
-    if writer.taken.as_slice() == b"error".as_slice() {
-        return Err(AllocError.into());
-    }
-    assert_eq!(rt; writer.taken.as_slice(), b"ok 80".as_slice());
-    Ok(())
-}
-
-#[test]
-fn takes_no_byte_for_a_fault(rt: HostRuntime) -> Result<(), Fail> {
-    let mut reader: &[u8] = b"enc [false,true]\n";
-    let outcome = with_memory(run(rt.alloc(), &mut reader, &mut FullWriter))?;
-    assert_eq!(rt; outcome, Err(RunError::Write));
-    Ok(())
-}
-
-#[test]
-fn answers_what_was_read_before_a_fault(rt: HostRuntime) -> Result<(), Fail> {
-    for (good, lines) in [(0, 0), (4, 0), (5, 1), (6, 1), (10, 2)] {
-        let mut reader = FailingReader {
-            bytes: b"one\r\ntwo\r\nrest".as_slice(),
-            good,
-        };
-        let mut bytes = [0u8; 2 * 17];
-        let mut room = bytes.as_mut_slice();
-        let outcome = with_memory(run(rt.alloc(), &mut reader, &mut room))?;
-        assert_eq!(rt; outcome, Err(RunError::Read));
-        assert_eq!(rt; room.len(), (2 - lines) * 17, "{good}");
-    }
-    Ok(())
-}
-
-#[test]
-fn answers_a_line_before_a_fault(rt: HostRuntime) -> Result<(), Fail> {
-    let mut reader = FailingReader {
-        bytes: b"type 80000000\n".as_slice(),
-        good: 14,
-    };
-    let mut bytes = [0u8; 18];
-    let mut room = bytes.as_mut_slice();
-    let outcome = with_memory(run(rt.alloc(), &mut reader, &mut room))?;
-    assert_eq!(rt; outcome, Err(RunError::Read));
-    if bytes.as_slice() == b"error OutOfMemory\n".as_slice() {
-        return Err(AllocError.into());
-    }
-    assert_eq!(rt; bytes.as_slice(), b"ok array 0\n\0\0\0\0\0\0\0".as_slice());
-    Ok(())
-}
-
-// Where a request is refused, a line is answered so or the run ends there.
-#[test]
-fn answers_two_lines(rt: HostRuntime) -> Result<(), Fail> {
-    let mut reader: &[u8] = b"type 80000000\nenc [false,true]\n";
-    let mut bytes = [0u8; 64];
-    let mut room = bytes.as_mut_slice();
-    let outcome = run(rt.alloc(), &mut reader, &mut room);
-    let left = room.len();
-    let written = bytes.len().saturating_sub(left);
-    let text = str::from_utf8(bytes.get(..written).ok_or("more than there is room")?)?;
-    match (outcome, text) {
-        (Ok(()), "ok array 0\nok 800000023000000040000000\n") => Ok(()),
-        (Ok(()), "error OutOfMemory\nok 800000023000000040000000\n")
-        | (Ok(()), "ok array 0\nerror OutOfMemory\n")
-        | (Err(RunError::Memory), "" | "ok array 0\n") => Err(AllocError.into()),
-        _ => Err("another answer".into()),
-    }
-}
-
-#[test]
 fn tells_faults(rt: HostRuntime) {
     assert_eq!(rt; RunError::Read.line(), "jsonb_cli: read failed");
     assert_eq!(rt; RunError::Write.line(), "jsonb_cli: write failed");
     assert_eq!(rt; RunError::Memory.line(), "jsonb_cli: out of memory");
-}
-
-#[test]
-fn reads_hexadecimal_of_either_case(rt: HostRuntime) -> Result<(), Fail> {
-    let bytes = decoded(rt.alloc(), b"00ffFFaB".as_slice());
-    assert_eq!(rt; bytes?.as_slice(), [0, 255, 255, 171].as_slice());
-    assert_eq!(rt; decoded(rt.alloc(), b"".as_slice())?.len(), 0);
-    for word in ["8", "zz", "8 ", "0x80", "80\r"] {
-        let refused = decoded(rt.alloc(), word.as_bytes()).err();
-        if refused == Some(Refusal::Call(Error::OutOfMemory)) {
-            return Err(AllocError.into());
-        }
-        assert_eq!(rt; refused, Some(Refusal::BadHex), "{word}");
-    }
-    Ok(())
-}
-
-#[test]
-fn writes_each_kind_of_answer(rt: HostRuntime) -> Result<(), Fail> {
-    let bytes = decoded(rt.alloc(), b"800000AB".as_slice())?;
-    let text = String::from_str(rt.alloc(), "[1]")?;
-    let refusal = Refusal::from(Error::InvalidEOF);
-    assert_eq!(rt;
-        line_of(rt.alloc(), Ok(Answer::Hex(bytes)))?.as_str(),
-        "ok 800000ab\n"
-    );
-    assert_eq!(rt;
-        line_of(rt.alloc(), Ok(Answer::Text(text)))?.as_str(),
-        "ok [1]\n"
-    );
-    assert_eq!(rt;
-        line_of(rt.alloc(), Ok(Answer::Word("none")))?.as_str(),
-        "ok none\n"
-    );
-    let counted = Answer::Counted("array", 536870911);
-    assert_eq!(rt;
-        line_of(rt.alloc(), Ok(counted))?.as_str(),
-        "ok array 536870911\n"
-    );
-    assert_eq!(rt;
-        line_of(rt.alloc(), Err(refusal))?.as_str(),
-        "error InvalidEOF\n"
-    );
-    let none = answer(rt.alloc(), b"get 40000000".as_slice());
-    assert_eq!(rt; line_of(rt.alloc(), none)?.as_str(), "error BadCommand\n");
-    Ok(())
-}
-
-// The line of an outcome. Want of memory is handed on: a run with a refused request may meet it.
-fn line_of(alloc: Global, outcome: Result<Answer, Refusal>) -> Result<String, AllocError> {
-    if matches!(&outcome, Err(Refusal::Call(Error::OutOfMemory))) {
-        return Err(AllocError);
-    }
-    written_line(alloc, &outcome)
-}
-
-#[test]
-fn answers_commands(rt: HostRuntime) -> Result<(), Fail> {
-    for (line, expected) in [
-        ("enc [false,true]", "ok 800000023000000040000000"),
-        (
-            "enc [0,-128, 65535]",
-            "ok 8000000320000001200000022000000300408050ffff",
-        ),
-        ("enc null", "ok 2000000000000000"),
-        ("enc -0", "ok 200000002000000100"),
-        ("enc -0.0", "ok 200000002000000a70000000000000000001"),
-        ("enc [ ]", "ok 80000000"),
-        (
-            "enc 18446744073709551615",
-            "ok 200000002000000950ffffffffffffffff",
-        ),
-        (r#"enc "\u00e9""#, "ok 2000000010000002c3a9"),
-        (
-            r#"enc {"b":1.50,"a":-7}"#,
-            "ok 400000021000000110000001200000022000000a616240f970000000000000009602",
-        ),
-        (
-            "dec 400000021000000110000001200000022000000a616240f970000000000000009602",
-            r#"ok {"a":-7,"b":1.50}"#,
-        ),
-        ("dec 20000000200000024000", "ok 0"),
-        ("dec 200000002000000250FF", "ok 255"),
-        ("dec 200000006000000350ab01", r#"ok "50ab01""#),
-        ("type 2000000000000000", "ok null"),
-        ("type 3132333435363738", "ok boolean"),
-        ("type 200000002000000100", "ok number"),
-        ("type 2000000010000000", "ok string"),
-        ("type 200000006000000150", "ok extension"),
-        ("type 9fffffff", "ok array 536870911"),
-        ("type 40000000", "ok object 0"),
-        (r#"get 40000000 "a""#, "ok none"),
-        (
-            "pretty 40000002100000011000000120000002100000056162500168656c6c6f",
-            "ok 7b0a20202261223a20312c0a20202262223a202268656c6c6f220a7d",
-        ),
-        ("cmp 80000000 2000000000000000", "ok less"),
-        ("cmp 20000000200000025005 20000000200000024005", "ok equal"),
-        ("cmp 80000000 ", "ok less"),
-        ("cmp  80000000", "ok greater"),
-        (
-            "arr 20000000200000025001 2000000000000000",
-            "ok 8000000220000002000000005001",
-        ),
-        ("arr", "ok 80000000"),
-        (
-            "canon 200000006000000a30000640d6b723800008",
-            "ok 200000006000000d30000640d6b723800000007080",
-        ),
-    ] {
-        let said = line_of(rt.alloc(), answer(rt.alloc(), line.as_bytes()))?;
-        assert_eq!(rt; said.as_str().trim_end(), expected);
-    }
-    Ok(())
-}
-
-// The object {"aa":1,"ab":[2]}.
-const OBJECT: &str = "400000021000000210000002200000025000000a616161625001800000012000000250\
-02";
-
-#[test]
-fn finds_values(rt: HostRuntime) -> Result<(), Fail> {
-    for (key, expected) in [
-        (r#""ab""#, "ok 80000001200000025002"),
-        (r#" "\u0061a" "#, "ok 20000000200000025001"),
-        (r#""zz""#, "ok none"),
-    ] {
-        let line = format!(in rt.alloc(); "get {OBJECT} {key}")?;
-        let said = line_of(rt.alloc(), answer(rt.alloc(), line.as_bytes()))?;
-        assert_eq!(rt; said.as_str().trim_end(), expected);
-    }
-    Ok(())
-}
-
-#[test]
-fn refuses_commands(rt: HostRuntime) -> Result<(), Fail> {
-    for (line, expected) in [
-        ("enc 1e5", "error InvalidJson"),
-        ("enc  ", "error InvalidJson"),
-        ("enc", "error BadCommand"),
-        ("dec 800000013000000100", "error InvalidJsonb"),
-        ("dec 9fffffff", "error InvalidJsonb"),
-        ("dec 3132333435363738", "error InvalidJsonb"),
-        ("dec ", "error InvalidJsonb"),
-        ("dec 8", "error BadHex"),
-        ("dec 80000000\r", "error BadHex"),
-        ("type ", "error InvalidEOF"),
-        ("type", "error BadCommand"),
-        ("type 00000000", "error InvalidJsonb"),
-        ("type zz", "error BadHex"),
-        (r#"get 8 "a""#, "error BadHex"),
-        ("get 40000000 a", "error InvalidJson"),
-        ("get 40000000 1", "error InvalidJson"),
-        (r#"get 01020304 "a""#, "error InvalidJsonb"),
-        ("get 40000000", "error BadCommand"),
-        ("pretty 01020304", "error InvalidJsonb"),
-        ("cmp 80000000", "error BadCommand"),
-        ("cmp 80000000 8", "error BadHex"),
-        ("arr 01020304", "error InvalidJsonb"),
-        ("arr 01020304 8", "error BadHex"),
-        ("arr ", "error InvalidJsonb"),
-        ("canon 01020304", "error InvalidJsonb"),
-    ] {
-        let said = line_of(rt.alloc(), answer(rt.alloc(), line.as_bytes()))?;
-        assert_eq!(rt; said.as_str().trim_end(), expected);
-    }
-    let no_text = answer(rt.alloc(), b"enc \xff".as_slice());
-    let said = line_of(rt.alloc(), no_text)?;
-    assert_eq!(rt; said.as_str(), "error InvalidUtf8\n");
-    Ok(())
 }
