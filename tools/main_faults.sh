@@ -1,6 +1,7 @@
 #!/usr/bin/env bash
-# Runs the program jsonb_cli with its standard streams closed, full or broken, and with memory refused, and compares its
-# status, its line on standard error and what it wrote with what it must say.
+# Runs the program jsonb_cli with its standard streams closed, full or broken, with memory refused,
+# and with a line that waits for the answer to the one before, and compares its status, its line on
+# standard error and what it wrote with what it must say.
 #
 #     tools/main_faults.sh [PROGRAM]
 #
@@ -17,18 +18,19 @@ if [ ! -x "$program" ]; then
 fi
 ${CC:-cc} -O2 -shared -fPIC -o "$work/refuse.so" "$top/tools/refuse_request.c" -ldl || exit 1
 printf 'enc [false,true]\n' > "$work/line"
-answer='ok 800000023000000040000000'
+answer=$'ok 800000023000000040000000\n'
 failed=0
 
-# Judges the run that ended with status $2: its standard error must be the text $4 and its output $5.
+# Judges the run that ended with status $2: its standard error must be the text $4 and its output $5,
+# byte for byte.
 expect() {
-    local name=$1 status=$2 right_status=$3 right_errors=$4 right_output=$5 errors output
-    errors=$(cat "$work/errors")
-    output=$(cat "$work/output")
-    if [ "$status" = "$right_status" ] && [ "$errors" = "$right_errors" ] && [ "$output" = "$right_output" ]; then
+    local name=$1 status=$2 right_status=$3 right_errors=$4 right_output=$5
+    if [ "$status" = "$right_status" ] && printf '%s' "$right_errors" | cmp -s - "$work/errors" &&
+        printf '%s' "$right_output" | cmp -s - "$work/output"; then
         echo "$name: ok"
     else
-        echo "$name: FAILED: status $status, standard error '$errors', output '$output'"
+        echo "$name: FAILED: status $status, standard error and output:"
+        cat -A "$work/errors" "$work/output"
         failed=1
     fi
     : > "$work/errors"
@@ -41,6 +43,19 @@ expect() {
 "$program" < "$work/line" > "$work/output" 2> "$work/errors"
 expect 'a line' $? 0 '' "$answer"
 
+# The next line comes once the answer to the one before was read.
+mkfifo "$work/lines" "$work/answers"
+"$program" < "$work/lines" > "$work/answers" 2> "$work/errors" &
+exec 3> "$work/lines" 4< "$work/answers"
+for line in 1 2; do
+    cat "$work/line" >&3
+    IFS= read -r -t 10 said <&4 && echo "$said" >> "$work/output"
+done
+exec 3>&-
+wait $!
+expect 'each answer before the next line' $? 0 '' "$answer$answer"
+exec 4<&-
+
 "$program" --help a b < "$work/line" > "$work/output" 2> "$work/errors"
 expect 'arguments are passed over' $? 0 '' "$answer"
 
@@ -51,23 +66,23 @@ expect 'no input' $? 0 '' ''
 expect 'no input and output closed' $? 0 '' ''
 
 "$program" <&- > "$work/output" 2> "$work/errors"
-expect 'input closed' $? 1 'jsonb_cli: read failed' ''
+expect 'input closed' $? 1 $'jsonb_cli: read failed\n' ''
 
 "$program" < "$work" > "$work/output" 2> "$work/errors"
-expect 'input is a folder' $? 1 'jsonb_cli: read failed' ''
+expect 'input is a folder' $? 1 $'jsonb_cli: read failed\n' ''
 
 "$program" < "$work/line" 2> "$work/errors" >&-
-expect 'output closed' $? 1 'jsonb_cli: write failed' ''
+expect 'output closed' $? 1 $'jsonb_cli: write failed\n' ''
 
 "$program" < "$work/line" > /dev/full 2> "$work/errors"
-expect 'output full' $? 1 'jsonb_cli: write failed' ''
+expect 'output full' $? 1 $'jsonb_cli: write failed\n' ''
 
 # The line comes once nothing reads the answers any more.
 { sleep 1; cat "$work/line"; } | { "$program" 2> "$work/errors"; echo $? > "$work/status"; } | true
-expect 'output a broken pipe' "$(cat "$work/status")" 1 'jsonb_cli: write failed' ''
+expect 'output a broken pipe' "$(cat "$work/status")" 1 $'jsonb_cli: write failed\n' ''
 
 REFUSE_REQUEST=1 LD_PRELOAD=$work/refuse.so "$program" < "$work/line" > "$work/output" 2> "$work/errors"
-expect 'memory refused' $? 1 'jsonb_cli: out of memory' ''
+expect 'memory refused' $? 1 $'jsonb_cli: out of memory\n' ''
 
 "$program" <&- > "$work/output" 2>&-
 expect 'input and standard error closed' $? 1 '' ''
