@@ -11,8 +11,6 @@ mod lookup;
 mod order;
 mod payloads;
 mod refusal;
-#[cfg(test)]
-mod tests;
 mod texts;
 mod walks;
 mod words;

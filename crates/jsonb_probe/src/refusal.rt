@@ -5,7 +5,7 @@ use jsonb::Error;
 use std::alloc::{AllocError, AllocFailed};
 
 /// Why a line is answered by `error` and a name.
-#[derive(Clone, Copy, Debug, PartialEq, Eq)]
+#[derive(Clone, Copy)]
 pub enum Refusal {
     /// The line is of no command's form.
     BadCommand,
