@@ -1,6 +1,6 @@
 #!/usr/bin/env python3
-"""Runs the tests of every crate that has some, and the program jsonb_cli, with their first request for memory refused, then their
-second, and so on up to a run that meets no refusal.
+"""Runs the tests of every crate that has some, and the programs jsonb_cli and jsonb_probe, with their
+first request for memory refused, then their second, and so on up to a run that meets no refusal.
 
     tools/refuse_each.py [CRATE ..]
 
@@ -9,14 +9,16 @@ cc) for tools/refuse_request.c.
 
 A run of a test passes where the test does, and, once a request was refused, where the test hands on want of memory as
 its error: a failed assertion is a wrong answer. The run behind the last refusal must pass. The tests of a module
-`unrefused` must make no request at all. A run of the program passes where each line of output is the right answer or
-`error OutOfMemory`; once a request was refused, also where it ends by saying so and has written the first of such lines.
+`unrefused` must make no request at all. A run of a program passes where each line of output is the
+right answer or ends in `error OutOfMemory`; once a request was refused, also where it ends by saying
+so and has written the first of such lines.
 
 A run repeats what comes before the refused request, so all runs of a test with very many requests would take hours. Of a
 test of more than 400 requests 200 are refused, the first and the last among them and the others spread evenly, and of one
 of more than 10,000 requests 20. The tests in tools/refusals_passed_over are left out; that file says why.
 
-The last line counts the runs. The status is 1 where a run gave a wrong answer, or a series did not come to its end.
+The last line counts the runs. The status is 1 where a run gave a wrong answer, a series did not come
+to its end, or a test that is named here or in tools/refusals_passed_over is not there.
 """
 import collections
 import concurrent.futures
@@ -32,21 +34,70 @@ import tempfile
 TOP = os.path.dirname(os.path.dirname(os.path.abspath(__file__)))
 # How a test writes that memory was refused: by a library's error, or one of the standard library.
 REFUSAL = re.compile(rb"[Ee]rror: (OutOfMemory|Call\(OutOfMemory\)|Memory|AllocError|AllocFailed)")
-# Lines for the program, and their answers: one of each command, and two that are refused.
-LINES = [
-    ("type 80000000", "ok array 0"),
-    ("enc [false,true]", "ok 800000023000000040000000"),
-    ("dec 400000021000000110000001200000022000000a616240f970000000000000009602", 'ok {"a":-7,"b":1.50}'),
-    ("pretty 80000000", "ok 5b5d"),
-    ('get 400000021000000210000002200000025000000a61616162500180000001200000025002 "ab"', "ok 80000001200000025002"),
-    ("cmp 20000000200000025005 20000000200000024005", "ok equal"),
-    ("arr 20000000200000025001 2000000000000000", "ok 8000000220000002000000005001"),
-    ("canon 200000006000000a30000640d6b723800008", "ok 200000006000000d30000640d6b723800000007080"),
-    ("enc 1e5", "error InvalidJson"),
-    ("", "error BadCommand"),
-]
-# What the program says where its run ends for want of memory.
-OUT_OF_MEMORY = b"jsonb_cli: out of memory\n"
+OBJECT = "400000021000000210000002200000025000000a61616162500180000001200000025002"
+PAIRS = "400000021000000110000001200000021000000361625001313233"
+# Lines for each program, and their answers: one of each command, and some that are refused.
+LINES = {
+    "jsonb_cli": [
+        ("type 80000000", "ok array 0"),
+        ("enc [false,true]", "ok 800000023000000040000000"),
+        ("dec 400000021000000110000001200000022000000a616240f970000000000000009602", 'ok {"a":-7,"b":1.50}'),
+        ("pretty 80000000", "ok 5b5d"),
+        (f'get {OBJECT} "ab"', "ok 80000001200000025002"),
+        ("cmp 20000000200000025005 20000000200000024005", "ok equal"),
+        ("arr 20000000200000025001 2000000000000000", "ok 8000000220000002000000005001"),
+        ("canon 200000006000000a30000640d6b723800008", "ok 200000006000000d30000640d6b723800000007080"),
+        ("enc 1e5", "error InvalidJson"),
+        ("", "error BadCommand"),
+    ],
+    "jsonb_probe": [
+        ("is_document 80000000", "true"),
+        ("within 80000000 0", "false"),
+        ("value_of 20000000200000024000", "ok 200000002000000100"),
+        ("decoder 800000023000000040000000", "ok 800000023000000040000000"),
+        ("is_canonical 20000000200000024000", "false"),
+        ("to_canonical 20000000200000024000", "ok 200000002000000100"),
+        ("item_type 9fffffff", "ok array 536870911"),
+        ("item 200000002000000100ff", "ok number 200000002000000100"),
+        ("array 80000002200000017000000000", "len 2 | number 200000002000000100 | error InvalidJsonb | end 2"),
+        (f"keys {PAIRS}", "len 2 | string 200000001000000161 | string 200000001000000162 | end 2"),
+        (f"values {PAIRS}", "len 2 | number 20000000200000025001 | string 2000000010000003313233 | end 2"),
+        (f"pairs {PAIRS}", "len 2 | 61 number 20000000200000025001 | 62 string 2000000010000003313233 | end 2"),
+        (f"lookup {OBJECT} 6162", "reads 5 raw 80000001200000025002"),
+        (f"lookup_nocase {OBJECT} 4142", "reads 5 raw 80000001200000025002"),
+        ("cmp 20000000200000025005 20000000200000024005", "equal same"),
+        ("try_cmp 80000000 ", "none"),
+        ("item_cmp 20000000200000025005 20000000200000024005", "equal"),
+        ("rank 80000000 40000000", "greater"),
+        ("to_string 80000000", "ok 5b5d"),
+        ("to_pretty_string 2000000000000000", "ok 6e756c6c"),
+        ("display 01020304", "ok 01020304"),
+        ("array_of 20000000200000025001 2000000000000000", "ok 8000000220000002000000005001"),
+        (
+            "object_of 62=20000000200000025001 61=20000000200000025002",
+            "ok 4000000210000001100000012000000220000002616250025001",
+        ),
+        (
+            "distinct +20000000200000025005 +200000001000000178 -20000000200000024005 -80000000",
+            "some none ok 800000022000000210000001500578",
+        ),
+        ("number 7000000000000004d202", "ok decimal64 1234 2 7000000000000004d202"),
+        ("extension 30000640d6b723800008", "ok 1760140800000000 28800 30000640d6b723800000007080"),
+        ("cmp_number 5005 4005", "equal"),
+        ("cmp_extension 0000 000000", "less"),
+        ("header 5fffffff 0", "ok 40000000 536870911"),
+        ("jentry 90000003 0", "ok 10000000 3 10000003"),
+        ("word 80000001 0", "ok 80000001 1"),
+        ("lookup 01020304 ff", "error InvalidUtf8"),
+        ("is_document 8", "error BadHex"),
+        ("", "error BadCommand"),
+    ],
+}
+# What each program says where its run ends for want of memory.
+OUT_OF_MEMORY = {"jsonb_cli": b"jsonb_cli: out of memory\n", "jsonb_probe": b"Error: Kind(OutOfMemory)\n"}
+# The module of tests that make no request, and two tests that differ by the encoding of a small tree alone.
+UNREFUSED = "jsonb_rows unrefused"
+COUNTED = [f"jsonb_rows memory::counted_{it}_an_encoding" for it in ("with", "without")]
 
 Series = collections.namedtuple("Series", "name words given is_right")
 Run = collections.namedtuple("Run", "status output errors is_refused requests")
@@ -60,16 +111,19 @@ def is_right_test(run):
     return run.status == 0 or (run.is_refused and run.status == 101 and bool(REFUSAL.match(run.errors)))
 
 
-def program_judge(wanted):
-    """Judges runs of the program whose right answers are these lines."""
+def program_judge(program, wanted):
+    """Judges runs of a program whose right answers are these lines."""
 
     def is_right(run):
         lines, right = run.output.splitlines(), wanted.splitlines()
         if run.status == 0:
             is_whole = len(lines) == len(right) and not run.errors
         else:
-            is_whole = run.is_refused and run.status == 1 and run.errors == OUT_OF_MEMORY and len(lines) <= len(right)
-        return is_whole and all(it == to or (run.is_refused and it == b"error OutOfMemory") for it, to in zip(lines, right))
+            said = OUT_OF_MEMORY[program]
+            is_whole = run.is_refused and run.status == 1 and run.errors == said and len(lines) <= len(right)
+        return is_whole and all(
+            it == to or (run.is_refused and it.endswith(b"error OutOfMemory")) for it, to in zip(lines, right)
+        )
 
     return is_right
 
@@ -103,7 +157,7 @@ def run_series(series, work):
         return run
 
     requests = judged(0, False).requests
-    if "unrefused::" in series.name and requests:
+    if series.name.startswith(f"{UNREFUSED}::") and requests:
         raise Wrong(f"makes {requests} requests")
     numbers = chosen(requests)
     for number in numbers:
@@ -114,27 +168,26 @@ def run_series(series, work):
 
 def passed_over():
     with open(f"{TOP}/tools/refusals_passed_over", encoding="utf-8") as lines:
-        return {line.split()[0] for line in lines if line.strip() and not line.startswith("#")}
+        return {line.split()[0].replace("::", " ", 1) for line in lines if line.strip() and not line.startswith("#")}
 
 
-def series_of_tests(crate, left_out):
-    """The series of a crate's tests, but for those that are left out. Each of these must be there."""
+def series_of_tests(crate):
     program = f"{TOP}/crates/{crate}/out/{crate}_tests"
     if not os.path.exists(program):
         raise SystemExit(f"crates/{crate}/out has no built tests: run rt ci first")
     listed = subprocess.run([program, "--list"], capture_output=True, text=True, check=True).stdout
     names = [line[: -len(": test")] for line in listed.splitlines() if line.endswith(": test")]
-    unknown = {it for it in left_out if it.startswith(f"{crate}::")} - {f"{crate}::{it}" for it in names}
-    if unknown:
-        raise SystemExit(f"tools/refusals_passed_over names no test: {', '.join(sorted(unknown))}")
-    return [Series(f"{crate} {it}", [program, it], b"", is_right_test) for it in names if f"{crate}::{it}" not in left_out]
+    return [Series(f"{crate} {it}", [program, it], b"", is_right_test) for it in names]
 
 
-def series_of_program():
-    words = [f"{TOP}/crates/jsonb_cli/out/jsonb_cli"]
-    inputs = {"two lines": LINES[:2], "lines of each command": LINES}
-    told = [(name, *("".join(f"{it}\n" for it in column).encode() for column in zip(*rows))) for name, rows in inputs.items()]
-    return [Series(f"jsonb_cli on {name}", words, given, program_judge(wanted)) for name, given, wanted in told]
+def series_of_program(name):
+    """The series of a program: its first two lines, and all of them."""
+    lines, program = LINES[name], f"{TOP}/crates/{name}/out/{name}"
+    if not os.path.exists(program):
+        raise SystemExit(f"crates/{name}/out has no built program: run rt ci first")
+    inputs = {"two lines": lines[:2], "lines of each command": lines}
+    told = [(on, *("".join(f"{it}\n" for it in column).encode() for column in zip(*rows))) for on, rows in inputs.items()]
+    return [Series(f"{name} on {on}", [program], given, program_judge(name, wanted)) for on, given, wanted in told]
 
 
 def has_tests(crate):
@@ -142,23 +195,21 @@ def has_tests(crate):
     return any("#[test]" in pathlib.Path(it).read_text(encoding="utf-8") for it in files)
 
 
-def crates_with_tests():
+def crates_to_run():
     with open(f"{TOP}/crates.txt", encoding="utf-8") as lines:
         listed = [line.split(":")[0].split()[0] for line in lines if ":" in line and not line.startswith("#")]
-    return [it for it in listed if has_tests(it)]
-
-
-def has_one_request(counts):
-    """Whether the encoding of a small tree makes one request at most: two tests differ by it alone."""
-    names = [f"jsonb_rows memory::counted_{it}_an_encoding" for it in ("with", "without")]
-    return any(it not in counts for it in names) or counts[names[0]] - counts[names[1]] <= 1
+    return [it for it in listed if it in LINES or has_tests(it)]
 
 
 def main(names):
-    left_out, crates = passed_over(), names or crates_with_tests()
-    all_series = [it for crate in crates for it in series_of_tests(crate, left_out)]
-    if "jsonb_cli" in crates:
-        all_series += series_of_program()
+    left_out, crates = passed_over(), names or crates_to_run()
+    tests = [it for crate in crates if has_tests(crate) or crate not in LINES for it in series_of_tests(crate)]
+    found = {it.name for it in tests} | {it.name.partition("::")[0] for it in tests}
+    lacking = {it for it in {*left_out, *COUNTED, UNREFUSED} - found if not names or it.split()[0] in names}
+    if lacking:
+        raise SystemExit(f"named for refusals, and not there: {', '.join(sorted(lacking))}")
+    all_series = [it for it in tests if it.name not in left_out]
+    all_series += [it for crate in crates if crate in LINES for it in series_of_program(crate)]
     counts, runs, failed = {}, 0, 0
     with tempfile.TemporaryDirectory() as work, concurrent.futures.ThreadPoolExecutor(os.cpu_count()) as pool:
         compiler = shlex.split(os.environ.get("CC", "cc"))
@@ -173,9 +224,9 @@ def main(names):
             except (Wrong, OSError, subprocess.TimeoutExpired) as error:
                 failed += 1
                 print(f"{series.name}: FAILED: {error}", flush=True)
-    if not has_one_request(counts):
+    if all(it in counts for it in COUNTED) and counts[COUNTED[0]] - counts[COUNTED[1]] > 1:
         failed += 1
-        print("an encoding makes more than one request: FAILED")
+        print("the encoding of a small tree makes more than one request: FAILED")
     print(f"{len(counts)} series, {runs} runs, {failed} failed")
     return 1 if failed else 0
 
