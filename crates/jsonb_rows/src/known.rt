@@ -7,7 +7,6 @@ use jsonb_codec::{Decoder, Encoder, value_of};
 use jsonb_value::{Error, Value};
 use std::alloc::Global;
 use std::fmt;
-use std::process::Abort;
 use std::test::Fail;
 
 /// Documents that both readers take.
@@ -80,13 +79,6 @@ pub fn encoded(alloc: Global, value: &Value) -> Result<Vec<u8>, Error>
     Ok(bytes)
 }
 
-/// Ends a test in which bytes are not those of a hexadecimal text.
-pub fn assert_bytes(rt: &impl Abort, alloc: Global, bytes: &[u8], text: &str) -> Result<(), Fail> {
-    let expected = bytes_of(alloc, text)?;
-    assert_eq!(rt; bytes, expected.as_slice());
-    Ok(())
-}
-
 /// What the tree reader makes of the bytes, encoded again.
 pub fn read_as_tree(alloc: Global, bytes: &[u8]) -> Result<Vec<u8>, Error> {
     encoded(alloc, &value_of(alloc, bytes)?)
@@ -97,12 +89,16 @@ pub fn decoded(alloc: Global, bytes: &[u8]) -> Result<Vec<u8>, Error> {
     encoded(alloc, &Decoder::new(bytes).decode(alloc)?)
 }
 
-/// The name of a reader's fault, or `ok`.
-pub fn outcome(read: &Result<Vec<u8>, Error>) -> &'static str {
-    match read {
-        Ok(_) => "ok",
-        Err(error) => error.name(),
+/// So many arrays inside one another, the innermost empty.
+pub fn nested(alloc: Global, levels: u32) -> Result<Vec<u8>, Fail> {
+    let mut bytes = Vec::new(alloc);
+    for level in 1..levels {
+        let inside = (levels - level).saturating_mul(8).saturating_sub(4);
+        bytes.extend_from_slice(&0x80000001_u32.to_be_bytes())?;
+        bytes.extend_from_slice(&0x50000000_u32.saturating_add(inside).to_be_bytes())?;
     }
+    bytes.extend_from_slice(&0x80000000_u32.to_be_bytes())?;
+    Ok(bytes)
 }
 
 /// A writer that takes so many bytes, and refuses a piece that is too long for what is left.

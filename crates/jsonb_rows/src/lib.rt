@@ -1,14 +1,14 @@
-//! The tests of the library: known documents read and written, cut and changed, tables of faults, of items, look-ups,
-//! orders and texts, and what is left where memory is refused.
+//! The tests of the library that are no lines of a program: what is left where memory is refused,
+//! and which calls take none; laws over pairs and triples of documents; limits of the format;
+//! writers that refuse; closures; and what is borrowed. The lines stand in `tests/lines`.
 //!
-//! The proof of a test grows faster than its body, by each reference in it: a table is one constant reference, and a
-//! function that is given a row, or makes one value, holds what the rows share.
+//! The proof of a test grows faster than its body, by each call that can fail and each value that is
+//! let go: a table is one constant, and a function that is given a row, or makes one value, holds
+//! what the rows share.
 #![tactic(auto)]
 
 #[cfg(test)]
 mod builders;
-#[cfg(test)]
-mod canonical;
 #[cfg(test)]
 mod changed;
 #[cfg(test)]
@@ -18,7 +18,7 @@ mod depth;
 #[cfg(test)]
 mod encoding;
 #[cfg(test)]
-mod faults;
+mod errors;
 #[cfg(test)]
 mod items;
 #[cfg(test)]
@@ -32,8 +32,6 @@ mod order;
 #[cfg(test)]
 mod parser;
 #[cfg(test)]
-mod payloads;
-#[cfg(test)]
 mod queue;
 #[cfg(test)]
 mod readers;
@@ -43,5 +41,3 @@ mod texts;
 mod unrefused;
 #[cfg(test)]
 mod value_texts;
-#[cfg(test)]
-mod values;

@@ -1,11 +1,11 @@
-// What each call that takes memory leaves behind where a request is refused. A test ends in the right
-// answer, or hands on the error once it has seen what the refusal left: tools/refuse_each.py runs it
-// with each of its requests refused in turn.
-use crate::known::encoded;
+// What each call that takes memory leaves behind where a request is refused. A test ends in the
+// right answer, or hands on the error once it has seen what the refusal left: tools/refuse_each.py
+// runs it with each of its requests refused in turn.
+use crate::known::{decoded, encoded, read_as_tree};
 use jsonb::{
     ArrayBuilder, ArrayDistinctBuilder, Date, Decimal64, Decoder, Encoder, Error, ExtensionValue,
     JsonAst, JsonAstEncoder, JsonbItem, Number, NumberItem, ObjectBuilder, OwnedJsonb, RawJsonb,
-    append_canonical, encode_and_ask, parse_value, value_of,
+    Value, append_canonical, encode_and_ask, parse_value, value_of,
 };
 use std::alloc::Global;
 use std::borrow::CowStr;
@@ -18,29 +18,21 @@ const TEXT: &str = r#"[false,10,{"k":"v"}]"#;
 
 const PRETTY: &str = "[\n  false,\n  10,\n  {\n    \"k\": \"v\"\n  }\n]";
 
-const DOCUMENT: &[u8] = &[
-    0x80, 0, 0, 3, 0x30, 0, 0, 0, 0x20, 0, 0, 2, 0x50, 0, 0, 0x0e, 0x50, 0x0a, 0x40, 0, 0, 1, 0x10,
-    0, 0, 1, 0x10, 0, 0, 1, 0x6b, 0x76,
-];
+const DOCUMENT: &[u8] = b"\x80\0\0\x03\x30\0\0\0\x20\0\0\x02\x50\0\0\x0e\x50\x0a\
+    \x40\0\0\x01\x10\0\0\x01\x10\0\0\x01kv";
 
-// The numbers 1, 2 and 5, and the string "x".
-const ONE: &[u8] = &[0x20, 0, 0, 0, 0x20, 0, 0, 2, 0x50, 1];
+// The number 5, and the string "x".
+const FIVE: &[u8] = b"\x20\0\0\0\x20\0\0\x02\x50\x05";
 
-const TWO: &[u8] = &[0x20, 0, 0, 0, 0x20, 0, 0, 2, 0x50, 2];
+const X: &[u8] = b"\x20\0\0\0\x10\0\0\x01x";
 
-const FIVE: &[u8] = &[0x20, 0, 0, 0, 0x20, 0, 0, 2, 0x50, 5];
-
-const X: &[u8] = &[0x20, 0, 0, 0, 0x10, 0, 0, 1, 0x78];
-
-// The arrays of 1 and "x", and of 5 and "x".
-const ONE_AND_X: &[u8] = &[0x80, 0, 0, 2, 0x20, 0, 0, 2, 0x10, 0, 0, 1, 0x50, 1, 0x78];
-
-const FIVE_AND_X: &[u8] = &[0x80, 0, 0, 2, 0x20, 0, 0, 2, 0x10, 0, 0, 1, 0x50, 5, 0x78];
+// The array of both.
+const FIVE_AND_X: &[u8] = b"\x80\0\0\x02\x20\0\0\x02\x10\0\0\x01\x50\x05x";
 
 // Zero in its older form.
-const OLD_ZERO: &[u8] = &[0x20, 0, 0, 0, 0x20, 0, 0, 2, 0x40, 0];
+const OLD_ZERO: &[u8] = b"\x20\0\0\0\x20\0\0\x02\x40\0";
 
-const ZERO: &[u8] = &[0x20, 0, 0, 0, 0x20, 0, 0, 1, 0];
+const ZERO: &[u8] = b"\x20\0\0\0\x20\0\0\x01\0";
 
 // Ends a test by the error of a call that was made again since.
 fn hand_on(refused: Option<Error>) -> Result<(), Error> {
@@ -50,52 +42,49 @@ fn hand_on(refused: Option<Error>) -> Result<(), Error> {
     }
 }
 
-// The string "x" as an item that owns its text.
-fn owned_x(alloc: Global) -> Result<JsonbItem<'static>, Error> {
-    let text = String::from_str(alloc, "x")?;
-    Ok(JsonbItem::String(CowStr::Owned(text)))
+#[test]
+fn documents_are_read(rt: HostRuntime) -> Result<(), Fail> {
+    assert!(rt; read_as_tree(rt.alloc(), DOCUMENT)?.as_slice() == DOCUMENT);
+    Ok(())
 }
 
 #[test]
-fn documents_are_read(rt: HostRuntime) -> Result<(), Fail> {
-    let value = value_of(rt.alloc(), DOCUMENT)?;
-    assert_eq!(rt; encoded(rt.alloc(), &value)?.as_slice(), DOCUMENT);
+fn documents_are_decoded(rt: HostRuntime) -> Result<(), Fail> {
+    assert!(rt; decoded(rt.alloc(), DOCUMENT)?.as_slice() == DOCUMENT);
     Ok(())
+}
+
+// What a decoder that was refused answers when it is asked again.
+fn decoded_again(alloc: Global, decoder: Decoder) -> Result<Vec<u8>, Error> {
+    let mut decoder = decoder;
+    encoded(alloc, &decoder.decode(alloc)?)
 }
 
 #[test]
 fn a_decoder_is_as_before(rt: HostRuntime) -> Result<(), Fail> {
     let mut decoder = Decoder::new(DOCUMENT);
-    match decoder.decode(rt.alloc()) {
-        Ok(value) => {
-            assert_eq!(rt; encoded(rt.alloc(), &value)?.as_slice(), DOCUMENT);
-            Ok(())
-        }
-        Err(error) => {
-            let value = decoder.decode(rt.alloc())?;
-            assert_eq!(rt; encoded(rt.alloc(), &value)?.as_slice(), DOCUMENT);
-            Err(error.into())
-        }
+    let refused = decoder.decode(rt.alloc()).err();
+    if refused.is_some() {
+        assert!(rt; decoded_again(rt.alloc(), decoder)?.as_slice() == DOCUMENT);
     }
+    Ok(hand_on(refused)?)
 }
 
 #[test]
 fn texts_are_read(rt: HostRuntime) -> Result<(), Fail> {
-    let value = parse_value(rt.alloc(), TEXT)?;
-    assert_eq!(rt; encoded(rt.alloc(), &value)?.as_slice(), DOCUMENT);
     let owned = OwnedJsonb::parse(
         rt.alloc(),
         r#" [ false, 10, {"k":"0","\u006b":"\u0076"} ] "#,
     )?;
-    assert_eq!(rt; owned.as_bytes(), DOCUMENT);
+    assert!(rt; owned.as_bytes() == DOCUMENT);
     Ok(())
 }
 
 #[test]
 fn texts_are_written(rt: HostRuntime) -> Result<(), Fail> {
     let raw = RawJsonb::new(DOCUMENT);
-    assert_eq!(rt; raw.to_string(rt.alloc())?.as_str(), TEXT);
-    assert_eq!(rt; raw.to_pretty_string(rt.alloc())?.as_str(), PRETTY);
+    assert!(rt; raw.to_string(rt.alloc())?.as_str() == TEXT);
+    assert!(rt; raw.to_pretty_string(rt.alloc())?.as_str() == PRETTY);
     Ok(())
 }
 
@@ -106,136 +95,158 @@ fn display_hands_on_a_refused_write(rt: HostRuntime) -> Result<(), Fail> {
     let mut f = fmt::Formatter::new(String::new(rt.alloc()));
     let answer = fmt::Display::fmt(&owned, &mut f);
     let text = f.into_inner();
-    if answer.is_err() {
-        assert!(rt; text.len() < TEXT.len() && TEXT.starts_with(text.as_str()));
-        return Err(Error::OutOfMemory.into());
-    }
-    assert_eq!(rt; text.as_str(), TEXT);
-    Ok(())
+    assert!(rt; TEXT.starts_with(text.as_str()));
+    assert!(rt; answer.is_ok() == (text.len() == TEXT.len()));
+    Ok(answer.map_err(|_| Error::OutOfMemory)?)
 }
 
 #[test]
 fn bytes_are_copied(rt: HostRuntime) -> Result<(), Fail> {
     let owned = RawJsonb::new(DOCUMENT).to_owned(rt.alloc())?;
-    assert_eq!(rt; owned.as_bytes(), DOCUMENT);
+    assert!(rt; owned.as_bytes() == DOCUMENT);
     let copy = owned.clone(rt.alloc())?;
-    assert_eq!(rt; copy.as_bytes(), DOCUMENT);
-    let copy = OwnedJsonb::from_bytes(rt.alloc(), copy.as_bytes())?;
-    assert_eq!(rt; copy.as_bytes(), DOCUMENT);
+    assert!(rt; copy.as_bytes() == DOCUMENT);
+    Ok(())
+}
+
+// The string "x" as an item that owns its text.
+fn owned_x(alloc: Global) -> Result<JsonbItem<'static>, Error> {
+    let text = String::from_str(alloc, "x")?;
+    Ok(JsonbItem::String(CowStr::Owned(text)))
+}
+
+// The array as an item that owns its bytes.
+fn owned_document(alloc: Global) -> Result<JsonbItem<'static>, Error> {
+    Ok(JsonbItem::Owned(OwnedJsonb::from_bytes(alloc, DOCUMENT)?))
+}
+
+// Ends a test in which an item's copy, or its document, is another.
+fn assert_item(rt: &impl Abort, alloc: Global, item: JsonbItem, bytes: &[u8]) -> Result<(), Error> {
+    assert!(rt; item.clone(alloc)? == item);
+    assert!(rt; OwnedJsonb::from_item(alloc, item)?.as_bytes() == bytes);
     Ok(())
 }
 
 #[test]
-fn items_are_copied(rt: HostRuntime) -> Result<(), Fail> {
-    let text = owned_x(rt.alloc())?;
-    let copy = text.clone(rt.alloc())?;
-    assert!(rt; copy == text);
-    let shown = copy.as_str(rt.alloc())?;
-    assert!(rt; matches!(&shown, Some(shown) if shown.as_str() == "x"));
-    let document = JsonbItem::Owned(OwnedJsonb::from_bytes(rt.alloc(), DOCUMENT)?);
-    assert!(rt; document.clone(rt.alloc())? == document);
+fn items_are_copied_and_stored(rt: HostRuntime) -> Result<(), Fail> {
+    assert_item(&rt, rt.alloc(), owned_x(rt.alloc())?, X)?;
+    assert_item(&rt, rt.alloc(), owned_document(rt.alloc())?, DOCUMENT)?;
+    assert_item(
+        &rt,
+        rt.alloc(),
+        JsonbItem::Raw(RawJsonb::new(DOCUMENT)),
+        DOCUMENT,
+    )?;
+    let five = NumberItem::from_number(Number::UInt64(5));
+    Ok(assert_item(&rt, rt.alloc(), JsonbItem::Number(five), FIVE)?)
+}
+
+#[test]
+fn a_text_is_copied(rt: HostRuntime) -> Result<(), Fail> {
+    let text = owned_x(rt.alloc())?.as_str(rt.alloc())?;
+    assert!(rt; matches!(&text, Some(text) if text.as_str() == "x"));
     Ok(())
 }
 
 #[test]
-fn items_are_stored(rt: HostRuntime) -> Result<(), Fail> {
-    let raw = JsonbItem::Raw(RawJsonb::new(DOCUMENT));
-    let stored = OwnedJsonb::from_item(rt.alloc(), raw)?;
-    assert_eq!(rt; stored.as_bytes(), DOCUMENT);
-    let number = JsonbItem::Number(NumberItem::from_number(Number::UInt64(5)));
-    let stored = OwnedJsonb::from_item(rt.alloc(), number)?;
-    assert_eq!(rt; stored.as_bytes(), FIVE);
-    let stored = OwnedJsonb::from_item(rt.alloc(), owned_x(rt.alloc())?)?;
-    assert_eq!(rt; stored.as_bytes(), X);
+fn arrays_are_put_together(rt: HostRuntime) -> Result<(), Fail> {
+    let inputs = [RawJsonb::new(FIVE), RawJsonb::new(X)];
+    assert!(rt; OwnedJsonb::build_array(rt.alloc(), inputs)?.as_bytes() == FIVE_AND_X);
     Ok(())
 }
+
+// The object {"a":5,"b":"x"}.
+const OBJECT: &[u8] = b"\x40\0\0\x02\x10\0\0\x01\x10\0\0\x01\x20\0\0\x02\x10\0\0\x01ab\x50\x05x";
 
 #[test]
-fn documents_are_put_together(rt: HostRuntime) -> Result<(), Fail> {
-    let inputs = [RawJsonb::new(ONE), RawJsonb::new(X)];
-    let array = OwnedJsonb::build_array(rt.alloc(), inputs)?;
-    assert_eq!(rt; array.as_bytes(), ONE_AND_X);
-    let inputs = [("b", RawJsonb::new(TWO)), ("a", RawJsonb::new(ONE))];
-    let object = OwnedJsonb::build_object(rt.alloc(), inputs)?;
-    assert_eq!(rt;
-        object.as_raw().to_string(rt.alloc())?.as_str(),
-        r#"{"a":1,"b":2}"#
-    );
+fn objects_are_put_together(rt: HostRuntime) -> Result<(), Fail> {
+    let inputs = [("b", RawJsonb::new(X)), ("a", RawJsonb::new(FIVE))];
+    assert!(rt; OwnedJsonb::build_object(rt.alloc(), inputs)?.as_bytes() == OBJECT);
     Ok(())
-}
-
-// Ends a test in which a buffer is not as it was, or other bytes stand behind what it held.
-fn assert_behind(rt: &impl Abort, buffer: &[u8], bytes: &[u8]) {
-    assert_eq!(rt; buffer.get(..1), Some([0xaa].as_slice()));
-    assert_eq!(rt; buffer.get(1..), Some(bytes));
 }
 
 #[test]
 fn old_data_is_rewritten(rt: HostRuntime) -> Result<(), Fail> {
-    let zero = RawJsonb::new(OLD_ZERO).to_canonical(rt.alloc())?;
-    assert_eq!(rt; zero.as_bytes(), ZERO);
-    let mut bytes = vec![in rt.alloc(); 0xaa]?;
-    let refused = append_canonical(&mut bytes, OLD_ZERO).err();
-    if refused.is_some() {
-        assert_eq!(rt; bytes.as_slice(), [0xaa].as_slice());
-        append_canonical(&mut bytes, OLD_ZERO)?;
-    }
-    assert_behind(&rt, &bytes, ZERO);
-    Ok(hand_on(refused)?)
+    assert!(rt; RawJsonb::new(OLD_ZERO).to_canonical(rt.alloc())?.as_bytes() == ZERO);
+    Ok(())
 }
 
 #[test]
 fn a_document_is_asked(rt: HostRuntime) -> Result<(), Fail> {
     let value = parse_value(rt.alloc(), TEXT)?;
     let asked = encode_and_ask(rt.alloc(), &value, "k")?;
-    assert_eq!(rt; asked.text.as_str(), TEXT);
-    assert_eq!(rt; asked.pretty.as_str(), PRETTY);
+    assert!(rt; asked.text.as_str() == TEXT && asked.pretty.as_str() == PRETTY);
     assert!(rt; !asked.has_key);
     Ok(())
 }
 
+// What is appended to a buffer.
+#[derive(Drop)]
+enum Given {
+    Number(Number),
+    Extension(ExtensionValue<'static>),
+    Value(Value<'static>),
+    Lists(JsonAst<'static>),
+    OldDocument(&'static [u8]),
+}
+
+impl Given {
+    fn append_to(&self, buffer: &mut Vec<u8>) -> Result<(), Error> {
+        match self {
+            Given::Number(number) => number.compact_encode(buffer).map(|_| ()),
+            Given::Extension(value) => value.compact_encode(buffer).map(|_| ()),
+            Given::Value(value) => Encoder::new(buffer).encode(value),
+            Given::Lists(value) if value.has_ascending_keys() => {
+                JsonAstEncoder::new(buffer).encode(value)
+            }
+            Given::Lists(_) => Err(Error::InvalidJsonb),
+            Given::OldDocument(bytes) => append_canonical(buffer, bytes),
+        }
+    }
+}
+
+// Ends a test in which a refusal leaves the buffer another, or other bytes than these are appended.
+fn assert_appended(
+    rt: &impl Abort,
+    alloc: Global,
+    given: Given,
+    bytes: &[u8],
+) -> Result<(), Error> {
+    let mut buffer = vec![in alloc; 0xaa]?;
+    let refused = given.append_to(&mut buffer).err();
+    if refused.is_some() {
+        assert!(rt; buffer.as_slice() == b"\xaa".as_slice());
+        given.append_to(&mut buffer)?;
+    }
+    assert!(rt; matches!(buffer.split_first(), Some((0xaa, behind)) if behind == bytes));
+    hand_on(refused)
+}
+
 #[test]
 fn a_payload_leaves_its_buffer(rt: HostRuntime) -> Result<(), Fail> {
-    let mut bytes = vec![in rt.alloc(); 0xaa]?;
     let number = Number::Decimal64(Decimal64 {
         scale: 2,
         value: 1234,
     });
-    let refused = number.compact_encode(&mut bytes).err();
-    if refused.is_some() {
-        assert_eq!(rt; bytes.as_slice(), [0xaa].as_slice());
-        number.compact_encode(&mut bytes)?;
-    }
-    let written = [0xaa, 0x70, 0, 0, 0, 0, 0, 0, 4, 0xd2, 2];
-    assert_eq!(rt; bytes.as_slice(), written.as_slice());
-    Ok(hand_on(refused)?)
+    let payload = b"\x70\0\0\0\0\0\0\x04\xd2\x02";
+    Ok(assert_appended(&rt, rt.alloc(), Given::Number(number), payload)?)
 }
 
 #[test]
 fn an_extension_payload_leaves_its_buffer(rt: HostRuntime) -> Result<(), Fail> {
-    let mut bytes = vec![in rt.alloc(); 0xaa]?;
     let date = ExtensionValue::Date(Date { value: -1 });
-    let refused = date.compact_encode(&mut bytes).err();
-    if refused.is_some() {
-        assert_eq!(rt; bytes.as_slice(), [0xaa].as_slice());
-        date.compact_encode(&mut bytes)?;
-    }
-    let written = [0xaa, 0x10, 0xff, 0xff, 0xff, 0xff];
-    assert_eq!(rt; bytes.as_slice(), written.as_slice());
-    Ok(hand_on(refused)?)
+    Ok(assert_appended(
+        &rt,
+        rt.alloc(),
+        Given::Extension(date),
+        b"\x10\xff\xff\xff\xff",
+    )?)
 }
 
 #[test]
 fn an_encoder_leaves_its_buffer(rt: HostRuntime) -> Result<(), Fail> {
     let value = parse_value(rt.alloc(), TEXT)?;
-    let mut bytes = vec![in rt.alloc(); 0xaa]?;
-    let refused = Encoder::new(&mut bytes).encode(&value).err();
-    if refused.is_some() {
-        assert_eq!(rt; bytes.as_slice(), [0xaa].as_slice());
-        Encoder::new(&mut bytes).encode(&value)?;
-    }
-    assert_behind(&rt, &bytes, DOCUMENT);
-    Ok(hand_on(refused)?)
+    Ok(assert_appended(&rt, rt.alloc(), Given::Value(value), DOCUMENT)?)
 }
 
 // The same array as a parser leaves it.
@@ -250,57 +261,55 @@ fn ast(alloc: Global) -> Result<JsonAst<'static>, Error> {
 #[test]
 fn an_encoder_of_lists_leaves_its_buffer(rt: HostRuntime) -> Result<(), Fail> {
     let value = ast(rt.alloc())?;
-    assert!(rt; value.has_ascending_keys());
-    let mut bytes = vec![in rt.alloc(); 0xaa]?;
-    let refused = JsonAstEncoder::new(&mut bytes).encode(&value).err();
-    if refused.is_some() {
-        assert_eq!(rt; bytes.as_slice(), [0xaa].as_slice());
-        JsonAstEncoder::new(&mut bytes).encode(&value)?;
-    }
-    assert_behind(&rt, &bytes, DOCUMENT);
-    Ok(hand_on(refused)?)
+    Ok(assert_appended(&rt, rt.alloc(), Given::Lists(value), DOCUMENT)?)
 }
 
-// A builder of the number 1 whose list is full.
-fn one_in_an_array(alloc: Global) -> Result<ArrayBuilder<'static>, Error> {
+#[test]
+fn a_canonical_form_leaves_its_buffer(rt: HostRuntime) -> Result<(), Fail> {
+    Ok(assert_appended(&rt, rt.alloc(), Given::OldDocument(OLD_ZERO), ZERO)?)
+}
+
+// How the string "x" is given to a builder.
+#[derive(Clone, Copy)]
+enum As {
+    Item,
+    Raw,
+    Owned,
+}
+
+fn push_to_array(alloc: Global, builder: &mut ArrayBuilder, x: As) -> Result<(), Error> {
+    match x {
+        As::Item => builder.push_jsonb_item(owned_x(alloc)?),
+        As::Raw => builder.push_raw_jsonb(RawJsonb::new(X)),
+        As::Owned => builder.push_owned_jsonb(OwnedJsonb::from_bytes(alloc, X)?),
+    }
+}
+
+// Ends a test in which a refused push leaves a builder, whose list was full, another.
+fn assert_array(rt: &impl Abort, alloc: Global, x: As) -> Result<(), Error> {
     let mut builder = ArrayBuilder::with_capacity(alloc, 1)?;
-    builder.push_jsonb_item(JsonbItem::Number(NumberItem::from_number(Number::UInt64(1))))?;
-    Ok(builder)
+    builder.push_raw_jsonb(RawJsonb::new(FIVE))?;
+    let refused = push_to_array(alloc, &mut builder, x).err();
+    if refused.is_some() {
+        push_to_array(alloc, &mut builder, x)?;
+    }
+    assert!(rt; builder.build()?.as_bytes() == FIVE_AND_X);
+    hand_on(refused)
 }
 
 #[test]
 fn an_array_builder_is_as_before(rt: HostRuntime) -> Result<(), Fail> {
-    let mut builder = one_in_an_array(rt.alloc())?;
-    let refused = builder.push_jsonb_item(owned_x(rt.alloc())?).err();
-    if refused.is_some() {
-        builder.push_jsonb_item(owned_x(rt.alloc())?)?;
-    }
-    assert_eq!(rt; builder.build()?.as_bytes(), ONE_AND_X);
-    Ok(hand_on(refused)?)
+    Ok(assert_array(&rt, rt.alloc(), As::Item)?)
 }
 
 #[test]
 fn an_array_builder_is_as_before_bytes(rt: HostRuntime) -> Result<(), Fail> {
-    let mut builder = one_in_an_array(rt.alloc())?;
-    let refused = builder.push_raw_jsonb(RawJsonb::new(X)).err();
-    if refused.is_some() {
-        builder.push_raw_jsonb(RawJsonb::new(X))?;
-    }
-    assert_eq!(rt; builder.build()?.as_bytes(), ONE_AND_X);
-    Ok(hand_on(refused)?)
+    Ok(assert_array(&rt, rt.alloc(), As::Raw)?)
 }
 
 #[test]
 fn an_array_builder_is_as_before_a_document(rt: HostRuntime) -> Result<(), Fail> {
-    let mut builder = one_in_an_array(rt.alloc())?;
-    let refused = builder
-        .push_owned_jsonb(OwnedJsonb::from_bytes(rt.alloc(), X)?)
-        .err();
-    if refused.is_some() {
-        builder.push_owned_jsonb(OwnedJsonb::from_bytes(rt.alloc(), X)?)?;
-    }
-    assert_eq!(rt; builder.build()?.as_bytes(), ONE_AND_X);
-    Ok(hand_on(refused)?)
+    Ok(assert_array(&rt, rt.alloc(), As::Owned)?)
 }
 
 // More pairs than have room at one place of a map.
@@ -308,115 +317,116 @@ const KEYS: &[&str] = &[
     "a", "b", "c", "d", "e", "f", "g", "h", "i", "j", "k", "l", "m", "n", "o", "p",
 ];
 
-const PAIRS: &str =
-    r#"{"a":1,"b":1,"c":1,"d":1,"e":1,"f":1,"g":1,"h":1,"i":1,"j":1,"k":1,"l":1,"m":1,"n":1,"o":1,"p":1}"#;
+const PAIRS: &str = "{\"a\":\"x\",\"b\":\"x\",\"c\":\"x\",\"d\":\"x\",\"e\":\"x\",\"f\":\"x\",\
+    \"g\":\"x\",\"h\":\"x\",\"i\":\"x\",\"j\":\"x\",\"k\":\"x\",\"l\":\"x\",\
+    \"m\":\"x\",\"n\":\"x\",\"o\":\"x\",\"p\":\"x\"}";
 
-#[test]
-fn an_object_builder_is_as_before(rt: HostRuntime) -> Result<(), Fail> {
-    let mut builder = ObjectBuilder::new(rt.alloc());
+fn push_to_object<'a>(
+    alloc: Global,
+    builder: &mut ObjectBuilder<'a>,
+    key: &'a str,
+    x: As,
+) -> Result<(), Error> {
+    match x {
+        As::Item => builder.push_jsonb_item(key, owned_x(alloc)?),
+        As::Raw => builder.push_raw_jsonb(key, RawJsonb::new(X)),
+        As::Owned => builder.push_owned_jsonb(key, OwnedJsonb::from_bytes(alloc, X)?),
+    }
+}
+
+// Ends a test in which a refused push leaves a builder another.
+fn assert_object(rt: &impl Abort, alloc: Global, x: As) -> Result<(), Error> {
+    let mut builder = ObjectBuilder::new(alloc);
     let mut refused = None;
     for &key in KEYS {
-        if let Err(error) = builder.push_raw_jsonb(key, RawJsonb::new(ONE)) {
+        if let Err(error) = push_to_object(alloc, &mut builder, key, x) {
             assert!(rt; !builder.contains_key(key));
-            builder.push_raw_jsonb(key, RawJsonb::new(ONE))?;
+            push_to_object(alloc, &mut builder, key, x)?;
             refused = Some(error);
         }
+        assert!(rt; builder.contains_key(key));
     }
-    let object = builder.build()?;
-    assert_eq!(rt; object.as_raw().to_string(rt.alloc())?.as_str(), PAIRS);
-    Ok(hand_on(refused)?)
+    assert!(rt; builder.build()?.as_raw().to_string(alloc)?.as_str() == PAIRS);
+    hand_on(refused)
 }
 
 #[test]
 fn an_object_builder_is_as_before_items(rt: HostRuntime) -> Result<(), Fail> {
-    let mut builder = ObjectBuilder::new(rt.alloc());
-    let refused = builder.push_jsonb_item("k", owned_x(rt.alloc())?).err();
-    if refused.is_some() {
-        assert!(rt; !builder.contains_key("k"));
-        builder.push_jsonb_item("k", owned_x(rt.alloc())?)?;
-    }
-    let object = builder.build()?;
-    assert_eq!(rt;
-        object.as_raw().to_string(rt.alloc())?.as_str(),
-        r#"{"k":"x"}"#
-    );
-    Ok(hand_on(refused)?)
+    Ok(assert_object(&rt, rt.alloc(), As::Item)?)
+}
+
+#[test]
+fn an_object_builder_is_as_before(rt: HostRuntime) -> Result<(), Fail> {
+    Ok(assert_object(&rt, rt.alloc(), As::Raw)?)
 }
 
 #[test]
 fn an_object_builder_is_as_before_a_document(rt: HostRuntime) -> Result<(), Fail> {
-    let mut builder = ObjectBuilder::new(rt.alloc());
-    let document = OwnedJsonb::from_bytes(rt.alloc(), ONE)?;
-    let refused = builder.push_owned_jsonb("k", document).err();
-    if refused.is_some() {
-        assert!(rt; !builder.contains_key("k"));
-        builder.push_owned_jsonb("k", OwnedJsonb::from_bytes(rt.alloc(), ONE)?)?;
+    Ok(assert_object(&rt, rt.alloc(), As::Owned)?)
+}
+
+fn push_to_set(alloc: Global, builder: &mut ArrayDistinctBuilder, x: As) -> Result<(), Error> {
+    match x {
+        As::Item => builder.push_jsonb_item(owned_x(alloc)?),
+        As::Raw | As::Owned => builder.push_raw_jsonb(RawJsonb::new(X)),
     }
-    let object = builder.build()?;
-    assert_eq!(rt;
-        object.as_raw().to_string(rt.alloc())?.as_str(),
-        r#"{"k":1}"#
-    );
-    Ok(hand_on(refused)?)
+}
+
+// Ends a test in which a refused push leaves a builder another, or the next one is not taken.
+fn assert_set(rt: &impl Abort, alloc: Global, x: As) -> Result<(), Error> {
+    let mut builder = ArrayDistinctBuilder::new(alloc, 1)?;
+    builder.push_raw_jsonb(RawJsonb::new(FIVE))?;
+    let refused = push_to_set(alloc, &mut builder, x).err();
+    if refused.is_some() {
+        assert!(rt; builder.pop_raw_jsonb(RawJsonb::new(X)) == None);
+        push_to_set(alloc, &mut builder, x)?;
+    }
+    assert!(rt; builder.pop_raw_jsonb(RawJsonb::new(X)) == Some(()));
+    assert!(rt; builder.pop_raw_jsonb(RawJsonb::new(X)) == None);
+    assert!(rt; builder.pop_raw_jsonb(RawJsonb::new(FIVE)) == Some(()));
+    assert!(rt; builder.build()?.as_bytes() == FIVE_AND_X);
+    hand_on(refused)
 }
 
 #[test]
 fn a_distinct_builder_takes_a_second_push(rt: HostRuntime) -> Result<(), Fail> {
-    let mut builder = ArrayDistinctBuilder::new(rt.alloc(), 1)?;
-    builder.push_raw_jsonb(RawJsonb::new(FIVE))?;
-    let refused = builder.push_jsonb_item(owned_x(rt.alloc())?).err();
-    if refused.is_some() {
-        assert_eq!(rt; builder.pop_raw_jsonb(RawJsonb::new(X)), None);
-        builder.push_jsonb_item(owned_x(rt.alloc())?)?;
-    }
-    let popped = [
-        builder.pop_raw_jsonb(RawJsonb::new(X)),
-        builder.pop_raw_jsonb(RawJsonb::new(X)),
-        builder.pop_raw_jsonb(RawJsonb::new(FIVE)),
-    ];
-    assert!(rt; popped == [Some(()), None, Some(())]);
-    assert_eq!(rt; builder.build()?.as_bytes(), FIVE_AND_X);
-    Ok(hand_on(refused)?)
+    Ok(assert_set(&rt, rt.alloc(), As::Item)?)
 }
 
 #[test]
-fn a_distinct_builder_keeps_its_list(rt: HostRuntime) -> Result<(), Fail> {
-    let mut builder = ArrayDistinctBuilder::new(rt.alloc(), 1)?;
-    builder.push_raw_jsonb(RawJsonb::new(FIVE))?;
-    let refused = builder.push_raw_jsonb(RawJsonb::new(X)).err();
-    let text = builder.build()?.as_raw().to_string(rt.alloc())?;
-    let expected = if refused.is_some() {
-        "[5]"
-    } else {
-        r#"[5,"x"]"#
-    };
-    assert_eq!(rt; text.as_str(), expected);
-    Ok(hand_on(refused)?)
+fn a_distinct_builder_takes_a_second_push_of_bytes(rt: HostRuntime) -> Result<(), Fail> {
+    Ok(assert_set(&rt, rt.alloc(), As::Raw)?)
+}
+
+// No document, and a document with a byte behind it.
+const OTHER: &[u8] = &[1, 2, 3, 4];
+
+const TOO_LONG: &[u8] = b"\x20\0\0\0\x20\0\0\x01\0\xff";
+
+// Why an array of these bytes is refused.
+fn array_refusal(alloc: Global, bytes: &[u8]) -> Result<Option<Error>, Error> {
+    let mut builder = ArrayBuilder::with_capacity(alloc, 1)?;
+    builder.push_raw_jsonb(RawJsonb::new(bytes))?;
+    Ok(builder.build().err())
+}
+
+// Why an object of these bytes is refused.
+fn object_refusal(alloc: Global, bytes: &[u8]) -> Result<Option<Error>, Error> {
+    let mut builder = ObjectBuilder::new(alloc);
+    builder.push_owned_jsonb("k", OwnedJsonb::from_bytes(alloc, bytes)?)?;
+    Ok(builder.build().err())
 }
 
 // A value past a limit of the format is refused as such before memory is asked for: were it asked
 // for, a run in which it is refused would end in another error.
 #[test]
 fn limits_come_before_memory(rt: HostRuntime) -> Result<(), Fail> {
-    let other = RawJsonb::new(&[1, 2, 3, 4]);
-    let mut builder = ArrayBuilder::with_capacity(rt.alloc(), 1)?;
-    builder.push_raw_jsonb(other)?;
-    assert_eq!(rt; builder.build().err(), Some(Error::InvalidJsonb));
-    let mut builder = ObjectBuilder::new(rt.alloc());
-    builder.push_raw_jsonb("k", other)?;
-    assert_eq!(rt; builder.build().err(), Some(Error::InvalidJsonb));
-    assert_eq!(rt;
-        value_of(rt.alloc(), &[1, 2, 3, 4]).err(),
-        Some(Error::InvalidJsonb)
-    );
-    assert_eq!(rt;
-        value_of(rt.alloc(), &[0x9f, 0xff, 0xff, 0xff]).err(),
-        Some(Error::InvalidEOF)
-    );
-    assert_eq!(rt;
-        other.to_canonical(rt.alloc()).err(),
-        Some(Error::InvalidJsonb)
-    );
+    let refusal = Some(Error::InvalidJsonb);
+    assert!(rt; value_of(rt.alloc(), OTHER).err() == refusal);
+    assert!(rt; value_of(rt.alloc(), b"\x9f\xff\xff\xff").err() == Some(Error::InvalidEOF));
+    assert!(rt; RawJsonb::new(OTHER).to_canonical(rt.alloc()).err() == refusal);
+    assert!(rt; array_refusal(rt.alloc(), OTHER)? == refusal);
+    assert!(rt; object_refusal(rt.alloc(), TOO_LONG)? == refusal);
     Ok(())
 }
 
@@ -430,8 +440,6 @@ fn counted_without_an_encoding(rt: HostRuntime) -> Result<(), Fail> {
 #[test]
 fn counted_with_an_encoding(rt: HostRuntime) -> Result<(), Fail> {
     let value = parse_value(rt.alloc(), TEXT)?;
-    let mut bytes = Vec::new(rt.alloc());
-    Encoder::new(&mut bytes).encode(&value)?;
-    assert_eq!(rt; bytes.as_slice(), DOCUMENT);
+    assert!(rt; encoded(rt.alloc(), &value)?.as_slice() == DOCUMENT);
     Ok(())
 }

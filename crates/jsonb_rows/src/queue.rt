@@ -1,14 +1,25 @@
-// The walk over pairs beside its older form, which reads all key entries first and keeps them in a queue.
-use crate::items::{ASKED, TWO_PAIRS, pairs_text, write_hex, write_item};
-use crate::known::bytes_of;
-use jsonb::{Error, JEntry, JsonbItem, RawJsonb, read_header, read_jentry};
+// The walk over pairs beside its older form, which reads all key entries first and keeps them in a
+// queue.
+use jsonb::{
+    Error, ExtensionItem, JEntry, JsonbItem, NumberItem, ObjectIterator, RawJsonb, read_header,
+    read_jentry,
+};
 use jsonb_codec::constants::{
-    CONTAINER_TAG, OBJECT_CONTAINER_TAG, SCALAR_CONTAINER_TAG, STRING_TAG,
+    CONTAINER_TAG, EXTENSION_TAG, FALSE_TAG, NULL_TAG, NUMBER_TAG, OBJECT_CONTAINER_TAG,
+    STRING_TAG, TRUE_TAG,
 };
 use std::alloc::Global;
+use std::borrow::CowStr;
 use std::collections::VecDeque;
 use std::str;
 use std::test::Fail;
+
+// How often each walk is asked: past the end of both pairs.
+const ASKED: usize = 5;
+
+// The object {"aa":1,"ab":[2]}.
+const TWO_PAIRS: &[u8] = b"\x40\0\0\x02\x10\0\0\x02\x10\0\0\x02\x20\0\0\x02\x50\0\0\x0a\
+    aaab\x50\x01\x80\0\0\x01\x20\0\0\x02\x50\x02";
 
 // The walk, and where it stands.
 #[derive(Drop)]
@@ -20,20 +31,27 @@ struct QueuedPairs<'a> {
     start: usize,
 }
 
-// A key, and its value's entry and payload.
-#[derive(Clone, Copy)]
-struct Pair<'a> {
-    key: &'a str,
-    entry: JEntry,
-    payload: &'a [u8],
-}
-
 fn part(bytes: &[u8], start: usize, length: u32) -> Result<&[u8], Error> {
     let end = start.saturating_add(length as usize);
-    if bytes.len() < end || end < start {
-        return Err(Error::InvalidJsonb);
-    }
-    Ok(&bytes[start..end])
+    bytes.get(start..end).ok_or(Error::InvalidJsonb)
+}
+
+fn text_of(bytes: &[u8]) -> Result<&str, Error> {
+    str::from_utf8(bytes).map_err(|_| Error::InvalidUtf8)
+}
+
+// What an entry's type makes of its payload.
+fn item_of<'a>(type_code: u32, payload: &'a [u8]) -> Result<JsonbItem<'a>, Error> {
+    Ok(match type_code {
+        NULL_TAG => JsonbItem::Null,
+        STRING_TAG => JsonbItem::String(CowStr::Borrowed(text_of(payload)?)),
+        NUMBER_TAG => JsonbItem::Number(NumberItem::from_bytes(payload)?),
+        FALSE_TAG => JsonbItem::Boolean(false),
+        TRUE_TAG => JsonbItem::Boolean(true),
+        CONTAINER_TAG => JsonbItem::Raw(RawJsonb::new(payload)),
+        EXTENSION_TAG => JsonbItem::Extension(ExtensionItem::from_bytes(payload)?),
+        _ => return Err(Error::InvalidJsonb),
+    })
 }
 
 fn queued_pairs<'a>(alloc: Global, bytes: &'a [u8]) -> Result<Option<QueuedPairs<'a>>, Error> {
@@ -64,91 +82,58 @@ fn queued_pairs<'a>(alloc: Global, bytes: &'a [u8]) -> Result<Option<QueuedPairs
 }
 
 impl<'a> QueuedPairs<'a> {
-    fn pair(&mut self, key: JEntry) -> Result<Pair<'a>, Error> {
+    fn pair(&mut self, key: JEntry) -> Result<(&'a str, JsonbItem<'a>), Error> {
         if key.type_code != STRING_TAG {
             return Err(Error::InvalidJsonb);
         }
-        let name = match str::from_utf8(part(self.bytes, self.key_start, key.length)?) {
-            Ok(name) => name,
-            Err(_) => return Err(Error::InvalidUtf8),
-        };
+        let name = text_of(part(self.bytes, self.key_start, key.length)?)?;
         let entry = read_jentry(self.bytes, self.place)?;
         let payload = part(self.bytes, self.start, entry.length)?;
         self.place = self.place.saturating_add(4);
         self.key_start = self.key_start.saturating_add(key.length as usize);
         self.start = self.start.saturating_add(entry.length as usize);
-        Ok(Pair {
-            key: name,
-            entry,
-            payload,
-        })
+        Ok((name, item_of(entry.type_code, payload)?))
     }
 
-    // The text of the next pair. After an error there is none.
-    fn next_text(&mut self, alloc: Global) -> Result<String, Fail> {
-        let Some(key) = self.keys.pop_front() else {
-            return Ok(String::from_str(alloc, ".")?);
-        };
-        match self.pair(key) {
-            Ok(pair) => match value_text(alloc, pair.entry, pair.payload)? {
-                Ok(value) => Ok(format!(in alloc; "{}: {value}", pair.key)?),
-                Err(error) => self.ended(alloc, error),
-            },
-            Err(error) => self.ended(alloc, error),
+    // The next pair. After an error there is none.
+    fn next(&mut self) -> Option<Result<(&'a str, JsonbItem<'a>), Error>> {
+        let key = self.keys.pop_front()?;
+        let pair = self.pair(key);
+        if pair.is_err() {
+            self.keys.clear();
         }
-    }
-
-    fn ended(&mut self, alloc: Global, error: Error) -> Result<String, Fail> {
-        self.keys.clear();
-        Ok(String::from_str(alloc, error.name())?)
+        Some(pair)
     }
 }
 
-// A value as an item: a container by its bytes, a scalar by the document that it alone makes.
-fn value_text(alloc: Global, entry: JEntry, payload: &[u8]) -> Result<Result<String, Error>, Fail> {
-    let mut text = String::new(alloc);
-    if entry.type_code == CONTAINER_TAG {
-        write_hex(&mut text, "raw ", payload)?;
-        return Ok(Ok(text));
-    }
-    let mut bytes = Vec::new(alloc);
-    bytes.extend_from_slice(&SCALAR_CONTAINER_TAG.to_be_bytes())?;
-    bytes.extend_from_slice(&entry.encoded().to_be_bytes())?;
-    bytes.extend_from_slice(payload)?;
-    match JsonbItem::from_raw_jsonb(RawJsonb::new(&bytes)) {
-        Ok(item) => {
-            write_item(alloc, &mut text, &item)?;
-            Ok(Ok(text))
-        }
-        Err(error) => Ok(Err(error)),
-    }
-}
-
-fn queued_text(alloc: Global, bytes: &[u8]) -> Result<String, Fail> {
-    let mut text = String::new(alloc);
-    match queued_pairs(alloc, bytes) {
-        Ok(Some(mut pairs)) => {
+// Whether both walks over the bytes give the same.
+fn are_walked_alike(alloc: Global, bytes: &[u8]) -> bool {
+    match (
+        queued_pairs(alloc, bytes),
+        ObjectIterator::new(RawJsonb::new(bytes)),
+    ) {
+        (Ok(Some(mut queued)), Ok(Some(mut pairs))) => {
             for _ in 0..ASKED {
-                text.push_str(pairs.next_text(alloc)?.as_str())?;
-                text.push_str("; ")?;
+                if queued.next() != pairs.next() {
+                    return false;
+                }
             }
+            true
         }
-        Ok(None) => text.push_str("none")?,
-        Err(error) => text.push_str(error.name())?,
+        (Ok(None), Ok(None)) => true,
+        (Err(first), Err(second)) => first == second,
+        _ => false,
     }
-    Ok(text)
 }
 
 #[test]
 fn pairs_as_by_a_queue(rt: HostRuntime) -> Result<(), Fail> {
-    let mut bytes = bytes_of(rt.alloc(), TWO_PAIRS)?;
+    let mut bytes = Vec::from_slice(rt.alloc(), TWO_PAIRS)?;
     for place in 0..bytes.len() {
         let before = bytes[place];
         for value in 0..=255 {
             bytes[place] = value;
-            let queued = queued_text(rt.alloc(), &bytes)?;
-            let pairs = pairs_text(rt.alloc(), &bytes)?;
-            assert_eq!(rt; pairs.as_str(), queued.as_str(), "{value} at {place}");
+            assert!(rt; are_walked_alike(rt.alloc(), &bytes), "{value} at {place}");
         }
         bytes[place] = before;
     }
