@@ -15,6 +15,8 @@ use Rattle.jsonb.specs.Code.{scalar_bytes}
 use Rattle.jsonb.specs.Stored.{document_code, codes_of}
 use Rattle.jsonb.specs.Building.{AreShort, code_entries, code_payloads, array_of, IsArrayOf}
 use Rattle.jsonb.specs.Built.{AreDocuments, AreCanonical, IsArrayOfInputs}
+use Rattle.jsonb.specs.Standing.{AreCodesOf}
+use Rattle.jsonb.proofs.StandingLaws.{length-AreCodesOf}
 use Rattle.jsonb.proofs.StoredLaws.{document_code-Scalar, document_code-container, same_payload, codes_of-AreCodes, AreCodes-codes_of, length-codes_of, AreStorable-FitArray}
 
 pub map-map : {A B C : Type 0} (g : B → C) (f : A → B) (xs : List A) → map g (map f xs) ≡ map (λ x. g (f x)) xs
@@ -24,16 +26,6 @@ map-map {C = C} g f (x ∷ xs) = ap (λ (ys : List C). g (f x) ∷ ys) (map-map 
 -- the entry means the tree
 abbrev pub IsCodeOf : Entry → Tree → Type 0
 IsCodeOf c t = IsPayloadOf c.type c.payload t
-
-abbrev pub AreCodesOf : List Entry → Trees → Type 0
-AreCodesOf [] ts = ts ≡ no_trees
-AreCodesOf (c ∷ cs) no_trees = ⊥
-AreCodesOf (c ∷ cs) (tree t ts) = IsCodeOf c t × AreCodesOf cs ts
-
-length-AreCodesOf : (cs : List Entry) (ts : Trees) → AreCodesOf cs ts → length cs ≡ count ts
-length-AreCodesOf [] ts h = sym (ap count h)
-length-AreCodesOf (c ∷ cs) no_trees h = absurd h
-length-AreCodesOf (c ∷ cs) (tree t ts) h = ap suc (length-AreCodesOf cs ts h.1)
 
 Children-AreCodesOf : (cs : List Entry) (ts : Trees) → AreCodesOf cs ts → AreShort cs → Children ts (code_entries cs) (code_payloads cs)
 Children-AreCodesOf [] no_trees h short = record { no_entries = refl; no_payloads = refl }

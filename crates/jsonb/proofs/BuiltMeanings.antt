@@ -16,8 +16,9 @@ use Rattle.jsonb.specs.Stored.{code_of, codes_of, IsStored, IsHeld, AreStorable,
 use Rattle.jsonb.specs.Building.{AreKeys, IsArrayOf, IsObjectOf}
 use Rattle.jsonb.specs.Built.{AllMean, AllMeanAt, IsArrayUpToZeros, IsObjectUpToZeros}
 use Rattle.jsonb.proofs.StoredLaws.{AreCodes-codes_of, codes_of-AreCodes, length-codes_of, AreStorable-FitArray}
-use Rattle.jsonb.proofs.BuiltLaws.{IsCodeOf, AreCodesOf, IsCodeOf-document_code, Doc-array_of, array_of-IsArrayOf}
-use Rattle.jsonb.proofs.BuiltObjects.{ArePairsOf, Doc-object_of}
+use Rattle.jsonb.specs.Standing.{AreCodesOf, ArePairsOf}
+use Rattle.jsonb.proofs.BuiltLaws.{IsCodeOf, IsCodeOf-document_code, Doc-array_of, array_of-IsArrayOf}
+use Rattle.jsonb.proofs.BuiltObjects.{Doc-object_of}
 
 norm_number-norm_number : (x : Number) → norm_number (norm_number x) ≡ norm_number x
 norm_number-norm_number (Int64 (pos zero)) = refl

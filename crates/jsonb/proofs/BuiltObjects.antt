@@ -3,37 +3,23 @@ use Rattle.std.proofs.Common.{◌≡◌, ℕ, suc, ◌+◌, ◌<◌, ◌^◌, Li
 use Rattle.std.specs.Map.{keys_of, values_of}
 use Rattle.std.specs.List.Sorted.{IsStrictlySortedBy}
 use Rattle.std.specs.List.{IsDistinct}
-use Rattle.std.specs.Str.{bytes_eq, IsUtf8}
+use Rattle.std.specs.Str.{bytes_eq}
 use Rattle.std.specs.declared.cmp.Ordering.TheVariants.{Less}
 use Rattle.std.specs.Ordering.{nat_cmp}
 use Rattle.std.specs.Cmp.Lexicographic.{slice_cmp}
 use Rattle.jsonb_value.specs.Tree.{Pairs, no_pairs, pair, object, pair_count, Ascends, Ascend}
 use Rattle.jsonb_codec.specs.Word.{word}
-use Rattle.jsonb_codec.specs.Doc.{Doc, Keys, Values}
+use Rattle.jsonb_codec.specs.Doc.{Doc, Values}
 use Rattle.jsonb_codec.specs.Canon.{canon, key_entries, key_payloads, value_entries, value_payloads, PairsFit, Fits}
 use Rattle.jsonb.specs.Shown.{Shown}
 use Rattle.jsonb.specs.Item.{Entry}
 use Rattle.jsonb.specs.Stored.{codes_of}
-use Rattle.jsonb.specs.Building.{AreTexts, AreKeys, AreShort, code_entries, code_payloads, key_codes, object_of, in_order, IsObjectOf}
+use Rattle.jsonb.specs.Building.{AreKeys, AreShort, code_entries, code_payloads, key_codes, object_of, in_order, IsObjectOf}
 use Rattle.jsonb.specs.Built.{ArePairDocuments, ArePairsCanonical, raw_pairs, IsObjectOfInputs}
+use Rattle.jsonb.specs.Standing.{ArePairsOf}
+use Rattle.jsonb.proofs.StandingLaws.{length-ArePairsOf, Keys-ArePairsOf}
 use Rattle.jsonb.proofs.StoredLaws.{codes_of-AreCodes}
-use Rattle.jsonb.proofs.BuiltLaws.{IsCodeOf, IsCodeOf-document_code, document_code-canon}
-
--- the keys are those of the pairs, and the entries mean their trees
-abbrev pub ArePairsOf : List (List ℕ) → List Entry → Pairs → Type 0
-ArePairsOf [] [] ps = ps ≡ no_pairs
-ArePairsOf [] (c ∷ cs) ps = ⊥
-ArePairsOf (k ∷ ks) [] ps = ⊥
-ArePairsOf (k ∷ ks) (c ∷ cs) no_pairs = ⊥
-ArePairsOf (k ∷ ks) (c ∷ cs) (pair l t ps) = (k ≡ l) × (IsCodeOf c t × ArePairsOf ks cs ps)
-
--- Each fact by the parts of the three lists.
-length-ArePairsOf : (ks : List (List ℕ)) (cs : List Entry) (ps : Pairs) → ArePairsOf ks cs ps → length cs ≡ pair_count ps
-length-ArePairsOf [] [] ps h = sym (ap pair_count h)
-length-ArePairsOf [] (c ∷ cs) ps h = absurd h
-length-ArePairsOf (k ∷ ks) [] ps h = absurd h
-length-ArePairsOf (k ∷ ks) (c ∷ cs) no_pairs h = absurd h
-length-ArePairsOf (k ∷ ks) (c ∷ cs) (pair l t ps) h = ap suc (length-ArePairsOf ks cs ps h.1.1)
+use Rattle.jsonb.proofs.BuiltLaws.{IsCodeOf-document_code, document_code-canon}
 
 Ascends-keys : (b : List ℕ) (ks : List (List ℕ)) (cs : List Entry) (ps : Pairs) → ArePairsOf ks cs ps → IsStrictlySortedBy (slice_cmp nat_cmp) (b ∷ ks) → Ascends (Some b) ps
 unfolding IsStrictlySortedBy
@@ -54,23 +40,6 @@ Ascend-keys [] (c ∷ cs) ps h sorted = absurd h
 Ascend-keys (k ∷ ks) [] ps h sorted = absurd h
 Ascend-keys (k ∷ ks) (c ∷ cs) no_pairs h sorted = absurd h
 Ascend-keys (k ∷ ks) (c ∷ cs) (pair l t ps) h sorted = (tt, subst (λ (x : List ℕ). Ascends (Some x) ps) h.0 (Ascends-keys k ks cs ps h.1.1 sorted))
-
-Keys-ArePairsOf : (ks : List (List ℕ)) (cs : List Entry) (ps : Pairs) → ArePairsOf ks cs ps → AreTexts ks → AreShort (key_codes ks) → Keys ps (code_entries (key_codes ks)) (code_payloads (key_codes ks))
-Keys-ArePairsOf [] [] no_pairs h texts short = record { no_entries = refl; no_payloads = refl }
-Keys-ArePairsOf [] [] (pair l t ps) h texts short = let never : ⊥ = cc in absurd never
-Keys-ArePairsOf [] (c ∷ cs) ps h texts short = absurd h
-Keys-ArePairsOf (k ∷ ks) [] ps h texts short = absurd h
-Keys-ArePairsOf (k ∷ ks) (c ∷ cs) no_pairs h texts short = absurd h
-Keys-ArePairsOf (k ∷ ks) (c ∷ cs) (pair l t ps) h texts short = record {
-  payload = k;
-  other_entries = code_entries (key_codes ks);
-  other_payloads = code_payloads (key_codes ks);
-  entries_are = refl;
-  payloads_are = refl;
-  short = short.0;
-  means = (h.0, subst IsUtf8 h.0 texts.0);
-  others = Keys-ArePairsOf ks cs ps h.1.1 texts.1 short.1;
-}
 
 Values-ArePairsOf : (ks : List (List ℕ)) (cs : List Entry) (ps : Pairs) → ArePairsOf ks cs ps → AreShort cs → Values ps (code_entries cs) (code_payloads cs)
 Values-ArePairsOf [] [] no_pairs h short = record { no_entries = refl; no_payloads = refl }

@@ -1,5 +1,5 @@
 -- What the iterators give on a document.
-use Rattle.std.proofs.Common.{◌≡◌, ◌≢◌, ℕ, suc, ◌+◌, ◌*◌, List, ◌∷◌, ◌++◌, length, Option, Some, None, option_map, Result, Ok, refl, sym, ap, subst, ◌∙◌, inl, inr, true, false, arith, length-append}
+use Rattle.std.proofs.Common.{◌≡◌, ◌≢◌, ℕ, ◌+◌, ◌*◌, List, ◌∷◌, ◌++◌, length, Option, Some, None, option_map, Result, Ok, refl, sym, ap, subst, ◌∙◌, inl, inr, true, false, arith, length-append}
 use Rattle.jsonb_value.specs.declared.error.Error.{Error}
 use Rattle.jsonb_value.specs.Tree.{Tree, null, boolean, number, text, extension, array, object, Trees, no_trees, tree, Pairs, no_pairs, pair, count, pair_count}
 use Rattle.jsonb_codec.specs.declared.jentry.JEntry.{JEntry}
@@ -9,13 +9,14 @@ use Rattle.jsonb_codec.specs.Doc.{One, IsKey, Keys, Values, Children, Payload, D
 use Rattle.jsonb.specs.Steps.{◌>>=◌}
 use Rattle.jsonb.specs.Shown.{Shown}
 use Rattle.jsonb.specs.Shown as items
-use Rattle.jsonb.specs.Item.{Entry, item_of, entry_at, item_at}
-use Rattle.jsonb.specs.Walk.{Walk, items_from, key_of, key_at, pair_at, pairs_from, payloads_end, count_if, count_under, array_items, array_walk, key_items, keys_walk, value_items, values_of, values_walk, pair_items, pairs_of, pairs_walk}
+use Rattle.jsonb.specs.Item.{item_of, entry_at}
+use Rattle.jsonb.specs.Walk.{Walk, items_from, pairs_from, payloads_end, count_if, count_under, array_items, array_walk, key_items, keys_walk, value_items, values_of, values_walk, pair_items, pairs_of, pairs_walk}
 use Rattle.jsonb.specs.Walked.{ShowsTrees, shown_keys, ShowsValues, ShowsPairs, WalksArray, WalksKeys, WalksValues, WalksPairs}
 use Rattle.jsonb.proofs.Utf8.{is_text_yes}
 use Rattle.jsonb.proofs.Places.{At, At-all, At-left, At-right, At-behind_word, length-word-append, jentry_at-At}
 use Rattle.jsonb.proofs.KindLaws.{IsTag-type_of, header_at-Scalar, header_at-array, header_at-object}
-use Rattle.jsonb.proofs.ItemLaws.{IsItemOf-Payload, entry_at-At, item_at-entry}
+use Rattle.jsonb.proofs.ItemLaws.{IsItemOf-Payload, entry_at-At}
+use Rattle.jsonb.proofs.StandingLaws.{items_from-first, key_at-entry, pairs_from-first}
 
 -- the first entry of those that stand in bytes, and where the others stand
 pub record First (bytes : List ℕ) (i j : ℕ) (t : Tree) (payload entries payloads : List ℕ) : Type 0 where
@@ -36,10 +37,6 @@ first bytes i j t M O e p h a b =
       other_entries = At-behind_word bytes i (i + 4) (type_of t + length h.payload) h.other_entries refl entries;
       other_payloads = At-right bytes j (j + length h.payload) h.payload h.other_payloads refl payloads;
     }
-
-items_from-first : (bytes : List ℕ) (n i j : ℕ) (entry : Entry) (x : Shown) → entry_at bytes i j ≡ Ok entry → item_of entry.type entry.payload ≡ Ok x
-    → items_from bytes (suc n) i j ≡ Ok x ∷ items_from bytes n (i + 4) (j + length entry.payload)
-items_from-first bytes n i j entry x e h = let item = item_at-entry bytes i j entry e ∙ h in rw (item, e) refl
 
 -- the items of an array
 items_from-Children : (bytes : List ℕ) (ts : Trees) (e p : List ℕ) (i j : ℕ) → Children ts e p → At bytes i e → At bytes j p → ShowsTrees ts (items_from bytes (count ts) i j)
@@ -75,7 +72,7 @@ items_from-Keys bytes (pair k t ps) e p i j h a b =
     step ∙ ap (λ (xs : List (Result Shown Error)). Ok (items.text k) ∷ xs) others
 
 -- where the keys end
-payloads_end-Keys : (bytes : List ℕ) (ps : Pairs) (e p : List ℕ) (i j : ℕ) → Keys ps e p → At bytes i e → At bytes j p → payloads_end bytes (pair_count ps) i j ≡ Ok (j + length p)
+pub payloads_end-Keys : (bytes : List ℕ) (ps : Pairs) (e p : List ℕ) (i j : ℕ) → Keys ps e p → At bytes i e → At bytes j p → payloads_end bytes (pair_count ps) i j ≡ Ok (j + length p)
 payloads_end-Keys bytes no_pairs e p i j h a b = let n = ap length h.no_payloads in let same : j ≡ j + length p = omega arith in ap Ok same
 payloads_end-Keys bytes (pair k t ps) e p i j h a b =
     let f = first bytes i j (text k) (IsKey k) (Keys ps) e p h a b in
@@ -85,25 +82,6 @@ payloads_end-Keys bytes (pair k t ps) e p i j h a b =
     ap (λ (r : Result JEntry Error). r >>= (λ (x : JEntry). payloads_end bytes (pair_count ps) (i + 4) (j + x.length))) f.jentry
     ∙ others
     ∙ ap Ok same
-
-key_at-entry : (bytes : List ℕ) (i j : ℕ) (k p : List ℕ) → IsKey k p → entry_at bytes i j ≡ Ok record { type = 268435456; payload = p } → key_at bytes i j ≡ Ok k
-unfolding key_at
-key_at-entry bytes i j k p h e =
-    let found : key_of record { type = 268435456; payload = p } ≡ Ok k = rw (h.0, is_text_yes k h.1) refl in
-    ap (λ (r : Result Entry Error). r >>= key_of) e ∙ found
-
-pair_at-both : (bytes : List ℕ) (i j place start : ℕ) (k : List ℕ) (x : Shown) → key_at bytes i j ≡ Ok k → item_at bytes place start ≡ Ok x → pair_at bytes i j place start ≡ Ok (k, x)
-unfolding pair_at
-pair_at-both bytes i j place start k x h e =
-    ap (λ (r : Result (List ℕ) Error). r >>= (λ (key : List ℕ). item_at bytes place start >>= (λ (value : Shown). Ok (key, value)))) h
-    ∙ ap (λ (r : Result Shown Error). r >>= (λ (value : Shown). Ok (k, value))) e
-
-pairs_from-first : (bytes : List ℕ) (n i j place start : ℕ) (key entry : Entry) (k : List ℕ) (x : Shown)
-    → entry_at bytes i j ≡ Ok key → key_at bytes i j ≡ Ok k → entry_at bytes place start ≡ Ok entry → item_of entry.type entry.payload ≡ Ok x
-    → pairs_from bytes (suc n) i j place start ≡ Ok (k, x) ∷ pairs_from bytes n (i + 4) (j + length key.payload) (place + 4) (start + length entry.payload)
-pairs_from-first bytes n i j place start key entry k x e h d g =
-    let both = pair_at-both bytes i j place start k x h (item_at-entry bytes place start entry d ∙ g) in
-    rw (both, e, d) refl
 
 -- the pairs of an object
 pairs_from-Pairs : (bytes : List ℕ) (ps : Pairs) (ke kp ve vp : List ℕ) (i j place start : ℕ) → Keys ps ke kp → Values ps ve vp
@@ -201,16 +179,16 @@ pub count_under-header : (b : List ℕ) (tag : ℕ) (header : ℕ × ℕ) → he
 unfolding count_under
 count_under-header b tag header e = ap (λ (r : Result (ℕ × ℕ) Error). r >>= (λ (h : ℕ × ℕ). Ok (count_if tag h))) e
 
-array_walk-header : (b : List ℕ) (header : ℕ × ℕ) → header_at b 0 ≡ Ok header → array_walk b ≡ Ok (option_map (array_items b) (count_if 2147483648 header))
+pub array_walk-header : (b : List ℕ) (header : ℕ × ℕ) → header_at b 0 ≡ Ok header → array_walk b ≡ Ok (option_map (array_items b) (count_if 2147483648 header))
 array_walk-header b header e = ap (λ (r : Result (Option ℕ) Error). r >>= (λ (n : Option ℕ). Ok (option_map (array_items b) n))) (count_under-header b 2147483648 header e)
 
 keys_walk-header : (b : List ℕ) (header : ℕ × ℕ) → header_at b 0 ≡ Ok header → keys_walk b ≡ Ok (option_map (key_items b) (count_if 1073741824 header))
 keys_walk-header b header e = ap (λ (r : Result (Option ℕ) Error). r >>= (λ (n : Option ℕ). Ok (option_map (key_items b) n))) (count_under-header b 1073741824 header e)
 
-values_walk-header : (b : List ℕ) (header : ℕ × ℕ) → header_at b 0 ≡ Ok header → values_walk b ≡ values_of b (count_if 1073741824 header)
+pub values_walk-header : (b : List ℕ) (header : ℕ × ℕ) → header_at b 0 ≡ Ok header → values_walk b ≡ values_of b (count_if 1073741824 header)
 values_walk-header b header e = ap (λ (r : Result (Option ℕ) Error). r >>= values_of b) (count_under-header b 1073741824 header e)
 
-pairs_walk-header : (b : List ℕ) (header : ℕ × ℕ) → header_at b 0 ≡ Ok header → pairs_walk b ≡ pairs_of b (count_if 1073741824 header)
+pub pairs_walk-header : (b : List ℕ) (header : ℕ × ℕ) → header_at b 0 ≡ Ok header → pairs_walk b ≡ pairs_of b (count_if 1073741824 header)
 pairs_walk-header b header e = ap (λ (r : Result (Option ℕ) Error). r >>= pairs_of b) (count_under-header b 1073741824 header e)
 
 -- of any other tree there is no iterator

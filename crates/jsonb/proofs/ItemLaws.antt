@@ -15,7 +15,7 @@ use Rattle.jsonb.specs.Code.{Means, HasCode, stored, CanBeStored, scalar_bytes}
 use Rattle.jsonb.specs.Walked.{IsItemOf, IsItemIn}
 use Rattle.jsonb.proofs.PayloadLaws.{number_in-NumCode, extension_in-ExtCode}
 use Rattle.jsonb.proofs.Utf8.{is_text_yes}
-use Rattle.jsonb.proofs.Places.{At, At-left, part_at-At, jentry_at-At}
+use Rattle.jsonb.proofs.Places.{At, At-left, IsTag, part_at-At, jentry_at-At}
 use Rattle.jsonb.proofs.KindLaws.{IsTag-type_of, At-entry, header_at-Scalar, At-payload, header_at-array, header_at-object}
 
 text_item-IsUtf8 : (p : List ℕ) → IsUtf8 p → text_item p ≡ Ok (text p)
@@ -55,11 +55,14 @@ stored_again (trees.array ts) p other short h = absurd (other refl)
 stored_again (trees.object ps) p other short h = absurd (other refl)
 
 -- an entry that stands in bytes, and the item of it
-pub entry_at-At : (bytes : List ℕ) (i j : ℕ) (t : Tree) (p : List ℕ) → length p < 2 ^ 28 → At bytes i (word (type_of t + length p)) → At bytes j p → entry_at bytes i j ≡ Ok record { type = type_of t; payload = p }
+pub entry_at-entry : (bytes : List ℕ) (i j : ℕ) (c : Entry) → IsTag c.type → length c.payload < 2 ^ 28 → At bytes i (word (c.type + length c.payload)) → At bytes j c.payload → entry_at bytes i j ≡ Ok c
 unfolding entry_at
-entry_at-At bytes i j t p short h k =
-    ap (λ (r : Result JEntry Error). r >>= (λ (e : JEntry). part_at bytes j e.length >>= (λ (x : List ℕ). Ok record { type = e.type_code; payload = x }))) (jentry_at-At bytes i (type_of t) (length p) (IsTag-type_of t) short h)
-    ∙ ap (λ (r : Result (List ℕ) Error). r >>= (λ (x : List ℕ). Ok record { type = type_of t; payload = x })) (part_at-At bytes j (length p) p refl k)
+entry_at-entry bytes i j c tag short h k =
+    ap (λ (r : Result JEntry Error). r >>= (λ (e : JEntry). part_at bytes j e.length >>= (λ (x : List ℕ). Ok record { type = e.type_code; payload = x }))) (jentry_at-At bytes i c.type (length c.payload) tag short h)
+    ∙ ap (λ (r : Result (List ℕ) Error). r >>= (λ (x : List ℕ). Ok record { type = c.type; payload = x })) (part_at-At bytes j (length c.payload) c.payload refl k)
+
+pub entry_at-At : (bytes : List ℕ) (i j : ℕ) (t : Tree) (p : List ℕ) → length p < 2 ^ 28 → At bytes i (word (type_of t + length p)) → At bytes j p → entry_at bytes i j ≡ Ok record { type = type_of t; payload = p }
+entry_at-At bytes i j t p short h k = entry_at-entry bytes i j record { type = type_of t; payload = p } (IsTag-type_of t) short h k
 
 pub item_at-entry : (bytes : List ℕ) (i j : ℕ) (entry : Entry) → entry_at bytes i j ≡ Ok entry → item_at bytes i j ≡ item_of entry.type entry.payload
 unfolding item_at

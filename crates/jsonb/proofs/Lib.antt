@@ -4,12 +4,14 @@ pub mod Places
 pub mod KindLaws
 pub mod WalkLaws
 pub mod ItemLaws
+pub mod StoredLaws
+pub mod StandingLaws
 pub mod DocumentWalks
+pub mod StandingWalks
 pub mod HeldLaws
 pub mod Parts
 pub mod LookupLaws
 pub mod WholeWalks
-pub mod StoredLaws
 pub mod BuiltLaws
 pub mod ObjectLaws
 pub mod InputLaws

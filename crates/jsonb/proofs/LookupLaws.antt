@@ -1,5 +1,8 @@
 -- What a look-up finds on a document.
-use Rattle.std.proofs.Common.{◌≡◌, ◌≢◌, ℕ, zero, suc, ◌+◌, ◌*◌, ◌<◌, ◌≤◌, ◌^◌, Bool, true, false, List, length, take, drop, Option, Some, None, option_map, ◌==◌, ◌&&◌, if◌then◌else◌, Result, Ok, Err, IfErr, IfSome, IfNone, IsOk, IsOkAnd, refl, sym, ap, subst, ◌∙◌, inl, inr, arith, length-append, eq-eqb, eqb-true}
+use Rattle.std.proofs.Common.{◌≡◌, ◌≢◌, ℕ, zero, suc, ◌+◌, ◌*◌, ◌<◌, ◌≤◌, ◌^◌, Bool, true, false, eqb, List, [], ◌∷◌, length, slice_get, Option, Some, None, option_map, ◌==◌, ◌&&◌, if◌then◌else◌, Result, Ok, Err, IfErr, IfSome, IfNone, IsOk, IsOkAnd, refl, sym, ap, subst, ◌∙◌, inl, inr, arith, length-append, eq-eqb, eqb-true}
+use Rattle.std.specs.Map.{keys_of, values_of}
+use Rattle.std.proofs.lemmas.Bool.{eqb-false}
+use Rattle.std.proofs.lemmas.Map.Entries.{length-values_of}
 use Rattle.jsonb_value.specs.declared.error.Error.{Error}
 use Rattle.jsonb_value.specs.declared.error.Error.TheVariants.{InvalidJsonbNumber, InvalidJsonbExtension}
 use Rattle.jsonb_value.specs.declared.number.Number.{Number}
@@ -7,32 +10,34 @@ use Rattle.jsonb_value.specs.Tree.{Tree, Extension, null, boolean, number, text,
 use Rattle.jsonb_codec.specs.declared.jentry.JEntry.{JEntry}
 use Rattle.jsonb_codec.specs.JEntry.{jentry_at}
 use Rattle.jsonb_codec.specs.Doc.{One, IsKey, Keys, Values, Payload, Doc, type_of}
-use Rattle.jsonb.specs.declared.entries.Entry.{Entry}
+use Rattle.jsonb.specs.declared.entries.Entry as declared
 use Rattle.jsonb.specs.declared.item.JsonbItem.{JsonbItem}
 use Rattle.jsonb.specs.Shown.{Shown, shown}
 use Rattle.jsonb.specs.Payloads.{is_text, number_in, extension_in, has_known_tag}
-use Rattle.jsonb.specs.Item.{item_of, number_found, extension_found}
+use Rattle.jsonb.specs.Steps.{◌>>=◌}
+use Rattle.jsonb.specs.Item.{Entry, item_of, entry_at, part_at, number_found, extension_found}
+use Rattle.jsonb.specs.Building.{key_codes, code_entries, code_payloads}
+use Rattle.jsonb.specs.Standing.{ArePairsOf, HasMembers, entry_item, find_entry, IsFoundIn}
 use Rattle.jsonb.specs.Walk.{count_under}
-use Rattle.jsonb.specs.Parts.{length_in, type_in, part_length, part_type, length_before, part_start, part_of, HasParts, NoneBefore, IsNoneFound, IsValueFound}
-use Rattle.jsonb.specs.Lookup.{IsPassed, NoneAccepted, IsFirstAccepted, LooksUp, LooksUpIn, find_pair, find, AnswersBy, IsItemFound, IsRefusal}
-use Rattle.jsonb.proofs.Places.{At, At-left, take-At, within-At}
+use Rattle.jsonb.specs.Parts.{length_in, part_length, length_before, part_start, HasParts, key_of_size, IsPassedAt, PassedBefore, IsNoneFound, IsValueFound, IsUnreadable}
+use Rattle.jsonb.specs.Lookup.{IsPassed, NoneAccepted, IsFirstAccepted, LooksUp, LooksUpIn, LooksUpBytes, no_header, unread, all_passed, one_accepted, find_pair, find, AnswersBy, IsItemFound, IsRefusal}
+use Rattle.jsonb.proofs.Places.{At, At-left, part_at-At, within-At}
+use Rattle.jsonb.proofs.Parts.{key_of_other_length, key_there}
 use Rattle.jsonb.proofs.KindLaws.{header_at-Scalar, header_at-array, header_at-object}
 use Rattle.jsonb.proofs.ItemLaws.{IsItemOf-Payload}
+use Rattle.jsonb.proofs.StandingLaws.{AreEntries, first_entry, members_at, length-ArePairsOf, Keys-ArePairsOf, AreTexts-Payload, AreEntries-pairs, HasMembers-Payload}
 use Rattle.jsonb.proofs.DocumentWalks.{first, ObjectParts, object_parts, count_under-header}
 
 part_length-jentry : (bytes : List ℕ) (part : ℕ) (entry : JEntry) → jentry_at bytes (4 + 4 * part) ≡ Ok entry → part_length bytes part ≡ entry.length
 unfolding part_length
 part_length-jentry bytes part entry h = ap length_in h
 
-part_type-jentry : (bytes : List ℕ) (part : ℕ) (entry : JEntry) → jentry_at bytes (4 + 4 * part) ≡ Ok entry → part_type bytes part ≡ entry.type_code
-unfolding part_type
-part_type-jentry bytes part entry h = ap type_in h
-
 -- the first of the entries that stand in bytes from a part on, and where the others stand
 record Part (bytes : List ℕ) (n i type : ℕ) (payload entries payloads : List ℕ) : Type 0 where
-  type_is : part_type bytes i ≡ type
+  jentry : jentry_at bytes (4 + 4 * i) ≡ Ok record { type_code = type; length = length payload }
+  there : part_at bytes (part_start bytes n i) (length payload) ≡ Ok payload
+  entry : entry_at bytes (4 + 4 * i) (part_start bytes n i) ≡ Ok record { type = type; payload = payload }
   long : part_length bytes i ≡ length payload
-  here : part_of bytes n i ≡ payload
   other_entries : At bytes (4 + 4 * suc i) entries
   other_payloads : At bytes (part_start bytes n (suc i)) payloads
 
@@ -46,27 +51,47 @@ first_part bytes n i t M O e p h a b =
     let next : 4 + 4 * i + 4 ≡ 4 + 4 * suc i = omega arith in
     let behind : part_start bytes n i + length h.payload ≡ part_start bytes n (suc i) = omega arith in
     record {
-      type_is = part_type-jentry bytes i _ f.jentry;
+      jentry = f.jentry;
+      there = part_at-At bytes start (length h.payload) h.payload refl there;
+      entry = f.entry;
       long = long;
-      here = ap (λ (k : ℕ). take k (drop start bytes)) long ∙ take-At bytes start h.payload there;
       other_entries = subst (λ (k : ℕ). At bytes k h.other_entries) next f.other_entries;
       other_payloads = subst (λ (k : ℕ). At bytes k h.other_payloads) behind f.other_payloads;
     }
 
--- A key that is passed over among the parts is passed over.
-passed : (answers : List ℕ → Bool → Type 0) (size : ℕ) (bytes : List ℕ) (n i type : ℕ) (k p entries payloads : List ℕ)
-    → p ≡ k → Part bytes n i type p entries payloads → (part_length bytes i ≡ size → answers (part_of bytes n i) false) → IsPassed answers size k
-passed answers size bytes n i type k p entries payloads key part none fits =
-    subst (λ (x : List ℕ). answers x false) (part.here ∙ key) (none (part.long ∙ ap length key ∙ fits))
+module _ (size : ℕ) (bytes : List ℕ) (n i type : ℕ) (k p entries payloads : List ℕ) (key : p ≡ k) (part : Part bytes n i type p entries payloads) where
+  asked : length p ≡ size → key_of_size size bytes n i ≡ Ok (Some p)
+  asked fits = key_there size bytes n i record { type_code = type; length = length p } (part_start bytes n i) (sym part.jentry) fits refl p part.there
+
+  -- A key that is passed over where it stands is passed over.
+  passed : (answers : List ℕ → Bool → Type 0) → IsPassedAt answers size bytes n i → IsPassed answers size k
+  passed answers here fits =
+      subst (λ (x : List ℕ). answers x false) key
+      (subst (λ (r : Result (Option (List ℕ)) Error). IsOkAnd r (λ o. IfSome o (λ x. answers x false))) (asked (ap length key ∙ fits)) here)
+
+  accepted_by : (test : Bool) (given : List ℕ) → eqb (length p) size ≡ test → key_of_size size bytes n i ≡ Ok (Some given) → (length k ≡ size) × (given ≡ k)
+  accepted_by true given e there =
+      let fits = eqb-true (length p) size e in
+      let here = asked fits in
+      let same : given ≡ p = cc in
+      (ap length (sym key) ∙ fits, same ∙ key)
+  accepted_by false given e there =
+      let here = key_of_other_length size bytes n i record { type_code = type; length = length p } (sym part.jentry) (eqb-false (length p) size e) in
+      let never : ⊥ = cc in
+      absurd never
+
+  -- A key that has the size where it stands has it.
+  accepted : (given : List ℕ) → key_of_size size bytes n i ≡ Ok (Some given) → (length k ≡ size) × (given ≡ k)
+  accepted given there = accepted_by (eqb (length p) size) given refl there
 
 -- no key of these pairs is accepted
 none_accepted : (answers : List ℕ → Bool → Type 0) (size : ℕ) (bytes : List ℕ) (n i : ℕ) (ps : Pairs) (e p : List ℕ)
     → Keys ps e p → At bytes (4 + 4 * i) e → At bytes (part_start bytes n i) p
-    → ((k : ℕ) → i ≤ k → k < i + pair_count ps → part_length bytes k ≡ size → answers (part_of bytes n k) false) → NoneAccepted answers size ps
+    → ((k : ℕ) → i ≤ k → k < i + pair_count ps → IsPassedAt answers size bytes n k) → NoneAccepted answers size ps
 none_accepted answers size bytes n i no_pairs e p h a b none = tt
 none_accepted answers size bytes n i (pair k t ps) e p h a b none =
     let f = first_part bytes n i (text k) (IsKey k) (Keys ps) e p h a b in (
-      passed answers size bytes n i _ k h.payload _ _ h.means.0 f (none i (omega arith) (omega arith)),
+      passed size bytes n i _ k h.payload _ _ h.means.0 f answers (none i (omega arith) (omega arith)),
       none_accepted answers size bytes n (suc i) ps h.other_entries h.other_payloads h.others f.other_entries f.other_payloads
           (λ j low high. none j (omega arith) (omega arith)),
     )
@@ -78,45 +103,60 @@ record Found (answers : List ℕ → Bool → Type 0) (size : ℕ) (bytes : List
   payload : List ℕ
   short : length payload < 2 ^ 28
   means : Payload value payload
-  type_is : part_type bytes part ≡ type_of value
-  payload_is : part_of bytes n part ≡ payload
+  entry : entry_at bytes (4 + 4 * part) (part_start bytes n part) ≡ Ok record { type = type_of value; payload = payload }
 
-found_pair : (answers : List ℕ → Bool → Type 0) (size : ℕ) (bytes : List ℕ) (n i w m j wj : ℕ) (ps : Pairs) (ke kp ve vp : List ℕ)
+found_pair : (answers : List ℕ → Bool → Type 0) (size : ℕ) (bytes : List ℕ) (n i w m j wj : ℕ) (given : List ℕ) (ps : Pairs) (ke kp ve vp : List ℕ)
     → Keys ps ke kp → Values ps ve vp → At bytes (4 + 4 * i) ke → At bytes (part_start bytes n i) kp → At bytes (4 + 4 * w) ve → At bytes (part_start bytes n w) vp
-    → j ≡ i + m → wj ≡ w + m → j < i + pair_count ps → part_length bytes j ≡ size → answers (part_of bytes n j) true
-    → ((k : ℕ) → i ≤ k → k < j → part_length bytes k ≡ size → answers (part_of bytes n k) false) → Found answers size bytes n ps m wj
-found_pair answers size bytes n i w m j wj no_pairs ke kp ve vp h v a b c d e g inside fits accepted none = absurd (omega arith)
-found_pair answers size bytes n i w zero j wj (pair k t ps) ke kp ve vp h v a b c d e g inside fits accepted none =
+    → j ≡ i + m → wj ≡ w + m → j < i + pair_count ps → key_of_size size bytes n j ≡ Ok (Some given) → answers given true
+    → ((k : ℕ) → i ≤ k → k < j → IsPassedAt answers size bytes n k) → Found answers size bytes n ps m wj
+found_pair answers size bytes n i w m j wj given no_pairs ke kp ve vp h v a b c d e g inside there said none = absurd (omega arith)
+found_pair answers size bytes n i w zero j wj given (pair k t ps) ke kp ve vp h v a b c d e g inside there said none =
     let key = first_part bytes n i (text k) (IsKey k) (Keys ps) ke kp h a b in
     let value = first_part bytes n w t (Payload t) (Values ps) ve vp v c d in
     let this : j ≡ i = omega arith in
     let that : w ≡ wj = omega arith in
-    let fits_here = subst (λ (x : ℕ). part_length bytes x ≡ size) this fits in
-    let accepted_here = subst (λ (x : ℕ). answers (part_of bytes n x) true) this accepted in
+    let is = accepted size bytes n i _ k h.payload _ _ h.means.0 key given (subst (λ (x : ℕ). key_of_size size bytes n x ≡ Ok (Some given)) this there) in
     record {
       value = t;
-      first_accepted = (ap length (sym h.means.0) ∙ sym key.long ∙ fits_here, (subst (λ (x : List ℕ). answers x true) (key.here ∙ h.means.0) accepted_here, refl));
+      first_accepted = (is.0, (subst (λ (x : List ℕ). answers x true) is.1 said, refl));
       payload = v.payload;
       short = v.short;
       means = v.means;
-      type_is = subst (λ (x : ℕ). part_type bytes x ≡ type_of t) that value.type_is;
-      payload_is = subst (λ (x : ℕ). part_of bytes n x ≡ v.payload) that value.here;
+      entry = subst (λ (x : ℕ). entry_at bytes (4 + 4 * x) (part_start bytes n x) ≡ Ok record { type = type_of t; payload = v.payload }) that value.entry;
     }
-found_pair answers size bytes n i w (suc m) j wj (pair k t ps) ke kp ve vp h v a b c d e g inside fits accepted none =
+found_pair answers size bytes n i w (suc m) j wj given (pair k t ps) ke kp ve vp h v a b c d e g inside there said none =
     let key = first_part bytes n i (text k) (IsKey k) (Keys ps) ke kp h a b in
     let value = first_part bytes n w t (Payload t) (Values ps) ve vp v c d in
-    let more = found_pair answers size bytes n (suc i) (suc w) m j wj ps h.other_entries h.other_payloads v.other_entries v.other_payloads h.others v.others
-    key.other_entries key.other_payloads value.other_entries value.other_payloads (omega arith) (omega arith) (omega arith) fits accepted
+    let more = found_pair answers size bytes n (suc i) (suc w) m j wj given ps h.other_entries h.other_payloads v.other_entries v.other_payloads h.others v.others
+    key.other_entries key.other_payloads value.other_entries value.other_payloads (omega arith) (omega arith) (omega arith) there said
     (λ x low high. none x (omega arith) (omega arith)) in
     record {
       value = more.value;
-      first_accepted = (passed answers size bytes n i _ k h.payload _ _ h.means.0 key (none i (omega arith) (omega arith)), more.first_accepted);
+      first_accepted = (passed size bytes n i _ k h.payload _ _ h.means.0 key answers (none i (omega arith) (omega arith)), more.first_accepted);
       payload = more.payload;
       short = more.short;
       means = more.means;
-      type_is = more.type_is;
-      payload_is = more.payload_is;
+      entry = more.entry;
     }
+
+-- an entry by its index, and by its number among the parts
+abbrev NumberedEntry : List ℕ → ℕ → ℕ → List Entry → ℕ → Type 0
+NumberedEntry bytes n w cs m = (c : Entry) × ((slice_get cs m ≡ Some c) × (entry_at bytes (4 + 4 * w) (part_start bytes n w) ≡ Ok c))
+
+numbered_entry : (bytes : List ℕ) (n i w : ℕ) (cs : List Entry) (m : ℕ) → AreEntries cs → At bytes (4 + 4 * i) (code_entries cs) → At bytes (part_start bytes n i) (code_payloads cs)
+    → m < length cs → w ≡ i + m → NumberedEntry bytes n w cs m
+numbered_entry bytes n i w [] m is a b inside e = absurd (omega arith)
+numbered_entry bytes n i w (c ∷ cs) zero is a b inside e =
+    let f = first_entry bytes (4 + 4 * i) (part_start bytes n i) c cs is.0 a b in
+    let that : i ≡ w = omega arith in
+    (c, (refl, subst (λ (x : ℕ). entry_at bytes (4 + 4 * x) (part_start bytes n x) ≡ Ok c) that f.entry))
+numbered_entry bytes n i w (c ∷ cs) (suc m) is a b inside e =
+    let f = first_entry bytes (4 + 4 * i) (part_start bytes n i) c cs is.0 a b in
+    let long = part_length-jentry bytes i _ f.jentry in
+    let next : 4 + 4 * i + 4 ≡ 4 + 4 * suc i = omega arith in
+    let behind : part_start bytes n i + length c.payload ≡ part_start bytes n (suc i) = omega arith in
+    numbered_entry bytes n (suc i) w cs m is.1 (subst (λ (k : ℕ). At bytes k (code_entries cs)) next f.other_entries) (subst (λ (k : ℕ). At bytes k (code_payloads cs)) behind f.other_payloads)
+    (omega arith) (omega arith)
 
 -- how long the keys and the values are
 length_before-Keys : (bytes : List ℕ) (n i j : ℕ) (ps : Pairs) (e p : List ℕ) → Keys ps e p → At bytes (4 + 4 * i) e → At bytes (part_start bytes n i) p
@@ -222,25 +262,25 @@ answered (Ok x) e ok is = let different : ⊥ = cc in different
 answered (Err f) e ok is = let different : ⊥ = cc in different
 
 -- in anything but pairs nothing is found
-nothing : (answers : List ℕ → Bool → Type 0) (size : ℕ) (t : Tree) (reads : ℕ) → pairs_in t ≡ None → reads ≡ 1 → LooksUp answers size t None reads
-nothing answers size (object ps) reads e one = let different : ⊥ = cc in absurd different
-nothing answers size null reads e one = (refl, one)
-nothing answers size (boolean x) reads e one = (refl, one)
-nothing answers size (number x) reads e one = (refl, one)
-nothing answers size (text x) reads e one = (refl, one)
-nothing answers size (extension x) reads e one = (refl, one)
-nothing answers size (array ts) reads e one = (refl, one)
+nothing : (answers : List ℕ → Bool → Type 0) (size : ℕ) (b : List ℕ) (t : Tree) (reads : ℕ) → pairs_in t ≡ None → reads ≡ 1 → LooksUp answers size b t None reads
+nothing answers size b (object ps) reads e one = let different : ⊥ = cc in absurd different
+nothing answers size b null reads e one = (refl, one)
+nothing answers size b (boolean x) reads e one = (refl, one)
+nothing answers size b (number x) reads e one = (refl, one)
+nothing answers size b (text x) reads e one = (refl, one)
+nothing answers size b (extension x) reads e one = (refl, one)
+nothing answers size b (array ts) reads e one = (refl, one)
 
 pub LooksUp-nothing : (answers : List ℕ → Bool → Type 0) (size : ℕ) (b : List ℕ) (t : Tree) (reads : ℕ)
-    → Doc b t → Ok None ≡ count_under b 1073741824 → reads ≡ 1 → LooksUp answers size t None reads
-LooksUp-nothing answers size b t reads h e one = nothing answers size t reads (pairs_in-count b t None h e) one
+    → Doc b t → Ok None ≡ count_under b 1073741824 → reads ≡ 1 → LooksUp answers size b t None reads
+LooksUp-nothing answers size b t reads h e one = nothing answers size b t reads (pairs_in-count b t None h e) one
 
 -- among pairs nothing is found where no key is accepted
 not_found : (answers : List ℕ → Bool → Type 0) (size : ℕ) (b : List ℕ) (t : Tree) (n reads : ℕ)
-    → NoneBefore answers size b n n → Doc b t → pairs_in t ≡ Some n → reads ≡ n + 1 → LooksUp answers size t None reads
+    → PassedBefore answers size b n n → Doc b t → pairs_in t ≡ Some n → reads ≡ n + 1 → LooksUp answers size b t None reads
 not_found answers size b (object ps) n reads none (inr (is, h)) e cost =
     let same : n ≡ pair_count ps = cc in
-    let here = subst (λ (k : ℕ). NoneBefore answers size b k k) same none in
+    let here = subst (λ (k : ℕ). PassedBefore answers size b k k) same none in
     let p = object_parts b ps h in
     let at = numbered b ps p in
     record {
@@ -255,72 +295,125 @@ not_found answers size b (text x) n reads none h e cost = let different : ⊥ = 
 not_found answers size b (extension x) n reads none h e cost = let different : ⊥ = cc in absurd different
 not_found answers size b (array ts) n reads none h e cost = let different : ⊥ = cc in absurd different
 
-pub LooksUp-none : (o : Option Entry) (answers : List ℕ → Bool → Type 0) (size : ℕ) (b : List ℕ) (t : Tree) (n reads cost : ℕ)
-    → IfNone o (IsNoneFound answers size b n reads) → o ≡ None → Doc b t → Ok (Some n) ≡ count_under b 1073741824 → cost ≡ reads + 1 → LooksUp answers size t None cost
+pub LooksUp-none : (o : Option declared.Entry) (answers : List ℕ → Bool → Type 0) (size : ℕ) (b : List ℕ) (t : Tree) (n reads cost : ℕ)
+    → IfNone o (IsNoneFound answers size b n reads) → o ≡ None → Doc b t → Ok (Some n) ≡ count_under b 1073741824 → cost ≡ reads + 1 → LooksUp answers size b t None cost
 LooksUp-none None answers size b t n reads cost none is h e more =
     let reads_are = none.cost in
     not_found answers size b t n cost none.none h (pairs_in-count b t (Some n) h e) (omega arith)
 LooksUp-none (Some x) answers size b t n reads cost none is h e more = let different : ⊥ = cc in absurd different
 
 -- the item of the value that is found
-pub record FoundItem (answers : List ℕ → Bool → Type 0) (size : ℕ) (t : Tree) (type : ℕ) (payload : List ℕ) (reads : ℕ) : Type 0 where
+pub record FoundItem (answers : List ℕ → Bool → Type 0) (size : ℕ) (b : List ℕ) (t : Tree) (entry : Entry) (reads : ℕ) : Type 0 where
   pub item : Shown
-  pub item_is : item_of type payload ≡ Ok item
-  pub found : LooksUp answers size t (Some item) reads
+  pub item_is : entry_item entry ≡ Ok item
+  pub found : LooksUp answers size b t (Some item) reads
 
-found_in_pairs : (answers : List ℕ → Bool → Type 0) (size : ℕ) (b : List ℕ) (ps : Pairs) (type : ℕ) (payload : List ℕ) (reads cost : ℕ)
-    → IsValueFound answers size b (pair_count ps) type payload reads → Payload (object ps) b → cost ≡ reads + 1 → FoundItem answers size (object ps) type payload cost
-found_in_pairs answers size b ps type payload reads cost value h more =
+-- where the values of members stand, by their numbers
+values_numbered : (b : List ℕ) (ps : Pairs) (ms : List (List ℕ × Entry)) → Payload (object ps) b → HasMembers b ps ms → (length ms ≡ pair_count ps)
+    × ((At b (4 + 4 * pair_count ps) (code_entries (values_of ms))) × (At b (part_start b (pair_count ps) (pair_count ps)) (code_payloads (values_of ms))))
+values_numbered b ps ms h stand =
+    let n = pair_count ps in
+    let at = members_at b ms stand.few stand.written in
+    let counted : length ms ≡ pair_count ps = sym (length-values_of ms) ∙ length-ArePairsOf (keys_of ms) (values_of ms) ps stand.mean in
+    let keys = Keys-ArePairsOf (keys_of ms) (values_of ms) ps stand.mean (AreTexts-Payload b ps ms h stand) stand.short_keys in
+    let front : 4 + 8 * length ms ≡ part_start b (pair_count ps) 0 = omega arith in
+    let keys_at = subst (λ (k : ℕ). At b k (code_payloads (key_codes (keys_of ms)))) front at.key_payloads_at in
+    let before = length_before-Keys b n 0 n ps _ _ keys at.key_entries_at keys_at (omega arith) in
+    let behind : 4 + 8 * length ms + length (code_payloads (key_codes (keys_of ms))) ≡ part_start b (pair_count ps) (pair_count ps) = omega arith in
+    (counted, (subst (λ (k : ℕ). At b (4 + 4 * k) (code_entries (values_of ms))) counted at.entries_at, subst (λ (k : ℕ). At b k (code_payloads (values_of ms))) behind at.payloads_at))
+
+found_in_pairs : (answers : List ℕ → Bool → Type 0) (size : ℕ) (b : List ℕ) (ps : Pairs) (entry : Entry) (reads cost : ℕ)
+    → IsValueFound answers size b (pair_count ps) entry reads → Payload (object ps) b → cost ≡ reads + 1 → FoundItem answers size b (object ps) entry cost
+found_in_pairs answers size b ps entry reads cost value h more =
     let n = pair_count ps in
     let p = object_parts b ps h in
     let at = numbered b ps p in
     let key = value.key in
     let inside = key.among in
-    let f = found_pair answers size b n 0 n value.pair value.pair (n + value.pair) ps p.key_entries p.key_payloads p.value_entries p.value_payloads
-    p.keys p.values p.key_entries_at at.keys_at p.value_entries_at at.values_at (omega arith) refl (omega arith) key.fits key.accepted
+    let f = found_pair answers size b n 0 n value.pair value.pair (n + value.pair) key.key ps p.key_entries p.key_payloads p.value_entries p.value_payloads
+    p.keys p.values p.key_entries_at at.keys_at p.value_entries_at at.values_at (omega arith) refl (omega arith) key.there key.accepted
     (λ k low high. key.earlier k high) in
     let x = IsItemOf-Payload f.value f.payload f.short f.means in
-    let same_type : type_of f.value ≡ type = sym (value.type_is ∙ f.type_is) in
-    let same_payload : f.payload ≡ payload = sym (value.payload_is ∙ f.payload_is) in
+    let there = value.there in
+    let stands = f.entry in
+    let same : record { type = type_of f.value; payload = f.payload } ≡ entry = cc in
+    let item : entry_item entry ≡ Ok x.0 = subst (λ (c : Entry). entry_item c ≡ Ok x.0) same x.1.0 in
+    let m = HasMembers-Payload b ps h in
+    let places = values_numbered b ps m.0 h m.1 in
+    let count = places.0 in
+    let long = length-values_of m.0 in
+    let e = numbered_entry b n n (n + value.pair) (values_of m.0) value.pair (AreEntries-pairs (keys_of m.0) (values_of m.0) ps m.1.mean m.1.short) places.1.0 places.1.1 (omega arith) refl in
+    let indexed = e.1.1 in
+    let this : e.0 ≡ entry = cc in
     let reads_are = value.cost in
     record {
       item = x.0;
-      item_is = subst (λ (k : ℕ). item_of k payload ≡ Ok x.0) same_type (subst (λ (k : List ℕ). item_of (type_of f.value) k ≡ Ok x.0) same_payload x.1.0);
-      found = record { index = value.pair; value = f.value; first = f.first_accepted; item = x.1.1; cost = omega arith };
+      item_is = item;
+      found = record {
+        index = value.pair;
+        value = f.value;
+        first = f.first_accepted;
+        item = x.1.1;
+        members = m.0;
+        stand = m.1;
+        entry = ap (option_map entry_item) (e.1.0 ∙ ap (λ (c : Entry). Some c) this) ∙ ap (λ (r : Result Shown Error). Some r) item;
+        cost = omega arith;
+      };
     }
 
-found_in : (answers : List ℕ → Bool → Type 0) (size : ℕ) (b : List ℕ) (t : Tree) (n type : ℕ) (payload : List ℕ) (reads cost : ℕ)
-    → IsValueFound answers size b n type payload reads → Doc b t → pairs_in t ≡ Some n → cost ≡ reads + 1 → FoundItem answers size t type payload cost
-found_in answers size b (object ps) n type payload reads cost value (inr (is, h)) e more =
+found_in : (answers : List ℕ → Bool → Type 0) (size : ℕ) (b : List ℕ) (t : Tree) (n : ℕ) (entry : Entry) (reads cost : ℕ)
+    → IsValueFound answers size b n entry reads → Doc b t → pairs_in t ≡ Some n → cost ≡ reads + 1 → FoundItem answers size b t entry cost
+found_in answers size b (object ps) n entry reads cost value (inr (is, h)) e more =
     let same : n ≡ pair_count ps = cc in
-    found_in_pairs answers size b ps type payload reads cost (subst (λ (k : ℕ). IsValueFound answers size b k type payload reads) same value) h more
-found_in answers size b (object ps) n type payload reads cost value (inl (other, h)) e more = absurd (other refl)
-found_in answers size b null n type payload reads cost value h e more = let different : ⊥ = cc in absurd different
-found_in answers size b (boolean x) n type payload reads cost value h e more = let different : ⊥ = cc in absurd different
-found_in answers size b (number x) n type payload reads cost value h e more = let different : ⊥ = cc in absurd different
-found_in answers size b (text x) n type payload reads cost value h e more = let different : ⊥ = cc in absurd different
-found_in answers size b (extension x) n type payload reads cost value h e more = let different : ⊥ = cc in absurd different
-found_in answers size b (array ts) n type payload reads cost value h e more = let different : ⊥ = cc in absurd different
+    found_in_pairs answers size b ps entry reads cost (subst (λ (k : ℕ). IsValueFound answers size b k entry reads) same value) h more
+found_in answers size b (object ps) n entry reads cost value (inl (other, h)) e more = absurd (other refl)
+found_in answers size b null n entry reads cost value h e more = let different : ⊥ = cc in absurd different
+found_in answers size b (boolean x) n entry reads cost value h e more = let different : ⊥ = cc in absurd different
+found_in answers size b (number x) n entry reads cost value h e more = let different : ⊥ = cc in absurd different
+found_in answers size b (text x) n entry reads cost value h e more = let different : ⊥ = cc in absurd different
+found_in answers size b (extension x) n entry reads cost value h e more = let different : ⊥ = cc in absurd different
+found_in answers size b (array ts) n entry reads cost value h e more = let different : ⊥ = cc in absurd different
 
-pub found_item-Doc : (o : Option Entry) (entry : Entry) (answers : List ℕ → Bool → Type 0) (size : ℕ) (b : List ℕ) (t : Tree) (n reads cost : ℕ)
-    → IfSome o (λ x. IsValueFound answers size b n x.type_code x.payload.now reads) → o ≡ Some entry → Doc b t → Ok (Some n) ≡ count_under b 1073741824
-    → cost ≡ reads + 1 → FoundItem answers size t entry.type_code entry.payload.now cost
-found_item-Doc (Some x) entry answers size b t n reads cost value is h e more =
-    let same : x ≡ entry = cc in
-    let here = subst (λ (y : Entry). IsValueFound answers size b n y.type_code y.payload.now reads) same value in
-    found_in answers size b t n entry.type_code entry.payload.now reads cost here h (pairs_in-count b t (Some n) h e) more
-found_item-Doc None entry answers size b t n reads cost value is h e more = let different : ⊥ = cc in absurd different
+pub found_item-Doc : (answers : List ℕ → Bool → Type 0) (size : ℕ) (b : List ℕ) (t : Tree) (n : ℕ) (entry : Entry) (reads cost : ℕ)
+    → IsValueFound answers size b n entry reads → Doc b t → Ok (Some n) ≡ count_under b 1073741824 → cost ≡ reads + 1 → FoundItem answers size b t entry cost
+found_item-Doc answers size b t n entry reads cost value h e more = found_in answers size b t n entry reads cost value h (pairs_in-count b t (Some n) h e) more
 
-pub found_item-never : (answers : List ℕ → Bool → Type 0) (size : ℕ) (t : Tree) (type : ℕ) (payload : List ℕ) (reads : ℕ) (e : Error)
-    → FoundItem answers size t type payload reads → Err e ≡ item_of type payload → ⊥
-found_item-never answers size t type payload reads e found same = let item_is = found.item_is in let different : ⊥ = cc in different
+pub found_item-never : (answers : List ℕ → Bool → Type 0) (size : ℕ) (b : List ℕ) (t : Tree) (entry : Entry) (reads : ℕ) (e : Error)
+    → FoundItem answers size b t entry reads → Err e ≡ entry_item entry → ⊥
+found_item-never answers size b t entry reads e found same = let item_is = found.item_is in let different : ⊥ = cc in different
 
-pub LooksUp-item : (answers : List ℕ → Bool → Type 0) (size : ℕ) (t : Tree) (type : ℕ) (payload : List ℕ) (reads : ℕ) (x : Shown)
-    → FoundItem answers size t type payload reads → Ok x ≡ item_of type payload → LooksUp answers size t (Some x) reads
-LooksUp-item answers size t type payload reads x found same =
+pub LooksUp-item : (answers : List ℕ → Bool → Type 0) (size : ℕ) (b : List ℕ) (t : Tree) (entry : Entry) (reads : ℕ) (x : Shown)
+    → FoundItem answers size b t entry reads → Ok x ≡ entry_item entry → LooksUp answers size b t (Some x) reads
+LooksUp-item answers size b t entry reads x found same =
     let item_is = found.item_is in
     let this : found.item ≡ x = cc in
-    subst (λ (y : Shown). LooksUp answers size t (Some y) reads) this found.found
+    subst (λ (y : Shown). LooksUp answers size b t (Some y) reads) this found.found
+
+-- what is told of an option where it is known
+pub if_none : {A : Type 0} (o : Option A) (P : Type 0) → IfNone o P → o ≡ None → P
+if_none o P h is = subst (λ x. IfNone x P) is h
+
+pub if_some : {A : Type 0} (o : Option A) (x : A) (P : A → Type 0) → IfSome o P → o ≡ Some x → P x
+if_some o x P h is = subst (λ y. IfSome y P) is h
+
+-- the answer on any bytes, which are called by two names
+module _ (answers : List ℕ → Bool → Type 0) (size : ℕ) (bytes b : List ℕ) (same : bytes ≡ b) (r : Result (Option Shown) Error) (reads : ℕ) where
+  pub answer_no_header : (e : Error) → Err e ≡ count_under bytes 1073741824 → r ≡ Err e → LooksUpBytes answers size b r reads
+  answer_no_header e count is = subst (λ (x : List ℕ). LooksUpBytes answers size x r reads) same (no_header e (sym count) is)
+
+  pub answer_unread : (n : ℕ) (e : Error) → Ok (Some n) ≡ count_under bytes 1073741824 → IsUnreadable answers size bytes n e → r ≡ Err e → LooksUpBytes answers size b r reads
+  answer_unread n e count past is = subst (λ (x : List ℕ). LooksUpBytes answers size x r reads) same (unread n e (sym count) past is)
+
+  pub answer_none : (n m : ℕ) → Ok (Some n) ≡ count_under bytes 1073741824 → IsNoneFound answers size bytes n m → r ≡ Ok None → reads ≡ m + 1 → LooksUpBytes answers size b r reads
+  answer_none n m count none is cost =
+      subst (λ (x : List ℕ). LooksUpBytes answers size x r reads) same (all_passed n (sym count) none.none is (cost ∙ ap (λ (k : ℕ). k + 1) none.cost))
+
+  pub answer_found : (n m : ℕ) (entry : Entry) → Ok (Some n) ≡ count_under bytes 1073741824 → IsValueFound answers size bytes n entry m → r ≡ (entry_item entry >>= (λ (x : Shown). Ok (Some x)))
+      → reads ≡ m + 1 → LooksUpBytes answers size b r reads
+  answer_found n m entry count found is cost =
+      let found_cost = found.cost in
+      let all : reads ≡ n + found.pair + 2 = omega arith in
+      subst (λ (x : List ℕ). LooksUpBytes answers size x r reads) same (one_accepted n found.pair entry (sym count) found.key found.there is all)
 
 -- why there is no item
 if_refused : (b : Bool) (x y : Result Shown Error) → IfErr x IsRefusal → IfErr y IsRefusal → IfErr (if b then x else y) IsRefusal
@@ -379,25 +472,66 @@ find_pair-first answers accepts size (pair k t ps) (suc i) v by h =
 item_found-none : (o : Option Shown) → o ≡ None → IsItemFound None o
 item_found-none o e = subst (IsItemFound None) (sym e) tt
 
-item_found : (answers : List ℕ → Bool → Type 0) (accepts : List ℕ → Bool) (size : ℕ) (t : Tree) (o : Option Shown) (reads : ℕ)
-    → AnswersBy accepts answers size → LooksUp answers size t o reads → IsItemFound (find accepts size t) o
-item_found answers accepts size (object ps) None reads by h = subst (λ (f : Option Tree). IsItemFound f None) (sym (find_pair-none answers accepts size ps by h.none)) tt
-item_found answers accepts size (object ps) (Some x) reads by h =
+item_found : (answers : List ℕ → Bool → Type 0) (accepts : List ℕ → Bool) (size : ℕ) (b : List ℕ) (t : Tree) (o : Option Shown) (reads : ℕ)
+    → AnswersBy accepts answers size → LooksUp answers size b t o reads → IsItemFound (find accepts size t) o
+item_found answers accepts size b (object ps) None reads by h = subst (λ (f : Option Tree). IsItemFound f None) (sym (find_pair-none answers accepts size ps by h.none)) tt
+item_found answers accepts size b (object ps) (Some x) reads by h =
     subst (λ (f : Option Tree). IsItemFound f (Some x)) (sym (find_pair-first answers accepts size ps h.index h.value by h.first)) h.item
-item_found answers accepts size null o reads by h = item_found-none o h.0
-item_found answers accepts size (boolean x) o reads by h = item_found-none o h.0
-item_found answers accepts size (number x) o reads by h = item_found-none o h.0
-item_found answers accepts size (text x) o reads by h = item_found-none o h.0
-item_found answers accepts size (extension x) o reads by h = item_found-none o h.0
-item_found answers accepts size (array ts) o reads by h = item_found-none o h.0
+item_found answers accepts size b null o reads by h = item_found-none o h.0
+item_found answers accepts size b (boolean x) o reads by h = item_found-none o h.0
+item_found answers accepts size b (number x) o reads by h = item_found-none o h.0
+item_found answers accepts size b (text x) o reads by h = item_found-none o h.0
+item_found answers accepts size b (extension x) o reads by h = item_found-none o h.0
+item_found answers accepts size b (array ts) o reads by h = item_found-none o h.0
+
+-- and the entry that stands there
+module _ (answers : List ℕ → Bool → Type 0) (accepts : List ℕ → Bool) (size : ℕ) (by : AnswersBy accepts answers size) where
+  entry_passed : (key k : List ℕ) → key ≡ k → IsPassed answers size k → ((length key == size) && accepts key) ≡ false
+  entry_passed key k same pass =
+      test_passed accepts size key (length key == size)
+      (λ e. let fits : length k ≡ size = ap length (sym same) ∙ eqb-true (length key) size e in ap accepts same ∙ sym (by k false fits (pass fits)))
+
+  find_entry-none : (ms : List (List ℕ × Entry)) (ps : Pairs) → ArePairsOf (keys_of ms) (values_of ms) ps → NoneAccepted answers size ps → find_entry accepts size ms ≡ None
+  find_entry-none [] ps h none = refl
+  find_entry-none (m ∷ ms) no_pairs h none = absurd h
+  find_entry-none (m ∷ ms) (pair k t ps) h none = let test = entry_passed m.0 k h.0 none.0 in rw test (find_entry-none ms ps h.1.1 none.1)
+
+  find_entry-first : (ms : List (List ℕ × Entry)) (ps : Pairs) (i : ℕ) (v : Tree) → ArePairsOf (keys_of ms) (values_of ms) ps → IsFirstAccepted answers size ps i v
+      → find_entry accepts size ms ≡ slice_get (values_of ms) i
+  find_entry-first [] ps i v h first = absurd (subst (λ (qs : Pairs). IsFirstAccepted answers size qs i v) h first)
+  find_entry-first (m ∷ ms) no_pairs i v h first = absurd h
+  find_entry-first (m ∷ ms) (pair k t ps) zero v h first =
+      let fits = eq-eqb (length m.0) size (ap length h.0 ∙ first.0) in
+      let says : accepts m.0 ≡ true = ap accepts h.0 ∙ sym (by k true first.0 first.1.0) in
+      rw (fits, says) refl
+  find_entry-first (m ∷ ms) (pair k t ps) (suc i) v h first = let test = entry_passed m.0 k h.0 first.0 in rw test (find_entry-first ms ps i v h.1.1 first.1)
+
+  found_standing : (b : List ℕ) (t : Tree) (o : Option Shown) (reads : ℕ) → Doc b t → LooksUp answers size b t o reads → IsFoundIn accepts size b t o
+  found_standing b (object ps) None reads (inr (is, doc)) h =
+      let m = HasMembers-Payload b ps doc in
+      (m.0, (m.1, ap (option_map entry_item) (find_entry-none m.0 ps m.1.mean h.none)))
+  found_standing b (object ps) None reads (inl (other, doc)) h = absurd (other refl)
+  found_standing b (object ps) (Some x) reads doc h =
+      (h.members, (h.stand, ap (option_map entry_item) (find_entry-first h.members ps h.index h.value h.stand.mean h.first) ∙ h.entry))
+  found_standing b null o reads doc h = h.0
+  found_standing b (boolean x) o reads doc h = h.0
+  found_standing b (number x) o reads doc h = h.0
+  found_standing b (text x) o reads doc h = h.0
+  found_standing b (extension x) o reads doc h = h.0
+  found_standing b (array ts) o reads doc h = h.0
 
 -- The same of a call's result.
-pub LooksUpIn-result : (answers : List ℕ → Bool → Type 0) (size : ℕ) (t : Tree) (reads : ℕ) (r : Result (Option JsonbItem) Error)
-    → IsOkAnd r (λ found. LooksUp answers size t (option_map shown found) reads) → IsOkAnd r (λ found. LooksUpIn answers size t (option_map shown found))
-LooksUpIn-result answers size t reads (Ok found) h = (reads, h)
-LooksUpIn-result answers size t reads (Err e) h = h
+pub LooksUpIn-result : (answers : List ℕ → Bool → Type 0) (size : ℕ) (b : List ℕ) (t : Tree) (reads : ℕ) (r : Result (Option JsonbItem) Error)
+    → IsOkAnd r (λ found. LooksUp answers size b t (option_map shown found) reads) → IsOkAnd r (λ found. LooksUpIn answers size b t (option_map shown found))
+LooksUpIn-result answers size b t reads (Ok found) h = (reads, h)
+LooksUpIn-result answers size b t reads (Err e) h = h
 
-pub IsItemFound-result : (answers : List ℕ → Bool → Type 0) (accepts : List ℕ → Bool) (size : ℕ) (t : Tree) (reads : ℕ) (r : Result (Option JsonbItem) Error)
-    → IsOkAnd r (λ found. LooksUp answers size t (option_map shown found) reads) → AnswersBy accepts answers size → IsOkAnd r (λ found. IsItemFound (find accepts size t) (option_map shown found))
-IsItemFound-result answers accepts size t reads (Ok found) h by = item_found answers accepts size t (option_map shown found) reads by h
-IsItemFound-result answers accepts size t reads (Err e) h by = h
+pub IsItemFound-result : (answers : List ℕ → Bool → Type 0) (accepts : List ℕ → Bool) (size : ℕ) (b : List ℕ) (t : Tree) (reads : ℕ) (r : Result (Option JsonbItem) Error)
+    → IsOkAnd r (λ found. LooksUp answers size b t (option_map shown found) reads) → AnswersBy accepts answers size → IsOkAnd r (λ found. IsItemFound (find accepts size t) (option_map shown found))
+IsItemFound-result answers accepts size b t reads (Ok found) h by = item_found answers accepts size b t (option_map shown found) reads by h
+IsItemFound-result answers accepts size b t reads (Err e) h by = h
+
+pub IsFoundIn-result : (answers : List ℕ → Bool → Type 0) (accepts : List ℕ → Bool) (size : ℕ) (b : List ℕ) (t : Tree) (reads : ℕ) (r : Result (Option JsonbItem) Error) → Doc b t
+    → IsOkAnd r (λ found. LooksUp answers size b t (option_map shown found) reads) → AnswersBy accepts answers size → IsOkAnd r (λ found. IsFoundIn accepts size b t (option_map shown found))
+IsFoundIn-result answers accepts size b t reads (Ok found) doc h by = found_standing answers accepts size by b t (option_map shown found) reads doc h
+IsFoundIn-result answers accepts size b t reads (Err e) doc h by = h

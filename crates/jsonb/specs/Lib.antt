@@ -16,6 +16,7 @@ pub mod Lookup
 pub mod Parts
 pub mod Stored
 pub mod Building
+pub mod Standing
 pub mod Children
 pub mod Built
 pub mod Meant

@@ -1,21 +1,15 @@
 -- The entries of an object by their numbers, the n keys' and then the n values', and their payloads, on any bytes.
-use Rattle.std.specs.Prelude.{◌≡◌, ℕ, zero, suc, ◌+◌, ◌*◌, ◌<◌, ◌≤◌, Bool, true, false, List, length, take, drop, Result, Ok, Err}
+use Rattle.std.specs.Prelude.{◌≡◌, ℕ, zero, suc, ◌+◌, ◌*◌, ◌<◌, ◌≤◌, ◌==◌, if◌then◌else◌, Bool, true, false, List, length, Option, Some, None, IfSome, Result, Ok, Err, IsOkAnd}
 use Rattle.jsonb_value.specs.declared.error.Error.{Error}
 use Rattle.jsonb_codec.specs.declared.jentry.JEntry.{JEntry}
 use Rattle.jsonb_codec.specs.JEntry.{jentry_at}
+use Rattle.jsonb.specs.Item.{Entry, entry_at, part_at}
+use Rattle.jsonb.specs.Steps.{◌>>=◌}
 
 -- the length that an entry tells, none where it is cut
 abbrev pub length_in : Result JEntry Error → ℕ
 length_in (Ok entry) = entry.length
 length_in (Err e) = 0
-
--- and its type
-abbrev pub type_in : Result JEntry Error → ℕ
-type_in (Ok entry) = entry.type_code
-type_in (Err e) = 0
-
-unfoldable pub part_type : List ℕ → ℕ → ℕ
-part_type bytes part = type_in (jentry_at bytes (4 + 4 * part))
 
 unfoldable pub part_length : List ℕ → ℕ → ℕ
 part_length bytes part = length_in (jentry_at bytes (4 + 4 * part))
@@ -29,34 +23,49 @@ length_before bytes (suc part) = length_before bytes part + part_length bytes pa
 abbrev pub part_start : List ℕ → ℕ → ℕ → ℕ
 part_start bytes n part = 4 + 8 * n + length_before bytes part
 
--- a payload
-abbrev pub part_of : List ℕ → ℕ → ℕ → List ℕ
-part_of bytes n part = take (part_length bytes part) (drop (part_start bytes n part) bytes)
-
 -- All entries and all payloads are there.
 pub record HasParts (bytes : List ℕ) (n : ℕ) : Type 0 where
   pub all : part_start bytes n (2 * n) ≤ length bytes
 
--- No key before this one was accepted.
-abbrev pub NoneBefore : (List ℕ → Bool → Type 0) → ℕ → List ℕ → ℕ → ℕ → Type 0
-NoneBefore answers size bytes n pair = (k : ℕ) → k < pair → part_length bytes k ≡ size → answers (part_of bytes n k) false
+-- the key with this number, where it has the size
+unfoldable pub key_of_size : ℕ → List ℕ → ℕ → ℕ → Result (Option (List ℕ)) Error
+key_of_size size bytes n pair = do
+  jentry ← jentry_at bytes (4 + 4 * pair)
+  if jentry.length == size then (part_at bytes (part_start bytes n pair) size >>= λ key. Ok (Some key)) else Ok None
 
--- This key was accepted, and none before it.
+-- the entry of the value with this number
+abbrev pub value_entry : List ℕ → ℕ → ℕ → Result Entry Error
+value_entry bytes n pair = entry_at bytes (4 + 4 * (n + pair)) (part_start bytes n (n + pair))
+
+-- The key with this number can be read, and it has another length or is not accepted.
+abbrev pub IsPassedAt : (List ℕ → Bool → Type 0) → ℕ → List ℕ → ℕ → ℕ → Type 0
+IsPassedAt answers size bytes n pair = IsOkAnd (key_of_size size bytes n pair) (λ asked. IfSome asked (λ key. answers key false))
+
+-- So are all keys before this one.
+abbrev pub PassedBefore : (List ℕ → Bool → Type 0) → ℕ → List ℕ → ℕ → ℕ → Type 0
+PassedBefore answers size bytes n pair = (k : ℕ) → k < pair → IsPassedAt answers size bytes n k
+
+-- This key is the first that is accepted.
 pub record IsAccepted (answers : List ℕ → Bool → Type 0) (size : ℕ) (bytes : List ℕ) (n pair : ℕ) : Type 0 where
   pub among : pair < n
-  pub fits : part_length bytes pair ≡ size
-  pub accepted : answers (part_of bytes n pair) true
-  pub earlier : NoneBefore answers size bytes n pair
+  pub key : List ℕ
+  pub there : key_of_size size bytes n pair ≡ Ok (Some key)
+  pub accepted : answers key true
+  pub earlier : PassedBefore answers size bytes n pair
 
 -- No key is accepted. Read was each key's entry.
 pub record IsNoneFound (answers : List ℕ → Bool → Type 0) (size : ℕ) (bytes : List ℕ) (n reads : ℕ) : Type 0 where
-  pub none : NoneBefore answers size bytes n n
+  pub none : PassedBefore answers size bytes n n
   pub cost : reads ≡ n
 
--- The type and the payload of the entry are those of the accepted key's value. Read were each key's entry, and the values' up to this one.
-pub record IsValueFound (answers : List ℕ → Bool → Type 0) (size : ℕ) (bytes : List ℕ) (n type : ℕ) (payload : List ℕ) (reads : ℕ) : Type 0 where
+-- The entry is that of the accepted key's value. Read were each key's entry, and the values' up to this one.
+pub record IsValueFound (answers : List ℕ → Bool → Type 0) (size : ℕ) (bytes : List ℕ) (n : ℕ) (entry : Entry) (reads : ℕ) : Type 0 where
   pub pair : ℕ
   pub key : IsAccepted answers size bytes n pair
-  pub type_is : type ≡ part_type bytes (n + pair)
-  pub payload_is : payload ≡ part_of bytes n (n + pair)
+  pub there : value_entry bytes n pair ≡ Ok entry
   pub cost : reads ≡ n + pair + 1
+
+-- By this error the first key that is not passed over cannot be read, or the accepted key's value.
+pub data IsUnreadable (answers : List ℕ → Bool → Type 0) (size : ℕ) (bytes : List ℕ) (n : ℕ) (e : Error) : Type 0 where
+  key_unread : (pair : ℕ) → pair < n → PassedBefore answers size bytes n pair → key_of_size size bytes n pair ≡ Err e → IsUnreadable answers size bytes n e
+  value_unread : (pair : ℕ) → IsAccepted answers size bytes n pair → value_entry bytes n pair ≡ Err e → IsUnreadable answers size bytes n e

@@ -1,16 +1,18 @@
 -- What items and iterators give on a document.
-use Rattle.std.specs.Prelude.{◌≡◌, ◌≢◌, ◌⊎◌, ◌<◌, ◌^◌, ℕ, List, [], ◌∷◌, length, Option, None, IsSomeAnd, Result, Ok, Err, IsOkAnd}
+use Rattle.std.specs.Prelude.{◌≡◌, ◌≢◌, ◌⊎◌, ◌<◌, ◌^◌, ℕ, List, [], ◌∷◌, length, map, Option, None, IsSomeAnd, Result, Ok, Err, IsOkAnd}
+use Rattle.std.specs.Map.{values_of}
 use Rattle.jsonb_value.specs.declared.error.Error.{Error}
 use Rattle.jsonb_value.specs.Tree.{Tree, array, object, Trees, no_trees, tree, Pairs, no_pairs, pair, count, pair_count}
 use Rattle.jsonb_codec.specs.declared.constants.TheConstants.{CONTAINER_TAG}
 use Rattle.jsonb_codec.specs.Doc.{Payload, type_of}
 use Rattle.jsonb.specs.Shown.{Shown}
 use Rattle.jsonb.specs.Shown as items
-use Rattle.jsonb.specs.Item.{item_of}
+use Rattle.jsonb.specs.Item.{Entry, item_of}
 use Rattle.jsonb.specs.Code.{Means, HasCode}
 use Rattle.jsonb.specs.Walk.{Walk}
+use Rattle.jsonb.specs.Standing.{HasItems, HasMembers, entry_item, member_item}
 
--- The item is that of an entry of the tree: of its type and a payload that means it. So it means the tree and is stored as that entry.
+-- The item is that of some entry of the tree: of its type and a payload that means it. So it means the tree and is stored as that entry.
 pub record IsItemOf (t : Tree) (x : Shown) : Type 0 where
   pub payload : List ℕ
   pub short : length payload < 2 ^ 28
@@ -72,3 +74,36 @@ WalksValues t r = r ≡ Ok None
 abbrev pub WalksPairs : Tree → Result (Option (Walk (List ℕ × Shown))) Error → Type 0
 WalksPairs (object ps) r = WalksOver (pair_count ps) (ShowsPairs ps) r
 WalksPairs t r = r ≡ Ok None
+
+-- The items are those of the array's entries, as they stand in the bytes.
+pub record ShowsItems (b : List ℕ) (ts : Trees) (xs : List (Result Shown Error)) : Type 0 where
+  pub entries : List Entry
+  pub stand : HasItems b ts entries
+  pub items : xs ≡ map entry_item entries
+
+-- They are those of the object's values,
+pub record ShowsValueItems (b : List ℕ) (ps : Pairs) (xs : List (Result Shown Error)) : Type 0 where
+  pub members : List (List ℕ × Entry)
+  pub stand : HasMembers b ps members
+  pub items : xs ≡ map entry_item (values_of members)
+
+-- or its keys with those of their values.
+pub record ShowsMembers (b : List ℕ) (ps : Pairs) (xs : List (Result (List ℕ × Shown) Error)) : Type 0 where
+  pub members : List (List ℕ × Entry)
+  pub stand : HasMembers b ps members
+  pub items : xs ≡ map member_item members
+
+-- So the iterators show what stands in the document: of an array,
+abbrev pub WalksItems : List ℕ → Tree → Result (Option (Walk Shown)) Error → Type 0
+WalksItems b (array ts) r = WalksOver (count ts) (ShowsItems b ts) r
+WalksItems b t r = r ≡ Ok None
+
+-- of an object's values,
+abbrev pub WalksValueItems : List ℕ → Tree → Result (Option (Walk Shown)) Error → Type 0
+WalksValueItems b (object ps) r = WalksOver (pair_count ps) (ShowsValueItems b ps) r
+WalksValueItems b t r = r ≡ Ok None
+
+-- and of its pairs.
+abbrev pub WalksMembers : List ℕ → Tree → Result (Option (Walk (List ℕ × Shown))) Error → Type 0
+WalksMembers b (object ps) r = WalksOver (pair_count ps) (ShowsMembers b ps) r
+WalksMembers b t r = r ≡ Ok None

@@ -1,6 +1,6 @@
 //! What a container holds, one after the other, where it stands.
 
-ghost use Rattle.std.specs.Prelude.{◌≡◌, ℕ, ◌+◌, ◌*◌, ◌^◌, ◌<◌, ◌≤◌, List, Ok, length, IfOk, IfErr, IfSome};
+ghost use Rattle.std.specs.Prelude.{◌≡◌, ℕ, ◌+◌, ◌*◌, ◌^◌, ◌<◌, ◌≤◌, List, [], Ok, length, IfOk, IfErr, IfSome};
 ghost use Rattle.std.specs.Iterator.{YieldsFirstBy, MakesProgress, item_count};
 ghost use Rattle.jsonb_codec.specs.declared.constants.TheConstants.{ARRAY_CONTAINER_TAG, OBJECT_CONTAINER_TAG};
 ghost use Rattle.jsonb.specs.Raw.{raw_bytes};
@@ -9,7 +9,7 @@ ghost use Rattle.jsonb.specs.Item.{item_at};
 ghost use Rattle.jsonb.specs.Walk.{Walk, length_at, items_from, count_under, key_at, pair_at, pairs_from, array_walk, keys_walk, values_walk, pairs_walk, payloads_end, IsBounded};
 ghost use Rattle.jsonb_value.specs.Tree.{Tree};
 ghost use Rattle.jsonb_codec.specs.Doc.{Doc};
-ghost use Rattle.jsonb.specs.Walked.{WalksArray, WalksKeys, WalksValues, WalksPairs};
+ghost use Rattle.jsonb.specs.Walked.{WalksArray, WalksKeys, WalksValues, WalksPairs, WalksItems, WalksValueItems, WalksMembers};
 
 use crate::entries::Entries;
 use crate::item::{JsonbItem, item_of_entry};
@@ -69,6 +69,7 @@ impl<'a> Items<'a> {
         ensures steps { YieldsFirstBy shown_item (λ it. it.rest) self.old result self.new }
         ensures goes { MakesProgress (λ _. Unit {0}) (item_count (λ it. it.rest)) self.old result self.new }
         ensures count { self.new.count ≡ self.old.count }
+        ensures ended { IfSome result (λ item. IfErr item (λ _. self.new.rest ≡ [])) }
     {
         if self.left == 0 {
             return None;
@@ -167,6 +168,9 @@ impl<'a> ArrayIterator<'a> {
 
         // On a document its items and no error; `None` for any other tree.
         ensures document { (t : Tree) → Doc (raw_bytes raw.entry) t → WalksArray t result }
+
+        // They are those of the entries that stand there, type and payload.
+        ensures entries { (t : Tree) → Doc (raw_bytes raw.entry) t → WalksItems (raw_bytes raw.entry) t result }
     {
         ArrayIterator::over(raw)
     }
@@ -202,6 +206,7 @@ impl<'a> Iterator for ArrayIterator<'a> {
         ensures steps { YieldsFirstBy shown_item (λ it. it.rest) self.old result self.new }
         ensures goes { MakesProgress (λ _. Unit {0}) (item_count (λ it. it.rest)) self.old result self.new }
         ensures count { self.new.count ≡ self.old.count }
+        ensures ended { IfSome result (λ item. IfErr item (λ _. self.new.rest ≡ [])) }
     {
         self.items.next()
     }
@@ -265,6 +270,7 @@ impl<'a> Iterator for ObjectKeyIterator<'a> {
         ensures steps { YieldsFirstBy shown_item (λ it. it.rest) self.old result self.new }
         ensures goes { MakesProgress (λ _. Unit {0}) (item_count (λ it. it.rest)) self.old result self.new }
         ensures count { self.new.count ≡ self.old.count }
+        ensures ended { IfSome result (λ item. IfErr item (λ _. self.new.rest ≡ [])) }
     {
         self.keys.next()
     }
@@ -294,6 +300,9 @@ impl<'a> ObjectValueIterator<'a> {
 
         // On a document its values and no error; `None` for any other tree.
         ensures document { (t : Tree) → Doc (raw_bytes raw.entry) t → WalksValues t result }
+
+        // They are those of the entries that stand there, type and payload.
+        ensures entries { (t : Tree) → Doc (raw_bytes raw.entry) t → WalksValueItems (raw_bytes raw.entry) t result }
     {
         ObjectValueIterator::over(raw)
     }
@@ -330,6 +339,7 @@ impl<'a> Iterator for ObjectValueIterator<'a> {
         ensures steps { YieldsFirstBy shown_item (λ it. it.rest) self.old result self.new }
         ensures goes { MakesProgress (λ _. Unit {0}) (item_count (λ it. it.rest)) self.old result self.new }
         ensures count { self.new.count ≡ self.old.count }
+        ensures ended { IfSome result (λ item. IfErr item (λ _. self.new.rest ≡ [])) }
     {
         self.values.next()
     }
@@ -434,6 +444,9 @@ impl<'a> ObjectIterator<'a> {
 
         // On a document its pairs and no error; `None` for any other tree.
         ensures document { (t : Tree) → Doc (raw_bytes raw.entry) t → WalksPairs t result }
+
+        // They are those of the entries that stand there, type and payload.
+        ensures entries { (t : Tree) → Doc (raw_bytes raw.entry) t → WalksMembers (raw_bytes raw.entry) t result }
     {
         ObjectIterator::over(raw)
     }
@@ -482,6 +495,7 @@ impl<'a> Iterator for ObjectIterator<'a> {
         ensures steps { YieldsFirstBy shown_pair (λ it. it.rest) self.old result self.new }
         ensures goes { MakesProgress (λ _. Unit {0}) (item_count (λ it. it.rest)) self.old result self.new }
         ensures count { self.new.count ≡ self.old.count }
+        ensures ended { IfSome result (λ item. IfErr item (λ _. self.new.rest ≡ [])) }
     {
         if self.pairs_left == 0 {
             return None;

@@ -1,6 +1,6 @@
 //! The value of a key, found in place with a counted number of reads.
 
-ghost use Rattle.std.specs.Prelude.{◌≡◌, ℕ, ◌+◌, ◌-◌, ◌*◌, ◌<◌, ◌≤◌, ◌↔◌, ◌^◌, Bool, List, length, take, drop, option_map, IfOk, IfErr, IfSome, IfNone, IsOk, IsOkAnd, OnOk};
+ghost use Rattle.std.specs.Prelude.{◌≡◌, ℕ, ◌+◌, ◌-◌, ◌*◌, ◌<◌, ◌≤◌, ◌↔◌, ◌^◌, Bool, List, length, option_map, Ok, Err, IfOk, IfErr, IfSome, IfNone, IsOk, IsErr, IsOkAnd, OnOk};
 ghost use Rattle.std.specs.Fn.{FnReturnsAtPair};
 ghost use Rattle.jsonb_value.specs.Tree.{Tree};
 ghost use Rattle.jsonb_codec.specs.declared.constants.TheConstants.{OBJECT_CONTAINER_TAG};
@@ -8,10 +8,12 @@ ghost use Rattle.jsonb_codec.specs.JEntry.{jentry_at};
 ghost use Rattle.jsonb_codec.specs.Doc.{Doc};
 ghost use Rattle.jsonb.specs.Raw.{raw_bytes};
 ghost use Rattle.jsonb.specs.Shown.{shown};
-ghost use Rattle.jsonb.specs.Item.{part_at, item_of};
+ghost use Rattle.jsonb.specs.Entries.{entry_of};
+ghost use Rattle.jsonb.specs.Item.{part_at};
 ghost use Rattle.jsonb.specs.Walk.{count_under};
-ghost use Rattle.jsonb.specs.Parts.{part_length, part_type, part_start, HasParts, NoneBefore, IsAccepted, IsNoneFound, IsValueFound};
-ghost use Rattle.jsonb.specs.Lookup.{header_count, IsRefusal, LooksUp, LooksUpIn, find, AnswersBy, IsItemFound};
+ghost use Rattle.jsonb.specs.Parts.{part_length, part_start, HasParts, PassedBefore, IsAccepted, IsNoneFound, IsValueFound, IsUnreadable};
+ghost use Rattle.jsonb.specs.Standing.{IsFoundIn};
+ghost use Rattle.jsonb.specs.Lookup.{header_count, IsRefusal, LooksUp, LooksUpIn, LooksUpBytes, LooksUpInBytes, shown_found, find, AnswersBy, IsItemFound};
 
 use crate::entries::Entry;
 use crate::item::{JsonbItem, item_of_entry};
@@ -43,13 +45,12 @@ fn count_pairs(bytes: &[u8], reads: &mut Reads) -> Result<Option<usize>, Error>
 
 // The entry of this number: those of the keys, and behind them those of the values.
 #[inline(always)]
-#[tactic(auto, unfolding(crate::specs::Parts::part_length, crate::specs::Parts::part_type))]
+#[tactic(auto, unfolding(crate::specs::Parts::part_length))]
 fn read_entry(bytes: &[u8], number: usize, reads: &mut Reads) -> Result<JEntry, Error>
     requires number { number < 2 ^ 30 }
     requires room { reads.old < u64.MAX }
     ensures value { result ≡ jentry_at bytes.now (4 + 4 * number) }
     ensures long { IfOk result (λ entry. entry.length ≡ part_length bytes.now number) }
-    ensures type_code { IfOk result (λ entry. entry.type_code ≡ part_type bytes.now number) }
     ensures short { IfOk result (λ entry. entry.length < 2 ^ 28) }
     ensures there { IsOk result ↔ (4 + 4 * number + 4 ≤ length bytes.now) }
     ensures cut { IfErr result (λ e. e ≡ Error.InvalidEOF) }
@@ -64,7 +65,9 @@ fn read_entry(bytes: &[u8], number: usize, reads: &mut Reads) -> Result<JEntry, 
 #[tactic(auto, unfolding(crate::specs::Item::part_at))]
 fn payload(bytes: &[u8], start: usize, size: usize) -> Result<&[u8], Error>
     requires { start + size < 2 ^ 64 }
-    ensures value { IfOk result (λ part. part.now ≡ take size (drop start bytes.now)) }
+    ensures value { IfOk result (λ part. part_at bytes.now start size ≡ Ok part.now) }
+    ensures fault { IfErr result (λ e. part_at bytes.now start size ≡ Err e) }
+    ensures long { IfOk result (λ part. length part.now ≡ size) }
     ensures there { IsOk result ↔ (start + size ≤ length bytes.now) }
     ensures past { IfErr result (λ e. e ≡ Error.InvalidJsonb) }
 {
@@ -95,13 +98,15 @@ fn accepted_key<F: Fn(&[u8], &[u8]) -> bool>(
     requires callable { (a b : _) → a.now ≡ name.now → length b.now ≡ length name.now → F.pre eq_func.now a b }
     requires room { reads.old + count < 2 ^ 64 }
     ensures none { IfOk result (λ answer. IfNone answer
-        (NoneBefore (λ key b. FnReturnsAtPair F.Fn eq_func.now name.now key b) (length name.now) bytes.now count count)) }
+        (PassedBefore (λ key b. FnReturnsAtPair F.Fn eq_func.now name.now key b) (length name.now) bytes.now count count)) }
     ensures some { IfOk result (λ answer. IfSome answer (λ accepted.
         IsAccepted (λ key b. FnReturnsAtPair F.Fn eq_func.now name.now key b) (length name.now) bytes.now count accepted.pair)) }
     ensures end { IfOk result (λ answer. IfSome answer (λ accepted. accepted.end ≡ part_start bytes.now count (accepted.pair + 1))) }
     ensures none_cost { IfOk result (λ answer. IfNone answer (reads.new ≡ reads.old + count)) }
     ensures some_cost { IfOk result (λ answer. IfSome answer (λ accepted. reads.new ≡ reads.old + accepted.pair + 1)) }
     ensures bound { (reads.old ≤ reads.new) × (reads.new ≤ reads.old + count) }
+    ensures unread { IfErr result
+        (IsUnreadable (λ key b. FnReturnsAtPair F.Fn eq_func.now name.now key b) (length name.now) bytes.now count) }
     ensures whole { HasParts bytes.now count → IsOk result }
     ensures refused { IfErr result IsRefusal }
 {
@@ -137,6 +142,8 @@ fn skip_parts(
     ensures cost { OnOk result (reads.new + from.pair + 1 ≡ reads.old + to) }
     ensures bound { (reads.old ≤ reads.new) × (reads.new + from.pair + 1 ≤ reads.old + to) }
     ensures whole { HasParts bytes.now count → to ≤ 2 * count → IsOk result }
+    ensures cut { IfErr result (λ e. e ≡ Error.InvalidEOF) }
+    ensures short { IsErr result → length bytes.now < 4 + 4 * to + 4 }
     ensures refused { IfErr result IsRefusal }
 {
     let mut place = from.end;
@@ -163,7 +170,9 @@ fn find_value<'a, F: Fn(&[u8], &[u8]) -> bool>(
         bytes.now count (reads.new - reads.old))) }
     ensures some { IfOk result (λ answer. IfSome answer (λ entry.
         IsValueFound (λ key b. FnReturnsAtPair F.Fn eq_func.now name.now key b) (length name.now)
-        bytes.now count entry.type_code entry.payload.now (reads.new - reads.old))) }
+        bytes.now count (entry_of entry) (reads.new - reads.old))) }
+    ensures unread { IfErr result
+        (IsUnreadable (λ key b. FnReturnsAtPair F.Fn eq_func.now name.now key b) (length name.now) bytes.now count) }
     ensures bound { (reads.old ≤ reads.new) × (reads.new ≤ reads.old + 2 * count) }
     ensures whole { HasParts bytes.now count → IsOk result }
     ensures refused { IfErr result IsRefusal }
@@ -203,10 +212,14 @@ impl<'a> RawJsonb<'a> {
         ensures bound { (reads.old ≤ reads.new) × (reads.new ≤ reads.old + (2 * header_count (raw_bytes self.now) + 1)) }
         ensures refused { IfErr result IsRefusal }
 
-        // On a document, by the closure's own contract.
+        // On any bytes, by the closure's own contract: which answer, and which error.
+        ensures bytes { LooksUpBytes (λ key b. FnReturnsAtPair F.Fn eq_func name.now key b)
+            (length name.now) (raw_bytes self.now) (shown_found result) (reads.new - reads.old) }
+
+        // On a document an answer, by the trees and the entries that stand there.
         ensures document { (t : Tree) → Doc (raw_bytes self.now) t
             → IsOkAnd result (λ found. LooksUp (λ key b. FnReturnsAtPair F.Fn eq_func name.now key b)
-            (length name.now) t (option_map shown found) (reads.new - reads.old)) }
+            (length name.now) (raw_bytes self.now) t (option_map shown found) (reads.new - reads.old)) }
     {
         let bytes = self.as_bytes();
         let Some(count) = count_pairs(bytes, reads)? else {
@@ -227,16 +240,27 @@ impl<'a> RawJsonb<'a> {
         requires callable { (a b : _) → a.now ≡ name.now → length b.now ≡ length name.now → F.pre eq_func a b }
         ensures refused { IfErr result IsRefusal }
 
-        // On a document, by the closure's own contract,
+        // On any bytes, by the closure's own contract: which answer, and which error.
+        ensures bytes { LooksUpInBytes (λ key b. FnReturnsAtPair F.Fn eq_func name.now key b)
+            (length name.now) (raw_bytes self.now) (shown_found result) }
+
+        // On a document an answer, by the trees and the entries that stand there;
         ensures document { (t : Tree) → Doc (raw_bytes self.now) t
             → IsOkAnd result (λ found. LooksUpIn (λ key b. FnReturnsAtPair F.Fn eq_func name.now key b)
-            (length name.now) t (option_map shown found)) }
+            (length name.now) (raw_bytes self.now) t (option_map shown found)) }
 
-        // and where the closure answers by one test, what that test finds.
+        // where the closure answers by one test, an item of what that test finds,
         ensures found { (accepts : List ℕ → Bool)
             → AnswersBy accepts (λ key b. FnReturnsAtPair F.Fn eq_func name.now key b) (length name.now)
             → (t : Tree) → Doc (raw_bytes self.now) t
             → IsOkAnd result (λ found. IsItemFound (find accepts (length name.now) t) (option_map shown found)) }
+
+        // and the item of the entry that stands there.
+        ensures entry { (accepts : List ℕ → Bool)
+            → AnswersBy accepts (λ key b. FnReturnsAtPair F.Fn eq_func name.now key b) (length name.now)
+            → (t : Tree) → Doc (raw_bytes self.now) t
+            → IsOkAnd result (λ found. IsFoundIn accepts (length name.now) (raw_bytes self.now) t
+            (option_map shown found)) }
     {
         let mut reads = Reads::new();
         self.get_object_value_by_key_name_counted(name, eq_func, &mut reads)

@@ -3,9 +3,10 @@ use Rattle.jsonb_value.specs.declared.error.Error.{Error}
 use Rattle.jsonb.specs.Raw.{raw_bytes}
 use Rattle.jsonb.specs.Shown.{Shown}
 use Rattle.jsonb.specs.Walk.{Walk, IsBounded}
-use Rattle.jsonb.specs.Walked.{WalksPairs}
+use Rattle.jsonb.specs.Walked.{WalksPairs, WalksMembers}
 use Rattle.jsonb.proofs.WalkLaws.{pairs_walk-bounded}
 use Rattle.jsonb.proofs.DocumentWalks.{pairs_walk-Doc}
+use Rattle.jsonb.proofs.StandingWalks.{members-Doc}
 use Rattle.jsonb.proofs.iterator.ObjectIterator.new.Goals as goal
 
 pub returns-clause-bounded : goal.returns-clause-bounded
@@ -14,3 +15,6 @@ returns-clause-bounded c =
 
 pub returns-clause-document : goal.returns-clause-document
 returns-clause-document c = λ t h. subst (WalksPairs t) (sym c.over.ensures) (pairs_walk-Doc (raw_bytes c.args.raw) t h)
+
+pub returns-clause-entries : goal.returns-clause-entries
+returns-clause-entries c = λ t h. subst (WalksMembers (raw_bytes c.args.raw) t) (sym c.over.ensures) (members-Doc (raw_bytes c.args.raw) t h)
