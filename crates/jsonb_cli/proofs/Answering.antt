@@ -1,6 +1,7 @@
 -- What the commands answer.
-use Rattle.std.proofs.Common.{◌≡◌, ◌⊎◌, ◌∷◌, ◌++◌, [], ℕ, List, map, append_assoc, sym, ◌∙◌, Option, Some, None, Result, Ok, Err, refl, inl, inr, ap, subst, chars, option_map}
-use Rattle.std.specs.Prelude.{IfErr, OnOk}
+use Rattle.std.proofs.Common.{◌≡◌, ◌⊎◌, ◌∷◌, ◌++◌, [], ℕ, Bool, List, length, map, append_assoc, sym, ◌∙◌, Option, Some, None, Result, Ok, Err, refl, inl, inr, ap, subst, chars, option_map}
+use Rattle.std.specs.Prelude.{IfErr, OnOk, nat_eq}
+use Rattle.std.specs.Cmp.Lexicographic.{pointwise}
 use Rattle.std.proofs.lemmas.List.{append-nil, map-append}
 use Rattle.hex.specs.Hex.{encode_lower}
 use Rattle.std.specs.Str.{IsUtf8}
@@ -22,6 +23,7 @@ use Rattle.jsonb.specs.Code.{stored}
 use Rattle.jsonb.specs.Lookup.{IsItemFound}
 use Rattle.jsonb.specs.declared.item.JsonbItem.{JsonbItem}
 use Rattle.jsonb.specs.Shown.{Shown, shown, owned}
+use Rattle.jsonb.specs.Standing.{IsFoundIn}
 use Rattle.jsonb.specs.Walked.{IsItemOf}
 use Rattle.jsonb_cli.specs.declared.answer.Answer.{Answer}
 use Rattle.jsonb_cli.specs.declared.answer.Refusal.{Refusal}
@@ -74,10 +76,10 @@ get_unnamed word key bytes e is_hex utf8 (inl is) none = inl (no_name bytes is_h
 get_unnamed word key bytes e is_hex utf8 (inr is) none = inr (ap said_of is)
 
 pub get_found : (word key bytes name : List ℕ) (t u : Tree) (x : Shown) (result : Result Answer Refusal) → IsHexOf bytes word → IsName name key → Doc bytes t
-    → value_of_key name t ≡ Some u → IsItemOf u x → OnOk result (outcome_line result ≡ ok_line (encode_lower (stored x)))
-    → IfErr result (λ refusal. refusal ≡ Call OutOfMemory) → IsReply (IsGetAnswer word) key (outcome_line result)
-get_found word key bytes name t u x (Ok answer) is_hex named means is item ok refused = inl (answers.found bytes name t u x is_hex named means is item ok)
-get_found word key bytes name t u x (Err refusal) is_hex named means is item ok refused = inr (ap (λ r. error_line (refusal_name r)) refused)
+    → value_of_key name t ≡ Some u → IsItemOf u x → IsFoundIn (pointwise nat_eq name) (length name) bytes t (Some x)
+    → OnOk result (outcome_line result ≡ ok_line (encode_lower (stored x))) → IfErr result (λ refusal. refusal ≡ Call OutOfMemory) → IsReply (IsGetAnswer word) key (outcome_line result)
+get_found word key bytes name t u x (Ok answer) is_hex named means is item stands ok refused = inl (answers.found bytes name t u x is_hex named means is item stands ok)
+get_found word key bytes name t u x (Err refusal) is_hex named means is item stands ok refused = inr (ap (λ r. error_line (refusal_name r)) refused)
 
 -- what a look-up has found is an item of a value
 item_shown : (value : Option Tree) (x : Shown) → IsItemFound value (Some x) → (u : Tree) × ((value ≡ Some u) × IsItemOf u x)
@@ -87,6 +89,12 @@ item_shown None x none = absurd none
 pub item_found : (value : Option Tree) (found : Option JsonbItem) (item : JsonbItem) → found ≡ Some item → IsItemFound value (option_map shown found)
     → (u : Tree) × ((value ≡ Some u) × IsItemOf u (shown item))
 item_found value found item is means = item_shown value (shown item) (subst (λ (o : Option JsonbItem). IsItemFound value (option_map shown o)) is means)
+
+-- and it stands there
+pub item_stands : (accepts : List ℕ → Bool) (size : ℕ) (bytes b : List ℕ) (t : Tree) (found : Option JsonbItem) (item : JsonbItem) → bytes ≡ b → found ≡ Some item
+    → IsFoundIn accepts size bytes t (option_map shown found) → IsFoundIn accepts size b t (Some (shown item))
+item_stands accepts size bytes b t found item same is stands =
+    subst (λ (x : List ℕ). IsFoundIn accepts size x t (Some (shown item))) same (subst (λ (o : Option JsonbItem). IsFoundIn accepts size bytes t (option_map shown o)) is stands)
 
 nothing_shown : (value : Option Tree) → IsItemFound value None → value ≡ None
 nothing_shown None none = refl

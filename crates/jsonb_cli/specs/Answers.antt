@@ -22,6 +22,7 @@ use Rattle.jsonb.specs.Kind.{kind}
 use Rattle.jsonb.specs.Lookup.{find}
 use Rattle.jsonb.specs.Meant.{meaning_of}
 use Rattle.jsonb.specs.Shown.{Shown, owned}
+use Rattle.jsonb.specs.Standing.{IsFoundIn}
 use Rattle.jsonb.specs.Walked.{IsItemOf}
 use Rattle.jsonb.specs.declared.item_type.JsonbItemType.{JsonbItemType}
 use Rattle.jsonb.specs.declared.item_type.JsonbItemType.TheVariants.{Null, Boolean, Number, String, Extension, Array, Object}
@@ -83,7 +84,7 @@ IsName name key = IsUtf8 key × Json (chars key) (trees.text name)
 abbrev pub value_of_key : List ℕ → Tree → Option Tree
 value_of_key name t = find (pointwise nat_eq name) (length name) t
 
--- The answer to `get`: the value of the key as a document of its own, with the payload that it has there, or why there is none.
+-- The answer to `get`: the value of the key as a document of its own, with the type and payload of the entry that stands there, or why there is none.
 pub data IsGetAnswer (word key answer : List ℕ) : Type 0 where
   bad_hex : ((bytes : List ℕ) → IsHexOf bytes word → ⊥) → answer ≡ error_line (codes "BadHex") → IsGetAnswer word key answer
   not_text : (bytes : List ℕ) → IsHexOf bytes word → (IsUtf8 key → ⊥) → answer ≡ error_line (name_of InvalidUtf8) → IsGetAnswer word key answer
@@ -94,7 +95,7 @@ pub data IsGetAnswer (word key answer : List ℕ) : Type 0 where
   none : (bytes name : List ℕ) (t : Tree) → IsHexOf bytes word → IsName name key → Doc bytes t → value_of_key name t ≡ None → answer ≡ ok_line (codes "none")
       → IsGetAnswer word key answer
   found : (bytes name : List ℕ) (t u : Tree) (x : Shown) → IsHexOf bytes word → IsName name key → Doc bytes t → value_of_key name t ≡ Some u → IsItemOf u x
-      → answer ≡ ok_line (encode_lower (stored x)) → IsGetAnswer word key answer
+      → IsFoundIn (pointwise nat_eq name) (length name) bytes t (Some x) → answer ≡ ok_line (encode_lower (stored x)) → IsGetAnswer word key answer
 
 -- the words for an order
 abbrev pub order_words : Ordering → List ℕ

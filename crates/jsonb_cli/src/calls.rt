@@ -12,6 +12,7 @@ ghost use Rattle.jsonb_value.specs.Value.{cow_bytes, tree_of};
 ghost use Rattle.jsonb_codec.specs.Doc.{Doc, IsDocument};
 ghost use Rattle.jsonb.specs.Code.{stored, CanBeStored};
 ghost use Rattle.jsonb.specs.Lookup.{find, IsItemFound};
+ghost use Rattle.jsonb.specs.Standing.{IsFoundIn};
 ghost use Rattle.jsonb.specs.Raw.{raw_bytes};
 ghost use Rattle.jsonb.specs.Shown.{shown, owned};
 ghost use Rattle.jsonb_cli.specs.AnswerLine.{answer_words, ok_line, outcome_line};
@@ -258,6 +259,9 @@ fn string_of<'a>(value: Value<'a>) -> Option<CowStr<'a>>
 fn value_named<'a>(bytes: &'a [u8], name: &str) -> Result<Option<JsonbItem<'a>>, Error>
     ensures found { (t : Tree) → Doc bytes.now t
         → IsOkAnd result (λ item. IsItemFound (find (pointwise nat_eq name.now) (length name.now) t)
+        (option_map shown item)) }
+    ensures entry { (t : Tree) → Doc bytes.now t
+        → IsOkAnd result (λ item. IsFoundIn (pointwise nat_eq name.now) (length name.now) bytes.now t
         (option_map shown item)) }
     ensures none { IfErr result (λ e. (e ≡ Error.InvalidJsonb) × (IsDocument bytes.now → ⊥)) }
     ensures some { IfOk result (λ item. IsDocument bytes.now) }

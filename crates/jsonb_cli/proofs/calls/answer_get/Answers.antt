@@ -7,7 +7,7 @@ use Rattle.jsonb_codec.specs.Doc.{Doc, IsDocument}
 use Rattle.jsonb.specs.Shown.{shown}
 use Rattle.jsonb.proofs.ItemLaws.{IsItemOf-CanBeStored}
 use Rattle.jsonb_cli.specs.Answers.{not_text, no_document, none, IsName}
-use Rattle.jsonb_cli.proofs.Answering.{get_unnamed, get_found, item_found, nothing_found, said_of, cow_str_bytes-cow_bytes}
+use Rattle.jsonb_cli.proofs.Answering.{get_unnamed, get_found, item_found, item_stands, nothing_found, said_of, cow_str_bytes-cow_bytes}
 use Rattle.jsonb_cli.proofs.calls.answer_get.Goals as goal
 
 pub returns-in_default : goal.returns-in_default
@@ -30,8 +30,9 @@ returns-in-Ok-Some c =
     (c.in-Ok.ensures.cases.1, subst (λ s. Json (chars s) (text name)) same (subst (λ n. Json (chars c.in-Ok.json.now) (text n)) is_name c.in-Ok-parse_name.ensures.ok)) in
     let (t, means) = c.in-Ok-Some.ensures.some in
     let (u, (is, item)) = item_found _ c.in-Ok-Some.field-0 c.in-Ok-Some.item c.in-Ok-Some.field-0-is (c.in-Ok-Some.ensures.found t means) in
+    let stands = item_stands _ _ _ _ t c.in-Ok-Some.field-0 c.in-Ok-Some.item c.deref.ensures.value c.in-Ok-Some.field-0-is (c.in-Ok-Some.ensures.entry t means) in
     get_found c.args.word.now c.args.key.now c.in_ok-bytes.bytes.items name t u (shown c.in-Ok-Some.item) c.stored_answer.result c.in_ok-bytes.ensures.ok named
-    (subst (λ b. Doc b t) c.deref.ensures.value means) is item c.stored_answer.ensures.ok
+    (subst (λ b. Doc b t) c.deref.ensures.value means) is item stands c.stored_answer.ensures.ok
     (c.stored_answer.ensures.memory (IsItemOf-CanBeStored u (shown c.in-Ok-Some.item) item))
 
 pub returns-in-Ok-None : goal.returns-in-Ok-None
