@@ -1,13 +1,16 @@
 //! Documents whose bytes stand somewhere else.
 
-ghost use Rattle.std.specs.Prelude.{◌≡◌, ◌↔◌, length, IfOk, IfErr, IsTrue};
+ghost use Rattle.std.specs.Prelude.{◌≡◌, ◌↔◌, ◌⊎◌, length, IfOk, IfErr, IsTrue};
 ghost use Rattle.jsonb_value.specs.Tree.{Tree};
+ghost use Rattle.jsonb_value.specs.Value.{tree_of};
 ghost use Rattle.jsonb_codec.specs.Doc.{Doc, IsDocument};
 ghost use Rattle.jsonb_codec.specs.Depth.{IsDocumentWithin};
+ghost use Rattle.jsonb_codec.specs.Fault.{IsTreeFault};
 
 use crate::item_type::{JsonbItemType, kind_of};
 use crate::owned::OwnedJsonb;
-use jsonb_value::Error;
+use jsonb_codec::value_of;
+use jsonb_value::{Error, Value};
 use std::alloc::Global;
 
 /// Bytes that are read as a document where they stand. Any bytes can be given: a call tells what
@@ -56,6 +59,24 @@ impl<'a> RawJsonb<'a> {
         ensures memory { IfErr result (λ e. e ≡ Error.OutOfMemory) }
     {
         OwnedJsonb::from_bytes(alloc, self.as_bytes())
+    }
+
+    /// The value of the document, as `value_of` reads it. Its strings and extension data are
+    /// borrowed from the bytes.
+    ///
+    /// Where the bytes are no document, the error names the first fault of them, and no memory was
+    /// asked for: `InvalidEOF`, `InvalidJsonb`, `InvalidJsonbNumber`, `InvalidJsonbExtension` or
+    /// `InvalidUtf8`. `OutOfMemory` comes only where they are a document.
+    pub fn to_value(&self, alloc: Global) -> Result<Value<'a>, Error>
+        ensures ok { IfOk result (λ v. Doc (raw_bytes self.now) (tree_of v)) }
+        ensures one_tree { IfOk result
+            (λ v. (t : Tree) → Doc (raw_bytes self.now) t → tree_of v ≡ t) }
+        ensures fault { IfErr result (λ e. (e ≡ Error.OutOfMemory)
+            ⊎ (IsTreeFault e × (IsDocument (raw_bytes self.now) → ⊥))) }
+        ensures memory { IfErr result
+            (λ e. e ≡ Error.OutOfMemory → IsDocument (raw_bytes self.now)) }
+    {
+        value_of(alloc, self.as_bytes())
     }
 
     /// Whether the bytes are a document.
