@@ -26,7 +26,6 @@ ghost use Rattle.jsonb.specs.Lines.{pair_text, HasRoom};
 use crate::owned::OwnedJsonb;
 use crate::raw::RawJsonb;
 use bstr::ByteSlice;
-use jsonb_codec::Encoder;
 use jsonb_codec::constants::{
     CONTAINER_TAG, FALSE_TAG, NULL_TAG, NUMBER_TAG, STRING_TAG, TRUE_TAG,
 };
@@ -34,6 +33,7 @@ use jsonb_codec::parts::{
     Contents, Items, Members, Part, extension_in, number_in, split_child, split_contents,
     split_document, split_member, text_in,
 };
+use jsonb_codec::{Encoder, is_document};
 use jsonb_value::{Error, ExtensionValue, extension_text, parse_value, write_number, write_string};
 use std::alloc::Global;
 use std::fmt;
@@ -50,7 +50,7 @@ impl<'a> RawJsonb<'a> {
             → IfOk result (λ text. string_bytes text ≡ compact t) }
         ensures other { (IsDocument (raw_bytes self.now) → ⊥)
             → IfOk result (λ text. string_bytes text ≡ other_text (raw_bytes self.now)) }
-        ensures read_again { (t : Tree) → Doc (raw_bytes self.now) t → IsTree t → IsPlain t → Fits t
+        ensures read_again { (t : Tree) → Doc (raw_bytes self.now) t → IsPlain t → Fits t
             → IfOk result (λ text. MeansAgain (chars (string_bytes text)) t) }
         ensures short_text { IsUtf8 (raw_bytes self.now) → All (λ b. b ≢ 0) (raw_bytes self.now)
             → raw_bytes self.now ≢ [] → length (raw_bytes self.now) ≤ 4294967296
@@ -60,7 +60,7 @@ impl<'a> RawJsonb<'a> {
         // The text is about as long as the bytes.
         let text = String::with_capacity(alloc, self.len())?;
         let mut f = fmt::Formatter::new(text);
-        let answer = write_shown(*self, &mut f);
+        let answer = write_shown(self.as_bytes(), &mut f);
         written(answer, f)
     }
 
@@ -75,12 +75,12 @@ impl<'a> RawJsonb<'a> {
             → IfOk result (λ text. string_bytes text ≡ pretty t) }
         ensures other { (IsDocument (raw_bytes self.now) → ⊥)
             → IfOk result (λ text. string_bytes text ≡ codes "null") }
-        ensures read_again { (t : Tree) → Doc (raw_bytes self.now) t → IsTree t → IsPlain t → Fits t
+        ensures read_again { (t : Tree) → Doc (raw_bytes self.now) t → IsPlain t → Fits t
             → IfOk result (λ text. MeansAgain (chars (string_bytes text)) t) }
         ensures memory { IfErr result (λ e. e ≡ Error.OutOfMemory) }
     {
         let mut f = fmt::Formatter::new(String::new(alloc));
-        let answer = write_pretty(*self, &mut f);
+        let answer = write_pretty(self.as_bytes(), &mut f);
         written(answer, f)
     }
 }
@@ -123,7 +123,7 @@ impl fmt::Display for OwnedJsonb {
     ghost styled_output = { λ owned _. Some (shown_text (owned_bytes owned)) };
 
     fn fmt<W: fmt::Write>(&self, f: &mut fmt::Formatter<W>) -> fmt::Result {
-        write_shown(self.as_raw(), f)
+        write_shown(self.as_bytes(), f)
     }
 }
 
@@ -190,24 +190,27 @@ impl Layout {
 }
 
 // The text of any bytes.
-fn write_shown<W: fmt::Write>(raw: RawJsonb, f: &mut fmt::Formatter<W>) -> fmt::Result
-    ensures { WritesStyledOnOk W.write_str_gives f.old result (shown_text (raw_bytes raw.entry)) f.new }
+fn write_shown<W: fmt::Write>(bytes: &[u8], f: &mut fmt::Formatter<W>) -> fmt::Result
+    ensures text { WritesStyledOnOk W.write_str_gives f.old result (shown_text bytes.now) f.new }
+    ensures tree { (t : Tree) → Doc bytes.now t → IsTree t }
 {
-    if raw.is_document() {
-        write_document(raw, Layout::InOneLine, f)
-    } else if raw.is_empty() {
+    if is_document(bytes) {
+        write_document(bytes, Layout::InOneLine, f)
+    } else if bytes.is_empty() {
         f.write_str("null")
     } else {
-        write_lossy(raw.as_bytes(), f)
+        write_lossy(bytes, f)
     }
 }
 
 // The pretty text of a document, and `null` of all other bytes.
-fn write_pretty<W: fmt::Write>(raw: RawJsonb, f: &mut fmt::Formatter<W>) -> fmt::Result
-    ensures { WritesStyledOnOk W.write_str_gives f.old result (pretty_shown_text (raw_bytes raw.entry)) f.new }
+fn write_pretty<W: fmt::Write>(bytes: &[u8], f: &mut fmt::Formatter<W>) -> fmt::Result
+    ensures text { WritesStyledOnOk W.write_str_gives f.old result
+        (pretty_shown_text bytes.now) f.new }
+    ensures tree { (t : Tree) → Doc bytes.now t → IsTree t }
 {
-    if raw.is_document() {
-        write_document(raw, Layout::OnLines(0), f)
+    if is_document(bytes) {
+        write_document(bytes, Layout::OnLines(0), f)
     } else {
         f.write_str("null")
     }
@@ -225,16 +228,16 @@ fn write_lossy<W: fmt::Write>(bytes: &[u8], f: &mut fmt::Formatter<W>) -> fmt::R
 
 // The text of a document.
 fn write_document<W: fmt::Write>(
-    raw: RawJsonb,
+    bytes: &[u8],
     layout: Layout,
     f: &mut fmt::Formatter<W>,
 ) -> fmt::Result
-    requires document { IsDocument (raw_bytes raw) }
+    requires document { IsDocument bytes.now }
     requires room { (n : ℕ) → n < 2 ^ 64 → HasRoom (layout_of layout) n }
-    ensures { (t : Tree) → Doc (raw_bytes raw.entry) t
+    ensures { (t : Tree) → Doc bytes.now t
         → WritesStyledOnOk W.write_str_gives f.old result (laid_out (layout_of layout) t) f.new }
 {
-    let whole = split_document(raw.as_bytes());
+    let whole = split_document(bytes);
     write_part(whole.tag, whole.payload, layout, f)
 }
 

@@ -1,4 +1,4 @@
 use Rattle.jsonb.proofs.text.write_document.Goals as goal
 
 pub returns : goal.returns
-returns g c t doc = c.write_part.ensures t (c.split_document-whole.ensures.means t (rw c.as_bytes.ensures doc))
+returns g c t doc = c.write_part.ensures t (c.split_document-whole.ensures.means t doc)

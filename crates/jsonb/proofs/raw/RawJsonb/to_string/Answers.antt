@@ -1,12 +1,17 @@
+use Rattle.std.proofs.Common.{ℕ, List, ap, sym, subst}
 use Rattle.jsonb_value.specs.Text.{in_one_line}
+use Rattle.jsonb_codec.specs.Doc.{Doc}
 use Rattle.jsonb_codec.proofs.RereadLaws.{reread_text}
 use Rattle.jsonb.specs.Raw.{raw_bytes}
+use Rattle.jsonb.specs.Texts.{shown_text}
 use Rattle.jsonb.proofs.TextLaws.{shown_text-Doc, shown_text-other, string_written, prints_as, reads_again, other_text-short, short_text}
 use Rattle.jsonb.proofs.raw.RawJsonb.to_string.Goals as goal
 
 pub returns-clause-shown : goal.returns-clause-shown
 returns-clause-shown c =
-    string_written c.in_ok-text.text _ _ _ _ _ (c.write_shown-answer.ensures c.new-f.ensures.plain.flush) c.in_ok-text.ensures.bytes c.new-f.ensures.writer c.written.ensures.ok c.written.ensures.text
+    prints_as _ _ _
+    (string_written c.in_ok-text.text _ _ _ _ _ (c.write_shown-answer.ensures.text c.new-f.ensures.plain.flush) c.in_ok-text.ensures.bytes c.new-f.ensures.writer c.written.ensures.ok c.written.ensures.text)
+    (ap shown_text c.as_bytes.ensures)
 
 pub returns-clause-document : goal.returns-clause-document
 returns-clause-document c t doc = prints_as _ _ _ (returns-clause-shown c) (shown_text-Doc (raw_bytes c.args.self.now) t doc)
@@ -15,7 +20,9 @@ pub returns-clause-other : goal.returns-clause-other
 returns-clause-other c none = prints_as _ _ _ (returns-clause-shown c) (shown_text-other (raw_bytes c.args.self.now) none)
 
 pub returns-clause-read_again : goal.returns-clause-read_again
-returns-clause-read_again c t doc tree plain fits = reads_again _ _ t (returns-clause-document c t doc) (reread_text in_one_line t tree plain fits)
+returns-clause-read_again c t doc plain fits =
+    let again = subst (λ (b : List ℕ). Doc b t) (sym c.as_bytes.ensures) doc in
+    reads_again _ _ t (returns-clause-document c t doc) (reread_text in_one_line t (c.write_shown-answer.ensures.tree t again) plain fits)
 
 pub returns-clause-short_text : goal.returns-clause-short_text
 returns-clause-short_text c utf8 zeros some short =
