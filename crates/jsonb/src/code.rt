@@ -20,7 +20,7 @@ use jsonb_value::{Error, ExtensionValue, Number};
 use std::alloc::Global;
 
 /// A payload: bytes that stand somewhere, or a value that is yet to be written.
-#[derive(Clone, Copy, Debug)]
+#[derive(Clone, Copy)]
 pub enum Payload<'a> {
     Bytes(&'a [u8]),
     Number(Number),
@@ -62,7 +62,7 @@ impl Payload<'_> {
 }
 
 /// With what a value is stored: the type of its entry, and its payload.
-#[derive(Clone, Copy, Debug)]
+#[derive(Clone, Copy)]
 pub struct Code<'a> {
     pub type_code: u32,
     pub payload: Payload<'a>,

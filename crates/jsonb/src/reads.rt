@@ -8,7 +8,7 @@ use jsonb_value::Error;
 use std::marker::Model;
 
 /// A tally of the words that were read. Only `word` raises it.
-#[derive(Debug, Drop)]
+#[derive(Drop)]
 pub struct Reads {
     count: u64,
 }
