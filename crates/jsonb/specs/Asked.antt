@@ -1,17 +1,41 @@
 -- What the same questions have for answers of a tree.
-use Rattle.std.specs.Prelude.{◌≡◌, ℕ, List, length, nat_eq, is_some, Some, string_bytes}
+use Rattle.std.specs.Prelude.{◌≡◌, ℕ, List, length, map, nat_eq, Option, None, Some, option_map, Result, Ok, string_bytes}
+use Rattle.std.specs.Borrow.{Bor}
 use Rattle.std.specs.Cmp.Lexicographic.{pointwise}
+use Rattle.jsonb_value.specs.declared.error.Error.{Error}
 use Rattle.jsonb_value.specs.Text.{compact, pretty}
 use Rattle.jsonb_value.specs.Tree.{Tree}
 use Rattle.jsonb_value.specs.TreeOrder.{tree_cmp}
+use Rattle.jsonb_codec.specs.Doc.{Doc, IsDocument}
 use Rattle.jsonb.specs.declared.composition.Asked.{Asked}
+use Rattle.jsonb.specs.declared.item.JsonbItem.{JsonbItem}
 use Rattle.jsonb.specs.Kind.{kind_of_tree}
-use Rattle.jsonb.specs.Lookup.{find}
+use Rattle.jsonb.specs.Lookup.{find, IsItemFound}
+use Rattle.jsonb.specs.Shown.{Shown, shown, shown_pair}
+use Rattle.jsonb.specs.Walk.{Walk}
+use Rattle.jsonb.specs.Walked.{WalksArray, WalksKeys, WalksValues, WalksPairs}
 
--- Each answer is that of the tree: its kind, its texts, its order beside itself, and whether a key is the name.
-pub record AnswersOf (t : Tree) (name : List ℕ) (asked : Asked) : Type 0 where
+-- the iterator that has given all this, and no error
+abbrev pub walk_of : {A : Type 0} → List (Result A Error) → Walk A
+walk_of xs = record { count = length xs; rest = xs }
+
+-- what was taken of an iterator over items, if there was one, and of one over pairs
+abbrev pub walked_items : Option (List JsonbItem) → Result (Option (Walk Shown)) Error
+walked_items items = Ok (option_map (λ xs. walk_of (map (λ x. Ok (shown x)) xs)) items)
+
+abbrev pub walked_pairs : Option (List (Bor (List ℕ) × JsonbItem)) → Result (Option (Walk (List ℕ × Shown))) Error
+walked_pairs pairs = Ok (option_map (λ xs. walk_of (map (λ x. shown_pair (Ok x)) xs)) pairs)
+
+-- Each answer is that of the tree: its kind, its texts, its order beside the other bytes, its children in order, each as its item, and the item of the value
+-- whose key is the name.
+pub record AnswersOf (t : Tree) (name other : List ℕ) (asked : Asked) : Type 0 where
   pub kind : asked.kind ≡ kind_of_tree t
   pub text : string_bytes asked.text ≡ compact t
   pub pretty_text : string_bytes asked.pretty ≡ pretty t
-  pub order : asked.order ≡ Some (tree_cmp t t)
-  pub has_key : asked.has_key ≡ is_some (find (pointwise nat_eq name) (length name) t)
+  pub order : (u : Tree) → Doc other u → asked.order ≡ Some (tree_cmp t u)
+  pub no_order : (IsDocument other → ⊥) → asked.order ≡ None
+  pub items : WalksArray t (walked_items (option_map (λ xs. xs.items) asked.items))
+  pub keys : WalksKeys t (walked_items (option_map (λ xs. xs.items) asked.keys))
+  pub values : WalksValues t (walked_items (option_map (λ xs. xs.items) asked.values))
+  pub pairs : WalksPairs t (walked_pairs (option_map (λ xs. xs.items) asked.pairs))
+  pub found : IsItemFound (find (pointwise nat_eq name) (length name) t) (option_map shown asked.found)

@@ -15,6 +15,7 @@ ghost use Rattle.jsonb.specs.Shown.{shown};
 use crate::item::JsonbItem;
 use crate::item_type::JsonbItemType;
 use crate::raw::RawJsonb;
+use crate::walks::{array_items, object_keys, object_pairs, object_values};
 use jsonb_codec::Encoder;
 use jsonb_value::{Error, Value};
 use std::alloc::Global;
@@ -22,46 +23,70 @@ use std::cmp::Ordering;
 
 /// What a document answers in place.
 #[derive(Drop)]
-pub struct Asked {
+pub struct Asked<'a> {
     /// Its kind, with the count of a container.
     pub kind: JsonbItemType,
     /// Its compact text.
     pub text: String,
     /// Its pretty text.
     pub pretty: String,
-    /// Its order beside itself.
+    /// Its order beside the other document, where that is one.
     pub order: Option<Ordering>,
-    /// Whether a key of the name is there.
-    pub has_key: bool,
+    /// The items of an array, in order.
+    pub items: Option<Vec<JsonbItem<'a>>>,
+    /// The keys of an object, in order.
+    pub keys: Option<Vec<JsonbItem<'a>>>,
+    /// The values of an object, in the order of their keys.
+    pub values: Option<Vec<JsonbItem<'a>>>,
+    /// The keys of an object with their values, in order.
+    pub pairs: Option<Vec<(&'a str, JsonbItem<'a>)>>,
+    /// The value of the key that is the name.
+    pub found: Option<JsonbItem<'a>>,
 }
 
-/// Encodes a value and asks its document: every answer is that of the value's tree with its zeros
-/// made one. `InvalidJsonb` where the value does not fit; else only memory can be refused.
-pub fn encode_and_ask(alloc: Global, value: &Value, name: &str) -> Result<Asked, Error>
-    ensures answers { IfOk result (AnswersOf (norm (tree_of value.now)) name.now) }
+/// Encodes a value into the buffer, in place of what it held, and asks the document that stands
+/// there: every answer is that of the value's tree with its zeros made one. `InvalidJsonb` where
+/// the value does not fit; else only memory can be refused.
+pub fn encode_and_ask<'a>(
+    alloc: Global,
+    value: &Value,
+    name: &str,
+    other: RawJsonb,
+    bytes: &'a mut Vec<u8>,
+) -> Result<Asked<'a>, Error>
+    ensures answers { IfOk result
+        (AnswersOf (norm (tree_of value.now)) name.now (raw_bytes other.entry)) }
     ensures past { result ≡ Err Error.InvalidJsonb → Fits (tree_of value.now) → ⊥ }
     ensures only { IfErr result (λ e. (e ≡ Error.InvalidJsonb) ⊎ (e ≡ Error.OutOfMemory)) }
 {
-    let mut bytes = Vec::new(alloc);
-    Encoder::new(&mut bytes).encode(value)?;
-    ask(alloc, RawJsonb::new(&bytes), name)
+    bytes.clear();
+    Encoder::new(bytes).encode(value)?;
+    ask(alloc, RawJsonb::new(bytes.as_slice()), name, other)
 }
 
-/// Asks a document: every answer is that of its tree, and only memory can be refused.
-pub fn ask(alloc: Global, raw: RawJsonb, name: &str) -> Result<Asked, Error>
+/// Asks a document, by one call of each kind, a name and another document: every answer is that of
+/// its tree, and only memory can be refused.
+pub fn ask<'a>(
+    alloc: Global,
+    raw: RawJsonb<'a>,
+    name: &str,
+    other: RawJsonb,
+) -> Result<Asked<'a>, Error>
     ensures answers { (t : Tree) → Doc (raw_bytes raw.entry) t
-        → IfOk result (AnswersOf t name.now) }
+        → IfOk result (AnswersOf t name.now (raw_bytes other.entry)) }
     ensures memory { (t : Tree) → Doc (raw_bytes raw.entry) t
         → IfErr result (λ e. e ≡ Error.OutOfMemory) }
 {
-    let kind = raw.jsonb_item_type()?;
-    let found = find_by_name(raw, name)?;
     Ok(Asked {
-        kind,
+        kind: raw.jsonb_item_type()?,
         text: raw.to_string(alloc)?,
         pretty: raw.to_pretty_string(alloc)?,
-        order: raw.try_cmp(&raw),
-        has_key: found.is_some(),
+        order: raw.try_cmp(&other),
+        items: array_items(alloc, raw)?,
+        keys: object_keys(alloc, raw)?,
+        values: object_values(alloc, raw)?,
+        pairs: object_pairs(alloc, raw)?,
+        found: find_by_name(raw, name)?,
     })
 }
 

@@ -1,11 +1,11 @@
 //! Whole walks, by the contracts of the iterators alone.
 
-ghost use Rattle.std.specs.Prelude.{◌≡◌, Ok, IfOk, IfErr, map};
-ghost use Rattle.jsonb_value.specs.Tree.{Trees, Pairs, array, object};
+ghost use Rattle.std.specs.Prelude.{◌≡◌, IfOk, IfErr, option_map};
+ghost use Rattle.jsonb_value.specs.Tree.{Tree};
 ghost use Rattle.jsonb_codec.specs.Doc.{Doc};
 ghost use Rattle.jsonb.specs.Raw.{raw_bytes};
-ghost use Rattle.jsonb.specs.Shown.{shown, shown_pair};
-ghost use Rattle.jsonb.specs.Walked.{ShowsTrees, shown_keys, ShowsValues, ShowsPairs};
+ghost use Rattle.jsonb.specs.Asked.{walked_items, walked_pairs};
+ghost use Rattle.jsonb.specs.Walked.{WalksArray, WalksKeys, WalksValues, WalksPairs};
 
 use crate::item::JsonbItem;
 use crate::iterator::{ArrayIterator, ObjectIterator, ObjectKeyIterator, ObjectValueIterator};
@@ -13,73 +13,82 @@ use crate::raw::RawJsonb;
 use jsonb_value::Error;
 use std::alloc::Global;
 
-/// The items of an array, and none of other bytes.
-pub fn array_items<'a>(alloc: Global, raw: RawJsonb<'a>) -> Result<Vec<JsonbItem<'a>>, Error>
-    ensures all { (ts : Trees) → Doc (raw_bytes raw.entry) (array ts)
-        → IfOk result (λ items. ShowsTrees ts (map (λ x. Ok (shown x)) items.items)) }
-    ensures memory { (ts : Trees) → Doc (raw_bytes raw.entry) (array ts)
+/// The items of an array, in order. `None` of a document of another kind.
+pub fn array_items<'a>(
+    alloc: Global,
+    raw: RawJsonb<'a>,
+) -> Result<Option<Vec<JsonbItem<'a>>>, Error>
+    ensures all { (t : Tree) → Doc (raw_bytes raw.entry) t
+        → IfOk result (λ o. WalksArray t (walked_items (option_map (λ xs. xs.items) o))) }
+    ensures memory { (t : Tree) → Doc (raw_bytes raw.entry) t
         → IfErr result (λ e. e ≡ Error.OutOfMemory) }
 {
-    let mut items = Vec::new(alloc);
     let Some(walk) = ArrayIterator::new(raw)? else {
-        return Ok(items);
+        return Ok(None);
     };
+    let mut items = Vec::new(alloc);
     for item in walk {
         items.push(item?)?;
     }
-    Ok(items)
+    Ok(Some(items))
 }
 
-/// The keys of an object, and none of other bytes.
-pub fn object_keys<'a>(alloc: Global, raw: RawJsonb<'a>) -> Result<Vec<JsonbItem<'a>>, Error>
-    ensures all { (ps : Pairs) → Doc (raw_bytes raw.entry) (object ps)
-        → IfOk result (λ keys. map (λ x. Ok (shown x)) keys.items ≡ shown_keys ps) }
-    ensures memory { (ps : Pairs) → Doc (raw_bytes raw.entry) (object ps)
+/// The keys of an object, in order. `None` of a document of another kind.
+pub fn object_keys<'a>(
+    alloc: Global,
+    raw: RawJsonb<'a>,
+) -> Result<Option<Vec<JsonbItem<'a>>>, Error>
+    ensures all { (t : Tree) → Doc (raw_bytes raw.entry) t
+        → IfOk result (λ o. WalksKeys t (walked_items (option_map (λ xs. xs.items) o))) }
+    ensures memory { (t : Tree) → Doc (raw_bytes raw.entry) t
         → IfErr result (λ e. e ≡ Error.OutOfMemory) }
 {
-    let mut items = Vec::new(alloc);
     let Some(walk) = ObjectKeyIterator::new(raw)? else {
-        return Ok(items);
+        return Ok(None);
     };
-    for item in walk {
-        items.push(item?)?;
+    let mut keys = Vec::new(alloc);
+    for key in walk {
+        keys.push(key?)?;
     }
-    Ok(items)
+    Ok(Some(keys))
 }
 
-/// The values of an object, and none of other bytes.
-pub fn object_values<'a>(alloc: Global, raw: RawJsonb<'a>) -> Result<Vec<JsonbItem<'a>>, Error>
-    ensures all { (ps : Pairs) → Doc (raw_bytes raw.entry) (object ps)
-        → IfOk result (λ values. ShowsValues ps (map (λ x. Ok (shown x)) values.items)) }
-    ensures memory { (ps : Pairs) → Doc (raw_bytes raw.entry) (object ps)
+/// The values of an object, in the order of their keys. `None` of a document of another kind.
+pub fn object_values<'a>(
+    alloc: Global,
+    raw: RawJsonb<'a>,
+) -> Result<Option<Vec<JsonbItem<'a>>>, Error>
+    ensures all { (t : Tree) → Doc (raw_bytes raw.entry) t
+        → IfOk result (λ o. WalksValues t (walked_items (option_map (λ xs. xs.items) o))) }
+    ensures memory { (t : Tree) → Doc (raw_bytes raw.entry) t
         → IfErr result (λ e. e ≡ Error.OutOfMemory) }
 {
-    let mut items = Vec::new(alloc);
     let Some(walk) = ObjectValueIterator::new(raw)? else {
-        return Ok(items);
+        return Ok(None);
     };
-    for item in walk {
-        items.push(item?)?;
+    let mut values = Vec::new(alloc);
+    for value in walk {
+        values.push(value?)?;
     }
-    Ok(items)
+    Ok(Some(values))
 }
 
-/// The pairs of an object, and none of other bytes.
+/// The keys of an object with their values, in order. `None` of a document of another kind.
 pub fn object_pairs<'a>(
     alloc: Global,
     raw: RawJsonb<'a>,
-) -> Result<Vec<(&'a str, JsonbItem<'a>)>, Error>
-    ensures all { (ps : Pairs) → Doc (raw_bytes raw.entry) (object ps)
-        → IfOk result (λ pairs. ShowsPairs ps (map (λ x. shown_pair (Ok x)) pairs.items)) }
-    ensures memory { (ps : Pairs) → Doc (raw_bytes raw.entry) (object ps)
+) -> Result<Option<Vec<(&'a str, JsonbItem<'a>)>>, Error>
+    ensures all { (t : Tree) → Doc (raw_bytes raw.entry) t
+        → IfOk result (λ o. WalksPairs t (walked_pairs (option_map (λ xs. xs.items) o))) }
+    ensures memory { (t : Tree) → Doc (raw_bytes raw.entry) t
         → IfErr result (λ e. e ≡ Error.OutOfMemory) }
 {
-    let mut pairs = Vec::new(alloc);
     let Some(walk) = ObjectIterator::new(raw)? else {
-        return Ok(pairs);
+        return Ok(None);
     };
+    let mut pairs = Vec::new(alloc);
     for pair in walk {
         pairs.push(pair?)?;
     }
-    Ok(pairs)
+    Ok(Some(pairs))
 }

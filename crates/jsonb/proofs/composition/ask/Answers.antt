@@ -1,26 +1,31 @@
-use Rattle.std.proofs.Common.{◌≡◌, Option, Some, None, is_some, option_map, refl, ◌∙◌}
-use Rattle.jsonb_value.specs.Tree.{Tree}
-use Rattle.jsonb.specs.declared.item.JsonbItem.{JsonbItem}
+use Rattle.std.proofs.Common.{rules, ◌≡◌, inr}
 use Rattle.jsonb.specs.Kind.{kind_of_tree}
-use Rattle.jsonb.specs.Lookup.{IsItemFound}
-use Rattle.jsonb.specs.Shown.{shown}
 use Rattle.jsonb.proofs.composition.ask.Goals as goal
-
--- an item is found exactly where there is a value
-is_some-found : (value : Option Tree) (found : Option JsonbItem) → IsItemFound value (option_map shown found) → is_some found ≡ is_some value
-is_some-found (Some t) (Some x) item = refl
-is_some-found (Some t) None item = absurd item
-is_some-found None (Some x) item = absurd item
-is_some-found None None item = refl
 
 pub returns-clause-answers : goal.returns-clause-answers
 returns-clause-answers c = λ t means.
-    let kind : c.in_ok-kind.kind ≡ kind_of_tree t = let is = c.in_ok-kind.ensures.document t means in cc in
-    let found = c.in_ok-found.ensures t means in
+    let kind : c.in_ok-jsonb_item_type.field-0 ≡ kind_of_tree t = let is = c.in_ok-jsonb_item_type.ensures.document t means in cc in
     record {
       kind = kind;
       text = c.in_ok-to_string.ensures.document t means;
       pretty_text = c.in_ok-to_pretty_string.ensures.document t means;
-      order = c.try_cmp.ensures.order t t means means;
-      has_key = c.is_some.ensures ∙ is_some-found _ c.in_ok-found.found found;
+      order = λ u. c.try_cmp.ensures.order t u means;
+      no_order = λ none. c.try_cmp.ensures.none.1 (inr none);
+      items = c.in_ok-array_items.ensures.all t means;
+      keys = c.in_ok-object_keys.ensures.all t means;
+      values = c.in_ok-object_values.ensures.all t means;
+      pairs = c.in_ok-object_pairs.ensures.all t means;
+      found = c.in_ok-find_by_name.ensures t means;
     }
+
+pub returns-in_err-object_keys-clause-memory : goal.returns-in_err-object_keys-clause-memory
+returns-in_err-object_keys-clause-memory c = λ t h. let known = c.in_err-object_keys.ensures.memory t h in search rules
+
+pub returns-in_err-object_values-clause-memory : goal.returns-in_err-object_values-clause-memory
+returns-in_err-object_values-clause-memory c = λ t h. let known = c.in_err-object_values.ensures.memory t h in search rules
+
+pub returns-in_err-object_pairs-clause-memory : goal.returns-in_err-object_pairs-clause-memory
+returns-in_err-object_pairs-clause-memory c = λ t h. let known = c.in_err-object_pairs.ensures.memory t h in search rules
+
+pub returns-in_err-find_by_name-clause-memory : goal.returns-in_err-find_by_name-clause-memory
+returns-in_err-find_by_name-clause-memory c = λ t h. absurd (c.in_err-find_by_name.ensures t h)

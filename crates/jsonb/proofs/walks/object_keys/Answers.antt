@@ -1,19 +1,11 @@
-use Rattle.std.proofs.Common.{◌≡◌}
-use Rattle.jsonb_value.specs.Tree.{object, pair_count}
-use Rattle.jsonb.specs.Walked.{shown_keys}
-use Rattle.jsonb.proofs.WholeWalks.{whole_walk, no_walk, no_error, shown_keys-error}
+use Rattle.jsonb.specs.Walked.{WalksKeys}
+use Rattle.jsonb.proofs.WholeWalks.{whole_walk, no_error, WalksKeys-count, WalksKeys-error}
 use Rattle.jsonb.proofs.walks.object_keys.Goals as goal
 
-pub returns-in_default-clause-all : goal.returns-in_default-clause-all
-returns-in_default-clause-all c = λ ps h. absurd (no_walk _ _ (c.in_ok-walk.ensures.document (object ps) h) c.in_default.is)
-
 pub returns-clause-all : goal.returns-clause-all
-returns-clause-all c = λ ps h.
-    whole_walk (λ xs. xs ≡ shown_keys ps) (pair_count ps) _ _ _ _ _ (c.in_ok-walk.ensures.document (object ps) h) c.in-Some.is c.into_iter-item-iterator.ensures.into_iter_gives c.loop-item.invariant c.in-None.ensures.steps.0
+returns-clause-all c = λ t h.
+    whole_walk (WalksKeys t) (WalksKeys-count t) _ _ _ _ _ (c.in_ok-walk.ensures.document t h) c.in-Some.is c.into_iter-key-iterator.ensures.into_iter_gives c.loop-key.invariant c.in-None.ensures.steps.0
 
-pub returns-in_err-walk-clause-memory : goal.returns-in_err-walk-clause-memory
-returns-in_err-walk-clause-memory c = λ ps h. absurd (c.in_err-walk.ensures.document (object ps) h)
-
-pub returns-in_err-item-clause-memory : goal.returns-in_err-item-clause-memory
-returns-in_err-item-clause-memory c = λ ps h.
-    absurd (no_error (λ xs. xs ≡ shown_keys ps) (pair_count ps) _ _ _ _ _ _ _ (shown_keys-error ps _ _ _) (c.in_ok-walk.ensures.document (object ps) h) c.in-Some.is c.into_iter-item-iterator.ensures.into_iter_gives c.loop-item.invariant (rw c.in_err-item.was at c.in-Some-item.ensures.steps))
+pub returns-in_err-key-clause-memory : goal.returns-in_err-key-clause-memory
+returns-in_err-key-clause-memory c = λ t h.
+    absurd (no_error (WalksKeys t) (WalksKeys-error t) _ _ _ _ _ _ _ (c.in_ok-walk.ensures.document t h) c.in-Some.is c.into_iter-key-iterator.ensures.into_iter_gives c.loop-key.invariant (rw c.in_err-key.was at c.in-Some-key.ensures.steps))

@@ -2,8 +2,8 @@ use Rattle.std.proofs.Common.{◌≡◌, ◌++◌, map, Ok, length}
 use Rattle.jsonb.specs.Shown.{shown}
 use Rattle.jsonb.proofs.walks.object_keys.Given as goal
 
-abbrev pub invariant-loop-item : goal.invariant-loop-item
-invariant-loop-item l = map (λ x. Ok (shown x)) l.items.items ++ l.item-iterator.rest ≡ l.initial.item-iterator.rest
+abbrev pub invariant-loop-key : goal.invariant-loop-key
+invariant-loop-key l = map (λ x. Ok (shown x)) l.keys.items ++ l.key-iterator.rest ≡ l.initial.key-iterator.rest
 
-abbrev pub decreases-loop-item : goal.decreases-loop-item
-decreases-loop-item l = length l.item-iterator.rest
+abbrev pub decreases-loop-key : goal.decreases-loop-key
+decreases-loop-key l = length l.key-iterator.rest

@@ -1,18 +1,11 @@
-use Rattle.jsonb_value.specs.Tree.{object, pair_count}
-use Rattle.jsonb.specs.Walked.{ShowsPairs}
-use Rattle.jsonb.proofs.WholeWalks.{whole_walk, no_walk, no_error, ShowsPairs-error}
+use Rattle.jsonb.specs.Walked.{WalksPairs}
+use Rattle.jsonb.proofs.WholeWalks.{whole_walk, no_error, WalksPairs-count, WalksPairs-error}
 use Rattle.jsonb.proofs.walks.object_pairs.Goals as goal
 
-pub returns-in_default-clause-all : goal.returns-in_default-clause-all
-returns-in_default-clause-all c = λ ps h. absurd (no_walk _ _ (c.in_ok-walk.ensures.document (object ps) h) c.in_default.is)
-
 pub returns-clause-all : goal.returns-clause-all
-returns-clause-all c = λ ps h.
-    whole_walk (ShowsPairs ps) (pair_count ps) _ _ _ _ _ (c.in_ok-walk.ensures.document (object ps) h) c.in-Some.is c.into_iter-pair-iterator.ensures.into_iter_gives c.loop-pair.invariant c.in-None.ensures.steps.0
-
-pub returns-in_err-walk-clause-memory : goal.returns-in_err-walk-clause-memory
-returns-in_err-walk-clause-memory c = λ ps h. absurd (c.in_err-walk.ensures.document (object ps) h)
+returns-clause-all c = λ t h.
+    whole_walk (WalksPairs t) (WalksPairs-count t) _ _ _ _ _ (c.in_ok-walk.ensures.document t h) c.in-Some.is c.into_iter-pair-iterator.ensures.into_iter_gives c.loop-pair.invariant c.in-None.ensures.steps.0
 
 pub returns-in_err-pair-clause-memory : goal.returns-in_err-pair-clause-memory
-returns-in_err-pair-clause-memory c = λ ps h.
-    absurd (no_error (ShowsPairs ps) (pair_count ps) _ _ _ _ _ _ _ (ShowsPairs-error ps _ _ _) (c.in_ok-walk.ensures.document (object ps) h) c.in-Some.is c.into_iter-pair-iterator.ensures.into_iter_gives c.loop-pair.invariant (rw c.in_err-pair.was at c.in-Some-pair.ensures.steps))
+returns-in_err-pair-clause-memory c = λ t h.
+    absurd (no_error (WalksPairs t) (WalksPairs-error t) _ _ _ _ _ _ _ (c.in_ok-walk.ensures.document t h) c.in-Some.is c.into_iter-pair-iterator.ensures.into_iter_gives c.loop-pair.invariant (rw c.in_err-pair.was at c.in-Some-pair.ensures.steps))

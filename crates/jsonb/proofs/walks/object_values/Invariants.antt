@@ -2,8 +2,8 @@ use Rattle.std.proofs.Common.{◌≡◌, ◌++◌, map, Ok, length}
 use Rattle.jsonb.specs.Shown.{shown}
 use Rattle.jsonb.proofs.walks.object_values.Given as goal
 
-abbrev pub invariant-loop-item : goal.invariant-loop-item
-invariant-loop-item l = map (λ x. Ok (shown x)) l.items.items ++ l.item-iterator.rest ≡ l.initial.item-iterator.rest
+abbrev pub invariant-loop-value : goal.invariant-loop-value
+invariant-loop-value l = map (λ x. Ok (shown x)) l.values.items ++ l.value-iterator.rest ≡ l.initial.value-iterator.rest
 
-abbrev pub decreases-loop-item : goal.decreases-loop-item
-decreases-loop-item l = length l.item-iterator.rest
+abbrev pub decreases-loop-value : goal.decreases-loop-value
+decreases-loop-value l = length l.value-iterator.rest
