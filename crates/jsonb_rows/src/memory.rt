@@ -5,10 +5,11 @@ use crate::known::{decoded, encoded, read_as_tree};
 use jsonb::{
     ArrayBuilder, ArrayDistinctBuilder, Date, Decimal64, Decoder, Encoder, Error, ExtensionValue,
     JsonAst, JsonAstEncoder, JsonbItem, Number, NumberItem, ObjectBuilder, OwnedJsonb, RawJsonb,
-    Value, append_canonical, encode_and_ask, parse_value, value_of,
+    Value, append_canonical, ask, encode_and_ask, parse_value, value_of,
 };
 use std::alloc::Global;
 use std::borrow::CowStr;
+use std::cmp::Ordering;
 use std::fmt;
 use std::process::Abort;
 use std::test::Fail;
@@ -20,6 +21,9 @@ const PRETTY: &str = "[\n  false,\n  10,\n  {\n    \"k\": \"v\"\n  }\n]";
 
 const DOCUMENT: &[u8] = b"\x80\0\0\x03\x30\0\0\0\x20\0\0\x02\x50\0\0\x0e\x50\x0a\
     \x40\0\0\x01\x10\0\0\x01\x10\0\0\x01kv";
+
+// The object of that array.
+const OBJECT: &[u8] = b"\x40\0\0\x01\x10\0\0\x01\x10\0\0\x01kv";
 
 // The number 5, and the string "x".
 const FIVE: &[u8] = b"\x20\0\0\0\x20\0\0\x02\x50\x05";
@@ -58,6 +62,13 @@ fn documents_are_decoded(rt: HostRuntime) -> Result<(), Fail> {
 fn decoded_again(alloc: Global, decoder: Decoder) -> Result<Vec<u8>, Error> {
     let mut decoder = decoder;
     encoded(alloc, &decoder.decode(alloc)?)
+}
+
+#[test]
+fn a_view_is_read(rt: HostRuntime) -> Result<(), Fail> {
+    let value = RawJsonb::new(DOCUMENT).to_value(rt.alloc())?;
+    assert_eq!(rt; encoded(rt.alloc(), &value)?.as_slice(), DOCUMENT);
+    Ok(())
 }
 
 #[test]
@@ -174,9 +185,24 @@ fn old_data_is_rewritten(rt: HostRuntime) -> Result<(), Fail> {
 #[test]
 fn a_document_is_asked(rt: HostRuntime) -> Result<(), Fail> {
     let value = parse_value(rt.alloc(), TEXT)?;
-    let asked = encode_and_ask(rt.alloc(), &value, "k")?;
+    let mut bytes = Vec::new(rt.alloc());
+    let asked = encode_and_ask(rt.alloc(), &value, "k", RawJsonb::new(FIVE), &mut bytes)?;
     assert!(rt; asked.text.as_str() == TEXT && asked.pretty.as_str() == PRETTY);
-    assert!(rt; !asked.has_key);
+    assert!(rt; asked.order == Some(Ordering::Greater));
+    assert!(rt; asked.items.map(|items| items.len()) == Some(3));
+    assert!(rt; asked.keys.is_none() && asked.values.is_none());
+    assert!(rt; asked.pairs.is_none() && asked.found.is_none());
+    Ok(())
+}
+
+#[test]
+fn an_object_is_asked(rt: HostRuntime) -> Result<(), Fail> {
+    let asked = ask(rt.alloc(), RawJsonb::new(OBJECT), "k", RawJsonb::new(X))?;
+    assert!(rt; asked.items.is_none());
+    assert!(rt; asked.keys.map(|keys| keys.len()) == Some(1));
+    assert!(rt; asked.values.map(|values| values.len()) == Some(1));
+    assert!(rt; asked.pairs.map(|pairs| pairs.len()) == Some(1));
+    assert!(rt; asked.found == Some(JsonbItem::String(CowStr::Borrowed("v"))));
     Ok(())
 }
 
