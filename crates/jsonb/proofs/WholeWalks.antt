@@ -7,17 +7,17 @@ use Rattle.jsonb.specs.Walk.{Walk}
 use Rattle.jsonb.specs.Walked.{ShowsTrees, shown_keys, ShowsValues, ShowsPairs, WalksArray, WalksKeys, WalksValues, WalksPairs}
 use Rattle.jsonb.specs.Asked.{walk_of}
 
--- what was taken of an iterator that has ended
-pub whole_walk : {A : Type 0} (Walks : Result (Option (Walk A)) Error → Type 0) → ((w : Walk A) → Walks (Ok (Some w)) → w.count ≡ length w.rest)
+-- what was taken of an iterator that has ended is all that it had to give, by whatever is said of it
+pub whole_walk : {A : Type 0} (Walks More : Result (Option (Walk A)) Error → Type 0) → ((w : Walk A) → Walks (Ok (Some w)) → w.count ≡ length w.rest)
     → (o : Option (Walk A)) (walk started : Walk A) (given rest : List (Result A Error))
-    → Walks (Ok o) → o ≡ Some walk → started ≡ walk → given ++ rest ≡ started.rest → rest ≡ [] → Walks (Ok (Some (walk_of given)))
-whole_walk {A} Walks counted o walk started given rest walks is begun so_far ended =
+    → Walks (Ok o) → More (Ok o) → o ≡ Some walk → started ≡ walk → given ++ rest ≡ started.rest → rest ≡ [] → More (Ok (Some (walk_of given)))
+whole_walk {A} Walks More counted o walk started given rest walks more is begun so_far ended =
     let here = subst (λ (o : Option (Walk A)). Walks (Ok o)) is walks in
     let all : walk.rest ≡ given =
     sym (ap (λ (w : Walk A). w.rest) begun) ∙ sym so_far ∙ ap (λ (xs : List (Result A Error)). given ++ xs) ended ∙ append-nil given in
     let long : walk.count ≡ length given = counted walk here ∙ ap length all in
     let same : walk ≡ walk_of given = λ i. record { count = long i; rest = all i } in
-    subst (λ (w : Walk A). Walks (Ok (Some w))) same here
+    subst (λ (w : Walk A). More (Ok (Some w))) same (subst (λ (o : Option (Walk A)). More (Ok o)) is more)
 
 -- none of what it has to give is an error
 pub no_error : {A : Type 0} (Walks : Result (Option (Walk A)) Error → Type 0)

@@ -13,7 +13,8 @@ use Rattle.jsonb.specs.Kind.{kind_of_tree}
 use Rattle.jsonb.specs.Lookup.{find, IsItemFound}
 use Rattle.jsonb.specs.Shown.{Shown, shown, shown_pair}
 use Rattle.jsonb.specs.Walk.{Walk}
-use Rattle.jsonb.specs.Walked.{WalksArray, WalksKeys, WalksValues, WalksPairs}
+use Rattle.jsonb.specs.Standing.{IsFoundIn}
+use Rattle.jsonb.specs.Walked.{WalksArray, WalksKeys, WalksValues, WalksPairs, WalksItems, WalksValueItems, WalksMembers}
 
 -- the iterator that has given all this, and no error
 abbrev pub walk_of : {A : Type 0} → List (Result A Error) → Walk A
@@ -26,9 +27,9 @@ walked_items items = Ok (option_map (λ xs. walk_of (map (λ x. Ok (shown x)) xs
 abbrev pub walked_pairs : Option (List (Bor (List ℕ) × JsonbItem)) → Result (Option (Walk (List ℕ × Shown))) Error
 walked_pairs pairs = Ok (option_map (λ xs. walk_of (map (λ x. shown_pair (Ok x)) xs)) pairs)
 
--- Each answer is that of the tree: its kind, its texts, its order beside the other bytes, its children in order, each as its item, and the item of the value
--- whose key is the name.
-pub record AnswersOf (t : Tree) (name other : List ℕ) (asked : Asked) : Type 0 where
+-- Each answer of the bytes is that of the tree: its kind, its texts, its order beside the other bytes, its children in order and the value whose key is the
+-- name, each as the item of the entry that stands there.
+pub record AnswersOf (bytes : List ℕ) (t : Tree) (name other : List ℕ) (asked : Asked) : Type 0 where
   pub kind : asked.kind ≡ kind_of_tree t
   pub text : string_bytes asked.text ≡ compact t
   pub pretty_text : string_bytes asked.pretty ≡ pretty t
@@ -38,4 +39,8 @@ pub record AnswersOf (t : Tree) (name other : List ℕ) (asked : Asked) : Type 0
   pub keys : WalksKeys t (walked_items (option_map (λ xs. xs.items) asked.keys))
   pub values : WalksValues t (walked_items (option_map (λ xs. xs.items) asked.values))
   pub pairs : WalksPairs t (walked_pairs (option_map (λ xs. xs.items) asked.pairs))
+  pub item_entries : WalksItems bytes t (walked_items (option_map (λ xs. xs.items) asked.items))
+  pub value_entries : WalksValueItems bytes t (walked_items (option_map (λ xs. xs.items) asked.values))
+  pub pair_entries : WalksMembers bytes t (walked_pairs (option_map (λ xs. xs.items) asked.pairs))
   pub found : IsItemFound (find (pointwise nat_eq name) (length name) t) (option_map shown asked.found)
+  pub found_entry : IsFoundIn (pointwise nat_eq name) (length name) bytes t (option_map shown asked.found)

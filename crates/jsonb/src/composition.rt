@@ -5,11 +5,12 @@ ghost use Rattle.std.specs.Cmp.Lexicographic.{pointwise};
 ghost use Rattle.jsonb_value.specs.Norm.{norm};
 ghost use Rattle.jsonb_value.specs.Tree.{Tree};
 ghost use Rattle.jsonb_value.specs.Value.{tree_of};
-ghost use Rattle.jsonb_codec.specs.Canon.{Fits};
+ghost use Rattle.jsonb_codec.specs.Canon.{canon, Fits};
 ghost use Rattle.jsonb_codec.specs.Doc.{Doc};
 ghost use Rattle.jsonb.specs.Raw.{raw_bytes};
 ghost use Rattle.jsonb.specs.Asked.{AnswersOf};
 ghost use Rattle.jsonb.specs.Lookup.{find, IsItemFound};
+ghost use Rattle.jsonb.specs.Standing.{IsFoundIn};
 ghost use Rattle.jsonb.specs.Shown.{shown};
 
 use crate::item::JsonbItem;
@@ -55,7 +56,8 @@ pub fn encode_and_ask<'a>(
     bytes: &'a mut Vec<u8>,
 ) -> Result<Asked<'a>, Error>
     ensures answers { IfOk result
-        (AnswersOf (norm (tree_of value.now)) name.now (raw_bytes other.entry)) }
+        (AnswersOf (canon (tree_of value.now)) (norm (tree_of value.now)) name.now
+        (raw_bytes other.entry)) }
     ensures past { result ≡ Err Error.InvalidJsonb → Fits (tree_of value.now) → ⊥ }
     ensures only { IfErr result (λ e. (e ≡ Error.InvalidJsonb) ⊎ (e ≡ Error.OutOfMemory)) }
 {
@@ -73,7 +75,7 @@ pub fn ask<'a>(
     other: RawJsonb,
 ) -> Result<Asked<'a>, Error>
     ensures answers { (t : Tree) → Doc (raw_bytes raw.entry) t
-        → IfOk result (AnswersOf t name.now (raw_bytes other.entry)) }
+        → IfOk result (AnswersOf (raw_bytes raw.entry) t name.now (raw_bytes other.entry)) }
     ensures memory { (t : Tree) → Doc (raw_bytes raw.entry) t
         → IfErr result (λ e. e ≡ Error.OutOfMemory) }
 {
@@ -92,9 +94,12 @@ pub fn ask<'a>(
 
 // The value of the key that is the name.
 fn find_by_name<'a>(raw: RawJsonb<'a>, name: &str) -> Result<Option<JsonbItem<'a>>, Error>
-    ensures { (t : Tree) → Doc (raw_bytes raw.entry) t
+    ensures value { (t : Tree) → Doc (raw_bytes raw.entry) t
         → IsOkAnd result (λ found. IsItemFound (find (pointwise nat_eq name.now) (length name.now) t)
         (option_map shown found)) }
+    ensures entry { (t : Tree) → Doc (raw_bytes raw.entry) t
+        → IsOkAnd result (λ found. IsFoundIn (pointwise nat_eq name.now) (length name.now)
+        (raw_bytes raw.entry) t (option_map shown found)) }
 {
     raw.get_object_value_by_key_name(name, |wanted, key| wanted == key)
 }

@@ -5,7 +5,7 @@ ghost use Rattle.jsonb_value.specs.Tree.{Tree};
 ghost use Rattle.jsonb_codec.specs.Doc.{Doc};
 ghost use Rattle.jsonb.specs.Raw.{raw_bytes};
 ghost use Rattle.jsonb.specs.Asked.{walked_items, walked_pairs};
-ghost use Rattle.jsonb.specs.Walked.{WalksArray, WalksKeys, WalksValues, WalksPairs};
+ghost use Rattle.jsonb.specs.Walked.{WalksArray, WalksKeys, WalksValues, WalksPairs, WalksItems, WalksValueItems, WalksMembers};
 
 use crate::item::JsonbItem;
 use crate::iterator::{ArrayIterator, ObjectIterator, ObjectKeyIterator, ObjectValueIterator};
@@ -20,6 +20,9 @@ pub fn array_items<'a>(
 ) -> Result<Option<Vec<JsonbItem<'a>>>, Error>
     ensures all { (t : Tree) → Doc (raw_bytes raw.entry) t
         → IfOk result (λ o. WalksArray t (walked_items (option_map (λ xs. xs.items) o))) }
+    ensures entries { (t : Tree) → Doc (raw_bytes raw.entry) t
+        → IfOk result (λ o. WalksItems (raw_bytes raw.entry) t
+        (walked_items (option_map (λ xs. xs.items) o))) }
     ensures memory { (t : Tree) → Doc (raw_bytes raw.entry) t
         → IfErr result (λ e. e ≡ Error.OutOfMemory) }
 {
@@ -60,6 +63,9 @@ pub fn object_values<'a>(
 ) -> Result<Option<Vec<JsonbItem<'a>>>, Error>
     ensures all { (t : Tree) → Doc (raw_bytes raw.entry) t
         → IfOk result (λ o. WalksValues t (walked_items (option_map (λ xs. xs.items) o))) }
+    ensures entries { (t : Tree) → Doc (raw_bytes raw.entry) t
+        → IfOk result (λ o. WalksValueItems (raw_bytes raw.entry) t
+        (walked_items (option_map (λ xs. xs.items) o))) }
     ensures memory { (t : Tree) → Doc (raw_bytes raw.entry) t
         → IfErr result (λ e. e ≡ Error.OutOfMemory) }
 {
@@ -80,6 +86,9 @@ pub fn object_pairs<'a>(
 ) -> Result<Option<Vec<(&'a str, JsonbItem<'a>)>>, Error>
     ensures all { (t : Tree) → Doc (raw_bytes raw.entry) t
         → IfOk result (λ o. WalksPairs t (walked_pairs (option_map (λ xs. xs.items) o))) }
+    ensures entries { (t : Tree) → Doc (raw_bytes raw.entry) t
+        → IfOk result (λ o. WalksMembers (raw_bytes raw.entry) t
+        (walked_pairs (option_map (λ xs. xs.items) o))) }
     ensures memory { (t : Tree) → Doc (raw_bytes raw.entry) t
         → IfErr result (λ e. e ≡ Error.OutOfMemory) }
 {

@@ -15,7 +15,11 @@ returns-clause-answers c = λ t means.
       keys = c.in_ok-object_keys.ensures.all t means;
       values = c.in_ok-object_values.ensures.all t means;
       pairs = c.in_ok-object_pairs.ensures.all t means;
-      found = c.in_ok-find_by_name.ensures t means;
+      item_entries = c.in_ok-array_items.ensures.entries t means;
+      value_entries = c.in_ok-object_values.ensures.entries t means;
+      pair_entries = c.in_ok-object_pairs.ensures.entries t means;
+      found = c.in_ok-find_by_name.ensures.value t means;
+      found_entry = c.in_ok-find_by_name.ensures.entry t means;
     }
 
 pub returns-in_err-object_keys-clause-memory : goal.returns-in_err-object_keys-clause-memory
@@ -28,4 +32,4 @@ pub returns-in_err-object_pairs-clause-memory : goal.returns-in_err-object_pairs
 returns-in_err-object_pairs-clause-memory c = λ t h. let known = c.in_err-object_pairs.ensures.memory t h in search rules
 
 pub returns-in_err-find_by_name-clause-memory : goal.returns-in_err-find_by_name-clause-memory
-returns-in_err-find_by_name-clause-memory c = λ t h. absurd (c.in_err-find_by_name.ensures t h)
+returns-in_err-find_by_name-clause-memory c = λ t h. absurd (c.in_err-find_by_name.ensures.value t h)
