@@ -25,3 +25,5 @@ pub mod LineLaws
 pub mod TextLaws
 pub mod BuiltMeanings
 pub mod Classes
+pub mod DocumentLaws
+pub mod NodeLaws

@@ -25,3 +25,5 @@ pub mod Texts
 pub mod Lines
 pub mod Tally
 pub mod Asked
+pub mod Document
+pub mod Node

@@ -5,6 +5,7 @@ mod builder;
 mod canonical;
 mod code;
 mod composition;
+mod document;
 mod entries;
 mod extension_item;
 mod item;
@@ -21,6 +22,7 @@ mod walks;
 
 pub use builder::{ArrayBuilder, ArrayDistinctBuilder, ObjectBuilder};
 pub use composition::{Asked, ask, encode_and_ask};
+pub use document::{Document, Node};
 pub use extension_item::ExtensionItem;
 pub use item::JsonbItem;
 pub use item_type::JsonbItemType;

@@ -1,0 +1,5 @@
+use Rattle.jsonb.proofs.DocumentLaws.{known_Doc}
+use Rattle.jsonb.proofs.document.Document.as_bytes.Goals as goal
+
+pub returns-clause-document : goal.returns-clause-document
+returns-clause-document c = known_Doc _ c.args.self.now.known

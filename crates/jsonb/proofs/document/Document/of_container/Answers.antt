@@ -1,0 +1,6 @@
+use Rattle.std.proofs.Common.{inr}
+use Rattle.jsonb.proofs.DocumentLaws.{tree_in-is}
+use Rattle.jsonb.proofs.document.Document.of_container.Goals as goal
+
+pub returns : goal.returns
+returns c t h = tree_in-is _ t (inr h)

@@ -1,0 +1,181 @@
+//! Documents that were checked once: nothing that is asked of them checks again.
+
+ghost use Rattle.jsonb_codec.specs.Doc.{IsDocument};
+
+use crate::item_type::JsonbItemType;
+use crate::raw::RawJsonb;
+use jsonb_codec::constants::{
+    CONTAINER_TAG, EXTENSION_TAG, FALSE_TAG, NULL_TAG, NUMBER_TAG, STRING_TAG, TRUE_TAG,
+};
+use jsonb_codec::parts::{
+    Contents, Members, Part, extension_in, number_in, split_contents, split_document, split_member,
+    text_in,
+};
+use jsonb_codec::{is_document, is_document_within};
+use jsonb_value::{ExtensionValue, Number};
+
+/// The bytes of a document, where they stand. They were checked when it was made, so no call on it
+/// answers an error because of them, and none checks them again.
+#[derive(Clone, Copy, Debug)]
+pub struct Document<'a> {
+    bytes: &'a [u8],
+    ghost known: { ∥ IsDocument bytes.now ∥₁ },
+}
+
+/// A value in a document: a scalar, or an array or object, which is a document itself.
+#[derive(Clone, Copy, Debug)]
+pub enum Node<'a> {
+    Null,
+    Boolean(bool),
+    Number(Number),
+    String(&'a str),
+    Extension(ExtensionValue<'a>),
+    Container(Document<'a>),
+}
+
+impl<'a> Document<'a> {
+    ghost use Rattle.std.specs.Prelude.{◌≡◌, ◌↔◌, length, nat_eq, None, Some, IfSome, IsSome, MatchOption, option_map};
+    ghost use Rattle.std.specs.Cmp.Lexicographic.{pointwise};
+    ghost use Rattle.jsonb_value.specs.Tree.{Tree, Pairs};
+    ghost use Rattle.jsonb_codec.specs.declared.constants.TheConstants.{CONTAINER_TAG};
+    ghost use Rattle.jsonb_codec.specs.Canonical.{IsSomePayload};
+    ghost use Rattle.jsonb_codec.specs.Contents.{AreMembers};
+    ghost use Rattle.jsonb_codec.specs.Depth.{IsDocumentWithin};
+    ghost use Rattle.jsonb_codec.specs.Doc.{Doc, IsDocument};
+    ghost use Rattle.jsonb_codec.specs.Parts.{IsPayloadOf};
+    ghost use Rattle.jsonb.specs.Document.{document_bytes, document_tree};
+    ghost use Rattle.jsonb.specs.Kind.{kind_of_tree};
+    ghost use Rattle.jsonb.specs.Lookup.{find_pair};
+    ghost use Rattle.jsonb.specs.Node.{node_tree, value_of_key};
+    ghost use Rattle.jsonb.specs.Raw.{raw_bytes};
+
+    /// The bytes as a document. `None` where they are none.
+    pub fn new(bytes: &'a [u8]) -> Option<Self>
+        ensures known { IsSome result ↔ IsDocument bytes.entry.now }
+        ensures bytes { IfSome result (λ d. document_bytes d ≡ bytes.entry.now) }
+    {
+        if is_document(bytes) {
+            Some(Document { bytes })
+        } else {
+            None
+        }
+    }
+
+    /// The bytes as a document that nests at most that deep: a scalar has depth 0, an array or
+    /// object 1 where it is empty, and otherwise one more than its deepest child. `None` where they
+    /// are none. What nests deeper is not looked into.
+    pub fn within(bytes: &'a [u8], depth: usize) -> Option<Self>
+        ensures known { IsSome result ↔ IsDocumentWithin depth bytes.entry.now }
+        ensures bytes { IfSome result (λ d. document_bytes d ≡ bytes.entry.now) }
+    {
+        if is_document_within(bytes, depth) {
+            Some(Document { bytes })
+        } else {
+            None
+        }
+    }
+
+    // An array or object inside another is a document by itself.
+    fn of_container(payload: &'a [u8]) -> Self
+        requires { IsSomePayload CONTAINER_TAG payload.now }
+        ensures { (t : Tree) → IsPayloadOf CONTAINER_TAG payload.entry.now t
+            → document_tree result ≡ t }
+    {
+        Document { bytes: payload }
+    }
+
+    /// The bytes.
+    pub fn as_bytes(&self) -> &'a [u8]
+        ensures bytes { result.now ≡ document_bytes self.now }
+        ensures document { Doc result.now (document_tree self.now) }
+    {
+        self.bytes
+    }
+
+    /// The bytes as a view of any bytes.
+    pub fn as_raw(&self) -> RawJsonb<'a>
+        ensures bytes { raw_bytes result ≡ document_bytes self.now }
+        ensures document { Doc (raw_bytes result) (document_tree self.now) }
+    {
+        RawJsonb::new(self.as_bytes())
+    }
+
+    /// The kind; an array or object has its count.
+    pub fn kind(&self) -> JsonbItemType
+        ensures { result ≡ kind_of_tree (document_tree self.now) }
+    {
+        let Ok(kind) = self.as_raw().jsonb_item_type() else {
+            unreachable!();
+        };
+        kind
+    }
+
+    /// The value that the document is.
+    pub fn value(&self) -> Node<'a>
+        ensures { node_tree result ≡ document_tree self.now }
+    {
+        Node::of_part(split_document(self.as_bytes()))
+    }
+
+    /// The value of a key: `None` where there is no such key, and for all but objects.
+    pub fn get(&self, name: &str) -> Option<Node<'a>>
+        ensures { option_map node_tree result ≡ value_of_key name.now (document_tree self.now) }
+    {
+        let whole = split_document(self.as_bytes());
+        if whole.tag != CONTAINER_TAG {
+            return None;
+        }
+        match split_contents(whole.payload) {
+            Contents::Array(_) => None,
+            Contents::Object(members) => match Document::find_member(members, name) {
+                Some(part) => Some(Node::of_part(part)),
+                None => None,
+            },
+        }
+    }
+
+    // The value of a key among members.
+    fn find_member(members: Members<'a>, name: &str) -> Option<Part<'a>>
+        requires { (ps : Pairs) × AreMembers ps members }
+        ensures some { IfSome result (λ part. IsSomePayload part.tag part.payload.now) }
+        ensures found { (ps : Pairs) → AreMembers ps members.entry
+            → MatchOption result (find_pair (pointwise nat_eq name.now) (length name.now) ps ≡ None)
+            (λ part. (t : Tree)
+            × ((find_pair (pointwise nat_eq name.now) (length name.now) ps ≡ Some t)
+            × IsPayloadOf part.tag part.payload.now t)) }
+    {
+        let mut left = members;
+        while let Some(first) = split_member(left) {
+            if name == first.key {
+                return Some(first.value);
+            }
+            left = first.behind;
+        }
+        None
+    }
+}
+
+impl<'a> Node<'a> {
+    ghost use Rattle.std.specs.Prelude.{◌≡◌};
+    ghost use Rattle.jsonb_value.specs.Tree.{Tree};
+    ghost use Rattle.jsonb_codec.specs.Canonical.{IsSomePayload};
+    ghost use Rattle.jsonb_codec.specs.Parts.{IsPayloadOf};
+    ghost use Rattle.jsonb.specs.Node.{node_tree};
+
+    // The value of a part.
+    fn of_part(part: Part<'a>) -> Node<'a>
+        requires { IsSomePayload part.tag part.payload.now }
+        ensures { (t : Tree) → IsPayloadOf part.entry.tag part.entry.payload.now t
+            → node_tree result ≡ t }
+    {
+        match part.tag {
+            NULL_TAG => Node::Null,
+            TRUE_TAG => Node::Boolean(true),
+            FALSE_TAG => Node::Boolean(false),
+            NUMBER_TAG => Node::Number(number_in(part.payload)),
+            STRING_TAG => Node::String(text_in(part.payload)),
+            EXTENSION_TAG => Node::Extension(extension_in(part.payload)),
+            _ => Node::Container(Document::of_container(part.payload)),
+        }
+    }
+}
