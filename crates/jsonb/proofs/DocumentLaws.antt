@@ -1,12 +1,16 @@
 -- A checked document is a document of its tree.
-use Rattle.std.proofs.Common.{◌≡◌, ℕ, List, inl, inr, refl, sym, ap, subst}
+use Rattle.std.proofs.Common.{◌≡◌, ◌↔◌, ℕ, List, Option, Some, None, IfSome, IsSome, inl, inr, refl, sym, ap, subst, ◌∙◌}
 use Rattle.std.proofs.Math.Logic.{∥∥₁_elim}
 use Rattle.jsonb_value.specs.Tree.{Tree}
 use Rattle.jsonb_value.proofs.PayloadDecision.{Decided}
 use Rattle.jsonb_codec.specs.Doc.{Doc, IsDocument}
 use Rattle.jsonb_codec.proofs.Decision.{decide}
 use Rattle.jsonb_codec.proofs.Unique.{Doc-unique}
-use Rattle.jsonb.specs.Document.{tree_found, tree_in}
+use Rattle.jsonb_value.specs.Meaning.{document}
+use Rattle.jsonb.specs.declared.document.Document.{Document}
+use Rattle.jsonb.specs.Document.{tree_found, tree_in, document_bytes, document_tree}
+use Rattle.jsonb.specs.Meant.{meaning_of}
+use Rattle.jsonb.proofs.MeantLaws.{meaning_of-document}
 
 empty_prop : IsProp ⊥
 empty_prop = Prim.hlevel
@@ -30,3 +34,22 @@ found_is b t doc (inr none) = absurd (none (t, doc))
 pub tree_in-is : (b : List ℕ) (t : Tree) → Doc b t → tree_in b ≡ t
 unfolding tree_in
 tree_in-is b t doc = found_is b t doc (decide b)
+
+-- a document that holds these bytes means their tree,
+pub tree_of_bytes : (b : List ℕ) (d : Document) → document_bytes d ≡ b → Doc b (document_tree d)
+tree_of_bytes b d is = subst (λ x. Doc x (document_tree d)) is (known_Doc (document_bytes d) d.known)
+
+pub document_tree-is : (b : List ℕ) (t : Tree) (found : Option Document) → Doc b t → IfSome found (λ d. document_bytes d ≡ b) → IfSome found (λ d. document_tree d ≡ t)
+document_tree-is b t None doc h = tt
+document_tree-is b t (Some d) doc h = tree_in-is (document_bytes d) t (subst (λ x. Doc x t) (sym h) doc)
+
+-- and so do the bytes
+pub document_meaning : (b : List ℕ) (d : Document) → document_bytes d ≡ b → document (document_tree d) ≡ meaning_of b
+document_meaning b d is = sym (meaning_of-document b (document_tree d) (tree_of_bytes b d is))
+
+-- where none was found there is none
+abbrev pub nothing : Option Document
+nothing = None
+
+pub no_document : (b : List ℕ) → IsSome nothing ↔ IsDocument b → IsDocument b → ⊥
+no_document b told d = let some = told.1 d in cc

@@ -27,3 +27,4 @@ pub mod Tally
 pub mod Asked
 pub mod Document
 pub mod Node
+pub mod SortKey

@@ -4,6 +4,7 @@ ghost use Rattle.jsonb_codec.specs.Doc.{IsDocument};
 
 use crate::item_type::JsonbItemType;
 use crate::raw::RawJsonb;
+use crate::text::{Layout, document_text, write_document};
 use jsonb_codec::constants::{
     CONTAINER_TAG, EXTENSION_TAG, FALSE_TAG, NULL_TAG, NUMBER_TAG, STRING_TAG, TRUE_TAG,
 };
@@ -12,7 +13,9 @@ use jsonb_codec::parts::{
     text_in,
 };
 use jsonb_codec::{is_document, is_document_within};
-use jsonb_value::{ExtensionValue, Number};
+use jsonb_value::{Error, ExtensionValue, Number};
+use std::alloc::Global;
+use std::fmt;
 
 /// The bytes of a document, where they stand. They were checked when it was made, so no call on it
 /// answers an error because of them, and none checks them again.
@@ -34,8 +37,9 @@ pub enum Node<'a> {
 }
 
 impl<'a> Document<'a> {
-    ghost use Rattle.std.specs.Prelude.{◌≡◌, ◌↔◌, length, nat_eq, None, Some, IfSome, IsSome, MatchOption, option_map};
+    ghost use Rattle.std.specs.Prelude.{◌≡◌, ◌↔◌, length, nat_eq, None, Some, IfOk, IfErr, IfSome, IsSome, MatchOption, option_map, string_bytes};
     ghost use Rattle.std.specs.Cmp.Lexicographic.{pointwise};
+    ghost use Rattle.jsonb_value.specs.Text.{compact, pretty};
     ghost use Rattle.jsonb_value.specs.Tree.{Tree, Pairs};
     ghost use Rattle.jsonb_codec.specs.declared.constants.TheConstants.{CONTAINER_TAG};
     ghost use Rattle.jsonb_codec.specs.Canonical.{IsSomePayload};
@@ -134,6 +138,23 @@ impl<'a> Document<'a> {
         }
     }
 
+    /// The text, with no white space. Only memory can be refused.
+    pub fn to_string(&self, alloc: Global) -> Result<String, Error>
+        ensures text { IfOk result (λ text. string_bytes text ≡ compact (document_tree self.now)) }
+        ensures memory { IfErr result (λ e. e ≡ Error.OutOfMemory) }
+    {
+        document_text(alloc, *self, Layout::InOneLine)
+    }
+
+    /// The text with each item or pair on a line of its own, indented by two spaces for each
+    /// container round it. Only memory can be refused.
+    pub fn to_pretty_string(&self, alloc: Global) -> Result<String, Error>
+        ensures text { IfOk result (λ text. string_bytes text ≡ pretty (document_tree self.now)) }
+        ensures memory { IfErr result (λ e. e ≡ Error.OutOfMemory) }
+    {
+        document_text(alloc, *self, Layout::OnLines(0))
+    }
+
     // The value of a key among members.
     fn find_member(members: Members<'a>, name: &str) -> Option<Part<'a>>
         requires { (ps : Pairs) × AreMembers ps members }
@@ -177,5 +198,20 @@ impl<'a> Node<'a> {
             EXTENSION_TAG => Node::Extension(extension_in(part.payload)),
             _ => Node::Container(Document::of_container(part.payload)),
         }
+    }
+}
+
+/// The text, with no white space. Width and fill are passed over.
+impl fmt::Display for Document<'_> {
+    ghost use Rattle.std.specs.Prelude.{Some};
+    ghost use Rattle.jsonb_value.specs.Text.{compact};
+    ghost use Rattle.jsonb.specs.Document.{document_tree};
+
+    ghost output = { λ document. Some (compact (document_tree document)) };
+
+    ghost styled_output = { λ document _. Some (compact (document_tree document)) };
+
+    fn fmt<W: fmt::Write>(&self, f: &mut fmt::Formatter<W>) -> fmt::Result {
+        write_document(*self, Layout::InOneLine, f)
     }
 }

@@ -17,6 +17,7 @@ mod order;
 mod owned;
 mod raw;
 mod reads;
+mod sort_key;
 mod text;
 mod walks;
 
@@ -43,4 +44,5 @@ pub use order::{meaning_laws, order_of_bytes};
 pub use owned::OwnedJsonb;
 pub use raw::RawJsonb;
 pub use reads::Reads;
+pub use sort_key::{OtherBytes, SortKey};
 pub use text::text_laws;

@@ -15,8 +15,10 @@ ghost use Rattle.jsonb.specs.Raw.{raw_bytes};
 ghost use Rattle.jsonb.specs.Shown.{Shown, shown};
 ghost use Rattle.jsonb.specs.Values.{IsValue, bytes_in};
 
+mod document;
 mod documents;
 mod item;
+mod key;
 mod owned;
 mod raw;
 

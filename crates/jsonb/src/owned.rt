@@ -1,10 +1,12 @@
 //! Documents that own their bytes.
 
-ghost use Rattle.std.specs.Prelude.{◌≡◌, ◌↔◌, ◌≤◌, ◌<◌, ◌^◌, ◌⊎◌, length, Err, IfOk, IfErr, OnOk, IsTrue};
+ghost use Rattle.std.specs.Prelude.{◌≡◌, ◌↔◌, ◌≤◌, ◌<◌, ◌^◌, ◌⊎◌, length, Err, IfOk, IfErr, IfSome, IsSome, OnOk, IsTrue};
+ghost use Rattle.jsonb_codec.specs.Doc.{IsDocument};
 ghost use Rattle.jsonb.specs.Owned.{owned_bytes};
 ghost use Rattle.jsonb.specs.Code.{scalar_bytes, shown_code};
 
 use crate::code::{Code, item_code, scalar_document};
+use crate::document::Document;
 use crate::item::JsonbItem;
 use crate::raw::RawJsonb;
 use jsonb_value::Error;
@@ -18,6 +20,7 @@ pub struct OwnedJsonb {
 }
 
 impl OwnedJsonb {
+    ghost use Rattle.jsonb.specs.Document.{document_bytes};
     ghost use Rattle.jsonb.specs.Raw.{raw_bytes};
     ghost use Rattle.jsonb.specs.Owned.{owned_bytes};
     ghost use Rattle.jsonb.specs.Shown.{shown};
@@ -69,6 +72,14 @@ impl OwnedJsonb {
         ensures { result.now ≡ owned_bytes self.now }
     {
         self.bytes.as_slice()
+    }
+
+    /// The bytes as a document, checked once. `None` where they are none.
+    pub fn as_document(&self) -> Option<Document<'_>>
+        ensures known { IsSome result ↔ IsDocument (owned_bytes self.now) }
+        ensures bytes { IfSome result (λ d. document_bytes d ≡ owned_bytes self.now) }
+    {
+        Document::new(self.as_bytes())
     }
 
     /// The bytes, no longer as a document.

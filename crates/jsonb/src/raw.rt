@@ -1,12 +1,13 @@
 //! Documents whose bytes stand somewhere else.
 
-ghost use Rattle.std.specs.Prelude.{◌≡◌, ◌↔◌, ◌⊎◌, length, IfOk, IfErr, IsTrue};
+ghost use Rattle.std.specs.Prelude.{◌≡◌, ◌↔◌, ◌⊎◌, length, IfOk, IfErr, IfSome, IsSome, IsTrue};
 ghost use Rattle.jsonb_value.specs.Tree.{Tree};
 ghost use Rattle.jsonb_value.specs.Value.{tree_of};
 ghost use Rattle.jsonb_codec.specs.Doc.{Doc, IsDocument};
 ghost use Rattle.jsonb_codec.specs.Depth.{IsDocumentWithin};
 ghost use Rattle.jsonb_codec.specs.Fault.{IsTreeFault};
 
+use crate::document::Document;
 use crate::item_type::{JsonbItemType, kind_of};
 use crate::owned::OwnedJsonb;
 use jsonb_codec::value_of;
@@ -21,6 +22,7 @@ pub struct RawJsonb<'a> {
 }
 
 impl<'a> RawJsonb<'a> {
+    ghost use Rattle.jsonb.specs.Document.{document_bytes, document_tree};
     ghost use Rattle.jsonb.specs.Raw.{raw_bytes};
     ghost use Rattle.jsonb.specs.Owned.{owned_bytes};
     ghost use Rattle.jsonb.specs.Kind.{kind, kind_of_tree};
@@ -92,6 +94,16 @@ impl<'a> RawJsonb<'a> {
         ensures { IsTrue result ↔ IsDocumentWithin depth (raw_bytes self.now) }
     {
         jsonb_codec::is_document_within(self.as_bytes(), depth)
+    }
+
+    /// The bytes as a document, checked once. `None` where they are none.
+    pub fn as_document(&self) -> Option<Document<'a>>
+        ensures known { IsSome result ↔ IsDocument (raw_bytes self.now) }
+        ensures bytes { IfSome result (λ d. document_bytes d ≡ raw_bytes self.now) }
+        ensures tree { (t : Tree) → Doc (raw_bytes self.now) t
+            → IfSome result (λ d. document_tree d ≡ t) }
+    {
+        Document::new(self.as_bytes())
     }
 
     /// The kind, from the header alone, or for a scalar from its entry; an array or object has

@@ -18,14 +18,17 @@ ghost use Rattle.jsonb_codec.specs.Contents.{AreItems, AreMembers};
 ghost use Rattle.jsonb_codec.specs.Parts.{IsPayloadOf};
 ghost use Rattle.jsonb_codec.specs.Reread.{MeansAgain};
 ghost use Rattle.jsonb_codec.specs.Doc.{Doc, IsDocument};
+ghost use Rattle.jsonb.specs.Document.{document_tree};
 ghost use Rattle.jsonb.specs.Raw.{raw_bytes};
 ghost use Rattle.jsonb.specs.Owned.{owned_bytes};
 ghost use Rattle.jsonb.specs.Texts.{layout_of, lossy_text, other_text, shown_text, pretty_shown_text};
 ghost use Rattle.jsonb.specs.Lines.{pair_text, HasRoom};
 
+use crate::document::Document;
 use crate::owned::OwnedJsonb;
 use crate::raw::RawJsonb;
 use bstr::ByteSlice;
+use jsonb_codec::Encoder;
 use jsonb_codec::constants::{
     CONTAINER_TAG, FALSE_TAG, NULL_TAG, NUMBER_TAG, STRING_TAG, TRUE_TAG,
 };
@@ -33,7 +36,6 @@ use jsonb_codec::parts::{
     Contents, Items, Members, Part, extension_in, number_in, split_child, split_contents,
     split_document, split_member, text_in,
 };
-use jsonb_codec::{Encoder, is_document};
 use jsonb_value::{Error, ExtensionValue, extension_text, parse_value, write_number, write_string};
 use std::alloc::Global;
 use std::fmt;
@@ -146,9 +148,9 @@ fn written(answer: fmt::Result, f: fmt::Formatter<String>) -> Result<String, Err
     }
 }
 
-// How a tree is laid out: with no white space, or on lines, inside so many containers.
+/// How a tree is laid out: with no white space, or on lines, inside so many containers.
 #[derive(Clone, Copy)]
-enum Layout {
+pub enum Layout {
     InOneLine,
     OnLines(usize),
 }
@@ -194,12 +196,10 @@ fn write_shown<W: fmt::Write>(bytes: &[u8], f: &mut fmt::Formatter<W>) -> fmt::R
     ensures text { WritesStyledOnOk W.write_str_gives f.old result (shown_text bytes.now) f.new }
     ensures tree { (t : Tree) → Doc bytes.now t → IsTree t }
 {
-    if is_document(bytes) {
-        write_document(bytes, Layout::InOneLine, f)
-    } else if bytes.is_empty() {
-        f.write_str("null")
-    } else {
-        write_lossy(bytes, f)
+    match Document::new(bytes) {
+        Some(document) => write_document(document, Layout::InOneLine, f),
+        None if bytes.is_empty() => f.write_str("null"),
+        None => write_lossy(bytes, f),
     }
 }
 
@@ -209,10 +209,9 @@ fn write_pretty<W: fmt::Write>(bytes: &[u8], f: &mut fmt::Formatter<W>) -> fmt::
         (pretty_shown_text bytes.now) f.new }
     ensures tree { (t : Tree) → Doc bytes.now t → IsTree t }
 {
-    if is_document(bytes) {
-        write_document(bytes, Layout::OnLines(0), f)
-    } else {
-        f.write_str("null")
+    match Document::new(bytes) {
+        Some(document) => write_document(document, Layout::OnLines(0), f),
+        None => f.write_str("null"),
     }
 }
 
@@ -226,18 +225,31 @@ fn write_lossy<W: fmt::Write>(bytes: &[u8], f: &mut fmt::Formatter<W>) -> fmt::R
     Ok(())
 }
 
-// The text of a document.
-fn write_document<W: fmt::Write>(
-    bytes: &[u8],
+/// The text of a document, laid out that way. Only memory can be refused.
+pub fn document_text(alloc: Global, document: Document, layout: Layout) -> Result<String, Error>
+    requires room { (n : ℕ) → n < 2 ^ 64 → HasRoom (layout_of layout) n }
+    ensures text { IfOk result (λ text. string_bytes text
+        ≡ laid_out (layout_of layout) (document_tree document.entry)) }
+    ensures memory { IfErr result (λ e. e ≡ Error.OutOfMemory) }
+{
+    // The text is about as long as the bytes.
+    let text = String::with_capacity(alloc, document.as_bytes().len())?;
+    let mut f = fmt::Formatter::new(text);
+    let answer = write_document(document, layout, &mut f);
+    written(answer, f)
+}
+
+/// Writes the text of a document.
+pub fn write_document<W: fmt::Write>(
+    document: Document,
     layout: Layout,
     f: &mut fmt::Formatter<W>,
 ) -> fmt::Result
-    requires document { IsDocument bytes.now }
     requires room { (n : ℕ) → n < 2 ^ 64 → HasRoom (layout_of layout) n }
-    ensures { (t : Tree) → Doc bytes.now t
-        → WritesStyledOnOk W.write_str_gives f.old result (laid_out (layout_of layout) t) f.new }
+    ensures { WritesStyledOnOk W.write_str_gives f.old result
+        (laid_out (layout_of layout) (document_tree document.entry)) f.new }
 {
-    let whole = split_document(bytes);
+    let whole = split_document(document.as_bytes());
     write_part(whole.tag, whole.payload, layout, f)
 }
 

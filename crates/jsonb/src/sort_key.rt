@@ -1,0 +1,62 @@
+//! Any bytes, checked once for many comparisons.
+
+ghost use Rattle.jsonb_codec.specs.Doc.{IsDocument};
+
+use crate::document::Document;
+
+/// Bytes that were checked and are no document.
+#[derive(Clone, Copy, Debug)]
+pub struct OtherBytes<'a> {
+    bytes: &'a [u8],
+    ghost known: { IsDocument bytes.now → ⊥ },
+}
+
+/// Any bytes, with what one check has told of them. A key is ordered as a `RawJsonb` of its bytes
+/// is, and no comparison checks again: a column that may hold foreign bytes is sorted by keys.
+#[derive(Clone, Copy, Debug)]
+pub enum SortKey<'a> {
+    Document(Document<'a>),
+    Other(OtherBytes<'a>),
+}
+
+impl<'a> OtherBytes<'a> {
+    ghost use Rattle.std.specs.Prelude.{◌≡◌};
+    ghost use Rattle.jsonb_codec.specs.Doc.{IsDocument};
+    ghost use Rattle.jsonb.specs.SortKey.{other_key_bytes};
+
+    /// The bytes.
+    pub fn as_bytes(&self) -> &'a [u8]
+        ensures bytes { result.now ≡ other_key_bytes self.now }
+        ensures other { IsDocument result.now → ⊥ }
+    {
+        self.bytes
+    }
+}
+
+impl<'a> SortKey<'a> {
+    ghost use Rattle.std.specs.Prelude.{◌≡◌};
+    ghost use Rattle.jsonb.specs.Meant.{meaning_of};
+    ghost use Rattle.jsonb.specs.SortKey.{key_bytes, key_meaning};
+
+    /// The key of these bytes.
+    pub fn new(bytes: &'a [u8]) -> Self
+        ensures bytes { key_bytes result ≡ bytes.now }
+        ensures meaning { key_meaning result ≡ meaning_of bytes.now }
+    {
+        match Document::new(bytes) {
+            Some(document) => SortKey::Document(document),
+            None => SortKey::Other(OtherBytes { bytes }),
+        }
+    }
+
+    /// The bytes.
+    pub fn as_bytes(&self) -> &'a [u8]
+        ensures bytes { result.now ≡ key_bytes self.now }
+        ensures meaning { key_meaning self.now ≡ meaning_of result.now }
+    {
+        match self {
+            SortKey::Document(document) => document.as_bytes(),
+            SortKey::Other(other) => other.as_bytes(),
+        }
+    }
+}
