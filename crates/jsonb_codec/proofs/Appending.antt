@@ -3,7 +3,7 @@ use Rattle.std.proofs.Common.{◌≡◌, ℕ, ◌+◌, List, ◌++◌, Vec, Glob
 use Rattle.std.proofs.lemmas.List.{append_assoc}
 use Rattle.jsonb_value.specs.Tree.{Trees, no_trees, tree, Pairs, no_pairs, pair, count, pair_count}
 use Rattle.jsonb_codec.specs.Canon.{payloads_of, value_payloads}
-use Rattle.jsonb_codec.specs.Room.{Appended, last_length, last_value_length}
+use Rattle.jsonb_codec.specs.Room.{Appended, last_length}
 
 pub length-Appended : {old new : Vec ℕ Global} {bytes : List ℕ} → Appended old new bytes → length new.items ≡ length old.items + length bytes
 length-Appended {old} {new} {bytes} h = ap length h.items ∙ length-append old.items bytes
@@ -25,14 +25,6 @@ pub last_length-none : (n : ℕ) (ts : Trees) → count ts ≡ 0 → last_length
 last_length-none n no_trees h = refl
 last_length-none n (tree t ts) h = absurd (omega (arith, h))
 
-pub last_value_length-none : (n : ℕ) (ps : Pairs) → pair_count ps ≡ 0 → last_value_length n ps ≡ n
-last_value_length-none n no_pairs h = refl
-last_value_length-none n (pair k t ps) h = absurd (omega (arith, h))
-
 pub last_length-some : (m n : ℕ) (ts : Trees) → (count ts ≡ 0 → ⊥) → last_length m ts ≡ last_length n ts
 last_length-some m n no_trees some = absurd (some refl)
 last_length-some m n (tree t ts) some = refl
-
-pub last_value_length-some : (m n : ℕ) (ps : Pairs) → (pair_count ps ≡ 0 → ⊥) → last_value_length m ps ≡ last_value_length n ps
-last_value_length-some m n no_pairs some = absurd (some refl)
-last_value_length-some m n (pair k t ps) some = refl

@@ -1,4 +1,5 @@
 pub mod Appending
+pub mod Standing
 pub mod Words
 pub mod Entries
 pub mod Unique

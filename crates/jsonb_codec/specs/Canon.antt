@@ -43,6 +43,10 @@ abbrev mutual
   value_payloads no_pairs = []
   value_payloads (pair k t ps) = payload_of t ++ value_payloads ps
 
+-- the entry word that is written
+abbrev pub entry_word : Tree → List ℕ
+entry_word t = word (type_of t + length (payload_of t))
+
 -- the canonical document
 abbrev pub canon : Tree → List ℕ
 canon t = if type_of t == CONTAINER_TAG then payload_of t else word SCALAR_CONTAINER_TAG ++ (word (type_of t + length (payload_of t)) ++ payload_of t)

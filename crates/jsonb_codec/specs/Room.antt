@@ -1,7 +1,7 @@
 -- A buffer that is written into room made before.
 use Rattle.std.specs.Prelude.{◌≡◌, ◌≤◌, ◌+◌, ℕ, List, ◌++◌, length, vec_capacity}
 use Rattle.std.specs.Global.{Vec}
-use Rattle.jsonb_value.specs.Tree.{Trees, no_trees, tree, Pairs, no_pairs, pair}
+use Rattle.jsonb_value.specs.Tree.{Trees, no_trees, tree}
 use Rattle.jsonb_codec.specs.Canon.{payload_of}
 
 -- There is room for the bytes behind those of the buffer.
@@ -13,11 +13,14 @@ pub record Appended (old new : Vec ℕ) (bytes : List ℕ) : Type 0 where
   pub items : new.items ≡ old.items ++ bytes
   pub capacity : vec_capacity old ≤ vec_capacity new
 
+-- The words stand in the bytes from the index on.
+pub record Stands (index : ℕ) (words bytes : List ℕ) : Type 0 where
+  pub front : List ℕ
+  pub rest : List ℕ
+  pub parts : bytes ≡ front ++ (words ++ rest)
+  pub is_at : length front ≡ index
+
 -- The length of the last payload, and of none the given one.
 abbrev pub last_length : ℕ → Trees → ℕ
 last_length n no_trees = n
 last_length n (tree t ts) = last_length (length (payload_of t)) ts
-
-abbrev pub last_value_length : ℕ → Pairs → ℕ
-last_value_length n no_pairs = n
-last_value_length n (pair k t ps) = last_value_length (length (payload_of t)) ps

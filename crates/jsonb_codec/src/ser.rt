@@ -3,6 +3,7 @@
 pub mod append;
 pub mod measure;
 mod node;
+mod within;
 
 ghost use Rattle.std.specs.Prelude.{◌≡◌, ◌≤◌, ◌+◌, ◌++◌, ◌↔◌, ◌⊎◌, length, vec_capacity, Err, IsOk, IfOk, IfErr, OnOk, OnErr};
 ghost use Rattle.jsonb_value.specs.Value.{tree_of};

@@ -1,28 +1,32 @@
 //! Documents, written front to back into a buffer with room for all of it.
 //!
 //! An entry word comes before what it stands for, so a payload's length is to be known when its
-//! entry is written. Where the length of a container is known, that of its last child is what the
-//! others leave of it, so a chain of containers is not measured again at each level.
+//! entry is written, and is read back from there when the payload is. The length of a container
+//! child is found from that of the container round it (`within`), and not measured again whole.
 
 ghost use Rattle.std.specs.Prelude.{◌≡◌, ◌≢◌, ◌≤◌, ◌<◌, ◌^◌, ◌+◌, length, Some, None, IfSome, IfNone};
-ghost use Rattle.jsonb_value.specs.Tree.{array, object, count, pair_count};
+ghost use Rattle.jsonb_value.specs.Tree.{Tree, array, object};
 ghost use Rattle.jsonb_value.specs.Value.{items_view, pairs_view};
 ghost use Rattle.jsonb_value.specs.Ast.{asts_view, ast_pairs_view};
 ghost use Rattle.jsonb_value.specs.NumCode.{number_payload};
 ghost use Rattle.jsonb_value.specs.ExtCode.{extension_payload, extension_of};
 ghost use Rattle.jsonb_codec.specs.Word.{word};
-ghost use Rattle.jsonb_codec.specs.Doc.{type_of};
-ghost use Rattle.jsonb_codec.specs.Canon.{payload_of, entries_of, payloads_of, key_entries, value_entries, key_payloads, value_payloads, canon, AllFit, PairsFit, FitsInside, FitsEntry, Fits};
+ghost use Rattle.jsonb_codec.specs.Canon.{payload_of, entry_word, entries_of, payloads_of, key_entries, value_entries, key_payloads, value_payloads, canon, AllFit, PairsFit, FitsInside, FitsEntry, Fits};
 ghost use Rattle.jsonb_codec.specs.Node.{node_tree, items_trees, object_pairs};
-ghost use Rattle.jsonb_codec.specs.Room.{HasRoom, Appended, last_length, last_value_length};
+ghost use Rattle.jsonb_codec.specs.Room.{HasRoom, Appended, Stands};
 
-use super::measure::measure_payload;
 use super::node::{AstPair, Items, Node, Pairs};
+use super::within::{item_size, value_size};
 use crate::constants::{
-    ARRAY_CONTAINER_TAG, CONTAINER_TAG, OBJECT_CONTAINER_TAG, SCALAR_CONTAINER_TAG, STRING_TAG,
+    ARRAY_CONTAINER_TAG, JENTRY_OFF_LEN_MASK, OBJECT_CONTAINER_TAG, SCALAR_CONTAINER_TAG,
+    STRING_TAG,
 };
-use crate::word::word_bytes;
+use crate::word::{read_word, word_bytes};
 use jsonb_value::{ExtensionValue, JsonAst, Number, Object, Value};
+
+// In so many levels each container child is measured at once: a document that is wide and not deep
+// gains nothing by limits.
+const PLAIN_LEVELS: usize = 4;
 
 /// Appends the canonical document of a value that fits, which has that length.
 pub fn append_document(out: &mut Vec<u8>, node: Node<'_, '_>, size: usize)
@@ -31,13 +35,16 @@ pub fn append_document(out: &mut Vec<u8>, node: Node<'_, '_>, size: usize)
     requires room { HasRoom out.old (canon (node_tree node)) }
     ensures { Appended out.old out.new (canon (node_tree node.entry)) }
 {
-    if node.entry_type() == CONTAINER_TAG {
-        append_payload(out, node, Some(size));
-        return;
+    match node {
+        Node::Array(items) => append_array(out, items, size, PLAIN_LEVELS),
+        Node::Object(pairs) => append_object(out, pairs, size, PLAIN_LEVELS),
+        scalar => {
+            append_word(out, SCALAR_CONTAINER_TAG);
+            let entry = out.len();
+            append_entry(out, scalar, size - 8);
+            append_payload(out, scalar, entry, 0);
+        }
     }
-    append_word(out, SCALAR_CONTAINER_TAG);
-    append_entry(out, node, None);
-    append_payload(out, node, None);
 }
 
 /// Appends the bytes as they are.
@@ -61,58 +68,36 @@ pub fn append_word(out: &mut Vec<u8>, number: u32)
     append_bytes(out, &word_bytes(number));
 }
 
-// The entry word of a value, and the length of its payload. That of a container is given where it
-// is known.
+// The entry word of a value, whose payload has that length.
 #[inline(always)]
-fn append_entry(out: &mut Vec<u8>, node: Node<'_, '_>, known: Option<usize>) -> usize
+fn append_entry(out: &mut Vec<u8>, node: Node<'_, '_>, size: usize)
     requires fits { FitsEntry (node_tree node) }
-    requires known { IfSome known (λ n. n ≡ length (payload_of (node_tree node))) }
-    requires room { HasRoom out.old
-        (word (type_of (node_tree node) + length (payload_of (node_tree node)))) }
-    ensures written { Appended out.old out.new
-        (word (type_of (node_tree node.entry) + length (payload_of (node_tree node.entry)))) }
-    ensures size { result ≡ length (payload_of (node_tree node.entry)) }
+    requires size { size ≡ length (payload_of (node_tree node)) }
+    requires room { HasRoom out.old (entry_word (node_tree node)) }
+    ensures { Appended out.old out.new (entry_word (node_tree node.entry)) }
 {
-    // Type and length side by side, so that the code looks at the value's kind once.
-    let entry_type = node.entry_type();
-    let size = measured_unless_known(node, known);
-    append_word(out, entry_type + size as u32);
-    size
+    append_word(out, node.entry_type() + size as u32);
 }
 
-// The length of a payload. That of a container is measured where it is not known.
+// The length in the entry word that was written at the index.
 #[inline(always)]
-fn measured_unless_known(node: Node<'_, '_>, known: Option<usize>) -> usize
-    requires fits { FitsEntry (node_tree node) }
-    requires known { IfSome known (λ n. n ≡ length (payload_of (node_tree node))) }
-    ensures { result ≡ length (payload_of (node_tree node.entry)) }
+fn written_size(out: &Vec<u8>, entry: usize) -> usize
+    requires { (t : Tree) × (FitsEntry t × Stands entry (entry_word t) out.now.items) }
+    ensures { (t : Tree) → FitsEntry t → Stands entry (entry_word t) out.now.items
+        → result ≡ length (payload_of t) }
 {
-    match node {
-        Node::Array(_) | Node::Object(_) => match known {
-            Some(size) => size,
-            None => measured_size(node),
-        },
-        _ => measured_size(node),
-    }
-}
-
-#[inline(always)]
-fn measured_size(node: Node<'_, '_>) -> usize
-    requires { FitsEntry (node_tree node) }
-    ensures { result ≡ length (payload_of (node_tree node.entry)) }
-{
-    let Some(size) = measure_payload(node) else {
+    let Ok(word) = read_word(out, entry) else {
         unreachable!();
     };
-    size
+    (word & JENTRY_OFF_LEN_MASK) as usize
 }
 
-// The payload of a value. The length of a container is given where it is known.
+// The payload of a value, whose entry word was written at the index.
 #[cycle(append)]
 #[inline(always)]
-fn append_payload(out: &mut Vec<u8>, node: Node<'_, '_>, size: Option<usize>)
-    requires fits { Fits (node_tree node) }
-    requires size { IfSome size (λ n. n ≡ length (payload_of (node_tree node))) }
+fn append_payload(out: &mut Vec<u8>, node: Node<'_, '_>, entry: usize, plain_levels: usize)
+    requires fits { FitsEntry (node_tree node) }
+    requires entry { Stands entry (entry_word (node_tree node)) out.old.items }
     requires room { HasRoom out.old (payload_of (node_tree node)) }
     ensures { Appended out.old out.new (payload_of (node_tree node.entry)) }
 {
@@ -121,10 +106,14 @@ fn append_payload(out: &mut Vec<u8>, node: Node<'_, '_>, size: Option<usize>)
         Node::Text(text) => append_bytes(out, text.as_bytes()),
         Node::Number(number) => append_number(out, *number),
         Node::Extension(value) => append_extension(out, value),
-        Node::Array(Items::Values(items)) => append_value_items(out, items, size),
-        Node::Array(Items::Asts(items)) => append_ast_items(out, items, size),
-        Node::Object(Pairs::Values(pairs)) => append_value_pairs(out, pairs, size),
-        Node::Object(Pairs::Asts(pairs)) => append_ast_pairs(out, pairs, size),
+        Node::Array(items) => {
+            let size = written_size(out, entry);
+            append_array(out, items, size, plain_levels);
+        }
+        Node::Object(pairs) => {
+            let size = written_size(out, entry);
+            append_object(out, pairs, size, plain_levels);
+        }
     }
 }
 
@@ -150,60 +139,91 @@ pub fn append_extension(out: &mut Vec<u8>, value: ExtensionValue<'_>)
     };
 }
 
+// The payload of an array, which has that length.
+#[cycle(append)]
+#[inline(always)]
+fn append_array(out: &mut Vec<u8>, items: Items<'_, '_>, size: usize, plain_levels: usize)
+    requires fits { FitsInside (array (items_trees items)) }
+    requires size { size ≡ length (payload_of (array (items_trees items))) }
+    requires room { HasRoom out.old (payload_of (array (items_trees items))) }
+    ensures { Appended out.old out.new (payload_of (array (items_trees items.entry))) }
+{
+    match items {
+        Items::Values(items) => append_value_items(out, items, size, plain_levels),
+        Items::Asts(items) => append_ast_items(out, items, size, plain_levels),
+    }
+}
+
+// The payload of an object, which has that length.
+#[cycle(append)]
+#[inline(always)]
+fn append_object(out: &mut Vec<u8>, pairs: Pairs<'_, '_>, size: usize, plain_levels: usize)
+    requires fits { FitsInside (object (object_pairs pairs)) }
+    requires size { size ≡ length (payload_of (object (object_pairs pairs))) }
+    requires room { HasRoom out.old (payload_of (object (object_pairs pairs))) }
+    ensures { Appended out.old out.new (payload_of (object (object_pairs pairs.entry))) }
+{
+    match pairs {
+        Pairs::Values(pairs) => append_value_pairs(out, pairs, size, plain_levels),
+        Pairs::Asts(pairs) => append_ast_pairs(out, pairs, size, plain_levels),
+    }
+}
+
 // The four below are functions of their own, so that the code of each knows what it walks over.
 #[cycle(append)]
-fn append_value_items(out: &mut Vec<u8>, items: &[Value<'_>], size: Option<usize>)
+fn append_value_items(out: &mut Vec<u8>, items: &[Value<'_>], size: usize, plain_levels: usize)
     requires fits { FitsInside (array (items_view items.now)) }
-    requires size { IfSome size (λ n. n ≡ length (payload_of (array (items_view items.now)))) }
+    requires size { size ≡ length (payload_of (array (items_view items.now))) }
     requires room { HasRoom out.old (payload_of (array (items_view items.now))) }
     ensures { Appended out.old out.new (payload_of (array (items_view items.now))) }
 {
-    append_items(out, Items::Values(items), size);
+    append_items(out, Items::Values(items), size, plain_levels);
 }
 
 #[cycle(append)]
-fn append_ast_items(out: &mut Vec<u8>, items: &[JsonAst<'_>], size: Option<usize>)
+fn append_ast_items(out: &mut Vec<u8>, items: &[JsonAst<'_>], size: usize, plain_levels: usize)
     requires fits { FitsInside (array (asts_view items.now)) }
-    requires size { IfSome size (λ n. n ≡ length (payload_of (array (asts_view items.now)))) }
+    requires size { size ≡ length (payload_of (array (asts_view items.now))) }
     requires room { HasRoom out.old (payload_of (array (asts_view items.now))) }
     ensures { Appended out.old out.new (payload_of (array (asts_view items.now))) }
 {
-    append_items(out, Items::Asts(items), size);
+    append_items(out, Items::Asts(items), size, plain_levels);
 }
 
 #[cycle(append)]
-fn append_value_pairs(out: &mut Vec<u8>, pairs: &Object<'_>, size: Option<usize>)
+fn append_value_pairs(out: &mut Vec<u8>, pairs: &Object<'_>, size: usize, plain_levels: usize)
     requires fits { FitsInside (object (pairs_view pairs.now.entries)) }
-    requires size { IfSome size (λ n. n ≡ length (payload_of (object (pairs_view pairs.now.entries)))) }
+    requires size { size ≡ length (payload_of (object (pairs_view pairs.now.entries))) }
     requires room { HasRoom out.old (payload_of (object (pairs_view pairs.now.entries))) }
     ensures { Appended out.old out.new (payload_of (object (pairs_view pairs.now.entries))) }
 {
-    append_pairs(out, Pairs::Values(pairs), size);
+    append_pairs(out, Pairs::Values(pairs), size, plain_levels);
 }
 
 #[cycle(append)]
-fn append_ast_pairs(out: &mut Vec<u8>, pairs: &[AstPair<'_>], size: Option<usize>)
+fn append_ast_pairs(out: &mut Vec<u8>, pairs: &[AstPair<'_>], size: usize, plain_levels: usize)
     requires fits { FitsInside (object (ast_pairs_view pairs.now)) }
-    requires size { IfSome size (λ n. n ≡ length (payload_of (object (ast_pairs_view pairs.now)))) }
+    requires size { size ≡ length (payload_of (object (ast_pairs_view pairs.now))) }
     requires room { HasRoom out.old (payload_of (object (ast_pairs_view pairs.now))) }
     ensures { Appended out.old out.new (payload_of (object (ast_pairs_view pairs.now))) }
 {
-    append_pairs(out, Pairs::Asts(pairs), size);
+    append_pairs(out, Pairs::Asts(pairs), size, plain_levels);
 }
 
 // The payload of an array.
 #[cycle(append)]
 #[inline(always)]
-fn append_items(out: &mut Vec<u8>, items: Items<'_, '_>, size: Option<usize>)
+fn append_items(out: &mut Vec<u8>, items: Items<'_, '_>, size: usize, plain_levels: usize)
     requires fits { FitsInside (array (items_trees items)) }
-    requires size { IfSome size (λ n. n ≡ length (payload_of (array (items_trees items)))) }
+    requires size { size ≡ length (payload_of (array (items_trees items))) }
     requires room { HasRoom out.old (payload_of (array (items_trees items))) }
     ensures { Appended out.old out.new (payload_of (array (items_trees items.entry))) }
 {
     let count = items.len();
     append_word(out, ARRAY_CONTAINER_TAG + count as u32);
-    let last = append_entries(out, items, payloads_size(size, 4 + 4 * count));
-    append_payloads(out, items, last);
+    let entries = out.len();
+    append_entries(out, items, size - 4 - 4 * count, plain_levels);
+    append_payloads(out, items, entries, plain_levels.saturating_sub(1));
 }
 
 /// What is left of a length, where it is known.
@@ -242,39 +262,40 @@ pub fn known_size(behind: usize, last: usize) -> Option<usize>
     if behind == 0 { Some(last) } else { None }
 }
 
-// The entry words of an array's items. The length of the last payload.
+// The entry words of an array's items, whose payloads have that length in all.
 #[inline(always)]
-fn append_entries(out: &mut Vec<u8>, items: Items<'_, '_>, size: Option<usize>) -> usize
-    requires fits { AllFit (items_trees items) }
-    requires size { IfSome size (λ n. n ≡ length (payloads_of (items_trees items))) }
-    requires small { length (payloads_of (items_trees items)) < 2 ^ 63 }
+fn append_entries(out: &mut Vec<u8>, items: Items<'_, '_>, size: usize, plain_levels: usize)
+    requires fits { FitsInside (array (items_trees items)) }
+    requires size { size ≡ length (payloads_of (items_trees items)) }
     requires room { HasRoom out.old (entries_of (items_trees items)) }
-    ensures written { Appended out.old out.new (entries_of (items_trees items.entry)) }
-    ensures last { result ≡ last_length 0 (items_trees items.entry) }
+    ensures { Appended out.old out.new (entries_of (items_trees items.entry)) }
 {
     let mut left = items;
-    let mut before = 0;
-    let mut last = 0;
+    let mut size_left = size;
     while let Some((item, others)) = left.split_first() {
-        last = append_entry(out, item, last_size(others.len(), before, size));
-        before += last;
+        // Type and length side by side, so that the code looks at the value's kind once.
+        let entry_type = item.entry_type();
+        let size = item_size(item, others, size_left, plain_levels);
+        append_word(out, entry_type + size as u32);
+        size_left -= size;
         left = others;
     }
-    last
 }
 
-// The payloads of an array's items, of which the last has that length.
+// The payloads of an array's items, whose entry words stand from the index on.
 #[cycle(append)]
 #[inline(always)]
-fn append_payloads(out: &mut Vec<u8>, items: Items<'_, '_>, last: usize)
+fn append_payloads(out: &mut Vec<u8>, items: Items<'_, '_>, entries: usize, plain_levels: usize)
     requires fits { AllFit (items_trees items) }
-    requires last { last ≡ last_length 0 (items_trees items) }
+    requires entries { Stands entries (entries_of (items_trees items)) out.old.items }
     requires room { HasRoom out.old (payloads_of (items_trees items)) }
     ensures { Appended out.old out.new (payloads_of (items_trees items.entry)) }
 {
     let mut left = items;
+    let mut entry = entries;
     while let Some((item, others)) = left.split_first() {
-        append_payload(out, item, known_size(others.len(), last));
+        append_payload(out, item, entry, plain_levels);
+        entry += 4;
         left = others;
     }
 }
@@ -282,18 +303,19 @@ fn append_payloads(out: &mut Vec<u8>, items: Items<'_, '_>, last: usize)
 // The payload of an object.
 #[cycle(append)]
 #[inline(always)]
-fn append_pairs(out: &mut Vec<u8>, pairs: Pairs<'_, '_>, size: Option<usize>)
+fn append_pairs(out: &mut Vec<u8>, pairs: Pairs<'_, '_>, size: usize, plain_levels: usize)
     requires fits { FitsInside (object (object_pairs pairs)) }
-    requires size { IfSome size (λ n. n ≡ length (payload_of (object (object_pairs pairs)))) }
+    requires size { size ≡ length (payload_of (object (object_pairs pairs))) }
     requires room { HasRoom out.old (payload_of (object (object_pairs pairs))) }
     ensures { Appended out.old out.new (payload_of (object (object_pairs pairs.entry))) }
 {
     let count = pairs.len();
     append_word(out, OBJECT_CONTAINER_TAG + count as u32);
     let keys = append_key_entries(out, pairs);
-    let last = append_value_entries(out, pairs, payloads_size(size, 4 + 8 * count + keys));
+    let entries = out.len();
+    append_value_entries(out, pairs, size - 4 - 8 * count - keys, plain_levels);
     append_keys(out, pairs);
-    append_values(out, pairs, last);
+    append_values(out, pairs, entries, plain_levels.saturating_sub(1));
 }
 
 // The entry words of an object's keys. The length of all keys.
@@ -315,27 +337,23 @@ fn append_key_entries(out: &mut Vec<u8>, pairs: Pairs<'_, '_>) -> usize
     size
 }
 
-// The entry words of an object's values. The length of the last payload.
+// The entry words of an object's values, whose payloads have that length in all.
 #[inline(always)]
-fn append_value_entries(out: &mut Vec<u8>, pairs: Pairs<'_, '_>, size: Option<usize>) -> usize
-    requires fits { PairsFit (object_pairs pairs) }
-    requires size { IfSome size (λ n. n ≡ length (value_payloads (object_pairs pairs))) }
-    requires small { length (value_payloads (object_pairs pairs)) < 2 ^ 63 }
+fn append_value_entries(out: &mut Vec<u8>, pairs: Pairs<'_, '_>, size: usize, plain_levels: usize)
+    requires fits { FitsInside (object (object_pairs pairs)) }
+    requires size { size ≡ length (value_payloads (object_pairs pairs)) }
     requires room { HasRoom out.old (value_entries (object_pairs pairs)) }
-    ensures written { Appended out.old out.new (value_entries (object_pairs pairs.entry)) }
-    ensures last { result ≡ last_value_length 0 (object_pairs pairs.entry) }
+    ensures { Appended out.old out.new (value_entries (object_pairs pairs.entry)) }
 {
     let mut left = pairs.walk();
-    let mut count = pairs.len();
-    let mut before = 0;
-    let mut last = 0;
+    let mut size_left = size;
     while let Some((_, value, others)) = left.split_first() {
-        count -= 1;
-        last = append_entry(out, value, last_size(count, before, size));
-        before += last;
+        let entry_type = value.entry_type();
+        let size = value_size(value, &others, size_left, plain_levels);
+        append_word(out, entry_type + size as u32);
+        size_left -= size;
         left = others;
     }
-    last
 }
 
 // The keys of an object.
@@ -351,20 +369,20 @@ fn append_keys(out: &mut Vec<u8>, pairs: Pairs<'_, '_>)
     }
 }
 
-// The payloads of an object's values, of which the last has that length.
+// The payloads of an object's values, whose entry words stand from the index on.
 #[cycle(append)]
 #[inline(always)]
-fn append_values(out: &mut Vec<u8>, pairs: Pairs<'_, '_>, last: usize)
+fn append_values(out: &mut Vec<u8>, pairs: Pairs<'_, '_>, entries: usize, plain_levels: usize)
     requires fits { PairsFit (object_pairs pairs) }
-    requires last { last ≡ last_value_length 0 (object_pairs pairs) }
+    requires entries { Stands entries (value_entries (object_pairs pairs)) out.old.items }
     requires room { HasRoom out.old (value_payloads (object_pairs pairs)) }
     ensures { Appended out.old out.new (value_payloads (object_pairs pairs.entry)) }
 {
     let mut left = pairs.walk();
-    let mut count = pairs.len();
+    let mut entry = entries;
     while let Some((_, value, others)) = left.split_first() {
-        count -= 1;
-        append_payload(out, value, known_size(count, last));
+        append_payload(out, value, entry, plain_levels);
+        entry += 4;
         left = others;
     }
 }

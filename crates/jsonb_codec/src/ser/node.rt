@@ -164,6 +164,33 @@ impl<'s, 'a> Pairs<'s, 'a> {
 }
 
 impl<'s, 'a> PairsLeft<'s, 'a> {
+    /// How many pairs are left.
+    #[inline(always)]
+    pub fn len(&self) -> usize
+        ensures { result ≡ pair_count (left_pairs self.now) }
+    {
+        match self {
+            PairsLeft::Values(pairs) => pairs.len(),
+            PairsLeft::Asts(pairs) => (*pairs).len(),
+        }
+    }
+
+    /// A second walk over the pairs that are left.
+    #[inline(always)]
+    pub fn again(&self) -> PairsLeft<'s, 'a>
+        ensures { left_pairs result ≡ left_pairs self.now }
+    {
+        match self {
+            PairsLeft::Values(pairs) => {
+                let Ok(pairs) = pairs.clone() else {
+                    unreachable!();
+                };
+                PairsLeft::Values(pairs)
+            }
+            PairsLeft::Asts([pairs @ ..]) => PairsLeft::Asts(pairs),
+        }
+    }
+
     /// The first key and its value, and the other pairs.
     #[inline(always)]
     pub fn split_first(self) -> Option<(&'s str, Node<'s, 'a>, PairsLeft<'s, 'a>)>

@@ -1,8 +1,8 @@
-use Rattle.std.proofs.Common.{◌≡◌, ◌≤◌, ◌+◌, ◌++◌, length, vec_capacity}
+use Rattle.std.proofs.Common.{◌≡◌, ◌≤◌, ◌++◌, length, vec_capacity}
 use Rattle.jsonb_value.specs.Tree.{count}
 use Rattle.jsonb_codec.specs.Canon.{entries_of, payloads_of, AllFit}
 use Rattle.jsonb_codec.specs.Node.{items_trees}
-use Rattle.jsonb_codec.specs.Room.{HasRoom, last_length}
+use Rattle.jsonb_codec.specs.Room.{HasRoom}
 use Rattle.jsonb_codec.proofs.ser.append.append_entries.Given as goal
 
 abbrev pub invariant-loop-item : goal.invariant-loop-item
@@ -14,8 +14,8 @@ invariant-loop-item l =
       room : HasRoom l.out (entries_of left);
       written : l.out.items ++ entries_of left ≡ l.fn.out.items ++ entries_of all;
       capacity : vec_capacity l.fn.out ≤ vec_capacity l.out;
-      before : l.before + length (payloads_of left) ≡ length (payloads_of all);
-      last : last_length l.last left ≡ last_length 0 all;
+      size_left : l.size_left ≡ length (payloads_of left);
+      few : count left ≤ count all;
     }
 
 abbrev pub decreases-loop-item : goal.decreases-loop-item

@@ -1,8 +1,8 @@
-use Rattle.std.proofs.Common.{◌≡◌, ◌≤◌, ◌+◌, ◌++◌, length, vec_capacity}
+use Rattle.std.proofs.Common.{◌≡◌, ◌≤◌, ◌++◌, length, vec_capacity}
 use Rattle.jsonb_value.specs.Tree.{pair_count}
 use Rattle.jsonb_codec.specs.Canon.{value_entries, value_payloads, PairsFit}
 use Rattle.jsonb_codec.specs.Node.{object_pairs, left_pairs}
-use Rattle.jsonb_codec.specs.Room.{HasRoom, last_value_length}
+use Rattle.jsonb_codec.specs.Room.{HasRoom}
 use Rattle.jsonb_codec.proofs.ser.append.append_value_entries.Given as goal
 
 abbrev pub invariant-loop-value : goal.invariant-loop-value
@@ -14,9 +14,8 @@ invariant-loop-value l =
       room : HasRoom l.out (value_entries left);
       written : l.out.items ++ value_entries left ≡ l.fn.out.items ++ value_entries all;
       capacity : vec_capacity l.fn.out ≤ vec_capacity l.out;
-      count : l.count ≡ pair_count left;
-      before : l.before + length (value_payloads left) ≡ length (value_payloads all);
-      last : last_value_length l.last left ≡ last_value_length 0 all;
+      size_left : l.size_left ≡ length (value_payloads left);
+      few : pair_count left ≤ pair_count all;
     }
 
 abbrev pub decreases-loop-value : goal.decreases-loop-value
