@@ -1,9 +1,9 @@
--- Parts appended one after the other, and the length of the last.
+-- Parts appended one after the other.
 use Rattle.std.proofs.Common.{◌≡◌, ℕ, ◌+◌, List, ◌++◌, Vec, Global, length, refl, ap, ◌∙◌, arith, length-append}
 use Rattle.std.proofs.lemmas.List.{append_assoc}
 use Rattle.jsonb_value.specs.Tree.{Trees, no_trees, tree, Pairs, no_pairs, pair, count, pair_count}
 use Rattle.jsonb_codec.specs.Canon.{payloads_of, value_payloads}
-use Rattle.jsonb_codec.specs.Room.{Appended, last_length}
+use Rattle.jsonb_codec.specs.Room.{Appended}
 
 pub length-Appended : {old new : Vec ℕ Global} {bytes : List ℕ} → Appended old new bytes → length new.items ≡ length old.items + length bytes
 length-Appended {old} {new} {bytes} h = ap length h.items ∙ length-append old.items bytes
@@ -19,12 +19,3 @@ length-payloads_of-none (tree t ts) h = absurd (omega (arith, h))
 pub length-value_payloads-none : (ps : Pairs) → pair_count ps ≡ 0 → length (value_payloads ps) ≡ 0
 length-value_payloads-none no_pairs h = refl
 length-value_payloads-none (pair k t ps) h = absurd (omega (arith, h))
-
--- Where there is a last one, its length does not depend on the length given, and where there is none it is that.
-pub last_length-none : (n : ℕ) (ts : Trees) → count ts ≡ 0 → last_length n ts ≡ n
-last_length-none n no_trees h = refl
-last_length-none n (tree t ts) h = absurd (omega (arith, h))
-
-pub last_length-some : (m n : ℕ) (ts : Trees) → (count ts ≡ 0 → ⊥) → last_length m ts ≡ last_length n ts
-last_length-some m n no_trees some = absurd (some refl)
-last_length-some m n (tree t ts) some = refl

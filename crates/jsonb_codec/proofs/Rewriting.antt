@@ -1,6 +1,5 @@
 -- The children of a container, whether it is an array or an object, and how it is written as they are.
-use Rattle.std.proofs.Common.{◌≡◌, ◌↔◌, ◌≢◌, inl, inr, ◌<◌, ◌+◌, ◌*◌, ◌%◌, ◌^◌, ℕ, List, ◌++◌, length, take, drop, true, false, refl, sym, ap, ap₂, subst, ◌∙◌, arith, length-append, append-nil, append_assoc, [], Option, Some, None, IfSome, IfNone}
-use Rattle.std.proofs.lemmas.Option.{IfSome_then}
+use Rattle.std.proofs.Common.{◌≡◌, ◌↔◌, ◌≢◌, inl, inr, ◌<◌, ◌≤◌, ◌+◌, ◌-◌, ◌*◌, ◌%◌, ◌^◌, ℕ, List, ◌++◌, length, take, drop, true, false, refl, sym, ap, ap₂, subst, ◌∙◌, arith, length-append, append-nil, append_assoc, [], Option, Some, None, IfNone}
 use Rattle.std.specs.Global.{Vec}
 use Rattle.std.specs.Prelude.{Result, Ok, Err, IsErrAnd}
 use Rattle.jsonb_value.specs.declared.error.Error.{Error}
@@ -16,14 +15,14 @@ use Rattle.jsonb_codec.specs.Word.{word}
 use Rattle.jsonb_codec.specs.Doc.{type_of, Doc, Keys, Values, Children, Payload}
 use Rattle.jsonb_codec.specs.Depth.{depth}
 use Rattle.jsonb_codec.specs.Parts.{IsPayloadOf}
-use Rattle.jsonb_codec.specs.Canon.{canon, Fits, FitsInside, payload_of, entries_of, payloads_of, key_entries, key_payloads, value_entries, value_payloads, FitsEntry, AllFit, PairsFit}
+use Rattle.jsonb_codec.specs.Canon.{canon, Fits, FitsInside, payload_of, entry_word, entries_of, payloads_of, key_entries, key_payloads, value_entries, value_payloads, FitsEntry, AllFit, PairsFit}
 use Rattle.jsonb_codec.specs.Canonical.{IsCanonical, AreSomeChildren}
-use Rattle.jsonb_codec.specs.Room.{HasRoom, Appended, last_length}
-use Rattle.jsonb_codec.specs.Rewriting.{FirstChild, Opened}
+use Rattle.jsonb_codec.specs.Room.{HasRoom, Appended, Stands}
+use Rattle.jsonb_codec.specs.Rewriting.{FirstChild, Opened, LeavesTo}
 use Rattle.jsonb_codec.proofs.Words.{length-word-append, same_words}
-use Rattle.jsonb_codec.proofs.Lengths.{length-entries_of, Fits-scalar}
-use Rattle.jsonb_codec.proofs.Appending.{length-payloads_of-none, last_length-none, last_length-some}
-use Rattle.jsonb_codec.proofs.Unique.{same_tree, same_trees, Doc-unique}
+use Rattle.jsonb_codec.proofs.Lengths.{length-entries_of}
+use Rattle.jsonb_codec.proofs.Standing.{Stands-first, Stands-more, Stands-next}
+use Rattle.jsonb_codec.proofs.Unique.{same_trees, Doc-unique}
 use Rattle.jsonb_codec.proofs.CanonLaws.{type_of-norm, count-norms, pair_count-norm_pairs, payload_of-norm, canon-norm, Doc-canon}
 use Rattle.jsonb_codec.proofs.Entries.{IsType, IsType-type_of, same_entry, length-Children, length-Keys, length-Values}
 use Rattle.jsonb_codec.proofs.Steps.{Read, no_container}
@@ -281,85 +280,66 @@ length-Opened t header e p o =
     let source = length-Children o.children e p o.are in
     ap length o.written ∙ omega arith
 
--- Entry words, with the length of the payloads before and that of the last one.
-pub record Entered (old now : Vec ℕ) (all_entries all_payloads : List ℕ) (before last : ℕ) (entries payloads : List ℕ) : Type 0 where
+-- Entry words, with the length of the payloads that are left.
+pub record Entered (old now : Vec ℕ) (all_entries all_payloads : List ℕ) (size_left : ℕ) (entries payloads : List ℕ) : Type 0 where
   pub written : Written entries_of old now all_entries all_payloads entries payloads
-  pub sum : before + length (payloads_of written.left) ≡ length (payloads_of written.all)
-  pub tail : last_length last written.left ≡ last_length 0 written.all
+  pub size : size_left ≡ length (payloads_of written.left)
 
-pub entered_start : (v : Vec ℕ) (e p : List ℕ) → ((ts : Trees) × (Children ts e p × (AllFit ts × HasRoom v (entries_of ts)))) → Entered v v e p 0 0 e p
+pub entered_start : (v : Vec ℕ) (e p : List ℕ) (size : ℕ) → ((ts : Trees) × (Children ts e p × (AllFit ts × HasRoom v (entries_of ts))))
+    → ((ts : Trees) → Children ts e p → size ≡ length (payloads_of ts)) → Entered v v e p size e p
 unfolding written_start
-entered_start v e p (ts, (h, (fit, room))) = record { written = written_start entries_of v e p (ts, (h, (fit, room))); sum = omega arith; tail = refl }
+entered_start v e p size (ts, (h, (fit, room))) known = record { written = written_start entries_of v e p (ts, (h, (fit, room))); size = known ts h }
 
-module _ (old now : Vec ℕ) (ae qs : List ℕ) (before last : ℕ) (e p : List ℕ) (m : Entered old now ae qs before last e p) (ty : ℕ) (q e2 p2 : List ℕ) (f : FirstChild m.written.left ty q e2 p2) where
-  entered_parts : length (payloads_of m.written.left) ≡ length (payload_of f.first) + length (payloads_of f.others)
-  entered_parts = ap (λ (ts : Trees). length (payloads_of ts)) f.are ∙ length-append (payload_of f.first) (payloads_of f.others)
+module _ (old now : Vec ℕ) (ae qs : List ℕ) (size_left : ℕ) (e p : List ℕ) (m : Entered old now ae qs size_left e p) (ty : ℕ) (q e2 p2 : List ℕ) (f : FirstChild m.written.left ty q e2 p2) where
+  entered_parts : size_left ≡ length (payload_of f.first) + length (payloads_of f.others)
+  entered_parts = m.size ∙ ap (λ (ts : Trees). length (payloads_of ts)) f.are ∙ length-append (payload_of f.first) (payloads_of f.others)
 
-  pub entered_size : (size : Option ℕ) → ((ts : Trees) → Children ts ae qs → IfSome size (λ n. n ≡ length (payloads_of ts)))
-      → (t : Tree) × (IsPayloadOf ty q t × (FitsEntry t × (length e2 ≡ 0 → IfSome size (λ n. n ≡ before + length (payload_of t)))))
-  entered_size size known =
-      let fit = subst AllFit f.are m.written.fit in (
-        f.first,
-        (
-          f.is,
-          (
-            record { inside = fit.0.0; short = fit.0.1 },
-            λ none.
-                let nothing = length-payloads_of-none f.others (omega (arith, none, length-Children f.others e2 p2 f.behind)) in
-                IfSome_then size (known m.written.all m.written.are_all) (λ n h. omega (arith, h, m.sum, entered_parts, nothing)),
-          ),
-        ),
-      )
+  pub entered_size : (t : Tree) × (IsPayloadOf ty q t × (FitsEntry t × LeavesTo t size_left e2 p2))
+  entered_size =
+      let fit = subst AllFit f.are m.written.fit in
+      (f.first, (f.is, (record { inside = fit.0.0; short = fit.0.1 }, record { behind = f.others; are = f.behind; fit = fit.1; both = entered_parts })))
 
-  pub entered_next : (t : Tree) × (IsPayloadOf ty q t × (FitsEntry t × HasRoom now (word (type_of t + length (payload_of t)))))
-  entered_next = written_next entries_of (λ t. word (type_of t + length (payload_of t))) (λ t us. refl) old now ae qs e p m.written ty q e2 p2 f
+  pub entered_next : (t : Tree) × (IsPayloadOf ty q t × (FitsEntry t × HasRoom now (entry_word t)))
+  entered_next = written_next entries_of entry_word (λ t us. refl) old now ae qs e p m.written ty q e2 p2 f
+
+  pub entered_within : (size : ℕ) → ((t : Tree) → IsPayloadOf ty q t → size ≡ length (payload_of t)) → size ≤ size_left
+  entered_within size known = omega (arith, entered_parts, known f.first f.is)
 
   pub entered_on : (new : Vec ℕ) (size : ℕ) → ((t : Tree) → IsPayloadOf ty q t → size ≡ length (payload_of t))
-      → ((t : Tree) → IsPayloadOf ty q t → Appended now new (word (type_of t + length (payload_of t)))) → Entered old new ae qs (before + size) size e2 p2
+      → ((t : Tree) → IsPayloadOf ty q t → Appended now new (entry_word t)) → Entered old new ae qs (size_left - size) e2 p2
   unfolding written_on
   entered_on new size known put = record {
-    written = written_on entries_of (λ t. word (type_of t + length (payload_of t))) (λ t us. refl) old now ae qs e p m.written ty q e2 p2 f new put;
-    sum = omega (arith, m.sum, entered_parts, known f.first f.is);
-    tail = ap (λ (n : ℕ). last_length n f.others) (known f.first f.is) ∙ sym (ap (last_length last) f.are) ∙ m.tail;
+    written = written_on entries_of entry_word (λ t us. refl) old now ae qs e p m.written ty q e2 p2 f new put;
+    size = omega (arith, entered_parts, known f.first f.is);
   }
 
-pub entered_last : (old now : Vec ℕ) (ae qs : List ℕ) (before last : ℕ) (e p : List ℕ) (m : Entered old now ae qs before last e p) → m.written.left ≡ no_trees
-    → (ts : Trees) → Children ts ae qs → last ≡ last_length 0 ts
-entered_last old now ae qs before last e p m none ts h =
-    sym (ap (last_length last) none) ∙ m.tail ∙ ap (last_length 0) (Children-unique m.written.all ts ae qs m.written.are_all h)
-
--- Payloads, of which the last has that length.
-pub record Followed (old now : Vec ℕ) (all_entries all_payloads : List ℕ) (last : ℕ) (entries payloads : List ℕ) : Type 0 where
+-- Payloads, whose entry words stand from the index on.
+pub record Followed (old now : Vec ℕ) (all_entries all_payloads : List ℕ) (index : ℕ) (entries payloads : List ℕ) : Type 0 where
   pub written : Written payloads_of old now all_entries all_payloads entries payloads
-  pub tail : (count written.left ≡ 0 → ⊥) → last ≡ last_length 0 written.left
+  pub words : Stands index (entries_of written.left) now.items
 
-pub followed_start : (v : Vec ℕ) (e p : List ℕ) (last : ℕ) → ((ts : Trees) × (Children ts e p × (AllFit ts × HasRoom v (payloads_of ts))))
-    → ((ts : Trees) → Children ts e p → last ≡ last_length 0 ts) → Followed v v e p last e p
+pub followed_start : (v : Vec ℕ) (e p : List ℕ) (index : ℕ) → ((ts : Trees) × (Children ts e p × (AllFit ts × HasRoom v (payloads_of ts))))
+    → ((ts : Trees) → Children ts e p → Stands index (entries_of ts) v.items) → Followed v v e p index e p
 unfolding written_start
-followed_start v e p last (ts, (h, (fit, room))) known = record { written = written_start payloads_of v e p (ts, (h, (fit, room))); tail = λ some. known ts h }
+followed_start v e p index (ts, (h, (fit, room))) known = record { written = written_start payloads_of v e p (ts, (h, (fit, room))); words = known ts h }
 
-module _ (old now : Vec ℕ) (ae qs : List ℕ) (last : ℕ) (e p : List ℕ) (m : Followed old now ae qs last e p) (ty : ℕ) (q e2 p2 : List ℕ) (f : FirstChild m.written.left ty q e2 p2) where
-  followed_tail : last ≡ last_length (length (payload_of f.first)) f.others
-  followed_tail = m.tail (λ none. absurd (omega (arith, none, ap count f.are))) ∙ ap (last_length 0) f.are
+module _ (old now : Vec ℕ) (ae qs : List ℕ) (index : ℕ) (e p : List ℕ) (m : Followed old now ae qs index e p) (ty : ℕ) (q e2 p2 : List ℕ) (f : FirstChild m.written.left ty q e2 p2) where
+  followed_words : Stands index (entry_word f.first ++ entries_of f.others) now.items
+  followed_words = subst (λ (ts : Trees). Stands index (entries_of ts) now.items) f.are m.words
 
-  pub followed_next : (t : Tree) × (IsPayloadOf ty q t × (Fits t × HasRoom now (payload_of t)))
+  pub followed_next : (t : Tree) × (IsPayloadOf ty q t × (FitsEntry t × (Stands index (entry_word t) now.items × HasRoom now (payload_of t))))
   followed_next =
-      let next = written_next payloads_of payload_of (λ t us. refl) old now ae qs e p m.written ty q e2 p2 f in
-      (next.0, (next.1.0, (Fits-scalar next.0 next.1.1.0, next.1.1.1)))
+      let fit = subst AllFit f.are m.written.fit in
+      let long : length (payloads_of m.written.left) ≡ length (payload_of f.first) + length (payloads_of f.others) =
+      ap (λ (ts : Trees). length (payloads_of ts)) f.are ∙ length-append (payload_of f.first) (payloads_of f.others) in
+      let room = m.written.room in
+      (f.first, (f.is, (record { inside = fit.0.0; short = fit.0.1 }, (Stands-first index (entry_word f.first) (entries_of f.others) now.items followed_words, omega arith))))
 
-  pub followed_size : (size : Option ℕ) → IfSome size (λ n. (length e2 ≡ 0) × (n ≡ last)) → (t : Tree) → IsPayloadOf ty q t → IfSome size (λ n. n ≡ length (payload_of t))
-  followed_size size known t h =
-      let same : f.first ≡ t = same_tree f.first t (f.is.0 ∙ sym h.0) q f.is.1 h.1 in
-      IfSome_then size known
-      (λ n k.
-      let none : count f.others ≡ 0 = omega (arith, k.0, length-Children f.others e2 p2 f.behind) in
-      k.1 ∙ (followed_tail ∙ (last_length-none (length (payload_of f.first)) f.others none ∙ ap (λ (u : Tree). length (payload_of u)) same)))
-
-  pub followed_on : (new : Vec ℕ) → ((t : Tree) → IsPayloadOf ty q t → Appended now new (payload_of t)) → Followed old new ae qs last e2 p2
+  pub followed_on : (new : Vec ℕ) → ((t : Tree) → IsPayloadOf ty q t → Appended now new (payload_of t)) → Followed old new ae qs (index + 4) e2 p2
   unfolding written_on
   followed_on new put = record {
     written = written_on payloads_of payload_of (λ t us. refl) old now ae qs e p m.written ty q e2 p2 f new put;
-    tail = λ some. followed_tail ∙ last_length-some (length (payload_of f.first)) 0 f.others some;
+    words = Stands-next index (type_of f.first + length (payload_of f.first)) (entries_of f.others) new.items (Stands-more index _ followed_words (put f.first f.is));
   }
 
 -- ---- what was written, beside the bytes that were read

@@ -1,8 +1,6 @@
 -- A buffer that is written into room made before.
 use Rattle.std.specs.Prelude.{◌≡◌, ◌≤◌, ◌+◌, ℕ, List, ◌++◌, length, vec_capacity}
 use Rattle.std.specs.Global.{Vec}
-use Rattle.jsonb_value.specs.Tree.{Trees, no_trees, tree}
-use Rattle.jsonb_codec.specs.Canon.{payload_of}
 
 -- There is room for the bytes behind those of the buffer.
 abbrev pub HasRoom : Vec ℕ → List ℕ → Type 0
@@ -19,8 +17,3 @@ pub record Stands (index : ℕ) (words bytes : List ℕ) : Type 0 where
   pub rest : List ℕ
   pub parts : bytes ≡ front ++ (words ++ rest)
   pub is_at : length front ≡ index
-
--- The length of the last payload, and of none the given one.
-abbrev pub last_length : ℕ → Trees → ℕ
-last_length n no_trees = n
-last_length n (tree t ts) = last_length (length (payload_of t)) ts

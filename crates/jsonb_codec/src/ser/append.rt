@@ -79,9 +79,9 @@ fn append_entry(out: &mut Vec<u8>, node: Node<'_, '_>, size: usize)
     append_word(out, node.entry_type() + size as u32);
 }
 
-// The length in the entry word that was written at the index.
+/// The length in the entry word that was written at the index.
 #[inline(always)]
-fn written_size(out: &Vec<u8>, entry: usize) -> usize
+pub fn written_size(out: &Vec<u8>, entry: usize) -> usize
     requires { (t : Tree) × (FitsEntry t × Stands entry (entry_word t) out.now.items) }
     ensures { (t : Tree) → FitsEntry t → Stands entry (entry_word t) out.now.items
         → result ≡ length (payload_of t) }
@@ -224,42 +224,6 @@ fn append_items(out: &mut Vec<u8>, items: Items<'_, '_>, size: usize, plain_leve
     let entries = out.len();
     append_entries(out, items, size - 4 - 4 * count, plain_levels);
     append_payloads(out, items, entries, plain_levels.saturating_sub(1));
-}
-
-/// What is left of a length, where it is known.
-#[inline(always)]
-pub fn payloads_size(size: Option<usize>, before: usize) -> Option<usize>
-    requires { IfSome size (λ n. before ≤ n) }
-    ensures left { IfSome result (λ n. size ≡ Some (before + n)) }
-    ensures none { IfNone result (size ≡ None) }
-{
-    match size {
-        Some(size) => Some(size - before),
-        None => None,
-    }
-}
-
-/// The length of the last child's payload: what the payloads before it leave of the length of all,
-/// where that is known.
-#[inline(always)]
-pub fn last_size(behind: usize, before: usize, size: Option<usize>) -> Option<usize>
-    requires { behind ≡ 0 → IfSome size (λ n. before ≤ n) }
-    ensures last { IfSome result (λ n. (behind ≡ 0) × (size ≡ Some (before + n))) }
-    ensures none { IfNone result (behind ≡ 0 → size ≡ None) }
-{
-    match size {
-        Some(size) if behind == 0 => Some(size - before),
-        _ => None,
-    }
-}
-
-/// The length of the last child's payload is known, and no other's.
-#[inline(always)]
-pub fn known_size(behind: usize, last: usize) -> Option<usize>
-    ensures last { IfSome result (λ n. (behind ≡ 0) × (n ≡ last)) }
-    ensures none { IfNone result (behind ≢ 0) }
-{
-    if behind == 0 { Some(last) } else { None }
 }
 
 // The entry words of an array's items, whose payloads have that length in all.

@@ -1,39 +1,48 @@
-use Rattle.std.proofs.Common.{length, refl, ap, arith, le_trans}
-use Rattle.std.proofs.lemmas.Option.{IfSome_then}
-use Rattle.jsonb_value.specs.Tree.{Trees}
-use Rattle.jsonb_codec.specs.Canon.{payloads_of}
-use Rattle.jsonb_codec.proofs.Rewriting.{length-Opened, Children-unique, written_end, followed_start, followed_next, followed_size, followed_on}
+use Rattle.std.proofs.Common.{length, refl, ap, arith, le_trans, sym, ◌∙◌}
+use Rattle.jsonb_value.specs.Tree.{Tree, Trees}
+use Rattle.jsonb_codec.specs.Canon.{payload_of, payloads_of}
+use Rattle.jsonb_codec.proofs.Unique.{same_tree}
+use Rattle.jsonb_codec.proofs.Rewriting.{length-Opened, Children-unique, written_end, followed_start, followed_next, followed_on}
 use Rattle.jsonb_codec.proofs.canonical.rewrite.+append.Goals as goal
 
-pub append_container-payloads_size-inside-requires : goal.append_container-payloads_size-inside-requires
-append_container-payloads_size-inside-requires t c =
+pub append_payload-append_container-requires : goal.append_payload-append_container-requires
+append_payload-append_container-requires t c =
+    let is = c.in-1342177280.is in
+    let (tree, (h, (fits, (stands, room)))) = c.requires.part in
+    let size = c.written_size-size.ensures tree fits stands in (
+      omega arith,
+      (
+        (tree, ((h.0 ∙ is, h.1), (fits.inside, room))),
+        λ u k. size ∙ ap (λ (v : Tree). length (payload_of v)) (same_tree tree u (h.0 ∙ is ∙ sym k.0) c.args.part.payload.now h.1 k.1),
+      ),
+    )
+
+pub append_container-overflow_sub-inside : goal.append_container-overflow_sub-inside
+append_container-overflow_sub-inside t c =
     let parts = c.split_container-container.result in
-    let (tree, (h, (fit, room))) = c.requires.container in
+    let (tree, (h, _)) = c.requires.container in
     let long = length-Opened tree parts.header parts.entries.now parts.payloads.now (c.split_container-container.ensures.opened tree h) in
-    IfSome_then c.args.size (c.requires.size tree h) (λ n k. omega (arith, k, long))
+    omega (arith, c.requires.size tree h, long)
 
-pub append_container-append_entries-last-requires-clause-size : goal.append_container-append_entries-last-requires-clause-size
-append_container-append_entries-last-requires-clause-size t c ts k =
+pub append_container-overflow_sub-inside-2 : goal.append_container-overflow_sub-inside-2
+append_container-overflow_sub-inside-2 t c =
     let parts = c.split_container-container.result in
-    let (tree, (h, (fit, room))) = c.requires.container in
+    let (tree, (h, _)) = c.requires.container in
+    let long = length-Opened tree parts.header parts.entries.now parts.payloads.now (c.split_container-container.ensures.opened tree h) in
+    omega (arith, c.requires.size tree h, long)
+
+pub append_container-append_entries-requires-clause-size : goal.append_container-append_entries-requires-clause-size
+append_container-append_entries-requires-clause-size t c ts k =
+    let parts = c.split_container-container.result in
+    let (tree, (h, _)) = c.requires.container in
     let o = c.split_container-container.ensures.opened tree h in
     let long = length-Opened tree parts.header parts.entries.now parts.payloads.now o in
     let same = ap (λ (us : Trees). length (payloads_of us)) (Children-unique o.children ts parts.entries.now parts.payloads.now o.are k) in
-    let whole = c.requires.size tree h in
-    IfSome_then c.payloads_size-inside.result c.payloads_size-inside.ensures.left (λ n is. omega (arith, rw is at whole, long, same))
-
-pub append_container-append_entries-last-requires-clause-small : goal.append_container-append_entries-last-requires-clause-small
-append_container-append_entries-last-requires-clause-small t c ts k =
-    let parts = c.split_container-container.result in
-    let (tree, (h, (fit, room))) = c.requires.container in
-    let o = c.split_container-container.ensures.opened tree h in
-    let long = length-Opened tree parts.header parts.entries.now parts.payloads.now o in
-    let same = ap (λ (us : Trees). length (payloads_of us)) (Children-unique o.children ts parts.entries.now parts.payloads.now o.are k) in
-    omega (arith, room, long, same, c.args.out.now.small)
+    omega (arith, c.requires.size tree h, long, same)
 
 pub append_payloads-loop-child-init : goal.append_payloads-loop-child-init
 append_payloads-loop-child-init t c = record {
-  followed = followed_start c.args.out.now c.args.entries.now c.args.payloads.now c.args.last c.requires.children c.requires.last;
+  followed = followed_start c.args.out.now c.args.entries.now c.args.payloads.now c.args.words c.requires.children c.requires.words;
   capacity = omega arith;
   payloads_shorter = omega arith;
 }
@@ -43,18 +52,16 @@ append_payloads-append_payload-requires t c =
     let l = c.loop-child in let k = c.in-Some.child in let m = l.invariant.followed in
     let f = c.in-Some.ensures.first m.written.left m.written.are_left in
     let shorter = l.invariant.payloads_shorter in
-    let next = followed_next c.args.out.now l.out c.args.entries.now c.args.payloads.now c.args.last l.entries_left.now l.payloads_left.now m
+    let next = followed_next c.args.out.now l.out c.args.entries.now c.args.payloads.now l.entry l.entries_left.now l.payloads_left.now m
     k.part.tag k.part.payload.now k.entries.now k.payloads.now f in
-    let size = followed_size c.args.out.now l.out c.args.entries.now c.args.payloads.now c.args.last l.entries_left.now l.payloads_left.now m
-    k.part.tag k.part.payload.now k.entries.now k.payloads.now f c.known_size.result c.known_size.ensures.last in
-    (omega (arith, c.in-Some.ensures.payloads_len), (next, size))
+    (omega (arith, c.in-Some.ensures.payloads_len), next)
 
 pub append_payloads-loop-child-preserved : goal.append_payloads-loop-child-preserved
 append_payloads-loop-child-preserved t c =
     let l = c.loop-child in let k = c.in-Some.child in let m = l.invariant.followed in
     let f = c.in-Some.ensures.first m.written.left m.written.are_left in
     record {
-      followed = followed_on c.args.out.now l.out c.args.entries.now c.args.payloads.now c.args.last l.entries_left.now l.payloads_left.now m
+      followed = followed_on c.args.out.now l.out c.args.entries.now c.args.payloads.now l.entry l.entries_left.now l.payloads_left.now m
           k.part.tag k.part.payload.now k.entries.now k.payloads.now f c.append_payload.new.out c.append_payload.ensures;
       capacity = le_trans l.invariant.capacity (c.append_payload.ensures f.first f.is).capacity;
       payloads_shorter = omega (arith, c.in-Some.ensures.payloads_len, l.invariant.payloads_shorter);

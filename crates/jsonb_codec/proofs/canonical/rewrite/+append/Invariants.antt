@@ -14,7 +14,7 @@ decreases-append_payloads l = 4 * (length l.entries.now + length l.payloads.now)
 
 abbrev pub invariant-append_payloads-loop-child : goal.invariant-append_payloads-loop-child
 invariant-append_payloads-loop-child l = record {
-  followed : Followed l.fn.out l.out l.entries l.payloads l.last l.entries_left l.payloads_left;
+  followed : Followed l.fn.out l.out l.entries l.payloads l.entry l.entries_left l.payloads_left;
   capacity : vec_capacity l.fn.out ≤ vec_capacity l.out;
   payloads_shorter : length l.payloads_left ≤ length l.payloads;
 }

@@ -1,4 +1,4 @@
-use Rattle.std.proofs.Common.{◌≡◌, true, false, refl, arith, ap, ◌∙◌}
+use Rattle.std.proofs.Common.{◌≡◌, true, false, refl, arith}
 use Rattle.jsonb_codec.specs.Doc.{type_of}
 use Rattle.jsonb_codec.specs.Node.{node_tree}
 use Rattle.jsonb_codec.specs.declared.ser.node.Node.{Node}
@@ -6,7 +6,6 @@ use Rattle.jsonb_codec.specs.declared.ser.node.Node.TheVariants as nodes
 use Rattle.jsonb_codec.specs.declared.ser.node.Items.{Items}
 use Rattle.jsonb_codec.specs.declared.ser.node.Pairs.{Pairs}
 use Rattle.jsonb_codec.proofs.Lengths.{length-canon-scalar}
-use Rattle.jsonb_codec.proofs.Standing.{Stands-Appended}
 use Rattle.jsonb_codec.proofs.ser.append.append_document.Goals as goal
 
 -- What is neither array nor object has no container's type.
