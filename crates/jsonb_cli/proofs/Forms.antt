@@ -1,5 +1,5 @@
 -- Which form a line has: the word before its first space names the command.
-use Rattle.std.proofs.Common.{◌≡◌, ◌≢◌, inr, ℕ, ◌==◌, Bool, true, false, not, List, [], ◌∷◌, ◌++◌, refl, sym, ap, ◌∙◌, arith}
+use Rattle.std.proofs.Common.{◌≡◌, ◌≢◌, inr, ℕ, ◌==◌, Bool, true, false, not, List, [], ◌∷◌, ◌++◌, refl, sym, ap, ap₂, ◌∙◌, arith}
 use Rattle.std.proofs.lemmas.Bool.{and_parts}
 use Rattle.std.proofs.lemmas.Bool.Decides.{nat_tests, Decides-eqb}
 use Rattle.std.proofs.lemmas.Slice.Eq.{slice_eq-Decides}
@@ -9,8 +9,8 @@ use Rattle.std.specs.Cmp.Lexicographic.{pointwise}
 use Rattle.std.specs.List.{list_all}
 use Rattle.std.specs.Borrow.{Bor}
 use Rattle.jsonb_cli.specs.Words.{IsWord, after_space, spaced, words_from}
-use Rattle.jsonb_cli.specs.Commands.{Form, enc, dec, pretty, item_type, get, cmp, arr, canon, line_of, IsOfForm}
-use Rattle.jsonb_cli.proofs.Split.{no_space, StartsAtSpace, one_cut, after_space-starts, spaced-starts, spaced-words_from, words_from-words}
+use Rattle.jsonb_cli.specs.Commands.{Form, enc, dec, pretty, item_type, get, cmp, arr, canon, line_of, HasWords, IsOfForm}
+use Rattle.jsonb_cli.proofs.Split.{no_space, StartsAtSpace, one_cut, one_cut_at, one_spaced, after_space-starts, spaced-starts, spaced-words_from, words_from-words}
 
 -- the name of the command, and what follows it
 abbrev pub name_of : Form → List ℕ
@@ -75,7 +75,7 @@ name_of-word (canon word) = word_of_test (codes "canon") refl
 named : (line name given : List ℕ) → IsWord name → StartsAtSpace given → line ≡ name ++ given → (form : Form) → IsOfForm form line
     → (name ≡ name_of form) × (given ≡ given_to form)
 named line name given word from parts form of =
-    one_cut name (name_of form) given (given_to form) word (name_of-word form) from (given_to-starts form) (sym parts ∙ of.is ∙ line_of-parts form)
+    one_cut 32 name (name_of form) given (given_to form) word (name_of-word form) from (given_to-starts form) (sym parts ∙ of.is ∙ line_of-parts form)
 
 -- the form of `arr` and what follows it
 pub arr_form : (line name : List ℕ) (rest : Option (Bor (List ℕ))) → name ≡ codes "arr" → line ≡ name ++ after_space rest → IsOfForm (arr (words_from rest)) line
@@ -83,6 +83,29 @@ arr_form line name rest is parts = record {
   is = parts ∙ ap (λ bytes. bytes ++ after_space rest) is ∙ ap (λ bytes. codes "arr" ++ bytes) (sym (spaced-words_from rest));
   words = words_from-words rest;
 }
+
+-- ---- a line has one form
+
+names_apart : (a b : List ℕ) → pointwise nat_eq a b ≡ false → a ≢ b
+names_apart a b test same = let passes : pointwise nat_eq a b ≡ true = (slice_eq-Decides Decides-eqb a b (pointwise nat_eq a b) refl).1 same in cc
+
+same_form : (f g : Form) → HasWords f → HasWords g → name_of f ≡ name_of g → given_to f ≡ given_to g → f ≡ g
+same_form (enc x) (enc y) words others name given = cc
+same_form (dec x) (dec y) words others name given = cc
+same_form (pretty x) (pretty y) words others name given = cc
+same_form (item_type x) (item_type y) words others name given = cc
+same_form (get x k) (get y l) words others name given =
+    let behind : x ++ 32 ∷ k ≡ y ++ 32 ∷ l = cc in let cut = one_cut_at 32 x y k l words others behind in ap₂ get cut.0 cut.1
+same_form (cmp x k) (cmp y l) words others name given =
+    let behind : x ++ 32 ∷ k ≡ y ++ 32 ∷ l = cc in let cut = one_cut_at 32 x y k l words.0 others.0 behind in ap₂ cmp cut.0 cut.1
+same_form (arr xs) (arr ys) words others name given = ap arr (one_spaced xs ys words others given)
+same_form (canon x) (canon y) words others name given = cc
+same_form f g words others name given = absurd (names_apart (name_of f) (name_of g) refl name)
+
+pub one_form : (line : List ℕ) (f g : Form) → IsOfForm f line → IsOfForm g line → f ≡ g
+one_form line f g of also =
+    let is = named line (name_of f) (given_to f) (name_of-word f) (given_to-starts f) (of.is ∙ line_of-parts f) g also in
+    same_form f g of.words also.words is.0 is.1
 
 -- ---- lines of no form
 

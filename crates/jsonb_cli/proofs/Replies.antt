@@ -1,12 +1,13 @@
 -- Replies to lines in parts.
-use Rattle.std.proofs.Common.{◌≡◌, ◌≢◌, ℕ, ◌==◌, Bool, true, false, List, [], ◌∷◌, ◌++◌, refl, sym, ap, ◌∙◌, append_assoc, arith}
+use Rattle.std.proofs.Common.{◌≡◌, ◌≢◌, ℕ, ◌==◌, Bool, true, false, List, [], ◌∷◌, ◌++◌, refl, sym, ap, ap₂, subst, ◌∙◌, append_assoc, arith}
 use Rattle.std.proofs.lemmas.Bool.Decides.{nat_tests}
 use Rattle.std.proofs.lemmas.List.{append-nil}
 use Rattle.std.proofs.lemmas.List.Elements.{All-nil, All-cons, All-head, All-tail, All-append}
 use Rattle.std.specs.Prelude.{All, Option}
 use Rattle.jsonb_cli.specs.Written.{AppendsPrefix}
-use Rattle.jsonb_cli.specs.Lines.{ended, IsLine, last_line, Each, none, more, AppendsReply, BeginsReply, Replies, AppendsReplies, AppendsBeginning, AppendsWhole}
+use Rattle.jsonb_cli.specs.Lines.{ended, IsLine, AreLines, last_line, Each, none, more, AppendsReply, BeginsReply, Replies, AppendsReplies, AppendsBeginning, AppendsWhole}
 use Rattle.jsonb_cli.proofs.Written.{appends_nothing, appends_both}
+use Rattle.jsonb_cli.proofs.Split.{not_before, one_cut_at}
 
 abbrev pub no_feed : ℕ → Type 0
 no_feed b = b ≢ 10
@@ -62,6 +63,26 @@ cut_step b bytes false test cut =
 cut_of : (bytes : List ℕ) → Cut bytes
 cut_of [] = record { whole = []; rest = []; parts = refl; whole_lines = All-nil IsLine; rest_line = All-nil no_feed }
 cut_of (b ∷ bytes) = cut_step b bytes (b == 10) refl (cut_of bytes)
+
+-- ---- and these are their only ones
+
+one_ended : (xs ys : List (List ℕ)) (r s : List ℕ) → All IsLine xs → All IsLine ys → IsLine r → IsLine s → ended xs ++ r ≡ ended ys ++ s → (xs ≡ ys) × (r ≡ s)
+one_ended [] [] r s lines others one also same = (refl, same)
+one_ended [] (y ∷ ys) r s lines others one also same =
+    let feed : r ≡ y ++ 10 ∷ (ended ys ++ s) = same ∙ append_assoc y (10 ∷ ended ys) s in absurd (not_before 10 y (ended ys ++ s) (subst IsLine feed one))
+one_ended (x ∷ xs) [] r s lines others one also same =
+    let feed : s ≡ x ++ 10 ∷ (ended xs ++ r) = sym same ∙ append_assoc x (10 ∷ ended xs) r in absurd (not_before 10 x (ended xs ++ r) (subst IsLine feed also))
+one_ended (x ∷ xs) (y ∷ ys) r s lines others one also same =
+    let feeds : x ++ 10 ∷ (ended xs ++ r) ≡ y ++ 10 ∷ (ended ys ++ s) = sym (append_assoc x (10 ∷ ended xs) r) ∙ same ∙ append_assoc y (10 ∷ ended ys) s in
+    let cut = one_cut_at 10 x y (ended xs ++ r) (ended ys ++ s) (All-head IsLine x xs lines) (All-head IsLine y ys others) feeds in
+    let rest = one_ended xs ys r s (All-tail IsLine x xs lines) (All-tail IsLine y ys others) one also cut.1 in
+    (ap₂ (λ (b : List ℕ) (bs : List (List ℕ)). b ∷ bs) cut.0 rest.0, rest.1)
+
+pub one_lines : (bytes : List ℕ) (xs ys : List (List ℕ)) → AreLines bytes xs → AreLines bytes ys → xs ≡ ys
+one_lines bytes xs ys first second =
+    let cut = one_ended first.whole second.whole first.rest second.rest first.whole_lines second.whole_lines first.rest_line second.rest_line
+    (sym first.parts ∙ second.parts) in
+    first.lines_are ∙ ap₂ (λ (ls : List (List ℕ)) (r : List ℕ). ls ++ last_line r) cut.0 cut.1 ∙ sym second.lines_are
 
 -- ---- replies, where each line has one
 

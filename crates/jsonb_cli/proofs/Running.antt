@@ -7,7 +7,7 @@ use Rattle.std.specs.Io.KnownBytes.{Consumes, Keeps, IsAtEnd}
 use Rattle.jsonb_value.specs.ErrorName.{name_of}
 use Rattle.jsonb_value.specs.declared.error.Error.TheVariants.{OutOfMemory}
 use Rattle.jsonb_cli.specs.AnswerLine.{error_line}
-use Rattle.jsonb_cli.specs.Answers.{IsLineReply}
+use Rattle.jsonb_cli.specs.Answers.{IsLineReply, IsPrompt}
 use Rattle.jsonb_cli.specs.Lines.{ended, IsLine, none, more, AppendsReply, BeginsReply, AppendsReplies, AppendsBeginning, AppendsWhole}
 use Rattle.jsonb_cli.proofs.Written.{appends_nothing, appends_both}
 use Rattle.jsonb_cli.proofs.Replies.{no_feed, ended-append, Each-append, appends_no_last, appends_last, begins_last, replies_after_whole, beginning_after_whole, beginning_of_none, beginning_in_line}
@@ -100,16 +100,10 @@ last_faults (Err e) line old new some one then = begins_last IsLineReply reply_t
 
 -- ---- all of a run, where the input may be unknown
 
--- `AppendsWhole`, where the input is known
-abbrev pub IsAnswered : Option (List ℕ) → Option (List ℕ) → List ℕ → Option (List ℕ) → Option (List ℕ) → Type 0
-IsAnswered None left begun old new = Unit {0}
-IsAnswered (Some input) None begun old new = ⊥
-IsAnswered (Some input) (Some left) begun old new = AppendsWhole IsLineReply input begun left old new
-
 pub no_line : IsLine []
 no_line = All-nil no_feed
 
-pub run_begins : (input known : Option (List ℕ)) → IsAnswered input input [] known known
+pub run_begins : (input known : Option (List ℕ)) → IsPrompt input input [] known known
 run_begins None known = tt
 run_begins (Some input) known = whole_begins [] input known no_line
 
@@ -132,8 +126,8 @@ chunk_answered input begun left chunk after begun' old mid new so_far cut then =
       (appends_both old mid new (ended so_far.replies) (ended then.replies) so_far.appends then.appends);
 }
 
-pub run_chunk : (input before after : Option (List ℕ)) (begun chunk begun' : List ℕ) (old mid new : Option (List ℕ)) → IsAnswered input before begun old mid
-    → Consumes before after chunk → AppendsWhole IsLineReply (begun ++ chunk) begun' [] mid new → IsAnswered input after begun' old new
+pub run_chunk : (input before after : Option (List ℕ)) (begun chunk begun' : List ℕ) (old mid new : Option (List ℕ)) → IsPrompt input before begun old mid
+    → Consumes before after chunk → AppendsWhole IsLineReply (begun ++ chunk) begun' [] mid new → IsPrompt input after begun' old new
 run_chunk None before after begun chunk begun' old mid new so_far read then = tt
 run_chunk (Some input) None after begun chunk begun' old mid new so_far read then = absurd so_far
 run_chunk (Some input) (Some before) None begun chunk begun' old mid new so_far read then = read
@@ -141,28 +135,28 @@ run_chunk (Some input) (Some before) (Some after) begun chunk begun' old mid new
     chunk_answered input begun before chunk after begun' old mid new so_far read then
 
 -- the reader's fault took no bytes
-pub run_kept : (input before after : Option (List ℕ)) (begun : List ℕ) (old new : Option (List ℕ)) → IsAnswered input before begun old new
-    → Keeps before after → IsAnswered input after begun old new
+pub run_kept : (input before after : Option (List ℕ)) (begun : List ℕ) (old new : Option (List ℕ)) → IsPrompt input before begun old new
+    → Keeps before after → IsPrompt input after begun old new
 run_kept None before after begun old new so_far kept = tt
 run_kept (Some input) None after begun old new so_far kept = absurd so_far
 run_kept (Some input) (Some before) None begun old new so_far kept = kept
 run_kept (Some input) (Some before) (Some after) begun old new so_far kept = rw kept so_far
 
-pub run_prompt : (input left : Option (List ℕ)) (begun : List ℕ) (old new : Option (List ℕ)) → IsAnswered input left begun old new
+pub run_prompt : (input left : Option (List ℕ)) (begun : List ℕ) (old new : Option (List ℕ)) → IsPrompt input left begun old new
     → IfSome input (λ i. IfSome left (λ l. (b : List ℕ) × AppendsWhole IsLineReply i b l old new))
 run_prompt None left begun old new so_far = tt
 run_prompt (Some input) None begun old new so_far = tt
 run_prompt (Some input) (Some left) begun old new so_far = (begun, so_far)
 
 -- a fault with nothing more written
-pub run_stops : (input left : Option (List ℕ)) (begun : List ℕ) (old new : Option (List ℕ)) → IsAnswered input left begun old new
+pub run_stops : (input left : Option (List ℕ)) (begun : List ℕ) (old new : Option (List ℕ)) → IsPrompt input left begun old new
     → IfSome input (λ i. AppendsBeginning IsLineReply i old new)
 run_stops None left begun old new so_far = tt
 run_stops (Some input) None begun old new so_far = absurd so_far
 run_stops (Some input) (Some left) begun old new so_far = rw append-nil at (whole_stops input begun left [] old new so_far)
 
 -- a fault after a chunk was read, with what the chunk's answers left
-pub run_faults : (input before after : Option (List ℕ)) (begun chunk : List ℕ) (old mid new : Option (List ℕ)) → IsAnswered input before begun old mid
+pub run_faults : (input before after : Option (List ℕ)) (begun chunk : List ℕ) (old mid new : Option (List ℕ)) → IsPrompt input before begun old mid
     → Consumes before after chunk → ((later : List ℕ) → AppendsBeginning IsLineReply (begun ++ (chunk ++ later)) mid new)
     → IfSome input (λ i. AppendsBeginning IsLineReply i old new)
 run_faults None before after begun chunk old mid new so_far read then = tt
@@ -172,20 +166,20 @@ run_faults (Some input) (Some before) (Some after) begun chunk old mid new so_fa
     rw append-nil at (beginning_after_whole IsLineReply reply_to input begun before [] old mid new so_far (rw (append-nil, read) (then after)))
 
 -- at the end of the input the begun line is the last
-at_end : (input : List ℕ) (before after : Option (List ℕ)) (begun : List ℕ) (old new : Option (List ℕ)) → IsAnswered (Some input) before begun old new
+at_end : (input : List ℕ) (before after : Option (List ℕ)) (begun : List ℕ) (old new : Option (List ℕ)) → IsPrompt (Some input) before begun old new
     → Consumes before after [] → IsAtEnd after → AppendsWhole IsLineReply input begun [] old new
 at_end input None after begun old new so_far read end = absurd so_far
 at_end input (Some before) None begun old new so_far read end = absurd read
 at_end input (Some before) (Some after) begun old new so_far read end = let none : before ≡ [] = read ∙ end in rw none at so_far
 
-pub run_ends : (input before after : Option (List ℕ)) (begun : List ℕ) (old mid new : Option (List ℕ)) → IsAnswered input before begun old mid
+pub run_ends : (input before after : Option (List ℕ)) (begun : List ℕ) (old mid new : Option (List ℕ)) → IsPrompt input before begun old mid
     → Consumes before after [] → IsAtEnd after → AppendsReplies IsLineReply begun mid new → IfSome input (λ i. AppendsReplies IsLineReply i old new)
 run_ends None before after begun old mid new so_far read end then = tt
 run_ends (Some input) before after begun old mid new so_far read end then =
     replies_after_whole IsLineReply reply_to input begun old mid new (at_end input before after begun old mid so_far read end) then
 
 -- or the fault is in the last answer
-pub run_ends_early : (input before after : Option (List ℕ)) (begun : List ℕ) (old mid new : Option (List ℕ)) → IsAnswered input before begun old mid
+pub run_ends_early : (input before after : Option (List ℕ)) (begun : List ℕ) (old mid new : Option (List ℕ)) → IsPrompt input before begun old mid
     → Consumes before after [] → IsAtEnd after → AppendsBeginning IsLineReply begun mid new → IfSome input (λ i. AppendsBeginning IsLineReply i old new)
 run_ends_early None before after begun old mid new so_far read end then = tt
 run_ends_early (Some input) before after begun old mid new so_far read end then =

@@ -1,5 +1,5 @@
 -- Bytes, split at spaces.
-use Rattle.std.proofs.Common.{◌≡◌, ◌≢◌, ◌⊎◌, inl, inr, ℕ, ◌==◌, Bool, true, false, cond, List, [], ◌∷◌, ◌++◌, refl, sym, ◌∙◌, arith}
+use Rattle.std.proofs.Common.{◌≡◌, ◌≢◌, ◌⊎◌, inl, inr, ℕ, ◌==◌, Bool, true, false, cond, List, [], ◌∷◌, ◌++◌, refl, sym, ap₂, ◌∙◌, arith}
 use Rattle.std.proofs.lemmas.Bool.Decides.{nat_tests}
 use Rattle.std.proofs.lemmas.List.{append-nil}
 use Rattle.std.proofs.lemmas.List.Elements.{All-nil, All-cons, All-head, All-tail}
@@ -71,25 +71,44 @@ pub words_from-words : (rest : Option (Bor (List ℕ))) → All IsWord (words_fr
 words_from-words None = All-nil IsWord
 words_from-words (Some rest) = words-slice_split rest.now
 
--- ---- bytes are cut at their first space in one way
+-- ---- bytes are cut at their first mark, as a space or a line feed, in one way
 
--- nothing, or a space and what follows it
+-- no mark
+abbrev pub IsBefore : ℕ → List ℕ → Type 0
+IsBefore mark bytes = All (λ b. b ≢ mark) bytes
+
+-- nothing, or a mark and what follows it
+abbrev pub StartsAt : ℕ → List ℕ → Type 0
+StartsAt mark bytes = (bytes ≡ []) ⊎ ((rest : List ℕ) × (bytes ≡ mark ∷ rest))
+
 abbrev pub StartsAtSpace : List ℕ → Type 0
-StartsAtSpace bytes = (bytes ≡ []) ⊎ ((rest : List ℕ) × (bytes ≡ 32 ∷ rest))
+StartsAtSpace = StartsAt 32
 
-pub one_cut : (a b xs ys : List ℕ) → IsWord a → IsWord b → StartsAtSpace xs → StartsAtSpace ys → a ++ xs ≡ b ++ ys → (a ≡ b) × (xs ≡ ys)
-one_cut [] [] xs ys one_a one_b from_xs from_ys same = (refl, same)
-one_cut [] (b ∷ bs) xs ys one_a one_b (inl none) from_ys same = absurd cc
-one_cut [] (b ∷ bs) xs ys one_a one_b (inr (rest, is)) from_ys same =
-    let space : b ≡ 32 = cc in absurd (All-head no_space b bs one_b space)
-one_cut (a ∷ more) [] xs ys one_a one_b from_xs (inl none) same = absurd cc
-one_cut (a ∷ more) [] xs ys one_a one_b from_xs (inr (rest, is)) same =
-    let space : a ≡ 32 = cc in absurd (All-head no_space a more one_a space)
-one_cut (a ∷ others) (b ∷ bs) xs ys one_a one_b from_xs from_ys same =
+pub one_cut : (mark : ℕ) (a b xs ys : List ℕ) → IsBefore mark a → IsBefore mark b → StartsAt mark xs → StartsAt mark ys → a ++ xs ≡ b ++ ys
+    → (a ≡ b) × (xs ≡ ys)
+one_cut mark [] [] xs ys one_a one_b from_xs from_ys same = (refl, same)
+one_cut mark [] (b ∷ bs) xs ys one_a one_b (inl none) from_ys same = absurd cc
+one_cut mark [] (b ∷ bs) xs ys one_a one_b (inr (rest, is)) from_ys same =
+    let marked : b ≡ mark = cc in absurd (All-head (λ c. c ≢ mark) b bs one_b marked)
+one_cut mark (a ∷ more) [] xs ys one_a one_b from_xs (inl none) same = absurd cc
+one_cut mark (a ∷ more) [] xs ys one_a one_b from_xs (inr (rest, is)) same =
+    let marked : a ≡ mark = cc in absurd (All-head (λ c. c ≢ mark) a more one_a marked)
+one_cut mark (a ∷ others) (b ∷ bs) xs ys one_a one_b from_xs from_ys same =
     let head : a ≡ b = cc in
     let tails : others ++ xs ≡ bs ++ ys = cc in
-    let rest = one_cut others bs xs ys (All-tail no_space a others one_a) (All-tail no_space b bs one_b) from_xs from_ys tails in
+    let rest = one_cut mark others bs xs ys (All-tail (λ c. c ≢ mark) a others one_a) (All-tail (λ c. c ≢ mark) b bs one_b) from_xs from_ys tails in
     let words : others ≡ bs = rest.0 in (cc, rest.1)
+
+-- bytes with a mark are not before it
+pub not_before : (mark : ℕ) (bytes more : List ℕ) → IsBefore mark (bytes ++ mark ∷ more) → ⊥
+not_before mark [] more one = All-head (λ c. c ≢ mark) mark more one refl
+not_before mark (b ∷ bytes) more one = not_before mark bytes more (All-tail (λ c. c ≢ mark) b (bytes ++ mark ∷ more) one)
+
+-- a cut at a mark that is there
+pub one_cut_at : (mark : ℕ) (a b xs ys : List ℕ) → IsBefore mark a → IsBefore mark b → a ++ mark ∷ xs ≡ b ++ mark ∷ ys → (a ≡ b) × (xs ≡ ys)
+one_cut_at mark a b xs ys one_a one_b same =
+    let cut = one_cut mark a b (mark ∷ xs) (mark ∷ ys) one_a one_b (inr (xs, refl)) (inr (ys, refl)) same in
+    let rests : mark ∷ xs ≡ mark ∷ ys = cut.1 in (cut.0, cc)
 
 pub after_space-starts : (rest : Option (Bor (List ℕ))) → StartsAtSpace (after_space rest)
 after_space-starts None = inl refl
@@ -99,22 +118,27 @@ pub spaced-starts : (words : List (List ℕ)) → StartsAtSpace (spaced words)
 spaced-starts [] = inl refl
 spaced-starts (word ∷ words) = inr (word ++ spaced words, refl)
 
--- a space is in no word
-pub spaced_no_word : (word more : List ℕ) → IsWord (word ++ 32 ∷ more) → ⊥
-spaced_no_word [] more one = All-head no_space 32 more one refl
-spaced_no_word (b ∷ word) more one = spaced_no_word word more (All-tail no_space b (word ++ 32 ∷ more) one)
-
 -- one word is not two
 pub one_word_alone : (bytes word : List ℕ) (rest : Option (Bor (List ℕ))) → rest ≡ None → IsWord word → bytes ≡ word ++ after_space rest
     → (first more : List ℕ) → bytes ≡ first ++ 32 ∷ more → ⊥
 one_word_alone bytes word rest none one is first more two =
     let alone : word ≡ bytes = sym (append-nil word) ∙ sym (rw none at is) in
-    spaced_no_word first more (rw (alone ∙ two) at one)
+    not_before 32 first more (rw (alone ∙ two) at one)
 
 -- and two words are not three
 pub three_words : (bytes left right word : List ℕ) (rest : Option (Bor (List ℕ))) (more : Bor (List ℕ)) → rest ≡ Some more → IsWord left
     → bytes ≡ left ++ 32 ∷ right → right ≡ word ++ after_space rest → (l r : List ℕ) → IsWord l → IsWord r → bytes ≡ l ++ 32 ∷ r → ⊥
 three_words bytes left right word rest more some one_left parts right_is l r one_l one_r two =
-    let same : 32 ∷ right ≡ 32 ∷ r = (one_cut left l (32 ∷ right) (32 ∷ r) one_left one_l (inr (right, refl)) (inr (r, refl)) (sym parts ∙ two)).1 in
-    let last : r ≡ word ++ 32 ∷ more.now = (let e : right ≡ r = cc in sym e) ∙ rw some at right_is in
-    spaced_no_word word more.now (rw last at one_r)
+    let same : right ≡ r = (one_cut_at 32 left l right r one_left one_l (sym parts ∙ two)).1 in
+    let last : r ≡ word ++ 32 ∷ more.now = sym same ∙ rw some at right_is in
+    not_before 32 word more.now (rw last at one_r)
+
+-- words are told by what they are put together to
+pub one_spaced : (xs ys : List (List ℕ)) → All IsWord xs → All IsWord ys → spaced xs ≡ spaced ys → xs ≡ ys
+one_spaced [] [] words others same = refl
+one_spaced [] (y ∷ ys) words others same = absurd cc
+one_spaced (x ∷ xs) [] words others same = absurd cc
+one_spaced (x ∷ xs) (y ∷ ys) words others same =
+    let behind : x ++ spaced xs ≡ y ++ spaced ys = cc in
+    let cut = one_cut 32 x y (spaced xs) (spaced ys) (All-head IsWord x xs words) (All-head IsWord y ys others) (spaced-starts xs) (spaced-starts ys) behind in
+    ap₂ (λ (b : List ℕ) (bs : List (List ℕ)). b ∷ bs) cut.0 (one_spaced xs ys (All-tail IsWord x xs words) (All-tail IsWord y ys others) cut.1)

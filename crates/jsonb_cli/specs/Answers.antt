@@ -1,5 +1,5 @@
 -- Which line answers a line.
-use Rattle.std.specs.Prelude.{◌≡◌, ◌⊎◌, ◌++◌, ◌∷◌, ℕ, List, length, map, nat_eq, codes, chars, Option, Some, None, Result, Ok, Err}
+use Rattle.std.specs.Prelude.{◌≡◌, ◌⊎◌, ◌++◌, ◌∷◌, ℕ, List, length, map, ⊤, nat_eq, codes, chars, Option, Some, None, Result, Ok, Err}
 use Rattle.std.specs.Cmp.Lexicographic.{pointwise}
 use Rattle.std.specs.Fmt.{decimal}
 use Rattle.std.specs.declared.cmp.Ordering.{Ordering}
@@ -27,7 +27,7 @@ use Rattle.jsonb.specs.Walked.{IsItemOf}
 use Rattle.jsonb.specs.declared.item_type.JsonbItemType.{JsonbItemType}
 use Rattle.jsonb.specs.declared.item_type.JsonbItemType.TheVariants.{Null, Boolean, Number, String, Extension, Array, Object}
 use Rattle.jsonb_cli.specs.AnswerLine.{ok_line, error_line}
-use Rattle.jsonb_cli.specs.Lines.{Each}
+use Rattle.jsonb_cli.specs.Lines.{Each, AppendsWhole}
 use Rattle.jsonb_cli.specs.Commands.{Form, enc, dec, pretty, item_type, get, cmp, arr, canon, IsOfForm}
 
 -- the answer to a line of no form
@@ -140,10 +140,20 @@ pub data IsAnswer (line answer : List ℕ) : Type 0 where
   of_form : (form : Form) → IsOfForm form line → IsFormAnswer form answer → IsAnswer line answer
   of_none : ((form : Form) → IsOfForm form line → ⊥) → IsBadCommand answer → IsAnswer line answer
 
+-- the line that tells of refused memory
+abbrev pub IsRefused : List ℕ → Type 0
+IsRefused reply = reply ≡ error_line (name_of OutOfMemory)
+
 -- an answer, or in its place that the command was refused memory
 abbrev pub IsReply : {A : Type 0} → (A → List ℕ → Type 0) → A → List ℕ → Type 0
-IsReply Answers asked reply = Answers asked reply ⊎ (reply ≡ error_line (name_of OutOfMemory))
+IsReply Answers asked reply = Answers asked reply ⊎ IsRefused reply
 
 -- what a line may be answered by
 abbrev pub IsLineReply : List ℕ → List ℕ → Type 0
 IsLineReply = IsReply IsAnswer
+
+-- Of the input that is left, all whole lines that were read are answered, where the bytes are known. A begun line follows these.
+abbrev pub IsPrompt : Option (List ℕ) → Option (List ℕ) → List ℕ → Option (List ℕ) → Option (List ℕ) → Type 0
+IsPrompt None left begun old new = ⊤
+IsPrompt (Some input) None begun old new = ⊥
+IsPrompt (Some input) (Some left) begun old new = AppendsWhole IsLineReply input begun left old new

@@ -1,8 +1,9 @@
 //! Lines in, answers out, over any reader and any writer.
 
-ghost use Rattle.std.specs.Prelude.{◌≡◌, ℕ, [], ◌++◌, List, OnOk, OnErr, IfSome, IsErrOf};
-ghost use Rattle.std.specs.Io.KnownBytes.{IsAtEnd};
-ghost use Rattle.jsonb_cli.specs.Answers.{IsLineReply};
+ghost use Rattle.std.specs.Prelude.{◌≡◌, ℕ, [], ◌++◌, List, Option, ⊤, OnOk, OnErr, IfSome, IsErrOf};
+ghost use Rattle.std.specs.Io.{ReadsAtMost};
+ghost use Rattle.std.specs.Io.KnownBytes.{IsAtEnd, ReadConsumes};
+ghost use Rattle.jsonb_cli.specs.Answers.{IsLineReply, IsPrompt};
 ghost use Rattle.jsonb_cli.specs.Lines.{IsLine, AppendsReply, BeginsReply};
 ghost use Rattle.jsonb_cli.specs.Lines.{AppendsReplies, AppendsBeginning, AppendsWhole};
 ghost use Rattle.jsonb_cli.specs.Fault.{fault_line};
@@ -12,7 +13,7 @@ use crate::answer::written_line;
 use crate::command::answer;
 use crate::write::write_bytes;
 use std::alloc::{AllocError, AllocFailed, Global};
-use std::io::{Read, Write};
+use std::io::{self, Read, Write};
 
 /// Why a run ended early.
 #[derive(Clone, Copy, Debug, PartialEq, Eq)]
@@ -109,6 +110,68 @@ fn answer_rest<W: Write>(alloc: Global, writer: &mut W, begun: &[u8]) -> Result<
     answer_line(alloc, writer, begun)
 }
 
+/// A reader of lines. It is shown the writer of their answers at each request, and may demand what
+/// that holds by then.
+pub trait LineReader<W: Write> {
+    // The bytes that requests will give from here on, where they are known.
+    ghost remaining: { Self → Option (List ℕ) };
+
+    // Whether the reader may be asked while the writer holds these bytes.
+    ghost may_ask: { Self → Option (List ℕ) → Type 0 };
+
+    /// Reads once, as `Read::read` does.
+    fn ask(&mut self, writer: &W, buffer: &mut [u8]) -> io::Result<usize>
+        requires { may_ask self.old (W.contents writer.now) }
+        ensures bound { ReadsAtMost result buffer.new }
+        ensures bytes { ReadConsumes (remaining self.old) (remaining self.new)
+            result buffer.new };
+}
+
+/// Each reader reads lines, and demands nothing.
+impl<R: Read, W: Write> LineReader<W> for R {
+    ghost remaining = { R.remaining };
+
+    ghost may_ask = { λ _ _. ⊤ };
+
+    fn ask(&mut self, _writer: &W, buffer: &mut [u8]) -> io::Result<usize> {
+        self.read(buffer)
+    }
+}
+
+/// Answers each line as `run` does, over a reader that may demand, at each request, that the writer
+/// holds the answers to all whole lines that the reader gave.
+pub fn answer_lines<R: LineReader<W>, W: Write>(
+    alloc: Global,
+    reader: &mut R,
+    writer: &mut W,
+) -> Result<(), RunError>
+    // At each request all whole lines that the reader gave are answered.
+    requires { (r : R) (begun : List ℕ) (now : Option (List ℕ)) → IsPrompt
+        (R.remaining reader.old) (R.remaining r) begun (W.contents writer.old) now
+        → R.may_ask r now }
+    ensures done { OnOk result (IfSome (R.remaining reader.old) (λ input.
+        AppendsReplies IsLineReply input (W.contents writer.old) (W.contents writer.new))) }
+    ensures all_read { OnOk result (IsAtEnd (R.remaining reader.new)) }
+    ensures begun { OnErr result (IfSome (R.remaining reader.old) (λ input.
+        AppendsBeginning IsLineReply input (W.contents writer.old) (W.contents writer.new))) }
+    ensures prompt { IsErrOf result RunError.Read → IfSome (R.remaining reader.old) (λ input.
+        IfSome (R.remaining reader.new) (λ left. (begun : List ℕ) × AppendsWhole IsLineReply
+        input begun left (W.contents writer.old) (W.contents writer.new))) }
+{
+    let mut begun = Vec::new(alloc);
+    let mut buffer = [0; 4096];
+    'reads: for _ in 0..u64::MAX {
+        let Ok(count) = reader.ask(writer, &mut buffer) else {
+            return Err(RunError::Read);
+        };
+        if count == 0 {
+            return answer_rest(alloc, writer, &begun);
+        }
+        answer_chunk(alloc, writer, &mut begun, &buffer[..count])?;
+    }
+    Err(RunError::Read)
+}
+
 /// Answers each line of the reader's bytes to the writer by one line. A line is what stands before
 /// a line feed, and what follows the last one where it is not empty. All whole lines that were read
 /// are answered before the reader is asked again. After `Ok` all input was read, and its answers
@@ -130,16 +193,5 @@ pub fn run<R: Read, W: Write>(alloc: Global, reader: &mut R, writer: &mut W) -> 
         IfSome (R.remaining reader.new) (λ left. (begun : List ℕ) × AppendsWhole IsLineReply
         input begun left (W.contents writer.old) (W.contents writer.new))) }
 {
-    let mut begun = Vec::new(alloc);
-    let mut buffer = [0; 4096];
-    'reads: for _ in 0..u64::MAX {
-        let Ok(count) = reader.read(&mut buffer) else {
-            return Err(RunError::Read);
-        };
-        if count == 0 {
-            return answer_rest(alloc, writer, &begun);
-        }
-        answer_chunk(alloc, writer, &mut begun, &buffer[..count])?;
-    }
-    Err(RunError::Read)
+    answer_lines(alloc, reader, writer)
 }

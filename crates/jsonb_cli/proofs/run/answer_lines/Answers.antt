@@ -1,6 +1,6 @@
 use Rattle.std.proofs.Common.{rules, ◌≡◌, ◌<◌, length, refl}
 use Rattle.jsonb_cli.proofs.Running.{no_line, run_begins, run_prompt, run_kept, run_stops, run_faults, run_chunk, run_ends, run_ends_early, ok_gives, err_gives, on_err}
-use Rattle.jsonb_cli.proofs.run.run.Goals as goal
+use Rattle.jsonb_cli.proofs.run.answer_lines.Goals as goal
 
 pub reads-init : goal.reads-init
 reads-init g c = record {
@@ -19,14 +19,14 @@ pub returns-then-count-eq0-clause-done : goal.returns-then-count-eq0-clause-done
 returns-then-count-eq0-clause-done g c =
     let zero : c.in-Ok.count ≡ 0 = search rules in
     let read = rw zero at c.in-Ok.ensures.bytes in
-    let room : 0 < length c.read.new.buf = search rules in
+    let room : 0 < length c.ask.new.buffer = search rules in
     ok_gives c.answer_rest.result _ _ (run_ends _ _ _ _ _ _ _ c.reads.invariant.answered read.0 (read.1 refl room)) (rw c.deref.ensures.value at c.answer_rest.ensures.ok)
 
 pub returns-then-count-eq0-clause-begun : goal.returns-then-count-eq0-clause-begun
 returns-then-count-eq0-clause-begun g c =
     let zero : c.in-Ok.count ≡ 0 = search rules in
     let read = rw zero at c.in-Ok.ensures.bytes in
-    let room : 0 < length c.read.new.buf = search rules in
+    let room : 0 < length c.ask.new.buffer = search rules in
     err_gives c.answer_rest.result _ _ (run_ends_early _ _ _ _ _ _ _ c.reads.invariant.answered read.0 (read.1 refl room)) (rw c.deref.ensures.value at c.answer_rest.ensures.err)
 
 pub returns-in_err-answer_chunk-clause-begun : goal.returns-in_err-answer_chunk-clause-begun
