@@ -4,3 +4,4 @@ pub mod Written
 pub mod Replies
 pub mod Running
 pub mod Answering
+pub mod OneAnswer

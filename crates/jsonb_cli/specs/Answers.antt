@@ -1,5 +1,5 @@
 -- Which line answers a line.
-use Rattle.std.specs.Prelude.{◌≡◌, ◌⊎◌, ◌++◌, ◌∷◌, ℕ, List, length, map, ⊤, nat_eq, codes, chars, Option, Some, None, Result, Ok, Err}
+use Rattle.std.specs.Prelude.{◌≡◌, ◌⊎◌, ◌++◌, ◌∷◌, ℕ, List, length, map, All, ⊤, nat_eq, codes, chars, Option, Some, None, Result, Ok, Err}
 use Rattle.std.specs.Cmp.Lexicographic.{pointwise}
 use Rattle.std.specs.Fmt.{decimal}
 use Rattle.std.specs.declared.cmp.Ordering.{Ordering}
@@ -27,7 +27,7 @@ use Rattle.jsonb.specs.Walked.{IsItemOf}
 use Rattle.jsonb.specs.declared.item_type.JsonbItemType.{JsonbItemType}
 use Rattle.jsonb.specs.declared.item_type.JsonbItemType.TheVariants.{Null, Boolean, Number, String, Extension, Array, Object}
 use Rattle.jsonb_cli.specs.AnswerLine.{ok_line, error_line}
-use Rattle.jsonb_cli.specs.Lines.{Each, AppendsWhole}
+use Rattle.jsonb_cli.specs.Lines.{Each, Replies, AppendsWhole}
 use Rattle.jsonb_cli.specs.Commands.{Form, enc, dec, pretty, item_type, get, cmp, arr, canon, IsOfForm}
 
 -- the answer to a line of no form
@@ -157,3 +157,8 @@ abbrev pub IsPrompt : Option (List ℕ) → Option (List ℕ) → List ℕ → O
 IsPrompt None left begun old new = ⊤
 IsPrompt (Some input) None begun old new = ⊥
 IsPrompt (Some input) (Some left) begun old new = AppendsWhole IsLineReply input begun left old new
+
+-- A reply to each line of the input, none of them that memory was refused.
+pub record AreAnswers (input output : List ℕ) : Type 0 where
+  pub all : Replies IsLineReply input output
+  pub given : All (λ reply. IsRefused reply → ⊥) all.replies

@@ -5,7 +5,7 @@ ghost use Rattle.jsonb_value.specs.declared.error.Error.TheVariants.{OutOfMemory
 ghost use Rattle.jsonb_cli.specs.Commands.{Form, IsOfForm};
 ghost use Rattle.jsonb_cli.specs.Parsed.{form_of};
 ghost use Rattle.jsonb_cli.specs.AnswerLine.{outcome_line};
-ghost use Rattle.jsonb_cli.specs.Answers.{IsFormAnswer, IsReply, IsLineReply, IsHexOf};
+ghost use Rattle.jsonb_cli.specs.Answers.{IsAnswer, IsFormAnswer, IsReply, IsLineReply, IsHexOf};
 
 use crate::answer::{Answer, Refusal};
 use crate::calls::{
@@ -110,7 +110,9 @@ impl Command<'_> {
 
 /// What a line is answered: what its command answers, or that it is none.
 pub fn answer(alloc: Global, line: &[u8]) -> Result<Answer, Refusal>
-    ensures { IsLineReply line.now (outcome_line result) }
+    ensures reply { IsLineReply line.now (outcome_line result) }
+    // No line has two answers.
+    ensures one { (a b : List ℕ) → IsAnswer line.now a → IsAnswer line.now b → a ≡ b }
 {
     match Command::parse(line) {
         Some(command) => command.answer(alloc),

@@ -3,7 +3,7 @@
 ghost use Rattle.std.specs.Prelude.{◌≡◌, ℕ, [], ◌++◌, List, Option, ⊤, OnOk, OnErr, IfSome, IsErrOf};
 ghost use Rattle.std.specs.Io.{ReadsAtMost};
 ghost use Rattle.std.specs.Io.KnownBytes.{IsAtEnd, ReadConsumes};
-ghost use Rattle.jsonb_cli.specs.Answers.{IsLineReply, IsPrompt};
+ghost use Rattle.jsonb_cli.specs.Answers.{IsLineReply, AreAnswers, IsPrompt};
 ghost use Rattle.jsonb_cli.specs.Lines.{IsLine, AppendsReply, BeginsReply};
 ghost use Rattle.jsonb_cli.specs.Lines.{AppendsReplies, AppendsBeginning, AppendsWhole};
 ghost use Rattle.jsonb_cli.specs.Fault.{fault_line};
@@ -192,6 +192,9 @@ pub fn run<R: Read, W: Write>(alloc: Global, reader: &mut R, writer: &mut W) -> 
     ensures prompt { IsErrOf result RunError.Read → IfSome (R.remaining reader.old) (λ input.
         IfSome (R.remaining reader.new) (λ left. (begun : List ℕ) × AppendsWhole IsLineReply
         input begun left (W.contents writer.old) (W.contents writer.new))) }
+
+    // Where no reply is `error OutOfMemory`, an input has one output.
+    ensures one_output { (input a b : List ℕ) → AreAnswers input a → AreAnswers input b → a ≡ b }
 {
     answer_lines(alloc, reader, writer)
 }
