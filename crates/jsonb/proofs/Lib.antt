@@ -9,7 +9,7 @@ pub mod StandingLaws
 pub mod DocumentWalks
 pub mod StandingWalks
 pub mod HeldLaws
-pub mod Parts
+pub mod PartLaws
 pub mod LookupLaws
 pub mod WholeWalks
 pub mod BuiltLaws

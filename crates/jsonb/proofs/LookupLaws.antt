@@ -22,7 +22,7 @@ use Rattle.jsonb.specs.Walk.{count_under}
 use Rattle.jsonb.specs.Parts.{length_in, part_length, length_before, part_start, HasParts, key_of_size, IsPassedAt, PassedBefore, IsNoneFound, IsValueFound, IsUnreadable}
 use Rattle.jsonb.specs.Lookup.{IsPassed, NoneAccepted, IsFirstAccepted, LooksUp, LooksUpIn, LooksUpBytes, no_header, unread, all_passed, one_accepted, find_pair, find, AnswersBy, IsItemFound, IsRefusal}
 use Rattle.jsonb.proofs.Places.{At, At-left, part_at-At, within-At}
-use Rattle.jsonb.proofs.Parts.{key_of_other_length, key_there}
+use Rattle.jsonb.proofs.PartLaws.{key_of_other_length, key_there}
 use Rattle.jsonb.proofs.KindLaws.{header_at-Scalar, header_at-array, header_at-object}
 use Rattle.jsonb.proofs.ItemLaws.{IsItemOf-Payload}
 use Rattle.jsonb.proofs.StandingLaws.{AreEntries, first_entry, members_at, length-ArePairsOf, Keys-ArePairsOf, AreTexts-Payload, AreEntries-pairs, HasMembers-Payload}

@@ -1,7 +1,7 @@
 use Rattle.std.proofs.Common.{rules, ◌≡◌, List, ℕ, Bool, true, false, Err, length}
 use Rattle.std.specs.Fn.{FnReturnsAtPair}
 use Rattle.jsonb.specs.Parts.{IsUnreadable}
-use Rattle.jsonb.proofs.Parts.{if_refused, passed_other, passed_asked, passed_more, accepted_there, unread_cut, unread_past}
+use Rattle.jsonb.proofs.PartLaws.{if_refused, passed_other, passed_asked, passed_more, accepted_there, unread_cut, unread_past}
 use Rattle.jsonb.proofs.lookup.accepted_key.Goals as goal
 use Rattle.jsonb.proofs.lookup.accepted_key.Goals.{else-size-name-via-then-size-name+in_ok-payload+else-call, else-size-name-via-else-size-name}
 

@@ -2,7 +2,7 @@ use Rattle.std.proofs.Common.{rules, ◌≡◌, ◌+◌, ◌*◌, ◌<◌, List,
 use Rattle.std.specs.Fn.{FnReturnsAtPair}
 use Rattle.jsonb_value.specs.declared.error.Error.TheVariants.{InvalidEOF}
 use Rattle.jsonb.specs.Parts.{IsAccepted, IsUnreadable, value_unread}
-use Rattle.jsonb.proofs.Parts.{if_refused, if_err, value_cut, value_refused, value_past, value_there}
+use Rattle.jsonb.proofs.PartLaws.{if_refused, if_err, value_cut, value_refused, value_past, value_there}
 use Rattle.jsonb.proofs.lookup.find_value.Goals as goal
 
 pub returns-in_err-key-clause-unread : goal.returns-in_err-key-clause-unread

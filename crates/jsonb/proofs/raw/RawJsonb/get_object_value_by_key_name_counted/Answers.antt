@@ -8,7 +8,7 @@ use Rattle.jsonb.specs.Entries.{entry_of}
 use Rattle.jsonb.specs.Lookup.{LooksUp, shown_found}
 use Rattle.jsonb.specs.Parts.{IsValueFound, IsUnreadable}
 use Rattle.jsonb.specs.declared.entries.Entry.{Entry}
-use Rattle.jsonb.proofs.Parts.{if_err}
+use Rattle.jsonb.proofs.PartLaws.{if_err}
 use Rattle.jsonb.proofs.LookupLaws.{if_none, if_some, answer_no_header, answer_unread, answer_none, answer_found, answered, count-Doc, has_parts-Doc, LooksUp-nothing, LooksUp-none, found_item-Doc, found_item-never, LooksUp-item, item_of-refused}
 use Rattle.jsonb.proofs.raw.RawJsonb.get_object_value_by_key_name_counted.Goals as goal
 
