@@ -4,7 +4,7 @@
 //! entry is written, and is read back from there when the payload is. The length of a container
 //! child is found from that of the container round it (`within`), and not measured again whole.
 
-ghost use Rattle.std.specs.Prelude.{◌≡◌, ◌≢◌, ◌≤◌, ◌<◌, ◌^◌, ◌+◌, length, Some, None, IfSome, IfNone};
+ghost use Rattle.std.specs.Prelude.{◌≡◌, ◌<◌, ◌^◌, length};
 ghost use Rattle.jsonb_value.specs.Tree.{Tree, array, object};
 ghost use Rattle.jsonb_value.specs.Value.{items_view, pairs_view};
 ghost use Rattle.jsonb_value.specs.Ast.{asts_view, ast_pairs_view};

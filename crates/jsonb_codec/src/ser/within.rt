@@ -16,7 +16,7 @@ use super::measure::measure_payload;
 use super::node::{AstPair, Items, Node, Pairs, PairsLeft};
 use jsonb_value::{JsonAst, Object, Value};
 
-const FIRST_LIMIT: usize = 256;
+const FIRST_LIMIT: usize = 64;
 
 /// The length of a payload.
 #[inline(always)]
