@@ -29,6 +29,7 @@ pub enum Payload<'a> {
 
 impl Payload<'_> {
     /// How many bytes the payload has.
+    #[inline(always)]
     pub fn len(&self) -> usize
         ensures { result ≡ length (payload_bytes self.now) }
     {
@@ -40,6 +41,7 @@ impl Payload<'_> {
     }
 
     /// Appends the payload where there is room for it.
+    #[inline(always)]
     pub fn append_to(&self, out: &mut Vec<u8>)
         requires short { length (payload_bytes self.now) < 2 ^ 28 }
         requires room { HasRoom out.old (payload_bytes self.now) }
@@ -70,6 +72,7 @@ pub struct Code<'a> {
 
 impl Code<'_> {
     /// Appends the entry word where there is room for it.
+    #[inline(always)]
     pub fn append_entry_to(&self, out: &mut Vec<u8>)
         requires type_code { self.now.type_code ≤ 0x60000000 }
         requires short { length (shown_code self.now).payload < 2 ^ 28 }
@@ -80,6 +83,7 @@ impl Code<'_> {
     }
 }
 
+#[inline(always)]
 fn append_bytes(out: &mut Vec<u8>, bytes: &[u8])
     requires { HasRoom out.old bytes.now }
     ensures { Appended out.old out.new bytes.now }
@@ -91,6 +95,7 @@ fn append_bytes(out: &mut Vec<u8>, bytes: &[u8])
 
 /// Appends one word where there is room for it.
 #[tactic(auto, unfolding(jsonb_codec::specs::Word::word))]
+#[inline(always)]
 pub fn append_word(out: &mut Vec<u8>, number: u32)
     requires { HasRoom out.old (word number) }
     ensures { Appended out.old out.new (word number) }
@@ -124,6 +129,7 @@ pub fn scalar_document(alloc: Global, code: Code) -> Result<Vec<u8>, Error>
 }
 
 /// With what a text is stored.
+#[inline(always)]
 pub fn text_code(text: &str) -> Code
     ensures type_code { result.type_code ≡ STRING_TAG }
     ensures payload { (shown_code result).payload ≡ text.now }
@@ -136,6 +142,7 @@ pub fn text_code(text: &str) -> Code
 }
 
 /// With what an item is stored, where it can be: bytes that were given as they were given.
+#[inline(always)]
 pub fn item_code<'s>(item: &'s JsonbItem<'_>) -> Code<'s>
     ensures code { shown_code result ≡ code_of (shown item.now) }
     ensures held { IsHeld (shown item.now) }
@@ -154,6 +161,7 @@ pub fn item_code<'s>(item: &'s JsonbItem<'_>) -> Code<'s>
 }
 
 // With what a document is stored: a scalar with its entry, an array or object whole.
+#[inline(always)]
 fn document_code(bytes: &[u8]) -> Code<'_>
     ensures { shown_code result ≡ document_code bytes.now }
 {
@@ -171,6 +179,7 @@ fn document_code(bytes: &[u8]) -> Code<'_>
 
 // The entry under a scalar's header.
 #[tactic(auto, unfolding(crate::specs::Stored::scalar_entry))]
+#[inline(always)]
 fn scalar_entry(bytes: &[u8]) -> Option<Entry<'_>>
     ensures { option_map entry_of result ≡ scalar_entry bytes.now }
 {

@@ -28,6 +28,7 @@ pub enum Children<'s, 'a> {
 
 impl<'s, 'a> Children<'s, 'a> {
     /// The first child, and the others.
+    #[inline(always)]
     pub fn split_first(self) -> Option<(Child<'s, 'a>, Children<'s, 'a>)>
         ensures { MatchOption result (children_shown self.entry ≡ [])
             (λ x. children_shown self.entry ≡ child_shown x.0 ∷ children_shown x.1) }
@@ -52,6 +53,7 @@ impl<'s, 'a> Children<'s, 'a> {
 impl<'s, 'a> Child<'s, 'a> {
     /// The length of the payload. `InvalidJsonb` for an item of bytes that are no document, and
     /// for a payload past its limit.
+    #[inline(always)]
     pub fn measure(self) -> Result<usize, Error>
         ensures ok { IfOk result (λ n. IsStorable (child_shown self.entry)
             × (n ≡ length (code_of (child_shown self.entry)).payload)) }
@@ -70,6 +72,7 @@ impl<'s, 'a> Child<'s, 'a> {
     }
 
     // Whether there is an entry to store: bytes must be a document.
+    #[inline(always)]
     fn is_stored(self) -> bool
         ensures { IsTrue result ↔ IsStored (child_shown self.entry) }
     {
@@ -81,6 +84,7 @@ impl<'s, 'a> Child<'s, 'a> {
     }
 
     /// The type of the entry, and the payload.
+    #[inline(always)]
     pub fn code(self) -> Code<'s>
         ensures code { shown_code result ≡ code_of (child_shown self.entry) }
         ensures held { IsHeld (child_shown self.entry) }

@@ -99,6 +99,7 @@ fn measure_object<'a>(pairs: &BTreeMap<&'a str, JsonbItem<'a>>) -> Result<usize,
 }
 
 // The length of all payloads.
+#[inline(always)]
 fn measure_payloads(children: Children<'_, '_>) -> Result<usize, Error>
     requires { length (children_shown children) < 2 ^ 29 }
     ensures ok { IfOk result (λ n. n ≡ length (code_payloads (codes_of (children_shown children.entry)))) }
@@ -118,6 +119,7 @@ fn measure_payloads(children: Children<'_, '_>) -> Result<usize, Error>
 }
 
 // The entry words.
+#[inline(always)]
 fn append_entries(out: &mut Vec<u8>, children: Children<'_, '_>)
     requires storable { AreStorable (children_shown children) }
     requires room { HasRoom out.old (code_entries (codes_of (children_shown children))) }
@@ -131,6 +133,7 @@ fn append_entries(out: &mut Vec<u8>, children: Children<'_, '_>)
 }
 
 // The payloads.
+#[inline(always)]
 fn append_payloads(out: &mut Vec<u8>, children: Children<'_, '_>)
     requires storable { AreStorable (children_shown children) }
     requires room { HasRoom out.old (code_payloads (codes_of (children_shown children))) }
