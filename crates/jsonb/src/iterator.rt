@@ -170,7 +170,8 @@ impl<'a> ArrayIterator<'a> {
         ensures document { (t : Tree) → Doc (raw_bytes raw.entry) t → WalksArray t result }
 
         // They are those of the entries that stand there, type and payload.
-        ensures entries { (t : Tree) → Doc (raw_bytes raw.entry) t → WalksItems (raw_bytes raw.entry) t result }
+        ensures entries { (t : Tree) → Doc (raw_bytes raw.entry) t
+            → WalksItems (raw_bytes raw.entry) t result }
     {
         ArrayIterator::over(raw)
     }
@@ -302,7 +303,8 @@ impl<'a> ObjectValueIterator<'a> {
         ensures document { (t : Tree) → Doc (raw_bytes raw.entry) t → WalksValues t result }
 
         // They are those of the entries that stand there, type and payload.
-        ensures entries { (t : Tree) → Doc (raw_bytes raw.entry) t → WalksValueItems (raw_bytes raw.entry) t result }
+        ensures entries { (t : Tree) → Doc (raw_bytes raw.entry) t
+            → WalksValueItems (raw_bytes raw.entry) t result }
     {
         ObjectValueIterator::over(raw)
     }
@@ -446,7 +448,8 @@ impl<'a> ObjectIterator<'a> {
         ensures document { (t : Tree) → Doc (raw_bytes raw.entry) t → WalksPairs t result }
 
         // They are those of the entries that stand there, type and payload.
-        ensures entries { (t : Tree) → Doc (raw_bytes raw.entry) t → WalksMembers (raw_bytes raw.entry) t result }
+        ensures entries { (t : Tree) → Doc (raw_bytes raw.entry) t
+            → WalksMembers (raw_bytes raw.entry) t result }
     {
         ObjectIterator::over(raw)
     }

@@ -98,7 +98,8 @@ fn accepted_key<F: Fn(&[u8], &[u8]) -> bool>(
     requires callable { (a b : _) → a.now ≡ name.now → length b.now ≡ length name.now → F.pre eq_func.now a b }
     requires room { reads.old + count < 2 ^ 64 }
     ensures none { IfOk result (λ answer. IfNone answer
-        (PassedBefore (λ key b. FnReturnsAtPair F.Fn eq_func.now name.now key b) (length name.now) bytes.now count count)) }
+        (PassedBefore (λ key b. FnReturnsAtPair F.Fn eq_func.now name.now key b)
+        (length name.now) bytes.now count count)) }
     ensures some { IfOk result (λ answer. IfSome answer (λ accepted.
         IsAccepted (λ key b. FnReturnsAtPair F.Fn eq_func.now name.now key b) (length name.now) bytes.now count accepted.pair)) }
     ensures end { IfOk result (λ answer. IfSome answer (λ accepted. accepted.end ≡ part_start bytes.now count (accepted.pair + 1))) }
@@ -106,7 +107,8 @@ fn accepted_key<F: Fn(&[u8], &[u8]) -> bool>(
     ensures some_cost { IfOk result (λ answer. IfSome answer (λ accepted. reads.new ≡ reads.old + accepted.pair + 1)) }
     ensures bound { (reads.old ≤ reads.new) × (reads.new ≤ reads.old + count) }
     ensures unread { IfErr result
-        (IsUnreadable (λ key b. FnReturnsAtPair F.Fn eq_func.now name.now key b) (length name.now) bytes.now count) }
+        (IsUnreadable (λ key b. FnReturnsAtPair F.Fn eq_func.now name.now key b)
+        (length name.now) bytes.now count) }
     ensures whole { HasParts bytes.now count → IsOk result }
     ensures refused { IfErr result IsRefusal }
 {
@@ -172,7 +174,8 @@ fn find_value<'a, F: Fn(&[u8], &[u8]) -> bool>(
         IsValueFound (λ key b. FnReturnsAtPair F.Fn eq_func.now name.now key b) (length name.now)
         bytes.now count (entry_of entry) (reads.new - reads.old))) }
     ensures unread { IfErr result
-        (IsUnreadable (λ key b. FnReturnsAtPair F.Fn eq_func.now name.now key b) (length name.now) bytes.now count) }
+        (IsUnreadable (λ key b. FnReturnsAtPair F.Fn eq_func.now name.now key b)
+        (length name.now) bytes.now count) }
     ensures bound { (reads.old ≤ reads.new) × (reads.new ≤ reads.old + 2 * count) }
     ensures whole { HasParts bytes.now count → IsOk result }
     ensures refused { IfErr result IsRefusal }
