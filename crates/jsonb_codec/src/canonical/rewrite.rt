@@ -173,6 +173,7 @@ fn append_entry(out: &mut Vec<u8>, part: Part<'_>, size: usize)
 
 // A payload, as it is written, whose entry word was written at the index.
 #[cycle(append)]
+#[inline(always)]
 fn append_payload(out: &mut Vec<u8>, part: Part<'_>, entry: usize)
     requires part { (t : Tree) × (IsPayloadOf part.tag part.payload.now t × (FitsEntry t
         × (Stands entry (entry_word t) out.old.items × HasRoom out.old (payload_of t)))) }
