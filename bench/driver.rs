@@ -14,6 +14,8 @@ extern "C" {
     fn measured_cmp(left: *const u8, left_length: usize, right: *const u8, right_length: usize) -> i32;
     fn measured_print(bytes: *const u8, length: usize) -> usize;
     fn measured_parse(text: *const u8, length: usize) -> usize;
+    fn measured_sort(bytes: *const u8, length: usize, ends: *const u64, count: usize, order: *mut u64, room: usize) -> bool;
+    fn measured_canonical(bytes: *const u8, length: usize) -> usize;
 }
 
 // The seconds that a call of either side takes, the least of fifteen. The two take turns, so that
@@ -131,13 +133,18 @@ fn encoded(value: &Value) -> Vec<u8> {
 }
 
 fn sorts() {
-    let shapes: [(&str, fn(usize) -> Value<'static>); 3] = [
+    let shapes: [(&str, fn(usize) -> Value<'static>); 5] = [
         ("numbers", |i| Value::Number(Number::UInt64((i as u64 * 7919) % 1_000_003))),
         ("strings", |i| string(format!("value {}", (i * 7919) % 1_000_003))),
         ("objects", |i| {
             let pairs = (0..4).map(|k| (format!("key{k}"), Value::Number(Number::UInt64(((i * 7919 + k * i) % 100_003) as u64))));
             Value::Object(pairs.collect::<BTreeMap<_, _>>())
         }),
+        ("of 20", |i| {
+            let pairs = (0..20).map(|k| (format!("key{k:02}"), Value::Number(Number::UInt64(((i * 7919 + k * i) % 100_003) as u64))));
+            Value::Object(pairs.collect::<BTreeMap<_, _>>())
+        }),
+        ("arrays", |i| Value::Array((0..50).map(|k| Value::Number(Number::UInt64(((i * 7919 + k * i) % 100_003) as u64))).collect())),
     ];
     for (name, shape) in shapes {
         let documents: Vec<Vec<u8>> = (0..100_000).map(|i| encoded(&shape(i))).collect();
@@ -154,6 +161,53 @@ fn sorts() {
         };
         let (ours, theirs) = fastest(sort, sort_theirs);
         report(name, "sort", size, ours, theirs);
+        let bytes = documents.concat();
+        let ends: Vec<u64> = documents.iter().scan(0, |end, d| { *end += d.len() as u64; Some(*end) }).collect();
+        let mut order = vec![0; ends.len()];
+        let once = || {
+            let done = unsafe { measured_sort(bytes.as_ptr(), bytes.len(), ends.as_ptr(), ends.len(), order.as_mut_ptr(), order.len()) };
+            assert!(done);
+            1
+        };
+        let (ours, theirs) = fastest(once, sort_theirs);
+        report(name, "sort once", size, ours, theirs);
+    }
+}
+
+// Containers inside one another, each the first of two children: so many levels of arrays, or of objects.
+fn chain(levels: usize, objects: bool) -> Value<'static> {
+    let one = || Value::Number(Number::UInt64(1));
+    (0..levels).fold(one(), |inner, _| match objects {
+        false => Value::Array(vec![inner, one()]),
+        true => Value::Object(BTreeMap::from([("a".to_string(), inner), ("b".to_string(), one())])),
+    })
+}
+
+fn halves(levels: usize) -> Value<'static> {
+    match levels {
+        0 => Value::Number(Number::UInt64(1)),
+        _ => Value::Array(vec![halves(levels - 1), halves(levels - 1)]),
+    }
+}
+
+// The shapes whose lengths are dearest to find: what encoding and the canonical form cost beside the crate's encoder.
+fn nested() {
+    let mut shapes: Vec<(String, Value)> = Vec::new();
+    for levels in [100, 1_000, 10_000] {
+        shapes.push((format!("arrays {levels}"), chain(levels, false)));
+        shapes.push((format!("objects {levels}"), chain(levels, true)));
+    }
+    shapes.push(("halves 17".to_string(), halves(17)));
+    for (name, value) in shapes {
+        let bytes = encoded(&value);
+        let build = || unsafe { measured_encode(bytes.as_ptr(), bytes.len(), 0) };
+        let both = || unsafe { measured_encode(bytes.as_ptr(), bytes.len(), 1) };
+        // The build of the value stands in both, so its own time is taken off.
+        let (with, without) = fastest(both, build);
+        let (theirs, canonical) = fastest(|| encoded(&value).len(), || unsafe { measured_canonical(bytes.as_ptr(), bytes.len()) });
+        report(&name, "encode", bytes.len(), (with - without).max(1e-9), theirs);
+        report(&name, "canon", bytes.len(), canonical, theirs);
+        std::mem::forget(value);
     }
 }
 
@@ -187,5 +241,6 @@ fn main() {
     documents();
     look_ups();
     sorts();
+    nested();
     texts();
 }
