@@ -22,8 +22,8 @@ const PRETTY: &str = "[\n  false,\n  10,\n  {\n    \"k\": \"v\"\n  }\n]";
 const DOCUMENT: &[u8] = b"\x80\0\0\x03\x30\0\0\0\x20\0\0\x02\x50\0\0\x0e\x50\x0a\
     \x40\0\0\x01\x10\0\0\x01\x10\0\0\x01kv";
 
-// The object of that array.
-const OBJECT: &[u8] = b"\x40\0\0\x01\x10\0\0\x01\x10\0\0\x01kv";
+// The object in that array.
+const PAIR: &[u8] = b"\x40\0\0\x01\x10\0\0\x01\x10\0\0\x01kv";
 
 // The number 5, and the string "x".
 const FIVE: &[u8] = b"\x20\0\0\0\x20\0\0\x02\x50\x05";
@@ -197,7 +197,7 @@ fn a_document_is_asked(rt: HostRuntime) -> Result<(), Fail> {
 
 #[test]
 fn an_object_is_asked(rt: HostRuntime) -> Result<(), Fail> {
-    let asked = ask(rt.alloc(), RawJsonb::new(OBJECT), "k", RawJsonb::new(X))?;
+    let asked = ask(rt.alloc(), RawJsonb::new(PAIR), "k", RawJsonb::new(X))?;
     assert!(rt; asked.items.is_none());
     assert!(rt; asked.keys.map(|keys| keys.len()) == Some(1));
     assert!(rt; asked.values.map(|values| values.len()) == Some(1));
