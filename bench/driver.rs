@@ -11,6 +11,8 @@ extern "C" {
     fn measured_build(bytes: *const u8, length: usize) -> bool;
     fn measured_encode(bytes: *const u8, length: usize, times: usize) -> usize;
     fn measured_find(bytes: *const u8, length: usize, name: *const u8, name_length: usize) -> bool;
+    fn measured_get(bytes: *const u8, length: usize, name: *const u8, name_length: usize, times: usize) -> usize;
+    fn measured_text(bytes: *const u8, length: usize, times: usize) -> usize;
     fn measured_cmp(left: *const u8, left_length: usize, right: *const u8, right_length: usize) -> i32;
     fn measured_print(bytes: *const u8, length: usize) -> usize;
     fn measured_parse(text: *const u8, length: usize) -> usize;
@@ -123,6 +125,16 @@ fn look_up(shape: &str, count: usize, name: fn(usize) -> String) {
             || (0..turns).filter(|_| api::has(black_box(&bytes), name)).count(),
         );
         println!("{place:6} of {count:6} {shape:9} {:10.1} ns, the crate {:10.1} ns: {:.2} of its time", ours * 1e9 / turns as f64, theirs * 1e9 / turns as f64, ours / theirs);
+        // A document is checked at each call: what so many more turns take is the look-up's alone.
+        let get = |times| unsafe { measured_get(black_box(bytes.as_ptr()), bytes.len(), name.as_ptr(), name.len(), times) };
+        assert_eq!(get(turns), turns);
+        let (more, theirs) = fastest(
+            || get(turns + 1),
+            || (0..turns).filter(|_| api::has(black_box(&bytes), name)).count(),
+        );
+        let (once, _) = fastest(|| get(1), || 0);
+        let ours = more - once;
+        println!("{place:6} of {count:6} {shape:9} {:10.1} ns, the crate {:10.1} ns: {:.2} of its time (get of a document)", ours * 1e9 / turns as f64, theirs * 1e9 / turns as f64, ours / theirs);
     }
 }
 
@@ -226,6 +238,10 @@ fn texts() {
     let to_string = || serde_json::to_string(&tree).unwrap().len();
     let (ours, theirs) = fastest(|| unsafe { measured_print(objects.as_ptr(), objects.len()) }, to_string);
     report("objects", "print", printed, ours, theirs);
+    let (start, count) = (objects.as_ptr(), objects.len());
+    let (more, theirs) = fastest(|| unsafe { measured_text(start, count, 5) }, || (0..4).map(|_| to_string()).sum());
+    let (once, _) = fastest(|| unsafe { measured_text(start, count, 1) }, || 0);
+    report("objects", "text", 4 * printed, more - once, theirs);
     drop(value);
 }
 
@@ -238,9 +254,17 @@ fn objects_as_json() -> serde_json::Value {
 }
 
 fn main() {
-    documents();
-    look_ups();
-    sorts();
-    nested();
-    texts();
+    let parts: [(&str, fn()); 5] = [
+        ("documents", documents),
+        ("look_ups", look_ups),
+        ("sorts", sorts),
+        ("nested", nested),
+        ("texts", texts),
+    ];
+    let wanted: Vec<String> = std::env::args().skip(1).collect();
+    for (name, part) in parts {
+        if wanted.is_empty() || wanted.iter().any(|it| it == name) {
+            part();
+        }
+    }
 }
