@@ -1,5 +1,5 @@
 -- A checked document is a document of its tree.
-use Rattle.std.proofs.Common.{◌≡◌, ◌↔◌, ℕ, List, Option, Some, None, IfSome, IsSome, inl, inr, refl, sym, ap, subst, ◌∙◌}
+use Rattle.std.proofs.Common.{◌≡◌, ◌↔◌, ℕ, List, Option, Some, None, IfSome, IsSome, inl, inr, sym, subst}
 use Rattle.std.proofs.Math.Logic.{∥∥₁_elim}
 use Rattle.jsonb_value.specs.Tree.{Tree}
 use Rattle.jsonb_value.proofs.PayloadDecision.{Decided}

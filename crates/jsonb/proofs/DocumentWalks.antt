@@ -115,14 +115,14 @@ length-Keys (pair k t ps) e p h =
     let one = ap length h.entries_are ∙ length-word-append (268435456 + length h.payload) h.other_entries in omega arith
 
 -- where the parts of an array stand
-record ArrayParts (b : List ℕ) (ts : Trees) : Type 0 where
-  entries : List ℕ
-  payloads : List ℕ
-  children : Children ts entries payloads
-  entries_at : At b 4 entries
-  payloads_at : At b (4 + 4 * count ts) payloads
+pub record ArrayParts (b : List ℕ) (ts : Trees) : Type 0 where
+  pub entries : List ℕ
+  pub payloads : List ℕ
+  pub children : Children ts entries payloads
+  pub entries_at : At b 4 entries
+  pub payloads_at : At b (4 + 4 * count ts) payloads
 
-array_parts : (b : List ℕ) (ts : Trees) → Payload (array ts) b → ArrayParts b ts
+pub array_parts : (b : List ℕ) (ts : Trees) → Payload (array ts) b → ArrayParts b ts
 array_parts b ts h =
     let body = h.behind in
     let whole = At-behind_word b 0 4 (2147483648 + count ts) (body.entries ++ body.payloads) refl

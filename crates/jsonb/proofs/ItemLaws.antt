@@ -25,7 +25,7 @@ abbrev Found : Tree → List ℕ → Type 0
 Found t p = (x : Shown) × ((item_of (type_of t) p ≡ Ok x) × (Means x t × HasCode x (type_of t) p))
 
 -- the payload of a tree is one of which there is an item
-found_item : (t : Tree) (p : List ℕ) → Payload t p → Found t p
+pub found_item : (t : Tree) (p : List ℕ) → Payload t p → Found t p
 unfolding item_of
 found_item trees.null p h = (null, (refl, (refl, (refl, h))))
 found_item (trees.boolean true) p h = (boolean true, (refl, (refl, (refl, h))))

@@ -26,4 +26,5 @@ pub mod TextLaws
 pub mod BuiltMeanings
 pub mod Classes
 pub mod DocumentLaws
+pub mod KnownLaws
 pub mod NodeLaws

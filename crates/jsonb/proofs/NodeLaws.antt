@@ -1,6 +1,6 @@
 -- What the type of an entry, and members, say of a tree.
-use Rattle.std.proofs.Common.{◌≡◌, ◌≢◌, ℕ, true, false, List, Option, Some, None, refl, sym, ap, arith, ◌∙◌}
-use Rattle.jsonb_value.specs.Tree.{Tree, null, boolean, number, text, extension, array, object, Pairs, no_pairs, pair}
+use Rattle.std.proofs.Common.{◌≡◌, ◌≢◌, ℕ, true, false, List, None, refl, arith}
+use Rattle.jsonb_value.specs.Tree.{Tree, null, boolean, number, text, extension, array, object}
 use Rattle.jsonb_codec.specs.Doc.{type_of}
 use Rattle.jsonb.specs.Node.{value_of_key}
 

@@ -26,5 +26,6 @@ pub mod Lines
 pub mod Tally
 pub mod Asked
 pub mod Document
+pub mod Known
 pub mod Node
 pub mod SortKey

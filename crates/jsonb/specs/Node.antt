@@ -1,8 +1,9 @@
--- What a value in a document means, and the value of a key.
-use Rattle.std.specs.Prelude.{ℕ, List, length, nat_eq, Option}
+-- What a value in a document means, and what arrays and objects hold.
+use Rattle.std.specs.Prelude.{ℕ, List, [], ◌∷◌, length, nat_eq, Option, None, Some, slice_get}
+use Rattle.std.specs.Borrow.{Bor}
 use Rattle.std.specs.Cmp.Lexicographic.{pointwise}
 use Rattle.jsonb_value.specs.Tree as trees
-use Rattle.jsonb_value.specs.Tree.{Tree}
+use Rattle.jsonb_value.specs.Tree.{Tree, Trees, no_trees, tree, Pairs, no_pairs, pair, array, object}
 use Rattle.jsonb_value.specs.ExtCode.{extension_of}
 use Rattle.jsonb.specs.declared.document.Node.{Node}
 use Rattle.jsonb.specs.declared.document.Node.TheVariants as nodes
@@ -21,3 +22,30 @@ node_tree (nodes.Container d) = document_tree d
 -- the value of the first key that is the name
 abbrev pub value_of_key : List ℕ → Tree → Option Tree
 value_of_key name t = find (pointwise nat_eq name) (length name) t
+
+-- the trees of an array's items
+abbrev pub tree_list : Trees → List Tree
+tree_list no_trees = []
+tree_list (tree t ts) = t ∷ tree_list ts
+
+abbrev pub items_of : Tree → Option (List Tree)
+items_of (array ts) = Some (tree_list ts)
+items_of t = None
+
+-- the one at an index
+abbrev pub item_at_index : ℕ → Tree → Option Tree
+item_at_index index (array ts) = slice_get (tree_list ts) index
+item_at_index index t = None
+
+-- the keys of an object's members, with the trees of their values
+abbrev pub pair_list : Pairs → List (List ℕ × Tree)
+pair_list no_pairs = []
+pair_list (pair k t ps) = (k, t) ∷ pair_list ps
+
+abbrev pub members_of : Tree → Option (List (List ℕ × Tree))
+members_of (object ps) = Some (pair_list ps)
+members_of t = None
+
+-- a key with the tree of its value
+abbrev pub member_tree : Bor (List ℕ) × Node → List ℕ × Tree
+member_tree member = (member.0.now, node_tree member.1)

@@ -23,6 +23,13 @@ payload_length (Err e) = 0
 abbrev pub length_at : List ℕ → ℕ → ℕ → ℕ
 length_at bytes place start = payload_length (entry_at bytes place start)
 
+-- the entries of `left` entry words from a place on, up to the first error
+abbrev pub entries_from : List ℕ → ℕ → ℕ → ℕ → List (Result Entry Error)
+entries_from bytes zero place start = []
+entries_from bytes (suc left) place start =
+    entry_at bytes place start
+    ∷ (if is_ok (entry_at bytes place start) then entries_from bytes left (place + 4) (start + length_at bytes place start) else [])
+
 -- the items of `left` entries from a place on, up to the first error
 abbrev pub items_from : List ℕ → ℕ → ℕ → ℕ → List (Result Shown Error)
 items_from bytes zero place start = []
@@ -63,6 +70,17 @@ count_if tag header = if header.0 == tag then Some header.1 else None
 
 unfoldable pub count_under : List ℕ → ℕ → Result (Option ℕ) Error
 count_under bytes tag = header_at bytes 0 >>= λ header. Ok (count_if tag header)
+
+-- the entries of an array, and those of an object's keys and values
+abbrev pub array_entries : List ℕ → Result (Option (List (Result Entry Error))) Error
+array_entries bytes = count_under bytes ARRAY_CONTAINER_TAG >>= λ n. Ok (option_map (λ n. entries_from bytes n 4 (4 + 4 * n)) n)
+
+abbrev pub member_entries : List ℕ → Option ℕ → Result (Option (List (Result Entry Error) × List (Result Entry Error))) Error
+member_entries bytes None = Ok None
+member_entries bytes (Some n) = payloads_end bytes n 4 (4 + 8 * n) >>= λ start. Ok (Some (entries_from bytes n 4 (4 + 8 * n), entries_from bytes n (4 + 4 * n) start))
+
+abbrev pub object_entries : List ℕ → Result (Option (List (Result Entry Error) × List (Result Entry Error))) Error
+object_entries bytes = count_under bytes OBJECT_CONTAINER_TAG >>= member_entries bytes
 
 -- the items of an array
 abbrev pub array_items : List ℕ → ℕ → Walk Shown

@@ -2,17 +2,18 @@
 
 ghost use Rattle.jsonb_codec.specs.Doc.{IsDocument};
 
+use crate::entries::Cursor;
 use crate::item_type::JsonbItemType;
+use crate::nodes::{Items, Members};
 use crate::raw::RawJsonb;
 use crate::text::{Layout, document_text, write_document};
 use jsonb_codec::constants::{
     CONTAINER_TAG, EXTENSION_TAG, FALSE_TAG, NULL_TAG, NUMBER_TAG, STRING_TAG, TRUE_TAG,
 };
 use jsonb_codec::parts::{
-    Contents, Members, Part, extension_in, number_in, split_contents, split_document, split_member,
-    text_in,
+    Contents, Part, extension_in, number_in, split_contents, split_document, split_member, text_in,
 };
-use jsonb_codec::{is_document, is_document_within};
+use jsonb_codec::{is_document, is_document_within, parts};
 use jsonb_value::{Error, ExtensionValue, Number};
 use std::alloc::Global;
 use std::fmt;
@@ -49,8 +50,9 @@ impl<'a> Document<'a> {
     ghost use Rattle.jsonb_codec.specs.Parts.{IsPayloadOf};
     ghost use Rattle.jsonb.specs.Document.{document_bytes, document_tree};
     ghost use Rattle.jsonb.specs.Kind.{kind_of_tree};
+    ghost use Rattle.jsonb.specs.Known.{trees_left, pairs_left};
     ghost use Rattle.jsonb.specs.Lookup.{find_pair};
-    ghost use Rattle.jsonb.specs.Node.{node_tree, value_of_key};
+    ghost use Rattle.jsonb.specs.Node.{node_tree, value_of_key, items_of, item_at_index, members_of};
     ghost use Rattle.jsonb.specs.Raw.{raw_bytes};
 
     /// The bytes as a document. `None` where they are none.
@@ -118,7 +120,38 @@ impl<'a> Document<'a> {
     pub fn value(&self) -> Node<'a>
         ensures { node_tree result ≡ document_tree self.now }
     {
-        Node::of_part(split_document(self.as_bytes()))
+        let part = split_document(self.as_bytes());
+        Node::of_payload(part.tag, part.payload)
+    }
+
+    /// The items of an array, in order. `None` for all but arrays.
+    pub fn items(&self) -> Option<Items<'a>>
+        ensures { option_map trees_left result ≡ items_of (document_tree self.now) }
+    {
+        match Cursor::over_array(self.as_bytes()) {
+            Ok(Some(entries)) => Some(Items::new(entries)),
+            Ok(None) => None,
+            Err(_) => unreachable!(),
+        }
+    }
+
+    /// The members of an object, in the order of their keys. `None` for all but objects.
+    pub fn members(&self) -> Option<Members<'a>>
+        ensures { option_map pairs_left result ≡ members_of (document_tree self.now) }
+    {
+        match Cursor::over_object(self.as_bytes()) {
+            Ok(Some((keys, values))) => Some(Members::new(keys, values)),
+            Ok(None) => None,
+            Err(_) => unreachable!(),
+        }
+    }
+
+    /// The item of an array at an index. `None` where there are no more than so many items, and for
+    /// all but arrays.
+    pub fn index(&self, index: usize) -> Option<Node<'a>>
+        ensures { option_map node_tree result ≡ item_at_index index (document_tree self.now) }
+    {
+        self.items()?.item_at(index)
     }
 
     /// The value of a key: `None` where there is no such key, and for all but objects.
@@ -132,7 +165,7 @@ impl<'a> Document<'a> {
         match split_contents(whole.payload) {
             Contents::Array(_) => None,
             Contents::Object(members) => match Document::find_member(members, name) {
-                Some(part) => Some(Node::of_part(part)),
+                Some(part) => Some(Node::of_payload(part.tag, part.payload)),
                 None => None,
             },
         }
@@ -156,7 +189,7 @@ impl<'a> Document<'a> {
     }
 
     // The value of a key among members.
-    fn find_member(members: Members<'a>, name: &str) -> Option<Part<'a>>
+    fn find_member(members: parts::Members<'a>, name: &str) -> Option<Part<'a>>
         requires { (ps : Pairs) × AreMembers ps members }
         ensures some { IfSome result (λ part. IsSomePayload part.tag part.payload.now) }
         ensures found { (ps : Pairs) → AreMembers ps members.entry
@@ -183,20 +216,20 @@ impl<'a> Node<'a> {
     ghost use Rattle.jsonb_codec.specs.Parts.{IsPayloadOf};
     ghost use Rattle.jsonb.specs.Node.{node_tree};
 
-    // The value of a part.
-    fn of_part(part: Part<'a>) -> Node<'a>
-        requires { IsSomePayload part.tag part.payload.now }
-        ensures { (t : Tree) → IsPayloadOf part.entry.tag part.entry.payload.now t
-            → node_tree result ≡ t }
+    /// The value of the payload of an entry of that type.
+    #[inline(always)]
+    pub(crate) fn of_payload(tag: u32, payload: &'a [u8]) -> Node<'a>
+        requires { IsSomePayload tag payload.now }
+        ensures { (t : Tree) → IsPayloadOf tag payload.entry.now t → node_tree result ≡ t }
     {
-        match part.tag {
+        match tag {
             NULL_TAG => Node::Null,
             TRUE_TAG => Node::Boolean(true),
             FALSE_TAG => Node::Boolean(false),
-            NUMBER_TAG => Node::Number(number_in(part.payload)),
-            STRING_TAG => Node::String(text_in(part.payload)),
-            EXTENSION_TAG => Node::Extension(extension_in(part.payload)),
-            _ => Node::Container(Document::of_container(part.payload)),
+            NUMBER_TAG => Node::Number(number_in(payload)),
+            STRING_TAG => Node::String(text_in(payload)),
+            EXTENSION_TAG => Node::Extension(extension_in(payload)),
+            _ => Node::Container(Document::of_container(payload)),
         }
     }
 }

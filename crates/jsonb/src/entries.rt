@@ -1,11 +1,20 @@
 //! Entry words and their payloads, at the places where they stand.
 
-ghost use Rattle.std.specs.Prelude.{◌≡◌, ◌≤◌, ◌<◌, ◌+◌, ◌^◌, length, IfOk};
-ghost use Rattle.jsonb.specs.Item.{entry_at};
-ghost use Rattle.jsonb.specs.Entries.{shown_entry};
+ghost use Rattle.std.specs.Prelude.{◌≡◌, ◌≤◌, ◌<◌, ◌+◌, ◌*◌, ◌^◌, List, [], length, Result, Ok, IfOk, IfSome};
+ghost use Rattle.std.specs.Iterator.{YieldsFirstBy};
+ghost use Rattle.jsonb_value.specs.declared.error.Error.{Error};
+ghost use Rattle.jsonb_codec.specs.declared.constants.TheConstants.{ARRAY_CONTAINER_TAG, OBJECT_CONTAINER_TAG};
+ghost use Rattle.jsonb_codec.specs.Canonical.{IsSomePayload};
+ghost use Rattle.jsonb.specs.Item.{Entry as ItemEntry, entry_at};
+ghost use Rattle.jsonb.specs.Entries.{entry_of, shown_entry};
+ghost use Rattle.jsonb.specs.Known.{AreParts};
+ghost use Rattle.jsonb.specs.Walk.{entries_from, array_entries, object_entries};
 
+use crate::iterator::{count_under, keys_end};
+use jsonb_codec::constants::{ARRAY_CONTAINER_TAG, OBJECT_CONTAINER_TAG};
 use jsonb_codec::read_jentry;
 use jsonb_value::Error;
+use std::marker::Model;
 
 /// An entry: its type, and the bytes of its payload.
 #[derive(Clone, Copy)]
@@ -57,5 +66,115 @@ impl<'a> Entries<'a> {
             place: self.place + 4,
             start: self.start + entry.payload.len(),
         }
+    }
+}
+
+/// A place among entries and their payloads, from which they are read one by one up to the first
+/// error: where the next entry word stands, where its payload begins, and how many are left.
+#[derive(Drop)]
+pub struct Cursor<'a> {
+    bytes: &'a [u8],
+    place: usize,
+    start: usize,
+    left: usize,
+}
+
+impl<'a> Model for Cursor<'a> {
+    ghost Value = { List (Result ItemEntry Error) };
+
+    ghost view = { λ s. entries_from s.bytes.now s.left s.place s.start };
+
+    ghost invariant = { λ s. (s.place + 4 * s.left ≤ 2 ^ 34) × (s.start + 2 ^ 32 * s.left ≤ 2 ^ 63) };
+}
+
+impl<'a> Cursor<'a> {
+    // At the first of that many entries.
+    #[inline(always)]
+    fn new(bytes: &'a [u8], place: usize, start: usize, left: usize) -> Self
+        requires few { left < 2 ^ 29 }
+        requires place { place ≤ 2 ^ 33 }
+        requires start { start ≤ 2 ^ 62 }
+        ensures { result ≡ entries_from bytes.entry.now left place start }
+    {
+        Cursor {
+            bytes,
+            place,
+            start,
+            left,
+        }
+    }
+
+    /// The entries of an array: `None` of bytes of another kind.
+    pub fn over_array(bytes: &'a [u8]) -> Result<Option<Self>, Error>
+        ensures { result ≡ array_entries bytes.entry.now }
+    {
+        let Some(count) = count_under(bytes, ARRAY_CONTAINER_TAG)? else {
+            return Ok(None);
+        };
+        Ok(Some(Cursor::new(bytes, 4, 4 + 4 * count, count)))
+    }
+
+    /// The entries of an object's keys, and those of its values: `None` of bytes of another kind.
+    pub fn over_object(bytes: &'a [u8]) -> Result<Option<(Self, Self)>, Error>
+        ensures { result ≡ object_entries bytes.entry.now }
+    {
+        let Some(count) = count_under(bytes, OBJECT_CONTAINER_TAG)? else {
+            return Ok(None);
+        };
+        let end = keys_end(bytes, count)?;
+        let keys = Cursor::new(bytes, 4, 4 + 8 * count, count);
+        let values = Cursor::new(bytes, 4 + 4 * count, end, count);
+        Ok(Some((keys, values)))
+    }
+
+    /// The next entry. `InvalidEOF` where its word is cut, `InvalidJsonb` where its payload runs
+    /// past the end; after an error there is none.
+    #[inline(always)]
+    pub fn next(&mut self) -> Option<Result<Entry<'a>, Error>>
+        ensures steps { YieldsFirstBy shown_entry (λ it. it) self.old result self.new }
+    {
+        if self.left == 0 {
+            return None;
+        }
+        let entries = Entries {
+            bytes: self.bytes,
+            place: self.place,
+            start: self.start,
+        };
+        match entries.first() {
+            Ok(entry) => {
+                self.place += 4;
+                self.start += entry.payload.len();
+                self.left -= 1;
+                Some(Ok(entry))
+            }
+            Err(error) => {
+                self.left = 0;
+                Some(Err(error))
+            }
+        }
+    }
+
+    /// The next entry of a document.
+    #[inline(always)]
+    pub fn next_part(&mut self) -> Option<Entry<'a>>
+        requires { AreParts self.old }
+        ensures steps { YieldsFirstBy (λ entry. Ok (entry_of entry)) (λ it. it) self.old result self.new }
+        ensures part { IfSome result (λ entry. IsSomePayload entry.type_code entry.payload.now) }
+        ensures others { AreParts self.new }
+    {
+        match self.next() {
+            Some(Ok(entry)) => Some(entry),
+            Some(Err(_)) => unreachable!(),
+            None => None,
+        }
+    }
+
+    /// How many entries of a document are left.
+    pub fn len(&self) -> usize
+        requires { AreParts self.now }
+        ensures { result ≡ length self.now }
+    {
+        self.left
     }
 }

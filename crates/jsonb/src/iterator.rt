@@ -94,9 +94,9 @@ impl<'a> Items<'a> {
     }
 }
 
-// How many children a container of this kind has: `None` for bytes of another kind.
+/// How many children a container of this kind has: `None` for bytes of another kind.
 #[tactic(auto, unfolding(crate::specs::Walk::count_under))]
-fn count_under(bytes: &[u8], tag: u32) -> Result<Option<usize>, Error>
+pub fn count_under(bytes: &[u8], tag: u32) -> Result<Option<usize>, Error>
     ensures value { result ≡ count_under bytes.now tag }
     ensures small { IfOk result (λ n. IfSome n (λ n. n < 2 ^ 29)) }
 {
@@ -108,8 +108,8 @@ fn count_under(bytes: &[u8], tag: u32) -> Result<Option<usize>, Error>
     }
 }
 
-// Where the payloads of an object's keys end.
-fn keys_end(bytes: &[u8], count: usize) -> Result<usize, Error>
+/// Where the payloads of an object's keys end.
+pub fn keys_end(bytes: &[u8], count: usize) -> Result<usize, Error>
     requires { count < 2 ^ 29 }
     ensures value { result ≡ payloads_end bytes.now count 4 (4 + 8 * count) }
     ensures near { IfOk result (λ end. end ≤ 4 + 8 * count + 2 ^ 32 * count) }

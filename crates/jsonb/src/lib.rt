@@ -12,6 +12,7 @@ mod item;
 mod item_type;
 mod iterator;
 mod lookup;
+mod nodes;
 mod number_item;
 mod order;
 mod owned;
@@ -39,6 +40,7 @@ pub use jsonb_value::{
     order_of_numbers, order_of_trees, parse_value, write_number, write_string,
 };
 pub use lookup::MAX_READS;
+pub use nodes::{Items, Members};
 pub use number_item::NumberItem;
 pub use order::{meaning_laws, order_of_bytes};
 pub use owned::OwnedJsonb;

@@ -1,0 +1,9 @@
+use Rattle.std.proofs.Common.{◌≡◌, length, sym, subst}
+use Rattle.jsonb.specs.Known.{AreParts}
+use Rattle.jsonb.proofs.KnownLaws.{length-AreParts}
+use Rattle.jsonb.proofs.entries.Cursor.len.Goals as goal
+
+pub returns : goal.returns
+returns c =
+    let i = c.self.inside in
+    subst (λ xs. i.left ≡ length xs) c.self.view_is (length-AreParts i.bytes.now i.left i.place i.start (subst AreParts (sym c.self.view_is) c.requires))

@@ -1,0 +1,122 @@
+//! What a document's arrays and objects hold, one after the other.
+
+ghost use Rattle.std.specs.Prelude.{◌≡◌, List, length, Result, slice_get, option_map};
+ghost use Rattle.std.specs.Iterator.{YieldsFirstBy, item_count};
+ghost use Rattle.jsonb_value.specs.declared.error.Error.{Error};
+ghost use Rattle.jsonb.specs.Item.{Entry};
+ghost use Rattle.jsonb.specs.Known.{AreParts, AreMembers, trees_left, pairs_left};
+ghost use Rattle.jsonb.specs.Node.{node_tree, member_tree};
+
+use crate::document::Node;
+use crate::entries::Cursor;
+use jsonb_codec::parts::text_in;
+use std::marker::Model;
+
+/// The items of an array, in order, each as its value. There is no error.
+#[derive(Drop)]
+pub struct Items<'a> {
+    entries: Cursor<'a>,
+}
+
+impl<'a> Model for Items<'a> {
+    ghost Value = { List (Result Entry Error) };
+
+    ghost view = { λ s. s.entries };
+
+    ghost invariant = { λ s. AreParts s.entries };
+}
+
+impl<'a> Items<'a> {
+    /// The items of these entries.
+    pub(crate) fn new(entries: Cursor<'a>) -> Self
+        requires { AreParts entries }
+        ensures { result ≡ entries.entry }
+    {
+        Items { entries }
+    }
+
+    /// How many items are left.
+    pub fn len(&self) -> usize
+        ensures { result ≡ length (trees_left self.now) }
+    {
+        self.entries.len()
+    }
+
+    // The item at an index of what is left. `None` where there are no more than so many.
+    pub(crate) fn item_at(self, index: usize) -> Option<Node<'a>>
+        ensures { option_map node_tree result ≡ slice_get (trees_left self.entry) index }
+    {
+        let Items { mut entries } = self;
+        for _ in 0..index {
+            entries.next_part()?;
+        }
+        let entry = entries.next_part()?;
+        Some(Node::of_payload(entry.type_code, entry.payload))
+    }
+}
+
+impl<'a> Iterator for Items<'a> {
+    type Item = Node<'a>;
+
+    ghost next_gives = { YieldsFirstBy node_tree trees_left };
+
+    ghost remaining = { item_count trees_left };
+
+    #[inline(always)]
+    fn next(&mut self) -> Option<Node<'a>> {
+        let entry = self.entries.next_part()?;
+        Some(Node::of_payload(entry.type_code, entry.payload))
+    }
+}
+
+/// The members of an object, in order: each key with its value. There is no error.
+#[derive(Drop)]
+pub struct Members<'a> {
+    keys: Cursor<'a>,
+    values: Cursor<'a>,
+}
+
+impl<'a> Model for Members<'a> {
+    ghost Value = { List (Result Entry Error) × List (Result Entry Error) };
+
+    ghost view = { λ s. (s.keys, s.values) };
+
+    ghost invariant = { λ s. AreMembers (s.keys, s.values) };
+}
+
+impl<'a> Members<'a> {
+    /// The members of the entries of these keys and values.
+    pub(crate) fn new(keys: Cursor<'a>, values: Cursor<'a>) -> Self
+        requires { AreMembers (keys, values) }
+        ensures { result ≡ (keys.entry, values.entry) }
+    {
+        Members { keys, values }
+    }
+
+    /// How many members are left.
+    pub fn len(&self) -> usize
+        ensures { result ≡ length (pairs_left self.now) }
+    {
+        self.keys.len()
+    }
+}
+
+impl<'a> Iterator for Members<'a> {
+    type Item = (&'a str, Node<'a>);
+
+    ghost next_gives = { YieldsFirstBy member_tree pairs_left };
+
+    ghost remaining = { item_count pairs_left };
+
+    #[inline(always)]
+    fn next(&mut self) -> Option<(&'a str, Node<'a>)> {
+        let key = self.keys.next_part()?;
+        let Some(value) = self.values.next_part() else {
+            unreachable!();
+        };
+        Some((
+            text_in(key.payload),
+            Node::of_payload(value.type_code, value.payload),
+        ))
+    }
+}
