@@ -3,9 +3,10 @@ use Rattle.std.proofs.Common.{◌≡◌, ◌≢◌, ℕ, ◌==◌, Bool, true, f
 use Rattle.std.proofs.lemmas.Bool.Decides.{nat_tests}
 use Rattle.std.proofs.lemmas.List.{append-nil}
 use Rattle.std.proofs.lemmas.List.Elements.{All-nil, All-cons, All-head, All-tail, All-append}
-use Rattle.std.specs.Prelude.{All, Option}
+use Rattle.std.specs.Prelude.{All, Option, Some}
+use Rattle.std.specs.Io.KnownBytes.{Appends}
 use Rattle.jsonb_cli.specs.Written.{AppendsPrefix}
-use Rattle.jsonb_cli.specs.Lines.{ended, IsLine, AreLines, last_line, Each, none, more, AppendsReply, BeginsReply, Replies, AppendsReplies, AppendsBeginning, AppendsWhole}
+use Rattle.jsonb_cli.specs.Lines.{ended, IsLine, AreLines, last_line, Each, none, more, Replies, AppendsReplies, AppendsBeginning, AppendsWhole}
 use Rattle.jsonb_cli.proofs.Written.{appends_nothing, appends_both}
 use Rattle.jsonb_cli.proofs.Split.{not_before, one_cut_at}
 
@@ -83,6 +84,11 @@ one_lines bytes xs ys first second =
     let cut = one_ended first.whole second.whole first.rest second.rest first.whole_lines second.whole_lines first.rest_line second.rest_line
     (sym first.parts ∙ second.parts) in
     first.lines_are ∙ ap₂ (λ (ls : List (List ℕ)) (r : List ℕ). ls ++ last_line r) cut.0 cut.1 ∙ sym second.lines_are
+
+-- bytes behind a begun line and what is left
+after_whole : (input lines begun left later : List ℕ) → input ≡ lines ++ (begun ++ left) → input ++ later ≡ lines ++ (begun ++ (left ++ later))
+after_whole input lines begun left later parts =
+    ap (λ es. es ++ later) parts ∙ append_assoc lines (begun ++ left) later ∙ ap (λ es. lines ++ es) (append_assoc begun left later)
 
 -- ---- replies, where each line has one
 
@@ -168,19 +174,21 @@ module _ (R : List ℕ → List ℕ → Type 0) (reply_to : (line : List ℕ) �
     appends = appends_nothing known;
   })
 
-  pub appends_last : (line : List ℕ) (old new : Option (List ℕ)) → line ≢ [] → IsLine line → AppendsReply R line old new → AppendsReplies R line old new
-  appends_last line old new some one then = record {
-    written = then.reply ++ 10 ∷ [];
-    replies = replies_last line then.reply some one then.is_reply;
-    appends = then.appends;
+  pub appends_last : (line reply : List ℕ) (old new : Option (List ℕ)) → line ≢ [] → IsLine line → R line reply → Appends old new (reply ++ 10 ∷ [])
+      → AppendsReplies R line old new
+  appends_last line reply old new some one is then = record {
+    written = reply ++ 10 ∷ [];
+    replies = replies_last line reply some one is;
+    appends = then;
   }
 
-  pub begins_last : (line : List ℕ) (old new : Option (List ℕ)) → line ≢ [] → IsLine line → BeginsReply R line old new → AppendsBeginning R line old new
-  begins_last line old new some one then = record {
-    written = then.begun.written;
-    unwritten = then.begun.unwritten;
-    replies = rw (sym then.begun.parts) (replies_last line then.reply some one then.is_reply);
-    appends = then.begun.appends;
+  pub begins_last : (line reply : List ℕ) (old new : Option (List ℕ)) → line ≢ [] → IsLine line → R line reply → AppendsPrefix old new (reply ++ 10 ∷ [])
+      → AppendsBeginning R line old new
+  begins_last line reply old new some one is begun = record {
+    written = begun.written;
+    unwritten = begun.unwritten;
+    replies = rw (sym begun.parts) (replies_last line reply some one is);
+    appends = begun.appends;
   }
 
   -- ---- what was appended, after some whole lines
@@ -196,9 +204,7 @@ module _ (R : List ℕ → List ℕ → Type 0) (reply_to : (line : List ℕ) �
   pub beginning_after_whole : (input begun left later : List ℕ) (old mid new : Option (List ℕ)) → AppendsWhole R input begun left old mid
       → AppendsBeginning R (begun ++ (left ++ later)) mid new → AppendsBeginning R (input ++ later) old new
   beginning_after_whole input begun left later old mid new so_far then =
-      let parts : input ++ later ≡ ended so_far.lines ++ (begun ++ (left ++ later)) =
-      ap (λ es. es ++ later) so_far.parts ∙ append_assoc (ended so_far.lines) (begun ++ left) later
-      ∙ ap (λ es. ended so_far.lines ++ es) (append_assoc begun left later) in
+      let parts : input ++ later ≡ ended so_far.lines ++ (begun ++ (left ++ later)) = after_whole input (ended so_far.lines) begun left later so_far.parts in
       record {
         written = ended so_far.replies ++ then.written;
         unwritten = then.unwritten;
@@ -213,16 +219,16 @@ module _ (R : List ℕ → List ℕ → Type 0) (reply_to : (line : List ℕ) �
       let some = some_replies bytes in
       record { written = []; unwritten = some.0; replies = some.1; appends = appends_nothing known }
 
-  -- a fault within the reply to a line
-  pub beginning_in_line : (line reply later : List ℕ) (old new : Option (List ℕ)) → IsLine line → R line reply → AppendsPrefix old new (reply ++ 10 ∷ [])
-      → AppendsBeginning R (line ++ 10 ∷ later) old new
-  beginning_in_line line reply later old new one is begun =
-      let some = some_replies later in
-      let one_more : Replies R ((line ++ 10 ∷ []) ++ later) ((reply ++ 10 ∷ []) ++ some.0) =
-      replies_after (line ∷ []) (reply ∷ []) later some.0 (All-cons IsLine line [] one (All-nil IsLine)) (more is none) some.1 in
+  -- a fault within what answers whole lines
+  pub beginning_within : (input begun left later output : List ℕ) (old new : Option (List ℕ)) → AppendsWhole R input begun left (Some []) (Some output)
+      → AppendsPrefix old new output → AppendsBeginning R (input ++ later) old new
+  beginning_within input begun left later output old new so_far prefix =
+      let some = some_replies (begun ++ (left ++ later)) in
+      let parts : input ++ later ≡ ended so_far.lines ++ (begun ++ (left ++ later)) = after_whole input (ended so_far.lines) begun left later so_far.parts in
+      let all = replies_after so_far.lines so_far.replies (begun ++ (left ++ later)) some.0 so_far.whole_lines so_far.each some.1 in
       record {
-        written = begun.written;
-        unwritten = begun.unwritten ++ some.0;
-        replies = rw (sym (append_assoc begun.written begun.unwritten some.0), sym begun.parts, sym (append_assoc line (10 ∷ []) later)) one_more;
-        appends = begun.appends;
+        written = prefix.written;
+        unwritten = prefix.unwritten ++ some.0;
+        replies = rw (parts, sym (append_assoc prefix.written prefix.unwritten some.0), sym prefix.parts, so_far.appends) all;
+        appends = prefix.appends;
       }

@@ -3,29 +3,26 @@ use Rattle.std.proofs.Common.{◌≡◌, ◌≢◌, ℕ, List, [], ◌∷◌, �
 use Rattle.std.proofs.lemmas.List.{append-nil}
 use Rattle.std.proofs.lemmas.List.Elements.{All-nil, All-cons, All-append}
 use Rattle.std.specs.Prelude.{Option, Some, None, IfSome, Result, Ok, Err, OnOk, OnErr}
-use Rattle.std.specs.Io.KnownBytes.{Consumes, Keeps, IsAtEnd}
+use Rattle.std.specs.Io.KnownBytes.{Appends, Consumes, Keeps, IsAtEnd}
 use Rattle.jsonb_value.specs.ErrorName.{name_of}
 use Rattle.jsonb_value.specs.declared.error.Error.TheVariants.{OutOfMemory}
 use Rattle.jsonb_cli.specs.AnswerLine.{error_line}
 use Rattle.jsonb_cli.specs.Answers.{IsLineReply, IsPrompt}
-use Rattle.jsonb_cli.specs.Lines.{ended, IsLine, none, more, AppendsReply, BeginsReply, AppendsReplies, AppendsBeginning, AppendsWhole}
-use Rattle.jsonb_cli.proofs.Written.{appends_nothing, appends_both}
-use Rattle.jsonb_cli.proofs.Replies.{no_feed, ended-append, Each-append, appends_no_last, appends_last, begins_last, replies_after_whole, beginning_after_whole, beginning_of_none, beginning_in_line}
+use Rattle.jsonb_cli.specs.Lines.{ended, IsLine, none, more, AppendsReplies, AppendsBeginning, AppendsWhole}
+use Rattle.jsonb_cli.specs.Written.{AppendsPrefix, AppendsAllBut}
+use Rattle.jsonb_cli.proofs.Written.{appends_nothing, appends_both, all_but_begins, all_but_waits, all_but_written, all_but_faults}
+use Rattle.jsonb_cli.proofs.Replies.{no_feed, ended-append, Each-append, appends_no_last, appends_last, begins_last, replies_after_whole, beginning_after_whole, beginning_of_none, beginning_within}
 
 -- each line has a reply, if only that there was no memory
 reply_to : (line : List ℕ) → (reply : List ℕ) × IsLineReply line reply
 reply_to line = (error_line (name_of OutOfMemory), inr refl)
 
--- ---- one line
+-- these bytes are a reply to the line, with its line feed
+abbrev pub IsReplyTo : List ℕ → List ℕ → Type 0
+IsReplyTo line bytes = (reply : List ℕ) × (IsLineReply line reply × (bytes ≡ reply ++ 10 ∷ []))
 
-pub begins_nothing : (line : List ℕ) (known : Option (List ℕ)) → BeginsReply IsLineReply line known known
-begins_nothing line known =
-    let some = reply_to line in
-    record {
-      reply = some.0;
-      is_reply = some.1;
-      begun = record { written = []; unwritten = some.0 ++ 10 ∷ []; parts = refl; appends = appends_nothing known };
-    }
+pub reply_in : (line text line' bytes : List ℕ) → IsReplyTo line text → line' ≡ line → bytes ≡ text → IsReplyTo line' bytes
+reply_in line text line' bytes reply same is = rw (same, is) reply
 
 -- ---- bytes that follow a begun line
 
@@ -41,46 +38,104 @@ whole_begins begun left known one = record {
   appends = appends_nothing known;
 }
 
--- a byte more of the begun line
-pub whole_byte : (input begun left : List ℕ) (old new : Option (List ℕ)) (b : ℕ) → AppendsWhole IsLineReply input begun (b ∷ left) old new → b ≢ 10
-    → AppendsWhole IsLineReply input (begun ++ b ∷ []) left old new
-whole_byte input begun left old new b so_far other = record {
+-- more of the begun line
+whole_more : (input begun end left : List ℕ) (old new : Option (List ℕ)) → AppendsWhole IsLineReply input begun (end ++ left) old new → IsLine end
+    → AppendsWhole IsLineReply input (begun ++ end) left old new
+whole_more input begun end left old new so_far one = record {
   lines = so_far.lines;
   replies = so_far.replies;
-  parts = so_far.parts ∙ ap (λ es. ended so_far.lines ++ es) (sym (append_assoc begun (b ∷ []) left));
+  parts = so_far.parts ∙ ap (λ es. ended so_far.lines ++ es) (sym (append_assoc begun end left));
   whole_lines = so_far.whole_lines;
-  begun_line = All-append no_feed begun (b ∷ []) so_far.begun_line (All-cons no_feed b [] other (All-nil no_feed));
+  begun_line = All-append no_feed begun end so_far.begun_line one;
   each = so_far.each;
   appends = so_far.appends;
 }
 
 -- the begun line ended, and was answered
-pub whole_line : (input begun left : List ℕ) (old mid new : Option (List ℕ)) → AppendsWhole IsLineReply input begun (10 ∷ left) old mid
-    → AppendsReply IsLineReply begun mid new → AppendsWhole IsLineReply input [] left old new
-whole_line input begun left old mid new so_far then = record {
+whole_line : (input begun left reply : List ℕ) (old mid new : Option (List ℕ)) → AppendsWhole IsLineReply input begun (10 ∷ left) old mid
+    → IsLineReply begun reply → Appends mid new (reply ++ 10 ∷ []) → AppendsWhole IsLineReply input [] left old new
+whole_line input begun left reply old mid new so_far is then = record {
   lines = so_far.lines ++ begun ∷ [];
-  replies = so_far.replies ++ then.reply ∷ [];
+  replies = so_far.replies ++ reply ∷ [];
   parts = so_far.parts ∙ ap (λ es. ended so_far.lines ++ es) (sym (append_assoc begun (10 ∷ []) left))
       ∙ sym (append_assoc (ended so_far.lines) (begun ++ 10 ∷ []) left) ∙ ap (λ es. es ++ left) (sym (ended-append so_far.lines (begun ∷ [])));
   whole_lines = All-append IsLine so_far.lines (begun ∷ []) so_far.whole_lines (All-cons IsLine begun [] so_far.begun_line (All-nil IsLine));
   begun_line = All-nil no_feed;
-  each = Each-append so_far.each (more then.is_reply none);
-  appends = rw (ended-append so_far.replies (then.reply ∷ []))
-      (appends_both old mid new (ended so_far.replies) (then.reply ++ 10 ∷ []) so_far.appends then.appends);
+  each = Each-append so_far.each (more is none);
+  appends = rw (ended-append so_far.replies (reply ∷ []))
+      (appends_both old mid new (ended so_far.replies) (reply ++ 10 ∷ []) so_far.appends then);
 }
 
 -- a fault with nothing more written
-pub whole_stops : (input begun left later : List ℕ) (old new : Option (List ℕ)) → AppendsWhole IsLineReply input begun left old new
+whole_stops : (input begun left later : List ℕ) (old new : Option (List ℕ)) → AppendsWhole IsLineReply input begun left old new
     → AppendsBeginning IsLineReply (input ++ later) old new
 whole_stops input begun left later old new so_far =
     beginning_after_whole IsLineReply reply_to input begun left later old new new so_far (beginning_of_none IsLineReply reply_to new (begun ++ (left ++ later)))
 
--- a fault within the reply to the begun line
-pub whole_faults : (input begun left later : List ℕ) (old mid new : Option (List ℕ)) → AppendsWhole IsLineReply input begun (10 ∷ left) old mid
-    → BeginsReply IsLineReply begun mid new → AppendsBeginning IsLineReply (input ++ later) old new
-whole_faults input begun left later old mid new so_far then =
-    beginning_after_whole IsLineReply reply_to input begun (10 ∷ left) later old mid new so_far
-    (beginning_in_line IsLineReply reply_to begun then.reply (left ++ later) mid new so_far.begun_line then.is_reply then.begun)
+-- ---- a chunk, where replies wait
+
+-- The replies to some whole lines of the input, of which all but those that wait were appended.
+pub record Collects (input begun left waiting : List ℕ) (old new : Option (List ℕ)) : Type 0 where
+  pub output : List ℕ
+  pub whole : AppendsWhole IsLineReply input begun left (Some []) (Some output)
+  pub all_but : AppendsAllBut waiting old new output
+
+pub collects_none : (begun left : List ℕ) (known : Option (List ℕ)) → IsLine begun → Collects (begun ++ left) begun left [] known known
+collects_none begun left known one = record {
+  output = [];
+  whole = whole_begins begun left (Some []) one;
+  all_but = all_but_begins known [];
+}
+
+-- the begun line ends, and its reply is added
+line_ends : (input begun left waiting end behind bytes : List ℕ) (old mid : Option (List ℕ)) (so_far : Collects input begun left waiting old mid)
+    → left ≡ end ++ 10 ∷ behind → IsLine end → IsReplyTo (begun ++ end) bytes
+    → AppendsWhole IsLineReply input [] behind (Some []) (Some (so_far.output ++ bytes))
+line_ends input begun left waiting end behind bytes old mid so_far cut one is =
+    let more = whole_more input begun end (10 ∷ behind) (Some []) (Some so_far.output) (rw cut at so_far.whole) one in
+    rw is.1.1 (whole_line input (begun ++ end) behind is.0 (Some []) (Some so_far.output) (Some (so_far.output ++ (is.0 ++ 10 ∷ []))) more is.1.0 refl)
+
+pub collects_line : (input begun left waiting end behind bytes waiting' : List ℕ) (old mid new : Option (List ℕ)) → Collects input begun left waiting old mid
+    → left ≡ end ++ 10 ∷ behind → IsLine end → IsReplyTo (begun ++ end) bytes → AppendsAllBut waiting' mid new (waiting ++ bytes)
+    → Collects input [] behind waiting' old new
+collects_line input begun left waiting end behind bytes waiting' old mid new so_far cut one is then = record {
+  output = so_far.output ++ bytes;
+  whole = line_ends input begun left waiting end behind bytes old mid so_far cut one is;
+  all_but = all_but_waits old mid new so_far.output waiting waiting' bytes so_far.all_but then;
+}
+
+-- or a fault is within what waits and the reply
+pub collects_fault : (input begun left waiting end behind bytes later : List ℕ) (old mid new : Option (List ℕ)) → Collects input begun left waiting old mid
+    → left ≡ end ++ 10 ∷ behind → IsLine end → IsReplyTo (begun ++ end) bytes → AppendsPrefix mid new (waiting ++ bytes)
+    → AppendsBeginning IsLineReply (input ++ later) old new
+collects_fault input begun left waiting end behind bytes later old mid new so_far cut one is then =
+    beginning_within IsLineReply reply_to input [] behind later (so_far.output ++ bytes) old new
+    (line_ends input begun left waiting end behind bytes old mid so_far cut one is)
+    (all_but_faults old mid new so_far.output waiting bytes so_far.all_but then)
+
+-- all that waited was appended
+pub collects_all : (input begun left waiting : List ℕ) (old mid new : Option (List ℕ)) → Collects input begun left waiting old mid → IsLine left
+    → Appends mid new waiting → AppendsWhole IsLineReply input (begun ++ left) [] old new
+collects_all input begun left waiting old mid new so_far one then =
+    let more = whole_more input begun left [] (Some []) (Some so_far.output) (rw append-nil so_far.whole) one in
+    let all = all_but_written old mid new so_far.output waiting so_far.all_but then in
+    record {
+      lines = more.lines;
+      replies = more.replies;
+      parts = more.parts;
+      whole_lines = more.whole_lines;
+      begun_line = more.begun_line;
+      each = more.each;
+      appends = rw more.appends at all;
+    }
+
+-- or only a beginning of it
+pub collects_stops : (input begun left waiting later : List ℕ) (old mid new : Option (List ℕ)) → Collects input begun left waiting old mid
+    → AppendsPrefix mid new waiting → AppendsBeginning IsLineReply (input ++ later) old new
+collects_stops input begun left waiting later old mid new so_far then =
+    let prefix : AppendsPrefix old new (so_far.output ++ []) =
+    all_but_faults old mid new so_far.output waiting [] so_far.all_but (rw append-nil then) in
+    beginning_within IsLineReply reply_to input begun left later so_far.output old new so_far.whole (rw append-nil at prefix)
 
 -- ---- a last line with no line feed
 
@@ -88,15 +143,17 @@ pub last_none : (rest : List ℕ) (known : Option (List ℕ)) → length rest �
 last_none [] known empty = appends_no_last IsLineReply reply_to [] known refl
 last_none (b ∷ rest) known empty = absurd (omega arith)
 
-pub last_answered : {T E : Type 0} (r : Result T E) (line : List ℕ) (old new : Option (List ℕ)) → line ≢ [] → IsLine line
-    → OnOk r (AppendsReply IsLineReply line old new) → OnOk r (AppendsReplies IsLineReply line old new)
-last_answered (Ok x) line old new some one then = appends_last IsLineReply reply_to line old new some one then
-last_answered (Err e) line old new some one then = tt
+pub last_answered : {T E : Type 0} (r : Result T E) (line bytes : List ℕ) (old new : Option (List ℕ)) → line ≢ [] → IsLine line → IsReplyTo line bytes
+    → OnOk r (Appends old new bytes) → OnOk r (AppendsReplies IsLineReply line old new)
+last_answered (Ok x) line bytes old new some one is then =
+    appends_last IsLineReply reply_to line is.0 old new some one is.1.0 (rw is.1.1 at then)
+last_answered (Err e) line bytes old new some one is then = tt
 
-pub last_faults : {T E : Type 0} (r : Result T E) (line : List ℕ) (old new : Option (List ℕ)) → line ≢ [] → IsLine line
-    → OnErr r (BeginsReply IsLineReply line old new) → OnErr r (AppendsBeginning IsLineReply line old new)
-last_faults (Ok x) line old new some one then = tt
-last_faults (Err e) line old new some one then = begins_last IsLineReply reply_to line old new some one then
+pub last_faults : {T E : Type 0} (r : Result T E) (line bytes : List ℕ) (old new : Option (List ℕ)) → line ≢ [] → IsLine line → IsReplyTo line bytes
+    → OnErr r (AppendsPrefix old new bytes) → OnErr r (AppendsBeginning IsLineReply line old new)
+last_faults (Ok x) line bytes old new some one is then = tt
+last_faults (Err e) line bytes old new some one is then =
+    begins_last IsLineReply reply_to line is.0 old new some one is.1.0 (rw is.1.1 at then)
 
 -- ---- all of a run, where the input may be unknown
 

@@ -1,7 +1,6 @@
 -- Bytes as lines, a reply to each line, and what a run has written.
 use Rattle.std.specs.Prelude.{◌≡◌, ◌≢◌, ℕ, List, [], ◌∷◌, ◌++◌, All, Option}
 use Rattle.std.specs.Io.KnownBytes.{Appends}
-use Rattle.jsonb_cli.specs.Written.{AppendsPrefix}
 
 -- lines, each with the line feed that ends it
 abbrev pub ended : List (List ℕ) → List ℕ
@@ -25,18 +24,6 @@ pub record AreLines (bytes : List ℕ) (lines : List (List ℕ)) : Type 0 where
   pub lines_are : lines ≡ whole ++ last_line rest
   pub whole_lines : All IsLine whole
   pub rest_line : IsLine rest
-
--- A reply to the line was appended, with its line feed.
-pub record AppendsReply (IsReply : List ℕ → List ℕ → Type 0) (line : List ℕ) (old new : Option (List ℕ)) : Type 0 where
-  pub reply : List ℕ
-  pub is_reply : IsReply line reply
-  pub appends : Appends old new (reply ++ 10 ∷ [])
-
--- A beginning of such a reply was appended.
-pub record BeginsReply (IsReply : List ℕ → List ℕ → Type 0) (line : List ℕ) (old new : Option (List ℕ)) : Type 0 where
-  pub reply : List ℕ
-  pub is_reply : IsReply line reply
-  pub begun : AppendsPrefix old new (reply ++ 10 ∷ [])
 
 -- As many of either, and R holds of those at the same place.
 pub data Each {A B : Type 0} (R : A → B → Type 0) : List A → List B → Type 0 where

@@ -8,3 +8,9 @@ pub record AppendsPrefix (old new : Option (List ℕ)) (bytes : List ℕ) : Type
   pub unwritten : List ℕ
   pub parts : bytes ≡ written ++ unwritten
   pub appends : Appends old new written
+
+-- Of the bytes all but the rest were appended.
+pub record AppendsAllBut (rest : List ℕ) (old new : Option (List ℕ)) (bytes : List ℕ) : Type 0 where
+  pub written : List ℕ
+  pub parts : bytes ≡ written ++ rest
+  pub appends : Appends old new written

@@ -1,19 +1,24 @@
 //! Lines in, answers out, over any reader and any writer.
 
-ghost use Rattle.std.specs.Prelude.{◌≡◌, ℕ, [], ◌++◌, List, Option, ⊤, OnOk, OnErr, IfSome, IsErrOf};
+ghost use Rattle.std.specs.Prelude.{◌≡◌, ℕ, [], ◌∷◌, ◌++◌, List, Option, ⊤, OnOk, OnErr, IfSome, IsErrOf};
 ghost use Rattle.std.specs.Io.{ReadsAtMost};
 ghost use Rattle.std.specs.Io.KnownBytes.{IsAtEnd, ReadConsumes};
+ghost use Rattle.jsonb_value.specs.Value.{cow_bytes};
 ghost use Rattle.jsonb_cli.specs.Answers.{IsLineReply, AreAnswers, IsPrompt};
-ghost use Rattle.jsonb_cli.specs.Lines.{IsLine, AppendsReply, BeginsReply};
-ghost use Rattle.jsonb_cli.specs.Lines.{AppendsReplies, AppendsBeginning, AppendsWhole};
+ghost use Rattle.jsonb_cli.specs.Lines.{IsLine, AppendsReplies, AppendsBeginning, AppendsWhole};
 ghost use Rattle.jsonb_cli.specs.Fault.{fault_line};
 ghost use Rattle.jsonb_cli.specs.declared.run.RunError.TheVariants.{Memory};
 
 use crate::answer::written_line;
 use crate::command::answer;
-use crate::write::write_bytes;
-use std::alloc::{AllocError, AllocFailed, Global};
+use crate::words::split_once;
+use crate::write::{write_bytes, write_later};
+use std::alloc::{AllocError, Global};
+use std::borrow::CowStr;
 use std::io::{self, Read, Write};
+
+// What answers a line where there is no memory for its answer.
+const REFUSED: &str = "error OutOfMemory\n";
 
 /// Why a run ended early.
 #[derive(Clone, Copy, Debug, PartialEq, Eq)]
@@ -22,7 +27,7 @@ pub enum RunError {
     Read,
     /// The writer failed, or took no byte.
     Write,
-    /// The room for a line or for an answer was refused.
+    /// The room for a line was refused.
     Memory,
 }
 
@@ -47,28 +52,19 @@ impl From<AllocError> for RunError {
     }
 }
 
-impl<T: Drop> From<AllocFailed<T>> for RunError {
-    ghost from_gives = { λ _ e. e ≡ Memory };
-
-    fn from(_failed: AllocFailed<T>) -> RunError {
-        RunError::Memory
+// What answers a line, with its line feed. Where there is no memory for it, the reply says so.
+fn reply_to(alloc: Global, line: &[u8]) -> CowStr<'static>
+    ensures { (reply : List ℕ) × (IsLineReply line.now reply
+        × (cow_bytes result ≡ reply ++ 10 ∷ [])) }
+{
+    match written_line(alloc, &answer(alloc, line)) {
+        Ok(reply) => CowStr::Owned(reply),
+        Err(_) => CowStr::Borrowed(REFUSED),
     }
 }
 
-// Answers one line. The whole reply is made before its first byte is written.
-fn answer_line<W: Write>(alloc: Global, writer: &mut W, line: &[u8]) -> Result<(), RunError>
-    ensures ok { OnOk result (AppendsReply IsLineReply line.now
-        (W.contents writer.old) (W.contents writer.new)) }
-    ensures err { OnErr result (BeginsReply IsLineReply line.now
-        (W.contents writer.old) (W.contents writer.new)) }
-    ensures refused { IsErrOf result RunError.Read → ⊥ }
-{
-    let reply = written_line(alloc, &answer(alloc, line))?;
-    write_bytes(writer, reply.as_bytes())
-}
-
 // Goes on with a line that was begun: answers each line that ends in the chunk, and keeps what
-// follows.
+// follows. All answers are written together.
 fn answer_chunk<W: Write>(
     alloc: Global,
     writer: &mut W,
@@ -84,14 +80,19 @@ fn answer_chunk<W: Write>(
         (W.contents writer.old) (W.contents writer.new)) }
     ensures refused { IsErrOf result RunError.Read → ⊥ }
 {
-    for byte in chunk {
-        if *byte == b'\n' {
-            answer_line(alloc, writer, begun)?;
-            begun.clear();
-        } else {
-            begun.push(*byte)?;
+    let mut waiting = Vec::new(alloc);
+    let mut rest = chunk;
+    while let Some((end, behind)) = split_once(rest, b'\n') {
+        if begun.extend_from_slice(end).is_err() {
+            write_bytes(writer, &waiting)?;
+            return Err(RunError::Memory);
         }
+        write_later(writer, &mut waiting, reply_to(alloc, begun).as_bytes())?;
+        begun.clear();
+        rest = behind;
     }
+    write_bytes(writer, &waiting)?;
+    begun.extend_from_slice(rest)?;
     Ok(())
 }
 
@@ -107,7 +108,7 @@ fn answer_rest<W: Write>(alloc: Global, writer: &mut W, begun: &[u8]) -> Result<
     if begun.is_empty() {
         return Ok(());
     }
-    answer_line(alloc, writer, begun)
+    write_bytes(writer, reply_to(alloc, begun).as_bytes())
 }
 
 /// A reader of lines. It is shown the writer of their answers at each request, and may demand what
@@ -177,10 +178,10 @@ pub fn answer_lines<R: LineReader<W>, W: Write>(
 /// are answered before the reader is asked again. After `Ok` all input was read, and its answers
 /// were written, in order and nothing else.
 ///
-/// Where a command is refused memory, its answer is `error OutOfMemory` and the run goes on. After
-/// an error what was written is a beginning of such answers. `Read`: the reader failed, or was asked
-/// 18,446,744,073,709,551,615 times and met no end of input. `Write`: the writer failed, or took no
-/// byte. `Memory`: the room for a line or for an answer was refused.
+/// Where a command or its answer is refused memory, the line is answered by `error OutOfMemory` and
+/// the run goes on. After an error what was written is a beginning of such answers. `Read`: the
+/// reader failed, or was asked 18,446,744,073,709,551,615 times and met no end of input. `Write`:
+/// the writer failed, or took no byte. `Memory`: the room for a line was refused.
 pub fn run<R: Read, W: Write>(alloc: Global, reader: &mut R, writer: &mut W) -> Result<(), RunError>
     ensures done { OnOk result (IfSome (R.remaining reader.old) (λ input.
         AppendsReplies IsLineReply input (W.contents writer.old) (W.contents writer.new))) }

@@ -1,45 +1,64 @@
-use Rattle.std.proofs.Common.{rules, ◌≡◌, ◌≢◌, ◌+◌, [], ◌∷◌, ◌++◌, drop, ℕ, List, arith, slice_index_or, append_assoc}
-use Rattle.std.proofs.lemmas.Grind.{common_steps}
+use Rattle.std.proofs.Common.{rules, ◌≡◌, ◌∷◌, ◌++◌, ℕ, List, sym, ◌∙◌, append_assoc}
+use Rattle.std.specs.Io.KnownBytes.{Appends}
 use Rattle.jsonb_cli.specs.Answers.{IsLineReply}
-use Rattle.jsonb_cli.specs.Lines.{AppendsBeginning, BeginsReply}
-use Rattle.jsonb_cli.proofs.Running.{whole_begins, whole_byte, whole_line, whole_stops, whole_faults, on_err}
+use Rattle.jsonb_cli.specs.Lines.{IsLine, AppendsBeginning}
+use Rattle.jsonb_cli.specs.Written.{AppendsPrefix, AppendsAllBut}
+use Rattle.jsonb_cli.proofs.Written.{prefix_of_all}
+use Rattle.jsonb_cli.proofs.Running.{IsReplyTo, reply_in, collects_none, collects_line, collects_fault, collects_stops, on_err}
 use Rattle.jsonb_cli.proofs.run.answer_chunk.Goals as goal
-use Rattle.jsonb_cli.proofs.run.answer_chunk.Goals.{then-byte-eq10+in_ok-answer_line, else-byte-eq10+in_ok-push}
 
-pub loop-byte-init : goal.loop-byte-init
-loop-byte-init g c = whole_begins c.args.begun.now.items c.args.chunk.now _ c.requires
+pub loop-end-init : goal.loop-end-init
+loop-end-init g c = rw c.new-waiting.ensures.items (collects_none _ _ _ c.requires)
 
-pub loop-byte-preserved : goal.loop-byte-preserved
-loop-byte-preserved g c =
-    let b : ℕ = slice_index_or c.args.chunk.now c.loop-byte.byte-index 0 in
-    let cut : drop c.loop-byte.byte-index c.args.chunk.now ≡ b ∷ drop (c.loop-byte.byte-index + 1) c.args.chunk.now = grind (arith, common_steps) in
-    let so_far = rw cut at c.loop-byte.invariant in
-    elim c.if-byte-eq10.branch [
-      | then-byte-eq10+in_ok-answer_line w ↦
-          let feed : b ≡ 10 = search rules in
-          let items : c.if-byte-eq10.begun.items ≡ [] = search rules in
-          rw (items, w.writer-is) (whole_line _ c.loop-byte.begun.items _ _ _ _ (rw feed at so_far) (search rules))
-      | else-byte-eq10+in_ok-push w ↦
-          let other : b ≢ 10 = search rules in
-          let items : c.if-byte-eq10.begun.items ≡ c.loop-byte.begun.items ++ b ∷ [] = search rules in
-          rw (items, w.writer-is) (whole_byte _ c.loop-byte.begun.items _ _ _ b so_far other)
-    ]
+pub returns-in_err-write_bytes-clause-err : goal.returns-in_err-write_bytes-clause-err
+returns-in_err-write_bytes-clause-err g c =
+    let begun : AppendsPrefix (g.W.Write.contents c.loop-end.writer) (g.W.Write.contents c.write_bytes.new.writer) c.loop-end.waiting.items = search rules in
+    let faults : (later : List ℕ) → AppendsBeginning IsLineReply (c.args.begun.now.items ++ (c.args.chunk.now ++ later))
+    (g.W.Write.contents c.args.writer.now) (g.W.Write.contents c.write_bytes.new.writer) =
+    λ later. rw (← append_assoc) (collects_stops _ _ _ _ later _ _ _ c.loop-end.invariant begun) in
+    on_err c.from_residual.result _ faults
 
-pub returns-in_err-push-clause-err : goal.returns-in_err-push-clause-err
-returns-in_err-push-clause-err g c =
-    let begun : (later : List ℕ) → AppendsBeginning IsLineReply (c.args.begun.now.items ++ (c.args.chunk.now ++ later))
-    (g.W.Write.contents c.args.writer.now) (g.W.Write.contents c.loop-byte.writer) =
-    λ later. rw (← append_assoc) (whole_stops _ _ _ later _ _ c.loop-byte.invariant) in
-    on_err _ _ begun
+pub returns-then-is_err-clause-err : goal.returns-then-is_err-clause-err
+returns-then-is_err-clause-err g c later =
+    let all : Appends (g.W.Write.contents c.loop-end.writer) (g.W.Write.contents c.write_bytes.new.writer) c.loop-end.waiting.items = search rules in
+    rw (← append_assoc) (collects_stops _ _ _ _ later _ _ _ c.loop-end.invariant (prefix_of_all _ _ _ all))
 
-pub returns-in_err-answer_line-clause-err : goal.returns-in_err-answer_line-clause-err
-returns-in_err-answer_line-clause-err g c =
-    let b : ℕ = slice_index_or c.args.chunk.now c.loop-byte.byte-index 0 in
-    let feed : b ≡ 10 = search rules in
-    let cut : drop c.loop-byte.byte-index c.args.chunk.now ≡ b ∷ drop (c.loop-byte.byte-index + 1) c.args.chunk.now = grind (arith, common_steps) in
-    let so_far = rw feed at (rw cut at c.loop-byte.invariant) in
-    let reply : BeginsReply IsLineReply c.loop-byte.begun.items (g.W.Write.contents c.loop-byte.writer) (g.W.Write.contents c.answer_line.new.writer) = search rules in
-    let begun : (later : List ℕ) → AppendsBeginning IsLineReply (c.args.begun.now.items ++ (c.args.chunk.now ++ later))
-    (g.W.Write.contents c.args.writer.now) (g.W.Write.contents c.answer_line.new.writer) =
-    λ later. rw (← append_assoc) (whole_faults _ _ _ later _ _ _ so_far reply) in
-    on_err _ _ begun
+pub returns-in_err-write_later-clause-err : goal.returns-in_err-write_later-clause-err
+returns-in_err-write_later-clause-err g c =
+    let whole : c.deref-in-Some.result.now ≡ c.loop-end.begun.items ++ c.in-Some.end.now = search rules in
+    let reply : IsReplyTo (c.loop-end.begun.items ++ c.in-Some.end.now) c.as_bytes.result.now =
+    reply_in _ _ _ _ c.reply_to.ensures (sym whole) (c.as_bytes.ensures.value ∙ c.deref-in-Some-2.ensures.value) in
+    let cut : c.loop-end.rest.now ≡ c.in-Some.end.now ++ 10 ∷ c.in-Some.behind.now = search rules in
+    let one : IsLine c.in-Some.end.now = search rules in
+    let begun : AppendsPrefix (g.W.Write.contents c.loop-end.writer) (g.W.Write.contents c.write_later.new.writer) (c.loop-end.waiting.items ++ c.as_bytes.result.now) = search rules in
+    let faults : (later : List ℕ) → AppendsBeginning IsLineReply (c.args.begun.now.items ++ (c.args.chunk.now ++ later))
+    (g.W.Write.contents c.args.writer.now) (g.W.Write.contents c.write_later.new.writer) =
+    λ later. rw (← append_assoc) (collects_fault _ _ _ _ _ _ _ later _ _ _ c.loop-end.invariant cut one reply begun) in
+    on_err c.from_residual-in_err-write_later.result _ faults
+
+pub loop-end-preserved : goal.loop-end-preserved
+loop-end-preserved g c =
+    let whole : c.deref-in-Some.result.now ≡ c.loop-end.begun.items ++ c.in-Some.end.now = search rules in
+    let reply : IsReplyTo (c.loop-end.begun.items ++ c.in-Some.end.now) c.as_bytes.result.now =
+    reply_in _ _ _ _ c.reply_to.ensures (sym whole) (c.as_bytes.ensures.value ∙ c.deref-in-Some-2.ensures.value) in
+    let cut : c.loop-end.rest.now ≡ c.in-Some.end.now ++ 10 ∷ c.in-Some.behind.now = search rules in
+    let one : IsLine c.in-Some.end.now = search rules in
+    let waits : AppendsAllBut c.write_later.new.waiting.items (g.W.Write.contents c.loop-end.writer) (g.W.Write.contents c.write_later.new.writer)
+    (c.loop-end.waiting.items ++ c.as_bytes.result.now) = search rules in
+    rw c.clear.ensures.items (collects_line _ _ _ _ _ _ _ _ _ _ _ c.loop-end.invariant cut one reply waits)
+
+pub returns-in_err-write_bytes-2-clause-err : goal.returns-in_err-write_bytes-2-clause-err
+returns-in_err-write_bytes-2-clause-err g c =
+    let begun : AppendsPrefix (g.W.Write.contents c.loop-end.writer) (g.W.Write.contents c.write_bytes-2.new.writer) c.loop-end.waiting.items = search rules in
+    let faults : (later : List ℕ) → AppendsBeginning IsLineReply (c.args.begun.now.items ++ (c.args.chunk.now ++ later))
+    (g.W.Write.contents c.args.writer.now) (g.W.Write.contents c.write_bytes-2.new.writer) =
+    λ later. rw (← append_assoc) (collects_stops _ _ _ _ later _ _ _ c.loop-end.invariant begun) in
+    on_err c.from_residual-in_err-write_bytes-2.result _ faults
+
+pub returns-in_err-extend_from_slice-clause-err : goal.returns-in_err-extend_from_slice-clause-err
+returns-in_err-extend_from_slice-clause-err g c =
+    let all : Appends (g.W.Write.contents c.loop-end.writer) (g.W.Write.contents c.write_bytes-2.new.writer) c.loop-end.waiting.items = search rules in
+    let faults : (later : List ℕ) → AppendsBeginning IsLineReply (c.args.begun.now.items ++ (c.args.chunk.now ++ later))
+    (g.W.Write.contents c.args.writer.now) (g.W.Write.contents c.write_bytes-2.new.writer) =
+    λ later. rw (← append_assoc) (collects_stops _ _ _ _ later _ _ _ c.loop-end.invariant (prefix_of_all _ _ _ all)) in
+    on_err c.from_residual-in_err-extend_from_slice.result _ faults

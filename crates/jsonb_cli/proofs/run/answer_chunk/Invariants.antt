@@ -1,8 +1,10 @@
-use Rattle.std.proofs.Common.{◌++◌, drop}
-use Rattle.jsonb_cli.specs.Answers.{IsLineReply}
-use Rattle.jsonb_cli.specs.Lines.{AppendsWhole}
+use Rattle.std.proofs.Common.{◌++◌, length}
+use Rattle.jsonb_cli.proofs.Running.{Collects}
 use Rattle.jsonb_cli.proofs.run.answer_chunk.Given as goal
 
-abbrev pub invariant-loop-byte : goal.invariant-loop-byte
-invariant-loop-byte g l = AppendsWhole IsLineReply (l.initial.begun.items ++ l.chunk) l.begun.items (drop l.byte-index l.chunk)
+abbrev pub invariant-loop-end : goal.invariant-loop-end
+invariant-loop-end g l = Collects (l.initial.begun.items ++ l.chunk) l.begun.items l.rest l.waiting.items
     (g.W.Write.contents l.initial.writer) (g.W.Write.contents l.writer)
+
+abbrev pub decreases-loop-end : goal.decreases-loop-end
+decreases-loop-end g l = length l.rest

@@ -1,5 +1,5 @@
 use Rattle.std.proofs.Common.{length}
-use Rattle.jsonb_cli.proofs.Written.{AppendsAllBut}
+use Rattle.jsonb_cli.specs.Written.{AppendsAllBut}
 use Rattle.jsonb_cli.proofs.write.write_bytes.Given as goal
 
 abbrev pub invariant-loop-rest : goal.invariant-loop-rest
