@@ -139,6 +139,9 @@ collects_stops input begun left waiting later old mid new so_far then =
 
 -- ---- a last line with no line feed
 
+pub begins_nothing : (line : List ℕ) (known : Option (List ℕ)) → AppendsBeginning IsLineReply line known known
+begins_nothing line known = beginning_of_none IsLineReply reply_to known line
+
 pub last_none : (rest : List ℕ) (known : Option (List ℕ)) → length rest ≡ 0 → AppendsReplies IsLineReply rest known known
 last_none [] known empty = appends_no_last IsLineReply reply_to [] known refl
 last_none (b ∷ rest) known empty = absurd (omega arith)

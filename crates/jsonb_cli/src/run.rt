@@ -1,9 +1,8 @@
 //! Lines in, answers out, over any reader and any writer.
 
-ghost use Rattle.std.specs.Prelude.{◌≡◌, ℕ, [], ◌∷◌, ◌++◌, List, Option, ⊤, OnOk, OnErr, IfSome, IsErrOf};
+ghost use Rattle.std.specs.Prelude.{◌≡◌, ℕ, [], ◌∷◌, ◌++◌, List, Option, ⊤, OnOk, OnErr, IfOk, IfSome, IsErrOf, IsOkUnless, string_bytes};
 ghost use Rattle.std.specs.Io.{ReadsAtMost};
 ghost use Rattle.std.specs.Io.KnownBytes.{IsAtEnd, ReadConsumes};
-ghost use Rattle.jsonb_value.specs.Value.{cow_bytes};
 ghost use Rattle.jsonb_cli.specs.Answers.{IsLineReply, AreAnswers, IsPrompt};
 ghost use Rattle.jsonb_cli.specs.Lines.{IsLine, AppendsReplies, AppendsBeginning, AppendsWhole};
 ghost use Rattle.jsonb_cli.specs.Fault.{fault_line};
@@ -14,11 +13,7 @@ use crate::command::answer;
 use crate::words::split_once;
 use crate::write::{write_bytes, write_later};
 use std::alloc::{AllocError, Global};
-use std::borrow::CowStr;
 use std::io::{self, Read, Write};
-
-// What answers a line where there is no memory for its answer.
-const REFUSED: &str = "error OutOfMemory\n";
 
 /// Why a run ended early.
 #[derive(Clone, Copy, Debug, PartialEq, Eq)]
@@ -27,7 +22,7 @@ pub enum RunError {
     Read,
     /// The writer failed, or took no byte.
     Write,
-    /// The room for a line was refused.
+    /// The room for a line or for an answer was refused.
     Memory,
 }
 
@@ -52,15 +47,15 @@ impl From<AllocError> for RunError {
     }
 }
 
-// What answers a line, with its line feed. Where there is no memory for it, the reply says so.
-fn reply_to(alloc: Global, line: &[u8]) -> CowStr<'static>
-    ensures { (reply : List ℕ) × (IsLineReply line.now reply
-        × (cow_bytes result ≡ reply ++ 10 ∷ [])) }
+// What answers a line that was begun and ends so, with its line feed.
+fn reply_to(alloc: Global, begun: &mut Vec<u8>, end: &[u8]) -> Result<String, RunError>
+    ensures ok { IfOk result (λ text. (reply : List ℕ)
+        × (IsLineReply (begun.old.items ++ end.now) reply
+        × (string_bytes text ≡ reply ++ 10 ∷ []))) }
+    ensures refused { IsOkUnless result RunError.Memory }
 {
-    match written_line(alloc, &answer(alloc, line)) {
-        Ok(reply) => CowStr::Owned(reply),
-        Err(_) => CowStr::Borrowed(REFUSED),
-    }
+    begun.extend_from_slice(end)?;
+    Ok(written_line(alloc, &answer(alloc, begun))?)
 }
 
 // Goes on with a line that was begun: answers each line that ends in the chunk, and keeps what
@@ -83,11 +78,11 @@ fn answer_chunk<W: Write>(
     let mut waiting = Vec::new(alloc);
     let mut rest = chunk;
     while let Some((end, behind)) = split_once(rest, b'\n') {
-        if begun.extend_from_slice(end).is_err() {
+        let Ok(reply) = reply_to(alloc, begun, end) else {
             write_bytes(writer, &waiting)?;
             return Err(RunError::Memory);
-        }
-        write_later(writer, &mut waiting, reply_to(alloc, begun).as_bytes())?;
+        };
+        write_later(writer, &mut waiting, reply.as_bytes())?;
         begun.clear();
         rest = behind;
     }
@@ -97,18 +92,18 @@ fn answer_chunk<W: Write>(
 }
 
 // Answers the last line, if it has no line feed.
-fn answer_rest<W: Write>(alloc: Global, writer: &mut W, begun: &[u8]) -> Result<(), RunError>
-    requires { IsLine begun.now }
-    ensures ok { OnOk result (AppendsReplies IsLineReply begun.now
+fn answer_rest<W: Write>(alloc: Global, writer: &mut W, begun: &mut Vec<u8>) -> Result<(), RunError>
+    requires { IsLine begun.old.items }
+    ensures ok { OnOk result (AppendsReplies IsLineReply begun.old.items
         (W.contents writer.old) (W.contents writer.new)) }
-    ensures err { OnErr result (AppendsBeginning IsLineReply begun.now
+    ensures err { OnErr result (AppendsBeginning IsLineReply begun.old.items
         (W.contents writer.old) (W.contents writer.new)) }
     ensures refused { IsErrOf result RunError.Read → ⊥ }
 {
     if begun.is_empty() {
         return Ok(());
     }
-    write_bytes(writer, reply_to(alloc, begun).as_bytes())
+    write_bytes(writer, reply_to(alloc, begun, &[])?.as_bytes())
 }
 
 /// A reader of lines. It is shown the writer of their answers at each request, and may demand what
@@ -166,7 +161,7 @@ pub fn answer_lines<R: LineReader<W>, W: Write>(
             return Err(RunError::Read);
         };
         if count == 0 {
-            return answer_rest(alloc, writer, &begun);
+            return answer_rest(alloc, writer, &mut begun);
         }
         answer_chunk(alloc, writer, &mut begun, &buffer[..count])?;
     }
@@ -178,10 +173,10 @@ pub fn answer_lines<R: LineReader<W>, W: Write>(
 /// are answered before the reader is asked again. After `Ok` all input was read, and its answers
 /// were written, in order and nothing else.
 ///
-/// Where a command or its answer is refused memory, the line is answered by `error OutOfMemory` and
-/// the run goes on. After an error what was written is a beginning of such answers. `Read`: the
-/// reader failed, or was asked 18,446,744,073,709,551,615 times and met no end of input. `Write`:
-/// the writer failed, or took no byte. `Memory`: the room for a line was refused.
+/// Where a command is refused memory, its answer is `error OutOfMemory` and the run goes on. After
+/// an error what was written is a beginning of such answers. `Read`: the reader failed, or was asked
+/// 18,446,744,073,709,551,615 times and met no end of input. `Write`: the writer failed, or took no
+/// byte. `Memory`: the room for a line or for an answer was refused.
 pub fn run<R: Read, W: Write>(alloc: Global, reader: &mut R, writer: &mut W) -> Result<(), RunError>
     ensures done { OnOk result (IfSome (R.remaining reader.old) (λ input.
         AppendsReplies IsLineReply input (W.contents writer.old) (W.contents writer.new))) }

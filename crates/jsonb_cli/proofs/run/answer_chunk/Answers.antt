@@ -1,4 +1,4 @@
-use Rattle.std.proofs.Common.{rules, ◌≡◌, ◌∷◌, ◌++◌, ℕ, List, sym, ◌∙◌, append_assoc}
+use Rattle.std.proofs.Common.{rules, ◌≡◌, ◌∷◌, ◌++◌, ℕ, List, refl, append_assoc}
 use Rattle.std.specs.Io.KnownBytes.{Appends}
 use Rattle.jsonb_cli.specs.Answers.{IsLineReply}
 use Rattle.jsonb_cli.specs.Lines.{IsLine, AppendsBeginning}
@@ -18,16 +18,15 @@ returns-in_err-write_bytes-clause-err g c =
     λ later. rw (← append_assoc) (collects_stops _ _ _ _ later _ _ _ c.loop-end.invariant begun) in
     on_err c.from_residual.result _ faults
 
-pub returns-then-is_err-clause-err : goal.returns-then-is_err-clause-err
-returns-then-is_err-clause-err g c later =
+pub returns-in_default-reply_to-clause-err : goal.returns-in_default-reply_to-clause-err
+returns-in_default-reply_to-clause-err g c later =
     let all : Appends (g.W.Write.contents c.loop-end.writer) (g.W.Write.contents c.write_bytes.new.writer) c.loop-end.waiting.items = search rules in
     rw (← append_assoc) (collects_stops _ _ _ _ later _ _ _ c.loop-end.invariant (prefix_of_all _ _ _ all))
 
 pub returns-in_err-write_later-clause-err : goal.returns-in_err-write_later-clause-err
 returns-in_err-write_later-clause-err g c =
-    let whole : c.deref-in-Some.result.now ≡ c.loop-end.begun.items ++ c.in-Some.end.now = search rules in
     let reply : IsReplyTo (c.loop-end.begun.items ++ c.in-Some.end.now) c.as_bytes.result.now =
-    reply_in _ _ _ _ c.reply_to.ensures (sym whole) (c.as_bytes.ensures.value ∙ c.deref-in-Some-2.ensures.value) in
+    reply_in _ _ _ _ c.in-Ok.ensures.ok refl c.as_bytes.ensures.value in
     let cut : c.loop-end.rest.now ≡ c.in-Some.end.now ++ 10 ∷ c.in-Some.behind.now = search rules in
     let one : IsLine c.in-Some.end.now = search rules in
     let begun : AppendsPrefix (g.W.Write.contents c.loop-end.writer) (g.W.Write.contents c.write_later.new.writer) (c.loop-end.waiting.items ++ c.as_bytes.result.now) = search rules in
@@ -38,9 +37,8 @@ returns-in_err-write_later-clause-err g c =
 
 pub loop-end-preserved : goal.loop-end-preserved
 loop-end-preserved g c =
-    let whole : c.deref-in-Some.result.now ≡ c.loop-end.begun.items ++ c.in-Some.end.now = search rules in
     let reply : IsReplyTo (c.loop-end.begun.items ++ c.in-Some.end.now) c.as_bytes.result.now =
-    reply_in _ _ _ _ c.reply_to.ensures (sym whole) (c.as_bytes.ensures.value ∙ c.deref-in-Some-2.ensures.value) in
+    reply_in _ _ _ _ c.in-Ok.ensures.ok refl c.as_bytes.ensures.value in
     let cut : c.loop-end.rest.now ≡ c.in-Some.end.now ++ 10 ∷ c.in-Some.behind.now = search rules in
     let one : IsLine c.in-Some.end.now = search rules in
     let waits : AppendsAllBut c.write_later.new.waiting.items (g.W.Write.contents c.loop-end.writer) (g.W.Write.contents c.write_later.new.writer)

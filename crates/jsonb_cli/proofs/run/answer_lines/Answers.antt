@@ -20,14 +20,14 @@ returns-then-count-eq0-clause-done g c =
     let zero : c.in-Ok.count ≡ 0 = search rules in
     let read = rw zero at c.in-Ok.ensures.bytes in
     let room : 0 < length c.ask.new.buffer = search rules in
-    ok_gives c.answer_rest.result _ _ (run_ends _ _ _ _ _ _ _ c.reads.invariant.answered read.0 (read.1 refl room)) (rw c.deref.ensures.value at c.answer_rest.ensures.ok)
+    ok_gives c.answer_rest.result _ _ (run_ends _ _ _ _ _ _ _ c.reads.invariant.answered read.0 (read.1 refl room)) c.answer_rest.ensures.ok
 
 pub returns-then-count-eq0-clause-begun : goal.returns-then-count-eq0-clause-begun
 returns-then-count-eq0-clause-begun g c =
     let zero : c.in-Ok.count ≡ 0 = search rules in
     let read = rw zero at c.in-Ok.ensures.bytes in
     let room : 0 < length c.ask.new.buffer = search rules in
-    err_gives c.answer_rest.result _ _ (run_ends_early _ _ _ _ _ _ _ c.reads.invariant.answered read.0 (read.1 refl room)) (rw c.deref.ensures.value at c.answer_rest.ensures.err)
+    err_gives c.answer_rest.result _ _ (run_ends_early _ _ _ _ _ _ _ c.reads.invariant.answered read.0 (read.1 refl room)) c.answer_rest.ensures.err
 
 pub returns-in_err-answer_chunk-clause-begun : goal.returns-in_err-answer_chunk-clause-begun
 returns-in_err-answer_chunk-clause-begun g c =
