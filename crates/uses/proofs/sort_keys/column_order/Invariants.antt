@@ -1,0 +1,6 @@
+use Rattle.std.proofs.Common.{◌≡◌, map, take}
+use Rattle.jsonb.specs.SortKey.{key_bytes}
+use Rattle.uses.proofs.sort_keys.column_order.Given as goal
+
+abbrev pub invariant-loop-bytes : goal.invariant-loop-bytes
+invariant-loop-bytes l = map key_bytes l.keys.items ≡ map (λ b. b.now) (take l.bytes-index l.column)

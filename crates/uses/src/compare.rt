@@ -1,0 +1,17 @@
+//! Compares two documents by what they mean.
+
+ghost use Rattle.std.specs.Prelude.{◌≡◌, ◌↔◌, IsTrue};
+ghost use Rattle.jsonb_value.specs.Tree.{Tree};
+ghost use Rattle.jsonb_value.specs.TreeOrder.{tree_cmp};
+ghost use Rattle.jsonb_codec.specs.Doc.{Doc};
+
+use jsonb::RawJsonb;
+use std::cmp::Ordering;
+
+/// Whether two documents are of one value: 5 and 5.0 are, stored in whatever bytes.
+pub fn is_same_value(left: &[u8], right: &[u8]) -> bool
+    ensures { (t u : Tree) → Doc left.now t → Doc right.now u
+        → IsTrue result ↔ (tree_cmp t u ≡ Ordering.Equal) }
+{
+    RawJsonb::new(left) == RawJsonb::new(right)
+}

@@ -1,0 +1,19 @@
+//! Checks bytes once, and then asks them without errors.
+
+ghost use Rattle.std.specs.Prelude.{◌≡◌, codes, Some, IfSome};
+ghost use Rattle.jsonb_value.specs.Tree.{Tree, text};
+ghost use Rattle.jsonb_codec.specs.Doc.{Doc};
+ghost use Rattle.jsonb.specs.Node.{value_of_key};
+
+use jsonb::{Document, Node};
+
+/// The string at the key `title` of a document that nests at most 64 deep.
+pub fn title_of(bytes: &[u8]) -> Option<&str>
+    ensures { (t : Tree) → Doc bytes.entry.now t
+        → IfSome result (λ title. value_of_key (codes "title") t ≡ Some (text title.now)) }
+{
+    match Document::within(bytes, 64)?.get("title")? {
+        Node::String(title) => Some(title),
+        _ => None,
+    }
+}

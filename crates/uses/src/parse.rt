@@ -1,0 +1,17 @@
+//! Stores a JSON text.
+
+ghost use Rattle.std.specs.Prelude.{◌≡◌, chars, IfOk};
+ghost use Rattle.jsonb_value.specs.Json.Syntax.{Json};
+ghost use Rattle.jsonb_value.specs.Tree.{Tree};
+ghost use Rattle.jsonb_codec.specs.Canon.{canon};
+
+use jsonb::{Error, OwnedJsonb};
+use std::alloc::Global;
+
+/// The bytes to store for a JSON text: the canonical document of what it says.
+pub fn document_of(alloc: Global, text: &str) -> Result<Vec<u8>, Error>
+    ensures { IfOk result (λ bytes. (t : Tree) × (Json (chars text.now) t
+        × (bytes.items ≡ canon t))) }
+{
+    Ok(OwnedJsonb::parse(alloc, text)?.to_vec())
+}

@@ -1,0 +1,20 @@
+//! Prints a document from its bytes.
+
+ghost use Rattle.std.specs.Prelude.{◌≡◌, string_bytes, IfOk};
+ghost use Rattle.jsonb_value.specs.Text.{pretty};
+ghost use Rattle.jsonb_value.specs.Tree.{Tree};
+ghost use Rattle.jsonb_codec.specs.Doc.{Doc};
+
+use jsonb::{Error, RawJsonb};
+use std::alloc::Global;
+
+/// The text of a document, an item or a pair on each line. `InvalidJsonb` where the bytes are none.
+pub fn pretty_text(alloc: Global, bytes: &[u8]) -> Result<String, Error>
+    ensures { (t : Tree) → Doc bytes.now t
+        → IfOk result (λ text. string_bytes text ≡ pretty t) }
+{
+    let Some(document) = RawJsonb::new(bytes).as_document() else {
+        return Err(Error::InvalidJsonb);
+    };
+    document.to_pretty_string(alloc)
+}

@@ -1,0 +1,24 @@
+//! Sorts a column of bytes, each checked once.
+
+ghost use Rattle.std.specs.Prelude.{◌≡◌, map, IfOk};
+ghost use Rattle.std.specs.List.Sorted.{IsPermutation, IsSorted};
+ghost use Rattle.std.specs.Ordering.{on};
+ghost use Rattle.jsonb_value.specs.Meaning.{meaning_cmp};
+ghost use Rattle.jsonb.specs.SortKey.{key_bytes, key_meaning};
+
+use jsonb::{Error, SortKey};
+use std::alloc::Global;
+
+/// The keys of a column in their order: documents by what they mean, and all other bytes behind.
+pub fn column_order<'a>(alloc: Global, column: &[&'a [u8]]) -> Result<Vec<SortKey<'a>>, Error>
+    ensures sorted { IfOk result (λ keys. IsSorted (on key_meaning meaning_cmp) keys.items) }
+    ensures all { IfOk result (λ keys. IsPermutation (map (λ b. b.now) column.now)
+        (map key_bytes keys.items)) }
+{
+    let mut keys = Vec::new(alloc);
+    for &bytes in column {
+        keys.push(SortKey::new(bytes))?;
+    }
+    keys.sort()?;
+    Ok(keys)
+}
