@@ -1,0 +1,138 @@
+#!/usr/bin/env python3
+"""Makes the tables and the picture of speed out of what the bench printed.
+
+    for n in 1 2 3; do bench/run.sh BASELINE; done > bench/results.txt
+    bench/tables.py
+
+Each row of bench/results.txt is a share of the Rust crate's time. Of several runs the middle share
+stands in the tables, and the lowest and the highest in brackets. It writes the tables of
+bench/README.md and README.md in place of those that stand there, and bench/speed.svg.
+"""
+import collections
+import math
+import pathlib
+import re
+import statistics
+
+HERE = pathlib.Path(__file__).resolve().parent
+BEGIN, END = "<!-- bench/tables.py -->\n", "<!-- end -->\n"
+ROW = re.compile(r"^(.+?) +[\d.]+ (?:MB/s|ns), the crate .*: ([\d.]+) of its time(.*)$")
+
+# What README shows: a line of the bench, and what it is called there.
+CHOICE = [
+    ("objects check", "check a document"),
+    ("objects build", "read it into a value"),
+    ("objects encode", "write a value as a document"),
+    ("middle of 1000 scattered", "find a key among 1,000"),
+    ("middle of 1000 scattered (get of a document)", "the same, in a checked document"),
+    ("numbers sort once", "sort 100,000 numbers, checked once"),
+    ("objects sort once", "sort 100,000 objects, checked once"),
+    ("arrays sort", "sort 100,000 arrays, not checked before"),
+    ("objects print", "print a document (serde_json)"),
+    ("text parse", "read a JSON text (serde_json)"),
+]
+
+
+def shares():
+    """The shares of each row, of all runs."""
+    found = collections.defaultdict(list)
+    for line in (HERE / "results.txt").read_text().splitlines():
+        if row := ROW.match(line):
+            found[" ".join((row[1] + row[3]).split())].append(float(row[2]))
+    return found
+
+
+def middle(row):
+    return statistics.median(row)
+
+
+def cell(row):
+    if len(row) == 1:
+        return f"{row[0]:.2f}"
+    return f"{middle(row):.2f} ({min(row):.2f} to {max(row):.2f})"
+
+
+def table(head, lines):
+    rule = "|" + "---|" * len(head)
+    rows = ["| " + " | ".join(line) + " |" for line in [head] + lines]
+    return "\n".join([rows[0], rule] + rows[1:]) + "\n"
+
+
+def tables(found):
+    """All tables of bench/README.md."""
+    shapes = ["numbers", "objects", "deep"]
+    documents = [[call] + [cell(found[f"{shape} {call}"]) for shape in shapes]
+                 for call in ["check", "build", "encode"]]
+    look_ups = []
+    for kind in ["numbered", "scattered"]:
+        for count in ["10", "1000", "100000"]:
+            for call in ["", " (get of a document)"]:
+                places = [cell(found[f"{place} of {count} {kind}{call}"])
+                          for place in ["first", "middle", "last"]]
+                look_ups.append([f"{int(count):,} {kind}{call}"] + places)
+    sorts = [[call] + [cell(found[f"{shape} {name}"])
+                       for shape in ["numbers", "strings", "objects", "of 20", "arrays"]]
+             for call, name in [("views (`RawJsonb`)", "sort"),
+                                ("keys checked once (`SortKey`)", "sort once")]]
+    nested = [[levels, cell(found[f"{levels} encode"]), cell(found[f"{levels} canon"])]
+              for levels in ["arrays 100", "arrays 1000", "arrays 10000", "objects 100",
+                             "objects 1000", "objects 10000", "halves 17"]]
+    texts = [["parse, beside `from_str`", cell(found["text parse"])],
+             ["`to_string` of a view, beside `to_string`", cell(found["objects print"])],
+             ["`to_string` of a `Document`, the same", cell(found["objects text"])]]
+    return "\n".join([
+        table(["", "numbers", "objects", "1,000 deep"], documents),
+        table(["look-up of the", "first", "middle", "last"], look_ups),
+        table(["sort of 100,000", "numbers", "strings", "objects of 4 keys", "objects of 20",
+               "arrays of 50"], sorts),
+        table(["containers in one another", "encoder", "canonical form"], nested),
+        table(["texts, beside serde_json", ""], texts),
+    ])
+
+
+def short_table(found):
+    return table(["", "share of the crate's time"],
+                 [[name, cell(found[row])] for row, name in CHOICE])
+
+
+def picture(found):
+    """Bars from 1, the crate's time: to the left what is faster, to the right what is slower."""
+    left, width, high, top = 300, 560, 26, 40
+    scale = width / 8  # eight doublings, from 1/32 to 8
+    at = lambda share: left + scale * (5 + math.log2(share))
+    foot = top + high * len(CHOICE)
+    parts = [f'<svg xmlns="http://www.w3.org/2000/svg" width="{left + width + 60}" '
+             f'height="{foot + 40}" font-family="sans-serif" font-size="13">',
+             '<rect width="100%" height="100%" fill="#ffffff"/>',
+             f'<text x="{at(1):.0f}" y="20" text-anchor="middle">the time of the crate</text>']
+    for power in range(-5, 4):
+        x, share = at(2.0 ** power), (f"1/{2 ** -power}" if power < 0 else str(2 ** power))
+        colour = "#444444" if power == 0 else "#dddddd"
+        parts.append(f'<path d="M{x:.0f} {top - 8}V{foot}" stroke="{colour}"/>')
+        parts.append(f'<text x="{x:.0f}" y="{foot + 18}" text-anchor="middle">{share}</text>')
+    for number, (row, name) in enumerate(CHOICE):
+        share, y = middle(found[row]), top + high * number
+        start, end = sorted([at(1), at(share)])
+        colour = "#2b7a4b" if share <= 1 else "#b5542b"
+        parts.append(f'<text x="{left - 10}" y="{y + 15}" text-anchor="end">{name}</text>')
+        parts.append(f'<rect x="{start:.1f}" y="{y + 2}" width="{end - start:.1f}" '
+                     f'height="{high - 8}" fill="{colour}"/>')
+        parts.append(f'<text x="{end + 5:.1f}" y="{y + 15}">{share:.2f}</text>')
+    return "\n".join(parts) + "\n</svg>\n"
+
+
+def put(path, text):
+    page = path.read_text()
+    before, rest = page.split(BEGIN)
+    path.write_text(before + BEGIN + text + END + rest.split(END, 1)[1])
+
+
+def main():
+    found = shares()
+    put(HERE / "README.md", tables(found))
+    put(HERE.parent / "README.md", short_table(found))
+    (HERE / "speed.svg").write_text(picture(found))
+
+
+if __name__ == "__main__":
+    main()
