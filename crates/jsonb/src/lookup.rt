@@ -234,7 +234,15 @@ impl<'a> RawJsonb<'a> {
         Ok(Some(item_of_entry(entry)?))
     }
 
-    /// The same with a tally of its own.
+    /// The value of the first key, in stored order, that has the name's length in bytes and for
+    /// which `eq_func(name, key)` is true. `None` for a scalar, an array and `{}`, and where no key
+    /// is accepted. Keys of other lengths are not shown to the closure. Among n pairs at most
+    /// 2n + 1 words are read.
+    ///
+    /// `InvalidEOF` where the header or an entry that is read is cut, `InvalidJsonb` for a header
+    /// of no kind, and where a key of the name's length or the value runs past the end;
+    /// `InvalidUtf8`, `InvalidJsonbNumber`, `InvalidJsonbExtension` and `InvalidJsonb` by what the
+    /// value's entry and payload are.
     pub fn get_object_value_by_key_name<F: Fn(&[u8], &[u8]) -> bool + Drop>(
         &self,
         name: &str,

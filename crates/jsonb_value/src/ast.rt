@@ -13,11 +13,17 @@ use std::cmp::Ordering;
 /// where its key stood in a text: no document holds it.
 #[derive(Debug, Drop)]
 pub enum JsonAst<'a> {
+    /// JSON's null.
     Null,
+    /// A truth value.
     Bool(bool),
+    /// A string of UTF-8, owned or borrowed.
     String(CowStr<'a>),
+    /// A whole number of 64 bits, or a decimal of 64 or 128 bits.
     Number(Number),
+    /// The items of an array, in order.
     Array(Vec<JsonAst<'a>>),
+    /// The pairs of an object: a key, its value, and the key's place in a text.
     Object(Vec<(CowStr<'a>, JsonAst<'a>, usize)>),
 }
 
