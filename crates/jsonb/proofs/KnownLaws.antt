@@ -15,7 +15,8 @@ use Rattle.jsonb.specs.Code.{Means}
 use Rattle.jsonb.specs.Item.{Entry, item_of, entry_at}
 use Rattle.jsonb.specs.Walk.{entries_from, array_entries, member_entries, object_entries, count_if, length_at, payload_length}
 use Rattle.jsonb.specs.Known.{shown_tree, item_tree, entry_tree, AreParts, AreKeys, AreMembers, trees_left, pairs_left}
-use Rattle.jsonb.specs.Node.{node_tree, tree_list, pair_list, items_of, members_of}
+use Rattle.jsonb_value.specs.Value.{trees_of}
+use Rattle.jsonb.specs.Node.{node_tree, array_of, pairs_of, object_of, tree_list, pair_list, items_of, members_of}
 use Rattle.jsonb.proofs.Places.{At}
 use Rattle.jsonb.proofs.ItemLaws.{found_item}
 use Rattle.jsonb.proofs.DocumentLaws.{tree_in-is}
@@ -177,3 +178,20 @@ pub length-pairs_left : (ks xs : Entries) → length ks ≡ length xs → length
 length-pairs_left [] xs same = refl
 length-pairs_left (k ∷ ks) [] same = absurd (omega arith)
 length-pairs_left (k ∷ ks) (x ∷ xs) same = ap suc (length-pairs_left ks xs (omega arith))
+
+-- An array is that of its items, and an object that of its pairs.
+trees_of-tree_list : (ts : Trees) → trees_of (tree_list ts) ≡ ts
+trees_of-tree_list no_trees = refl
+trees_of-tree_list (tree t ts) = ap (tree t) (trees_of-tree_list ts)
+
+pairs_of-pair_list : (ps : Pairs) → pairs_of (pair_list ps) ≡ ps
+pairs_of-pair_list no_pairs = refl
+pairs_of-pair_list (pair k t ps) = ap (pair k t) (pairs_of-pair_list ps)
+
+pub array_of-items : (t : Tree) (xs : List Tree) → Some xs ≡ items_of t → array_of xs ≡ t
+array_of-items (array ts) xs e = let same : xs ≡ tree_list ts = cc in ap array_of same ∙ ap array (trees_of-tree_list ts)
+array_of-items t xs e = let never : ⊥ = cc in absurd never
+
+pub object_of-members : (t : Tree) (ms : List (List ℕ × Tree)) → Some ms ≡ members_of t → object_of ms ≡ t
+object_of-members (object ps) ms e = let same : ms ≡ pair_list ps = cc in ap object_of same ∙ ap object (pairs_of-pair_list ps)
+object_of-members t ms e = let never : ⊥ = cc in absurd never

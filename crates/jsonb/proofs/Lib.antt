@@ -17,9 +17,6 @@ pub mod ObjectLaws
 pub mod InputLaws
 pub mod BuiltObjects
 pub mod MeantLaws
-pub mod ValueLaws
-pub mod InStep
-pub mod UnlikeLaws
 pub mod OrderLaws
 pub mod LineLaws
 pub mod TextLaws

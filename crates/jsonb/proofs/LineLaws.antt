@@ -1,9 +1,13 @@
 -- The text of a container is that of its lines.
-use Rattle.std.proofs.Common.{◌≡◌, ℕ, zero, suc, ◌*◌, ◌+◌, ◌≤◌, List, ◌∷◌, ◌++◌, codes, replicate, refl, sym, ap, ◌∙◌, arith, append_assoc}
+use Rattle.std.proofs.Common.{◌≡◌, ℕ, zero, suc, ◌*◌, ◌+◌, ◌≤◌, max, List, ◌∷◌, ◌++◌, codes, replicate, refl, sym, ap, subst, ◌∙◌, arith, append_assoc}
 use Rattle.std.specs.List.{repeat}
+use Rattle.std.proofs.Math.Nat.{le-max_right}
 use Rattle.jsonb_value.specs.Tree.{Tree, array, object, Trees, no_trees, tree, Pairs, no_pairs, pair}
 use Rattle.jsonb_value.specs.Text.{Layout, in_one_line, on_lines, inside, line_start, colon, laid_out, more_items, more_pairs, string_text}
+use Rattle.jsonb_value.specs.Value.{trees_of}
+use Rattle.jsonb_codec.specs.Depth.{depth, depths, pair_depths, size, sizes, pair_sizes}
 use Rattle.jsonb.specs.Lines.{more_lines, bracketed, pair_text, item_lines, pair_lines, HasRoom}
+use Rattle.jsonb.specs.Node.{pairs_of}
 
 more_lines-items : (l : Layout) (ts : Trees) → more_lines l (item_lines l ts) ≡ more_items l ts
 more_lines-items l no_trees = refl
@@ -77,3 +81,21 @@ lines_next i done end all line lines whole =
     ∙ ap (λ (t : List ℕ). start ++ t) (sym (append_assoc line more end))
     ∙ sym (append_assoc start (line ++ more) end))
     ∙ whole
+
+-- What is left of an array or object holds less, and nests no deeper.
+pub record IsLess (small large shallow deep : ℕ) : Type 0 where
+  pub less : small ≤ large
+  pub no_deeper : shallow ≤ deep
+
+pub items_behind : (xs ys : List Tree) (t : Tree) → xs ≡ t ∷ ys → IsLess (sizes (trees_of ys)) (sizes (trees_of xs)) (depths (trees_of ys)) (depths (trees_of xs))
+items_behind xs ys t are =
+    let size_is : sizes (trees_of xs) ≡ size t + sizes (trees_of ys) = ap (λ (us : List Tree). sizes (trees_of us)) are in
+    let depth_is : depths (trees_of xs) ≡ max (depth t) (depths (trees_of ys)) = ap (λ (us : List Tree). depths (trees_of us)) are in
+    record { less = omega arith; no_deeper = subst (λ (n : ℕ). depths (trees_of ys) ≤ n) (sym depth_is) (le-max_right (depth t) (depths (trees_of ys))) }
+
+pub pairs_behind : (xs ys : List (List ℕ × Tree)) (k : List ℕ) (t : Tree) → xs ≡ (k, t) ∷ ys
+    → IsLess (pair_sizes (pairs_of ys)) (pair_sizes (pairs_of xs)) (pair_depths (pairs_of ys)) (pair_depths (pairs_of xs))
+pairs_behind xs ys k t are =
+    let size_is : pair_sizes (pairs_of xs) ≡ suc (size t + pair_sizes (pairs_of ys)) = ap (λ (us : List (List ℕ × Tree)). pair_sizes (pairs_of us)) are in
+    let depth_is : pair_depths (pairs_of xs) ≡ max (depth t) (pair_depths (pairs_of ys)) = ap (λ (us : List (List ℕ × Tree)). pair_depths (pairs_of us)) are in
+    record { less = omega arith; no_deeper = subst (λ (n : ℕ). pair_depths (pairs_of ys) ≤ n) (sym depth_is) (le-max_right (depth t) (pair_depths (pairs_of ys))) }

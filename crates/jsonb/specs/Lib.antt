@@ -2,7 +2,6 @@ pub mod Steps
 pub mod Raw
 pub mod Owned
 pub mod Kind
-pub mod Ranks
 pub mod Payloads
 pub mod Held
 pub mod Shown
@@ -28,4 +27,5 @@ pub mod Asked
 pub mod Document
 pub mod Known
 pub mod Node
+pub mod Contents
 pub mod SortKey

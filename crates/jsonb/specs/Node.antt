@@ -1,10 +1,13 @@
 -- What a value in a document means, and what arrays and objects hold.
-use Rattle.std.specs.Prelude.{ℕ, List, [], ◌∷◌, length, nat_eq, Option, None, Some, slice_get}
+use Rattle.std.specs.Prelude.{◌≡◌, ⊤, ℕ, List, [], ◌∷◌, length, nat_eq, Option, None, Some, slice_get}
 use Rattle.std.specs.Borrow.{Bor}
 use Rattle.std.specs.Cmp.Lexicographic.{pointwise}
 use Rattle.jsonb_value.specs.Tree as trees
 use Rattle.jsonb_value.specs.Tree.{Tree, Trees, no_trees, tree, Pairs, no_pairs, pair, array, object}
+use Rattle.jsonb_value.specs.Value.{trees_of}
 use Rattle.jsonb_value.specs.ExtCode.{extension_of}
+use Rattle.jsonb_codec.specs.declared.constants.TheConstants.{CONTAINER_TAG}
+use Rattle.jsonb_codec.specs.Doc.{type_of}
 use Rattle.jsonb.specs.declared.document.Node.{Node}
 use Rattle.jsonb.specs.declared.document.Node.TheVariants as nodes
 use Rattle.jsonb.specs.Document.{document_tree}
@@ -49,3 +52,23 @@ members_of t = None
 -- a key with the tree of its value
 abbrev pub member_tree : Bor (List ℕ) × Node → List ℕ × Tree
 member_tree member = (member.0.now, node_tree member.1)
+
+-- the array of these trees, and the object of these pairs
+abbrev pub array_of : List Tree → Tree
+array_of ts = array (trees_of ts)
+
+abbrev pub pairs_of : List (List ℕ × Tree) → Pairs
+pairs_of [] = no_pairs
+pairs_of (p ∷ ps) = pair p.0 p.1 (pairs_of ps)
+
+abbrev pub object_of : List (List ℕ × Tree) → Tree
+object_of ps = object (pairs_of ps)
+
+-- The tree is an array or object,
+abbrev pub IsContainer : Tree → Type 0
+IsContainer t = type_of t ≡ CONTAINER_TAG
+
+-- and so is the document in a node.
+abbrev pub HoldsNoScalar : Node → Type 0
+HoldsNoScalar (nodes.Container d) = IsContainer (document_tree d)
+HoldsNoScalar node = ⊤

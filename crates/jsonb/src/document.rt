@@ -11,7 +11,7 @@ use jsonb_codec::constants::{
     CONTAINER_TAG, EXTENSION_TAG, FALSE_TAG, NULL_TAG, NUMBER_TAG, STRING_TAG, TRUE_TAG,
 };
 use jsonb_codec::parts::{
-    Contents, Part, extension_in, number_in, split_contents, split_document, split_member, text_in,
+    Part, extension_in, number_in, split_contents, split_document, split_member, text_in,
 };
 use jsonb_codec::{is_document, is_document_within, parts};
 use jsonb_value::{Error, ExtensionValue, Number};
@@ -37,22 +37,30 @@ pub enum Node<'a> {
     Container(Document<'a>),
 }
 
+/// What an array or object holds.
+#[derive(Drop)]
+pub enum Contents<'a> {
+    Array(Items<'a>),
+    Object(Members<'a>),
+}
+
 impl<'a> Document<'a> {
-    ghost use Rattle.std.specs.Prelude.{◌≡◌, ◌↔◌, length, nat_eq, None, Some, IfOk, IfErr, IfSome, IsSome, MatchOption, option_map, string_bytes};
+    ghost use Rattle.std.specs.Prelude.{◌≡◌, ◌↔◌, ◌<◌, ◌^◌, length, nat_eq, None, Some, IfOk, IfErr, IfSome, IsSome, MatchOption, option_map, string_bytes};
     ghost use Rattle.std.specs.Cmp.Lexicographic.{pointwise};
     ghost use Rattle.jsonb_value.specs.Text.{compact, pretty};
     ghost use Rattle.jsonb_value.specs.Tree.{Tree, Pairs};
     ghost use Rattle.jsonb_codec.specs.declared.constants.TheConstants.{CONTAINER_TAG};
     ghost use Rattle.jsonb_codec.specs.Canonical.{IsSomePayload};
     ghost use Rattle.jsonb_codec.specs.Contents.{AreMembers};
-    ghost use Rattle.jsonb_codec.specs.Depth.{IsDocumentWithin};
+    ghost use Rattle.jsonb_codec.specs.Depth.{IsDocumentWithin, depth};
     ghost use Rattle.jsonb_codec.specs.Doc.{Doc, IsDocument};
     ghost use Rattle.jsonb_codec.specs.Parts.{IsPayloadOf};
+    ghost use Rattle.jsonb.specs.Contents.{contents_tree};
     ghost use Rattle.jsonb.specs.Document.{document_bytes, document_tree};
     ghost use Rattle.jsonb.specs.Kind.{kind_of_tree};
     ghost use Rattle.jsonb.specs.Known.{trees_left, pairs_left};
     ghost use Rattle.jsonb.specs.Lookup.{find_pair};
-    ghost use Rattle.jsonb.specs.Node.{node_tree, value_of_key, items_of, item_at_index, members_of};
+    ghost use Rattle.jsonb.specs.Node.{node_tree, value_of_key, items_of, item_at_index, members_of, IsContainer, HoldsNoScalar};
     ghost use Rattle.jsonb.specs.Raw.{raw_bytes};
 
     /// The bytes as a document. `None` where they are none.
@@ -120,8 +128,33 @@ impl<'a> Document<'a> {
     pub fn value(&self) -> Node<'a>
         ensures { node_tree result ≡ document_tree self.now }
     {
+        self.node()
+    }
+
+    // The same, where a container is known to be one.
+    #[inline(always)]
+    pub(crate) fn node(&self) -> Node<'a>
+        ensures tree { node_tree result ≡ document_tree self.now }
+        ensures container { HoldsNoScalar result }
+        ensures shallow { depth (document_tree self.now) < 2 ^ 64 }
+    {
         let part = split_document(self.as_bytes());
         Node::of_payload(part.tag, part.payload)
+    }
+
+    // What an array or object holds.
+    #[inline(always)]
+    pub(crate) fn contents(&self) -> Contents<'a>
+        requires { IsContainer (document_tree self.now) }
+        ensures { contents_tree result ≡ document_tree self.now }
+    {
+        if let Some(items) = self.items() {
+            return Contents::Array(items);
+        }
+        match self.members() {
+            Some(members) => Contents::Object(members),
+            None => unreachable!(),
+        }
     }
 
     /// The items of an array, in order. `None` for all but arrays.
@@ -163,8 +196,8 @@ impl<'a> Document<'a> {
             return None;
         }
         match split_contents(whole.payload) {
-            Contents::Array(_) => None,
-            Contents::Object(members) => match Document::find_member(members, name) {
+            parts::Contents::Array(_) => None,
+            parts::Contents::Object(members) => match Document::find_member(members, name) {
                 Some(part) => Some(Node::of_payload(part.tag, part.payload)),
                 None => None,
             },
@@ -214,13 +247,29 @@ impl<'a> Node<'a> {
     ghost use Rattle.jsonb_value.specs.Tree.{Tree};
     ghost use Rattle.jsonb_codec.specs.Canonical.{IsSomePayload};
     ghost use Rattle.jsonb_codec.specs.Parts.{IsPayloadOf};
-    ghost use Rattle.jsonb.specs.Node.{node_tree};
+    ghost use Rattle.jsonb.specs.Kind.{kind_of_tree};
+    ghost use Rattle.jsonb.specs.Node.{node_tree, HoldsNoScalar};
+
+    // The kind; an array or object has its count.
+    pub(crate) fn kind(&self) -> JsonbItemType
+        ensures { result ≡ kind_of_tree (node_tree self.now) }
+    {
+        match self {
+            Node::Null => JsonbItemType::Null,
+            Node::Boolean(_) => JsonbItemType::Boolean,
+            Node::Number(_) => JsonbItemType::Number,
+            Node::String(_) => JsonbItemType::String,
+            Node::Extension(_) => JsonbItemType::Extension,
+            Node::Container(document) => document.kind(),
+        }
+    }
 
     /// The value of the payload of an entry of that type.
     #[inline(always)]
     pub(crate) fn of_payload(tag: u32, payload: &'a [u8]) -> Node<'a>
         requires { IsSomePayload tag payload.now }
-        ensures { (t : Tree) → IsPayloadOf tag payload.entry.now t → node_tree result ≡ t }
+        ensures means { (t : Tree) → IsPayloadOf tag payload.entry.now t → node_tree result ≡ t }
+        ensures container { HoldsNoScalar result }
     {
         match tag {
             NULL_TAG => Node::Null,

@@ -1,11 +1,11 @@
 //! What a document's arrays and objects hold, one after the other.
 
-ghost use Rattle.std.specs.Prelude.{◌≡◌, List, length, Result, slice_get, option_map};
-ghost use Rattle.std.specs.Iterator.{YieldsFirstBy, item_count};
+ghost use Rattle.std.specs.Prelude.{◌≡◌, List, length, Result, IfSome, slice_get, option_map};
+ghost use Rattle.std.specs.Iterator.{YieldsFirstBy, MakesProgress, item_count};
 ghost use Rattle.jsonb_value.specs.declared.error.Error.{Error};
 ghost use Rattle.jsonb.specs.Item.{Entry};
 ghost use Rattle.jsonb.specs.Known.{AreParts, AreMembers, trees_left, pairs_left};
-ghost use Rattle.jsonb.specs.Node.{node_tree, member_tree};
+ghost use Rattle.jsonb.specs.Node.{node_tree, member_tree, HoldsNoScalar};
 
 use crate::document::Node;
 use crate::entries::Cursor;
@@ -63,7 +63,11 @@ impl<'a> Iterator for Items<'a> {
     ghost remaining = { item_count trees_left };
 
     #[inline(always)]
-    fn next(&mut self) -> Option<Node<'a>> {
+    fn next(&mut self) -> Option<Node<'a>>
+        ensures steps { YieldsFirstBy node_tree trees_left self.old result self.new }
+        ensures goes { MakesProgress (λ _. Unit {0}) (item_count trees_left) self.old result self.new }
+        ensures container { IfSome result (HoldsNoScalar) }
+    {
         let entry = self.entries.next_part()?;
         Some(Node::of_payload(entry.type_code, entry.payload))
     }
@@ -109,7 +113,11 @@ impl<'a> Iterator for Members<'a> {
     ghost remaining = { item_count pairs_left };
 
     #[inline(always)]
-    fn next(&mut self) -> Option<(&'a str, Node<'a>)> {
+    fn next(&mut self) -> Option<(&'a str, Node<'a>)>
+        ensures steps { YieldsFirstBy member_tree pairs_left self.old result self.new }
+        ensures goes { MakesProgress (λ _. Unit {0}) (item_count pairs_left) self.old result self.new }
+        ensures container { IfSome result (λ member. HoldsNoScalar member.1) }
+    {
         let key = self.keys.next_part()?;
         let Some(value) = self.values.next_part() else {
             unreachable!();

@@ -1,19 +1,20 @@
 //! The order of values by what they mean: of all bytes, and of items. No comparison takes memory.
 
-ghost use Rattle.std.specs.Prelude.{◌≡◌, ℕ, List, Some, Ok, MatchOption};
+ghost use Rattle.std.specs.Prelude.{◌≡◌, ℕ, List, Some, Ok, IfSome, MatchOption};
 ghost use Rattle.std.specs.Cmp.{IsTotalOrder};
-ghost use Rattle.std.specs.Ordering.{nat_cmp, on};
+ghost use Rattle.std.specs.Ordering.{on};
 ghost use Rattle.jsonb_value.specs.Meaning.{document, other_bytes, meaning_cmp};
 ghost use Rattle.jsonb_value.specs.Norm.{norm};
 ghost use Rattle.jsonb_value.specs.Tree.{Tree};
-ghost use Rattle.jsonb_value.specs.TreeOrder.{rank_of, tree_cmp};
+ghost use Rattle.jsonb_value.specs.TreeOrder.{tree_cmp};
 ghost use Rattle.jsonb_codec.specs.Doc.{Doc, IsDocument};
 ghost use Rattle.jsonb.specs.Code.{Means};
 ghost use Rattle.jsonb.specs.Kind.{kind, rank_order};
 ghost use Rattle.jsonb.specs.Meant.{meaning_of, shown_meaning, item_meaning};
 ghost use Rattle.jsonb.specs.Raw.{raw_bytes};
 ghost use Rattle.jsonb.specs.Shown.{Shown, shown};
-ghost use Rattle.jsonb.specs.Values.{IsValue, bytes_in};
+ghost use Rattle.jsonb.specs.Node.{node_tree, HoldsNoScalar};
+ghost use Rattle.jsonb.specs.Values.{bytes_in};
 
 mod document;
 mod documents;
@@ -22,12 +23,12 @@ mod key;
 mod owned;
 mod raw;
 
+use crate::document::{Document, Node};
 use crate::item::{JsonbItem, text_of};
 use crate::item_type::JsonbItemType;
-use crate::raw::RawJsonb;
-use documents::{cmp_containers, cmp_documents};
-use jsonb_codec::{document_text, is_document};
-use std::borrow::CowStr;
+use crate::sort_key::SortKey;
+use documents::cmp_nodes;
+use jsonb_codec::document_text;
 use std::cmp::Ordering;
 
 /// What bytes and items mean: a document its tree, all other bytes themselves, and an item the
@@ -67,12 +68,7 @@ pub fn cmp_bytes(left: &[u8], right: &[u8]) -> Ordering
     if let (Some(left), Some(right)) = (document_text(left), document_text(right)) {
         return left.cmp(right);
     }
-    match (is_document(left), is_document(right)) {
-        (true, true) => cmp_documents(left, right),
-        (true, false) => Ordering::Less,
-        (false, true) => Ordering::Greater,
-        (false, false) => left.cmp(&right),
-    }
+    SortKey::new(left).cmp(&SortKey::new(right))
 }
 
 /// The order of two items by what they mean.
@@ -82,8 +78,8 @@ pub fn cmp_meanings(left: &JsonbItem<'_>, right: &JsonbItem<'_>) -> Ordering
     if let (Some(left), Some(right)) = (bytes_of(left), bytes_of(right)) {
         return cmp_bytes(left, right);
     }
-    match (value_of(left), value_of(right)) {
-        (Some(left), Some(right)) => cmp_values(&left, &right),
+    match (node_of(left), node_of(right)) {
+        (Some(left), Some(right)) => cmp_nodes(&left, &right),
         (Some(_), None) => Ordering::Less,
         (None, _) => Ordering::Greater,
     }
@@ -102,65 +98,30 @@ fn bytes_of<'i>(item: &'i JsonbItem<'_>) -> Option<&'i [u8]>
 }
 
 // The value of an item: itself, or what its bytes hold. `None` where they are no document.
-fn value_of<'i>(item: &'i JsonbItem<'_>) -> Option<JsonbItem<'i>>
-    ensures { MatchOption result (item_meaning item.now ≡ other_bytes (bytes_in (shown item.now)))
-        (λ value. (t : Tree) × ((item_meaning item.now ≡ document t) × IsValue (shown value) t)) }
+fn node_of<'i>(item: &'i JsonbItem<'_>) -> Option<Node<'i>>
+    ensures means { MatchOption result (item_meaning item.now ≡ other_bytes (bytes_in (shown item.now)))
+        (λ node. item_meaning item.now ≡ document (node_tree node)) }
+    ensures container { IfSome result HoldsNoScalar }
 {
     match item {
-        JsonbItem::Null => Some(JsonbItem::Null),
-        JsonbItem::Boolean(value) => Some(JsonbItem::Boolean(*value)),
-        JsonbItem::Number(number) => Some(JsonbItem::Number(*number)),
-        JsonbItem::String(text) => Some(JsonbItem::String(CowStr::Borrowed(text_of(text)))),
-        JsonbItem::Extension(extension) => Some(JsonbItem::Extension(*extension)),
-        JsonbItem::Raw(raw) => value_in(*raw),
-        JsonbItem::Owned(owned) => value_in(owned.as_raw()),
+        JsonbItem::Null => Some(Node::Null),
+        JsonbItem::Boolean(value) => Some(Node::Boolean(*value)),
+        JsonbItem::Number(number) => Some(Node::Number(number.as_number())),
+        JsonbItem::String(text) => Some(Node::String(text_of(text))),
+        JsonbItem::Extension(extension) => Some(Node::Extension(extension.as_extension_value())),
+        JsonbItem::Raw(raw) => node_in(raw.as_bytes()),
+        JsonbItem::Owned(owned) => node_in(owned.as_bytes()),
     }
 }
 
 // The value of a document. `None` where the bytes are none.
-fn value_in<'a>(raw: RawJsonb<'a>) -> Option<JsonbItem<'a>>
-    ensures { MatchOption result (IsDocument (raw_bytes raw.entry) → ⊥)
-        (λ value. (t : Tree) × (Doc (raw_bytes raw.entry) t × IsValue (shown value) t)) }
+fn node_in(bytes: &[u8]) -> Option<Node<'_>>
+    ensures means { MatchOption result (meaning_of bytes.now ≡ other_bytes bytes.now)
+        (λ node. meaning_of bytes.now ≡ document (node_tree node)) }
+    ensures container { IfSome result HoldsNoScalar }
 {
-    if raw.is_document() {
-        JsonbItem::from_raw_jsonb(raw).ok()
-    } else {
-        None
-    }
-}
-
-// The order of two values.
-fn cmp_values(left: &JsonbItem<'_>, right: &JsonbItem<'_>) -> Ordering
-    requires left { (t : Tree) × IsValue (shown left.now) t }
-    requires right { (t : Tree) × IsValue (shown right.now) t }
-    ensures { (t u : Tree) → IsValue (shown left.now) t → IsValue (shown right.now) u
-        → result ≡ tree_cmp t u }
-{
-    match (left, right) {
-        (JsonbItem::Boolean(left), JsonbItem::Boolean(right)) => left.cmp(right),
-        (JsonbItem::Number(left), JsonbItem::Number(right)) => {
-            left.as_number().cmp_value(&right.as_number())
-        }
-        (JsonbItem::String(left), JsonbItem::String(right)) => text_of(left).cmp(text_of(right)),
-        (JsonbItem::Extension(left), JsonbItem::Extension(right)) => {
-            left.as_extension_value()
-                .cmp_value(&right.as_extension_value())
-        }
-        (JsonbItem::Raw(left), JsonbItem::Raw(right)) => {
-            cmp_containers(left.as_bytes(), right.as_bytes())
-        }
-        _ => cmp_kinds(left, right),
-    }
-}
-
-// The order of the kinds of two values.
-fn cmp_kinds(left: &JsonbItem<'_>, right: &JsonbItem<'_>) -> Ordering
-    ensures { (t u : Tree) → IsValue (shown left.now) t → IsValue (shown right.now) u
-        → result ≡ nat_cmp (rank_of t) (rank_of u) }
-{
-    match (left.jsonb_item_type(), right.jsonb_item_type()) {
-        (Ok(left), Ok(right)) => left.rank_cmp(&right).unwrap_or(Ordering::Equal),
-        // Each value has a kind.
-        _ => Ordering::Equal,
+    match Document::new(bytes) {
+        Some(document) => Some(document.node()),
+        None => None,
     }
 }

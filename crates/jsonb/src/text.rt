@@ -3,39 +3,31 @@
 ghost use Rattle.std.specs.Prelude.{◌≡◌, ◌≢◌, ◌⊎◌, ◌++◌, ◌+◌, ◌^◌, ◌≤◌, ◌<◌, ℕ, List, [], All, Err, Some, chars, codes, length, string_bytes, IsOk, IfOk, IfErr, OnOk};
 ghost use Rattle.std.specs.Str.{IsUtf8};
 ghost use Rattle.std.specs.Fmt.{WritesStyledOnOk, formatter_writer};
-ghost use Rattle.jsonb_value.specs.Tree.{Tree, Trees, Pairs, array, object};
+ghost use Rattle.jsonb_value.specs.Tree.{Tree};
 ghost use Rattle.jsonb_value.specs.Norm.{norm};
 ghost use Rattle.jsonb_value.specs.Plain.{IsPlain};
 ghost use Rattle.jsonb_value.specs.WellFormed.{IsTree};
 ghost use Rattle.jsonb_value.specs.ExtCode.{extension_of};
 ghost use Rattle.jsonb_value.specs.Json.Syntax.{Json};
-ghost use Rattle.jsonb_value.specs.Text as texts;
 ghost use Rattle.jsonb_value.specs.Text.{compact, pretty, inside, line_start, colon, laid_out, quoted, extension_text};
-ghost use Rattle.jsonb_codec.specs.declared.constants.TheConstants.{CONTAINER_TAG, STRING_TAG};
 ghost use Rattle.jsonb_codec.specs.Canon.{canon, Fits};
-ghost use Rattle.jsonb_codec.specs.Canonical.{IsSomePayload};
-ghost use Rattle.jsonb_codec.specs.Contents.{AreItems, AreMembers};
-ghost use Rattle.jsonb_codec.specs.Parts.{IsPayloadOf};
+ghost use Rattle.jsonb_codec.specs.Depth.{depth};
 ghost use Rattle.jsonb_codec.specs.Reread.{MeansAgain};
 ghost use Rattle.jsonb_codec.specs.Doc.{Doc, IsDocument};
 ghost use Rattle.jsonb.specs.Document.{document_tree};
+ghost use Rattle.jsonb.specs.Known.{trees_left, pairs_left};
+ghost use Rattle.jsonb.specs.Node.{node_tree, array_of, object_of, IsContainer, HoldsNoScalar};
 ghost use Rattle.jsonb.specs.Raw.{raw_bytes};
 ghost use Rattle.jsonb.specs.Owned.{owned_bytes};
 ghost use Rattle.jsonb.specs.Texts.{layout_of, lossy_text, other_text, shown_text, pretty_shown_text};
 ghost use Rattle.jsonb.specs.Lines.{pair_text, HasRoom};
 
-use crate::document::Document;
+use crate::document::{Contents, Document, Node};
+use crate::nodes::{Items, Members};
 use crate::owned::OwnedJsonb;
 use crate::raw::RawJsonb;
 use bstr::ByteSlice;
 use jsonb_codec::Encoder;
-use jsonb_codec::constants::{
-    CONTAINER_TAG, FALSE_TAG, NULL_TAG, NUMBER_TAG, STRING_TAG, TRUE_TAG,
-};
-use jsonb_codec::parts::{
-    Contents, Items, Members, Part, extension_in, number_in, split_child, split_contents,
-    split_document, split_member, text_in,
-};
 use jsonb_value::{Error, ExtensionValue, extension_text, parse_value, write_number, write_string};
 use std::alloc::Global;
 use std::fmt;
@@ -249,43 +241,45 @@ pub fn write_document<W: fmt::Write>(
     ensures { WritesStyledOnOk W.write_str_gives f.old result
         (laid_out (layout_of layout) (document_tree document.entry)) f.new }
 {
-    let whole = split_document(document.as_bytes());
-    write_part(whole.tag, whole.payload, layout, f)
+    write_node(&document.node(), layout, f)
 }
 
-// The text of a part of a document, by its type and payload.
+// The text of a value.
 #[cycle(text)]
 #[inline(always)]
-fn write_part<W: fmt::Write>(
-    tag: u32,
-    payload: &[u8],
+fn write_node<W: fmt::Write>(
+    node: &Node<'_>,
     layout: Layout,
     f: &mut fmt::Formatter<W>,
 ) -> fmt::Result
-    requires some { IsSomePayload tag payload.now }
-    requires room { HasRoom (layout_of layout) (length payload.now) }
-    ensures { (t : Tree) → IsPayloadOf tag payload.now t
-        → WritesStyledOnOk W.write_str_gives f.old result (laid_out (layout_of layout) t) f.new }
+    requires container { HoldsNoScalar node.now }
+    requires room { HasRoom (layout_of layout) (depth (node_tree node.now)) }
+    ensures { WritesStyledOnOk W.write_str_gives f.old result
+        (laid_out (layout_of layout) (node_tree node.now)) f.new }
 {
-    match tag {
-        STRING_TAG => write_string(text_in(payload), f),
-        CONTAINER_TAG => write_container(payload, layout, f),
-        _ => write_scalar(tag, payload, f),
+    match node {
+        Node::Null => f.write_str("null"),
+        Node::Boolean(true) => f.write_str("true"),
+        Node::Boolean(false) => f.write_str("false"),
+        Node::Number(number) => write_number(number, f),
+        Node::String(text) => write_string(text, f),
+        Node::Extension(value) => write_quoted(value, f),
+        Node::Container(document) => write_container(*document, layout, f),
     }
 }
 
 #[cycle(text)]
 fn write_container<W: fmt::Write>(
-    bytes: &[u8],
+    document: Document<'_>,
     layout: Layout,
     f: &mut fmt::Formatter<W>,
 ) -> fmt::Result
-    requires some { IsSomePayload CONTAINER_TAG bytes.now }
-    requires room { HasRoom (layout_of layout) (length bytes.now) }
-    ensures { (t : Tree) → IsPayloadOf CONTAINER_TAG bytes.now t
-        → WritesStyledOnOk W.write_str_gives f.old result (laid_out (layout_of layout) t) f.new }
+    requires container { IsContainer (document_tree document) }
+    requires room { HasRoom (layout_of layout) (depth (document_tree document)) }
+    ensures { WritesStyledOnOk W.write_str_gives f.old result
+        (laid_out (layout_of layout) (document_tree document.entry)) f.new }
 {
-    match split_contents(bytes) {
+    match document.contents() {
         Contents::Array(items) => write_items(items, layout, f),
         Contents::Object(members) => write_members(members, layout, f),
     }
@@ -294,27 +288,22 @@ fn write_container<W: fmt::Write>(
 #[cycle(text)]
 #[inline(always)]
 fn write_items<W: fmt::Write>(
-    items: Items<'_>,
+    mut items: Items<'_>,
     layout: Layout,
     f: &mut fmt::Formatter<W>,
 ) -> fmt::Result
-    requires array { (ts : Trees) × AreItems ts items }
-    requires room { HasRoom (layout_of layout) (1 + length items.payloads.now) }
-    ensures { (ts : Trees) → AreItems ts items.entry
-        → WritesStyledOnOk W.write_str_gives f.old result (laid_out (layout_of layout) (array ts)) f.new }
+    requires room { HasRoom (layout_of layout) (depth (array_of (trees_left items))) }
+    ensures { WritesStyledOnOk W.write_str_gives f.old result
+        (laid_out (layout_of layout) (array_of (trees_left items.entry))) f.new }
 {
-    let Some(first) = split_child(items.entries, items.payloads) else {
+    let Some(first) = items.next() else {
         return f.write_str("[]");
     };
     f.write_str("[")?;
-    write_line(first.part, layout.inside(), f)?;
-    let mut entries = first.entries;
-    let mut payloads = first.payloads;
-    'items: while let Some(next) = split_child(entries, payloads) {
+    write_line(&first, layout.inside(), f)?;
+    'items: while let Some(next) = items.next() {
         f.write_str(",")?;
-        write_line(next.part, layout.inside(), f)?;
-        entries = next.entries;
-        payloads = next.payloads;
+        write_line(&next, layout.inside(), f)?;
     }
     layout.start_line(f)?;
     f.write_str("]")
@@ -324,42 +313,38 @@ fn write_items<W: fmt::Write>(
 #[cycle(text)]
 #[inline(always)]
 fn write_line<W: fmt::Write>(
-    item: Part<'_>,
+    item: &Node<'_>,
     layout: Layout,
     f: &mut fmt::Formatter<W>,
 ) -> fmt::Result
-    requires some { IsSomePayload item.tag item.payload.now }
-    requires room { HasRoom (layout_of layout) (length item.payload.now) }
-    ensures { (t : Tree) → IsPayloadOf item.entry.tag item.entry.payload.now t
-        → WritesStyledOnOk W.write_str_gives f.old result
-        (line_start (layout_of layout) ++ laid_out (layout_of layout) t) f.new }
+    requires container { HoldsNoScalar item.now }
+    requires room { HasRoom (layout_of layout) (depth (node_tree item.now)) }
+    ensures { WritesStyledOnOk W.write_str_gives f.old result
+        (line_start (layout_of layout) ++ laid_out (layout_of layout) (node_tree item.now)) f.new }
 {
     layout.start_line(f)?;
-    write_part(item.tag, item.payload, layout, f)
+    write_node(item, layout, f)
 }
 
 #[cycle(text)]
 #[inline(always)]
 fn write_members<W: fmt::Write>(
-    members: Members<'_>,
+    mut members: Members<'_>,
     layout: Layout,
     f: &mut fmt::Formatter<W>,
 ) -> fmt::Result
-    requires object { (ps : Pairs) × AreMembers ps members }
-    requires room { HasRoom (layout_of layout) (1 + length members.values.now) }
-    ensures { (ps : Pairs) → AreMembers ps members.entry
-        → WritesStyledOnOk W.write_str_gives f.old result (laid_out (layout_of layout) (object ps)) f.new }
+    requires room { HasRoom (layout_of layout) (depth (object_of (pairs_left members))) }
+    ensures { WritesStyledOnOk W.write_str_gives f.old result
+        (laid_out (layout_of layout) (object_of (pairs_left members.entry))) f.new }
 {
-    let Some(first) = split_member(members) else {
+    let Some((key, value)) = members.next() else {
         return f.write_str("{}");
     };
     f.write_str("{")?;
-    write_member(first.key, first.value, layout.inside(), f)?;
-    let mut rest = first.behind;
-    'members: while let Some(next) = split_member(rest) {
+    write_member(key, &value, layout.inside(), f)?;
+    'members: while let Some((key, value)) = members.next() {
         f.write_str(",")?;
-        write_member(next.key, next.value, layout.inside(), f)?;
-        rest = next.behind;
+        write_member(key, &value, layout.inside(), f)?;
     }
     layout.start_line(f)?;
     f.write_str("}")
@@ -370,36 +355,19 @@ fn write_members<W: fmt::Write>(
 #[inline(always)]
 fn write_member<W: fmt::Write>(
     key: &str,
-    value: Part<'_>,
+    value: &Node<'_>,
     layout: Layout,
     f: &mut fmt::Formatter<W>,
 ) -> fmt::Result
-    requires some { IsSomePayload value.tag value.payload.now }
-    requires room { HasRoom (layout_of layout) (length value.payload.now) }
-    ensures { (t : Tree) → IsPayloadOf value.entry.tag value.entry.payload.now t
-        → WritesStyledOnOk W.write_str_gives f.old result
-        (line_start (layout_of layout) ++ pair_text (layout_of layout) key.now t) f.new }
+    requires container { HoldsNoScalar value.now }
+    requires room { HasRoom (layout_of layout) (depth (node_tree value.now)) }
+    ensures { WritesStyledOnOk W.write_str_gives f.old result (line_start (layout_of layout)
+        ++ pair_text (layout_of layout) key.now (node_tree value.now)) f.new }
 {
     layout.start_line(f)?;
     write_string(key, f)?;
     f.write_str(layout.colon())?;
-    write_part(value.tag, value.payload, layout, f)
-}
-
-// The text of a part that is no container.
-fn write_scalar<W: fmt::Write>(tag: u32, payload: &[u8], f: &mut fmt::Formatter<W>) -> fmt::Result
-    requires some { IsSomePayload tag payload.now }
-    requires scalar { (tag ≢ CONTAINER_TAG) × (tag ≢ STRING_TAG) }
-    ensures { (l : texts.Layout) (t : Tree) → IsPayloadOf tag payload.now t
-        → WritesStyledOnOk W.write_str_gives f.old result (laid_out l t) f.new }
-{
-    match tag {
-        NULL_TAG => f.write_str("null"),
-        TRUE_TAG => f.write_str("true"),
-        FALSE_TAG => f.write_str("false"),
-        NUMBER_TAG => write_number(&number_in(payload), f),
-        _ => write_quoted(&extension_in(payload), f),
-    }
+    write_node(value, layout, f)
 }
 
 #[tactic(auto, using(jsonb_value::proofs::Writing::joins))]

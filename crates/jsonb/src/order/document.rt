@@ -47,6 +47,6 @@ impl Ord for Document<'_> {
 
     /// The order of the trees.
     fn cmp(&self, other: &Self) -> Ordering {
-        cmp_documents(self.as_bytes(), other.as_bytes())
+        cmp_documents(*self, *other)
     }
 }

@@ -14,7 +14,6 @@ ghost use Rattle.jsonb.specs.Meant.{raw_meaning};
 ghost use Rattle.jsonb.specs.Raw.{raw_bytes};
 
 use super::cmp_bytes;
-use super::documents::cmp_documents;
 use crate::raw::RawJsonb;
 use std::cmp::Ordering;
 
@@ -29,10 +28,7 @@ impl RawJsonb<'_> {
         ensures cmp { IfSome result
             (λ order. order ≡ meaning_cmp (raw_meaning self.now) (raw_meaning other.now)) }
     {
-        if !self.is_document() || !other.is_document() {
-            return None;
-        }
-        Some(cmp_documents(self.as_bytes(), other.as_bytes()))
+        Some(self.as_document()?.cmp(&other.as_document()?))
     }
 }
 

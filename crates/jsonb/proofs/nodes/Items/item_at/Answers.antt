@@ -12,5 +12,5 @@ returns c =
     i.same
     ∙ ap (slice_get (trees_left c.loop.entries)) all
     ∙ ap (λ xs. slice_get (trees_left xs) 0) c.in_ok-entry.ensures.steps
-    ∙ ap Some (entry_tree-node entry.type_code entry.payload.now c.of_payload.result c.in_ok-entry.ensures.part c.of_payload.ensures)
+    ∙ ap Some (entry_tree-node entry.type_code entry.payload.now c.of_payload.result c.in_ok-entry.ensures.part c.of_payload.ensures.means)
     )

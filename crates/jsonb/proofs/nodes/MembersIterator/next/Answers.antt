@@ -10,4 +10,4 @@ returns-clause-steps c =
     sym (ap pairs_left c.self.view_is)
     ∙ ap₂ (λ ks xs. pairs_left (ks, xs)) c.in_ok-key.ensures.steps c.in-Some.ensures.steps
     ∙ ap₂ (λ k t. (k, t) ∷ pairs_left (c.next_part.new.self, c.next_part-2.new.self)) (sym c.text_in.ensures.bytes)
-    (entry_tree-node value.type_code value.payload.now c.of_payload.result c.in-Some.ensures.part c.of_payload.ensures)
+    (entry_tree-node value.type_code value.payload.now c.of_payload.result c.in-Some.ensures.part c.of_payload.ensures.means)

@@ -1,38 +1,39 @@
--- Each call goes to parts that hold fewer bytes.
-use Rattle.std.proofs.Common.{◌+◌, ◌*◌, ◌≤◌, length}
-use Rattle.jsonb_value.specs.Tree.{Trees, Pairs}
+-- Each call goes to values that hold less, and what is left of two walks decides as the whole does.
+use Rattle.std.proofs.Common.{◌≡◌, ◌+◌, ◌*◌, ◌≤◌, length}
+use Rattle.jsonb_value.specs.Value.{trees_of}
 use Rattle.jsonb_value.specs.TreeOrder.{trees_cmp, pairs_cmp}
-use Rattle.jsonb_codec.specs.Contents.{AreItems, AreMembers}
-use Rattle.jsonb.proofs.InStep.{ItemsLeft, PairsLeft}
+use Rattle.jsonb_codec.specs.Depth.{size, sizes, pair_sizes}
+use Rattle.jsonb.specs.Document.{document_tree}
+use Rattle.jsonb.specs.Known.{trees_left, pairs_left}
+use Rattle.jsonb.specs.Node.{node_tree, pairs_of}
 use Rattle.jsonb.proofs.order.documents.+documents.Given as goal
 
-abbrev pub decreases-cmp_parts : goal.decreases-cmp_parts
-decreases-cmp_parts l = 3 * length l.left.payload.now + 1
+abbrev pub decreases-cmp_nodes : goal.decreases-cmp_nodes
+decreases-cmp_nodes l = 3 * size (node_tree l.left.now) + 1
 
 abbrev pub decreases-cmp_containers : goal.decreases-cmp_containers
-decreases-cmp_containers l = 3 * length l.left.now
+decreases-cmp_containers l = 3 * size (document_tree l.left)
 
 abbrev pub decreases-cmp_items : goal.decreases-cmp_items
-decreases-cmp_items l = 3 * length l.left.payloads.now + 2
+decreases-cmp_items l = 3 * sizes (trees_of (trees_left l.left)) + 2
 
 abbrev pub decreases-cmp_members : goal.decreases-cmp_members
-decreases-cmp_members l = 3 * length l.left.values.now + 2
+decreases-cmp_members l = 3 * pair_sizes (pairs_of (pairs_left l.left)) + 2
 
--- What is left of the two decides.
-abbrev pub invariant-cmp_items-loop-left_child : goal.invariant-cmp_items-loop-left_child
-invariant-cmp_items-loop-left_child l = record {
-  decides : (ts us : Trees) → AreItems ts l.fn.left → AreItems us l.fn.right → ItemsLeft l.left l.right (trees_cmp ts us);
-  shorter : length l.left.payloads.now ≤ length l.fn.left.payloads.now;
+abbrev pub invariant-cmp_items-loop-left_item : goal.invariant-cmp_items-loop-left_item
+invariant-cmp_items-loop-left_item l = record {
+  decides : trees_cmp (trees_of (trees_left l.fn.left)) (trees_of (trees_left l.fn.right)) ≡ trees_cmp (trees_of (trees_left l.left)) (trees_of (trees_left l.right));
+  less : sizes (trees_of (trees_left l.left)) ≤ sizes (trees_of (trees_left l.fn.left));
 }
 
-abbrev pub decreases-cmp_items-loop-left_child : goal.decreases-cmp_items-loop-left_child
-decreases-cmp_items-loop-left_child l = length l.left.entries.now
+abbrev pub decreases-cmp_items-loop-left_item : goal.decreases-cmp_items-loop-left_item
+decreases-cmp_items-loop-left_item l = length (trees_left l.left)
 
-abbrev pub invariant-cmp_members-loop-left_member : goal.invariant-cmp_members-loop-left_member
-invariant-cmp_members-loop-left_member l = record {
-  decides : (ps qs : Pairs) → AreMembers ps l.fn.left → AreMembers qs l.fn.right → PairsLeft l.left l.right (pairs_cmp ps qs);
-  shorter : length l.left.values.now ≤ length l.fn.left.values.now;
+abbrev pub invariant-cmp_members-loop-left_key : goal.invariant-cmp_members-loop-left_key
+invariant-cmp_members-loop-left_key l = record {
+  decides : pairs_cmp (pairs_of (pairs_left l.fn.left)) (pairs_of (pairs_left l.fn.right)) ≡ pairs_cmp (pairs_of (pairs_left l.left)) (pairs_of (pairs_left l.right));
+  less : pair_sizes (pairs_of (pairs_left l.left)) ≤ pair_sizes (pairs_of (pairs_left l.fn.left));
 }
 
-abbrev pub decreases-cmp_members-loop-left_member : goal.decreases-cmp_members-loop-left_member
-decreases-cmp_members-loop-left_member l = length l.left.key_entries.now
+abbrev pub decreases-cmp_members-loop-left_key : goal.decreases-cmp_members-loop-left_key
+decreases-cmp_members-loop-left_key l = length (pairs_left l.left)
