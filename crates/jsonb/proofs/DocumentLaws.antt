@@ -23,9 +23,6 @@ pub known_Doc : (b : List ℕ) → ∥ IsDocument b ∥₁ → Doc b (tree_in b)
 unfolding tree_in
 known_Doc b known = found_at b known (decide b)
 
-pub known_document : (b : List ℕ) → ∥ IsDocument b ∥₁ → IsDocument b
-known_document b known = (tree_in b, known_Doc b known)
-
 -- the tree is the one that the bytes mean
 found_is : (b : List ℕ) (t : Tree) → Doc b t → (d : Decided (IsDocument b)) → tree_found b d ≡ t
 found_is b t doc (inl found) = Doc-unique b found.0 t found.1 doc
@@ -37,7 +34,7 @@ tree_in-is b t doc = found_is b t doc (decide b)
 
 -- a document that holds these bytes means their tree,
 pub tree_of_bytes : (b : List ℕ) (d : Document) → document_bytes d ≡ b → Doc b (document_tree d)
-tree_of_bytes b d is = subst (λ x. Doc x (document_tree d)) is (known_Doc (document_bytes d) d.known)
+tree_of_bytes b d is = subst (λ x. Doc x (document_tree d)) is (known_Doc (document_bytes d) d.bytes.known)
 
 pub document_tree-is : (b : List ℕ) (t : Tree) (found : Option Document) → Doc b t → IfSome found (λ d. document_bytes d ≡ b) → IfSome found (λ d. document_tree d ≡ t)
 document_tree-is b t None doc h = tt

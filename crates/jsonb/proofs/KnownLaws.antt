@@ -5,8 +5,10 @@ use Rattle.jsonb_value.specs.Tree as trees
 use Rattle.jsonb_value.specs.Tree.{Tree, text, array, object, Trees, no_trees, tree, Pairs, no_pairs, pair, count, pair_count}
 use Rattle.jsonb_codec.specs.Word.{header_at}
 use Rattle.jsonb_codec.specs.Doc.{IsKey, Keys, Values, Children, Payload, Doc, type_of}
-use Rattle.jsonb_codec.specs.Canonical.{IsSomePayload}
+use Rattle.jsonb_codec.specs.declared.parts.Part.{Part}
+use Rattle.jsonb_codec.specs.Contents as parts
 use Rattle.jsonb_codec.specs.Parts.{IsPayloadOf}
+use Rattle.jsonb_codec.proofs.Decision.{known_part}
 use Rattle.jsonb.specs.declared.document.Node.{Node}
 use Rattle.jsonb.specs.Steps.{◌>>=◌}
 use Rattle.jsonb.specs.Shown.{Shown}
@@ -14,7 +16,7 @@ use Rattle.jsonb.specs.Shown as items
 use Rattle.jsonb.specs.Code.{Means}
 use Rattle.jsonb.specs.Item.{Entry, item_of, entry_at}
 use Rattle.jsonb.specs.Walk.{entries_from, array_entries, member_entries, object_entries, count_if, length_at, payload_length}
-use Rattle.jsonb.specs.Known.{shown_tree, item_tree, entry_tree, AreParts, AreKeys, AreMembers, trees_left, pairs_left}
+use Rattle.jsonb.specs.Known.{shown_tree, item_tree, entry_tree, entry_of_part, AreParts, AreKeys, AreMembers, trees_left, pairs_left}
 use Rattle.jsonb_value.specs.Value.{trees_of}
 use Rattle.jsonb.specs.Node.{node_tree, array_of, pairs_of, object_of, tree_list, pair_list, items_of, members_of}
 use Rattle.jsonb.proofs.Places.{At}
@@ -168,10 +170,11 @@ object_entries-Doc b (trees.number x) (inr (is, h)) = absurd (omega (arith, is))
 object_entries-Doc b (trees.text s) (inr (is, h)) = absurd (omega (arith, is))
 object_entries-Doc b (trees.extension x) (inr (is, h)) = absurd (omega (arith, is))
 
--- a value that is made of an entry has the tree of the entry
-pub entry_tree-node : (type : ℕ) (payload : List ℕ) (node : Node) → IsSomePayload type payload → ((t : Tree) → IsPayloadOf type payload t → node_tree node ≡ t)
-    → entry_tree record { type = type; payload = payload } ≡ node_tree node
-entry_tree-node type payload node some means = entry_tree-is type payload some.0 some.1 ∙ sym (means some.0 some.1)
+-- a value that is made of a part has the tree of its entry
+pub entry_tree-node : (part : Part) (node : Node) → ((t : Tree) → parts.Means part t → node_tree node ≡ t) → entry_tree (entry_of_part part) ≡ node_tree node
+entry_tree-node part node means =
+    let (t, is) = known_part part.tag part.payload.now part.known in
+    entry_tree-is part.tag part.payload.now t is ∙ sym (means t is)
 
 -- there are as many pairs as keys
 pub length-pairs_left : (ks xs : Entries) → length ks ≡ length xs → length ks ≡ length (pairs_left (ks, xs))

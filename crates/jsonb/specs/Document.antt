@@ -4,6 +4,7 @@ use Rattle.std.proofs.Common.{inl, inr}
 use Rattle.jsonb_value.specs.Tree.{Tree, null}
 use Rattle.jsonb_value.proofs.PayloadDecision.{Decided}
 use Rattle.jsonb_codec.specs.Doc.{IsDocument}
+use Rattle.jsonb_codec.specs.DocumentBytes.{bytes_of}
 use Rattle.jsonb_codec.proofs.Decision.{decide}
 use Rattle.jsonb.specs.declared.document.Document.{Document}
 
@@ -18,8 +19,8 @@ tree_in b = tree_found b (decide b)
 
 -- its bytes
 abbrev pub document_bytes : Document → List ℕ
-document_bytes d = d.bytes.now
+document_bytes d = bytes_of d.bytes
 
 -- its tree
 abbrev pub document_tree : Document → Tree
-document_tree d = tree_in d.bytes.now
+document_tree d = tree_in (document_bytes d)

@@ -5,7 +5,8 @@ use Rattle.jsonb_value.specs.declared.error.Error.{Error}
 use Rattle.jsonb_value.specs.Tree as trees
 use Rattle.jsonb_value.specs.Tree.{Tree}
 use Rattle.jsonb_codec.specs.declared.constants.TheConstants.{STRING_TAG}
-use Rattle.jsonb_codec.specs.Canonical.{IsSomePayload}
+use Rattle.jsonb_codec.specs.declared.parts.Part.{Part}
+use Rattle.jsonb_codec.specs.Parts.{IsSomePayload}
 use Rattle.jsonb.specs.Document.{tree_in}
 use Rattle.jsonb.specs.Item.{Entry, item_of}
 use Rattle.jsonb.specs.Shown.{Shown, null, boolean, number, text, extension, raw, owned}
@@ -37,6 +38,10 @@ tree_read (Err e) = trees.null
 abbrev pub key_read : Result Entry Error → List ℕ
 key_read (Ok entry) = entry.payload
 key_read (Err e) = []
+
+-- the entry that a part is
+abbrev pub entry_of_part : Part → Entry
+entry_of_part part = record { type = part.tag; payload = part.payload.now }
 
 -- The entries can be read, and mean trees;
 abbrev pub AreParts : List (Result Entry Error) → Type 0

@@ -1,7 +1,5 @@
 //! Documents that were checked once: nothing that is asked of them checks again.
 
-ghost use Rattle.jsonb_codec.specs.Doc.{IsDocument};
-
 use crate::entries::Cursor;
 use crate::item_type::JsonbItemType;
 use crate::nodes::{Items, Members};
@@ -10,10 +8,8 @@ use crate::text::{Layout, document_text, write_document};
 use jsonb_codec::constants::{
     CONTAINER_TAG, EXTENSION_TAG, FALSE_TAG, NULL_TAG, NUMBER_TAG, STRING_TAG, TRUE_TAG,
 };
-use jsonb_codec::parts::{
-    Part, extension_in, number_in, split_contents, split_document, split_member, text_in,
-};
-use jsonb_codec::{is_document, is_document_within, parts};
+use jsonb_codec::parts::Part;
+use jsonb_codec::{DocumentBytes, parts};
 use jsonb_value::{Error, ExtensionValue, Number};
 use std::alloc::Global;
 use std::fmt;
@@ -22,8 +18,7 @@ use std::fmt;
 /// answers an error because of them, and none checks them again.
 #[derive(Clone, Copy, Debug)]
 pub struct Document<'a> {
-    bytes: &'a [u8],
-    ghost known: { ∥ IsDocument bytes.now ∥₁ },
+    bytes: DocumentBytes<'a>,
 }
 
 /// A value in a document: a scalar, or an array or object, which is a document itself.
@@ -50,11 +45,9 @@ impl<'a> Document<'a> {
     ghost use Rattle.jsonb_value.specs.Text.{compact, pretty};
     ghost use Rattle.jsonb_value.specs.Tree.{Tree, Pairs};
     ghost use Rattle.jsonb_codec.specs.declared.constants.TheConstants.{CONTAINER_TAG};
-    ghost use Rattle.jsonb_codec.specs.Canonical.{IsSomePayload};
-    ghost use Rattle.jsonb_codec.specs.Contents.{AreMembers};
+    ghost use Rattle.jsonb_codec.specs.Contents.{Means, AreMembers};
     ghost use Rattle.jsonb_codec.specs.Depth.{IsDocumentWithin, depth};
     ghost use Rattle.jsonb_codec.specs.Doc.{Doc, IsDocument};
-    ghost use Rattle.jsonb_codec.specs.Parts.{IsPayloadOf};
     ghost use Rattle.jsonb.specs.Contents.{contents_tree};
     ghost use Rattle.jsonb.specs.Document.{document_bytes, document_tree};
     ghost use Rattle.jsonb.specs.Kind.{kind_of_tree};
@@ -68,10 +61,9 @@ impl<'a> Document<'a> {
         ensures known { IsSome result ↔ IsDocument bytes.entry.now }
         ensures bytes { IfSome result (λ d. document_bytes d ≡ bytes.entry.now) }
     {
-        if is_document(bytes) {
-            Some(Document { bytes })
-        } else {
-            None
+        match DocumentBytes::new(bytes) {
+            Some(bytes) => Some(Document { bytes }),
+            None => None,
         }
     }
 
@@ -82,20 +74,20 @@ impl<'a> Document<'a> {
         ensures known { IsSome result ↔ IsDocumentWithin depth bytes.entry.now }
         ensures bytes { IfSome result (λ d. document_bytes d ≡ bytes.entry.now) }
     {
-        if is_document_within(bytes, depth) {
-            Some(Document { bytes })
-        } else {
-            None
+        match DocumentBytes::within(bytes, depth) {
+            Some(bytes) => Some(Document { bytes }),
+            None => None,
         }
     }
 
     // An array or object inside another is a document by itself.
-    fn of_container(payload: &'a [u8]) -> Self
-        requires { IsSomePayload CONTAINER_TAG payload.now }
-        ensures { (t : Tree) → IsPayloadOf CONTAINER_TAG payload.entry.now t
-            → document_tree result ≡ t }
+    fn of_container(part: Part<'a>) -> Self
+        requires { part.tag ≡ CONTAINER_TAG }
+        ensures { (t : Tree) → Means part.entry t → document_tree result ≡ t }
     {
-        Document { bytes: payload }
+        Document {
+            bytes: DocumentBytes::of_container(part),
+        }
     }
 
     /// The bytes.
@@ -103,7 +95,7 @@ impl<'a> Document<'a> {
         ensures bytes { result.now ≡ document_bytes self.now }
         ensures document { Doc result.now (document_tree self.now) }
     {
-        self.bytes
+        self.bytes.as_bytes()
     }
 
     /// The bytes as a view of any bytes.
@@ -124,6 +116,15 @@ impl<'a> Document<'a> {
         kind
     }
 
+    // The one part that the document is.
+    #[inline(always)]
+    fn part(&self) -> Part<'a>
+        ensures means { Means result (document_tree self.now) }
+        ensures len { length result.payload.now < 2 ^ 64 }
+    {
+        self.bytes.part()
+    }
+
     /// The value that the document is.
     pub fn value(&self) -> Node<'a>
         ensures { node_tree result ≡ document_tree self.now }
@@ -138,8 +139,7 @@ impl<'a> Document<'a> {
         ensures container { HoldsNoScalar result }
         ensures shallow { depth (document_tree self.now) < 2 ^ 64 }
     {
-        let part = split_document(self.as_bytes());
-        Node::of_payload(part.tag, part.payload)
+        Node::of_part(self.part())
     }
 
     // What an array or object holds.
@@ -191,14 +191,14 @@ impl<'a> Document<'a> {
     pub fn get(&self, name: &str) -> Option<Node<'a>>
         ensures { option_map node_tree result ≡ value_of_key name.now (document_tree self.now) }
     {
-        let whole = split_document(self.as_bytes());
+        let whole = self.part();
         if whole.tag != CONTAINER_TAG {
             return None;
         }
-        match split_contents(whole.payload) {
+        match whole.contents() {
             parts::Contents::Array(_) => None,
             parts::Contents::Object(members) => match Document::find_member(members, name) {
-                Some(part) => Some(Node::of_payload(part.tag, part.payload)),
+                Some(part) => Some(Node::of_part(part)),
                 None => None,
             },
         }
@@ -223,16 +223,14 @@ impl<'a> Document<'a> {
 
     // The value of a key among members.
     fn find_member(members: parts::Members<'a>, name: &str) -> Option<Part<'a>>
-        requires { (ps : Pairs) × AreMembers ps members }
-        ensures some { IfSome result (λ part. IsSomePayload part.tag part.payload.now) }
-        ensures found { (ps : Pairs) → AreMembers ps members.entry
+        ensures { (ps : Pairs) → AreMembers ps members.entry
             → MatchOption result (find_pair (pointwise nat_eq name.now) (length name.now) ps ≡ None)
             (λ part. (t : Tree)
             × ((find_pair (pointwise nat_eq name.now) (length name.now) ps ≡ Some t)
-            × IsPayloadOf part.tag part.payload.now t)) }
+            × Means part t)) }
     {
         let mut left = members;
-        while let Some(first) = split_member(left) {
+        while let Some(first) = left.split_first() {
             if name == first.key {
                 return Some(first.value);
             }
@@ -245,8 +243,7 @@ impl<'a> Document<'a> {
 impl<'a> Node<'a> {
     ghost use Rattle.std.specs.Prelude.{◌≡◌};
     ghost use Rattle.jsonb_value.specs.Tree.{Tree};
-    ghost use Rattle.jsonb_codec.specs.Canonical.{IsSomePayload};
-    ghost use Rattle.jsonb_codec.specs.Parts.{IsPayloadOf};
+    ghost use Rattle.jsonb_codec.specs.Contents.{Means};
     ghost use Rattle.jsonb.specs.Kind.{kind_of_tree};
     ghost use Rattle.jsonb.specs.Node.{node_tree, HoldsNoScalar};
 
@@ -264,21 +261,20 @@ impl<'a> Node<'a> {
         }
     }
 
-    /// The value of the payload of an entry of that type.
+    /// The value of a part.
     #[inline(always)]
-    pub(crate) fn of_payload(tag: u32, payload: &'a [u8]) -> Node<'a>
-        requires { IsSomePayload tag payload.now }
-        ensures means { (t : Tree) → IsPayloadOf tag payload.entry.now t → node_tree result ≡ t }
+    pub(crate) fn of_part(part: Part<'a>) -> Node<'a>
+        ensures means { (t : Tree) → Means part.entry t → node_tree result ≡ t }
         ensures container { HoldsNoScalar result }
     {
-        match tag {
+        match part.tag {
             NULL_TAG => Node::Null,
             TRUE_TAG => Node::Boolean(true),
             FALSE_TAG => Node::Boolean(false),
-            NUMBER_TAG => Node::Number(number_in(payload)),
-            STRING_TAG => Node::String(text_in(payload)),
-            EXTENSION_TAG => Node::Extension(extension_in(payload)),
-            _ => Node::Container(Document::of_container(payload)),
+            NUMBER_TAG => Node::Number(part.number()),
+            STRING_TAG => Node::String(part.text()),
+            EXTENSION_TAG => Node::Extension(part.extension()),
+            _ => Node::Container(Document::of_container(part)),
         }
     }
 }

@@ -4,14 +4,14 @@ ghost use Rattle.std.specs.Prelude.{◌≡◌, ◌≤◌, ◌<◌, ◌+◌, ◌*
 ghost use Rattle.std.specs.Iterator.{YieldsFirstBy};
 ghost use Rattle.jsonb_value.specs.declared.error.Error.{Error};
 ghost use Rattle.jsonb_codec.specs.declared.constants.TheConstants.{ARRAY_CONTAINER_TAG, OBJECT_CONTAINER_TAG};
-ghost use Rattle.jsonb_codec.specs.Canonical.{IsSomePayload};
 ghost use Rattle.jsonb.specs.Item.{Entry as ItemEntry, entry_at};
-ghost use Rattle.jsonb.specs.Entries.{entry_of, shown_entry};
-ghost use Rattle.jsonb.specs.Known.{AreParts};
+ghost use Rattle.jsonb.specs.Entries.{shown_entry};
+ghost use Rattle.jsonb.specs.Known.{AreParts, entry_of_part};
 ghost use Rattle.jsonb.specs.Walk.{entries_from, array_entries, object_entries};
 
 use crate::iterator::{count_under, keys_end};
 use jsonb_codec::constants::{ARRAY_CONTAINER_TAG, OBJECT_CONTAINER_TAG};
+use jsonb_codec::parts::Part;
 use jsonb_codec::read_jentry;
 use jsonb_value::Error;
 use std::marker::Model;
@@ -155,16 +155,18 @@ impl<'a> Cursor<'a> {
         }
     }
 
-    /// The next entry of a document.
+    /// The next entry of a document, as the part that it is.
     #[inline(always)]
-    pub fn next_part(&mut self) -> Option<Entry<'a>>
+    pub fn next_part(&mut self) -> Option<Part<'a>>
         requires { AreParts self.old }
-        ensures steps { YieldsFirstBy (λ entry. Ok (entry_of entry)) (λ it. it) self.old result self.new }
-        ensures part { IfSome result (λ entry. IsSomePayload entry.type_code entry.payload.now) }
+        ensures steps { YieldsFirstBy (λ part. Ok (entry_of_part part)) (λ it. it) self.old result self.new }
         ensures others { AreParts self.new }
     {
         match self.next() {
-            Some(Ok(entry)) => Some(entry),
+            Some(Ok(entry)) => Some(Part {
+                tag: entry.type_code,
+                payload: entry.payload,
+            }),
             Some(Err(_)) => unreachable!(),
             None => None,
         }

@@ -30,9 +30,9 @@ pub use item::JsonbItem;
 pub use item_type::JsonbItemType;
 pub use iterator::{ArrayIterator, ObjectIterator, ObjectKeyIterator, ObjectValueIterator};
 pub use jsonb_codec::{
-    Decoder, Encoder, JEntry, JsonAstEncoder, append_canonical, constants, decode_header,
-    document_laws, document_text, is_canonical, is_document, is_document_within, parts,
-    printed_text_laws, read_header, read_jentry, read_word, value_of,
+    Decoder, DocumentBytes, Encoder, JEntry, JsonAstEncoder, append_canonical, constants,
+    decode_header, document_laws, document_text, is_canonical, is_document, is_document_within,
+    parts, printed_text_laws, read_header, read_jentry, read_word, value_of,
 };
 pub use jsonb_value::{
     Date, Decimal64, Decimal128, Error, ExtensionValue, Interval, JsonAst, Number, Object, Opaque,

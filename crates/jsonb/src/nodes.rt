@@ -9,7 +9,6 @@ ghost use Rattle.jsonb.specs.Node.{node_tree, member_tree, HoldsNoScalar};
 
 use crate::document::Node;
 use crate::entries::Cursor;
-use jsonb_codec::parts::text_in;
 use std::marker::Model;
 
 /// The items of an array, in order, each as its value. There is no error.
@@ -50,8 +49,8 @@ impl<'a> Items<'a> {
         for _ in 0..index {
             entries.next_part()?;
         }
-        let entry = entries.next_part()?;
-        Some(Node::of_payload(entry.type_code, entry.payload))
+        let part = entries.next_part()?;
+        Some(Node::of_part(part))
     }
 }
 
@@ -68,8 +67,8 @@ impl<'a> Iterator for Items<'a> {
         ensures goes { MakesProgress (λ _. Unit {0}) (item_count trees_left) self.old result self.new }
         ensures container { IfSome result (HoldsNoScalar) }
     {
-        let entry = self.entries.next_part()?;
-        Some(Node::of_payload(entry.type_code, entry.payload))
+        let part = self.entries.next_part()?;
+        Some(Node::of_part(part))
     }
 }
 
@@ -122,9 +121,6 @@ impl<'a> Iterator for Members<'a> {
         let Some(value) = self.values.next_part() else {
             unreachable!();
         };
-        Some((
-            text_in(key.payload),
-            Node::of_payload(value.type_code, value.payload),
-        ))
+        Some((key.text(), Node::of_part(value)))
     }
 }

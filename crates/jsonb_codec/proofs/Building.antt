@@ -1,5 +1,5 @@
 -- A list built from its front: what was put in it, and the others that follow.
-use Rattle.std.proofs.Common.{◌≡◌, ◌≤◌, ℕ, List, [], ◌∷◌, ◌++◌, Option, Some, None, Vec, Result, Ok, Err, IfOk, length, refl, sym, ap, ap₂, subst, ◌∙◌, arith, rules}
+use Rattle.std.proofs.Common.{◌≡◌, ℕ, List, [], ◌∷◌, ◌++◌, Option, Some, None, Vec, Result, Ok, Err, IfOk, refl, sym, ap, ap₂, subst, ◌∙◌, rules}
 use Rattle.std.specs.Prelude.{String, map, string_bytes, string_cmp}
 use Rattle.std.specs.declared.alloc.Global.{Global}
 use Rattle.std.specs.declared.cmp.Ordering.{Ordering}
@@ -12,13 +12,11 @@ use Rattle.std.specs.BTreeMap.{BTreeMap, insert_entry}
 use mathlib.Core.Former as Former
 use Rattle.jsonb_value.specs.declared.value.Value.{Value, Array, Object, the_lemmas, fold-Value}
 use Rattle.jsonb_value.specs.declared.error.Error.{Error}
-use Rattle.jsonb_value.specs.Tree.{Tree, Trees, no_trees, tree, Pairs, no_pairs, pair, array, object, pair_count, Ascends, Ascend}
+use Rattle.jsonb_value.specs.Tree.{Tree, Trees, no_trees, tree, Pairs, no_pairs, pair, array, object, Ascends, Ascend}
 use Rattle.jsonb_value.specs.Value.{trees_of, pairs_of, tree_of, tree_step, items_view, pairs_view}
-use Rattle.jsonb_codec.specs.Doc.{Doc, type_of, Payload, Values}
+use Rattle.jsonb_codec.specs.Doc.{Doc, IsDocument}
 use Rattle.jsonb_codec.specs.Parts.{IsPayloadOf}
-use Rattle.jsonb_codec.proofs.Entries.{IsType-type_of, length-Values}
-use Rattle.jsonb_codec.proofs.Unique.{same_tree, Doc-unique}
-use Rattle.jsonb_codec.proofs.Steps.{Read, Front, front_one}
+use Rattle.jsonb_codec.proofs.Unique.{same_tree}
 
 -- these trees, and then others
 abbrev pub trees_and : List Tree → Trees → Trees
@@ -63,13 +61,6 @@ insert_entry-append before (e ∷ es) k v t qs h =
     ap (λ (o : Ordering). match_ordering o ((k, v) ∷ e ∷ es) ((e.0, v) ∷ es) (e ∷ insert_entry string_cmp es k v)) last
     ∙ ap (λ (l : List (String Global × Value)). e ∷ l) (insert_entry-append (Some (string_bytes e.0)) es k v t qs h.1)
 
--- the value in front, where there is one
-pub value_room : (k : List ℕ) (t : Tree) (ps others : Pairs) (e p : List ℕ) → ps ≡ pair k t others → Values ps e p → 4 ≤ length e
-value_room k t ps others e p are h = let m = length-Values ps e p h in let n = ap pair_count are in omega arith
-
-pub first_value : (ty n : ℕ) (rest e p : List ℕ) → Read ty n rest e → (k : List ℕ) (t : Tree) (ps others : Pairs) → ps ≡ pair k t others → Values ps e p → Front (type_of t) ty n (Payload t) (Values others) rest p
-first_value ty n rest e p read k t ps others are h = front_one ty n rest e p read (type_of t) (Payload t) (Values others) (IsType-type_of t) (subst (λ x. Values x e p) are h)
-
 -- bytes of one type mean one tree
 pub meant : (ty : ℕ) (p : List ℕ) (t u : Tree) → IsPayloadOf ty p t → IsPayloadOf ty p u → t ≡ u
 meant ty p t u h k = same_tree t u (h.0 ∙ sym k.0) p h.1 k.1
@@ -105,7 +96,7 @@ pairs_and-push vs ws k v ps us others key value ascend whole are is same more =
     ∙ sym (pairs_and-append (seen vs) (k, tree_of v) others)
     ∙ ap (λ (l : List (String Global × Tree)). pairs_and l others) (sym (map-append (λ m. (m.0, tree_of m.1)) vs ((k, v) ∷ [])) ∙ ap seen (sym (more ∙ last)))
 
--- what was read is the one tree that the bytes mean
-pub the_tree : (b : List ℕ) (r : Result Value Error) → IfOk r (λ v. Doc b (tree_of v)) → IfOk r (λ v. (t : Tree) → Doc b t → tree_of v ≡ t)
-the_tree b (Ok v) h = λ t k. Doc-unique b (tree_of v) t h k
-the_tree b (Err e) h = tt
+-- what was read is the tree of the document
+pub the_tree : (a b : List ℕ) (r : Result Value Error) → a ≡ b → IsDocument b → IfOk r (λ v. (t : Tree) → Doc a t → tree_of v ≡ t) → IfOk r (λ v. Doc b (tree_of v))
+the_tree a b (Ok v) is (t, h) same = subst (Doc b) (sym (same t (subst (λ x. Doc x t) (sym is) h))) h
+the_tree a b (Err e) is doc same = tt

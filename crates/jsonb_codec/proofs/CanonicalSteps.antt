@@ -1,151 +1,120 @@
--- What one entry more says about whether children are as they are written, and how children make a document that is.
-use Rattle.std.proofs.Common.{◌≡◌, ◌≢◌, ◌↔◌, ◌≤◌, ◌<◌, ◌+◌, ◌^◌, ℕ, List, [], ◌++◌, length, take, drop, true, false, refl, sym, ap, ap₂, subst, ◌∙◌, arith, length-append, IsTrue, nat_eq}
-use Rattle.std.proofs.lemmas.Bool.{eqb-true, eq-eqb}
-use Rattle.std.proofs.lemmas.List.{take-append-drop, length-take-le}
+-- Whether parts are as they are written: payloads, children one by one, and whole documents.
+use Rattle.std.proofs.Common.{◌≡◌, ◌≢◌, ◌↔◌, ◌<◌, ◌+◌, ◌^◌, ℕ, List, ◌++◌, length, false, inl, inr, refl, sym, ap, ap₂, subst, ◌∙◌, arith, IsTrue, nat_eq}
+use Rattle.std.proofs.lemmas.Bool.{eqb-true, eq-eqb, cases_eq}
 use Rattle.jsonb_value.specs.declared.number.Number.{Number}
+use Rattle.jsonb_value.specs.Norm.{norm}
 use Rattle.jsonb_value.specs.NumCode.{NumCode, number_payload}
 use Rattle.jsonb_value.specs.ExtCode.{ExtCode, extension_payload}
-use Rattle.jsonb_value.specs.Norm.{norm_number}
-use Rattle.jsonb_value.specs.Tree.{Extension, Tree, null, boolean, number, text, extension, array, object, no_trees, tree}
+use Rattle.jsonb_value.specs.Tree.{Extension, Tree, Trees, null, boolean, number, text, extension, array, object, no_trees}
 use Rattle.jsonb_value.proofs.BigEndian.{AreBytes}
-use Rattle.jsonb_value.proofs.Codes.{NumCode-unique}
-use Rattle.jsonb_value.proofs.ExtCodes.{ExtCode-unique, front_of, back_of}
-use Rattle.jsonb_value.proofs.PayloadLaws.{NumCode-number_payload, number_payload-norm_number, ExtCode-extension_payload, IsNumber-NumCode, IsExtension-ExtCode}
 use Rattle.jsonb_value.proofs.Written.{number_payload-NumCode, extension_payload-ExtCode}
 use Rattle.jsonb_codec.specs.Word.{word}
-use Rattle.jsonb_codec.specs.Doc.{type_of, Children, Payload}
-use Rattle.jsonb_codec.specs.Canon.{payload_of, entries_of, payloads_of}
-use Rattle.jsonb_codec.specs.Canonical.{IsSomePayload, AreSomeChildren, IsWritten, AreWritten}
-use Rattle.jsonb_codec.proofs.Words.{same_words, length-word-append}
-use Rattle.jsonb_codec.proofs.Entries.{IsType, IsType-type_of, same_entry, length-One}
-use Rattle.jsonb_codec.proofs.Steps.{Read, container_room}
+use Rattle.jsonb_codec.specs.Doc.{type_of, Doc, IsDocument, Payload, Children}
+use Rattle.jsonb_codec.specs.Parts.{IsPayloadOf}
+use Rattle.jsonb_codec.specs.Canon.{payload_of, entries_of, payloads_of, document_of}
+use Rattle.jsonb_codec.specs.Canonical.{IsCanonical, IsWritten, AreWritten}
+use Rattle.jsonb_codec.specs.Rewriting.{FirstChild, Opened}
+use Rattle.jsonb_codec.proofs.Words.{length-word, same_words, same_parts, length-word-append}
+use Rattle.jsonb_codec.proofs.Entries.{IsType-type_of, length-Children}
+use Rattle.jsonb_codec.proofs.Lengths.{length-entries_of, length-canon-scalar, document_of-scalar}
+use Rattle.jsonb_codec.proofs.CanonLaws.{Doc-canon}
+use Rattle.jsonb_codec.proofs.Rewriting.{canonical_twice}
+use Rattle.jsonb_codec.proofs.WellFormed.{IsTree-Doc}
 
--- ---- payloads
+-- null, a truth value or a text is
+pub written_plain : (t : Tree) (p : List ℕ) → type_of t ≢ 536870912 → type_of t ≢ 1610612736 → type_of t ≢ 1342177280 → Payload t p → IsWritten t p
+written_plain null p x y z h = (tt, sym h)
+written_plain (boolean b) p x y z h = (tt, sym h)
+written_plain (number n) p x y z h = absurd (x refl)
+written_plain (text s) p x y z h = (tt, sym h.0)
+written_plain (extension n) p x y z h = absurd (y refl)
+written_plain (array ts) p x y z h = absurd (z refl)
+written_plain (object ps) p x y z h = absurd (z refl)
 
--- null, a truth value or a text is as it is written
-pub written_plain : (ty : ℕ) (p : List ℕ) → ty ≢ 536870912 → ty ≢ 1610612736 → ty ≢ 1342177280 → IsSomePayload ty p → IsWritten ty p
-written_plain ty p x y z (null, (e, h)) = (null, (e, (tt, (tt, sym h))))
-written_plain ty p x y z (boolean true, (e, h)) = (boolean true, (e, (tt, (tt, sym h))))
-written_plain ty p x y z (boolean false, (e, h)) = (boolean false, (e, (tt, (tt, sym h))))
-written_plain ty p x y z (number n, (e, h)) = absurd (x (sym e))
-written_plain ty p x y z (text s, (e, h)) = (text s, (e, (h.1, (tt, sym h.0))))
-written_plain ty p x y z (extension n, (e, h)) = absurd (y (sym e))
-written_plain ty p x y z (array ts, (e, h)) = absurd (z (sym e))
-written_plain ty p x y z (object ps, (e, h)) = absurd (z (sym e))
+-- a test of two lengths, where one is another's
+length_test : (a b n : ℕ) (P : Type 0) → b ≡ n → ((a ≡ n) ↔ P) → IsTrue (nat_eq a b) ↔ P
+length_test a b n P e same = (λ yes. same.0 (eqb-true a b yes ∙ e), λ p. eq-eqb a b (same.1 p ∙ sym e))
 
--- a number is as it is written exactly if it is as long
-same_number : (p : List ℕ) (x : Number) → NumCode p x → IsWritten 536870912 p → length p ≡ length (number_payload x)
-same_number p x h (number y, (e, (ok, (fit, q)))) =
-    let same : x ≡ norm_number y = NumCode-unique p x (norm_number y) h (subst (λ b. NumCode b (norm_number y)) q (NumCode-number_payload y ok)) in
-    sym (ap (λ (z : Number). length (number_payload z)) same ∙ ap length (number_payload-norm_number y ∙ q))
-same_number p x h (boolean true, (e, k)) = absurd (omega arith)
-same_number p x h (boolean false, (e, k)) = absurd (omega arith)
-same_number p x h (t, (e, k)) = absurd (omega arith)
+-- a number or an extension value is exactly if it is as long
+pub written_number : (p : List ℕ) (x : Number) (n : ℕ) → AreBytes p → n ≡ length (number_payload x) → NumCode p x → IsTrue (nat_eq (length p) n) ↔ IsWritten (number x) p
+written_number p x n bytes long h = length_test (length p) n _ _ long (λ same. (tt, number_payload-NumCode p x bytes h same), λ w. ap length (sym w.1))
 
-pub written_number : (p : List ℕ) (x : Number) → AreBytes p → NumCode p x → (length p ≡ length (number_payload x)) ↔ IsWritten 536870912 p
-written_number p x bytes h = (λ long. (number x, (refl, (IsNumber-NumCode p x bytes h, (tt, number_payload-NumCode p x bytes h long)))), same_number p x h)
+pub written_extension : (p : List ℕ) (x : Extension) (n : ℕ) → AreBytes p → n ≡ length (extension_payload x) → ExtCode p x → IsTrue (nat_eq (length p) n) ↔ IsWritten (extension x) p
+written_extension p x n bytes long h = length_test (length p) n _ _ long (λ same. (tt, extension_payload-ExtCode p x bytes h same), λ w. ap length (sym w.1))
 
--- and an extension value
-same_extension : (p : List ℕ) (x : Extension) → ExtCode p x → IsWritten 1610612736 p → length p ≡ length (extension_payload x)
-same_extension p x h (extension y, (e, (ok, (fit, q)))) =
-    let same : x ≡ y = ExtCode-unique p x y h (subst (λ b. ExtCode b y) q (ExtCode-extension_payload y ok)) in
-    sym (ap (λ (z : Extension). length (extension_payload z)) same ∙ ap length q)
-same_extension p x h (boolean true, (e, k)) = absurd (omega arith)
-same_extension p x h (boolean false, (e, k)) = absurd (omega arith)
-same_extension p x h (t, (e, k)) = absurd (omega arith)
+pub written_as : (P : Type 0) (t u : Tree) (p : List ℕ) → t ≡ u → Payload t p → (Payload u p → P ↔ IsWritten u p) → P ↔ IsWritten t p
+written_as P t u p is h same = subst (λ v. P ↔ IsWritten v p) (sym is) (same (subst (λ v. Payload v p) is h))
 
-pub written_extension : (p : List ℕ) (x : Extension) → AreBytes p → ExtCode p x → (length p ≡ length (extension_payload x)) ↔ IsWritten 1610612736 p
-written_extension p x bytes h = (λ long. (extension x, (refl, (IsExtension-ExtCode p x bytes h, (tt, extension_payload-ExtCode p x bytes h long)))), same_extension p x h)
+-- Children are exactly if the first and the others are.
+module _ (ts : Trees) (ty : ℕ) (payload e2 p2 e p : List ℕ) (f : FirstChild ts ty payload e2 p2) (es : e ≡ word (ty + length payload) ++ e2) (ps : p ≡ payload ++ p2) (short : length payload < 2 ^ 28) where
+  pub written_onward : AreWritten ts e p → IsWritten f.first payload × AreWritten f.others e2 p2
+  written_onward w =
+      let (fit, (is, are)) = subst (λ us. AreWritten us e p) f.are w in
+      let ht = IsType-type_of f.first in
+      let brief = fit.0.1 in
+      let q = f.is.0 in
+      let words = same_words (type_of f.first + length (payload_of f.first)) (ty + length payload) (entries_of f.others) e2 (omega (arith, ht.room)) (omega (arith, ht.room)) (is ∙ es) in
+      let parts = same_parts (payload_of f.first) payload (payloads_of f.others) p2 (omega (arith, words.0)) (are ∙ ps) in
+      ((fit.0.0, parts.0), (fit.1, (words.1, parts.1)))
 
--- what a payload of those types means
-pub some_number : (p : List ℕ) → IsSomePayload 536870912 p → (x : Number) × NumCode p x
-some_number p (number x, (e, h)) = (x, h)
-some_number p (boolean true, (e, h)) = absurd (omega arith)
-some_number p (boolean false, (e, h)) = absurd (omega arith)
-some_number p (t, (e, h)) = absurd (omega arith)
-
-pub some_extension : (p : List ℕ) → IsSomePayload 1610612736 p → (x : Extension) × ExtCode p x
-some_extension p (extension x, (e, h)) = (x, h)
-some_extension p (boolean true, (e, h)) = absurd (omega arith)
-some_extension p (boolean false, (e, h)) = absurd (omega arith)
-some_extension p (t, (e, h)) = absurd (omega arith)
-
--- ---- children
-
-module _ (ty n : ℕ) (rest e p : List ℕ) (read : Read ty n rest e) where
-  not_empty : e ≡ [] → ⊥
-  not_empty none = let z = ap length none in let m = ap length read.parts ∙ length-word-append (ty + n) rest in omega arith
-
-  is_type : IsType ty
-  is_type = record { high = read.tag; room = omega (arith, read.tag, read.small) }
-
-  -- what a reading fixes of the first entry
-  record First (t : Tree) (len : ℕ) (other : List ℕ) : Type 0 where
-    type : type_of t ≡ ty
-    same : len ≡ n
-    others : other ≡ rest
-
-  first : (t : Tree) (len : ℕ) (other : List ℕ) → len < 2 ^ 28 → e ≡ word (type_of t + len) ++ other → First t len other
-  first t len other short parts =
-      let ht = IsType-type_of t in
-      let words = same_words (type_of t + len) (ty + n) _ _ (omega (arith, ht.room)) read.small (sym parts ∙ read.parts) in
-      let entry = same_entry (type_of t) ty len n ht is_type short read.number words.0 in
-      record { type = entry.0; same = entry.1; others = words.1 }
-
-  pub some_onward : AreSomeChildren e p → IsSomePayload ty (take n p) × AreSomeChildren rest (drop n p)
-  some_onward (no_trees, h) = absurd (not_empty h.no_entries)
-  some_onward (tree t ts, h) =
-      let f = first t (length h.payload) h.other_entries h.short h.entries_are in
-      let front = front_of n h.payload h.other_payloads p h.payloads_are f.same in
-      let back = back_of n h.payload h.other_payloads p h.payloads_are f.same in
-      ((t, (f.type, subst (Payload t) (sym front) h.means)), (ts, subst (λ x. Children ts x (drop n p)) f.others (subst (Children ts h.other_entries) (sym back) h.others)))
-
-  pub some_fit : AreSomeChildren e p → n ≤ length p
-  some_fit (no_trees, h) = absurd (not_empty h.no_entries)
-  some_fit (tree t ts, h) =
-      let f = first t (length h.payload) h.other_entries h.short h.entries_are in
-      let m = ap length h.payloads_are ∙ length-append h.payload h.other_payloads in
-      omega (arith, f.same)
-
-  pub written_onward : AreWritten e p → IsWritten ty (take n p) × AreWritten rest (drop n p)
-  written_onward (no_trees, (ok, (fit, (es, ps)))) = absurd (not_empty (sym es))
-  written_onward (tree t ts, (ok, (fit, (es, ps)))) =
-      let f = first t (length (payload_of t)) (entries_of ts) fit.0.1 (sym es) in
-      let front = front_of n (payload_of t) (payloads_of ts) p (sym ps) f.same in
-      let back = back_of n (payload_of t) (payloads_of ts) p (sym ps) f.same in
-      ((t, (f.type, (ok.0, (fit.0.0, sym front)))), (ts, (ok.1, (fit.1, (f.others, sym back)))))
-
-  pub written_back : n ≤ length p → IsWritten ty (take n p) → AreWritten rest (drop n p) → AreWritten e p
-  written_back fits (t, (is, (ok, (fit, q)))) (ts, (oks, (all, (es, ps)))) =
-      let len : length (payload_of t) ≡ n = ap length q ∙ length-take-le n p fits in (
-        tree t ts,
+  pub written_back : IsWritten f.first payload → AreWritten f.others e2 p2 → AreWritten ts e p
+  written_back (fit, w) (all, (is, are)) =
+      let q = f.is.0 in
+      let len = ap length w in
+      subst (λ us. AreWritten us e p) (sym f.are) (
+        ((fit, omega (arith, len)), all),
         (
-          (ok, oks),
-          (
-            ((fit, omega (arith, len, read.number)), all),
-            (
-              ap₂ (λ (k : ℕ) (x : List ℕ). word k ++ x) (ap₂ (λ (i j : ℕ). i + j) is len) es ∙ sym read.parts,
-              ap₂ (λ (x y : List ℕ). x ++ y) q ps ∙ take-append-drop n p,
-            ),
-          ),
+          ap₂ (λ (k : ℕ) (x : List ℕ). word k ++ x) (omega (arith, len)) is ∙ sym es,
+          ap₂ (λ (x y : List ℕ). x ++ y) w are ∙ sym ps,
         ),
       )
 
--- where no entry word is left
-pub some_end : (e p : List ℕ) → length e < 4 → AreSomeChildren e p → (e ≡ []) × (p ≡ [])
-some_end e p short (no_trees, h) = (h.no_entries, h.no_payloads)
-some_end e p short (tree t ts, h) = let m = length-One _ _ _ e p h in absurd (omega arith)
+pub none_written : (ts : Trees) (e p : List ℕ) → ts ≡ no_trees → Children ts e p → AreWritten ts e p
+none_written ts e p none h =
+    let ended = subst (λ us. Children us e p) none h in
+    subst (λ us. AreWritten us e p) (sym none) (tt, (sym ended.no_entries, sym ended.no_payloads))
 
-pub written_end : (e p : List ℕ) → length e < 4 → AreSomeChildren e p → AreWritten e p
-written_end e p short h = let none = some_end e p short h in (no_trees, (tt, (tt, (sym none.0, sym none.1))))
+-- A container is exactly if its children are.
+pub written_container : (t : Tree) (header : ℕ) (e p b : List ℕ) → (o : Opened t header e p) → b ≡ word header ++ (e ++ p) → AreWritten o.children e p ↔ IsWritten t b
+written_container t header e p b o parts = (
+  λ (fit, (es, ps)). (o.fit.0 fit, o.written ∙ ap₂ (λ (x y : List ℕ). word header ++ (x ++ y)) es ps ∙ sym parts),
+  λ (fit, w).
+      let inside = (same_parts (word header) (word header) _ _ refl (sym o.written ∙ w ∙ parts)).1 in
+      let len : length (entries_of o.children) ≡ length e = length-entries_of o.children ∙ sym (length-Children o.children e p o.are) in
+      (o.fit.1 fit, same_parts (entries_of o.children) e (payloads_of o.children) p len inside),
+)
 
--- a test of two lengths, where one is another's
-pub length_test : (a b n : ℕ) (P : Type 0) → b ≡ n → ((a ≡ n) ↔ P) → IsTrue (nat_eq a b) ↔ P
-length_test a b n P e same = (λ yes. same.0 (eqb-true a b yes ∙ e), λ p. eq-eqb a b (same.1 p ∙ sym e))
+-- A document is canonical exactly if its one part is.
+same_document : (ty : ℕ) (p q : List ℕ) → document_of ty p ≡ document_of ty q → p ≡ q
+same_document ty p q e =
+    elim (cases_eq ty 1342177280) [
+      | inl is ↦ subst (λ k. document_of k p ≡ document_of k q) is e
+      | inr other ↦
+          let inner = (same_parts (word 536870912) (word 536870912) _ _ refl (sym (document_of-scalar ty p other) ∙ e ∙ document_of-scalar ty q other)).1 in
+          (same_parts (word (ty + length p)) (word (ty + length q)) p q (length-word _ ∙ sym (length-word _)) inner).1
+    ]
 
-pub some_short : (b : List ℕ) → length b < 4 → IsSomePayload 1342177280 b → ⊥
-some_short b short (t, h) = let room = container_room t b h in omega arith
+fits_document : (b : List ℕ) (t : Tree) → Doc b t → document_of (type_of t) (payload_of t) ≡ b → (type_of t ≡ 1342177280 → ⊥) → length (payload_of t) < 2 ^ 28
+fits_document b t (inr (q, h)) e other = absurd (other q)
+fits_document b t (inl (q, h)) e other =
+    let short = h.short in
+    let outer = ap length h.parts ∙ length-word-append 536870912 (word (type_of t + length h.payload) ++ h.payload) in
+    let inner = length-word-append (type_of t + length h.payload) h.payload in
+    omega (arith, length-canon-scalar t other, ap length e, outer, inner)
+
+pub written_document : (b : List ℕ) (t : Tree) → AreBytes b → Doc b t → (ty : ℕ) (p : List ℕ) → IsPayloadOf ty p t → document_of ty p ≡ b → IsWritten t p ↔ IsCanonical b
+written_document b t bytes doc ty p (q, h) parts = (
+  λ (fit, w).
+      let same = ap₂ document_of q w ∙ parts in
+      (t, (IsTree-Doc b t bytes doc, (record { inside = fit; short = fits_document b t doc same }, same))),
+  λ (u, (ok, (fits, e))).
+      let again = canonical_twice b u (sym e) ok fits t doc in
+      (again.0.inside, same_document ty (payload_of t) p (ap (λ k. document_of k (payload_of t)) (sym q) ∙ again.1 ∙ sym parts)),
+)
+
+pub canonical_document : (b : List ℕ) → IsCanonical b → IsDocument b
+canonical_document b (t, (ok, (fits, w))) = (norm t, subst (λ x. Doc x (norm t)) w (Doc-canon t ok fits))
 
 -- a test that answers no, where the fact does not hold
 pub refused : {P : Type 0} → (P → ⊥) → IsTrue false ↔ P
-refused never = (λ q. cc, λ p. absurd (never p))
+refused never = (λ yes. cc, λ p. absurd (never p))

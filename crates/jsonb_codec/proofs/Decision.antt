@@ -1,5 +1,6 @@
 -- Each byte string is a document or is none.
 use Rattle.std.proofs.Common.{◌≡◌, ◌≢◌, ◌⊎◌, ◌↔◌, ◌≤◌, ◌<◌, ◌+◌, ◌-◌, ◌*◌, ◌/◌, ◌%◌, ◌^◌, ℕ, zero, suc, List, [], ◌∷◌, ◌++◌, Bool, Option, Some, None, length, take, drop, true, false, inl, inr, refl, sym, ap, ap₂, subst, ◌∙◌, arith, length-drop}
+use Rattle.std.proofs.Math.Logic.{∥∥₁_elim}
 use Rattle.std.proofs.lemmas.Bool.{cases_eq, cases_lt}
 use Rattle.std.proofs.lemmas.List.{take-append-drop, length-take-le}
 use Rattle.std.proofs.lemmas.Str.{IsUtf8-from_is_utf8, is_utf8-from_IsUtf8}
@@ -15,8 +16,9 @@ use Rattle.jsonb_value.proofs.PayloadDecision.{Decided, decided_by, decide_numbe
 use Rattle.jsonb_codec.specs.Word.{word}
 use Rattle.jsonb_codec.specs.Doc.{type_of, IsDocument}
 use Rattle.jsonb_codec.specs.Depth.{IsDocumentWithin}
-use Rattle.jsonb_codec.specs.Parts.{HasPayload, HasScalar, HasChildren, HasArray, HasObject, HasKeys, IsAbove}
+use Rattle.jsonb_codec.specs.Parts.{IsSomePayload, AreSomeChildren, HasPayload, HasScalar, HasChildren, HasArray, HasObject, HasKeys, IsAbove}
 use Rattle.jsonb_codec.proofs.Words.{length-word, word-value, length-word-append, same_words}
+use Rattle.jsonb_codec.proofs.DepthLaws.{Payload-depth, Children-depth}
 use Rattle.jsonb_codec.proofs.Entries.{IsType-type_of}
 use Rattle.jsonb_codec.proofs.Scalars.{HasPayload-null, HasPayload-false, HasPayload-true, HasPayload-text, HasPayload-number, HasPayload-extension}
 use Rattle.jsonb_codec.proofs.Steps.{Read, children_onward, children_back, children_too_long, children_none, container_array, container_object, no_container, container_too_deep, no_scalar, scalar_count, scalar_onward, scalar_back, document_cases, scalar_document, container_document, document_within_length, array_room, array_iff}
@@ -368,3 +370,21 @@ decide_within limit b =
 -- and whether they are a document
 pub decide : (b : List ℕ) → Decided (IsDocument b)
 decide b = decided_iff (document_within_length b) (decide_within (length b) b)
+
+-- ---- what is known of bytes, as data again
+
+pub known : {P : Type 0} → Decided P → ∥ P ∥₁ → P
+known (inl p) some = p
+known (inr none) some = let empty : IsProp ⊥ = Prim.hlevel in absurd (∥∥₁_elim some empty none)
+
+pub known_document : (b : List ℕ) → ∥ IsDocument b ∥₁ → IsDocument b
+known_document b = known (decide b)
+
+pub known_part : (ty : ℕ) (p : List ℕ) → ∥ IsSomePayload ty p ∥₁ → IsSomePayload ty p
+known_part ty p =
+    known (decided_by (λ h. (h.0, h.1.1)) (λ h. let flat = Payload-depth h.0 p h.1.1 in (h.0, (omega arith, h.1))) (decide_payload (length p) ty p))
+
+pub known_children : (e p : List ℕ) → ∥ AreSomeChildren e p ∥₁ → AreSomeChildren e p
+known_children e p =
+    let limit = length e + length p in
+    known (decided_by (λ h. (h.0, h.1.1)) (λ h. let flat = Children-depth h.0 e p h.1 in (h.0, (omega arith, h.1))) (decide_children limit (decide_payload limit) (length e) e p (omega arith)))

@@ -37,7 +37,7 @@ mutual
       let more = Values-depth ps h.1.behind.value_entries h.1.behind.value_payloads h.1.behind.values in omega arith
   Payload-depth t p h = omega arith
 
-  Children-depth : (ts : Trees) (e p : List ℕ) → Children ts e p → 8 * depths ts ≤ length e + length p
+  pub Children-depth : (ts : Trees) (e p : List ℕ) → Children ts e p → 8 * depths ts ≤ length e + length p
   Children-depth no_trees e p h = omega arith
   Children-depth (tree t ts) e p h =
       let entries = length-One _ _ _ e p h in

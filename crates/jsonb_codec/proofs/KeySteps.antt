@@ -1,14 +1,14 @@
 -- What one key more says about the bytes behind it, and how keys and values make the pairs of an object.
-use Rattle.std.proofs.Common.{◌≡◌, ◌↔◌, Bool, IsTrue, max, ℕ, ◌+◌, ◌-◌, ◌*◌, ◌^◌, ◌<◌, ◌≤◌, List, [], ◌++◌, Option, Some, None, length, take, drop, refl, sym, ap, ap₂, subst, ◌∙◌, arith, length-append, append_assoc}
+use Rattle.std.proofs.Common.{◌≡◌, ◌↔◌, Bool, IsTrue, max, ℕ, ◌+◌, ◌*◌, ◌^◌, ◌<◌, ◌≤◌, List, [], ◌++◌, Option, Some, None, length, take, drop, refl, sym, ap, ap₂, subst, ◌∙◌, arith, length-append, append_assoc}
 use Rattle.std.proofs.lemmas.List.{take-append-drop, length-take-le}
 use Rattle.std.specs.Str.{IsUtf8}
 use Rattle.jsonb_value.specs.Tree.{Tree, null, Trees, no_trees, tree, Pairs, no_pairs, pair, count, pair_count, Ascends, Ascend}
 use Rattle.jsonb_value.proofs.ExtCodes.{front_of, back_of}
 use Rattle.jsonb_codec.specs.Word.{word}
-use Rattle.jsonb_codec.specs.Doc.{Keys, Values, Children}
+use Rattle.jsonb_codec.specs.Doc.{type_of, One, Keys, Values, Children, Payload}
 use Rattle.jsonb_codec.specs.Depth.{depth, depths, pair_depths}
 use Rattle.jsonb_codec.specs.Parts.{IsObject, KeysThen, HasChildren, HasObject, HasKeys, IsAbove}
-use Rattle.jsonb_codec.proofs.Words.{length-word-append, same_words, same_parts}
+use Rattle.jsonb_codec.proofs.Words.{same_words, same_parts}
 use Rattle.jsonb_codec.proofs.Entries.{IsType, IsType-text, same_entry, length-One, length-Children, length-Values, length-Keys}
 use Rattle.jsonb_codec.proofs.Steps.{Read, not_at_end}
 use Rattle.jsonb_codec.proofs.Unique.{length_keys}
@@ -103,47 +103,23 @@ pub keys_once : (before : Option (List ℕ)) (e p q r : List ℕ) → HasKeys be
 keys_once before e p q r (ps, (a, (front, (parts, h)))) (qs, (b, (other, (again, k)))) =
     (same_parts front other q r (length_keys ps qs e front other h k) (sym parts ∙ again)).1
 
--- The entry word of a key is that of a string.
-pub key_entry : (k : ℕ) (rest e p q : List ℕ) (ps : Pairs) → e ≡ word k ++ rest → k < 2 ^ 32 → KeysThen ps e p q
-    → (268435456 ≤ k) × Read 268435456 (k - 268435456) rest e
-key_entry k rest e p q no_pairs parts small (front, (_, h)) =
-    let long = ap length (sym h.no_entries ∙ parts) ∙ length-word-append k rest in absurd (omega arith)
-key_entry k rest e p q (pair key t ps) parts small (front, (_, h)) =
-    let short = h.short in
-    let words = same_words (268435456 + length h.payload) k _ _ (omega arith) small (sym h.entries_are ∙ parts) in
-    let whole : 268435456 + (k - 268435456) ≡ k = omega (arith, words.0) in (
-      omega (arith, words.0),
-      record {
-        parts = parts ∙ ap (λ (n : ℕ). word n ++ rest) (sym whole);
-        tag = refl;
-        number = omega (arith, words.0);
-        small = omega (arith, words.0);
-      },
-    )
-
 -- the keys of these pairs, with these values
 abbrev pub with_values : Pairs → Trees → Pairs
 with_values no_pairs ts = no_pairs
 with_values (pair k t ps) no_trees = no_pairs
 with_values (pair k t ps) (tree u ts) = pair k u (with_values ps ts)
 
-values_of : Pairs → Trees
+-- their values as children
+abbrev pub values_of : Pairs → Trees
 values_of no_pairs = no_trees
 values_of (pair k t ps) = tree t (values_of ps)
 
-Children-values_of : (ps : Pairs) (e p : List ℕ) → Values ps e p → Children (values_of ps) e p
-unfolding values_of
-Children-values_of no_pairs e p h = h
-Children-values_of (pair k t ps) e p h = record {
-  payload = h.payload;
-  other_entries = h.other_entries;
-  other_payloads = h.other_payloads;
-  entries_are = h.entries_are;
-  payloads_are = h.payloads_are;
-  short = h.short;
-  means = h.means;
-  others = Children-values_of ps h.other_entries h.other_payloads h.others;
-}
+pub Values-children : (ps : Pairs) → Values ps ≡ Children (values_of ps)
+Values-children no_pairs = refl
+Values-children (pair k t ps) = ap (One (type_of t) (Payload t)) (Values-children ps)
+
+pub children_of_values : (ps : Pairs) (e p : List ℕ) → Values ps e p → Children (values_of ps) e p
+children_of_values ps e p = subst (λ R. R e p) (Values-children ps)
 
 pub count-with_values : (ps : Pairs) (ts : Trees) → pair_count ps ≡ count ts → pair_count (with_values ps ts) ≡ count ts
 count-with_values no_pairs ts e = e
@@ -185,7 +161,6 @@ Values-with_values (pair k t ps) (tree u ts) e p n h = record {
 }
 
 depths-values_of : (ps : Pairs) → depths (values_of ps) ≡ pair_depths ps
-unfolding values_of
 depths-values_of no_pairs = refl
 depths-values_of (pair k t ps) = ap (λ (n : ℕ). max (depth t) n) (depths-values_of ps)
 
@@ -249,7 +224,7 @@ module _ (n : ℕ) (body ke ve p : List ℕ) (parts : body ≡ ke ++ (ve ++ p)) 
   object_onward d (ps, (w, h)) =
       let x = object_pairs ps h in
       let deep = depths-values_of ps in
-      (x.0, ((ps, (x.1.ascend, x.1.keys)), (values_of ps, (omega arith, Children-values_of ps ve x.0 x.1.values))))
+      (x.0, ((ps, (x.1.ascend, x.1.keys)), (values_of ps, (omega arith, children_of_values ps ve x.0 x.1.values))))
 
   pub object_back : (d : ℕ) → n < 2 ^ 29 → (q : List ℕ) → HasKeys None ke p q → HasChildren d ve q → HasObject d n body
   object_back d few q (ps, (a, (front, (split, h)))) (ts, (w, k)) =

@@ -9,7 +9,7 @@ use Rattle.jsonb_value.specs.Ast.{asts_view, ast_pairs_view}
 use Rattle.jsonb_value.specs.Value.{items_view, pairs_view}
 use Rattle.jsonb_codec.specs.Word.{word}
 use Rattle.jsonb_codec.specs.Doc.{type_of}
-use Rattle.jsonb_codec.specs.Canon.{FitsInside, FitsEntry, Fits, canon, payload_of, entries_of, payloads_of, key_entries, value_entries, key_payloads, value_payloads}
+use Rattle.jsonb_codec.specs.Canon.{document_of, FitsInside, FitsEntry, Fits, canon, payload_of, entries_of, payloads_of, key_entries, value_entries, key_payloads, value_payloads}
 use Rattle.jsonb_codec.proofs.Words.{length-word-append}
 
 pub count-items_view : (vs : List Value) → count (items_view vs) ≡ length vs
@@ -64,9 +64,12 @@ length-payload_of-object ps =
 ne-eqb : (a b : ℕ) → (a ≡ b → ⊥) → eqb a b ≡ false
 ne-eqb a b other = elim (eqb_tells a b) [ inl h ↦ absurd (other h.1) | inr h ↦ h.0 ]
 
+pub document_of-scalar : (ty : ℕ) (p : List ℕ) → (ty ≡ 1342177280 → ⊥) → document_of ty p ≡ word 536870912 ++ (word (ty + length p) ++ p)
+document_of-scalar ty p other = rw (ne-eqb ty 1342177280 other) refl
+
 -- a scalar's document, and a container's
 pub canon-scalar : (t : Tree) → (type_of t ≡ 1342177280 → ⊥) → canon t ≡ word 536870912 ++ (word (type_of t + length (payload_of t)) ++ payload_of t)
-canon-scalar t other = rw (ne-eqb (type_of t) 1342177280 other) refl
+canon-scalar t other = document_of-scalar (type_of t) (payload_of t) other
 
 pub canon-container : (t : Tree) → type_of t ≡ 1342177280 → canon t ≡ payload_of t
 canon-container t is = rw is refl

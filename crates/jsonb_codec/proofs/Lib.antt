@@ -7,12 +7,12 @@ pub mod Scalars
 mod TextDocuments
 pub mod Steps
 pub mod KeySteps
+pub mod PairLaws
 pub mod Lengths
 pub mod JEntryLaws
 pub mod DepthLaws
 pub mod CanonLaws
 pub mod CanonicalSteps
-pub mod CanonicalWhole
 pub mod Rewriting
 pub mod RereadLaws
 pub mod WellFormed

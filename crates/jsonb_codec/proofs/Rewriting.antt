@@ -1,5 +1,5 @@
 -- The children of a container, whether it is an array or an object, and how it is written as they are.
-use Rattle.std.proofs.Common.{◌≡◌, ◌↔◌, ◌≢◌, inl, inr, ◌<◌, ◌≤◌, ◌+◌, ◌-◌, ◌*◌, ◌%◌, ◌^◌, ℕ, List, ◌++◌, length, take, drop, true, false, refl, sym, ap, ap₂, subst, ◌∙◌, arith, length-append, append-nil, append_assoc, [], Option, Some, None, IfNone}
+use Rattle.std.proofs.Common.{◌≡◌, ◌↔◌, ◌<◌, ◌≤◌, ◌+◌, ◌-◌, ◌*◌, ◌%◌, ◌^◌, ℕ, List, ◌++◌, length, take, drop, true, false, refl, sym, ap, ap₂, subst, ◌∙◌, arith, length-append, append-nil, append_assoc, [], Option, Some, None, IfNone}
 use Rattle.std.specs.Global.{Vec}
 use Rattle.std.specs.Prelude.{Result, Ok, Err, IsErrAnd}
 use Rattle.jsonb_value.specs.declared.error.Error.{Error}
@@ -12,11 +12,10 @@ use Rattle.jsonb_value.specs.WellFormed.{IsTree}
 use Rattle.jsonb_value.proofs.KindLaws.{norm_tied}
 use Rattle.jsonb_value.proofs.ExtCodes.{front_of, back_of}
 use Rattle.jsonb_codec.specs.Word.{word}
-use Rattle.jsonb_codec.specs.Doc.{type_of, Doc, Keys, Values, Children, Payload}
-use Rattle.jsonb_codec.specs.Depth.{depth}
-use Rattle.jsonb_codec.specs.Parts.{IsPayloadOf}
+use Rattle.jsonb_codec.specs.Doc.{type_of, Doc, Keys, Children}
+use Rattle.jsonb_codec.specs.Parts.{IsPayloadOf, AreSomeChildren}
 use Rattle.jsonb_codec.specs.Canon.{canon, Fits, FitsInside, payload_of, entry_word, entries_of, payloads_of, key_entries, key_payloads, value_entries, value_payloads, FitsEntry, AllFit, PairsFit}
-use Rattle.jsonb_codec.specs.Canonical.{IsCanonical, AreSomeChildren}
+use Rattle.jsonb_codec.specs.Canonical.{IsCanonical}
 use Rattle.jsonb_codec.specs.Room.{HasRoom, Appended, Stands}
 use Rattle.jsonb_codec.specs.Rewriting.{FirstChild, Opened, LeavesTo}
 use Rattle.jsonb_codec.proofs.Words.{length-word-append, same_words}
@@ -24,32 +23,12 @@ use Rattle.jsonb_codec.proofs.Lengths.{length-entries_of}
 use Rattle.jsonb_codec.proofs.Standing.{Stands-first, Stands-more, Stands-next}
 use Rattle.jsonb_codec.proofs.Unique.{same_trees, Doc-unique}
 use Rattle.jsonb_codec.proofs.CanonLaws.{type_of-norm, count-norms, pair_count-norm_pairs, payload_of-norm, canon-norm, Doc-canon}
-use Rattle.jsonb_codec.proofs.Entries.{IsType, IsType-type_of, same_entry, length-Children, length-Keys, length-Values}
-use Rattle.jsonb_codec.proofs.Steps.{Read, no_container}
-
--- an object's values, and its keys as texts before other children
-abbrev values_of : Pairs → Trees
-values_of no_pairs = no_trees
-values_of (pair k t ps) = tree t (values_of ps)
-
-abbrev keys_and : Pairs → Trees → Trees
-keys_and no_pairs us = us
-keys_and (pair k t ps) us = tree (text k) (keys_and ps us)
+use Rattle.jsonb_codec.proofs.Entries.{length-Children, length-Keys, length-Values}
+use Rattle.jsonb_codec.proofs.Decision.{known_children}
+use Rattle.jsonb_codec.proofs.KeySteps.{values_of, children_of_values}
+use Rattle.jsonb_codec.proofs.PairLaws.{keys_and}
 
 -- they stand where the object's do
-Children-values_of : (ps : Pairs) (e p : List ℕ) → Values ps e p → Children (values_of ps) e p
-Children-values_of no_pairs e p h = h
-Children-values_of (pair k t ps) e p h = record {
-  payload = h.payload;
-  other_entries = h.other_entries;
-  other_payloads = h.other_payloads;
-  entries_are = h.entries_are;
-  payloads_are = h.payloads_are;
-  short = h.short;
-  means = h.means;
-  others = Children-values_of ps h.other_entries h.other_payloads h.others;
-}
-
 Children-keys_and : (ps : Pairs) (us : Trees) (ke kp e p : List ℕ) → Keys ps ke kp → Children us e p → Children (keys_and ps us) (ke ++ e) (kp ++ p)
 Children-keys_and no_pairs us ke kp e p k h =
     subst (λ x. Children us (x ++ e) (kp ++ p)) (sym k.no_entries) (subst (λ x. Children us e (x ++ p)) (sym k.no_payloads) h)
@@ -105,66 +84,68 @@ PairsFit-keys_and (pair k t ps) us h v = ((h.0.1, v.0), PairsFit-keys_and ps us 
 pub Children-unique : (ts us : Trees) (e p : List ℕ) → Children ts e p → Children us e p → ts ≡ us
 Children-unique ts us e p h k = (same_trees ts us e p p [] h k (sym (append-nil p))).0
 
-module _ (tag n : ℕ) (rest b : List ℕ) (parts : b ≡ word (tag + n) ++ rest) (high : tag % 2 ^ 29 ≡ 0) (number : n < 2 ^ 29) (small : tag + n < 2 ^ 32) where
-  -- A container whose header was read, and the m words behind it.
-  pub opened_as : (m : ℕ) → (tag ≡ 2147483648 → m ≡ n) → (tag ≡ 1073741824 → m ≡ 2 * n) → (t : Tree) → IsPayloadOf 1342177280 b t → Opened t (tag + n) (take (4 * m) rest) (drop (4 * m) rest)
-  opened_as m one two (array ts) (q, h) =
+module _ (tag n : ℕ) (rest b : List ℕ) (parts : b ≡ word (tag + n) ++ rest) (high : tag % 2 ^ 29 ≡ 0) (number : n < 2 ^ 29) (small : tag + n < 2 ^ 32) (m : ℕ) (one : tag ≡ 2147483648 → m ≡ n) (two : tag ≡ 1073741824 → m ≡ 2 * n) where
+  -- A container whose header was read, by the m words behind it and the payloads behind those.
+  record Cut (t : Tree) : Type 0 where
+    entries : List ℕ
+    payloads : List ℕ
+    body : rest ≡ entries ++ payloads
+    len : length entries ≡ 4 * m
+    parts_are : Opened t (tag + n) entries payloads
+
+  cut_at : (t : Tree) → IsPayloadOf 1342177280 b t → Cut t
+  cut_at (array ts) (q, h) =
       let few = h.behind.few in
       let words = same_words (2147483648 + count ts) (tag + n) _ _ (omega arith) small (sym h.parts ∙ parts) in
       let is : tag ≡ 2147483648 = omega (arith, words.0) in
       let e = h.behind.entries in
       let p = h.behind.payloads in
-      let body : rest ≡ e ++ p = sym words.1 ∙ h.behind.parts in
-      let len : length e ≡ 4 * m = omega (arith, length-Children ts e p h.behind.items, words.0, one is) in
       record {
-        children = ts;
-        are = subst (λ x. Children ts x (drop (4 * m) rest)) (sym (front_of (4 * m) e p rest body len)) (subst (Children ts e) (sym (back_of (4 * m) e p rest body len)) h.behind.items);
-        fit = (λ a. (few, a), λ f. f.1);
-        written = ap (λ (k : ℕ). word k ++ (entries_of ts ++ payloads_of ts)) words.0;
+        entries = e;
+        payloads = p;
+        body = sym words.1 ∙ h.behind.parts;
+        len = omega (arith, length-Children ts e p h.behind.items, words.0, one is);
+        parts_are = record {
+          children = ts;
+          are = h.behind.items;
+          fit = (λ a. (few, a), λ f. f.1);
+          written = ap (λ (k : ℕ). word k ++ (entries_of ts ++ payloads_of ts)) words.0;
+        };
       }
-  opened_as m one two (object ps) (q, (ascend, h)) =
+  cut_at (object ps) (q, (ascend, h)) =
       let few = h.behind.few in
       let words = same_words (1073741824 + pair_count ps) (tag + n) _ _ (omega arith) small (sym h.parts ∙ parts) in
       let is : tag ≡ 1073741824 = omega (arith, words.0) in
       let k = h.behind in
-      let e = k.key_entries ++ k.value_entries in
-      let p = k.key_payloads ++ k.value_payloads in
       let us = values_of ps in
-      let body : rest ≡ e ++ p = sym words.1 ∙ k.parts ∙ sym (append_assoc k.key_entries k.value_entries p) in
-      let len : length e ≡ 4 * m = omega (arith, length-append k.key_entries k.value_entries, length-Keys ps k.key_entries k.key_payloads k.keys, length-Values ps k.value_entries k.value_payloads k.values, words.0, two is) in
-      let items : Children (keys_and ps us) e p = Children-keys_and ps us k.key_entries k.key_payloads k.value_entries k.value_payloads k.keys (Children-values_of ps k.value_entries k.value_payloads k.values) in
       let es : entries_of (keys_and ps us) ≡ key_entries ps ++ value_entries ps = entries_of-keys_and ps us ∙ ap (λ (x : List ℕ). key_entries ps ++ x) (entries_of-values_of ps) in
       let qs : payloads_of (keys_and ps us) ≡ key_payloads ps ++ value_payloads ps = payloads_of-keys_and ps us ∙ ap (λ (x : List ℕ). key_payloads ps ++ x) (payloads_of-values_of ps) in
       record {
-        children = keys_and ps us;
-        are = subst (λ x. Children (keys_and ps us) x (drop (4 * m) rest)) (sym (front_of (4 * m) e p rest body len)) (subst (Children (keys_and ps us) e) (sym (back_of (4 * m) e p rest body len)) items);
-        fit = (λ a. (few, PairsFit-keys_and ps us a (AllFit-behind ps us a)), λ f. AllFit-keys_and ps us f.1 (AllFit-values_of ps f.1));
-        written =
-            ap₂ (λ (j : ℕ) (x : List ℕ). word j ++ x) words.0
-            (sym (append_assoc (key_entries ps) (value_entries ps) (key_payloads ps ++ value_payloads ps)) ∙ ap₂ (λ (x y : List ℕ). x ++ y) (sym es) (sym qs));
+        entries = k.key_entries ++ k.value_entries;
+        payloads = k.key_payloads ++ k.value_payloads;
+        body = sym words.1 ∙ k.parts ∙ sym (append_assoc k.key_entries k.value_entries (k.key_payloads ++ k.value_payloads));
+        len = omega (arith, length-append k.key_entries k.value_entries, length-Keys ps k.key_entries k.key_payloads k.keys, length-Values ps k.value_entries k.value_payloads k.values, words.0, two is);
+        parts_are = record {
+          children = keys_and ps us;
+          are = Children-keys_and ps us k.key_entries k.key_payloads k.value_entries k.value_payloads k.keys (children_of_values ps k.value_entries k.value_payloads k.values);
+          fit = (λ a. (few, PairsFit-keys_and ps us a (AllFit-behind ps us a)), λ f. AllFit-keys_and ps us f.1 (AllFit-values_of ps f.1));
+          written =
+              ap₂ (λ (j : ℕ) (x : List ℕ). word j ++ x) words.0
+              (sym (append_assoc (key_entries ps) (value_entries ps) (key_payloads ps ++ value_payloads ps)) ∙ ap₂ (λ (x y : List ℕ). x ++ y) (sym es) (sym qs));
+        };
       }
-  opened_as m one two (boolean true) (q, h) = absurd (omega arith)
-  opened_as m one two (boolean false) (q, h) = absurd (omega arith)
-  opened_as m one two t (q, h) = absurd (omega arith)
+  cut_at (boolean true) (q, h) = absurd (omega arith)
+  cut_at (boolean false) (q, h) = absurd (omega arith)
+  cut_at t (q, h) = absurd (omega arith)
 
-  -- A document of another header is one container,
-  pub document_whole : tag ≢ 536870912 → (t : Tree) → Doc b t → IsPayloadOf 1342177280 b t
-  document_whole other t (inr h) = h
-  document_whole other t (inl (q, h)) =
-      let words = same_words 536870912 (tag + n) _ _ (omega arith) small (sym h.parts ∙ parts) in
-      absurd (other (omega (arith, words.0)))
+  pub opened_room : (t : Tree) → IsPayloadOf 1342177280 b t → 4 * m ≤ length rest
+  opened_room t is = let k = cut_at t is in omega (arith, ap length k.body ∙ length-append k.entries k.payloads, k.len)
 
-  -- and of a scalar's it is the entry behind it.
-  pub document_part : tag ≡ 536870912 → (ty k : ℕ) (p : List ℕ) → Read ty k p rest → (t : Tree) → Doc b t → IsPayloadOf ty p t
-  document_part is ty k p read t (inr (q, h)) = absurd (no_container tag n rest b parts high number small (omega arith) (omega arith) (depth t) (t, (omega arith, (q, h))))
-  document_part is ty k p read t (inl (q, h)) =
-      let words = same_words 536870912 (tag + n) _ _ (omega arith) small (sym h.parts ∙ parts) in
-      let short = h.short in
-      let ht = IsType-type_of t in
-      let hu : IsType ty = record { high = read.tag; room = omega (arith, read.tag, read.small) } in
-      let inner = same_words (type_of t + length h.payload) (ty + k) _ _ (omega (arith, ht.room)) read.small (words.1 ∙ read.parts) in
-      let entry = same_entry (type_of t) ty (length h.payload) k ht hu short read.number inner.0 in
-      (entry.0, subst (Payload t) inner.1 h.means)
+  pub opened_as : (front back : List ℕ) → front ≡ take (4 * m) rest → back ≡ drop (4 * m) rest → (t : Tree) → IsPayloadOf 1342177280 b t → Opened t (tag + n) front back
+  opened_as front back is_front is_back t is =
+      let k = cut_at t is in
+      subst (λ e. Opened t (tag + n) e back) (sym (is_front ∙ front_of (4 * m) k.entries k.payloads rest k.body k.len))
+      (subst (Opened t (tag + n) k.entries) (sym (is_back ∙ back_of (4 * m) k.entries k.payloads rest k.body k.len)) k.parts_are)
 
 -- ---- children, gone through one after another
 
@@ -188,8 +169,9 @@ pub record Measured (all_entries all_payloads : List ℕ) (total : ℕ) (entries
   pub back : AllFit left → AllFit all
   pub sum : total + length (payloads_of left) ≡ length (payloads_of all)
 
-pub measured_start : (e p : List ℕ) → AreSomeChildren e p → Measured e p 0 e p
-measured_start e p (ts, h) = record { all = ts; are_all = h; left = ts; are_left = h; onward = λ f. f; back = λ f. f; sum = omega arith }
+pub measured_start : (e p : List ℕ) → ∥ AreSomeChildren e p ∥₁ → Measured e p 0 e p
+measured_start e p some =
+    let (ts, h) = known_children e p some in record { all = ts; are_all = h; left = ts; are_left = h; onward = λ f. f; back = λ f. f; sum = omega arith }
 
 module _ (ae ap_all : List ℕ) (total : ℕ) (e p : List ℕ) (m : Measured ae ap_all total e p) (ty : ℕ) (q e2 p2 : List ℕ) (f : FirstChild m.left ty q e2 p2) where
   measured_fit : AllFit m.left → FitsEntry f.first × AllFit f.others

@@ -27,19 +27,19 @@ true_behind (boolean true) p e h = h
 true_behind (boolean false) p e h = absurd (omega arith)
 true_behind t p e h = absurd (omega arith)
 
-text_behind : (t : Tree) (p : List ℕ) → type_of t ≡ 268435456 → Payload t p → IsUtf8 p
+pub text_behind : (t : Tree) (p : List ℕ) → type_of t ≡ 268435456 → Payload t p → IsUtf8 p
 text_behind (text s) p e h = rw h.0 h.1
 text_behind (boolean true) p e h = absurd (omega arith)
 text_behind (boolean false) p e h = absurd (omega arith)
 text_behind t p e h = absurd (omega arith)
 
-number_behind : (t : Tree) (p : List ℕ) → type_of t ≡ 536870912 → Payload t p → (x : Number) × NumCode p x
+pub number_behind : (t : Tree) (p : List ℕ) → type_of t ≡ 536870912 → Payload t p → (x : Number) × NumCode p x
 number_behind (number x) p e h = (x, h)
 number_behind (boolean true) p e h = absurd (omega arith)
 number_behind (boolean false) p e h = absurd (omega arith)
 number_behind t p e h = absurd (omega arith)
 
-extension_behind : (t : Tree) (p : List ℕ) → type_of t ≡ 1610612736 → Payload t p → (x : Extension) × ExtCode p x
+pub extension_behind : (t : Tree) (p : List ℕ) → type_of t ≡ 1610612736 → Payload t p → (x : Extension) × ExtCode p x
 extension_behind (extension x) p e h = (x, h)
 extension_behind (boolean true) p e h = absurd (omega arith)
 extension_behind (boolean false) p e h = absurd (omega arith)

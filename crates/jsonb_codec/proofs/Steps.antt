@@ -4,12 +4,15 @@ use Rattle.std.proofs.lemmas.List.{take-append-drop, length-take-le, take_all}
 use Rattle.jsonb_value.specs.Tree.{Tree, null, boolean, number, text, extension, array, object, Trees, no_trees, tree, Pairs, count, pair_count}
 use Rattle.jsonb_value.proofs.ExtCodes.{front_of, back_of}
 use Rattle.jsonb_codec.specs.Word.{word}
+use Rattle.jsonb_codec.specs.Canon.{document_of}
 use Rattle.jsonb_codec.specs.Doc.{IsDocument, Doc, type_of, NoMore, One, Body, PairsBody, Keys, Values, Children, Payload, Scalar}
 use Rattle.jsonb_codec.specs.Depth.{depth, IsDocumentWithin}
 use Rattle.jsonb_codec.specs.Parts.{IsPayloadOf, IsArray, IsObject, HasPayload, HasScalar, HasChildren, HasArray, HasObject}
+use Rattle.jsonb_codec.specs.Rewriting.{FirstChild}
 use Rattle.jsonb_codec.proofs.Words.{same_words, same_parts, length-word-append}
 use Rattle.jsonb_codec.proofs.Entries.{IsType, IsType-type_of, same_entry, length-One, length-Children}
 use Rattle.jsonb_codec.proofs.DepthLaws.{Doc-depth}
+use Rattle.jsonb_codec.proofs.Lengths.{document_of-scalar}
 
 -- the entry word at the front, as it was read
 pub record Read (ty n : ℕ) (rest e : List ℕ) : Type 0 where
@@ -24,15 +27,6 @@ pub record Front (u ty n : ℕ) (Means : List ℕ → Type 0) (Others : List ℕ
   pub fits : n ≤ length p
   pub means : Means (take n p)
   pub others : Others rest (drop n p)
-
--- and of a list of children
-pub record FirstTree (ty n : ℕ) (rest p : List ℕ) (ts : Trees) : Type 0 where
-  pub first : Tree
-  pub others : Trees
-  pub are : ts ≡ tree first others
-  pub fits : n ≤ length p
-  pub is : IsPayloadOf ty (take n p) first
-  pub behind : Children others rest (drop n p)
 
 module _ (ty n : ℕ) (rest e p : List ℕ) (read : Read ty n rest e) where
   pub front_one : (u : ℕ) (M : List ℕ → Type 0) (O : List ℕ → List ℕ → Type 0) → IsType u → (h : One u M O e p) → Front u ty n M O rest p
@@ -68,11 +62,16 @@ module _ (ty n : ℕ) (rest e p : List ℕ) (read : Read ty n rest e) where
   pub not_at_end : NoMore e p → ⊥
   not_at_end h = let z = ap length h.no_entries in let m = ap length read.parts ∙ length-word-append (ty + n) rest in omega arith
 
-  pub first_tree : (ts : Trees) → Children ts e p → FirstTree ty n rest p ts
-  first_tree no_trees h = absurd (not_at_end h)
-  first_tree (tree t ts) h =
+  -- the first of children, by a cut of the payloads
+  pub first_child : (front back : List ℕ) → front ≡ take n p → back ≡ drop n p → (ts : Trees) → Children ts e p → FirstChild ts ty front rest back
+  first_child front back is_front is_back no_trees h = absurd (not_at_end h)
+  first_child front back is_front is_back (tree t ts) h =
       let f = front_one (type_of t) (Payload t) (Children ts) (IsType-type_of t) h in
-      record { first = t; others = ts; are = refl; fits = f.fits; is = (f.type, f.means); behind = f.others }
+      record { first = t; others = ts; are = refl; is = (f.type, subst (Payload t) (sym is_front) f.means); behind = subst (Children ts rest) (sym is_back) f.others }
+
+  pub first_fits : (ts : Trees) → Children ts e p → n ≤ length p
+  first_fits no_trees h = absurd (not_at_end h)
+  first_fits (tree t ts) h = (front_one (type_of t) (Payload t) (Children ts) (IsType-type_of t) h).fits
 
   pub children_onward : (d : ℕ) → HasChildren d e p → HasPayload d ty (take n p) × HasChildren d rest (drop n p)
   children_onward d (no_trees, (w, h)) = absurd (not_at_end h)
@@ -299,3 +298,10 @@ module _ (tag n : ℕ) (rest b : List ℕ) (parts : b ≡ word (tag + n) ++ rest
   pub document_container : tag ≢ 536870912 → (t : Tree) → Doc b t → IsPayloadOf 1342177280 b t
   document_container other t (inl (q, h)) = absurd (no_scalar tag n rest b parts high few small other t h)
   document_container other t (inr h) = h
+
+-- and a scalar's entry word is that of its payload
+pub scalar_document_of : (tag n : ℕ) (rest b : List ℕ) (ty k : ℕ) (p : List ℕ) → tag ≡ 536870912 → n ≡ 0 → ty ≢ 1342177280 → k ≡ length p → b ≡ word (tag + n) ++ rest → Read ty k p rest → document_of ty p ≡ b
+scalar_document_of tag n rest b ty k p is none other long parts read =
+    let words = ap₂ (λ (i j : ℕ). word (i + j)) (sym is) (sym none) in
+    let inner = ap (λ (m : ℕ). word (ty + m) ++ p) (sym long) ∙ sym read.parts in
+    document_of-scalar ty p other ∙ ap₂ (λ (x y : List ℕ). x ++ y) words inner ∙ sym parts

@@ -47,9 +47,13 @@ abbrev mutual
 abbrev pub entry_word : Tree → List ℕ
 entry_word t = word (type_of t + length (payload_of t))
 
+-- the document of an entry of that type: a container's payload, or the scalar behind its header
+abbrev pub document_of : ℕ → List ℕ → List ℕ
+document_of type p = if type == CONTAINER_TAG then p else word SCALAR_CONTAINER_TAG ++ (word (type + length p) ++ p)
+
 -- the canonical document
 abbrev pub canon : Tree → List ℕ
-canon t = if type_of t == CONTAINER_TAG then payload_of t else word SCALAR_CONTAINER_TAG ++ (word (type_of t + length (payload_of t)) ++ payload_of t)
+canon t = document_of (type_of t) (payload_of t)
 
 abbrev mutual
   -- No count and no payload inside the tree is past its limit.

@@ -3,6 +3,7 @@ pub mod JEntry
 pub mod Doc
 pub mod Fault
 pub mod Parts
+pub mod DocumentBytes
 pub mod Decoder
 pub mod Canon
 pub mod Canonical

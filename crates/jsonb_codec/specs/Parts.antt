@@ -33,6 +33,20 @@ IsArray n body ts = (count ts ≡ n) × Body n (Children ts) body
 abbrev pub IsObject : ℕ → List ℕ → Pairs → Type 0
 IsObject n body ps = (pair_count ps ≡ n) × (Ascend ps × PairsBody n (Keys ps) (Values ps) body)
 
+-- They are the entry words and payloads of keys, which ascend, and of their values.
+abbrev pub ArePairsOf : Pairs → List ℕ → List ℕ → List ℕ → List ℕ → Type 0
+ArePairsOf ps key_entries keys value_entries values = Ascend ps × (Keys ps key_entries keys × Values ps value_entries values)
+
+-- What a part, children and members of a document keep: the bytes mean some tree, trees or pairs.
+abbrev pub IsSomePayload : ℕ → List ℕ → Type 0
+IsSomePayload type p = (t : Tree) × IsPayloadOf type p t
+
+abbrev pub AreSomeChildren : List ℕ → List ℕ → Type 0
+AreSomeChildren entries payloads = (ts : Trees) × Children ts entries payloads
+
+abbrev pub AreSomeMembers : List ℕ → List ℕ → List ℕ → List ℕ → Type 0
+AreSomeMembers key_entries keys value_entries values = (ps : Pairs) × ArePairsOf ps key_entries keys value_entries values
+
 -- Entry words and payloads of keys, and behind the payloads q.
 abbrev pub KeysThen : Pairs → List ℕ → List ℕ → List ℕ → Type 0
 KeysThen ps entries payloads q = (front : List ℕ) × ((payloads ≡ front ++ q) × Keys ps entries front)

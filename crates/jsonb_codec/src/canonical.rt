@@ -3,11 +3,15 @@
 mod rewrite;
 
 ghost use Rattle.std.specs.Prelude.{◌↔◌, IsTrue};
-ghost use Rattle.jsonb_codec.specs.Canonical.{IsCanonical, IsSomePayload, AreSomeChildren, IsWritten, AreWritten};
+ghost use Rattle.jsonb_value.specs.Tree.{Tree, Trees, number, extension};
+ghost use Rattle.jsonb_value.specs.ExtCode.{extension_of};
+ghost use Rattle.jsonb_codec.specs.Canonical.{IsCanonical, IsWritten, AreWritten};
+ghost use Rattle.jsonb_codec.specs.Doc.{Payload};
+ghost use Rattle.jsonb_codec.specs.Contents.{Means, AreChildren};
 
 use crate::constants::{CONTAINER_TAG, EXTENSION_TAG, NUMBER_TAG};
-use crate::document::is_document;
-use crate::parts::{Part, split_child, split_container, split_document};
+use crate::document::DocumentBytes;
+use crate::parts::{Children, Part};
 use jsonb_value::{ExtensionValue, Number};
 pub use rewrite::append_canonical;
 
@@ -17,68 +21,53 @@ pub use rewrite::append_canonical;
 pub fn is_canonical(bytes: &[u8]) -> bool
     ensures { IsTrue result ↔ IsCanonical bytes.now }
 {
-    is_document(bytes) && is_written(split_document(bytes))
+    match DocumentBytes::new(bytes) {
+        Some(document) => is_written(document.part()),
+        None => false,
+    }
 }
 
 // Whether each payload is as it is written.
 #[cycle(written)]
 fn is_written(part: Part<'_>) -> bool
-    requires { IsSomePayload part.tag part.payload.now }
-    ensures { IsTrue result ↔ IsWritten part.entry.tag part.entry.payload.now }
+    ensures { (t : Tree) → Means part.entry t
+        → IsTrue result ↔ IsWritten t part.entry.payload.now }
 {
     match part.tag {
-        NUMBER_TAG => is_written_number(part.payload),
-        EXTENSION_TAG => is_written_extension(part.payload),
-        CONTAINER_TAG => is_written_container(part.payload),
+        NUMBER_TAG => is_written_number(part.payload, part.number()),
+        EXTENSION_TAG => is_written_extension(part.payload, part.extension()),
+        CONTAINER_TAG => are_written(part.container().children),
         _ => true,
     }
 }
 
 // Only the form that is written is as long as that form.
-fn is_written_number(payload: &[u8]) -> bool
-    requires { IsSomePayload NUMBER_TAG payload.now }
-    ensures { IsTrue result ↔ IsWritten NUMBER_TAG payload.now }
+fn is_written_number(payload: &[u8], value: Number) -> bool
+    ensures { Payload (number value) payload.now
+        → IsTrue result ↔ IsWritten (number value) payload.now }
 {
-    match Number::decode(payload) {
-        Ok(number) => payload.len() == number.compact_len(),
-        Err(_) => false,
-    }
+    payload.len() == value.compact_len()
 }
 
-fn is_written_extension(payload: &[u8]) -> bool
-    requires { IsSomePayload EXTENSION_TAG payload.now }
-    ensures { IsTrue result ↔ IsWritten EXTENSION_TAG payload.now }
+fn is_written_extension(payload: &[u8], value: ExtensionValue) -> bool
+    ensures { Payload (extension (extension_of value.entry)) payload.now
+        → IsTrue result ↔ IsWritten (extension (extension_of value.entry)) payload.now }
 {
-    match ExtensionValue::decode(payload) {
-        Ok(value) => payload.len() == value.compact_len(),
-        Err(_) => false,
-    }
-}
-
-// A whole array or object.
-#[cycle(written)]
-fn is_written_container(bytes: &[u8]) -> bool
-    requires { IsSomePayload CONTAINER_TAG bytes.now }
-    ensures { IsTrue result ↔ IsWritten CONTAINER_TAG bytes.now }
-{
-    let container = split_container(bytes);
-    are_written(container.entries, container.payloads)
+    payload.len() == value.compact_len()
 }
 
 // The children of a container, an object's keys and then its values.
 #[cycle(written)]
-fn are_written(entries: &[u8], payloads: &[u8]) -> bool
-    requires { AreSomeChildren entries.now payloads.now }
-    ensures { IsTrue result ↔ AreWritten entries.now payloads.now }
+fn are_written(children: Children<'_>) -> bool
+    ensures { (ts : Trees) → AreChildren ts children.entry
+        → IsTrue result ↔ AreWritten ts children.entry.entries.now children.entry.payloads.now }
 {
-    let mut entries_left = entries;
-    let mut payloads_left = payloads;
-    while let Some(child) = split_child(entries_left, payloads_left) {
+    let mut left = children;
+    while let Some(child) = left.split_first() {
         if !is_written(child.part) {
             return false;
         }
-        entries_left = child.entries;
-        payloads_left = child.payloads;
+        left = child.behind;
     }
     true
 }

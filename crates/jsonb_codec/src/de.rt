@@ -4,20 +4,17 @@ ghost use Rattle.std.specs.Prelude.{◌≡◌, ◌≢◌, ◌⊎◌, ◌++◌, �
 ghost use Rattle.std.specs.BTreeMap.{insert_entry};
 ghost use Rattle.jsonb_value.specs.declared.value.Value.{Value};
 ghost use Rattle.jsonb_value.specs.ExtCode.{extension_of};
-ghost use Rattle.jsonb_value.specs.Tree.{Tree, Trees, Pairs, Ascend, extension};
+ghost use Rattle.jsonb_value.specs.Tree.{Tree, Trees, Pairs, extension};
 ghost use Rattle.jsonb_value.specs.Value.{tree_of, items_view, pairs_view};
 ghost use Rattle.jsonb_codec.specs.Doc.{Doc, IsDocument};
 ghost use Rattle.jsonb_codec.specs.Fault.{IsTreeFault, IsDecoderFault};
-ghost use Rattle.jsonb_codec.specs.Parts.{IsFault, IsPayloadOf};
-ghost use Rattle.jsonb_codec.specs.Canonical.{IsSomePayload, AreSomeChildren};
-ghost use Rattle.jsonb_codec.specs.Contents.{AreItems, AreMembers};
+ghost use Rattle.jsonb_codec.specs.Parts.{IsFault};
+ghost use Rattle.jsonb_codec.specs.Contents.{Means, AreChildren, AreMembers};
+ghost use Rattle.jsonb_codec.specs.DocumentBytes.{bytes_of};
 
 use crate::constants::{CONTAINER_TAG, FALSE_TAG, NULL_TAG, NUMBER_TAG, STRING_TAG, TRUE_TAG};
-use crate::document::{FaultTable, check};
-use crate::parts::{
-    Contents, Items, Members, Part, extension_in, number_in, split_child, split_contents,
-    split_document, split_member, text_in,
-};
+use crate::document::{DocumentBytes, FaultTable, check};
+use crate::parts::{Children, Contents, Members, Part};
 use jsonb_value::{Error, ExtensionValue, Object, Value};
 use std::alloc::Global;
 use std::borrow::CowStr;
@@ -81,25 +78,24 @@ impl<'a> Decoder<'a> {
 // The value of a document, or the first fault by that table.
 fn read<'a>(alloc: Global, faults: FaultTable, bytes: &'a [u8]) -> Result<Value<'a>, Error>
     ensures ok { IfOk result (λ v. Doc bytes.now (tree_of v)) }
+    ensures one_tree { IfOk result (λ v. (t : Tree) → Doc bytes.now t → tree_of v ≡ t) }
     ensures fault { IfErr result
         (λ e. (e ≡ Error.OutOfMemory) ⊎ (IsFault faults e × (IsDocument bytes.now → ⊥))) }
     ensures memory { IfErr result (λ e. e ≡ Error.OutOfMemory → IsDocument bytes.now) }
 {
-    check(faults, bytes.len(), bytes)?;
-    build(alloc, bytes)
+    build(alloc, check(faults, bytes.len(), bytes)?)
 }
 
 // The value of a document.
-fn build<'a>(alloc: Global, bytes: &'a [u8]) -> Result<Value<'a>, Error>
-    requires { IsDocument bytes.now }
-    ensures ok { IfOk result (λ v. Doc bytes.now (tree_of v)) }
+fn build<'a>(alloc: Global, document: DocumentBytes<'a>) -> Result<Value<'a>, Error>
+    ensures ok { IfOk result (λ v. (t : Tree) → Doc (bytes_of document.entry) t → tree_of v ≡ t) }
     ensures memory { IfErr result (λ e. e ≡ Error.OutOfMemory) }
 {
-    let whole = split_document(bytes);
+    let whole = document.part();
     if whole.tag == CONTAINER_TAG {
-        build_container(alloc, whole.payload)
+        build_container(alloc, whole)
     } else {
-        Ok(build_scalar(whole.tag, whole.payload))
+        Ok(build_scalar(whole))
     }
 }
 
@@ -108,15 +104,14 @@ fn build<'a>(alloc: Global, bytes: &'a [u8]) -> Result<Value<'a>, Error>
 #[cycle(value)]
 #[inline(always)]
 fn push_part<'a>(alloc: Global, items: &mut Vec<Value<'a>>, part: Part<'a>) -> Result<(), Error>
-    requires { IsSomePayload part.tag part.payload.now }
     ensures ok { OnOk result ((v : Value) × ((items.new.items ≡ items.old.items ++ v ∷ [])
-        × ((t : Tree) → IsPayloadOf part.entry.tag part.entry.payload.now t → tree_of v ≡ t))) }
+        × ((t : Tree) → Means part.entry t → tree_of v ≡ t))) }
     ensures memory { IfErr result (λ e. e ≡ Error.OutOfMemory) }
 {
     if part.tag == CONTAINER_TAG {
-        items.push(build_container(alloc, part.payload)?)?;
+        items.push(build_container(alloc, part)?)?;
     } else {
-        items.push(build_scalar(part.tag, part.payload))?;
+        items.push(build_scalar(part))?;
     }
     Ok(())
 }
@@ -130,16 +125,15 @@ fn insert_part<'a>(
     key: String,
     part: Part<'a>,
 ) -> Result<(), Error>
-    requires { IsSomePayload part.tag part.payload.now }
     ensures ok { OnOk result ((v : Value)
         × ((members.new.entries ≡ insert_entry string_cmp members.old.entries key v)
-        × ((t : Tree) → IsPayloadOf part.entry.tag part.entry.payload.now t → tree_of v ≡ t))) }
+        × ((t : Tree) → Means part.entry t → tree_of v ≡ t))) }
     ensures memory { IfErr result (λ e. e ≡ Error.OutOfMemory) }
 {
     let value = if part.tag == CONTAINER_TAG {
-        build_container(alloc, part.payload)?
+        build_container(alloc, part)?
     } else {
-        build_scalar(part.tag, part.payload)
+        build_scalar(part)
     };
     insert_member(members, key, value)
 }
@@ -158,12 +152,12 @@ fn insert_member<'a>(members: &mut Object<'a>, key: String, value: Value<'a>) ->
 
 // The value of a whole array or object.
 #[cycle(value)]
-fn build_container<'a>(alloc: Global, bytes: &'a [u8]) -> Result<Value<'a>, Error>
-    requires { IsSomePayload CONTAINER_TAG bytes.now }
-    ensures ok { IfOk result (λ v. (t : Tree) → IsPayloadOf CONTAINER_TAG bytes.now t → tree_of v ≡ t) }
+fn build_container<'a>(alloc: Global, part: Part<'a>) -> Result<Value<'a>, Error>
+    requires { part.tag ≡ CONTAINER_TAG }
+    ensures ok { IfOk result (λ v. (t : Tree) → Means part.entry t → tree_of v ≡ t) }
     ensures memory { IfErr result (λ e. e ≡ Error.OutOfMemory) }
 {
-    match split_contents(bytes) {
+    match part.contents() {
         Contents::Array(items) => Ok(Value::Array(build_items(alloc, items)?)),
         Contents::Object(members) => Ok(Value::Object(build_members(alloc, members)?)),
     }
@@ -171,19 +165,16 @@ fn build_container<'a>(alloc: Global, bytes: &'a [u8]) -> Result<Value<'a>, Erro
 
 // The items of an array.
 #[cycle(value)]
-fn build_items<'a>(alloc: Global, items: Items<'a>) -> Result<Vec<Value<'a>>, Error>
-    requires { AreSomeChildren items.entries.now items.payloads.now }
-    ensures ok { IfOk result (λ v. (ts : Trees) → AreItems ts items.entry → items_view v.items ≡ ts) }
+fn build_items<'a>(alloc: Global, items: Children<'a>) -> Result<Vec<Value<'a>>, Error>
+    ensures ok { IfOk result (λ v. (ts : Trees) → AreChildren ts items.entry
+        → items_view v.items ≡ ts) }
     ensures memory { IfErr result (λ e. e ≡ Error.OutOfMemory) }
 {
     let mut left = items;
     let mut built = Vec::with_capacity(alloc, items.entries.len() / 4)?;
-    while let Some(child) = split_child(left.entries, left.payloads) {
+    while let Some(child) = left.split_first() {
         push_part(alloc, &mut built, child.part)?;
-        left = Items {
-            entries: child.entries,
-            payloads: child.payloads,
-        };
+        left = child.behind;
     }
     Ok(built)
 }
@@ -191,14 +182,13 @@ fn build_items<'a>(alloc: Global, items: Items<'a>) -> Result<Vec<Value<'a>>, Er
 // The members of an object. Their keys ascend, so each is put behind those before it.
 #[cycle(value)]
 fn build_members<'a>(alloc: Global, members: Members<'a>) -> Result<Object<'a>, Error>
-    requires { (ps : Pairs) × AreMembers ps members }
-    ensures ok { IfOk result (λ m. (ps : Pairs) → Ascend ps → AreMembers ps members.entry
+    ensures ok { IfOk result (λ m. (ps : Pairs) → AreMembers ps members.entry
         → pairs_view m.entries ≡ ps) }
     ensures memory { IfErr result (λ e. e ≡ Error.OutOfMemory) }
 {
     let mut left = members;
     let mut built = BTreeMap::new(alloc);
-    while let Some(member) = split_member(left) {
+    while let Some(member) = left.split_first() {
         let key = String::from_str(alloc, member.key)?;
         insert_part(alloc, &mut built, key, member.value)?;
         left = member.behind;
@@ -208,18 +198,17 @@ fn build_members<'a>(alloc: Global, members: Members<'a>) -> Result<Object<'a>, 
 
 // The value of a payload that is no container.
 #[inline(always)]
-fn build_scalar<'a>(tag: u32, payload: &'a [u8]) -> Value<'a>
-    requires scalar { tag ≢ CONTAINER_TAG }
-    requires some { IsSomePayload tag payload.now }
-    ensures { (t : Tree) → IsPayloadOf tag payload.now t → tree_of result ≡ t }
+fn build_scalar<'a>(part: Part<'a>) -> Value<'a>
+    requires { part.tag ≢ CONTAINER_TAG }
+    ensures { (t : Tree) → Means part.entry t → tree_of result ≡ t }
 {
-    match tag {
+    match part.tag {
         NULL_TAG => Value::Null,
         FALSE_TAG => Value::Bool(false),
         TRUE_TAG => Value::Bool(true),
-        STRING_TAG => Value::String(CowStr::Borrowed(text_in(payload))),
-        NUMBER_TAG => Value::Number(number_in(payload)),
-        _ => value_of_extension(extension_in(payload)),
+        STRING_TAG => Value::String(CowStr::Borrowed(part.text())),
+        NUMBER_TAG => Value::Number(part.number()),
+        _ => value_of_extension(part.extension()),
     }
 }
 

@@ -16,6 +16,7 @@ use crate::constants::{
     ARRAY_CONTAINER_TAG, CONTAINER_TAG, EXTENSION_TAG, FALSE_TAG, NULL_TAG, NUMBER_TAG,
     OBJECT_CONTAINER_TAG, SCALAR_CONTAINER_TAG, STRING_TAG, TRUE_TAG,
 };
+use crate::parts::Part;
 use crate::word::{Tagged, split_entry, split_header, split_word};
 use jsonb_value::{Error, ExtensionValue, Number};
 use std::cmp::Ordering;
@@ -163,10 +164,108 @@ impl FaultTable {
     }
 }
 
-/// Goes through the bytes once, and answers the first fault by that table. A container more than
-/// `depth` deep is a fault, and is not looked into.
+/// The bytes of a document. Only a check makes them, so nothing that is asked of them checks again.
+#[derive(Clone, Copy, Debug)]
+pub struct DocumentBytes<'a> {
+    bytes: &'a [u8],
+    ghost known: { ∥ IsDocument bytes.now ∥₁ },
+}
+
+impl<'a> DocumentBytes<'a> {
+    ghost use Rattle.std.specs.Prelude.{◌≡◌, ◌↔◌, ◌<◌, ◌^◌, length, IsSome, IfSome};
+    ghost use Rattle.jsonb_value.specs.Tree.{Tree};
+    ghost use Rattle.jsonb_codec.specs.Canon.{document_of};
+    ghost use Rattle.jsonb_codec.specs.Contents.{Means};
+    ghost use Rattle.jsonb_codec.specs.Depth.{IsDocumentWithin};
+    ghost use Rattle.jsonb_codec.specs.Doc.{Doc, IsDocument};
+    ghost use Rattle.jsonb_codec.specs.DocumentBytes.{bytes_of};
+
+    /// The bytes as those of a document. `None` where they are none.
+    #[inline(always)]
+    pub fn new(bytes: &'a [u8]) -> Option<Self>
+        ensures known { IsSome result ↔ IsDocument bytes.entry.now }
+        ensures bytes { IfSome result (λ d. bytes_of d ≡ bytes.entry.now) }
+    {
+        // No document nests as deep as it has bytes.
+        DocumentBytes::within(bytes, bytes.len())
+    }
+
+    /// The bytes as those of a document that nests at most that deep: a scalar has depth 0, an
+    /// array or object 1 where it is empty, and otherwise one more than its deepest child. `None`
+    /// where they are none. What nests deeper is not looked into.
+    #[inline(always)]
+    pub fn within(bytes: &'a [u8], depth: usize) -> Option<Self>
+        ensures known { IsSome result ↔ IsDocumentWithin depth bytes.entry.now }
+        ensures bytes { IfSome result (λ d. bytes_of d ≡ bytes.entry.now) }
+    {
+        check(FaultTable::Tree, depth, bytes).ok()
+    }
+
+    /// An array or object inside another is a document by itself.
+    #[inline(always)]
+    pub fn of_container(part: Part<'a>) -> Self
+        requires { part.tag ≡ CONTAINER_TAG }
+        ensures { bytes_of result ≡ part.entry.payload.now }
+    {
+        DocumentBytes {
+            bytes: part.payload,
+        }
+    }
+
+    /// The bytes.
+    #[inline(always)]
+    pub fn as_bytes(self) -> &'a [u8]
+        ensures { result.now ≡ bytes_of self.entry }
+    {
+        self.bytes
+    }
+
+    /// The one part that the document is: a scalar's entry, or the whole array or object.
+    #[inline(always)]
+    pub fn part(self) -> Part<'a>
+        ensures means { (t : Tree) → Doc (bytes_of self.entry) t → Means result t }
+        ensures bytes { document_of result.tag result.payload.now ≡ bytes_of self.entry }
+        ensures len { length result.payload.now < 2 ^ 64 }
+    {
+        let Some(header) = split_header(self.bytes) else {
+            unreachable!();
+        };
+        if header.tag != SCALAR_CONTAINER_TAG {
+            return Part {
+                tag: CONTAINER_TAG,
+                payload: self.bytes,
+            };
+        }
+        let Some(entry) = split_entry(header.rest) else {
+            unreachable!();
+        };
+        Part {
+            tag: entry.tag,
+            payload: entry.rest,
+        }
+    }
+}
+
+/// Goes through the bytes once. They are known from then on, or the answer is the first fault by
+/// that table. A container more than `depth` deep is a fault, and is not looked into.
 #[inline(always)]
-pub fn check(faults: FaultTable, depth: usize, bytes: &[u8]) -> Result<(), Error>
+pub fn check<'a>(
+    faults: FaultTable,
+    depth: usize,
+    bytes: &'a [u8],
+) -> Result<DocumentBytes<'a>, Error>
+    ensures told { Tells faults result (IsDocumentWithin depth bytes.now) }
+    ensures bytes { IfOk result (λ d. d.bytes.now ≡ bytes.now) }
+{
+    match find_fault(faults, depth, bytes) {
+        Ok(()) => Ok(DocumentBytes { bytes }),
+        Err(fault) => Err(fault),
+    }
+}
+
+// The first fault of the bytes.
+#[inline(always)]
+fn find_fault(faults: FaultTable, depth: usize, bytes: &[u8]) -> Result<(), Error>
     ensures { Tells faults result (IsDocumentWithin depth bytes.now) }
 {
     let Some(header) = split_header(bytes) else {

@@ -13,7 +13,7 @@ mod word;
 
 pub use canonical::{append_canonical, is_canonical};
 pub use de::{Decoder, value_of};
-pub use document::{document_laws, document_text, is_document, is_document_within};
+pub use document::{DocumentBytes, document_laws, document_text, is_document, is_document_within};
 pub use jentry::JEntry;
 pub use reread::printed_text_laws;
 pub use ser::{Encoder, JsonAstEncoder};

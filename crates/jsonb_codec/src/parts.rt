@@ -1,84 +1,152 @@
-//! The parts of a document, one after another where they stand. Each call knows that its bytes are
-//! part of a document, and tests nothing again.
+//! The parts of a document, one after another where they stand. Each keeps what it is, so that
+//! nothing is tested again.
 
-ghost use Rattle.std.specs.Prelude.{◌≡◌, ◌↔◌, ◌+◌, ◌*◌, ◌<◌, ◌≤◌, ◌^◌, ℕ, List, length, IfSome, IfNone};
-ghost use Rattle.std.specs.Str.{IsUtf8};
-ghost use Rattle.jsonb_value.specs.ExtCode.{extension_of};
-ghost use Rattle.jsonb_value.specs.Tree.{Tree, Trees, Pairs, no_trees, no_pairs, number, text, extension};
-ghost use Rattle.jsonb_codec.specs.Doc.{Doc, Children, IsDocument};
-ghost use Rattle.jsonb_codec.specs.Parts.{IsPayloadOf, IsArray, IsObject, KeysThen};
-ghost use Rattle.jsonb_codec.specs.Canonical.{IsCanonical, IsSomePayload, AreSomeChildren, IsWritten, AreWritten};
-ghost use Rattle.jsonb_codec.specs.Rewriting.{FirstChild, Opened};
-ghost use Rattle.jsonb_codec.specs.Contents.{AreItems, AreMembers, AreContents, AreInside, FirstMember};
+ghost use Rattle.std.specs.Prelude.{◌≡◌, ◌*◌, ◌<◌, ◌^◌, ℕ, List, length};
+ghost use Rattle.jsonb_value.specs.Tree.{Pairs};
+ghost use Rattle.jsonb_codec.specs.Doc.{Keys};
+ghost use Rattle.jsonb_codec.specs.Parts.{IsSomePayload, AreSomeChildren, AreSomeMembers};
 
 use crate::constants::{
-    ARRAY_CONTAINER_TAG, CONTAINER_TAG, EXTENSION_TAG, NUMBER_TAG, OBJECT_CONTAINER_TAG,
-    SCALAR_CONTAINER_TAG, STRING_TAG,
+    ARRAY_CONTAINER_TAG, CONTAINER_TAG, EXTENSION_TAG, NUMBER_TAG, OBJECT_CONTAINER_TAG, STRING_TAG,
 };
-use crate::word::{split_entry, split_header, split_word};
+use crate::word::{split_entry, split_header};
 use jsonb_value::{ExtensionValue, Number};
 
 /// An entry's type, and its payload.
-#[derive(Clone, Copy)]
+#[derive(Clone, Copy, Debug)]
 pub struct Part<'a> {
     pub tag: u32,
     pub payload: &'a [u8],
+    ghost known: { ∥ IsSomePayload tag payload.now ∥₁ },
 }
 
-/// The one part that a document is: a scalar's entry, or the whole array or object.
-#[inline(always)]
-pub fn split_document(bytes: &[u8]) -> Part
-    requires { IsDocument bytes.now }
-    ensures some { IsSomePayload result.tag result.payload.now }
-    ensures means { (t : Tree) → Doc bytes.now t → IsPayloadOf result.tag result.payload.now t }
-    ensures written { IsWritten result.tag result.payload.now ↔ IsCanonical bytes.now }
-{
-    let Some(header) = split_header(bytes) else {
-        unreachable!();
-    };
-    if header.tag != SCALAR_CONTAINER_TAG {
-        return Part {
-            tag: CONTAINER_TAG,
-            payload: bytes,
-        };
-    }
-    let Some(entry) = split_entry(header.rest) else {
-        unreachable!();
-    };
-    Part {
-        tag: entry.tag,
-        payload: entry.rest,
-    }
-}
-
-/// A container's header word, and the entry words and payloads of its children.
-#[derive(Clone, Copy)]
-pub struct Container<'a> {
-    pub header: u32,
+/// Entry words and their payloads: those of an array's items, of an object's keys or of its values,
+/// or what is left of them.
+#[derive(Clone, Copy, Debug)]
+pub struct Children<'a> {
     pub entries: &'a [u8],
     pub payloads: &'a [u8],
+    ghost known: { ∥ AreSomeChildren entries.now payloads.now ∥₁ },
 }
 
-/// The parts of an array or object.
-pub fn split_container(bytes: &[u8]) -> Container
-    requires { IsSomePayload CONTAINER_TAG bytes.now }
-    ensures some { AreSomeChildren result.entries.now result.payloads.now }
-    ensures opened { (t : Tree) → IsPayloadOf CONTAINER_TAG bytes.now t
-        → Opened t result.header result.entries.now result.payloads.now }
-    ensures written { AreWritten result.entries.now result.payloads.now
-        ↔ IsWritten CONTAINER_TAG bytes.now }
-    ensures few { length result.entries.now < 2 ^ 32 }
-    ensures len { length bytes.now ≡ 4 + (length result.entries.now + length result.payloads.now) }
-{
-    let Some(header) = split_header(bytes) else {
-        unreachable!();
-    };
-    let words = entry_words(header.tag, header.number);
-    let (entries, payloads) = header.rest.split_at(4 * words);
-    Container {
-        header: header.tag + header.number as u32,
-        entries,
-        payloads,
+/// The first child, and those behind it.
+#[derive(Clone, Copy, Debug)]
+pub struct Child<'a> {
+    pub part: Part<'a>,
+    pub behind: Children<'a>,
+}
+
+/// The members of an object: their keys, which ascend, and as many values.
+#[derive(Clone, Copy, Debug)]
+pub struct Members<'a> {
+    pub keys: Children<'a>,
+    pub values: Children<'a>,
+    ghost known: { ∥ AreSomeMembers keys.entries.now keys.payloads.now
+        values.entries.now values.payloads.now ∥₁ },
+}
+
+/// A key with its value, and the members behind it.
+#[derive(Clone, Copy, Debug)]
+pub struct Member<'a> {
+    pub key: &'a str,
+    pub value: Part<'a>,
+    pub behind: Members<'a>,
+}
+
+/// What an array or object holds.
+#[derive(Clone, Copy, Debug)]
+pub enum Contents<'a> {
+    Array(Children<'a>),
+    Object(Members<'a>),
+}
+
+/// The header word of an array or object, and its children: an object's keys, and then its values.
+#[derive(Clone, Copy, Debug)]
+pub struct Container<'a> {
+    pub header: u32,
+    pub children: Children<'a>,
+}
+
+impl<'a> Part<'a> {
+    ghost use Rattle.std.specs.Prelude.{◌≡◌, ◌+◌, ◌++◌, ◌<◌, ◌^◌, length};
+    ghost use Rattle.jsonb_value.specs.ExtCode.{extension_of};
+    ghost use Rattle.jsonb_value.specs.Tree.{Tree, number, text, extension};
+    ghost use Rattle.jsonb_codec.specs.Word.{word};
+    ghost use Rattle.jsonb_codec.specs.Contents.{Means, AreContents, AreInside};
+    ghost use Rattle.jsonb_codec.specs.Rewriting.{Opened};
+
+    /// The text of a string.
+    #[inline(always)]
+    pub fn text(self) -> &'a str
+        requires { self.tag ≡ STRING_TAG }
+        ensures means { (t : Tree) → Means self.entry t → t ≡ text result.now }
+        ensures bytes { result.now ≡ self.entry.payload.now }
+    {
+        unsafe { str::from_utf8_unchecked(self.payload) }
+    }
+
+    /// The number.
+    #[inline(always)]
+    pub fn number(self) -> Number
+        requires { self.tag ≡ NUMBER_TAG }
+        ensures { (t : Tree) → Means self.entry t → t ≡ number result }
+    {
+        let Ok(number) = Number::decode(self.payload) else {
+            unreachable!();
+        };
+        number
+    }
+
+    /// The extension value.
+    #[inline(always)]
+    pub fn extension(self) -> ExtensionValue<'a>
+        requires { self.tag ≡ EXTENSION_TAG }
+        ensures { (t : Tree) → Means self.entry t → t ≡ extension (extension_of result) }
+    {
+        let Ok(value) = ExtensionValue::decode(self.payload) else {
+            unreachable!();
+        };
+        value
+    }
+
+    /// What the array or object holds.
+    #[inline(always)]
+    pub fn contents(self) -> Contents<'a>
+        requires { self.tag ≡ CONTAINER_TAG }
+        ensures contents { (t : Tree) → Means self.entry t → AreContents result t }
+        ensures inside { AreInside (length self.entry.payload.now) result }
+    {
+        let Some(header) = split_header(self.payload) else {
+            unreachable!();
+        };
+        if header.tag == ARRAY_CONTAINER_TAG {
+            let (entries, payloads) = header.rest.split_at(4 * header.number);
+            Contents::Array(Children { entries, payloads })
+        } else {
+            Contents::Object(Members::of_object(header.number, header.rest))
+        }
+    }
+
+    /// The header word of the array or object, and all its children.
+    pub fn container(self) -> Container<'a>
+        requires { self.tag ≡ CONTAINER_TAG }
+        ensures opened { (t : Tree) → Means self.entry t
+            → Opened t result.header result.children.entries.now result.children.payloads.now }
+        ensures bytes { self.entry.payload.now ≡ word result.header
+            ++ (result.children.entries.now ++ result.children.payloads.now) }
+        ensures few { length result.children.entries.now < 2 ^ 32 }
+        ensures len { length self.entry.payload.now
+            ≡ 4 + (length result.children.entries.now + length result.children.payloads.now) }
+    {
+        let Some(header) = split_header(self.payload) else {
+            unreachable!();
+        };
+        let words = entry_words(header.tag, header.number);
+        let (entries, payloads) = header.rest.split_at(4 * words);
+        Container {
+            header: header.tag + header.number as u32,
+            children: Children { entries, payloads },
+        }
     }
 }
 
@@ -96,206 +164,115 @@ fn entry_words(tag: u32, count: usize) -> usize
     }
 }
 
-/// The first child, and what stands behind it.
-#[derive(Clone, Copy)]
-pub struct Child<'a> {
-    pub part: Part<'a>,
-    pub entries: &'a [u8],
-    pub payloads: &'a [u8],
-}
+impl<'a> Children<'a> {
+    ghost use Rattle.std.specs.Prelude.{◌≡◌, ◌+◌, ◌++◌, ◌≤◌, ◌<◌, ◌^◌, length, IfSome, IfNone};
+    ghost use Rattle.jsonb_value.specs.Tree.{Trees, no_trees};
+    ghost use Rattle.jsonb_codec.specs.Word.{word};
+    ghost use Rattle.jsonb_codec.specs.Contents.{AreChildren};
+    ghost use Rattle.jsonb_codec.specs.Rewriting.{FirstChild};
 
-/// The first of the children.
-#[inline(always)]
-pub fn split_child<'a>(entries: &'a [u8], payloads: &'a [u8]) -> Option<Child<'a>>
-    requires { AreSomeChildren entries.now payloads.now }
-    ensures payload { IfSome result (λ c. IsSomePayload c.part.tag c.part.payload.now) }
-    ensures others { IfSome result (λ c. AreSomeChildren c.entries.now c.payloads.now) }
-    ensures first { IfSome result (λ c. (ts : Trees) → Children ts entries.now payloads.now
-        → FirstChild ts c.part.tag c.part.payload.now c.entries.now c.payloads.now) }
-    ensures written { IfSome result (λ c. AreWritten entries.now payloads.now
-        ↔ (IsWritten c.part.tag c.part.payload.now × AreWritten c.entries.now c.payloads.now)) }
-    ensures last { IfNone result (AreWritten entries.now payloads.now) }
-    ensures entries_len { IfSome result (λ c. length entries.now ≡ 4 + length c.entries.now) }
-    ensures payloads_len { IfSome result
-        (λ c. length payloads.now ≡ length c.part.payload.now + length c.payloads.now) }
-    ensures tag { IfSome result (λ c. c.part.tag + 2 ^ 28 ≤ 2 ^ 32) }
-    ensures none { IfNone result
-        ((ts : Trees) → Children ts entries.now payloads.now → ts ≡ no_trees) }
-{
-    let Some(entry) = split_entry(entries) else {
-        return None;
-    };
-    let (payload, behind) = payloads.split_at(entry.number);
-    Some(Child {
-        part: Part {
-            tag: entry.tag,
-            payload,
-        },
-        entries: entry.rest,
-        payloads: behind,
-    })
-}
-
-/// The items of an array: their entry words, and their payloads.
-#[derive(Clone, Copy)]
-pub struct Items<'a> {
-    pub entries: &'a [u8],
-    pub payloads: &'a [u8],
-}
-
-/// The members of an object: the entry words and payloads of the keys, and of the values.
-#[derive(Clone, Copy)]
-pub struct Members<'a> {
-    pub key_entries: &'a [u8],
-    pub keys: &'a [u8],
-    pub value_entries: &'a [u8],
-    pub values: &'a [u8],
-}
-
-/// What a container holds.
-#[derive(Clone, Copy)]
-pub enum Contents<'a> {
-    Array(Items<'a>),
-    Object(Members<'a>),
-}
-
-/// The contents of an array or object.
-#[inline(always)]
-pub fn split_contents(bytes: &[u8]) -> Contents
-    requires { IsSomePayload CONTAINER_TAG bytes.now }
-    ensures contents { (t : Tree) → IsPayloadOf CONTAINER_TAG bytes.now t → AreContents result t }
-    ensures inside { AreInside (length bytes.now) result }
-{
-    let Some(header) = split_header(bytes) else {
-        unreachable!();
-    };
-    if header.tag == ARRAY_CONTAINER_TAG {
-        Contents::Array(split_items(header.number, header.rest))
-    } else {
-        Contents::Object(split_members(header.number, header.rest))
+    /// The first child, and those behind it.
+    #[inline(always)]
+    pub fn split_first(self) -> Option<Child<'a>>
+        ensures first { IfSome result (λ c. (ts : Trees) → AreChildren ts self.entry
+            → FirstChild ts c.part.tag c.part.payload.now
+            c.behind.entries.now c.behind.payloads.now) }
+        ensures entries { IfSome result (λ c. self.entry.entries.now
+            ≡ word (c.part.tag + length c.part.payload.now) ++ c.behind.entries.now) }
+        ensures payloads { IfSome result (λ c. self.entry.payloads.now
+            ≡ c.part.payload.now ++ c.behind.payloads.now) }
+        ensures entries_len { IfSome result
+            (λ c. length self.entry.entries.now ≡ 4 + length c.behind.entries.now) }
+        ensures payloads_len { IfSome result (λ c. length self.entry.payloads.now
+            ≡ length c.part.payload.now + length c.behind.payloads.now) }
+        ensures tag { IfSome result (λ c. c.part.tag + 2 ^ 28 ≤ 2 ^ 32) }
+        ensures short { IfSome result (λ c. length c.part.payload.now < 2 ^ 28) }
+        ensures none { IfNone result ((ts : Trees) → AreChildren ts self.entry → ts ≡ no_trees) }
+    {
+        let Some(entry) = split_entry(self.entries) else {
+            return None;
+        };
+        let (payload, payloads) = self.payloads.split_at(entry.number);
+        Some(Child {
+            part: Part {
+                tag: entry.tag,
+                payload,
+            },
+            behind: Children {
+                entries: entry.rest,
+                payloads,
+            },
+        })
     }
 }
 
-// The items of an array of that many.
-#[inline(always)]
-fn split_items(count: usize, body: &[u8]) -> Items
-    requires { (ts : Trees) × IsArray count body.now ts }
-    ensures items { (ts : Trees) → IsArray count body.now ts → AreItems ts result }
-    ensures inside { length result.payloads.now ≤ length body.now }
-{
-    let (entries, payloads) = body.split_at(4 * count);
-    Items { entries, payloads }
-}
+impl<'a> Members<'a> {
+    ghost use Rattle.std.specs.Prelude.{◌≡◌, ◌+◌, ◌≤◌, length, IfSome, IfNone};
+    ghost use Rattle.jsonb_value.specs.Tree.{Pairs, no_pairs};
+    ghost use Rattle.jsonb_codec.specs.Contents.{AreMembers, FirstMember};
+    ghost use Rattle.jsonb_codec.specs.Parts.{IsObject};
 
-// The members of an object of that many.
-#[inline(always)]
-fn split_members(count: usize, body: &[u8]) -> Members
-    requires { (ps : Pairs) × IsObject count body.now ps }
-    ensures members { (ps : Pairs) → IsObject count body.now ps → AreMembers ps result }
-    ensures inside { length result.values.now ≤ length body.now }
-{
-    let (key_entries, behind) = body.split_at(4 * count);
-    let (value_entries, keys) = behind.split_at(4 * count);
-    Members {
-        key_entries,
-        keys,
-        value_entries,
-        values: after_keys(key_entries, keys),
+    // Those of an object of that many, which stand behind its header.
+    #[inline(always)]
+    fn of_object(count: usize, body: &'a [u8]) -> Self
+        requires { (ps : Pairs) × IsObject count body.now ps }
+        ensures members { (ps : Pairs) → IsObject count body.entry.now ps → AreMembers ps result }
+        ensures inside { length result.values.payloads.now ≤ length body.entry.now }
+    {
+        let (key_entries, behind) = body.split_at(4 * count);
+        let (value_entries, payloads) = behind.split_at(4 * count);
+        let (keys, values) = payloads.split_at(keys_len(key_entries));
+        Members {
+            keys: Children {
+                entries: key_entries,
+                payloads: keys,
+            },
+            values: Children {
+                entries: value_entries,
+                payloads: values,
+            },
+        }
+    }
+
+    /// The first member, and those behind it.
+    #[inline(always)]
+    pub fn split_first(self) -> Option<Member<'a>>
+        ensures first { IfSome result (λ m. (ps : Pairs) → AreMembers ps self.entry
+            → FirstMember ps m.key.now m.value.tag m.value.payload.now m.behind) }
+        ensures values_len { IfSome result (λ m. length self.entry.values.payloads.now
+            ≡ length m.value.payload.now + length m.behind.values.payloads.now) }
+        ensures keys_len { IfSome result (λ m. length self.entry.keys.entries.now
+            ≡ 4 + length m.behind.keys.entries.now) }
+        ensures none { IfNone result ((ps : Pairs) → AreMembers ps self.entry → ps ≡ no_pairs) }
+    {
+        let Some(key) = self.keys.split_first() else {
+            return None;
+        };
+        let Some(value) = self.values.split_first() else {
+            unreachable!();
+        };
+        Some(Member {
+            key: key.part.text(),
+            value: value.part,
+            behind: Members {
+                keys: key.behind,
+                values: value.behind,
+            },
+        })
     }
 }
 
-// What stands behind the keys of these entries.
+// How many bytes the keys of these entries take.
 #[inline(always)]
-fn after_keys<'a>(key_entries: &[u8], payloads: &'a [u8]) -> &'a [u8]
-    requires { (ps : Pairs) × ((q : List ℕ) × KeysThen ps key_entries.now payloads.now q) }
-    ensures { (ps : Pairs) (q : List ℕ) → KeysThen ps key_entries.now payloads.now q
-        → result.now ≡ q }
+fn keys_len(entries: &[u8]) -> usize
+    requires { length entries.now < 2 ^ 32 }
+    ensures { (ps : Pairs) (p : List ℕ) → Keys ps entries.now p → result ≡ length p }
 {
-    let mut entries_left = key_entries;
-    let mut payloads_left = payloads;
-    while let Some((entry, rest)) = split_word(entries_left) {
-        // Each is of a string, which needs no mask.
-        let length = (entry - STRING_TAG) as usize;
-        let (_, behind) = payloads_left.split_at(length);
-        entries_left = rest;
-        payloads_left = behind;
+    let mut left = entries;
+    let mut total = 0;
+    while let Some(entry) = split_entry(left) {
+        total += entry.number;
+        left = entry.rest;
     }
-    payloads_left
-}
-
-/// A key with its value, and the members behind it.
-#[derive(Clone, Copy)]
-pub struct Member<'a> {
-    pub key: &'a str,
-    pub value: Part<'a>,
-    pub behind: Members<'a>,
-}
-
-/// The first of the members.
-#[inline(always)]
-pub fn split_member<'a>(members: Members<'a>) -> Option<Member<'a>>
-    requires { (ps : Pairs) × AreMembers ps members }
-    ensures first { IfSome result (λ m. (ps : Pairs) → AreMembers ps members.entry
-        → FirstMember ps m.key.now m.value.tag m.value.payload.now m.behind) }
-    ensures values_len { IfSome result (λ m. length members.entry.values.now
-        ≡ length m.value.payload.now + length m.behind.values.now) }
-    ensures keys_len { IfSome result
-        (λ m. length members.entry.key_entries.now ≡ 4 + length m.behind.key_entries.now) }
-    ensures none { IfNone result ((ps : Pairs) → AreMembers ps members.entry → ps ≡ no_pairs) }
-{
-    let Some(key_entry) = split_entry(members.key_entries) else {
-        return None;
-    };
-    let Some(value_entry) = split_entry(members.value_entries) else {
-        unreachable!();
-    };
-    let (key, keys) = members.keys.split_at(key_entry.number);
-    let (payload, values) = members.values.split_at(value_entry.number);
-    Some(Member {
-        key: unsafe { str::from_utf8_unchecked(key) },
-        value: Part {
-            tag: value_entry.tag,
-            payload,
-        },
-        behind: Members {
-            key_entries: key_entry.rest,
-            keys,
-            value_entries: value_entry.rest,
-            values,
-        },
-    })
-}
-
-/// The text of a payload that means one,
-#[inline(always)]
-pub fn text_in(payload: &[u8]) -> &str
-    requires { IsSomePayload STRING_TAG payload.now }
-    ensures means { (t : Tree) → IsPayloadOf STRING_TAG payload.now t → t ≡ text result.now }
-    ensures bytes { result.now ≡ payload.now }
-{
-    unsafe { str::from_utf8_unchecked(payload) }
-}
-
-/// the number,
-#[inline(always)]
-pub fn number_in(payload: &[u8]) -> Number
-    requires { IsSomePayload NUMBER_TAG payload.now }
-    ensures { (t : Tree) → IsPayloadOf NUMBER_TAG payload.now t → t ≡ number result }
-{
-    let Ok(number) = Number::decode(payload) else {
-        unreachable!();
-    };
-    number
-}
-
-/// and the extension value.
-#[inline(always)]
-pub fn extension_in(payload: &[u8]) -> ExtensionValue
-    requires { IsSomePayload EXTENSION_TAG payload.now }
-    ensures { (t : Tree) → IsPayloadOf EXTENSION_TAG payload.now t → t ≡ extension (extension_of result) }
-{
-    let Ok(value) = ExtensionValue::decode(payload) else {
-        unreachable!();
-    };
-    value
+    total
 }

@@ -8,18 +8,15 @@
 ghost use Rattle.std.specs.Prelude.{◌≡◌, ◌<◌, ◌≤◌, ◌^◌, ◌+◌, ◌++◌, ◌↔◌, ◌⊎◌, length, vec_capacity, Err, IsOk, IfSome, IfNone, IfErr, OnOk, OnErr};
 ghost use Rattle.jsonb_value.specs.Tree.{Tree, Trees};
 ghost use Rattle.jsonb_value.specs.WellFormed.{IsTree};
-ghost use Rattle.jsonb_codec.specs.Doc.{Doc, IsDocument, Children};
-ghost use Rattle.jsonb_codec.specs.Parts.{IsPayloadOf};
+ghost use Rattle.jsonb_codec.specs.Doc.{Doc, IsDocument};
 ghost use Rattle.jsonb_codec.specs.Canon.{payload_of, entry_word, entries_of, payloads_of, canon, AllFit, FitsInside, FitsEntry, Fits};
-ghost use Rattle.jsonb_codec.specs.Canonical.{IsSomePayload, AreSomeChildren};
+ghost use Rattle.jsonb_codec.specs.Contents.{Means, AreChildren};
 ghost use Rattle.jsonb_codec.specs.Room.{HasRoom, Appended, Stands};
 ghost use Rattle.jsonb_codec.specs.Rewriting.{LeavesTo};
 
 use crate::constants::{CONTAINER_TAG, EXTENSION_TAG, NUMBER_TAG, SCALAR_CONTAINER_TAG};
-use crate::document::is_document;
-use crate::parts::{
-    Child, Part, extension_in, number_in, split_child, split_container, split_document,
-};
+use crate::document::DocumentBytes;
+use crate::parts::{Child, Children, Part};
 use crate::ser::append::{
     append_bytes, append_extension, append_number, append_word, written_size,
 };
@@ -45,10 +42,10 @@ pub fn append_canonical(buf: &mut Vec<u8>, bytes: &[u8]) -> Result<(), Error>
     ensures room { (t : Tree) → Doc bytes.now t → Fits t
         → length buf.old.items + length (canon t) ≤ vec_capacity buf.old → IsOk result }
 {
-    if !is_document(bytes) {
+    let Some(document) = DocumentBytes::new(bytes) else {
         return Err(Error::InvalidJsonb);
-    }
-    let whole = split_document(bytes);
+    };
+    let whole = document.part();
     let Some(size) = measure_document(whole) else {
         return Err(Error::InvalidJsonb);
     };
@@ -59,10 +56,9 @@ pub fn append_canonical(buf: &mut Vec<u8>, bytes: &[u8]) -> Result<(), Error>
 
 // The length of the canonical document.
 fn measure_document(whole: Part<'_>) -> Option<usize>
-    requires { IsSomePayload whole.tag whole.payload.now }
-    ensures some { IfSome result (λ n. (t : Tree) → IsPayloadOf whole.entry.tag whole.entry.payload.now t
+    ensures some { IfSome result (λ n. (t : Tree) → Means whole.entry t
         → Fits t × (n ≡ length (canon t))) }
-    ensures none { IfNone result ((t : Tree) → IsPayloadOf whole.entry.tag whole.entry.payload.now t
+    ensures none { IfNone result ((t : Tree) → Means whole.entry t
         → Fits t → ⊥) }
 {
     if whole.tag == CONTAINER_TAG {
@@ -74,11 +70,10 @@ fn measure_document(whole: Part<'_>) -> Option<usize>
 // The length of a payload that has an entry, as it is written.
 #[cycle(measure)]
 fn measure_entry(part: Part<'_>) -> Option<usize>
-    requires { IsSomePayload part.tag part.payload.now }
-    ensures some { IfSome result (λ n. (t : Tree) → IsPayloadOf part.entry.tag part.entry.payload.now t
+    ensures some { IfSome result (λ n. (t : Tree) → Means part.entry t
         → FitsEntry t × (n ≡ length (payload_of t))) }
     ensures short { IfSome result (λ n. n < 2 ^ 28) }
-    ensures none { IfNone result ((t : Tree) → IsPayloadOf part.entry.tag part.entry.payload.now t
+    ensures none { IfNone result ((t : Tree) → Means part.entry t
         → FitsEntry t → ⊥) }
 {
     let length = measure_payload(part)?;
@@ -91,66 +86,61 @@ fn measure_entry(part: Part<'_>) -> Option<usize>
 // The length of a payload, as it is written.
 #[cycle(measure)]
 fn measure_payload(part: Part<'_>) -> Option<usize>
-    requires { IsSomePayload part.tag part.payload.now }
-    ensures some { IfSome result (λ n. (t : Tree) → IsPayloadOf part.entry.tag part.entry.payload.now t
+    ensures some { IfSome result (λ n. (t : Tree) → Means part.entry t
         → FitsInside t × (n ≡ length (payload_of t))) }
-    ensures none { IfNone result ((t : Tree) → IsPayloadOf part.entry.tag part.entry.payload.now t
+    ensures none { IfNone result ((t : Tree) → Means part.entry t
         → FitsInside t → ⊥) }
 {
     match part.tag {
-        NUMBER_TAG => Some(number_in(part.payload).compact_len()),
-        EXTENSION_TAG => Some(extension_in(part.payload).compact_len()),
-        CONTAINER_TAG => measure_container(part.payload),
+        NUMBER_TAG => Some(part.number().compact_len()),
+        EXTENSION_TAG => Some(part.extension().compact_len()),
+        CONTAINER_TAG => measure_container(part),
         _ => Some(part.payload.len()),
     }
 }
 
 #[cycle(measure)]
-fn measure_container(bytes: &[u8]) -> Option<usize>
-    requires { IsSomePayload CONTAINER_TAG bytes.now }
-    ensures some { IfSome result (λ n. (t : Tree) → IsPayloadOf CONTAINER_TAG bytes.now t
+fn measure_container(part: Part<'_>) -> Option<usize>
+    requires { part.tag ≡ CONTAINER_TAG }
+    ensures some { IfSome result (λ n. (t : Tree) → Means part.entry t
         → FitsInside t × (n ≡ length (payload_of t))) }
-    ensures none { IfNone result ((t : Tree) → IsPayloadOf CONTAINER_TAG bytes.now t
-        → FitsInside t → ⊥) }
+    ensures none { IfNone result ((t : Tree) → Means part.entry t → FitsInside t → ⊥) }
 {
-    let container = split_container(bytes);
-    let payloads = measure_payloads(container.entries, container.payloads)?;
-    Some(4 + container.entries.len() + payloads)
+    let children = part.container().children;
+    let payloads = measure_payloads(children)?;
+    Some(4 + children.entries.len() + payloads)
 }
 
 // The length of the payloads of children.
 #[cycle(measure)]
-fn measure_payloads(entries: &[u8], payloads: &[u8]) -> Option<usize>
-    requires some { AreSomeChildren entries.now payloads.now }
-    requires few { length entries.now < 2 ^ 32 }
-    ensures some { IfSome result (λ n. (ts : Trees) → Children ts entries.now payloads.now
+fn measure_payloads(children: Children<'_>) -> Option<usize>
+    requires { length children.entries.now < 2 ^ 32 }
+    ensures some { IfSome result (λ n. (ts : Trees) → AreChildren ts children.entry
         → AllFit ts × (n ≡ length (payloads_of ts))) }
     ensures small { IfSome result (λ n. n ≤ 2 ^ 60) }
-    ensures none { IfNone result ((ts : Trees) → Children ts entries.now payloads.now
+    ensures none { IfNone result ((ts : Trees) → AreChildren ts children.entry
         → AllFit ts → ⊥) }
 {
     let mut total = 0;
-    let mut entries_left = entries;
-    let mut payloads_left = payloads;
-    while let Some(child) = split_child(entries_left, payloads_left) {
+    let mut left = children;
+    while let Some(child) = left.split_first() {
         total += measure_entry(child.part)?;
-        entries_left = child.entries;
-        payloads_left = child.payloads;
+        left = child.behind;
     }
     Some(total)
 }
 
 // Appends the canonical document, which has that length, where there is room for all of it.
 fn append_document(out: &mut Vec<u8>, whole: Part<'_>, size: usize)
-    requires document { (t : Tree) × (IsPayloadOf whole.tag whole.payload.now t
+    requires document { (t : Tree) × (Means whole t
         × (Fits t × HasRoom out.old (canon t))) }
-    requires size { (t : Tree) → IsPayloadOf whole.tag whole.payload.now t
+    requires size { (t : Tree) → Means whole t
         → size ≡ length (canon t) }
-    ensures { (t : Tree) → IsPayloadOf whole.entry.tag whole.entry.payload.now t
+    ensures { (t : Tree) → Means whole.entry t
         → Appended out.old out.new (canon t) }
 {
     if whole.tag == CONTAINER_TAG {
-        append_container(out, whole.payload, size);
+        append_container(out, whole, size);
         return;
     }
     append_word(out, SCALAR_CONTAINER_TAG);
@@ -161,11 +151,11 @@ fn append_document(out: &mut Vec<u8>, whole: Part<'_>, size: usize)
 
 // The entry word of what is written with that length.
 fn append_entry(out: &mut Vec<u8>, part: Part<'_>, size: usize)
-    requires child { (t : Tree) × (IsPayloadOf part.tag part.payload.now t
+    requires child { (t : Tree) × (Means part t
         × (FitsEntry t × HasRoom out.old (entry_word t))) }
-    requires size { (t : Tree) → IsPayloadOf part.tag part.payload.now t
+    requires size { (t : Tree) → Means part t
         → size ≡ length (payload_of t) }
-    ensures { (t : Tree) → IsPayloadOf part.entry.tag part.entry.payload.now t
+    ensures { (t : Tree) → Means part.entry t
         → Appended out.old out.new (entry_word t) }
 {
     append_word(out, part.tag + size as u32);
@@ -175,17 +165,17 @@ fn append_entry(out: &mut Vec<u8>, part: Part<'_>, size: usize)
 #[cycle(append)]
 #[inline(always)]
 fn append_payload(out: &mut Vec<u8>, part: Part<'_>, entry: usize)
-    requires part { (t : Tree) × (IsPayloadOf part.tag part.payload.now t × (FitsEntry t
+    requires part { (t : Tree) × (Means part t × (FitsEntry t
         × (Stands entry (entry_word t) out.old.items × HasRoom out.old (payload_of t)))) }
-    ensures { (t : Tree) → IsPayloadOf part.entry.tag part.entry.payload.now t
+    ensures { (t : Tree) → Means part.entry t
         → Appended out.old out.new (payload_of t) }
 {
     match part.tag {
-        NUMBER_TAG => append_number(out, number_in(part.payload)),
-        EXTENSION_TAG => append_extension(out, extension_in(part.payload)),
+        NUMBER_TAG => append_number(out, part.number()),
+        EXTENSION_TAG => append_extension(out, part.extension()),
         CONTAINER_TAG => {
             let size = written_size(out, entry);
-            append_container(out, part.payload, size);
+            append_container(out, part, size);
         }
         _ => append_bytes(out, part.payload),
     }
@@ -193,40 +183,38 @@ fn append_payload(out: &mut Vec<u8>, part: Part<'_>, entry: usize)
 
 // A container's payload, as the encoders write it, which has that length.
 #[cycle(append)]
-fn append_container(out: &mut Vec<u8>, bytes: &[u8], size: usize)
-    requires container { (t : Tree) × (IsPayloadOf CONTAINER_TAG bytes.now t
+fn append_container(out: &mut Vec<u8>, part: Part<'_>, size: usize)
+    requires is { part.tag ≡ CONTAINER_TAG }
+    requires container { (t : Tree) × (Means part t
         × (FitsInside t × HasRoom out.old (payload_of t))) }
-    requires size { (t : Tree) → IsPayloadOf CONTAINER_TAG bytes.now t
-        → size ≡ length (payload_of t) }
-    ensures { (t : Tree) → IsPayloadOf CONTAINER_TAG bytes.now t
-        → Appended out.old out.new (payload_of t) }
+    requires size { (t : Tree) → Means part t → size ≡ length (payload_of t) }
+    ensures { (t : Tree) → Means part.entry t → Appended out.old out.new (payload_of t) }
 {
-    let container = split_container(bytes);
+    let container = part.container();
     append_word(out, container.header);
     let words = out.len();
-    let inside = size - 4 - container.entries.len();
-    append_entries(out, container.entries, container.payloads, inside);
-    append_payloads(out, container.entries, container.payloads, words);
+    let inside = size - 4 - container.children.entries.len();
+    append_entries(out, container.children, inside);
+    append_payloads(out, container.children, words);
 }
 
 // The length of a child's payload, as it is written. `left` is what it takes with those behind it.
 fn child_size(child: Child<'_>, left: usize) -> usize
-    requires first { (t : Tree) × (IsPayloadOf child.part.tag child.part.payload.now t
-        × (FitsEntry t × LeavesTo t left child.entries.now child.payloads.now)) }
-    requires few { length child.entries.now < 2 ^ 32 }
-    ensures { (t : Tree) → IsPayloadOf child.entry.part.tag child.entry.part.payload.now t
-        → result ≡ length (payload_of t) }
+    requires first { (t : Tree) × (Means child.part t × (FitsEntry t
+        × LeavesTo t left child.behind.entries.now child.behind.payloads.now)) }
+    requires few { length child.behind.entries.now < 2 ^ 32 }
+    ensures { (t : Tree) → Means child.entry.part t → result ≡ length (payload_of t) }
 {
-    let behind = child.entries.len() + child.payloads.len();
+    let behind = child.behind.entries.len() + child.behind.payloads.len();
     if child.part.tag == CONTAINER_TAG && behind < child.part.payload.len() {
-        return left - payloads_size(child.entries, child.payloads);
+        return left - payloads_size(child.behind);
     }
     measured_size(child.part)
 }
 
 fn measured_size(part: Part<'_>) -> usize
-    requires { (t : Tree) × (IsPayloadOf part.tag part.payload.now t × FitsEntry t) }
-    ensures { (t : Tree) → IsPayloadOf part.entry.tag part.entry.payload.now t
+    requires { (t : Tree) × (Means part t × FitsEntry t) }
+    ensures { (t : Tree) → Means part.entry t
         → result ≡ length (payload_of t) }
 {
     let Some(size) = measure_entry(part) else {
@@ -236,57 +224,51 @@ fn measured_size(part: Part<'_>) -> usize
 }
 
 // The length of the payloads of children that fit.
-fn payloads_size(entries: &[u8], payloads: &[u8]) -> usize
-    requires children { (ts : Trees) × (Children ts entries.now payloads.now × AllFit ts) }
-    requires few { length entries.now < 2 ^ 32 }
-    ensures { (ts : Trees) → Children ts entries.now payloads.now
-        → result ≡ length (payloads_of ts) }
+fn payloads_size(children: Children<'_>) -> usize
+    requires children { (ts : Trees) × (AreChildren ts children × AllFit ts) }
+    requires few { length children.entries.now < 2 ^ 32 }
+    ensures { (ts : Trees) → AreChildren ts children.entry → result ≡ length (payloads_of ts) }
 {
-    let Some(size) = measure_payloads(entries, payloads) else {
+    let Some(size) = measure_payloads(children) else {
         unreachable!();
     };
     size
 }
 
 // The entry words of children, whose payloads have that length in all.
-fn append_entries(out: &mut Vec<u8>, entries: &[u8], payloads: &[u8], size: usize)
-    requires children { (ts : Trees) × (Children ts entries.now payloads.now
+fn append_entries(out: &mut Vec<u8>, children: Children<'_>, size: usize)
+    requires children { (ts : Trees) × (AreChildren ts children
         × (AllFit ts × HasRoom out.old (entries_of ts))) }
-    requires size { (ts : Trees) → Children ts entries.now payloads.now
-        → size ≡ length (payloads_of ts) }
-    requires few { length entries.now < 2 ^ 32 }
-    ensures { (ts : Trees) → Children ts entries.now payloads.now
+    requires size { (ts : Trees) → AreChildren ts children → size ≡ length (payloads_of ts) }
+    requires few { length children.entries.now < 2 ^ 32 }
+    ensures { (ts : Trees) → AreChildren ts children.entry
         → Appended out.old out.new (entries_of ts) }
 {
-    let mut entries_left = entries;
-    let mut payloads_left = payloads;
+    let mut left = children;
     let mut size_left = size;
-    while let Some(child) = split_child(entries_left, payloads_left) {
+    while let Some(child) = left.split_first() {
         let size = child_size(child, size_left);
         append_entry(out, child.part, size);
         size_left -= size;
-        entries_left = child.entries;
-        payloads_left = child.payloads;
+        left = child.behind;
     }
 }
 
 // And their payloads. The entry words were written from the index on.
 #[cycle(append)]
-fn append_payloads(out: &mut Vec<u8>, entries: &[u8], payloads: &[u8], words: usize)
-    requires children { (ts : Trees) × (Children ts entries.now payloads.now
+fn append_payloads(out: &mut Vec<u8>, children: Children<'_>, words: usize)
+    requires children { (ts : Trees) × (AreChildren ts children
         × (AllFit ts × HasRoom out.old (payloads_of ts))) }
-    requires words { (ts : Trees) → Children ts entries.now payloads.now
+    requires words { (ts : Trees) → AreChildren ts children
         → Stands words (entries_of ts) out.old.items }
-    ensures { (ts : Trees) → Children ts entries.now payloads.now
+    ensures { (ts : Trees) → AreChildren ts children.entry
         → Appended out.old out.new (payloads_of ts) }
 {
-    let mut entries_left = entries;
-    let mut payloads_left = payloads;
+    let mut left = children;
     let mut entry = words;
-    while let Some(child) = split_child(entries_left, payloads_left) {
+    while let Some(child) = left.split_first() {
         append_payload(out, child.part, entry);
         entry += 4;
-        entries_left = child.entries;
-        payloads_left = child.payloads;
+        left = child.behind;
     }
 }

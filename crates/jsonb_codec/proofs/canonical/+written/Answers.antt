@@ -1,29 +1,51 @@
 use Rattle.std.proofs.Common.{sym, refl, ◌∙◌, arith}
-use Rattle.jsonb_codec.proofs.CanonicalSteps.{refused}
+use Rattle.jsonb_codec.proofs.CanonicalSteps.{written_as, written_onward, written_back, none_written, written_container}
 use Rattle.jsonb_codec.proofs.Scalars.{iff_trans}
 use Rattle.jsonb_codec.proofs.canonical.+written.Goals as goal
 
 pub are_written-returns-then-not-is_written : goal.are_written-returns-then-not-is_written
-are_written-returns-then-not-is_written t c =
-    let l = c.loop-child in
-    refused (λ h.
-    let yes = c.is_written.ensures.1 (c.in-Some.ensures.written.0 (l.invariant.onward h)).0 in
-    let never = sym c.if-not-is_written.true ∙ yes in cc)
+are_written-returns-then-not-is_written t c ts h =
+    let k = c.in-Some.ensures in
+    let (us, (are, same)) = c.loop-child.invariant.same ts h in
+    let f = k.first us are in (
+      λ yes. cc,
+      λ w.
+          let yes = (c.is_written.ensures f.first f.is).1 (written_onward us _ _ _ _ _ _ f k.entries k.payloads k.short (same.1 w)).0 in
+          let never = sym c.if-not-is_written.true ∙ yes in cc,
+    )
 
 pub are_written-loop-child-preserved : goal.are_written-loop-child-preserved
 are_written-loop-child-preserved t c =
     let l = c.loop-child in let k = c.in-Some.ensures in
-    let is = c.is_written.ensures.0 c.if-not-is_written.false in
     record {
-      some = k.others;
-      onward = λ h. (k.written.0 (l.invariant.onward h)).1;
-      back = λ h. l.invariant.back (k.written.1 (is, h));
-      entries_shorter = omega (arith, k.entries_len, l.invariant.entries_shorter);
-      payloads_shorter = omega (arith, k.payloads_len, l.invariant.payloads_shorter);
+      same = λ ts h.
+          let (us, (are, same)) = l.invariant.same ts h in
+          let f = k.first us are in
+          let is = (c.is_written.ensures f.first f.is).0 c.if-not-is_written.false in (
+            f.others,
+            (
+              f.behind,
+              (
+                λ w. same.0 (written_back us _ _ _ _ _ _ f k.entries k.payloads k.short is w),
+                λ w. (written_onward us _ _ _ _ _ _ f k.entries k.payloads k.short (same.1 w)).1,
+              ),
+            ),
+          );
+      shorter = omega (arith, k.payloads_len, l.invariant.shorter);
     }
 
 pub are_written-returns : goal.are_written-returns
-are_written-returns t c = (λ yes. c.loop-child.invariant.back c.in_default.ensures.last, λ h. refl)
+are_written-returns t c ts h =
+    let (us, (are, same)) = c.loop-child.invariant.same ts h in
+    (λ yes. same.0 (none_written us _ _ (c.in_default.ensures.none us are) are), λ w. refl)
 
-pub is_written_container-returns : goal.is_written_container-returns
-is_written_container-returns t c = iff_trans c.are_written.ensures c.split_container-container.ensures.written
+pub is_written-returns-in-536870912 : goal.is_written-returns-in-536870912
+is_written-returns-in-536870912 t c u h = written_as _ u _ _ (c.number.ensures u h) h.1 c.is_written_number.ensures
+
+pub is_written-returns-in-1610612736 : goal.is_written-returns-in-1610612736
+is_written-returns-in-1610612736 t c u h = written_as _ u _ _ (c.extension.ensures u h) h.1 c.is_written_extension.ensures
+
+pub is_written-returns-in-1342177280 : goal.is_written-returns-in-1342177280
+is_written-returns-in-1342177280 t c u h =
+    let o = c.container.ensures.opened u h in
+    iff_trans (c.are_written.ensures o.children o.are) (written_container u _ _ _ _ o c.container.ensures.bytes)

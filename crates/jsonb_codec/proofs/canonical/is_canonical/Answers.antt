@@ -1,13 +1,15 @@
-use Rattle.std.proofs.Common.{sym, ◌∙◌}
+use Rattle.std.proofs.Common.{refl, sym, subst, ◌∙◌, arith}
+use Rattle.jsonb_codec.specs.Doc.{Doc}
 use Rattle.jsonb_codec.proofs.Scalars.{iff_trans}
-use Rattle.jsonb_codec.proofs.CanonicalWhole.{canonical_document}
+use Rattle.jsonb_codec.proofs.CanonicalSteps.{refused, canonical_document, written_document}
 use Rattle.jsonb_codec.proofs.canonical.is_canonical.Goals as goal
 
-pub returns-else-is_document : goal.returns-else-is_document
-returns-else-is_document c = (
-  λ yes. let never = sym c.if-is_document.false ∙ yes in cc,
-  λ canonical. c.is_document.ensures.exact.1 (canonical_document c.args.bytes.now canonical),
-)
+pub returns-in-None : goal.returns-in-None
+returns-in-None c = refused (λ canonical. let never = c.in-None.ensures.known.1 (canonical_document _ canonical) in cc)
 
-pub returns-then-is_document : goal.returns-then-is_document
-returns-then-is_document c = iff_trans c.is_written.ensures c.split_document.ensures.written
+pub returns-in-Some : goal.returns-in-Some
+returns-in-Some c =
+    let b = c.args.bytes.now in
+    let (t, h) = c.in-Some.ensures.known.0 refl in
+    let is = c.part.ensures.means t (subst (λ x. Doc x t) (sym c.in-Some.ensures.bytes) h) in
+    iff_trans (c.is_written.ensures t is) (written_document b t (λ i. omega (arith, c.type_inv.bytes i)) h _ _ is (c.part.ensures.bytes ∙ c.in-Some.ensures.bytes))

@@ -8,7 +8,6 @@ build_items-loop-child-preserved t c =
     let l = c.loop-child in let k = c.in-Some.ensures in
     let (v, (more, same)) = c.in_ok-push_part.ensures.ok in
     record {
-      some = k.others;
       left = λ ts are.
           let (us, (whole, left)) = l.invariant.left ts are in
           let f = k.first us left in
@@ -22,30 +21,20 @@ build_items-returns-clause-ok t c ts are =
     let (us, (whole, left)) = c.loop-child.invariant.left ts are in
     sym (whole ∙ ap (trees_and vs) (c.in_default.ensures.none us left) ∙ trees_and-none vs)
 
-pub build_members-insert_part-requires : goal.build_members-insert_part-requires
-build_members-insert_part-requires t c =
-    let l = c.loop-member in
-    let (ps, are) = l.invariant.some in
-    let f = c.in-Some.ensures.first ps are in
-    (omega (arith, c.in-Some.ensures.values_len, l.invariant.shorter), (f.value, f.is))
-
 pub build_members-loop-member-preserved : goal.build_members-loop-member-preserved
 build_members-loop-member-preserved t c =
     let l = c.loop-member in let k = c.in-Some.ensures in
     let (v, (more, same)) = c.in_ok-insert_part.ensures.ok in
-    let (ps, are) = l.invariant.some in
-    let first = k.first ps are in
     record {
-      some = (first.others, first.left);
-      left = λ all ascend whole_are.
-          let (us, (whole, left)) = l.invariant.left all ascend whole_are in
+      left = λ all whole_are.
+          let (us, (whole, left)) = l.invariant.left all whole_are in
           let f = k.first us left in
-          (f.others, (pairs_and-push l.built.entries c.insert_part.new.members.entries c.in_ok-key.key v all us f.others c.in-Some.member.key.now f.value ascend whole f.are c.in_ok-key.ensures.ok (same f.value f.is) more, f.left));
+          (f.others, (pairs_and-push l.built.entries c.insert_part.new.members.entries c.in_ok-key.key v all us f.others c.in-Some.member.key.now f.value whole_are.0 whole f.are c.in_ok-key.ensures.ok (same f.value f.is) more, f.left));
       shorter = omega (arith, k.values_len, l.invariant.shorter);
     }
 
 pub build_members-returns-clause-ok : goal.build_members-returns-clause-ok
-build_members-returns-clause-ok t c ps ascend are =
+build_members-returns-clause-ok t c ps are =
     let ms = seen c.loop-member.built.entries in
-    let (us, (whole, left)) = c.loop-member.invariant.left ps ascend are in
+    let (us, (whole, left)) = c.loop-member.invariant.left ps are in
     sym (whole ∙ ap (pairs_and ms) (c.in_default.ensures.none us left) ∙ pairs_and-none ms)

@@ -1,8 +1,7 @@
 use Rattle.std.proofs.Common.{◌≡◌, ◌+◌, ◌*◌, ◌≤◌, length, map}
-use Rattle.jsonb_value.specs.Tree.{Trees, Pairs, Ascend}
+use Rattle.jsonb_value.specs.Tree.{Trees, Pairs}
 use Rattle.jsonb_value.specs.Value.{tree_of}
-use Rattle.jsonb_codec.specs.Canonical.{AreSomeChildren}
-use Rattle.jsonb_codec.specs.Contents.{AreItems, AreMembers}
+use Rattle.jsonb_codec.specs.Contents.{AreChildren, AreMembers}
 use Rattle.jsonb_codec.proofs.Building.{trees_and, pairs_and, seen}
 use Rattle.jsonb_codec.proofs.de.+value.Given as goal
 
@@ -13,19 +12,18 @@ abbrev pub decreases-push_part : goal.decreases-push_part
 decreases-push_part l = 4 * length l.part.payload.now + 3
 
 abbrev pub decreases-build_container : goal.decreases-build_container
-decreases-build_container l = 4 * length l.bytes.now + 2
+decreases-build_container l = 4 * length l.part.payload.now + 2
 
 abbrev pub decreases-build_items : goal.decreases-build_items
 decreases-build_items l = 4 * length l.items.payloads.now + 4
 
 abbrev pub decreases-build_members : goal.decreases-build_members
-decreases-build_members l = 4 * length l.members.values.now + 4
+decreases-build_members l = 4 * length l.members.values.payloads.now + 4
 
 -- The items so far, and those that are left, are the items of the whole.
 abbrev pub invariant-build_items-loop-child : goal.invariant-build_items-loop-child
 invariant-build_items-loop-child l = record {
-  some : AreSomeChildren l.left.entries.now l.left.payloads.now;
-  left : (ts : Trees) → AreItems ts l.fn.items → (others : Trees) × ((ts ≡ trees_and (map tree_of l.built.items) others) × AreItems others l.left);
+  left : (ts : Trees) → AreChildren ts l.fn.items → (others : Trees) × ((ts ≡ trees_and (map tree_of l.built.items) others) × AreChildren others l.left);
   shorter : length l.left.payloads.now ≤ length l.fn.items.payloads.now;
 }
 
@@ -35,10 +33,9 @@ decreases-build_items-loop-child l = length l.left.entries.now
 -- The members so far, and those that are left, are the members of the whole.
 abbrev pub invariant-build_members-loop-member : goal.invariant-build_members-loop-member
 invariant-build_members-loop-member l = record {
-  some : (ps : Pairs) × AreMembers ps l.left;
-  left : (ps : Pairs) → Ascend ps → AreMembers ps l.fn.members → (others : Pairs) × ((ps ≡ pairs_and (seen l.built.entries) others) × AreMembers others l.left);
-  shorter : length l.left.values.now ≤ length l.fn.members.values.now;
+  left : (ps : Pairs) → AreMembers ps l.fn.members → (others : Pairs) × ((ps ≡ pairs_and (seen l.built.entries) others) × AreMembers others l.left);
+  shorter : length l.left.values.payloads.now ≤ length l.fn.members.values.payloads.now;
 }
 
 abbrev pub decreases-build_members-loop-member : goal.decreases-build_members-loop-member
-decreases-build_members-loop-member l = length l.left.key_entries.now
+decreases-build_members-loop-member l = length l.left.keys.entries.now

@@ -28,16 +28,8 @@ module _ (name k : List ℕ) (t : Tree) (ps qs : Pairs) (are : ps ≡ pair k t q
   met : true ≡ pointwise nat_eq name k → find_pair (pointwise nat_eq name) (length name) ps ≡ Some t
   met e = ap (find_pair (pointwise nat_eq name) (length name)) are ∙ ap (λ b. if b then Some t else find_pair (pointwise nat_eq name) (length name) qs) (sym (test_passes name k e))
 
-pub split_member-requires : goal.split_member-requires
-split_member-requires c = let w = c.loop-first.invariant c.requires.0 c.requires.1 in (w.0, w.1.0)
-
-pub returns-then-eq-clause-some : goal.returns-then-eq-clause-some
-returns-then-eq-clause-some c =
-    let w = c.loop-first.invariant c.requires.0 c.requires.1 in
-    let f = c.in-Some.ensures.first w.0 w.1.0 in (f.value, f.is)
-
-pub returns-then-eq-clause-found : goal.returns-then-eq-clause-found
-returns-then-eq-clause-found c ps h =
+pub returns-then-eq : goal.returns-then-eq
+returns-then-eq c ps h =
     let w = c.loop-first.invariant ps h in
     let f = c.in-Some.ensures.first w.0 w.1.0 in
     (f.value, (w.1.1 ∙ met c.args.name.now c.in-Some.first.key.now f.value w.0 f.others f.are c.if-eq.ensures, f.is))
@@ -48,7 +40,7 @@ loop-first-preserved c ps h =
     let f = c.in-Some.ensures.first w.0 w.1.0 in
     (f.others, (f.left, w.1.1 ∙ passed c.args.name.now c.in-Some.first.key.now f.value w.0 f.others f.are c.if-eq.ensures))
 
-pub returns-clause-found : goal.returns-clause-found
-returns-clause-found c ps h =
+pub returns : goal.returns
+returns c ps h =
     let w = c.loop-first.invariant ps h in
     w.1.1 ∙ ap (find_pair (pointwise nat_eq c.args.name.now) (length c.args.name.now)) (c.in_default.ensures.none w.0 w.1.0)

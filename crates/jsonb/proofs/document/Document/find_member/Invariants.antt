@@ -12,4 +12,4 @@ invariant-loop-first l =
     → (others : Pairs) × (AreMembers others l.left × (find_pair (pointwise nat_eq l.name) (length l.name) ps ≡ find_pair (pointwise nat_eq l.name) (length l.name) others))
 
 abbrev pub decreases-loop-first : goal.decreases-loop-first
-decreases-loop-first l = length l.left.key_entries.now
+decreases-loop-first l = length l.left.keys.entries.now

@@ -5,12 +5,11 @@ use Rattle.jsonb.proofs.nodes.Items.item_at.Goals as goal
 
 pub returns : goal.returns
 returns c =
-    let entry = c.in_ok-entry.entry in
     let i = c.loop.invariant in
     let all : c.args.index - c.loop.counter ≡ 0 = omega (arith, c.loop-test.false, i.few) in
     sym (
     i.same
     ∙ ap (slice_get (trees_left c.loop.entries)) all
-    ∙ ap (λ xs. slice_get (trees_left xs) 0) c.in_ok-entry.ensures.steps
-    ∙ ap Some (entry_tree-node entry.type_code entry.payload.now c.of_payload.result c.in_ok-entry.ensures.part c.of_payload.ensures.means)
+    ∙ ap (λ xs. slice_get (trees_left xs) 0) c.in_ok-part.ensures.steps
+    ∙ ap Some (entry_tree-node c.in_ok-part.part c.of_part.result c.of_part.ensures.means)
     )

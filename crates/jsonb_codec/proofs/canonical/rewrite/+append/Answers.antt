@@ -12,37 +12,40 @@ append_payload-append_container-requires t c =
     let size = c.written_size-size.ensures tree fits stands in (
       omega arith,
       (
-        (tree, ((h.0 ∙ is, h.1), (fits.inside, room))),
-        λ u k. size ∙ ap (λ (v : Tree). length (payload_of v)) (same_tree tree u (h.0 ∙ is ∙ sym k.0) c.args.part.payload.now h.1 k.1),
+        is,
+        (
+          (tree, (h, (fits.inside, room))),
+          λ u k. size ∙ ap (λ (v : Tree). length (payload_of v)) (same_tree tree u (h.0 ∙ sym k.0) c.args.part.payload.now h.1 k.1),
+        ),
       ),
     )
 
 pub append_container-overflow_sub-inside : goal.append_container-overflow_sub-inside
 append_container-overflow_sub-inside t c =
-    let parts = c.split_container-container.result in
+    let parts = c.container-container.result in
     let (tree, (h, _)) = c.requires.container in
-    let long = length-Opened tree parts.header parts.entries.now parts.payloads.now (c.split_container-container.ensures.opened tree h) in
+    let long = length-Opened tree parts.header parts.children.entries.now parts.children.payloads.now (c.container-container.ensures.opened tree h) in
     omega (arith, c.requires.size tree h, long)
 
 pub append_container-overflow_sub-inside-2 : goal.append_container-overflow_sub-inside-2
 append_container-overflow_sub-inside-2 t c =
-    let parts = c.split_container-container.result in
+    let parts = c.container-container.result in
     let (tree, (h, _)) = c.requires.container in
-    let long = length-Opened tree parts.header parts.entries.now parts.payloads.now (c.split_container-container.ensures.opened tree h) in
+    let long = length-Opened tree parts.header parts.children.entries.now parts.children.payloads.now (c.container-container.ensures.opened tree h) in
     omega (arith, c.requires.size tree h, long)
 
 pub append_container-append_entries-requires-clause-size : goal.append_container-append_entries-requires-clause-size
 append_container-append_entries-requires-clause-size t c ts k =
-    let parts = c.split_container-container.result in
+    let parts = c.container-container.result in
     let (tree, (h, _)) = c.requires.container in
-    let o = c.split_container-container.ensures.opened tree h in
-    let long = length-Opened tree parts.header parts.entries.now parts.payloads.now o in
-    let same = ap (λ (us : Trees). length (payloads_of us)) (Children-unique o.children ts parts.entries.now parts.payloads.now o.are k) in
+    let o = c.container-container.ensures.opened tree h in
+    let long = length-Opened tree parts.header parts.children.entries.now parts.children.payloads.now o in
+    let same = ap (λ (us : Trees). length (payloads_of us)) (Children-unique o.children ts parts.children.entries.now parts.children.payloads.now o.are k) in
     omega (arith, c.requires.size tree h, long, same)
 
 pub append_payloads-loop-child-init : goal.append_payloads-loop-child-init
 append_payloads-loop-child-init t c = record {
-  followed = followed_start c.args.out.now c.args.entries.now c.args.payloads.now c.args.words c.requires.children c.requires.words;
+  followed = followed_start _ _ _ _ c.requires.children c.requires.words;
   capacity = omega arith;
   payloads_shorter = omega arith;
 }
@@ -52,8 +55,7 @@ append_payloads-append_payload-requires t c =
     let l = c.loop-child in let k = c.in-Some.child in let m = l.invariant.followed in
     let f = c.in-Some.ensures.first m.written.left m.written.are_left in
     let shorter = l.invariant.payloads_shorter in
-    let next = followed_next c.args.out.now l.out c.args.entries.now c.args.payloads.now l.entry l.entries_left.now l.payloads_left.now m
-    k.part.tag k.part.payload.now k.entries.now k.payloads.now f in
+    let next = followed_next _ _ _ _ _ _ _ m _ _ _ _ f in
     (omega (arith, c.in-Some.ensures.payloads_len), next)
 
 pub append_payloads-loop-child-preserved : goal.append_payloads-loop-child-preserved
@@ -61,8 +63,7 @@ append_payloads-loop-child-preserved t c =
     let l = c.loop-child in let k = c.in-Some.child in let m = l.invariant.followed in
     let f = c.in-Some.ensures.first m.written.left m.written.are_left in
     record {
-      followed = followed_on c.args.out.now l.out c.args.entries.now c.args.payloads.now l.entry l.entries_left.now l.payloads_left.now m
-          k.part.tag k.part.payload.now k.entries.now k.payloads.now f c.append_payload.new.out c.append_payload.ensures;
+      followed = followed_on _ _ _ _ _ _ _ m _ _ _ _ f c.append_payload.new.out c.append_payload.ensures;
       capacity = le_trans l.invariant.capacity (c.append_payload.ensures f.first f.is).capacity;
       payloads_shorter = omega (arith, c.in-Some.ensures.payloads_len, l.invariant.payloads_shorter);
     }
@@ -71,6 +72,6 @@ pub append_payloads-returns : goal.append_payloads-returns
 append_payloads-returns t c ts h =
     let l = c.loop-child in let w = l.invariant.followed.written in
     record {
-      items = written_end payloads_of c.args.out.now l.out c.args.entries.now c.args.payloads.now l.entries_left.now l.payloads_left.now refl w (c.in_default.ensures.none w.left w.are_left) ts h;
+      items = written_end payloads_of _ _ _ _ _ _ refl w (c.in_default.ensures.none w.left w.are_left) ts h;
       capacity = l.invariant.capacity;
     }

@@ -3,25 +3,28 @@ use Rattle.jsonb_codec.specs.Canon.{entries_of, payloads_of}
 use Rattle.jsonb_codec.proofs.Words.{length-word-append}
 use Rattle.jsonb_codec.proofs.Entries.{length-Children}
 use Rattle.jsonb_codec.proofs.Lengths.{length-entries_of}
-use Rattle.jsonb_codec.proofs.Rewriting.{refuses, measured_past, measured_end}
+use Rattle.jsonb_codec.proofs.Rewriting.{refuses, measured_start, measured_past, measured_end}
 use Rattle.jsonb_codec.proofs.canonical.rewrite.+measure.Goals as goal
 
 pub measure_container-returns-clause-some : goal.measure_container-returns-clause-some
 measure_container-returns-clause-some t c tree h =
-    let parts = c.split_container-container.result in
-    let o = c.split_container-container.ensures.opened tree h in
+    let parts = c.container.result in
+    let o = c.container.ensures.opened tree (h.0, h.1) in
     let m = c.in_ok-payloads.ensures.some o.children o.are in
     let written = ap length o.written ∙ length-word-append parts.header (entries_of o.children ++ payloads_of o.children) in
-    (o.fit.0 m.0, omega (arith, written, length-append (entries_of o.children) (payloads_of o.children), length-entries_of o.children, length-Children o.children parts.entries.now parts.payloads.now o.are, m.1))
+    (o.fit.0 m.0, omega (arith, written, length-append (entries_of o.children) (payloads_of o.children), length-entries_of o.children, length-Children o.children parts.children.entries.now parts.children.payloads.now o.are, m.1))
+
+pub measure_payloads-loop-child-init : goal.measure_payloads-loop-child-init
+measure_payloads-loop-child-init t c = record { measured = measured_start _ _ c.args.children.known; small = omega arith; payloads_shorter = omega arith }
 
 pub measure_payloads-returns-in_err-total-clause-none : goal.measure_payloads-returns-in_err-total-clause-none
 measure_payloads-returns-in_err-total-clause-none t c =
-    let l = c.loop-child in let k = c.in-Some.child in
+    let l = c.loop-child in
     let f = c.in-Some.ensures.first l.invariant.measured.left l.invariant.measured.are_left in
-    refuses _ _ (measured_past c.args.entries.now c.args.payloads.now l.total l.entries_left.now l.payloads_left.now l.invariant.measured k.part.tag k.part.payload.now k.entries.now k.payloads.now f c.in_err-total.ensures.none)
+    refuses _ _ (measured_past _ _ _ _ _ l.invariant.measured _ _ _ _ f c.in_err-total.ensures.none)
 
 pub measure_payloads-returns-clause-some : goal.measure_payloads-returns-clause-some
 measure_payloads-returns-clause-some t c =
     let l = c.loop-child in
     let m = l.invariant.measured in
-    measured_end c.args.entries.now c.args.payloads.now l.total l.entries_left.now l.payloads_left.now m (c.in_default.ensures.none m.left m.are_left)
+    measured_end _ _ _ _ _ m (c.in_default.ensures.none m.left m.are_left)

@@ -10,17 +10,17 @@ abbrev pub decreases-measure_payload : goal.decreases-measure_payload
 decreases-measure_payload l = 4 * length l.part.payload.now + 3
 
 abbrev pub decreases-measure_container : goal.decreases-measure_container
-decreases-measure_container l = 4 * length l.bytes.now + 2
+decreases-measure_container l = 4 * length l.part.payload.now + 2
 
 abbrev pub decreases-measure_payloads : goal.decreases-measure_payloads
-decreases-measure_payloads l = 4 * (length l.entries.now + length l.payloads.now) + 5
+decreases-measure_payloads l = 4 * (length l.children.entries.now + length l.children.payloads.now) + 5
 
 abbrev pub invariant-measure_payloads-loop-child : goal.invariant-measure_payloads-loop-child
 invariant-measure_payloads-loop-child l = record {
-  measured : Measured l.entries l.payloads l.total l.entries_left l.payloads_left;
-  small : 4 * l.total + 2 ^ 28 * length l.entries_left ≤ 2 ^ 28 * length l.entries;
-  payloads_shorter : length l.payloads_left ≤ length l.payloads;
+  measured : Measured l.children.entries.now l.children.payloads.now l.total l.left.entries.now l.left.payloads.now;
+  small : 4 * l.total + 2 ^ 28 * length l.left.entries.now ≤ 2 ^ 28 * length l.children.entries.now;
+  payloads_shorter : length l.left.payloads.now ≤ length l.children.payloads.now;
 }
 
 abbrev pub decreases-measure_payloads-loop-child : goal.decreases-measure_payloads-loop-child
-decreases-measure_payloads-loop-child l = length l.entries_left
+decreases-measure_payloads-loop-child l = length l.left.entries.now

@@ -5,37 +5,33 @@ use Rattle.jsonb_codec.proofs.canonical.rewrite.append_entries.Goals as goal
 
 pub loop-child-init : goal.loop-child-init
 loop-child-init c = record {
-  entered = entered_start c.args.out.now c.args.entries.now c.args.payloads.now c.args.size c.requires.children c.requires.size;
+  entered = entered_start _ _ _ _ c.requires.children c.requires.size;
   capacity = omega arith;
   fewer = omega arith;
 }
 
 pub child_size-size-requires : goal.child_size-size-requires
 child_size-size-requires c =
-    let l = c.loop-child in let k = c.in-Some.child in let m = l.invariant.entered in
-    let first = entered_size c.args.out.now l.out c.args.entries.now c.args.payloads.now l.size_left l.entries_left.now l.payloads_left.now m
-    k.part.tag k.part.payload.now k.entries.now k.payloads.now (c.in-Some.ensures.first m.written.left m.written.are_left) in
+    let l = c.loop-child in let m = l.invariant.entered in
+    let first = entered_size _ _ _ _ _ _ _ m _ _ _ _ (c.in-Some.ensures.first m.written.left m.written.are_left) in
     record { first = first; few = omega (arith, c.requires.few, l.invariant.fewer, c.in-Some.ensures.entries_len) }
 
 pub append_entry-requires-clause-child : goal.append_entry-requires-clause-child
 append_entry-requires-clause-child c =
-    let l = c.loop-child in let k = c.in-Some.child in let m = l.invariant.entered in
-    entered_next c.args.out.now l.out c.args.entries.now c.args.payloads.now l.size_left l.entries_left.now l.payloads_left.now m
-    k.part.tag k.part.payload.now k.entries.now k.payloads.now (c.in-Some.ensures.first m.written.left m.written.are_left)
+    let l = c.loop-child in let m = l.invariant.entered in
+    entered_next _ _ _ _ _ _ _ m _ _ _ _ (c.in-Some.ensures.first m.written.left m.written.are_left)
 
 pub overflow_sub-size_left : goal.overflow_sub-size_left
 overflow_sub-size_left c =
-    let l = c.loop-child in let k = c.in-Some.child in let m = l.invariant.entered in
-    entered_within c.args.out.now l.out c.args.entries.now c.args.payloads.now l.size_left l.entries_left.now l.payloads_left.now m
-    k.part.tag k.part.payload.now k.entries.now k.payloads.now (c.in-Some.ensures.first m.written.left m.written.are_left) c.child_size-size.result c.child_size-size.ensures
+    let l = c.loop-child in let m = l.invariant.entered in
+    entered_within _ _ _ _ _ _ _ m _ _ _ _ (c.in-Some.ensures.first m.written.left m.written.are_left) c.child_size-size.result c.child_size-size.ensures
 
 pub loop-child-preserved : goal.loop-child-preserved
 loop-child-preserved c =
-    let l = c.loop-child in let k = c.in-Some.child in let m = l.invariant.entered in
+    let l = c.loop-child in let m = l.invariant.entered in
     let f = c.in-Some.ensures.first m.written.left m.written.are_left in
     record {
-      entered = entered_on c.args.out.now l.out c.args.entries.now c.args.payloads.now l.size_left l.entries_left.now l.payloads_left.now m
-          k.part.tag k.part.payload.now k.entries.now k.payloads.now f c.append_entry.new.out c.child_size-size.result c.child_size-size.ensures c.append_entry.ensures;
+      entered = entered_on _ _ _ _ _ _ _ m _ _ _ _ f c.append_entry.new.out c.child_size-size.result c.child_size-size.ensures c.append_entry.ensures;
       capacity = le_trans l.invariant.capacity (c.append_entry.ensures f.first f.is).capacity;
       fewer = omega (arith, l.invariant.fewer, c.in-Some.ensures.entries_len);
     }
@@ -44,6 +40,6 @@ pub returns : goal.returns
 returns c ts h =
     let l = c.loop-child in let w = l.invariant.entered.written in
     record {
-      items = written_end entries_of c.args.out.now l.out c.args.entries.now c.args.payloads.now l.entries_left.now l.payloads_left.now refl w (c.in_default.ensures.none w.left w.are_left) ts h;
+      items = written_end entries_of _ _ _ _ _ _ refl w (c.in_default.ensures.none w.left w.are_left) ts h;
       capacity = l.invariant.capacity;
     }

@@ -4,10 +4,10 @@ use Rattle.jsonb_codec.proofs.canonical.rewrite.append_entries.Given as goal
 
 abbrev pub invariant-loop-child : goal.invariant-loop-child
 invariant-loop-child l = record {
-  entered : Entered l.fn.out l.out l.entries l.payloads l.size_left l.entries_left l.payloads_left;
+  entered : Entered l.fn.out l.out l.children.entries.now l.children.payloads.now l.size_left l.left.entries.now l.left.payloads.now;
   capacity : vec_capacity l.fn.out ≤ vec_capacity l.out;
-  fewer : length l.entries_left ≤ length l.entries;
+  fewer : length l.left.entries.now ≤ length l.children.entries.now;
 }
 
 abbrev pub decreases-loop-child : goal.decreases-loop-child
-decreases-loop-child l = length l.entries_left
+decreases-loop-child l = length l.left.entries.now
