@@ -1,0 +1,23 @@
+-- Rows as they are stored.
+use Rattle.std.specs.Prelude.{◌≡◌, ◌<◌, ◌^◌, ℕ, List, [], ◌∷◌, ◌++◌, All, length}
+use Rattle.std.specs.Int.{w64, to_be_bytes}
+use Rattle.jsonb_codec.specs.Doc.{IsDocument}
+
+-- the length of a row in eight bytes, the most significant first, and the row
+abbrev pub stored_row : List ℕ → List ℕ
+stored_row row = to_be_bytes w64 (length row) ++ row
+
+-- the rows, one behind another
+abbrev pub stored : List (List ℕ) → List ℕ
+stored [] = []
+stored (row ∷ rows) = stored_row row ++ stored rows
+
+-- The row is a document, and its length has room in the eight bytes.
+pub record IsRow (row : List ℕ) : Type 0 where
+  pub document : IsDocument row
+  pub short : length row < 2 ^ 64
+
+-- The bytes are these rows as they are stored.
+pub record AreStored (rows : List (List ℕ)) (bytes : List ℕ) : Type 0 where
+  pub each : All IsRow rows
+  pub written : bytes ≡ stored rows

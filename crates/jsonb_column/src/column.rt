@@ -1,0 +1,194 @@
+//! Documents one behind another in one buffer.
+
+ghost use Rattle.std.specs.Prelude.{◌≡◌, ◌+◌, ◌<◌, ◌≤◌, ◌∷◌, ◌++◌, ◌⊎◌, [], ℕ, List, All, Err, IfOk, IfErr, OnOk, OnErr, chars, filter, length, map, slice_index_or};
+ghost use Rattle.jsonb_value.specs.Json.Syntax.{Json};
+ghost use Rattle.jsonb_value.specs.Tree.{Tree};
+ghost use Rattle.jsonb_codec.specs.Canon.{canon, Fits};
+ghost use Rattle.jsonb_codec.specs.Doc.{IsDocument};
+ghost use Rattle.jsonb.specs.Document.{document_bytes, document_tree};
+ghost use Rattle.std.specs.List.{concat};
+ghost use Rattle.std.specs.Iterator.{YieldsFirstBy, item_count};
+ghost use Rattle.jsonb_column.specs.Select.{has_member, most_reads};
+ghost use Rattle.jsonb_column.specs.Rows.{row_in, rows_in, IsWithin, AreRows, FillBytes};
+
+use crate::place::Place;
+use crate::select::{has_member, item_of};
+use jsonb::{Document, Encoder, Error, MAX_READS, Reads, is_document, parse_value};
+use std::alloc::Global;
+use std::marker::Model;
+
+/// Documents, one behind another in one buffer. Each is known to be one: no call checks it again.
+#[derive(Drop)]
+pub struct Column {
+    bytes: Vec<u8>,
+    places: Vec<Place>,
+}
+
+// The rows as a contract sees them: the bytes of each document, which have one tree.
+impl Model for Column {
+    ghost Value = { List (List ℕ) };
+
+    ghost view = { λ c. rows_in c.bytes.items c.places.items };
+
+    ghost invariant = { λ c. FillBytes c.bytes.items c.places.items };
+}
+
+impl Column {
+    /// No rows.
+    pub fn new(alloc: Global) -> Self
+        ensures { result ≡ [] }
+    {
+        Column {
+            bytes: Vec::new(alloc),
+            places: Vec::new(alloc),
+        }
+    }
+
+    /// How many rows there are. Each is a document.
+    pub fn len(&self) -> usize
+        ensures len { result ≡ length self.now }
+        ensures documents { All IsDocument self.now }
+    {
+        self.places.len()
+    }
+
+    /// Puts a document behind the others, as its bytes stand. `InvalidJsonb`: the bytes are no
+    /// document. After a refusal the rows are as before.
+    pub fn push(&mut self, bytes: &[u8]) -> Result<(), Error>
+        ensures pushed { OnOk result (self.new ≡ self.old ++ bytes.now ∷ []) }
+        ensures document { OnOk result (IsDocument bytes.now) }
+        ensures kept { OnErr result (self.new ≡ self.old) }
+        ensures invalid { result ≡ Err Error.InvalidJsonb → IsDocument bytes.now → ⊥ }
+        ensures only { IfErr result
+            (λ e. (e ≡ Error.InvalidJsonb) ⊎ (e ≡ Error.OutOfMemory)) }
+    {
+        if !is_document(bytes) {
+            return Err(Error::InvalidJsonb);
+        }
+        self.places.reserve(1)?;
+        let start = self.bytes.len();
+        self.bytes.extend_from_slice(bytes)?;
+        self.places.push_reserved(Place {
+            start,
+            size: bytes.len(),
+        });
+        Ok(())
+    }
+
+    /// Puts the canonical document of a JSON text's tree behind the others. `InvalidJson`: no JSON
+    /// text, or a number that no document holds. `InvalidJsonb`: a payload, a key or a count is
+    /// past its limit. After a refusal the rows are as before.
+    pub fn push_json(&mut self, alloc: Global, text: &str) -> Result<(), Error>
+        ensures pushed { OnOk result ((t : Tree)
+            × (Json (chars text.now) t × (self.new ≡ self.old ++ canon t ∷ []))) }
+        ensures kept { OnErr result (self.new ≡ self.old) }
+        ensures invalid { result ≡ Err Error.InvalidJson
+            → (t : Tree) → Json (chars text.now) t → ⊥ }
+        ensures past { result ≡ Err Error.InvalidJsonb
+            → (t : Tree) × (Json (chars text.now) t × (Fits t → ⊥)) }
+        ensures only { IfErr result (λ e. (e ≡ Error.InvalidJson)
+            ⊎ ((e ≡ Error.InvalidJsonb) ⊎ (e ≡ Error.OutOfMemory))) }
+    {
+        let value = parse_value(alloc, text)?;
+        self.places.reserve(1)?;
+        let start = self.bytes.len();
+        Encoder::new(&mut self.bytes).encode(&value)?;
+        self.places.push_reserved(Place {
+            start,
+            size: self.bytes.len() - start,
+        });
+        Ok(())
+    }
+
+    /// The row at this index, which must be below `len`.
+    pub fn row(&self, index: usize) -> Document<'_>
+        requires { index < length self.now }
+        ensures { document_bytes result ≡ slice_index_or self.now index [] }
+    {
+        document_at(&self.bytes, self.places[index])
+    }
+
+    /// The rows, in order.
+    pub fn iter(&self) -> Rows<'_>
+        ensures { result ≡ self.now }
+    {
+        Rows {
+            bytes: &self.bytes,
+            places: &self.places,
+        }
+    }
+
+    /// How many bytes the documents have.
+    pub fn size(&self) -> usize
+        ensures size { result ≡ length (concat self.now) }
+        ensures bound { length (concat self.now) ≤ MAX_READS }
+    {
+        self.bytes.len()
+    }
+
+    /// The objects that have a member of this name that is equal to the value, in order. Of each row
+    /// at most two words for each of its pairs are read, and one more, all by the tally. That and
+    /// `size` must be at most `MAX_READS` together. Only memory can be refused.
+    pub fn select(
+        &self,
+        alloc: Global,
+        name: &str,
+        value: Document<'_>,
+        reads: &mut Reads,
+    ) -> Result<Vec<Document<'_>>, Error>
+        requires { reads.old + length (concat self.now) ≤ MAX_READS }
+        ensures rows { IfOk result (λ rows. map document_bytes rows.items
+            ≡ filter (has_member name.now (document_tree value.entry)) self.now) }
+        ensures bound { (reads.old ≤ reads.new)
+            × (reads.new ≤ reads.old + most_reads self.now) }
+        ensures memory { IfErr result (λ e. e ≡ Error.OutOfMemory) }
+    {
+        let value = item_of(value);
+        let mut rows = Vec::new(alloc);
+        for index in 0..self.len() {
+            let row = self.row(index);
+            if has_member(row, name, &value, reads) {
+                rows.push(row)?;
+            }
+        }
+        Ok(rows)
+    }
+}
+
+// The document that stands there.
+fn document_at(bytes: &[u8], place: Place) -> Document<'_>
+    requires within { IsWithin bytes.now place }
+    requires document { IsDocument (row_in bytes.now place) }
+    ensures { document_bytes result ≡ row_in bytes.entry.now place }
+{
+    Document::of_known(&bytes[place.start..place.start + place.size])
+}
+
+/// The rows of a column that are left, in order.
+#[derive(Drop)]
+pub struct Rows<'c> {
+    bytes: &'c [u8],
+    places: &'c [Place],
+}
+
+impl<'c> Model for Rows<'c> {
+    ghost Value = { List (List ℕ) };
+
+    ghost view = { λ rows. rows_in rows.bytes.now rows.places.now };
+
+    ghost invariant = { λ rows. AreRows rows.bytes.now rows.places.now };
+}
+
+impl<'c> Iterator for Rows<'c> {
+    type Item = Document<'c>;
+
+    ghost next_gives = { YieldsFirstBy document_bytes (λ rows. rows) };
+
+    ghost remaining = { item_count (λ rows. rows) };
+
+    fn next(&mut self) -> Option<Document<'c>> {
+        let (place, behind) = self.places.split_first()?;
+        self.places = behind;
+        Some(document_at(self.bytes, *place))
+    }
+}

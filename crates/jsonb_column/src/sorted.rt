@@ -1,0 +1,84 @@
+//! Rows in the order of what they mean.
+
+ghost use Rattle.std.specs.Prelude.{◌≡◌, ◌≢◌, ◌≤◌, ◌<◌, ℕ, map, length, filter, IfOk, IfErr, IsPermutation, IsSorted};
+ghost use Rattle.std.specs.Ordering.{on};
+ghost use Rattle.jsonb_value.specs.TreeOrder.{tree_cmp};
+ghost use Rattle.jsonb.specs.Document.{document_bytes, document_tree};
+
+use crate::column::Column;
+use jsonb::{Document, Error, order_of_trees};
+use std::alloc::Global;
+use std::cmp::Ordering;
+
+/// The rows of a column, in the order of their trees.
+#[derive(Drop)]
+pub struct Sorted<'c> {
+    rows: Vec<Document<'c>>,
+    ghost ordered: { IsSorted (on document_tree tree_cmp) rows.items },
+}
+
+impl<'c> Sorted<'c> {
+    ghost use Rattle.jsonb_column.specs.Sorted.{sorted_rows, row_order, is_between, is_equal};
+
+    /// The rows of the column, sorted: equal ones stay in their order. Only memory can be refused.
+    pub fn new(alloc: Global, column: &'c Column) -> Result<Self, Error>
+        ensures rows { IfOk result
+            (λ s. IsPermutation column.now (map document_bytes (sorted_rows s))) }
+        ensures ordered { IfOk result
+            (λ s. IsSorted (on document_tree tree_cmp) (sorted_rows s)) }
+        ensures memory { IfErr result (λ e. e ≡ Error.OutOfMemory) }
+    {
+        let mut rows = column.iter().collect::<Vec<_>>(alloc)?;
+        rows.sort()?;
+        Ok(Sorted { rows })
+    }
+
+    /// The rows, in order.
+    pub fn rows(&self) -> &[Document<'c>]
+        ensures { result.now ≡ sorted_rows self.now }
+    {
+        &self.rows
+    }
+
+    /// How many rows are below the key: the place of the first that is not.
+    pub fn lower(&self, key: Document<'_>) -> usize
+        ensures bound { result ≤ length (sorted_rows self.now) }
+        ensures below { (i : ℕ) (d : Document) → i < result
+            → row_order self.now key.entry i d ≡ Ordering.Less }
+        ensures others { (i : ℕ) (d : Document) → result ≤ i → i < length (sorted_rows self.now)
+            → row_order self.now key.entry i d ≢ Ordering.Less }
+    {
+        order_of_trees();
+        self.rows.partition_point(|row| row.cmp(&key).is_lt())
+    }
+
+    /// How many rows are not above the key: the place of the first that is.
+    pub fn upper(&self, key: Document<'_>) -> usize
+        ensures bound { result ≤ length (sorted_rows self.now) }
+        ensures others { (i : ℕ) (d : Document) → i < result
+            → row_order self.now key.entry i d ≢ Ordering.Greater }
+        ensures above { (i : ℕ) (d : Document) → result ≤ i → i < length (sorted_rows self.now)
+            → row_order self.now key.entry i d ≡ Ordering.Greater }
+    {
+        order_of_trees();
+        self.rows.partition_point(|row| row.cmp(&key).is_le())
+    }
+
+    /// The rows from `low` to `high`, with those equal to either; none where `low` is above `high`.
+    pub fn range(&self, low: Document<'_>, high: Document<'_>) -> &[Document<'c>]
+        ensures { result.now ≡ filter
+            (is_between (document_tree low.entry) (document_tree high.entry))
+            (sorted_rows self.now) }
+    {
+        let from = self.lower(low);
+        let to = self.upper(high).max(from);
+        &self.rows[from..to]
+    }
+
+    /// The rows that are equal to the key.
+    pub fn equal(&self, key: Document<'_>) -> &[Document<'c>]
+        ensures { result.now ≡ filter (is_equal (document_tree key.entry)) (sorted_rows self.now) }
+    {
+        self.range(key, key)
+    }
+}
