@@ -1,3 +1,4 @@
 pub mod RowsLaws
 pub mod OrderLaws
 pub mod SelectLaws
+pub mod StoredLaws

@@ -9,10 +9,12 @@ ghost use Rattle.jsonb.specs.Document.{document_bytes, document_tree};
 ghost use Rattle.std.specs.List.{concat};
 ghost use Rattle.std.specs.Iterator.{YieldsFirstBy, item_count};
 ghost use Rattle.jsonb_column.specs.Select.{has_member, most_reads};
+ghost use Rattle.jsonb_column.specs.Stored.{AreStored, IsRow, stored};
 ghost use Rattle.jsonb_column.specs.Rows.{row_in, rows_in, IsWithin, AreRows, FillBytes};
 
 use crate::place::Place;
 use crate::select::{has_member, item_of};
+use crate::stored::{append_row, split_row};
 use jsonb::{Document, Encoder, Error, MAX_READS, Reads, is_document, parse_value};
 use std::alloc::Global;
 use std::marker::Model;
@@ -47,7 +49,7 @@ impl Column {
     /// How many rows there are. Each is a document.
     pub fn len(&self) -> usize
         ensures len { result ≡ length self.now }
-        ensures documents { All IsDocument self.now }
+        ensures each { All IsRow self.now }
     {
         self.places.len()
     }
@@ -152,6 +154,47 @@ impl Column {
             }
         }
         Ok(rows)
+    }
+
+    /// Appends the rows as they are stored: each behind its length in eight bytes, the most
+    /// significant first. Only memory can be refused, and the bytes are then as before.
+    pub fn write_to(&self, buf: &mut Vec<u8>) -> Result<(), Error>
+        ensures written { OnOk result (buf.new.items ≡ buf.old.items ++ stored self.now) }
+        ensures stored { AreStored self.now (stored self.now) }
+        ensures kept { OnErr result (buf.new.items ≡ buf.old.items) }
+        ensures memory { IfErr result (λ e. e ≡ Error.OutOfMemory) }
+    {
+        let start = buf.len();
+        for index in 0..self.len() {
+            if let Err(error) = append_row(buf, self.row(index).as_bytes()) {
+                buf.truncate(start);
+                return Err(error);
+            }
+        }
+        Ok(())
+    }
+
+    /// The rows that these bytes store, each checked once. `InvalidEOF`: a length or a row is cut.
+    /// `InvalidJsonb`: a row is no document. Both come only where the bytes store no rows.
+    pub fn read_from(alloc: Global, bytes: &[u8]) -> Result<Column, Error>
+        ensures stored { IfOk result (λ column. AreStored column bytes.now) }
+        ensures same { (rows : List (List ℕ)) → AreStored rows bytes.now
+            → IfOk result (λ column. column ≡ rows) }
+        ensures cut { result ≡ Err Error.InvalidEOF
+            → (rows : List (List ℕ)) → AreStored rows bytes.now → ⊥ }
+        ensures invalid { result ≡ Err Error.InvalidJsonb
+            → (rows : List (List ℕ)) → AreStored rows bytes.now → ⊥ }
+        ensures only { IfErr result (λ e. (e ≡ Error.InvalidEOF)
+            ⊎ ((e ≡ Error.InvalidJsonb) ⊎ (e ≡ Error.OutOfMemory))) }
+    {
+        let mut column = Column::new(alloc);
+        let mut rest = bytes;
+        while !rest.is_empty() {
+            let (row, behind) = split_row(rest)?;
+            column.push(row)?;
+            rest = behind;
+        }
+        Ok(column)
     }
 }
 

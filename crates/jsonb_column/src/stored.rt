@@ -11,7 +11,6 @@ pub fn append_row(buf: &mut Vec<u8>, row: &[u8]) -> Result<(), Error>
     ensures ok { OnOk result (buf.new.items ≡ buf.old.items ++ stored_row row.now) }
     ensures begun { OnErr result ((part : List ℕ) × (buf.new.items ≡ buf.old.items ++ part)) }
     ensures memory { IfErr result (λ e. e ≡ Error.OutOfMemory) }
-    ensures short { length row.now < 2 ^ 64 }
 {
     buf.extend_from_slice(&(row.len() as u64).to_be_bytes())?;
     buf.extend_from_slice(row)?;
@@ -22,6 +21,7 @@ pub fn append_row(buf: &mut Vec<u8>, row: &[u8]) -> Result<(), Error>
 /// row.
 pub fn split_row(bytes: &[u8]) -> Result<(&[u8], &[u8]), Error>
     ensures ok { IfOk result (λ parts. bytes.now ≡ stored_row parts.0.now ++ parts.1.now) }
+    ensures short { IfOk result (λ parts. length parts.0.now < 2 ^ 64) }
     ensures cut { OnErr result ((row behind : List ℕ) → length row < 2 ^ 64
         → bytes.now ≡ stored_row row ++ behind → ⊥) }
     ensures only { IfErr result (λ e. e ≡ Error.InvalidEOF) }

@@ -1,7 +1,12 @@
-use Rattle.std.proofs.Common.{subst}
+use Rattle.std.proofs.Common.{subst, ap, arith, length}
 use Rattle.std.specs.Prelude.{All}
-use Rattle.jsonb_codec.specs.Doc.{IsDocument}
+use Rattle.jsonb_column.specs.Rows.{rows_in}
+use Rattle.jsonb_column.specs.Stored.{IsRow}
+use Rattle.jsonb_column.proofs.StoredLaws.{IsRow-all}
 use Rattle.jsonb_column.proofs.column.Column.len.Goals as goal
 
-pub returns-clause-documents : goal.returns-clause-documents
-returns-clause-documents c = subst (All IsDocument) c.self.view_is c.self.invariant.rows.documents
+pub returns-clause-each : goal.returns-clause-each
+returns-clause-each c =
+    let column = c.self.inside in
+    subst (All IsRow) c.self.view_is
+    (IsRow-all (rows_in column.bytes.items column.places.items) c.self.invariant.rows.documents (omega (arith, ap length c.self.invariant.whole, column.bytes.ok, column.bytes.small)))

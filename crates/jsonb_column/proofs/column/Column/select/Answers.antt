@@ -1,5 +1,8 @@
 use Rattle.std.proofs.Common.{rules, ◌≡◌, ◌∷◌, ◌++◌, [], ◌<◌, length, map, true, false, ap, sym, arith, ◌∙◌}
 use Rattle.std.proofs.lemmas.List.Sums.{sum_by_more, sum_by_more_le}
+use Rattle.std.proofs.lemmas.List.Elements.{All-weaker}
+use Rattle.jsonb_codec.specs.Doc.{IsDocument}
+use Rattle.jsonb_column.specs.Stored.{IsRow}
 use Rattle.jsonb.specs.Document.{document_bytes, document_tree}
 use Rattle.jsonb_column.specs.Select.{has_member, row_reads}
 use Rattle.jsonb_column.proofs.SelectLaws.{words-take, found-more, found-same}
@@ -8,7 +11,7 @@ use Rattle.jsonb_column.proofs.column.Column.select.Goals.{then-has_member+in_ok
 
 pub has_member-requires : goal.has_member-requires
 has_member-requires c =
-    omega (arith, c.loop-index.invariant.few, words-take c.args.self.now c.loop-index.index c.len-index-end.ensures.documents, c.requires)
+    omega (arith, c.loop-index.invariant.few, words-take c.args.self.now c.loop-index.index (All-weaker IsRow IsDocument (λ row means. means.document) c.args.self.now c.len-index-end.ensures.each), c.requires)
 
 pub returns-in_err-push-clause-bound : goal.returns-in_err-push-clause-bound
 returns-in_err-push-clause-bound c =
