@@ -1,0 +1,5 @@
+pub mod Commands
+pub mod Parsed
+pub mod Answers
+pub mod Session
+pub mod Fault
