@@ -70,10 +70,9 @@ impl Column {
         self.places.reserve(1)?;
         let start = self.bytes.len();
         self.bytes.extend_from_slice(bytes)?;
-        self.places.push_reserved(Place {
-            start,
-            size: bytes.len(),
-        });
+        let size = bytes.len();
+        let place = Place { start, size };
+        self.places.push_reserved(place);
         Ok(())
     }
 
@@ -95,10 +94,8 @@ impl Column {
         self.places.reserve(1)?;
         let start = self.bytes.len();
         Encoder::new(&mut self.bytes).encode(&value)?;
-        self.places.push_reserved(Place {
-            start,
-            size: self.bytes.len() - start,
-        });
+        let size = self.bytes.len() - start;
+        self.places.push_reserved(Place { start, size });
         Ok(())
     }
 

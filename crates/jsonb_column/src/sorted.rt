@@ -37,7 +37,7 @@ impl<'c> Sorted<'c> {
     pub fn rows(&self) -> &[Document<'c>]
         ensures { result.now ≡ sorted_rows self.now }
     {
-        &self.rows
+        self.rows.as_slice()
     }
 
     /// How many rows are below the key: the place of the first that is not.
