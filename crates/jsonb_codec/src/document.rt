@@ -201,6 +201,15 @@ impl<'a> DocumentBytes<'a> {
         check(FaultTable::Tree, depth, bytes).ok()
     }
 
+    /// The bytes, of which the caller knows that they are a document: nothing is checked again.
+    #[inline(always)]
+    pub fn new_unchecked(bytes: &'a [u8]) -> Self
+        requires { IsDocument bytes.now }
+        ensures { bytes_of result ≡ bytes.entry.now }
+    {
+        Self { bytes }
+    }
+
     /// An array or object inside another is a document by itself.
     #[inline(always)]
     pub fn of_container(part: Part<'a>) -> Self

@@ -201,7 +201,7 @@ fn document_at(bytes: &[u8], place: Place) -> Document<'_>
     requires document { IsDocument (row_in bytes.now place) }
     ensures { document_bytes result ≡ row_in bytes.entry.now place }
 {
-    Document::of_known(&bytes[place.start..place.start + place.size])
+    Document::new_unchecked(&bytes[place.start..place.start + place.size])
 }
 
 /// The rows of a column that are left, in order.

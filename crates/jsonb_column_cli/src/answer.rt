@@ -147,7 +147,7 @@ pub fn answer_find(
     ensures { IsOutcome column.now (find name.now value.now) (said result) column.now }
 {
     let value = parse_document(alloc, value)?;
-    let value = Document::of_known(value.as_bytes());
+    let value = Document::new_unchecked(value.as_bytes());
     let _ = column.size();
     let rows = column.select(alloc, name, value, &mut Reads::new())?;
     answer_rows(alloc, &rows)
@@ -165,8 +165,8 @@ pub fn answer_range(
     let low = parse_document(alloc, low)?;
     let high = parse_document(alloc, high)?;
     let sorted = Sorted::new(alloc, column)?;
-    let low = Document::of_known(low.as_bytes());
-    let high = Document::of_known(high.as_bytes());
+    let low = Document::new_unchecked(low.as_bytes());
+    let high = Document::new_unchecked(high.as_bytes());
     answer_rows(alloc, sorted.range(low, high))
 }
 
