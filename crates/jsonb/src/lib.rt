@@ -2,7 +2,6 @@
 #![tactic(auto)]
 
 mod builder;
-mod canonical;
 mod code;
 mod composition;
 mod document;

@@ -1,23 +1,16 @@
 //! The value of a key, found in place with a counted number of reads.
 
-ghost use Rattle.std.specs.Prelude.{◌≡◌, ℕ, ◌+◌, ◌-◌, ◌*◌, ◌<◌, ◌≤◌, ◌↔◌, ◌^◌, Bool, List, length, option_map, Ok, Err, IfOk, IfErr, IfSome, IfNone, IsOk, IsErr, IsOkAnd, OnOk};
+ghost use Rattle.std.specs.Prelude.{◌≡◌, ◌+◌, ◌-◌, ◌*◌, ◌<◌, ◌≤◌, ◌↔◌, ◌^◌, length, Ok, Err, IfOk, IfErr, IfSome, IfNone, IsOk, IsErr, OnOk};
 ghost use Rattle.std.specs.Fn.{FnReturnsAtPair};
-ghost use Rattle.jsonb_value.specs.Tree.{Tree};
 ghost use Rattle.jsonb_codec.specs.declared.constants.TheConstants.{OBJECT_CONTAINER_TAG};
 ghost use Rattle.jsonb_codec.specs.JEntry.{jentry_at};
-ghost use Rattle.jsonb_codec.specs.Doc.{Doc};
-ghost use Rattle.jsonb.specs.Raw.{raw_bytes};
-ghost use Rattle.jsonb.specs.Shown.{shown};
 ghost use Rattle.jsonb.specs.Entries.{entry_of};
 ghost use Rattle.jsonb.specs.Item.{part_at};
 ghost use Rattle.jsonb.specs.Walk.{count_under};
 ghost use Rattle.jsonb.specs.Parts.{part_length, part_start, HasParts, PassedBefore, IsAccepted, IsNoneFound, IsValueFound, IsUnreadable};
-ghost use Rattle.jsonb.specs.Standing.{IsFoundIn};
-ghost use Rattle.jsonb.specs.Lookup.{header_count, IsRefusal, LooksUp, LooksUpIn, LooksUpBytes, LooksUpInBytes, shown_found, find, AnswersBy, IsItemFound};
+ghost use Rattle.jsonb.specs.Lookup.{header_count, IsRefusal};
 
 use crate::entries::Entry;
-use crate::item::{JsonbItem, item_of_entry};
-use crate::raw::RawJsonb;
 use crate::reads::Reads;
 use jsonb_codec::constants::OBJECT_CONTAINER_TAG;
 use jsonb_codec::{JEntry, decode_header};
@@ -26,9 +19,9 @@ use jsonb_value::Error;
 /// The greatest tally with which a look-up may begin.
 pub const MAX_READS: u64 = 9_223_372_036_854_775_807;
 
-// How many pairs there are: `None` where the header is that of an array or a scalar.
+/// How many pairs there are: `None` where the header is that of an array or a scalar.
 #[tactic(auto, unfolding(crate::specs::Walk::count_under, crate::specs::Lookup::header_count))]
-fn count_pairs(bytes: &[u8], reads: &mut Reads) -> Result<Option<usize>, Error>
+pub fn count_pairs(bytes: &[u8], reads: &mut Reads) -> Result<Option<usize>, Error>
     requires { reads.old < 2 ^ 63 }
     ensures value { result ≡ count_under bytes.now OBJECT_CONTAINER_TAG }
     ensures counted { IfOk result (λ count. IfSome count (λ n. n ≡ header_count bytes.now)) }
@@ -155,9 +148,9 @@ fn skip_parts(
     Ok(place)
 }
 
-// The entry of the value of the first key that is accepted, among so many pairs.
+/// The entry of the value of the first key that is accepted, among so many pairs.
 #[tactic(auto, using(crate::proofs::PartLaws::length_before_bound, crate::proofs::PartLaws::part_fits))]
-fn find_value<'a, F: Fn(&[u8], &[u8]) -> bool>(
+pub fn find_value<'a, F: Fn(&[u8], &[u8]) -> bool>(
     bytes: &'a [u8],
     count: usize,
     name: &str,
@@ -190,90 +183,4 @@ fn find_value<'a, F: Fn(&[u8], &[u8]) -> bool>(
         type_code: entry.type_code,
         payload: payload(bytes, start, entry.length as usize)?,
     }))
-}
-
-impl<'a> RawJsonb<'a> {
-    /// The value of the first key, in stored order, that has the name's length in bytes and for
-    /// which `eq_func(name, key)` is true. `None` for a scalar, an array and `{}`, and where no key
-    /// is accepted. Keys of other lengths are not shown to the closure.
-    ///
-    /// Each word of the document is read by the tally: the header, each key's entry, and the
-    /// values' entries up to the wanted one. The tally must be at most `MAX_READS`.
-    ///
-    /// `InvalidEOF` where the header or an entry that is read is cut, `InvalidJsonb` for a header
-    /// of no kind, and where a key of the name's length or the value runs past the end;
-    /// `InvalidUtf8`, `InvalidJsonbNumber`, `InvalidJsonbExtension` and `InvalidJsonb` by what the
-    /// value's entry and payload are.
-    pub fn get_object_value_by_key_name_counted<F: Fn(&[u8], &[u8]) -> bool + Drop>(
-        &self,
-        name: &str,
-        eq_func: F,
-        reads: &mut Reads,
-    ) -> Result<Option<JsonbItem<'a>>, Error>
-        requires room { reads.old ≤ MAX_READS }
-        requires callable { (a b : _) → a.now ≡ name.now → length b.now ≡ length name.now → F.pre eq_func a b }
-        ensures bound { (reads.old ≤ reads.new) × (reads.new ≤ reads.old + (2 * header_count (raw_bytes self.now) + 1)) }
-        ensures refused { IfErr result IsRefusal }
-
-        // On any bytes, by the closure's own contract: which answer, and which error.
-        ensures bytes { LooksUpBytes (λ key b. FnReturnsAtPair F.Fn eq_func name.now key b)
-            (length name.now) (raw_bytes self.now) (shown_found result) (reads.new - reads.old) }
-
-        // On a document an answer, by the trees and the entries that stand there.
-        ensures document { (t : Tree) → Doc (raw_bytes self.now) t
-            → IsOkAnd result (λ found. LooksUp (λ key b. FnReturnsAtPair F.Fn eq_func name.now key b)
-            (length name.now) (raw_bytes self.now) t (option_map shown found) (reads.new - reads.old)) }
-    {
-        let bytes = self.as_bytes();
-        let Some(count) = count_pairs(bytes, reads)? else {
-            return Ok(None);
-        };
-        let Some(entry) = find_value(bytes, count, name, &eq_func, reads)? else {
-            return Ok(None);
-        };
-        Ok(Some(item_of_entry(entry)?))
-    }
-
-    /// The value of the first key, in stored order, that has the name's length in bytes and for
-    /// which `eq_func(name, key)` is true. `None` for a scalar, an array and `{}`, and where no key
-    /// is accepted. Keys of other lengths are not shown to the closure. Among n pairs at most
-    /// 2n + 1 words are read.
-    ///
-    /// `InvalidEOF` where the header or an entry that is read is cut, `InvalidJsonb` for a header
-    /// of no kind, and where a key of the name's length or the value runs past the end;
-    /// `InvalidUtf8`, `InvalidJsonbNumber`, `InvalidJsonbExtension` and `InvalidJsonb` by what the
-    /// value's entry and payload are.
-    pub fn get_object_value_by_key_name<F: Fn(&[u8], &[u8]) -> bool + Drop>(
-        &self,
-        name: &str,
-        eq_func: F,
-    ) -> Result<Option<JsonbItem<'a>>, Error>
-        requires callable { (a b : _) → a.now ≡ name.now → length b.now ≡ length name.now → F.pre eq_func a b }
-        ensures refused { IfErr result IsRefusal }
-
-        // On any bytes, by the closure's own contract: which answer, and which error.
-        ensures bytes { LooksUpInBytes (λ key b. FnReturnsAtPair F.Fn eq_func name.now key b)
-            (length name.now) (raw_bytes self.now) (shown_found result) }
-
-        // On a document an answer, by the trees and the entries that stand there;
-        ensures document { (t : Tree) → Doc (raw_bytes self.now) t
-            → IsOkAnd result (λ found. LooksUpIn (λ key b. FnReturnsAtPair F.Fn eq_func name.now key b)
-            (length name.now) (raw_bytes self.now) t (option_map shown found)) }
-
-        // where the closure answers by one test, an item of what that test finds,
-        ensures found { (accepts : List ℕ → Bool)
-            → AnswersBy accepts (λ key b. FnReturnsAtPair F.Fn eq_func name.now key b) (length name.now)
-            → (t : Tree) → Doc (raw_bytes self.now) t
-            → IsOkAnd result (λ found. IsItemFound (find accepts (length name.now) t) (option_map shown found)) }
-
-        // and the item of the entry that stands there.
-        ensures entry { (accepts : List ℕ → Bool)
-            → AnswersBy accepts (λ key b. FnReturnsAtPair F.Fn eq_func name.now key b) (length name.now)
-            → (t : Tree) → Doc (raw_bytes self.now) t
-            → IsOkAnd result (λ found. IsFoundIn accepts (length name.now) (raw_bytes self.now) t
-            (option_map shown found)) }
-    {
-        let mut reads = Reads::new();
-        self.get_object_value_by_key_name_counted(name, eq_func, &mut reads)
-    }
 }

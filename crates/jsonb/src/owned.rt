@@ -1,16 +1,19 @@
 //! Documents that own their bytes.
 
-ghost use Rattle.std.specs.Prelude.{◌≡◌, ◌↔◌, ◌≤◌, ◌<◌, ◌^◌, ◌⊎◌, length, Err, IfOk, IfErr, IfSome, IsSome, OnOk, IsTrue};
-ghost use Rattle.jsonb_codec.specs.Doc.{IsDocument};
+ghost use Rattle.std.specs.Prelude.{◌≡◌, ◌≤◌, ◌<◌, ◌^◌, ◌⊎◌, length, Err, Some, IfOk, IfErr, OnOk};
 ghost use Rattle.jsonb.specs.Owned.{owned_bytes};
 ghost use Rattle.jsonb.specs.Code.{scalar_bytes, shown_code};
+ghost use Rattle.jsonb.specs.Texts.{shown_text};
 
 use crate::code::{Code, item_code, scalar_document};
 use crate::document::Document;
 use crate::item::JsonbItem;
 use crate::raw::RawJsonb;
-use jsonb_value::Error;
+use crate::text::write_shown;
+use jsonb_codec::Encoder;
+use jsonb_value::{Error, parse_value};
 use std::alloc::Global;
+use std::fmt;
 
 /// The bytes of a document, owned. Any bytes can be given: a call tells what it answers where
 /// they are no document.
@@ -20,11 +23,19 @@ pub struct OwnedJsonb {
 }
 
 impl OwnedJsonb {
-    ghost use Rattle.jsonb.specs.Document.{document_bytes};
-    ghost use Rattle.jsonb.specs.Raw.{raw_bytes};
-    ghost use Rattle.jsonb.specs.Owned.{owned_bytes};
-    ghost use Rattle.jsonb.specs.Shown.{shown};
+    ghost use Rattle.std.specs.Prelude.{◌≡◌, ◌↔◌, ◌⊎◌, chars, length, Err, IfOk, IfErr, IfSome, IsSome, OnOk, IsTrue};
+    ghost use Rattle.jsonb_value.specs.Json.Syntax.{Json};
+    ghost use Rattle.jsonb_value.specs.Norm.{norm};
+    ghost use Rattle.jsonb_value.specs.Text.{compact, pretty};
+    ghost use Rattle.jsonb_value.specs.Tree.{Tree};
+    ghost use Rattle.jsonb_codec.specs.Canon.{canon, Fits};
+    ghost use Rattle.jsonb_codec.specs.Doc.{Doc, IsDocument};
     ghost use Rattle.jsonb.specs.Code.{stored, CanBeStored};
+    ghost use Rattle.jsonb.specs.Document.{document_bytes};
+    ghost use Rattle.jsonb.specs.Owned.{owned_bytes};
+    ghost use Rattle.jsonb.specs.Raw.{raw_bytes};
+    ghost use Rattle.jsonb.specs.Shown.{shown};
+    ghost use Rattle.jsonb.specs.Texts.{shown_text, pretty_shown_text};
 
     /// These bytes.
     pub fn new(bytes: Vec<u8>) -> Self
@@ -111,6 +122,35 @@ impl OwnedJsonb {
     {
         OwnedJsonb::from_bytes(alloc, self.as_bytes())
     }
+
+    /// The canonical document of the value of a JSON text. `InvalidJson` where the text is none
+    /// that `parse_value` reads, `InvalidJsonb` where a payload, a key or a count of its value is
+    /// past its limit; else only memory can be refused.
+    pub fn parse(alloc: Global, text: &str) -> Result<OwnedJsonb, Error>
+        ensures ok { IfOk result (λ owned. (t : Tree)
+            × (Json (chars text.now) t × (owned_bytes owned ≡ canon t))) }
+        ensures fits { OnOk result ((t : Tree) → Json (chars text.now) t → Fits t) }
+        ensures one { (t u : Tree) → Json (chars text.now) t → Json (chars text.now) u → t ≡ u }
+
+        // The document means the text's tree with its zeros made one, and prints as that tree.
+        ensures means { IfOk result (λ owned. (t : Tree) → Json (chars text.now) t
+            → Doc (owned_bytes owned) (norm t)) }
+        ensures prints { IfOk result (λ owned. (t : Tree) → Json (chars text.now) t
+            → shown_text (owned_bytes owned) ≡ compact t) }
+        ensures prints_pretty { IfOk result (λ owned. (t : Tree) → Json (chars text.now) t
+            → pretty_shown_text (owned_bytes owned) ≡ pretty t) }
+        ensures invalid { result ≡ Err Error.InvalidJson
+            → (t : Tree) → Json (chars text.now) t → ⊥ }
+        ensures past { result ≡ Err Error.InvalidJsonb
+            → (t : Tree) × (Json (chars text.now) t × (Fits t → ⊥)) }
+        ensures errors { IfErr result (λ e. (e ≡ Error.InvalidJson)
+            ⊎ ((e ≡ Error.InvalidJsonb) ⊎ (e ≡ Error.OutOfMemory))) }
+    {
+        let value = parse_value(alloc, text)?;
+        let mut bytes = Vec::new(alloc);
+        Encoder::new(&mut bytes).encode(&value)?;
+        Ok(OwnedJsonb::new(bytes))
+    }
 }
 
 impl From<Vec<u8>> for OwnedJsonb {
@@ -121,6 +161,17 @@ impl From<Vec<u8>> for OwnedJsonb {
 
     fn from(bytes: Vec<u8>) -> Self {
         OwnedJsonb::new(bytes)
+    }
+}
+
+/// The text that `to_string` of the bytes gives, without memory. Width and fill are passed over.
+impl fmt::Display for OwnedJsonb {
+    ghost output = { λ owned. Some (shown_text (owned_bytes owned)) };
+
+    ghost styled_output = { λ owned _. Some (shown_text (owned_bytes owned)) };
+
+    fn fmt<W: fmt::Write>(&self, f: &mut fmt::Formatter<W>) -> fmt::Result {
+        write_shown(self.as_bytes(), f)
     }
 }
 

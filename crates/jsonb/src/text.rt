@@ -1,125 +1,26 @@
-//! The texts of documents, written from their bytes in place, and documents of texts.
+//! The texts of documents, written from their bytes in place.
 
-ghost use Rattle.std.specs.Prelude.{◌≡◌, ◌≢◌, ◌⊎◌, ◌++◌, ◌+◌, ◌^◌, ◌≤◌, ◌<◌, ℕ, List, [], All, Err, Some, chars, codes, length, string_bytes, IsOk, IfOk, IfErr, OnOk};
-ghost use Rattle.std.specs.Str.{IsUtf8};
+ghost use Rattle.std.specs.Prelude.{◌≡◌, ◌++◌, ◌^◌, ◌<◌, ℕ, string_bytes, IsOk, IfOk, IfErr, OnOk};
 ghost use Rattle.std.specs.Fmt.{WritesStyledOnOk, formatter_writer};
 ghost use Rattle.jsonb_value.specs.Tree.{Tree};
 ghost use Rattle.jsonb_value.specs.Norm.{norm};
-ghost use Rattle.jsonb_value.specs.Plain.{IsPlain};
 ghost use Rattle.jsonb_value.specs.WellFormed.{IsTree};
 ghost use Rattle.jsonb_value.specs.ExtCode.{extension_of};
-ghost use Rattle.jsonb_value.specs.Json.Syntax.{Json};
 ghost use Rattle.jsonb_value.specs.Text.{compact, pretty, inside, line_start, colon, laid_out, quoted, extension_text};
-ghost use Rattle.jsonb_codec.specs.Canon.{canon, Fits};
 ghost use Rattle.jsonb_codec.specs.Depth.{depth};
-ghost use Rattle.jsonb_codec.specs.Reread.{MeansAgain};
-ghost use Rattle.jsonb_codec.specs.Doc.{Doc, IsDocument};
+ghost use Rattle.jsonb_codec.specs.Doc.{Doc};
 ghost use Rattle.jsonb.specs.Document.{document_tree};
 ghost use Rattle.jsonb.specs.Known.{trees_left, pairs_left};
 ghost use Rattle.jsonb.specs.Node.{node_tree, array_of, object_of, IsContainer, HoldsNoScalar};
-ghost use Rattle.jsonb.specs.Raw.{raw_bytes};
-ghost use Rattle.jsonb.specs.Owned.{owned_bytes};
 ghost use Rattle.jsonb.specs.Texts.{layout_of, lossy_text, other_text, shown_text, pretty_shown_text};
 ghost use Rattle.jsonb.specs.Lines.{pair_text, HasRoom};
 
 use crate::document::{Contents, Document, Node};
 use crate::nodes::{Items, Members};
-use crate::owned::OwnedJsonb;
-use crate::raw::RawJsonb;
 use bstr::ByteSlice;
-use jsonb_codec::Encoder;
-use jsonb_value::{Error, ExtensionValue, extension_text, parse_value, write_number, write_string};
+use jsonb_value::{Error, ExtensionValue, extension_text, write_number, write_string};
 use std::alloc::Global;
 use std::fmt;
-
-impl<'a> RawJsonb<'a> {
-    /// The text of the bytes: of a document its compact text, of no bytes `null`, of all others
-    /// their own text, in which U+FFFD stands for what is no UTF-8. Only memory can be refused.
-    ///
-    /// The text of a document without extension values is read back by `parse` as an equal
-    /// document. A text without a zero byte of at most 4,294,967,296 bytes comes back unchanged.
-    pub fn to_string(&self, alloc: Global) -> Result<String, Error>
-        ensures shown { IfOk result (λ text. string_bytes text ≡ shown_text (raw_bytes self.now)) }
-        ensures document { (t : Tree) → Doc (raw_bytes self.now) t
-            → IfOk result (λ text. string_bytes text ≡ compact t) }
-        ensures other { (IsDocument (raw_bytes self.now) → ⊥)
-            → IfOk result (λ text. string_bytes text ≡ other_text (raw_bytes self.now)) }
-        ensures read_again { (t : Tree) → Doc (raw_bytes self.now) t → IsPlain t → Fits t
-            → IfOk result (λ text. MeansAgain (chars (string_bytes text)) t) }
-        ensures short_text { IsUtf8 (raw_bytes self.now) → All (λ b. b ≢ 0) (raw_bytes self.now)
-            → raw_bytes self.now ≢ [] → length (raw_bytes self.now) ≤ 4294967296
-            → IfOk result (λ text. string_bytes text ≡ raw_bytes self.now) }
-        ensures memory { IfErr result (λ e. e ≡ Error.OutOfMemory) }
-    {
-        // The text is about as long as the bytes.
-        let text = String::with_capacity(alloc, self.len())?;
-        let mut f = fmt::Formatter::new(text);
-        let answer = write_shown(self.as_bytes(), &mut f);
-        written(answer, f)
-    }
-
-    /// The text of a document with each item or pair on a line of its own, indented by two spaces
-    /// for each container round it; `null` of bytes that are no document. Only memory can be
-    /// refused. The text of a document without extension values is read back by `parse` as an
-    /// equal document.
-    pub fn to_pretty_string(&self, alloc: Global) -> Result<String, Error>
-        ensures shown { IfOk result
-            (λ text. string_bytes text ≡ pretty_shown_text (raw_bytes self.now)) }
-        ensures document { (t : Tree) → Doc (raw_bytes self.now) t
-            → IfOk result (λ text. string_bytes text ≡ pretty t) }
-        ensures other { (IsDocument (raw_bytes self.now) → ⊥)
-            → IfOk result (λ text. string_bytes text ≡ codes "null") }
-        ensures read_again { (t : Tree) → Doc (raw_bytes self.now) t → IsPlain t → Fits t
-            → IfOk result (λ text. MeansAgain (chars (string_bytes text)) t) }
-        ensures memory { IfErr result (λ e. e ≡ Error.OutOfMemory) }
-    {
-        let mut f = fmt::Formatter::new(String::new(alloc));
-        let answer = write_pretty(self.as_bytes(), &mut f);
-        written(answer, f)
-    }
-}
-
-impl OwnedJsonb {
-    /// The canonical document of the value of a JSON text. `InvalidJson` where the text is none
-    /// that `parse_value` reads, `InvalidJsonb` where a payload, a key or a count of its value is
-    /// past its limit; else only memory can be refused.
-    pub fn parse(alloc: Global, text: &str) -> Result<OwnedJsonb, Error>
-        ensures ok { IfOk result (λ owned. (t : Tree)
-            × (Json (chars text.now) t × (owned_bytes owned ≡ canon t))) }
-        ensures fits { OnOk result ((t : Tree) → Json (chars text.now) t → Fits t) }
-        ensures one { (t u : Tree) → Json (chars text.now) t → Json (chars text.now) u → t ≡ u }
-
-        // The document means the text's tree with its zeros made one, and prints as that tree.
-        ensures means { IfOk result (λ owned. (t : Tree) → Json (chars text.now) t
-            → Doc (owned_bytes owned) (norm t)) }
-        ensures prints { IfOk result (λ owned. (t : Tree) → Json (chars text.now) t
-            → shown_text (owned_bytes owned) ≡ compact t) }
-        ensures prints_pretty { IfOk result (λ owned. (t : Tree) → Json (chars text.now) t
-            → pretty_shown_text (owned_bytes owned) ≡ pretty t) }
-        ensures invalid { result ≡ Err Error.InvalidJson
-            → (t : Tree) → Json (chars text.now) t → ⊥ }
-        ensures past { result ≡ Err Error.InvalidJsonb
-            → (t : Tree) × (Json (chars text.now) t × (Fits t → ⊥)) }
-        ensures errors { IfErr result (λ e. (e ≡ Error.InvalidJson)
-            ⊎ ((e ≡ Error.InvalidJsonb) ⊎ (e ≡ Error.OutOfMemory))) }
-    {
-        let value = parse_value(alloc, text)?;
-        let mut bytes = Vec::new(alloc);
-        Encoder::new(&mut bytes).encode(&value)?;
-        Ok(OwnedJsonb::new(bytes))
-    }
-}
-
-/// The text that `to_string` of the bytes gives, without memory. Width and fill are passed over.
-impl fmt::Display for OwnedJsonb {
-    ghost output = { λ owned. Some (shown_text (owned_bytes owned)) };
-
-    ghost styled_output = { λ owned _. Some (shown_text (owned_bytes owned)) };
-
-    fn fmt<W: fmt::Write>(&self, f: &mut fmt::Formatter<W>) -> fmt::Result {
-        write_shown(self.as_bytes(), f)
-    }
-}
 
 /// The laws of texts: they do not tell a tree from its normal form, in which the two zeros of whole
 /// numbers are one.
@@ -128,8 +29,8 @@ pub fn text_laws()
     ensures pretty { (t : Tree) → pretty (norm t) ≡ pretty t }
 {}
 
-// What a `String` was given. It refuses only for want of memory.
-fn written(answer: fmt::Result, f: fmt::Formatter<String>) -> Result<String, Error>
+/// What a `String` was given. It refuses only for want of memory.
+pub fn written(answer: fmt::Result, f: fmt::Formatter<String>) -> Result<String, Error>
     ensures ok { OnOk result (IsOk answer) }
     ensures text { IfOk result (λ text. text ≡ formatter_writer f) }
     ensures memory { IfErr result (λ e. e ≡ Error.OutOfMemory) }
@@ -183,8 +84,8 @@ impl Layout {
     }
 }
 
-// The text of any bytes.
-fn write_shown<W: fmt::Write>(bytes: &[u8], f: &mut fmt::Formatter<W>) -> fmt::Result
+/// The text of any bytes.
+pub fn write_shown<W: fmt::Write>(bytes: &[u8], f: &mut fmt::Formatter<W>) -> fmt::Result
     ensures text { WritesStyledOnOk W.write_str_gives f.old result (shown_text bytes.now) f.new }
     ensures tree { (t : Tree) → Doc bytes.now t → IsTree t }
 {
@@ -195,8 +96,8 @@ fn write_shown<W: fmt::Write>(bytes: &[u8], f: &mut fmt::Formatter<W>) -> fmt::R
     }
 }
 
-// The pretty text of a document, and `null` of all other bytes.
-fn write_pretty<W: fmt::Write>(bytes: &[u8], f: &mut fmt::Formatter<W>) -> fmt::Result
+/// The pretty text of a document, and `null` of all other bytes.
+pub fn write_pretty<W: fmt::Write>(bytes: &[u8], f: &mut fmt::Formatter<W>) -> fmt::Result
     ensures text { WritesStyledOnOk W.write_str_gives f.old result
         (pretty_shown_text bytes.now) f.new }
     ensures tree { (t : Tree) → Doc bytes.now t → IsTree t }
