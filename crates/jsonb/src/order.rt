@@ -79,7 +79,7 @@ pub fn cmp_meanings(left: &JsonbItem<'_>, right: &JsonbItem<'_>) -> Ordering
         return cmp_bytes(left, right);
     }
     match (node_of(left), node_of(right)) {
-        (Some(left), Some(right)) => cmp_nodes(&left, &right),
+        (Some(left), Some(right)) => cmp_nodes(left, right),
         (Some(_), None) => Ordering::Less,
         (None, _) => Ordering::Greater,
     }

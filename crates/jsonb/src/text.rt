@@ -142,30 +142,30 @@ pub fn write_document<W: fmt::Write>(
     ensures { WritesStyledOnOk W.write_str_gives f.old result
         (laid_out (layout_of layout) (document_tree document.entry)) f.new }
 {
-    write_node(&document.node(), layout, f)
+    write_node(document.node(), layout, f)
 }
 
 // The text of a value.
 #[cycle(text)]
 #[inline(always)]
 fn write_node<W: fmt::Write>(
-    node: &Node<'_>,
+    node: Node<'_>,
     layout: Layout,
     f: &mut fmt::Formatter<W>,
 ) -> fmt::Result
-    requires container { HoldsNoScalar node.now }
-    requires room { HasRoom (layout_of layout) (depth (node_tree node.now)) }
+    requires container { HoldsNoScalar node }
+    requires room { HasRoom (layout_of layout) (depth (node_tree node)) }
     ensures { WritesStyledOnOk W.write_str_gives f.old result
-        (laid_out (layout_of layout) (node_tree node.now)) f.new }
+        (laid_out (layout_of layout) (node_tree node.entry)) f.new }
 {
     match node {
         Node::Null => f.write_str("null"),
         Node::Boolean(true) => f.write_str("true"),
         Node::Boolean(false) => f.write_str("false"),
-        Node::Number(number) => write_number(number, f),
+        Node::Number(number) => write_number(&number, f),
         Node::String(text) => write_string(text, f),
-        Node::Extension(value) => write_quoted(value, f),
-        Node::Container(document) => write_container(*document, layout, f),
+        Node::Extension(value) => write_quoted(&value, f),
+        Node::Container(document) => write_container(document, layout, f),
     }
 }
 
@@ -201,10 +201,10 @@ fn write_items<W: fmt::Write>(
         return f.write_str("[]");
     };
     f.write_str("[")?;
-    write_line(&first, layout.inside(), f)?;
+    write_line(first, layout.inside(), f)?;
     'items: while let Some(next) = items.next() {
         f.write_str(",")?;
-        write_line(&next, layout.inside(), f)?;
+        write_line(next, layout.inside(), f)?;
     }
     layout.start_line(f)?;
     f.write_str("]")
@@ -214,14 +214,14 @@ fn write_items<W: fmt::Write>(
 #[cycle(text)]
 #[inline(always)]
 fn write_line<W: fmt::Write>(
-    item: &Node<'_>,
+    item: Node<'_>,
     layout: Layout,
     f: &mut fmt::Formatter<W>,
 ) -> fmt::Result
-    requires container { HoldsNoScalar item.now }
-    requires room { HasRoom (layout_of layout) (depth (node_tree item.now)) }
+    requires container { HoldsNoScalar item }
+    requires room { HasRoom (layout_of layout) (depth (node_tree item)) }
     ensures { WritesStyledOnOk W.write_str_gives f.old result
-        (line_start (layout_of layout) ++ laid_out (layout_of layout) (node_tree item.now)) f.new }
+        (line_start (layout_of layout) ++ laid_out (layout_of layout) (node_tree item.entry)) f.new }
 {
     layout.start_line(f)?;
     write_node(item, layout, f)
@@ -242,10 +242,10 @@ fn write_members<W: fmt::Write>(
         return f.write_str("{}");
     };
     f.write_str("{")?;
-    write_member(key, &value, layout.inside(), f)?;
+    write_member(key, value, layout.inside(), f)?;
     'members: while let Some((key, value)) = members.next() {
         f.write_str(",")?;
-        write_member(key, &value, layout.inside(), f)?;
+        write_member(key, value, layout.inside(), f)?;
     }
     layout.start_line(f)?;
     f.write_str("}")
@@ -256,14 +256,14 @@ fn write_members<W: fmt::Write>(
 #[inline(always)]
 fn write_member<W: fmt::Write>(
     key: &str,
-    value: &Node<'_>,
+    value: Node<'_>,
     layout: Layout,
     f: &mut fmt::Formatter<W>,
 ) -> fmt::Result
-    requires container { HoldsNoScalar value.now }
-    requires room { HasRoom (layout_of layout) (depth (node_tree value.now)) }
+    requires container { HoldsNoScalar value }
+    requires room { HasRoom (layout_of layout) (depth (node_tree value)) }
     ensures { WritesStyledOnOk W.write_str_gives f.old result (line_start (layout_of layout)
-        ++ pair_text (layout_of layout) key.now (node_tree value.now)) f.new }
+        ++ pair_text (layout_of layout) key.now (node_tree value.entry)) f.new }
 {
     layout.start_line(f)?;
     write_string(key, f)?;

@@ -15,31 +15,31 @@ use std::cmp::Ordering;
 pub fn cmp_documents(left: Document<'_>, right: Document<'_>) -> Ordering
     ensures { result ≡ tree_cmp (document_tree left.entry) (document_tree right.entry) }
 {
-    cmp_nodes(&left.node(), &right.node())
+    cmp_nodes(left.node(), right.node())
 }
 
 /// The order of two values.
 #[inline(always)]
 #[cycle(documents)]
-pub fn cmp_nodes(left: &Node<'_>, right: &Node<'_>) -> Ordering
-    requires left { HoldsNoScalar left.now }
-    requires right { HoldsNoScalar right.now }
-    ensures { result ≡ tree_cmp (node_tree left.now) (node_tree right.now) }
+pub fn cmp_nodes(left: Node<'_>, right: Node<'_>) -> Ordering
+    requires left { HoldsNoScalar left }
+    requires right { HoldsNoScalar right }
+    ensures { result ≡ tree_cmp (node_tree left.entry) (node_tree right.entry) }
 {
     match (left, right) {
-        (Node::Boolean(left), Node::Boolean(right)) => left.cmp(right),
-        (Node::Number(left), Node::Number(right)) => left.cmp_value(right),
+        (Node::Boolean(left), Node::Boolean(right)) => left.cmp(&right),
+        (Node::Number(left), Node::Number(right)) => left.cmp_value(&right),
         (Node::String(left), Node::String(right)) => left.cmp(right),
-        (Node::Extension(left), Node::Extension(right)) => left.cmp_value(right),
-        (Node::Container(left), Node::Container(right)) => cmp_containers(*left, *right),
-        _ => cmp_kinds(left, right),
+        (Node::Extension(left), Node::Extension(right)) => left.cmp_value(&right),
+        (Node::Container(left), Node::Container(right)) => cmp_containers(left, right),
+        (left, right) => cmp_kinds(left, right),
     }
 }
 
 // The order of two values of unlike kinds, or of null and null.
-fn cmp_kinds(left: &Node<'_>, right: &Node<'_>) -> Ordering
-    ensures { result ≡ unwrap_or (rank_order (kind_of_tree (node_tree left.now))
-        (kind_of_tree (node_tree right.now))) Ordering.Equal }
+fn cmp_kinds(left: Node<'_>, right: Node<'_>) -> Ordering
+    ensures { result ≡ unwrap_or (rank_order (kind_of_tree (node_tree left.entry))
+        (kind_of_tree (node_tree right.entry))) Ordering.Equal }
 {
     left.kind()
         .rank_cmp(&right.kind())
@@ -71,7 +71,7 @@ fn cmp_items(mut left: Items<'_>, mut right: Items<'_>) -> Ordering
         let Some(right_item) = right.next() else {
             return Ordering::Greater;
         };
-        let order = cmp_nodes(&left_item, &right_item);
+        let order = cmp_nodes(left_item, right_item);
         if order.is_ne() {
             return order;
         }
@@ -97,7 +97,7 @@ fn cmp_members(mut left: Members<'_>, mut right: Members<'_>) -> Ordering
         if keys.is_ne() {
             return keys;
         }
-        let values = cmp_nodes(&left_value, &right_value);
+        let values = cmp_nodes(left_value, right_value);
         if values.is_ne() {
             return values;
         }

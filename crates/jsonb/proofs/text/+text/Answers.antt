@@ -69,7 +69,7 @@ write_member-returns g t c flush ok =
     let two = c.write_string.ensures one.flush (search rules) in
     let three = c.write_str.ensures.styled two.flush (search rules) in
     let four = c.write_node.ensures three.flush ok in
-    let value = laid_out (layout_of c.args.layout) (node_tree c.args.value.now) in
+    let value = laid_out (layout_of c.args.layout) (node_tree c.args.value) in
     let ends = joins_two _ _ _ _ _ _ _ three four (ap (λ between. between ++ value) c.colon.ensures) in
     joins_three _ _ _ _ _ _ _ _ _ one two ends refl
 

@@ -11,7 +11,7 @@ use Rattle.jsonb.specs.Texts.{layout_of}
 use Rattle.jsonb.proofs.text.+text.Given as goal
 
 abbrev pub decreases-write_node : goal.decreases-write_node
-decreases-write_node g l = 4 * size (node_tree l.node.now) + 1
+decreases-write_node g l = 4 * size (node_tree l.node) + 1
 
 abbrev pub decreases-write_container : goal.decreases-write_container
 decreases-write_container g l = 4 * size (document_tree l.document)
@@ -20,13 +20,13 @@ abbrev pub decreases-write_items : goal.decreases-write_items
 decreases-write_items g l = 4 * sizes (trees_of (trees_left l.items)) + 3
 
 abbrev pub decreases-write_line : goal.decreases-write_line
-decreases-write_line g l = 4 * size (node_tree l.item.now) + 2
+decreases-write_line g l = 4 * size (node_tree l.item) + 2
 
 abbrev pub decreases-write_members : goal.decreases-write_members
 decreases-write_members g l = 4 * pair_sizes (pairs_of (pairs_left l.members)) + 3
 
 abbrev pub decreases-write_member : goal.decreases-write_member
-decreases-write_member g l = 4 * size (node_tree l.value.now) + 2
+decreases-write_member g l = 4 * size (node_tree l.value) + 2
 
 -- what is written, and before the last bracket what is left to write
 abbrev pub invariant-write_items-items : goal.invariant-write_items-items

@@ -9,7 +9,7 @@ use Rattle.jsonb.specs.Node.{node_tree, pairs_of}
 use Rattle.jsonb.proofs.order.documents.+documents.Given as goal
 
 abbrev pub decreases-cmp_nodes : goal.decreases-cmp_nodes
-decreases-cmp_nodes l = 3 * size (node_tree l.left.now) + 1
+decreases-cmp_nodes l = 3 * size (node_tree l.left) + 1
 
 abbrev pub decreases-cmp_containers : goal.decreases-cmp_containers
 decreases-cmp_containers l = 3 * size (document_tree l.left)
