@@ -1,10 +1,12 @@
 //! Texts of JSON, read.
 
-ghost use Rattle.std.specs.Prelude.{◌≡◌, ◌⊎◌, ℕ, ◌<◌, ◌≤◌, ◌∷◌, List, Err, chars, length, string_bytes, IfOk, IfErr};
+ghost use Rattle.std.specs.Prelude.{◌≡◌, ◌⊎◌, ℕ, ◌<◌, ◌≤◌, [], ◌∷◌, ◌++◌, List, Err, chars, length, string_cmp, IfOk, IfErr, IsOkAnd};
+ghost use Rattle.std.specs.BTreeMap.{insert_entry};
 ghost use Rattle.jsonb_value.specs.Tree.{Tree};
 ghost use Rattle.jsonb_value.specs.Json.Syntax.{Json};
-ghost use Rattle.jsonb_value.specs.Reader.Reading.{read_word, read_element, read_value, read_array, read_object, read_member, read_kind, kind_of, string_kind, number_kind};
-ghost use Rattle.jsonb_value.specs.Reader.Gives.{Gives};
+ghost use Rattle.jsonb_value.specs.Reader.Reading.{skip_blank, read_word, read_element, read_value, read_array, read_object, read_member, read_kind, kind_of, string_kind, number_kind};
+ghost use Rattle.jsonb_value.specs.Reader.Gives.{Fails, Gives};
+ghost use Rattle.jsonb_value.specs.Reader.Held.{ItemIsRead, MemberIsRead};
 ghost use Rattle.jsonb_value.specs.Value.{tree_of};
 ghost use Rattle.jsonb_value.specs.Reader.Kind.{kind_view};
 
@@ -13,7 +15,7 @@ mod number;
 mod string;
 
 use crate::error::Error;
-use crate::value::Value;
+use crate::value::{Object, Value};
 use cursor::{after_all, after_char, skip_blank, split_first};
 use number::read_number;
 use std::alloc::Global;
@@ -46,21 +48,16 @@ fn kind_of(first: char) -> Kind
     }
 }
 
-// The value, where the rest of its word follows.
-fn read_word<'a>(
-    text: &'a str,
-    word: &[char],
-    value: Value<'a>,
-) -> Result<(Value<'a>, &'a str), Error>
-    ensures { Gives (λ found. (tree_of found.0, chars found.1.now)) result (read_word word.now (tree_of value.entry) (chars text.now)) }
+// What follows the rest of a word.
+fn read_word<'a>(text: &'a str, word: &[char]) -> Result<&'a str, Error>
+    ensures { (t : Tree) → Gives (λ rest. (t, chars rest.now)) result (read_word word.now t (chars text.now)) }
 {
-    match after_all(text, word) {
-        Some(rest) => Ok((value, rest)),
-        None => Err(Error::InvalidJson),
-    }
+    after_all(text, word).ok_or(Error::InvalidJson)
 }
 
-// A string as a value, behind the quote that opens it.
+// A string as a value, behind the quote that opens it. What this and the other small steps take of
+// the stack is not held while values inside are read.
+#[inline(never)]
 fn read_quoted<'a>(alloc: Global, text: &'a str) -> Result<(Value<'a>, &'a str), Error>
     ensures { (n : ℕ) → length (chars text.now) < n → Gives (λ found. (tree_of found.0, chars found.1.now)) result (read_kind (read_value n) n string_kind 34 (chars text.now)) }
 {
@@ -69,6 +66,7 @@ fn read_quoted<'a>(alloc: Global, text: &'a str) -> Result<(Value<'a>, &'a str),
 }
 
 // A number as a value.
+#[inline(never)]
 fn read_numeral<'a>(text: &'a str) -> Result<(Value<'a>, &'a str), Error>
     ensures { (n c : ℕ) (s : List ℕ) → chars text.now ≡ c ∷ s → Gives (λ found. (tree_of found.0, chars found.1.now)) result (read_kind (read_value n) n number_kind c s) }
 {
@@ -79,7 +77,6 @@ fn read_numeral<'a>(text: &'a str) -> Result<(Value<'a>, &'a str), Error>
 }
 
 // A value between white space.
-#[cycle(reading)]
 fn read_element<'a>(alloc: Global, text: &'a str) -> Result<(Value<'a>, &'a str), Error>
     ensures { (n : ℕ) → length (chars text.now) < n → Gives (λ found. (tree_of found.0, chars found.1.now)) result (read_element (read_value n) (chars text.now)) }
 {
@@ -96,9 +93,9 @@ fn read_value<'a>(alloc: Global, text: &'a str) -> Result<(Value<'a>, &'a str), 
         return Err(Error::InvalidJson);
     };
     match kind_of(first) {
-        Kind::Null => read_word(rest, &['u', 'l', 'l'], Value::Null),
-        Kind::True => read_word(rest, &['r', 'u', 'e'], Value::Bool(true)),
-        Kind::False => read_word(rest, &['a', 'l', 's', 'e'], Value::Bool(false)),
+        Kind::Null => Ok((Value::Null, read_word(rest, &['u', 'l', 'l'])?)),
+        Kind::True => Ok((Value::Bool(true), read_word(rest, &['r', 'u', 'e'])?)),
+        Kind::False => Ok((Value::Bool(false), read_word(rest, &['a', 'l', 's', 'e'])?)),
         Kind::String => read_quoted(alloc, rest),
         Kind::Array => read_array(alloc, rest),
         Kind::Object => read_object(alloc, rest),
@@ -118,8 +115,7 @@ fn read_array<'a>(alloc: Global, text: &'a str) -> Result<(Value<'a>, &'a str), 
     }
     let mut rest = text;
     'items: loop {
-        let (item, after) = read_element(alloc, rest)?;
-        items.push(item)?;
+        let after = read_item(alloc, &mut items, rest)?;
         let Some((mark, after)) = split_first(after) else {
             return Err(Error::InvalidJson);
         };
@@ -131,6 +127,35 @@ fn read_array<'a>(alloc: Global, text: &'a str) -> Result<(Value<'a>, &'a str), 
         }
         rest = after;
     }
+}
+
+// An item between white space, put behind the others, and what follows it.
+#[cycle(reading)]
+#[inline(always)]
+fn read_item<'a>(alloc: Global, items: &mut Vec<Value<'a>>, text: &'a str) -> Result<&'a str, Error>
+    ensures ok { IfOk result (λ rest. ItemIsRead items.old.items items.new.items
+        (chars text.now) (chars rest.now)) }
+    ensures err { IfErr result (λ e. (n : ℕ) → length (chars text.now) < n
+        → Fails e (read_element (read_value n) (chars text.now))) }
+{
+    push_item(items, read_value(alloc, skip_blank(text)))
+}
+
+// Puts the item that was found behind the others. What this takes of the stack is not held while
+// values inside are read, and the item is moved once.
+#[inline(never)]
+fn push_item<'a>(
+    items: &mut Vec<Value<'a>>,
+    found: Result<(Value<'a>, &'a str), Error>,
+) -> Result<&'a str, Error>
+    ensures ok { IfOk result (λ rest. IsOkAnd found.entry (λ f.
+        (items.new.items ≡ items.old.items ++ f.0 ∷ [])
+        × (chars rest.now ≡ skip_blank (chars f.1.now)))) }
+    ensures err { IfErr result (λ e. (e ≡ Error.OutOfMemory) ⊎ (found.entry ≡ Err e)) }
+{
+    let (item, rest) = found?;
+    items.push(item)?;
+    Ok(skip_blank(rest))
 }
 
 // The members of an object, behind the brace that opens it. Of equal keys the last value is kept.
@@ -145,8 +170,7 @@ fn read_object<'a>(alloc: Global, text: &'a str) -> Result<(Value<'a>, &'a str),
     }
     let mut rest = text;
     'members: loop {
-        let (key, value, after) = read_member(alloc, rest)?;
-        members.insert(key, value)?;
+        let after = read_member(alloc, &mut members, rest)?;
         let Some((mark, after)) = split_first(after) else {
             return Err(Error::InvalidJson);
         };
@@ -160,10 +184,15 @@ fn read_object<'a>(alloc: Global, text: &'a str) -> Result<(Value<'a>, &'a str),
     }
 }
 
-// A key between white space, and its value.
+// A key between white space and its value, put in, and what follows them.
 #[cycle(reading)]
-fn read_member<'a>(alloc: Global, text: &'a str) -> Result<(String, Value<'a>, &'a str), Error>
-    ensures { (n turns : ℕ) → length (chars text.now) < n → length (chars text.now) ≤ turns → Gives (λ found. ((string_bytes found.0, tree_of found.1), chars found.2.now)) result (read_member (read_value n) turns (chars text.now)) }
+#[inline(always)]
+fn read_member<'a>(alloc: Global, members: &mut Object<'a>, text: &'a str) -> Result<&'a str, Error>
+    ensures ok { IfOk result (λ rest. MemberIsRead members.old.entries members.new.entries
+        (chars text.now) (chars rest.now)) }
+    ensures err { IfErr result (λ e. (n turns : ℕ) → length (chars text.now) < n
+        → length (chars text.now) ≤ turns
+        → Fails e (read_member (read_value n) turns (chars text.now))) }
 {
     let Some(opened) = after_char(skip_blank(text), '"') else {
         return Err(Error::InvalidJson);
@@ -173,8 +202,24 @@ fn read_member<'a>(alloc: Global, text: &'a str) -> Result<(String, Value<'a>, &
     let Some(behind) = after_char(skip_blank(after), ':') else {
         return Err(Error::InvalidJson);
     };
-    let (value, rest) = read_element(alloc, behind)?;
-    Ok((key, value, rest))
+    insert_member(members, key, read_value(alloc, skip_blank(behind)))
+}
+
+// Puts the value that was found under the key.
+#[inline(never)]
+fn insert_member<'a>(
+    members: &mut Object<'a>,
+    key: String,
+    found: Result<(Value<'a>, &'a str), Error>,
+) -> Result<&'a str, Error>
+    ensures ok { IfOk result (λ rest. IsOkAnd found.entry (λ f.
+        (members.new.entries ≡ insert_entry string_cmp members.old.entries key f.0)
+        × (chars rest.now ≡ skip_blank (chars f.1.now)))) }
+    ensures err { IfErr result (λ e. (e ≡ Error.OutOfMemory) ⊎ (found.entry ≡ Err e)) }
+{
+    let (value, rest) = found?;
+    drop(members.insert(key, value)?);
+    Ok(skip_blank(rest))
 }
 
 /// The value of a whole text. Strings without escapes are borrowed from the text.

@@ -1,6 +1,6 @@
 -- Steps of reading values.
-use Rattle.std.proofs.Common.{◌≡◌, ℕ, zero, suc, ◌<◌, ◌≤◌, Bool, false, refl, sym, ap, subst, ◌∙◌, List, [], ◌∷◌, ◌++◌, length, arith, Option, Some, None, Result, Ok, Err, inl, inr, eqb-true, rules, Vec}
-use Rattle.std.specs.Prelude.{◌≢◌, ◌==◌, String, map, string_bytes, string_cmp, IsErrAnd}
+use Rattle.std.proofs.Common.{◌≡◌, ◌⊎◌, ℕ, zero, suc, ◌<◌, ◌≤◌, Bool, Bor, chars, false, refl, sym, ap, subst, ◌∙◌, List, [], ◌∷◌, ◌++◌, length, arith, Option, Some, None, Result, Ok, Err, inl, inr, eqb-true, rules, Vec}
+use Rattle.std.specs.Prelude.{◌≢◌, ◌==◌, String, map, string_bytes, string_cmp, IsErrAnd, IsOkAnd, IfErr}
 use Rattle.std.specs.Ordering.{nat_cmp, match_ordering}
 use Rattle.std.specs.declared.cmp.Ordering.{Ordering}
 use Rattle.std.specs.declared.cmp.Ordering.TheVariants.{Less, Equal, Greater}
@@ -19,6 +19,7 @@ use Rattle.jsonb_value.specs.declared.error.Error.TheVariants.{OutOfMemory, Inva
 use Rattle.jsonb_value.specs.declared.value.Value.{Value, Array, Object, Null, Bool as Boolean, the_lemmas, fold-Value}
 use mathlib.Core.Former.{pair, const, this}
 use Rattle.jsonb_value.specs.Reader.Gives.{Gives, Fails}
+use Rattle.jsonb_value.specs.Reader.Held.{ItemIsRead, MemberIsRead}
 use Rattle.jsonb_value.specs.Value.{trees_of, pairs_of, tree_of, tree_step}
 
 pub view-Null : tree_of Null ≡ null
@@ -43,7 +44,7 @@ pub gives_same : {X Y : Type 0} (view : X → Y) (r : Result X Error) (read othe
 gives_same view r read other e g = subst (λ o. Gives view r o) (sym e) g
 
 -- an error that is handed on
-fails_on : {Y Y' : Type 0} (e : Error) (read : Option Y) (other : Option Y') → (read ≡ None → other ≡ None) → Fails e read → Fails e other
+pub fails_on : {Y Y' : Type 0} (e : Error) (read : Option Y) (other : Option Y') → (read ≡ None → other ≡ None) → Fails e read → Fails e other
 fails_on OutOfMemory read other handed g = tt
 fails_on InvalidJson read other handed g = handed g
 fails_on _ read other handed g = absurd g
@@ -297,3 +298,57 @@ stop_by view r e n (suc turns) front s rest h same is fails =
 pub members_stop : {X : Type 0} (n : ℕ) (s rest : List ℕ) (view : X → Tree × List ℕ) (r : Result X Error) (e : Error) {front : Entries} → MembersGoOn n s front rest
     → IsErrAnd r (λ y. y ≡ e) → ((k : ℕ) → length rest ≤ k → Fails e (read_member (read_value n) k rest)) → Gives view r (read_object (read_value n) n s)
 members_stop n s rest view r e {front} g is fails = stop_by view r e n g.turns front s rest g.enough g.same is fails
+
+-- ---- what a container holds after one more part
+
+pub err_is : {X : Type 0} (r : Result X Error) (e : Error) (P : Error → Type 0) → IsErrAnd r (λ y. y ≡ e) → P e → IfErr r P
+err_is (Ok x) e P is p = absurd is
+err_is (Err y) e P is p = subst P (sym is) p
+
+-- what was found at the front of these characters, as a value and what follows
+abbrev pub Finds : Result (Value × Bor (List ℕ)) Error → List ℕ → Type 0
+Finds found s = (n : ℕ) → length s < n → Gives (λ f. (tree_of f.0, chars f.1.now)) found (read_value n s)
+
+pub item_is_read : (found : Result (Value × Bor (List ℕ)) Error) (old new : List Value) (s inside rest : List ℕ) → inside ≡ skip_blank s → Finds found inside
+    → IsOkAnd found (λ f. (new ≡ old ++ f.0 ∷ []) × (rest ≡ skip_blank (chars f.1.now))) → ItemIsRead old new s rest
+item_is_read (Err e) old new s inside rest skipped finds is = absurd is
+item_is_read (Ok f) old new s inside rest skipped finds is = record {
+  item = f.0;
+  pushed = is.0;
+  reads = λ n h.
+      element_reads n s inside (tree_of f.0) (chars f.1.now) rest skipped (finds n (omega (arith, skipped_shorter s inside skipped))) is.1;
+}
+
+-- the error of what was found, or want of memory behind it
+fails_behind : {Y : Type 0} (found : Result (Value × Bor (List ℕ)) Error) (s : List ℕ) (n : ℕ) (other : Option Y) (e : Error) → length s < n → Finds found s
+    → (read_value n s ≡ None → other ≡ None) → (e ≡ OutOfMemory) ⊎ (found ≡ Err e) → Fails e other
+fails_behind found s n other e h finds handed (inl memory) = subst (λ q. Fails q other) (sym memory) tt
+fails_behind found s n other e h finds handed (inr refused) =
+    fails_on e (read_value n s) other handed (subst (λ q. Gives (λ f. (tree_of f.0, chars f.1.now)) q (read_value n s)) refused (finds n h))
+
+pub item_fails : (found : Result (Value × Bor (List ℕ)) Error) (s inside : List ℕ) (e : Error) → inside ≡ skip_blank s → Finds found inside
+    → (e ≡ OutOfMemory) ⊎ (found ≡ Err e) → (n : ℕ) → length s < n → Fails e (read_element (read_value n) s)
+item_fails found s inside e skipped finds why n h =
+    fails_behind found inside n _ e (omega (arith, skipped_shorter s inside skipped)) finds (element_fails n s inside skipped) why
+
+pub member_is_read : (found : Result (Value × Bor (List ℕ)) Error) (old new : List (String Global × Value)) (key : String Global) (s bytes after colon_at behind inside rest : List ℕ)
+    → ((turns : ℕ) → length s ≤ turns → KeyRead turns s bytes after) → string_bytes key ≡ bytes → colon_at ≡ skip_blank after → Some behind ≡ expect colon colon_at
+    → length behind ≤ length s → inside ≡ skip_blank behind → Finds found inside
+    → IsOkAnd found (λ f. (new ≡ insert_entry string_cmp old key f.0) × (rest ≡ skip_blank (chars f.1.now))) → MemberIsRead old new s rest
+member_is_read (Err e) old new key s bytes after colon_at behind inside rest read same at found short skipped finds is = absurd is
+member_is_read (Ok f) old new key s bytes after colon_at behind inside rest read same at found short skipped finds is = record {
+  key = key;
+  value = f.0;
+  inserted = is.0;
+  reads = λ n turns h k.
+      let value = element_reads n behind inside (tree_of f.0) (chars f.1.now) rest skipped (finds n (omega (arith, skipped_shorter behind inside skipped))) is.1 in
+      member_reads n turns s bytes after colon_at behind (tree_of f.0) rest (read turns k) at found value ∙ ap (λ q. member_found q (tree_of f.0) rest) (sym same);
+}
+
+pub member_fails : (found : Result (Value × Bor (List ℕ)) Error) (s bytes after colon_at behind inside : List ℕ) (e : Error)
+    → ((turns : ℕ) → length s ≤ turns → KeyRead turns s bytes after) → colon_at ≡ skip_blank after → Some behind ≡ expect colon colon_at
+    → length behind ≤ length s → inside ≡ skip_blank behind → Finds found inside → (e ≡ OutOfMemory) ⊎ (found ≡ Err e)
+    → (n turns : ℕ) → length s < n → length s ≤ turns → Fails e (read_member (read_value n) turns s)
+member_fails found s bytes after colon_at behind inside e read at is short skipped finds why n turns h k =
+    fails_behind found inside n _ e (omega (arith, skipped_shorter behind inside skipped)) finds
+    (λ none. member_no_value n turns s bytes after colon_at behind (read turns k) at is (element_fails n behind inside skipped none)) why

@@ -10,8 +10,8 @@ use Rattle.jsonb_value.proofs.parser.+reading.Given as goal
 abbrev pub decreases-read_value : goal.decreases-read_value
 decreases-read_value l = 4 * length (chars l.text.now)
 
-abbrev pub decreases-read_element : goal.decreases-read_element
-decreases-read_element l = 4 * length (chars l.text.now) + 1
+abbrev pub decreases-read_item : goal.decreases-read_item
+decreases-read_item l = 4 * length (chars l.text.now) + 1
 
 abbrev pub decreases-read_array : goal.decreases-read_array
 decreases-read_array l = 4 * length (chars l.text.now) + 3
