@@ -87,14 +87,21 @@ abbrev pub seen : List (String Global × Value) → List (String Global × Tree)
 seen ms = map (λ m. (m.0, tree_of m.1)) ms
 
 -- one more pair behind those so far
+pub pairs_and-behind : (vs ws : List (String Global × Value)) (k : String Global) (v : Value) (ps us others : Pairs) (key : List ℕ) (value : Tree)
+    → ps ≡ pairs_and (seen vs) us → us ≡ pair key value others → string_bytes k ≡ key → tree_of v ≡ value → ws ≡ vs ++ ((k, v) ∷ []) → ps ≡ pairs_and (seen ws) others
+pairs_and-behind vs ws k v ps us others key value whole are is same more =
+    let front : us ≡ pair (string_bytes k) (tree_of v) others = are ∙ ap₂ (λ (x : List ℕ) (t : Tree). pair x t others) (sym is) (sym same) in
+    whole ∙ ap (pairs_and (seen vs)) front
+    ∙ sym (pairs_and-append (seen vs) (k, tree_of v) others)
+    ∙ ap (λ (l : List (String Global × Tree)). pairs_and l others) (sym (map-append (λ m. (m.0, tree_of m.1)) vs ((k, v) ∷ [])) ∙ ap seen (sym more))
+
+-- the same where it was put into a map, behind the keys that it is above
 pub pairs_and-push : (vs ws : List (String Global × Value)) (k : String Global) (v : Value) (ps us others : Pairs) (key : List ℕ) (value : Tree) → Ascend ps
     → ps ≡ pairs_and (seen vs) us → us ≡ pair key value others → string_bytes k ≡ key → tree_of v ≡ value → ws ≡ insert_entry string_cmp vs k v → ps ≡ pairs_and (seen ws) others
 pairs_and-push vs ws k v ps us others key value ascend whole are is same more =
     let front : us ≡ pair (string_bytes k) (tree_of v) others = are ∙ ap₂ (λ (x : List ℕ) (t : Tree). pair x t others) (sym is) (sym same) in
     let last = insert_entry-append None vs k v (tree_of v) others (subst Ascend (whole ∙ ap (pairs_and (seen vs)) front) ascend) in
-    whole ∙ ap (pairs_and (seen vs)) front
-    ∙ sym (pairs_and-append (seen vs) (k, tree_of v) others)
-    ∙ ap (λ (l : List (String Global × Tree)). pairs_and l others) (sym (map-append (λ m. (m.0, tree_of m.1)) vs ((k, v) ∷ [])) ∙ ap seen (sym (more ∙ last)))
+    pairs_and-behind vs ws k v ps us others key value whole are is same (more ∙ last)
 
 -- what was read is the tree of the document
 pub the_tree : (a b : List ℕ) (r : Result Value Error) → a ≡ b → IsDocument b → IfOk r (λ v. (t : Tree) → Doc a t → tree_of v ≡ t) → IfOk r (λ v. Doc b (tree_of v))

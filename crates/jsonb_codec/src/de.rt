@@ -20,6 +20,9 @@ use std::alloc::Global;
 use std::borrow::CowStr;
 use std::collections::BTreeMap;
 
+// So many pairs stand in one leaf of a map.
+const LEAF_PAIRS: usize = 15;
+
 /// The value of a document. Its strings and extension data are borrowed from the bytes.
 ///
 /// Where the bytes are no document, the error names the first fault of them, and no memory was
@@ -116,26 +119,18 @@ fn push_part<'a>(alloc: Global, items: &mut Vec<Value<'a>>, part: Part<'a>) -> R
     Ok(())
 }
 
-// Puts the value of a part under the key.
+// The value of a part.
 #[cycle(value)]
 #[inline(always)]
-fn insert_part<'a>(
-    alloc: Global,
-    members: &mut Object<'a>,
-    key: String,
-    part: Part<'a>,
-) -> Result<(), Error>
-    ensures ok { OnOk result ((v : Value)
-        × ((members.new.entries ≡ insert_entry string_cmp members.old.entries key v)
-        × ((t : Tree) → Means part.entry t → tree_of v ≡ t))) }
+fn build_part<'a>(alloc: Global, part: Part<'a>) -> Result<Value<'a>, Error>
+    ensures ok { IfOk result (λ v. (t : Tree) → Means part.entry t → tree_of v ≡ t) }
     ensures memory { IfErr result (λ e. e ≡ Error.OutOfMemory) }
 {
-    let value = if part.tag == CONTAINER_TAG {
-        build_container(alloc, part)?
+    if part.tag == CONTAINER_TAG {
+        build_container(alloc, part)
     } else {
-        build_scalar(part)
-    };
-    insert_member(members, key, value)
+        Ok(build_scalar(part))
+    }
 }
 
 // Puts the value under the key. What that takes of the stack is not held while values inside are
@@ -186,14 +181,37 @@ fn build_members<'a>(alloc: Global, members: Members<'a>) -> Result<Object<'a>, 
         → pairs_view m.entries ≡ ps) }
     ensures memory { IfErr result (λ e. e ≡ Error.OutOfMemory) }
 {
+    if members.keys.entries.len() > 4 * LEAF_PAIRS {
+        return build_many(alloc, members);
+    }
     let mut left = members;
     let mut built = BTreeMap::new(alloc);
     while let Some(member) = left.split_first() {
         let key = String::from_str(alloc, member.key)?;
-        insert_part(alloc, &mut built, key, member.value)?;
+        let value = build_part(alloc, member.value)?;
+        insert_member(&mut built, key, value)?;
         left = member.behind;
     }
     Ok(built)
+}
+
+// The same of more members than one leaf of a map holds: the map is made of all at once.
+#[cycle(value)]
+#[inline(never)]
+fn build_many<'a>(alloc: Global, members: Members<'a>) -> Result<Object<'a>, Error>
+    ensures ok { IfOk result (λ m. (ps : Pairs) → AreMembers ps members.entry
+        → pairs_view m.entries ≡ ps) }
+    ensures memory { IfErr result (λ e. e ≡ Error.OutOfMemory) }
+{
+    let mut left = members;
+    let mut built = Vec::with_capacity(alloc, members.keys.entries.len() / 4)?;
+    while let Some(member) = left.split_first() {
+        let key = String::from_str(alloc, member.key)?;
+        let value = build_part(alloc, member.value)?;
+        built.push((key, value))?;
+        left = member.behind;
+    }
+    Ok(built.into_iter().collect(alloc)?)
 }
 
 // The value of a payload that is no container.

@@ -5,8 +5,8 @@ use Rattle.jsonb_codec.specs.Contents.{AreChildren, AreMembers}
 use Rattle.jsonb_codec.proofs.Building.{trees_and, pairs_and, seen}
 use Rattle.jsonb_codec.proofs.de.+value.Given as goal
 
-abbrev pub decreases-insert_part : goal.decreases-insert_part
-decreases-insert_part l = 4 * length l.part.payload.now + 3
+abbrev pub decreases-build_part : goal.decreases-build_part
+decreases-build_part l = 4 * length l.part.payload.now + 3
 
 abbrev pub decreases-push_part : goal.decreases-push_part
 decreases-push_part l = 4 * length l.part.payload.now + 3
@@ -18,7 +18,10 @@ abbrev pub decreases-build_items : goal.decreases-build_items
 decreases-build_items l = 4 * length l.items.payloads.now + 4
 
 abbrev pub decreases-build_members : goal.decreases-build_members
-decreases-build_members l = 4 * length l.members.values.payloads.now + 4
+decreases-build_members l = 4 * length l.members.values.payloads.now + 5
+
+abbrev pub decreases-build_many : goal.decreases-build_many
+decreases-build_many l = 4 * length l.members.values.payloads.now + 4
 
 -- The items so far, and those that are left, are the items of the whole.
 abbrev pub invariant-build_items-loop-child : goal.invariant-build_items-loop-child
@@ -39,3 +42,12 @@ invariant-build_members-loop-member l = record {
 
 abbrev pub decreases-build_members-loop-member : goal.decreases-build_members-loop-member
 decreases-build_members-loop-member l = length l.left.keys.entries.now
+
+abbrev pub invariant-build_many-loop-member : goal.invariant-build_many-loop-member
+invariant-build_many-loop-member l = record {
+  left : (ps : Pairs) → AreMembers ps l.fn.members → (others : Pairs) × ((ps ≡ pairs_and (seen l.built.items) others) × AreMembers others l.left);
+  shorter : length l.left.values.payloads.now ≤ length l.fn.members.values.payloads.now;
+}
+
+abbrev pub decreases-build_many-loop-member : goal.decreases-build_many-loop-member
+decreases-build_many-loop-member l = length l.left.keys.entries.now
