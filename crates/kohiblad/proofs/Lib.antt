@@ -1,0 +1,7 @@
+pub mod Depths
+pub mod Lookups
+pub mod Objects
+pub mod Orders
+pub mod PlaceLaws
+pub mod Readings
+pub mod Scalars

@@ -1,0 +1,124 @@
+-- Keys in order, and the order of rows by their numbers.
+use Rattle.std.proofs.Common.{◌≡◌, ℕ, zero, suc, ◌+◌, ◌≤◌, ◌<◌, List, [], ◌∷◌, ◌++◌, length, map, take, drop, slice_index_or, slice_set, refl, sym, ap, ap₂, subst, ◌∙◌, arith, append_assoc, add-one, length-append}
+use Rattle.std.proofs.lemmas.List.{get_or-map, drop_more, map-append, length-map, length-take-le}
+use Rattle.std.proofs.lemmas.List.Elements.{All-get_or, All-append, All-cons, All-nil}
+use Rattle.std.proofs.lemmas.List.FromFn.{length-range_with_len}
+use Rattle.std.proofs.lemmas.List.Sorted.{IsPermutation-map, All-permutation, length_permutation}
+use Rattle.std.proofs.Math.Seq.{set-append_seam, take-suc}
+use Rattle.std.specs.List.{All, range_with_len}
+use Rattle.std.specs.List.Sorted.{IsPermutation, IsSorted}
+use Rattle.std.specs.Ordering.{nat_cmp, ordering_then, is_lt}
+use Rattle.std.specs.declared.cmp.Ordering.{Ordering}
+use Rattle.jsonb_value.specs.Meaning.{Meaning, meaning_cmp}
+use Rattle.jsonb.specs.declared.sort_key.SortKey.{SortKey}
+use Rattle.jsonb.specs.Meant.{meaning_of}
+use Rattle.jsonb.specs.SortKey.{key_meaning}
+use Rattle.kohiblad.specs.Rows.{rows_from}
+use Rattle.kohiblad.specs.Sorted.{row_cmp, IsOrderOf}
+
+abbrev pub numbers_of : List (SortKey × ℕ) → List ℕ
+numbers_of keys = map (λ key. key.1) keys
+
+-- The key means what the row of its number does.
+abbrev pub IsKeyOf : List (List ℕ) → SortKey × ℕ → Type 0
+IsKeyOf rows key = key_meaning key.0 ≡ meaning_of (slice_index_or rows key.1 [])
+
+-- the order of keys, and of equal ones by their numbers
+abbrev pub key_cmp : SortKey × ℕ → SortKey × ℕ → Ordering
+key_cmp x y = ordering_then (meaning_cmp (key_meaning x.0) (key_meaning y.0)) (nat_cmp x.1 y.1)
+
+-- the keys of the first rows, and the rows that are left
+pub record KeysSoFar (rows left : List (List ℕ)) (keys : List (SortKey × ℕ)) : Type 0 where
+  pub numbers : numbers_of keys ≡ range_with_len 0 (length keys)
+  pub behind : drop (length keys) rows ≡ left
+  pub count : length keys + length left ≡ length rows
+  pub keys_of_rows : All (IsKeyOf rows) keys
+
+range_with_len-push : (a n : ℕ) → range_with_len a (suc n) ≡ range_with_len a n ++ (a + n) ∷ []
+range_with_len-push a zero = let here : a ≡ a + 0 = omega arith in ap (λ (k : ℕ). k ∷ []) here
+range_with_len-push a (suc n) =
+    let next : a + 1 + n ≡ a + suc n = omega arith in
+    ap (λ (ks : List ℕ). a ∷ ks) (range_with_len-push (a + 1) n ∙ ap (λ (k : ℕ). range_with_len (a + 1) n ++ k ∷ []) next)
+
+pub one_more_key : (rows left behind : List (List ℕ)) (row : List ℕ) (keys : List (SortKey × ℕ)) (key : SortKey) → KeysSoFar rows left keys → left ≡ row ∷ behind → key_meaning key ≡ meaning_of row
+    → KeysSoFar rows behind (keys ++ (key, length keys) ∷ [])
+one_more_key rows left behind row keys key so_far cut means =
+    let n = length keys in
+    let count = so_far.count in
+    let left_count : length left ≡ suc (length behind) = ap length cut in
+    let one : length (keys ++ (key, length keys) ∷ []) ≡ length keys + 1 = length-append keys ((key, length keys) ∷ []) in
+    let longer : length (keys ++ (key, length keys) ∷ []) ≡ suc (length keys) = omega arith in
+    let inside : length keys < length rows = omega arith in
+    let more : drop (length keys) rows ≡ slice_index_or rows (length keys) [] ∷ drop (length keys + 1) rows = drop_more rows (length keys) [] inside in
+    let there = so_far.behind in
+    let here : slice_index_or rows (length keys) [] ≡ row = cc in
+    let rest : drop (length keys + 1) rows ≡ behind = cc in
+    let this : 0 + length keys ≡ length keys = omega arith in
+    record {
+      numbers =
+          map-append (λ (key : SortKey × ℕ). key.1) keys ((key, length keys) ∷ [])
+          ∙ ap (λ (ks : List ℕ). ks ++ length keys ∷ []) so_far.numbers
+          ∙ ap (λ (k : ℕ). range_with_len 0 (length keys) ++ k ∷ []) (sym this)
+          ∙ sym (range_with_len-push 0 (length keys))
+          ∙ ap (range_with_len 0) (sym longer);
+      behind = ap (λ (k : ℕ). drop k rows) one ∙ rest;
+      count = omega arith;
+      keys_of_rows =
+          All-append (IsKeyOf rows) keys ((key, length keys) ∷ []) so_far.keys_of_rows
+          (All-cons (IsKeyOf rows) (key, length keys) [] (means ∙ ap meaning_of (sym here)) (All-nil (IsKeyOf rows)));
+    }
+
+ordered_at : (rows : List (List ℕ)) (keys : List (SortKey × ℕ)) (d : SortKey × ℕ) → All (IsKeyOf rows) keys → IsSorted key_cmp keys → IsSorted (row_cmp rows) (numbers_of keys)
+ordered_at rows keys d are sorted = λ k e low high.
+    let long : length (numbers_of keys) ≡ length keys = length-map keys (λ (key : SortKey × ℕ). key.1) in
+    let x : SortKey × ℕ = slice_index_or keys (k + 1) d in
+    let y : SortKey × ℕ = slice_index_or keys k d in
+    let first = get_or-map (λ (key : SortKey × ℕ). key.1) keys k d e (omega arith) in
+    let second = get_or-map (λ (key : SortKey × ℕ). key.1) keys (k + 1) d e (omega arith) in
+    let first_means = All-get_or (IsKeyOf rows) keys k d (omega arith) are in
+    let second_means = All-get_or (IsKeyOf rows) keys (k + 1) d (omega arith) are in
+    ap is_lt (
+    ap₂ (row_cmp rows) second first
+    ∙ ap₂ (λ (m n : Meaning). ordering_then (meaning_cmp m n) (nat_cmp x.1 y.1)) (sym second_means) (sym first_means)
+    )
+    ∙ sorted k d low (omega arith)
+
+ordered : (rows : List (List ℕ)) (keys : List (SortKey × ℕ)) → All (IsKeyOf rows) keys → IsSorted key_cmp keys → IsSorted (row_cmp rows) (numbers_of keys)
+ordered rows [] are sorted = λ k e low high. absurd (omega arith)
+ordered rows (key ∷ keys) are sorted = ordered_at rows (key ∷ keys) key are sorted
+
+-- keys in order give the order of the rows
+pub order_of_keys : (rows left : List (List ℕ)) (before after : List (SortKey × ℕ)) → left ≡ [] → KeysSoFar rows left before → IsPermutation before after → IsSorted key_cmp after
+    → IsOrderOf rows (numbers_of after)
+order_of_keys rows left before after ended all moved sorted =
+    let none : length left ≡ 0 = ap length ended in
+    let count = all.count in
+    let long : length before ≡ length rows = omega arith in
+    let numbers = all.numbers ∙ ap (range_with_len 0) long in
+    record {
+      each_once = subst (λ (ks : List ℕ). IsPermutation ks (numbers_of after)) numbers (IsPermutation-map (λ (key : SortKey × ℕ). key.1) before after moved);
+      ascend = ordered rows after (All-permutation (IsKeyOf rows) before after moved all.keys_of_rows) sorted;
+    }
+
+-- the order of rows has as many numbers
+pub length-IsOrderOf : (rows : List (List ℕ)) (numbers : List ℕ) → IsOrderOf rows numbers → length numbers ≡ length rows
+length-IsOrderOf rows numbers h = length_permutation _ _ h.each_once ∙ length-range_with_len 0 (length rows)
+
+pub length-rows_from : (bytes : List ℕ) (start : ℕ) (ends : List ℕ) → length (rows_from bytes start ends) ≡ length ends
+length-rows_from bytes start [] = refl
+length-rows_from bytes start (end ∷ ends) = ap suc (length-rows_from bytes end ends)
+
+-- one more number is put in its place
+pub one_more_number : (keys : List (SortKey × ℕ)) (old order : List ℕ) (n : ℕ) (d : SortKey × ℕ) → n < length keys → length keys ≤ length old → order ≡ numbers_of (take n keys) ++ drop n old
+    → slice_set order n (slice_index_or keys n d).1 ≡ numbers_of (take (n + 1) keys) ++ drop (n + 1) old
+one_more_number keys old order n d inside fits so_far =
+    let front = numbers_of (take n keys) in
+    let number : ℕ = (slice_index_or keys n d).1 in
+    let long : length (numbers_of (take n keys)) ≡ n = length-map (take n keys) (λ (key : SortKey × ℕ). key.1) ∙ length-take-le n keys (omega arith) in
+    let cut = drop_more old n 0 (omega arith) in
+    let parts = so_far ∙ ap (λ (xs : List ℕ). front ++ xs) cut in
+    let more = ap (λ (k : ℕ). numbers_of (take k keys)) (add-one n) ∙ ap numbers_of (take-suc keys n d inside) ∙ map-append (λ (key : SortKey × ℕ). key.1) (take n keys) (slice_index_or keys n d ∷ []) in
+    ap₂ (λ (xs : List ℕ) (k : ℕ). slice_set xs k number) parts (sym long)
+    ∙ set-append_seam front (slice_index_or old n 0) (drop (n + 1) old) number
+    ∙ sym (append_assoc front (number ∷ []) (drop (n + 1) old))
+    ∙ ap (λ (xs : List ℕ). xs ++ drop (n + 1) old) (sym more)

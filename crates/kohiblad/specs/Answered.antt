@@ -1,0 +1,69 @@
+-- What C is answered: statuses, and bytes that are handed out.
+use Rattle.std.specs.Prelude.{◌≡◌, ◌==◌, ◌<◌, ◌≤◌, ◌⊎◌, if◌then◌else◌, ℕ, ℤ, pos, negsuc, List, length, ◌++◌, drop, codes}
+use Rattle.std.specs.declared.cmp.Ordering.{Ordering}
+use Rattle.std.specs.declared.cmp.Ordering.TheVariants.{Less, Equal, Greater}
+use Rattle.jsonb_value.specs.declared.error.Error.{Error}
+use Rattle.jsonb_value.specs.declared.error.Error.TheVariants as errors
+use Rattle.jsonb_value.specs.ErrorName.{name_of}
+
+-- an order as C has it
+abbrev pub sign : Ordering → ℤ
+sign Less = negsuc 0
+sign Equal = pos 0
+sign Greater = pos 1
+
+-- the number of an error, which is its status
+abbrev pub code : Error → ℕ
+code errors.InvalidEOF = 1
+code errors.InvalidJsonb = 2
+code errors.InvalidJsonbHeader = 3
+code errors.InvalidJsonbJEntry = 4
+code errors.InvalidJsonbNumber = 5
+code errors.InvalidJsonbExtension = 6
+code errors.InvalidUtf8 = 7
+code errors.ObjectDuplicateKey = 8
+code errors.InvalidJson = 9
+code errors.OutOfMemory = 10
+
+-- the statuses that are no error's
+abbrev pub no_room : ℕ
+no_room = 11
+
+abbrev pub none : ℕ
+none = 12
+
+abbrev pub too_deep : ℕ
+too_deep = 13
+
+-- the name of a status
+abbrev pub status_name : ℕ → List ℕ
+status_name status =
+    if status == 0 then codes "Ok"
+    else if status == 1 then name_of errors.InvalidEOF
+    else if status == 2 then name_of errors.InvalidJsonb
+    else if status == 3 then name_of errors.InvalidJsonbHeader
+    else if status == 4 then name_of errors.InvalidJsonbJEntry
+    else if status == 5 then name_of errors.InvalidJsonbNumber
+    else if status == 6 then name_of errors.InvalidJsonbExtension
+    else if status == 7 then name_of errors.InvalidUtf8
+    else if status == 8 then name_of errors.ObjectDuplicateKey
+    else if status == 9 then name_of errors.InvalidJson
+    else if status == 10 then name_of errors.OutOfMemory
+    else if status == no_room then codes "NoRoom"
+    else if status == none then codes "None"
+    else if status == too_deep then codes "TooDeep"
+    else codes "Unknown"
+
+-- The answer was copied to the front of the room, and the rest is as it was.
+abbrev pub IsCopied : List ℕ → List ℕ → List ℕ → Type 0
+IsCopied answer before after = (length answer ≤ length before) × (after ≡ answer ++ drop (length answer) before)
+
+-- The whole answer was copied; or else the room is too small and as it was. Either way its length is told.
+abbrev pub IsHandedOver : List ℕ → List ℕ → List ℕ → ℕ → ℕ → Type 0
+IsHandedOver answer before after told status =
+    (told ≡ length answer)
+    × (((status ≡ 0) × IsCopied answer before after) ⊎ ((status ≡ no_room) × ((length before < length answer) × (after ≡ before))))
+
+-- Nothing is answered but this status: the room is as it was, and the length told is 0.
+abbrev pub IsRefused : ℕ → List ℕ → List ℕ → ℕ → ℕ → Type 0
+IsRefused reason before after told status = (status ≡ reason) × ((told ≡ 0) × (after ≡ before))

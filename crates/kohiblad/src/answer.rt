@@ -1,0 +1,105 @@
+//! What C is answered: statuses, and bytes that are handed out.
+
+ghost use Rattle.std.specs.Prelude.{◌≡◌, ◌+◌, ◌<◌, ◌^◌, length};
+ghost use Rattle.jsonb.specs.Code.{scalar_bytes};
+ghost use Rattle.kohiblad.specs.Answered.{code, status_name, IsHandedOver, IsRefused};
+
+use jsonb::Error;
+use jsonb_codec::constants::SCALAR_CONTAINER_TAG;
+
+/// The statuses that are no error's.
+pub const OK: u32 = 0;
+
+pub const NO_ROOM: u32 = 11;
+
+pub const NONE: u32 = 12;
+
+pub const TOO_DEEP: u32 = 13;
+
+/// The version of the library, as one number: millions, thousands and ones.
+#[unsafe(no_mangle)]
+pub extern "C" fn kohiblad_version() -> u32
+    ensures { result ≡ 6000 }
+{
+    6000
+}
+
+/// The name of a status, `Unknown` of other numbers.
+#[unsafe(no_mangle)]
+pub extern "C" fn kohiblad_status_name(status: u32, out: &mut [u8], length: &mut usize) -> u32
+    ensures { IsHandedOver (status_name status) out.old out.new length.new result }
+{
+    let name = match status {
+        0 => "Ok",
+        1 => Error::InvalidEOF.name(),
+        2 => Error::InvalidJsonb.name(),
+        3 => Error::InvalidJsonbHeader.name(),
+        4 => Error::InvalidJsonbJEntry.name(),
+        5 => Error::InvalidJsonbNumber.name(),
+        6 => Error::InvalidJsonbExtension.name(),
+        7 => Error::InvalidUtf8.name(),
+        8 => Error::ObjectDuplicateKey.name(),
+        9 => Error::InvalidJson.name(),
+        10 => Error::OutOfMemory.name(),
+        11 => "NoRoom",
+        12 => "None",
+        13 => "TooDeep",
+        _ => "Unknown",
+    };
+    hand_over(name.as_bytes(), out, length)
+}
+
+/// The number of an error, which is its status.
+pub fn code(error: Error) -> u32
+    ensures { result ≡ code error }
+{
+    match error {
+        Error::InvalidEOF => 1,
+        Error::InvalidJsonb => 2,
+        Error::InvalidJsonbHeader => 3,
+        Error::InvalidJsonbJEntry => 4,
+        Error::InvalidJsonbNumber => 5,
+        Error::InvalidJsonbExtension => 6,
+        Error::InvalidUtf8 => 7,
+        Error::ObjectDuplicateKey => 8,
+        Error::InvalidJson => 9,
+        Error::OutOfMemory => 10,
+    }
+}
+
+/// Copies the answer, where there is room, and tells its length.
+pub fn hand_over(answer: &[u8], out: &mut [u8], told: &mut usize) -> u32
+    ensures { IsHandedOver answer.now out.old out.new told.new result }
+{
+    *told = answer.len();
+    if out.len() < answer.len() {
+        return NO_ROOM;
+    }
+    out[..answer.len()].copy_from_slice(answer);
+    OK
+}
+
+/// Answers a status and no bytes.
+pub fn refuse(status: u32, out: &mut [u8], told: &mut usize) -> u32
+    ensures { IsRefused status out.old out.new told.new result }
+{
+    *told = 0;
+    status
+}
+
+/// Hands over the scalar document of a payload, written where it is to stand.
+pub fn hand_over_scalar(type_code: u32, payload: &[u8], out: &mut [u8], told: &mut usize) -> u32
+    requires { type_code + length payload.now < 2 ^ 31 }
+    ensures { IsHandedOver (scalar_bytes type_code payload.now) out.old out.new told.new result }
+{
+    *told = 8 + payload.len();
+    if out.len() < *told {
+        return NO_ROOM;
+    }
+    let (front, behind) = out.split_at_mut(8);
+    let (header, entry) = front.split_at_mut(4);
+    header.copy_from_slice(&SCALAR_CONTAINER_TAG.to_be_bytes());
+    entry.copy_from_slice(&(type_code + payload.len() as u32).to_be_bytes());
+    behind[..payload.len()].copy_from_slice(payload);
+    OK
+}

@@ -1,0 +1,81 @@
+//! What bytes are: whether they are a document, of which kind, and which of two is the greater.
+
+ghost use Rattle.std.specs.Prelude.{◌≡◌, ◌↔◌, Ok, IsTrue};
+ghost use Rattle.jsonb_value.specs.Meaning.{meaning_cmp};
+ghost use Rattle.jsonb_value.specs.Tree.{Tree};
+ghost use Rattle.jsonb_codec.specs.Depth.{IsDocumentWithin};
+ghost use Rattle.jsonb_codec.specs.Doc.{Doc, IsDocument};
+ghost use Rattle.jsonb.specs.Kind.{kind, kind_of_tree};
+ghost use Rattle.jsonb.specs.Meant.{meaning_of};
+ghost use Rattle.kohiblad.specs.Answered.{sign};
+ghost use Rattle.kohiblad.specs.Told.{told_kind};
+
+use crate::answer::{OK, code};
+use jsonb::{JsonbItemType, RawJsonb, is_document, is_document_within};
+use std::cmp::Ordering;
+
+/// Whether the bytes are a document that nests at most that deep.
+#[unsafe(no_mangle)]
+pub extern "C" fn kohiblad_check(bytes: &[u8], depth: usize) -> bool
+    ensures { IsTrue result ↔ IsDocumentWithin depth bytes.now }
+{
+    is_document_within(bytes, depth)
+}
+
+/// Whether the bytes are a document.
+#[unsafe(no_mangle)]
+pub extern "C" fn kohiblad_is_document(bytes: &[u8]) -> bool
+    ensures { IsTrue result ↔ IsDocument bytes.now }
+{
+    is_document(bytes)
+}
+
+/// The order of all bytes by what they mean: -1, 0 or 1.
+#[unsafe(no_mangle)]
+pub extern "C" fn kohiblad_compare(left: &[u8], right: &[u8]) -> i32
+    ensures { result ≡ sign (meaning_cmp (meaning_of left.now) (meaning_of right.now)) }
+{
+    match RawJsonb::new(left).cmp(&RawJsonb::new(right)) {
+        Ordering::Less => -1,
+        Ordering::Equal => 0,
+        Ordering::Greater => 1,
+    }
+}
+
+/// The kind of a value, and of an array or object how many it holds.
+#[repr(C)]
+#[derive(Clone, Copy)]
+pub struct KohibladKind {
+    pub status: u32,
+    pub kind: u32,
+    pub count: u64,
+}
+
+/// The kind that the bytes show by their first two words.
+#[unsafe(no_mangle)]
+pub extern "C" fn kohiblad_kind(bytes: &[u8]) -> KohibladKind
+    ensures kind { result ≡ told_kind (kind bytes.now) }
+    ensures document { (t : Tree) → Doc bytes.now t → result ≡ told_kind (Ok (kind_of_tree t)) }
+{
+    let (kind, count) = match RawJsonb::new(bytes).jsonb_item_type() {
+        Ok(JsonbItemType::Null) => (0, 0),
+        Ok(JsonbItemType::Boolean) => (1, 0),
+        Ok(JsonbItemType::Number) => (2, 0),
+        Ok(JsonbItemType::String) => (3, 0),
+        Ok(JsonbItemType::Extension) => (4, 0),
+        Ok(JsonbItemType::Array(count)) => (5, count as u64),
+        Ok(JsonbItemType::Object(count)) => (6, count as u64),
+        Err(error) => {
+            return KohibladKind {
+                status: code(error),
+                kind: 0,
+                count: 0,
+            };
+        }
+    };
+    KohibladKind {
+        status: OK,
+        kind,
+        count,
+    }
+}

@@ -1,0 +1,266 @@
+//! Where the parts of an array or an object stand, and documents of them.
+
+ghost use Rattle.std.specs.Prelude.{◌≡◌, ◌+◌, ◌≤◌, ◌<◌, ◌^◌, length, Option, Result, Err, IfOk};
+ghost use Rattle.jsonb_value.specs.declared.error.Error.{Error};
+ghost use Rattle.kohiblad.specs.declared.places.Place.{Place};
+ghost use Rattle.std.specs.Str.{IsUtf8};
+ghost use Rattle.kohiblad.specs.Answered.{code, IsHandedOver, IsRefused};
+ghost use Rattle.kohiblad.specs.Places.{part_place, place_in, item_place, IsPlaceFound, IsPlaceIn, IsInside, AreInside, member_places, IsMemberHandedOver, told_place, entry_there, entry_document, IsPlaceHandedOver};
+
+use crate::answer::{NO_ROOM, NONE, OK, code, hand_over, hand_over_scalar, refuse};
+use jsonb::{Error, RawJsonb, Reads, read_header, read_jentry};
+use jsonb_codec::constants::{ARRAY_CONTAINER_TAG, CONTAINER_TAG, OBJECT_CONTAINER_TAG};
+use std::str;
+
+/// The type of an entry, and where its payload stands in the bytes.
+#[derive(Clone, Copy)]
+pub struct Place {
+    pub type_code: u32,
+    pub start: usize,
+    pub length: usize,
+}
+
+/// The type of an entry, and where its payload stands in the bytes, as C is told.
+#[repr(C)]
+#[derive(Clone, Copy)]
+pub struct KohibladPlace {
+    pub status: u32,
+    pub type_code: u32,
+    pub offset: u64,
+    pub length: u64,
+}
+
+/// Where a part of an array or object stands, by its number: the items of an array, and of an
+/// object the keys and behind them the values.
+#[unsafe(no_mangle)]
+pub extern "C" fn kohiblad_part(bytes: &[u8], number: usize) -> KohibladPlace
+    ensures { result ≡ told_place (place_in bytes.now number) }
+{
+    told_place(place_in(bytes, number))
+}
+
+/// Where the value of a key stands.
+#[unsafe(no_mangle)]
+pub extern "C" fn kohiblad_find(bytes: &[u8], name: &[u8]) -> KohibladPlace
+    ensures utf8 { (IsUtf8 name.now → ⊥) → result ≡ told_place (Err Error.InvalidUtf8) }
+    ensures place { IsUtf8 name.now → (found : Result (Option Place) Error)
+        × (IsPlaceFound name.now bytes.now found × (result ≡ told_place found)) }
+{
+    told_place(place_of_key(bytes, name))
+}
+
+/// The value of a key, as a document of its own.
+#[unsafe(no_mangle)]
+pub extern "C" fn kohiblad_get(bytes: &[u8], name: &[u8], out: &mut [u8], length: &mut usize) -> u32
+    ensures utf8 { (IsUtf8 name.now → ⊥)
+        → IsRefused (code Error.InvalidUtf8) out.old out.new length.new result }
+    ensures place { IsUtf8 name.now → (found : Result (Option Place) Error)
+        × (IsPlaceFound name.now bytes.now found
+        × IsPlaceHandedOver bytes.now found out.old out.new length.new result) }
+{
+    hand_over_found(bytes, place_of_key(bytes, name), out, length)
+}
+
+/// An item of an array, as a document of its own.
+#[unsafe(no_mangle)]
+pub extern "C" fn kohiblad_array_item(
+    bytes: &[u8],
+    index: usize,
+    out: &mut [u8],
+    length: &mut usize,
+) -> u32
+    ensures { IsPlaceHandedOver bytes.now (item_place bytes.now index)
+        out.old out.new length.new result }
+{
+    hand_over_found(bytes, item_place(bytes, index), out, length)
+}
+
+/// A key of an object and its value, as a document of its own.
+#[unsafe(no_mangle)]
+pub extern "C" fn kohiblad_object_member(
+    bytes: &[u8],
+    index: usize,
+    key: &mut [u8],
+    key_length: &mut usize,
+    out: &mut [u8],
+    length: &mut usize,
+) -> u32
+    ensures { IsMemberHandedOver bytes.now (member_places bytes.now index)
+        key.old key.new key_length.new out.old out.new length.new result }
+{
+    match member_places(bytes, index) {
+        Ok(Some((name, value))) => {
+            let text = &bytes[name.start..name.start + name.length];
+            if key.len() < text.len() {
+                let _ = hand_over_place(bytes, value, &mut out[..0], length);
+                *key_length = text.len();
+                return NO_ROOM;
+            }
+            let status = hand_over_place(bytes, value, out, length);
+            if status == OK {
+                hand_over(text, key, key_length)
+            } else {
+                *key_length = text.len();
+                status
+            }
+        }
+        Ok(None) => {
+            let status = refuse(NONE, key, key_length);
+            refuse(status, out, length)
+        }
+        Err(error) => {
+            let status = refuse(code(error), key, key_length);
+            refuse(status, out, length)
+        }
+    }
+}
+
+// The places of a key of an object and of its value. `None` where there are none.
+fn member_places(bytes: &[u8], index: usize) -> Result<Option<(Place, Place)>, Error>
+    ensures value { result ≡ member_places bytes.now index }
+    ensures inside { AreInside bytes.now result }
+{
+    match read_header(bytes, 0)? {
+        (OBJECT_CONTAINER_TAG, count) if index < count => {
+            let key = part_place(bytes, 2 * count, index)?;
+            let value = part_place(bytes, 2 * count, count + index)?;
+            Ok(Some((key, value)))
+        }
+        _ => Ok(None),
+    }
+}
+
+// The place of an item of an array. `None` where there is none.
+fn item_place(bytes: &[u8], index: usize) -> Result<Option<Place>, Error>
+    ensures value { result ≡ item_place bytes.now index }
+    ensures inside { IsInside bytes.now result }
+{
+    match read_header(bytes, 0)? {
+        (ARRAY_CONTAINER_TAG, _) => place_in(bytes, index),
+        _ => Ok(None),
+    }
+}
+
+// The place of the value of a key. `None` where there is none.
+fn place_of_key(bytes: &[u8], name: &[u8]) -> Result<Option<Place>, Error>
+    ensures utf8 { (IsUtf8 name.now → ⊥) → result ≡ Err Error.InvalidUtf8 }
+    ensures place { IsUtf8 name.now → IsPlaceFound name.now bytes.now result }
+    ensures inside { IsInside bytes.now result }
+{
+    let Ok(name) = str::from_utf8(name) else {
+        return Err(Error::InvalidUtf8);
+    };
+    let (_, count) = read_header(bytes, 0)?;
+    let mut reads = Reads::new();
+    let is_there = RawJsonb::new(bytes)
+        .get_object_value_by_key_name_counted(name, |wanted, key| wanted == key, &mut reads)?
+        .is_some();
+    if !is_there {
+        return Ok(None);
+    }
+    // Words are read without a gap, and the value's entry last.
+    let number = reads.count().saturating_sub(2) as usize;
+    Ok(Some(part_place(bytes, 2 * count, number)?))
+}
+
+// Hands over the document of a place, where one was found.
+fn hand_over_found(
+    bytes: &[u8],
+    found: Result<Option<Place>, Error>,
+    out: &mut [u8],
+    told: &mut usize,
+) -> u32
+    requires { IsInside bytes.now found }
+    ensures { IsPlaceHandedOver bytes.now found out.old out.new told.new result }
+{
+    match found {
+        Ok(Some(place)) => hand_over_place(bytes, place, out, told),
+        Ok(None) => refuse(NONE, out, told),
+        Err(error) => refuse(code(error), out, told),
+    }
+}
+
+// Hands over the document of a place.
+fn hand_over_place(bytes: &[u8], place: Place, out: &mut [u8], told: &mut usize) -> u32
+    requires { IsPlaceIn bytes.now place }
+    ensures { IsHandedOver (entry_document (entry_there bytes.now place))
+        out.old out.new told.new result }
+{
+    let payload = &bytes[place.start..place.start + place.length];
+    if place.type_code == CONTAINER_TAG {
+        hand_over(payload, out, told)
+    } else {
+        hand_over_scalar(place.type_code, payload, out, told)
+    }
+}
+
+// What C is told of a place.
+fn told_place(found: Result<Option<Place>, Error>) -> KohibladPlace
+    ensures { result ≡ told_place found }
+{
+    match found {
+        Ok(Some(place)) => KohibladPlace {
+            status: OK,
+            type_code: place.type_code,
+            offset: place.start as u64,
+            length: place.length as u64,
+        },
+        Ok(None) => no_place(NONE),
+        Err(error) => no_place(code(error)),
+    }
+}
+
+// A status, and no place.
+fn no_place(status: u32) -> KohibladPlace
+    ensures { result ≡ record { status = status; type_code = 0; offset = 0; length = 0 } }
+{
+    KohibladPlace {
+        status,
+        type_code: 0,
+        offset: 0,
+        length: 0,
+    }
+}
+
+// The place of a part of an array or object by its number. `None` where there is none.
+fn place_in(bytes: &[u8], number: usize) -> Result<Option<Place>, Error>
+    ensures value { result ≡ place_in bytes.now number }
+    ensures inside { IsInside bytes.now result }
+{
+    let entries = match read_header(bytes, 0)? {
+        (ARRAY_CONTAINER_TAG, count) => count,
+        (OBJECT_CONTAINER_TAG, count) => 2 * count,
+        _ => 0,
+    };
+    if entries <= number {
+        return Ok(None);
+    }
+    Ok(Some(part_place(bytes, entries, number)?))
+}
+
+// The place of a part by its number, where there are so many entries.
+fn part_place(bytes: &[u8], entries: usize, number: usize) -> Result<Place, Error>
+    requires entries { entries < 2 ^ 30 }
+    requires number { number < 2 ^ 31 }
+    ensures value { result ≡ part_place bytes.now entries number }
+    ensures inside { IfOk result (IsPlaceIn bytes.now) }
+{
+    let mut left = number;
+    let mut index = 4;
+    let mut start = 4 + 4 * entries;
+    while left > 0 {
+        start += read_jentry(bytes, index)?.length as usize;
+        index += 4;
+        left -= 1;
+    }
+    let entry = read_jentry(bytes, index)?;
+    let length = entry.length as usize;
+    if bytes.len() < start + length {
+        return Err(Error::InvalidJsonb);
+    }
+    Ok(Place {
+        type_code: entry.type_code,
+        start,
+        length,
+    })
+}
