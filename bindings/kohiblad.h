@@ -24,10 +24,12 @@
  * THREADS: there is no state. Any call may run in any thread, beside any other, also over the same
  * bytes, as long as nobody writes them. Calls are not for signal handlers.
  *
- * STACK: calls recurse as deep as a document or a text nests: a level of a document takes at most
- * 272 bytes of the stack, and a level of a text at most 1,920, beside 8 KB for each call. 64 levels
- * need 32 KB, and 128 KB for texts; 1,000 levels need 280 KB, and 2 MB for texts. Pass foreign bytes
- * through kohiblad_check, and foreign texts through the depth of kohiblad_parse.
+ * STACK: calls recurse as deep as a document or a text nests. KOHIBLAD_LEVEL_STACK bytes for each level
+ * of a document, KOHIBLAD_TEXT_LEVEL_STACK for each of a text, and KOHIBLAD_CALL_STACK beside them are
+ * enough: 64 levels need 26 KB, of texts 128 KB; 1,000 levels 274 KB, of texts 1.9 MB. So pass foreign
+ * bytes through kohiblad_check, and foreign texts through the depth of kohiblad_parse. The calls that
+ * take one word of each level at a time, kind, get, find, part, array_item and object_member, do not
+ * recurse.
  *
  * NULL is allowed for bytes, texts, ends, out and order whose length is 0, since macros at the end of
  * this file guard it. A caller that passes the macros by, through a function pointer or from another
@@ -41,6 +43,11 @@
 
 /* The version that this header describes: millions, thousands and ones. */
 #define KOHIBLAD_VERSION 6000
+
+/* The stack that is enough, in bytes: see STACK above. These were measured, on x86-64. */
+#define KOHIBLAD_LEVEL_STACK 272
+#define KOHIBLAD_TEXT_LEVEL_STACK 1920
+#define KOHIBLAD_CALL_STACK 8192
 
 #ifdef __cplusplus
 extern "C" {

@@ -7,6 +7,9 @@ ghost use Rattle.kohiblad.specs.Answered.{code, status_name, IsHandedOver, IsRef
 use jsonb::Error;
 use jsonb_codec::constants::SCALAR_CONTAINER_TAG;
 
+/// The version: millions, thousands and ones.
+const VERSION: u32 = 6000;
+
 /// The statuses that are no error's.
 pub const OK: u32 = 0;
 
@@ -16,12 +19,12 @@ pub const NONE: u32 = 12;
 
 pub const TOO_DEEP: u32 = 13;
 
-/// The version of the library, as one number: millions, thousands and ones.
+/// The version of the library.
 #[unsafe(no_mangle)]
 pub extern "C" fn kohiblad_version() -> u32
     ensures { result ≡ 6000 }
 {
-    6000
+    VERSION
 }
 
 /// The name of a status, `Unknown` of other numbers.

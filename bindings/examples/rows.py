@@ -1,0 +1,53 @@
+"""Stores JSON texts as rows one behind another, sorts them, looks a key up and prints.
+
+    python3 rows.py libkohiblad.so
+"""
+import ctypes
+import sys
+
+OK, NO_ROOM, NONE, DEPTH = 0, 11, 12, 64
+library = ctypes.CDLL(sys.argv[1])
+library.kohiblad_status_name.argtypes = [ctypes.c_uint32, ctypes.c_char_p, ctypes.c_size_t,
+                                         ctypes.POINTER(ctypes.c_size_t)]
+
+
+def ask(name, *given):
+    """The status of a call, and its bytes: asked again where they did not fit."""
+    arguments = []
+    for it in given:
+        sized = isinstance(it, bytes)
+        arguments += [it, ctypes.c_size_t(len(it))] if sized else [ctypes.c_size_t(it)]
+    room = 64
+    while True:
+        out, length = ctypes.create_string_buffer(room), ctypes.c_size_t()
+        status = getattr(library, name)(*arguments, out, ctypes.c_size_t(room), ctypes.byref(length))
+        if status != NO_ROOM:
+            return status, out.raw[:length.value]
+        room = length.value
+
+
+def asked(name, *given):
+    """The bytes of a call that must succeed."""
+    status, answer = ask(name, *given)
+    if status != OK:
+        out, length = ctypes.create_string_buffer(32), ctypes.c_size_t()
+        library.kohiblad_status_name(status, out, 32, ctypes.byref(length))
+        sys.exit(f"{name}: {out.raw[:length.value].decode()}")
+    return answer
+
+
+texts = ['{"id": 3, "price": 2.50}', '{"id": 1, "price": null}', "[1, 2]",
+         '{"id": 2, "price": 2.5}', '"a note"']
+rows = [asked("kohiblad_parse", text.encode(), DEPTH) for text in texts]
+column, ends = b"".join(rows), (ctypes.c_size_t * len(rows))()
+for i in range(len(rows)):
+    ends[i] = len(rows[i]) + (ends[i - 1] if i else 0)
+order = (ctypes.c_size_t * len(rows))()
+count = ctypes.c_size_t(len(rows))
+status = library.kohiblad_sort(column, ctypes.c_size_t(len(column)), ends, count, order, count)
+assert status == OK
+for row in (rows[i] for i in order):
+    status, price = ask("kohiblad_get", row, b"price")
+    assert status in (OK, NONE)
+    costs = "  costs " + asked("kohiblad_to_string", price).decode() if status == OK else ""
+    print(asked("kohiblad_to_string", row).decode() + costs)

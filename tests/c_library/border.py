@@ -1,0 +1,214 @@
+"""Asks the shared library by ctypes: known answers of each call, and the lines of tests/lines that a
+call of it answers, beside the answers that stand there.
+
+    python3 border.py libkohiblad.so TESTS/LINES
+"""
+import ctypes
+import sys
+
+LIBRARY = ctypes.CDLL(sys.argv[1])
+SIZE = ctypes.c_size_t
+NO_ROOM, NONE, TOO_DEEP = 11, 12, 13
+KINDS = ["null", "boolean", "number", "string", "extension", "array", "object"]
+
+
+class Kind(ctypes.Structure):
+    _fields_ = [("status", ctypes.c_uint32), ("kind", ctypes.c_uint32), ("count", ctypes.c_uint64)]
+
+
+class Place(ctypes.Structure):
+    _fields_ = [("status", ctypes.c_uint32), ("type", ctypes.c_uint32),
+                ("offset", ctypes.c_uint64), ("length", ctypes.c_uint64)]
+
+
+for predicate in ("check", "is_document", "is_canonical"):
+    getattr(LIBRARY, "kohiblad_" + predicate).restype = ctypes.c_bool
+LIBRARY.kohiblad_kind.restype = Kind
+LIBRARY.kohiblad_find.restype = LIBRARY.kohiblad_part.restype = Place
+
+
+def given(values):
+    """How values cross: bytes and lists of ends as a pointer and a length, numbers as size_t."""
+    crossed = []
+    for value in values:
+        if isinstance(value, bytes):
+            crossed += [value, SIZE(len(value))]
+        elif isinstance(value, list):
+            crossed += [(SIZE * (len(value) or 1))(*value), SIZE(len(value))]
+        else:
+            crossed.append(SIZE(value))
+    return crossed
+
+
+def tell(call, *values):
+    return getattr(LIBRARY, "kohiblad_" + call)(*given(values))
+
+
+def ask(call, *values):
+    """The status and the bytes; first without room, and with one byte too few."""
+    length = SIZE(7)
+    status = getattr(LIBRARY, "kohiblad_" + call)(*given(values), b"", SIZE(0), ctypes.byref(length))
+    if status != NO_ROOM:
+        assert length.value == 0, (call, status)
+        return status, b""
+    size = length.value
+    for room in (size - 1, size):
+        out = ctypes.create_string_buffer(b"\xa5" * (size + 1), size + 1)
+        status = getattr(LIBRARY, "kohiblad_" + call)(*given(values), out, SIZE(room), ctypes.byref(length))
+        assert status == (NO_ROOM if room < size else 0) and length.value == size, (call, status)
+        assert room == size or out.raw == b"\xa5" * (size + 1), call
+    return status, out.raw[:size]
+
+
+def name_of(status):
+    out, length = ctypes.create_string_buffer(32), SIZE()
+    assert LIBRARY.kohiblad_status_name(status, out, SIZE(32), ctypes.byref(length)) == 0
+    return out.raw[:length.value].decode()
+
+
+def said(answer):
+    status, answer = answer
+    return f"ok {answer.hex()}" if status == 0 else f"error {name_of(status)}"
+
+
+def member(document, index):
+    key, key_length = ctypes.create_string_buffer(4096), SIZE()
+    out, length = ctypes.create_string_buffer(65536), SIZE()
+    status = LIBRARY.kohiblad_object_member(
+        document, SIZE(len(document)), SIZE(index), key, SIZE(4096), ctypes.byref(key_length),
+        out, SIZE(65536), ctypes.byref(length))
+    return status, key.raw[:key_length.value], out.raw[:length.value]
+
+
+def rows(parts):
+    ends, size = [], 0
+    for part in parts:
+        size += len(part)
+        ends.append(size)
+    return b"".join(parts), ends
+
+
+def known_answers():
+    """Answers that the format's pages give."""
+    array = bytes.fromhex("8000000330000000200000025000000e500a4000000110000001100000016b76")
+    assert tell("version") == 6000
+    names = ("Ok InvalidEOF InvalidJsonb InvalidJsonbHeader InvalidJsonbJEntry InvalidJsonbNumber "
+             "InvalidJsonbExtension InvalidUtf8 ObjectDuplicateKey InvalidJson OutOfMemory NoRoom None "
+             "TooDeep Unknown").split()
+    assert [name_of(status) for status in range(15)] == names
+    assert ask("parse", b'[false,10,{"k":"v"}]', 2) == (0, array)
+    assert ask("parse", b'[false,10,{"k":"v"}]', 1) == (TOO_DEEP, b"")
+    assert ask("parse", b'["[[[","\\"[["]', 1)[0] == 0
+    assert ask("parse", b"[" * 2000000, 3) == (TOO_DEEP, b"")
+    assert name_of(ask("parse", b"\xff", 9)[0]) == "InvalidUtf8"
+    assert ask("to_string", array) == (0, b'[false,10,{"k":"v"}]')
+    assert ask("to_pretty", array)[1].count(b"\n") == 6
+    assert tell("check", array, 2) and not tell("check", array, 1) and not tell("check", array[:-1], 9)
+    kind = tell("kind", array)
+    assert (kind.status, kind.kind, kind.count) == (0, 5, 3)
+    assert ask("array_item", array, 0) == (0, bytes.fromhex("2000000030000000"))
+    assert ask("array_item", array, 1) == (0, bytes.fromhex("2000000020000002500a"))
+    assert ask("array_item", array, 2) == (0, array[18:])
+    assert ask("array_item", array, 3) == (NONE, b"")
+    place = tell("part", array, 2)
+    assert (place.status, place.type, place.offset, place.length) == (0, 0x50000000, 18, 14)
+    inner = array[18:]
+    assert member(inner, 0) == (0, b"k", bytes.fromhex("200000001000000176"))
+    assert member(inner, 1) == (NONE, b"", b"") and member(array, 0)[0] == NONE
+    assert ask("get", inner, b"k") == (0, bytes.fromhex("200000001000000176"))
+    assert ask("get", inner, b"j") == (NONE, b"") and ask("get", array, b"k")[0] == NONE
+    place = tell("find", inner, b"k")
+    assert (place.status, place.type, place.offset, place.length) == (0, 0x10000000, 13, 1)
+    parts = [ask("array_item", array, i)[1] for i in range(3)]
+    assert ask("build_array", *rows(parts)) == (0, array)
+    assert ask("build_object", *rows([b"k", ask("parse", b'"v"', 0)[1]])) == (0, inner)
+    assert name_of(ask("build_object", *rows([b"k", inner, b"k", inner]))[0]) == "ObjectDuplicateKey"
+    assert name_of(ask("build_array", array, [40])[0]) == "InvalidEOF"
+    order = (SIZE * 4)(9, 9, 9, 9)
+    documents = [ask("parse", text, 9)[1] for text in (b"null", b'"a"', b"5.0", b"5")]
+    assert LIBRARY.kohiblad_sort(*given(rows(documents)), order, SIZE(4)) == 0
+    assert list(order) == [2, 3, 1, 0]
+
+
+def probe(line, answer):
+    """Whether a call of the library answers this line of jsonb_probe, and then whether alike."""
+    command, *words = line.split(" ")
+    if answer in ("error BadCommand", "error BadHex"):
+        return None
+    if command in ("array_of", "object_of"):
+        if command == "array_of":
+            parts = [bytes.fromhex(word) for word in words]
+        else:
+            parts = [bytes.fromhex(it) for word in words for it in word.split("=", 1)]
+        return said(ask("build_" + command[:-3], *rows(parts))) == answer
+    taken = {"is_document": 1, "is_canonical": 1, "within": 2, "to_canonical": 1, "item_type": 1, "cmp": 2,
+             "to_string": 1, "to_pretty_string": 1, "lookup": 2, "array": 1, "pairs": 1}
+    if len(words) != taken.get(command):
+        return None
+    given_bytes = bytes.fromhex(words[0])
+    if command in ("is_document", "is_canonical"):
+        return str(tell(command, given_bytes)).lower() == answer
+    if command == "within":
+        return int(words[1]) >= 2 ** 63 or str(tell("check", given_bytes, int(words[1]))).lower() == answer
+    if command == "item_type":
+        kind = tell("kind", given_bytes)
+        count = f" {kind.count}" if kind.kind > 4 else ""
+        right = f"ok {KINDS[kind.kind]}{count}" if kind.status == 0 else f"error {name_of(kind.status)}"
+        return right == answer
+    if command == "cmp":
+        sign = tell("compare", given_bytes, bytes.fromhex(words[1]))
+        return ("equal", "greater", "less")[sign] == answer.split(" ")[0]
+    if command in ("to_string", "to_pretty_string", "to_canonical"):
+        return said(ask(command.replace("_pretty_string", "_pretty"), given_bytes)) == answer
+    if command == "lookup":
+        status, value = ask("get", given_bytes, bytes.fromhex(words[1]))
+        told = answer if answer.startswith("error") else answer.split(" ", 2)[2]
+        if status == 0:
+            return not tell("is_document", given_bytes) or told.split(" ")[1] == value.hex()
+        return told == ("none" if status == NONE else f"error {name_of(status)}")
+    if not tell("is_document", given_bytes):
+        return None
+    if answer == "none":
+        return (ask("array_item", given_bytes, 0) if command == "array" else member(given_bytes, 0))[0] == NONE
+    items = answer.split(" | ")[1:-1]
+    if command == "array":
+        mine = [ask("array_item", given_bytes, i) for i in range(len(items))]
+        return [item.split(" ")[1] for item in items] == [value.hex() for _, value in mine]
+    mine = [member(given_bytes, i) for i in range(len(items))]
+    theirs = [item.split(" ") for item in items]
+    return [(it[0], it[2]) for it in theirs] == [(key.hex(), value.hex()) for _, key, value in mine]
+
+
+def cli(line, answer):
+    """The same of a line of jsonb_cli: texts that are written as documents."""
+    if not line.startswith("enc "):
+        return None
+    status, document = ask("parse", line[4:].encode("utf-8", "surrogateescape"), 1000)
+    return said((status, document)) == answer
+
+
+def agreement(folder):
+    for program, judge, files in (
+        ("jsonb_probe", probe, "sample rows-builders rows-canonical rows-documents rows-items rows-lookup "
+                               "rows-texts"),
+        ("jsonb_cli", cli, "sample rows-texts"),
+    ):
+        asked = 0
+        for file in files.split():
+            lines, answers = (
+                open(f"{folder}/{program}/{file}.{end}", encoding="utf-8", errors="surrogateescape",
+                     newline="\n").read().split("\n")
+                for end in ("in", "out")
+            )
+            for line, answer in zip(lines, answers):
+                alike = judge(line, answer)
+                if alike is None:
+                    continue
+                asked += 1
+                assert alike, f"{program}: {line}: {answer}"
+        assert asked > 100, program
+        print(f"{asked} lines of {program} are answered alike")
+
+
+known_answers()
+agreement(sys.argv[2])

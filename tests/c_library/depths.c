@@ -1,0 +1,84 @@
+/* How many levels a call survives on a stack of a given size: depths CALL KILOBYTES LEVELS SHAPE. Ends
+ * well where the call came back. SHAPE is a or o, for nested arrays or objects. */
+#define _DEFAULT_SOURCE
+#include "kohiblad.h"
+
+#include <pthread.h>
+#include <stdio.h>
+#include <stdlib.h>
+#include <string.h>
+
+static uint8_t *in, *out;
+static size_t in_size, room, levels;
+static const char *name;
+
+static void *work(void *unused) {
+    size_t length = 0;
+    uint32_t status = 0;
+    if (!strcmp(name, "check"))
+        status = !kohiblad_check(in, in_size, levels);
+    else if (!strcmp(name, "is_document"))
+        status = !kohiblad_is_document(in, in_size);
+    else if (!strcmp(name, "is_canonical"))
+        status = !kohiblad_is_canonical(in, in_size);
+    else if (!strcmp(name, "compare"))
+        status = (uint32_t)kohiblad_compare(in, in_size, in, in_size);
+    else if (!strcmp(name, "to_string"))
+        status = kohiblad_to_string(in, in_size, out, room, &length);
+    else if (!strcmp(name, "to_pretty"))
+        status = kohiblad_to_pretty(in, in_size, out, 0, &length);
+    else if (!strcmp(name, "to_canonical"))
+        status = kohiblad_to_canonical(in, in_size, out, room, &length);
+    else if (!strcmp(name, "build_array"))
+        status = kohiblad_build_array(in, in_size, &in_size, 1, out, room, &length);
+    else if (!strcmp(name, "parse"))
+        status = kohiblad_parse(in, in_size, levels, out, room, &length);
+    else
+        abort();
+    if (status != KOHIBLAD_OK && status != KOHIBLAD_NO_ROOM) abort();
+    return unused;
+}
+
+static void text_of(size_t deep, int shape) {
+    size_t each = shape == 'o' ? 5 : 1;
+    in = malloc(in_size = deep * (each + 1) + 1);
+    if (!in) abort();
+    uint8_t *p = in;
+    for (size_t i = 0; i < deep; i++, p += each) memcpy(p, shape == 'o' ? "{\"a\":" : "[", each);
+    *p++ = '1';
+    memset(p, shape == 'o' ? '}' : ']', deep);
+}
+
+int main(int argc, char **argv) {
+    if (argc != 5 || atol(argv[3]) < 1) return 2;
+    name = argv[1];
+    levels = (size_t)atol(argv[3]);
+    text_of(levels, argv[4][0]);
+    room = 16 * in_size + 64;
+    out = malloc(room);
+    if (!out) return 2;
+    pthread_attr_t attributes;
+    pthread_attr_init(&attributes);
+    if (strcmp(name, "parse")) {
+        /* The document of the text, made on a stack that surely carries it. */
+        const char *wanted = name;
+        name = "parse";
+        pthread_t maker;
+        pthread_attr_setstacksize(&attributes, (size_t)1 << 30);
+        if (pthread_create(&maker, &attributes, work, NULL)) return 2;
+        pthread_join(maker, NULL);
+        name = wanted;
+        uint8_t *text = in;
+        in = malloc(room);
+        if (!in) return 2;
+        memcpy(in, out, room);
+        free(text);
+        /* A level has a header, and of an object 9 bytes or of an array 4; the number has 2. */
+        in_size = levels * (argv[4][0] == 'o' ? 13 : 8) + 2;
+    }
+    pthread_t worker;
+    pthread_attr_setstacksize(&attributes, (size_t)atol(argv[2]) * 1024);
+    if (pthread_create(&worker, &attributes, work, NULL)) return 2;
+    pthread_join(worker, NULL);
+    return 0;
+}

@@ -1,0 +1,87 @@
+/* Each request for memory is refused in turn: a call that takes memory answers OUT_OF_MEMORY with its
+ * room untouched, or the right answer; the others answer as ever. Linked with --wrap=malloc,realloc. */
+#include "kohiblad.h"
+
+#include <assert.h>
+#include <stdio.h>
+#include <stdlib.h>
+#include <string.h>
+
+void *__real_malloc(size_t size);
+void *__real_realloc(void *block, size_t size);
+void *__wrap_malloc(size_t size);
+void *__wrap_realloc(void *block, size_t size);
+
+static long left = -1;
+static bool refused;
+static bool refuses(void) {
+    if (left < 0 || left-- > 0) return false;
+    return refused = true;
+}
+void *__wrap_malloc(size_t size) { return refuses() ? NULL : __real_malloc(size); }
+void *__wrap_realloc(void *block, size_t size) {
+    return refuses() ? NULL : __real_realloc(block, size);
+}
+
+static const char text[] = "{\"a\":1,\"b\":[true,\"\\u00e9\"],\"c\":{\"d\":\"e\",\"f\":-12.5,\"g\":[[],{}]}}";
+enum { ROOM = 1024, CALLS = 15 };
+static uint8_t document[ROOM], pairs[ROOM];
+static size_t size, stops[4], pairs_size, order[4];
+
+static uint32_t call(int which, uint8_t *out, size_t *length) {
+    switch (which) {
+    case 0: return kohiblad_parse((const uint8_t *)text, sizeof text - 1, 8, out, ROOM, length);
+    case 1: return kohiblad_to_string(document, size, out, ROOM, length);
+    case 2: return kohiblad_to_pretty(document, size, out, ROOM, length);
+    case 3: return kohiblad_to_canonical(document, size, out, ROOM, length);
+    case 4: return kohiblad_build_array(pairs + 1, size, &size, 1, out, ROOM, length);
+    case 5: return kohiblad_build_object(pairs, pairs_size, stops, 4, out, ROOM, length);
+    case 6: return kohiblad_sort(pairs, pairs_size, stops, 4, order, 4);
+    case 7: return kohiblad_get(document, size, (const uint8_t *)"c", 1, out, ROOM, length);
+    case 8: return kohiblad_object_member(document, size, 1, out, ROOM / 2, length,
+                                          out + ROOM / 2, ROOM / 2, length);
+    case 9: return kohiblad_find(document, size, (const uint8_t *)"b", 1).status;
+    case 10: return kohiblad_part(document, size, 4).status;
+    case 11: return kohiblad_is_document(document, size) ? KOHIBLAD_OK : KOHIBLAD_INVALID_JSONB;
+    case 12: return kohiblad_check(document, size, 8) ? KOHIBLAD_OK : KOHIBLAD_INVALID_JSONB;
+    case 13: return (uint32_t)kohiblad_compare(document, size, document, size);
+    default: return kohiblad_is_canonical(document, size) ? KOHIBLAD_OK : KOHIBLAD_INVALID_JSONB;
+    }
+}
+
+int main(void) {
+    static uint8_t out[ROOM], clean[ROOM];
+    size_t length;
+    memset(clean, 0xA5, ROOM);
+    assert(call(0, document, &size) == KOHIBLAD_OK);
+    /* The rows x, document, y, document. */
+    for (int i = 0; i < 2; i++) {
+        pairs[pairs_size] = i ? 'y' : 'x';
+        memcpy(pairs + pairs_size + 1, document, size);
+        stops[2 * i] = pairs_size + 1;
+        stops[2 * i + 1] = pairs_size += 1 + size;
+    }
+    long runs = 0;
+    for (int which = 0; which < CALLS; which++) {
+        for (long nth = 0;; nth++) {
+            memset(out, 0xA5, ROOM);
+            memset(order, 0xA5, sizeof order);
+            left = nth;
+            refused = false;
+            uint32_t status = call(which, out, &length);
+            left = -1;
+            runs++;
+            if (!refused) {
+                assert(status == KOHIBLAD_OK);
+                assert(which < 7 ? nth > 0 : nth == 0);
+                printf("call %d: %ld requests\n", which, nth);
+                break;
+            }
+            assert(which < 7 && status == KOHIBLAD_OUT_OF_MEMORY);
+            assert(!memcmp(out, clean, ROOM) && !memcmp(order, clean, sizeof order));
+            assert(which == 6 || length == 0);
+        }
+    }
+    printf("%ld runs\n", runs);
+    return 0;
+}
