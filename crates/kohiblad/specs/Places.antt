@@ -1,14 +1,16 @@
 -- Where the parts of an array or an object stand, and what C is answered of them.
-use Rattle.std.specs.Prelude.{◌≡◌, ℕ, zero, suc, ◌+◌, ◌-◌, ◌*◌, ◌==◌, nat_le, if◌then◌else◌, Bool, List, length, take, drop, Option, Some, None, Result, Ok, Err, IfOk, IfSome, nat_eq, ◌≤◌, ◌<◌, ◌⊎◌, ◌^◌}
+use Rattle.std.specs.Prelude.{◌≡◌, ℕ, zero, suc, ◌+◌, ◌-◌, ◌*◌, ◌==◌, nat_le, if◌then◌else◌, Bool, List, length, take, drop, slice_get, option_map, Option, Some, None, Result, Ok, Err, IfOk, IfSome, nat_eq, ◌≤◌, ◌<◌, ◌⊎◌, ◌^◌}
 use Rattle.std.specs.Cmp.Lexicographic.{pointwise}
 use Rattle.jsonb_value.specs.declared.error.Error.{Error}
 use Rattle.jsonb_value.specs.declared.error.Error.TheVariants.{InvalidJsonb}
+use Rattle.jsonb_value.specs.Tree.{Tree, array, object}
 use Rattle.jsonb_codec.specs.declared.constants.TheConstants.{ARRAY_CONTAINER_TAG, OBJECT_CONTAINER_TAG, CONTAINER_TAG}
 use Rattle.jsonb_codec.specs.JEntry.{jentry_at}
 use Rattle.jsonb_codec.specs.Word.{header_at}
 use Rattle.jsonb.specs.Code.{scalar_bytes}
 use Rattle.jsonb.specs.Item.{Entry}
 use Rattle.jsonb.specs.Shown.{Shown}
+use Rattle.jsonb.specs.Standing.{HasItems, HasMembers}
 use Rattle.jsonb.specs.Steps.{◌>>=◌}
 use Rattle.jsonb.specs.Lookup.{header_count, LooksUpBytes}
 use Rattle.kohiblad.specs.declared.places.Place.{Place}
@@ -134,3 +136,18 @@ IsMemberHandedOver bytes (Ok None) key_before key_after key_told before after to
     IsRefused none key_before key_after key_told status × IsRefused none before after told status
 IsMemberHandedOver bytes (Err e) key_before key_after key_told before after told status =
     IsRefused (code e) key_before key_after key_told status × IsRefused (code e) before after told status
+
+-- On a document, the place is that of the entry that stands there: of an array an item's, by its index,
+abbrev pub IsItemPlace : List ℕ → Tree → ℕ → Result (Option Place) Error → Type 0
+IsItemPlace b (array ts) index found =
+    (entries : List Entry) × (HasItems b ts entries × ((o : Option Place) × ((found ≡ Ok o) × (option_map (entry_there b) o ≡ slice_get entries index))))
+IsItemPlace b t index found = found ≡ Ok None
+
+-- and of an object a member's, its key and its value.
+abbrev pub member_there : List ℕ → Place × Place → List ℕ × Entry
+member_there b places = ((entry_there b places.0).payload, entry_there b places.1)
+
+abbrev pub AreMemberPlaces : List ℕ → Tree → ℕ → Result (Option (Place × Place)) Error → Type 0
+AreMemberPlaces b (object ps) index found =
+    (members : List (List ℕ × Entry)) × (HasMembers b ps members × ((o : Option (Place × Place)) × ((found ≡ Ok o) × (option_map (member_there b) o ≡ slice_get members index))))
+AreMemberPlaces b t index found = found ≡ Ok None

@@ -5,7 +5,9 @@ ghost use Rattle.jsonb_value.specs.declared.error.Error.{Error};
 ghost use Rattle.kohiblad.specs.declared.places.Place.{Place};
 ghost use Rattle.std.specs.Str.{IsUtf8};
 ghost use Rattle.kohiblad.specs.Answered.{code, IsHandedOver, IsRefused};
-ghost use Rattle.kohiblad.specs.Places.{part_place, place_in, item_place, IsPlaceFound, IsPlaceIn, IsInside, AreInside, member_places, IsMemberHandedOver, told_place, entry_there, entry_document, IsPlaceHandedOver};
+ghost use Rattle.jsonb_value.specs.Tree.{Tree};
+ghost use Rattle.jsonb_codec.specs.Doc.{Doc};
+ghost use Rattle.kohiblad.specs.Places.{IsItemPlace, AreMemberPlaces, part_place, place_in, item_place, IsPlaceFound, IsPlaceIn, IsInside, AreInside, member_places, IsMemberHandedOver, told_place, entry_there, entry_document, IsPlaceHandedOver};
 
 use crate::answer::{NO_ROOM, NONE, OK, code, hand_over, hand_over_scalar, refuse};
 use jsonb::{Error, RawJsonb, Reads, read_header, read_jentry};
@@ -69,8 +71,10 @@ pub extern "C" fn kohiblad_array_item(
     out: &mut [u8],
     length: &mut usize,
 ) -> u32
-    ensures { IsPlaceHandedOver bytes.now (item_place bytes.now index)
+    ensures handed { IsPlaceHandedOver bytes.now (item_place bytes.now index)
         out.old out.new length.new result }
+    ensures document { (t : Tree) → Doc bytes.now t
+        → IsItemPlace bytes.now t index (item_place bytes.now index) }
 {
     hand_over_found(bytes, item_place(bytes, index), out, length)
 }
@@ -85,8 +89,10 @@ pub extern "C" fn kohiblad_object_member(
     out: &mut [u8],
     length: &mut usize,
 ) -> u32
-    ensures { IsMemberHandedOver bytes.now (member_places bytes.now index)
+    ensures handed { IsMemberHandedOver bytes.now (member_places bytes.now index)
         key.old key.new key_length.new out.old out.new length.new result }
+    ensures document { (t : Tree) → Doc bytes.now t
+        → AreMemberPlaces bytes.now t index (member_places bytes.now index) }
 {
     match member_places(bytes, index) {
         Ok(Some((name, value))) => {
@@ -118,6 +124,8 @@ pub extern "C" fn kohiblad_object_member(
 // The places of a key of an object and of its value. `None` where there are none.
 fn member_places(bytes: &[u8], index: usize) -> Result<Option<(Place, Place)>, Error>
     ensures value { result ≡ member_places bytes.now index }
+    ensures document { (t : Tree) → Doc bytes.now t
+        → AreMemberPlaces bytes.now t index (member_places bytes.now index) }
     ensures inside { AreInside bytes.now result }
 {
     match read_header(bytes, 0)? {
@@ -133,6 +141,8 @@ fn member_places(bytes: &[u8], index: usize) -> Result<Option<(Place, Place)>, E
 // The place of an item of an array. `None` where there is none.
 fn item_place(bytes: &[u8], index: usize) -> Result<Option<Place>, Error>
     ensures value { result ≡ item_place bytes.now index }
+    ensures document { (t : Tree) → Doc bytes.now t
+        → IsItemPlace bytes.now t index (item_place bytes.now index) }
     ensures inside { IsInside bytes.now result }
 {
     match read_header(bytes, 0)? {
