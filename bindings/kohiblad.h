@@ -26,10 +26,9 @@
  *
  * STACK: calls recurse as deep as a document or a text nests. KOHIBLAD_LEVEL_STACK bytes for each level
  * of a document, KOHIBLAD_TEXT_LEVEL_STACK for each of a text, and KOHIBLAD_CALL_STACK beside them are
- * enough: 64 levels need 26 KB, of texts 128 KB; 1,000 levels 274 KB, of texts 1.9 MB. So pass foreign
- * bytes through kohiblad_check, and foreign texts through the depth of kohiblad_parse. The calls that
- * take one word of each level at a time, kind, get, find, part, array_item and object_member, do not
- * recurse.
+ * enough: 64 levels need 48 KB, of texts 136 KB; 1,000 levels 633 KB, of texts 2 MB. So pass foreign
+ * bytes through kohiblad_check, and foreign texts through the depth of kohiblad_parse. kind, get, find,
+ * part, array_item and object_member look into no child, and do not recurse.
  *
  * NULL is allowed for bytes, texts, ends, out and order whose length is 0, since macros at the end of
  * this file guard it. A caller that passes the macros by, through a function pointer or from another
@@ -45,8 +44,8 @@
 #define KOHIBLAD_VERSION 6000
 
 /* The stack that is enough, in bytes: see STACK above. These were measured, on x86-64. */
-#define KOHIBLAD_LEVEL_STACK 272
-#define KOHIBLAD_TEXT_LEVEL_STACK 1920
+#define KOHIBLAD_LEVEL_STACK 640
+#define KOHIBLAD_TEXT_LEVEL_STACK 2048
 #define KOHIBLAD_CALL_STACK 8192
 
 #ifdef __cplusplus
