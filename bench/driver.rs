@@ -1,5 +1,5 @@
 //! Times the library beside the core of the Rust crate, in one run, on the same bytes.
-use crate_baseline::{api, Number, RawJsonb, Value};
+use crate_baseline::{api, Decimal64, Number, RawJsonb, Value};
 use std::borrow::Cow;
 use std::collections::BTreeMap;
 use std::hint::black_box;
@@ -80,7 +80,7 @@ fn report(name: &str, what: &str, bytes: usize, ours: f64, theirs: f64) {
 }
 
 fn documents() {
-    for (name, value) in [("numbers", numbers()), ("objects", objects()), ("deep", deep())] {
+    for (name, value) in [("numbers", numbers()), ("objects", objects()), ("deep", deep()), ("of 3000", keyed(3_000, numbered))] {
         let mut bytes = Vec::new();
         api::encode(&value, &mut bytes);
         let (start, length) = (bytes.as_ptr(), bytes.len());
@@ -231,6 +231,10 @@ fn texts() {
     let from_str = || serde_json::from_str::<serde_json::Value>(&text).is_ok() as usize;
     let (ours, theirs) = fastest(|| unsafe { measured_parse(text.as_ptr(), length) }, from_str);
     report("text", "parse", length, ours, theirs);
+    let whole = || encoded(&value_of_json(serde_json::from_str(&text).unwrap())).len();
+    assert_eq!(whole(), unsafe { measured_parse(text.as_ptr(), length) });
+    let (ours, theirs) = fastest(|| unsafe { measured_parse(text.as_ptr(), length) }, whole);
+    report("text", "document", length, ours, theirs);
     let objects = encoded(&objects());
     let printed = unsafe { measured_print(objects.as_ptr(), objects.len()) };
     let tree: serde_json::Value = objects_as_json();
@@ -243,6 +247,30 @@ fn texts() {
     let (once, _) = fastest(|| unsafe { measured_text(start, count, 1) }, || 0);
     report("objects", "text", 4 * printed, more - once, theirs);
     drop(value);
+}
+
+// The crate's value of serde_json's, as a user of the crate makes it.
+fn value_of_json(json: serde_json::Value) -> Value<'static> {
+    match json {
+        serde_json::Value::Null => Value::Null,
+        serde_json::Value::Bool(truth) => Value::Bool(truth),
+        serde_json::Value::Number(number) => Value::Number(number_of_json(&number)),
+        serde_json::Value::String(text) => string(text),
+        serde_json::Value::Array(items) => Value::Array(items.into_iter().map(value_of_json).collect()),
+        serde_json::Value::Object(pairs) => Value::Object(pairs.into_iter().map(|(key, value)| (key, value_of_json(value))).collect()),
+    }
+}
+
+fn number_of_json(number: &serde_json::Number) -> Number {
+    if let Some(value) = number.as_u64() {
+        return Number::UInt64(value);
+    }
+    if let Some(value) = number.as_i64() {
+        return Number::Int64(value);
+    }
+    let text = number.to_string();
+    let (whole, fraction) = text.split_once('.').unwrap();
+    Number::Decimal64(Decimal64 { scale: fraction.len() as u8, value: format!("{whole}{fraction}").parse().unwrap() })
 }
 
 fn objects_as_json() -> serde_json::Value {
