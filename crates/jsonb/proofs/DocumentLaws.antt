@@ -1,5 +1,6 @@
 -- A checked document is a document of its tree.
-use Rattle.std.proofs.Common.{◌≡◌, ◌↔◌, ℕ, List, Option, Some, None, IfSome, IsSome, inl, inr, sym, subst}
+use Rattle.std.proofs.Common.{◌≡◌, ◌↔◌, ℕ, List, Option, Some, None, IfSome, IsSome, inl, inr, sym}
+use Rattle.std.proofs.Common.{subst}
 use Rattle.std.proofs.Math.Logic.{∥∥₁_elim}
 use Rattle.jsonb_value.specs.Tree.{Tree}
 use Rattle.jsonb_value.proofs.PayloadDecision.{Decided}
@@ -34,14 +35,18 @@ tree_in-is b t doc = found_is b t doc (decide b)
 
 -- a document that holds these bytes means their tree,
 pub tree_of_bytes : (b : List ℕ) (d : Document) → document_bytes d ≡ b → Doc b (document_tree d)
-tree_of_bytes b d is = subst (λ x. Doc x (document_tree d)) is (known_Doc (document_bytes d) d.bytes.known)
+tree_of_bytes b d is =
+    subst (λ x. Doc x (document_tree d)) is (known_Doc (document_bytes d) d.bytes.known)
 
-pub document_tree-is : (b : List ℕ) (t : Tree) (found : Option Document) → Doc b t → IfSome found (λ d. document_bytes d ≡ b) → IfSome found (λ d. document_tree d ≡ t)
+pub document_tree-is : (b : List ℕ) (t : Tree) (found : Option Document) → Doc b t
+    → IfSome found (λ d. document_bytes d ≡ b) → IfSome found (λ d. document_tree d ≡ t)
 document_tree-is b t None doc h = tt
-document_tree-is b t (Some d) doc h = tree_in-is (document_bytes d) t (subst (λ x. Doc x t) (sym h) doc)
+document_tree-is b t (Some d) doc h =
+    tree_in-is (document_bytes d) t (subst (λ x. Doc x t) (sym h) doc)
 
 -- and so do the bytes
-pub document_meaning : (b : List ℕ) (d : Document) → document_bytes d ≡ b → document (document_tree d) ≡ meaning_of b
+pub document_meaning : (b : List ℕ) (d : Document) → document_bytes d ≡ b
+    → document (document_tree d) ≡ meaning_of b
 document_meaning b d is = sym (meaning_of-document b (document_tree d) (tree_of_bytes b d is))
 
 -- where none was found there is none

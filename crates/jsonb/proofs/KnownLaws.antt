@@ -1,8 +1,11 @@
 -- The entries of a document can be read, and mean the trees of what it holds.
-use Rattle.std.proofs.Common.{◌≡◌, ◌≢◌, ℕ, zero, suc, ◌+◌, ◌*◌, List, [], ◌∷◌, length, is_ok, if◌then◌else◌, Option, Some, None, option_map, Result, Ok, Err, refl, sym, ap, ap₂, subst, ◌∙◌, inl, inr, true, false, arith}
+use Rattle.std.proofs.Common.{◌≡◌, ◌≢◌, ℕ, zero, suc, ◌+◌, ◌*◌, List, [], ◌∷◌, length, is_ok}
+use Rattle.std.proofs.Common.{if◌then◌else◌, Option, Some, None, option_map, Result, Ok, Err, refl}
+use Rattle.std.proofs.Common.{sym, ap, ap₂, subst, ◌∙◌, inl, inr, true, false, arith}
 use Rattle.jsonb_value.specs.declared.error.Error.{Error}
 use Rattle.jsonb_value.specs.Tree as trees
-use Rattle.jsonb_value.specs.Tree.{Tree, text, array, object, Trees, no_trees, tree, Pairs, no_pairs, pair, count, pair_count}
+use Rattle.jsonb_value.specs.Tree.{Tree, text, array, object, Trees, no_trees, tree, Pairs}
+use Rattle.jsonb_value.specs.Tree.{no_pairs, pair, count, pair_count}
 use Rattle.jsonb_codec.specs.Word.{header_at}
 use Rattle.jsonb_codec.specs.Doc.{IsKey, Keys, Values, Children, Payload, Doc, type_of}
 use Rattle.jsonb_codec.specs.declared.parts.Part.{Part}
@@ -11,36 +14,44 @@ use Rattle.jsonb_codec.specs.Parts.{IsPayloadOf}
 use Rattle.jsonb_codec.proofs.Decision.{known_part}
 use Rattle.jsonb.specs.declared.document.Node.{Node}
 use Rattle.jsonb.specs.Steps.{◌>>=◌}
-use Rattle.jsonb.specs.Shown.{Shown}
-use Rattle.jsonb.specs.Shown as items
+use Rattle.jsonb.specs.ItemView.{ItemView}
+use Rattle.jsonb.specs.ItemView as items
 use Rattle.jsonb.specs.Code.{Means}
 use Rattle.jsonb.specs.Item.{Entry, item_of, entry_at}
-use Rattle.jsonb.specs.Walk.{entries_from, array_entries, member_entries, object_entries, count_if, length_at, payload_length}
-use Rattle.jsonb.specs.Known.{shown_tree, item_tree, entry_tree, entry_of_part, AreParts, AreKeys, AreMembers, trees_left, pairs_left}
+use Rattle.jsonb.specs.Walk.{entries_from, array_entries, member_entries, object_entries, count_if}
+use Rattle.jsonb.specs.Walk.{length_at, payload_length}
+use Rattle.jsonb.specs.Known.{shown_tree, item_tree, entry_tree, entry_of_part, AreParts, AreKeys}
+use Rattle.jsonb.specs.Known.{AreMembers, trees_left, pairs_left}
 use Rattle.jsonb_value.specs.Value.{trees_of}
-use Rattle.jsonb.specs.Node.{node_tree, array_of, pairs_of, object_of, tree_list, pair_list, items_of, members_of}
+use Rattle.jsonb.specs.Node.{node_tree, array_of, pairs_of, object_of, tree_list, pair_list}
+use Rattle.jsonb.specs.Node.{items_of, members_of}
 use Rattle.jsonb.proofs.Places.{At}
 use Rattle.jsonb.proofs.ItemLaws.{found_item}
 use Rattle.jsonb.proofs.DocumentLaws.{tree_in-is}
 use Rattle.jsonb.proofs.KindLaws.{header_at-Scalar, header_at-array, header_at-object}
-use Rattle.jsonb.proofs.DocumentWalks.{first, array_parts, object_parts, payloads_end-Keys, count_under-header}
+use Rattle.jsonb.proofs.DocumentWalks.{first, array_parts, object_parts, payloads_end-Keys}
+use Rattle.jsonb.proofs.DocumentWalks.{count_under-header}
 
 -- one more, and nothing behind an error
 abbrev ahead : Result Entry Error → List (Result Entry Error) → List (Result Entry Error)
 ahead r rest = r ∷ (if is_ok r then rest else [])
 
-length-ahead : (r : Result Entry Error) (rest : List (Result Entry Error)) (n : ℕ) → (AreParts rest → n ≡ length rest) → AreParts (ahead r rest) → suc n ≡ length (ahead r rest)
+length-ahead : (r : Result Entry Error) (rest : List (Result Entry Error)) (n : ℕ)
+    → (AreParts rest → n ≡ length rest) → AreParts (ahead r rest) → suc n ≡ length (ahead r rest)
 length-ahead (Ok entry) rest n others h = ap suc (others h.1)
 length-ahead (Err e) rest n others h = absurd h
 
 -- as many as are left can be read
-pub length-AreParts : (bytes : List ℕ) (left place start : ℕ) → AreParts (entries_from bytes left place start) → left ≡ length (entries_from bytes left place start)
+pub length-AreParts : (bytes : List ℕ) (left place start : ℕ)
+    → AreParts (entries_from bytes left place start)
+    → left ≡ length (entries_from bytes left place start)
 length-AreParts bytes zero place start h = refl
 length-AreParts bytes (suc left) place start h =
-    length-ahead (entry_at bytes place start) _ left (length-AreParts bytes left (place + 4) (start + length_at bytes place start)) h
+    length-ahead (entry_at bytes place start) _ left
+    (length-AreParts bytes left (place + 4) (start + length_at bytes place start)) h
 
 -- the tree of an entry is the one that it means
-shown_tree-is : (x : Shown) (t : Tree) → Means x t → shown_tree x ≡ t
+shown_tree-is : (x : ItemView) (t : Tree) → Means x t → shown_tree x ≡ t
 shown_tree-is items.null t h = sym h
 shown_tree-is (items.boolean b) t h = sym h
 shown_tree-is (items.number given x) t h = sym h
@@ -49,11 +60,13 @@ shown_tree-is (items.extension given e) t h = sym h
 shown_tree-is (items.raw b) t h = tree_in-is b t h
 shown_tree-is (items.owned b) t h = tree_in-is b t h
 
-pub entry_tree-is : (type : ℕ) (payload : List ℕ) (t : Tree) → IsPayloadOf type payload t → entry_tree record { type = type; payload = payload } ≡ t
+pub entry_tree-is : (type : ℕ) (payload : List ℕ) (t : Tree) → IsPayloadOf type payload t
+    → entry_tree record { type = type; payload = payload } ≡ t
 unfolding entry_tree
 entry_tree-is type payload t h =
     let f = found_item t payload h.1 in
-    ap (λ (k : ℕ). item_tree (item_of k payload)) (sym h.0) ∙ ap item_tree f.1.0 ∙ shown_tree-is f.0 t f.1.1.0
+    ap (λ (k : ℕ). item_tree (item_of k payload)) (sym h.0) ∙ ap item_tree f.1.0
+    ∙ shown_tree-is f.0 t f.1.1.0
 
 -- The entries mean these trees,
 pub record MeanTrees (ts : Trees) (xs : List (Result Entry Error)) : Type 0 where
@@ -68,37 +81,54 @@ pub record MeanPairs (ps : Pairs) (ks xs : List (Result Entry Error)) : Type 0 w
   pub as_many : length ks ≡ length xs
   pub pairs_are : pairs_left (ks, xs) ≡ pair_list ps
 
-entries_from-first : (bytes : List ℕ) (left place start : ℕ) (entry : Entry) → entry_at bytes place start ≡ Ok entry
-    → entries_from bytes (suc left) place start ≡ Ok entry ∷ entries_from bytes left (place + 4) (start + length entry.payload)
+entries_from-first : (bytes : List ℕ) (left place start : ℕ) (entry : Entry)
+    → entry_at bytes place start ≡ Ok entry
+    → entries_from bytes (suc left) place start ≡ Ok entry
+    ∷ entries_from bytes left (place + 4) (start + length entry.payload)
 entries_from-first bytes left place start entry e =
-    ap (λ (r : Result Entry Error). ahead r (entries_from bytes left (place + 4) (start + payload_length r))) e
+    ap (λ (r : Result Entry Error). ahead r
+    (entries_from bytes left (place + 4) (start + payload_length r))) e
 
-MeanTrees-Children : (bytes : List ℕ) (ts : Trees) (e p : List ℕ) (i j : ℕ) → Children ts e p → At bytes i e → At bytes j p → MeanTrees ts (entries_from bytes (count ts) i j)
+MeanTrees-Children : (bytes : List ℕ) (ts : Trees) (e p : List ℕ) (i j : ℕ) → Children ts e p
+    → At bytes i e → At bytes j p → MeanTrees ts (entries_from bytes (count ts) i j)
 MeanTrees-Children bytes no_trees e p i j h a b = record { parts = tt; trees_are = refl }
 MeanTrees-Children bytes (tree t ts) e p i j h a b =
     let f = first bytes i j t (Payload t) (Children ts) e p h a b in
-    let others = MeanTrees-Children bytes ts h.other_entries h.other_payloads (i + 4) (j + length h.payload) h.others f.other_entries f.other_payloads in
+    let others = MeanTrees-Children bytes ts h.other_entries h.other_payloads (i + 4)
+    (j + length h.payload) h.others f.other_entries f.other_payloads in
     subst (MeanTrees (tree t ts)) (sym (entries_from-first bytes (count ts) i j _ f.entry)) record {
       parts = ((t, (refl, h.means)), others.parts);
-      trees_are = ap₂ (λ (u : Tree) (us : List Tree). u ∷ us) (entry_tree-is (type_of t) h.payload t (refl, h.means)) others.trees_are;
+      trees_are = ap₂
+          (λ (u : Tree) (us : List Tree). u ∷ us)
+          (entry_tree-is (type_of t) h.payload t (refl, h.means)) others.trees_are;
     }
 
-MeanPairs-Pairs : (bytes : List ℕ) (ps : Pairs) (ke kp ve vp : List ℕ) (i j place start : ℕ) → Keys ps ke kp → Values ps ve vp
-    → At bytes i ke → At bytes j kp → At bytes place ve → At bytes start vp → MeanPairs ps (entries_from bytes (pair_count ps) i j) (entries_from bytes (pair_count ps) place start)
-MeanPairs-Pairs bytes no_pairs ke kp ve vp i j place start h k a b c d = record { key_parts = tt; keys = tt; parts = tt; as_many = refl; pairs_are = refl }
+MeanPairs-Pairs : (bytes : List ℕ) (ps : Pairs) (ke kp ve vp : List ℕ) (i j place start : ℕ)
+    → Keys ps ke kp → Values ps ve vp
+    → At bytes i ke → At bytes j kp → At bytes place ve → At bytes start vp
+    → MeanPairs ps (entries_from bytes (pair_count ps) i j)
+    (entries_from bytes (pair_count ps) place start)
+MeanPairs-Pairs bytes no_pairs ke kp ve vp i j place start h k a b c d =
+    record { key_parts = tt; keys = tt; parts = tt; as_many = refl; pairs_are = refl }
 MeanPairs-Pairs bytes (pair key t ps) ke kp ve vp i j place start h k a b c d =
     let f = first bytes i j (text key) (IsKey key) (Keys ps) ke kp h a b in
     let g = first bytes place start t (Payload t) (Values ps) ve vp k c d in
-    let others = MeanPairs-Pairs bytes ps h.other_entries h.other_payloads k.other_entries k.other_payloads (i + 4) (j + length h.payload) (place + 4) (start + length k.payload)
+    let others =
+    MeanPairs-Pairs bytes ps h.other_entries h.other_payloads k.other_entries k.other_payloads
+    (i + 4) (j + length h.payload) (place + 4) (start + length k.payload)
     h.others k.others f.other_entries f.other_payloads g.other_entries g.other_payloads in
-    subst (λ (ks : List (Result Entry Error)). MeanPairs (pair key t ps) ks (entries_from bytes (suc (pair_count ps)) place start)) (sym (entries_from-first bytes (pair_count ps) i j _ f.entry))
-    (subst (MeanPairs (pair key t ps) _) (sym (entries_from-first bytes (pair_count ps) place start _ g.entry)) record {
+    subst (λ (ks : List (Result Entry Error)). MeanPairs (pair key t ps) ks
+    (entries_from bytes (suc (pair_count ps)) place start))
+    (sym (entries_from-first bytes (pair_count ps) i j _ f.entry))
+    (subst (MeanPairs (pair key t ps) _)
+    (sym (entries_from-first bytes (pair_count ps) place start _ g.entry)) record {
       key_parts = ((text key, (refl, h.means)), others.key_parts);
       keys = (refl, others.keys);
       parts = ((t, (refl, k.means)), others.parts);
       as_many = ap suc others.as_many;
       pairs_are = ap₂ (λ (m : List ℕ × Tree) (ms : List (List ℕ × Tree)). m ∷ ms)
-          (ap₂ (λ (x : List ℕ) (u : Tree). (x, u)) h.means.0 (entry_tree-is (type_of t) k.payload t (refl, k.means))) others.pairs_are;
+          (ap₂ (λ (x : List ℕ) (u : Tree). (x, u)) h.means.0
+          (entry_tree-is (type_of t) k.payload t (refl, k.means))) others.pairs_are;
     })
 
 -- what is found of a document: the entries of an array,
@@ -110,24 +140,34 @@ FindsItems t (Ok (Some xs)) = AreParts xs × (Some (trees_left xs) ≡ items_of 
 FindsItems t (Ok None) = None ≡ items_of t
 FindsItems t (Err e) = ⊥
 
-array_entries-header : (b : List ℕ) (header : ℕ × ℕ) → header_at b 0 ≡ Ok header → array_entries b ≡ Ok (option_map (λ n. entries_from b n 4 (4 + 4 * n)) (count_if 2147483648 header))
+array_entries-header : (b : List ℕ) (header : ℕ × ℕ) → header_at b 0 ≡ Ok header
+    → array_entries b
+    ≡ Ok (option_map (λ n. entries_from b n 4 (4 + 4 * n)) (count_if 2147483648 header))
 array_entries-header b header e =
-    ap (λ (r : Result (Option ℕ) Error). r >>= (λ (n : Option ℕ). Ok (option_map (λ n. entries_from b n 4 (4 + 4 * n)) n))) (count_under-header b 2147483648 header e)
+    ap (λ (r : Result (Option ℕ) Error). r
+    >>= (λ (n : Option ℕ). Ok (option_map (λ n. entries_from b n 4 (4 + 4 * n)) n)))
+    (count_under-header b 2147483648 header e)
 
-finds_array : (b : List ℕ) (ts : Trees) → Payload (array ts) b → FindsItems (array ts) (array_entries b)
+finds_array : (b : List ℕ) (ts : Trees) → Payload (array ts) b
+    → FindsItems (array ts) (array_entries b)
 finds_array b ts h =
     let p = array_parts b ts h in
-    let mean = MeanTrees-Children b ts p.entries p.payloads 4 (4 + 4 * count ts) p.children p.entries_at p.payloads_at in
-    subst (FindsItems (array ts)) (sym (array_entries-header b (2147483648, count ts) (header_at-array b ts h))) (mean.parts, ap Some mean.trees_are)
+    let mean = MeanTrees-Children b ts p.entries p.payloads 4
+    (4 + 4 * count ts) p.children p.entries_at p.payloads_at in
+    subst (FindsItems (array ts))
+    (sym (array_entries-header b (2147483648, count ts) (header_at-array b ts h)))
+    (mean.parts, ap Some mean.trees_are)
 
 no_items : (t : Tree) → type_of t ≢ 1342177280 → None ≡ items_of t
 no_items (array ts) other = absurd (other refl)
 no_items t other = refl
 
 pub array_entries-Doc : (b : List ℕ) (t : Tree) → Doc b t → FindsItems t (array_entries b)
-array_entries-Doc b t (inl (other, h)) = subst (FindsItems t) (sym (array_entries-header b (536870912, 0) (header_at-Scalar b t h))) (no_items t other)
+array_entries-Doc b t (inl (other, h)) = subst (FindsItems t)
+    (sym (array_entries-header b (536870912, 0) (header_at-Scalar b t h))) (no_items t other)
 array_entries-Doc b (array ts) (inr (is, h)) = finds_array b ts h
-array_entries-Doc b (object ps) (inr (is, h)) = subst (FindsItems (object ps)) (sym (array_entries-header b (1073741824, pair_count ps) (header_at-object b ps h))) refl
+array_entries-Doc b (object ps) (inr (is, h)) = subst (FindsItems (object ps))
+    (sym (array_entries-header b (1073741824, pair_count ps) (header_at-object b ps h))) refl
 array_entries-Doc b trees.null (inr (is, h)) = absurd (omega (arith, is))
 array_entries-Doc b (trees.boolean true) (inr (is, h)) = absurd (omega (arith, is))
 array_entries-Doc b (trees.boolean false) (inr (is, h)) = absurd (omega (arith, is))
@@ -141,28 +181,39 @@ FindsMembers t (Ok (Some x)) = AreMembers x × (Some (pairs_left x) ≡ members_
 FindsMembers t (Ok None) = None ≡ members_of t
 FindsMembers t (Err e) = ⊥
 
-object_entries-header : (b : List ℕ) (header : ℕ × ℕ) → header_at b 0 ≡ Ok header → object_entries b ≡ member_entries b (count_if 1073741824 header)
-object_entries-header b header e = ap (λ (r : Result (Option ℕ) Error). r >>= member_entries b) (count_under-header b 1073741824 header e)
+object_entries-header : (b : List ℕ) (header : ℕ × ℕ) → header_at b 0 ≡ Ok header
+    → object_entries b ≡ member_entries b (count_if 1073741824 header)
+object_entries-header b header e = ap
+    (λ (r : Result (Option ℕ) Error). r >>= member_entries b)
+    (count_under-header b 1073741824 header e)
 
-finds_object : (b : List ℕ) (ps : Pairs) → Payload (object ps) b → FindsMembers (object ps) (object_entries b)
+finds_object : (b : List ℕ) (ps : Pairs) → Payload (object ps) b
+    → FindsMembers (object ps) (object_entries b)
 finds_object b ps h =
     let p = object_parts b ps h in
     let n = pair_count ps in
-    let end = payloads_end-Keys b ps p.key_entries p.key_payloads 4 (4 + 8 * n) p.keys p.key_entries_at p.key_payloads_at in
-    let mean = MeanPairs-Pairs b ps p.key_entries p.key_payloads p.value_entries p.value_payloads 4 (4 + 8 * n) (4 + 4 * n) (4 + 8 * n + length p.key_payloads)
+    let end = payloads_end-Keys b ps p.key_entries p.key_payloads 4
+    (4 + 8 * n) p.keys p.key_entries_at p.key_payloads_at in
+    let mean = MeanPairs-Pairs b ps p.key_entries p.key_payloads p.value_entries p.value_payloads 4
+    (4 + 8 * n) (4 + 4 * n) (4 + 8 * n + length p.key_payloads)
     p.keys p.values p.key_entries_at p.key_payloads_at p.value_entries_at p.value_payloads_at in
     let found = object_entries-header b (1073741824, n) (header_at-object b ps h)
-    ∙ ap (λ (r : Result ℕ Error). r >>= (λ (start : ℕ). Ok (Some (entries_from b n 4 (4 + 8 * n), entries_from b n (4 + 4 * n) start)))) end in
-    subst (FindsMembers (object ps)) (sym found) (((mean.key_parts, mean.keys), (mean.parts, mean.as_many)), ap Some mean.pairs_are)
+    ∙ ap (λ (r : Result ℕ Error). r
+    >>= (λ (start : ℕ). Ok
+    (Some (entries_from b n 4 (4 + 8 * n), entries_from b n (4 + 4 * n) start)))) end in
+    subst (FindsMembers (object ps)) (sym found)
+    (((mean.key_parts, mean.keys), (mean.parts, mean.as_many)), ap Some mean.pairs_are)
 
 no_members : (t : Tree) → type_of t ≢ 1342177280 → None ≡ members_of t
 no_members (object ps) other = absurd (other refl)
 no_members t other = refl
 
 pub object_entries-Doc : (b : List ℕ) (t : Tree) → Doc b t → FindsMembers t (object_entries b)
-object_entries-Doc b t (inl (other, h)) = subst (FindsMembers t) (sym (object_entries-header b (536870912, 0) (header_at-Scalar b t h))) (no_members t other)
+object_entries-Doc b t (inl (other, h)) = subst (FindsMembers t)
+    (sym (object_entries-header b (536870912, 0) (header_at-Scalar b t h))) (no_members t other)
 object_entries-Doc b (object ps) (inr (is, h)) = finds_object b ps h
-object_entries-Doc b (array ts) (inr (is, h)) = subst (FindsMembers (array ts)) (sym (object_entries-header b (2147483648, count ts) (header_at-array b ts h))) refl
+object_entries-Doc b (array ts) (inr (is, h)) = subst (FindsMembers (array ts))
+    (sym (object_entries-header b (2147483648, count ts) (header_at-array b ts h))) refl
 object_entries-Doc b trees.null (inr (is, h)) = absurd (omega (arith, is))
 object_entries-Doc b (trees.boolean true) (inr (is, h)) = absurd (omega (arith, is))
 object_entries-Doc b (trees.boolean false) (inr (is, h)) = absurd (omega (arith, is))
@@ -171,13 +222,16 @@ object_entries-Doc b (trees.text s) (inr (is, h)) = absurd (omega (arith, is))
 object_entries-Doc b (trees.extension x) (inr (is, h)) = absurd (omega (arith, is))
 
 -- a value that is made of a part has the tree of its entry
-pub entry_tree-node : (part : Part) (node : Node) → ((t : Tree) → parts.Means part t → node_tree node ≡ t) → entry_tree (entry_of_part part) ≡ node_tree node
+pub entry_tree-node : (part : Part) (node : Node)
+    → ((t : Tree) → parts.Means part t → node_tree node ≡ t)
+    → entry_tree (entry_of_part part) ≡ node_tree node
 entry_tree-node part node means =
     let (t, is) = known_part part.tag part.payload.now part.known in
     entry_tree-is part.tag part.payload.now t is ∙ sym (means t is)
 
 -- there are as many pairs as keys
-pub length-pairs_left : (ks xs : Entries) → length ks ≡ length xs → length ks ≡ length (pairs_left (ks, xs))
+pub length-pairs_left : (ks xs : Entries) → length ks ≡ length xs
+    → length ks ≡ length (pairs_left (ks, xs))
 length-pairs_left [] xs same = refl
 length-pairs_left (k ∷ ks) [] same = absurd (omega arith)
 length-pairs_left (k ∷ ks) (x ∷ xs) same = ap suc (length-pairs_left ks xs (omega arith))
@@ -192,9 +246,12 @@ pairs_of-pair_list no_pairs = refl
 pairs_of-pair_list (pair k t ps) = ap (pair k t) (pairs_of-pair_list ps)
 
 pub array_of-items : (t : Tree) (xs : List Tree) → Some xs ≡ items_of t → array_of xs ≡ t
-array_of-items (array ts) xs e = let same : xs ≡ tree_list ts = cc in ap array_of same ∙ ap array (trees_of-tree_list ts)
+array_of-items (array ts) xs e =
+    let same : xs ≡ tree_list ts = cc in ap array_of same ∙ ap array (trees_of-tree_list ts)
 array_of-items t xs e = let never : ⊥ = cc in absurd never
 
-pub object_of-members : (t : Tree) (ms : List (List ℕ × Tree)) → Some ms ≡ members_of t → object_of ms ≡ t
-object_of-members (object ps) ms e = let same : ms ≡ pair_list ps = cc in ap object_of same ∙ ap object (pairs_of-pair_list ps)
+pub object_of-members : (t : Tree) (ms : List (List ℕ × Tree)) → Some ms ≡ members_of t
+    → object_of ms ≡ t
+object_of-members (object ps) ms e =
+    let same : ms ≡ pair_list ps = cc in ap object_of same ∙ ap object (pairs_of-pair_list ps)
 object_of-members t ms e = let never : ⊥ = cc in absurd never

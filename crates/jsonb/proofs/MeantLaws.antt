@@ -13,15 +13,17 @@ use Rattle.jsonb.specs.declared.item.JsonbItem.TheVariants as items
 use Rattle.jsonb.specs.declared.owned.OwnedJsonb.{OwnedJsonb}
 use Rattle.jsonb.specs.declared.raw.RawJsonb.{RawJsonb}
 use Rattle.jsonb.specs.Code.{Means}
-use Rattle.jsonb.specs.Held.{number_held, extension_held}
-use Rattle.jsonb.specs.Meant.{meaning_found, meaning_of, shown_meaning, item_meaning}
-use Rattle.jsonb.specs.Shown.{Shown, null, boolean, number, text, extension, raw, owned}
+use Rattle.jsonb.specs.ItemValues.{number_of_item, extension_of_item}
+use Rattle.jsonb.specs.Meant.{meaning_found, meaning_of, view_meaning, item_meaning}
+use Rattle.jsonb.specs.ItemView.{ItemView, null, boolean, number, text, extension, raw, owned}
 
-meaning_found-document : (b : List ℕ) (t : Tree) → Doc b t → (d : Decided (IsDocument b)) → meaning_found b d ≡ document t
+meaning_found-document : (b : List ℕ) (t : Tree) → Doc b t → (d : Decided (IsDocument b))
+    → meaning_found b d ≡ document t
 meaning_found-document b t doc (inl found) = ap document (Doc-unique b found.0 t found.1 doc)
 meaning_found-document b t doc (inr none) = absurd (none (t, doc))
 
-meaning_found-other : (b : List ℕ) → (IsDocument b → ⊥) → (d : Decided (IsDocument b)) → meaning_found b d ≡ other_bytes b
+meaning_found-other : (b : List ℕ) → (IsDocument b → ⊥) → (d : Decided (IsDocument b))
+    → meaning_found b d ≡ other_bytes b
 meaning_found-other b none (inl found) = absurd (none found)
 meaning_found-other b none (inr other) = refl
 
@@ -35,7 +37,8 @@ pub meaning_of-other : (b : List ℕ) → (IsDocument b → ⊥) → meaning_of 
 unfolding meaning_of
 meaning_of-other b none = meaning_found-other b none (decide b)
 
-Doc-meaning_found : (b : List ℕ) (t : Tree) → (d : Decided (IsDocument b)) → meaning_found b d ≡ document t → Doc b t
+Doc-meaning_found : (b : List ℕ) (t : Tree) → (d : Decided (IsDocument b))
+    → meaning_found b d ≡ document t → Doc b t
 Doc-meaning_found b t (inl found) e = let same : found.0 ≡ t = cc in subst (Doc b) same found.1
 Doc-meaning_found b t (inr none) e = let different : ⊥ = cc in absurd different
 
@@ -45,17 +48,17 @@ unfolding meaning_of
 Doc-meaning_of b t e = Doc-meaning_found b t (decide b) e
 
 -- An item that means a tree has it as its meaning.
-pub shown_meaning-document : (x : Shown) (t : Tree) → Means x t → shown_meaning x ≡ document t
-shown_meaning-document null t e = ap document (sym e)
-shown_meaning-document (boolean b) t e = ap document (sym e)
-shown_meaning-document (number given x) t e = ap document (sym e)
-shown_meaning-document (text s) t e = ap document (sym e)
-shown_meaning-document (extension given x) t e = ap document (sym e)
-shown_meaning-document (raw b) t doc = meaning_of-document b t doc
-shown_meaning-document (owned b) t doc = meaning_of-document b t doc
+pub view_meaning-document : (x : ItemView) (t : Tree) → Means x t → view_meaning x ≡ document t
+view_meaning-document null t e = ap document (sym e)
+view_meaning-document (boolean b) t e = ap document (sym e)
+view_meaning-document (number given x) t e = ap document (sym e)
+view_meaning-document (text s) t e = ap document (sym e)
+view_meaning-document (extension given x) t e = ap document (sym e)
+view_meaning-document (raw b) t doc = meaning_of-document b t doc
+view_meaning-document (owned b) t doc = meaning_of-document b t doc
 
 -- Where the meaning is a tree, the item means it.
-pub Means-shown_meaning : (x : Shown) (t : Tree) → shown_meaning x ≡ document t → Means x t
+pub Means-shown_meaning : (x : ItemView) (t : Tree) → view_meaning x ≡ document t → Means x t
 Means-shown_meaning null t e = cc
 Means-shown_meaning (boolean b) t e = cc
 Means-shown_meaning (number given x) t e = cc
@@ -65,11 +68,12 @@ Means-shown_meaning (raw b) t e = Doc-meaning_of b t e
 Means-shown_meaning (owned b) t e = Doc-meaning_of b t e
 
 -- An item that holds no bytes means the tree that it holds.
-pub value_meaning : (x : JsonbItem) → ((r : RawJsonb) → x ≡ items.Raw r → ⊥) → ((o : OwnedJsonb) → x ≡ items.Owned o → ⊥) → (t : Tree) × (item_meaning x ≡ document t)
+pub value_meaning : (x : JsonbItem) → ((r : RawJsonb) → x ≡ items.Raw r → ⊥)
+    → ((o : OwnedJsonb) → x ≡ items.Owned o → ⊥) → (t : Tree) × (item_meaning x ≡ document t)
 value_meaning items.Null r o = (trees.null, refl)
 value_meaning (items.Boolean b) r o = (trees.boolean b, refl)
-value_meaning (items.Number n) r o = (trees.number (number_held n), refl)
+value_meaning (items.Number n) r o = (trees.number (number_of_item n), refl)
 value_meaning (items.String s) r o = (trees.text (cow_bytes s), refl)
-value_meaning (items.Extension e) r o = (trees.extension (extension_held e), refl)
+value_meaning (items.Extension e) r o = (trees.extension (extension_of_item e), refl)
 value_meaning (items.Raw b) r o = absurd (r b refl)
 value_meaning (items.Owned b) r o = absurd (o b refl)

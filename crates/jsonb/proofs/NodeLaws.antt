@@ -21,7 +21,8 @@ false_is (boolean true) e = absurd (omega arith)
 false_is t e = absurd (omega arith)
 
 -- What is of no other type is a container.
-pub container_is : (t : Tree) → type_of t ≢ 0 → type_of t ≢ 1073741824 → type_of t ≢ 805306368 → type_of t ≢ 536870912 → type_of t ≢ 268435456 → type_of t ≢ 1610612736
+pub container_is : (t : Tree) → type_of t ≢ 0 → type_of t ≢ 1073741824 → type_of t ≢ 805306368
+    → type_of t ≢ 536870912 → type_of t ≢ 268435456 → type_of t ≢ 1610612736
     → type_of t ≡ 1342177280
 container_is null a b c d e f = absurd (a refl)
 container_is (boolean true) a b c d e f = absurd (b refl)
@@ -32,6 +33,7 @@ container_is (extension x) a b c d e f = absurd (f refl)
 container_is (array ts) a b c d e f = refl
 container_is (object ps) a b c d e f = refl
 
-pub no_value : (name : List ℕ) (t : Tree) → (type_of t ≡ 1342177280 → ⊥) → None ≡ value_of_key name t
+pub no_value : (name : List ℕ) (t : Tree) → (type_of t ≡ 1342177280 → ⊥)
+    → None ≡ value_of_key name t
 no_value name (object ps) other = absurd (other refl)
 no_value name t other = refl

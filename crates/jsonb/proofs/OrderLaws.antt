@@ -15,28 +15,34 @@ use Rattle.jsonb_codec.specs.Doc.{Doc, IsDocument}
 use Rattle.jsonb.specs.declared.item_type.JsonbItemType.{JsonbItemType}
 use Rattle.jsonb.specs.Code.{Means}
 use Rattle.jsonb.specs.Kind.{kind, kind_of_tree, rank_order}
-use Rattle.jsonb.specs.Meant.{meaning_of, shown_meaning}
-use Rattle.jsonb.specs.Shown.{Shown}
+use Rattle.jsonb.specs.Meant.{meaning_of, view_meaning}
+use Rattle.jsonb.specs.ItemView.{ItemView}
 use Rattle.jsonb.proofs.KindLaws.{kind-Doc}
-use Rattle.jsonb.proofs.MeantLaws.{meaning_of-document, shown_meaning-document}
+use Rattle.jsonb.proofs.MeantLaws.{meaning_of-document, view_meaning-document}
 
 pub bytes_total : IsTotalOrder (on meaning_of meaning_cmp)
 bytes_total = on_total meaning_of meaning_cmp_total
 
 -- Documents compare as their trees,
-pub bytes_cmp-trees : (l r : List ℕ) (t u : Tree) → Doc l t → Doc r u → meaning_cmp (meaning_of l) (meaning_of r) ≡ tree_cmp t u
-bytes_cmp-trees l r t u h k = ap₂ meaning_cmp (meaning_of-document l t h) (meaning_of-document r u k)
+pub bytes_cmp-trees : (l r : List ℕ) (t u : Tree) → Doc l t → Doc r u
+    → meaning_cmp (meaning_of l) (meaning_of r) ≡ tree_cmp t u
+bytes_cmp-trees l r t u h k =
+    ap₂ meaning_cmp (meaning_of-document l t h) (meaning_of-document r u k)
 
 -- those of one tree are equal,
-pub bytes_cmp-one_tree : (l r : List ℕ) (t : Tree) → Doc l t → Doc r t → meaning_cmp (meaning_of l) (meaning_of r) ≡ Equal
+pub bytes_cmp-one_tree : (l r : List ℕ) (t : Tree) → Doc l t → Doc r t
+    → meaning_cmp (meaning_of l) (meaning_of r) ≡ Equal
 bytes_cmp-one_tree l r t h k = bytes_cmp-trees l r t t h k ∙ tree_cmp-itself t
 
 -- and so are the items that mean it.
-pub items_cmp-one_tree : (x y : Shown) (t : Tree) → Means x t → Means y t → meaning_cmp (shown_meaning x) (shown_meaning y) ≡ Equal
-items_cmp-one_tree x y t h k = ap₂ meaning_cmp (shown_meaning-document x t h) (shown_meaning-document y t k) ∙ tree_cmp-itself t
+pub items_cmp-one_tree : (x y : ItemView) (t : Tree) → Means x t → Means y t
+    → meaning_cmp (view_meaning x) (view_meaning y) ≡ Equal
+items_cmp-one_tree x y t h k =
+    ap₂ meaning_cmp (view_meaning-document x t h) (view_meaning-document y t k) ∙ tree_cmp-itself t
 
 -- What the kinds tell of two trees is so,
-tree_cmp-kinds : (t u : Tree) (o : Ordering) → rank_order (kind_of_tree t) (kind_of_tree u) ≡ Some o → tree_cmp t u ≡ o
+tree_cmp-kinds : (t u : Tree) (o : Ordering) → rank_order (kind_of_tree t) (kind_of_tree u) ≡ Some o
+    → tree_cmp t u ≡ o
 tree_cmp-kinds null null o e = cc
 tree_cmp-kinds (array ts) (array us) o e = let never : ⊥ = cc in absurd never
 tree_cmp-kinds (object ps) (object qs) o e = let never : ⊥ = cc in absurd never
@@ -47,20 +53,27 @@ tree_cmp-kinds (extension d) (extension f) o e = let never : ⊥ = cc in absurd 
 tree_cmp-kinds t u o e = cc
 
 -- and so of two documents.
-pub bytes_cmp-kinds : (l r : List ℕ) (k m : JsonbItemType) (o : Ordering) → IsDocument l → IsDocument r → kind l ≡ Ok k → kind r ≡ Ok m → rank_order k m ≡ Some o → meaning_cmp (meaning_of l) (meaning_of r) ≡ o
+pub bytes_cmp-kinds : (l r : List ℕ) (k m : JsonbItemType) (o : Ordering) → IsDocument l
+    → IsDocument r → kind l ≡ Ok k → kind r ≡ Ok m → rank_order k m ≡ Some o
+    → meaning_cmp (meaning_of l) (meaning_of r) ≡ o
 bytes_cmp-kinds l r k m o h g left right e =
     let left_kind = kind-Doc l h.0 h.1 in
     let right_kind = kind-Doc r g.0 g.1 in
     let same_left : k ≡ kind_of_tree h.0 = cc in
     let same_right : m ≡ kind_of_tree g.0 = cc in
-    bytes_cmp-trees l r h.0 g.0 h.1 g.1 ∙ tree_cmp-kinds h.0 g.0 o (sym (ap₂ rank_order same_left same_right) ∙ e)
+    bytes_cmp-trees l r h.0 g.0 h.1 g.1
+    ∙ tree_cmp-kinds h.0 g.0 o (sym (ap₂ rank_order same_left same_right) ∙ e)
 
 -- A tree and its norm compare alike with all bytes.
 tied_left : (m n k : Meaning) → meaning_cmp m n ≡ Equal → meaning_cmp m k ≡ meaning_cmp n k
 tied_left m n k e = meaning_cmp_total.congr m n k e
 
-pub bytes_cmp-norm : (l m r : List ℕ) (t : Tree) → Doc l t → Doc m (norm t) → meaning_cmp (meaning_of m) (meaning_of r) ≡ meaning_cmp (meaning_of l) (meaning_of r)
-bytes_cmp-norm l m r t h k = tied_left (meaning_of m) (meaning_of l) (meaning_of r) (bytes_cmp-trees m l (norm t) t k h ∙ tree_cmp-norm t t ∙ tree_cmp-itself t)
+pub bytes_cmp-norm : (l m r : List ℕ) (t : Tree) → Doc l t → Doc m (norm t)
+    → meaning_cmp (meaning_of m) (meaning_of r) ≡ meaning_cmp (meaning_of l) (meaning_of r)
+bytes_cmp-norm l m r t h k = tied_left (meaning_of m) (meaning_of l) (meaning_of r)
+    (bytes_cmp-trees m l (norm t) t k h ∙ tree_cmp-norm t t ∙ tree_cmp-itself t)
 
-pub bytes_cmp-right_norm : (l r m : List ℕ) (u : Tree) → Doc r u → Doc m (norm u) → meaning_cmp (meaning_of l) (meaning_of m) ≡ meaning_cmp (meaning_of l) (meaning_of r)
-bytes_cmp-right_norm l r m u h k = alike_right meaning_cmp_total (meaning_of m) (meaning_of r) (meaning_of l) (bytes_cmp-trees m r (norm u) u k h ∙ tree_cmp-norm u u ∙ tree_cmp-itself u)
+pub bytes_cmp-right_norm : (l r m : List ℕ) (u : Tree) → Doc r u → Doc m (norm u)
+    → meaning_cmp (meaning_of l) (meaning_of m) ≡ meaning_cmp (meaning_of l) (meaning_of r)
+bytes_cmp-right_norm l r m u h k = alike_right meaning_cmp_total (meaning_of m) (meaning_of r)
+    (meaning_of l) (bytes_cmp-trees m r (norm u) u k h ∙ tree_cmp-norm u u ∙ tree_cmp-itself u)

@@ -8,25 +8,29 @@ use Rattle.jsonb_value.specs.ExtCode.{ExtCode}
 use Rattle.jsonb_value.proofs.Codes.{NumCode-unique}
 use Rattle.jsonb_value.proofs.ExtCodes.{ExtCode-unique}
 use Rattle.jsonb_value.proofs.PayloadDecision.{Decided, decide_number, decide_extension}
-use Rattle.jsonb.specs.Payloads.{found, number_in, extension_in, extension_error}
+use Rattle.jsonb.specs.Payloads.{witness_of, number_in, extension_in, extension_error}
 use Rattle.jsonb.specs.Item.{number_found, number_item, extension_found, extension_item}
 
 -- what was found is what there is, where there is one thing at most
-found-some : {A : Type 0} (P : A → Type 0) (d : Decided ((x : A) × P x)) (x : A) → ((y : A) → P y → y ≡ x) → P x → found P d ≡ Some x
+found-some : {A : Type 0} (P : A → Type 0) (d : Decided ((x : A) × P x)) (x : A)
+    → ((y : A) → P y → y ≡ x) → P x → witness_of P d ≡ Some x
 found-some P (inl h) x unique k = ap Some (unique h.0 h.1)
 found-some P (inr none) x unique k = absurd (none (x, k))
 
-found-none : {A : Type 0} (P : A → Type 0) (d : Decided ((x : A) × P x)) → ((x : A) → P x → ⊥) → found P d ≡ None
+found-none : {A : Type 0} (P : A → Type 0) (d : Decided ((x : A) × P x)) → ((x : A) → P x → ⊥)
+    → witness_of P d ≡ None
 found-none P (inl h) nothing = absurd (nothing h.0 h.1)
 found-none P (inr h) nothing = refl
 
-found-holds : {A : Type 0} (P : A → Type 0) (d : Decided ((x : A) × P x)) (x : A) → found P d ≡ Some x → P x
+found-holds : {A : Type 0} (P : A → Type 0) (d : Decided ((x : A) × P x)) (x : A)
+    → witness_of P d ≡ Some x → P x
 found-holds P (inl h) x e = let same : h.0 ≡ x = cc in subst P same h.1
 found-holds P (inr none) x e = let different : ⊥ = cc in absurd different
 
 pub number_in-NumCode : (p : List ℕ) (x : Number) → NumCode p x → number_in p ≡ Some x
 unfolding number_in
-number_in-NumCode p x h = found-some (NumCode p) (decide_number p) x (λ y k. NumCode-unique p y x k h) h
+number_in-NumCode p x h =
+    found-some (NumCode p) (decide_number p) x (λ y k. NumCode-unique p y x k h) h
 
 pub number_in-none : (p : List ℕ) → ((x : Number) → NumCode p x → ⊥) → number_in p ≡ None
 unfolding number_in
@@ -38,7 +42,8 @@ NumCode-number_in p x e = found-holds (NumCode p) (decide_number p) x e
 
 pub extension_in-ExtCode : (p : List ℕ) (e : Extension) → ExtCode p e → extension_in p ≡ Some e
 unfolding extension_in
-extension_in-ExtCode p e h = found-some (ExtCode p) (decide_extension p) e (λ y k. ExtCode-unique p y e k h) h
+extension_in-ExtCode p e h =
+    found-some (ExtCode p) (decide_extension p) e (λ y k. ExtCode-unique p y e k h) h
 
 pub extension_in-none : (p : List ℕ) → ((e : Extension) → ExtCode p e → ⊥) → extension_in p ≡ None
 unfolding extension_in
@@ -49,17 +54,24 @@ unfolding extension_in
 ExtCode-extension_in p e h = found-holds (ExtCode p) (decide_extension p) e h
 
 -- what an item of given bytes keeps
-pub number_in-given : (bytes : Bor (List ℕ)) (x : Number) → NumCode bytes.now x → (given : Bor (List ℕ)) → Some bytes ≡ Some given → number_in given.now ≡ Some x
+pub number_in-given : (bytes : Bor (List ℕ)) (x : Number) → NumCode bytes.now x
+    → (given : Bor (List ℕ)) → Some bytes ≡ Some given → number_in given.now ≡ Some x
 number_in-given bytes x h given e =
-    let same : bytes ≡ given = cc in subst (λ (r : Bor (List ℕ)). number_in r.now ≡ Some x) same (number_in-NumCode bytes.now x h)
+    let same : bytes ≡ given = cc in subst
+    (λ (r : Bor (List ℕ)). number_in r.now ≡ Some x) same (number_in-NumCode bytes.now x h)
 
-pub extension_in-given : (bytes : Bor (List ℕ)) (x : Extension) → ExtCode bytes.now x → (given : Bor (List ℕ)) → Some bytes ≡ Some given → extension_in given.now ≡ Some x
+pub extension_in-given : (bytes : Bor (List ℕ)) (x : Extension) → ExtCode bytes.now x
+    → (given : Bor (List ℕ)) → Some bytes ≡ Some given → extension_in given.now ≡ Some x
 extension_in-given bytes x h given e =
-    let same : bytes ≡ given = cc in subst (λ (r : Bor (List ℕ)). extension_in r.now ≡ Some x) same (extension_in-ExtCode bytes.now x h)
+    let same : bytes ≡ given = cc in subst
+    (λ (r : Bor (List ℕ)). extension_in r.now ≡ Some x) same
+    (extension_in-ExtCode bytes.now x h)
 
 -- no item of bytes that mean none
-pub number_item-none : (p : List ℕ) → ((x : Number) → NumCode p x → ⊥) → Err InvalidJsonbNumber ≡ number_item p
+pub number_item-none : (p : List ℕ) → ((x : Number) → NumCode p x → ⊥)
+    → Err InvalidJsonbNumber ≡ number_item p
 number_item-none p nothing = ap (number_found p) (sym (number_in-none p nothing))
 
-pub extension_item-none : (p : List ℕ) → ((x : Extension) → ExtCode p x → ⊥) → Err (extension_error p) ≡ extension_item p
+pub extension_item-none : (p : List ℕ) → ((x : Extension) → ExtCode p x → ⊥)
+    → Err (extension_error p) ≡ extension_item p
 extension_item-none p nothing = ap (extension_found p) (sym (extension_in-none p nothing))

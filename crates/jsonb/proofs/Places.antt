@@ -1,5 +1,7 @@
 -- Where words and payloads stand in bytes.
-use Rattle.std.proofs.Common.{◌≡◌, ℕ, ◌+◌, ◌-◌, ◌%◌, ◌^◌, ◌<◌, ◌≤◌, List, [], ◌++◌, length, take, drop, Ok, refl, sym, ap, ◌∙◌, arith, length-append, append_assoc, append-nil, le-leb}
+use Rattle.std.proofs.Common.{◌≡◌, ℕ, ◌+◌, ◌-◌, ◌%◌, ◌^◌, ◌<◌, ◌≤◌, List, [], ◌++◌, length, take}
+use Rattle.std.proofs.Common.{drop, Ok, refl, sym, ap, ◌∙◌, arith, length-append, append_assoc}
+use Rattle.std.proofs.Common.{append-nil, le-leb}
 use Rattle.std.specs.Int.{w32, from_be_bytes}
 use Rattle.std.proofs.lemmas.Nat.{from_be_bytes-to_be_bytes_4}
 use Rattle.std.proofs.Math.Seq.{take-append_seam}
@@ -23,23 +25,33 @@ pub At-whole : (bytes : List ℕ) (xs ys : List ℕ) → bytes ≡ xs ++ ys → 
 At-whole bytes xs ys e = record { front = []; rest = ys; parts = e; place = refl }
 
 pub At-left : (bytes : List ℕ) (i : ℕ) (xs ys : List ℕ) → At bytes i (xs ++ ys) → At bytes i xs
-At-left bytes i xs ys h = record { front = h.front; rest = ys ++ h.rest; parts = h.parts ∙ ap (λ (x : List ℕ). h.front ++ x) (append_assoc xs ys h.rest); place = h.place }
+At-left bytes i xs ys h = record {
+  front = h.front;
+  rest = ys ++ h.rest;
+  parts = h.parts ∙ ap
+      (λ (x : List ℕ). h.front ++ x) (append_assoc xs ys h.rest);
+  place = h.place;
+}
 
-pub At-right : (bytes : List ℕ) (i j : ℕ) (xs ys : List ℕ) → j ≡ i + length xs → At bytes i (xs ++ ys) → At bytes j ys
+pub At-right : (bytes : List ℕ) (i j : ℕ) (xs ys : List ℕ) → j ≡ i + length xs
+    → At bytes i (xs ++ ys) → At bytes j ys
 At-right bytes i j xs ys e h = record {
   front = h.front ++ xs;
   rest = h.rest;
-  parts = h.parts ∙ ap (λ (x : List ℕ). h.front ++ x) (append_assoc xs ys h.rest) ∙ sym (append_assoc h.front xs (ys ++ h.rest));
+  parts = h.parts ∙ ap (λ (x : List ℕ). h.front ++ x) (append_assoc xs ys h.rest)
+      ∙ sym (append_assoc h.front xs (ys ++ h.rest));
   place = let p = h.place in let n = length-append h.front xs in omega arith;
 }
 
 drop-At : (bytes : List ℕ) (i : ℕ) (xs : List ℕ) (h : At bytes i xs) → drop i bytes ≡ xs ++ h.rest
 drop-At bytes i xs h = back_of i h.front (xs ++ h.rest) bytes h.parts (sym h.place)
 
-pub take-At : (bytes : List ℕ) (i : ℕ) (xs : List ℕ) → At bytes i xs → take (length xs) (drop i bytes) ≡ xs
+pub take-At : (bytes : List ℕ) (i : ℕ) (xs : List ℕ) → At bytes i xs
+    → take (length xs) (drop i bytes) ≡ xs
 take-At bytes i xs h = ap (take (length xs)) (drop-At bytes i xs h) ∙ take-append_seam xs h.rest
 
-pub within-At : (bytes : List ℕ) (i : ℕ) (xs : List ℕ) → At bytes i xs → i + length xs ≤ length bytes
+pub within-At : (bytes : List ℕ) (i : ℕ) (xs : List ℕ) → At bytes i xs
+    → i + length xs ≤ length bytes
 within-At bytes i xs h =
     let a = ap length h.parts ∙ length-append h.front (xs ++ h.rest) in
     let b = length-append xs h.rest in
@@ -47,7 +59,8 @@ within-At bytes i xs h =
     omega arith
 
 -- the bytes that stand there
-pub part_at-At : (bytes : List ℕ) (i n : ℕ) (xs : List ℕ) → n ≡ length xs → At bytes i xs → part_at bytes i n ≡ Ok xs
+pub part_at-At : (bytes : List ℕ) (i n : ℕ) (xs : List ℕ) → n ≡ length xs → At bytes i xs
+    → part_at bytes i n ≡ Ok xs
 unfolding part_at
 part_at-At bytes i n xs e h =
     let inside = within-At bytes i xs h in
@@ -65,20 +78,25 @@ word-value : (k : ℕ) → k < 2 ^ 32 → from_be_bytes w32 (word k) ≡ k
 unfolding word
 word-value k h = from_be_bytes-to_be_bytes_4 k h
 
-pub At-behind_word : (bytes : List ℕ) (i j k : ℕ) (xs : List ℕ) → j ≡ i + 4 → At bytes i (word k ++ xs) → At bytes j xs
-At-behind_word bytes i j k xs e h = At-right bytes i j (word k) xs (e ∙ ap (λ (n : ℕ). i + n) (sym (length-word k))) h
+pub At-behind_word : (bytes : List ℕ) (i j k : ℕ) (xs : List ℕ) → j ≡ i + 4
+    → At bytes i (word k ++ xs) → At bytes j xs
+At-behind_word bytes i j k xs e h =
+    At-right bytes i j (word k) xs (e ∙ ap (λ (n : ℕ). i + n) (sym (length-word k))) h
 
 -- a word that stands there
-pub word_at-At : (bytes : List ℕ) (i k : ℕ) → k < 2 ^ 32 → At bytes i (word k) → word_at bytes i ≡ Ok k
+pub word_at-At : (bytes : List ℕ) (i k : ℕ) → k < 2 ^ 32 → At bytes i (word k)
+    → word_at bytes i ≡ Ok k
 word_at-At bytes i k small h =
     let inside = within-At bytes i (word k) h in
     let four = length-word k in
     let test = le-leb (i + 4) (length bytes) (omega arith) in
-    let there : take 4 (drop i bytes) ≡ word k = ap (λ (n : ℕ). take n (drop i bytes)) (sym four) ∙ take-At bytes i (word k) h in
+    let there : take 4 (drop i bytes) ≡ word k =
+    ap (λ (n : ℕ). take n (drop i bytes)) (sym four) ∙ take-At bytes i (word k) h in
     rw test (ap Ok (ap (from_be_bytes w32) there ∙ word-value k small))
 
 -- a header that stands there
-pub header_at-At : (bytes : List ℕ) (k : ℕ) → k < 2 ^ 32 → At bytes 0 (word k) → header_at bytes 0 ≡ header_of k
+pub header_at-At : (bytes : List ℕ) (k : ℕ) → k < 2 ^ 32 → At bytes 0 (word k)
+    → header_at bytes 0 ≡ header_of k
 header_at-At bytes k small h = ap header_in (word_at-At bytes 0 k small h)
 
 pub header_of-array : (n : ℕ) → n < 2 ^ 29 → header_of (2147483648 + n) ≡ Ok (2147483648, n)
@@ -115,8 +133,10 @@ jentry_of-entry type n tag h =
     rw (low, all, high) refl
 
 -- an entry word that stands there
-pub jentry_at-At : (bytes : List ℕ) (i type n : ℕ) → IsTag type → n < 2 ^ 28 → At bytes i (word (type + n)) → jentry_at bytes i ≡ Ok record { type_code = type; length = n }
+pub jentry_at-At : (bytes : List ℕ) (i type n : ℕ) → IsTag type → n < 2 ^ 28
+    → At bytes i (word (type + n)) → jentry_at bytes i ≡ Ok record { type_code = type; length = n }
 unfolding jentry
 jentry_at-At bytes i type n tag short h =
     let room = tag.room in
-    ap jentry_in (word_at-At bytes i (type + n) (omega arith) h) ∙ ap Ok (jentry_of-entry type n tag short)
+    ap jentry_in (word_at-At bytes i (type + n) (omega arith) h)
+    ∙ ap Ok (jentry_of-entry type n tag short)

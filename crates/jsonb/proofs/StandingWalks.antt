@@ -1,30 +1,46 @@
 -- What the iterators give on a document, by the entries that stand there.
-use Rattle.std.proofs.Common.{◌≡◌, ℕ, ◌+◌, ◌*◌, List, length, map, Some, Result, Ok, refl, sym, ap, subst, ◌∙◌, inl, inr}
+use Rattle.std.proofs.Common.{◌≡◌, ℕ, ◌+◌, ◌*◌, List, length, map, Some, Result, Ok, refl, sym, ap}
+use Rattle.std.proofs.Common.{subst, ◌∙◌, inl, inr}
 use Rattle.std.specs.Map.{keys_of, values_of}
 use Rattle.std.proofs.lemmas.Map.Entries.{length-values_of}
 use Rattle.jsonb_value.specs.declared.error.Error.{Error}
-use Rattle.jsonb_value.specs.Tree.{Tree, null, boolean, number, text, extension, array, object, Trees, Pairs, count, pair_count}
+use Rattle.jsonb_value.specs.Tree.{Tree, null, boolean, number, text, extension, array, object}
+use Rattle.jsonb_value.specs.Tree.{Trees, Pairs, count, pair_count}
 use Rattle.jsonb_codec.specs.Doc.{Payload, Doc}
 use Rattle.jsonb.specs.Steps.{◌>>=◌}
 use Rattle.jsonb.specs.Item.{Entry}
 use Rattle.jsonb.specs.Building.{key_codes, code_payloads}
 use Rattle.jsonb.specs.Standing.{HasMembers, entry_item, member_item}
-use Rattle.jsonb.specs.Walk.{items_from, pairs_from, payloads_end, array_walk, value_items, values_walk, pair_items, pairs_walk}
-use Rattle.jsonb.specs.Walked.{WalksArray, WalksValues, WalksPairs, WalksItems, WalksValueItems, WalksMembers}
+use Rattle.jsonb.specs.Walk.{items_from, pairs_from, payloads_end, array_walk, value_items}
+use Rattle.jsonb.specs.Walk.{values_walk, pair_items, pairs_walk}
+use Rattle.jsonb.specs.Walked.{WalksArray, WalksValues, WalksPairs, WalksItems, WalksValueItems}
+use Rattle.jsonb.specs.Walked.{WalksMembers}
 use Rattle.jsonb.proofs.Places.{At}
 use Rattle.jsonb.proofs.KindLaws.{header_at-array, header_at-object}
-use Rattle.jsonb.proofs.StandingLaws.{length-AreCodesOf, length-ArePairsOf, AreEntries-trees, HaveItems-trees, AreEntries-pairs, HaveItems-pairs, AreEntries-keys, items_from-entries, pairs_from-members, HasItems-Payload, HasMembers-Payload, AreTexts-Payload, items_at, MembersAt, members_at, Keys-ArePairsOf}
-use Rattle.jsonb.proofs.DocumentWalks.{object_parts, payloads_end-Keys, array_walk-header, values_walk-header, pairs_walk-header, array_walk-Doc, values_walk-Doc, pairs_walk-Doc}
+use Rattle.jsonb.proofs.StandingLaws.{length-AreCodesOf, length-ArePairsOf, AreEntries-trees}
+use Rattle.jsonb.proofs.StandingLaws.{HaveItems-trees, AreEntries-pairs, HaveItems-pairs}
+use Rattle.jsonb.proofs.StandingLaws.{AreEntries-keys, items_from-entries, pairs_from-members}
+use Rattle.jsonb.proofs.StandingLaws.{HasItems-Payload, HasMembers-Payload, AreTexts-Payload}
+use Rattle.jsonb.proofs.StandingLaws.{items_at, MembersAt, members_at, Keys-ArePairsOf}
+use Rattle.jsonb.proofs.DocumentWalks.{object_parts, payloads_end-Keys, array_walk-header}
+use Rattle.jsonb.proofs.DocumentWalks.{values_walk-header, pairs_walk-header, array_walk-Doc}
+use Rattle.jsonb.proofs.DocumentWalks.{values_walk-Doc, pairs_walk-Doc}
 
-standing_items : (b : List ℕ) (ts : Trees) → Payload (array ts) b → WalksItems b (array ts) (array_walk b)
+standing_items : (b : List ℕ) (ts : Trees) → Payload (array ts) b
+    → WalksItems b (array ts) (array_walk b)
 standing_items b ts h =
     let stand = HasItems-Payload b ts h in
     let at = items_at b stand.0 stand.1.few stand.1.written in
-    let items = items_from-entries b 4 (4 + 4 * length stand.0) stand.0 (AreEntries-trees stand.0 ts stand.1.mean stand.1.short) (HaveItems-trees stand.0 ts stand.1.mean stand.1.short)
+    let items = items_from-entries b 4 (4 + 4 * length stand.0) stand.0
+    (AreEntries-trees stand.0 ts stand.1.mean stand.1.short)
+    (HaveItems-trees stand.0 ts stand.1.mean stand.1.short)
     at.entries_at at.payloads_at in
-    let given = subst (λ (n : ℕ). items_from b n 4 (4 + 4 * n) ≡ map entry_item stand.0) (length-AreCodesOf stand.0 ts stand.1.mean) items in
+    let given = subst
+    (λ (n : ℕ). items_from b n 4 (4 + 4 * n) ≡ map entry_item stand.0)
+    (length-AreCodesOf stand.0 ts stand.1.mean) items in
     let found = array_walk-header b (2147483648, count ts) (header_at-array b ts h) in
-    subst (WalksItems b (array ts)) (sym found) (refl, record { entries = stand.0; stand = stand.1; items = given })
+    subst (WalksItems b (array ts)) (sym found)
+    (refl, record { entries = stand.0; stand = stand.1; items = given })
 
 -- where the members of an object stand that are counted
 record Counted (b : List ℕ) (ps : Pairs) : Type 0 where
@@ -39,56 +55,83 @@ counted_members b ps h =
     record {
       members = stand.0;
       stand = stand.1;
-      counted = sym (length-values_of stand.0) ∙ length-ArePairsOf (keys_of stand.0) (values_of stand.0) ps stand.1.mean;
+      counted = sym (length-values_of stand.0)
+          ∙ length-ArePairsOf (keys_of stand.0) (values_of stand.0) ps stand.1.mean;
       at = members_at b stand.0 stand.1.few stand.1.written;
     }
 
 -- where the keys end
 keys_end_at : (b : List ℕ) (ps : Pairs) → Payload (object ps) b → (c : Counted b ps)
-    → payloads_end b (pair_count ps) 4 (4 + 8 * pair_count ps) ≡ Ok (4 + 8 * length c.members + length (code_payloads (key_codes (keys_of c.members))))
+    → payloads_end b (pair_count ps) 4 (4 + 8 * pair_count ps)
+    ≡ Ok (4 + 8 * length c.members + length (code_payloads (key_codes (keys_of c.members))))
 keys_end_at b ps h c =
     let n = pair_count ps in
-    let keys = Keys-ArePairsOf (keys_of c.members) (values_of c.members) ps c.stand.mean (AreTexts-Payload b ps c.members h c.stand) c.stand.short_keys in
-    let places = subst (λ (m : ℕ). At b (4 + 8 * m) (code_payloads (key_codes (keys_of c.members)))) c.counted c.at.key_payloads_at in
+    let keys = Keys-ArePairsOf (keys_of c.members) (values_of c.members) ps c.stand.mean
+    (AreTexts-Payload b ps c.members h c.stand) c.stand.short_keys in
+    let places = subst
+    (λ (m : ℕ). At b (4 + 8 * m)
+    (code_payloads (key_codes (keys_of c.members)))) c.counted c.at.key_payloads_at in
     payloads_end-Keys b ps _ _ 4 (4 + 8 * n) keys c.at.key_entries_at places
-    ∙ ap (λ (m : ℕ). Ok (4 + 8 * m + length (code_payloads (key_codes (keys_of c.members))))) (sym c.counted)
+    ∙ ap (λ (m : ℕ). Ok (4 + 8 * m + length (code_payloads (key_codes (keys_of c.members)))))
+    (sym c.counted)
 
-standing_values : (b : List ℕ) (ps : Pairs) → Payload (object ps) b → WalksValueItems b (object ps) (values_walk b)
+standing_values : (b : List ℕ) (ps : Pairs) → Payload (object ps) b
+    → WalksValueItems b (object ps) (values_walk b)
 standing_values b ps h =
     let p = object_parts b ps h in
     let n = pair_count ps in
-    let end = payloads_end-Keys b ps p.key_entries p.key_payloads 4 (4 + 8 * n) p.keys p.key_entries_at p.key_payloads_at in
+    let end = payloads_end-Keys b ps p.key_entries p.key_payloads 4
+    (4 + 8 * n) p.keys p.key_entries_at p.key_payloads_at in
     let c = counted_members b ps h in
     let start = 4 + 8 * length c.members + length (code_payloads (key_codes (keys_of c.members))) in
-    let items = items_from-entries b (4 + 4 * length c.members) start (values_of c.members) (AreEntries-pairs (keys_of c.members) (values_of c.members) ps c.stand.mean c.stand.short)
-    (HaveItems-pairs (keys_of c.members) (values_of c.members) ps c.stand.mean c.stand.short) c.at.entries_at c.at.payloads_at in
+    let items = items_from-entries b (4 + 4 * length c.members) start (values_of c.members)
+    (AreEntries-pairs (keys_of c.members) (values_of c.members) ps c.stand.mean c.stand.short)
+    (HaveItems-pairs (keys_of c.members)
+    (values_of c.members) ps c.stand.mean c.stand.short) c.at.entries_at c.at.payloads_at in
     let again = keys_end_at b ps h c in
     let same : start ≡ 4 + 8 * n + length p.key_payloads = cc in
-    let given = subst (λ (m : ℕ). items_from b m (4 + 4 * n) (4 + 8 * n + length p.key_payloads) ≡ map entry_item (values_of c.members)) (length-values_of c.members ∙ c.counted)
-    (subst (λ (s : ℕ). items_from b (length (values_of c.members)) (4 + 4 * n) s ≡ map entry_item (values_of c.members)) same
-    (subst (λ (m : ℕ). items_from b (length (values_of c.members)) (4 + 4 * m) start ≡ map entry_item (values_of c.members)) c.counted items)) in
-    let found = values_walk-header b (1073741824, n) (header_at-object b ps h) ∙ ap (λ (r : Result ℕ Error). r >>= (λ (start : ℕ). Ok (Some (value_items b n start)))) end in
-    subst (WalksValueItems b (object ps)) (sym found) (refl, record { members = c.members; stand = c.stand; items = given })
+    let given = subst
+    (λ (m : ℕ). items_from b m (4 + 4 * n) (4 + 8 * n + length p.key_payloads)
+    ≡ map entry_item (values_of c.members)) (length-values_of c.members ∙ c.counted)
+    (subst (λ (s : ℕ). items_from b (length (values_of c.members)) (4 + 4 * n) s
+    ≡ map entry_item (values_of c.members)) same
+    (subst (λ (m : ℕ). items_from b (length (values_of c.members)) (4 + 4 * m) start
+    ≡ map entry_item (values_of c.members)) c.counted items)) in
+    let found = values_walk-header b (1073741824, n) (header_at-object b ps h) ∙ ap
+    (λ (r : Result ℕ Error). r >>= (λ (start : ℕ). Ok (Some (value_items b n start)))) end in
+    subst (WalksValueItems b (object ps)) (sym found)
+    (refl, record { members = c.members; stand = c.stand; items = given })
 
-standing_members : (b : List ℕ) (ps : Pairs) → Payload (object ps) b → WalksMembers b (object ps) (pairs_walk b)
+standing_members : (b : List ℕ) (ps : Pairs) → Payload (object ps) b
+    → WalksMembers b (object ps) (pairs_walk b)
 standing_members b ps h =
     let p = object_parts b ps h in
     let n = pair_count ps in
-    let end = payloads_end-Keys b ps p.key_entries p.key_payloads 4 (4 + 8 * n) p.keys p.key_entries_at p.key_payloads_at in
+    let end = payloads_end-Keys b ps p.key_entries p.key_payloads 4
+    (4 + 8 * n) p.keys p.key_entries_at p.key_payloads_at in
     let c = counted_members b ps h in
     let start = 4 + 8 * length c.members + length (code_payloads (key_codes (keys_of c.members))) in
-    let items = pairs_from-members b 4 (4 + 8 * length c.members) (4 + 4 * length c.members) start c.members (AreTexts-Payload b ps c.members h c.stand) (AreEntries-keys (keys_of c.members) c.stand.short_keys)
-    (AreEntries-pairs (keys_of c.members) (values_of c.members) ps c.stand.mean c.stand.short) (HaveItems-pairs (keys_of c.members) (values_of c.members) ps c.stand.mean c.stand.short)
+    let items = pairs_from-members b 4 (4 + 8 * length c.members)
+    (4 + 4 * length c.members) start c.members (AreTexts-Payload b ps c.members h c.stand)
+    (AreEntries-keys (keys_of c.members) c.stand.short_keys)
+    (AreEntries-pairs (keys_of c.members) (values_of c.members) ps c.stand.mean c.stand.short)
+    (HaveItems-pairs (keys_of c.members) (values_of c.members) ps c.stand.mean c.stand.short)
     c.at.key_entries_at c.at.key_payloads_at c.at.entries_at c.at.payloads_at in
     let again = keys_end_at b ps h c in
     let same : start ≡ 4 + 8 * n + length p.key_payloads = cc in
-    let given = subst (λ (m : ℕ). pairs_from b m 4 (4 + 8 * m) (4 + 4 * m) (4 + 8 * n + length p.key_payloads) ≡ map member_item c.members) c.counted
-    (subst (λ (s : ℕ). pairs_from b (length c.members) 4 (4 + 8 * length c.members) (4 + 4 * length c.members) s ≡ map member_item c.members) same items) in
-    let found = pairs_walk-header b (1073741824, n) (header_at-object b ps h) ∙ ap (λ (r : Result ℕ Error). r >>= (λ (start : ℕ). Ok (Some (pair_items b n start)))) end in
-    subst (WalksMembers b (object ps)) (sym found) (refl, record { members = c.members; stand = c.stand; items = given })
+    let given = subst
+    (λ (m : ℕ). pairs_from b m 4 (4 + 8 * m) (4 + 4 * m) (4 + 8 * n + length p.key_payloads)
+    ≡ map member_item c.members) c.counted
+    (subst (λ (s : ℕ). pairs_from b (length c.members) 4 (4 + 8 * length c.members)
+    (4 + 4 * length c.members) s ≡ map member_item c.members) same items) in
+    let found = pairs_walk-header b (1073741824, n) (header_at-object b ps h) ∙ ap
+    (λ (r : Result ℕ Error). r >>= (λ (start : ℕ). Ok (Some (pair_items b n start)))) end in
+    subst (WalksMembers b (object ps)) (sym found)
+    (refl, record { members = c.members; stand = c.stand; items = given })
 
 -- each iterator on a document
-array_items-Doc-of : (b : List ℕ) (t : Tree) → Doc b t → WalksArray t (array_walk b) → WalksItems b t (array_walk b)
+array_items-Doc-of : (b : List ℕ) (t : Tree) → Doc b t → WalksArray t (array_walk b)
+    → WalksItems b t (array_walk b)
 array_items-Doc-of b null doc given = given
 array_items-Doc-of b (boolean x) doc given = given
 array_items-Doc-of b (number x) doc given = given
@@ -101,7 +144,8 @@ array_items-Doc-of b (object ps) doc given = given
 pub array_items-Doc : (b : List ℕ) (t : Tree) → Doc b t → WalksItems b t (array_walk b)
 array_items-Doc b t doc = array_items-Doc-of b t doc (array_walk-Doc b t doc)
 
-values_items-Doc-of : (b : List ℕ) (t : Tree) → Doc b t → WalksValues t (values_walk b) → WalksValueItems b t (values_walk b)
+values_items-Doc-of : (b : List ℕ) (t : Tree) → Doc b t → WalksValues t (values_walk b)
+    → WalksValueItems b t (values_walk b)
 values_items-Doc-of b null doc given = given
 values_items-Doc-of b (boolean x) doc given = given
 values_items-Doc-of b (number x) doc given = given
@@ -114,7 +158,8 @@ values_items-Doc-of b (object ps) (inl (other, h)) given = absurd (other refl)
 pub values_items-Doc : (b : List ℕ) (t : Tree) → Doc b t → WalksValueItems b t (values_walk b)
 values_items-Doc b t doc = values_items-Doc-of b t doc (values_walk-Doc b t doc)
 
-members-Doc-of : (b : List ℕ) (t : Tree) → Doc b t → WalksPairs t (pairs_walk b) → WalksMembers b t (pairs_walk b)
+members-Doc-of : (b : List ℕ) (t : Tree) → Doc b t → WalksPairs t (pairs_walk b)
+    → WalksMembers b t (pairs_walk b)
 members-Doc-of b null doc given = given
 members-Doc-of b (boolean x) doc given = given
 members-Doc-of b (number x) doc given = given

@@ -7,14 +7,15 @@ use Rattle.std.specs.List.Sorted.{IsStrictlySortedBy}
 use Rattle.std.specs.Ordering.{nat_cmp}
 use Rattle.std.specs.Cmp.Lexicographic.{slice_cmp}
 use Rattle.std.specs.BTreeMap.{insert_entry}
-use Rattle.jsonb_codec.specs.declared.constants.TheConstants.{ARRAY_CONTAINER_TAG, OBJECT_CONTAINER_TAG, STRING_TAG}
+use Rattle.jsonb_codec.specs.declared.constants.TheConstants.{ARRAY_CONTAINER_TAG}
+use Rattle.jsonb_codec.specs.declared.constants.TheConstants.{OBJECT_CONTAINER_TAG, STRING_TAG}
 use Rattle.jsonb_codec.specs.Word.{word}
-use Rattle.jsonb.specs.Shown.{Shown}
+use Rattle.jsonb.specs.ItemView.{ItemView}
 use Rattle.jsonb.specs.Item.{Entry}
 use Rattle.jsonb.specs.Code.{HasCode}
 
 -- The items are stored with these entries, in this order.
-abbrev pub AreCodes : List Shown → List Entry → Type 0
+abbrev pub AreCodes : List ItemView → List Entry → Type 0
 AreCodes [] codes = codes ≡ []
 AreCodes (x ∷ xs) [] = ⊥
 AreCodes (x ∷ xs) (c ∷ cs) = HasCode x c.type c.payload × AreCodes xs cs
@@ -35,7 +36,8 @@ code_payloads (c ∷ cs) = c.payload ++ code_payloads cs
 
 -- the array of these entries
 abbrev pub array_of : List Entry → List ℕ
-array_of codes = word (ARRAY_CONTAINER_TAG + length codes) ++ (code_entries codes ++ code_payloads codes)
+array_of codes =
+    word (ARRAY_CONTAINER_TAG + length codes) ++ (code_entries codes ++ code_payloads codes)
 
 -- the entries of keys
 abbrev pub key_codes : List (List ℕ) → List Entry
@@ -45,17 +47,18 @@ key_codes keys = map (λ k. record { type = STRING_TAG; payload = k }) keys
 abbrev pub object_of : List (List ℕ) → List Entry → List ℕ
 object_of keys codes =
     word (OBJECT_CONTAINER_TAG + length codes)
-    ++ (code_entries (key_codes keys) ++ (code_entries codes ++ (code_payloads (key_codes keys) ++ code_payloads codes)))
+    ++ (code_entries (key_codes keys)
+    ++ (code_entries codes ++ (code_payloads (key_codes keys) ++ code_payloads codes)))
 
 -- Each item has an entry, and no payload and no count is past its limit.
-pub record FitArray (xs : List Shown) : Type 0 where
+pub record FitArray (xs : List ItemView) : Type 0 where
   pub codes : List Entry
   pub are : AreCodes xs codes
   pub short : AreShort codes
   pub few : length codes < 2 ^ 29
 
 -- The bytes are the array of the items' entries, in order.
-pub record IsArrayOf (xs : List Shown) (bytes : List ℕ) : Type 0 where
+pub record IsArrayOf (xs : List ItemView) (bytes : List ℕ) : Type 0 where
   pub fit : FitArray xs
   pub written : bytes ≡ array_of fit.codes
 
@@ -76,7 +79,7 @@ abbrev pub in_order : {A : Type 0} → List (List ℕ × A) → List (List ℕ �
 in_order xs = with_pairs [] xs
 
 -- Each value has an entry, and no key, no payload and no count is past its limit.
-pub record FitObject (pairs : List (List ℕ × Shown)) : Type 0 where
+pub record FitObject (pairs : List (List ℕ × ItemView)) : Type 0 where
   pub codes : List Entry
   pub are : AreCodes (values_of pairs) codes
   pub short : AreShort codes
@@ -84,7 +87,7 @@ pub record FitObject (pairs : List (List ℕ × Shown)) : Type 0 where
   pub few : length codes < 2 ^ 29
 
 -- The bytes are the object of the keys and the values' entries, in order.
-pub record IsObjectOf (pairs : List (List ℕ × Shown)) (bytes : List ℕ) : Type 0 where
+pub record IsObjectOf (pairs : List (List ℕ × ItemView)) (bytes : List ℕ) : Type 0 where
   pub fit : FitObject pairs
   pub written : bytes ≡ object_of (keys_of pairs) fit.codes
 

@@ -13,18 +13,18 @@ use Rattle.jsonb_codec.specs.Doc.{Doc}
 use Rattle.jsonb_codec.specs.Canon.{canon, Fits}
 use Rattle.jsonb.specs.declared.raw.RawJsonb.{RawJsonb}
 use Rattle.jsonb.specs.Raw.{raw_bytes}
-use Rattle.jsonb.specs.Shown.{Shown, raw}
+use Rattle.jsonb.specs.ItemView.{ItemView, raw}
 use Rattle.jsonb.specs.Code.{Means}
 use Rattle.jsonb.specs.Building.{IsArrayOf, in_order, FitObject, IsObjectOf}
 
 -- The items mean these trees, in this order.
-abbrev pub AllMean : List Shown → Trees → Type 0
+abbrev pub AllMean : List ItemView → Trees → Type 0
 AllMean [] ts = ts ≡ no_trees
 AllMean (x ∷ xs) no_trees = ⊥
 AllMean (x ∷ xs) (tree t ts) = Means x t × AllMean xs ts
 
 -- The same of pairs: the keys are theirs, and the items mean their trees.
-abbrev pub AllMeanAt : List (List ℕ × Shown) → Pairs → Type 0
+abbrev pub AllMeanAt : List (List ℕ × ItemView) → Pairs → Type 0
 AllMeanAt [] ps = ps ≡ no_pairs
 AllMeanAt (x ∷ xs) no_pairs = ⊥
 AllMeanAt (x ∷ xs) (pair k t ps) = (x.0 ≡ k) × (Means x.1 t × AllMeanAt xs ps)
@@ -53,11 +53,13 @@ pub record IsObjectUpToZeros (ps : Pairs) (bytes : List ℕ) : Type 0 where
   pub document : Doc bytes (trees.object stored)
   pub same : norm_pairs stored ≡ norm_pairs ps
 
--- The bytes are the array of these inputs: of documents a document of the array of their trees, of canonical ones the canonical one.
+-- The bytes are the array of these inputs: of documents a document of the array of their trees, of
+-- canonical ones the canonical one.
 pub record IsArrayOfInputs (inputs : List (List ℕ)) (bytes : List ℕ) : Type 0 where
   pub array : IsArrayOf (map raw inputs) bytes
   pub document : (ts : Trees) → AreDocuments inputs ts → Doc bytes (trees.array ts)
-  pub canonical : (ts : Trees) → AreCanonical inputs ts → Fits (trees.array ts) × (bytes ≡ canon (trees.array ts))
+  pub canonical : (ts : Trees) → AreCanonical inputs ts → Fits (trees.array ts)
+      × (bytes ≡ canon (trees.array ts))
 
 -- The keys are those of these pairs, and the byte strings documents of their trees,
 abbrev pub ArePairDocuments : List (List ℕ × List ℕ) → Pairs → Type 0
@@ -69,22 +71,25 @@ ArePairDocuments (x ∷ xs) (pair k t ps) = (x.0 ≡ k) × (Doc x.1 t × ArePair
 abbrev pub ArePairsCanonical : List (List ℕ × List ℕ) → Pairs → Type 0
 ArePairsCanonical [] ps = ps ≡ no_pairs
 ArePairsCanonical (x ∷ xs) no_pairs = ⊥
-ArePairsCanonical (x ∷ xs) (pair k t ps) = (x.0 ≡ k) × ((IsTree t × (Fits t × (canon t ≡ x.1))) × ArePairsCanonical xs ps)
+ArePairsCanonical (x ∷ xs) (pair k t ps) =
+    (x.0 ≡ k) × ((IsTree t × (Fits t × (canon t ≡ x.1))) × ArePairsCanonical xs ps)
 
 -- byte strings at keys, as the items of them
-abbrev pub raw_pairs : List (List ℕ × List ℕ) → List (List ℕ × Shown)
+abbrev pub raw_pairs : List (List ℕ × List ℕ) → List (List ℕ × ItemView)
 raw_pairs xs = map (λ x. (x.0, raw x.1)) xs
 
 -- a key and bytes that are given
 abbrev pub input_pair : Bor (List ℕ) × RawJsonb → List ℕ × List ℕ
 input_pair x = (x.0.now, raw_bytes x.1)
 
--- The bytes are the object of these inputs, no two of which have one key: of documents a document of the object of their trees, of canonical ones the canonical one.
+-- The bytes are the object of these inputs, no two of which have one key: of documents a document
+-- of the object of their trees, of canonical ones the canonical one.
 pub record IsObjectOfInputs (inputs : List (List ℕ × List ℕ)) (bytes : List ℕ) : Type 0 where
   pub distinct : IsDistinct bytes_eq (keys_of inputs)
   pub object : IsObjectOf (raw_pairs (in_order inputs)) bytes
   pub document : (ps : Pairs) → ArePairDocuments (in_order inputs) ps → Doc bytes (trees.object ps)
-  pub canonical : (ps : Pairs) → ArePairsCanonical (in_order inputs) ps → Fits (trees.object ps) × (bytes ≡ canon (trees.object ps))
+  pub canonical : (ps : Pairs) → ArePairsCanonical (in_order inputs) ps → Fits (trees.object ps)
+      × (bytes ≡ canon (trees.object ps))
 
 -- No two of these inputs have one key, and of them no object can be made.
 pub record MakeNoObject (inputs : List (List ℕ × List ℕ)) : Type 0 where
@@ -92,9 +97,15 @@ pub record MakeNoObject (inputs : List (List ℕ × List ℕ)) : Type 0 where
   pub none : FitObject (raw_pairs (in_order inputs)) → ⊥
 
 -- The iterator that was made of a value gave some items up to its end, of which this holds.
-abbrev pub TakesAll : {C S A : Type 0} → (C → S → Type 0) → (S → Option A → S → Type 0) → C → (List A → Type 0) → Type 0
-TakesAll {C} {S} {A} makes steps source P = (it : S) × ((xs : List A) × (makes source it × (Drains steps it xs × P xs)))
+abbrev pub TakesAll : {C S A : Type 0} → (C → S → Type 0) → (S → Option A → S → Type 0) → C
+    → (List A → Type 0) → Type 0
+TakesAll {C} {S} {A} makes steps source P =
+    (it : S) × ((xs : List A) × (makes source it × (Drains steps it xs × P xs)))
 
 -- It gave some items and then one more, of which this holds.
-abbrev pub TakesUpTo : {C S A : Type 0} → (C → S → Type 0) → (S → Option A → S → Type 0) → C → (List A → A → Type 0) → Type 0
-TakesUpTo {C} {S} {A} makes steps source P = (it : S) × ((xs : List A) × ((x : A) × ((rest : S) × (makes source it × (YieldsThen steps it xs (Some x) rest × P xs x)))))
+abbrev pub TakesUpTo : {C S A : Type 0} → (C → S → Type 0) → (S → Option A → S → Type 0) → C
+    → (List A → A → Type 0) → Type 0
+TakesUpTo {C} {S} {A} makes steps source P = (it : S)
+    × ((xs : List A)
+    × ((x : A)
+    × ((rest : S) × (makes source it × (YieldsThen steps it xs (Some x) rest × P xs x)))))

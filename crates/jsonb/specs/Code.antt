@@ -1,21 +1,25 @@
 -- What items mean, and with what they are stored.
-use Rattle.std.specs.Prelude.{◌≡◌, ◌≢◌, ◌⊎◌, ◌+◌, ◌<◌, ◌^◌, ℕ, List, [], ◌++◌, length, true, false, Option, unwrap_or, ⊤}
+use Rattle.std.specs.Prelude.{◌≡◌, ◌≢◌, ◌⊎◌, ◌+◌, ◌<◌, ◌^◌, ℕ, List, [], ◌++◌, length, true, false}
+use Rattle.std.specs.Prelude.{Option, unwrap_or, ⊤}
 use Rattle.jsonb_value.specs.declared.number.Number.{Number}
 use Rattle.jsonb_value.specs.NumCode.{number_payload}
 use Rattle.jsonb_value.specs.ExtCode.{extension_of, extension_payload}
 use Rattle.jsonb_value.specs.Tree.{Tree, Extension}
 use Rattle.jsonb_value.specs.Tree as trees
-use Rattle.jsonb_codec.specs.declared.constants.TheConstants.{SCALAR_CONTAINER_TAG, NULL_TAG, STRING_TAG, NUMBER_TAG, FALSE_TAG, TRUE_TAG, CONTAINER_TAG, EXTENSION_TAG}
+use Rattle.jsonb_codec.specs.declared.constants.TheConstants.{SCALAR_CONTAINER_TAG, NULL_TAG}
+use Rattle.jsonb_codec.specs.declared.constants.TheConstants.{STRING_TAG, NUMBER_TAG, FALSE_TAG}
+use Rattle.jsonb_codec.specs.declared.constants.TheConstants.{TRUE_TAG, CONTAINER_TAG}
+use Rattle.jsonb_codec.specs.declared.constants.TheConstants.{EXTENSION_TAG}
 use Rattle.jsonb_codec.specs.Word.{word}
 use Rattle.jsonb_codec.specs.Doc.{Doc, type_of}
 use Rattle.jsonb.specs.declared.code.Payload.{Payload}
 use Rattle.jsonb.specs.declared.code.Payload.TheVariants as payloads
 use Rattle.jsonb.specs.declared.code.Code.{Code}
-use Rattle.jsonb.specs.Shown.{Shown, null, boolean, number, text, extension, raw, owned}
+use Rattle.jsonb.specs.ItemView.{ItemView, null, boolean, number, text, extension, raw, owned}
 use Rattle.jsonb.specs.Item.{Entry}
 
 -- The item means the tree. A borrowed or owned document means the tree of its bytes.
-abbrev pub Means : Shown → Tree → Type 0
+abbrev pub Means : ItemView → Tree → Type 0
 Means null t = t ≡ trees.null
 Means (boolean b) t = t ≡ trees.boolean b
 Means (number given x) t = t ≡ trees.number x
@@ -28,7 +32,8 @@ Means (owned b) t = Doc b t
 abbrev pub scalar_bytes : ℕ → List ℕ → List ℕ
 scalar_bytes type payload = word SCALAR_CONTAINER_TAG ++ (word (type + length payload) ++ payload)
 
--- The document b of the tree t is stored with this type and payload: a scalar with its entry, an array or object whole.
+-- The document b of the tree t is stored with this type and payload: a scalar with its entry, an
+-- array or object whole.
 abbrev pub IsDocumentCode : Tree → List ℕ → ℕ → List ℕ → Type 0
 IsDocumentCode t b type payload =
     ((type_of t ≢ CONTAINER_TAG) × ((type ≡ type_of t) × (b ≡ scalar_bytes type payload)))
@@ -48,33 +53,34 @@ payload_bytes (payloads.Number x) = number_payload x
 payload_bytes (payloads.Extension value) = extension_payload (extension_of value)
 
 -- the entry of a code that is to be stored
-abbrev pub shown_code : Code → Entry
-shown_code code = record { type = code.type_code; payload = payload_bytes code.payload }
+abbrev pub code_view : Code → Entry
+code_view code = record { type = code.type_code; payload = payload_bytes code.payload }
 
 -- The item's entry has this type and payload. Bytes of no document have none.
-abbrev pub HasCode : Shown → ℕ → List ℕ → Type 0
+abbrev pub HasCode : ItemView → ℕ → List ℕ → Type 0
 HasCode null type payload = (type ≡ NULL_TAG) × (payload ≡ [])
 HasCode (boolean false) type payload = (type ≡ FALSE_TAG) × (payload ≡ [])
 HasCode (boolean true) type payload = (type ≡ TRUE_TAG) × (payload ≡ [])
 HasCode (number given x) type payload = (type ≡ NUMBER_TAG) × (payload ≡ stored_number given x)
 HasCode (text s) type payload = (type ≡ STRING_TAG) × (payload ≡ s)
-HasCode (extension given e) type payload = (type ≡ EXTENSION_TAG) × (payload ≡ stored_extension given e)
+HasCode (extension given e) type payload =
+    (type ≡ EXTENSION_TAG) × (payload ≡ stored_extension given e)
 HasCode (raw b) type payload = (t : Tree) × (Doc b t × IsDocumentCode t b type payload)
 HasCode (owned b) type payload = (t : Tree) × (Doc b t × IsDocumentCode t b type payload)
 
 -- the bytes that an item becomes by itself: its own, or the scalar document of its code
-abbrev pub stored : Shown → List ℕ
-stored null = scalar_bytes NULL_TAG []
-stored (boolean false) = scalar_bytes FALSE_TAG []
-stored (boolean true) = scalar_bytes TRUE_TAG []
-stored (number given x) = scalar_bytes NUMBER_TAG (stored_number given x)
-stored (text s) = scalar_bytes STRING_TAG s
-stored (extension given e) = scalar_bytes EXTENSION_TAG (stored_extension given e)
-stored (raw b) = b
-stored (owned b) = b
+abbrev pub item_document : ItemView → List ℕ
+item_document null = scalar_bytes NULL_TAG []
+item_document (boolean false) = scalar_bytes FALSE_TAG []
+item_document (boolean true) = scalar_bytes TRUE_TAG []
+item_document (number given x) = scalar_bytes NUMBER_TAG (stored_number given x)
+item_document (text s) = scalar_bytes STRING_TAG s
+item_document (extension given e) = scalar_bytes EXTENSION_TAG (stored_extension given e)
+item_document (raw b) = b
+item_document (owned b) = b
 
 -- The payload that has to be written is not past its limit.
-abbrev pub CanBeStored : Shown → Type 0
+abbrev pub CanBeStored : ItemView → Type 0
 CanBeStored null = ⊤
 CanBeStored (boolean b) = ⊤
 CanBeStored (number given x) = length (stored_number given x) < 2 ^ 28

@@ -1,38 +1,43 @@
 -- The item of an entry and its bytes, and the item of bytes.
-use Rattle.std.specs.Prelude.{ℕ, ◌+◌, ◌==◌, nat_le, if◌then◌else◌, List, length, take, drop, true, false, Option, Some, None, Result, Ok, Err}
+use Rattle.std.specs.Prelude.{ℕ, ◌+◌, ◌==◌, nat_le, if◌then◌else◌, List, length, take, drop, true}
+use Rattle.std.specs.Prelude.{false, Option, Some, None, Result, Ok, Err}
 use Rattle.jsonb_value.specs.declared.error.Error.{Error}
-use Rattle.jsonb_value.specs.declared.error.Error.TheVariants.{InvalidJsonb, InvalidJsonbNumber, InvalidUtf8}
+use Rattle.jsonb_value.specs.declared.error.Error.TheVariants.{InvalidJsonb, InvalidJsonbNumber}
+use Rattle.jsonb_value.specs.declared.error.Error.TheVariants.{InvalidUtf8}
 use Rattle.jsonb_value.specs.declared.number.Number.{Number}
 use Rattle.jsonb_value.specs.Tree.{Extension}
-use Rattle.jsonb_codec.specs.declared.constants.TheConstants.{SCALAR_CONTAINER_TAG, NULL_TAG, STRING_TAG, NUMBER_TAG, FALSE_TAG, TRUE_TAG, CONTAINER_TAG, EXTENSION_TAG}
+use Rattle.jsonb_codec.specs.declared.constants.TheConstants.{SCALAR_CONTAINER_TAG, NULL_TAG}
+use Rattle.jsonb_codec.specs.declared.constants.TheConstants.{STRING_TAG, NUMBER_TAG, FALSE_TAG}
+use Rattle.jsonb_codec.specs.declared.constants.TheConstants.{TRUE_TAG, CONTAINER_TAG}
+use Rattle.jsonb_codec.specs.declared.constants.TheConstants.{EXTENSION_TAG}
 use Rattle.jsonb_codec.specs.Word.{header_at}
 use Rattle.jsonb_codec.specs.JEntry.{jentry_at}
 use Rattle.jsonb.specs.Steps.{◌>>=◌}
 use Rattle.jsonb.specs.Payloads.{is_text, number_in, extension_in, extension_error}
-use Rattle.jsonb.specs.Shown.{Shown, null, boolean, number, text, extension, raw}
+use Rattle.jsonb.specs.ItemView.{ItemView, null, boolean, number, text, extension, raw}
 
 -- bytes as a string, which must be UTF-8,
-abbrev pub text_item : List ℕ → Result Shown Error
+abbrev pub text_item : List ℕ → Result ItemView Error
 text_item p = if is_text p then Ok (text p) else Err InvalidUtf8
 
 -- as a number,
-abbrev pub number_found : List ℕ → Option Number → Result Shown Error
+abbrev pub number_found : List ℕ → Option Number → Result ItemView Error
 number_found p (Some x) = Ok (number (Some p) x)
 number_found p None = Err InvalidJsonbNumber
 
-abbrev pub number_item : List ℕ → Result Shown Error
+abbrev pub number_item : List ℕ → Result ItemView Error
 number_item p = number_found p (number_in p)
 
 -- as an extension value
-abbrev pub extension_found : List ℕ → Option Extension → Result Shown Error
+abbrev pub extension_found : List ℕ → Option Extension → Result ItemView Error
 extension_found p (Some e) = Ok (extension (Some p) e)
 extension_found p None = Err (extension_error p)
 
-abbrev pub extension_item : List ℕ → Result Shown Error
+abbrev pub extension_item : List ℕ → Result ItemView Error
 extension_item p = extension_found p (extension_in p)
 
 -- the item of an entry of this type and of its bytes; a container's are not looked into
-unfoldable pub item_of : ℕ → List ℕ → Result Shown Error
+unfoldable pub item_of : ℕ → List ℕ → Result ItemView Error
 item_of type p =
     if type == NULL_TAG then Ok null
     else if type == FALSE_TAG then Ok (boolean false)
@@ -45,7 +50,8 @@ item_of type p =
 
 -- that many bytes from a place on
 unfoldable pub part_at : List ℕ → ℕ → ℕ → Result (List ℕ) Error
-part_at bytes start n = if nat_le (start + n) (length bytes) then Ok (take n (drop start bytes)) else Err InvalidJsonb
+part_at bytes start n =
+    if nat_le (start + n) (length bytes) then Ok (take n (drop start bytes)) else Err InvalidJsonb
 
 -- an entry: its type, and the bytes of its payload
 pub record Entry : Type 0 where
@@ -60,20 +66,22 @@ entry_at bytes place start = do
   Ok (record { type = jentry.type_code; payload = payload })
 
 -- the item of that entry
-unfoldable pub item_at : List ℕ → ℕ → ℕ → Result Shown Error
+unfoldable pub item_at : List ℕ → ℕ → ℕ → Result ItemView Error
 item_at bytes place start = do
   entry ← entry_at bytes place start
   item_of entry.type entry.payload
 
 -- the item under a scalar's header, which is no container
-unfoldable pub scalar_item : Entry → Result Shown Error
-scalar_item entry = if entry.type == CONTAINER_TAG then Err InvalidJsonb else item_of entry.type entry.payload
+unfoldable pub scalar_item : Entry → Result ItemView Error
+scalar_item entry =
+    if entry.type == CONTAINER_TAG then Err InvalidJsonb else item_of entry.type entry.payload
 
 -- the item under a header: an array or object is all the bytes, not looked into
-abbrev pub item_under : ℕ × ℕ → List ℕ → Result Shown Error
+abbrev pub item_under : ℕ × ℕ → List ℕ → Result ItemView Error
 item_under header bytes =
-    if header.0 == SCALAR_CONTAINER_TAG then (entry_at bytes 4 8 >>= scalar_item) else Ok (raw bytes)
+    if header.0 == SCALAR_CONTAINER_TAG then (entry_at bytes 4 8 >>= scalar_item)
+    else Ok (raw bytes)
 
 -- the item that bytes hold
-unfoldable pub item_in : List ℕ → Result Shown Error
+unfoldable pub item_in : List ℕ → Result ItemView Error
 item_in bytes = header_at bytes 0 >>= λ header. item_under header bytes

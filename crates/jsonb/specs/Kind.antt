@@ -5,8 +5,12 @@ use Rattle.std.specs.declared.cmp.Ordering.{Ordering}
 use Rattle.std.specs.declared.cmp.Ordering.TheVariants.{Equal}
 use Rattle.jsonb_value.specs.declared.error.Error.{Error}
 use Rattle.jsonb_value.specs.declared.error.Error.TheVariants.{InvalidJsonb}
-use Rattle.jsonb_value.specs.Tree.{Tree, null, boolean, number, text, extension, array, object, count, pair_count}
-use Rattle.jsonb_codec.specs.declared.constants.TheConstants.{ARRAY_CONTAINER_TAG, OBJECT_CONTAINER_TAG, NULL_TAG, STRING_TAG, NUMBER_TAG, FALSE_TAG, TRUE_TAG, EXTENSION_TAG}
+use Rattle.jsonb_value.specs.Tree.{Tree, null, boolean, number, text, extension, array, object}
+use Rattle.jsonb_value.specs.Tree.{count, pair_count}
+use Rattle.jsonb_codec.specs.declared.constants.TheConstants.{ARRAY_CONTAINER_TAG}
+use Rattle.jsonb_codec.specs.declared.constants.TheConstants.{OBJECT_CONTAINER_TAG, NULL_TAG}
+use Rattle.jsonb_codec.specs.declared.constants.TheConstants.{STRING_TAG, NUMBER_TAG, FALSE_TAG}
+use Rattle.jsonb_codec.specs.declared.constants.TheConstants.{TRUE_TAG, EXTENSION_TAG}
 use Rattle.jsonb_codec.specs.Word.{header_at}
 use Rattle.jsonb_codec.specs.JEntry.{jentry_at}
 use Rattle.jsonb.specs.declared.item_type.JsonbItemType.{JsonbItemType}
@@ -58,4 +62,5 @@ kind_rank kinds.Null = 6
 -- what the kinds alone tell of the order of two values: all, where they differ or both are null
 abbrev pub rank_order : JsonbItemType → JsonbItemType → Option Ordering
 rank_order kinds.Null kinds.Null = Some Equal
-rank_order x y = if kind_rank x == kind_rank y then None else Some (nat_cmp (kind_rank x) (kind_rank y))
+rank_order x y =
+    if kind_rank x == kind_rank y then None else Some (nat_cmp (kind_rank x) (kind_rank y))

@@ -9,10 +9,10 @@ use Rattle.jsonb_codec.specs.declared.parts.Part.{Part}
 use Rattle.jsonb_codec.specs.Parts.{IsSomePayload}
 use Rattle.jsonb.specs.Document.{tree_in}
 use Rattle.jsonb.specs.Item.{Entry, item_of}
-use Rattle.jsonb.specs.Shown.{Shown, null, boolean, number, text, extension, raw, owned}
+use Rattle.jsonb.specs.ItemView.{ItemView, null, boolean, number, text, extension, raw, owned}
 
 -- the tree of an item: a document's is that of its bytes
-abbrev pub shown_tree : Shown → Tree
+abbrev pub shown_tree : ItemView → Tree
 shown_tree null = trees.null
 shown_tree (boolean b) = trees.boolean b
 shown_tree (number given x) = trees.number x
@@ -21,7 +21,7 @@ shown_tree (extension given e) = trees.extension e
 shown_tree (raw b) = tree_in b
 shown_tree (owned b) = tree_in b
 
-abbrev pub item_tree : Result Shown Error → Tree
+abbrev pub item_tree : Result ItemView Error → Tree
 item_tree (Ok x) = shown_tree x
 item_tree (Err e) = trees.null
 
@@ -57,7 +57,8 @@ AreKeys (Err e ∷ others) = ⊥
 
 -- So are the entries of as many keys and values.
 abbrev pub AreMembers : List (Result Entry Error) × List (Result Entry Error) → Type 0
-AreMembers left = (AreParts left.0 × AreKeys left.0) × (AreParts left.1 × (length left.0 ≡ length left.1))
+AreMembers left =
+    (AreParts left.0 × AreKeys left.0) × (AreParts left.1 × (length left.0 ≡ length left.1))
 
 -- the trees of what is left of an array's entries, and the pairs of an object's keys and values
 abbrev pub trees_left : List (Result Entry Error) → List Tree

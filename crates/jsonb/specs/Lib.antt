@@ -3,8 +3,8 @@ pub mod Raw
 pub mod Owned
 pub mod Kind
 pub mod Payloads
-pub mod Held
-pub mod Shown
+pub mod ItemValues
+pub mod ItemView
 pub mod Item
 pub mod Entries
 pub mod Views

@@ -1,7 +1,8 @@
 -- The text of a container by its lines.
 use Rattle.std.specs.Prelude.{◌+◌, ◌<◌, ◌^◌, ℕ, ⊤, List, [], ◌∷◌, ◌++◌, codes}
 use Rattle.jsonb_value.specs.Tree.{Tree, Trees, no_trees, tree, Pairs, no_pairs, pair}
-use Rattle.jsonb_value.specs.Text.{Layout, in_one_line, on_lines, inside, line_start, colon, laid_out, string_text}
+use Rattle.jsonb_value.specs.Text.{Layout, in_one_line, on_lines, inside, line_start, colon}
+use Rattle.jsonb_value.specs.Text.{laid_out, string_text}
 
 -- the lines behind the first
 abbrev pub more_lines : Layout → List (List ℕ) → List ℕ
@@ -9,9 +10,10 @@ more_lines l [] = []
 more_lines l (line ∷ lines) = codes "," ++ (line_start l ++ (line ++ more_lines l lines))
 
 -- lines between brackets
-abbrev pub bracketed : Layout → List ℕ → List ℕ → List (List ℕ) → List ℕ
-bracketed l front end [] = front ++ end
-bracketed l front end (line ∷ lines) = front ++ (line_start (inside l) ++ (line ++ (more_lines (inside l) lines ++ (line_start l ++ end))))
+abbrev pub bracket_text : Layout → List ℕ → List ℕ → List (List ℕ) → List ℕ
+bracket_text l front end [] = front ++ end
+bracket_text l front end (line ∷ lines) = front
+    ++ (line_start (inside l) ++ (line ++ (more_lines (inside l) lines ++ (line_start l ++ end))))
 
 -- the text of a pair
 abbrev pub pair_text : Layout → List ℕ → Tree → List ℕ

@@ -1,13 +1,18 @@
--- What a look-up by a key's name finds. `answers key b` says that b is a possible answer for the key; the size is the name's length.
-use Rattle.std.specs.Prelude.{◌≡◌, ℕ, zero, suc, ◌+◌, ◌==◌, ◌&&◌, if◌then◌else◌, Bool, true, false, List, length, slice_get, Option, Some, None, option_map, Result, Ok, Err, ⊤}
+-- What a look-up by a key's name finds. `answers key b` says that b is a possible answer for the
+-- key; the size is the name's length.
+use Rattle.std.specs.Prelude.{◌≡◌, ℕ, zero, suc, ◌+◌, ◌==◌, ◌&&◌, if◌then◌else◌, Bool, true, false}
+use Rattle.std.specs.Prelude.{List, length, slice_get, Option, Some, None, option_map, Result, Ok}
+use Rattle.std.specs.Prelude.{Err, ⊤}
 use Rattle.std.specs.Map.{values_of}
 use Rattle.jsonb_value.specs.declared.error.Error.{Error}
-use Rattle.jsonb_value.specs.declared.error.Error.TheVariants.{InvalidEOF, InvalidJsonb, InvalidUtf8, InvalidJsonbNumber, InvalidJsonbExtension}
+use Rattle.jsonb_value.specs.declared.error.Error.TheVariants.{InvalidEOF, InvalidJsonb}
+use Rattle.jsonb_value.specs.declared.error.Error.TheVariants.{InvalidUtf8, InvalidJsonbNumber}
+use Rattle.jsonb_value.specs.declared.error.Error.TheVariants.{InvalidJsonbExtension}
 use Rattle.jsonb_value.specs.Tree.{Tree, object, Pairs, no_pairs, pair, pair_count}
 use Rattle.jsonb_codec.specs.declared.constants.TheConstants.{OBJECT_CONTAINER_TAG}
 use Rattle.jsonb_codec.specs.Word.{header_at}
 use Rattle.jsonb.specs.declared.item.JsonbItem.{JsonbItem}
-use Rattle.jsonb.specs.Shown.{Shown, shown}
+use Rattle.jsonb.specs.ItemView.{ItemView, item_view}
 use Rattle.jsonb.specs.Steps.{◌>>=◌}
 use Rattle.jsonb.specs.Item.{Entry}
 use Rattle.jsonb.specs.Parts.{value_entry, PassedBefore, IsAccepted, IsUnreadable}
@@ -27,11 +32,15 @@ NoneAccepted answers size (pair k t ps) = IsPassed answers size k × NoneAccepte
 -- The pair at this index is the first whose key is accepted, and this is its value.
 abbrev pub IsFirstAccepted : (List ℕ → Bool → Type 0) → ℕ → Pairs → ℕ → Tree → Type 0
 IsFirstAccepted answers size no_pairs index value = ⊥
-IsFirstAccepted answers size (pair k t ps) zero value = (length k ≡ size) × (answers k true × (value ≡ t))
-IsFirstAccepted answers size (pair k t ps) (suc index) value = IsPassed answers size k × IsFirstAccepted answers size ps index value
+IsFirstAccepted answers size (pair k t ps) zero value =
+    (length k ≡ size) × (answers k true × (value ≡ t))
+IsFirstAccepted answers size (pair k t ps) (suc index) value =
+    IsPassed answers size k × IsFirstAccepted answers size ps index value
 
--- The item is that of the first accepted pair's entry, as it stands in the bytes. Read were the header, each key's entry, and the values' entries up to the wanted one.
-pub record IsFound (answers : List ℕ → Bool → Type 0) (size : ℕ) (b : List ℕ) (ps : Pairs) (x : Shown) (reads : ℕ) : Type 0 where
+-- The item is that of the first accepted pair's entry, as it stands in the bytes. Read were the
+-- header, each key's entry, and the values' entries up to the wanted one.
+pub record IsFound (answers : List ℕ → Bool → Type 0) (size : ℕ) (b : List ℕ) (ps : Pairs)
+    (x : ItemView) (reads : ℕ) : Type 0 where
   pub index : ℕ
   pub value : Tree
   pub first : IsFirstAccepted answers size ps index value
@@ -42,27 +51,31 @@ pub record IsFound (answers : List ℕ → Bool → Type 0) (size : ℕ) (b : Li
   pub cost : reads ≡ pair_count ps + index + 2
 
 -- Nothing is found. Read were the header and each key's entry.
-pub record IsNotFound (answers : List ℕ → Bool → Type 0) (size : ℕ) (ps : Pairs) (reads : ℕ) : Type 0 where
+pub record IsNotFound (answers : List ℕ → Bool → Type 0) (size : ℕ) (ps : Pairs)
+    (reads : ℕ) : Type 0 where
   pub none : NoneAccepted answers size ps
   pub cost : reads ≡ pair_count ps + 1
 
-abbrev pub LooksUpPairs : (List ℕ → Bool → Type 0) → ℕ → List ℕ → Pairs → Option Shown → ℕ → Type 0
+abbrev pub LooksUpPairs : (List ℕ → Bool → Type 0) → ℕ → List ℕ → Pairs → Option ItemView → ℕ
+    → Type 0
 LooksUpPairs answers size b ps (Some x) reads = IsFound answers size b ps x reads
 LooksUpPairs answers size b ps None reads = IsNotFound answers size ps reads
 
--- What is found in the document b of the tree, after so many reads: in anything but pairs nothing, after the header's.
-abbrev pub LooksUp : (List ℕ → Bool → Type 0) → ℕ → List ℕ → Tree → Option Shown → ℕ → Type 0
+-- What is found in the document b of the tree, after so many reads: in anything but pairs nothing,
+-- after the header's.
+abbrev pub LooksUp : (List ℕ → Bool → Type 0) → ℕ → List ℕ → Tree → Option ItemView → ℕ → Type 0
 LooksUp answers size b (object ps) found reads = LooksUpPairs answers size b ps found reads
 LooksUp answers size b t found reads = (found ≡ None) × (reads ≡ 1)
 
 -- the same, after any number of reads
-abbrev pub LooksUpIn : (List ℕ → Bool → Type 0) → ℕ → List ℕ → Tree → Option Shown → Type 0
+abbrev pub LooksUpIn : (List ℕ → Bool → Type 0) → ℕ → List ℕ → Tree → Option ItemView → Type 0
 LooksUpIn answers size b t found = (reads : ℕ) × LooksUp answers size b t found reads
 
 -- the value of the first key that has the size and is accepted
 abbrev pub find_pair : (List ℕ → Bool) → ℕ → Pairs → Option Tree
 find_pair accepts size no_pairs = None
-find_pair accepts size (pair k t ps) = if (length k == size) && accepts k then Some t else find_pair accepts size ps
+find_pair accepts size (pair k t ps) =
+    if (length k == size) && accepts k then Some t else find_pair accepts size ps
 
 abbrev pub find : (List ℕ → Bool) → ℕ → Tree → Option Tree
 find accepts size (object ps) = find_pair accepts size ps
@@ -70,33 +83,45 @@ find accepts size t = None
 
 -- The answers for keys of the size are those of one test.
 abbrev pub AnswersBy : (List ℕ → Bool) → (List ℕ → Bool → Type 0) → ℕ → Type 0
-AnswersBy accepts answers size = (key : List ℕ) (b : Bool) → length key ≡ size → answers key b → b ≡ accepts key
+AnswersBy accepts answers size =
+    (key : List ℕ) (b : Bool) → length key ≡ size → answers key b → b ≡ accepts key
 
 -- The item is that of the value, where there is one.
-abbrev pub IsItemFound : Option Tree → Option Shown → Type 0
+abbrev pub IsItemFound : Option Tree → Option ItemView → Type 0
 IsItemFound (Some t) (Some x) = IsItemOf t x
 IsItemFound (Some t) None = ⊥
 IsItemFound None (Some x) = ⊥
 IsItemFound None None = ⊤
 
--- What a look-up answers on any bytes, after so many reads: the header's error, nothing under a header of another kind, the first error of a key or of the
--- accepted key's value, nothing where all keys are passed over, or what the accepted value's entry is: its item, or the error of its payload.
-pub data LooksUpBytes (answers : List ℕ → Bool → Type 0) (size : ℕ) (b : List ℕ) (r : Result (Option Shown) Error) (reads : ℕ) : Type 0 where
-  no_header : (e : Error) → count_under b OBJECT_CONTAINER_TAG ≡ Err e → r ≡ Err e → LooksUpBytes answers size b r reads
-  other_header : count_under b OBJECT_CONTAINER_TAG ≡ Ok None → r ≡ Ok None → reads ≡ 1 → LooksUpBytes answers size b r reads
-  unread : (n : ℕ) (e : Error) → count_under b OBJECT_CONTAINER_TAG ≡ Ok (Some n) → IsUnreadable answers size b n e → r ≡ Err e → LooksUpBytes answers size b r reads
-  all_passed : (n : ℕ) → count_under b OBJECT_CONTAINER_TAG ≡ Ok (Some n) → PassedBefore answers size b n n → r ≡ Ok None → reads ≡ n + 1 → LooksUpBytes answers size b r reads
-  one_accepted : (n pair : ℕ) (entry : Entry) → count_under b OBJECT_CONTAINER_TAG ≡ Ok (Some n) → IsAccepted answers size b n pair → value_entry b n pair ≡ Ok entry
-      → r ≡ (entry_item entry >>= λ x. Ok (Some x)) → reads ≡ n + pair + 2 → LooksUpBytes answers size b r reads
+-- What a look-up answers on any bytes, after so many reads: the header's error, nothing under a
+-- header of another kind, the first error of a key or of the accepted key's value, nothing where
+-- all keys are passed over, or what the accepted value's entry is: its item, or the error of its
+-- payload.
+pub data LooksUpBytes (answers : List ℕ → Bool → Type 0) (size : ℕ) (b : List ℕ)
+    (r : Result (Option ItemView) Error) (reads : ℕ) : Type 0 where
+  no_header : (e : Error) → count_under b OBJECT_CONTAINER_TAG ≡ Err e → r ≡ Err e
+      → LooksUpBytes answers size b r reads
+  other_header : count_under b OBJECT_CONTAINER_TAG ≡ Ok None → r ≡ Ok None → reads ≡ 1
+      → LooksUpBytes answers size b r reads
+  unread : (n : ℕ) (e : Error) → count_under b OBJECT_CONTAINER_TAG ≡ Ok (Some n)
+      → IsUnreadable answers size b n e → r ≡ Err e → LooksUpBytes answers size b r reads
+  all_passed : (n : ℕ) → count_under b OBJECT_CONTAINER_TAG ≡ Ok (Some n)
+      → PassedBefore answers size b n n → r ≡ Ok None → reads ≡ n + 1
+      → LooksUpBytes answers size b r reads
+  one_accepted : (n pair : ℕ) (entry : Entry) → count_under b OBJECT_CONTAINER_TAG ≡ Ok (Some n)
+      → IsAccepted answers size b n pair → value_entry b n pair ≡ Ok entry
+      → r ≡ (entry_item entry >>= λ x. Ok (Some x)) → reads ≡ n + pair + 2
+      → LooksUpBytes answers size b r reads
 
 -- the same, after any number of reads
-abbrev pub LooksUpInBytes : (List ℕ → Bool → Type 0) → ℕ → List ℕ → Result (Option Shown) Error → Type 0
+abbrev pub LooksUpInBytes : (List ℕ → Bool → Type 0) → ℕ → List ℕ → Result (Option ItemView) Error
+    → Type 0
 LooksUpInBytes answers size b r = (reads : ℕ) × LooksUpBytes answers size b r reads
 
 -- what a look-up's answer shows
-abbrev pub shown_found : Result (Option JsonbItem) Error → Result (Option Shown) Error
-shown_found (Ok item) = Ok (option_map shown item)
-shown_found (Err e) = Err e
+abbrev pub found_view : Result (Option JsonbItem) Error → Result (Option ItemView) Error
+found_view (Ok item) = Ok (option_map item_view item)
+found_view (Err e) = Err e
 
 -- the count in a header, where there is one
 abbrev pub counted_in : Result (ℕ × ℕ) Error → ℕ

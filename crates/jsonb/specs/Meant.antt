@@ -11,7 +11,8 @@ use Rattle.jsonb.specs.declared.owned.OwnedJsonb.{OwnedJsonb}
 use Rattle.jsonb.specs.declared.raw.RawJsonb.{RawJsonb}
 use Rattle.jsonb.specs.Owned.{owned_bytes}
 use Rattle.jsonb.specs.Raw.{raw_bytes}
-use Rattle.jsonb.specs.Shown.{Shown, shown, null, boolean, number, text, extension, raw, owned}
+use Rattle.jsonb.specs.ItemView.{ItemView, item_view, null, boolean, number, text, extension, raw}
+use Rattle.jsonb.specs.ItemView.{owned}
 
 -- the tree that was found, or else the bytes
 abbrev pub meaning_found : (b : List ℕ) → Decided (IsDocument b) → Meaning
@@ -23,14 +24,14 @@ unfoldable pub meaning_of : List ℕ → Meaning
 meaning_of b = meaning_found b (decide b)
 
 -- what an item means by what it shows: a value by itself, a borrowed or owned document by its bytes
-abbrev pub shown_meaning : Shown → Meaning
-shown_meaning null = document trees.null
-shown_meaning (boolean b) = document (trees.boolean b)
-shown_meaning (number given x) = document (trees.number x)
-shown_meaning (text s) = document (trees.text s)
-shown_meaning (extension given e) = document (trees.extension e)
-shown_meaning (raw b) = meaning_of b
-shown_meaning (owned b) = meaning_of b
+abbrev pub view_meaning : ItemView → Meaning
+view_meaning null = document trees.null
+view_meaning (boolean b) = document (trees.boolean b)
+view_meaning (number given x) = document (trees.number x)
+view_meaning (text s) = document (trees.text s)
+view_meaning (extension given e) = document (trees.extension e)
+view_meaning (raw b) = meaning_of b
+view_meaning (owned b) = meaning_of b
 
 -- what the three types of values mean
 abbrev pub raw_meaning : RawJsonb → Meaning
@@ -40,4 +41,4 @@ abbrev pub owned_meaning : OwnedJsonb → Meaning
 owned_meaning value = meaning_of (owned_bytes value)
 
 abbrev pub item_meaning : JsonbItem → Meaning
-item_meaning item = shown_meaning (shown item)
+item_meaning item = view_meaning (item_view item)

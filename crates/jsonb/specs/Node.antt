@@ -1,9 +1,11 @@
 -- What a value in a document means, and what arrays and objects hold.
-use Rattle.std.specs.Prelude.{◌≡◌, ⊤, ℕ, List, [], ◌∷◌, length, nat_eq, Option, None, Some, slice_get}
+use Rattle.std.specs.Prelude.{◌≡◌, ⊤, ℕ, List, [], ◌∷◌, length, nat_eq, Option, None, Some}
+use Rattle.std.specs.Prelude.{slice_get}
 use Rattle.std.specs.Borrow.{Bor}
 use Rattle.std.specs.Cmp.Lexicographic.{pointwise}
 use Rattle.jsonb_value.specs.Tree as trees
-use Rattle.jsonb_value.specs.Tree.{Tree, Trees, no_trees, tree, Pairs, no_pairs, pair, array, object}
+use Rattle.jsonb_value.specs.Tree.{Tree, Trees, no_trees, tree, Pairs, no_pairs, pair, array}
+use Rattle.jsonb_value.specs.Tree.{object}
 use Rattle.jsonb_value.specs.Value.{trees_of}
 use Rattle.jsonb_value.specs.ExtCode.{extension_of}
 use Rattle.jsonb_codec.specs.declared.constants.TheConstants.{CONTAINER_TAG}

@@ -1,9 +1,11 @@
 -- What the payloads of strings, numbers and extension values mean, as functions of their bytes.
-use Rattle.std.specs.Prelude.{ℕ, ◌==◌, ◌%◌, if◌then◌else◌, Bool, false, List, [], ◌∷◌, length, Option, Some, None}
+use Rattle.std.specs.Prelude.{ℕ, ◌==◌, ◌%◌, if◌then◌else◌, Bool, false, List, [], ◌∷◌, length}
+use Rattle.std.specs.Prelude.{Option, Some, None}
 use Rattle.std.proofs.Common.{inl, inr}
 use Rattle.std.specs.Str.Lossy.{utf8_valid_len}
 use Rattle.jsonb_value.specs.declared.error.Error.{Error}
-use Rattle.jsonb_value.specs.declared.error.Error.TheVariants.{InvalidJsonbNumber, InvalidJsonbExtension}
+use Rattle.jsonb_value.specs.declared.error.Error.TheVariants.{InvalidJsonbNumber}
+use Rattle.jsonb_value.specs.declared.error.Error.TheVariants.{InvalidJsonbExtension}
 use Rattle.jsonb_value.specs.declared.number.Number.{Number}
 use Rattle.jsonb_value.specs.Tree.{Extension}
 use Rattle.jsonb_value.specs.NumCode.{NumCode}
@@ -15,17 +17,17 @@ abbrev pub is_text : List ℕ → Bool
 is_text bytes = utf8_valid_len bytes == length bytes
 
 -- what was found, if anything was
-abbrev pub found : {A : Type 0} (P : A → Type 0) → Decided ((x : A) × P x) → Option A
-found P (inl h) = Some h.0
-found P (inr none) = None
+abbrev pub witness_of : {A : Type 0} (P : A → Type 0) → Decided ((x : A) × P x) → Option A
+witness_of P (inl h) = Some h.0
+witness_of P (inr none) = None
 
 -- the number that a payload means
 unfoldable pub number_in : List ℕ → Option Number
-number_in p = found (NumCode p) (decide_number p)
+number_in p = witness_of (NumCode p) (decide_number p)
 
 -- the extension value that a payload means
 unfoldable pub extension_in : List ℕ → Option Extension
-extension_in p = found (ExtCode p) (decide_extension p)
+extension_in p = witness_of (ExtCode p) (decide_extension p)
 
 -- the first byte is one that an extension value can have
 abbrev pub has_known_tag : List ℕ → Bool

@@ -1,15 +1,17 @@
 -- The entries that stand in an array or an object, and their items.
-use Rattle.std.specs.Prelude.{◌≡◌, ◌<◌, ◌^◌, ◌==◌, ◌&&◌, ℕ, Bool, List, [], ◌∷◌, length, Option, None, option_map, Result, Ok}
+use Rattle.std.specs.Prelude.{◌≡◌, ◌<◌, ◌^◌, ◌==◌, ◌&&◌, ℕ, Bool, List, [], ◌∷◌, length, Option}
+use Rattle.std.specs.Prelude.{None, option_map, Result, Ok}
 use Rattle.std.specs.Map.{keys_of, values_of, lookup}
 use Rattle.jsonb_value.specs.declared.error.Error.{Error}
 use Rattle.jsonb_value.specs.Tree.{Tree, object, Trees, no_trees, tree, Pairs, no_pairs, pair}
 use Rattle.jsonb_codec.specs.Parts.{IsPayloadOf}
 use Rattle.jsonb.specs.Steps.{◌>>=◌}
-use Rattle.jsonb.specs.Shown.{Shown}
+use Rattle.jsonb.specs.ItemView.{ItemView}
 use Rattle.jsonb.specs.Item.{Entry, item_of}
 use Rattle.jsonb.specs.Building.{AreShort, array_of, key_codes, object_of}
 
--- The entries mean these trees, in order: each has its tree's type, and a payload that means the tree.
+-- The entries mean these trees, in order: each has its tree's type, and a payload that means the
+-- tree.
 abbrev pub AreCodesOf : List Entry → Trees → Type 0
 AreCodesOf [] ts = ts ≡ no_trees
 AreCodesOf (c ∷ cs) no_trees = ⊥
@@ -21,7 +23,8 @@ ArePairsOf [] [] ps = ps ≡ no_pairs
 ArePairsOf [] (c ∷ cs) ps = ⊥
 ArePairsOf (k ∷ ks) [] ps = ⊥
 ArePairsOf (k ∷ ks) (c ∷ cs) no_pairs = ⊥
-ArePairsOf (k ∷ ks) (c ∷ cs) (pair l t ps) = (k ≡ l) × (IsPayloadOf c.type c.payload t × ArePairsOf ks cs ps)
+ArePairsOf (k ∷ ks) (c ∷ cs) (pair l t ps) =
+    (k ≡ l) × (IsPayloadOf c.type c.payload t × ArePairsOf ks cs ps)
 
 -- The bytes are the array of these entries, which mean the trees.
 pub record HasItems (b : List ℕ) (ts : Trees) (entries : List Entry) : Type 0 where
@@ -39,19 +42,22 @@ pub record HasMembers (b : List ℕ) (ps : Pairs) (members : List (List ℕ × E
   pub written : b ≡ object_of (keys_of members) (values_of members)
 
 -- the item of an entry, by its type and its payload as they stand
-abbrev pub entry_item : Entry → Result Shown Error
+abbrev pub entry_item : Entry → Result ItemView Error
 entry_item entry = item_of entry.type entry.payload
 
 -- a key with the item of its entry
-abbrev pub member_item : List ℕ × Entry → Result (List ℕ × Shown) Error
+abbrev pub member_item : List ℕ × Entry → Result (List ℕ × ItemView) Error
 member_item member = entry_item member.1 >>= λ x. Ok (member.0, x)
 
 -- the entry at the first key that has the size and is accepted
 abbrev pub find_entry : (List ℕ → Bool) → ℕ → List (List ℕ × Entry) → Option Entry
 find_entry accepts size members = lookup (λ key. (length key == size) && accepts key) members
 
--- What is found in a document of the tree is the item of the entry that stands at that key, where there is one.
-abbrev pub IsFoundIn : (List ℕ → Bool) → ℕ → List ℕ → Tree → Option Shown → Type 0
+-- What is found in a document of the tree is the item of the entry that stands at that key, where
+-- there is one.
+abbrev pub IsFoundIn : (List ℕ → Bool) → ℕ → List ℕ → Tree → Option ItemView → Type 0
 IsFoundIn accepts size b (object ps) found =
-    (members : List (List ℕ × Entry)) × (HasMembers b ps members × (option_map entry_item (find_entry accepts size members) ≡ option_map Ok found))
+    (members : List (List ℕ × Entry))
+    × (HasMembers b ps members
+    × (option_map entry_item (find_entry accepts size members) ≡ option_map Ok found))
 IsFoundIn accepts size b t found = found ≡ None

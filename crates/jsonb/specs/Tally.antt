@@ -1,50 +1,61 @@
 -- What a builder of distinct items holds, whatever keeps it.
-use Rattle.std.specs.Prelude.{ℕ, Bool, Option, Some, is_some, List, if◌then◌else◌, ◌+◌, ◌-◌, ◌≡◌, ◌++◌, [], ◌∷◌, unwrap_or}
+use Rattle.std.specs.Prelude.{ℕ, Bool, Option, Some, is_some, List, if◌then◌else◌, ◌+◌, ◌-◌, ◌≡◌}
+use Rattle.std.specs.Prelude.{◌++◌, [], ◌∷◌, unwrap_or}
 use Rattle.std.specs.List.{list_any}
 use Rattle.std.specs.Map.{lookup}
 use Rattle.std.specs.Ordering.{on, eq_by_cmp}
 use Rattle.jsonb_value.specs.Meaning.{meaning_cmp}
 use Rattle.jsonb.specs.declared.item.JsonbItem.{JsonbItem}
-use Rattle.jsonb.specs.Shown.{Shown, shown}
-use Rattle.jsonb.specs.Meant.{shown_meaning}
+use Rattle.jsonb.specs.ItemView.{ItemView, item_view}
+use Rattle.jsonb.specs.Meant.{view_meaning}
 
--- the first of each class of equal items, in the order that they came, and counts of classes, in any order
+-- the first of each class of equal items, in the order that they came, and counts of classes, in
+-- any order
 pub record Tally : Type 0 where
-  pub list : List Shown
+  pub list : List ItemView
   pub counts : List (JsonbItem × ℕ)
 
 -- two items mean the same
-abbrev pub same_meaning : Shown → Shown → Bool
-same_meaning = eq_by_cmp (on shown_meaning meaning_cmp)
+abbrev pub same_meaning : ItemView → ItemView → Bool
+same_meaning = eq_by_cmp (on view_meaning meaning_cmp)
 
 -- an equal item is in the list
-abbrev pub has_equal : List Shown → Shown → Bool
+abbrev pub has_equal : List ItemView → ItemView → Bool
 has_equal list x = list_any (same_meaning x) list
 
 -- the count of the item's class, where it has one
-abbrev pub count_at : List (JsonbItem × ℕ) → Shown → Option ℕ
-count_at counts x = lookup (λ key. same_meaning x (shown key)) counts
+abbrev pub count_at : List (JsonbItem × ℕ) → ItemView → Option ℕ
+count_at counts x = lookup (λ key. same_meaning x (item_view key)) counts
 
 -- The counts are as before, but for the class of the item, which has n.
-abbrev pub SetsCount : List (JsonbItem × ℕ) → List (JsonbItem × ℕ) → Shown → ℕ → Type 0
-SetsCount old new x n = (item : JsonbItem) → count_at new (shown item) ≡ (if same_meaning x (shown item) then Some n else count_at old (shown item))
+abbrev pub SetsCount : List (JsonbItem × ℕ) → List (JsonbItem × ℕ) → ItemView → ℕ → Type 0
+SetsCount old new x n = (item : JsonbItem)
+    → count_at new (item_view item)
+    ≡ (if same_meaning x (item_view item) then Some n else count_at old (item_view item))
 
 -- A class has a count exactly if the list has one of it.
-abbrev pub Lists : List Shown → List (JsonbItem × ℕ) → Type 0
-Lists list counts = (item : JsonbItem) → is_some (count_at counts (shown item)) ≡ has_equal list (shown item)
+abbrev pub Lists : List ItemView → List (JsonbItem × ℕ) → Type 0
+Lists list counts = (item : JsonbItem)
+    → is_some (count_at counts (item_view item)) ≡ has_equal list (item_view item)
 
 -- how often the item's class counts
-abbrev pub count_of : Tally → Shown → ℕ
+abbrev pub count_of : Tally → ItemView → ℕ
 count_of tally x = unwrap_or (count_at tally.counts x) 0
 
 -- the list after an item came
-abbrev pub list_with : List Shown → Shown → List Shown
+abbrev pub list_with : List ItemView → ItemView → List ItemView
 list_with list x = if has_equal list x then list else list ++ x ∷ []
 
 -- The class of the item counts one more, and each other class as before,
-abbrev pub CountsOneMore : Tally → Tally → Shown → Type 0
-CountsOneMore old new x = (item : JsonbItem) → count_of new (shown item) ≡ (if same_meaning x (shown item) then count_of old (shown item) + 1 else count_of old (shown item))
+abbrev pub CountsOneMore : Tally → Tally → ItemView → Type 0
+CountsOneMore old new x = (item : JsonbItem)
+    → count_of new (item_view item)
+    ≡ (if same_meaning x (item_view item) then count_of old (item_view item) + 1
+    else count_of old (item_view item))
 
 -- or one less.
-abbrev pub CountsOneLess : Tally → Tally → Shown → Type 0
-CountsOneLess old new x = (item : JsonbItem) → count_of new (shown item) ≡ (if same_meaning x (shown item) then count_of old (shown item) - 1 else count_of old (shown item))
+abbrev pub CountsOneLess : Tally → Tally → ItemView → Type 0
+CountsOneLess old new x = (item : JsonbItem)
+    → count_of new (item_view item)
+    ≡ (if same_meaning x (item_view item) then count_of old (item_view item) - 1
+    else count_of old (item_view item))

@@ -26,13 +26,13 @@ abbrev pub plain_text : Meaning → List ℕ
 plain_text (document t) = compact t
 plain_text (other_bytes b) = other_text b
 
-abbrev pub shown_text : List ℕ → List ℕ
-shown_text b = plain_text (meaning_of b)
+abbrev pub display_text : List ℕ → List ℕ
+display_text b = plain_text (meaning_of b)
 
 -- and the pretty text of a document, else `null`.
 abbrev pub lined_text : Meaning → List ℕ
 lined_text (document t) = pretty t
 lined_text (other_bytes b) = codes "null"
 
-abbrev pub pretty_shown_text : List ℕ → List ℕ
-pretty_shown_text b = lined_text (meaning_of b)
+abbrev pub pretty_display_text : List ℕ → List ℕ
+pretty_display_text b = lined_text (meaning_of b)

@@ -1,9 +1,9 @@
 -- Items that hold bytes.
 use Rattle.std.specs.Prelude.{ℕ, List, []}
-use Rattle.jsonb.specs.Shown.{Shown, null, boolean, number, text, extension, raw, owned}
+use Rattle.jsonb.specs.ItemView.{ItemView, null, boolean, number, text, extension, raw, owned}
 
 -- the bytes that an item holds as a document
-abbrev pub bytes_in : Shown → List ℕ
+abbrev pub bytes_in : ItemView → List ℕ
 bytes_in null = []
 bytes_in (boolean b) = []
 bytes_in (number given x) = []

@@ -4,20 +4,20 @@ use Rattle.jsonb_value.specs.declared.error.Error.{Error}
 use Rattle.jsonb.specs.declared.item_type.JsonbItemType.{JsonbItemType}
 use Rattle.jsonb.specs.declared.item_type.JsonbItemType.TheVariants as kinds
 use Rattle.jsonb.specs.Kind.{kind}
-use Rattle.jsonb.specs.Shown.{Shown, null, boolean, number, text, extension, raw, owned}
+use Rattle.jsonb.specs.ItemView.{ItemView, null, boolean, number, text, extension, raw, owned}
 
 -- the kind: of documents that of their bytes
-abbrev pub kind_of_shown : Shown → Result JsonbItemType Error
-kind_of_shown null = Ok kinds.Null
-kind_of_shown (boolean b) = Ok kinds.Boolean
-kind_of_shown (number given x) = Ok kinds.Number
-kind_of_shown (text s) = Ok kinds.String
-kind_of_shown (extension given e) = Ok kinds.Extension
-kind_of_shown (raw b) = kind b
-kind_of_shown (owned b) = kind b
+abbrev pub kind_of_view : ItemView → Result JsonbItemType Error
+kind_of_view null = Ok kinds.Null
+kind_of_view (boolean b) = Ok kinds.Boolean
+kind_of_view (number given x) = Ok kinds.Number
+kind_of_view (text s) = Ok kinds.String
+kind_of_view (extension given e) = Ok kinds.Extension
+kind_of_view (raw b) = kind b
+kind_of_view (owned b) = kind b
 
 -- the bytes of a borrowed document
-abbrev pub raw_in : Shown → Option (List ℕ)
+abbrev pub raw_in : ItemView → Option (List ℕ)
 raw_in null = None
 raw_in (boolean b) = None
 raw_in (number given x) = None
@@ -27,7 +27,7 @@ raw_in (raw b) = Some b
 raw_in (owned b) = None
 
 -- the text of a string
-abbrev pub text_in : Shown → Option (List ℕ)
+abbrev pub text_in : ItemView → Option (List ℕ)
 text_in null = None
 text_in (boolean b) = None
 text_in (number given x) = None

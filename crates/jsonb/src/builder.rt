@@ -4,17 +4,21 @@ mod children;
 mod distinct;
 mod write;
 
-ghost use Rattle.std.specs.Prelude.{◌≡◌, ◌↔◌, ◌⊎◌, List, [], ◌∷◌, ◌++◌, ℕ, map, Err, IsTrue, IfOk, IfErr, OnOk, OnErr};
+ghost use Rattle.std.specs.Prelude.{◌≡◌, ◌↔◌, ◌⊎◌, List, [], ◌∷◌, ◌++◌, ℕ, map, Err, IsTrue, IfOk};
+ghost use Rattle.std.specs.Prelude.{IfErr, OnOk, OnErr};
 ghost use Rattle.jsonb_value.specs.Tree.{Trees, Pairs};
 ghost use Rattle.jsonb.specs.Raw.{raw_bytes};
 ghost use Rattle.jsonb.specs.Owned.{owned_bytes};
-ghost use Rattle.jsonb.specs.Shown.{Shown, shown};
-ghost use Rattle.jsonb.specs.Shown as items;
+ghost use Rattle.jsonb.specs.ItemView.{ItemView, item_view};
+ghost use Rattle.jsonb.specs.ItemView as items;
 ghost use Rattle.std.specs.Iterator.{IsFinite};
-ghost use Rattle.jsonb.specs.Building.{FitArray, IsArrayOf, has_key, with_pair, FitObject, IsObjectOf, AreKeys};
+ghost use Rattle.jsonb.specs.Building.{FitArray, IsArrayOf, has_key, with_pair, FitObject};
+ghost use Rattle.jsonb.specs.Building.{IsObjectOf, AreKeys};
 ghost use Rattle.std.specs.Map.{keys_of};
-ghost use Rattle.jsonb.specs.Children.{pairs_shown};
-ghost use Rattle.jsonb.specs.Built.{AllMean, AllMeanAt, IsArrayUpToZeros, IsObjectUpToZeros, IsArrayOfInputs, IsObjectOfInputs, MakeNoObject, input_pair, TakesAll, TakesUpTo};
+ghost use Rattle.jsonb.specs.Children.{pair_views};
+ghost use Rattle.jsonb.specs.Built.{AllMean, AllMeanAt, IsArrayUpToZeros, IsObjectUpToZeros};
+ghost use Rattle.jsonb.specs.Built.{IsArrayOfInputs, IsObjectOfInputs, MakeNoObject, input_pair};
+ghost use Rattle.jsonb.specs.Built.{TakesAll, TakesUpTo};
 
 use crate::item::JsonbItem;
 use crate::owned::OwnedJsonb;
@@ -33,9 +37,9 @@ pub struct ArrayBuilder<'a> {
 }
 
 impl<'a> Model for ArrayBuilder<'a> {
-    ghost Value = { List Shown };
+    ghost Value = { List ItemView };
 
-    ghost view = { λ s. map shown s.items.items };
+    ghost view = { λ s. map item_view s.items.items };
 }
 
 impl<'a> ArrayBuilder<'a> {
@@ -61,7 +65,7 @@ impl<'a> ArrayBuilder<'a> {
     /// Puts an item behind the others. Only memory can be refused: then the builder is as before,
     /// and the item is dropped.
     pub fn push_jsonb_item(&mut self, item: JsonbItem<'a>) -> Result<(), Error>
-        ensures pushed { OnOk result (self.new ≡ self.old ++ shown item.entry ∷ []) }
+        ensures pushed { OnOk result (self.new ≡ self.old ++ item_view item.entry ∷ []) }
         ensures err { OnErr result (self.new ≡ self.old) }
         ensures memory { IfErr result (λ e. e ≡ Error.OutOfMemory) }
     {
@@ -112,9 +116,9 @@ pub struct ObjectBuilder<'a> {
 }
 
 impl<'a> Model for ObjectBuilder<'a> {
-    ghost Value = { List (List ℕ × Shown) };
+    ghost Value = { List (List ℕ × ItemView) };
 
-    ghost view = { λ s. pairs_shown s.pairs.entries };
+    ghost view = { λ s. pair_views s.pairs.entries };
 }
 
 impl<'a> ObjectBuilder<'a> {
@@ -139,10 +143,13 @@ impl<'a> ObjectBuilder<'a> {
     /// is there; else only memory can be refused. After a refusal the builder is as before, and
     /// the item is dropped.
     pub fn push_jsonb_item(&mut self, key: &'a str, item: JsonbItem<'a>) -> Result<(), Error>
-        ensures pushed { OnOk result (self.new ≡ with_pair self.old key.entry.now (shown item.entry)) }
-        ensures duplicate { (result ≡ Err Error.ObjectDuplicateKey) ↔ IsTrue (has_key self.old key.entry.now) }
+        ensures pushed { OnOk result
+            (self.new ≡ with_pair self.old key.entry.now (item_view item.entry)) }
+        ensures duplicate { (result ≡ Err Error.ObjectDuplicateKey)
+            ↔ IsTrue (has_key self.old key.entry.now) }
         ensures err { OnErr result (self.new ≡ self.old) }
-        ensures only { IfErr result (λ e. (e ≡ Error.ObjectDuplicateKey) ⊎ (e ≡ Error.OutOfMemory)) }
+        ensures only { IfErr result
+            (λ e. (e ≡ Error.ObjectDuplicateKey) ⊎ (e ≡ Error.OutOfMemory)) }
     {
         if self.contains_key(key) {
             return Err(Error::ObjectDuplicateKey);
@@ -153,20 +160,26 @@ impl<'a> ObjectBuilder<'a> {
 
     /// Puts these bytes at a key, as `push_jsonb_item` does the item of them.
     pub fn push_raw_jsonb(&mut self, key: &'a str, raw: RawJsonb<'a>) -> Result<(), Error>
-        ensures pushed { OnOk result (self.new ≡ with_pair self.old key.entry.now (items.raw (raw_bytes raw.entry))) }
-        ensures duplicate { (result ≡ Err Error.ObjectDuplicateKey) ↔ IsTrue (has_key self.old key.entry.now) }
+        ensures pushed { OnOk result
+            (self.new ≡ with_pair self.old key.entry.now (items.raw (raw_bytes raw.entry))) }
+        ensures duplicate { (result ≡ Err Error.ObjectDuplicateKey)
+            ↔ IsTrue (has_key self.old key.entry.now) }
         ensures err { OnErr result (self.new ≡ self.old) }
-        ensures only { IfErr result (λ e. (e ≡ Error.ObjectDuplicateKey) ⊎ (e ≡ Error.OutOfMemory)) }
+        ensures only { IfErr result
+            (λ e. (e ≡ Error.ObjectDuplicateKey) ⊎ (e ≡ Error.OutOfMemory)) }
     {
         self.push_jsonb_item(key, JsonbItem::Raw(raw))
     }
 
     /// Puts these bytes at a key, as `push_jsonb_item` does the item of them.
     pub fn push_owned_jsonb(&mut self, key: &'a str, owned: OwnedJsonb) -> Result<(), Error>
-        ensures pushed { OnOk result (self.new ≡ with_pair self.old key.entry.now (items.owned (owned_bytes owned))) }
-        ensures duplicate { (result ≡ Err Error.ObjectDuplicateKey) ↔ IsTrue (has_key self.old key.entry.now) }
+        ensures pushed { OnOk result
+            (self.new ≡ with_pair self.old key.entry.now (items.owned (owned_bytes owned))) }
+        ensures duplicate { (result ≡ Err Error.ObjectDuplicateKey)
+            ↔ IsTrue (has_key self.old key.entry.now) }
         ensures err { OnErr result (self.new ≡ self.old) }
-        ensures only { IfErr result (λ e. (e ≡ Error.ObjectDuplicateKey) ⊎ (e ≡ Error.OutOfMemory)) }
+        ensures only { IfErr result
+            (λ e. (e ≡ Error.ObjectDuplicateKey) ⊎ (e ≡ Error.OutOfMemory)) }
     {
         self.push_jsonb_item(key, JsonbItem::Owned(owned))
     }
@@ -204,7 +217,8 @@ impl OwnedJsonb {
             → I.IntoIter.can_next it × IsFinite (I.IntoIter.remaining it) }
         ensures ok { IfOk result (λ owned. TakesAll I.into_iter_gives I.IntoIter.next_gives inputs
             (λ xs. IsArrayOfInputs (map raw_bytes xs) (owned_bytes owned))) }
-        ensures past { result ≡ Err Error.InvalidJsonb → TakesAll I.into_iter_gives I.IntoIter.next_gives inputs
+        ensures past { result ≡ Err Error.InvalidJsonb
+            → TakesAll I.into_iter_gives I.IntoIter.next_gives inputs
             (λ xs. FitArray (map (λ x. items.raw (raw_bytes x)) xs) → ⊥) }
         ensures only { IfErr result (λ e. (e ≡ Error.InvalidJsonb) ⊎ (e ≡ Error.OutOfMemory)) }
     {
@@ -230,9 +244,11 @@ impl OwnedJsonb {
             → I.IntoIter.can_next it × IsFinite (I.IntoIter.remaining it) }
         ensures ok { IfOk result (λ owned. TakesAll I.into_iter_gives I.IntoIter.next_gives inputs
             (λ xs. IsObjectOfInputs (map input_pair xs) (owned_bytes owned))) }
-        ensures past { result ≡ Err Error.InvalidJsonb → TakesAll I.into_iter_gives I.IntoIter.next_gives inputs
+        ensures past { result ≡ Err Error.InvalidJsonb
+            → TakesAll I.into_iter_gives I.IntoIter.next_gives inputs
             (λ xs. MakeNoObject (map input_pair xs)) }
-        ensures duplicate { result ≡ Err Error.ObjectDuplicateKey → TakesUpTo I.into_iter_gives I.IntoIter.next_gives inputs
+        ensures duplicate { result ≡ Err Error.ObjectDuplicateKey
+            → TakesUpTo I.into_iter_gives I.IntoIter.next_gives inputs
             (λ xs x. IsTrue (has_key (map input_pair xs) x.0.now)) }
         ensures only { IfErr result (λ e. (e ≡ Error.InvalidJsonb)
             ⊎ ((e ≡ Error.ObjectDuplicateKey) ⊎ (e ≡ Error.OutOfMemory))) }

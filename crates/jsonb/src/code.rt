@@ -1,13 +1,14 @@
 //! With what values are stored: the type of an entry, and its payload.
 
-ghost use Rattle.std.specs.Prelude.{◌≡◌, ◌≤◌, ◌<◌, ◌+◌, ◌^◌, ◌⊎◌, Err, length, option_map, IfOk, IfErr, OnOk};
+ghost use Rattle.std.specs.Prelude.{◌≡◌, ◌≤◌, ◌<◌, ◌+◌, ◌^◌, ◌⊎◌, Err, length, option_map, IfOk};
+ghost use Rattle.std.specs.Prelude.{IfErr, OnOk};
 ghost use Rattle.std.specs.Str.{IsUtf8};
 ghost use Rattle.jsonb_codec.specs.Word.{word};
-ghost use Rattle.jsonb_codec.specs.Room.{HasRoom, Appended};
-ghost use Rattle.jsonb.specs.Shown.{shown};
+ghost use Rattle.jsonb_codec.specs.Room.{HasRoom, AppendsBytes};
+ghost use Rattle.jsonb.specs.ItemView.{item_view};
 ghost use Rattle.jsonb.specs.Entries.{entry_of};
 ghost use Rattle.jsonb.specs.Stored.{scalar_entry, document_code, code_of, IsHeld};
-ghost use Rattle.jsonb.specs.Code.{scalar_bytes, payload_bytes, shown_code};
+ghost use Rattle.jsonb.specs.Code.{scalar_bytes, payload_bytes, code_view};
 
 use crate::entries::{Entries, Entry};
 use crate::item::{JsonbItem, text_of};
@@ -45,7 +46,7 @@ impl Payload<'_> {
     pub fn append_to(&self, out: &mut Vec<u8>)
         requires short { length (payload_bytes self.now) < 2 ^ 28 }
         requires room { HasRoom out.old (payload_bytes self.now) }
-        ensures { Appended out.old out.new (payload_bytes self.now) }
+        ensures { AppendsBytes out.old out.new (payload_bytes self.now) }
     {
         match self {
             Payload::Bytes(bytes) => append_bytes(out, bytes),
@@ -75,9 +76,11 @@ impl Code<'_> {
     #[inline(always)]
     pub fn append_entry_to(&self, out: &mut Vec<u8>)
         requires type_code { self.now.type_code ≤ 0x60000000 }
-        requires short { length (shown_code self.now).payload < 2 ^ 28 }
-        requires room { HasRoom out.old (word ((shown_code self.now).type + length (shown_code self.now).payload)) }
-        ensures { Appended out.old out.new (word ((shown_code self.now).type + length (shown_code self.now).payload)) }
+        requires short { length (code_view self.now).payload < 2 ^ 28 }
+        requires room { HasRoom out.old
+            (word ((code_view self.now).type + length (code_view self.now).payload)) }
+        ensures { AppendsBytes out.old out.new
+            (word ((code_view self.now).type + length (code_view self.now).payload)) }
     {
         append_word(out, self.type_code + self.payload.len() as u32);
     }
@@ -86,7 +89,7 @@ impl Code<'_> {
 #[inline(always)]
 fn append_bytes(out: &mut Vec<u8>, bytes: &[u8])
     requires { HasRoom out.old bytes.now }
-    ensures { Appended out.old out.new bytes.now }
+    ensures { AppendsBytes out.old out.new bytes.now }
 {
     let Ok(()) = out.extend_from_slice(bytes) else {
         unreachable!();
@@ -98,7 +101,7 @@ fn append_bytes(out: &mut Vec<u8>, bytes: &[u8])
 #[inline(always)]
 pub fn append_word(out: &mut Vec<u8>, number: u32)
     requires { HasRoom out.old (word number) }
-    ensures { Appended out.old out.new (word number) }
+    ensures { AppendsBytes out.old out.new (word number) }
 {
     append_bytes(out, &number.to_be_bytes());
 }
@@ -108,7 +111,8 @@ pub fn append_word(out: &mut Vec<u8>, number: u32)
 #[tactic(auto, unfolding(jsonb_codec::specs::Word::word))]
 pub fn scalar_document(alloc: Global, code: Code) -> Result<Vec<u8>, Error>
     requires { code.type_code ≤ 0x60000000 }
-    ensures ok { IfOk result (λ v. v.items ≡ scalar_bytes code.entry.type_code (payload_bytes code.entry.payload)) }
+    ensures ok { IfOk result
+        (λ v. v.items ≡ scalar_bytes code.entry.type_code (payload_bytes code.entry.payload)) }
     ensures fits { OnOk result (length (payload_bytes code.entry.payload) < 2 ^ 28) }
     ensures past { result ≡ Err Error.InvalidJsonb
         → 2 ^ 28 ≤ length (payload_bytes code.entry.payload) }
@@ -132,7 +136,7 @@ pub fn scalar_document(alloc: Global, code: Code) -> Result<Vec<u8>, Error>
 #[inline(always)]
 pub fn text_code(text: &str) -> Code
     ensures type_code { result.type_code ≡ STRING_TAG }
-    ensures payload { (shown_code result).payload ≡ text.now }
+    ensures payload { (code_view result).payload ≡ text.now }
     ensures held { IsUtf8 text.now }
 {
     Code {
@@ -144,8 +148,8 @@ pub fn text_code(text: &str) -> Code
 /// With what an item is stored, where it can be: bytes that were given as they were given.
 #[inline(always)]
 pub fn item_code<'s>(item: &'s JsonbItem<'_>) -> Code<'s>
-    ensures code { shown_code result ≡ code_of (shown item.now) }
-    ensures held { IsHeld (shown item.now) }
+    ensures code { code_view result ≡ code_of (item_view item.now) }
+    ensures held { IsHeld (item_view item.now) }
 {
     let (type_code, payload) = match item {
         JsonbItem::Null => (NULL_TAG, Payload::Bytes(&[])),
@@ -163,7 +167,7 @@ pub fn item_code<'s>(item: &'s JsonbItem<'_>) -> Code<'s>
 // With what a document is stored: a scalar with its entry, an array or object whole.
 #[inline(always)]
 fn document_code(bytes: &[u8]) -> Code<'_>
-    ensures { shown_code result ≡ document_code bytes.now }
+    ensures { code_view result ≡ document_code bytes.now }
 {
     match scalar_entry(bytes) {
         Some(entry) => Code {

@@ -1,6 +1,7 @@
 //! Values that are encoded and then asked about in place: by the contracts of the calls alone.
 
-ghost use Rattle.std.specs.Prelude.{◌≡◌, ◌⊎◌, nat_eq, length, option_map, Err, IfOk, IfErr, IsOkAnd};
+ghost use Rattle.std.specs.Prelude.{◌≡◌, ◌⊎◌, nat_eq, length, option_map, Err, IfOk, IfErr};
+ghost use Rattle.std.specs.Prelude.{IsOkAnd};
 ghost use Rattle.std.specs.Cmp.Lexicographic.{pointwise};
 ghost use Rattle.jsonb_value.specs.Norm.{norm};
 ghost use Rattle.jsonb_value.specs.Tree.{Tree};
@@ -11,7 +12,7 @@ ghost use Rattle.jsonb.specs.Raw.{raw_bytes};
 ghost use Rattle.jsonb.specs.Asked.{AnswersOf};
 ghost use Rattle.jsonb.specs.Lookup.{find, IsItemFound};
 ghost use Rattle.jsonb.specs.Standing.{IsFoundIn};
-ghost use Rattle.jsonb.specs.Shown.{shown};
+ghost use Rattle.jsonb.specs.ItemView.{item_view};
 
 use crate::item::JsonbItem;
 use crate::item_type::JsonbItemType;
@@ -95,11 +96,12 @@ pub fn ask<'a>(
 // The value of the key that is the name.
 fn find_by_name<'a>(raw: RawJsonb<'a>, name: &str) -> Result<Option<JsonbItem<'a>>, Error>
     ensures value { (t : Tree) → Doc (raw_bytes raw.entry) t
-        → IsOkAnd result (λ found. IsItemFound (find (pointwise nat_eq name.now) (length name.now) t)
-        (option_map shown found)) }
+        → IsOkAnd result
+        (λ found. IsItemFound (find (pointwise nat_eq name.now) (length name.now) t)
+        (option_map item_view found)) }
     ensures entry { (t : Tree) → Doc (raw_bytes raw.entry) t
         → IsOkAnd result (λ found. IsFoundIn (pointwise nat_eq name.now) (length name.now)
-        (raw_bytes raw.entry) t (option_map shown found)) }
+        (raw_bytes raw.entry) t (option_map item_view found)) }
 {
     raw.get_object_value_by_key_name(name, |wanted, key| wanted == key)
 }

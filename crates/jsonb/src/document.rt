@@ -40,7 +40,9 @@ pub enum Contents<'a> {
 }
 
 impl<'a> Document<'a> {
-    ghost use Rattle.std.specs.Prelude.{◌≡◌, ◌↔◌, ◌<◌, ◌^◌, length, nat_eq, None, Some, IfOk, IfErr, IfSome, IsSome, MatchOption, option_map, string_bytes};
+    ghost use Rattle.std.specs.Prelude.{◌≡◌, ◌↔◌, ◌<◌, ◌^◌, length, nat_eq, None, Some, IfOk};
+    ghost use Rattle.std.specs.Prelude.{IfErr, IfSome, IsSome, MatchOption, option_map};
+    ghost use Rattle.std.specs.Prelude.{string_bytes};
     ghost use Rattle.std.specs.Cmp.Lexicographic.{pointwise};
     ghost use Rattle.jsonb_value.specs.Text.{compact, pretty};
     ghost use Rattle.jsonb_value.specs.Tree.{Tree, Pairs};
@@ -53,7 +55,8 @@ impl<'a> Document<'a> {
     ghost use Rattle.jsonb.specs.Kind.{kind_of_tree};
     ghost use Rattle.jsonb.specs.Known.{trees_left, pairs_left};
     ghost use Rattle.jsonb.specs.Lookup.{find_pair};
-    ghost use Rattle.jsonb.specs.Node.{node_tree, value_of_key, items_of, item_at_index, members_of, IsContainer, HoldsNoScalar};
+    ghost use Rattle.jsonb.specs.Node.{node_tree, value_of_key, items_of, item_at_index};
+    ghost use Rattle.jsonb.specs.Node.{members_of, IsContainer, HoldsNoScalar};
     ghost use Rattle.jsonb.specs.Raw.{raw_bytes};
 
     /// The bytes as a document. `None` where they are none.

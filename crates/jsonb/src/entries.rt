@@ -1,9 +1,11 @@
 //! Entry words and their payloads, at the places where they stand.
 
-ghost use Rattle.std.specs.Prelude.{◌≡◌, ◌≤◌, ◌<◌, ◌+◌, ◌*◌, ◌^◌, List, [], length, Result, Ok, IfOk, IfSome};
+ghost use Rattle.std.specs.Prelude.{◌≡◌, ◌≤◌, ◌<◌, ◌+◌, ◌*◌, ◌^◌, List, [], length, Result, Ok};
+ghost use Rattle.std.specs.Prelude.{IfOk, IfSome};
 ghost use Rattle.std.specs.Iterator.{YieldsFirstBy};
 ghost use Rattle.jsonb_value.specs.declared.error.Error.{Error};
-ghost use Rattle.jsonb_codec.specs.declared.constants.TheConstants.{ARRAY_CONTAINER_TAG, OBJECT_CONTAINER_TAG};
+ghost use Rattle.jsonb_codec.specs.declared.constants.TheConstants.{ARRAY_CONTAINER_TAG};
+ghost use Rattle.jsonb_codec.specs.declared.constants.TheConstants.{OBJECT_CONTAINER_TAG};
 ghost use Rattle.jsonb.specs.Item.{Entry as ItemEntry, entry_at};
 ghost use Rattle.jsonb.specs.Entries.{shown_entry};
 ghost use Rattle.jsonb.specs.Known.{AreParts, entry_of_part};
@@ -38,7 +40,8 @@ impl<'a> Entries<'a> {
     #[tactic(auto, unfolding(crate::specs::Item::entry_at, crate::specs::Item::part_at))]
     pub fn first(&self) -> Result<Entry<'a>, Error>
         requires { self.now.start ≤ 2 ^ 63 }
-        ensures entry { shown_entry result ≡ entry_at self.now.bytes.now self.now.place self.now.start }
+        ensures entry { shown_entry result
+            ≡ entry_at self.now.bytes.now self.now.place self.now.start }
         ensures short { IfOk result (λ entry. length entry.payload.now < 2 ^ 32) }
     {
         let jentry = read_jentry(self.bytes, self.place)?;
@@ -84,7 +87,8 @@ impl<'a> Model for Cursor<'a> {
 
     ghost view = { λ s. entries_from s.bytes.now s.left s.place s.start };
 
-    ghost invariant = { λ s. (s.place + 4 * s.left ≤ 2 ^ 34) × (s.start + 2 ^ 32 * s.left ≤ 2 ^ 63) };
+    ghost invariant = { λ s. (s.place + 4 * s.left ≤ 2 ^ 34)
+        × (s.start + 2 ^ 32 * s.left ≤ 2 ^ 63) };
 }
 
 impl<'a> Cursor<'a> {
@@ -159,7 +163,8 @@ impl<'a> Cursor<'a> {
     #[inline(always)]
     pub fn next_part(&mut self) -> Option<Part<'a>>
         requires { AreParts self.old }
-        ensures steps { YieldsFirstBy (λ part. Ok (entry_of_part part)) (λ it. it) self.old result self.new }
+        ensures steps { YieldsFirstBy (λ part. Ok (entry_of_part part))
+            (λ it. it) self.old result self.new }
         ensures others { AreParts self.new }
     {
         match self.next() {

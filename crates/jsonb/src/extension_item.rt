@@ -20,9 +20,9 @@ impl<'a> ExtensionItem<'a> {
     ghost use Rattle.std.specs.Prelude.{◌≡◌, IfOk, IfErr, OnErr, Some, None};
     ghost use Rattle.jsonb_value.specs.Tree.{Extension};
     ghost use Rattle.jsonb_value.specs.ExtCode.{ExtCode, extension_of};
-    ghost use Rattle.jsonb.specs.Held.{extension_given, extension_held};
+    ghost use Rattle.jsonb.specs.ItemValues.{extension_source, extension_of_item};
     ghost use Rattle.jsonb.specs.Payloads.{extension_error};
-    ghost use Rattle.jsonb.specs.Shown.{extension};
+    ghost use Rattle.jsonb.specs.ItemView.{extension};
     ghost use Rattle.jsonb.specs.Stored.{IsHeld};
     ghost use Rattle.jsonb.specs.Code.{stored_extension, payload_bytes};
 
@@ -30,8 +30,8 @@ impl<'a> ExtensionItem<'a> {
     /// `InvalidJsonbNumber` for a known first byte, `InvalidJsonbExtension` for another first
     /// byte and for no bytes.
     pub fn from_bytes(bytes: &'a [u8]) -> Result<ExtensionItem<'a>, Error>
-        ensures ok { IfOk result (λ item. ExtCode bytes.entry.now (extension_held item)) }
-        ensures given { IfOk result (λ item. extension_given item ≡ Some bytes.entry.now) }
+        ensures ok { IfOk result (λ item. ExtCode bytes.entry.now (extension_of_item item)) }
+        ensures given { IfOk result (λ item. extension_source item ≡ Some bytes.entry.now) }
         ensures none { OnErr result ((e : Extension) → ExtCode bytes.entry.now e → ⊥) }
         ensures err { IfErr result (λ e. e ≡ extension_error bytes.entry.now) }
     {
@@ -44,23 +44,24 @@ impl<'a> ExtensionItem<'a> {
 
     /// This extension value, by value.
     pub fn from_value(value: ExtensionValue<'a>) -> ExtensionItem<'a>
-        ensures value { extension_held result ≡ extension_of value.entry }
-        ensures given { extension_given result ≡ None }
+        ensures value { extension_of_item result ≡ extension_of value.entry }
+        ensures given { extension_source result ≡ None }
     {
         ExtensionItem { value, given: None }
     }
 
     /// The extension value.
     pub fn as_extension_value(&self) -> ExtensionValue<'a>
-        ensures { extension_of result ≡ extension_held self.now }
+        ensures { extension_of result ≡ extension_of_item self.now }
     {
         self.value
     }
 
     /// The payload to store: the bytes as they were given, else those that are written.
     pub(crate) fn payload(&self) -> Payload<'a>
-        ensures bytes { payload_bytes result ≡ stored_extension (extension_given self.now) (extension_held self.now) }
-        ensures held { IsHeld (extension (extension_given self.now) (extension_held self.now)) }
+        ensures bytes { payload_bytes result
+            ≡ stored_extension (extension_source self.now) (extension_of_item self.now) }
+        ensures held { IsHeld (extension (extension_source self.now) (extension_of_item self.now)) }
     {
         match self.given {
             Some(bytes) => Payload::Bytes(bytes),

@@ -1,16 +1,18 @@
 //! Values as they are handed out and stored: scalars, and documents by their bytes.
 
-ghost use Rattle.std.specs.Prelude.{◌≡◌, ◌≢◌, ◌↔◌, ◌⊎◌, None, Some, Ok, Err, option_map, IfOk, IfErr, IsOkAnd, IsSome, OnOk};
+ghost use Rattle.std.specs.Prelude.{◌≡◌, ◌≢◌, ◌↔◌, ◌⊎◌, None, Some, Ok, Err, option_map, IfOk};
+ghost use Rattle.std.specs.Prelude.{IfErr, IsOkAnd, IsSome, OnOk};
 ghost use Rattle.jsonb_value.specs.Tree.{Tree};
 ghost use Rattle.jsonb_value.specs.Value.{cow_bytes};
 ghost use Rattle.jsonb_codec.specs.Doc.{Doc, type_of};
 ghost use Rattle.jsonb.specs.Raw.{raw_bytes};
-ghost use Rattle.jsonb.specs.Shown.{Shown, shown, shown_item, null};
-ghost use Rattle.jsonb.specs.Item.{item_in, item_of, scalar_item, text_item, number_item, extension_item};
+ghost use Rattle.jsonb.specs.ItemView.{ItemView, item_view, result_view, null};
+ghost use Rattle.jsonb.specs.Item.{item_in, item_of, scalar_item, text_item, number_item};
+ghost use Rattle.jsonb.specs.Item.{extension_item};
 ghost use Rattle.jsonb.specs.Entries.{entry_of};
-ghost use Rattle.jsonb.specs.Code.{stored, CanBeStored};
+ghost use Rattle.jsonb.specs.Code.{item_document, CanBeStored};
 ghost use Rattle.jsonb.specs.Walked.{IsItemIn};
-ghost use Rattle.jsonb.specs.Views.{kind_of_shown, raw_in, text_in};
+ghost use Rattle.jsonb.specs.Views.{kind_of_view, raw_in, text_in};
 
 use crate::entries::{Entries, Entry};
 use crate::extension_item::ExtensionItem;
@@ -49,14 +51,14 @@ impl<'a> JsonbItem<'a> {
     /// scalar's header; `InvalidUtf8`, `InvalidJsonbNumber` and `InvalidJsonbExtension` by what
     /// the payload is.
     pub fn from_raw_jsonb(raw: RawJsonb<'a>) -> Result<JsonbItem<'a>, Error>
-        ensures item { shown_item result ≡ item_in (raw_bytes raw.entry) }
+        ensures item { result_view result ≡ item_in (raw_bytes raw.entry) }
 
         // Of a document it is the item of its tree, with no error, and stored as these bytes again.
         ensures document { (t : Tree) → Doc (raw_bytes raw.entry) t
-            → IsOkAnd result (λ item. IsItemIn t (raw_bytes raw.entry) (shown item)) }
+            → IsOkAnd result (λ item. IsItemIn t (raw_bytes raw.entry) (item_view item)) }
         ensures again { (t : Tree) → Doc (raw_bytes raw.entry) t
-            → IsOkAnd result (λ item. (stored (shown item) ≡ raw_bytes raw.entry)
-            × CanBeStored (shown item)) }
+            → IsOkAnd result (λ item. (item_document (item_view item) ≡ raw_bytes raw.entry)
+            × CanBeStored (item_view item)) }
     {
         item_of_bytes(raw)
     }
@@ -64,7 +66,7 @@ impl<'a> JsonbItem<'a> {
     /// The kind: by the variant, for `Raw` and `Owned` that of their bytes, with
     /// `RawJsonb::jsonb_item_type`'s refusals.
     pub fn jsonb_item_type(&self) -> Result<JsonbItemType, Error>
-        ensures { result ≡ kind_of_shown (shown self.now) }
+        ensures { result ≡ kind_of_view (item_view self.now) }
     {
         match self {
             JsonbItem::Null => Ok(JsonbItemType::Null),
@@ -79,7 +81,7 @@ impl<'a> JsonbItem<'a> {
 
     /// The bytes of a `Raw`. `None` for every other variant.
     pub fn as_raw_jsonb(&self) -> Option<RawJsonb<'a>>
-        ensures { option_map raw_bytes result ≡ raw_in (shown self.now) }
+        ensures { option_map raw_bytes result ≡ raw_in (item_view self.now) }
     {
         match self {
             JsonbItem::Raw(raw) => Some(*raw),
@@ -89,7 +91,7 @@ impl<'a> JsonbItem<'a> {
 
     /// Whether this is `Null`.
     pub fn as_null(&self) -> Option<()>
-        ensures { IsSome result ↔ (shown self.now ≡ null) }
+        ensures { IsSome result ↔ (item_view self.now ≡ null) }
     {
         match self {
             JsonbItem::Null => Some(()),
@@ -100,7 +102,8 @@ impl<'a> JsonbItem<'a> {
     /// The text of a `String`: borrowed where the item borrows it, else a copy. `None` for every
     /// other variant. Only memory can be refused.
     pub fn as_str(&self, alloc: Global) -> Result<Option<CowStr<'a>>, Error>
-        ensures ok { IfOk result (λ text. option_map cow_bytes text ≡ text_in (shown self.now)) }
+        ensures ok { IfOk result
+            (λ text. option_map cow_bytes text ≡ text_in (item_view self.now)) }
         ensures memory { IfErr result (λ e. e ≡ Error.OutOfMemory) }
     {
         match self {
@@ -112,7 +115,7 @@ impl<'a> JsonbItem<'a> {
     /// The same item: owned bytes and texts are copied, borrowed ones borrowed again. Only memory
     /// can be refused.
     pub fn clone(&self, alloc: Global) -> Result<JsonbItem<'a>, Error>
-        ensures ok { IfOk result (λ item. shown item ≡ shown self.now) }
+        ensures ok { IfOk result (λ item. item_view item ≡ item_view self.now) }
         ensures memory { IfErr result (λ e. e ≡ Error.OutOfMemory) }
     {
         match self {
@@ -153,7 +156,7 @@ fn clone_text<'a>(text: &CowStr<'a>, alloc: Global) -> Result<CowStr<'a>, Error>
 /// `InvalidJsonb` for a type of no meaning.
 #[tactic(auto, unfolding(crate::specs::Item::item_of))]
 pub fn item_of_entry<'a>(entry: Entry<'a>) -> Result<JsonbItem<'a>, Error>
-    ensures { shown_item result ≡ item_of entry.entry.type_code entry.entry.payload.now }
+    ensures { result_view result ≡ item_of entry.entry.type_code entry.entry.payload.now }
 {
     match entry.type_code {
         NULL_TAG => Ok(JsonbItem::Null),
@@ -170,7 +173,7 @@ pub fn item_of_entry<'a>(entry: Entry<'a>) -> Result<JsonbItem<'a>, Error>
 // The same under a scalar's header, where no container can stand.
 #[tactic(auto, unfolding(crate::specs::Item::scalar_item))]
 fn scalar_item<'a>(entry: Entry<'a>) -> Result<JsonbItem<'a>, Error>
-    ensures { shown_item result ≡ scalar_item (entry_of entry.entry) }
+    ensures { result_view result ≡ scalar_item (entry_of entry.entry) }
 {
     if entry.type_code == CONTAINER_TAG {
         return Err(Error::InvalidJsonb);
@@ -180,7 +183,7 @@ fn scalar_item<'a>(entry: Entry<'a>) -> Result<JsonbItem<'a>, Error>
 
 #[tactic(auto, using(crate::proofs::Utf8::is_text_yes, crate::proofs::Utf8::is_text_no))]
 fn text_item<'a>(bytes: &'a [u8]) -> Result<JsonbItem<'a>, Error>
-    ensures { shown_item result ≡ text_item bytes.now }
+    ensures { result_view result ≡ text_item bytes.now }
 {
     match str::from_utf8(bytes) {
         Ok(text) => Ok(JsonbItem::String(CowStr::Borrowed(text))),
@@ -189,13 +192,13 @@ fn text_item<'a>(bytes: &'a [u8]) -> Result<JsonbItem<'a>, Error>
 }
 
 fn number_item<'a>(bytes: &'a [u8]) -> Result<JsonbItem<'a>, Error>
-    ensures { shown_item result ≡ number_item bytes.now }
+    ensures { result_view result ≡ number_item bytes.now }
 {
     Ok(JsonbItem::Number(NumberItem::from_bytes(bytes)?))
 }
 
 fn extension_item<'a>(bytes: &'a [u8]) -> Result<JsonbItem<'a>, Error>
-    ensures { shown_item result ≡ extension_item bytes.now }
+    ensures { result_view result ≡ extension_item bytes.now }
 {
     Ok(JsonbItem::Extension(ExtensionItem::from_bytes(bytes)?))
 }
@@ -203,7 +206,7 @@ fn extension_item<'a>(bytes: &'a [u8]) -> Result<JsonbItem<'a>, Error>
 // The item that bytes hold.
 #[tactic(auto, unfolding(crate::specs::Item::item_in))]
 fn item_of_bytes<'a>(raw: RawJsonb<'a>) -> Result<JsonbItem<'a>, Error>
-    ensures { shown_item result ≡ item_in (raw_bytes raw.entry) }
+    ensures { result_view result ≡ item_in (raw_bytes raw.entry) }
 {
     let bytes = raw.as_bytes();
     let (tag, _) = read_header(bytes, 0)?;

@@ -1,15 +1,20 @@
 //! What a container holds, one after the other, where it stands.
 
-ghost use Rattle.std.specs.Prelude.{◌≡◌, ℕ, ◌+◌, ◌*◌, ◌^◌, ◌<◌, ◌≤◌, List, [], Ok, length, IfOk, IfErr, IfSome};
+ghost use Rattle.std.specs.Prelude.{◌≡◌, ℕ, ◌+◌, ◌*◌, ◌^◌, ◌<◌, ◌≤◌, List, [], Ok, length, IfOk};
+ghost use Rattle.std.specs.Prelude.{IfErr, IfSome};
 ghost use Rattle.std.specs.Iterator.{YieldsFirstBy, MakesProgress, item_count};
-ghost use Rattle.jsonb_codec.specs.declared.constants.TheConstants.{ARRAY_CONTAINER_TAG, OBJECT_CONTAINER_TAG};
+ghost use Rattle.jsonb_codec.specs.declared.constants.TheConstants.{ARRAY_CONTAINER_TAG};
+ghost use Rattle.jsonb_codec.specs.declared.constants.TheConstants.{OBJECT_CONTAINER_TAG};
 ghost use Rattle.jsonb.specs.Raw.{raw_bytes};
-ghost use Rattle.jsonb.specs.Shown.{Shown, shown, shown_item, shown_pair};
+ghost use Rattle.jsonb.specs.ItemView.{ItemView, item_view, result_view, pair_view};
 ghost use Rattle.jsonb.specs.Item.{item_at};
-ghost use Rattle.jsonb.specs.Walk.{Walk, length_at, items_from, count_under, key_at, pair_at, pairs_from, array_walk, keys_walk, values_walk, pairs_walk, payloads_end, IsBounded};
+ghost use Rattle.jsonb.specs.Walk.{Walk, length_at, items_from, count_under, key_at, pair_at};
+ghost use Rattle.jsonb.specs.Walk.{pairs_from, array_walk, keys_walk, values_walk, pairs_walk};
+ghost use Rattle.jsonb.specs.Walk.{payloads_end, IsBounded};
 ghost use Rattle.jsonb_value.specs.Tree.{Tree};
 ghost use Rattle.jsonb_codec.specs.Doc.{Doc};
-ghost use Rattle.jsonb.specs.Walked.{WalksArray, WalksKeys, WalksValues, WalksPairs, WalksItems, WalksValueItems, WalksMembers};
+ghost use Rattle.jsonb.specs.Walked.{WalksArray, WalksKeys, WalksValues, WalksPairs, WalksItems};
+ghost use Rattle.jsonb.specs.Walked.{WalksValueItems, WalksMembers};
 
 use crate::entries::Entries;
 use crate::item::{JsonbItem, item_of_entry};
@@ -29,11 +34,17 @@ struct Items<'a> {
 }
 
 impl<'a> Model for Items<'a> {
-    ghost Value = { Walk Shown };
+    ghost Value = { Walk ItemView };
 
-    ghost view = { λ s. record { count = s.count; rest = items_from s.entries.bytes.now s.left s.entries.place s.entries.start } };
+    ghost view = { λ s.
+        record {
+          count = s.count;
+          rest =
+              items_from s.entries.bytes.now s.left s.entries.place s.entries.start;
+        } };
 
-    ghost invariant = { λ s. (s.entries.place + 4 * s.left ≤ 2 ^ 34) × (s.entries.start + 2 ^ 32 * s.left ≤ 2 ^ 63) };
+    ghost invariant = { λ s. (s.entries.place + 4 * s.left ≤ 2 ^ 34)
+        × (s.entries.start + 2 ^ 32 * s.left ≤ 2 ^ 63) };
 }
 
 // An item, and the entries behind its own.
@@ -48,12 +59,17 @@ struct Placed<'a> {
 fn first_item<'a>(entries: Entries<'a>) -> Result<Placed<'a>, Error>
     requires place { entries.place ≤ 2 ^ 34 }
     requires start { entries.start ≤ 2 ^ 63 }
-    ensures ok { IfOk result (λ x. item_at entries.entry.bytes.now entries.entry.place entries.entry.start ≡ Ok (shown x.item)) }
+    ensures ok { IfOk result
+        (λ x. item_at entries.entry.bytes.now entries.entry.place entries.entry.start
+        ≡ Ok (item_view x.item)) }
     ensures bytes { IfOk result (λ x. x.behind.bytes.now ≡ entries.entry.bytes.now) }
     ensures place { IfOk result (λ x. x.behind.place ≡ entries.entry.place + 4) }
-    ensures start { IfOk result (λ x. x.behind.start ≡ entries.entry.start + length_at entries.entry.bytes.now entries.entry.place entries.entry.start) }
+    ensures start { IfOk result
+        (λ x. x.behind.start ≡ entries.entry.start
+        + length_at entries.entry.bytes.now entries.entry.place entries.entry.start) }
     ensures near { IfOk result (λ x. x.behind.start < entries.entry.start + 2 ^ 32) }
-    ensures err { IfErr result (λ e. item_at entries.entry.bytes.now entries.entry.place entries.entry.start ≡ Err e) }
+    ensures err { IfErr result
+        (λ e. item_at entries.entry.bytes.now entries.entry.place entries.entry.start ≡ Err e) }
 {
     let entry = entries.first()?;
     let item = item_of_entry(entry)?;
@@ -66,8 +82,9 @@ fn first_item<'a>(entries: Entries<'a>) -> Result<Placed<'a>, Error>
 impl<'a> Items<'a> {
     // The next item. After an error there is none.
     fn next(&mut self) -> Option<Result<JsonbItem<'a>, Error>>
-        ensures steps { YieldsFirstBy shown_item (λ it. it.rest) self.old result self.new }
-        ensures goes { MakesProgress (λ _. Unit {0}) (item_count (λ it. it.rest)) self.old result self.new }
+        ensures steps { YieldsFirstBy result_view (λ it. it.rest) self.old result self.new }
+        ensures goes { MakesProgress
+            (λ _. Unit {0}) (item_count (λ it. it.rest)) self.old result self.new }
         ensures count { self.new.count ≡ self.old.count }
         ensures ended { IfSome result (λ item. IfErr item (λ _. self.new.rest ≡ [])) }
     {
@@ -131,7 +148,8 @@ impl<'a> Items<'a> {
         requires count { count < 2 ^ 29 }
         requires place { place ≤ 2 ^ 33 }
         requires start { start ≤ 2 ^ 62 }
-        ensures { result ≡ record { count = count; rest = items_from bytes.entry.now count place start } }
+        ensures { result
+            ≡ record { count = count; rest = items_from bytes.entry.now count place start } }
     {
         Items {
             entries: Entries {
@@ -152,7 +170,7 @@ pub struct ArrayIterator<'a> {
 }
 
 impl<'a> Model for ArrayIterator<'a> {
-    ghost Value = { Walk Shown };
+    ghost Value = { Walk ItemView };
 
     ghost view = { λ s. s.items };
 }
@@ -199,13 +217,14 @@ impl<'a> ArrayIterator<'a> {
 impl<'a> Iterator for ArrayIterator<'a> {
     type Item = Result<JsonbItem<'a>, Error>;
 
-    ghost next_gives = { YieldsFirstBy shown_item (λ it. it.rest) };
+    ghost next_gives = { YieldsFirstBy result_view (λ it. it.rest) };
 
     ghost remaining = { item_count (λ it. it.rest) };
 
     fn next(&mut self) -> Option<Result<JsonbItem<'a>, Error>>
-        ensures steps { YieldsFirstBy shown_item (λ it. it.rest) self.old result self.new }
-        ensures goes { MakesProgress (λ _. Unit {0}) (item_count (λ it. it.rest)) self.old result self.new }
+        ensures steps { YieldsFirstBy result_view (λ it. it.rest) self.old result self.new }
+        ensures goes { MakesProgress
+            (λ _. Unit {0}) (item_count (λ it. it.rest)) self.old result self.new }
         ensures count { self.new.count ≡ self.old.count }
         ensures ended { IfSome result (λ item. IfErr item (λ _. self.new.rest ≡ [])) }
     {
@@ -220,7 +239,7 @@ pub struct ObjectKeyIterator<'a> {
 }
 
 impl<'a> Model for ObjectKeyIterator<'a> {
-    ghost Value = { Walk Shown };
+    ghost Value = { Walk ItemView };
 
     ghost view = { λ s. s.keys };
 }
@@ -263,13 +282,14 @@ impl<'a> ObjectKeyIterator<'a> {
 impl<'a> Iterator for ObjectKeyIterator<'a> {
     type Item = Result<JsonbItem<'a>, Error>;
 
-    ghost next_gives = { YieldsFirstBy shown_item (λ it. it.rest) };
+    ghost next_gives = { YieldsFirstBy result_view (λ it. it.rest) };
 
     ghost remaining = { item_count (λ it. it.rest) };
 
     fn next(&mut self) -> Option<Result<JsonbItem<'a>, Error>>
-        ensures steps { YieldsFirstBy shown_item (λ it. it.rest) self.old result self.new }
-        ensures goes { MakesProgress (λ _. Unit {0}) (item_count (λ it. it.rest)) self.old result self.new }
+        ensures steps { YieldsFirstBy result_view (λ it. it.rest) self.old result self.new }
+        ensures goes { MakesProgress
+            (λ _. Unit {0}) (item_count (λ it. it.rest)) self.old result self.new }
         ensures count { self.new.count ≡ self.old.count }
         ensures ended { IfSome result (λ item. IfErr item (λ _. self.new.rest ≡ [])) }
     {
@@ -284,7 +304,7 @@ pub struct ObjectValueIterator<'a> {
 }
 
 impl<'a> Model for ObjectValueIterator<'a> {
-    ghost Value = { Walk Shown };
+    ghost Value = { Walk ItemView };
 
     ghost view = { λ s. s.values };
 }
@@ -333,13 +353,14 @@ impl<'a> ObjectValueIterator<'a> {
 impl<'a> Iterator for ObjectValueIterator<'a> {
     type Item = Result<JsonbItem<'a>, Error>;
 
-    ghost next_gives = { YieldsFirstBy shown_item (λ it. it.rest) };
+    ghost next_gives = { YieldsFirstBy result_view (λ it. it.rest) };
 
     ghost remaining = { item_count (λ it. it.rest) };
 
     fn next(&mut self) -> Option<Result<JsonbItem<'a>, Error>>
-        ensures steps { YieldsFirstBy shown_item (λ it. it.rest) self.old result self.new }
-        ensures goes { MakesProgress (λ _. Unit {0}) (item_count (λ it. it.rest)) self.old result self.new }
+        ensures steps { YieldsFirstBy result_view (λ it. it.rest) self.old result self.new }
+        ensures goes { MakesProgress
+            (λ _. Unit {0}) (item_count (λ it. it.rest)) self.old result self.new }
         ensures count { self.new.count ≡ self.old.count }
         ensures ended { IfSome result (λ item. IfErr item (λ _. self.new.rest ≡ [])) }
     {
@@ -359,12 +380,17 @@ struct PlacedKey<'a> {
 fn first_key<'a>(entries: Entries<'a>) -> Result<PlacedKey<'a>, Error>
     requires place { entries.place ≤ 2 ^ 34 }
     requires start { entries.start ≤ 2 ^ 63 }
-    ensures ok { IfOk result (λ x. key_at entries.entry.bytes.now entries.entry.place entries.entry.start ≡ Ok x.key.now) }
+    ensures ok { IfOk result
+        (λ x. key_at entries.entry.bytes.now entries.entry.place entries.entry.start
+        ≡ Ok x.key.now) }
     ensures bytes { IfOk result (λ x. x.behind.bytes.now ≡ entries.entry.bytes.now) }
     ensures place { IfOk result (λ x. x.behind.place ≡ entries.entry.place + 4) }
-    ensures start { IfOk result (λ x. x.behind.start ≡ entries.entry.start + length_at entries.entry.bytes.now entries.entry.place entries.entry.start) }
+    ensures start { IfOk result
+        (λ x. x.behind.start ≡ entries.entry.start
+        + length_at entries.entry.bytes.now entries.entry.place entries.entry.start) }
     ensures near { IfOk result (λ x. x.behind.start < entries.entry.start + 2 ^ 32) }
-    ensures err { IfErr result (λ e. key_at entries.entry.bytes.now entries.entry.place entries.entry.start ≡ Err e) }
+    ensures err { IfErr result
+        (λ e. key_at entries.entry.bytes.now entries.entry.place entries.entry.start ≡ Err e) }
 {
     let entry = entries.first()?;
     if entry.type_code != STRING_TAG {
@@ -396,16 +422,22 @@ fn first_pair<'a>(keys: Entries<'a>, values: Entries<'a>) -> Result<PlacedPair<'
     requires key_start { keys.start ≤ 2 ^ 63 }
     requires place { values.place ≤ 2 ^ 34 }
     requires start { values.start ≤ 2 ^ 63 }
-    ensures ok { IfOk result (λ x. pair_at values.entry.bytes.now keys.entry.place keys.entry.start values.entry.place values.entry.start ≡ Ok (x.key.now, shown x.item)) }
+    ensures ok { IfOk result
+        (λ x. pair_at values.entry.bytes.now keys.entry.place keys.entry.start values.entry.place values.entry.start ≡ Ok (x.key.now, item_view x.item)) }
     ensures key_bytes { IfOk result (λ x. x.keys.bytes.now ≡ values.entry.bytes.now) }
     ensures key_place { IfOk result (λ x. x.keys.place ≡ keys.entry.place + 4) }
-    ensures key_start { IfOk result (λ x. x.keys.start ≡ keys.entry.start + length_at values.entry.bytes.now keys.entry.place keys.entry.start) }
+    ensures key_start { IfOk result
+        (λ x. x.keys.start ≡ keys.entry.start
+        + length_at values.entry.bytes.now keys.entry.place keys.entry.start) }
     ensures key_near { IfOk result (λ x. x.keys.start < keys.entry.start + 2 ^ 32) }
     ensures bytes { IfOk result (λ x. x.values.bytes.now ≡ values.entry.bytes.now) }
     ensures place { IfOk result (λ x. x.values.place ≡ values.entry.place + 4) }
-    ensures start { IfOk result (λ x. x.values.start ≡ values.entry.start + length_at values.entry.bytes.now values.entry.place values.entry.start) }
+    ensures start { IfOk result
+        (λ x. x.values.start ≡ values.entry.start
+        + length_at values.entry.bytes.now values.entry.place values.entry.start) }
     ensures near { IfOk result (λ x. x.values.start < values.entry.start + 2 ^ 32) }
-    ensures err { IfErr result (λ e. pair_at values.entry.bytes.now keys.entry.place keys.entry.start values.entry.place values.entry.start ≡ Err e) }
+    ensures err { IfErr result
+        (λ e. pair_at values.entry.bytes.now keys.entry.place keys.entry.start values.entry.place values.entry.start ≡ Err e) }
 {
     let key = first_key(keys)?;
     let value = first_item(values)?;
@@ -427,11 +459,20 @@ pub struct ObjectIterator<'a> {
 }
 
 impl<'a> Model for ObjectIterator<'a> {
-    ghost Value = { Walk (List ℕ × Shown) };
+    ghost Value = { Walk (List ℕ × ItemView) };
 
-    ghost view = { λ s. record { count = s.pair_count; rest = pairs_from s.values.bytes.now s.pairs_left s.keys.place s.keys.start s.values.place s.values.start } };
+    ghost view = { λ s.
+        record {
+          count = s.pair_count;
+          rest =
+              pairs_from s.values.bytes.now s.pairs_left s.keys.place s.keys.start s.values.place s.values.start;
+        } };
 
-    ghost invariant = { λ s. (s.keys.bytes.now ≡ s.values.bytes.now) × (s.keys.place + 4 * s.pairs_left ≤ 2 ^ 34) × (s.keys.start + 2 ^ 32 * s.pairs_left ≤ 2 ^ 63) × (s.values.place + 4 * s.pairs_left ≤ 2 ^ 34) × (s.values.start + 2 ^ 32 * s.pairs_left ≤ 2 ^ 63) };
+    ghost invariant = { λ s. (s.keys.bytes.now ≡ s.values.bytes.now)
+        × (s.keys.place + 4 * s.pairs_left ≤ 2 ^ 34)
+        × (s.keys.start + 2 ^ 32 * s.pairs_left ≤ 2 ^ 63)
+        × (s.values.place + 4 * s.pairs_left ≤ 2 ^ 34)
+        × (s.values.start + 2 ^ 32 * s.pairs_left ≤ 2 ^ 63) };
 }
 
 impl<'a> ObjectIterator<'a> {
@@ -490,13 +531,14 @@ impl<'a> ObjectIterator<'a> {
 impl<'a> Iterator for ObjectIterator<'a> {
     type Item = Result<(&'a str, JsonbItem<'a>), Error>;
 
-    ghost next_gives = { YieldsFirstBy shown_pair (λ it. it.rest) };
+    ghost next_gives = { YieldsFirstBy pair_view (λ it. it.rest) };
 
     ghost remaining = { item_count (λ it. it.rest) };
 
     fn next(&mut self) -> Option<Result<(&'a str, JsonbItem<'a>), Error>>
-        ensures steps { YieldsFirstBy shown_pair (λ it. it.rest) self.old result self.new }
-        ensures goes { MakesProgress (λ _. Unit {0}) (item_count (λ it. it.rest)) self.old result self.new }
+        ensures steps { YieldsFirstBy pair_view (λ it. it.rest) self.old result self.new }
+        ensures goes { MakesProgress
+            (λ _. Unit {0}) (item_count (λ it. it.rest)) self.old result self.new }
         ensures count { self.new.count ≡ self.old.count }
         ensures ended { IfSome result (λ item. IfErr item (λ _. self.new.rest ≡ [])) }
     {

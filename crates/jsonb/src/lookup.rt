@@ -1,13 +1,15 @@
 //! The value of a key, found in place with a counted number of reads.
 
-ghost use Rattle.std.specs.Prelude.{◌≡◌, ◌+◌, ◌-◌, ◌*◌, ◌<◌, ◌≤◌, ◌↔◌, ◌^◌, length, Ok, Err, IfOk, IfErr, IfSome, IfNone, IsOk, IsErr, OnOk};
+ghost use Rattle.std.specs.Prelude.{◌≡◌, ◌+◌, ◌-◌, ◌*◌, ◌<◌, ◌≤◌, ◌↔◌, ◌^◌, length, Ok, Err, IfOk};
+ghost use Rattle.std.specs.Prelude.{IfErr, IfSome, IfNone, IsOk, IsErr, OnOk};
 ghost use Rattle.std.specs.Fn.{FnReturnsAtPair};
 ghost use Rattle.jsonb_codec.specs.declared.constants.TheConstants.{OBJECT_CONTAINER_TAG};
 ghost use Rattle.jsonb_codec.specs.JEntry.{jentry_at};
 ghost use Rattle.jsonb.specs.Entries.{entry_of};
 ghost use Rattle.jsonb.specs.Item.{part_at};
 ghost use Rattle.jsonb.specs.Walk.{count_under};
-ghost use Rattle.jsonb.specs.Parts.{part_length, part_start, HasParts, PassedBefore, IsAccepted, IsNoneFound, IsValueFound, IsUnreadable};
+ghost use Rattle.jsonb.specs.Parts.{part_length, part_start, HasParts, PassedBefore, IsAccepted};
+ghost use Rattle.jsonb.specs.Parts.{IsNoneFound, IsValueFound, IsUnreadable};
 ghost use Rattle.jsonb.specs.Lookup.{header_count, IsRefusal};
 
 use crate::entries::Entry;
@@ -88,16 +90,21 @@ fn accepted_key<F: Fn(&[u8], &[u8]) -> bool>(
     reads: &mut Reads,
 ) -> Result<Option<Accepted>, Error>
     requires count { count < 2 ^ 29 }
-    requires callable { (a b : _) → a.now ≡ name.now → length b.now ≡ length name.now → F.pre eq_func.now a b }
+    requires callable { (a b : _) → a.now ≡ name.now → length b.now ≡ length name.now
+        → F.pre eq_func.now a b }
     requires room { reads.old + count < 2 ^ 64 }
     ensures none { IfOk result (λ answer. IfNone answer
         (PassedBefore (λ key b. FnReturnsAtPair F.Fn eq_func.now name.now key b)
         (length name.now) bytes.now count count)) }
     ensures some { IfOk result (λ answer. IfSome answer (λ accepted.
-        IsAccepted (λ key b. FnReturnsAtPair F.Fn eq_func.now name.now key b) (length name.now) bytes.now count accepted.pair)) }
-    ensures end { IfOk result (λ answer. IfSome answer (λ accepted. accepted.end ≡ part_start bytes.now count (accepted.pair + 1))) }
+        IsAccepted (λ key b. FnReturnsAtPair F.Fn eq_func.now name.now key b)
+        (length name.now) bytes.now count accepted.pair)) }
+    ensures end { IfOk result
+        (λ answer. IfSome answer
+        (λ accepted. accepted.end ≡ part_start bytes.now count (accepted.pair + 1))) }
     ensures none_cost { IfOk result (λ answer. IfNone answer (reads.new ≡ reads.old + count)) }
-    ensures some_cost { IfOk result (λ answer. IfSome answer (λ accepted. reads.new ≡ reads.old + accepted.pair + 1)) }
+    ensures some_cost { IfOk result
+        (λ answer. IfSome answer (λ accepted. reads.new ≡ reads.old + accepted.pair + 1)) }
     ensures bound { (reads.old ≤ reads.new) × (reads.new ≤ reads.old + count) }
     ensures unread { IfErr result
         (IsUnreadable (λ key b. FnReturnsAtPair F.Fn eq_func.now name.now key b)
@@ -158,7 +165,8 @@ pub fn find_value<'a, F: Fn(&[u8], &[u8]) -> bool>(
     reads: &mut Reads,
 ) -> Result<Option<Entry<'a>>, Error>
     requires count { count < 2 ^ 29 }
-    requires callable { (a b : _) → a.now ≡ name.now → length b.now ≡ length name.now → F.pre eq_func.now a b }
+    requires callable { (a b : _) → a.now ≡ name.now → length b.now ≡ length name.now
+        → F.pre eq_func.now a b }
     requires room { reads.old + 2 * count < 2 ^ 64 }
     ensures none { IfOk result (λ answer. IfNone answer
         (IsNoneFound (λ key b. FnReturnsAtPair F.Fn eq_func.now name.now key b) (length name.now)

@@ -64,7 +64,8 @@ impl<'a> Iterator for Items<'a> {
     #[inline(always)]
     fn next(&mut self) -> Option<Node<'a>>
         ensures steps { YieldsFirstBy node_tree trees_left self.old result self.new }
-        ensures goes { MakesProgress (λ _. Unit {0}) (item_count trees_left) self.old result self.new }
+        ensures goes { MakesProgress
+            (λ _. Unit {0}) (item_count trees_left) self.old result self.new }
         ensures container { IfSome result (HoldsNoScalar) }
     {
         let part = self.entries.next_part()?;
@@ -114,7 +115,8 @@ impl<'a> Iterator for Members<'a> {
     #[inline(always)]
     fn next(&mut self) -> Option<(&'a str, Node<'a>)>
         ensures steps { YieldsFirstBy member_tree pairs_left self.old result self.new }
-        ensures goes { MakesProgress (λ _. Unit {0}) (item_count pairs_left) self.old result self.new }
+        ensures goes { MakesProgress
+            (λ _. Unit {0}) (item_count pairs_left) self.old result self.new }
         ensures container { IfSome result (λ member. HoldsNoScalar member.1) }
     {
         let key = self.keys.next_part()?;

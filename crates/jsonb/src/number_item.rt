@@ -19,16 +19,16 @@ impl<'a> NumberItem<'a> {
     ghost use Rattle.std.specs.Prelude.{◌≡◌, IfOk, IfErr, OnErr, Some, None};
     ghost use Rattle.jsonb_value.specs.declared.number.Number.{Number};
     ghost use Rattle.jsonb_value.specs.NumCode.{NumCode};
-    ghost use Rattle.jsonb.specs.Held.{number_given, number_held};
-    ghost use Rattle.jsonb.specs.Shown.{number};
+    ghost use Rattle.jsonb.specs.ItemValues.{number_source, number_of_item};
+    ghost use Rattle.jsonb.specs.ItemView.{number};
     ghost use Rattle.jsonb.specs.Stored.{IsHeld};
     ghost use Rattle.jsonb.specs.Code.{stored_number, payload_bytes};
 
     /// The number that these bytes mean as a payload, held as these bytes. `InvalidJsonbNumber`
     /// where they mean none.
     pub fn from_bytes(bytes: &'a [u8]) -> Result<NumberItem<'a>, Error>
-        ensures ok { IfOk result (λ item. NumCode bytes.entry.now (number_held item)) }
-        ensures given { IfOk result (λ item. number_given item ≡ Some bytes.entry.now) }
+        ensures ok { IfOk result (λ item. NumCode bytes.entry.now (number_of_item item)) }
+        ensures given { IfOk result (λ item. number_source item ≡ Some bytes.entry.now) }
         ensures none { OnErr result ((x : Number) → NumCode bytes.entry.now x → ⊥) }
         ensures err { IfErr result (λ e. e ≡ Error.InvalidJsonbNumber) }
     {
@@ -41,8 +41,8 @@ impl<'a> NumberItem<'a> {
 
     /// This number, by value.
     pub fn from_number(number: Number) -> NumberItem<'a>
-        ensures number { number_held result ≡ number }
-        ensures given { number_given result ≡ None }
+        ensures number { number_of_item result ≡ number }
+        ensures given { number_source result ≡ None }
     {
         NumberItem {
             number,
@@ -52,15 +52,16 @@ impl<'a> NumberItem<'a> {
 
     /// The number.
     pub fn as_number(&self) -> Number
-        ensures { result ≡ number_held self.now }
+        ensures { result ≡ number_of_item self.now }
     {
         self.number
     }
 
     /// The payload to store: the bytes as they were given, else those that are written.
     pub(crate) fn payload(&self) -> Payload<'a>
-        ensures bytes { payload_bytes result ≡ stored_number (number_given self.now) (number_held self.now) }
-        ensures held { IsHeld (number (number_given self.now) (number_held self.now)) }
+        ensures bytes { payload_bytes result
+            ≡ stored_number (number_source self.now) (number_of_item self.now) }
+        ensures held { IsHeld (number (number_source self.now) (number_of_item self.now)) }
     {
         match self.given {
             Some(bytes) => Payload::Bytes(bytes),

@@ -10,9 +10,9 @@ ghost use Rattle.jsonb_value.specs.TreeOrder.{tree_cmp};
 ghost use Rattle.jsonb_codec.specs.Doc.{Doc, IsDocument};
 ghost use Rattle.jsonb.specs.Code.{Means};
 ghost use Rattle.jsonb.specs.Kind.{kind, rank_order};
-ghost use Rattle.jsonb.specs.Meant.{meaning_of, shown_meaning, item_meaning};
+ghost use Rattle.jsonb.specs.Meant.{meaning_of, view_meaning, item_meaning};
 ghost use Rattle.jsonb.specs.Raw.{raw_bytes};
-ghost use Rattle.jsonb.specs.Shown.{Shown, shown};
+ghost use Rattle.jsonb.specs.ItemView.{ItemView, item_view};
 ghost use Rattle.jsonb.specs.Node.{node_tree, HoldsNoScalar};
 ghost use Rattle.jsonb.specs.Values.{bytes_in};
 
@@ -36,7 +36,7 @@ use std::cmp::Ordering;
 pub fn meaning_laws()
     ensures document { (b : List ℕ) (t : Tree) → Doc b t → meaning_of b ≡ document t }
     ensures other { (b : List ℕ) → (IsDocument b → ⊥) → meaning_of b ≡ other_bytes b }
-    ensures item { (x : Shown) (t : Tree) → Means x t → shown_meaning x ≡ document t }
+    ensures item { (x : ItemView) (t : Tree) → Means x t → view_meaning x ≡ document t }
 {}
 
 /// The order of all bytes by what they mean is total. Two documents compare as their trees, so
@@ -49,8 +49,8 @@ pub fn order_of_bytes()
         → meaning_cmp (meaning_of l) (meaning_of r) ≡ tree_cmp t u }
     ensures one_tree { (l r : List ℕ) (t : Tree) → Doc l t → Doc r t
         → meaning_cmp (meaning_of l) (meaning_of r) ≡ Ordering.Equal }
-    ensures items { (x y : Shown) (t : Tree) → Means x t → Means y t
-        → meaning_cmp (shown_meaning x) (shown_meaning y) ≡ Ordering.Equal }
+    ensures items { (x y : ItemView) (t : Tree) → Means x t → Means y t
+        → meaning_cmp (view_meaning x) (view_meaning y) ≡ Ordering.Equal }
     ensures kinds { (l r : List ℕ) (k m : JsonbItemType) (o : Ordering) → IsDocument l
         → IsDocument r → kind l ≡ Ok k → kind r ≡ Ok m → rank_order k m ≡ Some o
         → meaning_cmp (meaning_of l) (meaning_of r) ≡ o }
@@ -99,7 +99,8 @@ fn bytes_of<'i>(item: &'i JsonbItem<'_>) -> Option<&'i [u8]>
 
 // The value of an item: itself, or what its bytes hold. `None` where they are no document.
 fn node_of<'i>(item: &'i JsonbItem<'_>) -> Option<Node<'i>>
-    ensures means { MatchOption result (item_meaning item.now ≡ other_bytes (bytes_in (shown item.now)))
+    ensures means { MatchOption result
+        (item_meaning item.now ≡ other_bytes (bytes_in (item_view item.now)))
         (λ node. item_meaning item.now ≡ document (node_tree node)) }
     ensures container { IfSome result HoldsNoScalar }
 {

@@ -2,8 +2,8 @@
 
 ghost use Rattle.std.specs.Prelude.{◌≡◌, ◌≤◌, ◌<◌, ◌^◌, ◌⊎◌, length, Err, Some, IfOk, IfErr, OnOk};
 ghost use Rattle.jsonb.specs.Owned.{owned_bytes};
-ghost use Rattle.jsonb.specs.Code.{scalar_bytes, shown_code};
-ghost use Rattle.jsonb.specs.Texts.{shown_text};
+ghost use Rattle.jsonb.specs.Code.{scalar_bytes, code_view};
+ghost use Rattle.jsonb.specs.Texts.{display_text};
 
 use crate::code::{Code, item_code, scalar_document};
 use crate::document::Document;
@@ -23,19 +23,20 @@ pub struct OwnedJsonb {
 }
 
 impl OwnedJsonb {
-    ghost use Rattle.std.specs.Prelude.{◌≡◌, ◌↔◌, ◌⊎◌, chars, length, Err, IfOk, IfErr, IfSome, IsSome, OnOk, IsTrue};
+    ghost use Rattle.std.specs.Prelude.{◌≡◌, ◌↔◌, ◌⊎◌, chars, length, Err, IfOk, IfErr, IfSome};
+    ghost use Rattle.std.specs.Prelude.{IsSome, OnOk, IsTrue};
     ghost use Rattle.jsonb_value.specs.Json.Syntax.{Json};
     ghost use Rattle.jsonb_value.specs.Norm.{norm};
     ghost use Rattle.jsonb_value.specs.Text.{compact, pretty};
     ghost use Rattle.jsonb_value.specs.Tree.{Tree};
     ghost use Rattle.jsonb_codec.specs.Canon.{canon, Fits};
     ghost use Rattle.jsonb_codec.specs.Doc.{Doc, IsDocument};
-    ghost use Rattle.jsonb.specs.Code.{stored, CanBeStored};
+    ghost use Rattle.jsonb.specs.Code.{item_document, CanBeStored};
     ghost use Rattle.jsonb.specs.Document.{document_bytes};
     ghost use Rattle.jsonb.specs.Owned.{owned_bytes};
     ghost use Rattle.jsonb.specs.Raw.{raw_bytes};
-    ghost use Rattle.jsonb.specs.Shown.{shown};
-    ghost use Rattle.jsonb.specs.Texts.{shown_text, pretty_shown_text};
+    ghost use Rattle.jsonb.specs.ItemView.{item_view};
+    ghost use Rattle.jsonb.specs.Texts.{display_text, pretty_display_text};
 
     /// These bytes.
     pub fn new(bytes: Vec<u8>) -> Self
@@ -57,10 +58,11 @@ impl OwnedJsonb {
     /// bytes as they were given. `InvalidJsonb` where that document's payload is past
     /// 268,435,455 bytes, before memory is asked for; else only memory can be refused.
     pub fn from_item(alloc: Global, item: JsonbItem) -> Result<OwnedJsonb, Error>
-        ensures ok { IfOk result (λ owned. owned_bytes owned ≡ stored (shown item.entry)) }
-        ensures fits { OnOk result (CanBeStored (shown item.entry)) }
-        ensures past { result ≡ Err Error.InvalidJsonb → CanBeStored (shown item.entry) → ⊥ }
-        ensures memory { result ≡ Err Error.OutOfMemory → CanBeStored (shown item.entry) }
+        ensures ok { IfOk result
+            (λ owned. owned_bytes owned ≡ item_document (item_view item.entry)) }
+        ensures fits { OnOk result (CanBeStored (item_view item.entry)) }
+        ensures past { result ≡ Err Error.InvalidJsonb → CanBeStored (item_view item.entry) → ⊥ }
+        ensures memory { result ≡ Err Error.OutOfMemory → CanBeStored (item_view item.entry) }
         ensures only { IfErr result
             (λ e. (e ≡ Error.InvalidJsonb) ⊎ (e ≡ Error.OutOfMemory)) }
     {
@@ -136,9 +138,9 @@ impl OwnedJsonb {
         ensures means { IfOk result (λ owned. (t : Tree) → Json (chars text.now) t
             → Doc (owned_bytes owned) (norm t)) }
         ensures prints { IfOk result (λ owned. (t : Tree) → Json (chars text.now) t
-            → shown_text (owned_bytes owned) ≡ compact t) }
+            → display_text (owned_bytes owned) ≡ compact t) }
         ensures prints_pretty { IfOk result (λ owned. (t : Tree) → Json (chars text.now) t
-            → pretty_shown_text (owned_bytes owned) ≡ pretty t) }
+            → pretty_display_text (owned_bytes owned) ≡ pretty t) }
         ensures invalid { result ≡ Err Error.InvalidJson
             → (t : Tree) → Json (chars text.now) t → ⊥ }
         ensures past { result ≡ Err Error.InvalidJsonb
@@ -166,9 +168,9 @@ impl From<Vec<u8>> for OwnedJsonb {
 
 /// The text that `to_string` of the bytes gives, without memory. Width and fill are passed over.
 impl fmt::Display for OwnedJsonb {
-    ghost output = { λ owned. Some (shown_text (owned_bytes owned)) };
+    ghost output = { λ owned. Some (display_text (owned_bytes owned)) };
 
-    ghost styled_output = { λ owned _. Some (shown_text (owned_bytes owned)) };
+    ghost styled_output = { λ owned _. Some (display_text (owned_bytes owned)) };
 
     fn fmt<W: fmt::Write>(&self, f: &mut fmt::Formatter<W>) -> fmt::Result {
         write_shown(self.as_bytes(), f)
@@ -179,12 +181,12 @@ impl fmt::Display for OwnedJsonb {
 fn of_scalar(alloc: Global, code: Code) -> Result<OwnedJsonb, Error>
     requires { code.type_code ≤ 0x60000000 }
     ensures ok { IfOk result (λ owned. owned_bytes owned
-        ≡ scalar_bytes (shown_code code.entry).type (shown_code code.entry).payload) }
-    ensures fits { OnOk result (length (shown_code code.entry).payload < 2 ^ 28) }
+        ≡ scalar_bytes (code_view code.entry).type (code_view code.entry).payload) }
+    ensures fits { OnOk result (length (code_view code.entry).payload < 2 ^ 28) }
     ensures past { result ≡ Err Error.InvalidJsonb
-        → 2 ^ 28 ≤ length (shown_code code.entry).payload }
+        → 2 ^ 28 ≤ length (code_view code.entry).payload }
     ensures memory { result ≡ Err Error.OutOfMemory
-        → length (shown_code code.entry).payload < 2 ^ 28 }
+        → length (code_view code.entry).payload < 2 ^ 28 }
     ensures only { IfErr result (λ e. (e ≡ Error.InvalidJsonb) ⊎ (e ≡ Error.OutOfMemory)) }
 {
     Ok(OwnedJsonb::new(scalar_document(alloc, code)?))

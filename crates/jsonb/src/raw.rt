@@ -21,7 +21,9 @@ pub struct RawJsonb<'a> {
 }
 
 impl<'a> RawJsonb<'a> {
-    ghost use Rattle.std.specs.Prelude.{◌≡◌, ◌≢◌, ◌↔◌, ◌⊎◌, ◌+◌, ◌-◌, ◌*◌, ◌≤◌, ℕ, Bool, List, [], All, None, Some, Ok, Err, chars, codes, length, option_map, string_bytes, IfOk, IfErr, IfSome, IsOkAnd, IsSome, IsTrue};
+    ghost use Rattle.std.specs.Prelude.{◌≡◌, ◌≢◌, ◌↔◌, ◌⊎◌, ◌+◌, ◌-◌, ◌*◌, ◌≤◌, ℕ, Bool, List, []};
+    ghost use Rattle.std.specs.Prelude.{All, None, Some, Ok, Err, chars, codes, length, option_map};
+    ghost use Rattle.std.specs.Prelude.{string_bytes, IfOk, IfErr, IfSome, IsOkAnd, IsSome, IsTrue};
     ghost use Rattle.std.specs.Fn.{FnReturnsAtPair};
     ghost use Rattle.std.specs.Str.{IsUtf8};
     ghost use Rattle.jsonb_value.specs.Meaning.{meaning_cmp};
@@ -39,13 +41,14 @@ impl<'a> RawJsonb<'a> {
     ghost use Rattle.jsonb_codec.specs.Reread.{MeansAgain};
     ghost use Rattle.jsonb.specs.Document.{document_bytes, document_tree};
     ghost use Rattle.jsonb.specs.Kind.{kind, kind_of_tree};
-    ghost use Rattle.jsonb.specs.Lookup.{header_count, IsRefusal, LooksUp, LooksUpIn, LooksUpBytes, LooksUpInBytes, shown_found, find, AnswersBy, IsItemFound};
+    ghost use Rattle.jsonb.specs.Lookup.{header_count, IsRefusal, LooksUp, LooksUpIn, LooksUpBytes};
+    ghost use Rattle.jsonb.specs.Lookup.{LooksUpInBytes, found_view, find, AnswersBy, IsItemFound};
     ghost use Rattle.jsonb.specs.Meant.{raw_meaning};
     ghost use Rattle.jsonb.specs.Owned.{owned_bytes};
     ghost use Rattle.jsonb.specs.Raw.{raw_bytes};
-    ghost use Rattle.jsonb.specs.Shown.{shown};
+    ghost use Rattle.jsonb.specs.ItemView.{item_view};
     ghost use Rattle.jsonb.specs.Standing.{IsFoundIn};
-    ghost use Rattle.jsonb.specs.Texts.{other_text, shown_text, pretty_shown_text};
+    ghost use Rattle.jsonb.specs.Texts.{other_text, display_text, pretty_display_text};
 
     /// A view of these bytes.
     pub fn new(bytes: &'a [u8]) -> Self
@@ -170,18 +173,22 @@ impl<'a> RawJsonb<'a> {
         reads: &mut Reads,
     ) -> Result<Option<JsonbItem<'a>>, Error>
         requires room { reads.old ≤ MAX_READS }
-        requires callable { (a b : _) → a.now ≡ name.now → length b.now ≡ length name.now → F.pre eq_func a b }
-        ensures bound { (reads.old ≤ reads.new) × (reads.new ≤ reads.old + (2 * header_count (raw_bytes self.now) + 1)) }
+        requires callable { (a b : _) → a.now ≡ name.now → length b.now ≡ length name.now
+            → F.pre eq_func a b }
+        ensures bound { (reads.old ≤ reads.new)
+            × (reads.new ≤ reads.old + (2 * header_count (raw_bytes self.now) + 1)) }
         ensures refused { IfErr result IsRefusal }
 
         // On any bytes, by the closure's own contract: which answer, and which error.
         ensures bytes { LooksUpBytes (λ key b. FnReturnsAtPair F.Fn eq_func name.now key b)
-            (length name.now) (raw_bytes self.now) (shown_found result) (reads.new - reads.old) }
+            (length name.now) (raw_bytes self.now) (found_view result) (reads.new - reads.old) }
 
         // On a document an answer, by the trees and the entries that stand there.
         ensures document { (t : Tree) → Doc (raw_bytes self.now) t
-            → IsOkAnd result (λ found. LooksUp (λ key b. FnReturnsAtPair F.Fn eq_func name.now key b)
-            (length name.now) (raw_bytes self.now) t (option_map shown found) (reads.new - reads.old)) }
+            → IsOkAnd result
+            (λ found. LooksUp (λ key b. FnReturnsAtPair F.Fn eq_func name.now key b)
+            (length name.now) (raw_bytes self.now) t (option_map item_view found)
+            (reads.new - reads.old)) }
     {
         let bytes = self.as_bytes();
         let Some(count) = count_pairs(bytes, reads)? else {
@@ -207,30 +214,35 @@ impl<'a> RawJsonb<'a> {
         name: &str,
         eq_func: F,
     ) -> Result<Option<JsonbItem<'a>>, Error>
-        requires callable { (a b : _) → a.now ≡ name.now → length b.now ≡ length name.now → F.pre eq_func a b }
+        requires callable { (a b : _) → a.now ≡ name.now → length b.now ≡ length name.now
+            → F.pre eq_func a b }
         ensures refused { IfErr result IsRefusal }
 
         // On any bytes, by the closure's own contract: which answer, and which error.
         ensures bytes { LooksUpInBytes (λ key b. FnReturnsAtPair F.Fn eq_func name.now key b)
-            (length name.now) (raw_bytes self.now) (shown_found result) }
+            (length name.now) (raw_bytes self.now) (found_view result) }
 
         // On a document an answer, by the trees and the entries that stand there;
         ensures document { (t : Tree) → Doc (raw_bytes self.now) t
-            → IsOkAnd result (λ found. LooksUpIn (λ key b. FnReturnsAtPair F.Fn eq_func name.now key b)
-            (length name.now) (raw_bytes self.now) t (option_map shown found)) }
+            → IsOkAnd result
+            (λ found. LooksUpIn (λ key b. FnReturnsAtPair F.Fn eq_func name.now key b)
+            (length name.now) (raw_bytes self.now) t (option_map item_view found)) }
 
         // where the closure answers by one test, an item of what that test finds,
         ensures found { (accepts : List ℕ → Bool)
-            → AnswersBy accepts (λ key b. FnReturnsAtPair F.Fn eq_func name.now key b) (length name.now)
+            → AnswersBy accepts
+            (λ key b. FnReturnsAtPair F.Fn eq_func name.now key b) (length name.now)
             → (t : Tree) → Doc (raw_bytes self.now) t
-            → IsOkAnd result (λ found. IsItemFound (find accepts (length name.now) t) (option_map shown found)) }
+            → IsOkAnd result
+            (λ found. IsItemFound (find accepts (length name.now) t) (option_map item_view found)) }
 
         // and the item of the entry that stands there.
         ensures entry { (accepts : List ℕ → Bool)
-            → AnswersBy accepts (λ key b. FnReturnsAtPair F.Fn eq_func name.now key b) (length name.now)
+            → AnswersBy accepts
+            (λ key b. FnReturnsAtPair F.Fn eq_func name.now key b) (length name.now)
             → (t : Tree) → Doc (raw_bytes self.now) t
             → IsOkAnd result (λ found. IsFoundIn accepts (length name.now) (raw_bytes self.now) t
-            (option_map shown found)) }
+            (option_map item_view found)) }
     {
         let mut reads = Reads::new();
         self.get_object_value_by_key_name_counted(name, eq_func, &mut reads)
@@ -242,7 +254,8 @@ impl<'a> RawJsonb<'a> {
     /// The text of a document without extension values is read back by `parse` as an equal
     /// document. A text without a zero byte of at most 4,294,967,296 bytes comes back unchanged.
     pub fn to_string(&self, alloc: Global) -> Result<String, Error>
-        ensures shown { IfOk result (λ text. string_bytes text ≡ shown_text (raw_bytes self.now)) }
+        ensures shown { IfOk result
+            (λ text. string_bytes text ≡ display_text (raw_bytes self.now)) }
         ensures document { (t : Tree) → Doc (raw_bytes self.now) t
             → IfOk result (λ text. string_bytes text ≡ compact t) }
         ensures other { (IsDocument (raw_bytes self.now) → ⊥)
@@ -267,7 +280,7 @@ impl<'a> RawJsonb<'a> {
     /// equal document.
     pub fn to_pretty_string(&self, alloc: Global) -> Result<String, Error>
         ensures shown { IfOk result
-            (λ text. string_bytes text ≡ pretty_shown_text (raw_bytes self.now)) }
+            (λ text. string_bytes text ≡ pretty_display_text (raw_bytes self.now)) }
         ensures document { (t : Tree) → Doc (raw_bytes self.now) t
             → IfOk result (λ text. string_bytes text ≡ pretty t) }
         ensures other { (IsDocument (raw_bytes self.now) → ⊥)

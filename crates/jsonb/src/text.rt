@@ -6,13 +6,15 @@ ghost use Rattle.jsonb_value.specs.Tree.{Tree};
 ghost use Rattle.jsonb_value.specs.Norm.{norm};
 ghost use Rattle.jsonb_value.specs.WellFormed.{IsTree};
 ghost use Rattle.jsonb_value.specs.ExtCode.{extension_of};
-ghost use Rattle.jsonb_value.specs.Text.{compact, pretty, inside, line_start, colon, laid_out, quoted, extension_text};
+ghost use Rattle.jsonb_value.specs.Text.{compact, pretty, inside, line_start, colon, laid_out};
+ghost use Rattle.jsonb_value.specs.Text.{quoted_text, extension_text};
 ghost use Rattle.jsonb_codec.specs.Depth.{depth};
 ghost use Rattle.jsonb_codec.specs.Doc.{Doc};
 ghost use Rattle.jsonb.specs.Document.{document_tree};
 ghost use Rattle.jsonb.specs.Known.{trees_left, pairs_left};
 ghost use Rattle.jsonb.specs.Node.{node_tree, array_of, object_of, IsContainer, HoldsNoScalar};
-ghost use Rattle.jsonb.specs.Texts.{layout_of, lossy_text, other_text, shown_text, pretty_shown_text};
+ghost use Rattle.jsonb.specs.Texts.{layout_of, lossy_text, other_text, display_text};
+ghost use Rattle.jsonb.specs.Texts.{pretty_display_text};
 ghost use Rattle.jsonb.specs.Lines.{pair_text, HasRoom};
 
 use crate::document::{Contents, Document, Node};
@@ -62,7 +64,8 @@ impl Layout {
 
     // What stands before an item, and before a closing bracket.
     fn start_line<W: fmt::Write>(self, f: &mut fmt::Formatter<W>) -> fmt::Result
-        ensures { WritesStyledOnOk W.write_str_gives f.old result (line_start (layout_of self)) f.new }
+        ensures { WritesStyledOnOk W.write_str_gives f.old result
+            (line_start (layout_of self)) f.new }
     {
         match self {
             Layout::InOneLine => Ok(()),
@@ -86,7 +89,7 @@ impl Layout {
 
 /// The text of any bytes.
 pub fn write_shown<W: fmt::Write>(bytes: &[u8], f: &mut fmt::Formatter<W>) -> fmt::Result
-    ensures text { WritesStyledOnOk W.write_str_gives f.old result (shown_text bytes.now) f.new }
+    ensures text { WritesStyledOnOk W.write_str_gives f.old result (display_text bytes.now) f.new }
     ensures tree { (t : Tree) → Doc bytes.now t → IsTree t }
 {
     match Document::new(bytes) {
@@ -99,7 +102,7 @@ pub fn write_shown<W: fmt::Write>(bytes: &[u8], f: &mut fmt::Formatter<W>) -> fm
 /// The pretty text of a document, and `null` of all other bytes.
 pub fn write_pretty<W: fmt::Write>(bytes: &[u8], f: &mut fmt::Formatter<W>) -> fmt::Result
     ensures text { WritesStyledOnOk W.write_str_gives f.old result
-        (pretty_shown_text bytes.now) f.new }
+        (pretty_display_text bytes.now) f.new }
     ensures tree { (t : Tree) → Doc bytes.now t → IsTree t }
 {
     match Document::new(bytes) {
@@ -221,7 +224,8 @@ fn write_line<W: fmt::Write>(
     requires container { HoldsNoScalar item }
     requires room { HasRoom (layout_of layout) (depth (node_tree item)) }
     ensures { WritesStyledOnOk W.write_str_gives f.old result
-        (line_start (layout_of layout) ++ laid_out (layout_of layout) (node_tree item.entry)) f.new }
+        (line_start (layout_of layout)
+        ++ laid_out (layout_of layout) (node_tree item.entry)) f.new }
 {
     layout.start_line(f)?;
     write_node(item, layout, f)
@@ -273,7 +277,8 @@ fn write_member<W: fmt::Write>(
 
 #[tactic(auto, using(jsonb_value::proofs::Writing::joins))]
 fn write_quoted<W: fmt::Write>(value: &ExtensionValue, f: &mut fmt::Formatter<W>) -> fmt::Result
-    ensures { WritesStyledOnOk W.write_str_gives f.old result (quoted (extension_text (extension_of value.now))) f.new }
+    ensures { WritesStyledOnOk W.write_str_gives f.old result
+        (quoted_text (extension_text (extension_of value.now))) f.new }
 {
     f.write_str("\"")?;
     extension_text(value, f)?;

@@ -5,7 +5,8 @@ ghost use Rattle.jsonb_value.specs.Tree.{Tree};
 ghost use Rattle.jsonb_codec.specs.Doc.{Doc};
 ghost use Rattle.jsonb.specs.Raw.{raw_bytes};
 ghost use Rattle.jsonb.specs.Asked.{walked_items, walked_pairs};
-ghost use Rattle.jsonb.specs.Walked.{WalksArray, WalksKeys, WalksValues, WalksPairs, WalksItems, WalksValueItems, WalksMembers};
+ghost use Rattle.jsonb.specs.Walked.{WalksArray, WalksKeys, WalksValues, WalksPairs, WalksItems};
+ghost use Rattle.jsonb.specs.Walked.{WalksValueItems, WalksMembers};
 
 use crate::item::JsonbItem;
 use crate::iterator::{ArrayIterator, ObjectIterator, ObjectKeyIterator, ObjectValueIterator};

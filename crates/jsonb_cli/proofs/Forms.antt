@@ -1,5 +1,6 @@
 -- Which form a line has: the word before its first space names the command.
-use Rattle.std.proofs.Common.{◌≡◌, ◌≢◌, inr, ℕ, ◌==◌, Bool, true, false, not, List, [], ◌∷◌, ◌++◌, refl, sym, ap, ap₂, ◌∙◌, arith}
+use Rattle.std.proofs.Common.{◌≡◌, ◌≢◌, inr, ℕ, ◌==◌, Bool, true, false, not, List, [], ◌∷◌, ◌++◌}
+use Rattle.std.proofs.Common.{refl, sym, ap, ap₂, ◌∙◌, arith}
 use Rattle.std.proofs.lemmas.Bool.{and_parts}
 use Rattle.std.proofs.lemmas.Bool.Decides.{nat_tests, Decides-eqb}
 use Rattle.std.proofs.lemmas.Slice.Eq.{slice_eq-Decides}
@@ -8,9 +9,12 @@ use Rattle.std.specs.Prelude.{Option, None, Some, IfNone, nat_eq, codes}
 use Rattle.std.specs.Cmp.Lexicographic.{pointwise}
 use Rattle.std.specs.List.{list_all}
 use Rattle.std.specs.Borrow.{Bor}
-use Rattle.jsonb_cli.specs.Words.{IsWord, after_space, spaced, words_from}
-use Rattle.jsonb_cli.specs.Commands.{Form, enc, dec, pretty, item_type, get, cmp, arr, canon, line_of, HasWords, IsOfForm}
-use Rattle.jsonb_cli.proofs.Split.{no_space, StartsAtSpace, one_cut, one_cut_at, one_spaced, after_space-starts, spaced-starts, spaced-words_from, words_from-words}
+use Rattle.jsonb_cli.specs.Words.{IsWord, after_space, words_behind_spaces, words_from}
+use Rattle.jsonb_cli.specs.Commands.{Form, enc, dec, pretty, item_type, get, cmp, arr, canon}
+use Rattle.jsonb_cli.specs.Commands.{line_of, HasWords, IsOfForm}
+use Rattle.jsonb_cli.proofs.Split.{no_space, StartsAtSpace, one_cut, one_cut_at, one_spaced}
+use Rattle.jsonb_cli.proofs.Split.{after_space-starts, spaced-starts, spaced-words_from}
+use Rattle.jsonb_cli.proofs.Split.{words_from-words}
 
 -- the name of the command, and what follows it
 abbrev pub name_of : Form → List ℕ
@@ -30,7 +34,7 @@ given_to (pretty word) = 32 ∷ word
 given_to (item_type word) = 32 ∷ word
 given_to (get word key) = 32 ∷ (word ++ 32 ∷ key)
 given_to (cmp left right) = 32 ∷ (left ++ 32 ∷ right)
-given_to (arr words) = spaced words
+given_to (arr words) = words_behind_spaces words
 given_to (canon word) = 32 ∷ word
 
 line_of-parts : (form : Form) → line_of form ≡ name_of form ++ given_to form
@@ -72,46 +76,57 @@ name_of-word (arr words) = word_of_test (codes "arr") refl
 name_of-word (canon word) = word_of_test (codes "canon") refl
 
 -- the word before the first space is the command's name
-named : (line name given : List ℕ) → IsWord name → StartsAtSpace given → line ≡ name ++ given → (form : Form) → IsOfForm form line
+named : (line name given : List ℕ) → IsWord name → StartsAtSpace given → line ≡ name ++ given
+    → (form : Form) → IsOfForm form line
     → (name ≡ name_of form) × (given ≡ given_to form)
 named line name given word from parts form of =
-    one_cut 32 name (name_of form) given (given_to form) word (name_of-word form) from (given_to-starts form) (sym parts ∙ of.is ∙ line_of-parts form)
+    one_cut 32 name (name_of form) given (given_to form) word (name_of-word form) from
+    (given_to-starts form) (sym parts ∙ of.is ∙ line_of-parts form)
 
 -- the form of `arr` and what follows it
-pub arr_form : (line name : List ℕ) (rest : Option (Bor (List ℕ))) → name ≡ codes "arr" → line ≡ name ++ after_space rest → IsOfForm (arr (words_from rest)) line
+pub arr_form : (line name : List ℕ) (rest : Option (Bor (List ℕ))) → name ≡ codes "arr"
+    → line ≡ name ++ after_space rest → IsOfForm (arr (words_from rest)) line
 arr_form line name rest is parts = record {
-  is = parts ∙ ap (λ bytes. bytes ++ after_space rest) is ∙ ap (λ bytes. codes "arr" ++ bytes) (sym (spaced-words_from rest));
+  is = parts ∙ ap (λ bytes. bytes ++ after_space rest) is ∙ ap
+      (λ bytes. codes "arr" ++ bytes) (sym (spaced-words_from rest));
   words = words_from-words rest;
 }
 
 -- ---- a line has one form
 
 names_apart : (a b : List ℕ) → pointwise nat_eq a b ≡ false → a ≢ b
-names_apart a b test same = let passes : pointwise nat_eq a b ≡ true = (slice_eq-Decides Decides-eqb a b (pointwise nat_eq a b) refl).1 same in cc
+names_apart a b test same = let passes : pointwise nat_eq a b
+    ≡ true = (slice_eq-Decides Decides-eqb a b (pointwise nat_eq a b) refl).1 same in cc
 
-same_form : (f g : Form) → HasWords f → HasWords g → name_of f ≡ name_of g → given_to f ≡ given_to g → f ≡ g
+same_form : (f g : Form) → HasWords f → HasWords g → name_of f ≡ name_of g → given_to f ≡ given_to g
+    → f ≡ g
 same_form (enc x) (enc y) words others name given = cc
 same_form (dec x) (dec y) words others name given = cc
 same_form (pretty x) (pretty y) words others name given = cc
 same_form (item_type x) (item_type y) words others name given = cc
 same_form (get x k) (get y l) words others name given =
-    let behind : x ++ 32 ∷ k ≡ y ++ 32 ∷ l = cc in let cut = one_cut_at 32 x y k l words others behind in ap₂ get cut.0 cut.1
+    let behind : x ++ 32 ∷ k ≡ y ++ 32 ∷ l =
+    cc in let cut = one_cut_at 32 x y k l words others behind in ap₂ get cut.0 cut.1
 same_form (cmp x k) (cmp y l) words others name given =
-    let behind : x ++ 32 ∷ k ≡ y ++ 32 ∷ l = cc in let cut = one_cut_at 32 x y k l words.0 others.0 behind in ap₂ cmp cut.0 cut.1
+    let behind : x ++ 32 ∷ k ≡ y ++ 32 ∷ l =
+    cc in let cut = one_cut_at 32 x y k l words.0 others.0 behind in ap₂ cmp cut.0 cut.1
 same_form (arr xs) (arr ys) words others name given = ap arr (one_spaced xs ys words others given)
 same_form (canon x) (canon y) words others name given = cc
 same_form f g words others name given = absurd (names_apart (name_of f) (name_of g) refl name)
 
 pub one_form : (line : List ℕ) (f g : Form) → IsOfForm f line → IsOfForm g line → f ≡ g
 one_form line f g of also =
-    let is = named line (name_of f) (given_to f) (name_of-word f) (given_to-starts f) (of.is ∙ line_of-parts f) g also in
+    let is = named line (name_of f) (given_to f) (name_of-word f) (given_to-starts f)
+    (of.is ∙ line_of-parts f) g also in
     same_form f g of.words also.words is.0 is.1
 
 -- ---- lines of no form
 
 -- another name
-pub no_form : (line name : List ℕ) (rest : Option (Bor (List ℕ))) → IsWord name → line ≡ name ++ after_space rest → name ≢ codes "arr" → name ≢ codes "enc"
-    → name ≢ codes "dec" → name ≢ codes "pretty" → name ≢ codes "type" → name ≢ codes "get" → name ≢ codes "cmp" → name ≢ codes "canon"
+pub no_form : (line name : List ℕ) (rest : Option (Bor (List ℕ))) → IsWord name
+    → line ≡ name ++ after_space rest → name ≢ codes "arr" → name ≢ codes "enc"
+    → name ≢ codes "dec" → name ≢ codes "pretty" → name ≢ codes "type" → name ≢ codes "get"
+    → name ≢ codes "cmp" → name ≢ codes "canon"
     → (form : Form) → IsOfForm form line → ⊥
 no_form line name rest word parts n_arr n_enc n_dec n_pretty n_type n_get n_cmp n_canon form of =
     let is = (named line name (after_space rest) word (after_space-starts rest) parts form of).0 in
@@ -127,7 +142,8 @@ no_form line name rest word parts n_arr n_enc n_dec n_pretty n_type n_get n_cmp 
     ] is
 
 -- a name alone
-only_arr_alone : (name : List ℕ) → name ≢ codes "arr" → (form : Form) → name ≡ name_of form → [] ≡ given_to form → ⊥
+only_arr_alone : (name : List ℕ) → name ≢ codes "arr" → (form : Form) → name ≡ name_of form
+    → [] ≡ given_to form → ⊥
 only_arr_alone name n_arr (enc text) is none = cc
 only_arr_alone name n_arr (dec word) is none = cc
 only_arr_alone name n_arr (pretty word) is none = cc
@@ -137,7 +153,8 @@ only_arr_alone name n_arr (cmp left right) is none = cc
 only_arr_alone name n_arr (arr words) is none = n_arr is
 only_arr_alone name n_arr (canon word) is none = cc
 
-pub no_form_alone : (line name : List ℕ) (rest : Option (Bor (List ℕ))) → rest ≡ None → IsWord name → line ≡ name ++ after_space rest → name ≢ codes "arr"
+pub no_form_alone : (line name : List ℕ) (rest : Option (Bor (List ℕ))) → rest ≡ None → IsWord name
+    → line ≡ name ++ after_space rest → name ≢ codes "arr"
     → (form : Form) → IsOfForm form line → ⊥
 no_form_alone line name rest none word parts n_arr form of =
     let is = named line name (after_space rest) word (after_space-starts rest) parts form of in
@@ -151,7 +168,8 @@ same_tails : (a : ℕ) (xs ys : List ℕ) → a ∷ xs ≡ a ∷ ys → xs ≡ y
 same_tails a xs ys same = cc
 
 -- `get` and `cmp` without their words
-pub no_get : (words : List ℕ) → ((word key : List ℕ) → words ≡ word ++ 32 ∷ key → ⊥) → (form : Form) → IsOfForm form (codes "get " ++ words) → ⊥
+pub no_get : (words : List ℕ) → ((word key : List ℕ) → words ≡ word ++ 32 ∷ key → ⊥) → (form : Form)
+    → IsOfForm form (codes "get " ++ words) → ⊥
 no_get words none (enc text) of = apart 103 101 _ _ of.is refl
 no_get words none (dec word) of = apart 103 100 _ _ of.is refl
 no_get words none (pretty word) of = apart 103 112 _ _ of.is refl
@@ -161,7 +179,8 @@ no_get words none (cmp left right) of = apart 103 99 _ _ of.is refl
 no_get words none (arr given) of = apart 103 97 _ _ of.is refl
 no_get words none (canon word) of = apart 103 99 _ _ of.is refl
 
-pub no_cmp : (words : List ℕ) → ((left right : List ℕ) → IsWord left → IsWord right → words ≡ left ++ 32 ∷ right → ⊥)
+pub no_cmp : (words : List ℕ)
+    → ((left right : List ℕ) → IsWord left → IsWord right → words ≡ left ++ 32 ∷ right → ⊥)
     → (form : Form) → IsOfForm form (codes "cmp " ++ words) → ⊥
 no_cmp words none (enc text) of = apart 99 101 _ _ of.is refl
 no_cmp words none (dec word) of = apart 99 100 _ _ of.is refl
@@ -175,13 +194,17 @@ no_cmp words none (canon word) of = apart 109 97 _ _ (same_tails 99 _ _ of.is) r
 -- ---- what the code's tests say
 
 -- a test that failed
-pub differs : (name given word : List ℕ) (same : Bool) → given ≡ word → same ≡ pointwise nat_eq name given → same ≡ false → name ≢ word
+pub differs : (name given word : List ℕ) (same : Bool) → given ≡ word
+    → same ≡ pointwise nat_eq name given → same ≡ false → name ≢ word
 differs name given word same is tested fails equal =
-    let passes : same ≡ true = (slice_eq-Decides Decides-eqb name given same tested).1 (equal ∙ sym is) in cc
+    let passes : same ≡ true =
+    (slice_eq-Decides Decides-eqb name given same tested).1 (equal ∙ sym is) in cc
 
 -- and one that passed
-pub equals : (name given word : List ℕ) (same : Bool) → given ≡ word → same ≡ pointwise nat_eq name given → same ≡ true → name ≡ word
-equals name given word same is tested passes = (slice_eq-Decides Decides-eqb name given same tested).0 passes ∙ is
+pub equals : (name given word : List ℕ) (same : Bool) → given ≡ word
+    → same ≡ pointwise nat_eq name given → same ≡ true → name ≡ word
+equals name given word same is tested passes =
+    (slice_eq-Decides Decides-eqb name given same tested).0 passes ∙ is
 
 pub if_none : {T : Type 0} (o : Option T) (P : Type 0) → P → IfNone o P
 if_none None P p = p

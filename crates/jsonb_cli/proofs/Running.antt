@@ -1,5 +1,6 @@
 -- What a run has done with its reader's bytes, where those are known.
-use Rattle.std.proofs.Common.{◌≡◌, ◌≢◌, ℕ, List, [], ◌∷◌, ◌++◌, length, refl, sym, ap, ◌∙◌, append_assoc, inr, arith}
+use Rattle.std.proofs.Common.{◌≡◌, ◌≢◌, ℕ, List, [], ◌∷◌, ◌++◌, length, refl, sym, ap, ◌∙◌}
+use Rattle.std.proofs.Common.{append_assoc, inr, arith}
 use Rattle.std.proofs.lemmas.List.{append-nil}
 use Rattle.std.proofs.lemmas.List.Elements.{All-nil, All-cons, All-append}
 use Rattle.std.specs.Prelude.{Option, Some, None, IfSome, Result, Ok, Err, OnOk, OnErr}
@@ -8,10 +9,14 @@ use Rattle.jsonb_value.specs.ErrorName.{name_of}
 use Rattle.jsonb_value.specs.declared.error.Error.TheVariants.{OutOfMemory}
 use Rattle.jsonb_cli.specs.AnswerLine.{error_line}
 use Rattle.jsonb_cli.specs.Answers.{IsLineReply, IsPrompt}
-use Rattle.jsonb_cli.specs.Lines.{ended, IsLine, none, more, AppendsReplies, AppendsBeginning, AppendsWhole}
+use Rattle.jsonb_cli.specs.Lines.{line_bytes, IsLine, none, more, AppendsReplies, AppendsBeginning}
+use Rattle.jsonb_cli.specs.Lines.{AppendsWhole}
 use Rattle.jsonb_cli.specs.Written.{AppendsPrefix, AppendsAllBut}
-use Rattle.jsonb_cli.proofs.Written.{appends_nothing, appends_both, all_but_begins, all_but_waits, all_but_written, all_but_faults}
-use Rattle.jsonb_cli.proofs.Replies.{no_feed, ended-append, Each-append, appends_no_last, appends_last, begins_last, replies_after_whole, beginning_after_whole, beginning_of_none, beginning_within}
+use Rattle.jsonb_cli.proofs.Written.{appends_nothing, appends_both, all_but_begins, all_but_waits}
+use Rattle.jsonb_cli.proofs.Written.{all_but_written, all_but_faults}
+use Rattle.jsonb_cli.proofs.Replies.{no_feed, ended-append, Each-append, appends_no_last}
+use Rattle.jsonb_cli.proofs.Replies.{appends_last, begins_last, replies_after_whole}
+use Rattle.jsonb_cli.proofs.Replies.{beginning_after_whole, beginning_of_none, beginning_within}
 
 -- each line has a reply, if only that there was no memory
 reply_to : (line : List ℕ) → (reply : List ℕ) × IsLineReply line reply
@@ -21,13 +26,15 @@ reply_to line = (error_line (name_of OutOfMemory), inr refl)
 abbrev pub IsReplyTo : List ℕ → List ℕ → Type 0
 IsReplyTo line bytes = (reply : List ℕ) × (IsLineReply line reply × (bytes ≡ reply ++ 10 ∷ []))
 
-pub reply_in : (line text line' bytes : List ℕ) → IsReplyTo line text → line' ≡ line → bytes ≡ text → IsReplyTo line' bytes
+pub reply_in : (line text line' bytes : List ℕ) → IsReplyTo line text → line' ≡ line → bytes ≡ text
+    → IsReplyTo line' bytes
 reply_in line text line' bytes reply same is = rw (same, is) reply
 
 -- ---- bytes that follow a begun line
 
 -- nothing yet
-pub whole_begins : (begun left : List ℕ) (known : Option (List ℕ)) → IsLine begun → AppendsWhole IsLineReply (begun ++ left) begun left known known
+pub whole_begins : (begun left : List ℕ) (known : Option (List ℕ)) → IsLine begun
+    → AppendsWhole IsLineReply (begun ++ left) begun left known known
 whole_begins begun left known one = record {
   lines = [];
   replies = [];
@@ -39,12 +46,14 @@ whole_begins begun left known one = record {
 }
 
 -- more of the begun line
-whole_more : (input begun end left : List ℕ) (old new : Option (List ℕ)) → AppendsWhole IsLineReply input begun (end ++ left) old new → IsLine end
+whole_more : (input begun end left : List ℕ) (old new : Option (List ℕ))
+    → AppendsWhole IsLineReply input begun (end ++ left) old new → IsLine end
     → AppendsWhole IsLineReply input (begun ++ end) left old new
 whole_more input begun end left old new so_far one = record {
   lines = so_far.lines;
   replies = so_far.replies;
-  parts = so_far.parts ∙ ap (λ es. ended so_far.lines ++ es) (sym (append_assoc begun end left));
+  parts =
+      so_far.parts ∙ ap (λ es. line_bytes so_far.lines ++ es) (sym (append_assoc begun end left));
   whole_lines = so_far.whole_lines;
   begun_line = All-append no_feed begun end so_far.begun_line one;
   each = so_far.each;
@@ -52,25 +61,32 @@ whole_more input begun end left old new so_far one = record {
 }
 
 -- the begun line ended, and was answered
-whole_line : (input begun left reply : List ℕ) (old mid new : Option (List ℕ)) → AppendsWhole IsLineReply input begun (10 ∷ left) old mid
-    → IsLineReply begun reply → Appends mid new (reply ++ 10 ∷ []) → AppendsWhole IsLineReply input [] left old new
+whole_line : (input begun left reply : List ℕ) (old mid new : Option (List ℕ))
+    → AppendsWhole IsLineReply input begun (10 ∷ left) old mid
+    → IsLineReply begun reply → Appends mid new (reply ++ 10 ∷ [])
+    → AppendsWhole IsLineReply input [] left old new
 whole_line input begun left reply old mid new so_far is then = record {
   lines = so_far.lines ++ begun ∷ [];
   replies = so_far.replies ++ reply ∷ [];
-  parts = so_far.parts ∙ ap (λ es. ended so_far.lines ++ es) (sym (append_assoc begun (10 ∷ []) left))
-      ∙ sym (append_assoc (ended so_far.lines) (begun ++ 10 ∷ []) left) ∙ ap (λ es. es ++ left) (sym (ended-append so_far.lines (begun ∷ [])));
-  whole_lines = All-append IsLine so_far.lines (begun ∷ []) so_far.whole_lines (All-cons IsLine begun [] so_far.begun_line (All-nil IsLine));
+  parts = so_far.parts ∙ ap
+      (λ es. line_bytes so_far.lines ++ es) (sym (append_assoc begun (10 ∷ []) left))
+      ∙ sym (append_assoc (line_bytes so_far.lines) (begun ++ 10 ∷ []) left) ∙ ap
+      (λ es. es ++ left) (sym (ended-append so_far.lines (begun ∷ [])));
+  whole_lines = All-append IsLine so_far.lines (begun ∷ []) so_far.whole_lines
+      (All-cons IsLine begun [] so_far.begun_line (All-nil IsLine));
   begun_line = All-nil no_feed;
   each = Each-append so_far.each (more is none);
   appends = rw (ended-append so_far.replies (reply ∷ []))
-      (appends_both old mid new (ended so_far.replies) (reply ++ 10 ∷ []) so_far.appends then);
+      (appends_both old mid new (line_bytes so_far.replies) (reply ++ 10 ∷ []) so_far.appends then);
 }
 
 -- a fault with nothing more written
-whole_stops : (input begun left later : List ℕ) (old new : Option (List ℕ)) → AppendsWhole IsLineReply input begun left old new
+whole_stops : (input begun left later : List ℕ) (old new : Option (List ℕ))
+    → AppendsWhole IsLineReply input begun left old new
     → AppendsBeginning IsLineReply (input ++ later) old new
 whole_stops input begun left later old new so_far =
-    beginning_after_whole IsLineReply reply_to input begun left later old new new so_far (beginning_of_none IsLineReply reply_to new (begun ++ (left ++ later)))
+    beginning_after_whole IsLineReply reply_to input begun left later old new new so_far
+    (beginning_of_none IsLineReply reply_to new (begun ++ (left ++ later)))
 
 -- ---- a chunk, where replies wait
 
@@ -80,7 +96,8 @@ pub record Collects (input begun left waiting : List ℕ) (old new : Option (Lis
   pub whole : AppendsWhole IsLineReply input begun left (Some []) (Some output)
   pub all_but : AppendsAllBut waiting old new output
 
-pub collects_none : (begun left : List ℕ) (known : Option (List ℕ)) → IsLine begun → Collects (begun ++ left) begun left [] known known
+pub collects_none : (begun left : List ℕ) (known : Option (List ℕ)) → IsLine begun
+    → Collects (begun ++ left) begun left [] known known
 collects_none begun left known one = record {
   output = [];
   whole = whole_begins begun left (Some []) one;
@@ -88,25 +105,34 @@ collects_none begun left known one = record {
 }
 
 -- the begun line ends, and its reply is added
-line_ends : (input begun left waiting end behind bytes : List ℕ) (old mid : Option (List ℕ)) (so_far : Collects input begun left waiting old mid)
+line_ends : (input begun left waiting end behind bytes : List ℕ) (old mid : Option (List ℕ))
+    (so_far : Collects input begun left waiting old mid)
     → left ≡ end ++ 10 ∷ behind → IsLine end → IsReplyTo (begun ++ end) bytes
     → AppendsWhole IsLineReply input [] behind (Some []) (Some (so_far.output ++ bytes))
 line_ends input begun left waiting end behind bytes old mid so_far cut one is =
-    let more = whole_more input begun end (10 ∷ behind) (Some []) (Some so_far.output) (rw cut at so_far.whole) one in
-    rw is.1.1 (whole_line input (begun ++ end) behind is.0 (Some []) (Some so_far.output) (Some (so_far.output ++ (is.0 ++ 10 ∷ []))) more is.1.0 refl)
+    let more = whole_more input begun end (10 ∷ behind) (Some []) (Some so_far.output)
+    (rw cut at so_far.whole) one in
+    rw is.1.1
+    (whole_line input (begun ++ end) behind is.0 (Some []) (Some so_far.output)
+    (Some (so_far.output ++ (is.0 ++ 10 ∷ []))) more is.1.0 refl)
 
-pub collects_line : (input begun left waiting end behind bytes waiting' : List ℕ) (old mid new : Option (List ℕ)) → Collects input begun left waiting old mid
-    → left ≡ end ++ 10 ∷ behind → IsLine end → IsReplyTo (begun ++ end) bytes → AppendsAllBut waiting' mid new (waiting ++ bytes)
+pub collects_line : (input begun left waiting end behind bytes waiting' : List ℕ)
+    (old mid new : Option (List ℕ)) → Collects input begun left waiting old mid
+    → left ≡ end ++ 10 ∷ behind → IsLine end → IsReplyTo (begun ++ end) bytes
+    → AppendsAllBut waiting' mid new (waiting ++ bytes)
     → Collects input [] behind waiting' old new
-collects_line input begun left waiting end behind bytes waiting' old mid new so_far cut one is then = record {
-  output = so_far.output ++ bytes;
-  whole = line_ends input begun left waiting end behind bytes old mid so_far cut one is;
-  all_but = all_but_waits old mid new so_far.output waiting waiting' bytes so_far.all_but then;
-}
+collects_line input begun left waiting end behind bytes waiting' old mid new so_far cut one is
+    then = record {
+      output = so_far.output ++ bytes;
+      whole = line_ends input begun left waiting end behind bytes old mid so_far cut one is;
+      all_but = all_but_waits old mid new so_far.output waiting waiting' bytes so_far.all_but then;
+    }
 
 -- or a fault is within what waits and the reply
-pub collects_fault : (input begun left waiting end behind bytes later : List ℕ) (old mid new : Option (List ℕ)) → Collects input begun left waiting old mid
-    → left ≡ end ++ 10 ∷ behind → IsLine end → IsReplyTo (begun ++ end) bytes → AppendsPrefix mid new (waiting ++ bytes)
+pub collects_fault : (input begun left waiting end behind bytes later : List ℕ)
+    (old mid new : Option (List ℕ)) → Collects input begun left waiting old mid
+    → left ≡ end ++ 10 ∷ behind → IsLine end → IsReplyTo (begun ++ end) bytes
+    → AppendsPrefix mid new (waiting ++ bytes)
     → AppendsBeginning IsLineReply (input ++ later) old new
 collects_fault input begun left waiting end behind bytes later old mid new so_far cut one is then =
     beginning_within IsLineReply reply_to input [] behind later (so_far.output ++ bytes) old new
@@ -114,10 +140,12 @@ collects_fault input begun left waiting end behind bytes later old mid new so_fa
     (all_but_faults old mid new so_far.output waiting bytes so_far.all_but then)
 
 -- all that waited was appended
-pub collects_all : (input begun left waiting : List ℕ) (old mid new : Option (List ℕ)) → Collects input begun left waiting old mid → IsLine left
+pub collects_all : (input begun left waiting : List ℕ) (old mid new : Option (List ℕ))
+    → Collects input begun left waiting old mid → IsLine left
     → Appends mid new waiting → AppendsWhole IsLineReply input (begun ++ left) [] old new
 collects_all input begun left waiting old mid new so_far one then =
-    let more = whole_more input begun left [] (Some []) (Some so_far.output) (rw append-nil so_far.whole) one in
+    let more = whole_more input begun left [] (Some []) (Some so_far.output)
+    (rw append-nil so_far.whole) one in
     let all = all_but_written old mid new so_far.output waiting so_far.all_but then in
     record {
       lines = more.lines;
@@ -130,29 +158,35 @@ collects_all input begun left waiting old mid new so_far one then =
     }
 
 -- or only a beginning of it
-pub collects_stops : (input begun left waiting later : List ℕ) (old mid new : Option (List ℕ)) → Collects input begun left waiting old mid
+pub collects_stops : (input begun left waiting later : List ℕ) (old mid new : Option (List ℕ))
+    → Collects input begun left waiting old mid
     → AppendsPrefix mid new waiting → AppendsBeginning IsLineReply (input ++ later) old new
 collects_stops input begun left waiting later old mid new so_far then =
     let prefix : AppendsPrefix old new (so_far.output ++ []) =
     all_but_faults old mid new so_far.output waiting [] so_far.all_but (rw append-nil then) in
-    beginning_within IsLineReply reply_to input begun left later so_far.output old new so_far.whole (rw append-nil at prefix)
+    beginning_within IsLineReply reply_to input begun left later so_far.output old new so_far.whole
+    (rw append-nil at prefix)
 
 -- ---- a last line with no line feed
 
-pub begins_nothing : (line : List ℕ) (known : Option (List ℕ)) → AppendsBeginning IsLineReply line known known
+pub begins_nothing : (line : List ℕ) (known : Option (List ℕ))
+    → AppendsBeginning IsLineReply line known known
 begins_nothing line known = beginning_of_none IsLineReply reply_to known line
 
-pub last_none : (rest : List ℕ) (known : Option (List ℕ)) → length rest ≡ 0 → AppendsReplies IsLineReply rest known known
+pub last_none : (rest : List ℕ) (known : Option (List ℕ)) → length rest ≡ 0
+    → AppendsReplies IsLineReply rest known known
 last_none [] known empty = appends_no_last IsLineReply reply_to [] known refl
 last_none (b ∷ rest) known empty = absurd (omega arith)
 
-pub last_answered : {T E : Type 0} (r : Result T E) (line bytes : List ℕ) (old new : Option (List ℕ)) → line ≢ [] → IsLine line → IsReplyTo line bytes
+pub last_answered : {T E : Type 0} (r : Result T E) (line bytes : List ℕ)
+    (old new : Option (List ℕ)) → line ≢ [] → IsLine line → IsReplyTo line bytes
     → OnOk r (Appends old new bytes) → OnOk r (AppendsReplies IsLineReply line old new)
 last_answered (Ok x) line bytes old new some one is then =
     appends_last IsLineReply reply_to line is.0 old new some one is.1.0 (rw is.1.1 at then)
 last_answered (Err e) line bytes old new some one is then = tt
 
-pub last_faults : {T E : Type 0} (r : Result T E) (line bytes : List ℕ) (old new : Option (List ℕ)) → line ≢ [] → IsLine line → IsReplyTo line bytes
+pub last_faults : {T E : Type 0} (r : Result T E) (line bytes : List ℕ) (old new : Option (List ℕ))
+    → line ≢ [] → IsLine line → IsReplyTo line bytes
     → OnErr r (AppendsPrefix old new bytes) → OnErr r (AppendsBeginning IsLineReply line old new)
 last_faults (Ok x) line bytes old new some one is then = tt
 last_faults (Err e) line bytes old new some one is then =
@@ -168,26 +202,33 @@ run_begins None known = tt
 run_begins (Some input) known = whole_begins [] input known no_line
 
 -- a chunk was read and answered
-chunk_answered : (input begun left chunk after begun' : List ℕ) (old mid new : Option (List ℕ)) → AppendsWhole IsLineReply input begun left old mid
-    → left ≡ chunk ++ after → AppendsWhole IsLineReply (begun ++ chunk) begun' [] mid new → AppendsWhole IsLineReply input begun' after old new
+chunk_answered : (input begun left chunk after begun' : List ℕ) (old mid new : Option (List ℕ))
+    → AppendsWhole IsLineReply input begun left old mid
+    → left ≡ chunk ++ after → AppendsWhole IsLineReply (begun ++ chunk) begun' [] mid new
+    → AppendsWhole IsLineReply input begun' after old new
 chunk_answered input begun left chunk after begun' old mid new so_far cut then = record {
   lines = so_far.lines ++ then.lines;
   replies = so_far.replies ++ then.replies;
   parts =
-      so_far.parts ∙ ap (λ es. ended so_far.lines ++ (begun ++ es)) cut
-      ∙ ap (λ es. ended so_far.lines ++ es) (sym (append_assoc begun chunk after) ∙ ap (λ es. es ++ after) then.parts
-      ∙ append_assoc (ended then.lines) (begun' ++ []) after ∙ ap (λ es. ended then.lines ++ (es ++ after)) (append-nil begun'))
-      ∙ sym (append_assoc (ended so_far.lines) (ended then.lines) (begun' ++ after))
+      so_far.parts ∙ ap (λ es. line_bytes so_far.lines ++ (begun ++ es)) cut
+      ∙ ap (λ es. line_bytes so_far.lines ++ es)
+      (sym (append_assoc begun chunk after) ∙ ap (λ es. es ++ after) then.parts
+      ∙ append_assoc (line_bytes then.lines) (begun' ++ []) after ∙ ap
+      (λ es. line_bytes then.lines ++ (es ++ after)) (append-nil begun'))
+      ∙ sym (append_assoc (line_bytes so_far.lines) (line_bytes then.lines) (begun' ++ after))
       ∙ ap (λ es. es ++ (begun' ++ after)) (sym (ended-append so_far.lines then.lines));
   whole_lines = All-append IsLine so_far.lines then.lines so_far.whole_lines then.whole_lines;
   begun_line = then.begun_line;
   each = Each-append so_far.each then.each;
   appends = rw (ended-append so_far.replies then.replies)
-      (appends_both old mid new (ended so_far.replies) (ended then.replies) so_far.appends then.appends);
+      (appends_both old mid new (line_bytes so_far.replies)
+      (line_bytes then.replies) so_far.appends then.appends);
 }
 
-pub run_chunk : (input before after : Option (List ℕ)) (begun chunk begun' : List ℕ) (old mid new : Option (List ℕ)) → IsPrompt input before begun old mid
-    → Consumes before after chunk → AppendsWhole IsLineReply (begun ++ chunk) begun' [] mid new → IsPrompt input after begun' old new
+pub run_chunk : (input before after : Option (List ℕ)) (begun chunk begun' : List ℕ)
+    (old mid new : Option (List ℕ)) → IsPrompt input before begun old mid
+    → Consumes before after chunk → AppendsWhole IsLineReply (begun ++ chunk) begun' [] mid new
+    → IsPrompt input after begun' old new
 run_chunk None before after begun chunk begun' old mid new so_far read then = tt
 run_chunk (Some input) None after begun chunk begun' old mid new so_far read then = absurd so_far
 run_chunk (Some input) (Some before) None begun chunk begun' old mid new so_far read then = read
@@ -195,56 +236,73 @@ run_chunk (Some input) (Some before) (Some after) begun chunk begun' old mid new
     chunk_answered input begun before chunk after begun' old mid new so_far read then
 
 -- the reader's fault took no bytes
-pub run_kept : (input before after : Option (List ℕ)) (begun : List ℕ) (old new : Option (List ℕ)) → IsPrompt input before begun old new
+pub run_kept : (input before after : Option (List ℕ)) (begun : List ℕ) (old new : Option (List ℕ))
+    → IsPrompt input before begun old new
     → Keeps before after → IsPrompt input after begun old new
 run_kept None before after begun old new so_far kept = tt
 run_kept (Some input) None after begun old new so_far kept = absurd so_far
 run_kept (Some input) (Some before) None begun old new so_far kept = kept
 run_kept (Some input) (Some before) (Some after) begun old new so_far kept = rw kept so_far
 
-pub run_prompt : (input left : Option (List ℕ)) (begun : List ℕ) (old new : Option (List ℕ)) → IsPrompt input left begun old new
+pub run_prompt : (input left : Option (List ℕ)) (begun : List ℕ) (old new : Option (List ℕ))
+    → IsPrompt input left begun old new
     → IfSome input (λ i. IfSome left (λ l. (b : List ℕ) × AppendsWhole IsLineReply i b l old new))
 run_prompt None left begun old new so_far = tt
 run_prompt (Some input) None begun old new so_far = tt
 run_prompt (Some input) (Some left) begun old new so_far = (begun, so_far)
 
 -- a fault with nothing more written
-pub run_stops : (input left : Option (List ℕ)) (begun : List ℕ) (old new : Option (List ℕ)) → IsPrompt input left begun old new
+pub run_stops : (input left : Option (List ℕ)) (begun : List ℕ) (old new : Option (List ℕ))
+    → IsPrompt input left begun old new
     → IfSome input (λ i. AppendsBeginning IsLineReply i old new)
 run_stops None left begun old new so_far = tt
 run_stops (Some input) None begun old new so_far = absurd so_far
-run_stops (Some input) (Some left) begun old new so_far = rw append-nil at (whole_stops input begun left [] old new so_far)
+run_stops (Some input) (Some left) begun old new so_far =
+    rw append-nil at (whole_stops input begun left [] old new so_far)
 
 -- a fault after a chunk was read, with what the chunk's answers left
-pub run_faults : (input before after : Option (List ℕ)) (begun chunk : List ℕ) (old mid new : Option (List ℕ)) → IsPrompt input before begun old mid
-    → Consumes before after chunk → ((later : List ℕ) → AppendsBeginning IsLineReply (begun ++ (chunk ++ later)) mid new)
+pub run_faults : (input before after : Option (List ℕ)) (begun chunk : List ℕ)
+    (old mid new : Option (List ℕ)) → IsPrompt input before begun old mid
+    → Consumes before after chunk
+    → ((later : List ℕ) → AppendsBeginning IsLineReply (begun ++ (chunk ++ later)) mid new)
     → IfSome input (λ i. AppendsBeginning IsLineReply i old new)
 run_faults None before after begun chunk old mid new so_far read then = tt
 run_faults (Some input) None after begun chunk old mid new so_far read then = absurd so_far
 run_faults (Some input) (Some before) None begun chunk old mid new so_far read then = absurd read
 run_faults (Some input) (Some before) (Some after) begun chunk old mid new so_far read then =
-    rw append-nil at (beginning_after_whole IsLineReply reply_to input begun before [] old mid new so_far (rw (append-nil, read) (then after)))
+    rw append-nil at
+    (beginning_after_whole IsLineReply reply_to input begun before [] old mid new so_far
+    (rw (append-nil, read) (then after)))
 
 -- at the end of the input the begun line is the last
-at_end : (input : List ℕ) (before after : Option (List ℕ)) (begun : List ℕ) (old new : Option (List ℕ)) → IsPrompt (Some input) before begun old new
+at_end : (input : List ℕ) (before after : Option (List ℕ)) (begun : List ℕ)
+    (old new : Option (List ℕ)) → IsPrompt (Some input) before begun old new
     → Consumes before after [] → IsAtEnd after → AppendsWhole IsLineReply input begun [] old new
 at_end input None after begun old new so_far read end = absurd so_far
 at_end input (Some before) None begun old new so_far read end = absurd read
-at_end input (Some before) (Some after) begun old new so_far read end = let none : before ≡ [] = read ∙ end in rw none at so_far
+at_end input (Some before) (Some after) begun old new so_far read end =
+    let none : before ≡ [] = read ∙ end in rw none at so_far
 
-pub run_ends : (input before after : Option (List ℕ)) (begun : List ℕ) (old mid new : Option (List ℕ)) → IsPrompt input before begun old mid
-    → Consumes before after [] → IsAtEnd after → AppendsReplies IsLineReply begun mid new → IfSome input (λ i. AppendsReplies IsLineReply i old new)
+pub run_ends : (input before after : Option (List ℕ)) (begun : List ℕ)
+    (old mid new : Option (List ℕ)) → IsPrompt input before begun old mid
+    → Consumes before after [] → IsAtEnd after → AppendsReplies IsLineReply begun mid new
+    → IfSome input (λ i. AppendsReplies IsLineReply i old new)
 run_ends None before after begun old mid new so_far read end then = tt
 run_ends (Some input) before after begun old mid new so_far read end then =
-    replies_after_whole IsLineReply reply_to input begun old mid new (at_end input before after begun old mid so_far read end) then
+    replies_after_whole IsLineReply reply_to input begun old mid new
+    (at_end input before after begun old mid so_far read end) then
 
 -- or the fault is in the last answer
-pub run_ends_early : (input before after : Option (List ℕ)) (begun : List ℕ) (old mid new : Option (List ℕ)) → IsPrompt input before begun old mid
-    → Consumes before after [] → IsAtEnd after → AppendsBeginning IsLineReply begun mid new → IfSome input (λ i. AppendsBeginning IsLineReply i old new)
+pub run_ends_early : (input before after : Option (List ℕ)) (begun : List ℕ)
+    (old mid new : Option (List ℕ)) → IsPrompt input before begun old mid
+    → Consumes before after [] → IsAtEnd after → AppendsBeginning IsLineReply begun mid new
+    → IfSome input (λ i. AppendsBeginning IsLineReply i old new)
 run_ends_early None before after begun old mid new so_far read end then = tt
 run_ends_early (Some input) before after begun old mid new so_far read end then =
     let whole = at_end input before after begun old mid so_far read end in
-    rw append-nil at (beginning_after_whole IsLineReply reply_to input begun [] [] old mid new whole (rw append-nil then))
+    rw append-nil at
+    (beginning_after_whole IsLineReply reply_to input begun [] [] old mid new whole
+    (rw append-nil then))
 
 -- ---- what a call's clauses say
 

@@ -1,5 +1,6 @@
 -- Which line answers a line.
-use Rattle.std.specs.Prelude.{◌≡◌, ◌⊎◌, ◌++◌, ◌∷◌, ℕ, List, length, map, All, ⊤, nat_eq, codes, chars, Option, Some, None, Result, Ok, Err}
+use Rattle.std.specs.Prelude.{◌≡◌, ◌⊎◌, ◌++◌, ◌∷◌, ℕ, List, length, map, All, ⊤, nat_eq, codes}
+use Rattle.std.specs.Prelude.{chars, Option, Some, None, Result, Ok, Err}
 use Rattle.std.specs.Cmp.Lexicographic.{pointwise}
 use Rattle.std.specs.Fmt.{decimal}
 use Rattle.std.specs.declared.cmp.Ordering.{Ordering}
@@ -8,7 +9,8 @@ use Rattle.std.specs.Str.{IsUtf8}
 use Rattle.hex.specs.Hex.{decode_of, encode_lower}
 use Rattle.jsonb_value.specs.ErrorName.{name_of}
 use Rattle.jsonb_value.specs.declared.error.Error.{Error}
-use Rattle.jsonb_value.specs.declared.error.Error.TheVariants.{InvalidJson, InvalidJsonb, InvalidUtf8, OutOfMemory}
+use Rattle.jsonb_value.specs.declared.error.Error.TheVariants.{InvalidJson, InvalidJsonb}
+use Rattle.jsonb_value.specs.declared.error.Error.TheVariants.{InvalidUtf8, OutOfMemory}
 use Rattle.jsonb_value.specs.Json.Syntax.{Json}
 use Rattle.jsonb_value.specs.Text.{compact, pretty as pretty_text}
 use Rattle.jsonb_value.specs.Meaning.{meaning_cmp}
@@ -17,18 +19,20 @@ use Rattle.jsonb_value.specs.Tree as trees
 use Rattle.jsonb_codec.specs.Canon.{canon as canonical, Fits}
 use Rattle.jsonb_codec.specs.Doc.{Doc, IsDocument}
 use Rattle.jsonb.specs.Building.{FitArray, IsArrayOf}
-use Rattle.jsonb.specs.Code.{stored}
+use Rattle.jsonb.specs.Code.{item_document}
 use Rattle.jsonb.specs.Kind.{kind}
 use Rattle.jsonb.specs.Lookup.{find}
 use Rattle.jsonb.specs.Meant.{meaning_of}
-use Rattle.jsonb.specs.Shown.{Shown, owned}
+use Rattle.jsonb.specs.ItemView.{ItemView, owned}
 use Rattle.jsonb.specs.Standing.{IsFoundIn}
 use Rattle.jsonb.specs.Walked.{IsItemOf}
 use Rattle.jsonb.specs.declared.item_type.JsonbItemType.{JsonbItemType}
-use Rattle.jsonb.specs.declared.item_type.JsonbItemType.TheVariants.{Null, Boolean, Number, String, Extension, Array, Object}
+use Rattle.jsonb.specs.declared.item_type.JsonbItemType.TheVariants.{Null, Boolean, Number, String}
+use Rattle.jsonb.specs.declared.item_type.JsonbItemType.TheVariants.{Extension, Array, Object}
 use Rattle.jsonb_cli.specs.AnswerLine.{ok_line, error_line}
 use Rattle.jsonb_cli.specs.Lines.{Each, Replies, AppendsWhole}
-use Rattle.jsonb_cli.specs.Commands.{Form, enc, dec, pretty, item_type, get, cmp, arr, canon, IsOfForm}
+use Rattle.jsonb_cli.specs.Commands.{Form, enc, dec, pretty, item_type, get, cmp, arr, canon}
+use Rattle.jsonb_cli.specs.Commands.{IsOfForm}
 
 -- the answer to a line of no form
 abbrev pub IsBadCommand : List ℕ → Type 0
@@ -38,24 +42,34 @@ IsBadCommand answer = answer ≡ error_line (codes "BadCommand")
 abbrev pub IsHexOf : List ℕ → List ℕ → Type 0
 IsHexOf bytes word = decode_of word ≡ Ok bytes
 
--- The answer to `enc`: the canonical document of the tree that the text means, or why there is none.
+-- The answer to `enc`: the canonical document of the tree that the text means, or why there is
+-- none.
 pub data IsEncAnswer (text answer : List ℕ) : Type 0 where
   not_text : (IsUtf8 text → ⊥) → answer ≡ error_line (name_of InvalidUtf8) → IsEncAnswer text answer
-  no_tree : IsUtf8 text → ((t : Tree) → Json (chars text) t → ⊥) → answer ≡ error_line (name_of InvalidJson) → IsEncAnswer text answer
-  too_large : (t : Tree) → IsUtf8 text → Json (chars text) t → (Fits t → ⊥) → answer ≡ error_line (name_of InvalidJsonb) → IsEncAnswer text answer
-  encoded : (t : Tree) → IsUtf8 text → Json (chars text) t → Fits t → answer ≡ ok_line (encode_lower (canonical t)) → IsEncAnswer text answer
+  no_tree : IsUtf8 text → ((t : Tree) → Json (chars text) t → ⊥)
+      → answer ≡ error_line (name_of InvalidJson) → IsEncAnswer text answer
+  too_large : (t : Tree) → IsUtf8 text → Json (chars text) t → (Fits t → ⊥)
+      → answer ≡ error_line (name_of InvalidJsonb) → IsEncAnswer text answer
+  encoded : (t : Tree) → IsUtf8 text → Json (chars text) t → Fits t
+      → answer ≡ ok_line (encode_lower (canonical t)) → IsEncAnswer text answer
 
 -- The answer to `dec`: the compact text of the tree that the document means, or why there is none.
 pub data IsDecAnswer (word answer : List ℕ) : Type 0 where
-  bad_hex : ((bytes : List ℕ) → IsHexOf bytes word → ⊥) → answer ≡ error_line (codes "BadHex") → IsDecAnswer word answer
-  no_document : (bytes : List ℕ) → IsHexOf bytes word → (IsDocument bytes → ⊥) → answer ≡ error_line (name_of InvalidJsonb) → IsDecAnswer word answer
-  printed : (bytes : List ℕ) (t : Tree) → IsHexOf bytes word → Doc bytes t → answer ≡ ok_line (compact t) → IsDecAnswer word answer
+  bad_hex : ((bytes : List ℕ) → IsHexOf bytes word → ⊥) → answer ≡ error_line (codes "BadHex")
+      → IsDecAnswer word answer
+  no_document : (bytes : List ℕ) → IsHexOf bytes word → (IsDocument bytes → ⊥)
+      → answer ≡ error_line (name_of InvalidJsonb) → IsDecAnswer word answer
+  printed : (bytes : List ℕ) (t : Tree) → IsHexOf bytes word → Doc bytes t
+      → answer ≡ ok_line (compact t) → IsDecAnswer word answer
 
 -- The answer to `pretty`: the pretty text in hexadecimal.
 pub data IsPrettyAnswer (word answer : List ℕ) : Type 0 where
-  bad_hex : ((bytes : List ℕ) → IsHexOf bytes word → ⊥) → answer ≡ error_line (codes "BadHex") → IsPrettyAnswer word answer
-  no_document : (bytes : List ℕ) → IsHexOf bytes word → (IsDocument bytes → ⊥) → answer ≡ error_line (name_of InvalidJsonb) → IsPrettyAnswer word answer
-  printed : (bytes : List ℕ) (t : Tree) → IsHexOf bytes word → Doc bytes t → answer ≡ ok_line (encode_lower (pretty_text t)) → IsPrettyAnswer word answer
+  bad_hex : ((bytes : List ℕ) → IsHexOf bytes word → ⊥) → answer ≡ error_line (codes "BadHex")
+      → IsPrettyAnswer word answer
+  no_document : (bytes : List ℕ) → IsHexOf bytes word → (IsDocument bytes → ⊥)
+      → answer ≡ error_line (name_of InvalidJsonb) → IsPrettyAnswer word answer
+  printed : (bytes : List ℕ) (t : Tree) → IsHexOf bytes word → Doc bytes t
+      → answer ≡ ok_line (encode_lower (pretty_text t)) → IsPrettyAnswer word answer
 
 -- the words for a kind
 abbrev pub kind_words : JsonbItemType → List ℕ
@@ -73,8 +87,10 @@ kind_line (Err e) = error_line (name_of e)
 
 -- The answer to `type`: the kind that the bytes show, or why they show none.
 pub data IsTypeAnswer (word answer : List ℕ) : Type 0 where
-  bad_hex : ((bytes : List ℕ) → IsHexOf bytes word → ⊥) → answer ≡ error_line (codes "BadHex") → IsTypeAnswer word answer
-  told : (bytes : List ℕ) → IsHexOf bytes word → answer ≡ kind_line (kind bytes) → IsTypeAnswer word answer
+  bad_hex : ((bytes : List ℕ) → IsHexOf bytes word → ⊥) → answer ≡ error_line (codes "BadHex")
+      → IsTypeAnswer word answer
+  told : (bytes : List ℕ) → IsHexOf bytes word → answer ≡ kind_line (kind bytes)
+      → IsTypeAnswer word answer
 
 -- The text of the key spells this name.
 abbrev pub IsName : List ℕ → List ℕ → Type 0
@@ -84,18 +100,26 @@ IsName name key = IsUtf8 key × Json (chars key) (trees.text name)
 abbrev pub value_of_key : List ℕ → Tree → Option Tree
 value_of_key name t = find (pointwise nat_eq name) (length name) t
 
--- The answer to `get`: the value of the key as a document of its own, with the type and payload of the entry that stands there, or why there is none.
+-- The answer to `get`: the value of the key as a document of its own, with the type and payload of
+-- the entry that stands there, or why there is none.
 pub data IsGetAnswer (word key answer : List ℕ) : Type 0 where
-  bad_hex : ((bytes : List ℕ) → IsHexOf bytes word → ⊥) → answer ≡ error_line (codes "BadHex") → IsGetAnswer word key answer
-  not_text : (bytes : List ℕ) → IsHexOf bytes word → (IsUtf8 key → ⊥) → answer ≡ error_line (name_of InvalidUtf8) → IsGetAnswer word key answer
-  no_name : (bytes : List ℕ) → IsHexOf bytes word → IsUtf8 key → ((name : List ℕ) → IsName name key → ⊥) → answer ≡ error_line (name_of InvalidJson)
+  bad_hex : ((bytes : List ℕ) → IsHexOf bytes word → ⊥) → answer ≡ error_line (codes "BadHex")
       → IsGetAnswer word key answer
-  no_document : (bytes name : List ℕ) → IsHexOf bytes word → IsName name key → (IsDocument bytes → ⊥) → answer ≡ error_line (name_of InvalidJsonb)
+  not_text : (bytes : List ℕ) → IsHexOf bytes word → (IsUtf8 key → ⊥)
+      → answer ≡ error_line (name_of InvalidUtf8) → IsGetAnswer word key answer
+  no_name : (bytes : List ℕ) → IsHexOf bytes word → IsUtf8 key
+      → ((name : List ℕ) → IsName name key → ⊥) → answer ≡ error_line (name_of InvalidJson)
       → IsGetAnswer word key answer
-  none : (bytes name : List ℕ) (t : Tree) → IsHexOf bytes word → IsName name key → Doc bytes t → value_of_key name t ≡ None → answer ≡ ok_line (codes "none")
+  no_document : (bytes name : List ℕ) → IsHexOf bytes word → IsName name key
+      → (IsDocument bytes → ⊥) → answer ≡ error_line (name_of InvalidJsonb)
       → IsGetAnswer word key answer
-  found : (bytes name : List ℕ) (t u : Tree) (x : Shown) → IsHexOf bytes word → IsName name key → Doc bytes t → value_of_key name t ≡ Some u → IsItemOf u x
-      → IsFoundIn (pointwise nat_eq name) (length name) bytes t (Some x) → answer ≡ ok_line (encode_lower (stored x)) → IsGetAnswer word key answer
+  none : (bytes name : List ℕ) (t : Tree) → IsHexOf bytes word → IsName name key → Doc bytes t
+      → value_of_key name t ≡ None → answer ≡ ok_line (codes "none")
+      → IsGetAnswer word key answer
+  found : (bytes name : List ℕ) (t u : Tree) (x : ItemView) → IsHexOf bytes word → IsName name key
+      → Doc bytes t → value_of_key name t ≡ Some u → IsItemOf u x
+      → IsFoundIn (pointwise nat_eq name) (length name) bytes t (Some x)
+      → answer ≡ ok_line (encode_lower (item_document x)) → IsGetAnswer word key answer
 
 -- the words for an order
 abbrev pub order_words : Ordering → List ℕ
@@ -105,24 +129,34 @@ order_words Greater = codes "greater"
 
 -- The answer to `cmp`: the order of what the bytes mean.
 pub data IsCmpAnswer (left right answer : List ℕ) : Type 0 where
-  bad_left : ((bytes : List ℕ) → IsHexOf bytes left → ⊥) → answer ≡ error_line (codes "BadHex") → IsCmpAnswer left right answer
-  bad_right : ((bytes : List ℕ) → IsHexOf bytes right → ⊥) → answer ≡ error_line (codes "BadHex") → IsCmpAnswer left right answer
-  told : (x y : List ℕ) → IsHexOf x left → IsHexOf y right → answer ≡ ok_line (order_words (meaning_cmp (meaning_of x) (meaning_of y))) → IsCmpAnswer left right answer
+  bad_left : ((bytes : List ℕ) → IsHexOf bytes left → ⊥) → answer ≡ error_line (codes "BadHex")
+      → IsCmpAnswer left right answer
+  bad_right : ((bytes : List ℕ) → IsHexOf bytes right → ⊥) → answer ≡ error_line (codes "BadHex")
+      → IsCmpAnswer left right answer
+  told : (x y : List ℕ) → IsHexOf x left → IsHexOf y right
+      → answer ≡ ok_line (order_words (meaning_cmp (meaning_of x) (meaning_of y)))
+      → IsCmpAnswer left right answer
 
 -- The answer to `arr`: the array of the documents, in order, or why there is none.
 pub data IsArrAnswer (words : List (List ℕ)) (answer : List ℕ) : Type 0 where
-  bad_hex : (before after : List (List ℕ)) (word : List ℕ) → words ≡ before ++ word ∷ after → ((bytes : List ℕ) → IsHexOf bytes word → ⊥)
+  bad_hex : (before after : List (List ℕ)) (word : List ℕ) → words ≡ before ++ word ∷ after
+      → ((bytes : List ℕ) → IsHexOf bytes word → ⊥)
       → answer ≡ error_line (codes "BadHex") → IsArrAnswer words answer
-  no_array : (inputs : List (List ℕ)) → Each IsHexOf inputs words → (FitArray (map owned inputs) → ⊥) → answer ≡ error_line (name_of InvalidJsonb)
+  no_array : (inputs : List (List ℕ)) → Each IsHexOf inputs words
+      → (FitArray (map owned inputs) → ⊥) → answer ≡ error_line (name_of InvalidJsonb)
       → IsArrAnswer words answer
-  built : (inputs : List (List ℕ)) (bytes : List ℕ) → Each IsHexOf inputs words → IsArrayOf (map owned inputs) bytes → answer ≡ ok_line (encode_lower bytes)
+  built : (inputs : List (List ℕ)) (bytes : List ℕ) → Each IsHexOf inputs words
+      → IsArrayOf (map owned inputs) bytes → answer ≡ ok_line (encode_lower bytes)
       → IsArrAnswer words answer
 
 -- The answer to `canon`: the canonical document of the tree, or why there is none.
 pub data IsCanonAnswer (word answer : List ℕ) : Type 0 where
-  bad_hex : ((bytes : List ℕ) → IsHexOf bytes word → ⊥) → answer ≡ error_line (codes "BadHex") → IsCanonAnswer word answer
-  no_tree : (bytes : List ℕ) → IsHexOf bytes word → ((t : Tree) → Doc bytes t → Fits t → ⊥) → answer ≡ error_line (name_of InvalidJsonb) → IsCanonAnswer word answer
-  written : (bytes : List ℕ) (t : Tree) → IsHexOf bytes word → Doc bytes t → Fits t → answer ≡ ok_line (encode_lower (canonical t)) → IsCanonAnswer word answer
+  bad_hex : ((bytes : List ℕ) → IsHexOf bytes word → ⊥) → answer ≡ error_line (codes "BadHex")
+      → IsCanonAnswer word answer
+  no_tree : (bytes : List ℕ) → IsHexOf bytes word → ((t : Tree) → Doc bytes t → Fits t → ⊥)
+      → answer ≡ error_line (name_of InvalidJsonb) → IsCanonAnswer word answer
+  written : (bytes : List ℕ) (t : Tree) → IsHexOf bytes word → Doc bytes t → Fits t
+      → answer ≡ ok_line (encode_lower (canonical t)) → IsCanonAnswer word answer
 
 -- the answer to a command
 abbrev pub IsFormAnswer : Form → List ℕ → Type 0
@@ -152,8 +186,10 @@ IsReply Answers asked reply = Answers asked reply ⊎ IsRefused reply
 abbrev pub IsLineReply : List ℕ → List ℕ → Type 0
 IsLineReply = IsReply IsAnswer
 
--- Of the input that is left, all whole lines that were read are answered, where the bytes are known. A begun line follows these.
-abbrev pub IsPrompt : Option (List ℕ) → Option (List ℕ) → List ℕ → Option (List ℕ) → Option (List ℕ) → Type 0
+-- Of the input that is left, all whole lines that were read are answered, where the bytes are
+-- known. A begun line follows these.
+abbrev pub IsPrompt : Option (List ℕ) → Option (List ℕ) → List ℕ → Option (List ℕ) → Option (List ℕ)
+    → Type 0
 IsPrompt None left begun old new = ⊤
 IsPrompt (Some input) None begun old new = ⊥
 IsPrompt (Some input) (Some left) begun old new = AppendsWhole IsLineReply input begun left old new

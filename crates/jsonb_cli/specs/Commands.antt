@@ -1,6 +1,6 @@
 -- The lines that name a command.
 use Rattle.std.specs.Prelude.{◌≡◌, ℕ, List, ◌∷◌, ◌++◌, All, codes, ⊤}
-use Rattle.jsonb_cli.specs.Words.{IsWord, spaced}
+use Rattle.jsonb_cli.specs.Words.{IsWord, words_behind_spaces}
 
 -- A command with the text or the words that it is given.
 pub data Form : Type 0 where
@@ -21,7 +21,7 @@ line_of (pretty word) = codes "pretty " ++ word
 line_of (item_type word) = codes "type " ++ word
 line_of (get word key) = codes "get " ++ (word ++ 32 ∷ key)
 line_of (cmp left right) = codes "cmp " ++ (left ++ 32 ∷ right)
-line_of (arr words) = codes "arr" ++ spaced words
+line_of (arr words) = codes "arr" ++ words_behind_spaces words
 line_of (canon word) = codes "canon " ++ word
 
 -- a word that another follows has no space

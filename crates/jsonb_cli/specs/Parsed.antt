@@ -1,6 +1,7 @@
 -- The form of a command.
 use Rattle.jsonb_cli.specs.declared.command.Command.{Command}
-use Rattle.jsonb_cli.specs.declared.command.Command.TheVariants.{Enc, Dec, Pretty, ItemType, Get, Cmp, Arr, Canon}
+use Rattle.jsonb_cli.specs.declared.command.Command.TheVariants.{Enc, Dec, Pretty, ItemType, Get}
+use Rattle.jsonb_cli.specs.declared.command.Command.TheVariants.{Cmp, Arr, Canon}
 use Rattle.jsonb_cli.specs.Commands.{Form, enc, dec, pretty, item_type, get, cmp, arr, canon}
 
 abbrev pub form_of : Command → Form

@@ -13,9 +13,9 @@ after_space None = []
 after_space (Some rest) = 32 ∷ rest.now
 
 -- words, each behind a space
-abbrev pub spaced : List (List ℕ) → List ℕ
-spaced [] = []
-spaced (word ∷ words) = 32 ∷ (word ++ spaced words)
+abbrev pub words_behind_spaces : List (List ℕ) → List ℕ
+words_behind_spaces [] = []
+words_behind_spaces (word ∷ words) = 32 ∷ (word ++ words_behind_spaces words)
 
 -- the words that follow a space: the parts between single spaces, each of which may be empty
 abbrev pub words_from : Option (Bor (List ℕ)) → List (List ℕ)

@@ -1,6 +1,8 @@
 //! What the commands ask of the library.
 
-ghost use Rattle.std.specs.Prelude.{◌≡◌, ◌⊎◌, ◌++◌, ◌∷◌, [], ℕ, List, nat_eq, length, chars, option_map, IfOk, IfErr, IfSome, IfNone, OnOk, IsOkAnd, IsErrOf};
+ghost use Rattle.std.specs.Prelude.{◌≡◌, ◌⊎◌, ◌++◌, ◌∷◌, [], ℕ, List, nat_eq, length, chars};
+ghost use Rattle.std.specs.Prelude.{option_map, IfOk, IfErr, IfSome, IfNone, OnOk, IsOkAnd};
+ghost use Rattle.std.specs.Prelude.{IsErrOf};
 ghost use Rattle.std.specs.String.{string_bytes};
 ghost use Rattle.std.specs.Cmp.Lexicographic.{pointwise};
 ghost use Rattle.hex.specs.Hex.{encode_lower};
@@ -10,16 +12,18 @@ ghost use Rattle.jsonb_value.specs.Text.{compact, pretty};
 ghost use Rattle.jsonb_value.specs.Tree.{Tree, text};
 ghost use Rattle.jsonb_value.specs.Value.{cow_bytes, tree_of};
 ghost use Rattle.jsonb_codec.specs.Doc.{Doc, IsDocument};
-ghost use Rattle.jsonb.specs.Code.{stored, CanBeStored};
+ghost use Rattle.jsonb.specs.Code.{item_document, CanBeStored};
 ghost use Rattle.jsonb.specs.Lookup.{find, IsItemFound};
 ghost use Rattle.jsonb.specs.Standing.{IsFoundIn};
 ghost use Rattle.jsonb.specs.Raw.{raw_bytes};
-ghost use Rattle.jsonb.specs.Shown.{shown, owned};
+ghost use Rattle.jsonb.specs.ItemView.{item_view, owned};
 ghost use Rattle.jsonb_cli.specs.AnswerLine.{answer_words, ok_line, outcome_line};
-ghost use Rattle.jsonb_cli.specs.Answers.{IsEncAnswer, IsDecAnswer, IsPrettyAnswer, IsTypeAnswer, IsGetAnswer, IsCmpAnswer, IsArrAnswer, IsCanonAnswer, IsReply, IsHexOf, kind_words, order_words};
+ghost use Rattle.jsonb_cli.specs.Answers.{IsEncAnswer, IsDecAnswer, IsPrettyAnswer, IsTypeAnswer};
+ghost use Rattle.jsonb_cli.specs.Answers.{IsGetAnswer, IsCmpAnswer, IsArrAnswer, IsCanonAnswer};
+ghost use Rattle.jsonb_cli.specs.Answers.{IsReply, IsHexOf, kind_words, order_words};
 
 use crate::answer::{Answer, Refusal};
-use crate::command::decoded;
+use crate::command::decode_word;
 use crate::words::Words;
 use jsonb::{
     ArrayBuilder, Error, JsonbItem, JsonbItemType, OwnedJsonb, RawJsonb, Value, parse_value,
@@ -46,7 +50,7 @@ pub fn answer_enc(alloc: Global, text: &[u8]) -> Result<Answer, Refusal>
 pub fn answer_dec(alloc: Global, word: &[u8]) -> Result<Answer, Refusal>
     ensures { IsReply IsDecAnswer word.now (outcome_line result) }
 {
-    let bytes = decoded(alloc, word)?;
+    let bytes = decode_word(alloc, word)?;
     match document_text(alloc, &bytes) {
         Ok(text) => Ok(Answer::Text(text)),
         Err(error) => Err(Refusal::Call(error)),
@@ -57,7 +61,7 @@ pub fn answer_dec(alloc: Global, word: &[u8]) -> Result<Answer, Refusal>
 pub fn answer_pretty(alloc: Global, word: &[u8]) -> Result<Answer, Refusal>
     ensures { IsReply IsPrettyAnswer word.now (outcome_line result) }
 {
-    let bytes = decoded(alloc, word)?;
+    let bytes = decode_word(alloc, word)?;
     match pretty_document_text(alloc, &bytes) {
         Ok(text) => Ok(Answer::Hex(text.into_bytes())),
         Err(error) => Err(Refusal::Call(error)),
@@ -80,7 +84,8 @@ fn document_in(bytes: &[u8]) -> Result<RawJsonb<'_>, Error>
 
 // The compact text of the tree that the bytes mean.
 fn document_text(alloc: Global, bytes: &[u8]) -> Result<String, Error>
-    ensures ok { IfOk result (λ text. (t : Tree) × (Doc bytes.now t × (string_bytes text ≡ compact t))) }
+    ensures ok { IfOk result
+        (λ text. (t : Tree) × (Doc bytes.now t × (string_bytes text ≡ compact t))) }
     ensures none { IfErr result (λ e. e ≡ Error.InvalidJsonb → IsDocument bytes.now → ⊥) }
     ensures only { IfErr result (λ e. (e ≡ Error.InvalidJsonb) ⊎ (e ≡ Error.OutOfMemory)) }
 {
@@ -92,7 +97,8 @@ fn document_text(alloc: Global, bytes: &[u8]) -> Result<String, Error>
 
 // The pretty text of the tree that the bytes mean.
 fn pretty_document_text(alloc: Global, bytes: &[u8]) -> Result<String, Error>
-    ensures ok { IfOk result (λ text. (t : Tree) × (Doc bytes.now t × (string_bytes text ≡ pretty t))) }
+    ensures ok { IfOk result
+        (λ text. (t : Tree) × (Doc bytes.now t × (string_bytes text ≡ pretty t))) }
     ensures none { IfErr result (λ e. e ≡ Error.InvalidJsonb → IsDocument bytes.now → ⊥) }
     ensures only { IfErr result (λ e. (e ≡ Error.InvalidJsonb) ⊎ (e ≡ Error.OutOfMemory)) }
 {
@@ -106,8 +112,8 @@ fn pretty_document_text(alloc: Global, bytes: &[u8]) -> Result<String, Error>
 pub fn answer_cmp(alloc: Global, left: &[u8], right: &[u8]) -> Result<Answer, Refusal>
     ensures { IsReply (IsCmpAnswer left.now) right.now (outcome_line result) }
 {
-    let left = decoded(alloc, left)?;
-    let right = decoded(alloc, right)?;
+    let left = decode_word(alloc, left)?;
+    let right = decode_word(alloc, right)?;
     let order = RawJsonb::new(&left).cmp(&RawJsonb::new(&right));
     Ok(Answer::Word(order_word(order)))
 }
@@ -147,7 +153,7 @@ fn push_document(alloc: Global, builder: &mut ArrayBuilder, word: &[u8]) -> Resu
     ensures refused { IfErr result (λ refusal.
         (refusal ≡ Refusal.BadHex) ⊎ (refusal ≡ Refusal.Call OutOfMemory)) }
 {
-    let document = OwnedJsonb::new(decoded(alloc, word)?);
+    let document = OwnedJsonb::new(decode_word(alloc, word)?);
     if builder.push_owned_jsonb(document).is_err() {
         return Err(Refusal::Call(Error::OutOfMemory));
     }
@@ -158,7 +164,7 @@ fn push_document(alloc: Global, builder: &mut ArrayBuilder, word: &[u8]) -> Resu
 pub fn answer_canon(alloc: Global, word: &[u8]) -> Result<Answer, Refusal>
     ensures { IsReply IsCanonAnswer word.now (outcome_line result) }
 {
-    let bytes = decoded(alloc, word)?;
+    let bytes = decode_word(alloc, word)?;
     match RawJsonb::new(&bytes).to_canonical(alloc) {
         Ok(document) => Ok(Answer::Hex(document.to_vec())),
         Err(error) => Err(Refusal::Call(error)),
@@ -169,7 +175,7 @@ pub fn answer_canon(alloc: Global, word: &[u8]) -> Result<Answer, Refusal>
 pub fn answer_type(alloc: Global, word: &[u8]) -> Result<Answer, Refusal>
     ensures { IsReply IsTypeAnswer word.now (outcome_line result) }
 {
-    let bytes = decoded(alloc, word)?;
+    let bytes = decode_word(alloc, word)?;
     match RawJsonb::new(&bytes).jsonb_item_type() {
         Ok(kind) => Ok(kind_answer(kind)),
         Err(error) => Err(Refusal::Call(error)),
@@ -195,7 +201,7 @@ fn kind_answer(kind: JsonbItemType) -> Answer
 pub fn answer_get(alloc: Global, word: &[u8], key: &[u8]) -> Result<Answer, Refusal>
     ensures { IsReply (IsGetAnswer word.now) key.now (outcome_line result) }
 {
-    let bytes = decoded(alloc, word)?;
+    let bytes = decode_word(alloc, word)?;
     let Ok(json) = str::from_utf8(key) else {
         return Err(Refusal::Call(Error::InvalidUtf8));
     };
@@ -212,8 +218,10 @@ pub fn answer_get(alloc: Global, word: &[u8], key: &[u8]) -> Result<Answer, Refu
 
 // The bytes that an item becomes.
 fn stored_answer(alloc: Global, item: JsonbItem) -> Result<Answer, Refusal>
-    ensures ok { OnOk result (outcome_line result ≡ ok_line (encode_lower (stored (shown item.entry)))) }
-    ensures memory { CanBeStored (shown item.entry) → IfErr result (λ refusal. refusal ≡ Refusal.Call OutOfMemory) }
+    ensures ok { OnOk result
+        (outcome_line result ≡ ok_line (encode_lower (item_document (item_view item.entry)))) }
+    ensures memory { CanBeStored (item_view item.entry)
+        → IfErr result (λ refusal. refusal ≡ Refusal.Call OutOfMemory) }
 {
     match OwnedJsonb::from_item(alloc, item) {
         Ok(document) => Ok(Answer::Hex(document.to_vec())),
@@ -259,10 +267,11 @@ fn string_of<'a>(value: Value<'a>) -> Option<CowStr<'a>>
 fn value_named<'a>(bytes: &'a [u8], name: &str) -> Result<Option<JsonbItem<'a>>, Error>
     ensures found { (t : Tree) → Doc bytes.now t
         → IsOkAnd result (λ item. IsItemFound (find (pointwise nat_eq name.now) (length name.now) t)
-        (option_map shown item)) }
+        (option_map item_view item)) }
     ensures entry { (t : Tree) → Doc bytes.now t
-        → IsOkAnd result (λ item. IsFoundIn (pointwise nat_eq name.now) (length name.now) bytes.now t
-        (option_map shown item)) }
+        → IsOkAnd result
+        (λ item. IsFoundIn (pointwise nat_eq name.now) (length name.now) bytes.now t
+        (option_map item_view item)) }
     ensures none { IfErr result (λ e. (e ≡ Error.InvalidJsonb) × (IsDocument bytes.now → ⊥)) }
     ensures some { IfOk result (λ item. IsDocument bytes.now) }
 {

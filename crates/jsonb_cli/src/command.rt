@@ -1,6 +1,7 @@
 //! The commands: which line is one, and what each answers.
 
-ghost use Rattle.std.specs.Prelude.{◌≡◌, ◌⊎◌, ◌++◌, ℕ, List, codes, IfSome, IfNone, IfOk, IfErr, IsErrOf};
+ghost use Rattle.std.specs.Prelude.{◌≡◌, ◌⊎◌, ◌++◌, ℕ, List, codes, IfSome, IfNone, IfOk, IfErr};
+ghost use Rattle.std.specs.Prelude.{IsErrOf};
 ghost use Rattle.jsonb_value.specs.declared.error.Error.TheVariants.{OutOfMemory};
 ghost use Rattle.jsonb_cli.specs.Commands.{Form, IsOfForm};
 ghost use Rattle.jsonb_cli.specs.Parsed.{form_of};
@@ -121,7 +122,7 @@ pub fn answer(alloc: Global, line: &[u8]) -> Result<Answer, Refusal>
 }
 
 /// The bytes of a hexadecimal word of either case; of an empty word none.
-pub fn decoded(alloc: Global, word: &[u8]) -> Result<Vec<u8>, Refusal>
+pub fn decode_word(alloc: Global, word: &[u8]) -> Result<Vec<u8>, Refusal>
     ensures ok { IfOk result (λ bytes. IsHexOf bytes.items word.now) }
     ensures bad { IsErrOf result Refusal.BadHex → (bytes : List ℕ) → IsHexOf bytes word.now → ⊥ }
     ensures refused { IfErr result (λ refusal.

@@ -1,6 +1,7 @@
 //! Lines in, answers out, over any reader and any writer.
 
-ghost use Rattle.std.specs.Prelude.{◌≡◌, ℕ, [], ◌∷◌, ◌++◌, List, Option, ⊤, OnOk, OnErr, IfOk, IfSome, IsErrOf, IsOkUnless, string_bytes};
+ghost use Rattle.std.specs.Prelude.{◌≡◌, ℕ, [], ◌∷◌, ◌++◌, List, Option, ⊤, OnOk, OnErr, IfOk};
+ghost use Rattle.std.specs.Prelude.{IfSome, IsErrOf, IsOkUnless, string_bytes};
 ghost use Rattle.std.specs.Io.{ReadsAtMost};
 ghost use Rattle.std.specs.Io.KnownBytes.{IsAtEnd, ReadConsumes};
 ghost use Rattle.jsonb_cli.specs.Answers.{IsLineReply, AreAnswers, IsPrompt};

@@ -1,5 +1,6 @@
 -- A list built from its front: what was put in it, and the others that follow.
-use Rattle.std.proofs.Common.{◌≡◌, ℕ, List, [], ◌∷◌, ◌++◌, Option, Some, None, Vec, Result, Ok, Err, IfOk, refl, sym, ap, ap₂, subst, ◌∙◌, rules}
+use Rattle.std.proofs.Common.{◌≡◌, ℕ, List, [], ◌∷◌, ◌++◌, Option, Some, None, Vec, Result, Ok, Err}
+use Rattle.std.proofs.Common.{IfOk, refl, sym, ap, ap₂, subst, ◌∙◌, rules}
 use Rattle.std.specs.Prelude.{String, map, string_bytes, string_cmp}
 use Rattle.std.specs.declared.alloc.Global.{Global}
 use Rattle.std.specs.declared.cmp.Ordering.{Ordering}
@@ -12,7 +13,8 @@ use Rattle.std.specs.BTreeMap.{BTreeMap, insert_entry}
 use mathlib.Core.Former as Former
 use Rattle.jsonb_value.specs.declared.value.Value.{Value, Array, Object, the_lemmas, fold-Value}
 use Rattle.jsonb_value.specs.declared.error.Error.{Error}
-use Rattle.jsonb_value.specs.Tree.{Tree, Trees, no_trees, tree, Pairs, no_pairs, pair, array, object, Ascends, Ascend}
+use Rattle.jsonb_value.specs.Tree.{Tree, Trees, no_trees, tree, Pairs, no_pairs, pair, array}
+use Rattle.jsonb_value.specs.Tree.{object, Ascends, Ascend}
 use Rattle.jsonb_value.specs.Value.{trees_of, pairs_of, tree_of, tree_step, items_view, pairs_view}
 use Rattle.jsonb_codec.specs.Doc.{Doc, IsDocument}
 use Rattle.jsonb_codec.specs.Parts.{IsPayloadOf}
@@ -27,7 +29,8 @@ pub trees_and-none : (us : List Tree) → trees_and us no_trees ≡ trees_of us
 trees_and-none [] = refl
 trees_and-none (u ∷ us) = ap (tree u) (trees_and-none us)
 
-pub trees_and-append : (us : List Tree) (u : Tree) (ts : Trees) → trees_and (us ++ (u ∷ [])) ts ≡ trees_and us (tree u ts)
+pub trees_and-append : (us : List Tree) (u : Tree) (ts : Trees)
+    → trees_and (us ++ (u ∷ [])) ts ≡ trees_and us (tree u ts)
 trees_and-append [] u ts = refl
 trees_and-append (v ∷ us) u ts = ap (tree v) (trees_and-append us u ts)
 
@@ -40,26 +43,34 @@ pub pairs_and-none : (ps : List (String Global × Tree)) → pairs_and ps no_pai
 pairs_and-none [] = refl
 pairs_and-none (p ∷ ps) = ap (pair (string_bytes p.0) p.1) (pairs_and-none ps)
 
-pub pairs_and-append : (ps : List (String Global × Tree)) (p : String Global × Tree) (qs : Pairs) → pairs_and (ps ++ (p ∷ [])) qs ≡ pairs_and ps (pair (string_bytes p.0) p.1 qs)
+pub pairs_and-append : (ps : List (String Global × Tree)) (p : String Global × Tree) (qs : Pairs)
+    → pairs_and (ps ++ (p ∷ [])) qs ≡ pairs_and ps (pair (string_bytes p.0) p.1 qs)
 pairs_and-append [] p qs = refl
 pairs_and-append (o ∷ ps) p qs = ap (pair (string_bytes o.0) o.1) (pairs_and-append ps p qs)
 
 -- a key is above every key in front of it
-below : (b k : List ℕ) (es : List (String Global × Tree)) (t : Tree) (qs : Pairs) → Ascends (Some b) (pairs_and es (pair k t qs)) → slice_cmp nat_cmp b k ≡ Less
+below : (b k : List ℕ) (es : List (String Global × Tree)) (t : Tree) (qs : Pairs)
+    → Ascends (Some b) (pairs_and es (pair k t qs)) → slice_cmp nat_cmp b k ≡ Less
 below b k [] t qs h = h.0
-below b k (e ∷ es) t qs h = nat_list_cmp_total.trans b (string_bytes e.0) k h.0 (below (string_bytes e.0) k es t qs h.1)
+below b k (e ∷ es) t qs h =
+    nat_list_cmp_total.trans b (string_bytes e.0) k h.0 (below (string_bytes e.0) k es t qs h.1)
 
 above : (b k : List ℕ) → slice_cmp nat_cmp b k ≡ Less → slice_cmp nat_cmp k b ≡ Greater
 above b k h = nat_list_cmp_total.antisymm k b ∙ ap ordering_reverse h
 
 -- so it is put behind them
-pub insert_entry-append : (before : Option (List ℕ)) (es : List (String Global × Value)) (k : String Global) (v : Value) (t : Tree) (qs : Pairs)
-    → Ascends before (pairs_and (map (λ m. (m.0, tree_of m.1)) es) (pair (string_bytes k) t qs)) → insert_entry string_cmp es k v ≡ es ++ ((k, v) ∷ [])
+pub insert_entry-append : (before : Option (List ℕ)) (es : List (String Global × Value))
+    (k : String Global) (v : Value) (t : Tree) (qs : Pairs)
+    → Ascends before (pairs_and (map (λ m. (m.0, tree_of m.1)) es) (pair (string_bytes k) t qs))
+    → insert_entry string_cmp es k v ≡ es ++ ((k, v) ∷ [])
 insert_entry-append before [] k v t qs h = refl
 insert_entry-append before (e ∷ es) k v t qs h =
-    let last = above (string_bytes e.0) (string_bytes k) (below (string_bytes e.0) (string_bytes k) (map (λ m. (m.0, tree_of m.1)) es) t qs h.1) in
-    ap (λ (o : Ordering). match_ordering o ((k, v) ∷ e ∷ es) ((e.0, v) ∷ es) (e ∷ insert_entry string_cmp es k v)) last
-    ∙ ap (λ (l : List (String Global × Value)). e ∷ l) (insert_entry-append (Some (string_bytes e.0)) es k v t qs h.1)
+    let last = above (string_bytes e.0) (string_bytes k)
+    (below (string_bytes e.0) (string_bytes k) (map (λ m. (m.0, tree_of m.1)) es) t qs h.1) in
+    ap (λ (o : Ordering). match_ordering o ((k, v) ∷ e ∷ es) ((e.0, v) ∷ es)
+    (e ∷ insert_entry string_cmp es k v)) last
+    ∙ ap (λ (l : List (String Global × Value)). e ∷ l)
+    (insert_entry-append (Some (string_bytes e.0)) es k v t qs h.1)
 
 -- bytes of one type mean one tree
 pub meant : (ty : ℕ) (p : List ℕ) (t u : Tree) → IsPayloadOf ty p t → IsPayloadOf ty p u → t ≡ u
@@ -68,42 +79,59 @@ meant ty p t u h k = same_tree t u (h.0 ∙ sym k.0) p h.1 k.1
 pub tree_of-Array : (v : Vec Value Global) → tree_of (Array v) ≡ array (items_view v.items)
 tree_of-Array v = search (rules, the_lemmas)
 
-pairs_of-map : (es : List (String Global × Value)) → pairs_of (map ((Former.pair (Former.const (String Global)) Former.this).map Value Tree (fold-Value Tree tree_step)) es) ≡ pairs_view es
+pairs_of-map : (es : List (String Global × Value))
+    → pairs_of
+    (map ((Former.pair (Former.const (String Global)) Former.this).map Value Tree
+    (fold-Value Tree tree_step)) es) ≡ pairs_view es
 pairs_of-map [] = refl
 pairs_of-map (e ∷ es) = ap (pair (string_bytes e.0) (tree_of e.1)) (pairs_of-map es)
 
-pub tree_of-Object : (m : BTreeMap (String Global) Value) → tree_of (Object m) ≡ object (pairs_view m.entries)
+pub tree_of-Object : (m : BTreeMap (String Global) Value)
+    → tree_of (Object m) ≡ object (pairs_view m.entries)
 tree_of-Object m = search (rules, the_lemmas, pairs_of-map m.entries)
 
 -- one more value behind those so far
-pub trees_and-push : (vs ws : List Value) (v : Value) (ts us others : Trees) (first : Tree) → ts ≡ trees_and (map tree_of vs) us → us ≡ tree first others → tree_of v ≡ first → ws ≡ vs ++ (v ∷ []) → ts ≡ trees_and (map tree_of ws) others
+pub trees_and-push : (vs ws : List Value) (v : Value) (ts us others : Trees) (first : Tree)
+    → ts ≡ trees_and (map tree_of vs) us → us ≡ tree first others → tree_of v ≡ first
+    → ws ≡ vs ++ (v ∷ []) → ts ≡ trees_and (map tree_of ws) others
 trees_and-push vs ws v ts us others first whole are same more =
     whole ∙ ap (trees_and (map tree_of vs)) (are ∙ ap (λ (t : Tree). tree t others) (sym same))
     ∙ sym (trees_and-append (map tree_of vs) (tree_of v) others)
-    ∙ ap (λ (l : List Tree). trees_and l others) (sym (map-append tree_of vs (v ∷ [])) ∙ ap (map tree_of) (sym more))
+    ∙ ap (λ (l : List Tree). trees_and l others)
+    (sym (map-append tree_of vs (v ∷ [])) ∙ ap (map tree_of) (sym more))
 
 -- what a map's pairs show
 abbrev pub seen : List (String Global × Value) → List (String Global × Tree)
 seen ms = map (λ m. (m.0, tree_of m.1)) ms
 
 -- one more pair behind those so far
-pub pairs_and-behind : (vs ws : List (String Global × Value)) (k : String Global) (v : Value) (ps us others : Pairs) (key : List ℕ) (value : Tree)
-    → ps ≡ pairs_and (seen vs) us → us ≡ pair key value others → string_bytes k ≡ key → tree_of v ≡ value → ws ≡ vs ++ ((k, v) ∷ []) → ps ≡ pairs_and (seen ws) others
+pub pairs_and-behind : (vs ws : List (String Global × Value)) (k : String Global) (v : Value)
+    (ps us others : Pairs) (key : List ℕ) (value : Tree)
+    → ps ≡ pairs_and (seen vs) us → us ≡ pair key value others → string_bytes k ≡ key
+    → tree_of v ≡ value → ws ≡ vs ++ ((k, v) ∷ []) → ps ≡ pairs_and (seen ws) others
 pairs_and-behind vs ws k v ps us others key value whole are is same more =
-    let front : us ≡ pair (string_bytes k) (tree_of v) others = are ∙ ap₂ (λ (x : List ℕ) (t : Tree). pair x t others) (sym is) (sym same) in
+    let front : us ≡ pair (string_bytes k) (tree_of v) others =
+    are ∙ ap₂ (λ (x : List ℕ) (t : Tree). pair x t others) (sym is) (sym same) in
     whole ∙ ap (pairs_and (seen vs)) front
     ∙ sym (pairs_and-append (seen vs) (k, tree_of v) others)
-    ∙ ap (λ (l : List (String Global × Tree)). pairs_and l others) (sym (map-append (λ m. (m.0, tree_of m.1)) vs ((k, v) ∷ [])) ∙ ap seen (sym more))
+    ∙ ap (λ (l : List (String Global × Tree)). pairs_and l others)
+    (sym (map-append (λ m. (m.0, tree_of m.1)) vs ((k, v) ∷ [])) ∙ ap seen (sym more))
 
 -- the same where it was put into a map, behind the keys that it is above
-pub pairs_and-push : (vs ws : List (String Global × Value)) (k : String Global) (v : Value) (ps us others : Pairs) (key : List ℕ) (value : Tree) → Ascend ps
-    → ps ≡ pairs_and (seen vs) us → us ≡ pair key value others → string_bytes k ≡ key → tree_of v ≡ value → ws ≡ insert_entry string_cmp vs k v → ps ≡ pairs_and (seen ws) others
+pub pairs_and-push : (vs ws : List (String Global × Value)) (k : String Global) (v : Value)
+    (ps us others : Pairs) (key : List ℕ) (value : Tree) → Ascend ps
+    → ps ≡ pairs_and (seen vs) us → us ≡ pair key value others → string_bytes k ≡ key
+    → tree_of v ≡ value → ws ≡ insert_entry string_cmp vs k v → ps ≡ pairs_and (seen ws) others
 pairs_and-push vs ws k v ps us others key value ascend whole are is same more =
-    let front : us ≡ pair (string_bytes k) (tree_of v) others = are ∙ ap₂ (λ (x : List ℕ) (t : Tree). pair x t others) (sym is) (sym same) in
-    let last = insert_entry-append None vs k v (tree_of v) others (subst Ascend (whole ∙ ap (pairs_and (seen vs)) front) ascend) in
+    let front : us ≡ pair (string_bytes k) (tree_of v) others =
+    are ∙ ap₂ (λ (x : List ℕ) (t : Tree). pair x t others) (sym is) (sym same) in
+    let last = insert_entry-append None vs k v (tree_of v) others
+    (subst Ascend (whole ∙ ap (pairs_and (seen vs)) front) ascend) in
     pairs_and-behind vs ws k v ps us others key value whole are is same (more ∙ last)
 
 -- what was read is the tree of the document
-pub the_tree : (a b : List ℕ) (r : Result Value Error) → a ≡ b → IsDocument b → IfOk r (λ v. (t : Tree) → Doc a t → tree_of v ≡ t) → IfOk r (λ v. Doc b (tree_of v))
-the_tree a b (Ok v) is (t, h) same = subst (Doc b) (sym (same t (subst (λ x. Doc x t) (sym is) h))) h
+pub the_tree : (a b : List ℕ) (r : Result Value Error) → a ≡ b → IsDocument b
+    → IfOk r (λ v. (t : Tree) → Doc a t → tree_of v ≡ t) → IfOk r (λ v. Doc b (tree_of v))
+the_tree a b (Ok v) is (t, h) same =
+    subst (Doc b) (sym (same t (subst (λ x. Doc x t) (sym is) h))) h
 the_tree a b (Err e) is doc same = tt

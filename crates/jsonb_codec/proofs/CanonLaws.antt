@@ -1,13 +1,19 @@
 -- The canonical document means the tree with its zeros made one.
-use Rattle.std.proofs.Common.{◌≡◌, ◌↔◌, ℕ, suc, ◌+◌, ◌<◌, ◌^◌, List, ◌++◌, Option, Some, None, true, false, length, inl, inr, refl, sym, ap, ap₂, subst, ◌∙◌}
+use Rattle.std.proofs.Common.{◌≡◌, ◌↔◌, ℕ, suc, ◌+◌, ◌<◌, ◌^◌, List, ◌++◌, Option, Some, None, true}
+use Rattle.std.proofs.Common.{false, length, inl, inr, refl, sym, ap, ap₂, subst, ◌∙◌}
 use Rattle.std.proofs.lemmas.Bool.{cases_eq}
-use Rattle.jsonb_value.specs.Tree.{Tree, null, boolean, number, text, extension, array, object, Trees, no_trees, tree, Pairs, no_pairs, pair, count, pair_count, Ascends}
+use Rattle.jsonb_value.specs.Tree.{Tree, null, boolean, number, text, extension, array, object}
+use Rattle.jsonb_value.specs.Tree.{Trees, no_trees, tree, Pairs, no_pairs, pair, count, pair_count}
+use Rattle.jsonb_value.specs.Tree.{Ascends}
 use Rattle.jsonb_value.specs.Norm.{norm, norms, norm_pairs}
 use Rattle.jsonb_value.specs.WellFormed.{IsTree, AreTrees, ArePairs}
-use Rattle.jsonb_value.proofs.PayloadLaws.{NumCode-number_payload, ExtCode-extension_payload, number_payload-norm_number}
+use Rattle.jsonb_value.proofs.PayloadLaws.{NumCode-number_payload, ExtCode-extension_payload}
+use Rattle.jsonb_value.proofs.PayloadLaws.{number_payload-norm_number}
 use Rattle.jsonb_codec.specs.Word.{word}
 use Rattle.jsonb_codec.specs.Doc.{type_of, Keys, Values, Children, Payload, Doc}
-use Rattle.jsonb_codec.specs.Canon.{canon, payload_of, entries_of, payloads_of, key_entries, key_payloads, value_entries, value_payloads, FitsInside, AllFit, PairsFit, Fits}
+use Rattle.jsonb_codec.specs.Canon.{canon, payload_of, entries_of, payloads_of, key_entries}
+use Rattle.jsonb_codec.specs.Canon.{key_payloads, value_entries, value_payloads, FitsInside, AllFit}
+use Rattle.jsonb_codec.specs.Canon.{PairsFit, Fits}
 use Rattle.jsonb_codec.proofs.Lengths.{canon-scalar, canon-container}
 use Rattle.jsonb_codec.proofs.Unique.{Doc-unique}
 
@@ -25,12 +31,14 @@ pub pair_count-norm_pairs : (ps : Pairs) → pair_count (norm_pairs ps) ≡ pair
 pair_count-norm_pairs no_pairs = refl
 pair_count-norm_pairs (pair k t ps) = ap suc (pair_count-norm_pairs ps)
 
-pub Ascends-norm_pairs : (before : Option (List ℕ)) (ps : Pairs) → Ascends before ps → Ascends before (norm_pairs ps)
+pub Ascends-norm_pairs : (before : Option (List ℕ)) (ps : Pairs) → Ascends before ps
+    → Ascends before (norm_pairs ps)
 Ascends-norm_pairs before no_pairs a = tt
 Ascends-norm_pairs before (pair k t ps) a = (a.0, Ascends-norm_pairs (Some k) ps a.1)
 
 -- the canonical parts, as a document has them
-Keys-canonical : (ps : Pairs) → ArePairs ps → PairsFit ps → Keys (norm_pairs ps) (key_entries ps) (key_payloads ps)
+Keys-canonical : (ps : Pairs) → ArePairs ps → PairsFit ps
+    → Keys (norm_pairs ps) (key_entries ps) (key_payloads ps)
 Keys-canonical no_pairs h f = record { no_entries = refl; no_payloads = refl }
 Keys-canonical (pair k t ps) h f = record {
   payload = k;
@@ -43,7 +51,8 @@ Keys-canonical (pair k t ps) h f = record {
   others = Keys-canonical ps h.1.1 f.1;
 }
 
-entry-norm : (t : Tree) (n : ℕ) (others : List ℕ) → word (type_of t + n) ++ others ≡ word (type_of (norm t) + n) ++ others
+entry-norm : (t : Tree) (n : ℕ) (others : List ℕ)
+    → word (type_of t + n) ++ others ≡ word (type_of (norm t) + n) ++ others
 entry-norm t n others = ap (λ (k : ℕ). word (k + n) ++ others) (sym (type_of-norm t))
 
 mutual
@@ -87,7 +96,8 @@ mutual
         },
       )
 
-  Children-canonical : (ts : Trees) → AreTrees ts → AllFit ts → Children (norms ts) (entries_of ts) (payloads_of ts)
+  Children-canonical : (ts : Trees) → AreTrees ts → AllFit ts
+      → Children (norms ts) (entries_of ts) (payloads_of ts)
   Children-canonical no_trees h f = record { no_entries = refl; no_payloads = refl }
   Children-canonical (tree t ts) h f = record {
     payload = payload_of t;
@@ -100,7 +110,8 @@ mutual
     others = Children-canonical ts h.1 f.1;
   }
 
-  Values-canonical : (ps : Pairs) → ArePairs ps → PairsFit ps → Values (norm_pairs ps) (value_entries ps) (value_payloads ps)
+  Values-canonical : (ps : Pairs) → ArePairs ps → PairsFit ps
+      → Values (norm_pairs ps) (value_entries ps) (value_payloads ps)
   Values-canonical no_pairs h f = record { no_entries = refl; no_payloads = refl }
   Values-canonical (pair k t ps) h f = record {
     payload = payload_of t;
@@ -115,17 +126,25 @@ mutual
 
 -- The canonical document of a tree means its normal form.
 pub Doc-canon : (t : Tree) → IsTree t → Fits t → Doc (canon t) (norm t)
-Doc-canon t h f = elim (cases_eq (type_of t) 1342177280) [ inl is ↦ whole is | inr other ↦ scalar other ]
+Doc-canon t h f =
+    elim (cases_eq (type_of t) 1342177280) [ inl is ↦ whole is | inr other ↦ scalar other ]
   where
     whole : type_of t ≡ 1342177280 → Doc (canon t) (norm t)
-    whole is = inr (type_of-norm t ∙ is, subst (Payload (norm t)) (sym (canon-container t is)) (Payload-canonical t h f.inside))
+    whole is = inr (
+      type_of-norm t
+          ∙ is,
+      subst (Payload (norm t)) (sym (canon-container t is))
+          (Payload-canonical t h f.inside),
+    )
 
     scalar : (type_of t ≡ 1342177280 → ⊥) → Doc (canon t) (norm t)
     scalar other = inl (
       λ e. other (sym (type_of-norm t) ∙ e),
       record {
         payload = payload_of t;
-        parts = canon-scalar t other ∙ ap (λ (x : List ℕ). word 536870912 ++ x) (entry-norm t (length (payload_of t)) (payload_of t));
+        parts = canon-scalar t other ∙ ap
+            (λ (x : List ℕ). word 536870912 ++ x)
+            (entry-norm t (length (payload_of t)) (payload_of t));
         short = f.short other;
         means = Payload-canonical t h f.inside;
       },
@@ -134,7 +153,8 @@ Doc-canon t h f = elim (cases_eq (type_of t) 1342177280) [ inl is ↦ whole is |
 -- the normal form is written as the tree itself
 key_entries-norm_pairs : (ps : Pairs) → key_entries (norm_pairs ps) ≡ key_entries ps
 key_entries-norm_pairs no_pairs = refl
-key_entries-norm_pairs (pair k t ps) = ap (λ (xs : List ℕ). word (268435456 + length k) ++ xs) (key_entries-norm_pairs ps)
+key_entries-norm_pairs (pair k t ps) =
+    ap (λ (xs : List ℕ). word (268435456 + length k) ++ xs) (key_entries-norm_pairs ps)
 
 key_payloads-norm_pairs : (ps : Pairs) → key_payloads (norm_pairs ps) ≡ key_payloads ps
 key_payloads-norm_pairs no_pairs = refl
@@ -149,45 +169,59 @@ mutual
   payload_of-norm (text s) = refl
   payload_of-norm (extension e) = refl
   payload_of-norm (array ts) =
-      ap₂ (λ (n : ℕ) (xs : List ℕ). word (2147483648 + n) ++ xs) (count-norms ts) (ap₂ (λ (xs ys : List ℕ). xs ++ ys) (entries_of-norms ts) (payloads_of-norms ts))
+      ap₂ (λ (n : ℕ) (xs : List ℕ). word (2147483648 + n) ++ xs) (count-norms ts)
+      (ap₂ (λ (xs ys : List ℕ). xs ++ ys) (entries_of-norms ts) (payloads_of-norms ts))
   payload_of-norm (object ps) =
       ap₂ (λ (n : ℕ) (xs : List ℕ). word (1073741824 + n) ++ xs) (pair_count-norm_pairs ps)
       (ap₂ (λ (xs ys : List ℕ). xs ++ ys) (key_entries-norm_pairs ps)
-      (ap₂ (λ (xs ys : List ℕ). xs ++ ys) (value_entries-norm_pairs ps) (ap₂ (λ (xs ys : List ℕ). xs ++ ys) (key_payloads-norm_pairs ps) (value_payloads-norm_pairs ps))))
+      (ap₂ (λ (xs ys : List ℕ). xs ++ ys) (value_entries-norm_pairs ps)
+      (ap₂ (λ (xs ys : List ℕ). xs ++ ys) (key_payloads-norm_pairs ps)
+      (value_payloads-norm_pairs ps))))
 
   entries_of-norms : (ts : Trees) → entries_of (norms ts) ≡ entries_of ts
   entries_of-norms no_trees = refl
   entries_of-norms (tree t ts) =
-      ap₂ (λ (n : ℕ) (xs : List ℕ). word n ++ xs) (ap₂ (λ (i j : ℕ). i + j) (type_of-norm t) (ap length (payload_of-norm t))) (entries_of-norms ts)
+      ap₂ (λ (n : ℕ) (xs : List ℕ). word n ++ xs)
+      (ap₂ (λ (i j : ℕ). i + j) (type_of-norm t) (ap length (payload_of-norm t)))
+      (entries_of-norms ts)
 
   payloads_of-norms : (ts : Trees) → payloads_of (norms ts) ≡ payloads_of ts
   payloads_of-norms no_trees = refl
-  payloads_of-norms (tree t ts) = ap₂ (λ (xs ys : List ℕ). xs ++ ys) (payload_of-norm t) (payloads_of-norms ts)
+  payloads_of-norms (tree t ts) =
+      ap₂ (λ (xs ys : List ℕ). xs ++ ys) (payload_of-norm t) (payloads_of-norms ts)
 
   value_entries-norm_pairs : (ps : Pairs) → value_entries (norm_pairs ps) ≡ value_entries ps
   value_entries-norm_pairs no_pairs = refl
   value_entries-norm_pairs (pair k t ps) =
-      ap₂ (λ (n : ℕ) (xs : List ℕ). word n ++ xs) (ap₂ (λ (i j : ℕ). i + j) (type_of-norm t) (ap length (payload_of-norm t))) (value_entries-norm_pairs ps)
+      ap₂ (λ (n : ℕ) (xs : List ℕ). word n ++ xs)
+      (ap₂ (λ (i j : ℕ). i + j) (type_of-norm t) (ap length (payload_of-norm t)))
+      (value_entries-norm_pairs ps)
 
   value_payloads-norm_pairs : (ps : Pairs) → value_payloads (norm_pairs ps) ≡ value_payloads ps
   value_payloads-norm_pairs no_pairs = refl
-  value_payloads-norm_pairs (pair k t ps) = ap₂ (λ (xs ys : List ℕ). xs ++ ys) (payload_of-norm t) (value_payloads-norm_pairs ps)
+  value_payloads-norm_pairs (pair k t ps) =
+      ap₂ (λ (xs ys : List ℕ). xs ++ ys) (payload_of-norm t) (value_payloads-norm_pairs ps)
 
 pub canon-norm : (t : Tree) → canon (norm t) ≡ canon t
-canon-norm t = elim (cases_eq (type_of t) 1342177280) [ inl is ↦ whole is | inr other ↦ scalar other ]
+canon-norm t =
+    elim (cases_eq (type_of t) 1342177280) [ inl is ↦ whole is | inr other ↦ scalar other ]
   where
     whole : type_of t ≡ 1342177280 → canon (norm t) ≡ canon t
-    whole is = canon-container (norm t) (type_of-norm t ∙ is) ∙ payload_of-norm t ∙ sym (canon-container t is)
+    whole is = canon-container (norm t) (type_of-norm t ∙ is) ∙ payload_of-norm t
+        ∙ sym (canon-container t is)
 
     scalar : (type_of t ≡ 1342177280 → ⊥) → canon (norm t) ≡ canon t
     scalar other =
         canon-scalar (norm t) (λ e. other (sym (type_of-norm t) ∙ e))
-        ∙ ap₂ (λ (n : ℕ) (xs : List ℕ). word 536870912 ++ (word (n + length xs) ++ xs)) (type_of-norm t) (payload_of-norm t)
+        ∙ ap₂ (λ (n : ℕ) (xs : List ℕ). word 536870912 ++ (word (n + length xs) ++ xs))
+        (type_of-norm t) (payload_of-norm t)
         ∙ sym (canon-scalar t other)
 
 -- Two trees have the same canonical document exactly if they have the same normal form.
-pub norm-canon : (t u : Tree) → IsTree t → IsTree u → Fits t → Fits u → (canon t ≡ canon u) ↔ (norm t ≡ norm u)
+pub norm-canon : (t u : Tree) → IsTree t → IsTree u → Fits t → Fits u → (canon t ≡ canon u)
+    ↔ (norm t ≡ norm u)
 norm-canon t u ht hu ft fu = (
-  λ e. Doc-unique (canon u) (norm t) (norm u) (subst (λ b. Doc b (norm t)) e (Doc-canon t ht ft)) (Doc-canon u hu fu),
+  λ e. Doc-unique (canon u) (norm t) (norm u) (subst (λ b. Doc b (norm t)) e (Doc-canon t ht ft))
+      (Doc-canon u hu fu),
   λ e. sym (canon-norm t) ∙ ap canon e ∙ canon-norm u,
 )

@@ -1,5 +1,6 @@
 -- The two masks of an entry word.
-use Rattle.std.proofs.Common.{◌≡◌, ℕ, ◌-◌, ◌*◌, ◌/◌, ◌%◌, ◌^◌, bit_and, bit_or, sym, ap, ap₂, ◌∙◌, arith}
+use Rattle.std.proofs.Common.{◌≡◌, ℕ, ◌-◌, ◌*◌, ◌/◌, ◌%◌, ◌^◌, bit_and, bit_or, sym, ap, ap₂, ◌∙◌}
+use Rattle.std.proofs.Common.{arith}
 use Rattle.std.proofs.lemmas.Nat.{and_mask, and_block, and_le_r, or_shifted, shr_split}
 
 bit_and-zero : (n : ℕ) → bit_and n 0 ≡ 0
@@ -24,4 +25,5 @@ type-arithmetic k = omega arith
 -- type and length joined again
 pub bit_or-parts : (k : ℕ) → bit_or (bit_and k 1879048192) (bit_and k 268435455) ≡ k % 2 ^ 31
 bit_or-parts k =
-    ap₂ (λ (a b : ℕ). bit_or a b) (bit_and-type k) (bit_and-length k) ∙ or_shifted (k / 2 ^ 28 % 8) 28 (k % 2 ^ 28) (omega arith) ∙ omega arith
+    ap₂ (λ (a b : ℕ). bit_or a b) (bit_and-type k) (bit_and-length k)
+    ∙ or_shifted (k / 2 ^ 28 % 8) 28 (k % 2 ^ 28) (omega arith) ∙ omega arith

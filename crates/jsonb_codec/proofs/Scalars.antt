@@ -1,5 +1,7 @@
 -- What the payload of each type can be.
-use Rattle.std.proofs.Common.{IfErr, ◌≡◌, ◌↔◌, ◌&&◌, ℕ, suc, List, [], Bool, true, false, IsTrue, Result, Ok, Err, IsErrAnd, IfErr, OnErr, eqb, length, ◌∷◌, refl, sym, subst, ◌∙◌, arith}
+use Rattle.std.proofs.Common.{IfErr, ◌≡◌, ◌↔◌, ◌&&◌, ℕ, suc, List, [], Bool, true, false, IsTrue}
+use Rattle.std.proofs.Common.{Result, Ok, Err, IsErrAnd, IfErr, OnErr, eqb, length, ◌∷◌, refl, sym}
+use Rattle.std.proofs.Common.{subst, ◌∙◌, arith}
 use Rattle.std.proofs.lemmas.Bool.Decides.{nat_tests}
 use Rattle.std.specs.Str.{IsUtf8}
 use Rattle.jsonb_value.specs.declared.number.Number.{Number}
@@ -33,13 +35,15 @@ text_behind (boolean true) p e h = absurd (omega arith)
 text_behind (boolean false) p e h = absurd (omega arith)
 text_behind t p e h = absurd (omega arith)
 
-pub number_behind : (t : Tree) (p : List ℕ) → type_of t ≡ 536870912 → Payload t p → (x : Number) × NumCode p x
+pub number_behind : (t : Tree) (p : List ℕ) → type_of t ≡ 536870912 → Payload t p → (x : Number)
+    × NumCode p x
 number_behind (number x) p e h = (x, h)
 number_behind (boolean true) p e h = absurd (omega arith)
 number_behind (boolean false) p e h = absurd (omega arith)
 number_behind t p e h = absurd (omega arith)
 
-pub extension_behind : (t : Tree) (p : List ℕ) → type_of t ≡ 1610612736 → Payload t p → (x : Extension) × ExtCode p x
+pub extension_behind : (t : Tree) (p : List ℕ) → type_of t ≡ 1610612736 → Payload t p
+    → (x : Extension) × ExtCode p x
 extension_behind (extension x) p e h = (x, h)
 extension_behind (boolean true) p e h = absurd (omega arith)
 extension_behind (boolean false) p e h = absurd (omega arith)
@@ -49,22 +53,33 @@ pub iff_trans : {A B C : Type 0} → (A ↔ B) → (B ↔ C) → A ↔ C
 iff_trans h k = (λ a. k.0 (h.0 a), λ c. h.1 (k.1 c))
 
 pub HasPayload-null : (d k : ℕ) (p : List ℕ) → k ≡ 0 → (p ≡ []) ↔ HasPayload d k p
-HasPayload-null d k p e = (λ h. (null, (omega arith, (sym e, h))), λ w. null_behind w.0 p (w.1.1.0 ∙ e) w.1.1.1)
+HasPayload-null d k p e =
+    (λ h. (null, (omega arith, (sym e, h))), λ w. null_behind w.0 p (w.1.1.0 ∙ e) w.1.1.1)
 
 pub HasPayload-false : (d k : ℕ) (p : List ℕ) → k ≡ 805306368 → (p ≡ []) ↔ HasPayload d k p
-HasPayload-false d k p e = (λ h. (boolean false, (omega arith, (sym e, h))), λ w. false_behind w.0 p (w.1.1.0 ∙ e) w.1.1.1)
+HasPayload-false d k p e =
+    (λ h. (boolean false, (omega arith, (sym e, h))), λ w. false_behind w.0 p (w.1.1.0 ∙ e) w.1.1.1)
 
 pub HasPayload-true : (d k : ℕ) (p : List ℕ) → k ≡ 1073741824 → (p ≡ []) ↔ HasPayload d k p
-HasPayload-true d k p e = (λ h. (boolean true, (omega arith, (sym e, h))), λ w. true_behind w.0 p (w.1.1.0 ∙ e) w.1.1.1)
+HasPayload-true d k p e =
+    (λ h. (boolean true, (omega arith, (sym e, h))), λ w. true_behind w.0 p (w.1.1.0 ∙ e) w.1.1.1)
 
 pub HasPayload-text : (d k : ℕ) (p : List ℕ) → k ≡ 268435456 → IsUtf8 p ↔ HasPayload d k p
-HasPayload-text d k p e = (λ h. (text p, (omega arith, (sym e, (refl, h)))), λ w. text_behind w.0 p (w.1.1.0 ∙ e) w.1.1.1)
+HasPayload-text d k p e =
+    (λ h. (text p, (omega arith, (sym e, (refl, h)))), λ w. text_behind w.0 p (w.1.1.0 ∙ e) w.1.1.1)
 
-pub HasPayload-number : (d k : ℕ) (p : List ℕ) → k ≡ 536870912 → ((x : Number) × NumCode p x) ↔ HasPayload d k p
-HasPayload-number d k p e = (λ h. (number h.0, (omega arith, (sym e, h.1))), λ w. number_behind w.0 p (w.1.1.0 ∙ e) w.1.1.1)
+pub HasPayload-number : (d k : ℕ) (p : List ℕ) → k ≡ 536870912 → ((x : Number) × NumCode p x)
+    ↔ HasPayload d k p
+HasPayload-number d k p e =
+    (λ h. (number h.0, (omega arith, (sym e, h.1))), λ w. number_behind w.0 p (w.1.1.0 ∙ e) w.1.1.1)
 
-pub HasPayload-extension : (d k : ℕ) (p : List ℕ) → k ≡ 1610612736 → ((x : Extension) × ExtCode p x) ↔ HasPayload d k p
-HasPayload-extension d k p e = (λ h. (extension h.0, (omega arith, (sym e, h.1))), λ w. extension_behind w.0 p (w.1.1.0 ∙ e) w.1.1.1)
+pub HasPayload-extension : (d k : ℕ) (p : List ℕ) → k ≡ 1610612736 → ((x : Extension) × ExtCode p x)
+    ↔ HasPayload d k p
+HasPayload-extension d k p e = (
+  λ h. (extension h.0, (omega arith, (sym e, h.1))),
+  λ w. extension_behind w.0 p
+      (w.1.1.0 ∙ e) w.1.1.1,
+)
 
 never_empty : (n : ℕ) → eqb (suc n) 0 ≡ true → ⊥
 never_empty n e = grind (arith, nat_tests)
@@ -78,15 +93,18 @@ not_empty b [] e never z = let both = sym never ∙ e in cc
 not_empty b (x ∷ p) e never z = omega arith
 
 -- an error that `?` hands on
-pub raised : {A : Type 0} (faults : FaultTable) (P : Type 0) (r : Result A Error) (e : Error) → IsErrAnd r (λ x. x ≡ e) → IsFault faults e → ¬ P → Tells faults r P
+pub raised : {A : Type 0} (faults : FaultTable) (P : Type 0) (r : Result A Error) (e : Error)
+    → IsErrAnd r (λ x. x ≡ e) → IsFault faults e → ¬ P → Tells faults r P
 raised faults P (Ok x) e h fault never = absurd h
 raised faults P (Err x) e h fault never = (subst (IsFault faults) (sym h) fault, never)
 
-pub raised_as : {A : Type 0} (P : Error → Type 0) (r : Result A Error) (e : Error) → IsErrAnd r (λ x. x ≡ e) → P e → IfErr r P
+pub raised_as : {A : Type 0} (P : Error → Type 0) (r : Result A Error) (e : Error)
+    → IsErrAnd r (λ x. x ≡ e) → P e → IfErr r P
 raised_as P (Ok x) e h p = tt
 raised_as P (Err x) e h p = subst P (sym h) p
 
-pub tells_iff : {A P Q : Type 0} (faults : FaultTable) (r : Result A Error) → Tells faults r P → (P ↔ Q) → Tells faults r Q
+pub tells_iff : {A P Q : Type 0} (faults : FaultTable) (r : Result A Error) → Tells faults r P
+    → (P ↔ Q) → Tells faults r Q
 tells_iff faults (Ok x) h k = k.0 h
 tells_iff faults (Err e) h k = (h.0, λ q. h.1 (k.1 q))
 

@@ -1,43 +1,58 @@
 -- Words that stand in bytes, and what is read there.
-use Rattle.std.proofs.Common.{◌≡◌, ℕ, ◌+◌, ◌%◌, ◌^◌, ◌<◌, ◌≤◌, List, [], ◌++◌, Vec, Global, Result, Ok, Err, length, rules, take, drop, refl, sym, ap, ◌∙◌, arith, length-append, append_assoc}
+use Rattle.std.proofs.Common.{◌≡◌, ℕ, ◌+◌, ◌%◌, ◌^◌, ◌<◌, ◌≤◌, List, [], ◌++◌, Vec, Global, Result}
+use Rattle.std.proofs.Common.{Ok, Err, length, rules, take, drop, refl, sym, ap, ◌∙◌, arith}
+use Rattle.std.proofs.Common.{length-append, append_assoc}
 use Rattle.std.specs.Int.{w32, from_be_bytes}
 use Rattle.std.proofs.lemmas.List.{drop_at, take_at, append-nil}
 use Rattle.jsonb_value.specs.Tree.{Tree}
 use Rattle.jsonb_value.specs.declared.error.Error.{Error}
 use Rattle.jsonb_codec.specs.Word.{word, word_at}
 use Rattle.jsonb_codec.specs.Doc.{type_of}
-use Rattle.jsonb_codec.specs.Room.{Appended, Stands}
+use Rattle.jsonb_codec.specs.Room.{AppendsBytes, Stands}
 use Rattle.jsonb_codec.proofs.Entries.{IsType-type_of}
 use Rattle.jsonb_codec.proofs.Words.{length-word, length-word-append, word-value}
 
 -- what was appended stands from the old end on
-pub Stands-Appended : {old new : Vec ℕ Global} {words : List ℕ} → Appended old new words → Stands (length old.items) words new.items
+pub Stands-Appended : {old new : Vec ℕ Global} {words : List ℕ} → AppendsBytes old new words
+    → Stands (length old.items) words new.items
 Stands-Appended {old} {new} {words} h =
-    record { front = old.items; rest = []; parts = h.items ∙ ap (λ (x : List ℕ). old.items ++ x) (sym (append-nil words)); is_at = refl }
+    record {
+      front = old.items;
+      rest = [];
+      parts = h.items ∙ ap
+          (λ (x : List ℕ). old.items ++ x) (sym (append-nil words));
+      is_at = refl;
+    }
 
 -- and still does when more is appended
-pub Stands-more : {old new : Vec ℕ Global} {bytes : List ℕ} (at : ℕ) (words : List ℕ) → Stands at words old.items → Appended old new bytes → Stands at words new.items
+pub Stands-more : {old new : Vec ℕ Global} {bytes : List ℕ} (at : ℕ) (words : List ℕ)
+    → Stands at words old.items → AppendsBytes old new bytes → Stands at words new.items
 Stands-more {old} {new} {bytes} at words s h =
     record {
       front = s.front;
       rest = s.rest ++ bytes;
-      parts = h.items ∙ ap (λ (x : List ℕ). x ++ bytes) s.parts ∙ append_assoc s.front (words ++ s.rest) bytes ∙ ap (λ (x : List ℕ). s.front ++ x) (append_assoc words s.rest bytes);
+      parts = h.items ∙ ap (λ (x : List ℕ). x ++ bytes) s.parts
+          ∙ append_assoc s.front (words ++ s.rest) bytes ∙ ap
+          (λ (x : List ℕ). s.front ++ x) (append_assoc words s.rest bytes);
       is_at = s.is_at;
     }
 
 -- the words behind the first one
-pub Stands-next : (at k : ℕ) (others bytes : List ℕ) → Stands at (word k ++ others) bytes → Stands (at + 4) others bytes
+pub Stands-next : (at k : ℕ) (others bytes : List ℕ) → Stands at (word k ++ others) bytes
+    → Stands (at + 4) others bytes
 Stands-next at k others bytes s =
     let len = length-append s.front (word k) in
     record {
       front = s.front ++ word k;
       rest = s.rest;
-      parts = s.parts ∙ ap (λ (x : List ℕ). s.front ++ x) (append_assoc (word k) others s.rest) ∙ sym (append_assoc s.front (word k) (others ++ s.rest));
+      parts = s.parts ∙ ap (λ (x : List ℕ). s.front ++ x) (append_assoc (word k) others s.rest)
+          ∙ sym (append_assoc s.front (word k) (others ++ s.rest));
       is_at = omega (arith, len, length-word k, s.is_at);
     }
 
 -- the first ones alone
-pub Stands-first : (at : ℕ) (words others bytes : List ℕ) → Stands at (words ++ others) bytes → Stands at words bytes
+pub Stands-first : (at : ℕ) (words others bytes : List ℕ) → Stands at (words ++ others) bytes
+    → Stands at words bytes
 Stands-first at words others bytes s = record {
   front = s.front;
   rest = others ++ s.rest;
@@ -52,13 +67,17 @@ Stands-within at k bytes s =
     omega (arith, whole, length-word-append k s.rest, s.is_at)
 
 -- and is what is read there.
-pub Stands-read : (at k : ℕ) (bytes : List ℕ) → k < 2 ^ 32 → Stands at (word k) bytes → from_be_bytes w32 (take 4 (drop at bytes)) ≡ k
+pub Stands-read : (at k : ℕ) (bytes : List ℕ) → k < 2 ^ 32 → Stands at (word k) bytes
+    → from_be_bytes w32 (take 4 (drop at bytes)) ≡ k
 Stands-read at k bytes small s =
-    let behind : drop at bytes ≡ word k ++ s.rest = ap (drop at) s.parts ∙ drop_at s.front (word k ++ s.rest) at s.is_at in
-    let first : take 4 (drop at bytes) ≡ word k = ap (take 4) behind ∙ take_at (word k) s.rest 4 (length-word k) in
+    let behind : drop at bytes ≡ word k ++ s.rest =
+    ap (drop at) s.parts ∙ drop_at s.front (word k ++ s.rest) at s.is_at in
+    let first : take 4 (drop at bytes) ≡ word k =
+    ap (take 4) behind ∙ take_at (word k) s.rest 4 (length-word k) in
     ap (from_be_bytes w32) first ∙ word-value k small
 
-pub word_at-inside : (bytes : List ℕ) (at : ℕ) → at + 4 ≤ length bytes → word_at bytes at ≡ Ok (from_be_bytes w32 (take 4 (drop at bytes)))
+pub word_at-inside : (bytes : List ℕ) (at : ℕ) → at + 4 ≤ length bytes
+    → word_at bytes at ≡ Ok (from_be_bytes w32 (take 4 (drop at bytes)))
 word_at-inside bytes at inside = search (rules, inside)
 
 abbrev word_or : ℕ → Result ℕ Error → ℕ

@@ -1,5 +1,7 @@
 -- Laws of words.
-use Rattle.std.proofs.Common.{◌≡◌, ◌≢◌, ◌↔◌, Bool, true, false, IsTrue, nat_lt, ℕ, zero, suc, ◌+◌, ◌-◌, ◌*◌, ◌^◌, ◌<◌, ◌≤◌, List, [], ◌∷◌, ◌++◌, length, take, drop, get_or, refl, sym, ap, ◌∙◌, arith, length-append}
+use Rattle.std.proofs.Common.{◌≡◌, ◌≢◌, ◌↔◌, Bool, true, false, IsTrue, nat_lt, ℕ, zero, suc, ◌+◌}
+use Rattle.std.proofs.Common.{◌-◌, ◌*◌, ◌^◌, ◌<◌, ◌≤◌, List, [], ◌∷◌, ◌++◌, length, take, drop}
+use Rattle.std.proofs.Common.{get_or, refl, sym, ap, ◌∙◌, arith, length-append}
 use Rattle.std.specs.Int.{w32, byte_at, from_be_bytes}
 use Rattle.std.proofs.lemmas.Nat.{be_bytes_4, from_be_bytes-to_be_bytes_4}
 use Rattle.std.proofs.Math.Seq.{take-length}
@@ -33,7 +35,8 @@ same_parts (p ∷ a) (q ∷ b) x y n e =
     (cc, rest.1)
 
 -- a word and what follows it are read in one way
-pub same_words : (k l : ℕ) (x y : List ℕ) → k < 2 ^ 32 → l < 2 ^ 32 → word k ++ x ≡ word l ++ y → (k ≡ l) × (x ≡ y)
+pub same_words : (k l : ℕ) (x y : List ℕ) → k < 2 ^ 32 → l < 2 ^ 32 → word k ++ x ≡ word l ++ y
+    → (k ≡ l) × (x ≡ y)
 same_words k l x y hk hl e =
     let parts = same_parts (word k) (word l) x y (length-word k ∙ sym (length-word l)) e in
     (sym (word-value k hk) ∙ ap (from_be_bytes w32) parts.0 ∙ word-value l hl, parts.1)
@@ -44,7 +47,8 @@ length-word-append k x = length-append (word k) x ∙ ap (λ n. n + length x) (l
 abbrev pub four_of : List ℕ → List ℕ
 four_of xs = get_or xs 0 0 ∷ (get_or xs 1 0 ∷ (get_or xs 2 0 ∷ (get_or xs 3 0 ∷ [])))
 
-four_small : (xs : List ℕ) → ((i : ℕ) → get_or xs i 0 < 256) → (i : ℕ) → get_or (four_of xs) i 0 < 256
+four_small : (xs : List ℕ) → ((i : ℕ) → get_or xs i 0 < 256) → (i : ℕ)
+    → get_or (four_of xs) i 0 < 256
 four_small xs h zero = h 0
 four_small xs h (suc zero) = h 1
 four_small xs h (suc (suc zero)) = h 2
@@ -58,15 +62,20 @@ split_four (a ∷ (b ∷ [])) h = absurd (omega arith)
 split_four (a ∷ (b ∷ (c ∷ []))) h = absurd (omega arith)
 split_four (a ∷ (b ∷ (c ∷ (d ∷ xs)))) h =
     let n : length (a ∷ (b ∷ (c ∷ (d ∷ xs)))) - 4 ≡ length xs = omega arith in
-    sym (ap (λ (k : ℕ). a ∷ (b ∷ (c ∷ (d ∷ take k xs)))) n ∙ ap (λ (ys : List ℕ). a ∷ (b ∷ (c ∷ (d ∷ ys)))) (take-length xs))
+    sym (ap (λ (k : ℕ). a ∷ (b ∷ (c ∷ (d ∷ take k xs)))) n ∙ ap
+    (λ (ys : List ℕ). a ∷ (b ∷ (c ∷ (d ∷ ys)))) (take-length xs))
 
 -- the word at the front, as it is read, and what follows it
-pub word_at_front : (xs : List ℕ) (n : ℕ) → 4 ≤ length xs → ((i : ℕ) → get_or xs i 0 < 256) → n ≡ big_number 4 xs → xs ≡ word n ++ take (length xs - 4) (drop 4 xs)
+pub word_at_front : (xs : List ℕ) (n : ℕ) → 4 ≤ length xs → ((i : ℕ) → get_or xs i 0 < 256)
+    → n ≡ big_number 4 xs → xs ≡ word n ++ take (length xs - 4) (drop 4 xs)
 unfolding word
 word_at_front xs n h small is =
-    split_four xs h ∙ ap (λ (front : List ℕ). front ++ take (length xs - 4) (drop 4 xs)) (sym (be_bytes_4 (four_of xs) n refl (four_small xs small) (omega (arith, is))))
+    split_four xs h ∙ ap
+    (λ (front : List ℕ). front ++ take (length xs - 4) (drop 4 xs))
+    (sym (be_bytes_4 (four_of xs) n refl (four_small xs small) (omega (arith, is))))
 
-ordering_then-less : (a b : ℕ) (o : Ordering) → a ≤ b → (a ≡ b → o ≡ Less) → ordering_then (nat_cmp a b) o ≡ Less
+ordering_then-less : (a b : ℕ) (o : Ordering) → a ≤ b → (a ≡ b → o ≡ Less)
+    → ordering_then (nat_cmp a b) o ≡ Less
 ordering_then-less a b o le eq = by (nat_cmp a b) (ranked a b _ refl)
   where
     by : (r : Ordering) → MatchOrdering r (a < b) (a ≡ b) (b < a) → ordering_then r o ≡ Less
@@ -74,7 +83,8 @@ ordering_then-less a b o le eq = by (nat_cmp a b) (ranked a b _ refl)
     by Equal h = eq h
     by Greater h = absurd (omega arith)
 
-slice_cmp-digits : (a b c d e f g h : ℕ) (x y : List ℕ) → b < 256 → c < 256 → d < 256 → f < 256 → g < 256 → h < 256
+slice_cmp-digits : (a b c d e f g h : ℕ) (x y : List ℕ) → b < 256 → c < 256 → d < 256 → f < 256
+    → g < 256 → h < 256
     → 16777216 * a + (65536 * b + (256 * c + d)) < 16777216 * e + (65536 * f + (256 * g + h))
     → slice_cmp nat_cmp (a ∷ (b ∷ (c ∷ (d ∷ x)))) (e ∷ (f ∷ (g ∷ (h ∷ y)))) ≡ Less
 slice_cmp-digits a b c d e f g h x y bb bc bd bf bg bh lt =
@@ -83,13 +93,18 @@ slice_cmp-digits a b c d e f g h x y bb bc bd bf bg bh lt =
     (λ bf. ordering_then-less c g _ (omega arith)
     (λ cg. ordering_then-less d h _ (omega arith) (λ dh. absurd (omega arith)))))
 
-slice_cmp-less : (k l : ℕ) (x y : List ℕ) → k < 2 ^ 32 → l < 2 ^ 32 → k < l → slice_cmp nat_cmp (word k ++ x) (word l ++ y) ≡ Less
+slice_cmp-less : (k l : ℕ) (x y : List ℕ) → k < 2 ^ 32 → l < 2 ^ 32 → k < l
+    → slice_cmp nat_cmp (word k ++ x) (word l ++ y) ≡ Less
 unfolding word
 slice_cmp-less k l x y small_k small_l lt =
-    let value_k : 16777216 * byte_at 3 k + (65536 * byte_at 2 k + (256 * byte_at 1 k + byte_at 0 k)) ≡ k = omega (arith, from_be_bytes-to_be_bytes_4 k small_k) in
-    let value_l : 16777216 * byte_at 3 l + (65536 * byte_at 2 l + (256 * byte_at 1 l + byte_at 0 l)) ≡ l = omega (arith, from_be_bytes-to_be_bytes_4 l small_l) in
-    slice_cmp-digits (byte_at 3 k) (byte_at 2 k) (byte_at 1 k) (byte_at 0 k) (byte_at 3 l) (byte_at 2 l) (byte_at 1 l) (byte_at 0 l) x y
-    (omega arith) (omega arith) (omega arith) (omega arith) (omega arith) (omega arith) (omega (arith, value_k, value_l))
+    let value_k : 16777216 * byte_at 3 k + (65536 * byte_at 2 k + (256 * byte_at 1 k + byte_at 0 k))
+    ≡ k = omega (arith, from_be_bytes-to_be_bytes_4 k small_k) in
+    let value_l : 16777216 * byte_at 3 l + (65536 * byte_at 2 l + (256 * byte_at 1 l + byte_at 0 l))
+    ≡ l = omega (arith, from_be_bytes-to_be_bytes_4 l small_l) in
+    slice_cmp-digits (byte_at 3 k) (byte_at 2 k) (byte_at 1 k) (byte_at 0 k) (byte_at 3 l)
+    (byte_at 2 l) (byte_at 1 l) (byte_at 0 l) x y
+    (omega arith) (omega arith) (omega arith) (omega arith) (omega arith) (omega arith)
+    (omega (arith, value_k, value_l))
 
 -- two lists whose first words differ stand as these words do
 pub slice_cmp-words : (k l : ℕ) (x y : List ℕ) → k < 2 ^ 32 → l < 2 ^ 32 → k ≢ l
@@ -99,10 +114,12 @@ slice_cmp-words k l x y small_k small_l ne = (
   λ less. by (nat_lt k l) refl less,
 )
   where
-    by : (b : Bool) → nat_lt k l ≡ b → slice_cmp nat_cmp (word k ++ x) (word l ++ y) ≡ Less → IsTrue (nat_lt k l)
+    by : (b : Bool) → nat_lt k l ≡ b → slice_cmp nat_cmp (word k ++ x) (word l ++ y) ≡ Less
+        → IsTrue (nat_lt k l)
     by true is less = is
     by false is less =
         let from = ltb-false k l is in
         let other = slice_cmp-less l k y x small_l small_k (omega arith) in
-        let turned : slice_cmp nat_cmp (word k ++ x) (word l ++ y) ≡ Greater = nat_list_cmp_total.antisymm (word k ++ x) (word l ++ y) ∙ ap ordering_reverse other in
+        let turned : slice_cmp nat_cmp (word k ++ x) (word l ++ y) ≡ Greater =
+        nat_list_cmp_total.antisymm (word k ++ x) (word l ++ y) ∙ ap ordering_reverse other in
         cc

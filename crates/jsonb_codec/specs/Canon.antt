@@ -1,9 +1,13 @@
 -- The one document that is written for a tree, and which trees have one.
 use Rattle.std.specs.Prelude.{◌≡◌, ◌<◌, ◌^◌, ◌+◌, ◌==◌, ℕ, List, [], ◌++◌, length, ⊤, if◌then◌else◌}
-use Rattle.jsonb_value.specs.Tree.{Tree, null, boolean, number, text, extension, array, object, Trees, no_trees, tree, Pairs, no_pairs, pair, count, pair_count}
+use Rattle.jsonb_value.specs.Tree.{Tree, null, boolean, number, text, extension, array, object}
+use Rattle.jsonb_value.specs.Tree.{Trees, no_trees, tree, Pairs, no_pairs, pair, count, pair_count}
 use Rattle.jsonb_value.specs.NumCode.{number_payload}
 use Rattle.jsonb_value.specs.ExtCode.{extension_payload}
-use Rattle.jsonb_codec.specs.declared.constants.TheConstants.{ARRAY_CONTAINER_TAG, OBJECT_CONTAINER_TAG, SCALAR_CONTAINER_TAG, STRING_TAG, CONTAINER_TAG}
+use Rattle.jsonb_codec.specs.declared.constants.TheConstants.{ARRAY_CONTAINER_TAG}
+use Rattle.jsonb_codec.specs.declared.constants.TheConstants.{OBJECT_CONTAINER_TAG}
+use Rattle.jsonb_codec.specs.declared.constants.TheConstants.{SCALAR_CONTAINER_TAG, STRING_TAG}
+use Rattle.jsonb_codec.specs.declared.constants.TheConstants.{CONTAINER_TAG}
 use Rattle.jsonb_codec.specs.Word.{word}
 use Rattle.jsonb_codec.specs.Doc.{type_of}
 
@@ -25,7 +29,8 @@ abbrev mutual
   payload_of (text s) = s
   payload_of (extension e) = extension_payload e
   payload_of (array ts) = word (ARRAY_CONTAINER_TAG + count ts) ++ (entries_of ts ++ payloads_of ts)
-  payload_of (object ps) = word (OBJECT_CONTAINER_TAG + pair_count ps) ++ (key_entries ps ++ (value_entries ps ++ (key_payloads ps ++ value_payloads ps)))
+  payload_of (object ps) = word (OBJECT_CONTAINER_TAG + pair_count ps)
+      ++ (key_entries ps ++ (value_entries ps ++ (key_payloads ps ++ value_payloads ps)))
 
   pub entries_of : Trees → List ℕ
   entries_of no_trees = []
@@ -49,7 +54,8 @@ entry_word t = word (type_of t + length (payload_of t))
 
 -- the document of an entry of that type: a container's payload, or the scalar behind its header
 abbrev pub document_of : ℕ → List ℕ → List ℕ
-document_of type p = if type == CONTAINER_TAG then p else word SCALAR_CONTAINER_TAG ++ (word (type + length p) ++ p)
+document_of type p =
+    if type == CONTAINER_TAG then p else word SCALAR_CONTAINER_TAG ++ (word (type + length p) ++ p)
 
 -- the canonical document
 abbrev pub canon : Tree → List ℕ
@@ -72,7 +78,8 @@ abbrev mutual
 
   pub PairsFit : Pairs → Type 0
   PairsFit no_pairs = ⊤
-  PairsFit (pair k t ps) = ((length k < 2 ^ 28) × (FitsInside t × (length (payload_of t) < 2 ^ 28))) × PairsFit ps
+  PairsFit (pair k t ps) =
+      ((length k < 2 ^ 28) × (FitsInside t × (length (payload_of t) < 2 ^ 28))) × PairsFit ps
 
 -- the same of a payload that has an entry
 pub record FitsEntry (t : Tree) : Type 0 where

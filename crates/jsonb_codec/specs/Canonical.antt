@@ -2,7 +2,8 @@
 use Rattle.std.specs.Prelude.{◌≡◌, ℕ, List}
 use Rattle.jsonb_value.specs.Tree.{Tree, Trees}
 use Rattle.jsonb_value.specs.WellFormed.{IsTree}
-use Rattle.jsonb_codec.specs.Canon.{canon, payload_of, entries_of, payloads_of, FitsInside, AllFit, Fits}
+use Rattle.jsonb_codec.specs.Canon.{canon, payload_of, entries_of, payloads_of, FitsInside, AllFit}
+use Rattle.jsonb_codec.specs.Canon.{Fits}
 
 -- The bytes are the canonical document of some tree that has one.
 abbrev pub IsCanonical : List ℕ → Type 0
@@ -14,4 +15,5 @@ IsWritten t p = FitsInside t × (payload_of t ≡ p)
 
 -- and the entry words and payloads those for children.
 abbrev pub AreWritten : Trees → List ℕ → List ℕ → Type 0
-AreWritten ts entries payloads = AllFit ts × ((entries_of ts ≡ entries) × (payloads_of ts ≡ payloads))
+AreWritten ts entries payloads =
+    AllFit ts × ((entries_of ts ≡ entries) × (payloads_of ts ≡ payloads))

@@ -19,7 +19,8 @@ AreChildren ts children = Children ts children.entries.now children.payloads.now
 
 -- The members are these pairs.
 abbrev pub AreMembers : Pairs → Members → Type 0
-AreMembers ps members = ArePairsOf ps members.keys.entries.now members.keys.payloads.now members.values.entries.now members.values.payloads.now
+AreMembers ps members =
+    ArePairsOf ps members.keys.entries.now members.keys.payloads.now members.values.entries.now members.values.payloads.now
 
 -- The contents are those of the tree.
 abbrev pub AreContents : Contents → Tree → Type 0
@@ -31,8 +32,10 @@ abbrev pub AreInside : ℕ → Contents → Type 0
 AreInside n (contents.Array items) = length items.payloads.now < n
 AreInside n (contents.Object members) = length members.values.payloads.now < n
 
--- The first of these pairs has that key, and its value that type and payload; the others are those members.
-pub record FirstMember (ps : Pairs) (key : List ℕ) (type : ℕ) (payload : List ℕ) (behind : Members) : Type 0 where
+-- The first of these pairs has that key, and its value that type and payload; the others are those
+-- members.
+pub record FirstMember (ps : Pairs) (key : List ℕ) (type : ℕ) (payload : List ℕ)
+    (behind : Members) : Type 0 where
   pub value : Tree
   pub others : Pairs
   pub are : ps ≡ pair key value others

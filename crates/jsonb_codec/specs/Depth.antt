@@ -1,6 +1,7 @@
 -- How deep a tree nests, and how much it holds.
 use Rattle.std.specs.Prelude.{ℕ, suc, ◌+◌, ◌≤◌, max, List}
-use Rattle.jsonb_value.specs.Tree.{Tree, null, boolean, number, text, extension, array, object, Trees, no_trees, tree, Pairs, no_pairs, pair}
+use Rattle.jsonb_value.specs.Tree.{Tree, null, boolean, number, text, extension, array, object}
+use Rattle.jsonb_value.specs.Tree.{Trees, no_trees, tree, Pairs, no_pairs, pair}
 use Rattle.jsonb_codec.specs.Doc.{Doc}
 
 -- 0 of a scalar; of an array or object one more than the deepest child has, and 1 where it is empty

@@ -1,10 +1,17 @@
 -- Which bytes mean which tree.
 use Rattle.std.specs.Prelude.{◌≡◌, ◌≢◌, ◌⊎◌, ℕ, ◌+◌, ◌<◌, ◌^◌, List, [], ◌++◌, length, true, false}
 use Rattle.std.specs.Str.{IsUtf8}
-use Rattle.jsonb_value.specs.Tree.{Tree, null, boolean, number, text, extension, array, object, Trees, no_trees, tree, Pairs, no_pairs, pair, count, pair_count, Ascend}
+use Rattle.jsonb_value.specs.Tree.{Tree, null, boolean, number, text, extension, array, object}
+use Rattle.jsonb_value.specs.Tree.{Trees, no_trees, tree, Pairs, no_pairs, pair, count, pair_count}
+use Rattle.jsonb_value.specs.Tree.{Ascend}
 use Rattle.jsonb_value.specs.NumCode.{NumCode}
 use Rattle.jsonb_value.specs.ExtCode.{ExtCode}
-use Rattle.jsonb_codec.specs.declared.constants.TheConstants.{ARRAY_CONTAINER_TAG, OBJECT_CONTAINER_TAG, SCALAR_CONTAINER_TAG, NULL_TAG, STRING_TAG, NUMBER_TAG, FALSE_TAG, TRUE_TAG, CONTAINER_TAG, EXTENSION_TAG}
+use Rattle.jsonb_codec.specs.declared.constants.TheConstants.{ARRAY_CONTAINER_TAG}
+use Rattle.jsonb_codec.specs.declared.constants.TheConstants.{OBJECT_CONTAINER_TAG}
+use Rattle.jsonb_codec.specs.declared.constants.TheConstants.{SCALAR_CONTAINER_TAG, NULL_TAG}
+use Rattle.jsonb_codec.specs.declared.constants.TheConstants.{STRING_TAG, NUMBER_TAG, FALSE_TAG}
+use Rattle.jsonb_codec.specs.declared.constants.TheConstants.{TRUE_TAG, CONTAINER_TAG}
+use Rattle.jsonb_codec.specs.declared.constants.TheConstants.{EXTENSION_TAG}
 use Rattle.jsonb_codec.specs.Word.{word}
 
 -- the type of the entry of a tree
@@ -24,7 +31,8 @@ pub record NoMore (entries payloads : List ℕ) : Type 0 where
   pub no_payloads : payloads ≡ []
 
 -- and here one in front of the others.
-pub record One (type : ℕ) (Means : List ℕ → Type 0) (Others : List ℕ → List ℕ → Type 0) (entries payloads : List ℕ) : Type 0 where
+pub record One (type : ℕ) (Means : List ℕ → Type 0) (Others : List ℕ → List ℕ → Type 0)
+    (entries payloads : List ℕ) : Type 0 where
   pub payload : List ℕ
   pub other_entries : List ℕ
   pub other_payloads : List ℕ
@@ -43,7 +51,8 @@ pub record Body (n : ℕ) (Items : List ℕ → List ℕ → Type 0) (bytes : Li
   pub items : Items entries payloads
 
 -- the words of n keys, those of n values, the keys, the payloads of the values
-pub record PairsBody (n : ℕ) (Keys Values : List ℕ → List ℕ → Type 0) (bytes : List ℕ) : Type 0 where
+pub record PairsBody (n : ℕ) (Keys Values : List ℕ → List ℕ → Type 0)
+    (bytes : List ℕ) : Type 0 where
   pub few : n < 2 ^ 29
   pub key_entries : List ℕ
   pub value_entries : List ℕ
@@ -54,7 +63,7 @@ pub record PairsBody (n : ℕ) (Keys Values : List ℕ → List ℕ → Type 0) 
   pub values : Values value_entries value_payloads
 
 -- bytes behind a header word
-pub record Headed (header : ℕ) (Behind : List ℕ → Type 0) (bytes : List ℕ) : Type 0 where
+pub record BehindHeader (header : ℕ) (Behind : List ℕ → Type 0) (bytes : List ℕ) : Type 0 where
   pub rest : List ℕ
   pub parts : bytes ≡ word header ++ rest
   pub behind : Behind rest
@@ -74,8 +83,10 @@ abbrev mutual
   Payload (number x) = λ p. NumCode p x
   Payload (text s) = λ p. IsKey s p
   Payload (extension e) = λ p. ExtCode p e
-  Payload (array ts) = Headed (ARRAY_CONTAINER_TAG + count ts) (Body (count ts) (Children ts))
-  Payload (object ps) = λ p. Ascend ps × Headed (OBJECT_CONTAINER_TAG + pair_count ps) (PairsBody (pair_count ps) (Keys ps) (Values ps)) p
+  Payload (array ts) = BehindHeader (ARRAY_CONTAINER_TAG + count ts) (Body (count ts) (Children ts))
+  Payload (object ps) = λ p. Ascend ps
+      × BehindHeader (OBJECT_CONTAINER_TAG + pair_count ps)
+      (PairsBody (pair_count ps) (Keys ps) (Values ps)) p
 
   -- The entry words and the payloads of an array's children.
   pub Children : Trees → List ℕ → List ℕ → Type 0

@@ -1,7 +1,13 @@
 -- Which errors the readers name the faults of bytes that are no document.
 use Rattle.std.specs.Prelude.{⊤}
 use Rattle.jsonb_value.specs.declared.error.Error.{Error}
-use Rattle.jsonb_value.specs.declared.error.Error.TheVariants.{InvalidEOF, InvalidJsonb, InvalidJsonbHeader, InvalidJsonbJEntry, InvalidJsonbNumber, InvalidJsonbExtension, InvalidUtf8, ObjectDuplicateKey, InvalidJson, OutOfMemory}
+use Rattle.jsonb_value.specs.declared.error.Error.TheVariants.{InvalidEOF, InvalidJsonb}
+use Rattle.jsonb_value.specs.declared.error.Error.TheVariants.{InvalidJsonbHeader}
+use Rattle.jsonb_value.specs.declared.error.Error.TheVariants.{InvalidJsonbJEntry}
+use Rattle.jsonb_value.specs.declared.error.Error.TheVariants.{InvalidJsonbNumber}
+use Rattle.jsonb_value.specs.declared.error.Error.TheVariants.{InvalidJsonbExtension, InvalidUtf8}
+use Rattle.jsonb_value.specs.declared.error.Error.TheVariants.{ObjectDuplicateKey, InvalidJson}
+use Rattle.jsonb_value.specs.declared.error.Error.TheVariants.{OutOfMemory}
 
 -- by the decoder,
 abbrev pub IsDecoderFault : Error → Type 0

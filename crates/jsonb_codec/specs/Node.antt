@@ -1,6 +1,7 @@
 -- How the encoders see a value: by its tree.
 use Rattle.std.specs.Prelude.{⊤}
-use Rattle.jsonb_value.specs.Tree.{Tree, null, boolean, number, text, extension, array, object, Trees, Pairs, Ascend}
+use Rattle.jsonb_value.specs.Tree.{Tree, null, boolean, number, text, extension, array, object}
+use Rattle.jsonb_value.specs.Tree.{Trees, Pairs, Ascend}
 use Rattle.jsonb_value.specs.Value.{items_view, pairs_view}
 use Rattle.jsonb_value.specs.Ast.{asts_view, ast_pairs_view, AllAscend, PairsAscend}
 use Rattle.jsonb_value.specs.ExtCode.{extension_of}

@@ -35,7 +35,8 @@ IsObject n body ps = (pair_count ps ≡ n) × (Ascend ps × PairsBody n (Keys ps
 
 -- They are the entry words and payloads of keys, which ascend, and of their values.
 abbrev pub ArePairsOf : Pairs → List ℕ → List ℕ → List ℕ → List ℕ → Type 0
-ArePairsOf ps key_entries keys value_entries values = Ascend ps × (Keys ps key_entries keys × Values ps value_entries values)
+ArePairsOf ps key_entries keys value_entries values =
+    Ascend ps × (Keys ps key_entries keys × Values ps value_entries values)
 
 -- What a part, children and members of a document keep: the bytes mean some tree, trees or pairs.
 abbrev pub IsSomePayload : ℕ → List ℕ → Type 0
@@ -45,11 +46,13 @@ abbrev pub AreSomeChildren : List ℕ → List ℕ → Type 0
 AreSomeChildren entries payloads = (ts : Trees) × Children ts entries payloads
 
 abbrev pub AreSomeMembers : List ℕ → List ℕ → List ℕ → List ℕ → Type 0
-AreSomeMembers key_entries keys value_entries values = (ps : Pairs) × ArePairsOf ps key_entries keys value_entries values
+AreSomeMembers key_entries keys value_entries values =
+    (ps : Pairs) × ArePairsOf ps key_entries keys value_entries values
 
 -- Entry words and payloads of keys, and behind the payloads q.
 abbrev pub KeysThen : Pairs → List ℕ → List ℕ → List ℕ → Type 0
-KeysThen ps entries payloads q = (front : List ℕ) × ((payloads ≡ front ++ q) × Keys ps entries front)
+KeysThen ps entries payloads q =
+    (front : List ℕ) × ((payloads ≡ front ++ q) × Keys ps entries front)
 
 -- The bytes mean some tree, at most so deep, whose entry has that type,
 abbrev pub HasPayload : ℕ → ℕ → List ℕ → Type 0
@@ -61,7 +64,8 @@ HasScalar b = (t : Tree) × ((type_of t ≢ CONTAINER_TAG) × Scalar t b)
 
 -- children,
 abbrev pub HasChildren : ℕ → List ℕ → List ℕ → Type 0
-HasChildren limit entries payloads = (ts : Trees) × ((depths ts ≤ limit) × Children ts entries payloads)
+HasChildren limit entries payloads =
+    (ts : Trees) × ((depths ts ≤ limit) × Children ts entries payloads)
 
 -- the items of an array,
 abbrev pub HasArray : ℕ → ℕ → List ℕ → Type 0
@@ -73,7 +77,8 @@ HasObject limit n body = (ps : Pairs) × ((pair_depths ps ≤ limit) × IsObject
 
 -- Keys above the one before, and behind them q.
 abbrev pub HasKeys : Option (List ℕ) → List ℕ → List ℕ → List ℕ → Type 0
-HasKeys before entries payloads q = (ps : Pairs) × (Ascends before ps × KeysThen ps entries payloads q)
+HasKeys before entries payloads q =
+    (ps : Pairs) × (Ascends before ps × KeysThen ps entries payloads q)
 
 -- the bytes are above the key before, where there is one
 abbrev pub IsAbove : Option (List ℕ) → List ℕ → Type 0

@@ -1,7 +1,8 @@
 -- The payloads that a document is put together from.
 use Rattle.std.specs.Prelude.{ℕ, List, [], ◌∷◌, ◌++◌}
 use Rattle.std.proofs.Common.{inl, inr}
-use Rattle.jsonb_value.specs.Tree.{Tree, array, object, Trees, no_trees, tree, Pairs, no_pairs, pair}
+use Rattle.jsonb_value.specs.Tree.{Tree, array, object, Trees, no_trees, tree, Pairs, no_pairs}
+use Rattle.jsonb_value.specs.Tree.{pair}
 use Rattle.jsonb_codec.specs.Doc.{Keys, Values, Children, Doc}
 
 -- those of an array's items, behind the entry words e,

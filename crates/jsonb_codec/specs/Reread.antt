@@ -7,7 +7,8 @@ use Rattle.jsonb_value.specs.WellFormed.{IsTree}
 use Rattle.jsonb_value.specs.Json.Syntax.{Json}
 use Rattle.jsonb_codec.specs.Canon.{Fits}
 
--- The characters are a text of JSON, and mean some tree that fits and is Equal to this one in the order.
+-- The characters are a text of JSON, and mean some tree that fits and is Equal to this one in the
+-- order.
 pub record MeansAgain (characters : List ℕ) (t : Tree) : Type 0 where
   pub again : Tree
   pub is_tree : IsTree again

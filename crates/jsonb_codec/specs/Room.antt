@@ -7,7 +7,7 @@ abbrev pub HasRoom : Vec ℕ → List ℕ → Type 0
 HasRoom v bytes = length v.items + length bytes ≤ vec_capacity v
 
 -- The bytes stand behind the old ones, and the buffer holds no less than before.
-pub record Appended (old new : Vec ℕ) (bytes : List ℕ) : Type 0 where
+pub record AppendsBytes (old new : Vec ℕ) (bytes : List ℕ) : Type 0 where
   pub items : new.items ≡ old.items ++ bytes
   pub capacity : vec_capacity old ≤ vec_capacity new
 

@@ -1,16 +1,20 @@
 -- A word of 32 bits, the highest byte first, and where words stand in bytes.
-use Rattle.std.specs.Prelude.{ℕ, ◌+◌, ◌-◌, ◌%◌, ◌^◌, ◌==◌, ◌||◌, nat_le, if◌then◌else◌, List, length, take, drop, Result, Ok, Err}
+use Rattle.std.specs.Prelude.{ℕ, ◌+◌, ◌-◌, ◌%◌, ◌^◌, ◌==◌, ◌||◌, nat_le, if◌then◌else◌, List}
+use Rattle.std.specs.Prelude.{length, take, drop, Result, Ok, Err}
 use Rattle.std.specs.Int.{w32, to_be_bytes, from_be_bytes}
 use Rattle.jsonb_value.specs.declared.error.Error.{Error}
 use Rattle.jsonb_value.specs.declared.error.Error.TheVariants.{InvalidEOF, InvalidJsonb}
-use Rattle.jsonb_codec.specs.declared.constants.TheConstants.{ARRAY_CONTAINER_TAG, OBJECT_CONTAINER_TAG, SCALAR_CONTAINER_TAG}
+use Rattle.jsonb_codec.specs.declared.constants.TheConstants.{ARRAY_CONTAINER_TAG}
+use Rattle.jsonb_codec.specs.declared.constants.TheConstants.{OBJECT_CONTAINER_TAG}
+use Rattle.jsonb_codec.specs.declared.constants.TheConstants.{SCALAR_CONTAINER_TAG}
 
 unfoldable pub word : ℕ → List ℕ
 word k = to_be_bytes w32 k
 
 -- the word whose first byte stands at the index
 abbrev pub word_at : List ℕ → ℕ → Result ℕ Error
-word_at bytes index = if nat_le (index + 4) (length bytes) then Ok (from_be_bytes w32 (take 4 (drop index bytes))) else Err InvalidEOF
+word_at bytes index = if nat_le (index + 4) (length bytes)
+    then Ok (from_be_bytes w32 (take 4 (drop index bytes))) else Err InvalidEOF
 
 -- the lower 29 bits of a header, and the three bits above them
 abbrev pub header_count : ℕ → ℕ
@@ -22,7 +26,8 @@ header_type k = k - k % 2 ^ 29
 -- a header word, where its upper three bits name one of the three kinds
 abbrev pub header_of : ℕ → Result (ℕ × ℕ) Error
 header_of k =
-    if (header_type k == ARRAY_CONTAINER_TAG) || (header_type k == OBJECT_CONTAINER_TAG) || (header_type k == SCALAR_CONTAINER_TAG)
+    if (header_type k == ARRAY_CONTAINER_TAG) || (header_type k == OBJECT_CONTAINER_TAG) ||
+    (header_type k == SCALAR_CONTAINER_TAG)
     then Ok (header_type k, header_count k) else Err InvalidJsonb
 
 abbrev pub header_in : Result ℕ Error → Result (ℕ × ℕ) Error

@@ -1,6 +1,7 @@
 //! Documents read into values: the check, and then a build that only memory can refuse.
 
-ghost use Rattle.std.specs.Prelude.{◌≡◌, ◌≢◌, ◌⊎◌, ◌++◌, ◌∷◌, [], string_cmp, IfOk, IfErr, OnOk, OnErr};
+ghost use Rattle.std.specs.Prelude.{◌≡◌, ◌≢◌, ◌⊎◌, ◌++◌, ◌∷◌, [], string_cmp, IfOk, IfErr, OnOk};
+ghost use Rattle.std.specs.Prelude.{OnErr};
 ghost use Rattle.std.specs.BTreeMap.{insert_entry};
 ghost use Rattle.jsonb_value.specs.declared.value.Value.{Value};
 ghost use Rattle.jsonb_value.specs.ExtCode.{extension_of};

@@ -1,6 +1,8 @@
 //! Which byte strings are documents, and the first fault of those that are none.
 
-ghost use Rattle.std.specs.Prelude.{◌≡◌, ◌≢◌, ◌+◌, ◌*◌, ◌/◌, ◌%◌, ◌<◌, ◌≤◌, ◌^◌, ◌↔◌, ◌++◌, [], ℕ, List, length, take, drop, IsTrue, None, IfOk, IfErr, IfSome, IfNone, OnOk, OnErr, option_map};
+ghost use Rattle.std.specs.Prelude.{◌≡◌, ◌≢◌, ◌+◌, ◌*◌, ◌/◌, ◌%◌, ◌<◌, ◌≤◌, ◌^◌, ◌↔◌, ◌++◌, [], ℕ};
+ghost use Rattle.std.specs.Prelude.{List, length, take, drop, IsTrue, None, IfOk, IfErr, IfSome};
+ghost use Rattle.std.specs.Prelude.{IfNone, OnOk, OnErr, option_map};
 ghost use Rattle.std.specs.Cmp.Lexicographic.{slice_cmp};
 ghost use Rattle.std.specs.List.{All};
 ghost use Rattle.std.specs.Ordering.{nat_cmp};
@@ -10,7 +12,8 @@ ghost use Rattle.jsonb_value.specs.Tree.{Tree, text};
 ghost use Rattle.jsonb_codec.specs.Doc.{Doc, IsDocument};
 ghost use Rattle.jsonb_codec.specs.Depth.{depth, size, IsDocumentWithin};
 ghost use Rattle.jsonb_codec.specs.Payloads.{payloads_in};
-ghost use Rattle.jsonb_codec.specs.Parts.{IsFault, Tells, HasScalar, HasPayload, HasArray, HasObject, HasChildren, HasKeys, IsAbove, IsKeyAfter};
+ghost use Rattle.jsonb_codec.specs.Parts.{IsFault, Tells, HasScalar, HasPayload, HasArray};
+ghost use Rattle.jsonb_codec.specs.Parts.{HasObject, HasChildren, HasKeys, IsAbove, IsKeyAfter};
 
 use crate::constants::{
     ARRAY_CONTAINER_TAG, CONTAINER_TAG, EXTENSION_TAG, FALSE_TAG, NULL_TAG, NUMBER_TAG,

@@ -11,6 +11,7 @@ ghost use Rattle.jsonb_codec.specs.Reread.{MeansAgain};
 /// Printed text is read back: where a tree fits and holds no extension value, its compact text is
 /// a text of JSON and means a tree that fits and is `Equal` to it, and so does its pretty text.
 pub fn printed_text_laws()
-    ensures compact { (t : Tree) → IsTree t → IsPlain t → Fits t → MeansAgain (chars (compact t)) t }
+    ensures compact { (t : Tree) → IsTree t → IsPlain t → Fits t
+        → MeansAgain (chars (compact t)) t }
     ensures pretty { (t : Tree) → IsTree t → IsPlain t → Fits t → MeansAgain (chars (pretty t)) t }
 {}

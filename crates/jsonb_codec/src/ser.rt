@@ -5,7 +5,8 @@ pub mod measure;
 mod node;
 mod within;
 
-ghost use Rattle.std.specs.Prelude.{◌≡◌, ◌≤◌, ◌+◌, ◌++◌, ◌↔◌, ◌⊎◌, length, vec_capacity, Err, IsOk, IfOk, IfErr, OnOk, OnErr};
+ghost use Rattle.std.specs.Prelude.{◌≡◌, ◌≤◌, ◌+◌, ◌++◌, ◌↔◌, ◌⊎◌, length, vec_capacity, Err, IsOk};
+ghost use Rattle.std.specs.Prelude.{IfOk, IfErr, OnOk, OnErr};
 ghost use Rattle.jsonb_value.specs.Value.{tree_of};
 ghost use Rattle.jsonb_value.specs.Ast.{ast_tree, AscendEverywhere};
 ghost use Rattle.jsonb_value.specs.Tree.{Tree};
@@ -54,7 +55,8 @@ impl<'a> Encoder<'a> {
     pub fn encode(&mut self, value: &Value<'_>) -> Result<(), Error>
         ensures same_buffer { (buffer self.new).ghost_name ≡ (buffer self.old).ghost_name }
         ensures appended { OnOk result
-            ((buffer self.new).now.items ≡ (buffer self.old).now.items ++ canon (tree_of value.now)) }
+            ((buffer self.new).now.items ≡ (buffer self.old).now.items
+            ++ canon (tree_of value.now)) }
         ensures err { OnErr result ((buffer self.new).now.items ≡ (buffer self.old).now.items) }
 
         // Which refusal comes: memory is asked for only where the value fits.
@@ -63,7 +65,8 @@ impl<'a> Encoder<'a> {
         ensures memory { result ≡ Err Error.OutOfMemory → Fits (tree_of value.now) }
         ensures only { IfErr result (λ e. (e ≡ Error.InvalidJsonb) ⊎ (e ≡ Error.OutOfMemory)) }
         ensures room { Fits (tree_of value.now)
-            → length (buffer self.old).now.items + length (canon (tree_of value.now)) ≤ vec_capacity (buffer self.old).now
+            → length (buffer self.old).now.items + length (canon (tree_of value.now))
+            ≤ vec_capacity (buffer self.old).now
             → IsOk result }
 
         // The canonical document of a tree that fits means the tree with its zeros made one, and
@@ -114,8 +117,10 @@ impl<'a> JsonAstEncoder<'a> {
         requires { AscendEverywhere (ast_tree value.now) }
         ensures same_buffer { (ast_buffer self.new).ghost_name ≡ (ast_buffer self.old).ghost_name }
         ensures appended { OnOk result
-            ((ast_buffer self.new).now.items ≡ (ast_buffer self.old).now.items ++ canon (ast_tree value.now)) }
-        ensures err { OnErr result ((ast_buffer self.new).now.items ≡ (ast_buffer self.old).now.items) }
+            ((ast_buffer self.new).now.items ≡ (ast_buffer self.old).now.items
+            ++ canon (ast_tree value.now)) }
+        ensures err { OnErr result
+            ((ast_buffer self.new).now.items ≡ (ast_buffer self.old).now.items) }
 
         // Which refusal comes: memory is asked for only where the value fits.
         ensures fits { OnOk result (Fits (ast_tree value.now)) }
@@ -123,7 +128,8 @@ impl<'a> JsonAstEncoder<'a> {
         ensures memory { result ≡ Err Error.OutOfMemory → Fits (ast_tree value.now) }
         ensures only { IfErr result (λ e. (e ≡ Error.InvalidJsonb) ⊎ (e ≡ Error.OutOfMemory)) }
         ensures room { Fits (ast_tree value.now)
-            → length (ast_buffer self.old).now.items + length (canon (ast_tree value.now)) ≤ vec_capacity (ast_buffer self.old).now
+            → length (ast_buffer self.old).now.items + length (canon (ast_tree value.now))
+            ≤ vec_capacity (ast_buffer self.old).now
             → IsOk result }
 
         // The canonical document of a tree that fits means the tree with its zeros made one, and

@@ -1,5 +1,6 @@
 -- Sorted rows are parted by each key: those below it, those equal to it, those above.
-use Rattle.std.proofs.Common.{◌≡◌, ◌≢◌, ℕ, zero, suc, ◌+◌, ◌≤◌, ◌<◌, ◌&&◌, List, [], ◌∷◌, length, take, drop, Bool, true, false, not, refl, arith, ap}
+use Rattle.std.proofs.Common.{◌≡◌, ◌≢◌, ℕ, zero, suc, ◌+◌, ◌≤◌, ◌<◌, ◌&&◌, List, [], ◌∷◌, length}
+use Rattle.std.proofs.Common.{take, drop, Bool, true, false, not, refl, arith, ap}
 use Rattle.std.specs.Prelude.{slice_index_or, filter, IsSorted}
 use Rattle.std.specs.Cmp.{IsTotalOrder}
 use Rattle.std.specs.Ordering.{is_lt, is_le, is_gt, on, ordering_index}
@@ -34,7 +35,8 @@ le-lower Greater Less le e = absurd (omega arith)
 le-lower Greater Equal le e = absurd (omega arith)
 le-lower Greater Greater le e = e
 
-module _ {X K : Type 0} (R : K → K → Ordering) (o : IsTotalOrder R) (value : X → K) (xs : List X) (k : K) (sorted : IsSorted (on value R) xs) where
+module _ {X K : Type 0} (R : K → K → Ordering) (o : IsTotalOrder R) (value : X → K) (xs : List X)
+    (k : K) (sorted : IsSorted (on value R) xs) where
   pub parted-lt : IsPartitionedBy (λ x. is_lt (R (value x) k)) xs
   parted-lt i j d le low = lt-lower _ _ (searchable_from_sorted o value xs k sorted i j d le low)
 
@@ -63,19 +65,26 @@ between Greater Equal low high = refl
 between r Greater low high = absurd (high refl)
 
 -- Exactly the elements from a place on, so many, pass the test.
-pub filter-between : {X : Type 0} (p : X → Bool) (xs : List X) (from n : ℕ) → ((i : ℕ) (d : X) → i < from → p (slice_index_or xs i d) ≡ false)
-    → ((i : ℕ) (d : X) → from ≤ i → i < from + n → p (slice_index_or xs i d) ≡ true) → ((i : ℕ) (d : X) → from + n ≤ i → i < length xs → p (slice_index_or xs i d) ≡ false)
+pub filter-between : {X : Type 0} (p : X → Bool) (xs : List X) (from n : ℕ)
+    → ((i : ℕ) (d : X) → i < from → p (slice_index_or xs i d) ≡ false)
+    → ((i : ℕ) (d : X) → from ≤ i → i < from + n → p (slice_index_or xs i d) ≡ true)
+    → ((i : ℕ) (d : X) → from + n ≤ i → i < length xs → p (slice_index_or xs i d) ≡ false)
     → from + n ≤ length xs → take n (drop from xs) ≡ filter p xs
 filter-between p [] zero zero before within behind fits = refl
 filter-between p [] zero (suc n) before within behind fits = absurd (omega arith)
 filter-between p [] (suc from) n before within behind fits = absurd (omega arith)
 filter-between p (x ∷ xs) zero zero before within behind fits =
     rw (behind 0 x (omega arith) (omega arith))
-    (filter-between p xs 0 0 (λ i d low. absurd (omega arith)) (λ i d le low. absurd (omega arith)) (λ i d le low. behind (suc i) d (omega arith) (omega arith)) (omega arith))
+    (filter-between p xs 0 0 (λ i d low. absurd (omega arith)) (λ i d le low. absurd (omega arith))
+    (λ i d le low. behind (suc i) d (omega arith) (omega arith)) (omega arith))
 filter-between p (x ∷ xs) zero (suc n) before within behind fits =
     rw (within 0 x (omega arith) (omega arith))
     (ap (λ ys. x ∷ ys)
-    (filter-between p xs 0 n (λ i d low. absurd (omega arith)) (λ i d le low. within (suc i) d (omega arith) (omega arith)) (λ i d le low. behind (suc i) d (omega arith) (omega arith)) (omega arith)))
+    (filter-between p xs 0 n (λ i d low. absurd (omega arith))
+    (λ i d le low. within (suc i) d (omega arith) (omega arith))
+    (λ i d le low. behind (suc i) d (omega arith) (omega arith)) (omega arith)))
 filter-between p (x ∷ xs) (suc from) n before within behind fits =
     rw (before 0 x (omega arith))
-    (filter-between p xs from n (λ i d low. before (suc i) d (omega arith)) (λ i d le low. within (suc i) d (omega arith) (omega arith)) (λ i d le low. behind (suc i) d (omega arith) (omega arith)) (omega arith))
+    (filter-between p xs from n (λ i d low. before (suc i) d (omega arith))
+    (λ i d le low. within (suc i) d (omega arith) (omega arith))
+    (λ i d le low. behind (suc i) d (omega arith) (omega arith)) (omega arith))

@@ -1,5 +1,6 @@
 -- Stored rows are read back as one list of rows.
-use Rattle.std.proofs.Common.{◌≡◌, ℕ, ◌+◌, ◌<◌, ◌^◌, List, [], ◌∷◌, ◌++◌, length, take, refl, sym, ap, ap₂, subst, ◌∙◌, arith, append_assoc}
+use Rattle.std.proofs.Common.{◌≡◌, ℕ, ◌+◌, ◌<◌, ◌^◌, List, [], ◌∷◌, ◌++◌, length, take, refl, sym}
+use Rattle.std.proofs.Common.{ap, ap₂, subst, ◌∙◌, arith, append_assoc}
 use Rattle.std.specs.Prelude.{All, slice_index_or}
 use Rattle.std.specs.Int.{w64, to_be_bytes, from_be_bytes}
 use Rattle.std.specs.List.{concat}
@@ -18,30 +19,45 @@ length-stored_row row = length-append (to_be_bytes w64 (length row)) row
 
 stored-append : (xs ys : List (List ℕ)) → stored (xs ++ ys) ≡ stored xs ++ stored ys
 stored-append [] ys = refl
-stored-append (x ∷ xs) ys = ap (λ b. stored_row x ++ b) (stored-append xs ys) ∙ sym (append_assoc (stored_row x) (stored xs) (stored ys))
+stored-append (x ∷ xs) ys = ap (λ b. stored_row x ++ b) (stored-append xs ys)
+    ∙ sym (append_assoc (stored_row x) (stored xs) (stored ys))
 
-pub stored-push : (rows : List (List ℕ)) (row : List ℕ) → stored (rows ++ row ∷ []) ≡ stored rows ++ stored_row row
-stored-push rows row = stored-append rows (row ∷ []) ∙ ap (λ b. stored rows ++ b) (append-nil (stored_row row))
+pub stored-push : (rows : List (List ℕ)) (row : List ℕ)
+    → stored (rows ++ row ∷ []) ≡ stored rows ++ stored_row row
+stored-push rows row =
+    stored-append rows (row ∷ []) ∙ ap (λ b. stored rows ++ b) (append-nil (stored_row row))
 
 -- The rows up to an index, and the one there.
-pub stored-more : (rows : List (List ℕ)) (i : ℕ) (row : List ℕ) → i < length rows → row ≡ slice_index_or rows i [] → stored (take (i + 1) rows) ≡ stored (take i rows) ++ stored_row row
+pub stored-more : (rows : List (List ℕ)) (i : ℕ) (row : List ℕ) → i < length rows
+    → row ≡ slice_index_or rows i []
+    → stored (take (i + 1) rows) ≡ stored (take i rows) ++ stored_row row
 stored-more rows i row low is =
-    ap stored (take_more rows i [] low ∙ ap (λ r. take i rows ++ r ∷ []) (sym is)) ∙ stored-push (take i rows) row
+    ap stored (take_more rows i [] low ∙ ap (λ r. take i rows ++ r ∷ []) (sym is))
+    ∙ stored-push (take i rows) row
 
 -- Each row of these is short where all together are.
-pub IsRow-all : (rows : List (List ℕ)) → All IsDocument rows → length (concat rows) < 2 ^ 64 → All IsRow rows
+pub IsRow-all : (rows : List (List ℕ)) → All IsDocument rows → length (concat rows) < 2 ^ 64
+    → All IsRow rows
 IsRow-all [] all few = All-nil IsRow
 IsRow-all (row ∷ rows) all few =
-    All-cons IsRow row rows record { document = All-head IsDocument row rows all; short = omega (arith, length-append row (concat rows)) }
-    (IsRow-all rows (All-tail IsDocument row rows all) (omega (arith, length-append row (concat rows))))
+    All-cons IsRow row rows record {
+      document = All-head IsDocument row rows all;
+      short = omega
+          (arith, length-append row (concat rows));
+    }
+    (IsRow-all rows (All-tail IsDocument row rows all)
+    (omega (arith, length-append row (concat rows))))
 
 -- A row in front of other bytes is told from them by its length.
-same_row : (f r x y : List ℕ) → length f < 2 ^ 64 → length r < 2 ^ 64 → stored_row f ++ x ≡ stored_row r ++ y → (f ≡ r) × (x ≡ y)
+same_row : (f r x y : List ℕ) → length f < 2 ^ 64 → length r < 2 ^ 64
+    → stored_row f ++ x ≡ stored_row r ++ y → (f ≡ r) × (x ≡ y)
 same_row f r x y few short same =
     let lengths = to_be_bytes w64 (length f) in let others = to_be_bytes w64 (length r) in
-    let parted : lengths ++ (f ++ x) ≡ others ++ (r ++ y) = sym (append_assoc lengths f x) ∙ same ∙ append_assoc others r y in
+    let parted : lengths ++ (f ++ x) ≡ others ++ (r ++ y) =
+    sym (append_assoc lengths f x) ∙ same ∙ append_assoc others r y in
     let (be, behind) = same_parts lengths others (f ++ x) (r ++ y) refl parted in
-    let size : length f ≡ length r = sym (from_be_bytes-to_be_bytes_8 (length f) few) ∙ ap (from_be_bytes w64) be ∙ from_be_bytes-to_be_bytes_8 (length r) short in
+    let size : length f ≡ length r = sym (from_be_bytes-to_be_bytes_8 (length f) few)
+    ∙ ap (from_be_bytes w64) be ∙ from_be_bytes-to_be_bytes_8 (length r) short in
     same_parts f r x y size behind
 
 -- So rows that are read in front of the rest are the first of all that are stored there.
@@ -51,63 +67,100 @@ pub record GoesOn (front rows : List (List ℕ)) (rest : List ℕ) : Type 0 wher
   pub each : All IsRow more
   pub rest_is : rest ≡ stored more
 
-stored-front : (front rows : List (List ℕ)) (rest : List ℕ) → All IsRow front → All IsRow rows → stored front ++ rest ≡ stored rows → GoesOn front rows rest
-stored-front [] rows rest first all same = record { more = rows; rows_are = refl; each = all; rest_is = same }
+stored-front : (front rows : List (List ℕ)) (rest : List ℕ) → All IsRow front → All IsRow rows
+    → stored front ++ rest ≡ stored rows → GoesOn front rows rest
+stored-front [] rows rest first all same =
+    record { more = rows; rows_are = refl; each = all; rest_is = same }
 stored-front (f ∷ front) [] rest first all same =
-    absurd (omega (arith, length-stored_row f, length-append (stored_row f ++ stored front) rest, length-append (stored_row f) (stored front), ap length same))
+    absurd (omega (
+      arith,
+      length-stored_row f,
+      length-append
+          (stored_row f ++ stored front) rest,
+      length-append (stored_row f)
+          (stored front),
+      ap length same,
+    ))
 stored-front (f ∷ front) (r ∷ rows) rest first all same =
-    let (is, behind) = same_row f r (stored front ++ rest) (stored rows) (All-head IsRow f front first).short (All-head IsRow r rows all).short
+    let (is, behind) = same_row f r (stored front ++ rest) (stored rows)
+    (All-head IsRow f front first).short (All-head IsRow r rows all).short
     (sym (append_assoc (stored_row f) (stored front) rest) ∙ same) in
-    let on = stored-front front rows rest (All-tail IsRow f front first) (All-tail IsRow r rows all) behind in
-    record { more = on.more; rows_are = ap₂ (λ (x : List ℕ) (xs : List (List ℕ)). x ∷ xs) (sym is) on.rows_are; each = on.each; rest_is = on.rest_is }
+    let on = stored-front front rows rest (All-tail IsRow f front first)
+    (All-tail IsRow r rows all) behind in
+    record {
+      more = on.more;
+      rows_are = ap₂
+          (λ (x : List ℕ) (xs : List (List ℕ)). x ∷ xs)
+          (sym is) on.rows_are;
+      each = on.each;
+      rest_is = on.rest_is;
+    }
 
 -- Of the bytes these rows are read, and the rest is left.
 pub record IsRead (bytes : List ℕ) (rows : List (List ℕ)) (rest : List ℕ) : Type 0 where
   pub each : All IsRow rows
   pub parts : bytes ≡ stored rows ++ rest
 
-goes_on : (bytes rest : List ℕ) (front rows : List (List ℕ)) → IsRead bytes front rest → AreStored rows bytes → GoesOn front rows rest
-goes_on bytes rest front rows read all = stored-front front rows rest read.each all.each (sym read.parts ∙ all.written)
+goes_on : (bytes rest : List ℕ) (front rows : List (List ℕ)) → IsRead bytes front rest
+    → AreStored rows bytes → GoesOn front rows rest
+goes_on bytes rest front rows read all =
+    stored-front front rows rest read.each all.each (sym read.parts ∙ all.written)
 
-pub IsRead-all : (bytes rest : List ℕ) (front rows : List (List ℕ)) → IsRead bytes front rest → length rest ≡ 0 → AreStored rows bytes → front ≡ rows
+pub IsRead-all : (bytes rest : List ℕ) (front rows : List (List ℕ)) → IsRead bytes front rest
+    → length rest ≡ 0 → AreStored rows bytes → front ≡ rows
 IsRead-all bytes rest front rows read none all =
     let on = goes_on bytes rest front rows read all in
     ended on.more on.rows_are (sym (ap length on.rest_is) ∙ none)
   where
     ended : (more : List (List ℕ)) → rows ≡ front ++ more → length (stored more) ≡ 0 → front ≡ rows
     ended [] is e = sym (is ∙ append-nil front)
-    ended (r ∷ more) is e = absurd (omega (arith, length-append (stored_row r) (stored more), length-stored_row r))
+    ended (r ∷ more) is e =
+        absurd (omega (arith, length-append (stored_row r) (stored more), length-stored_row r))
 
-pub IsRead-first : (bytes rest : List ℕ) (front rows : List (List ℕ)) → IsRead bytes front rest → 0 < length rest → AreStored rows bytes
+pub IsRead-first : (bytes rest : List ℕ) (front rows : List (List ℕ)) → IsRead bytes front rest
+    → 0 < length rest → AreStored rows bytes
     → (row : List ℕ) × (IsRow row × ((behind : List ℕ) × (rest ≡ stored_row row ++ behind)))
-IsRead-first bytes rest front rows read some all = let on = goes_on bytes rest front rows read all in begun on.more on.each on.rest_is
+IsRead-first bytes rest front rows read some all =
+    let on = goes_on bytes rest front rows read all in begun on.more on.each on.rest_is
   where
-    begun : (more : List (List ℕ)) → All IsRow more → rest ≡ stored more → (row : List ℕ) × (IsRow row × ((behind : List ℕ) × (rest ≡ stored_row row ++ behind)))
+    begun : (more : List (List ℕ)) → All IsRow more → rest ≡ stored more → (row : List ℕ)
+        × (IsRow row × ((behind : List ℕ) × (rest ≡ stored_row row ++ behind)))
     begun [] each is = absurd (omega (arith, ap length is))
     begun (r ∷ more) each is = (r, (All-head IsRow r more each, (stored more, is)))
 
--- Nothing is stored where the rest begins with no row, nor where it begins with one that is no document.
-pub IsRead-cut : (bytes rest : List ℕ) (front rows : List (List ℕ)) → IsRead bytes front rest → 0 < length rest → AreStored rows bytes
+-- Nothing is stored where the rest begins with no row, nor where it begins with one that is no
+-- document.
+pub IsRead-cut : (bytes rest : List ℕ) (front rows : List (List ℕ)) → IsRead bytes front rest
+    → 0 < length rest → AreStored rows bytes
     → ((row behind : List ℕ) → length row < 2 ^ 64 → rest ≡ stored_row row ++ behind → ⊥) → ⊥
 IsRead-cut bytes rest front rows read some all cut =
-    let (row, (means, (behind, is))) = IsRead-first bytes rest front rows read some all in cut row behind means.short is
+    let (row, (means, (behind, is))) =
+    IsRead-first bytes rest front rows read some all in cut row behind means.short is
 
-pub IsRead-document : (bytes rest row behind : List ℕ) (front rows : List (List ℕ)) → IsRead bytes front rest → rest ≡ stored_row row ++ behind → length row < 2 ^ 64 → AreStored rows bytes
+pub IsRead-document : (bytes rest row behind : List ℕ) (front rows : List (List ℕ))
+    → IsRead bytes front rest → rest ≡ stored_row row ++ behind → length row < 2 ^ 64
+    → AreStored rows bytes
     → IsDocument row
 IsRead-document bytes rest row behind front rows read is short all =
-    let some : 0 < length rest = omega (arith, ap length is, length-append (stored_row row) behind, length-stored_row row) in
+    let some : 0 < length rest =
+    omega (arith, ap length is, length-append (stored_row row) behind, length-stored_row row) in
     let (first, (means, (others, also))) = IsRead-first bytes rest front rows read some all in
     let (same, _) = same_row first row others behind means.short short (sym also ∙ is) in
     subst IsDocument same means.document
 
 pub IsRead-none : (bytes : List ℕ) (rows : List (List ℕ)) → rows ≡ [] → IsRead bytes rows bytes
-IsRead-none bytes rows none = subst (λ rs. IsRead bytes rs bytes) (sym none) record { each = All-nil IsRow; parts = refl }
+IsRead-none bytes rows none =
+    subst (λ rs. IsRead bytes rs bytes) (sym none) record { each = All-nil IsRow; parts = refl }
 
-pub IsRead-more : (bytes rest row behind : List ℕ) (front rows : List (List ℕ)) → IsRead bytes front rest → rest ≡ stored_row row ++ behind → IsRow row → rows ≡ front ++ row ∷ []
+pub IsRead-more : (bytes rest row behind : List ℕ) (front rows : List (List ℕ))
+    → IsRead bytes front rest → rest ≡ stored_row row ++ behind → IsRow row
+    → rows ≡ front ++ row ∷ []
     → IsRead bytes rows behind
 IsRead-more bytes rest row behind front rows read is means rows_are =
     subst (λ rs. IsRead bytes rs behind) (sym rows_are)
     record {
       each = All-push IsRow front row read.each means;
-      parts = read.parts ∙ ap (λ b. stored front ++ b) is ∙ sym (append_assoc (stored front) (stored_row row) behind) ∙ ap (λ b. b ++ behind) (sym (stored-push front row));
+      parts = read.parts ∙ ap (λ b. stored front ++ b) is
+          ∙ sym (append_assoc (stored front) (stored_row row) behind) ∙ ap
+          (λ b. b ++ behind) (sym (stored-push front row));
     }

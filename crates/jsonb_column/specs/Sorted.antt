@@ -14,11 +14,13 @@ sorted_rows s = s.rows.items
 
 -- the order of the row at an index, beside a key
 abbrev pub row_order : Sorted → Document → ℕ → Document → Ordering
-row_order s key i d = tree_cmp (document_tree (slice_index_or (sorted_rows s) i d)) (document_tree key)
+row_order s key i d =
+    tree_cmp (document_tree (slice_index_or (sorted_rows s) i d)) (document_tree key)
 
 -- The tree of the row is not below the one, and not above the other.
 abbrev pub is_between : Tree → Tree → Document → Bool
-is_between low high row = not (is_lt (tree_cmp (document_tree row) low)) && not (is_gt (tree_cmp (document_tree row) high))
+is_between low high row = not (is_lt (tree_cmp (document_tree row) low))
+    && not (is_gt (tree_cmp (document_tree row) high))
 
 -- The tree of the row is equal to the key.
 abbrev pub is_equal : Tree → Document → Bool

@@ -1,54 +1,71 @@
 -- What the answers of rows say, and why a text is refused.
-use Rattle.std.proofs.Common.{◌≡◌, ◌⊎◌, inl, inr, ℕ, ◌+◌, ◌<◌, List, [], ◌∷◌, ◌++◌, length, map, take, refl, sym, ap, subst, ◌∙◌, append_assoc, Result, Ok, Err}
+use Rattle.std.proofs.Common.{◌≡◌, ◌⊎◌, inl, inr, ℕ, ◌+◌, ◌<◌, List, [], ◌∷◌, ◌++◌, length, map}
+use Rattle.std.proofs.Common.{take, refl, sym, ap, subst, ◌∙◌, append_assoc, Result, Ok, Err}
 use Rattle.std.specs.Prelude.{IfErr, IfOk, IsErrAnd, slice_index_or}
 use Rattle.std.specs.String.{string_bytes}
 use Rattle.std.specs.declared.alloc.Global.{Global}
 use Rattle.std.specs.declared.string.String.{String}
 use Rattle.std.proofs.lemmas.List.{append-nil, map-append, take_more}
 use Rattle.jsonb_value.specs.declared.error.Error.{Error}
-use Rattle.jsonb_value.specs.declared.error.Error.TheVariants.{InvalidJson, InvalidJsonb, OutOfMemory}
+use Rattle.jsonb_value.specs.declared.error.Error.TheVariants.{InvalidJson, InvalidJsonb}
+use Rattle.jsonb_value.specs.declared.error.Error.TheVariants.{OutOfMemory}
 use Rattle.jsonb_value.specs.Text.{compact}
 use Rattle.jsonb.specs.declared.document.Document.{Document}
 use Rattle.jsonb.specs.Document.{document_bytes, tree_in}
 use Rattle.jsonb_column_cli.specs.declared.answer.Refusal.{Refusal}
 use Rattle.jsonb_column_cli.specs.declared.answer.Refusal.TheVariants.{Call}
 use Rattle.jsonb_column_cli.specs.Commands.{Form}
-use Rattle.jsonb_column_cli.specs.Answers.{Rows, spoken, rows_line, said, IsAnswer, IsOutcome, IsRefusal}
+use Rattle.jsonb_column_cli.specs.Answers.{Rows, spoken, rows_line, said, IsAnswer, IsOutcome}
+use Rattle.jsonb_column_cli.specs.Answers.{IsRefusal}
 
 spoken-append : (xs ys : Rows) → spoken (xs ++ ys) ≡ spoken xs ++ spoken ys
 spoken-append [] ys = refl
 spoken-append (x ∷ xs) ys =
-    ap (λ b. 32 ∷ (compact (tree_in x) ++ b)) (spoken-append xs ys) ∙ ap (λ b. 32 ∷ b) (sym (append_assoc (compact (tree_in x)) (spoken xs) (spoken ys)))
+    ap (λ b. 32 ∷ (compact (tree_in x) ++ b)) (spoken-append xs ys) ∙ ap
+    (λ b. 32 ∷ b) (sym (append_assoc (compact (tree_in x)) (spoken xs) (spoken ys)))
 
 -- one row more
-pub rows_line-more : (rows : List Document) (i : ℕ) (row : Document) → i < length rows → row ≡ slice_index_or rows i row
-    → rows_line (map document_bytes (take (i + 1) rows)) ≡ rows_line (map document_bytes (take i rows)) ++ 32 ∷ compact (tree_in (document_bytes row))
+pub rows_line-more : (rows : List Document) (i : ℕ) (row : Document) → i < length rows
+    → row ≡ slice_index_or rows i row
+    → rows_line (map document_bytes (take (i + 1) rows))
+    ≡ rows_line (map document_bytes (take i rows)) ++ 32
+    ∷ compact (tree_in (document_bytes row))
 rows_line-more rows i row low is =
     let front = map document_bytes (take i rows) in
     let more : map document_bytes (take (i + 1) rows) ≡ front ++ document_bytes row ∷ [] =
-    ap (map document_bytes) (take_more rows i row low ∙ ap (λ r. take i rows ++ r ∷ []) (sym is)) ∙ map-append document_bytes (take i rows) (row ∷ []) in
+    ap (map document_bytes) (take_more rows i row low ∙ ap (λ r. take i rows ++ r ∷ []) (sym is))
+    ∙ map-append document_bytes (take i rows) (row ∷ []) in
     let text = compact (tree_in (document_bytes row)) in
     ap rows_line more
-    ∙ ap (λ b. 111 ∷ 107 ∷ b) (spoken-append front (document_bytes row ∷ []) ∙ ap (λ b. spoken front ++ 32 ∷ b) (append-nil text))
+    ∙ ap (λ b. 111 ∷ 107 ∷ b)
+    (spoken-append front (document_bytes row ∷ []) ∙ ap
+    (λ b. spoken front ++ 32 ∷ b) (append-nil text))
 
 -- an error that a call passed on
-pub said_err : (P : Result (List ℕ) Refusal → Type 0) (r : Result (String Global) Refusal) (refusal : Refusal) → IsErrAnd r (λ x. x ≡ refusal) → P (Err refusal) → P (said r)
+pub said_err : (P : Result (List ℕ) Refusal → Type 0) (r : Result (String Global) Refusal)
+    (refusal : Refusal) → IsErrAnd r (λ x. x ≡ refusal) → P (Err refusal) → P (said r)
 said_err P (Ok reply) refusal is p = absurd is
 said_err P (Err x) refusal is p = subst (λ y. P (Err y)) (sym is) p
 
 -- the three errors of a text
-pub text_errors : (P : Error → Type 0) (e : Error) → (e ≡ InvalidJson) ⊎ ((e ≡ InvalidJsonb) ⊎ (e ≡ OutOfMemory)) → (e ≡ InvalidJson → P InvalidJson) → (e ≡ InvalidJsonb → P InvalidJsonb)
+pub text_errors : (P : Error → Type 0) (e : Error) → (e ≡ InvalidJson)
+    ⊎ ((e ≡ InvalidJsonb) ⊎ (e ≡ OutOfMemory)) → (e ≡ InvalidJson → P InvalidJson)
+    → (e ≡ InvalidJsonb → P InvalidJsonb)
     → P OutOfMemory → P e
 text_errors P e (inl is) none large memory = subst P (sym is) (none is)
 text_errors P e (inr (inl is)) none large memory = subst P (sym is) (large is)
 text_errors P e (inr (inr is)) none large memory = subst P (sym is) memory
 
-pub if_err : {A : Type 0} (P : Refusal → Type 0) (r : Result A Refusal) (refusal : Refusal) → IsErrAnd r (λ x. x ≡ refusal) → P refusal → IfErr r P
+pub if_err : {A : Type 0} (P : Refusal → Type 0) (r : Result A Refusal) (refusal : Refusal)
+    → IsErrAnd r (λ x. x ≡ refusal) → P refusal → IfErr r P
 if_err P (Ok a) refusal is p = absurd is
 if_err P (Err x) refusal is p = subst P (sym is) p
 
 -- the outcome of a command that shows rows
-pub shows : (rows shown : Rows) (form : Form) (r : Result (String Global) Refusal) → IfOk r (λ line. string_bytes line ≡ rows_line shown) → IfErr r (λ x. x ≡ Call OutOfMemory)
-    → ((reply : List ℕ) → reply ≡ rows_line shown → IsAnswer rows form reply rows) → IsOutcome rows form (said r) rows
+pub shows : (rows shown : Rows) (form : Form) (r : Result (String Global) Refusal)
+    → IfOk r (λ line. string_bytes line ≡ rows_line shown) → IfErr r (λ x. x ≡ Call OutOfMemory)
+    → ((reply : List ℕ) → reply ≡ rows_line shown → IsAnswer rows form reply rows)
+    → IsOutcome rows form (said r) rows
 shows rows shown form (Ok line) ok memory answers = answers (string_bytes line) ok
-shows rows shown form (Err x) ok memory answers = (subst (IsRefusal rows form) (sym memory) tt, refl)
+shows rows shown form (Err x) ok memory answers =
+    (subst (IsRefusal rows form) (sym memory) tt, refl)

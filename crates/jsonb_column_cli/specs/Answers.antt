@@ -1,5 +1,6 @@
 -- What a line is answered, and the rows behind it.
-use Rattle.std.specs.Prelude.{◌≡◌, ◌⊎◌, ◌<◌, ℕ, List, [], ◌∷◌, ◌++◌, codes, chars, filter, length, map, slice_index_or, Result, Ok, Err, IsPermutation, IsSorted, ⊤}
+use Rattle.std.specs.Prelude.{◌≡◌, ◌⊎◌, ◌<◌, ℕ, List, [], ◌∷◌, ◌++◌, codes, chars, filter, length}
+use Rattle.std.specs.Prelude.{map, slice_index_or, Result, Ok, Err, IsPermutation, IsSorted, ⊤}
 use Rattle.std.specs.Fmt.{decimal}
 use Rattle.std.specs.Ordering.{on}
 use Rattle.std.specs.Str.{IsUtf8}
@@ -10,7 +11,9 @@ use Rattle.std.specs.declared.string.String.{String}
 use Rattle.hex.specs.Hex.{decode_of, encode_lower}
 use Rattle.jsonb_value.specs.ErrorName.{name_of}
 use Rattle.jsonb_value.specs.declared.error.Error.{Error}
-use Rattle.jsonb_value.specs.declared.error.Error.TheVariants.{InvalidEOF, InvalidJson, InvalidJsonb, InvalidUtf8, OutOfMemory}
+use Rattle.jsonb_value.specs.declared.error.Error.TheVariants.{InvalidEOF, InvalidJson}
+use Rattle.jsonb_value.specs.declared.error.Error.TheVariants.{InvalidJsonb, InvalidUtf8}
+use Rattle.jsonb_value.specs.declared.error.Error.TheVariants.{OutOfMemory}
 use Rattle.jsonb_value.specs.Json.Syntax.{Json}
 use Rattle.jsonb_value.specs.Text.{compact}
 use Rattle.jsonb_value.specs.Tree.{Tree}
@@ -22,8 +25,10 @@ use Rattle.jsonb_column.specs.Select.{has_member}
 use Rattle.jsonb_column.specs.Sorted.{is_between}
 use Rattle.jsonb_column.specs.Stored.{AreStored, stored}
 use Rattle.jsonb_column_cli.specs.declared.answer.Refusal.{Refusal}
-use Rattle.jsonb_column_cli.specs.declared.answer.Refusal.TheVariants.{BadCommand, BadHex, NoRow, Call}
-use Rattle.jsonb_column_cli.specs.Commands.{Form, add, count, row, sort, find, range, save, load, unknown, form_in}
+use Rattle.jsonb_column_cli.specs.declared.answer.Refusal.TheVariants.{BadCommand, BadHex, NoRow}
+use Rattle.jsonb_column_cli.specs.declared.answer.Refusal.TheVariants.{Call}
+use Rattle.jsonb_column_cli.specs.Commands.{Form, add, count, row, sort, find, range, save, load}
+use Rattle.jsonb_column_cli.specs.Commands.{unknown, form_in}
 
 -- the rows of a column, each by its bytes
 abbrev pub Rows : Type 0
@@ -71,17 +76,26 @@ RefusesBytes bytes e = ⊥
 
 -- The answer to a command on these rows, and the rows behind it.
 abbrev pub IsAnswer : Rows → Form → List ℕ → Rows → Type 0
-IsAnswer rows (add text) reply next = (bytes : List ℕ) × (IsGiven text bytes × ((reply ≡ codes "ok") × (next ≡ rows ++ bytes ∷ [])))
+IsAnswer rows (add text) reply next =
+    (bytes : List ℕ) × (IsGiven text bytes × ((reply ≡ codes "ok") × (next ≡ rows ++ bytes ∷ [])))
 IsAnswer rows count reply next = (reply ≡ codes "ok " ++ decimal (length rows)) × (next ≡ rows)
-IsAnswer rows (row index) reply next = IsIndex rows index × ((reply ≡ rows_line (slice_index_or rows (index_in index) [] ∷ [])) × (next ≡ rows))
-IsAnswer rows sort reply next = (order : List Document) × (IsOrderOf rows order × ((reply ≡ rows_line (map document_bytes order)) × (next ≡ rows)))
+IsAnswer rows (row index) reply next = IsIndex rows index
+    × ((reply ≡ rows_line (slice_index_or rows (index_in index) [] ∷ [])) × (next ≡ rows))
+IsAnswer rows sort reply next = (order : List Document)
+    × (IsOrderOf rows order × ((reply ≡ rows_line (map document_bytes order)) × (next ≡ rows)))
 IsAnswer rows (find name value) reply next =
-    (bytes : List ℕ) × (IsGiven value bytes × ((reply ≡ rows_line (filter (has_member name (tree_in bytes)) rows)) × (next ≡ rows)))
+    (bytes : List ℕ)
+    × (IsGiven value bytes
+    × ((reply ≡ rows_line (filter (has_member name (tree_in bytes)) rows)) × (next ≡ rows)))
 IsAnswer rows (range low high) reply next =
-    (a : List ℕ) × ((b : List ℕ) × ((order : List Document) × (IsGiven low a × (IsGiven high b × (IsOrderOf rows order
-    × ((reply ≡ rows_line (map document_bytes (filter (is_between (tree_in a) (tree_in b)) order))) × (next ≡ rows)))))))
+    (a : List ℕ)
+    × ((b : List ℕ)
+    × ((order : List Document) × (IsGiven low a × (IsGiven high b × (IsOrderOf rows order
+    × ((reply ≡ rows_line (map document_bytes (filter (is_between (tree_in a) (tree_in b)) order)))
+    × (next ≡ rows)))))))
 IsAnswer rows save reply next = (reply ≡ codes "ok " ++ encode_lower (stored rows)) × (next ≡ rows)
-IsAnswer rows (load word) reply next = (bytes : List ℕ) × (IsHexOf bytes word × (AreStored next bytes × (reply ≡ codes "ok")))
+IsAnswer rows (load word) reply next =
+    (bytes : List ℕ) × (IsHexOf bytes word × (AreStored next bytes × (reply ≡ codes "ok")))
 IsAnswer rows unknown reply next = ⊥
 
 -- Why a command on these rows is refused.
@@ -104,7 +118,8 @@ IsOutcome rows form (Err refusal) next = IsRefusal rows form refusal × (next �
 -- what a line is answered: by its command, where it is text
 abbrev pub IsLineOutcome : Rows → List ℕ → Result (List ℕ) Refusal → Rows → Type 0
 IsLineOutcome rows line outcome next =
-    (IsUtf8 line × IsOutcome rows (form_in line) outcome next) ⊎ ((IsUtf8 line → ⊥) × ((outcome ≡ Err (Call InvalidUtf8)) × (next ≡ rows)))
+    (IsUtf8 line × IsOutcome rows (form_in line) outcome next)
+    ⊎ ((IsUtf8 line → ⊥) × ((outcome ≡ Err (Call InvalidUtf8)) × (next ≡ rows)))
 
 -- the word that says why
 abbrev pub refusal_name : Refusal → List ℕ

@@ -24,8 +24,10 @@ form_named name given =
     else if bytes_eq name (codes "count") then count
     else if bytes_eq name (codes "row") then row given
     else if bytes_eq name (codes "sort") then sort
-    else if bytes_eq name (codes "find") then find (before_first is_space given) (after_first is_space given)
-    else if bytes_eq name (codes "range") then range (before_first is_space given) (after_first is_space given)
+    else if bytes_eq name (codes "find")
+    then find (before_first is_space given) (after_first is_space given)
+    else if bytes_eq name (codes "range")
+    then range (before_first is_space given) (after_first is_space given)
     else if bytes_eq name (codes "save") then save
     else if bytes_eq name (codes "load") then load given
     else unknown

@@ -1,7 +1,8 @@
 -- The form of a command.
 use Rattle.jsonb_column_cli.specs.declared.command.Command.{Command}
 use Rattle.jsonb_column_cli.specs.declared.command.Command.TheVariants as commands
-use Rattle.jsonb_column_cli.specs.Commands.{Form, add, count, row, sort, find, range, save, load, unknown}
+use Rattle.jsonb_column_cli.specs.Commands.{Form, add, count, row, sort, find, range, save, load}
+use Rattle.jsonb_column_cli.specs.Commands.{unknown}
 
 abbrev pub form_of : Command → Form
 form_of (commands.Add text) = add text.now

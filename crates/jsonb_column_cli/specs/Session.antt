@@ -13,7 +13,8 @@ pub record IsReply (rows : Rows) (line reply : List ℕ) (next : Rows) : Type 0 
 -- One reply to each line, in order, each on the rows that the line before has left.
 pub data Session : Rows → List (List ℕ) → List (List ℕ) → Rows → Type 0 where
   none : {rows : Rows} → Session rows [] [] rows
-  more : {rows next end : Rows} {line reply : List ℕ} {lines replies : List (List ℕ)} → IsReply rows line reply next → Session next lines replies end
+  more : {rows next end : Rows} {line reply : List ℕ} {lines replies : List (List ℕ)}
+      → IsReply rows line reply next → Session next lines replies end
       → Session rows (line ∷ lines) (reply ∷ replies) end
 
 -- lines, each with the line feed that ends it
@@ -40,7 +41,8 @@ pub record AreLines (bytes : List ℕ) (lines : List (List ℕ)) : Type 0 where
   pub rest_line : IsLine rest
 
 -- The reply to a line was appended, with its line feed.
-pub record AppendsReply (rows : Rows) (line : List ℕ) (next : Rows) (old new : Option (List ℕ)) : Type 0 where
+pub record AppendsReply (rows : Rows) (line : List ℕ) (next : Rows)
+    (old new : Option (List ℕ)) : Type 0 where
   pub reply : List ℕ
   pub is_reply : IsReply rows line reply next
   pub appends : Appends old new (reply ++ 10 ∷ [])
@@ -55,7 +57,8 @@ pub record AppendsSession (input : List ℕ) (old new : Option (List ℕ)) : Typ
   pub appends : Appends old new (ended replies)
 
 -- The replies to the whole lines of the input in front of what is left were appended.
-pub record AppendsBeginning (input left : List ℕ) (rows : Rows) (old new : Option (List ℕ)) : Type 0 where
+pub record AppendsBeginning (input left : List ℕ) (rows : Rows)
+    (old new : Option (List ℕ)) : Type 0 where
   pub lines : List (List ℕ)
   pub replies : List (List ℕ)
   pub parts : input ≡ ended lines ++ left

@@ -8,7 +8,8 @@ ghost use Rattle.jsonb.specs.Document.{document_bytes};
 ghost use Rattle.jsonb.specs.Owned.{owned_bytes};
 ghost use Rattle.jsonb_column_cli.specs.declared.answer.Refusal.TheVariants.{Call};
 ghost use Rattle.jsonb_column_cli.specs.Commands.{add, count, row, sort, find, range, save, load};
-ghost use Rattle.jsonb_column_cli.specs.Answers.{IsGiven, IsOutcome, IsRefusal, refusal_name, reply_line, rows_line, said};
+ghost use Rattle.jsonb_column_cli.specs.Answers.{IsGiven, IsOutcome, IsRefusal, refusal_name};
+ghost use Rattle.jsonb_column_cli.specs.Answers.{reply_line, rows_line, said};
 
 use hex::FromHexError;
 use jsonb::{Document, Error, OwnedJsonb, Reads};

@@ -23,12 +23,12 @@ pub fn item_type(alloc: Global, word: &[u8]) -> Result<String, Refusal> {
 pub fn item(alloc: Global, word: &[u8]) -> Result<String, Refusal> {
     let bytes = decoded(alloc, word)?;
     let item = JsonbItem::from_raw_jsonb(RawJsonb::new(&bytes))?;
-    let shown = shown_item(alloc, item)?;
+    let shown = item_text(alloc, item)?;
     Ok(format!(in alloc; "ok {shown}")?)
 }
 
 /// An item's variant, and the bytes that it becomes.
-pub fn shown_item(alloc: Global, item: JsonbItem<'_>) -> Result<String, Refusal> {
+pub fn item_text(alloc: Global, item: JsonbItem<'_>) -> Result<String, Refusal> {
     let variant = variant_of(&item);
     let owned = OwnedJsonb::from_item(alloc, item)?;
     let bytes = hex::encode(alloc, owned.as_bytes())?;

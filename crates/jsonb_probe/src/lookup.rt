@@ -1,6 +1,6 @@
 //! The look-up of a key, with its count of reads.
 
-use crate::items::shown_item;
+use crate::items::item_text;
 use crate::line::{decoded, key_of};
 use crate::refusal::Refusal;
 use jsonb::{RawJsonb, Reads};
@@ -37,7 +37,7 @@ pub fn lookup(alloc: Global, keys: Keys, document: &[u8], key: &[u8]) -> Result<
     let count = reads.count();
     match found {
         Ok(Some(item)) => {
-            let shown = shown_item(alloc, item)?;
+            let shown = item_text(alloc, item)?;
             Ok(format!(in alloc; "reads {count} {shown}")?)
         }
         Ok(None) => Ok(format!(in alloc; "reads {count} none")?),

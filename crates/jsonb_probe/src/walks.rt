@@ -1,6 +1,6 @@
 //! Walks over the children of an array or object, to their end and one step beyond.
 
-use crate::items::shown_item;
+use crate::items::item_text;
 use crate::line::{decoded, fixed};
 use crate::refusal::Refusal;
 use jsonb::{
@@ -73,7 +73,7 @@ fn push_item(
     given: Result<JsonbItem<'_>, Error>,
 ) -> Result<(), Refusal> {
     match given {
-        Ok(item) => push_part(text, &shown_item(alloc, item)?),
+        Ok(item) => push_part(text, &item_text(alloc, item)?),
         Err(error) => push_error(text, error),
     }
 }
@@ -88,7 +88,7 @@ fn push_pair(
         Ok((key, value)) => {
             push_part(text, &hex::encode(alloc, key)?)?;
             text.push_str(" ")?;
-            text.push_str(&shown_item(alloc, value)?)?;
+            text.push_str(&item_text(alloc, value)?)?;
             Ok(())
         }
         Err(error) => push_error(text, error),

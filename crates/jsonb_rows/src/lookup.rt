@@ -5,7 +5,7 @@ ghost use Rattle.std.specs.Cmp.Lexicographic.{pointwise};
 ghost use Rattle.jsonb_value.specs.Tree.{Tree};
 ghost use Rattle.jsonb_codec.specs.Doc.{Doc};
 ghost use Rattle.jsonb.specs.Raw.{raw_bytes};
-ghost use Rattle.jsonb.specs.Shown.{shown};
+ghost use Rattle.jsonb.specs.ItemView.{item_view};
 ghost use Rattle.jsonb.specs.Lookup.{find, IsItemFound};
 
 use jsonb::{Error, JsonbItem, Number, NumberItem, RawJsonb, Reads};
@@ -21,8 +21,9 @@ const NAMES: &[&str] = &["aa", "ab", "zz", "a", ""];
 // A plain find, as its caller knows it.
 fn find_by_name<'a>(raw: RawJsonb<'a>, name: &str) -> Result<Option<JsonbItem<'a>>, Error>
     ensures { (t : Tree) → Doc (raw_bytes raw.entry) t
-        → IsOkAnd result (λ found. IsItemFound (find (pointwise nat_eq name.now) (length name.now) t)
-        (option_map shown found)) }
+        → IsOkAnd result
+        (λ found. IsItemFound (find (pointwise nat_eq name.now) (length name.now) t)
+        (option_map item_view found)) }
 {
     raw.get_object_value_by_key_name(name, |wanted, key| wanted == key)
 }

@@ -1,5 +1,8 @@
--- Whole numbers as bytes, the highest first: a number read back from its bytes, and bytes written again of their number.
-use Rattle.std.proofs.Common.{◌≡◌, ◌<◌, ◌≤◌, ◌+◌, ◌*◌, ◌/◌, ◌^◌, ℕ, ℤ, zero, suc, List, [], ◌∷◌, ◌++◌, length, take, get_or, refl, sym, ap, ap₂, subst, ◌∙◌, arith, append-nil}
+-- Whole numbers as bytes, the highest first: a number read back from its bytes, and bytes written
+-- again of their number.
+use Rattle.std.proofs.Common.{◌≡◌, ◌<◌, ◌≤◌, ◌+◌, ◌*◌, ◌/◌, ◌^◌, ℕ, ℤ, zero, suc, List, [], ◌∷◌}
+use Rattle.std.proofs.Common.{◌++◌, length, take, get_or, refl, sym, ap, ap₂, subst, ◌∙◌, arith}
+use Rattle.std.proofs.Common.{append-nil}
 use Rattle.std.proofs.lemmas.Nat.{div-mul-add}
 use Rattle.std.proofs.Math.Nat.{mod-lt}
 use Rattle.std.proofs.Math.Facts.{sfits_to_z}
@@ -7,9 +10,11 @@ use Rattle.std.proofs.lemmas.Int.{to_z-of_z, of_z-to_z}
 use mir.Val.{SFits, bits, of_z, to_z}
 use mir.ValLaws.{of_z_fits}
 use Rattle.std.specs.Prelude.{FitsSigned}
-use Rattle.std.specs.Int.{Width, w8, w16, w32, w64, w128, byte_len, bytes_high_first, from_be_bytes, to_be_bytes, cast_signed, cast_unsigned}
+use Rattle.std.specs.Int.{Width, w8, w16, w32, w64, w128, byte_len, bytes_high_first, from_be_bytes}
+use Rattle.std.specs.Int.{to_be_bytes, cast_signed, cast_unsigned}
 use Rattle.byteorder.specs.Endian.{big_number}
-use Rattle.byteorder.specs.Numbers.{big_from-cons, big_from-lt, big_from-take, big_number-reads_back, length-bytes_high_first}
+use Rattle.byteorder.specs.Numbers.{big_from-cons, big_from-lt, big_from-take}
+use Rattle.byteorder.specs.Numbers.{big_number-reads_back, length-bytes_high_first}
 use Rattle.jsonb_value.specs.Payload.{IsUnsigned, IsSigned}
 use Rattle.jsonb_value.specs.NumCode.{signed_bytes}
 
@@ -38,7 +43,8 @@ AreBytes-bytes_high_first (suc (suc k)) n zero = mod-lt (n / 256 ^ suc k) (omega
 AreBytes-bytes_high_first (suc k) n (suc i) = AreBytes-bytes_high_first k n i
 
 -- so many bytes with one number are the same
-big_number-same : (bs cs : List ℕ) → AreBytes bs → AreBytes cs → length bs ≡ length cs → big_number (length bs) bs ≡ big_number (length bs) cs → bs ≡ cs
+big_number-same : (bs cs : List ℕ) → AreBytes bs → AreBytes cs → length bs ≡ length cs
+    → big_number (length bs) bs ≡ big_number (length bs) cs → bs ≡ cs
 big_number-same [] [] h k n e = refl
 big_number-same [] (c ∷ cs) h k n e = absurd (omega arith)
 big_number-same (b ∷ bs) [] h k n e = absurd (omega arith)
@@ -48,12 +54,16 @@ big_number-same (b ∷ bs) (c ∷ cs) h k n e =
     let low_c = big_from-lt 0 (length bs) cs (λ i. k (suc i)) in
     let same : b * size + big_number (length bs) bs ≡ c * size + big_number (length bs) cs =
     omega (arith, e, big_from-cons 0 (length bs) b bs, big_from-cons 0 (length bs) c cs) in
-    let first : b ≡ c = sym (div-mul-add b size (big_number (length bs) bs) low_b) ∙ ap (λ (x : ℕ). x / size) same ∙ div-mul-add c size (big_number (length bs) cs) low_c in
-    let rest : big_number (length bs) bs ≡ big_number (length bs) cs = omega (arith, same, ap (λ (x : ℕ). x * size) first) in
-    ap₂ (λ (x : ℕ) (xs : List ℕ). x ∷ xs) first (big_number-same bs cs (λ i. h (suc i)) (λ i. k (suc i)) (omega arith) rest)
+    let first : b ≡ c = sym (div-mul-add b size (big_number (length bs) bs) low_b) ∙ ap
+    (λ (x : ℕ). x / size) same ∙ div-mul-add c size (big_number (length bs) cs) low_c in
+    let rest : big_number (length bs) bs ≡ big_number (length bs) cs =
+    omega (arith, same, ap (λ (x : ℕ). x * size) first) in
+    ap₂ (λ (x : ℕ) (xs : List ℕ). x ∷ xs) first
+    (big_number-same bs cs (λ i. h (suc i)) (λ i. k (suc i)) (omega arith) rest)
 
 -- a width's number of bytes is read as `byteorder` reads it
-pub from_be_bytes-number : (w : Width) (bs : List ℕ) → from_be_bytes w bs ≡ big_number (byte_len w) bs
+pub from_be_bytes-number : (w : Width) (bs : List ℕ)
+    → from_be_bytes w bs ≡ big_number (byte_len w) bs
 from_be_bytes-number w8 bs = omega arith
 from_be_bytes-number w16 bs = omega arith
 from_be_bytes-number w32 bs = omega arith
@@ -71,56 +81,77 @@ pub length-to_be_bytes : (w : Width) (n : ℕ) → length (to_be_bytes w n) ≡ 
 length-to_be_bytes w n = length-bytes_high_first (byte_len w) n
 
 -- a number read back
-from_be_bytes-to_be_bytes : (w : Width) (n : ℕ) → n < 2 ^ bits w → from_be_bytes w (to_be_bytes w n) ≡ n
+from_be_bytes-to_be_bytes : (w : Width) (n : ℕ) → n < 2 ^ bits w
+    → from_be_bytes w (to_be_bytes w n) ≡ n
 from_be_bytes-to_be_bytes w n small =
-    from_be_bytes-number w (to_be_bytes w n) ∙ ap (big_number (byte_len w)) (sym (append-nil (to_be_bytes w n)))
+    from_be_bytes-number w (to_be_bytes w n)
+    ∙ ap (big_number (byte_len w)) (sym (append-nil (to_be_bytes w n)))
     ∙ big_number-reads_back (byte_len w) n [] (subst (λ x. n < x) (sym (pow-byte_len w)) small)
 
 from_be_bytes-small : (w : Width) (bs : List ℕ) → AreBytes bs → from_be_bytes w bs < 2 ^ bits w
 from_be_bytes-small w bs h =
-    subst (λ x. from_be_bytes w bs < x) (pow-byte_len w) (subst (λ x. x < 256 ^ byte_len w) (sym (from_be_bytes-number w bs)) (big_from-lt 0 (byte_len w) bs h))
+    subst (λ x. from_be_bytes w bs < x) (pow-byte_len w)
+    (subst (λ x. x < 256 ^ byte_len w) (sym (from_be_bytes-number w bs))
+    (big_from-lt 0 (byte_len w) bs h))
 
 -- bytes written again
-to_be_bytes-from_be_bytes : (w : Width) (bs : List ℕ) → length bs ≡ byte_len w → AreBytes bs → to_be_bytes w (from_be_bytes w bs) ≡ bs
+to_be_bytes-from_be_bytes : (w : Width) (bs : List ℕ) → length bs ≡ byte_len w → AreBytes bs
+    → to_be_bytes w (from_be_bytes w bs) ≡ bs
 to_be_bytes-from_be_bytes w bs n h =
     let k = from_be_bytes w bs in
     let len = length-to_be_bytes w k in
     let read : big_number (byte_len w) (to_be_bytes w k) ≡ big_number (byte_len w) bs =
-    sym (from_be_bytes-number w (to_be_bytes w k)) ∙ from_be_bytes-to_be_bytes w k (from_be_bytes-small w bs h) ∙ from_be_bytes-number w bs in
+    sym (from_be_bytes-number w (to_be_bytes w k))
+    ∙ from_be_bytes-to_be_bytes w k (from_be_bytes-small w bs h) ∙ from_be_bytes-number w bs in
     big_number-same (to_be_bytes w k) bs (AreBytes-bytes_high_first (byte_len w) k) h (len ∙ sym n)
     (subst (λ m. big_number m (to_be_bytes w k) ≡ big_number m bs) (sym len) read)
 
 -- the first bytes are those of the number that is read of them, which is cast to its bits and back
-pub IsSigned-read : (w : Width) (bs : List ℕ) (v : ℤ) → SFits w v → byte_len w ≤ length bs → v ≡ cast_signed w (big_number (byte_len w) bs) → IsSigned w (take (byte_len w) bs) (to_z w (of_z w v))
+pub IsSigned-read : (w : Width) (bs : List ℕ) (v : ℤ) → SFits w v → byte_len w ≤ length bs
+    → v ≡ cast_signed w (big_number (byte_len w) bs)
+    → IsSigned w (take (byte_len w) bs) (to_z w (of_z w v))
 IsSigned-read w bs v fits room e = record {
   len = search arith;
   value =
       to_z-of_z w v fits ∙ e
-      ∙ ap (cast_signed w) (sym (from_be_bytes-number w (take (byte_len w) bs) ∙ big_from-take 0 (byte_len w) (byte_len w) bs (omega arith)));
+      ∙ ap (cast_signed w)
+      (sym (from_be_bytes-number w (take (byte_len w) bs)
+      ∙ big_from-take 0 (byte_len w) (byte_len w) bs (omega arith)));
 }
 
 -- a signed number read back, and its bytes written again
 pub IsSigned-signed_bytes : (w : Width) (v : ℤ) → FitsSigned w v → IsSigned w (signed_bytes w v) v
 IsSigned-signed_bytes w v fits = record {
   len = length-to_be_bytes w (cast_unsigned w v);
-  value = sym (ap (cast_signed w) (from_be_bytes-to_be_bytes w (cast_unsigned w v) (of_z_fits w v fits).fits) ∙ to_z-of_z w v fits);
+  value = sym
+      (ap (cast_signed w)
+      (from_be_bytes-to_be_bytes w (cast_unsigned w v) (of_z_fits w v fits).fits)
+      ∙ to_z-of_z w v fits);
 }
 
-pub signed_bytes-IsSigned : (w : Width) (bs : List ℕ) (v : ℤ) → AreBytes bs → IsSigned w bs v → signed_bytes w v ≡ bs
+pub signed_bytes-IsSigned : (w : Width) (bs : List ℕ) (v : ℤ) → AreBytes bs → IsSigned w bs v
+    → signed_bytes w v ≡ bs
 signed_bytes-IsSigned w bs v h is =
     ap (λ (z : ℤ). to_be_bytes w (cast_unsigned w z)) is.value
-    ∙ ap (to_be_bytes w) (of_z-to_z w (from_be_bytes w bs) (from_be_bytes-small w bs h)) ∙ to_be_bytes-from_be_bytes w bs is.len h
+    ∙ ap (to_be_bytes w) (of_z-to_z w (from_be_bytes w bs) (from_be_bytes-small w bs h))
+    ∙ to_be_bytes-from_be_bytes w bs is.len h
 
-pub IsSigned-fits : (w : Width) (bs : List ℕ) (v : ℤ) → AreBytes bs → IsSigned w bs v → FitsSigned w v
+pub IsSigned-fits : (w : Width) (bs : List ℕ) (v : ℤ) → AreBytes bs → IsSigned w bs v
+    → FitsSigned w v
 IsSigned-fits w bs v h is =
     subst (FitsSigned w) (sym is.value) (sfits_to_z record { fits = from_be_bytes-small w bs h })
 
 -- the same of an unsigned one
 pub IsUnsigned-to_be_bytes : (w : Width) (n : ℕ) → n < 2 ^ bits w → IsUnsigned w (to_be_bytes w n) n
-IsUnsigned-to_be_bytes w n small = record { len = length-to_be_bytes w n; value = sym (from_be_bytes-to_be_bytes w n small) }
+IsUnsigned-to_be_bytes w n small =
+    record { len = length-to_be_bytes w n; value = sym (from_be_bytes-to_be_bytes w n small) }
 
-pub to_be_bytes-IsUnsigned : (w : Width) (bs : List ℕ) (n : ℕ) → AreBytes bs → IsUnsigned w bs n → to_be_bytes w n ≡ bs
-to_be_bytes-IsUnsigned w bs n h is = ap (to_be_bytes w) is.value ∙ to_be_bytes-from_be_bytes w bs is.len h
+pub to_be_bytes-IsUnsigned : (w : Width) (bs : List ℕ) (n : ℕ) → AreBytes bs → IsUnsigned w bs n
+    → to_be_bytes w n ≡ bs
+to_be_bytes-IsUnsigned w bs n h is =
+    ap (to_be_bytes w) is.value ∙ to_be_bytes-from_be_bytes w bs is.len h
 
-pub IsUnsigned-small : (w : Width) (bs : List ℕ) (n : ℕ) → AreBytes bs → IsUnsigned w bs n → n < 2 ^ bits w
-IsUnsigned-small w bs n h is = subst (λ x. x < 2 ^ bits w) (sym is.value) (from_be_bytes-small w bs h)
+pub IsUnsigned-small : (w : Width) (bs : List ℕ) (n : ℕ) → AreBytes bs → IsUnsigned w bs n
+    → n < 2 ^ bits w
+IsUnsigned-small w bs n h is =
+    subst (λ x. x < 2 ^ bits w) (sym is.value) (from_be_bytes-small w bs h)

@@ -17,19 +17,26 @@ pub record Placed {K : Type 0} (R : K → K → Ordering) (x y z : K) : Type 0 w
   pub second_third : R y z ≡ int_cmp second third
   pub first_third : R x z ≡ int_cmp first third
 
-pub total_by_places : {K : Type 0} {R : K → K → Ordering} → ((x y : K) → R x y ≡ ordering_reverse (R y x)) → ((x y z : K) → Placed R x y z) → IsTotalOrder R
+pub total_by_places : {K : Type 0} {R : K → K → Ordering}
+    → ((x y : K) → R x y ≡ ordering_reverse (R y x)) → ((x y z : K) → Placed R x y z)
+    → IsTotalOrder R
 total_by_places {K} {R} turned placed = record {
   antisymm = turned;
   trans = λ x y z h k. let p = placed x y z in
-      p.first_third ∙ int_cmp_total.trans p.first p.second p.third (sym p.first_second ∙ h) (sym p.second_third ∙ k);
+      p.first_third
+      ∙ int_cmp_total.trans p.first p.second p.third (sym p.first_second ∙ h)
+      (sym p.second_third ∙ k);
   congr = λ x y z h. let p = placed x y z in
-      p.first_third ∙ int_cmp_total.congr p.first p.second p.third (sym p.first_second ∙ h) ∙ sym p.second_third;
+      p.first_third ∙ int_cmp_total.congr p.first p.second p.third (sym p.first_second ∙ h)
+      ∙ sym p.second_third;
 }
 
 -- both sides are multiplied by k
-multiplied : (u v : ℤ) (m n k : ℕ) → 0 < k → int_cmp (u *ℤ pos m) (v *ℤ pos n) ≡ int_cmp (u *ℤ pos (m * k)) (v *ℤ pos (n * k))
+multiplied : (u v : ℤ) (m n k : ℕ) → 0 < k
+    → int_cmp (u *ℤ pos m) (v *ℤ pos n) ≡ int_cmp (u *ℤ pos (m * k)) (v *ℤ pos (n * k))
 multiplied u v m n k p =
-    sym (int_cmp-scaled (u *ℤ pos m) (v *ℤ pos n) k p) ∙ (λ i. int_cmp (*ℤ-pos-pos u m k i) (*ℤ-pos-pos v n k i))
+    sym (int_cmp-scaled (u *ℤ pos m) (v *ℤ pos n) k p)
+    ∙ (λ i. int_cmp (*ℤ-pos-pos u m k i) (*ℤ-pos-pos v n k i))
 
 power_above_zero : (n : ℕ) → 0 < 10 ^ n
 power_above_zero n = one-le-pow n 10 (omega arith)
@@ -45,20 +52,31 @@ placed_fractions x y z =
       second = y.value *ℤ pos (p * r);
       third = z.value *ℤ pos (p * q);
       first_second = multiplied x.value y.value q p r (power_above_zero z.scale);
-      second_third = multiplied y.value z.value r q p (power_above_zero x.scale) ∙ (λ i. int_cmp (y.value *ℤ pos (mul_comm r p i)) (z.value *ℤ pos (mul_comm q p i)));
-      first_third = multiplied x.value z.value r p q (power_above_zero y.scale) ∙ (λ i. int_cmp (x.value *ℤ pos (mul_comm r q i)) (z.value *ℤ pos (p * q)));
+      second_third = multiplied y.value z.value r q p (power_above_zero x.scale)
+          ∙ (λ i. int_cmp (y.value *ℤ pos (mul_comm r p i)) (z.value *ℤ pos (mul_comm q p i)));
+      first_third = multiplied x.value z.value r p q (power_above_zero y.scale)
+          ∙ (λ i. int_cmp (x.value *ℤ pos (mul_comm r q i)) (z.value *ℤ pos (p * q)));
     }
 
 pub fraction_cmp_total : IsTotalOrder fraction_cmp
-fraction_cmp_total = total_by_places (λ x y. int_cmp_total.antisymm (x.value *ℤ pos (10 ^ y.scale)) (y.value *ℤ pos (10 ^ x.scale))) placed_fractions
+fraction_cmp_total = total_by_places
+    (λ x y. int_cmp_total.antisymm (x.value *ℤ pos (10 ^ y.scale))
+    (y.value *ℤ pos (10 ^ x.scale))) placed_fractions
 
 -- a smaller scale is raised to the greater one
-pub aligned : (x y : Fraction) → x.scale ≤ y.scale → int_cmp (x.value *ℤ pos (10 ^ (y.scale - x.scale))) y.value ≡ fraction_cmp x y
+pub aligned : (x y : Fraction) → x.scale ≤ y.scale
+    → int_cmp (x.value *ℤ pos (10 ^ (y.scale - x.scale))) y.value ≡ fraction_cmp x y
 aligned x y h =
-    let raised : 10 ^ (y.scale - x.scale) * 10 ^ x.scale ≡ 10 ^ y.scale = sym (pow-add 10 (y.scale - x.scale) x.scale) ∙ ap (λ n. 10 ^ n) (omega arith) in
-    sym (int_cmp-scaled (x.value *ℤ pos (10 ^ (y.scale - x.scale))) y.value (10 ^ x.scale) (power_above_zero x.scale))
-    ∙ ap (λ z. int_cmp z (y.value *ℤ pos (10 ^ x.scale))) (*ℤ-pos-pos x.value (10 ^ (y.scale - x.scale)) (10 ^ x.scale) ∙ ap (λ n. x.value *ℤ pos n) raised)
+    let raised : 10 ^ (y.scale - x.scale) * 10 ^ x.scale ≡ 10 ^ y.scale =
+    sym (pow-add 10 (y.scale - x.scale) x.scale) ∙ ap (λ n. 10 ^ n) (omega arith) in
+    sym (int_cmp-scaled (x.value *ℤ pos (10 ^ (y.scale - x.scale))) y.value (10 ^ x.scale)
+    (power_above_zero x.scale))
+    ∙ ap (λ z. int_cmp z (y.value *ℤ pos (10 ^ x.scale)))
+    (*ℤ-pos-pos x.value (10 ^ (y.scale - x.scale)) (10 ^ x.scale) ∙ ap
+    (λ n. x.value *ℤ pos n) raised)
 
 -- the same, where the comparison was made the other way round
-pub aligned_back : (x y : Fraction) → y.scale ≤ x.scale → ordering_reverse (int_cmp (y.value *ℤ pos (10 ^ (x.scale - y.scale))) x.value) ≡ fraction_cmp x y
+pub aligned_back : (x y : Fraction) → y.scale ≤ x.scale
+    → ordering_reverse (int_cmp (y.value *ℤ pos (10 ^ (x.scale - y.scale))) x.value)
+    ≡ fraction_cmp x y
 aligned_back x y h = ap ordering_reverse (aligned y x h) ∙ sym (fraction_cmp_total.antisymm x y)

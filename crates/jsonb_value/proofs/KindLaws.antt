@@ -7,7 +7,8 @@ use Rattle.std.proofs.lemmas.Cmp.{tied_itself, alike_right}
 use Rattle.jsonb_value.specs.declared.number.Number.{Number}
 use Rattle.jsonb_value.specs.declared.number.Number.TheVariants.{Int64}
 use Rattle.jsonb_value.specs.Order.{number_cmp}
-use Rattle.jsonb_value.specs.Tree.{Tree, null, boolean, number, text, extension, array, object, Trees, no_trees, tree, Pairs, no_pairs, pair}
+use Rattle.jsonb_value.specs.Tree.{Tree, null, boolean, number, text, extension, array, object}
+use Rattle.jsonb_value.specs.Tree.{Trees, no_trees, tree, Pairs, no_pairs, pair}
 use Rattle.jsonb_value.specs.TreeOrder.{rank_of, tree_cmp, trees_cmp, pairs_cmp}
 use Rattle.jsonb_value.specs.Norm.{norm_number, norm, norms, norm_pairs}
 use Rattle.jsonb_value.proofs.NumberLaws.{number_cmp_total}
@@ -16,7 +17,8 @@ use Rattle.jsonb_value.proofs.TreeLaws.{tree_cmp_total}
 pub tree_cmp-itself : (t : Tree) → tree_cmp t t ≡ Equal
 tree_cmp-itself t = tied_itself tree_cmp_total t
 
-pub tree_cmp-by_rank : (t u : Tree) → rank_of t ≢ rank_of u → tree_cmp t u ≡ nat_cmp (rank_of t) (rank_of u)
+pub tree_cmp-by_rank : (t u : Tree) → rank_of t ≢ rank_of u
+    → tree_cmp t u ≡ nat_cmp (rank_of t) (rank_of u)
 tree_cmp-by_rank null null h = absurd (h refl)
 tree_cmp-by_rank (array ts) (array us) h = absurd (h refl)
 tree_cmp-by_rank (object ps) (object qs) h = absurd (h refl)
@@ -43,7 +45,8 @@ mutual
 
   norm_pairs_tied : (ps : Pairs) → pairs_cmp (norm_pairs ps) ps ≡ Equal
   norm_pairs_tied no_pairs = refl
-  norm_pairs_tied (pair k t ps) = λ i. ordering_then (tied_itself nat_list_cmp_total k i) (ordering_then (norm_tied t i) (norm_pairs_tied ps i))
+  norm_pairs_tied (pair k t ps) = λ i. ordering_then (tied_itself nat_list_cmp_total k i)
+      (ordering_then (norm_tied t i) (norm_pairs_tied ps i))
 
 pub tree_cmp-norm : (t u : Tree) → tree_cmp (norm t) u ≡ tree_cmp t u
 tree_cmp-norm t u = tree_cmp_total.congr (norm t) t u (norm_tied t)

@@ -26,10 +26,12 @@ meant_bytes (other_bytes b) = b
 
 -- first whether there is a tree, then the tree, then the bytes
 abbrev by_parts : Meaning → Meaning → Ordering
-by_parts = then_cmp (on is_bytes bool_cmp) (then_cmp (on meant_tree (option_cmp tree_cmp)) (on meant_bytes (slice_cmp nat_cmp)))
+by_parts = then_cmp (on is_bytes bool_cmp)
+    (then_cmp (on meant_tree (option_cmp tree_cmp)) (on meant_bytes (slice_cmp nat_cmp)))
 
 by_parts_total : IsTotalOrder by_parts
-by_parts_total = then_total (on_total is_bytes bool_cmp_total) (then_total (on_total meant_tree (options_total tree_cmp_total)) (on_texts meant_bytes))
+by_parts_total = then_total (on_total is_bytes bool_cmp_total)
+    (then_total (on_total meant_tree (options_total tree_cmp_total)) (on_texts meant_bytes))
 
 by_parts_cmp : (m n : Meaning) → by_parts m n ≡ meaning_cmp m n
 by_parts_cmp (document x) (document y) = then-Equal (tree_cmp x y)

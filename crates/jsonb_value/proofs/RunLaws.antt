@@ -1,9 +1,14 @@
 -- Runs of bytes that are not escaped, seen a vector at a time through the mask of those that are.
-use Rattle.std.proofs.Common.{◌≡◌, ℕ, ◌+◌, ◌<◌, ◌≤◌, ◌%◌, ◌^◌, Bool, true, false, not, cond, eqb, ltb, ◌||◌, ◌==◌, List, [], ◌∷◌, map, length, drop, replicate, bit_or, refl, sym, ap, ap₂, ◌∙◌, inl, inr, get_or, take, ◌-◌, arith}
+use Rattle.std.proofs.Common.{◌≡◌, ℕ, ◌+◌, ◌<◌, ◌≤◌, ◌%◌, ◌^◌, Bool, true, false, not, cond, eqb}
+use Rattle.std.proofs.Common.{ltb, ◌||◌, ◌==◌, List, [], ◌∷◌, map, length, drop, replicate, bit_or}
+use Rattle.std.proofs.Common.{refl, sym, ap, ap₂, ◌∙◌, inl, inr, get_or, take, ◌-◌, arith}
 use Rattle.std.proofs.lemmas.Bool.{cases_lt, cases_Bool, eq-eqb, ne_eqb, eqb-true, not-true}
 use Rattle.std.proofs.lemmas.Bool.Decides.{nat_tests}
-use Rattle.std.proofs.lemmas.Simd.{zip2_splat, zip2_of_maps, mask_l-mod, none_from_empty_mask, chunk-drop, length-chunk, leading_from_mask_l, trailing_mask_l, get_or-chunk}
-use Rattle.std.proofs.lemmas.List.{length-map, length-append, length-take-le, take_all, get_or_append_left, get_or-append_right, get_or-take}
+use Rattle.std.proofs.lemmas.Simd.{zip2_splat, zip2_of_maps, mask_l-mod, none_from_empty_mask}
+use Rattle.std.proofs.lemmas.Simd.{chunk-drop, length-chunk, leading_from_mask_l, trailing_mask_l}
+use Rattle.std.proofs.lemmas.Simd.{get_or-chunk}
+use Rattle.std.proofs.lemmas.List.{length-map, length-append, length-take-le, take_all}
+use Rattle.std.proofs.lemmas.List.{get_or_append_left, get_or-append_right, get_or-take}
 use Rattle.std.proofs.lemmas.List.Sums.{prefix_len_passes}
 use Rattle.std.proofs.lemmas.List.Folds.{prefix_len-append}
 use Rattle.std.specs.Bool.{OnTrue}
@@ -24,7 +29,8 @@ below a b = cond (ltb a b) 255 0
 abbrev lane : ℕ → ℕ
 lane x = bit_or (bit_or (hit x 34) (hit x 92)) (below x 32)
 
-top_of_tests : (a b c : Bool) → top 7 (bit_or (bit_or (cond a 255 0) (cond b 255 0)) (cond c 255 0)) ≡ ((a || b) || c)
+top_of_tests : (a b c : Bool)
+    → top 7 (bit_or (bit_or (cond a 255 0) (cond b 255 0)) (cond c 255 0)) ≡ ((a || b) || c)
 top_of_tests true true true = refl
 top_of_tests true true false = refl
 top_of_tests true false true = refl
@@ -36,42 +42,58 @@ top_of_tests false false false = refl
 
 tops_of_lanes : (v : List ℕ) → map (top 7) (map lane v) ≡ map is_escaped v
 tops_of_lanes [] = refl
-tops_of_lanes (x ∷ xs) = ap₂ (λ a b. a ∷ b) (top_of_tests (eqb x 34) (eqb x 92) (ltb x 32)) (tops_of_lanes xs)
+tops_of_lanes (x ∷ xs) =
+    ap₂ (λ a b. a ∷ b) (top_of_tests (eqb x 34) (eqb x 92) (ltb x 32)) (tops_of_lanes xs)
 
 pub mask_of_escaped : (v : List ℕ) (n : ℕ) → length v ≡ n → n ≤ 64
-    → mask_l (map (top 7) (zip2 bit_or (zip2 bit_or (zip2 hit v (replicate n 34)) (zip2 hit v (replicate n 92))) (zip2 below v (replicate n 32)))) % 2 ^ 64 ≡ mask_l (map is_escaped v)
+    → mask_l (map (top 7)
+    (zip2 bit_or (zip2 bit_or (zip2 hit v (replicate n 34)) (zip2 hit v (replicate n 92)))
+    (zip2 below v (replicate n 32)))) % 2 ^ 64 ≡ mask_l (map is_escaped v)
 mask_of_escaped v n long few =
-    let tests = zip2_of_maps bit_or _ _ v (zip2_of_maps bit_or _ _ v (zip2_splat hit v n 34 long) (zip2_splat hit v n 92 long)) (zip2_splat below v n 32 long) in
-    ap (λ l. mask_l l % 2 ^ 64) (ap (map (top 7)) tests ∙ tops_of_lanes v) ∙ mask_l-mod (map is_escaped v) 64 (omega (arith, length-map v is_escaped))
+    let tests = zip2_of_maps bit_or _ _ v
+    (zip2_of_maps bit_or _ _ v (zip2_splat hit v n 34 long) (zip2_splat hit v n 92 long))
+    (zip2_splat below v n 32 long) in
+    ap (λ l. mask_l l % 2 ^ 64) (ap (map (top 7)) tests ∙ tops_of_lanes v)
+    ∙ mask_l-mod (map is_escaped v) 64 (omega (arith, length-map v is_escaped))
 
 on_true : (b : Bool) (P : Type 0) → (b ≡ true → P) → OnTrue b P
 on_true true P f = f refl
 on_true false P f = tt
 
 -- an empty mask says that no byte under it is escaped
-pub none_escaped : (bytes : List ℕ) (i n mask : ℕ) → i + n ≤ length bytes → mask ≡ mask_l (map is_escaped (chunk i n bytes)) → OnTrue (mask == 0) (NoneEscaped bytes i (i + n))
-none_escaped bytes i n mask within is = on_true _ _ (λ e. none_from_empty_mask is_escaped bytes i n 0 within (sym is ∙ eqb-true mask 0 e))
+pub none_escaped : (bytes : List ℕ) (i n mask : ℕ) → i + n ≤ length bytes
+    → mask ≡ mask_l (map is_escaped (chunk i n bytes))
+    → OnTrue (mask == 0) (NoneEscaped bytes i (i + n))
+none_escaped bytes i n mask within is = on_true _ _
+    (λ e. none_from_empty_mask is_escaped bytes i n 0 within (sym is ∙ eqb-true mask 0 e))
 
 pub length-ends : (n : ℕ) (bytes : List ℕ) → n ≤ length bytes → length (ends n bytes) ≡ n + n
 length-ends n bytes within =
     length-append (take n bytes) (chunk (length bytes - n) n bytes)
-    ∙ ap₂ (λ a b. a + b) (length-take-le n bytes within) (length-chunk (length bytes - n) n bytes (omega (arith, within)))
+    ∙ ap₂ (λ a b. a + b) (length-take-le n bytes within)
+    (length-chunk (length bytes - n) n bytes (omega (arith, within)))
 
-get_or-ends_front : (n : ℕ) (bytes : List ℕ) (k : ℕ) → n ≤ length bytes → k < n → get_or (ends n bytes) k 0 ≡ get_or bytes k 0
+get_or-ends_front : (n : ℕ) (bytes : List ℕ) (k : ℕ) → n ≤ length bytes → k < n
+    → get_or (ends n bytes) k 0 ≡ get_or bytes k 0
 get_or-ends_front n bytes k within below =
-    get_or_append_left (take n bytes) (chunk (length bytes - n) n bytes) 0 k (omega (arith, length-take-le n bytes within))
+    get_or_append_left (take n bytes) (chunk (length bytes - n) n bytes) 0 k
+    (omega (arith, length-take-le n bytes within))
     ∙ get_or-take n bytes k 0 below
 
-get_or-ends_back : (n : ℕ) (bytes : List ℕ) (k : ℕ) → n ≤ length bytes → k < n → get_or (ends n bytes) (n + k) 0 ≡ get_or bytes (length bytes - n + k) 0
+get_or-ends_back : (n : ℕ) (bytes : List ℕ) (k : ℕ) → n ≤ length bytes → k < n
+    → get_or (ends n bytes) (n + k) 0 ≡ get_or bytes (length bytes - n + k) 0
 get_or-ends_back n bytes k within below =
-    get_or-append_right (take n bytes) (chunk (length bytes - n) n bytes) n (n + k) 0 (length-take-le n bytes within) (omega arith)
+    get_or-append_right (take n bytes) (chunk (length bytes - n) n bytes) n (n + k) 0
+    (length-take-le n bytes within) (omega arith)
     ∙ ap (λ i. get_or (chunk (length bytes - n) n bytes) i 0) (omega arith)
     ∙ get_or-chunk (length bytes - n) n bytes k 0 below
 
 -- each byte is among those at the front or those at the end
-none_from_ends : (bytes : List ℕ) (n : ℕ) → n ≤ length bytes → length bytes ≤ n + n → NoneEscaped (ends n bytes) 0 (n + n) → NoneEscaped bytes 0 (length bytes)
+none_from_ends : (bytes : List ℕ) (n : ℕ) → n ≤ length bytes → length bytes ≤ n + n
+    → NoneEscaped (ends n bytes) 0 (n + n) → NoneEscaped bytes 0 (length bytes)
 none_from_ends bytes n within covers none k from upto = elim (cases_lt k n) [
-  | inl front ↦ sym (ap is_escaped (get_or-ends_front n bytes k within front)) ∙ none k (omega arith) (omega arith)
+  | inl front ↦ sym (ap is_escaped (get_or-ends_front n bytes k within front))
+      ∙ none k (omega arith) (omega arith)
   | inr behind ↦
       let j = k - (length bytes - n) in
       ap (λ i. is_escaped (get_or bytes i 0)) (omega arith)
@@ -80,11 +102,16 @@ none_from_ends bytes n within covers none k from upto = elim (cases_lt k n) [
 ]
 
 -- an empty mask of both ends says that no byte is escaped
-pub none_escaped_at_ends : (bytes : List ℕ) (n mask : ℕ) → n ≤ length bytes → length bytes ≤ n + n → mask ≡ mask_l (map is_escaped (ends n bytes)) → OnTrue (mask == 0) (NoneEscaped bytes 0 (length bytes))
+pub none_escaped_at_ends : (bytes : List ℕ) (n mask : ℕ) → n ≤ length bytes → length bytes ≤ n + n
+    → mask ≡ mask_l (map is_escaped (ends n bytes))
+    → OnTrue (mask == 0) (NoneEscaped bytes 0 (length bytes))
 none_escaped_at_ends bytes n mask within covers is = on_true _ _ (λ e.
-    let whole : chunk 0 (n + n) (ends n bytes) ≡ ends n bytes = take_all (n + n) (ends n bytes) (omega (arith, length-ends n bytes within)) in
+    let whole : chunk 0 (n + n) (ends n bytes) ≡ ends n bytes =
+    take_all (n + n) (ends n bytes) (omega (arith, length-ends n bytes within)) in
     none_from_ends bytes n within covers (λ k from upto.
-    none_from_empty_mask is_escaped (ends n bytes) 0 (n + n) 0 (omega (arith, length-ends n bytes within)) (rw whole (sym is ∙ eqb-true mask 0 e)) k from (omega arith)))
+    none_from_empty_mask is_escaped (ends n bytes) 0 (n + n) 0
+    (omega (arith, length-ends n bytes within)) (rw whole (sym is ∙ eqb-true mask 0 e)) k from
+    (omega arith)))
 
 is_plain-not_escaped : (b : ℕ) → is_plain b ≡ not (is_escaped b)
 is_plain-not_escaped b = grind (arith, nat_tests)
@@ -95,34 +122,50 @@ same_run (x ∷ xs) = ap₂ (λ b n. cond b (1 + n) 0) (is_plain-not_escaped x) 
 
 split_run : (bytes : List ℕ) (i n : ℕ)
     → prefix_len is_plain (drop i bytes)
-    ≡ cond (eqb (prefix_len is_plain (chunk i n bytes)) (length (chunk i n bytes))) (length (chunk i n bytes) + prefix_len is_plain (drop (i + n) bytes)) (prefix_len is_plain (chunk i n bytes))
-split_run bytes i n = ap (prefix_len is_plain) (chunk-drop i n bytes) ∙ prefix_len-append is_plain (chunk i n bytes) (drop (i + n) bytes)
+    ≡ cond (eqb (prefix_len is_plain (chunk i n bytes)) (length (chunk i n bytes)))
+    (length (chunk i n bytes) + prefix_len is_plain (drop (i + n) bytes))
+    (prefix_len is_plain (chunk i n bytes))
+split_run bytes i n = ap (prefix_len is_plain) (chunk-drop i n bytes)
+    ∙ prefix_len-append is_plain (chunk i n bytes) (drop (i + n) bytes)
 
-pub run_through : (bytes : List ℕ) (i n : ℕ) → i + n ≤ length bytes → mask_l (map is_escaped (chunk i n bytes)) ≡ 0 → prefix_len is_plain (drop i bytes) ≡ n + prefix_len is_plain (drop (i + n) bytes)
+pub run_through : (bytes : List ℕ) (i n : ℕ) → i + n ≤ length bytes
+    → mask_l (map is_escaped (chunk i n bytes)) ≡ 0
+    → prefix_len is_plain (drop i bytes) ≡ n + prefix_len is_plain (drop (i + n) bytes)
 run_through bytes i n within none =
     let c = chunk i n bytes in
     split_run bytes i n
-    ∙ ap (λ b. cond b (length c + prefix_len is_plain (drop (i + n) bytes)) (prefix_len is_plain c)) (eq-eqb _ _ (same_run c ∙ leading_from_mask_l is_escaped c none))
+    ∙ ap (λ b. cond b (length c + prefix_len is_plain (drop (i + n) bytes)) (prefix_len is_plain c))
+    (eq-eqb _ _ (same_run c ∙ leading_from_mask_l is_escaped c none))
     ∙ ap (λ k. k + prefix_len is_plain (drop (i + n) bytes)) (length-chunk i n bytes within)
 
 -- a run of all lanes has no bit in its mask
-whole_run : (xs : List ℕ) → prefix_len (λ x. not (is_escaped x)) xs ≡ length xs → mask_l (map is_escaped xs) ≡ 0
+whole_run : (xs : List ℕ) → prefix_len (λ x. not (is_escaped x)) xs ≡ length xs
+    → mask_l (map is_escaped xs) ≡ 0
 whole_run [] e = refl
 whole_run (x ∷ xs) e = elim (cases_Bool (is_escaped x)) [
   | inl escaped ↦ absurd (omega (arith, rw escaped at e))
   | inr plain ↦ rw plain (omega (arith, whole_run xs (omega (arith, rw plain at e))))
 ]
 
-pub run_stops : (bytes : List ℕ) (i n : ℕ) → i + n ≤ length bytes → n ≤ 64 → 0 < mask_l (map is_escaped (chunk i n bytes)) → prefix_len is_plain (drop i bytes) ≡ count_trailing_zeros 64 (mask_l (map is_escaped (chunk i n bytes)))
+pub run_stops : (bytes : List ℕ) (i n : ℕ) → i + n ≤ length bytes → n ≤ 64
+    → 0 < mask_l (map is_escaped (chunk i n bytes))
+    → prefix_len is_plain (drop i bytes)
+    ≡ count_trailing_zeros 64 (mask_l (map is_escaped (chunk i n bytes)))
 run_stops bytes i n within few some =
     let c = chunk i n bytes in
     split_run bytes i n
-    ∙ ap (λ b. cond b (length c + prefix_len is_plain (drop (i + n) bytes)) (prefix_len is_plain c)) (ne_eqb _ _ (λ (e : prefix_len is_plain c ≡ length c). omega (arith, whole_run c (sym (same_run c) ∙ e))))
+    ∙ ap (λ b. cond b (length c + prefix_len is_plain (drop (i + n) bytes)) (prefix_len is_plain c))
+    (ne_eqb _ _
+    (λ (e : prefix_len is_plain c ≡ length c). omega
+    (arith, whole_run c (sym (same_run c) ∙ e))))
     ∙ same_run c
     ∙ sym (trailing_mask_l is_escaped 64 c (omega (arith, length-chunk i n bytes within)) some)
 
-pub none_escaped_in_run : (xs : List ℕ) (n : ℕ) → n ≡ prefix_len is_plain xs → OnTrue (n == length xs) (NoneEscaped xs 0 (length xs))
-none_escaped_in_run xs n is = on_true (n == length xs) (NoneEscaped xs 0 (length xs)) (λ e k from upto.
+pub none_escaped_in_run : (xs : List ℕ) (n : ℕ) → n ≡ prefix_len is_plain xs
+    → OnTrue (n == length xs) (NoneEscaped xs 0 (length xs))
+none_escaped_in_run xs n is =
+    on_true (n == length xs) (NoneEscaped xs 0 (length xs)) (λ e k from upto.
     let whole = eqb-true n (length xs) e in
-    let passes : is_plain (get_or xs k 0) ≡ true = prefix_len_passes is_plain xs k 0 (omega arith) in
+    let passes : is_plain (get_or xs k 0) ≡ true =
+    prefix_len_passes is_plain xs k 0 (omega arith) in
     not-true _ (sym (is_plain-not_escaped (get_or xs k 0)) ∙ passes))

@@ -1,5 +1,6 @@
 -- Multiplying by ten step by step, within the range of 128 bits and past it.
-use Rattle.std.proofs.Common.{◌≡◌, ℕ, zero, suc, ◌+◌, ◌-◌, ◌*◌, ◌^◌, ◌<◌, ◌≤◌, refl, sym, ap, ◌∙◌, arith}
+use Rattle.std.proofs.Common.{◌≡◌, ℕ, zero, suc, ◌+◌, ◌-◌, ◌*◌, ◌^◌, ◌<◌, ◌≤◌, refl, sym, ap, ◌∙◌}
+use Rattle.std.proofs.Common.{arith}
 use Rattle.std.proofs.Math.Nat.{pow-succ', le-mul_of_pos_right, one-le-pow}
 use Rattle.std.proofs.Math.IntN.{*ℤ-one, one, neg_ℤ}
 use Rattle.std.specs.Prelude.{ℤ, pos, negsuc, ◌*ℤ◌, ◌<ℤ◌, FitsSigned}
@@ -18,8 +19,10 @@ power_left steps step h =
     ap (λ n. 10 ^ n) e ∙ pow-succ' 10 (steps - (step + 1))
 
 -- the factor of ten moves from the power into the number
-pub product_left : (v : ℤ) (steps step : ℕ) → step < steps → (v *ℤ pos 10) *ℤ pos (10 ^ (steps - (step + 1))) ≡ v *ℤ pos (10 ^ (steps - step))
-product_left v steps step h = *ℤ-pos-pos v 10 (10 ^ (steps - (step + 1))) ∙ ap (λ n. v *ℤ pos n) (sym (power_left steps step h))
+pub product_left : (v : ℤ) (steps step : ℕ) → step < steps
+    → (v *ℤ pos 10) *ℤ pos (10 ^ (steps - (step + 1))) ≡ v *ℤ pos (10 ^ (steps - step))
+product_left v steps step h = *ℤ-pos-pos v 10 (10 ^ (steps - (step + 1))) ∙ ap
+    (λ n. v *ℤ pos n) (sym (power_left steps step h))
 
 is_less : (x y : ℤ) → x <ℤ y → int_cmp x y ≡ Less
 is_less x y h = sym (int_cmp_is x y Less h)
@@ -51,18 +54,24 @@ outside_below v outside = by_le (λ small. outside (record { sfits = rw mag-neg_
     by_le h = omega arith
 
 -- a number whose tenfold does not fit is past each number that fits, on the side of its sign
-past : (v other : ℤ) (n : ℕ) → 0 < n → ¬ (FitsSigned w128 (v *ℤ pos 10)) → FitsSigned w128 other → int_cmp (v *ℤ pos (10 * n)) other ≡ int_cmp v (pos 0)
+past : (v other : ℤ) (n : ℕ) → 0 < n → ¬ (FitsSigned w128 (v *ℤ pos 10)) → FitsSigned w128 other
+    → int_cmp (v *ℤ pos (10 * n)) other ≡ int_cmp v (pos 0)
 past (pos v) other n p outside inside =
     let far : 2 ^ 127 ≤ v * 10 = outside_above v outside in
     let grown : v * 10 ≤ v * 10 * n = le-mul_of_pos_right (v * 10) p in
     let beyond : other <ℤ pos (v * (10 * n)) = omega (arith, ints) in
-    is_greater (pos v *ℤ pos (10 * n)) other beyond ∙ sym (is_greater (pos v) (pos 0) (omega (arith, ints)))
+    is_greater (pos v *ℤ pos (10 * n)) other beyond
+    ∙ sym (is_greater (pos v) (pos 0) (omega (arith, ints)))
 past (negsuc v) other n p outside inside =
     let far : 2 ^ 127 < suc v * 10 = outside_below v outside in
     let grown : suc v * 10 ≤ suc v * 10 * n = le-mul_of_pos_right (suc v * 10) p in
     let beyond : (negsuc v *ℤ pos (10 * n)) <ℤ other = omega (arith, ints) in
-    is_less (negsuc v *ℤ pos (10 * n)) other beyond ∙ sym (is_less (negsuc v) (pos 0) (omega (arith, ints)))
+    is_less (negsuc v *ℤ pos (10 * n)) other beyond
+    ∙ sym (is_less (negsuc v) (pos 0) (omega (arith, ints)))
 
-pub product_past : (v other : ℤ) (steps step : ℕ) → step < steps → ¬ (FitsSigned w128 (v *ℤ pos 10)) → FitsSigned w128 other → int_cmp (v *ℤ pos (10 ^ (steps - step))) other ≡ int_cmp v (pos 0)
+pub product_past : (v other : ℤ) (steps step : ℕ) → step < steps → ¬ (FitsSigned w128 (v *ℤ pos 10))
+    → FitsSigned w128 other → int_cmp (v *ℤ pos (10 ^ (steps - step))) other ≡ int_cmp v (pos 0)
 product_past v other steps step h outside inside =
-    ap (λ n. int_cmp (v *ℤ pos n) other) (power_left steps step h) ∙ past v other (10 ^ (steps - (step + 1))) (one-le-pow (steps - (step + 1)) 10 (omega arith)) outside inside
+    ap (λ n. int_cmp (v *ℤ pos n) other) (power_left steps step h)
+    ∙ past v other (10 ^ (steps - (step + 1)))
+    (one-le-pow (steps - (step + 1)) 10 (omega arith)) outside inside

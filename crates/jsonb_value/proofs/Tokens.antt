@@ -1,5 +1,5 @@
--- A tree written as a list of tokens, whose order as a list is the order of the trees. Lists of a total order are
--- totally ordered, so one induction over pairs of trees does for all three laws.
+-- A tree written as a list of tokens, whose order as a list is the order of the trees. Lists of a
+-- total order are totally ordered, so one induction over pairs of trees does for all three laws.
 use Rattle.std.specs.Prelude.{ℕ, pos, Bool, false, List, [], ◌∷◌}
 use Rattle.std.specs.declared.cmp.Ordering.{Ordering}
 use Rattle.std.specs.Ordering.{nat_cmp, bool_cmp, on, then_cmp}
@@ -11,7 +11,8 @@ use Rattle.jsonb_value.specs.declared.number.Number.TheVariants.{Int64}
 use Rattle.jsonb_value.specs.Order.{number_cmp, extension_cmp}
 use Rattle.jsonb_value.proofs.NumberLaws.{number_cmp_total}
 use Rattle.jsonb_value.proofs.ExtensionLaws.{extension_cmp_total}
-use Rattle.jsonb_value.specs.Tree.{Extension, binary, Tree, Trees, Pairs, null, array, object, text, number, boolean, extension, no_trees, tree, no_pairs, pair}
+use Rattle.jsonb_value.specs.Tree.{Extension, binary, Tree, Trees, Pairs, null, array, object, text}
+use Rattle.jsonb_value.specs.Tree.{number, boolean, extension, no_trees, tree, no_pairs, pair}
 
 -- a rank, and what a leaf holds
 pub record Token : Type 0 where
@@ -23,7 +24,8 @@ pub record Token : Type 0 where
 
 -- a token that holds nothing
 abbrev pub mark : ℕ → Token
-mark rank = record { rank = rank; truth = false; number = Int64 (pos 0); bytes = []; extension = binary [] }
+mark rank =
+    record { rank = rank; truth = false; number = Int64 (pos 0); bytes = []; extension = binary [] }
 
 -- below every first token of a tree
 abbrev pub closing : Token
@@ -60,4 +62,5 @@ abbrev mutual
 
   pub pair_tokens : Pairs → List Token → List Token
   pair_tokens no_pairs rest = closing ∷ rest
-  pair_tokens (pair key x ps) rest = record (mark 4) { bytes = key } ∷ tokens x (pair_tokens ps rest)
+  pair_tokens (pair key x ps) rest =
+      record (mark 4) { bytes = key } ∷ tokens x (pair_tokens ps rest)

@@ -8,9 +8,11 @@ use Rattle.std.specs.Cmp.{IsTotalOrder}
 use Rattle.std.specs.Cmp.Lexicographic.{slice_cmp}
 use Rattle.std.proofs.lemmas.Cmp.{on_total, lists_total}
 use Rattle.jsonb_value.specs.Order.{number_cmp}
-use Rattle.jsonb_value.specs.Tree.{Tree, Trees, Pairs, null, array, object, text, number, boolean, extension, no_trees, tree, no_pairs, pair}
+use Rattle.jsonb_value.specs.Tree.{Tree, Trees, Pairs, null, array, object, text, number, boolean}
+use Rattle.jsonb_value.specs.Tree.{extension, no_trees, tree, no_pairs, pair}
 use Rattle.jsonb_value.specs.TreeOrder.{tree_cmp, trees_cmp, pairs_cmp}
-use Rattle.jsonb_value.proofs.Tokens.{Token, closing, token_cmp, token_cmp_total, tokens, item_tokens, pair_tokens}
+use Rattle.jsonb_value.proofs.Tokens.{Token, closing, token_cmp, token_cmp_total, tokens}
+use Rattle.jsonb_value.proofs.Tokens.{item_tokens, pair_tokens}
 
 abbrev tokens_cmp : List Token → List Token → Ordering
 tokens_cmp = slice_cmp token_cmp
@@ -20,7 +22,8 @@ then-Equal Less = refl
 then-Equal Equal = refl
 then-Equal Greater = refl
 
-pub then_assoc : (o p q : Ordering) → ordering_then (ordering_then o p) q ≡ ordering_then o (ordering_then p q)
+pub then_assoc : (o p q : Ordering)
+    → ordering_then (ordering_then o p) q ≡ ordering_then o (ordering_then p q)
 then_assoc Less p q = refl
 then_assoc Equal p q = refl
 then_assoc Greater p q = refl
@@ -36,17 +39,23 @@ closing_above _ r s = refl
 
 -- the order of the tokens is that of the trees, and then of what follows
 mutual
-  tokens_in_order : (x y : Tree) (r s : List Token) → tokens_cmp (tokens x r) (tokens y s) ≡ ordering_then (tree_cmp x y) (tokens_cmp r s)
+  tokens_in_order : (x y : Tree) (r s : List Token)
+      → tokens_cmp (tokens x r) (tokens y s) ≡ ordering_then (tree_cmp x y) (tokens_cmp r s)
   tokens_in_order (extension d) (extension e) r s = refl
-  tokens_in_order (boolean a) (boolean b) r s = ap (λ o. ordering_then o (tokens_cmp r s)) (then-Equal (bool_cmp a b))
-  tokens_in_order (number m) (number n) r s = ap (λ o. ordering_then o (tokens_cmp r s)) (then-Equal (number_cmp m n))
-  tokens_in_order (text a) (text b) r s = ap (λ o. ordering_then o (tokens_cmp r s)) (then-Equal (slice_cmp nat_cmp a b))
+  tokens_in_order (boolean a) (boolean b) r s =
+      ap (λ o. ordering_then o (tokens_cmp r s)) (then-Equal (bool_cmp a b))
+  tokens_in_order (number m) (number n) r s =
+      ap (λ o. ordering_then o (tokens_cmp r s)) (then-Equal (number_cmp m n))
+  tokens_in_order (text a) (text b) r s =
+      ap (λ o. ordering_then o (tokens_cmp r s)) (then-Equal (slice_cmp nat_cmp a b))
   tokens_in_order (object ps) (object qs) r s = pair_tokens_in_order ps qs r s
   tokens_in_order (array xs) (array ys) r s = item_tokens_in_order xs ys r s
   tokens_in_order null null r s = refl
   tokens_in_order x y r s = refl
 
-  item_tokens_in_order : (xs ys : Trees) (r s : List Token) → tokens_cmp (item_tokens xs r) (item_tokens ys s) ≡ ordering_then (trees_cmp xs ys) (tokens_cmp r s)
+  item_tokens_in_order : (xs ys : Trees) (r s : List Token)
+      → tokens_cmp (item_tokens xs r) (item_tokens ys s)
+      ≡ ordering_then (trees_cmp xs ys) (tokens_cmp r s)
   item_tokens_in_order no_trees no_trees r s = refl
   item_tokens_in_order no_trees (tree y ys) r s = closing_below y r (item_tokens ys s)
   item_tokens_in_order (tree x xs) no_trees r s = closing_above x (item_tokens xs r) s
@@ -55,7 +64,9 @@ mutual
       ∙ ap (ordering_then (tree_cmp x y)) (item_tokens_in_order xs ys r s)
       ∙ sym (then_assoc (tree_cmp x y) (trees_cmp xs ys) (tokens_cmp r s))
 
-  pair_tokens_in_order : (ps qs : Pairs) (r s : List Token) → tokens_cmp (pair_tokens ps r) (pair_tokens qs s) ≡ ordering_then (pairs_cmp ps qs) (tokens_cmp r s)
+  pair_tokens_in_order : (ps qs : Pairs) (r s : List Token)
+      → tokens_cmp (pair_tokens ps r) (pair_tokens qs s)
+      ≡ ordering_then (pairs_cmp ps qs) (tokens_cmp r s)
   pair_tokens_in_order no_pairs no_pairs r s = refl
   pair_tokens_in_order no_pairs (pair l y qs) r s = refl
   pair_tokens_in_order (pair k x ps) no_pairs r s = refl
@@ -63,7 +74,9 @@ mutual
       let keys = slice_cmp nat_cmp k l in
       let values = tree_cmp x y in
       let rest = pairs_cmp ps qs in
-      ap (λ o. ordering_then o (tokens_cmp (tokens x (pair_tokens ps r)) (tokens y (pair_tokens qs s)))) (then-Equal keys)
+      ap (λ o. ordering_then o
+      (tokens_cmp (tokens x (pair_tokens ps r)) (tokens y (pair_tokens qs s))))
+      (then-Equal keys)
       ∙ ap (ordering_then keys) (tokens_in_order x y (pair_tokens ps r) (pair_tokens qs s)
       ∙ ap (ordering_then values) (pair_tokens_in_order ps qs r s)
       ∙ sym (then_assoc values rest (tokens_cmp r s)))
@@ -77,4 +90,5 @@ unfolding flat
 flat_cmp x y = tokens_in_order x y [] [] ∙ then-Equal (tree_cmp x y)
 
 pub tree_cmp_total : IsTotalOrder tree_cmp
-tree_cmp_total = subst IsTotalOrder (λ i x y. flat_cmp x y i) (on_total flat (lists_total token_cmp_total))
+tree_cmp_total =
+    subst IsTotalOrder (λ i x y. flat_cmp x y i) (on_total flat (lists_total token_cmp_total))

@@ -6,30 +6,50 @@ use Rattle.std.proofs.lemmas.Str.{encode_ascii}
 use Rattle.std.specs.declared.fmt.Formatter.{Formatter}
 use Rattle.std.specs.declared.fmt.Error.{Error}
 use Rattle.std.specs.Prelude.{Result, String, string_bytes}
-use Rattle.std.specs.Fmt.{HasWrittenStyled, formatter_writer, WritesStyledOnOk, WritesOnOk, IsDefaultSpec}
+use Rattle.std.specs.Fmt.{HasWrittenStyled, formatter_writer, WritesStyledOnOk, WritesOnOk}
+use Rattle.std.specs.Fmt.{IsDefaultSpec}
 
 module _ {W : Type 0} (took : W → List ℕ → W → Type 0) where
-  pub joins_two : (f g h : Formatter W) (a b all : List ℕ) → HasWrittenStyled took f a g → HasWrittenStyled took g b h → a ++ b ≡ all → HasWrittenStyled took f all h
-  joins_two f g h a b all p q is = has_written_styled_of_eq took _ _ _ _ is (has_written_styled_append took _ _ _ _ _ p q)
+  pub joins_two : (f g h : Formatter W) (a b all : List ℕ) → HasWrittenStyled took f a g
+      → HasWrittenStyled took g b h → a ++ b ≡ all → HasWrittenStyled took f all h
+  joins_two f g h a b all p q is =
+      has_written_styled_of_eq took _ _ _ _ is (has_written_styled_append took _ _ _ _ _ p q)
 
-  pub joins_three : (f g h i : Formatter W) (a b c all : List ℕ) → HasWrittenStyled took f a g → HasWrittenStyled took g b h → HasWrittenStyled took h c i → a ++ (b ++ c) ≡ all → HasWrittenStyled took f all i
-  joins_three f g h i a b c all p q r is = joins_two f g i a (b ++ c) all p (has_written_styled_append took _ _ _ _ _ q r) is
+  pub joins_three : (f g h i : Formatter W) (a b c all : List ℕ) → HasWrittenStyled took f a g
+      → HasWrittenStyled took g b h → HasWrittenStyled took h c i → a ++ (b ++ c) ≡ all
+      → HasWrittenStyled took f all i
+  joins_three f g h i a b c all p q r is =
+      joins_two f g i a (b ++ c) all p (has_written_styled_append took _ _ _ _ _ q r) is
 
-  pub joins_five : (f g h i j k : Formatter W) (a b c d e all : List ℕ) → HasWrittenStyled took f a g → HasWrittenStyled took g b h → HasWrittenStyled took h c i → HasWrittenStyled took i d j → HasWrittenStyled took j e k
+  pub joins_five : (f g h i j k : Formatter W) (a b c d e all : List ℕ)
+      → HasWrittenStyled took f a g → HasWrittenStyled took g b h → HasWrittenStyled took h c i
+      → HasWrittenStyled took i d j → HasWrittenStyled took j e k
       → a ++ (b ++ (c ++ (d ++ e))) ≡ all → HasWrittenStyled took f all k
   joins_five f g h i j k a b c d e all p q r s t is =
-      joins_three f g h k a b (c ++ (d ++ e)) all p q (has_written_styled_append took _ _ _ _ _ r (has_written_styled_append took _ _ _ _ _ s t)) is
+      joins_three f g h k a b (c ++ (d ++ e)) all p q
+      (has_written_styled_append took _ _ _ _ _ r
+      (has_written_styled_append took _ _ _ _ _ s t)) is
 
   -- what is written whatever the options are, is written without options too
-  pub WritesOnOk-from_styled : (f g : Formatter W) (r : Result (Unit {0}) Error) (bs : List ℕ) → WritesStyledOnOk took f r bs g → WritesOnOk took f r bs g
+  pub WritesOnOk-from_styled : (f g : Formatter W) (r : Result (Unit {0}) Error) (bs : List ℕ)
+      → WritesStyledOnOk took f r bs g → WritesOnOk took f r bs g
   WritesOnOk-from_styled f g r bs writes plain ok =
       let all = writes plain.flush ok in
-      record { wrote = all.wrote; plain = record { bare = subst IsDefaultSpec (sym all.spec) plain.bare; flush = all.flush } }
+      record {
+        wrote = all.wrote;
+        plain = record {
+          bare = subst IsDefaultSpec
+              (sym all.spec) plain.bare;
+          flush = all.flush;
+        };
+      }
 
 -- in a string, what is written stands behind what was there
-pub string_bytes-written : {A : Type 0} (f g : Formatter (String A)) (bs : List ℕ) → HasWrittenStyled (λ s xs t. string_bytes t ≡ string_bytes s ++ xs) f bs g
+pub string_bytes-written : {A : Type 0} (f g : Formatter (String A)) (bs : List ℕ)
+    → HasWrittenStyled (λ s xs t. string_bytes t ≡ string_bytes s ++ xs) f bs g
     → string_bytes (formatter_writer g) ≡ string_bytes (formatter_writer f) ++ bs
 string_bytes-written f g bs all =
-    contents_after_writes (λ s xs t. string_bytes t ≡ string_bytes s ++ xs) string_bytes (λ s xs t h. h) (formatter_writer f) bs (formatter_writer g) all.wrote
+    contents_after_writes (λ s xs t. string_bytes t ≡ string_bytes s ++ xs) string_bytes
+    (λ s xs t h. h) (formatter_writer f) bs (formatter_writer g) all.wrote
 
 pub ruleset joins = (joins_two, joins_three, joins_five, encode_ascii)

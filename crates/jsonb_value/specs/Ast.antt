@@ -2,7 +2,8 @@
 use Rattle.std.specs.Prelude.{ℕ, List, [], ◌∷◌, map, ⊤}
 use Rattle.std.specs.declared.alloc.Global.{Global}
 use Rattle.std.specs.declared.borrow.CowStr.{CowStr}
-use Rattle.jsonb_value.specs.Tree.{Tree, null, boolean, number, text, extension, array, object, Trees, no_trees, tree, Pairs, no_pairs, pair, Ascend}
+use Rattle.jsonb_value.specs.Tree.{Tree, null, boolean, number, text, extension, array, object}
+use Rattle.jsonb_value.specs.Tree.{Trees, no_trees, tree, Pairs, no_pairs, pair, Ascend}
 use Rattle.jsonb_value.specs.Value.{cow_bytes, trees_of}
 use Rattle.jsonb_value.specs.declared.ast.JsonAst.{JsonAst, fold-JsonAst}
 use Rattle.jsonb_value.specs.declared.ast.JsonAst.TheOpen.{JsonAst-F}

@@ -9,7 +9,8 @@ use Rattle.jsonb_value.specs.declared.extension.ExtensionValue.TheVariants as va
 use Rattle.jsonb_value.specs.Payload.{IsSigned}
 use Rattle.jsonb_value.specs.NumCode.{Tagged, signed_bytes}
 use Rattle.jsonb_value.specs.Opaque.{IsOpaqueTag}
-use Rattle.jsonb_value.specs.Tree.{Extension, binary, date, timestamp, timestamp_tz, interval, opaque}
+use Rattle.jsonb_value.specs.Tree.{Extension, binary, date, timestamp, timestamp_tz, interval}
+use Rattle.jsonb_value.specs.Tree.{opaque}
 
 -- what an opaque value shows
 abbrev pub opaque_tag : Opaque → ℕ
@@ -74,5 +75,6 @@ extension_payload (binary bytes) = 0 ∷ bytes
 extension_payload (date d) = 16 ∷ signed_bytes w32 d.value
 extension_payload (timestamp t) = 32 ∷ signed_bytes w64 t.value
 extension_payload (timestamp_tz t) = 48 ∷ (signed_bytes w64 t.value ++ signed_bytes w32 t.offset)
-extension_payload (interval i) = 64 ∷ (signed_bytes w32 i.months ++ (signed_bytes w32 i.days ++ signed_bytes w64 i.micros))
+extension_payload (interval i) =
+    64 ∷ (signed_bytes w32 i.months ++ (signed_bytes w32 i.days ++ signed_bytes w64 i.micros))
 extension_payload (opaque tag bytes) = tag ∷ bytes

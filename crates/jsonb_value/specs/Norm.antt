@@ -1,8 +1,10 @@
 -- Which trees are told apart by what is written: the two zeros of whole numbers are written alike.
 use Rattle.std.specs.Prelude.{zero, suc, pos, negsuc}
 use Rattle.jsonb_value.specs.declared.number.Number.{Number}
-use Rattle.jsonb_value.specs.declared.number.Number.TheVariants.{Int64, UInt64, Decimal64, Decimal128}
-use Rattle.jsonb_value.specs.Tree.{Tree, null, boolean, number, text, extension, array, object, Trees, no_trees, tree, Pairs, no_pairs, pair}
+use Rattle.jsonb_value.specs.declared.number.Number.TheVariants.{Int64, UInt64, Decimal64}
+use Rattle.jsonb_value.specs.declared.number.Number.TheVariants.{Decimal128}
+use Rattle.jsonb_value.specs.Tree.{Tree, null, boolean, number, text, extension, array, object}
+use Rattle.jsonb_value.specs.Tree.{Trees, no_trees, tree, Pairs, no_pairs, pair}
 
 -- a signed zero becomes the unsigned one
 abbrev pub norm_number : Number → Number

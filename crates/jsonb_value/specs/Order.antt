@@ -4,9 +4,11 @@ use Rattle.std.specs.declared.cmp.Ordering.{Ordering}
 use Rattle.std.specs.Ordering.{nat_cmp, int_cmp, on, then_cmp}
 use Rattle.std.specs.Cmp.Lexicographic.{slice_cmp}
 use Rattle.jsonb_value.specs.declared.number.Number.{Number}
-use Rattle.jsonb_value.specs.declared.number.Number.TheVariants.{Int64, UInt64, Decimal64, Decimal128}
+use Rattle.jsonb_value.specs.declared.number.Number.TheVariants.{Int64, UInt64, Decimal64}
+use Rattle.jsonb_value.specs.declared.number.Number.TheVariants.{Decimal128}
 use Rattle.jsonb_value.specs.Fraction.{Fraction, fraction_cmp}
-use Rattle.jsonb_value.specs.Tree.{Extension, binary, date, timestamp, timestamp_tz, interval, opaque}
+use Rattle.jsonb_value.specs.Tree.{Extension, binary, date, timestamp, timestamp_tz, interval}
+use Rattle.jsonb_value.specs.Tree.{opaque}
 
 -- what a number is worth, whatever its kind
 abbrev pub fraction_of : Number → Fraction
@@ -48,4 +50,5 @@ bytes_of (opaque tag bytes) = bytes
 
 -- by kind, then by the numbers, then by the bytes
 abbrev pub extension_cmp : Extension → Extension → Ordering
-extension_cmp = then_cmp (on kind_of nat_cmp) (then_cmp (on fields_of (slice_cmp int_cmp)) (on bytes_of (slice_cmp nat_cmp)))
+extension_cmp = then_cmp (on kind_of nat_cmp)
+    (then_cmp (on fields_of (slice_cmp int_cmp)) (on bytes_of (slice_cmp nat_cmp)))

@@ -1,8 +1,10 @@
 -- Which trees hold no extension value.
 use Rattle.std.specs.Prelude.{⊤}
-use Rattle.jsonb_value.specs.Tree.{Tree, null, boolean, number, text, extension, array, object, Trees, no_trees, tree, Pairs, no_pairs, pair}
+use Rattle.jsonb_value.specs.Tree.{Tree, null, boolean, number, text, extension, array, object}
+use Rattle.jsonb_value.specs.Tree.{Trees, no_trees, tree, Pairs, no_pairs, pair}
 
--- There is none in the tree: their texts are those of strings, so a text that is read again gives none.
+-- There is none in the tree: their texts are those of strings, so a text that is read again gives
+-- none.
 abbrev mutual
   pub IsPlain : Tree → Type 0
   IsPlain null = ⊤

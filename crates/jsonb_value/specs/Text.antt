@@ -1,11 +1,16 @@
 -- The text of numbers, strings, extension values and whole trees, as bytes.
-use Rattle.std.specs.Prelude.{take, length, ◌-◌, ◌≡◌, ◌<◌, ◌≤◌, get_or, ℕ, zero, suc, ◌*◌, ◌+◌, ◌/◌, ◌%◌, ℤ, Bool, true, false, ◌||◌, ◌==◌, nat_lt, if◌then◌else◌, List, [], ◌∷◌, ◌++◌, codes, replicate, flat_map, decimal, unsigned_abs}
+use Rattle.std.specs.Prelude.{take, length, ◌-◌, ◌≡◌, ◌<◌, ◌≤◌, get_or, ℕ, zero, suc, ◌*◌, ◌+◌, ◌/◌}
+use Rattle.std.specs.Prelude.{◌%◌, ℤ, Bool, true, false, ◌||◌, ◌==◌, nat_lt, if◌then◌else◌, List}
+use Rattle.std.specs.Prelude.{[], ◌∷◌, ◌++◌, codes, replicate, flat_map, decimal, unsigned_abs}
 use Rattle.std.specs.Int.{is_negative}
 use Rattle.std.specs.Simd.Lanes.{chunk}
 use Rattle.std.specs.Fmt.{signed_decimal, sign_text, digit_glyph}
 use Rattle.jsonb_value.specs.declared.number.Number.{Number}
-use Rattle.jsonb_value.specs.declared.number.Number.TheVariants.{Int64, UInt64, Decimal64, Decimal128}
-use Rattle.jsonb_value.specs.Tree.{Extension, binary, date, timestamp, timestamp_tz, interval, opaque, Tree, null, boolean, number, text, extension, array, object, Trees, no_trees, tree, Pairs, no_pairs, pair}
+use Rattle.jsonb_value.specs.declared.number.Number.TheVariants.{Int64, UInt64, Decimal64}
+use Rattle.jsonb_value.specs.declared.number.Number.TheVariants.{Decimal128}
+use Rattle.jsonb_value.specs.Tree.{Extension, binary, date, timestamp, timestamp_tz, interval}
+use Rattle.jsonb_value.specs.Tree.{opaque, Tree, null, boolean, number, text, extension, array}
+use Rattle.jsonb_value.specs.Tree.{object, Trees, no_trees, tree, Pairs, no_pairs, pair}
 
 -- a number without so many of its last digits
 abbrev pub front_of : ℕ → ℕ → ℕ
@@ -18,13 +23,15 @@ last_digits zero m = []
 last_digits (suc scale) m = last_digits scale (m / 10) ++ (48 + m % 10) ∷ []
 
 -- a magnitude with a point before so many of its last digits
-abbrev pub pointed : ℕ → ℕ → List ℕ
-pointed scale m = decimal (front_of scale m) ++ (codes "." ++ last_digits scale m)
+abbrev pub point_text : ℕ → ℕ → List ℕ
+point_text scale m = decimal (front_of scale m) ++ (codes "." ++ last_digits scale m)
 
--- a value of this scale: without a point where the scale is 0, and with `-` exactly where it is negative
+-- a value of this scale: without a point where the scale is 0, and with `-` exactly where it is
+-- negative
 abbrev pub decimal_text : ℕ → ℤ → List ℕ
 decimal_text zero value = signed_decimal value
-decimal_text (suc s) value = sign_text (is_negative value) ++ pointed (suc s) (unsigned_abs value)
+decimal_text (suc s) value =
+    sign_text (is_negative value) ++ point_text (suc s) (unsigned_abs value)
 
 abbrev pub number_text : Number → List ℕ
 number_text (Int64 value) = signed_decimal value
@@ -66,18 +73,19 @@ escape b =
 abbrev pub byte_text : ℕ → List ℕ
 byte_text b = if is_escaped b then escape b else b ∷ []
 
-abbrev pub quoted : List ℕ → List ℕ
-quoted content = codes "\"" ++ (content ++ codes "\"")
+abbrev pub quoted_text : List ℕ → List ℕ
+quoted_text content = codes "\"" ++ (content ++ codes "\"")
 
 abbrev pub string_text : List ℕ → List ℕ
-string_text bytes = quoted (flat_map byte_text bytes)
+string_text bytes = quoted_text (flat_map byte_text bytes)
 
 abbrev pub extension_text : Extension → List ℕ
 extension_text (binary bytes) = hex_text bytes
 extension_text (date d) = signed_decimal d.value
 extension_text (timestamp t) = signed_decimal t.value
 extension_text (timestamp_tz t) = signed_decimal t.value ++ (codes " " ++ signed_decimal t.offset)
-extension_text (interval i) = signed_decimal i.months ++ (codes " " ++ (signed_decimal i.days ++ (codes " " ++ signed_decimal i.micros)))
+extension_text (interval i) = signed_decimal i.months
+    ++ (codes " " ++ (signed_decimal i.days ++ (codes " " ++ signed_decimal i.micros)))
 extension_text (opaque tag bytes) = hex_text (tag ∷ bytes)
 
 -- How a tree is laid out: with no white space, or on lines, inside so many containers.
@@ -90,7 +98,8 @@ abbrev pub inside : Layout → Layout
 inside in_one_line = in_one_line
 inside (on_lines depth) = on_lines (suc depth)
 
--- what stands before an item, and before a closing bracket: a new line with two spaces for each container round it
+-- what stands before an item, and before a closing bracket: a new line with two spaces for each
+-- container round it
 abbrev pub line_start : Layout → List ℕ
 line_start in_one_line = []
 line_start (on_lines depth) = 10 ∷ replicate (2 * depth) 32
@@ -107,13 +116,19 @@ abbrev mutual
   laid_out l (boolean false) = codes "false"
   laid_out l (number x) = number_text x
   laid_out l (text s) = string_text s
-  laid_out l (extension e) = quoted (extension_text e)
+  laid_out l (extension e) = quoted_text (extension_text e)
   laid_out l (array no_trees) = codes "[]"
   laid_out l (array (tree t ts)) =
-      codes "[" ++ (line_start (inside l) ++ (laid_out (inside l) t ++ (more_items (inside l) ts ++ (line_start l ++ codes "]"))))
+      codes "["
+      ++ (line_start (inside l)
+      ++ (laid_out (inside l) t ++ (more_items (inside l) ts ++ (line_start l ++ codes "]"))))
   laid_out l (object no_pairs) = codes "{}"
   laid_out l (object (pair k t ps)) =
-      codes "{" ++ (line_start (inside l) ++ (string_text k ++ (colon l ++ (laid_out (inside l) t ++ (more_pairs (inside l) ps ++ (line_start l ++ codes "}"))))))
+      codes "{"
+      ++ (line_start (inside l)
+      ++ (string_text k
+      ++ (colon l
+      ++ (laid_out (inside l) t ++ (more_pairs (inside l) ps ++ (line_start l ++ codes "}"))))))
 
   -- the items behind the first
   pub more_items : Layout → Trees → List ℕ
@@ -122,7 +137,8 @@ abbrev mutual
 
   pub more_pairs : Layout → Pairs → List ℕ
   more_pairs l no_pairs = []
-  more_pairs l (pair k t ps) = codes "," ++ (line_start l ++ (string_text k ++ (colon l ++ (laid_out l t ++ more_pairs l ps))))
+  more_pairs l (pair k t ps) = codes ","
+      ++ (line_start l ++ (string_text k ++ (colon l ++ (laid_out l t ++ more_pairs l ps))))
 
 -- the compact text: no white space
 abbrev pub compact : Tree → List ℕ

@@ -47,10 +47,12 @@ abbrev pub pair_count : Pairs → ℕ
 pair_count no_pairs = 0
 pair_count (pair k t ps) = suc (pair_count ps)
 
--- The keys ascend strictly by their bytes, and the first is above the key before, where there is one.
+-- The keys ascend strictly by their bytes, and the first is above the key before, where there is
+-- one.
 abbrev pub Ascends : Option (List ℕ) → Pairs → Type 0
 Ascends before no_pairs = ⊤
-Ascends before (pair k t ps) = IfSome before (λ b. slice_cmp nat_cmp b k ≡ Less) × Ascends (Some k) ps
+Ascends before (pair k t ps) =
+    IfSome before (λ b. slice_cmp nat_cmp b k ≡ Less) × Ascends (Some k) ps
 
 -- The keys ascend strictly by their bytes.
 abbrev pub Ascend : Pairs → Type 0

@@ -5,7 +5,8 @@ use Rattle.std.specs.declared.cmp.Ordering.TheVariants.{Less, Equal, Greater}
 use Rattle.std.specs.Ordering.{nat_cmp, bool_cmp, ordering_then}
 use Rattle.std.specs.Cmp.Lexicographic.{slice_cmp}
 use Rattle.jsonb_value.specs.Order.{number_cmp, extension_cmp}
-use Rattle.jsonb_value.specs.Tree.{Tree, null, boolean, number, text, extension, array, object, Trees, no_trees, tree, Pairs, no_pairs, pair}
+use Rattle.jsonb_value.specs.Tree.{Tree, null, boolean, number, text, extension, array, object}
+use Rattle.jsonb_value.specs.Tree.{Trees, no_trees, tree, Pairs, no_pairs, pair}
 
 -- the kinds, falling
 abbrev pub rank_of : Tree → ℕ
@@ -36,7 +37,8 @@ abbrev mutual
   trees_cmp (tree t ts) no_trees = Greater
   trees_cmp (tree t ts) (tree u us) = ordering_then (tree_cmp t u) (trees_cmp ts us)
 
-  -- lexicographic too, where of two pairs first the keys decide, by their bytes, and then the values
+  -- lexicographic too, where of two pairs first the keys decide, by their bytes, and then the
+  -- values
   pub pairs_cmp : Pairs → Pairs → Ordering
   pairs_cmp no_pairs no_pairs = Equal
   pairs_cmp no_pairs (pair l u qs) = Less

@@ -3,7 +3,9 @@ use Rattle.std.specs.Prelude.{ℕ, List, [], ◌∷◌, map, String, string_byte
 use Rattle.std.specs.declared.alloc.Global.{Global}
 use Rattle.std.specs.declared.borrow.CowStr.{CowStr}
 use Rattle.std.specs.declared.borrow.CowStr.TheVariants.{Borrowed, Owned}
-use Rattle.jsonb_value.specs.Tree.{Tree, null, boolean, number, text, extension, array, object, binary, date, timestamp, timestamp_tz, interval, opaque, Trees, no_trees, tree, Pairs, no_pairs, pair}
+use Rattle.jsonb_value.specs.Tree.{Tree, null, boolean, number, text, extension, array, object}
+use Rattle.jsonb_value.specs.Tree.{binary, date, timestamp, timestamp_tz, interval, opaque, Trees}
+use Rattle.jsonb_value.specs.Tree.{no_trees, tree, Pairs, no_pairs, pair}
 use Rattle.jsonb_value.specs.ExtCode.{opaque_tag, opaque_bytes}
 use Rattle.jsonb_value.specs.declared.value.Value.{Value, fold-Value}
 use Rattle.jsonb_value.specs.declared.value.Value.TheOpen.{Value-F}

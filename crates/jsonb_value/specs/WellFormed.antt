@@ -1,11 +1,15 @@
--- Which trees a program's value can have: numbers within their types, texts of UTF-8, keys that ascend.
+-- Which trees a program's value can have: numbers within their types, texts of UTF-8, keys that
+-- ascend.
 use Rattle.std.specs.Prelude.{◌<◌, ◌^◌, ⊤, FitsSigned}
 use Rattle.std.specs.Int.{w32, w64, w128}
 use Rattle.std.specs.Str.{IsUtf8}
 use Rattle.jsonb_value.specs.declared.number.Number.{Number}
-use Rattle.jsonb_value.specs.declared.number.Number.TheVariants.{Int64, UInt64, Decimal64, Decimal128}
+use Rattle.jsonb_value.specs.declared.number.Number.TheVariants.{Int64, UInt64, Decimal64}
+use Rattle.jsonb_value.specs.declared.number.Number.TheVariants.{Decimal128}
 use Rattle.jsonb_value.specs.Opaque.{IsOpaqueTag}
-use Rattle.jsonb_value.specs.Tree.{Extension, binary, date, timestamp, timestamp_tz, interval, opaque, Tree, null, boolean, number, text, extension, array, object, Trees, no_trees, tree, Pairs, no_pairs, pair, Ascend}
+use Rattle.jsonb_value.specs.Tree.{Extension, binary, date, timestamp, timestamp_tz, interval}
+use Rattle.jsonb_value.specs.Tree.{opaque, Tree, null, boolean, number, text, extension, array}
+use Rattle.jsonb_value.specs.Tree.{object, Trees, no_trees, tree, Pairs, no_pairs, pair, Ascend}
 
 -- The number is within its type.
 abbrev pub IsNumber : Number → Type 0
@@ -20,7 +24,8 @@ IsExtension (binary bytes) = ⊤
 IsExtension (date d) = FitsSigned w32 d.value
 IsExtension (timestamp t) = FitsSigned w64 t.value
 IsExtension (timestamp_tz t) = FitsSigned w64 t.value × FitsSigned w32 t.offset
-IsExtension (interval i) = FitsSigned w32 i.months × (FitsSigned w32 i.days × FitsSigned w64 i.micros)
+IsExtension (interval i) =
+    FitsSigned w32 i.months × (FitsSigned w32 i.days × FitsSigned w64 i.micros)
 IsExtension (opaque tag bytes) = IsOpaqueTag tag × (tag < 2 ^ 8)
 
 abbrev mutual

@@ -1,10 +1,13 @@
 //! Values that JSON has no form of its own for, and their payloads.
 
-ghost use Rattle.std.specs.Prelude.{◌≡◌, ◌≤◌, ◌<◌, ◌^◌, ◌∷◌, ◌++◌, ◌⊎◌, Err, IfSome, IfNone, IfOk, IfErr, OnOk, OnErr, length, take, IsOk, vec_len, vec_capacity, ◌+◌};
+ghost use Rattle.std.specs.Prelude.{◌≡◌, ◌≤◌, ◌<◌, ◌^◌, ◌∷◌, ◌++◌, ◌⊎◌, Err, IfSome, IfNone, IfOk};
+ghost use Rattle.std.specs.Prelude.{IfErr, OnOk, OnErr, length, take, IsOk, vec_len, vec_capacity};
+ghost use Rattle.std.specs.Prelude.{◌+◌};
 ghost use Rattle.std.specs.Int.{w32, w64};
 ghost use Rattle.jsonb_value.specs.Payload.{IsSigned};
 ghost use Rattle.jsonb_value.specs.Tree.{Extension, date, timestamp, timestamp_tz, interval};
-ghost use Rattle.jsonb_value.specs.ExtCode.{ExtCode, IsZoned, IsOldZoned, IsInterval, extension_of, extension_payload, HasKnownTag};
+ghost use Rattle.jsonb_value.specs.ExtCode.{ExtCode, IsZoned, IsOldZoned, IsInterval, extension_of};
+ghost use Rattle.jsonb_value.specs.ExtCode.{extension_payload, HasKnownTag};
 
 use crate::constants::{
     EXTENSION_BINARY, EXTENSION_DATE, EXTENSION_INTERVAL, EXTENSION_TIMESTAMP,
@@ -89,7 +92,8 @@ impl<'a> ExtensionValue<'a> {
         ensures only { IfErr result (λ e. (e ≡ Error.InvalidJsonb) ⊎ (e ≡ Error.OutOfMemory)) }
         ensures capacity { vec_capacity buf.old ≤ vec_capacity buf.new }
         ensures room { length (extension_payload (extension_of self.now)) < 2 ^ 28
-            → vec_len buf.old + length (extension_payload (extension_of self.now)) ≤ vec_capacity buf.old
+            → vec_len buf.old + length (extension_payload (extension_of self.now))
+            ≤ vec_capacity buf.old
             → IsOk result }
     {
         match self {
@@ -229,11 +233,13 @@ fn append_data(buf: &mut Vec<u8>, tag: u8, bytes: &[u8]) -> Result<usize, Error>
 
 fn append_date(buf: &mut Vec<u8>, given: &Date) -> Result<usize, Error>
     ensures len { IfOk result (λ n. n ≡ length (extension_payload (date given.now))) }
-    ensures appended { OnOk result (buf.new.items ≡ buf.old.items ++ extension_payload (date given.now)) }
+    ensures appended { OnOk result
+        (buf.new.items ≡ buf.old.items ++ extension_payload (date given.now)) }
     ensures err { OnErr result (buf.new.items ≡ buf.old.items) }
     ensures memory { IfErr result (λ e. e ≡ Error.OutOfMemory) }
     ensures capacity { vec_capacity buf.old ≤ vec_capacity buf.new }
-    ensures room { vec_len buf.old + length (extension_payload (date given.now)) ≤ vec_capacity buf.old
+    ensures room { vec_len buf.old + length (extension_payload (date given.now))
+        ≤ vec_capacity buf.old
         → IsOk result }
 {
     let mut payload = [EXTENSION_DATE, 0, 0, 0, 0];
@@ -243,11 +249,13 @@ fn append_date(buf: &mut Vec<u8>, given: &Date) -> Result<usize, Error>
 
 fn append_timestamp(buf: &mut Vec<u8>, given: &Timestamp) -> Result<usize, Error>
     ensures len { IfOk result (λ n. n ≡ length (extension_payload (timestamp given.now))) }
-    ensures appended { OnOk result (buf.new.items ≡ buf.old.items ++ extension_payload (timestamp given.now)) }
+    ensures appended { OnOk result
+        (buf.new.items ≡ buf.old.items ++ extension_payload (timestamp given.now)) }
     ensures err { OnErr result (buf.new.items ≡ buf.old.items) }
     ensures memory { IfErr result (λ e. e ≡ Error.OutOfMemory) }
     ensures capacity { vec_capacity buf.old ≤ vec_capacity buf.new }
-    ensures room { vec_len buf.old + length (extension_payload (timestamp given.now)) ≤ vec_capacity buf.old
+    ensures room { vec_len buf.old + length (extension_payload (timestamp given.now))
+        ≤ vec_capacity buf.old
         → IsOk result }
 {
     let mut payload = [EXTENSION_TIMESTAMP, 0, 0, 0, 0, 0, 0, 0, 0];
@@ -257,11 +265,13 @@ fn append_timestamp(buf: &mut Vec<u8>, given: &Timestamp) -> Result<usize, Error
 
 fn append_zoned(buf: &mut Vec<u8>, zoned: &TimestampTz) -> Result<usize, Error>
     ensures len { IfOk result (λ n. n ≡ length (extension_payload (timestamp_tz zoned.now))) }
-    ensures appended { OnOk result (buf.new.items ≡ buf.old.items ++ extension_payload (timestamp_tz zoned.now)) }
+    ensures appended { OnOk result
+        (buf.new.items ≡ buf.old.items ++ extension_payload (timestamp_tz zoned.now)) }
     ensures err { OnErr result (buf.new.items ≡ buf.old.items) }
     ensures memory { IfErr result (λ e. e ≡ Error.OutOfMemory) }
     ensures capacity { vec_capacity buf.old ≤ vec_capacity buf.new }
-    ensures room { vec_len buf.old + length (extension_payload (timestamp_tz zoned.now)) ≤ vec_capacity buf.old
+    ensures room { vec_len buf.old + length (extension_payload (timestamp_tz zoned.now))
+        ≤ vec_capacity buf.old
         → IsOk result }
 {
     let mut payload = [0; 13];
@@ -273,11 +283,13 @@ fn append_zoned(buf: &mut Vec<u8>, zoned: &TimestampTz) -> Result<usize, Error>
 
 fn append_interval(buf: &mut Vec<u8>, given: &Interval) -> Result<usize, Error>
     ensures len { IfOk result (λ n. n ≡ length (extension_payload (interval given.now))) }
-    ensures appended { OnOk result (buf.new.items ≡ buf.old.items ++ extension_payload (interval given.now)) }
+    ensures appended { OnOk result
+        (buf.new.items ≡ buf.old.items ++ extension_payload (interval given.now)) }
     ensures err { OnErr result (buf.new.items ≡ buf.old.items) }
     ensures memory { IfErr result (λ e. e ≡ Error.OutOfMemory) }
     ensures capacity { vec_capacity buf.old ≤ vec_capacity buf.new }
-    ensures room { vec_len buf.old + length (extension_payload (interval given.now)) ≤ vec_capacity buf.old
+    ensures room { vec_len buf.old + length (extension_payload (interval given.now))
+        ≤ vec_capacity buf.old
         → IsOk result }
 {
     let mut payload = [0; 17];

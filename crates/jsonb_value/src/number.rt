@@ -1,10 +1,14 @@
 //! Numbers, each kept with its kind, and their payloads.
 
-ghost use Rattle.std.specs.Prelude.{◌≡◌, ◌↔◌, ◌≤◌, ◌∷◌, ◌++◌, ℕ, ℤ, List, IsTrue, IfSome, IfNone, IfOk, IfErr, OnOk, OnErr, length, take, IsOk, vec_len, vec_capacity, ◌+◌};
+ghost use Rattle.std.specs.Prelude.{◌≡◌, ◌↔◌, ◌≤◌, ◌∷◌, ◌++◌, ℕ, ℤ, List, IsTrue, IfSome, IfNone};
+ghost use Rattle.std.specs.Prelude.{IfOk, IfErr, OnOk, OnErr, length, take, IsOk, vec_len};
+ghost use Rattle.std.specs.Prelude.{vec_capacity, ◌+◌};
 ghost use Rattle.std.specs.Int.{w64, w128};
 ghost use Rattle.jsonb_value.specs.declared.number.Number.{Number};
-ghost use Rattle.jsonb_value.specs.Payload.{IsSignedNumber, IsUnsignedNumber, IsWholeLength, IsDecimalLength};
-ghost use Rattle.jsonb_value.specs.NumCode.{NumCode, number_payload, int_payload, uint_payload, decimal_payload};
+ghost use Rattle.jsonb_value.specs.Payload.{IsSignedNumber, IsUnsignedNumber, IsWholeLength};
+ghost use Rattle.jsonb_value.specs.Payload.{IsDecimalLength};
+ghost use Rattle.jsonb_value.specs.NumCode.{NumCode, number_payload, int_payload, uint_payload};
+ghost use Rattle.jsonb_value.specs.NumCode.{decimal_payload};
 
 use crate::constants::{NUMBER_DECIMAL, NUMBER_INT, NUMBER_UINT, NUMBER_ZERO};
 use crate::error::Error;
@@ -284,12 +288,15 @@ fn append_uint(buf: &mut Vec<u8>, value: u64) -> Result<usize, Error>
 }
 
 fn append_decimal64(buf: &mut Vec<u8>, decimal: &Decimal64) -> Result<usize, Error>
-    ensures len { IfOk result (λ n. n ≡ length (decimal_payload w64 decimal.now.value decimal.now.scale)) }
-    ensures appended { OnOk result (buf.new.items ≡ buf.old.items ++ decimal_payload w64 decimal.now.value decimal.now.scale) }
+    ensures len { IfOk result
+        (λ n. n ≡ length (decimal_payload w64 decimal.now.value decimal.now.scale)) }
+    ensures appended { OnOk result
+        (buf.new.items ≡ buf.old.items ++ decimal_payload w64 decimal.now.value decimal.now.scale) }
     ensures err { OnErr result (buf.new.items ≡ buf.old.items) }
     ensures memory { IfErr result (λ e. e ≡ Error.OutOfMemory) }
     ensures capacity { vec_capacity buf.old ≤ vec_capacity buf.new }
-    ensures room { vec_len buf.old + length (decimal_payload w64 decimal.now.value decimal.now.scale) ≤ vec_capacity buf.old
+    ensures room { vec_len buf.old
+        + length (decimal_payload w64 decimal.now.value decimal.now.scale) ≤ vec_capacity buf.old
         → IsOk result }
 {
     let mut payload = [0; 10];
@@ -300,12 +307,16 @@ fn append_decimal64(buf: &mut Vec<u8>, decimal: &Decimal64) -> Result<usize, Err
 }
 
 fn append_decimal128(buf: &mut Vec<u8>, decimal: &Decimal128) -> Result<usize, Error>
-    ensures len { IfOk result (λ n. n ≡ length (decimal_payload w128 decimal.now.value decimal.now.scale)) }
-    ensures appended { OnOk result (buf.new.items ≡ buf.old.items ++ decimal_payload w128 decimal.now.value decimal.now.scale) }
+    ensures len { IfOk result
+        (λ n. n ≡ length (decimal_payload w128 decimal.now.value decimal.now.scale)) }
+    ensures appended { OnOk result
+        (buf.new.items ≡ buf.old.items
+        ++ decimal_payload w128 decimal.now.value decimal.now.scale) }
     ensures err { OnErr result (buf.new.items ≡ buf.old.items) }
     ensures memory { IfErr result (λ e. e ≡ Error.OutOfMemory) }
     ensures capacity { vec_capacity buf.old ≤ vec_capacity buf.new }
-    ensures room { vec_len buf.old + length (decimal_payload w128 decimal.now.value decimal.now.scale) ≤ vec_capacity buf.old
+    ensures room { vec_len buf.old
+        + length (decimal_payload w128 decimal.now.value decimal.now.scale) ≤ vec_capacity buf.old
         → IsOk result }
 {
     let mut payload = [0; 18];

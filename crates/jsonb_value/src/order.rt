@@ -25,13 +25,13 @@ impl Number {
         match (*self, *other) {
             (Number::Int64(left), Number::Int64(right)) => left.cmp(&right),
             (Number::UInt64(left), Number::UInt64(right)) => left.cmp(&right),
-            _ => cmp_decimals(self.widened(), other.widened()),
+            _ => cmp_decimals(self.widen(), other.widen()),
         }
     }
 
     // The same value as the kind that holds each.
     #[inline(always)]
-    fn widened(&self) -> Decimal128
+    fn widen(&self) -> Decimal128
         ensures { fraction_of (Number.Decimal128 result) ≡ fraction_of self.now }
     {
         match *self {

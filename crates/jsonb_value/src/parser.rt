@@ -1,10 +1,13 @@
 //! Texts of JSON, read.
 
-ghost use Rattle.std.specs.Prelude.{◌≡◌, ◌⊎◌, ℕ, ◌<◌, ◌≤◌, [], ◌∷◌, ◌++◌, List, Err, chars, length, string_cmp, IfOk, IfErr, IsOkAnd};
+ghost use Rattle.std.specs.Prelude.{◌≡◌, ◌⊎◌, ℕ, ◌<◌, ◌≤◌, [], ◌∷◌, ◌++◌, List, Err, chars, length};
+ghost use Rattle.std.specs.Prelude.{string_cmp, IfOk, IfErr, IsOkAnd};
 ghost use Rattle.std.specs.BTreeMap.{insert_entry};
 ghost use Rattle.jsonb_value.specs.Tree.{Tree};
 ghost use Rattle.jsonb_value.specs.Json.Syntax.{Json};
-ghost use Rattle.jsonb_value.specs.Reader.Reading.{skip_blank, read_word, read_element, read_value, read_array, read_object, read_member, read_kind, kind_of, string_kind, number_kind};
+ghost use Rattle.jsonb_value.specs.Reader.Reading.{skip_blank, read_word, read_element, read_value};
+ghost use Rattle.jsonb_value.specs.Reader.Reading.{read_array, read_object, read_member, read_kind};
+ghost use Rattle.jsonb_value.specs.Reader.Reading.{kind_of, string_kind, number_kind};
 ghost use Rattle.jsonb_value.specs.Reader.Gives.{Fails, Gives};
 ghost use Rattle.jsonb_value.specs.Reader.Held.{ItemIsRead, MemberIsRead};
 ghost use Rattle.jsonb_value.specs.Value.{tree_of};
@@ -50,7 +53,8 @@ fn kind_of(first: char) -> Kind
 
 // What follows the rest of a word.
 fn read_word<'a>(text: &'a str, word: &[char]) -> Result<&'a str, Error>
-    ensures { (t : Tree) → Gives (λ rest. (t, chars rest.now)) result (read_word word.now t (chars text.now)) }
+    ensures { (t : Tree)
+        → Gives (λ rest. (t, chars rest.now)) result (read_word word.now t (chars text.now)) }
 {
     after_all(text, word).ok_or(Error::InvalidJson)
 }
@@ -59,7 +63,9 @@ fn read_word<'a>(text: &'a str, word: &[char]) -> Result<&'a str, Error>
 // the stack is not held while values inside are read.
 #[inline(never)]
 fn read_quoted<'a>(alloc: Global, text: &'a str) -> Result<(Value<'a>, &'a str), Error>
-    ensures { (n : ℕ) → length (chars text.now) < n → Gives (λ found. (tree_of found.0, chars found.1.now)) result (read_kind (read_value n) n string_kind 34 (chars text.now)) }
+    ensures { (n : ℕ) → length (chars text.now) < n
+        → Gives (λ found. (tree_of found.0, chars found.1.now)) result
+        (read_kind (read_value n) n string_kind 34 (chars text.now)) }
 {
     let (content, rest) = read_string(alloc, text)?;
     Ok((Value::String(content), rest))
@@ -68,7 +74,9 @@ fn read_quoted<'a>(alloc: Global, text: &'a str) -> Result<(Value<'a>, &'a str),
 // A number as a value.
 #[inline(never)]
 fn read_numeral<'a>(text: &'a str) -> Result<(Value<'a>, &'a str), Error>
-    ensures { (n c : ℕ) (s : List ℕ) → chars text.now ≡ c ∷ s → Gives (λ found. (tree_of found.0, chars found.1.now)) result (read_kind (read_value n) n number_kind c s) }
+    ensures { (n c : ℕ) (s : List ℕ) → chars text.now ≡ c ∷ s
+        → Gives (λ found. (tree_of found.0, chars found.1.now)) result
+        (read_kind (read_value n) n number_kind c s) }
 {
     match read_number(text) {
         Some((number, rest)) => Ok((Value::Number(number), rest)),
@@ -78,7 +86,9 @@ fn read_numeral<'a>(text: &'a str) -> Result<(Value<'a>, &'a str), Error>
 
 // A value between white space.
 fn read_element<'a>(alloc: Global, text: &'a str) -> Result<(Value<'a>, &'a str), Error>
-    ensures { (n : ℕ) → length (chars text.now) < n → Gives (λ found. (tree_of found.0, chars found.1.now)) result (read_element (read_value n) (chars text.now)) }
+    ensures { (n : ℕ) → length (chars text.now) < n
+        → Gives (λ found. (tree_of found.0, chars found.1.now)) result
+        (read_element (read_value n) (chars text.now)) }
 {
     let (value, rest) = read_value(alloc, skip_blank(text))?;
     Ok((value, skip_blank(rest)))
@@ -87,7 +97,9 @@ fn read_element<'a>(alloc: Global, text: &'a str) -> Result<(Value<'a>, &'a str)
 // A value at the front of the text.
 #[cycle(reading)]
 fn read_value<'a>(alloc: Global, text: &'a str) -> Result<(Value<'a>, &'a str), Error>
-    ensures { (n : ℕ) → length (chars text.now) < n → Gives (λ found. (tree_of found.0, chars found.1.now)) result (read_value n (chars text.now)) }
+    ensures { (n : ℕ) → length (chars text.now) < n
+        → Gives (λ found. (tree_of found.0, chars found.1.now)) result
+        (read_value n (chars text.now)) }
 {
     let Some((first, rest)) = split_first(text) else {
         return Err(Error::InvalidJson);
@@ -107,7 +119,9 @@ fn read_value<'a>(alloc: Global, text: &'a str) -> Result<(Value<'a>, &'a str), 
 #[cycle(reading)]
 #[inline(never)]
 fn read_array<'a>(alloc: Global, text: &'a str) -> Result<(Value<'a>, &'a str), Error>
-    ensures { (n : ℕ) → length (chars text.now) < n → Gives (λ found. (tree_of found.0, chars found.1.now)) result (read_array (read_value n) n (chars text.now)) }
+    ensures { (n : ℕ) → length (chars text.now) < n
+        → Gives (λ found. (tree_of found.0, chars found.1.now)) result
+        (read_array (read_value n) n (chars text.now)) }
 {
     let mut items = Vec::new(alloc);
     if let Some(rest) = after_char(skip_blank(text), ']') {
@@ -162,7 +176,9 @@ fn push_item<'a>(
 #[cycle(reading)]
 #[inline(never)]
 fn read_object<'a>(alloc: Global, text: &'a str) -> Result<(Value<'a>, &'a str), Error>
-    ensures { (n : ℕ) → length (chars text.now) < n → Gives (λ found. (tree_of found.0, chars found.1.now)) result (read_object (read_value n) n (chars text.now)) }
+    ensures { (n : ℕ) → length (chars text.now) < n
+        → Gives (λ found. (tree_of found.0, chars found.1.now)) result
+        (read_object (read_value n) n (chars text.now)) }
 {
     let mut members = BTreeMap::new(alloc);
     if let Some(rest) = after_char(skip_blank(text), '}') {

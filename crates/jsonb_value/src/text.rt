@@ -4,7 +4,9 @@ ghost use Rattle.std.specs.Prelude.{◌≡◌, ◌<◌, false, Some, position, f
 ghost use Rattle.std.specs.Fmt.{WritesStyledOnOk, digit_glyph};
 ghost use Rattle.jsonb_value.specs.ExtCode.{extension_of};
 ghost use Rattle.jsonb_value.specs.Tree.{timestamp_tz, interval};
-ghost use Rattle.jsonb_value.specs.Text.{number_text, decimal_text, pointed, hex_text, hex_byte, is_escaped, escape, byte_text, string_text, extension_text};
+ghost use Rattle.jsonb_value.specs.Text.{number_text, decimal_text, point_text, hex_text, hex_byte};
+ghost use Rattle.jsonb_value.specs.Text.{is_escaped, escape, byte_text, string_text};
+ghost use Rattle.jsonb_value.specs.Text.{extension_text};
 
 use crate::extension::{ExtensionValue, Interval, TimestampTz};
 use crate::number::Number;
@@ -44,7 +46,8 @@ pub fn extension_text<W: fmt::Write>(
     value: &ExtensionValue,
     f: &mut fmt::Formatter<W>,
 ) -> fmt::Result
-    ensures { WritesStyledOnOk W.write_str_gives f.old result (extension_text (extension_of value.now)) f.new }
+    ensures { WritesStyledOnOk W.write_str_gives f.old result
+        (extension_text (extension_of value.now)) f.new }
 {
     match value {
         ExtensionValue::Binary(bytes) => write_hex(bytes, f),
@@ -96,7 +99,7 @@ fn write_fraction<W: fmt::Write>(
     f: &mut fmt::Formatter<W>,
 ) -> fmt::Result
     requires { 0 < scale }
-    ensures { WritesStyledOnOk W.write_str_gives f.old result (pointed scale magnitude) f.new }
+    ensures { WritesStyledOnOk W.write_str_gives f.old result (point_text scale magnitude) f.new }
 {
     let mut buffer = Buffer::new();
     let digits = buffer.format(magnitude);
@@ -114,7 +117,8 @@ fn write_fraction<W: fmt::Write>(
 
 #[tactic(auto, using(crate::proofs::Writing::joins))]
 fn write_zoned<W: fmt::Write>(zoned: &TimestampTz, f: &mut fmt::Formatter<W>) -> fmt::Result
-    ensures { WritesStyledOnOk W.write_str_gives f.old result (extension_text (timestamp_tz zoned.now)) f.new }
+    ensures { WritesStyledOnOk W.write_str_gives f.old result
+        (extension_text (timestamp_tz zoned.now)) f.new }
 {
     write_whole(zoned.value, f)?;
     f.write_str(" ")?;
@@ -123,7 +127,8 @@ fn write_zoned<W: fmt::Write>(zoned: &TimestampTz, f: &mut fmt::Formatter<W>) ->
 
 #[tactic(auto, using(crate::proofs::Writing::joins))]
 fn write_interval<W: fmt::Write>(given: &Interval, f: &mut fmt::Formatter<W>) -> fmt::Result
-    ensures { WritesStyledOnOk W.write_str_gives f.old result (extension_text (interval given.now)) f.new }
+    ensures { WritesStyledOnOk W.write_str_gives f.old result
+        (extension_text (interval given.now)) f.new }
 {
     write_whole(given.months, f)?;
     f.write_str(" ")?;

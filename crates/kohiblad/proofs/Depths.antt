@@ -7,12 +7,15 @@ level_within : (place : Place) (level : ℕ) (text : List ℕ) → level ≤ gre
 level_within place level [] = omega arith
 level_within place level (c ∷ text) = omega arith
 
-module _ (A : Type 0) (place : Place) (level c depth : ℕ) (left behind : List ℕ) (cut : left ≡ c ∷ behind) (inside : level ≤ depth) (same : A ↔ (greatest_level place level left ≤ depth)) where
+module _ (A : Type 0) (place : Place) (level c depth : ℕ) (left behind : List ℕ)
+    (cut : left ≡ c ∷ behind) (inside : level ≤ depth)
+    (same : A ↔ (greatest_level place level left ≤ depth)) where
   here : A ↔ (greatest_level place level (c ∷ behind) ≤ depth)
   here = subst (λ (text : List ℕ). A ↔ (greatest_level place level text ≤ depth)) cut same
 
   -- what is left tells the same behind one more character
-  pub one_more_character : (after : Place) (next : ℕ) → after ≡ place_after place c → next ≡ level_after place level c → A ↔ (greatest_level after next behind ≤ depth)
+  pub one_more_character : (after : Place) (next : ℕ) → after ≡ place_after place c
+      → next ≡ level_after place level c → A ↔ (greatest_level after next behind ≤ depth)
   one_more_character after next placed leveled =
       let both = here in
       rw (placed, leveled) (λ a. let all = both.0 a in omega arith, λ rest. both.1 (omega arith))

@@ -1,5 +1,6 @@
 -- Pairs of rows that are put together to an object.
-use Rattle.std.proofs.Common.{◌≡◌, ℕ, Bool, true, false, ◌||◌, List, [], ◌∷◌, ◌++◌, map, Bor, IsTrue, refl, sym, ap, ap₂, subst, ◌∙◌, append_assoc}
+use Rattle.std.proofs.Common.{◌≡◌, ℕ, Bool, true, false, ◌||◌, List, [], ◌∷◌, ◌++◌, map, Bor}
+use Rattle.std.proofs.Common.{IsTrue, refl, sym, ap, ap₂, subst, ◌∙◌, append_assoc}
 use Rattle.std.specs.List.{IsDistinct, AllByRecursion, list_any}
 use Rattle.std.specs.Map.{keys_of}
 use Rattle.std.specs.Str.{bytes_eq, IsUtf8}
@@ -7,13 +8,14 @@ use Rattle.std.proofs.lemmas.List.{map-append, append-nil}
 use Rattle.std.proofs.lemmas.Slice.Eq.{bytes_eq-Decides}
 use Rattle.jsonb.specs.declared.raw.RawJsonb.{RawJsonb}
 use Rattle.jsonb.specs.Raw.{raw_bytes}
-use Rattle.jsonb.specs.Shown.{Shown, raw}
+use Rattle.jsonb.specs.ItemView.{ItemView, raw}
 use Rattle.jsonb.specs.Building.{AreTexts, has_key, with_pair, in_order}
 use Rattle.jsonb.specs.Built.{raw_pairs, input_pair}
 use Rattle.jsonb.proofs.InputLaws.{key_there, one_more, still_distinct}
 
 -- the pairs that were put in, and those that are left
-pub record PairsSoFar (all left : List (List ℕ × List ℕ)) (builder : List (List ℕ × Shown)) : Type 0 where
+pub record PairsSoFar (all left : List (List ℕ × List ℕ))
+    (builder : List (List ℕ × ItemView)) : Type 0 where
   pub done : List (Bor (List ℕ) × RawJsonb)
   pub parts : all ≡ map input_pair done ++ left
   pub built : builder ≡ raw_pairs (in_order (map input_pair done))
@@ -32,18 +34,22 @@ AreTexts-middle : (xs ys : List (List ℕ)) (y : List ℕ) → AreTexts (xs ++ y
 AreTexts-middle [] ys y h = h.0
 AreTexts-middle (x ∷ xs) ys y h = AreTexts-middle xs ys y h.1
 
-keys-append : (xs : List (List ℕ × List ℕ)) (ys : List (List ℕ × List ℕ)) → keys_of (xs ++ ys) ≡ keys_of xs ++ keys_of ys
+keys-append : (xs : List (List ℕ × List ℕ)) (ys : List (List ℕ × List ℕ))
+    → keys_of (xs ++ ys) ≡ keys_of xs ++ keys_of ys
 keys-append xs ys = map-append (λ p. p.0) xs ys
 
 -- Of a list in which a key comes again no two are distinct.
-at_middle : (P : List ℕ → Type 0) (xs ys : List (List ℕ)) (y : List ℕ) → AllByRecursion P (xs ++ y ∷ ys) → P y
+at_middle : (P : List ℕ → Type 0) (xs ys : List (List ℕ)) (y : List ℕ)
+    → AllByRecursion P (xs ++ y ∷ ys) → P y
 at_middle P [] ys y h = h.0
 at_middle P (x ∷ xs) ys y h = at_middle P xs ys y h.1
 
 same_bytes : (x y : List ℕ) → bytes_eq x y ≡ true → x ≡ y
 same_bytes x y h = (bytes_eq-Decides x y).0 h
 
-twice_by : (b : Bool) (x : List ℕ) (xs ys : List (List ℕ)) (y : List ℕ) → bytes_eq y x ≡ b → (IsTrue (list_any (bytes_eq y) xs) → ⊥) → IsTrue (b || list_any (bytes_eq y) xs) → bytes_eq x y ≡ false → ⊥
+twice_by : (b : Bool) (x : List ℕ) (xs ys : List (List ℕ)) (y : List ℕ) → bytes_eq y x ≡ b
+    → (IsTrue (list_any (bytes_eq y) xs) → ⊥) → IsTrue (b || list_any (bytes_eq y) xs)
+    → bytes_eq x y ≡ false → ⊥
 twice_by true x xs ys y is more there apart =
     let same = same_bytes y x is in
     let never : true ≡ false = sym is ∙ ap₂ bytes_eq same (sym same) ∙ apart in
@@ -51,47 +57,64 @@ twice_by true x xs ys y is more there apart =
     different
 twice_by false x xs ys y is more there apart = more there
 
-twice : (xs ys : List (List ℕ)) (y : List ℕ) → IsTrue (list_any (bytes_eq y) xs) → IsDistinct bytes_eq (xs ++ y ∷ ys) → ⊥
+twice : (xs ys : List (List ℕ)) (y : List ℕ) → IsTrue (list_any (bytes_eq y) xs)
+    → IsDistinct bytes_eq (xs ++ y ∷ ys) → ⊥
 unfolding IsDistinct
 twice [] ys y there distinct = let never : ⊥ = cc in never
 twice (x ∷ xs) ys y there distinct =
-    twice_by (bytes_eq y x) x xs ys y refl (λ more. twice xs ys y more distinct.1) there (at_middle (λ z. bytes_eq x z ≡ false) xs ys y distinct.0)
+    twice_by (bytes_eq y x) x xs ys y refl
+    (λ more. twice xs ys y more distinct.1) there
+    (at_middle (λ z. bytes_eq x z ≡ false) xs ys y distinct.0)
 
-module _ (all left behind : List (List ℕ × List ℕ)) (builder : List (List ℕ × Shown)) (so_far : PairsSoFar all left builder) (pair : List ℕ × List ℕ) (cut : left ≡ pair ∷ behind) where
+module _ (all left behind : List (List ℕ × List ℕ)) (builder : List (List ℕ × ItemView))
+    (so_far : PairsSoFar all left builder) (pair : List ℕ × List ℕ)
+    (cut : left ≡ pair ∷ behind) where
   parts : all ≡ map input_pair so_far.done ++ pair ∷ behind
   parts = so_far.parts ∙ ap (λ (ps : List (List ℕ × List ℕ)). map input_pair so_far.done ++ ps) cut
 
   key_parts : keys_of all ≡ keys_of (map input_pair so_far.done) ++ pair.0 ∷ keys_of behind
   key_parts = ap keys_of parts ∙ keys-append (map input_pair so_far.done) (pair ∷ behind)
 
-  pub one_more_pair : (after : List (List ℕ × Shown)) (key : Bor (List ℕ)) (document : RawJsonb) → key.now ≡ pair.0 → raw_bytes document ≡ pair.1 → IsUtf8 pair.0
-      → has_key builder key.now ≡ false → after ≡ with_pair builder key.now (raw (raw_bytes document)) → PairsSoFar all behind after
+  pub one_more_pair : (after : List (List ℕ × ItemView)) (key : Bor (List ℕ)) (document : RawJsonb)
+      → key.now ≡ pair.0 → raw_bytes document ≡ pair.1 → IsUtf8 pair.0
+      → has_key builder key.now ≡ false
+      → after ≡ with_pair builder key.now (raw (raw_bytes document))
+      → PairsSoFar all behind after
   one_more_pair after key document key_is document_is text new pushed =
       let x : Bor (List ℕ) × RawJsonb = (key, document) in
       let same : input_pair x ≡ pair = ap₂ (λ (k d : List ℕ). (k, d)) key_is document_is in
       let one : map input_pair (so_far.done ++ x ∷ []) ≡ map input_pair so_far.done ++ pair ∷ [] =
-      map-append input_pair so_far.done (x ∷ []) ∙ ap (λ (p : List ℕ × List ℕ). map input_pair so_far.done ++ p ∷ []) same in
+      map-append input_pair so_far.done (x ∷ []) ∙ ap
+      (λ (p : List ℕ × List ℕ). map input_pair so_far.done ++ p ∷ []) same in
       record {
         done = so_far.done ++ x ∷ [];
-        parts = parts ∙ sym (append_assoc (map input_pair so_far.done) (pair ∷ []) behind) ∙ ap (λ (ps : List (List ℕ × List ℕ)). ps ++ behind) (sym one);
+        parts = parts ∙ sym (append_assoc (map input_pair so_far.done) (pair ∷ []) behind) ∙ ap
+            (λ (ps : List (List ℕ × List ℕ)). ps ++ behind) (sym one);
         built = one_more builder so_far.done so_far.built after x pushed;
         distinct = still_distinct builder so_far.done so_far.built x new so_far.distinct;
         texts =
-            subst AreTexts (sym (ap keys_of one ∙ keys-append (map input_pair so_far.done) (pair ∷ [])))
-            (AreTexts-append (keys_of (map input_pair so_far.done)) (pair.0 ∷ []) so_far.texts (text, tt));
+            subst AreTexts
+            (sym (ap keys_of one ∙ keys-append (map input_pair so_far.done) (pair ∷ [])))
+            (AreTexts-append (keys_of (map input_pair so_far.done)) (pair.0 ∷ []) so_far.texts
+            (text, tt));
       }
 
   pub no_text : (IsUtf8 pair.0 → ⊥) → AreTexts (keys_of all) → ⊥
   no_text other texts = other (AreTexts-middle _ _ pair.0 (subst AreTexts key_parts texts))
 
   -- A key that is there already comes twice.
-  pub not_distinct : (key : List ℕ) → key ≡ pair.0 → IsTrue (has_key builder key) → IsDistinct bytes_eq (keys_of all) → ⊥
+  pub not_distinct : (key : List ℕ) → key ≡ pair.0 → IsTrue (has_key builder key)
+      → IsDistinct bytes_eq (keys_of all) → ⊥
   not_distinct key key_is there distinct =
       let known = subst IsTrue (key_there builder so_far.done so_far.built key) there in
       twice (keys_of (map input_pair so_far.done)) (keys_of behind) pair.0
-      (subst (λ (k : List ℕ). IsTrue (list_any (bytes_eq k) (keys_of (map input_pair so_far.done)))) key_is known)
+      (subst (λ (k : List ℕ). IsTrue
+      (list_any (bytes_eq k) (keys_of (map input_pair so_far.done)))) key_is known)
       (subst (IsDistinct bytes_eq) key_parts distinct)
 
 -- all pairs are put in
-pub all_put : (all left : List (List ℕ × List ℕ)) (builder : List (List ℕ × Shown)) (so_far : PairsSoFar all left builder) → left ≡ [] → map input_pair so_far.done ≡ all
-all_put all left builder so_far ended = sym (so_far.parts ∙ ap (λ (ps : List (List ℕ × List ℕ)). map input_pair so_far.done ++ ps) ended ∙ append-nil (map input_pair so_far.done))
+pub all_put : (all left : List (List ℕ × List ℕ)) (builder : List (List ℕ × ItemView))
+    (so_far : PairsSoFar all left builder) → left ≡ [] → map input_pair so_far.done ≡ all
+all_put all left builder so_far ended = sym
+    (so_far.parts ∙ ap (λ (ps : List (List ℕ × List ℕ)). map input_pair so_far.done ++ ps) ended
+    ∙ append-nil (map input_pair so_far.done))

@@ -1,5 +1,7 @@
 -- Keys in order, and the order of rows by their numbers.
-use Rattle.std.proofs.Common.{◌≡◌, ℕ, zero, suc, ◌+◌, ◌≤◌, ◌<◌, List, [], ◌∷◌, ◌++◌, length, map, take, drop, slice_index_or, slice_set, refl, sym, ap, ap₂, subst, ◌∙◌, arith, append_assoc, add-one, length-append}
+use Rattle.std.proofs.Common.{◌≡◌, ℕ, zero, suc, ◌+◌, ◌≤◌, ◌<◌, List, [], ◌∷◌, ◌++◌, length, map}
+use Rattle.std.proofs.Common.{take, drop, slice_index_or, slice_set, refl, sym, ap, ap₂, subst, ◌∙◌}
+use Rattle.std.proofs.Common.{arith, append_assoc, add-one, length-append}
 use Rattle.std.proofs.lemmas.List.{get_or-map, drop_more, map-append, length-map, length-take-le}
 use Rattle.std.proofs.lemmas.List.Elements.{All-get_or, All-append, All-cons, All-nil}
 use Rattle.std.proofs.lemmas.List.FromFn.{length-range_with_len}
@@ -38,18 +40,23 @@ range_with_len-push : (a n : ℕ) → range_with_len a (suc n) ≡ range_with_le
 range_with_len-push a zero = let here : a ≡ a + 0 = omega arith in ap (λ (k : ℕ). k ∷ []) here
 range_with_len-push a (suc n) =
     let next : a + 1 + n ≡ a + suc n = omega arith in
-    ap (λ (ks : List ℕ). a ∷ ks) (range_with_len-push (a + 1) n ∙ ap (λ (k : ℕ). range_with_len (a + 1) n ++ k ∷ []) next)
+    ap (λ (ks : List ℕ). a ∷ ks)
+    (range_with_len-push (a + 1) n ∙ ap (λ (k : ℕ). range_with_len (a + 1) n ++ k ∷ []) next)
 
-pub one_more_key : (rows left behind : List (List ℕ)) (row : List ℕ) (keys : List (SortKey × ℕ)) (key : SortKey) → KeysSoFar rows left keys → left ≡ row ∷ behind → key_meaning key ≡ meaning_of row
+pub one_more_key : (rows left behind : List (List ℕ)) (row : List ℕ) (keys : List (SortKey × ℕ))
+    (key : SortKey) → KeysSoFar rows left keys → left ≡ row ∷ behind
+    → key_meaning key ≡ meaning_of row
     → KeysSoFar rows behind (keys ++ (key, length keys) ∷ [])
 one_more_key rows left behind row keys key so_far cut means =
     let n = length keys in
     let count = so_far.count in
     let left_count : length left ≡ suc (length behind) = ap length cut in
-    let one : length (keys ++ (key, length keys) ∷ []) ≡ length keys + 1 = length-append keys ((key, length keys) ∷ []) in
+    let one : length (keys ++ (key, length keys) ∷ []) ≡ length keys + 1 =
+    length-append keys ((key, length keys) ∷ []) in
     let longer : length (keys ++ (key, length keys) ∷ []) ≡ suc (length keys) = omega arith in
     let inside : length keys < length rows = omega arith in
-    let more : drop (length keys) rows ≡ slice_index_or rows (length keys) [] ∷ drop (length keys + 1) rows = drop_more rows (length keys) [] inside in
+    let more : drop (length keys) rows ≡ slice_index_or rows (length keys) []
+    ∷ drop (length keys + 1) rows = drop_more rows (length keys) [] inside in
     let there = so_far.behind in
     let here : slice_index_or rows (length keys) [] ≡ row = cc in
     let rest : drop (length keys + 1) rows ≡ behind = cc in
@@ -65,12 +72,15 @@ one_more_key rows left behind row keys key so_far cut means =
       count = omega arith;
       keys_of_rows =
           All-append (IsKeyOf rows) keys ((key, length keys) ∷ []) so_far.keys_of_rows
-          (All-cons (IsKeyOf rows) (key, length keys) [] (means ∙ ap meaning_of (sym here)) (All-nil (IsKeyOf rows)));
+          (All-cons (IsKeyOf rows) (key, length keys) [] (means ∙ ap meaning_of (sym here))
+          (All-nil (IsKeyOf rows)));
     }
 
-ordered_at : (rows : List (List ℕ)) (keys : List (SortKey × ℕ)) (d : SortKey × ℕ) → All (IsKeyOf rows) keys → IsSorted key_cmp keys → IsSorted (row_cmp rows) (numbers_of keys)
+ordered_at : (rows : List (List ℕ)) (keys : List (SortKey × ℕ)) (d : SortKey × ℕ)
+    → All (IsKeyOf rows) keys → IsSorted key_cmp keys → IsSorted (row_cmp rows) (numbers_of keys)
 ordered_at rows keys d are sorted = λ k e low high.
-    let long : length (numbers_of keys) ≡ length keys = length-map keys (λ (key : SortKey × ℕ). key.1) in
+    let long : length (numbers_of keys) ≡ length keys =
+    length-map keys (λ (key : SortKey × ℕ). key.1) in
     let x : SortKey × ℕ = slice_index_or keys (k + 1) d in
     let y : SortKey × ℕ = slice_index_or keys k d in
     let first = get_or-map (λ (key : SortKey × ℕ). key.1) keys k d e (omega arith) in
@@ -79,16 +89,19 @@ ordered_at rows keys d are sorted = λ k e low high.
     let second_means = All-get_or (IsKeyOf rows) keys (k + 1) d (omega arith) are in
     ap is_lt (
     ap₂ (row_cmp rows) second first
-    ∙ ap₂ (λ (m n : Meaning). ordering_then (meaning_cmp m n) (nat_cmp x.1 y.1)) (sym second_means) (sym first_means)
+    ∙ ap₂ (λ (m n : Meaning). ordering_then (meaning_cmp m n) (nat_cmp x.1 y.1)) (sym second_means)
+    (sym first_means)
     )
     ∙ sorted k d low (omega arith)
 
-ordered : (rows : List (List ℕ)) (keys : List (SortKey × ℕ)) → All (IsKeyOf rows) keys → IsSorted key_cmp keys → IsSorted (row_cmp rows) (numbers_of keys)
+ordered : (rows : List (List ℕ)) (keys : List (SortKey × ℕ)) → All (IsKeyOf rows) keys
+    → IsSorted key_cmp keys → IsSorted (row_cmp rows) (numbers_of keys)
 ordered rows [] are sorted = λ k e low high. absurd (omega arith)
 ordered rows (key ∷ keys) are sorted = ordered_at rows (key ∷ keys) key are sorted
 
 -- keys in order give the order of the rows
-pub order_of_keys : (rows left : List (List ℕ)) (before after : List (SortKey × ℕ)) → left ≡ [] → KeysSoFar rows left before → IsPermutation before after → IsSorted key_cmp after
+pub order_of_keys : (rows left : List (List ℕ)) (before after : List (SortKey × ℕ)) → left ≡ []
+    → KeysSoFar rows left before → IsPermutation before after → IsSorted key_cmp after
     → IsOrderOf rows (numbers_of after)
 order_of_keys rows left before after ended all moved sorted =
     let none : length left ≡ 0 = ap length ended in
@@ -96,28 +109,39 @@ order_of_keys rows left before after ended all moved sorted =
     let long : length before ≡ length rows = omega arith in
     let numbers = all.numbers ∙ ap (range_with_len 0) long in
     record {
-      each_once = subst (λ (ks : List ℕ). IsPermutation ks (numbers_of after)) numbers (IsPermutation-map (λ (key : SortKey × ℕ). key.1) before after moved);
-      ascend = ordered rows after (All-permutation (IsKeyOf rows) before after moved all.keys_of_rows) sorted;
+      each_once = subst
+          (λ (ks : List ℕ). IsPermutation ks (numbers_of after)) numbers
+          (IsPermutation-map (λ (key : SortKey × ℕ). key.1) before after moved);
+      ascend = ordered rows after
+          (All-permutation (IsKeyOf rows) before after moved all.keys_of_rows) sorted;
     }
 
 -- the order of rows has as many numbers
-pub length-IsOrderOf : (rows : List (List ℕ)) (numbers : List ℕ) → IsOrderOf rows numbers → length numbers ≡ length rows
-length-IsOrderOf rows numbers h = length_permutation _ _ h.each_once ∙ length-range_with_len 0 (length rows)
+pub length-IsOrderOf : (rows : List (List ℕ)) (numbers : List ℕ) → IsOrderOf rows numbers
+    → length numbers ≡ length rows
+length-IsOrderOf rows numbers h =
+    length_permutation _ _ h.each_once ∙ length-range_with_len 0 (length rows)
 
-pub length-rows_from : (bytes : List ℕ) (start : ℕ) (ends : List ℕ) → length (rows_from bytes start ends) ≡ length ends
+pub length-rows_from : (bytes : List ℕ) (start : ℕ) (ends : List ℕ)
+    → length (rows_from bytes start ends) ≡ length ends
 length-rows_from bytes start [] = refl
 length-rows_from bytes start (end ∷ ends) = ap suc (length-rows_from bytes end ends)
 
 -- one more number is put in its place
-pub one_more_number : (keys : List (SortKey × ℕ)) (old order : List ℕ) (n : ℕ) (d : SortKey × ℕ) → n < length keys → length keys ≤ length old → order ≡ numbers_of (take n keys) ++ drop n old
-    → slice_set order n (slice_index_or keys n d).1 ≡ numbers_of (take (n + 1) keys) ++ drop (n + 1) old
+pub one_more_number : (keys : List (SortKey × ℕ)) (old order : List ℕ) (n : ℕ) (d : SortKey × ℕ)
+    → n < length keys → length keys ≤ length old → order ≡ numbers_of (take n keys) ++ drop n old
+    → slice_set order n (slice_index_or keys n d).1 ≡ numbers_of (take (n + 1) keys)
+    ++ drop (n + 1) old
 one_more_number keys old order n d inside fits so_far =
     let front = numbers_of (take n keys) in
     let number : ℕ = (slice_index_or keys n d).1 in
-    let long : length (numbers_of (take n keys)) ≡ n = length-map (take n keys) (λ (key : SortKey × ℕ). key.1) ∙ length-take-le n keys (omega arith) in
+    let long : length (numbers_of (take n keys)) ≡ n = length-map (take n keys)
+    (λ (key : SortKey × ℕ). key.1) ∙ length-take-le n keys (omega arith) in
     let cut = drop_more old n 0 (omega arith) in
     let parts = so_far ∙ ap (λ (xs : List ℕ). front ++ xs) cut in
-    let more = ap (λ (k : ℕ). numbers_of (take k keys)) (add-one n) ∙ ap numbers_of (take-suc keys n d inside) ∙ map-append (λ (key : SortKey × ℕ). key.1) (take n keys) (slice_index_or keys n d ∷ []) in
+    let more = ap (λ (k : ℕ). numbers_of (take k keys)) (add-one n)
+    ∙ ap numbers_of (take-suc keys n d inside) ∙ map-append
+    (λ (key : SortKey × ℕ). key.1) (take n keys) (slice_index_or keys n d ∷ []) in
     ap₂ (λ (xs : List ℕ) (k : ℕ). slice_set xs k number) parts (sym long)
     ∙ set-append_seam front (slice_index_or old n 0) (drop (n + 1) old) number
     ∙ sym (append_assoc front (number ∷ []) (drop (n + 1) old))

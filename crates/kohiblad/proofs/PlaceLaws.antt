@@ -1,11 +1,15 @@
 -- Where the parts of an array or an object stand.
-use Rattle.std.proofs.Common.{◌≡◌, ℕ, zero, suc, ◌+◌, ◌*◌, ◌<◌, ◌≤◌, ◌^◌, ◌⊎◌, true, false, List, [], ◌∷◌, ◌++◌, length, slice_get, slice_index_or, Option, None, Some, option_map, Result, Ok, Err, refl, sym, ap, ap₂, subst, ◌∙◌, inl, inr, arith, le-leb, append_assoc, length-append}
+use Rattle.std.proofs.Common.{◌≡◌, ℕ, zero, suc, ◌+◌, ◌*◌, ◌<◌, ◌≤◌, ◌^◌, ◌⊎◌, true, false, List}
+use Rattle.std.proofs.Common.{[], ◌∷◌, ◌++◌, length, slice_get, slice_index_or, Option, None, Some}
+use Rattle.std.proofs.Common.{option_map, Result, Ok, Err, refl, sym, ap, ap₂, subst, ◌∙◌, inl, inr}
+use Rattle.std.proofs.Common.{arith, le-leb, append_assoc, length-append}
 use Rattle.std.specs.Map.{keys_of, values_of}
 use Rattle.std.proofs.lemmas.Map.Entries.{length-values_of}
 use Rattle.std.proofs.lemmas.Bool.{lt-leb}
 use Rattle.std.proofs.lemmas.Option.{slice_get_cases}
 use Rattle.jsonb_value.specs.declared.error.Error.{Error}
-use Rattle.jsonb_value.specs.Tree.{Tree, null, boolean, number, text, extension, array, object, Trees, Pairs}
+use Rattle.jsonb_value.specs.Tree.{Tree, null, boolean, number, text, extension, array, object}
+use Rattle.jsonb_value.specs.Tree.{Trees, Pairs}
 use Rattle.jsonb_codec.specs.declared.jentry.JEntry.{JEntry}
 use Rattle.jsonb_codec.specs.JEntry.{jentry_at}
 use Rattle.jsonb_codec.specs.Doc.{Doc, Payload, Scalar}
@@ -15,31 +19,47 @@ use Rattle.jsonb.specs.Item.{Entry}
 use Rattle.jsonb.specs.Steps.{◌>>=◌}
 use Rattle.jsonb.proofs.KindLaws.{header_at-Scalar, header_at-array, header_at-object}
 use Rattle.jsonb.proofs.Places.{At, At-all, At-left, At-right, At-behind_word, take-At, within-At}
-use Rattle.jsonb.proofs.StandingLaws.{AreEntries, AreEntries-trees, AreEntries-keys, AreEntries-pairs, HasItems-Payload, HasMembers-Payload, first_entry, items_at, members_at}
+use Rattle.jsonb.proofs.StandingLaws.{AreEntries, AreEntries-trees, AreEntries-keys}
+use Rattle.jsonb.proofs.StandingLaws.{AreEntries-pairs, HasItems-Payload, HasMembers-Payload}
+use Rattle.jsonb.proofs.StandingLaws.{first_entry, items_at, members_at}
 use Rattle.jsonb.proofs.StoredLaws.{length-code_entries}
 use Rattle.kohiblad.specs.declared.places.Place.{Place}
-use Rattle.kohiblad.specs.Places.{place_at, place_behind, item_under, item_place, member_under, member_places, entry_there, member_there, IsItemPlace, AreMemberPlaces}
+use Rattle.kohiblad.specs.Places.{place_at, place_behind, item_under, item_place, member_under}
+use Rattle.kohiblad.specs.Places.{member_places, entry_there, member_there, IsItemPlace}
+use Rattle.kohiblad.specs.Places.{AreMemberPlaces}
 
-pub place_behind-cut : (bytes : List ℕ) (nth index start : ℕ) (e : Error) → 0 < nth → jentry_at bytes index ≡ Err e → place_behind bytes nth index start ≡ Err e
+pub place_behind-cut : (bytes : List ℕ) (nth index start : ℕ) (e : Error) → 0 < nth
+    → jentry_at bytes index ≡ Err e → place_behind bytes nth index start ≡ Err e
 place_behind-cut bytes zero index start e some cut = absurd (omega arith)
 place_behind-cut bytes (suc nth) index start e some cut =
-    ap (λ (r : Result JEntry Error). r >>= (λ (entry : JEntry). place_behind bytes nth (index + 4) (start + entry.length))) cut
+    ap (λ (r : Result JEntry Error). r
+    >>= (λ (entry : JEntry). place_behind bytes nth (index + 4) (start + entry.length))) cut
 
 -- the place of an entry that stands there
 abbrev StandsAt : List ℕ → Result Place Error → Entry → Type 0
-StandsAt bytes found entry = (place : Place) × ((found ≡ Ok place) × (entry_there bytes place ≡ entry))
+StandsAt bytes found entry =
+    (place : Place) × ((found ≡ Ok place) × (entry_there bytes place ≡ entry))
 
-place_standing : (bytes : List ℕ) (i j : ℕ) (c : Entry) (cs : List Entry) → AreEntries (c ∷ cs) → At bytes i (code_entries (c ∷ cs)) → At bytes j (code_payloads (c ∷ cs)) → StandsAt bytes (place_at bytes i j) c
+place_standing : (bytes : List ℕ) (i j : ℕ) (c : Entry) (cs : List Entry) → AreEntries (c ∷ cs)
+    → At bytes i (code_entries (c ∷ cs)) → At bytes j (code_payloads (c ∷ cs))
+    → StandsAt bytes (place_at bytes i j) c
 place_standing bytes i j c cs is a b =
     let f = first_entry bytes i j c cs is.0 a b in
     let payload = At-left bytes j c.payload (code_payloads cs) b in
-    let inside = le-leb (j + length c.payload) (length bytes) (within-At bytes j c.payload payload) in
+    let inside =
+    le-leb (j + length c.payload) (length bytes) (within-At bytes j c.payload payload) in
     let jentry = f.jentry in (
       record { type_code = c.type; start = j; length = length c.payload },
-      (rw (jentry, inside) refl, ap (λ (p : List ℕ). record { type = c.type; payload = p }) (take-At bytes j c.payload payload)),
+      (
+        rw (jentry, inside) refl,
+        ap
+            (λ (p : List ℕ). record { type = c.type; payload = p })
+            (take-At bytes j c.payload payload),
+      ),
     )
 
-place_behind_standing : (bytes : List ℕ) (nth i j : ℕ) (cs : List Entry) (c : Entry) → AreEntries cs → At bytes i (code_entries cs) → At bytes j (code_payloads cs) → slice_get cs nth ≡ Some c
+place_behind_standing : (bytes : List ℕ) (nth i j : ℕ) (cs : List Entry) (c : Entry) → AreEntries cs
+    → At bytes i (code_entries cs) → At bytes j (code_payloads cs) → slice_get cs nth ≡ Some c
     → StandsAt bytes (place_behind bytes nth i j) c
 place_behind_standing bytes zero i j [] c is a b there = let never : ⊥ = cc in absurd never
 place_behind_standing bytes (suc nth) i j [] c is a b there = let never : ⊥ = cc in absurd never
@@ -48,15 +68,24 @@ place_behind_standing bytes zero i j (x ∷ cs) c is a b there =
     subst (StandsAt bytes (place_at bytes i j)) same (place_standing bytes i j x cs is a b)
 place_behind_standing bytes (suc nth) i j (x ∷ cs) c is a b there =
     let f = first_entry bytes i j x cs is.0 a b in
-    let more = place_behind_standing bytes nth (i + 4) (j + length x.payload) cs c is.1 f.other_entries f.other_payloads there in
-    let next = ap (λ (r : Result JEntry Error). r >>= (λ (entry : JEntry). place_behind bytes nth (i + 4) (j + entry.length))) f.jentry in
+    let more = place_behind_standing bytes nth (i + 4)
+    (j + length x.payload) cs c is.1 f.other_entries f.other_payloads there in
+    let next = ap
+    (λ (r : Result JEntry Error). r
+    >>= (λ (entry : JEntry). place_behind bytes nth (i + 4) (j + entry.length))) f.jentry in
     (more.0, (next ∙ more.1.0, more.1.1))
 
-module _ (b : List ℕ) (cs : List Entry) (is : AreEntries cs) (entries_at : At b 4 (code_entries cs)) (payloads_at : At b (4 + 4 * length cs) (code_payloads cs)) (index : ℕ) where
-  item_there : ((x : Entry) × (index < length cs) × (slice_get cs index ≡ Some x) × (slice_index_or cs index x ≡ x)) ⊎ ((length cs ≤ index) × (slice_get cs index ≡ None))
-      → (o : Option Place) × ((item_under b index (2147483648, length cs) ≡ Ok o) × (option_map (entry_there b) o ≡ slice_get cs index))
+module _ (b : List ℕ) (cs : List Entry) (is : AreEntries cs) (entries_at : At b 4 (code_entries cs))
+    (payloads_at : At b (4 + 4 * length cs) (code_payloads cs)) (index : ℕ) where
+  item_there :
+      ((x : Entry) × (index < length cs) × (slice_get cs index ≡ Some x)
+      × (slice_index_or cs index x ≡ x)) ⊎ ((length cs ≤ index) × (slice_get cs index ≡ None))
+      → (o : Option Place)
+      × ((item_under b index (2147483648, length cs) ≡ Ok o)
+      × (option_map (entry_there b) o ≡ slice_get cs index))
   item_there (inl (x, inside, there, here)) =
-      let stands = place_behind_standing b index 4 (4 + 4 * length cs) cs x is entries_at payloads_at there in
+      let stands = place_behind_standing b index 4
+      (4 + 4 * length cs) cs x is entries_at payloads_at there in
       let test = lt-leb (length cs) index inside in
       let found = stands.1.0 in
       (Some stands.0, (rw (test, found) refl, ap (λ (c : Entry). Some c) stands.1.1 ∙ sym there))
@@ -64,20 +93,38 @@ module _ (b : List ℕ) (cs : List Entry) (is : AreEntries cs) (entries_at : At 
       let test = le-leb (length cs) index past in
       (None, (rw test refl, sym absent))
 
-item_standing : (b : List ℕ) (ts : Trees) (index : ℕ) → Payload (array ts) b → IsItemPlace b (array ts) index (item_place b index)
+item_standing : (b : List ℕ) (ts : Trees) (index : ℕ) → Payload (array ts) b
+    → IsItemPlace b (array ts) index (item_place b index)
 item_standing b ts index h =
     let m = HasItems-Payload b ts h in
     let at = items_at b m.0 m.1.few m.1.written in
-    let there = item_there b m.0 (AreEntries-trees m.0 ts m.1.mean m.1.short) at.entries_at at.payloads_at index (slice_get_cases m.0 index).1 in
-    (m.0, (m.1, (there.0, (ap (λ (r : Result (ℕ × ℕ) Error). r >>= item_under b index) at.header ∙ there.1.0, there.1.1))))
+    let there = item_there b m.0
+    (AreEntries-trees m.0 ts m.1.mean m.1.short) at.entries_at at.payloads_at index
+    (slice_get_cases m.0 index).1 in (
+      m.0,
+      (
+        m.1,
+        (
+          there.0,
+          (
+            ap (λ (r : Result (ℕ × ℕ) Error). r >>= item_under b index) at.header
+                ∙ there.1.0,
+            there.1.1,
+          ),
+        ),
+      ),
+    )
 
 no_item : (b : List ℕ) (t : Tree) (index : ℕ) → Scalar t b → item_place b index ≡ Ok None
-no_item b t index h = ap (λ (r : Result (ℕ × ℕ) Error). r >>= item_under b index) (header_at-Scalar b t h)
+no_item b t index h =
+    ap (λ (r : Result (ℕ × ℕ) Error). r >>= item_under b index) (header_at-Scalar b t h)
 
-pub item_place_standing : (b : List ℕ) (t : Tree) (index : ℕ) → Doc b t → IsItemPlace b t index (item_place b index)
+pub item_place_standing : (b : List ℕ) (t : Tree) (index : ℕ) → Doc b t
+    → IsItemPlace b t index (item_place b index)
 item_place_standing b (array ts) index (inr (is, h)) = item_standing b ts index h
 item_place_standing b (array ts) index (inl (other, h)) = absurd (other refl)
-item_place_standing b (object ps) index (inr (is, h)) = ap (λ (r : Result (ℕ × ℕ) Error). r >>= item_under b index) (header_at-object b ps h)
+item_place_standing b (object ps) index (inr (is, h)) =
+    ap (λ (r : Result (ℕ × ℕ) Error). r >>= item_under b index) (header_at-object b ps h)
 item_place_standing b (object ps) index (inl (other, h)) = absurd (other refl)
 item_place_standing b null index (inl (other, h)) = no_item b null index h
 item_place_standing b (boolean x) index (inl (other, h)) = no_item b (boolean x) index h
@@ -99,22 +146,28 @@ AreEntries-append : (cs ds : List Entry) → AreEntries cs → AreEntries ds →
 AreEntries-append [] ds is are = are
 AreEntries-append (c ∷ cs) ds is are = (is.0, AreEntries-append cs ds is.1 are)
 
-code_entries-append : (cs ds : List Entry) → code_entries (cs ++ ds) ≡ code_entries cs ++ code_entries ds
+code_entries-append : (cs ds : List Entry)
+    → code_entries (cs ++ ds) ≡ code_entries cs ++ code_entries ds
 code_entries-append [] ds = refl
 code_entries-append (c ∷ cs) ds =
     let e = word (c.type + length c.payload) in
-    ap (λ (x : List ℕ). word (c.type + length c.payload) ++ x) (code_entries-append cs ds) ∙ sym (append_assoc e (code_entries cs) (code_entries ds))
+    ap (λ (x : List ℕ). word (c.type + length c.payload) ++ x) (code_entries-append cs ds)
+    ∙ sym (append_assoc e (code_entries cs) (code_entries ds))
 
-code_payloads-append : (cs ds : List Entry) → code_payloads (cs ++ ds) ≡ code_payloads cs ++ code_payloads ds
+code_payloads-append : (cs ds : List Entry)
+    → code_payloads (cs ++ ds) ≡ code_payloads cs ++ code_payloads ds
 code_payloads-append [] ds = refl
 code_payloads-append (c ∷ cs) ds =
-    ap (λ (x : List ℕ). c.payload ++ x) (code_payloads-append cs ds) ∙ sym (append_assoc c.payload (code_payloads cs) (code_payloads ds))
+    ap (λ (x : List ℕ). c.payload ++ x) (code_payloads-append cs ds)
+    ∙ sym (append_assoc c.payload (code_payloads cs) (code_payloads ds))
 
 length-all_keys : (ms : List (List ℕ × Entry)) → length (key_codes (keys_of ms)) ≡ length ms
 length-all_keys [] = refl
 length-all_keys (m ∷ ms) = ap suc (length-all_keys ms)
 
-key_at_index : (ms : List (List ℕ × Entry)) (ds : List Entry) (i : ℕ) (m : List ℕ × Entry) → slice_get ms i ≡ Some m → slice_get (key_codes (keys_of ms) ++ ds) i ≡ Some record { type = 268435456; payload = m.0 }
+key_at_index : (ms : List (List ℕ × Entry)) (ds : List Entry) (i : ℕ) (m : List ℕ × Entry)
+    → slice_get ms i ≡ Some m
+    → slice_get (key_codes (keys_of ms) ++ ds) i ≡ Some record { type = 268435456; payload = m.0 }
 key_at_index [] ds zero m there = let never : ⊥ = cc in absurd never
 key_at_index [] ds (suc i) m there = let never : ⊥ = cc in absurd never
 key_at_index (x ∷ ms) ds zero m there =
@@ -122,7 +175,8 @@ key_at_index (x ∷ ms) ds zero m there =
     ap (λ (y : List ℕ × Entry). Some record { type = 268435456; payload = y.0 }) same
 key_at_index (x ∷ ms) ds (suc i) m there = key_at_index ms ds i m there
 
-value_at_index : (ms : List (List ℕ × Entry)) (i : ℕ) (m : List ℕ × Entry) → slice_get ms i ≡ Some m → slice_get (values_of ms) i ≡ Some m.1
+value_at_index : (ms : List (List ℕ × Entry)) (i : ℕ) (m : List ℕ × Entry) → slice_get ms i ≡ Some m
+    → slice_get (values_of ms) i ≡ Some m.1
 value_at_index [] zero m there = let never : ⊥ = cc in absurd never
 value_at_index [] (suc i) m there = let never : ⊥ = cc in absurd never
 value_at_index (x ∷ ms) zero m there =
@@ -130,7 +184,8 @@ value_at_index (x ∷ ms) zero m there =
     ap (λ (y : List ℕ × Entry). Some y.1) same
 value_at_index (x ∷ ms) (suc i) m there = value_at_index ms i m there
 
-behind_keys : (cs ds : List Entry) (k i : ℕ) (c : Entry) → k ≡ length cs + i → slice_get ds i ≡ Some c → slice_get (cs ++ ds) k ≡ Some c
+behind_keys : (cs ds : List Entry) (k i : ℕ) (c : Entry) → k ≡ length cs + i
+    → slice_get ds i ≡ Some c → slice_get (cs ++ ds) k ≡ Some c
 behind_keys [] ds k i c e there = let same : k ≡ i = omega arith in ap (slice_get ds) same ∙ there
 behind_keys (x ∷ cs) ds zero i c e there = absurd (omega arith)
 behind_keys (x ∷ cs) ds (suc k) i c e there = behind_keys cs ds k i c (omega arith) there
@@ -141,11 +196,13 @@ record AllAt (b : List ℕ) (ms : List (List ℕ × Entry)) : Type 0 where
   entries_at : At b 4 (code_entries (all_entries ms))
   payloads_at : At b (4 + 4 * (2 * length ms)) (code_payloads (all_entries ms))
 
-all_at : (b : List ℕ) (ms : List (List ℕ × Entry)) → length ms < 2 ^ 29 → b ≡ object_of (keys_of ms) (values_of ms) → AllAt b ms
+all_at : (b : List ℕ) (ms : List (List ℕ × Entry)) → length ms < 2 ^ 29
+    → b ≡ object_of (keys_of ms) (values_of ms) → AllAt b ms
 all_at b ms few written =
     let ks = key_codes (keys_of ms) in
     let vs = values_of ms in
-    let whole = At-behind_word b 0 4 (1073741824 + length (values_of ms)) _ refl (At-all b _ written) in
+    let whole =
+    At-behind_word b 0 4 (1073741824 + length (values_of ms)) _ refl (At-all b _ written) in
     let parts =
     ap₂ (λ (x y : List ℕ). x ++ y) (code_entries-append ks vs) (code_payloads-append ks vs)
     ∙ append_assoc (code_entries ks) (code_entries vs) (code_payloads ks ++ code_payloads vs) in
@@ -156,43 +213,80 @@ all_at b ms few written =
     let long = length-code_entries (all_entries ms) in
     record {
       header = (members_at b ms few written).header;
-      entries_at = At-left b 4 (code_entries (all_entries ms)) (code_payloads (all_entries ms)) both;
-      payloads_at = At-right b 4 (4 + 4 * (2 * length ms)) (code_entries (all_entries ms)) (code_payloads (all_entries ms)) (omega arith) both;
+      entries_at =
+          At-left b 4 (code_entries (all_entries ms)) (code_payloads (all_entries ms)) both;
+      payloads_at = At-right b 4 (4 + 4 * (2 * length ms)) (code_entries (all_entries ms))
+          (code_payloads (all_entries ms)) (omega arith) both;
     }
 
-module _ (b : List ℕ) (ms : List (List ℕ × Entry)) (is : AreEntries (all_entries ms)) (at : AllAt b ms) (index : ℕ) where
-  member_at : ((m : List ℕ × Entry) × (index < length ms) × (slice_get ms index ≡ Some m) × (slice_index_or ms index m ≡ m)) ⊎ ((length ms ≤ index) × (slice_get ms index ≡ None))
-      → (o : Option (Place × Place)) × ((member_under b index (1073741824, length ms) ≡ Ok o) × (option_map (member_there b) o ≡ slice_get ms index))
+module _ (b : List ℕ) (ms : List (List ℕ × Entry)) (is : AreEntries (all_entries ms))
+    (at : AllAt b ms) (index : ℕ) where
+  member_at :
+      ((m : List ℕ × Entry) × (index < length ms) × (slice_get ms index ≡ Some m)
+      × (slice_index_or ms index m ≡ m)) ⊎ ((length ms ≤ index) × (slice_get ms index ≡ None))
+      → (o : Option (Place × Place))
+      × ((member_under b index (1073741824, length ms) ≡ Ok o)
+      × (option_map (member_there b) o ≡ slice_get ms index))
   member_at (inl (m, inside, there, here)) =
-      let number_of : length ms + index ≡ length (key_codes (keys_of ms)) + index = ap (λ (n : ℕ). n + index) (sym (length-all_keys ms)) in
-      let key = place_behind_standing b index 4 (4 + 4 * (2 * length ms)) (all_entries ms) _ is at.entries_at at.payloads_at (key_at_index ms (values_of ms) index m there) in
+      let number_of : length ms + index ≡ length (key_codes (keys_of ms)) + index =
+      ap (λ (n : ℕ). n + index) (sym (length-all_keys ms)) in
+      let key = place_behind_standing b index 4 (4 + 4 * (2 * length ms))
+      (all_entries ms) _ is at.entries_at at.payloads_at
+      (key_at_index ms (values_of ms) index m there) in
       let value =
-      place_behind_standing b (length ms + index) 4 (4 + 4 * (2 * length ms)) (all_entries ms) m.1 is at.entries_at at.payloads_at
-      (behind_keys (key_codes (keys_of ms)) (values_of ms) (length ms + index) index m.1 number_of (value_at_index ms index m there)) in
+      place_behind_standing b (length ms + index) 4 (4 + 4 * (2 * length ms))
+      (all_entries ms) m.1 is at.entries_at at.payloads_at
+      (behind_keys (key_codes (keys_of ms)) (values_of ms) (length ms + index) index m.1 number_of
+      (value_at_index ms index m there)) in
       let test = lt-leb (length ms) index inside in
       let key_found = key.1.0 in
       let value_found = value.1.0 in
-      let same = ap₂ (λ (k : List ℕ) (c : Entry). (k, c)) (ap (λ (c : Entry). c.payload) key.1.1) value.1.1 in
-      (Some (key.0, value.0), (rw (test, key_found, value_found) refl, ap (λ (x : List ℕ × Entry). Some x) same ∙ sym there))
+      let same = ap₂
+      (λ (k : List ℕ) (c : Entry). (k, c)) (ap (λ (c : Entry). c.payload) key.1.1) value.1.1 in (
+        Some (key.0, value.0),
+        (
+          rw (test, key_found, value_found) refl,
+          ap (λ (x : List ℕ × Entry). Some x) same
+              ∙ sym there,
+        ),
+      )
   member_at (inr (past, absent)) =
       let test = le-leb (length ms) index past in
       (None, (rw test refl, sym absent))
 
-member_standing : (b : List ℕ) (ps : Pairs) (index : ℕ) → Payload (object ps) b → AreMemberPlaces b (object ps) index (member_places b index)
+member_standing : (b : List ℕ) (ps : Pairs) (index : ℕ) → Payload (object ps) b
+    → AreMemberPlaces b (object ps) index (member_places b index)
 member_standing b ps index h =
     let m = HasMembers-Payload b ps h in
     let at = all_at b m.0 m.1.few m.1.written in
-    let is = AreEntries-append (key_codes (keys_of m.0)) (values_of m.0) (AreEntries-keys (keys_of m.0) m.1.short_keys) (AreEntries-pairs (keys_of m.0) (values_of m.0) ps m.1.mean m.1.short) in
-    let there = member_at b m.0 is at index (slice_get_cases m.0 index).1 in
-    (m.0, (m.1, (there.0, (ap (λ (r : Result (ℕ × ℕ) Error). r >>= member_under b index) at.header ∙ there.1.0, there.1.1))))
+    let is = AreEntries-append (key_codes (keys_of m.0)) (values_of m.0)
+    (AreEntries-keys (keys_of m.0) m.1.short_keys)
+    (AreEntries-pairs (keys_of m.0) (values_of m.0) ps m.1.mean m.1.short) in
+    let there = member_at b m.0 is at index (slice_get_cases m.0 index).1 in (
+      m.0,
+      (
+        m.1,
+        (
+          there.0,
+          (
+            ap (λ (r : Result (ℕ × ℕ) Error). r >>= member_under b index) at.header
+                ∙ there.1.0,
+            there.1.1,
+          ),
+        ),
+      ),
+    )
 
 no_member : (b : List ℕ) (t : Tree) (index : ℕ) → Scalar t b → member_places b index ≡ Ok None
-no_member b t index h = ap (λ (r : Result (ℕ × ℕ) Error). r >>= member_under b index) (header_at-Scalar b t h)
+no_member b t index h =
+    ap (λ (r : Result (ℕ × ℕ) Error). r >>= member_under b index) (header_at-Scalar b t h)
 
-pub member_places_standing : (b : List ℕ) (t : Tree) (index : ℕ) → Doc b t → AreMemberPlaces b t index (member_places b index)
+pub member_places_standing : (b : List ℕ) (t : Tree) (index : ℕ) → Doc b t
+    → AreMemberPlaces b t index (member_places b index)
 member_places_standing b (object ps) index (inr (is, h)) = member_standing b ps index h
 member_places_standing b (object ps) index (inl (other, h)) = absurd (other refl)
-member_places_standing b (array ts) index (inr (is, h)) = ap (λ (r : Result (ℕ × ℕ) Error). r >>= member_under b index) (header_at-array b ts h)
+member_places_standing b (array ts) index (inr (is, h)) =
+    ap (λ (r : Result (ℕ × ℕ) Error). r >>= member_under b index) (header_at-array b ts h)
 member_places_standing b (array ts) index (inl (other, h)) = absurd (other refl)
 member_places_standing b null index (inl (other, h)) = no_member b null index h
 member_places_standing b (boolean x) index (inl (other, h)) = no_member b (boolean x) index h

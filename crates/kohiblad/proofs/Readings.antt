@@ -1,7 +1,8 @@
 -- What C is answered of a text.
 use Rattle.std.proofs.Common.{◌≡◌, ◌⊎◌, ℕ, List, Result, Err, chars, inl, inr, ap, subst, ◌∙◌}
 use Rattle.jsonb_value.specs.declared.error.Error.{Error}
-use Rattle.jsonb_value.specs.declared.error.Error.TheVariants.{InvalidJson, InvalidJsonb, OutOfMemory}
+use Rattle.jsonb_value.specs.declared.error.Error.TheVariants.{InvalidJson, InvalidJsonb}
+use Rattle.jsonb_value.specs.declared.error.Error.TheVariants.{OutOfMemory}
 use Rattle.jsonb_value.specs.Tree.{Tree}
 use Rattle.jsonb_value.specs.Json.Syntax.{Json}
 use Rattle.jsonb_codec.specs.Canon.{Fits}
@@ -9,12 +10,24 @@ use Rattle.kohiblad.specs.Answered.{code, IsRefused}
 use Rattle.kohiblad.specs.Written.{IsRead}
 
 -- a text that is not read is refused by one of three names
-pub read_refused : {A : Type 0} (text before after : List ℕ) (told status : ℕ) (r : Result A Error) (e : Error) → r ≡ Err e
-    → (r ≡ Err InvalidJson → (t : Tree) → Json (chars text) t → ⊥) → (r ≡ Err InvalidJsonb → (t : Tree) × (Json (chars text) t × (Fits t → ⊥)))
-    → (e ≡ InvalidJson) ⊎ ((e ≡ InvalidJsonb) ⊎ (e ≡ OutOfMemory)) → IsRefused (code e) before after told status → IsRead text before after told status
+pub read_refused : {A : Type 0} (text before after : List ℕ) (told status : ℕ) (r : Result A Error)
+    (e : Error) → r ≡ Err e
+    → (r ≡ Err InvalidJson → (t : Tree) → Json (chars text) t → ⊥)
+    → (r ≡ Err InvalidJsonb → (t : Tree) × (Json (chars text) t × (Fits t → ⊥)))
+    → (e ≡ InvalidJson) ⊎ ((e ≡ InvalidJsonb) ⊎ (e ≡ OutOfMemory))
+    → IsRefused (code e) before after told status → IsRead text before after told status
 read_refused text before after told status r e is invalid past (inl same) refused =
-    inr (inl (invalid (is ∙ ap Err same), subst (λ (x : Error). IsRefused (code x) before after told status) same refused))
+    inr (inl (
+      invalid (is ∙ ap Err same),
+      subst
+          (λ (x : Error). IsRefused (code x) before after told status) same refused,
+    ))
 read_refused text before after told status r e is invalid past (inr (inl same)) refused =
-    inr (inr (inl (past (is ∙ ap Err same), subst (λ (x : Error). IsRefused (code x) before after told status) same refused)))
+    inr (inr (inl (
+      past (is ∙ ap Err same),
+      subst
+          (λ (x : Error). IsRefused (code x) before after told status) same refused,
+    )))
 read_refused text before after told status r e is invalid past (inr (inr same)) refused =
-    inr (inr (inr (subst (λ (x : Error). IsRefused (code x) before after told status) same refused)))
+    inr (inr (inr
+    (subst (λ (x : Error). IsRefused (code x) before after told status) same refused)))

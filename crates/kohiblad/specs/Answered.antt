@@ -1,5 +1,6 @@
 -- What C is answered: statuses, and bytes that are handed out.
-use Rattle.std.specs.Prelude.{◌≡◌, ◌==◌, ◌<◌, ◌≤◌, ◌⊎◌, if◌then◌else◌, ℕ, ℤ, pos, negsuc, List, length, ◌++◌, drop, codes}
+use Rattle.std.specs.Prelude.{◌≡◌, ◌==◌, ◌<◌, ◌≤◌, ◌⊎◌, if◌then◌else◌, ℕ, ℤ, pos, negsuc, List}
+use Rattle.std.specs.Prelude.{length, ◌++◌, drop, codes}
 use Rattle.std.specs.declared.cmp.Ordering.{Ordering}
 use Rattle.std.specs.declared.cmp.Ordering.TheVariants.{Less, Equal, Greater}
 use Rattle.jsonb_value.specs.declared.error.Error.{Error}
@@ -56,13 +57,16 @@ status_name status =
 
 -- The answer was copied to the front of the room, and the rest is as it was.
 abbrev pub IsCopied : List ℕ → List ℕ → List ℕ → Type 0
-IsCopied answer before after = (length answer ≤ length before) × (after ≡ answer ++ drop (length answer) before)
+IsCopied answer before after =
+    (length answer ≤ length before) × (after ≡ answer ++ drop (length answer) before)
 
--- The whole answer was copied; or else the room is too small and as it was. Either way its length is told.
+-- The whole answer was copied; or else the room is too small and as it was. Either way its length
+-- is told.
 abbrev pub IsHandedOver : List ℕ → List ℕ → List ℕ → ℕ → ℕ → Type 0
 IsHandedOver answer before after told status =
     (told ≡ length answer)
-    × (((status ≡ 0) × IsCopied answer before after) ⊎ ((status ≡ no_room) × ((length before < length answer) × (after ≡ before))))
+    × (((status ≡ 0) × IsCopied answer before after)
+    ⊎ ((status ≡ no_room) × ((length before < length answer) × (after ≡ before))))
 
 -- Nothing is answered but this status: the room is as it was, and the length told is 0.
 abbrev pub IsRefused : ℕ → List ℕ → List ℕ → ℕ → ℕ → Type 0

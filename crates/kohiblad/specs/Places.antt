@@ -1,15 +1,18 @@
 -- Where the parts of an array or an object stand, and what C is answered of them.
-use Rattle.std.specs.Prelude.{◌≡◌, ℕ, zero, suc, ◌+◌, ◌-◌, ◌*◌, ◌==◌, nat_le, if◌then◌else◌, Bool, List, length, take, drop, slice_get, option_map, Option, Some, None, Result, Ok, Err, IfOk, IfSome, nat_eq, ◌≤◌, ◌<◌, ◌⊎◌, ◌^◌}
+use Rattle.std.specs.Prelude.{◌≡◌, ℕ, zero, suc, ◌+◌, ◌-◌, ◌*◌, ◌==◌, nat_le, if◌then◌else◌, Bool}
+use Rattle.std.specs.Prelude.{List, length, take, drop, slice_get, option_map, Option, Some, None}
+use Rattle.std.specs.Prelude.{Result, Ok, Err, IfOk, IfSome, nat_eq, ◌≤◌, ◌<◌, ◌⊎◌, ◌^◌}
 use Rattle.std.specs.Cmp.Lexicographic.{pointwise}
 use Rattle.jsonb_value.specs.declared.error.Error.{Error}
 use Rattle.jsonb_value.specs.declared.error.Error.TheVariants.{InvalidJsonb}
 use Rattle.jsonb_value.specs.Tree.{Tree, array, object}
-use Rattle.jsonb_codec.specs.declared.constants.TheConstants.{ARRAY_CONTAINER_TAG, OBJECT_CONTAINER_TAG, CONTAINER_TAG}
+use Rattle.jsonb_codec.specs.declared.constants.TheConstants.{ARRAY_CONTAINER_TAG}
+use Rattle.jsonb_codec.specs.declared.constants.TheConstants.{OBJECT_CONTAINER_TAG, CONTAINER_TAG}
 use Rattle.jsonb_codec.specs.JEntry.{jentry_at}
 use Rattle.jsonb_codec.specs.Word.{header_at}
 use Rattle.jsonb.specs.Code.{scalar_bytes}
 use Rattle.jsonb.specs.Item.{Entry}
-use Rattle.jsonb.specs.Shown.{Shown}
+use Rattle.jsonb.specs.ItemView.{ItemView}
 use Rattle.jsonb.specs.Standing.{HasItems, HasMembers}
 use Rattle.jsonb.specs.Steps.{◌>>=◌}
 use Rattle.jsonb.specs.Lookup.{header_count, LooksUpBytes}
@@ -21,12 +24,15 @@ use Rattle.kohiblad.specs.Answered.{code, none, no_room, IsCopied, IsHandedOver,
 abbrev pub place_at : List ℕ → ℕ → ℕ → Result Place Error
 place_at bytes index start =
     jentry_at bytes index >>= λ entry.
-    if nat_le (start + entry.length) (length bytes) then Ok (record { type_code = entry.type_code; start = start; length = entry.length }) else Err InvalidJsonb
+    if nat_le (start + entry.length) (length bytes)
+    then Ok (record { type_code = entry.type_code; start = start; length = entry.length })
+    else Err InvalidJsonb
 
 -- the place of the payload that is so many behind the one whose entry and payload begin there
 abbrev pub place_behind : List ℕ → ℕ → ℕ → ℕ → Result Place Error
 place_behind bytes zero index start = place_at bytes index start
-place_behind bytes (suc number) index start = jentry_at bytes index >>= λ entry. place_behind bytes number (index + 4) (start + entry.length)
+place_behind bytes (suc number) index start =
+    jentry_at bytes index >>= λ entry. place_behind bytes number (index + 4) (start + entry.length)
 
 -- the place of a part by its number, where there are so many entries
 abbrev pub part_place : List ℕ → ℕ → ℕ → Result Place Error
@@ -45,14 +51,16 @@ some_place (Err e) = Err e
 
 -- the place of a part of an array or object by its number, where there is one
 abbrev pub place_under : List ℕ → ℕ → ℕ × ℕ → Result (Option Place) Error
-place_under bytes number header = if nat_le (entry_count header) number then Ok None else some_place (part_place bytes (entry_count header) number)
+place_under bytes number header = if nat_le (entry_count header) number then Ok None
+    else some_place (part_place bytes (entry_count header) number)
 
 abbrev pub place_in : List ℕ → ℕ → Result (Option Place) Error
 place_in bytes number = header_at bytes 0 >>= place_under bytes number
 
 -- the place of an item of an array
 abbrev pub item_under : List ℕ → ℕ → ℕ × ℕ → Result (Option Place) Error
-item_under bytes index header = if header.0 == ARRAY_CONTAINER_TAG then place_under bytes index header else Ok None
+item_under bytes index header =
+    if header.0 == ARRAY_CONTAINER_TAG then place_under bytes index header else Ok None
 
 abbrev pub item_place : List ℕ → ℕ → Result (Option Place) Error
 item_place bytes index = header_at bytes 0 >>= item_under bytes index
@@ -66,14 +74,17 @@ both_places bytes count index = do
 
 abbrev pub member_under : List ℕ → ℕ → ℕ × ℕ → Result (Option (Place × Place)) Error
 member_under bytes index header =
-    if header.0 == OBJECT_CONTAINER_TAG then (if nat_le header.1 index then Ok None else both_places bytes header.1 index) else Ok None
+    if header.0 == OBJECT_CONTAINER_TAG
+    then (if nat_le header.1 index then Ok None else both_places bytes header.1 index)
+    else Ok None
 
 abbrev pub member_places : List ℕ → ℕ → Result (Option (Place × Place)) Error
 member_places bytes index = header_at bytes 0 >>= member_under bytes index
 
 -- the place of the value that a look-up finds: its entry is the last word that was read
-abbrev pub place_found : List ℕ → ℕ → Result (Option Shown) Error → Result (Option Place) Error
-place_found bytes reads (Ok (Some x)) = some_place (part_place bytes (2 * header_count bytes) (reads - 2))
+abbrev pub place_found : List ℕ → ℕ → Result (Option ItemView) Error → Result (Option Place) Error
+place_found bytes reads (Ok (Some x)) =
+    some_place (part_place bytes (2 * header_count bytes) (reads - 2))
 place_found bytes reads (Ok None) = Ok None
 place_found bytes reads (Err e) = Err e
 
@@ -83,14 +94,15 @@ is_name name = pointwise nat_eq name
 
 -- The place is that of the value that a look-up of the name finds on these bytes.
 pub record IsPlaceFound (name bytes : List ℕ) (found : Result (Option Place) Error) : Type 0 where
-  pub item : Result (Option Shown) Error
+  pub item : Result (Option ItemView) Error
   pub reads : ℕ
   pub looks_up : LooksUpBytes (λ key b. b ≡ is_name name key) (length name) bytes item reads
   pub place : found ≡ place_found bytes reads item
 
 -- The place lies inside the bytes, and its type and length make one entry word.
 abbrev pub IsPlaceIn : List ℕ → Place → Type 0
-IsPlaceIn bytes place = (place.start + place.length ≤ length bytes) × (place.type_code + place.length < 2 ^ 31)
+IsPlaceIn bytes place =
+    (place.start + place.length ≤ length bytes) × (place.type_code + place.length < 2 ^ 31)
 
 -- So does a place that was found,
 abbrev pub IsInside : List ℕ → Result (Option Place) Error → Type 0
@@ -98,49 +110,66 @@ IsInside bytes found = IfOk found (λ o. IfSome o (IsPlaceIn bytes))
 
 -- and both places of a member.
 abbrev pub AreInside : List ℕ → Result (Option (Place × Place)) Error → Type 0
-AreInside bytes found = IfOk found (λ o. IfSome o (λ places. IsPlaceIn bytes places.0 × IsPlaceIn bytes places.1))
+AreInside bytes found =
+    IfOk found (λ o. IfSome o (λ places. IsPlaceIn bytes places.0 × IsPlaceIn bytes places.1))
 
 -- what C is told of a place
 abbrev pub told_place : Result (Option Place) Error → KohibladPlace
-told_place (Ok (Some place)) = record { status = 0; type_code = place.type_code; offset = place.start; length = place.length }
+told_place (Ok (Some place)) =
+    record { status = 0; type_code = place.type_code; offset = place.start; length = place.length }
 told_place (Ok None) = record { status = none; type_code = 0; offset = 0; length = 0 }
 told_place (Err e) = record { status = code e; type_code = 0; offset = 0; length = 0 }
 
 -- the entry at a place
 abbrev pub entry_there : List ℕ → Place → Entry
-entry_there bytes place = record { type = place.type_code; payload = take place.length (drop place.start bytes) }
+entry_there bytes place =
+    record { type = place.type_code; payload = take place.length (drop place.start bytes) }
 
 -- the document of an entry: the payload of a container, else a scalar's document of it
 abbrev pub entry_document : Entry → List ℕ
-entry_document entry = if entry.type == CONTAINER_TAG then entry.payload else scalar_bytes entry.type entry.payload
+entry_document entry =
+    if entry.type == CONTAINER_TAG then entry.payload else scalar_bytes entry.type entry.payload
 
 -- The document of the place is handed over, where there is one.
-abbrev pub IsPlaceHandedOver : List ℕ → Result (Option Place) Error → List ℕ → List ℕ → ℕ → ℕ → Type 0
-IsPlaceHandedOver bytes (Ok (Some place)) before after told status = IsHandedOver (entry_document (entry_there bytes place)) before after told status
+abbrev pub IsPlaceHandedOver : List ℕ → Result (Option Place) Error → List ℕ → List ℕ → ℕ → ℕ
+    → Type 0
+IsPlaceHandedOver bytes (Ok (Some place)) before after told status =
+    IsHandedOver (entry_document (entry_there bytes place)) before after told status
 IsPlaceHandedOver bytes (Ok None) before after told status = IsRefused none before after told status
-IsPlaceHandedOver bytes (Err e) before after told status = IsRefused (code e) before after told status
+IsPlaceHandedOver bytes (Err e) before after told status =
+    IsRefused (code e) before after told status
 
--- Both answers were copied; or else one of the rooms is too small, and both are as they were. Either way both lengths are told.
+-- Both answers were copied; or else one of the rooms is too small, and both are as they were.
+-- Either way both lengths are told.
 abbrev pub AreHandedOver : List ℕ → List ℕ → List ℕ → ℕ → List ℕ → List ℕ → List ℕ → ℕ → ℕ → Type 0
 AreHandedOver key key_before key_after key_told answer before after told status =
     (key_told ≡ length key)
     × ((told ≡ length answer)
     × (((status ≡ 0) × (IsCopied key key_before key_after × IsCopied answer before after))
-    ⊎ ((status ≡ no_room) × (((length key_before < length key) ⊎ (length before < length answer)) × ((key_after ≡ key_before) × (after ≡ before))))))
+    ⊎ ((status ≡ no_room)
+    × (((length key_before < length key) ⊎ (length before < length answer))
+    × ((key_after ≡ key_before) × (after ≡ before))))))
 
 -- A key and the document of its value are handed over, where there are such places.
-abbrev pub IsMemberHandedOver : List ℕ → Result (Option (Place × Place)) Error → List ℕ → List ℕ → ℕ → List ℕ → List ℕ → ℕ → ℕ → Type 0
+abbrev pub IsMemberHandedOver : List ℕ → Result (Option (Place × Place)) Error → List ℕ → List ℕ → ℕ
+    → List ℕ → List ℕ → ℕ → ℕ → Type 0
 IsMemberHandedOver bytes (Ok (Some places)) key_before key_after key_told before after told status =
-    AreHandedOver (entry_there bytes places.0).payload key_before key_after key_told (entry_document (entry_there bytes places.1)) before after told status
+    AreHandedOver (entry_there bytes places.0).payload key_before key_after key_told
+    (entry_document (entry_there bytes places.1)) before after told status
 IsMemberHandedOver bytes (Ok None) key_before key_after key_told before after told status =
     IsRefused none key_before key_after key_told status × IsRefused none before after told status
 IsMemberHandedOver bytes (Err e) key_before key_after key_told before after told status =
-    IsRefused (code e) key_before key_after key_told status × IsRefused (code e) before after told status
+    IsRefused (code e) key_before key_after key_told status
+    × IsRefused (code e) before after told status
 
--- On a document, the place is that of the entry that stands there: of an array an item's, by its index,
+-- On a document, the place is that of the entry that stands there: of an array an item's, by its
+-- index,
 abbrev pub IsItemPlace : List ℕ → Tree → ℕ → Result (Option Place) Error → Type 0
 IsItemPlace b (array ts) index found =
-    (entries : List Entry) × (HasItems b ts entries × ((o : Option Place) × ((found ≡ Ok o) × (option_map (entry_there b) o ≡ slice_get entries index))))
+    (entries : List Entry)
+    × (HasItems b ts entries
+    × ((o : Option Place)
+    × ((found ≡ Ok o) × (option_map (entry_there b) o ≡ slice_get entries index))))
 IsItemPlace b t index found = found ≡ Ok None
 
 -- and of an object a member's, its key and its value.
@@ -149,5 +178,8 @@ member_there b places = ((entry_there b places.0).payload, entry_there b places.
 
 abbrev pub AreMemberPlaces : List ℕ → Tree → ℕ → Result (Option (Place × Place)) Error → Type 0
 AreMemberPlaces b (object ps) index found =
-    (members : List (List ℕ × Entry)) × (HasMembers b ps members × ((o : Option (Place × Place)) × ((found ≡ Ok o) × (option_map (member_there b) o ≡ slice_get members index))))
+    (members : List (List ℕ × Entry))
+    × (HasMembers b ps members
+    × ((o : Option (Place × Place))
+    × ((found ≡ Ok o) × (option_map (member_there b) o ≡ slice_get members index))))
 AreMemberPlaces b t index found = found ≡ Ok None

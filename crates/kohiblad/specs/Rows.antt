@@ -9,7 +9,8 @@ are_ends size start (end ∷ ends) = nat_le start end && (nat_le end size && are
 -- the rows, the first beginning at a place, and each where the one before ends
 abbrev pub rows_from : List ℕ → ℕ → List ℕ → List (List ℕ)
 rows_from bytes start [] = []
-rows_from bytes start (end ∷ ends) = take (end - start) (drop start bytes) ∷ rows_from bytes end ends
+rows_from bytes start (end ∷ ends) =
+    take (end - start) (drop start bytes) ∷ rows_from bytes end ends
 
 -- the rows of the bytes
 abbrev pub rows : List ℕ → List ℕ → List (List ℕ)

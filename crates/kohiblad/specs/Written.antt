@@ -11,21 +11,29 @@ use Rattle.kohiblad.specs.TextDepth.{text_depth}
 
 -- The text is handed over, or memory is refused.
 abbrev pub IsWritten : List ℕ → List ℕ → List ℕ → ℕ → ℕ → Type 0
-IsWritten text before after told status = IsHandedOver text before after told status ⊎ IsRefused (code errors.OutOfMemory) before after told status
+IsWritten text before after told status = IsHandedOver text before after told status
+    ⊎ IsRefused (code errors.OutOfMemory) before after told status
 
--- The canonical document of the tree that the bytes mean is handed over; or there is none; or there is one, and memory is refused.
+-- The canonical document of the tree that the bytes mean is handed over; or there is none; or there
+-- is one, and memory is refused.
 abbrev pub IsRewritten : List ℕ → List ℕ → List ℕ → ℕ → ℕ → Type 0
 IsRewritten bytes before after told status =
     ((t : Tree) × (Doc bytes t × (Fits t × IsHandedOver (canon t) before after told status)))
-    ⊎ ((((t : Tree) → Doc bytes t → Fits t → ⊥) × IsRefused (code errors.InvalidJsonb) before after told status)
-    ⊎ (((t : Tree) × (Doc bytes t × Fits t)) × IsRefused (code errors.OutOfMemory) before after told status))
+    ⊎ ((((t : Tree) → Doc bytes t → Fits t → ⊥)
+    × IsRefused (code errors.InvalidJsonb) before after told status)
+    ⊎ (((t : Tree) × (Doc bytes t × Fits t))
+    × IsRefused (code errors.OutOfMemory) before after told status))
 
--- The canonical document of a text's tree is handed over; or the text is no JSON; or its tree has no canonical document; or memory is refused.
+-- The canonical document of a text's tree is handed over; or the text is no JSON; or its tree has
+-- no canonical document; or memory is refused.
 abbrev pub IsRead : List ℕ → List ℕ → List ℕ → ℕ → ℕ → Type 0
 IsRead text before after told status =
-    ((t : Tree) × (Json (chars text) t × (Fits t × IsHandedOver (canon t) before after told status)))
-    ⊎ ((((t : Tree) → Json (chars text) t → ⊥) × IsRefused (code errors.InvalidJson) before after told status)
-    ⊎ (((t : Tree) × (Json (chars text) t × (Fits t → ⊥))) × IsRefused (code errors.InvalidJsonb) before after told status)
+    ((t : Tree)
+    × (Json (chars text) t × (Fits t × IsHandedOver (canon t) before after told status)))
+    ⊎ ((((t : Tree) → Json (chars text) t → ⊥)
+    × IsRefused (code errors.InvalidJson) before after told status)
+    ⊎ (((t : Tree) × (Json (chars text) t × (Fits t → ⊥)))
+    × IsRefused (code errors.InvalidJsonb) before after told status)
     ⊎ IsRefused (code errors.OutOfMemory) before after told status)
 
 -- The same of any bytes as a text: what is no UTF-8 is refused,

@@ -7,7 +7,7 @@ ghost use Rattle.std.specs.Str.{bytes_eq};
 ghost use Rattle.jsonb.specs.Building.{FitArray, AreTexts};
 ghost use Rattle.jsonb.specs.Built.{IsArrayOfInputs, IsObjectOfInputs, MakeNoObject};
 ghost use Rattle.jsonb.specs.Owned.{owned_bytes};
-ghost use Rattle.jsonb.specs.Shown.{raw};
+ghost use Rattle.jsonb.specs.ItemView.{raw};
 ghost use Rattle.kohiblad.specs.Built.{IsArrayOfRows, IsObjectOfRows};
 ghost use Rattle.kohiblad.specs.Rows.{pairs_in};
 

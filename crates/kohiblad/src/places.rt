@@ -7,7 +7,10 @@ ghost use Rattle.std.specs.Str.{IsUtf8};
 ghost use Rattle.kohiblad.specs.Answered.{code, IsHandedOver, IsRefused};
 ghost use Rattle.jsonb_value.specs.Tree.{Tree};
 ghost use Rattle.jsonb_codec.specs.Doc.{Doc};
-ghost use Rattle.kohiblad.specs.Places.{IsItemPlace, AreMemberPlaces, part_place, place_in, item_place, IsPlaceFound, IsPlaceIn, IsInside, AreInside, member_places, IsMemberHandedOver, told_place, entry_there, entry_document, IsPlaceHandedOver};
+ghost use Rattle.kohiblad.specs.Places.{IsItemPlace, AreMemberPlaces, part_place, place_in};
+ghost use Rattle.kohiblad.specs.Places.{item_place, IsPlaceFound, IsPlaceIn, IsInside, AreInside};
+ghost use Rattle.kohiblad.specs.Places.{member_places, IsMemberHandedOver, told_place, entry_there};
+ghost use Rattle.kohiblad.specs.Places.{entry_document, IsPlaceHandedOver};
 
 use crate::answer::{NO_ROOM, NONE, OK, code, hand_over, hand_over_scalar, refuse};
 use jsonb::{Error, RawJsonb, Reads, read_header, read_jentry};

@@ -1,6 +1,7 @@
 //! Rows of bytes that stand one behind another.
 
-ghost use Rattle.std.specs.Prelude.{◌≡◌, ◌∷◌, [], ℕ, List, length, IfOk, IfErr, IsTrue, MatchOption, is_ok};
+ghost use Rattle.std.specs.Prelude.{◌≡◌, ◌∷◌, [], ℕ, List, length, IfOk, IfErr, IsTrue};
+ghost use Rattle.std.specs.Prelude.{MatchOption, is_ok};
 ghost use Rattle.kohiblad.specs.Rows.{are_ends, rows_from, rows, pairs_in};
 
 use jsonb::Error;

@@ -6,7 +6,7 @@ ghost use Rattle.jsonb_codec.specs.Doc.{Doc};
 ghost use Rattle.jsonb.specs.Lookup.{IsItemFound};
 ghost use Rattle.jsonb.specs.Node.{value_of_key};
 ghost use Rattle.jsonb.specs.Raw.{raw_bytes};
-ghost use Rattle.jsonb.specs.Shown.{shown};
+ghost use Rattle.jsonb.specs.ItemView.{item_view};
 
 use jsonb::{Error, JsonbItem, RawJsonb};
 
@@ -14,7 +14,7 @@ use jsonb::{Error, JsonbItem, RawJsonb};
 pub fn name_of(row: RawJsonb<'_>) -> Result<Option<JsonbItem<'_>>, Error>
     ensures { (t : Tree) → Doc (raw_bytes row.entry) t
         → IsOkAnd result (λ item. IsItemFound (value_of_key (codes "name") t)
-        (option_map shown item)) }
+        (option_map item_view item)) }
 {
     row.get_object_value_by_key_name("name", |name, key| name == key)
 }

@@ -4,7 +4,7 @@ ghost use Rattle.std.specs.Prelude.{IsOkAnd, IsSomeAnd};
 ghost use Rattle.jsonb_value.specs.Tree.{Tree, Trees, array, tree};
 ghost use Rattle.jsonb_codec.specs.Doc.{Doc};
 ghost use Rattle.jsonb.specs.Raw.{raw_bytes};
-ghost use Rattle.jsonb.specs.Shown.{shown};
+ghost use Rattle.jsonb.specs.ItemView.{item_view};
 ghost use Rattle.jsonb.specs.Walked.{IsItemOf};
 
 use jsonb::{ArrayIterator, Error, JsonbItem, RawJsonb};
@@ -12,7 +12,7 @@ use jsonb::{ArrayIterator, Error, JsonbItem, RawJsonb};
 /// The first item of an array, borrowed from its bytes. `None` of all else.
 pub fn first_item(raw: RawJsonb<'_>) -> Result<Option<JsonbItem<'_>>, Error>
     ensures { (t : Tree) (ts : Trees) → Doc (raw_bytes raw.entry) (array (tree t ts))
-        → IsOkAnd result (λ first. IsSomeAnd first (λ item. IsItemOf t (shown item))) }
+        → IsOkAnd result (λ first. IsSomeAnd first (λ item. IsItemOf t (item_view item))) }
 {
     match ArrayIterator::new(raw)? {
         Some(mut items) => items.next().transpose(),

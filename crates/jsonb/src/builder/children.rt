@@ -1,9 +1,10 @@
 //! What is stored in a container that is built: items, and an object's keys.
 
-ghost use Rattle.std.specs.Prelude.{◌≡◌, ◌↔◌, ◌∷◌, [], length, IsTrue, IfOk, IfErr, OnErr, MatchOption, OnOk};
-ghost use Rattle.jsonb.specs.Code.{shown_code};
+ghost use Rattle.std.specs.Prelude.{◌≡◌, ◌↔◌, ◌∷◌, [], length, IsTrue, IfOk, IfErr, OnErr};
+ghost use Rattle.std.specs.Prelude.{MatchOption, OnOk};
+ghost use Rattle.jsonb.specs.Code.{code_view};
 ghost use Rattle.jsonb.specs.Stored.{code_of, IsStored, IsStorable, IsHeld};
-ghost use Rattle.jsonb.specs.Children.{child_shown, children_shown};
+ghost use Rattle.jsonb.specs.Children.{child_view, children_views};
 
 use crate::code::{Code, item_code, text_code};
 use crate::item::JsonbItem;
@@ -30,8 +31,8 @@ impl<'s, 'a> Children<'s, 'a> {
     /// The first child, and the others.
     #[inline(always)]
     pub fn split_first(self) -> Option<(Child<'s, 'a>, Children<'s, 'a>)>
-        ensures { MatchOption result (children_shown self.entry ≡ [])
-            (λ x. children_shown self.entry ≡ child_shown x.0 ∷ children_shown x.1) }
+        ensures { MatchOption result (children_views self.entry ≡ [])
+            (λ x. children_views self.entry ≡ child_view x.0 ∷ children_views x.1) }
     {
         match self {
             Children::Items([first, rest @ ..]) => {
@@ -55,10 +56,10 @@ impl<'s, 'a> Child<'s, 'a> {
     /// for a payload past its limit.
     #[inline(always)]
     pub fn measure(self) -> Result<usize, Error>
-        ensures ok { IfOk result (λ n. IsStorable (child_shown self.entry)
-            × (n ≡ length (code_of (child_shown self.entry)).payload)) }
-        ensures held { OnOk result (IsHeld (child_shown self.entry)) }
-        ensures err { OnErr result (IsStorable (child_shown self.entry) → ⊥) }
+        ensures ok { IfOk result (λ n. IsStorable (child_view self.entry)
+            × (n ≡ length (code_of (child_view self.entry)).payload)) }
+        ensures held { OnOk result (IsHeld (child_view self.entry)) }
+        ensures err { OnErr result (IsStorable (child_view self.entry) → ⊥) }
         ensures only { IfErr result (λ e. e ≡ Error.InvalidJsonb) }
     {
         if !self.is_stored() {
@@ -74,7 +75,7 @@ impl<'s, 'a> Child<'s, 'a> {
     // Whether there is an entry to store: bytes must be a document.
     #[inline(always)]
     fn is_stored(self) -> bool
-        ensures { IsTrue result ↔ IsStored (child_shown self.entry) }
+        ensures { IsTrue result ↔ IsStored (child_view self.entry) }
     {
         match self {
             Child::Item(JsonbItem::Raw(raw)) => raw.is_document(),
@@ -86,8 +87,8 @@ impl<'s, 'a> Child<'s, 'a> {
     /// The type of the entry, and the payload.
     #[inline(always)]
     pub fn code(self) -> Code<'s>
-        ensures code { shown_code result ≡ code_of (child_shown self.entry) }
-        ensures held { IsHeld (child_shown self.entry) }
+        ensures code { code_view result ≡ code_of (child_view self.entry) }
+        ensures held { IsHeld (child_view self.entry) }
     {
         match self {
             Child::Key(key) => text_code(key),

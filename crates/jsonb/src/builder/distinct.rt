@@ -1,15 +1,17 @@
 //! An array of distinct items, and how often each came.
 
-ghost use Rattle.std.specs.Prelude.{◌≡◌, ◌≢◌, ◌⊎◌, ◌↔◌, ◌+◌, ◌<◌, [], true, false, map, is_some, Err, IsSome, IsOk, IfOk, IfErr, OnOk, OnErr};
+ghost use Rattle.std.specs.Prelude.{◌≡◌, ◌≢◌, ◌⊎◌, ◌↔◌, ◌+◌, ◌<◌, [], true, false, map, is_some};
+ghost use Rattle.std.specs.Prelude.{Err, IsSome, IsOk, IfOk, IfErr, OnOk, OnErr};
 ghost use Rattle.jsonb_value.specs.Tree.{Trees};
 ghost use Rattle.jsonb.specs.declared.item.JsonbItem.{JsonbItem};
 ghost use Rattle.jsonb.specs.Raw.{raw_bytes};
 ghost use Rattle.jsonb.specs.Owned.{owned_bytes};
-ghost use Rattle.jsonb.specs.Shown.{shown};
-ghost use Rattle.jsonb.specs.Shown as items;
+ghost use Rattle.jsonb.specs.ItemView.{item_view};
+ghost use Rattle.jsonb.specs.ItemView as items;
 ghost use Rattle.jsonb.specs.Building.{FitArray, IsArrayOf};
 ghost use Rattle.jsonb.specs.Built.{AllMean, IsArrayUpToZeros};
-ghost use Rattle.jsonb.specs.Tally.{Tally, has_equal, count_at, SetsCount, Lists, count_of, list_with, CountsOneMore, CountsOneLess};
+ghost use Rattle.jsonb.specs.Tally.{Tally, has_equal, count_at, SetsCount, Lists, count_of};
+ghost use Rattle.jsonb.specs.Tally.{list_with, CountsOneMore, CountsOneLess};
 
 use super::write::array_document;
 use crate::item::JsonbItem;
@@ -31,16 +33,17 @@ pub struct ArrayDistinctBuilder<'a> {
 impl<'a> Model for ArrayDistinctBuilder<'a> {
     ghost Value = { Tally };
 
-    ghost view = { λ s. record { list = map shown s.list.items; counts = s.counts.entries } };
+    ghost view = { λ s. record { list = map item_view s.list.items; counts = s.counts.entries } };
 
-    ghost invariant = { λ s. Lists (map shown s.list.items) s.counts.entries };
+    ghost invariant = { λ s. Lists (map item_view s.list.items) s.counts.entries };
 }
 
 impl<'a> ArrayDistinctBuilder<'a> {
     /// A builder of no items, with room in its list for so many. Only memory can be refused.
     pub fn new(alloc: Global, capacity: usize) -> Result<Self, Error>
         ensures list { IfOk result (λ builder. builder.list ≡ []) }
-        ensures counts { IfOk result (λ builder. (x : JsonbItem) → count_of builder (shown x) ≡ 0) }
+        ensures counts { IfOk result
+            (λ builder. (x : JsonbItem) → count_of builder (item_view x) ≡ 0) }
         ensures memory { IfErr result (λ e. e ≡ Error.OutOfMemory) }
     {
         Ok(ArrayDistinctBuilder {
@@ -54,11 +57,13 @@ impl<'a> ArrayDistinctBuilder<'a> {
     /// After a refusal the builder is as before, and the item is dropped.
     #[tactic(auto, using(crate::proofs::Classes::lookup_same, crate::proofs::Classes::has_equal_same))]
     pub fn push_jsonb_item(&mut self, item: JsonbItem<'a>) -> Result<(), Error>
-        ensures list { OnOk result (self.new.list ≡ list_with self.old.list (shown item.entry)) }
-        ensures counts { OnOk result (CountsOneMore self.old self.new (shown item.entry)) }
-        ensures unlisted { has_equal self.old.list (shown item.entry) ≡ false
-            → count_of self.old (shown item.entry) ≡ 0 }
-        ensures full { (result ≡ Err Error.InvalidJsonb) ↔ (count_of self.old (shown item.entry) ≡ usize.MAX) }
+        ensures list { OnOk result
+            (self.new.list ≡ list_with self.old.list (item_view item.entry)) }
+        ensures counts { OnOk result (CountsOneMore self.old self.new (item_view item.entry)) }
+        ensures unlisted { has_equal self.old.list (item_view item.entry) ≡ false
+            → count_of self.old (item_view item.entry) ≡ 0 }
+        ensures full { (result ≡ Err Error.InvalidJsonb)
+            ↔ (count_of self.old (item_view item.entry) ≡ usize.MAX) }
         ensures err { OnErr result (self.new ≡ self.old) }
         ensures only { IfErr result (λ e. (e ≡ Error.InvalidJsonb) ⊎ (e ≡ Error.OutOfMemory)) }
     {
@@ -77,8 +82,10 @@ impl<'a> ArrayDistinctBuilder<'a> {
 
     /// Counts these bytes, as `push_jsonb_item` does the item of them.
     pub fn push_raw_jsonb(&mut self, raw: RawJsonb<'a>) -> Result<(), Error>
-        ensures list { OnOk result (self.new.list ≡ list_with self.old.list (items.raw (raw_bytes raw.entry))) }
-        ensures counts { OnOk result (CountsOneMore self.old self.new (items.raw (raw_bytes raw.entry))) }
+        ensures list { OnOk result
+            (self.new.list ≡ list_with self.old.list (items.raw (raw_bytes raw.entry))) }
+        ensures counts { OnOk result
+            (CountsOneMore self.old self.new (items.raw (raw_bytes raw.entry))) }
         ensures unlisted { has_equal self.old.list (items.raw (raw_bytes raw.entry)) ≡ false
             → count_of self.old (items.raw (raw_bytes raw.entry)) ≡ 0 }
         ensures full { (result ≡ Err Error.InvalidJsonb)
@@ -93,9 +100,9 @@ impl<'a> ArrayDistinctBuilder<'a> {
     /// The list stays as it is. No memory is asked for.
     #[tactic(auto, using(crate::proofs::Classes::lookup_same, crate::proofs::Classes::has_equal_same))]
     pub fn pop_jsonb_item(&mut self, item: JsonbItem<'a>) -> Option<()>
-        ensures known { IsSome result ↔ (count_of self.old (shown item.entry) ≢ 0) }
+        ensures known { IsSome result ↔ (count_of self.old (item_view item.entry) ≢ 0) }
         ensures list { self.new.list ≡ self.old.list }
-        ensures counts { CountsOneLess self.old self.new (shown item.entry) }
+        ensures counts { CountsOneLess self.old self.new (item_view item.entry) }
     {
         let count = count_in(&self.counts, &item)?.checked_sub(1)?;
         match set_count(&mut self.counts, item, count) {
@@ -130,7 +137,7 @@ impl<'a> ArrayDistinctBuilder<'a> {
 
 // How often the item's equals came, where one did.
 fn count_in<'a>(counts: &BTreeMap<JsonbItem<'a>, usize>, item: &JsonbItem<'a>) -> Option<usize>
-    ensures { result ≡ count_at counts.now.entries (shown item.now) }
+    ensures { result ≡ count_at counts.now.entries (item_view item.now) }
 {
     counts.get(item).copied()
 }
@@ -142,9 +149,10 @@ fn set_count<'a>(
     count: usize,
 ) -> Result<(), Error>
     ensures set { OnOk result
-        (SetsCount counts.old.entries counts.new.entries (shown item.entry) count) }
+        (SetsCount counts.old.entries counts.new.entries (item_view item.entry) count) }
     ensures err { OnErr result (counts.new.entries ≡ counts.old.entries) }
-    ensures known { is_some (count_at counts.old.entries (shown item.entry)) ≡ true → IsOk result }
+    ensures known { is_some (count_at counts.old.entries (item_view item.entry)) ≡ true
+        → IsOk result }
     ensures memory { IfErr result (λ e. e ≡ Error.OutOfMemory) }
 {
     counts.insert(item, count)?;

@@ -1,13 +1,16 @@
 //! Arrays and objects, measured first and then written front to back into one growth.
 
-ghost use Rattle.std.specs.Prelude.{◌≡◌, ◌≤◌, ◌<◌, ◌+◌, ◌^◌, length, map, IfOk, IfErr, OnOk, OnErr, Err, ◌⊎◌};
-ghost use Rattle.jsonb_codec.specs.Room.{HasRoom, Appended};
+ghost use Rattle.std.specs.Prelude.{◌≡◌, ◌≤◌, ◌<◌, ◌+◌, ◌^◌, length, map, IfOk, IfErr, OnOk, OnErr};
+ghost use Rattle.std.specs.Prelude.{Err, ◌⊎◌};
+ghost use Rattle.jsonb_codec.specs.Room.{HasRoom, AppendsBytes};
 ghost use Rattle.jsonb.specs.Owned.{owned_bytes};
-ghost use Rattle.jsonb.specs.Shown.{shown};
+ghost use Rattle.jsonb.specs.ItemView.{item_view};
 ghost use Rattle.jsonb.specs.Stored.{codes_of, AreStorable, AreHeld};
-ghost use Rattle.jsonb.specs.Building.{code_entries, code_payloads, array_of, FitArray, IsArrayOf, FitObject, IsObjectOf, AreKeys};
+ghost use Rattle.jsonb.specs.Building.{code_entries, code_payloads, array_of, FitArray, IsArrayOf};
+ghost use Rattle.jsonb.specs.Building.{FitObject, IsObjectOf, AreKeys};
 ghost use Rattle.std.specs.Map.{keys_of, values_of};
-ghost use Rattle.jsonb.specs.Children.{children_shown, pairs_shown, key_texts, value_items, object_parts};
+ghost use Rattle.jsonb.specs.Children.{children_views, pair_views, key_texts, value_items};
+ghost use Rattle.jsonb.specs.Children.{object_parts};
 
 use super::children::Children;
 use crate::code::append_word;
@@ -23,10 +26,10 @@ use std::collections::BTreeMap;
 /// The array of these items' entries. `InvalidJsonb` where an item has none, or a payload or the
 /// count is past its limit, before memory is asked for.
 pub fn array_document(alloc: Global, items: &[JsonbItem]) -> Result<OwnedJsonb, Error>
-    ensures ok { IfOk result (λ owned. IsArrayOf (map shown items.now) (owned_bytes owned)) }
-    ensures held { OnOk result (AreHeld (map shown items.now)) }
-    ensures past { result ≡ Err Error.InvalidJsonb → FitArray (map shown items.now) → ⊥ }
-    ensures memory { result ≡ Err Error.OutOfMemory → FitArray (map shown items.now) }
+    ensures ok { IfOk result (λ owned. IsArrayOf (map item_view items.now) (owned_bytes owned)) }
+    ensures held { OnOk result (AreHeld (map item_view items.now)) }
+    ensures past { result ≡ Err Error.InvalidJsonb → FitArray (map item_view items.now) → ⊥ }
+    ensures memory { result ≡ Err Error.OutOfMemory → FitArray (map item_view items.now) }
     ensures only { IfErr result (λ e. (e ≡ Error.InvalidJsonb) ⊎ (e ≡ Error.OutOfMemory)) }
 {
     let size = measure_array(items)?;
@@ -40,11 +43,11 @@ pub fn array_document(alloc: Global, items: &[JsonbItem]) -> Result<OwnedJsonb, 
 
 // The length of the array.
 fn measure_array(items: &[JsonbItem]) -> Result<usize, Error>
-    ensures held { OnOk result (AreHeld (map shown items.now)) }
-    ensures ok { IfOk result (λ n. n ≡ length (array_of (codes_of (map shown items.now)))) }
-    ensures storable { OnOk result (AreStorable (map shown items.now)) }
-    ensures few { OnOk result (length (map shown items.now) < 2 ^ 29) }
-    ensures err { OnErr result (FitArray (map shown items.now) → ⊥) }
+    ensures held { OnOk result (AreHeld (map item_view items.now)) }
+    ensures ok { IfOk result (λ n. n ≡ length (array_of (codes_of (map item_view items.now)))) }
+    ensures storable { OnOk result (AreStorable (map item_view items.now)) }
+    ensures few { OnOk result (length (map item_view items.now) < 2 ^ 29) }
+    ensures err { OnErr result (FitArray (map item_view items.now) → ⊥) }
     ensures only { IfErr result (λ e. e ≡ Error.InvalidJsonb) }
 {
     let count = items.len();
@@ -60,11 +63,12 @@ pub fn object_document<'a>(
     alloc: Global,
     pairs: &BTreeMap<&'a str, JsonbItem<'a>>,
 ) -> Result<OwnedJsonb, Error>
-    ensures ok { IfOk result (λ owned. IsObjectOf (pairs_shown pairs.now.entries) (owned_bytes owned)) }
-    ensures held { OnOk result (AreHeld (values_of (pairs_shown pairs.now.entries))) }
-    ensures keys { OnOk result (AreKeys (keys_of (pairs_shown pairs.now.entries))) }
-    ensures past { result ≡ Err Error.InvalidJsonb → FitObject (pairs_shown pairs.now.entries) → ⊥ }
-    ensures memory { result ≡ Err Error.OutOfMemory → FitObject (pairs_shown pairs.now.entries) }
+    ensures ok { IfOk result
+        (λ owned. IsObjectOf (pair_views pairs.now.entries) (owned_bytes owned)) }
+    ensures held { OnOk result (AreHeld (values_of (pair_views pairs.now.entries))) }
+    ensures keys { OnOk result (AreKeys (keys_of (pair_views pairs.now.entries))) }
+    ensures past { result ≡ Err Error.InvalidJsonb → FitObject (pair_views pairs.now.entries) → ⊥ }
+    ensures memory { result ≡ Err Error.OutOfMemory → FitObject (pair_views pairs.now.entries) }
     ensures only { IfErr result (λ e. (e ≡ Error.InvalidJsonb) ⊎ (e ≡ Error.OutOfMemory)) }
 {
     let size = measure_object(pairs)?;
@@ -80,13 +84,16 @@ pub fn object_document<'a>(
 
 // The length of the object.
 fn measure_object<'a>(pairs: &BTreeMap<&'a str, JsonbItem<'a>>) -> Result<usize, Error>
-    ensures ok { IfOk result (λ n. n ≡ length (object_parts (length pairs.now.entries) (key_texts pairs.now.entries) (value_items pairs.now.entries))) }
+    ensures ok { IfOk result
+        (λ n. n ≡ length
+        (object_parts (length pairs.now.entries) (key_texts pairs.now.entries)
+        (value_items pairs.now.entries))) }
     ensures held_keys { OnOk result (AreHeld (key_texts pairs.now.entries)) }
     ensures held { OnOk result (AreHeld (value_items pairs.now.entries)) }
     ensures keys { OnOk result (AreStorable (key_texts pairs.now.entries)) }
     ensures values { OnOk result (AreStorable (value_items pairs.now.entries)) }
     ensures few { OnOk result (length pairs.now.entries < 2 ^ 29) }
-    ensures err { OnErr result (FitObject (pairs_shown pairs.now.entries) → ⊥) }
+    ensures err { OnErr result (FitObject (pair_views pairs.now.entries) → ⊥) }
     ensures only { IfErr result (λ e. e ≡ Error.InvalidJsonb) }
 {
     let count = pairs.len();
@@ -101,12 +108,13 @@ fn measure_object<'a>(pairs: &BTreeMap<&'a str, JsonbItem<'a>>) -> Result<usize,
 // The length of all payloads.
 #[inline(always)]
 fn measure_payloads(children: Children<'_, '_>) -> Result<usize, Error>
-    requires { length (children_shown children) < 2 ^ 29 }
-    ensures ok { IfOk result (λ n. n ≡ length (code_payloads (codes_of (children_shown children.entry)))) }
+    requires { length (children_views children) < 2 ^ 29 }
+    ensures ok { IfOk result
+        (λ n. n ≡ length (code_payloads (codes_of (children_views children.entry)))) }
     ensures small { IfOk result (λ n. n ≤ 2 ^ 57) }
-    ensures storable { OnOk result (AreStorable (children_shown children.entry)) }
-    ensures held { OnOk result (AreHeld (children_shown children.entry)) }
-    ensures err { OnErr result (AreStorable (children_shown children.entry) → ⊥) }
+    ensures storable { OnOk result (AreStorable (children_views children.entry)) }
+    ensures held { OnOk result (AreHeld (children_views children.entry)) }
+    ensures err { OnErr result (AreStorable (children_views children.entry) → ⊥) }
     ensures only { IfErr result (λ e. e ≡ Error.InvalidJsonb) }
 {
     let mut total = 0;
@@ -121,9 +129,10 @@ fn measure_payloads(children: Children<'_, '_>) -> Result<usize, Error>
 // The entry words.
 #[inline(always)]
 fn append_entries(out: &mut Vec<u8>, children: Children<'_, '_>)
-    requires storable { AreStorable (children_shown children) }
-    requires room { HasRoom out.old (code_entries (codes_of (children_shown children))) }
-    ensures { Appended out.old out.new (code_entries (codes_of (children_shown children.entry))) }
+    requires storable { AreStorable (children_views children) }
+    requires room { HasRoom out.old (code_entries (codes_of (children_views children))) }
+    ensures { AppendsBytes out.old out.new
+        (code_entries (codes_of (children_views children.entry))) }
 {
     let mut left = children;
     while let Some((child, others)) = left.split_first() {
@@ -135,9 +144,10 @@ fn append_entries(out: &mut Vec<u8>, children: Children<'_, '_>)
 // The payloads.
 #[inline(always)]
 fn append_payloads(out: &mut Vec<u8>, children: Children<'_, '_>)
-    requires storable { AreStorable (children_shown children) }
-    requires room { HasRoom out.old (code_payloads (codes_of (children_shown children))) }
-    ensures { Appended out.old out.new (code_payloads (codes_of (children_shown children.entry))) }
+    requires storable { AreStorable (children_views children) }
+    requires room { HasRoom out.old (code_payloads (codes_of (children_views children))) }
+    ensures { AppendsBytes out.old out.new
+        (code_payloads (codes_of (children_views children.entry))) }
 {
     let mut left = children;
     while let Some((child, others)) = left.split_first() {

@@ -65,7 +65,8 @@ fn cmp_containers(left: Document<'_>, right: Document<'_>) -> Ordering
 #[inline(always)]
 #[cycle(documents)]
 fn cmp_items(mut left: Items<'_>, mut right: Items<'_>) -> Ordering
-    ensures { result ≡ tree_cmp (array_of (trees_left left.entry)) (array_of (trees_left right.entry)) }
+    ensures { result
+        ≡ tree_cmp (array_of (trees_left left.entry)) (array_of (trees_left right.entry)) }
 {
     while let Some(left_item) = left.next() {
         let Some(right_item) = right.next() else {
@@ -87,7 +88,8 @@ fn cmp_items(mut left: Items<'_>, mut right: Items<'_>) -> Ordering
 #[inline(always)]
 #[cycle(documents)]
 fn cmp_members(mut left: Members<'_>, mut right: Members<'_>) -> Ordering
-    ensures { result ≡ tree_cmp (object_of (pairs_left left.entry)) (object_of (pairs_left right.entry)) }
+    ensures { result
+        ≡ tree_cmp (object_of (pairs_left left.entry)) (object_of (pairs_left right.entry)) }
 {
     while let Some((left_key, left_value)) = left.next() {
         let Some((right_key, right_value)) = right.next() else {

@@ -1,6 +1,7 @@
 //! The order of items.
 
-ghost use Rattle.std.specs.Cmp.{on_total, eq_by_cmp_equiv, partial_equiv_from_equiv, partial_order_from_total};
+ghost use Rattle.std.specs.Cmp.{on_total, eq_by_cmp_equiv, partial_equiv_from_equiv};
+ghost use Rattle.std.specs.Cmp.{partial_order_from_total};
 ghost use Rattle.std.specs.Cmp.Rules.{comparing};
 ghost use Rattle.std.specs.Ordering.{on, eq_by_cmp, as_partial_cmp};
 ghost use Rattle.std.proofs.Common.{rules};
@@ -15,7 +16,8 @@ use std::cmp::Ordering;
 impl PartialEq for JsonbItem<'_> {
     ghost eq = { eq_by_cmp (on item_meaning meaning_cmp) };
 
-    ghost laws = { partial_equiv_from_equiv (eq_by_cmp_equiv (on_total item_meaning meaning_cmp_total)) };
+    ghost laws = { partial_equiv_from_equiv
+        (eq_by_cmp_equiv (on_total item_meaning meaning_cmp_total)) };
 
     fn eq(&self, other: &Self) -> bool {
         self.cmp(other).is_eq()

@@ -5,13 +5,15 @@
 //! what is left. So at each level less than twice all but the largest child is measured, and a
 //! document in time n log n.
 
-ghost use Rattle.std.specs.Prelude.{◌≡◌, ◌<◌, ◌≤◌, ◌^◌, ◌+◌, ◌++◌, ◌↔◌, ◌⊎◌, length, vec_capacity, Err, IsOk, IfSome, IfNone, IfErr, OnOk, OnErr};
+ghost use Rattle.std.specs.Prelude.{◌≡◌, ◌<◌, ◌≤◌, ◌^◌, ◌+◌, ◌++◌, ◌↔◌, ◌⊎◌, length, vec_capacity};
+ghost use Rattle.std.specs.Prelude.{Err, IsOk, IfSome, IfNone, IfErr, OnOk, OnErr};
 ghost use Rattle.jsonb_value.specs.Tree.{Tree, Trees};
 ghost use Rattle.jsonb_value.specs.WellFormed.{IsTree};
 ghost use Rattle.jsonb_codec.specs.Doc.{Doc, IsDocument};
-ghost use Rattle.jsonb_codec.specs.Canon.{payload_of, entry_word, entries_of, payloads_of, canon, AllFit, FitsInside, FitsEntry, Fits};
+ghost use Rattle.jsonb_codec.specs.Canon.{payload_of, entry_word, entries_of, payloads_of, canon};
+ghost use Rattle.jsonb_codec.specs.Canon.{AllFit, FitsInside, FitsEntry, Fits};
 ghost use Rattle.jsonb_codec.specs.Contents.{Means, AreChildren};
-ghost use Rattle.jsonb_codec.specs.Room.{HasRoom, Appended, Stands};
+ghost use Rattle.jsonb_codec.specs.Room.{HasRoom, AppendsBytes, Stands};
 ghost use Rattle.jsonb_codec.specs.Rewriting.{LeavesTo};
 
 use crate::constants::{CONTAINER_TAG, EXTENSION_TAG, NUMBER_TAG, SCALAR_CONTAINER_TAG};
@@ -137,7 +139,7 @@ fn append_document(out: &mut Vec<u8>, whole: Part<'_>, size: usize)
     requires size { (t : Tree) → Means whole t
         → size ≡ length (canon t) }
     ensures { (t : Tree) → Means whole.entry t
-        → Appended out.old out.new (canon t) }
+        → AppendsBytes out.old out.new (canon t) }
 {
     if whole.tag == CONTAINER_TAG {
         append_container(out, whole, size);
@@ -156,7 +158,7 @@ fn append_entry(out: &mut Vec<u8>, part: Part<'_>, size: usize)
     requires size { (t : Tree) → Means part t
         → size ≡ length (payload_of t) }
     ensures { (t : Tree) → Means part.entry t
-        → Appended out.old out.new (entry_word t) }
+        → AppendsBytes out.old out.new (entry_word t) }
 {
     append_word(out, part.tag + size as u32);
 }
@@ -168,7 +170,7 @@ fn append_payload(out: &mut Vec<u8>, part: Part<'_>, entry: usize)
     requires part { (t : Tree) × (Means part t × (FitsEntry t
         × (Stands entry (entry_word t) out.old.items × HasRoom out.old (payload_of t)))) }
     ensures { (t : Tree) → Means part.entry t
-        → Appended out.old out.new (payload_of t) }
+        → AppendsBytes out.old out.new (payload_of t) }
 {
     match part.tag {
         NUMBER_TAG => append_number(out, part.number()),
@@ -188,7 +190,7 @@ fn append_container(out: &mut Vec<u8>, part: Part<'_>, size: usize)
     requires container { (t : Tree) × (Means part t
         × (FitsInside t × HasRoom out.old (payload_of t))) }
     requires size { (t : Tree) → Means part t → size ≡ length (payload_of t) }
-    ensures { (t : Tree) → Means part.entry t → Appended out.old out.new (payload_of t) }
+    ensures { (t : Tree) → Means part.entry t → AppendsBytes out.old out.new (payload_of t) }
 {
     let container = part.container();
     append_word(out, container.header);
@@ -242,7 +244,7 @@ fn append_entries(out: &mut Vec<u8>, children: Children<'_>, size: usize)
     requires size { (ts : Trees) → AreChildren ts children → size ≡ length (payloads_of ts) }
     requires few { length children.entries.now < 2 ^ 32 }
     ensures { (ts : Trees) → AreChildren ts children.entry
-        → Appended out.old out.new (entries_of ts) }
+        → AppendsBytes out.old out.new (entries_of ts) }
 {
     let mut left = children;
     let mut size_left = size;
@@ -262,7 +264,7 @@ fn append_payloads(out: &mut Vec<u8>, children: Children<'_>, words: usize)
     requires words { (ts : Trees) → AreChildren ts children
         → Stands words (entries_of ts) out.old.items }
     ensures { (ts : Trees) → AreChildren ts children.entry
-        → Appended out.old out.new (payloads_of ts) }
+        → AppendsBytes out.old out.new (payloads_of ts) }
 {
     let mut left = children;
     let mut entry = words;

@@ -11,9 +11,11 @@ ghost use Rattle.jsonb_value.specs.Ast.{asts_view, ast_pairs_view};
 ghost use Rattle.jsonb_value.specs.NumCode.{number_payload};
 ghost use Rattle.jsonb_value.specs.ExtCode.{extension_payload, extension_of};
 ghost use Rattle.jsonb_codec.specs.Word.{word};
-ghost use Rattle.jsonb_codec.specs.Canon.{payload_of, entry_word, entries_of, payloads_of, key_entries, value_entries, key_payloads, value_payloads, canon, AllFit, PairsFit, FitsInside, FitsEntry, Fits};
+ghost use Rattle.jsonb_codec.specs.Canon.{payload_of, entry_word, entries_of, payloads_of};
+ghost use Rattle.jsonb_codec.specs.Canon.{key_entries, value_entries, key_payloads, value_payloads};
+ghost use Rattle.jsonb_codec.specs.Canon.{canon, AllFit, PairsFit, FitsInside, FitsEntry, Fits};
 ghost use Rattle.jsonb_codec.specs.Node.{node_tree, items_trees, object_pairs};
-ghost use Rattle.jsonb_codec.specs.Room.{HasRoom, Appended, Stands};
+ghost use Rattle.jsonb_codec.specs.Room.{HasRoom, AppendsBytes, Stands};
 
 use super::node::{AstPair, Items, Node, Pairs};
 use super::within::{item_size, value_size};
@@ -33,7 +35,7 @@ pub fn append_document(out: &mut Vec<u8>, node: Node<'_, '_>, size: usize)
     requires fits { Fits (node_tree node) }
     requires size { size ≡ length (canon (node_tree node)) }
     requires room { HasRoom out.old (canon (node_tree node)) }
-    ensures { Appended out.old out.new (canon (node_tree node.entry)) }
+    ensures { AppendsBytes out.old out.new (canon (node_tree node.entry)) }
 {
     match node {
         Node::Array(items) => append_array(out, items, size, PLAIN_LEVELS),
@@ -51,7 +53,7 @@ pub fn append_document(out: &mut Vec<u8>, node: Node<'_, '_>, size: usize)
 #[inline(always)]
 pub fn append_bytes(out: &mut Vec<u8>, bytes: &[u8])
     requires { HasRoom out.old bytes.now }
-    ensures { Appended out.old out.new bytes.now }
+    ensures { AppendsBytes out.old out.new bytes.now }
 {
     let Ok(()) = out.extend_from_slice(bytes) else {
         unreachable!();
@@ -63,7 +65,7 @@ pub fn append_bytes(out: &mut Vec<u8>, bytes: &[u8])
 #[inline(always)]
 pub fn append_word(out: &mut Vec<u8>, number: u32)
     requires { HasRoom out.old (word number) }
-    ensures { Appended out.old out.new (word number) }
+    ensures { AppendsBytes out.old out.new (word number) }
 {
     append_bytes(out, &word_bytes(number));
 }
@@ -74,9 +76,9 @@ fn append_entry(out: &mut Vec<u8>, node: Node<'_, '_>, size: usize)
     requires fits { FitsEntry (node_tree node) }
     requires size { size ≡ length (payload_of (node_tree node)) }
     requires room { HasRoom out.old (entry_word (node_tree node)) }
-    ensures { Appended out.old out.new (entry_word (node_tree node.entry)) }
+    ensures { AppendsBytes out.old out.new (entry_word (node_tree node.entry)) }
 {
-    append_word(out, node.entry_type() + size as u32);
+    append_word(out, node.type_code() + size as u32);
 }
 
 /// The length in the entry word that was written at the index.
@@ -99,7 +101,7 @@ fn append_payload(out: &mut Vec<u8>, node: Node<'_, '_>, entry: usize, plain_lev
     requires fits { FitsEntry (node_tree node) }
     requires entry { Stands entry (entry_word (node_tree node)) out.old.items }
     requires room { HasRoom out.old (payload_of (node_tree node)) }
-    ensures { Appended out.old out.new (payload_of (node_tree node.entry)) }
+    ensures { AppendsBytes out.old out.new (payload_of (node_tree node.entry)) }
 {
     match node {
         Node::Null | Node::Bool(_) => (),
@@ -121,7 +123,7 @@ fn append_payload(out: &mut Vec<u8>, node: Node<'_, '_>, entry: usize, plain_lev
 #[inline(always)]
 pub fn append_number(out: &mut Vec<u8>, number: Number)
     requires { HasRoom out.old (number_payload number) }
-    ensures { Appended out.old out.new (number_payload number) }
+    ensures { AppendsBytes out.old out.new (number_payload number) }
 {
     let Ok(_) = number.compact_encode(out) else {
         unreachable!();
@@ -132,7 +134,7 @@ pub fn append_number(out: &mut Vec<u8>, number: Number)
 pub fn append_extension(out: &mut Vec<u8>, value: ExtensionValue<'_>)
     requires fits { length (extension_payload (extension_of value)) < 2 ^ 28 }
     requires room { HasRoom out.old (extension_payload (extension_of value)) }
-    ensures { Appended out.old out.new (extension_payload (extension_of value.entry)) }
+    ensures { AppendsBytes out.old out.new (extension_payload (extension_of value.entry)) }
 {
     let Ok(_) = value.compact_encode(out) else {
         unreachable!();
@@ -146,7 +148,7 @@ fn append_array(out: &mut Vec<u8>, items: Items<'_, '_>, size: usize, plain_leve
     requires fits { FitsInside (array (items_trees items)) }
     requires size { size ≡ length (payload_of (array (items_trees items))) }
     requires room { HasRoom out.old (payload_of (array (items_trees items))) }
-    ensures { Appended out.old out.new (payload_of (array (items_trees items.entry))) }
+    ensures { AppendsBytes out.old out.new (payload_of (array (items_trees items.entry))) }
 {
     match items {
         Items::Values(items) => append_value_items(out, items, size, plain_levels),
@@ -161,7 +163,7 @@ fn append_object(out: &mut Vec<u8>, pairs: Pairs<'_, '_>, size: usize, plain_lev
     requires fits { FitsInside (object (object_pairs pairs)) }
     requires size { size ≡ length (payload_of (object (object_pairs pairs))) }
     requires room { HasRoom out.old (payload_of (object (object_pairs pairs))) }
-    ensures { Appended out.old out.new (payload_of (object (object_pairs pairs.entry))) }
+    ensures { AppendsBytes out.old out.new (payload_of (object (object_pairs pairs.entry))) }
 {
     match pairs {
         Pairs::Values(pairs) => append_value_pairs(out, pairs, size, plain_levels),
@@ -175,7 +177,7 @@ fn append_value_items(out: &mut Vec<u8>, items: &[Value<'_>], size: usize, plain
     requires fits { FitsInside (array (items_view items.now)) }
     requires size { size ≡ length (payload_of (array (items_view items.now))) }
     requires room { HasRoom out.old (payload_of (array (items_view items.now))) }
-    ensures { Appended out.old out.new (payload_of (array (items_view items.now))) }
+    ensures { AppendsBytes out.old out.new (payload_of (array (items_view items.now))) }
 {
     append_items(out, Items::Values(items), size, plain_levels);
 }
@@ -185,7 +187,7 @@ fn append_ast_items(out: &mut Vec<u8>, items: &[JsonAst<'_>], size: usize, plain
     requires fits { FitsInside (array (asts_view items.now)) }
     requires size { size ≡ length (payload_of (array (asts_view items.now))) }
     requires room { HasRoom out.old (payload_of (array (asts_view items.now))) }
-    ensures { Appended out.old out.new (payload_of (array (asts_view items.now))) }
+    ensures { AppendsBytes out.old out.new (payload_of (array (asts_view items.now))) }
 {
     append_items(out, Items::Asts(items), size, plain_levels);
 }
@@ -195,7 +197,7 @@ fn append_value_pairs(out: &mut Vec<u8>, pairs: &Object<'_>, size: usize, plain_
     requires fits { FitsInside (object (pairs_view pairs.now.entries)) }
     requires size { size ≡ length (payload_of (object (pairs_view pairs.now.entries))) }
     requires room { HasRoom out.old (payload_of (object (pairs_view pairs.now.entries))) }
-    ensures { Appended out.old out.new (payload_of (object (pairs_view pairs.now.entries))) }
+    ensures { AppendsBytes out.old out.new (payload_of (object (pairs_view pairs.now.entries))) }
 {
     append_pairs(out, Pairs::Values(pairs), size, plain_levels);
 }
@@ -205,7 +207,7 @@ fn append_ast_pairs(out: &mut Vec<u8>, pairs: &[AstPair<'_>], size: usize, plain
     requires fits { FitsInside (object (ast_pairs_view pairs.now)) }
     requires size { size ≡ length (payload_of (object (ast_pairs_view pairs.now))) }
     requires room { HasRoom out.old (payload_of (object (ast_pairs_view pairs.now))) }
-    ensures { Appended out.old out.new (payload_of (object (ast_pairs_view pairs.now))) }
+    ensures { AppendsBytes out.old out.new (payload_of (object (ast_pairs_view pairs.now))) }
 {
     append_pairs(out, Pairs::Asts(pairs), size, plain_levels);
 }
@@ -217,7 +219,7 @@ fn append_items(out: &mut Vec<u8>, items: Items<'_, '_>, size: usize, plain_leve
     requires fits { FitsInside (array (items_trees items)) }
     requires size { size ≡ length (payload_of (array (items_trees items))) }
     requires room { HasRoom out.old (payload_of (array (items_trees items))) }
-    ensures { Appended out.old out.new (payload_of (array (items_trees items.entry))) }
+    ensures { AppendsBytes out.old out.new (payload_of (array (items_trees items.entry))) }
 {
     let count = items.len();
     append_word(out, ARRAY_CONTAINER_TAG + count as u32);
@@ -232,15 +234,15 @@ fn append_entries(out: &mut Vec<u8>, items: Items<'_, '_>, size: usize, plain_le
     requires fits { FitsInside (array (items_trees items)) }
     requires size { size ≡ length (payloads_of (items_trees items)) }
     requires room { HasRoom out.old (entries_of (items_trees items)) }
-    ensures { Appended out.old out.new (entries_of (items_trees items.entry)) }
+    ensures { AppendsBytes out.old out.new (entries_of (items_trees items.entry)) }
 {
     let mut left = items;
     let mut size_left = size;
     while let Some((item, others)) = left.split_first() {
         // Type and length side by side, so that the code looks at the value's kind once.
-        let entry_type = item.entry_type();
+        let type_code = item.type_code();
         let size = item_size(item, others, size_left, plain_levels);
-        append_word(out, entry_type + size as u32);
+        append_word(out, type_code + size as u32);
         size_left -= size;
         left = others;
     }
@@ -253,7 +255,7 @@ fn append_payloads(out: &mut Vec<u8>, items: Items<'_, '_>, entries: usize, plai
     requires fits { AllFit (items_trees items) }
     requires entries { Stands entries (entries_of (items_trees items)) out.old.items }
     requires room { HasRoom out.old (payloads_of (items_trees items)) }
-    ensures { Appended out.old out.new (payloads_of (items_trees items.entry)) }
+    ensures { AppendsBytes out.old out.new (payloads_of (items_trees items.entry)) }
 {
     let mut left = items;
     let mut entry = entries;
@@ -271,7 +273,7 @@ fn append_pairs(out: &mut Vec<u8>, pairs: Pairs<'_, '_>, size: usize, plain_leve
     requires fits { FitsInside (object (object_pairs pairs)) }
     requires size { size ≡ length (payload_of (object (object_pairs pairs))) }
     requires room { HasRoom out.old (payload_of (object (object_pairs pairs))) }
-    ensures { Appended out.old out.new (payload_of (object (object_pairs pairs.entry))) }
+    ensures { AppendsBytes out.old out.new (payload_of (object (object_pairs pairs.entry))) }
 {
     let count = pairs.len();
     append_word(out, OBJECT_CONTAINER_TAG + count as u32);
@@ -288,7 +290,7 @@ fn append_key_entries(out: &mut Vec<u8>, pairs: Pairs<'_, '_>) -> usize
     requires fits { PairsFit (object_pairs pairs) }
     requires small { length (key_payloads (object_pairs pairs)) < 2 ^ 63 }
     requires room { HasRoom out.old (key_entries (object_pairs pairs)) }
-    ensures written { Appended out.old out.new (key_entries (object_pairs pairs.entry)) }
+    ensures written { AppendsBytes out.old out.new (key_entries (object_pairs pairs.entry)) }
     ensures size { result ≡ length (key_payloads (object_pairs pairs.entry)) }
 {
     let mut left = pairs.walk();
@@ -307,14 +309,14 @@ fn append_value_entries(out: &mut Vec<u8>, pairs: Pairs<'_, '_>, size: usize, pl
     requires fits { FitsInside (object (object_pairs pairs)) }
     requires size { size ≡ length (value_payloads (object_pairs pairs)) }
     requires room { HasRoom out.old (value_entries (object_pairs pairs)) }
-    ensures { Appended out.old out.new (value_entries (object_pairs pairs.entry)) }
+    ensures { AppendsBytes out.old out.new (value_entries (object_pairs pairs.entry)) }
 {
     let mut left = pairs.walk();
     let mut size_left = size;
     while let Some((_, value, others)) = left.split_first() {
-        let entry_type = value.entry_type();
+        let type_code = value.type_code();
         let size = value_size(value, &others, size_left, plain_levels);
-        append_word(out, entry_type + size as u32);
+        append_word(out, type_code + size as u32);
         size_left -= size;
         left = others;
     }
@@ -324,7 +326,7 @@ fn append_value_entries(out: &mut Vec<u8>, pairs: Pairs<'_, '_>, size: usize, pl
 #[inline(always)]
 fn append_keys(out: &mut Vec<u8>, pairs: Pairs<'_, '_>)
     requires { HasRoom out.old (key_payloads (object_pairs pairs)) }
-    ensures { Appended out.old out.new (key_payloads (object_pairs pairs.entry)) }
+    ensures { AppendsBytes out.old out.new (key_payloads (object_pairs pairs.entry)) }
 {
     let mut left = pairs.walk();
     while let Some((key, _, others)) = left.split_first() {
@@ -340,7 +342,7 @@ fn append_values(out: &mut Vec<u8>, pairs: Pairs<'_, '_>, entries: usize, plain_
     requires fits { PairsFit (object_pairs pairs) }
     requires entries { Stands entries (value_entries (object_pairs pairs)) out.old.items }
     requires room { HasRoom out.old (value_payloads (object_pairs pairs)) }
-    ensures { Appended out.old out.new (value_payloads (object_pairs pairs.entry)) }
+    ensures { AppendsBytes out.old out.new (value_payloads (object_pairs pairs.entry)) }
 {
     let mut left = pairs.walk();
     let mut entry = entries;

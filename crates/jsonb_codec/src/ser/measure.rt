@@ -1,6 +1,7 @@
 //! How many bytes a document takes.
 
-ghost use Rattle.std.specs.Prelude.{◌≡◌, ◌≤◌, length, IfSome, IfNone, IfOk, IfErr, OnOk, OnErr, OnSome};
+ghost use Rattle.std.specs.Prelude.{◌≡◌, ◌≤◌, length, IfSome, IfNone, IfOk, IfErr, OnOk, OnErr};
+ghost use Rattle.std.specs.Prelude.{OnSome};
 ghost use Rattle.std.specs.Str.{IsUtf8};
 ghost use Rattle.jsonb_value.specs.Tree.{array, object, Ascend};
 ghost use Rattle.jsonb_value.specs.Value.{items_view, pairs_view};
@@ -9,7 +10,8 @@ ghost use Rattle.jsonb_value.specs.NumCode.{number_payload};
 ghost use Rattle.jsonb_value.specs.ExtCode.{extension_of, extension_payload};
 ghost use Rattle.jsonb_value.specs.WellFormed.{IsNumber, IsExtension, IsTree, AreTrees, ArePairs};
 ghost use Rattle.jsonb_codec.specs.Canon.{payload_of, canon, FitsInside, FitsEntry, Fits};
-ghost use Rattle.jsonb_codec.specs.Node.{node_tree, items_trees, object_pairs, NodeAscends, ItemsAscend, ObjectAscends};
+ghost use Rattle.jsonb_codec.specs.Node.{node_tree, items_trees, object_pairs, NodeAscends};
+ghost use Rattle.jsonb_codec.specs.Node.{ItemsAscend, ObjectAscends};
 
 use super::node::{AstPair, Items, Node, Pairs};
 use crate::constants::CONTAINER_TAG;
@@ -28,7 +30,7 @@ pub fn measure_document(node: Node<'_, '_>) -> Result<usize, Error>
     ensures err { OnErr result (Fits (node_tree node.entry) → ⊥) }
     ensures only { IfErr result (λ e. e ≡ Error.InvalidJsonb) }
 {
-    if node.entry_type() == CONTAINER_TAG {
+    if node.type_code() == CONTAINER_TAG {
         return measure_payload(node).ok_or(Error::InvalidJsonb);
     }
     match measure_entry(node) {
@@ -116,7 +118,8 @@ fn measure_value_items(items: &[Value<'_>]) -> Option<usize>
 fn measure_ast_items(items: &[JsonAst<'_>]) -> Option<usize>
     ensures some { IfSome result (λ n. FitsInside (array (asts_view items.now))
         × (n ≡ length (payload_of (array (asts_view items.now))))) }
-    ensures tree { AllAscend (asts_view items.now) → OnSome result (AreTrees (asts_view items.now)) }
+    ensures tree { AllAscend (asts_view items.now)
+        → OnSome result (AreTrees (asts_view items.now)) }
     ensures none { IfNone result (FitsInside (array (asts_view items.now)) → ⊥) }
 {
     measure_items(Items::Asts(items))

@@ -5,7 +5,8 @@ ghost use Rattle.jsonb_value.specs.Tree.{no_trees, tree, no_pairs, pair, count, 
 ghost use Rattle.jsonb_value.specs.Value.{tree_of};
 ghost use Rattle.jsonb_value.specs.Ast.{ast_tree, AscendEverywhere};
 ghost use Rattle.jsonb_codec.specs.Doc.{type_of};
-ghost use Rattle.jsonb_codec.specs.Node.{node_tree, items_trees, object_pairs, left_pairs, NodeAscends, ItemsAscend, ObjectAscends, LeftAscend};
+ghost use Rattle.jsonb_codec.specs.Node.{node_tree, items_trees, object_pairs, left_pairs};
+ghost use Rattle.jsonb_codec.specs.Node.{NodeAscends, ItemsAscend, ObjectAscends, LeftAscend};
 
 use crate::constants::{
     CONTAINER_TAG, EXTENSION_TAG, FALSE_TAG, NULL_TAG, NUMBER_TAG, STRING_TAG, TRUE_TAG,
@@ -91,7 +92,7 @@ impl<'s, 'a> Node<'s, 'a> {
 
     /// The type of the value's entry.
     #[inline(always)]
-    pub fn entry_type(self) -> u32
+    pub fn type_code(self) -> u32
         ensures value { result ≡ type_of (node_tree self.entry) }
         ensures small { result ≤ 0x60000000 }
     {

@@ -9,7 +9,8 @@ ghost use Rattle.std.specs.Prelude.{◌≡◌, ◌+◌, length, IfSome};
 ghost use Rattle.jsonb_value.specs.Tree.{array, object};
 ghost use Rattle.jsonb_value.specs.Value.{items_view, pairs_view};
 ghost use Rattle.jsonb_value.specs.Ast.{asts_view, ast_pairs_view};
-ghost use Rattle.jsonb_codec.specs.Canon.{payload_of, payloads_of, value_payloads, FitsInside, FitsEntry};
+ghost use Rattle.jsonb_codec.specs.Canon.{payload_of, payloads_of, value_payloads, FitsInside};
+ghost use Rattle.jsonb_codec.specs.Canon.{FitsEntry};
 ghost use Rattle.jsonb_codec.specs.Node.{node_tree, items_trees, object_pairs, left_pairs};
 
 use super::measure::measure_payload;

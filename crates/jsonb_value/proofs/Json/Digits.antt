@@ -27,19 +27,23 @@ stops (c ∷ s) = not (is_ascii_digit c) && not (c == point)
 
 pub front_digits-end : (s : List ℕ) → stops s ≡ true → front_digits s ≡ []
 front_digits-end [] e = refl
-front_digits-end (c ∷ s) e = let none : is_ascii_digit c ≡ false = not_true _ (and_true _ _ e).0 in rw none refl
+front_digits-end (c ∷ s) e =
+    let none : is_ascii_digit c ≡ false = not_true _ (and_true _ _ e).0 in rw none refl
 
 pub after_digits-end : (s : List ℕ) → stops s ≡ true → after_digits s ≡ s
 after_digits-end [] e = refl
-after_digits-end (c ∷ s) e = let none : is_ascii_digit c ≡ false = not_true _ (and_true _ _ e).0 in rw none refl
+after_digits-end (c ∷ s) e =
+    let none : is_ascii_digit c ≡ false = not_true _ (and_true _ _ e).0 in rw none refl
 
-pub front_digits-append : (ds s : List ℕ) → all_digits ds ≡ true → front_digits s ≡ [] → front_digits (ds ++ s) ≡ ds
+pub front_digits-append : (ds s : List ℕ) → all_digits ds ≡ true → front_digits s ≡ []
+    → front_digits (ds ++ s) ≡ ds
 front_digits-append [] s all none = none
 front_digits-append (d ∷ ds) s all none =
     let is : is_ascii_digit d ≡ true = (and_true _ _ all).0 in
     rw is (ap (λ t. d ∷ t) (front_digits-append ds s (and_true _ _ all).1 none))
 
-pub after_digits-append : (ds s : List ℕ) → all_digits ds ≡ true → after_digits s ≡ s → after_digits (ds ++ s) ≡ s
+pub after_digits-append : (ds s : List ℕ) → all_digits ds ≡ true → after_digits s ≡ s
+    → after_digits (ds ++ s) ≡ s
 after_digits-append [] s all none = none
 after_digits-append (d ∷ ds) s all none =
     let is : is_ascii_digit d ≡ true = (and_true _ _ all).0 in

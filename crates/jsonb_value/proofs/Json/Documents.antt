@@ -1,5 +1,6 @@
 -- From the element at the front to the whole text.
-use Rattle.std.proofs.Common.{◌≡◌, ℕ, suc, sym, ap, subst, ◌∙◌, List, [], ◌∷◌, length, Option, Some, None, Result, Ok, Err}
+use Rattle.std.proofs.Common.{◌≡◌, ℕ, suc, sym, ap, subst, ◌∙◌, List, [], ◌∷◌, length, Option, Some}
+use Rattle.std.proofs.Common.{None, Result, Ok, Err}
 use Rattle.std.specs.Prelude.{IsErrAnd}
 use Rattle.jsonb_value.specs.Tree.{Tree}
 use Rattle.jsonb_value.specs.Json.Bind.{◌>>=◌}
@@ -15,14 +16,16 @@ use Rattle.jsonb_value.specs.Reader.Gives.{Fails}
 abbrev pub whole : List ℕ → Option (Tree × List ℕ)
 whole s = read_element (read_value (suc (length s))) s
 
-pub read_whole : (s : List ℕ) (t : Tree) (rest : List ℕ) → whole s ≡ Some (t, rest) → rest ≡ [] → Json s t
+pub read_whole : (s : List ℕ) (t : Tree) (rest : List ℕ) → whole s ≡ Some (t, rest) → rest ≡ []
+    → Json s t
 read_whole s t rest e none = document-found s t (bound _ _ _ _ e (ap (if_last t) none))
 
 pub nothing_read : (s : List ℕ) (t : Tree) → read_document s ≡ None → Json s t → ⊥
 nothing_read s t none json = no_error (sym none ∙ document-again s t json)
 
 -- what an error says
-pub refused : {X : Type 0} (s : List ℕ) (r : Result X Error) (e : Error) → IsErrAnd r (λ y. y ≡ e) → Fails e (whole s) → r ≡ Err InvalidJson → (t : Tree) → Json s t → ⊥
+pub refused : {X : Type 0} (s : List ℕ) (r : Result X Error) (e : Error) → IsErrAnd r (λ y. y ≡ e)
+    → Fails e (whole s) → r ≡ Err InvalidJson → (t : Tree) → Json s t → ⊥
 refused s (Ok x) e is fails invalid t json = absurd is
 refused s (Err y) e is fails invalid t json =
     let same : y ≡ InvalidJson = cc in
@@ -30,5 +33,7 @@ refused s (Err y) e is fails invalid t json =
     nothing_read s t (ap (λ o. o >>= λ x. if_last x.0 x.1) none) json
 
 -- something is left behind the value
-pub left_over : (s : List ℕ) (t : Tree) (rest : List ℕ) (c : ℕ) (more : List ℕ) → whole s ≡ Some (t, rest) → rest ≡ c ∷ more → (u : Tree) → Json s u → ⊥
-left_over s t rest c more e some u json = nothing_read s u (bound _ _ _ _ e (ap (if_last t) some)) json
+pub left_over : (s : List ℕ) (t : Tree) (rest : List ℕ) (c : ℕ) (more : List ℕ)
+    → whole s ≡ Some (t, rest) → rest ≡ c ∷ more → (u : Tree) → Json s u → ⊥
+left_over s t rest c more e some u json =
+    nothing_read s u (bound _ _ _ _ e (ap (if_last t) some)) json

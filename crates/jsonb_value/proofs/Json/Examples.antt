@@ -2,9 +2,11 @@
 use Rattle.std.proofs.Common.{◌≡◌, ℕ, refl, List, [], ◌∷◌, Some, None, true}
 use Rattle.std.specs.Prelude.{⊤, pos, codes}
 use Rattle.jsonb_value.specs.declared.number.Number.TheVariants.{UInt64, Decimal64, Decimal128}
-use Rattle.jsonb_value.specs.Tree.{Tree, number, text, boolean, array, object, no_trees, no_pairs, pair}
+use Rattle.jsonb_value.specs.Tree.{Tree, number, text, boolean, array, object, no_trees, no_pairs}
+use Rattle.jsonb_value.specs.Tree.{pair}
 use Rattle.jsonb_value.specs.Json.Syntax.{Json}
-use Rattle.jsonb_value.specs.Reader.Reading.{read_document, read_value, read_items, read_members, read_text}
+use Rattle.jsonb_value.specs.Reader.Reading.{read_document, read_value, read_items, read_members}
+use Rattle.jsonb_value.specs.Reader.Reading.{read_text}
 use Rattle.jsonb_value.proofs.Json.ValueLaws.{document-found}
 use Rattle.jsonb_value.proofs.Json.Documents.{nothing_read}
 
@@ -13,8 +15,16 @@ meaningful =
     (codes " 1.50 ", number (Decimal64 (record { scale = 2; value = pos 150 })))
     ∷ (codes "-0.0", number (Decimal64 (record { scale = 1; value = pos 0 })))
     ∷ (codes "-0", number (UInt64 0))
-    ∷ (codes "18446744073709551616", number (Decimal128 (record { scale = 0; value = pos 18446744073709551616 })))
-    ∷ (codes "{\"b\":1,\"a\":[ ],\"b\":true}", object (pair (codes "a") (array no_trees) (pair (codes "b") (boolean true) no_pairs)))
+    ∷ (
+      codes "18446744073709551616",
+      number
+          (Decimal128 (record { scale = 0; value = pos 18446744073709551616 })),
+    )
+    ∷ (
+      codes "{\"b\":1,\"a\":[ ],\"b\":true}",
+      object
+          (pair (codes "a") (array no_trees) (pair (codes "b") (boolean true) no_pairs)),
+    )
     ∷ (codes "\"\\ud83d\\ude00\\n\"", text (240 ∷ 159 ∷ 152 ∷ 128 ∷ 10 ∷ []))
     ∷ []
 

@@ -1,5 +1,7 @@
 -- What is printed of a text is spelled by pieces that mean it.
-use Rattle.std.proofs.Common.{◌≡◌, ℕ, ◌+◌, ◌*◌, ◌/◌, ◌%◌, ◌<◌, ◌≤◌, Bool, true, false, cond, inl, inr, Some, refl, sym, ap, ap₂, subst, ◌∙◌, List, [], ◌∷◌, ◌++◌, arith, append-nil, eqb-true, flat_map, get_or}
+use Rattle.std.proofs.Common.{◌≡◌, ℕ, ◌+◌, ◌*◌, ◌/◌, ◌%◌, ◌<◌, ◌≤◌, Bool, true, false, cond, inl}
+use Rattle.std.proofs.Common.{inr, Some, refl, sym, ap, ap₂, subst, ◌∙◌, List, [], ◌∷◌, ◌++◌, arith}
+use Rattle.std.proofs.Common.{append-nil, eqb-true, flat_map, get_or}
 use Rattle.std.specs.Prelude.{◌||◌, ◌&&◌, ◌==◌, nat_lt, map, chars, encode_utf8, encode_utf8_all}
 use Rattle.std.specs.List.{All}
 use Rattle.std.specs.Str.{IsUtf8, IsAscii}
@@ -8,15 +10,21 @@ use Rattle.std.proofs.Math.Utf8.{scalars}
 use Rattle.std.proofs.lemmas.Bool.{lt-ltb, ltb-true, lt-leb, le-leb, ltb-false, cases_Bool}
 use Rattle.std.proofs.lemmas.List.Elements.{All-nil, All-cons}
 use Rattle.std.proofs.lemmas.Grind.{flat_map-append}
-use Rattle.std.proofs.lemmas.Str.{chars-nil, chars-append, chars-IsAscii, chars_past_char, encode_ascii, encodes-chars, scalars-chars, digit_value-digit_char, inside_one, IsUtf8-append, IsUtf8-encode, IsUtf8-from_ascii, IsUtf8-nil}
+use Rattle.std.proofs.lemmas.Str.{chars-nil, chars-append, chars-IsAscii, chars_past_char}
+use Rattle.std.proofs.lemmas.Str.{encode_ascii, encodes-chars, scalars-chars}
+use Rattle.std.proofs.lemmas.Str.{digit_value-digit_char, inside_one, IsUtf8-append, IsUtf8-encode}
+use Rattle.std.proofs.lemmas.Str.{IsUtf8-from_ascii, IsUtf8-nil}
 use Rattle.std.proofs.lemmas.Str.Ascii.{IsAscii-from_all}
 use Rattle.jsonb_value.specs.Text.{is_escaped, byte_text}
 use Rattle.jsonb_value.specs.Json.Characters.{quote, backslash}
 use Rattle.jsonb_value.specs.Json.Bind.{◌>>=◌}
-use Rattle.jsonb_value.specs.Json.Piece.{Piece, plain, escape, unit, unit4, unit_value, unit_character, is_plain, is_high, is_low, piece_text, pieces_text, piece_meaning, pieces_meaning}
+use Rattle.jsonb_value.specs.Json.Piece.{Piece, plain, escape, unit, unit4, unit_value}
+use Rattle.jsonb_value.specs.Json.Piece.{unit_character, is_plain, is_high, is_low, piece_text}
+use Rattle.jsonb_value.specs.Json.Piece.{pieces_text, piece_meaning, pieces_meaning}
 use Rattle.jsonb_value.proofs.PayloadLaws.{by_test}
 use Rattle.jsonb_value.proofs.Escapes.{is_escaped-ascii, plain_front}
-use Rattle.jsonb_value.proofs.Json.Tests.{bool_cases, and_true, and_both, not_false, by_true, by_false, bound}
+use Rattle.jsonb_value.proofs.Json.Tests.{bool_cases, and_true, and_both, not_false, by_true}
+use Rattle.jsonb_value.proofs.Json.Tests.{by_false, bound}
 
 -- ---- bytes that spell characters
 
@@ -39,26 +47,33 @@ all_ascii (b ∷ bs) = nat_lt b 128 && all_ascii bs
 
 each_ascii : (bs : List ℕ) → all_ascii bs ≡ true → All (λ b. b < 128) bs
 each_ascii [] e = All-nil (λ b. b < 128)
-each_ascii (b ∷ bs) e = let parts = and_true _ _ e in All-cons (λ b. b < 128) b bs (ltb-true b 128 parts.0) (each_ascii bs parts.1)
+each_ascii (b ∷ bs) e = let parts = and_true _ _ e in All-cons
+    (λ b. b < 128) b bs (ltb-true b 128 parts.0) (each_ascii bs parts.1)
 
 -- ASCII spells itself
 pub Spells-ascii : (bs : List ℕ) → all_ascii bs ≡ true → Spells bs bs
-Spells-ascii bs e = let ascii : IsAscii bs = IsAscii-from_all bs (each_ascii bs e) in record { utf8 = IsUtf8-from_ascii bs ascii; are = chars-IsAscii bs ascii }
+Spells-ascii bs e = let ascii : IsAscii bs = IsAscii-from_all bs
+    (each_ascii bs e) in record { utf8 = IsUtf8-from_ascii bs ascii; are = chars-IsAscii bs ascii }
 
 Spells-character : (c : ℕ) → IsScalar c → Spells (encode_utf8 c) (c ∷ [])
 Spells-character c is = record {
   utf8 = IsUtf8-encode c is;
-  are = chars_past_char (encode_utf8 c) [] c (IsUtf8-encode c is) (sym (append-nil (encode_utf8 c))) ∙ ap (λ (l : List ℕ). c ∷ l) chars-nil;
+  are = chars_past_char (encode_utf8 c) [] c (IsUtf8-encode c is) (sym (append-nil (encode_utf8 c)))
+      ∙ ap (λ (l : List ℕ). c ∷ l) chars-nil;
 }
 
 -- ---- pieces
 
--- quote and backslash behind a backslash, five letters for control characters, `u00` and two digits for the others
+-- quote and backslash behind a backslash, five letters for control characters, `u00` and two digits
+-- for the others
 abbrev pub printed_piece : ℕ → Piece
 printed_piece c =
     cond ((c == quote) || (c == backslash)) (escape c)
-    (cond (c == 8) (escape 98) (cond (c == 9) (escape 116) (cond (c == 10) (escape 110) (cond (c == 12) (escape 102) (cond (c == 13) (escape 114)
-    (cond (nat_lt c 32) (unit (unit4 48 48 (digit_char (c / 16)) (digit_char (c % 16)))) (plain c)))))))
+    (cond (c == 8) (escape 98)
+    (cond (c == 9) (escape 116)
+    (cond (c == 10) (escape 110) (cond (c == 12) (escape 102) (cond (c == 13) (escape 114)
+    (cond (nat_lt c 32) (unit (unit4 48 48 (digit_char (c / 16)) (digit_char (c % 16))))
+    (plain c)))))))
 
 abbrev pub printed_text : List ℕ → List Piece
 printed_text bytes = map printed_piece (chars bytes)
@@ -75,15 +90,21 @@ hex d h =
     (same, lt-ltb (digit_value (digit_char d)) 16 (omega (arith, same)))
 
 hex_ascii : (d : ℕ) → d < 16 → nat_lt (digit_char d) 128 ≡ true
-hex_ascii d h = by_test (λ x. nat_lt x 128 ≡ true) (nat_lt d 10) (48 + d) (87 + d) (λ e. lt-ltb (48 + d) 128 (omega arith)) (λ e. lt-ltb (87 + d) 128 (omega arith))
+hex_ascii d h = by_test (λ x. nat_lt x 128 ≡ true) (nat_lt d 10) (48 + d) (87 + d)
+    (λ e. lt-ltb (48 + d) 128 (omega arith)) (λ e. lt-ltb (87 + d) 128 (omega arith))
 
-short_unit : (c : ℕ) → c < 32 → (unit_value (unit4 48 48 (digit_char (c / 16)) (digit_char (c % 16))) >>= unit_character) ≡ Some c
+short_unit : (c : ℕ) → c < 32
+    → (unit_value (unit4 48 48 (digit_char (c / 16)) (digit_char (c % 16))) >>= unit_character)
+    ≡ Some c
 short_unit c h =
     let high = hex (c / 16) (omega arith) in
     let low = hex (c % 16) (omega arith) in
-    let value : digit_value (digit_char (c / 16)) * 16 + digit_value (digit_char (c % 16)) ≡ c = omega (arith, high.0, low.0) in
-    let worth : unit_value (unit4 48 48 (digit_char (c / 16)) (digit_char (c % 16))) ≡ Some c = by_true _ _ _ _ (and_both _ _ high.1 low.1) (ap Some (omega (arith, value))) in
-    let no_surrogate : (is_high c || is_low c) ≡ false = rw (lt-leb 0xd800 c (omega arith), lt-leb 0xdc00 c (omega arith)) refl in
+    let value : digit_value (digit_char (c / 16)) * 16 + digit_value (digit_char (c % 16)) ≡ c =
+    omega (arith, high.0, low.0) in
+    let worth : unit_value (unit4 48 48 (digit_char (c / 16)) (digit_char (c % 16))) ≡ Some c =
+    by_true _ _ _ _ (and_both _ _ high.1 low.1) (ap Some (omega (arith, value))) in
+    let no_surrogate : (is_high c || is_low c) ≡ false =
+    rw (lt-leb 0xd800 c (omega arith), lt-leb 0xdc00 c (omega arith)) refl in
     bound _ _ _ _ worth (by_false _ _ _ _ no_surrogate refl)
 
 at : (d c : ℕ) → (c == d) ≡ true → Printed d → Printed c
@@ -126,14 +147,18 @@ printed_control c o e =
     let below = ltb-true c 32 e in
     record {
       text = rw (o.q, o.s, o.b, o.t, o.n, o.f, o.r, e) refl;
-      ascii = λ h. rw (o.q, o.s, o.b, o.t, o.n, o.f, o.r, e) (and_both _ _ (hex_ascii (c / 16) (omega arith)) (and_both _ _ (hex_ascii (c % 16) (omega arith)) refl));
+      ascii = λ h. rw (o.q, o.s, o.b, o.t, o.n, o.f, o.r, e)
+          (and_both _ _ (hex_ascii (c / 16) (omega arith))
+          (and_both _ _ (hex_ascii (c % 16) (omega arith)) refl));
       means = rw (o.q, o.s, o.b, o.t, o.n, o.f, o.r, e) (short_unit c below);
     }
 
 -- and all other characters
 printed_plain : (c : ℕ) → NoLetter c → nat_lt c 32 ≡ false → Printed c
 printed_plain c o e =
-    let stands : is_plain c ≡ true = and_both _ _ (and_both _ _ (le-leb 32 c (ltb-false c 32 e)) (not_false _ o.q)) (not_false _ o.s) in
+    let stands : is_plain c
+    ≡ true = and_both _ _ (and_both _ _ (le-leb 32 c (ltb-false c 32 e)) (not_false _ o.q))
+    (not_false _ o.s) in
     record {
       text = rw (o.q, o.s, o.b, o.t, o.n, o.f, o.r, e) refl;
       ascii = λ h. rw (o.q, o.s, o.b, o.t, o.n, o.f, o.r, e) (and_both _ _ (lt-ltb c 128 h) refl);
@@ -163,8 +188,10 @@ printed c =
                                         elim (bool_cases (c == 13)) [
                                           | inl e ↦ at 13 c e printed_13
                                           | inr r ↦
-                                              let o : NoLetter c = record { q = q; s = s; b = b; t = t; n = n; f = f; r = r } in
-                                              elim (bool_cases (nat_lt c 32)) [ inl e ↦ printed_control c o e | inr e ↦ printed_plain c o e ]
+                                              let o : NoLetter c =
+                                              record { q = q; s = s; b = b; t = t; n = n; f = f; r = r } in
+                                              elim (bool_cases
+                                              (nat_lt c 32)) [ inl e ↦ printed_control c o e | inr e ↦ printed_plain c o e ]
                                         ]
                                   ]
                             ]
@@ -181,47 +208,82 @@ wide_plain c wide = plain_front (encode_utf8 c) (λ k below.
     elim (cases_Bool (is_escaped (get_or (encode_utf8 c) k 0))) [
       | inl escaped ↦
           let ascii = is_escaped-ascii (get_or (encode_utf8 c) k 0) escaped in
-          let same = inside_one c [] (encode_utf8 c) k (sym (append-nil (encode_utf8 c))) below ascii in
+          let same =
+          inside_one c [] (encode_utf8 c) k (sym (append-nil (encode_utf8 c))) below ascii in
           absurd (omega arith)
       | inr stands ↦ stands
     ])
 
 wide_piece : (c : ℕ) → 128 ≤ c → piece_text (printed_piece c) ≡ c ∷ []
 wide_piece c wide =
-    let other : (d : ℕ) → d < 128 → (c == d) ≡ false = λ d small. elim (bool_cases (c == d)) [ inl e ↦ absurd (let same = eqb-true c d e in omega arith) | inr e ↦ e ] in
-    let past : nat_lt c 32 ≡ false = elim (bool_cases (nat_lt c 32)) [ inl e ↦ absurd (let low = ltb-true c 32 e in omega arith) | inr e ↦ e ] in
-    rw (other 34 (omega arith), other 92 (omega arith), other 8 (omega arith), other 9 (omega arith), other 10 (omega arith), other 12 (omega arith), other 13 (omega arith), past) refl
+    let other : (d : ℕ) → d < 128
+    → (c == d)
+    ≡ false = λ d small. elim
+    (bool_cases (c == d)) [
+      | inl e ↦ absurd
+          (let same = eqb-true c d e in omega arith)
+      | inr e ↦ e
+    ] in
+    let past : nat_lt c 32
+    ≡ false = elim
+    (bool_cases (nat_lt c 32)) [
+      | inl e ↦ absurd
+          (let low = ltb-true c 32 e in omega arith)
+      | inr e ↦ e
+    ] in
+    rw (
+      other 34 (omega arith),
+      other 92 (omega arith),
+      other 8 (omega arith),
+      other 9
+          (omega arith),
+      other 10 (omega arith),
+      other 12 (omega arith),
+      other 13
+          (omega arith),
+      past,
+    ) refl
 
-character_spelled : (c : ℕ) → IsScalar c → Spells (flat_map byte_text (encode_utf8 c)) (piece_text (printed_piece c))
+character_spelled : (c : ℕ) → IsScalar c
+    → Spells (flat_map byte_text (encode_utf8 c)) (piece_text (printed_piece c))
 character_spelled c is =
     elim (bool_cases (nat_lt c 128)) [
       | inl e ↦
           let small = ltb-true c 128 e in
           let p = printed c in
-          let bytes : flat_map byte_text (encode_utf8 c) ≡ piece_text (printed_piece c) = ap (flat_map byte_text) (encode_ascii c small) ∙ append-nil (byte_text c) ∙ p.text in
-          subst (λ x. Spells x (piece_text (printed_piece c))) (sym bytes) (Spells-ascii (piece_text (printed_piece c)) (p.ascii small))
+          let bytes : flat_map byte_text (encode_utf8 c) ≡ piece_text (printed_piece c) =
+          ap (flat_map byte_text) (encode_ascii c small) ∙ append-nil (byte_text c) ∙ p.text in
+          subst (λ x. Spells x (piece_text (printed_piece c))) (sym bytes)
+          (Spells-ascii (piece_text (printed_piece c)) (p.ascii small))
       | inr e ↦
           let wide = ltb-false c 128 e in
           subst (Spells (flat_map byte_text (encode_utf8 c))) (sym (wide_piece c wide))
           (subst (λ x. Spells x (c ∷ [])) (sym (wide_plain c wide)) (Spells-character c is))
     ]
 
-characters_spelled : (cs : List ℕ) → scalars cs ≡ true → Spells (flat_map byte_text (encode_utf8_all cs)) (pieces_text (map printed_piece cs))
+characters_spelled : (cs : List ℕ) → scalars cs ≡ true
+    → Spells (flat_map byte_text (encode_utf8_all cs)) (pieces_text (map printed_piece cs))
 characters_spelled [] e = Spells-nil
 characters_spelled (c ∷ cs) e =
     let parts = and_true _ _ e in
-    subst (λ x. Spells x (piece_text (printed_piece c) ++ pieces_text (map printed_piece cs))) (sym (flat_map-append byte_text (encode_utf8 c) (encode_utf8_all cs)))
-    (Spells-append (flat_map byte_text (encode_utf8 c)) (flat_map byte_text (encode_utf8_all cs)) (piece_text (printed_piece c)) (pieces_text (map printed_piece cs)) (character_spelled c parts.0) (characters_spelled cs parts.1))
+    subst (λ x. Spells x (piece_text (printed_piece c) ++ pieces_text (map printed_piece cs)))
+    (sym (flat_map-append byte_text (encode_utf8 c) (encode_utf8_all cs)))
+    (Spells-append (flat_map byte_text (encode_utf8 c)) (flat_map byte_text (encode_utf8_all cs))
+    (piece_text (printed_piece c)) (pieces_text (map printed_piece cs))
+    (character_spelled c parts.0) (characters_spelled cs parts.1))
 
 -- The content that is printed is spelled by the pieces,
-pub content_spelled : (bytes : List ℕ) → IsUtf8 bytes → Spells (flat_map byte_text bytes) (pieces_text (printed_text bytes))
+pub content_spelled : (bytes : List ℕ) → IsUtf8 bytes
+    → Spells (flat_map byte_text bytes) (pieces_text (printed_text bytes))
 content_spelled bytes utf8 =
-    subst (λ x. Spells (flat_map byte_text x) (pieces_text (printed_text bytes))) (encodes-chars bytes utf8) (characters_spelled (chars bytes) (scalars-chars bytes utf8))
+    subst (λ x. Spells (flat_map byte_text x) (pieces_text (printed_text bytes)))
+    (encodes-chars bytes utf8) (characters_spelled (chars bytes) (scalars-chars bytes utf8))
 
 pieces_mean : (cs : List ℕ) → pieces_meaning (map printed_piece cs) ≡ Some (encode_utf8_all cs)
 pieces_mean [] = refl
 pieces_mean (c ∷ cs) = bound _ _ _ _ (printed c).means (bound _ _ _ _ (pieces_mean cs) refl)
 
 -- and these mean the text.
-pub text_meaning : (bytes : List ℕ) → IsUtf8 bytes → pieces_meaning (printed_text bytes) ≡ Some bytes
+pub text_meaning : (bytes : List ℕ) → IsUtf8 bytes
+    → pieces_meaning (printed_text bytes) ≡ Some bytes
 text_meaning bytes utf8 = pieces_mean (chars bytes) ∙ ap Some (encodes-chars bytes utf8)

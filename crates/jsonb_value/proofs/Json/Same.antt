@@ -10,7 +10,8 @@ use Rattle.jsonb_value.specs.declared.number.Number.{Number}
 use Rattle.jsonb_value.specs.Fraction.{Fraction, fraction_cmp}
 use Rattle.jsonb_value.specs.NumCode.{number_payload}
 use Rattle.jsonb_value.specs.Order.{fraction_of, number_cmp}
-use Rattle.jsonb_value.specs.Tree.{Tree, null, boolean, number, text, array, object, Trees, no_trees, tree, Pairs, no_pairs, pair}
+use Rattle.jsonb_value.specs.Tree.{Tree, null, boolean, number, text, array, object, Trees}
+use Rattle.jsonb_value.specs.Tree.{no_trees, tree, Pairs, no_pairs, pair}
 use Rattle.jsonb_value.specs.TreeOrder.{tree_cmp, trees_cmp, pairs_cmp}
 use Rattle.jsonb_value.proofs.NumberLaws.{number_cmp_total}
 use Rattle.jsonb_value.proofs.KindLaws.{tree_cmp-itself}
@@ -42,7 +43,8 @@ abbrev mutual
   PairsSame ps qs = ⊥
 
 same_worth : (x y : Number) → fraction_of x ≡ fraction_of y → number_cmp x y ≡ Equal
-same_worth x y e = ap (λ (f : Fraction). fraction_cmp f (fraction_of y)) e ∙ tied_itself number_cmp_total y
+same_worth x y e =
+    ap (λ (f : Fraction). fraction_cmp f (fraction_of y)) e ∙ tied_itself number_cmp_total y
 
 same_bytes : (x y : List ℕ) → x ≡ y → slice_cmp nat_cmp x y ≡ Equal
 same_bytes x y e = ap (λ (z : List ℕ). slice_cmp nat_cmp z y) e ∙ tied_itself nat_list_cmp_total y
@@ -53,7 +55,8 @@ both_equal a b e h = ap (λ o. ordering_then o b) e ∙ h
 mutual
   pub tree_cmp-IsSame : (t u : Tree) → IsSame t u → tree_cmp t u ≡ Equal
   tree_cmp-IsSame null null e = refl
-  tree_cmp-IsSame (boolean a) (boolean b) e = ap (λ (c : Bool). bool_cmp c b) e ∙ tree_cmp-itself (boolean b)
+  tree_cmp-IsSame (boolean a) (boolean b) e =
+      ap (λ (c : Bool). bool_cmp c b) e ∙ tree_cmp-itself (boolean b)
   tree_cmp-IsSame (number x) (number y) e = same_worth x y e.worth
   tree_cmp-IsSame (text a) (text b) e = same_bytes a b e
   tree_cmp-IsSame (array ts) (array us) e = trees_cmp-AreSame ts us e
@@ -62,10 +65,12 @@ mutual
 
   trees_cmp-AreSame : (ts us : Trees) → AreSame ts us → trees_cmp ts us ≡ Equal
   trees_cmp-AreSame no_trees no_trees e = refl
-  trees_cmp-AreSame (tree t ts) (tree u us) e = both_equal _ _ (tree_cmp-IsSame t u e.0) (trees_cmp-AreSame ts us e.1)
+  trees_cmp-AreSame (tree t ts) (tree u us) e =
+      both_equal _ _ (tree_cmp-IsSame t u e.0) (trees_cmp-AreSame ts us e.1)
   trees_cmp-AreSame ts us e = absurd e
 
   pairs_cmp-PairsSame : (ps qs : Pairs) → PairsSame ps qs → pairs_cmp ps qs ≡ Equal
   pairs_cmp-PairsSame no_pairs no_pairs e = refl
-  pairs_cmp-PairsSame (pair k t ps) (pair l u qs) e = both_equal _ _ (same_bytes k l e.0) (both_equal _ _ (tree_cmp-IsSame t u e.1.0) (pairs_cmp-PairsSame ps qs e.1.1))
+  pairs_cmp-PairsSame (pair k t ps) (pair l u qs) e = both_equal _ _ (same_bytes k l e.0)
+      (both_equal _ _ (tree_cmp-IsSame t u e.1.0) (pairs_cmp-PairsSame ps qs e.1.1))
   pairs_cmp-PairsSame ps qs e = absurd e

@@ -1,5 +1,6 @@
 -- What a reading that succeeded says of its steps.
-use Rattle.std.proofs.Common.{◌≡◌, Bool, true, false, cond, ◌⊎◌, inl, inr, Option, Some, None, refl, ap, ◌∙◌}
+use Rattle.std.proofs.Common.{◌≡◌, Bool, true, false, cond, ◌⊎◌, inl, inr, Option, Some, None, refl}
+use Rattle.std.proofs.Common.{ap, ◌∙◌}
 use Rattle.std.specs.Prelude.{◌&&◌, not}
 use Rattle.jsonb_value.specs.Json.Bind.{◌>>=◌}
 
@@ -7,11 +8,13 @@ pub bool_cases : (b : Bool) → (b ≡ true) ⊎ (b ≡ false)
 bool_cases true = inl refl
 bool_cases false = inr refl
 
-pub cond_some : {A : Type 0} (b : Bool) (o : Option A) (y : A) → cond b o None ≡ Some y → (b ≡ true) × (o ≡ Some y)
+pub cond_some : {A : Type 0} (b : Bool) (o : Option A) (y : A) → cond b o None ≡ Some y → (b ≡ true)
+    × (o ≡ Some y)
 cond_some true o y e = (refl, e)
 cond_some false o y e = cc
 
-pub chosen : {A : Type 0} (b : Bool) (x y z : A) → cond b x y ≡ z → ((b ≡ true) × (x ≡ z)) ⊎ ((b ≡ false) × (y ≡ z))
+pub chosen : {A : Type 0} (b : Bool) (x y z : A) → cond b x y ≡ z → ((b ≡ true) × (x ≡ z))
+    ⊎ ((b ≡ false) × (y ≡ z))
 chosen true x y z e = inl (refl, e)
 chosen false x y z e = inr (refl, e)
 
@@ -32,7 +35,8 @@ not_false true e = cc
 not_false false e = refl
 
 -- the parts of a step that succeeded, handed on under names
-pub bind_then : {A B C : Type 0} (r : Option A) (f : A → Option B) (y : B) → (r >>= f) ≡ Some y → ((x : A) → r ≡ Some x → f x ≡ Some y → C) → C
+pub bind_then : {A B C : Type 0} (r : Option A) (f : A → Option B) (y : B) → (r >>= f) ≡ Some y
+    → ((x : A) → r ≡ Some x → f x ≡ Some y → C) → C
 bind_then None f y e go = let none : None ≡ Some y = e in absurd (let h : ⊥ = cc in h)
 bind_then (Some x) f y e go = go x refl e
 
@@ -42,7 +46,8 @@ some_same a b e = cc
 abbrev pub pair_found : {A B : Type 0} → A → B → Option (A × B)
 pair_found a b = Some (a, b)
 
-pub some_pair : {A B : Type 0} (a c : A) (b d : B) → pair_found a b ≡ pair_found c d → (a ≡ c) × (b ≡ d)
+pub some_pair : {A B : Type 0} (a c : A) (b d : B) → pair_found a b ≡ pair_found c d → (a ≡ c)
+    × (b ≡ d)
 some_pair {A} {B} a c b d e =
     let P : Type 0 = A × B in
     let p : P = (a, b) in
@@ -61,6 +66,7 @@ pub by_false : {A : Type 0} (b : Bool) (x y z : A) → b ≡ false → y ≡ z �
 by_false true x y z e h = let none : true ≡ false = e in absurd (let h : ⊥ = cc in h)
 by_false false x y z e h = h
 
-pub bound : {A B : Type 0} (r : Option A) (f : A → Option B) (z : Option B) (x : A) → r ≡ Some x → f x ≡ z → (r >>= f) ≡ z
+pub bound : {A B : Type 0} (r : Option A) (f : A → Option B) (z : Option B) (x : A) → r ≡ Some x
+    → f x ≡ z → (r >>= f) ≡ z
 bound None f z x e h = no_error e
 bound (Some y) f z x e h = ap f (some_same y x e) ∙ h

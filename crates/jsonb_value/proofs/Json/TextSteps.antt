@@ -1,10 +1,13 @@
 -- Steps of reading a string.
-use Rattle.std.proofs.Common.{◌≡◌, ℕ, zero, suc, ◌+◌, ◌*◌, ◌<◌, true, false, refl, sym, ap, subst, take, drop, ◌∙◌, List, [], ◌∷◌, ◌++◌, length, length-append, append_assoc, append-nil, arith, Some, None, inl, inr, eqb-true}
+use Rattle.std.proofs.Common.{◌≡◌, ℕ, zero, suc, ◌+◌, ◌*◌, ◌<◌, true, false, refl, sym, ap, subst}
+use Rattle.std.proofs.Common.{take, drop, ◌∙◌, List, [], ◌∷◌, ◌++◌, length, length-append}
+use Rattle.std.proofs.Common.{append_assoc, append-nil, arith, Some, None, inl, inr, eqb-true}
 use Rattle.std.specs.Prelude.{◌≢◌, ◌==◌, ◌≤◌, nat_lt, encode_utf8, encode_utf8_all, chars, IsUtf8}
 use Rattle.std.specs.List.{list_all, prefix_len}
 use Rattle.std.specs.Char.{digit_value, is_digit}
 use Rattle.std.proofs.lemmas.Bool.{lt-ltb, le-leb, ltb-true, ltb-false}
-use Rattle.std.proofs.lemmas.Str.{encode_ascii, encodes-chars, chars-append, IsUtf8-take, IsCharBoundary-before_ascii, IsCharBoundary-end}
+use Rattle.std.proofs.lemmas.Str.{encode_ascii, encodes-chars, chars-append, IsUtf8-take}
+use Rattle.std.proofs.lemmas.Str.{IsCharBoundary-before_ascii, IsCharBoundary-end}
 use Rattle.std.proofs.lemmas.List.{take-append-drop}
 use Rattle.std.specs.Str.{IsCharBoundary}
 use Rattle.std.proofs.lemmas.List.Sums.{prefix_len_stops, prefix_len-le-length}
@@ -13,19 +16,26 @@ use Rattle.jsonb_value.specs.Json.Characters.{quote, backslash}
 use Rattle.jsonb_value.specs.Json.Piece.{unit4, unit_value, is_plain}
 use Rattle.jsonb_value.specs.Reader.Reading.{read_piece, read_text}
 use Rattle.jsonb_value.specs.Json.Bind.{◌>>=◌}
-use Rattle.jsonb_value.proofs.Json.Tests.{bool_cases, by_true, by_false, and_true, and_both, not_true, not_false, bound}
+use Rattle.jsonb_value.proofs.Json.Tests.{bool_cases, by_true, by_false, and_true, and_both}
+use Rattle.jsonb_value.proofs.Json.Tests.{not_true, not_false, bound}
 use Rattle.jsonb_value.proofs.Json.Shorter.{piece_shorter}
 
 some_digit : (c : ℕ) → digit_value c < 16 → is_digit c 16 ≡ true
 some_digit c is = lt-ltb (digit_value c) 16 is
 
-pub all_digits_give : (a b c d : ℕ) → digit_value a < 16 → digit_value b < 16 → digit_value c < 16 → digit_value d < 16
-    → unit_value (unit4 a b c d) ≡ Some (digit_value a * 4096 + digit_value b * 256 + digit_value c * 16 + digit_value d)
+pub all_digits_give : (a b c d : ℕ) → digit_value a < 16 → digit_value b < 16 → digit_value c < 16
+    → digit_value d < 16
+    → unit_value (unit4 a b c d)
+    ≡ Some (digit_value a * 4096 + digit_value b * 256 + digit_value c * 16 + digit_value d)
 all_digits_give a b c d first second third fourth =
-    by_true _ _ _ _ (and_both _ _ (and_both _ _ (and_both _ _ (some_digit a first) (some_digit b second)) (some_digit c third)) (some_digit d fourth)) refl
+    by_true _ _ _ _
+    (and_both _ _
+    (and_both _ _ (and_both _ _ (some_digit a first) (some_digit b second))
+    (some_digit c third)) (some_digit d fourth)) refl
 
 no_test : (c k : ℕ) → c ≢ k → (c == k) ≡ false
-no_test c k other = elim (bool_cases (c == k)) [ inl e ↦ absurd (other (eqb-true c k e)) | inr e ↦ e ]
+no_test c k other =
+    elim (bool_cases (c == k)) [ inl e ↦ absurd (other (eqb-true c k e)) | inr e ↦ e ]
 
 no_quote : (c : ℕ) → c ≢ quote → (c == quote) ≡ false
 no_quote c other = no_test c quote other
@@ -35,17 +45,21 @@ unfolding read_text
 text_ends zero front s e = refl
 text_ends (suc m) front s e = ap (read_text (suc m) front) e
 
-pub text_closes : (m : ℕ) (front s after : List ℕ) → length s < m → s ≡ quote ∷ after → read_text m front s ≡ Some (front, after)
+pub text_closes : (m : ℕ) (front s after : List ℕ) → length s < m → s ≡ quote ∷ after
+    → read_text m front s ≡ Some (front, after)
 unfolding read_text
 text_closes zero front s after h e = absurd (omega arith)
 text_closes (suc m) front s after h e = ap (read_text (suc m) front) e
 
-pub text_fails : (m : ℕ) (front s after : List ℕ) (c : ℕ) → length s < m → s ≡ c ∷ after → c ≢ quote → read_piece s ≡ None → read_text m front s ≡ None
+pub text_fails : (m : ℕ) (front s after : List ℕ) (c : ℕ) → length s < m → s ≡ c ∷ after → c ≢ quote
+    → read_piece s ≡ None → read_text m front s ≡ None
 unfolding read_text
 text_fails zero front s after c h e other none = absurd (omega arith)
 text_fails (suc m) front s after c h e other none =
     let first : read_piece (c ∷ after) ≡ None = ap read_piece (sym e) ∙ none in
-    ap (read_text (suc m) front) e ∙ by_false _ _ _ _ (no_quote c other) (ap (λ o. o >>= λ p. read_text m (front ++ encode_utf8 p.0) p.1) first)
+    ap (read_text (suc m) front) e
+    ∙ by_false _ _ _ _ (no_quote c other)
+    (ap (λ o. o >>= λ p. read_text m (front ++ encode_utf8 p.0) p.1) first)
 
 -- reading goes on behind a piece
 pub record GoesOn (m : ℕ) (front s new rest : List ℕ) : Type 0 where
@@ -53,7 +67,9 @@ pub record GoesOn (m : ℕ) (front s new rest : List ℕ) : Type 0 where
   pub enough : length rest < turns
   pub same : read_text m front s ≡ read_text turns new rest
 
-goes_on_by : (m : ℕ) (front s after : List ℕ) (c x : ℕ) (rest : List ℕ) → length s < m → s ≡ c ∷ after → (c == quote) ≡ false → read_piece s ≡ Some (x, rest) → GoesOn m front s (front ++ encode_utf8 x) rest
+goes_on_by : (m : ℕ) (front s after : List ℕ) (c x : ℕ) (rest : List ℕ) → length s < m
+    → s ≡ c ∷ after → (c == quote) ≡ false → read_piece s ≡ Some (x, rest)
+    → GoesOn m front s (front ++ encode_utf8 x) rest
 unfolding read_text
 goes_on_by zero front s after c x rest h e other is = absurd (omega arith)
 goes_on_by (suc m) front s after c x rest h e other is =
@@ -66,15 +82,19 @@ goes_on_by (suc m) front s after c x rest h e other is =
     }
 
 -- one piece more
-goes_on_past : (m : ℕ) (front s middle rest after : List ℕ) (c x : ℕ) (last : List ℕ) → GoesOn m front s middle rest → rest ≡ c ∷ after → (c == quote) ≡ false → read_piece rest ≡ Some (x, last)
+goes_on_past : (m : ℕ) (front s middle rest after : List ℕ) (c x : ℕ) (last : List ℕ)
+    → GoesOn m front s middle rest → rest ≡ c ∷ after → (c == quote) ≡ false
+    → read_piece rest ≡ Some (x, last)
     → GoesOn m front s (middle ++ encode_utf8 x) last
 goes_on_past m front s middle rest after c x last g e other is =
     let more = goes_on_by g.turns middle rest after c x last g.enough e other is in
     record { turns = more.turns; enough = more.enough; same = g.same ∙ more.same }
 
-pub goes_on_past_piece : (m : ℕ) (front s middle rest after : List ℕ) (c x : ℕ) (last : List ℕ) → GoesOn m front s middle rest → rest ≡ c ∷ after → c ≢ quote → Some (x, last) ≡ read_piece rest
+pub goes_on_past_piece : (m : ℕ) (front s middle rest after : List ℕ) (c x : ℕ) (last : List ℕ)
+    → GoesOn m front s middle rest → rest ≡ c ∷ after → c ≢ quote → Some (x, last) ≡ read_piece rest
     → GoesOn m front s (middle ++ encode_utf8 x) last
-goes_on_past_piece m front s middle rest after c x last g e other is = goes_on_past m front s middle rest after c x last g e (no_quote c other) (sym is)
+goes_on_past_piece m front s middle rest after c x last g e other is =
+    goes_on_past m front s middle rest after c x last g e (no_quote c other) (sym is)
 
 read_piece-plain : (c : ℕ) (s : List ℕ) → is_plain c ≡ true → read_piece (c ∷ s) ≡ Some (c, s)
 read_piece-plain c s e = by_false _ _ _ _ (not_true _ (and_true _ _ e).1) (by_true _ _ _ _ e refl)
@@ -83,59 +103,95 @@ plain_is_no_quote : (c : ℕ) → is_plain c ≡ true → (c == quote) ≡ false
 plain_is_no_quote c e = not_true _ (and_true _ _ (and_true _ _ e).0).1
 
 -- so many characters more that stand for themselves
-goes_on_past_all : (ps : List ℕ) (m : ℕ) (front s middle rest last : List ℕ) → GoesOn m front s middle rest → rest ≡ ps ++ last → list_all is_plain ps ≡ true → GoesOn m front s (middle ++ encode_utf8_all ps) last
+goes_on_past_all : (ps : List ℕ) (m : ℕ) (front s middle rest last : List ℕ)
+    → GoesOn m front s middle rest → rest ≡ ps ++ last → list_all is_plain ps ≡ true
+    → GoesOn m front s (middle ++ encode_utf8_all ps) last
 goes_on_past_all [] m front s middle rest last g e all = record {
   turns = g.turns;
   enough = omega (arith, ap length e, g.enough);
-  same = g.same ∙ ap (λ q. read_text g.turns middle q) e ∙ ap (λ q. read_text g.turns q last) (sym (append-nil middle));
+  same = g.same ∙ ap (λ q. read_text g.turns middle q) e ∙ ap
+      (λ q. read_text g.turns q last) (sym (append-nil middle));
 }
 goes_on_past_all (p ∷ ps) m front s middle rest last g e all =
     let parts = and_true _ _ all in
-    let read : read_piece rest ≡ Some (p, ps ++ last) = ap read_piece e ∙ read_piece-plain p (ps ++ last) parts.0 in
-    let one = goes_on_past m front s middle rest (ps ++ last) p p (ps ++ last) g e (plain_is_no_quote p parts.0) read in
-    let more = goes_on_past_all ps m front s (middle ++ encode_utf8 p) (ps ++ last) last one refl parts.1 in
-    record { turns = more.turns; enough = more.enough; same = more.same ∙ ap (λ q. read_text more.turns q last) (append_assoc middle (encode_utf8 p) (encode_utf8_all ps)) }
+    let read : read_piece rest ≡ Some (p, ps ++ last) =
+    ap read_piece e ∙ read_piece-plain p (ps ++ last) parts.0 in
+    let one = goes_on_past m front s middle rest (ps ++ last) p p (ps ++ last) g e
+    (plain_is_no_quote p parts.0) read in
+    let more = goes_on_past_all ps m front s (middle ++ encode_utf8 p)
+    (ps ++ last) last one refl parts.1 in
+    record {
+      turns = more.turns;
+      enough = more.enough;
+      same = more.same ∙ ap
+          (λ q. read_text more.turns q last)
+          (append_assoc middle (encode_utf8 p) (encode_utf8_all ps));
+    }
 
 -- behind plain characters, by their bytes
-pub goes_on_past_plain : (m : ℕ) (front s middle rest last ps bytes : List ℕ) → GoesOn m front s middle rest → rest ≡ ps ++ last → list_all is_plain ps ≡ true → encode_utf8_all ps ≡ bytes
+pub goes_on_past_plain : (m : ℕ) (front s middle rest last ps bytes : List ℕ)
+    → GoesOn m front s middle rest → rest ≡ ps ++ last → list_all is_plain ps ≡ true
+    → encode_utf8_all ps ≡ bytes
     → GoesOn m front s (middle ++ bytes) last
 goes_on_past_plain m front s middle rest last ps bytes g e all same =
     let more = goes_on_past_all ps m front s middle rest last g e all in
-    record { turns = more.turns; enough = more.enough; same = more.same ∙ ap (λ q. read_text more.turns (middle ++ q) last) same }
+    record {
+      turns = more.turns;
+      enough = more.enough;
+      same = more.same ∙ ap
+          (λ q. read_text more.turns (middle ++ q) last) same;
+    }
 
-pub goes_on_as : (m : ℕ) (front s new rest own : List ℕ) → GoesOn m front s new rest → own ≡ new → GoesOn m front s own rest
-goes_on_as m front s new rest own g e = record { turns = g.turns; enough = g.enough; same = g.same ∙ ap (λ q. read_text g.turns q rest) (sym e) }
+pub goes_on_as : (m : ℕ) (front s new rest own : List ℕ) → GoesOn m front s new rest → own ≡ new
+    → GoesOn m front s own rest
+goes_on_as m front s new rest own g e = record {
+  turns = g.turns;
+  enough = g.enough;
+  same = g.same
+      ∙ ap (λ q. read_text g.turns q rest) (sym e);
+}
 
 -- from the quote that opens a string to the end of its plain characters
-pub goes_on_from_start : (n : ℕ) (s last ps bytes : List ℕ) → length s < n → s ≡ ps ++ last → list_all is_plain ps ≡ true → encode_utf8_all ps ≡ bytes → GoesOn n [] s bytes last
+pub goes_on_from_start : (n : ℕ) (s last ps bytes : List ℕ) → length s < n → s ≡ ps ++ last
+    → list_all is_plain ps ≡ true → encode_utf8_all ps ≡ bytes → GoesOn n [] s bytes last
 goes_on_from_start n s last ps bytes h e all same =
-    goes_on_past_plain n [] s [] s last ps bytes (record { turns = n; enough = h; same = refl }) e all same
+    goes_on_past_plain n [] s [] s last ps bytes
+    (record { turns = n; enough = h; same = refl }) e all same
 
 -- ---- plain bytes are plain characters
 
 large_is_plain : (c : ℕ) → 128 ≤ c → is_plain c ≡ true
-large_is_plain c h = and_both _ _ (and_both _ _ (le-leb 32 c (omega arith)) (not_false _ (no_test c quote (λ e. omega arith)))) (not_false _ (no_test c backslash (λ e. omega arith)))
+large_is_plain c h = and_both _ _
+    (and_both _ _ (le-leb 32 c (omega arith)) (not_false _ (no_test c quote (λ e. omega arith))))
+    (not_false _ (no_test c backslash (λ e. omega arith)))
 
 small_if_not_plain : (c : ℕ) → is_plain c ≡ false → c < 128
 small_if_not_plain c e = elim (bool_cases (nat_lt c 128)) [
   | inl small ↦ ltb-true c 128 small
-  | inr large ↦ let is : is_plain c ≡ true = large_is_plain c (ltb-false c 128 large) in let none : false ≡ true = sym e ∙ is in absurd (let h : ⊥ = cc in h)
+  | inr large ↦ let is : is_plain c
+      ≡ true = large_is_plain c (ltb-false c 128 large) in let none : false ≡ true = sym e
+      ∙ is in absurd (let h : ⊥ = cc in h)
 ]
 
 plain-encoded : (c : ℕ) → list_all is_plain (encode_utf8 c) ≡ true → is_plain c ≡ true
 plain-encoded c e = elim (bool_cases (nat_lt c 128)) [
-  | inl small ↦ (and_true _ _ (ap (list_all is_plain) (sym (encode_ascii c (ltb-true c 128 small))) ∙ e)).0
+  | inl small ↦
+      (and_true _ _ (ap (list_all is_plain) (sym (encode_ascii c (ltb-true c 128 small))) ∙ e)).0
   | inr large ↦ large_is_plain c (ltb-false c 128 large)
 ]
 
-plain-characters : (cs : List ℕ) → list_all is_plain (encode_utf8_all cs) ≡ true → list_all is_plain cs ≡ true
+plain-characters : (cs : List ℕ) → list_all is_plain (encode_utf8_all cs) ≡ true
+    → list_all is_plain cs ≡ true
 plain-characters [] e = refl
 plain-characters (c ∷ cs) e =
-    let parts = and_true _ _ (sym (list_all-append is_plain (encode_utf8 c) (encode_utf8_all cs)) ∙ e) in
+    let parts =
+    and_true _ _ (sym (list_all-append is_plain (encode_utf8 c) (encode_utf8_all cs)) ∙ e) in
     and_both _ _ (plain-encoded c parts.0) (plain-characters cs parts.1)
 
-pub plain-chars : (bytes : List ℕ) → IsUtf8 bytes → list_all is_plain bytes ≡ true → list_all is_plain (chars bytes) ≡ true
-plain-chars bytes utf8 e = plain-characters (chars bytes) (ap (list_all is_plain) (encodes-chars bytes utf8) ∙ e)
+pub plain-chars : (bytes : List ℕ) → IsUtf8 bytes → list_all is_plain bytes ≡ true
+    → list_all is_plain (chars bytes) ≡ true
+plain-chars bytes utf8 e =
+    plain-characters (chars bytes) (ap (list_all is_plain) (encodes-chars bytes utf8) ∙ e)
 
 -- ---- where the plain characters at the front end
 
@@ -143,17 +199,21 @@ plain_boundary : (bytes : List ℕ) → IsCharBoundary bytes (prefix_len is_plai
 plain_boundary bytes = elim (bool_cases (nat_lt (prefix_len is_plain bytes) (length bytes))) [
   | inl within ↦
       let stops = prefix_len_stops is_plain bytes 0 (ltb-true _ _ within) in
-      IsCharBoundary-before_ascii bytes (prefix_len is_plain bytes) (ltb-true _ _ within) (small_if_not_plain _ stops)
+      IsCharBoundary-before_ascii bytes (prefix_len is_plain bytes) (ltb-true _ _ within)
+      (small_if_not_plain _ stops)
   | inr past ↦
-      let all : prefix_len is_plain bytes ≡ length bytes = let h = ltb-false _ _ past in omega (arith, prefix_len-le-length is_plain bytes) in
+      let all : prefix_len is_plain bytes ≡ length bytes =
+      let h = ltb-false _ _ past in omega (arith, prefix_len-le-length is_plain bytes) in
       subst (IsCharBoundary bytes) (sym all) (IsCharBoundary-end bytes)
 ]
 
-plain_take : (bytes : List ℕ) (n : ℕ) → n ≤ prefix_len is_plain bytes → list_all is_plain (take n bytes) ≡ true
+plain_take : (bytes : List ℕ) (n : ℕ) → n ≤ prefix_len is_plain bytes
+    → list_all is_plain (take n bytes) ≡ true
 plain_take bytes zero h = refl
 plain_take [] (suc n) h = refl
 plain_take (b ∷ bytes) (suc n) h = elim (bool_cases (is_plain b)) [
-  | inl e ↦ let more : suc n ≤ 1 + prefix_len is_plain bytes = rw e at h in and_both _ _ e (plain_take bytes n (omega arith))
+  | inl e ↦ let more : suc n ≤ 1 + prefix_len is_plain bytes =
+      rw e at h in and_both _ _ e (plain_take bytes n (omega arith))
   | inr e ↦ let none : suc n ≤ 0 = rw e at h in absurd (omega arith)
 ]
 
@@ -166,12 +226,16 @@ pub record PlainFront (bytes front rest : List ℕ) : Type 0 where
   pub is_whole : chars bytes ≡ chars front ++ chars rest
   pub is_encoded : encode_utf8_all (chars front) ≡ front
 
-pub plain_front : (bytes front rest : List ℕ) (n : ℕ) → IsUtf8 bytes → n ≡ prefix_len is_plain bytes → front ≡ take n bytes → rest ≡ drop n bytes → PlainFront bytes front rest
+pub plain_front : (bytes front rest : List ℕ) (n : ℕ) → IsUtf8 bytes → n ≡ prefix_len is_plain bytes
+    → front ≡ take n bytes → rest ≡ drop n bytes → PlainFront bytes front rest
 plain_front bytes front rest n utf8 e is_front is_rest =
-    let front_utf8 : IsUtf8 front = subst IsUtf8 (sym is_front) (IsUtf8-take bytes n utf8 (cut_boundary bytes n e)) in
+    let front_utf8 : IsUtf8 front =
+    subst IsUtf8 (sym is_front) (IsUtf8-take bytes n utf8 (cut_boundary bytes n e)) in
     let within : n ≤ prefix_len is_plain bytes = omega arith in
-    let plain : list_all is_plain front ≡ true = ap (list_all is_plain) is_front ∙ plain_take bytes n within in
-    let joined : bytes ≡ front ++ rest = sym (take-append-drop n bytes) ∙ ap (λ q. q ++ drop n bytes) (sym is_front) ∙ ap (λ q. front ++ q) (sym is_rest) in
+    let plain : list_all is_plain front ≡ true =
+    ap (list_all is_plain) is_front ∙ plain_take bytes n within in
+    let joined : bytes ≡ front ++ rest = sym (take-append-drop n bytes) ∙ ap
+    (λ q. q ++ drop n bytes) (sym is_front) ∙ ap (λ q. front ++ q) (sym is_rest) in
     record {
       is_plain_all = plain-chars front front_utf8 plain;
       is_whole = ap chars joined ∙ chars-append front rest front_utf8;
@@ -179,7 +243,8 @@ plain_front bytes front rest n utf8 e is_front is_rest =
     }
 
 -- what follows the plain characters behind a piece is shorter
-pub plain_shorter : (s after ps last : List ℕ) (x : ℕ) → Some (x, after) ≡ read_piece s → after ≡ ps ++ last → length last < length s
+pub plain_shorter : (s after ps last : List ℕ) (x : ℕ) → Some (x, after) ≡ read_piece s
+    → after ≡ ps ++ last → length last < length s
 plain_shorter s after ps last x is e =
     let shorter = piece_shorter s x after (sym is) in
     omega (arith, ap length e, length-append ps last)

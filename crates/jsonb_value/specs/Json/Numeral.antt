@@ -1,13 +1,17 @@
 -- A number as it is spelled, and the number that it means.
-use Rattle.std.specs.Prelude.{ℕ, zero, suc, ℤ, pos, negsuc, neg_ℤ, ◌^◌, Bool, true, false, if◌then◌else◌, ◌&&◌, not, ◌==◌, nat_lt, List, [], ◌∷◌, ◌++◌, length, Option, Some, None}
+use Rattle.std.specs.Prelude.{ℕ, zero, suc, ℤ, pos, negsuc, neg_ℤ, ◌^◌, Bool, true, false}
+use Rattle.std.specs.Prelude.{if◌then◌else◌, ◌&&◌, not, ◌==◌, nat_lt, List, [], ◌∷◌, ◌++◌, length}
+use Rattle.std.specs.Prelude.{Option, Some, None}
 use Rattle.std.specs.Char.{is_ascii_digit}
 use Rattle.std.specs.Str.Parse.{digits_value}
 use Rattle.jsonb_value.specs.declared.number.Number.{Number}
-use Rattle.jsonb_value.specs.declared.number.Number.TheVariants.{Int64, UInt64, Decimal64, Decimal128}
+use Rattle.jsonb_value.specs.declared.number.Number.TheVariants.{Int64, UInt64, Decimal64}
+use Rattle.jsonb_value.specs.declared.number.Number.TheVariants.{Decimal128}
 use Rattle.jsonb_value.specs.NumCode.{is_within}
 use Rattle.jsonb_value.specs.Json.Characters.{minus, point, zero_digit, all_digits}
 
--- A number's characters: a sign, the digits before the point, and those after it (none where there is no point).
+-- A number's characters: a sign, the digits before the point, and those after it (none where there
+-- is no point).
 pub record Numeral : Type 0 where
   pub is_negative : Bool
   pub whole : List ℕ
@@ -38,27 +42,31 @@ abbrev pub is_numeral : Numeral → Bool
 is_numeral n = is_whole n.whole && all_digits n.fraction
 
 -- the magnitude, negative where that is said
-abbrev pub signed : Bool → ℕ → ℤ
-signed true m = neg_ℤ (pos m)
-signed false m = pos m
+abbrev pub signed_number : Bool → ℕ → ℤ
+signed_number true m = neg_ℤ (pos m)
+signed_number false m = pos m
 
 -- the whole number that is left without the point
 abbrev pub value_without_point : Numeral → ℤ
-value_without_point n = signed n.is_negative (digits_value 10 (n.whole ++ n.fraction))
+value_without_point n = signed_number n.is_negative (digits_value 10 (n.whole ++ n.fraction))
 
 -- a decimal of 128 bits, if the value is within them
 abbrev pub wide_number : ℕ → ℤ → Option Number
-wide_number scale v = if is_within 127 v then Some (Decimal128 (record { scale = scale; value = v })) else None
+wide_number scale v =
+    if is_within 127 v then Some (Decimal128 (record { scale = scale; value = v })) else None
 
--- a number with no point: the narrowest of 64 bits without sign, 64 bits with sign, and a decimal of 128 bits
+-- a number with no point: the narrowest of 64 bits without sign, 64 bits with sign, and a decimal
+-- of 128 bits
 abbrev pub whole_number : ℤ → Option Number
 whole_number (pos m) = if nat_lt m (2 ^ 64) then Some (UInt64 m) else wide_number 0 (pos m)
-whole_number (negsuc m) = if is_within 63 (negsuc m) then Some (Int64 (negsuc m)) else wide_number 0 (negsuc m)
+whole_number (negsuc m) =
+    if is_within 63 (negsuc m) then Some (Int64 (negsuc m)) else wide_number 0 (negsuc m)
 
 -- a number with so many digits behind its point, 255 at the most
 abbrev pub decimal_number : ℕ → ℤ → Option Number
 decimal_number scale v =
-    if nat_lt 255 scale then None else if is_within 63 v then Some (Decimal64 (record { scale = scale; value = v })) else wide_number scale v
+    if nat_lt 255 scale then None else if is_within 63 v
+    then Some (Decimal64 (record { scale = scale; value = v })) else wide_number scale v
 
 -- the number with so many digits behind its point, of this value without the point
 abbrev pub number_of : ℕ → ℤ → Option Number
@@ -67,4 +75,5 @@ number_of (suc scale) v = decimal_number (suc scale) v
 
 -- the number that the characters mean, where they mean one
 abbrev pub numeral_meaning : Numeral → Option Number
-numeral_meaning n = if is_numeral n then number_of (length n.fraction) (value_without_point n) else None
+numeral_meaning n =
+    if is_numeral n then number_of (length n.fraction) (value_without_point n) else None

@@ -1,5 +1,6 @@
 -- The pieces of a string: what they spell, and the character that each stands for.
-use Rattle.std.specs.Prelude.{ℕ, ◌+◌, ◌-◌, ◌*◌, Bool, cond, not, ◌&&◌, ◌||◌, ◌==◌, nat_lt, nat_le, List, [], ◌∷◌, ◌++◌, Option, Some, None, encode_utf8}
+use Rattle.std.specs.Prelude.{ℕ, ◌+◌, ◌-◌, ◌*◌, Bool, cond, not, ◌&&◌, ◌||◌, ◌==◌, nat_lt, nat_le}
+use Rattle.std.specs.Prelude.{List, [], ◌∷◌, ◌++◌, Option, Some, None, encode_utf8}
 use Rattle.std.specs.Char.{digit_value, is_digit}
 use Rattle.jsonb_value.specs.Json.Characters.{quote, backslash, letter_u}
 use Rattle.jsonb_value.specs.Json.Bind.{◌>>=◌}
@@ -8,7 +9,8 @@ use Rattle.jsonb_value.specs.Json.Bind.{◌>>=◌}
 pub data Unit4 : Type 0 where
   unit4 : (a b c d : ℕ) → Unit4
 
--- A character that stands for itself, an escape by one letter, an escape by four digits, and two of these which make one character.
+-- A character that stands for itself, an escape by one letter, an escape by four digits, and two of
+-- these which make one character.
 pub data Piece : Type 0 where
   plain : ℕ → Piece
   escape : ℕ → Piece
@@ -37,11 +39,14 @@ unit_value (unit4 a b c d) =
     cond (is_digit a 16 && is_digit b 16 && is_digit c 16 && is_digit d 16)
     (Some (digit_value a * 4096 + digit_value b * 256 + digit_value c * 16 + digit_value d)) None
 
--- what stands behind the backslash: `"`, `\`, `/`, and the letters `b`, `f`, `n`, `r`, `t` for backspace, form feed, line feed, carriage return and tab
+-- what stands behind the backslash: `"`, `\`, `/`, and the letters `b`, `f`, `n`, `r`, `t` for
+-- backspace, form feed, line feed, carriage return and tab
 abbrev pub escape_value : ℕ → Option ℕ
 escape_value c =
     cond ((c == quote) || (c == backslash) || (c == 47)) (Some c)
-    (cond (c == 98) (Some 8) (cond (c == 102) (Some 12) (cond (c == 110) (Some 10) (cond (c == 114) (Some 13) (cond (c == 116) (Some 9) None)))))
+    (cond (c == 98) (Some 8)
+    (cond (c == 102) (Some 12)
+    (cond (c == 110) (Some 10) (cond (c == 114) (Some 13) (cond (c == 116) (Some 9) None)))))
 
 -- the first half of a surrogate pair
 abbrev pub is_high : ℕ → Bool
@@ -57,7 +62,8 @@ unit_character u = cond (is_high u || is_low u) None (Some u)
 
 -- the character of a surrogate pair
 abbrev pub pair_character : ℕ → ℕ → Option ℕ
-pair_character high low = cond (is_high high && is_low low) (Some (0x10000 + (high - 0xd800) * 1024 + (low - 0xdc00))) None
+pair_character high low = cond (is_high high && is_low low)
+    (Some (0x10000 + (high - 0xd800) * 1024 + (low - 0xdc00))) None
 
 -- all but quote, backslash and the control characters stand for themselves
 abbrev pub is_plain : ℕ → Bool
@@ -73,4 +79,5 @@ piece_meaning (surrogates high low) = unit_value high >>= λ h. unit_value low >
 -- the characters of all pieces, in UTF-8
 abbrev pub pieces_meaning : List Piece → Option (List ℕ)
 pieces_meaning [] = Some []
-pieces_meaning (p ∷ ps) = piece_meaning p >>= λ c. pieces_meaning ps >>= λ bytes. Some (encode_utf8 c ++ bytes)
+pieces_meaning (p ∷ ps) =
+    piece_meaning p >>= λ c. pieces_meaning ps >>= λ bytes. Some (encode_utf8 c ++ bytes)

@@ -1,11 +1,14 @@
 -- A text as it is spelled, white space and all: what it spells, and the tree that it means.
-use Rattle.std.specs.Prelude.{◌≡◌, ℕ, Bool, true, false, cond, ◌&&◌, List, [], ◌∷◌, ◌++◌, Option, Some, None, option_map, codes}
+use Rattle.std.specs.Prelude.{◌≡◌, ℕ, Bool, true, false, cond, ◌&&◌, List, [], ◌∷◌, ◌++◌, Option}
+use Rattle.std.specs.Prelude.{Some, None, option_map, codes}
 use Rattle.std.specs.Ordering.{nat_cmp}
 use Rattle.std.specs.Cmp.Lexicographic.{slice_cmp}
 use Rattle.std.specs.BTreeMap.{insert_entry}
-use Rattle.jsonb_value.specs.Tree.{Tree, Pairs, null, array, object, text, number, boolean, no_trees, tree, no_pairs, pair}
+use Rattle.jsonb_value.specs.Tree.{Tree, Pairs, null, array, object, text, number, boolean}
+use Rattle.jsonb_value.specs.Tree.{no_trees, tree, no_pairs, pair}
 use Rattle.jsonb_value.specs.Value.{trees_of}
-use Rattle.jsonb_value.specs.Json.Characters.{quote, comma, colon, open_bracket, close_bracket, open_brace, close_brace, all_blank}
+use Rattle.jsonb_value.specs.Json.Characters.{quote, comma, colon, open_bracket, close_bracket}
+use Rattle.jsonb_value.specs.Json.Characters.{open_brace, close_brace, all_blank}
 use Rattle.jsonb_value.specs.Json.Bind.{◌>>=◌}
 use Rattle.jsonb_value.specs.Json.Numeral.{Numeral, numeral_text, numeral_meaning}
 use Rattle.jsonb_value.specs.Json.Piece.{Piece, pieces_text, pieces_meaning}
@@ -69,7 +72,8 @@ abbrev mutual
   items_text (next_item x xs) = comma ∷ (element_text x ++ items_text xs)
 
   pub member_text : Member → List ℕ
-  member_text (member before key after x) = before ++ (string_text key ++ (after ++ colon ∷ element_text x))
+  member_text (member before key after x) =
+      before ++ (string_text key ++ (after ++ colon ∷ element_text x))
 
   pub members_text : Members → List ℕ
   members_text no_member = close_brace ∷ []
@@ -84,10 +88,11 @@ abbrev pub pairs : Entries → Pairs
 pairs [] = no_pairs
 pairs (e ∷ es) = pair e.0 e.1 (pairs es)
 
--- The entries with these put in, one after another: each at its key's place in the order of bytes, instead of an equal key's.
-abbrev pub inserted : Entries → Entries → Entries
-inserted es [] = es
-inserted es (m ∷ ms) = inserted (insert_entry (slice_cmp nat_cmp) es m.0 m.1) ms
+-- The entries with these put in, one after another: each at its key's place in the order of bytes,
+-- instead of an equal key's.
+abbrev pub insert_all : Entries → Entries → Entries
+insert_all es [] = es
+insert_all es (m ∷ ms) = insert_all (insert_entry (slice_cmp nat_cmp) es m.0 m.1) ms
 
 -- the same, if what stands before and after is white space
 abbrev pub between : {A : Type 0} → List ℕ → List ℕ → Option A → Option A
@@ -101,23 +106,28 @@ abbrev mutual
   meaning (numeral n) = option_map number (numeral_meaning n)
   meaning (string pieces) = option_map text (pieces_meaning pieces)
   meaning (empty_array blank) = between blank [] (Some (array no_trees))
-  meaning (items x xs) = element_meaning x >>= λ t. items_meaning xs >>= λ ts. Some (array (tree t (trees_of ts)))
+  meaning (items x xs) =
+      element_meaning x >>= λ t. items_meaning xs >>= λ ts. Some (array (tree t (trees_of ts)))
   meaning (empty_object blank) = between blank [] (Some (object no_pairs))
-  meaning (members m ms) = member_meaning m >>= λ e. members_meaning ms >>= λ es. Some (object (pairs (inserted [] (e ∷ es))))
+  meaning (members m ms) = member_meaning m >>= λ e. members_meaning ms
+      >>= λ es. Some (object (pairs (insert_all [] (e ∷ es))))
 
   pub element_meaning : Element → Option Tree
   element_meaning (element before x after) = between before after (meaning x)
 
   pub items_meaning : Items → Option (List Tree)
   items_meaning no_item = Some []
-  items_meaning (next_item x xs) = element_meaning x >>= λ t. items_meaning xs >>= λ ts. Some (t ∷ ts)
+  items_meaning (next_item x xs) =
+      element_meaning x >>= λ t. items_meaning xs >>= λ ts. Some (t ∷ ts)
 
   pub member_meaning : Member → Option (List ℕ × Tree)
-  member_meaning (member before key after x) = between before after (pieces_meaning key) >>= λ k. element_meaning x >>= λ t. Some (k, t)
+  member_meaning (member before key after x) =
+      between before after (pieces_meaning key) >>= λ k. element_meaning x >>= λ t. Some (k, t)
 
   pub members_meaning : Members → Option Entries
   members_meaning no_member = Some []
-  members_meaning (next_member m ms) = member_meaning m >>= λ e. members_meaning ms >>= λ es. Some (e ∷ es)
+  members_meaning (next_member m ms) =
+      member_meaning m >>= λ e. members_meaning ms >>= λ es. Some (e ∷ es)
 
 -- The characters are a text of JSON that means the tree.
 pub record Json (characters : List ℕ) (t : Tree) : Type 0 where

@@ -1,4 +1,5 @@
--- What a function of the reader returned, seen by `view`, beside what is read of the same characters.
+-- What a function of the reader returned, seen by `view`, beside what is read of the same
+-- characters.
 use Rattle.std.specs.Prelude.{◌≡◌, Option, Some, None, Result, Ok, Err, ⊤}
 use Rattle.jsonb_value.specs.declared.error.Error.{Error}
 use Rattle.jsonb_value.specs.declared.error.Error.TheVariants.{OutOfMemory, InvalidJson}

@@ -1,5 +1,6 @@
 -- What a container holds after one more part of it was read.
-use Rattle.std.specs.Prelude.{◌≡◌, ℕ, ◌<◌, ◌≤◌, List, [], ◌∷◌, ◌++◌, length, Some, String, string_bytes, string_cmp}
+use Rattle.std.specs.Prelude.{◌≡◌, ℕ, ◌<◌, ◌≤◌, List, [], ◌∷◌, ◌++◌, length, Some, String}
+use Rattle.std.specs.Prelude.{string_bytes, string_cmp}
 use Rattle.std.specs.declared.alloc.Global.{Global}
 use Rattle.std.specs.BTreeMap.{insert_entry}
 use Rattle.jsonb_value.specs.declared.value.Value.{Value}
@@ -17,4 +18,5 @@ pub record MemberIsRead (old new : List (String Global × Value)) (s rest : List
   pub key : String Global
   pub value : Value
   pub inserted : new ≡ insert_entry string_cmp old key value
-  pub reads : (n turns : ℕ) → length s < n → length s ≤ turns → read_member (read_value n) turns s ≡ Some ((string_bytes key, tree_of value), rest)
+  pub reads : (n turns : ℕ) → length s < n → length s ≤ turns
+      → read_member (read_value n) turns s ≡ Some ((string_bytes key, tree_of value), rest)

@@ -1,5 +1,6 @@
 -- The kinds of the code as those of the grammar.
-use Rattle.jsonb_value.specs.Reader.Reading.{Kind, null_kind, true_kind, false_kind, string_kind, array_kind, object_kind, number_kind}
+use Rattle.jsonb_value.specs.Reader.Reading.{Kind, null_kind, true_kind, false_kind, string_kind}
+use Rattle.jsonb_value.specs.Reader.Reading.{array_kind, object_kind, number_kind}
 use Rattle.jsonb_value.specs.declared.parser.Kind as code
 use Rattle.jsonb_value.specs.declared.parser.Kind.TheVariants as kinds
 

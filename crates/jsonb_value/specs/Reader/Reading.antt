@@ -1,17 +1,22 @@
 -- Reading from the left, as a function on characters.
-use Rattle.std.specs.Prelude.{ℕ, zero, suc, Bool, true, false, cond, ◌==◌, ◌&&◌, List, [], ◌∷◌, ◌++◌, length, Option, Some, None, encode_utf8, codes}
+use Rattle.std.specs.Prelude.{ℕ, zero, suc, Bool, true, false, cond, ◌==◌, ◌&&◌, List, [], ◌∷◌}
+use Rattle.std.specs.Prelude.{◌++◌, length, Option, Some, None, encode_utf8, codes}
 use Rattle.std.specs.Char.{is_ascii_digit}
 use Rattle.std.specs.Ordering.{nat_cmp}
 use Rattle.std.specs.Cmp.Lexicographic.{slice_cmp}
 use Rattle.std.specs.Str.Parse.{digits_value}
 use Rattle.std.specs.BTreeMap.{insert_entry}
 use Rattle.jsonb_value.specs.declared.number.Number.{Number}
-use Rattle.jsonb_value.specs.Tree.{Tree, null, array, object, text, number, boolean, no_trees, no_pairs}
+use Rattle.jsonb_value.specs.Tree.{Tree, null, array, object, text, number, boolean, no_trees}
+use Rattle.jsonb_value.specs.Tree.{no_pairs}
 use Rattle.jsonb_value.specs.Value.{trees_of}
-use Rattle.jsonb_value.specs.Json.Characters.{quote, comma, minus, point, zero_digit, colon, open_bracket, backslash, close_bracket, letter_u, open_brace, close_brace, is_blank}
+use Rattle.jsonb_value.specs.Json.Characters.{quote, comma, minus, point, zero_digit, colon}
+use Rattle.jsonb_value.specs.Json.Characters.{open_bracket, backslash, close_bracket, letter_u}
+use Rattle.jsonb_value.specs.Json.Characters.{open_brace, close_brace, is_blank}
 use Rattle.jsonb_value.specs.Json.Bind.{◌>>=◌}
-use Rattle.jsonb_value.specs.Json.Numeral.{signed, number_of}
-use Rattle.jsonb_value.specs.Json.Piece.{unit4, unit_value, escape_value, unit_character, pair_character, is_plain, is_high}
+use Rattle.jsonb_value.specs.Json.Numeral.{signed_number, number_of}
+use Rattle.jsonb_value.specs.Json.Piece.{unit4, unit_value, escape_value, unit_character}
+use Rattle.jsonb_value.specs.Json.Piece.{pair_character, is_plain, is_high}
 use Rattle.jsonb_value.specs.Json.Syntax.{Entries, pairs}
 
 -- What is read at the front of the characters, and the characters after it.
@@ -41,7 +46,8 @@ read_sign (c ∷ s) = cond (c == minus) (true, s) (false, c ∷ s)
 -- `0`, or the digits that begin with another
 abbrev pub read_whole : Reader (List ℕ)
 read_whole [] = None
-read_whole (c ∷ s) = cond (is_ascii_digit c) (cond (c == zero_digit) (Some (c ∷ [], s)) (Some (c ∷ front_digits s, after_digits s))) None
+read_whole (c ∷ s) = cond (is_ascii_digit c)
+    (cond (c == zero_digit) (Some (c ∷ [], s)) (Some (c ∷ front_digits s, after_digits s))) None
 
 -- the digits at the front, of which there is one at least
 abbrev pub some_digits : Reader (List ℕ)
@@ -58,7 +64,8 @@ abbrev pub read_number : Reader Number
 read_number s =
     read_whole (read_sign s).1 >>= λ whole.
     read_fraction whole.1 >>= λ fraction.
-    number_of (length fraction.0) (signed (read_sign s).0 (digits_value 10 (whole.0 ++ fraction.0))) >>= λ n.
+    number_of (length fraction.0)
+    (signed_number (read_sign s).0 (digits_value 10 (whole.0 ++ fraction.0))) >>= λ n.
     Some (n, fraction.1)
 
 -- ---- strings, behind the quote that opens them
@@ -83,18 +90,21 @@ read_character u s =
 -- what follows a backslash
 abbrev pub read_escape : Reader ℕ
 read_escape [] = None
-read_escape (c ∷ s) = cond (c == letter_u) (read_unit s >>= λ u. read_character u.0 u.1) (escape_value c >>= λ x. Some (x, s))
+read_escape (c ∷ s) = cond (c == letter_u) (read_unit s >>= λ u. read_character u.0 u.1)
+    (escape_value c >>= λ x. Some (x, s))
 
 -- a character as it stands, or an escape
 abbrev pub read_piece : Reader ℕ
 read_piece [] = None
 read_piece (c ∷ s) = cond (c == backslash) (read_escape s) (cond (is_plain c) (Some (c, s)) None)
 
--- The bytes of a string, after those in front. The number bounds the turns: one above the length is enough, here and below.
+-- The bytes of a string, after those in front. The number bounds the turns: one above the length is
+-- enough, here and below.
 unfoldable pub read_text : ℕ → List ℕ → Reader (List ℕ)
 read_text zero front s = None
 read_text (suc n) front [] = None
-read_text (suc n) front (c ∷ s) = cond (c == quote) (Some (front, s)) (read_piece (c ∷ s) >>= λ p. read_text n (front ++ encode_utf8 p.0) p.1)
+read_text (suc n) front (c ∷ s) = cond (c == quote) (Some (front, s))
+    (read_piece (c ∷ s) >>= λ p. read_text n (front ++ encode_utf8 p.0) p.1)
 
 -- ---- values
 
@@ -116,15 +126,18 @@ read_word ks t s = expect_all ks s >>= λ rest. Some (t, rest)
 abbrev pub read_element : Reader Tree → Reader Tree
 read_element value s = value (skip_blank s) >>= λ x. Some (x.0, skip_blank x.1)
 
--- what stands behind an item: a comma and more, or the bracket that ends the array of those in front
+-- what stands behind an item: a comma and more, or the bracket that ends the array of those in
+-- front
 abbrev pub after_item : (List Tree → Reader Tree) → List Tree → Reader Tree
 after_item more front [] = None
-after_item more front (c ∷ s) = cond (c == comma) (more front s) (cond (c == close_bracket) (Some (array (trees_of front), s)) None)
+after_item more front (c ∷ s) = cond (c == comma) (more front s)
+    (cond (c == close_bracket) (Some (array (trees_of front), s)) None)
 
 -- the array of the items in front and those that follow
 unfoldable pub read_items : Reader Tree → ℕ → List Tree → Reader Tree
 read_items value zero front s = None
-read_items value (suc n) front s = read_element value s >>= λ x. after_item (read_items value n) (front ++ x.0 ∷ []) x.1
+read_items value (suc n) front s =
+    read_element value s >>= λ x. after_item (read_items value n) (front ++ x.0 ∷ []) x.1
 
 -- an empty container, or what else it is
 abbrev pub empty_or : Option (List ℕ) → Tree → Option (Tree × List ℕ) → Option (Tree × List ℕ)
@@ -133,7 +146,8 @@ empty_or None t other = other
 
 -- an array, behind its opening bracket
 abbrev pub read_array : Reader Tree → ℕ → Reader Tree
-read_array value n s = empty_or (expect close_bracket (skip_blank s)) (array no_trees) (read_items value n [] s)
+read_array value n s =
+    empty_or (expect close_bracket (skip_blank s)) (array no_trees) (read_items value n [] s)
 
 -- a key and its value
 abbrev pub read_member : Reader Tree → ℕ → Reader (List ℕ × Tree)
@@ -144,19 +158,24 @@ read_member value n s =
     read_element value behind >>= λ x.
     Some ((key.0, x.0), x.1)
 
--- what stands behind a member: a comma and more, or the brace that ends the object of those in front
+-- what stands behind a member: a comma and more, or the brace that ends the object of those in
+-- front
 abbrev pub after_member : (Entries → Reader Tree) → Entries → Reader Tree
 after_member more front [] = None
-after_member more front (c ∷ s) = cond (c == comma) (more front s) (cond (c == close_brace) (Some (object (pairs front), s)) None)
+after_member more front (c ∷ s) =
+    cond (c == comma) (more front s) (cond (c == close_brace) (Some (object (pairs front), s)) None)
 
 -- the object of the members in front and those that follow
 unfoldable pub read_members : Reader Tree → ℕ → Entries → Reader Tree
 read_members value zero front s = None
-read_members value (suc n) front s = read_member value n s >>= λ m. after_member (read_members value n) (insert_entry (slice_cmp nat_cmp) front m.0.0 m.0.1) m.1
+read_members value (suc n) front s = read_member value n s
+    >>= λ m. after_member (read_members value n)
+    (insert_entry (slice_cmp nat_cmp) front m.0.0 m.0.1) m.1
 
 -- an object, behind its opening brace
 abbrev pub read_object : Reader Tree → ℕ → Reader Tree
-read_object value n s = empty_or (expect close_brace (skip_blank s)) (object no_pairs) (read_members value n [] s)
+read_object value n s =
+    empty_or (expect close_brace (skip_blank s)) (object no_pairs) (read_members value n [] s)
 
 -- what the first character tells
 pub data Kind : Type 0 where
@@ -172,7 +191,8 @@ pub data Kind : Type 0 where
 abbrev pub kind_of : ℕ → Kind
 kind_of c =
     cond (c == 110) null_kind (cond (c == 116) true_kind (cond (c == 102) false_kind
-    (cond (c == quote) string_kind (cond (c == open_bracket) array_kind (cond (c == open_brace) object_kind number_kind)))))
+    (cond (c == quote) string_kind
+    (cond (c == open_bracket) array_kind (cond (c == open_brace) object_kind number_kind)))))
 
 -- a value of this kind that begins with c
 abbrev pub read_kind : Reader Tree → ℕ → Kind → ℕ → Reader Tree

@@ -7,7 +7,8 @@ ghost use Rattle.jsonb_value.specs.Reader.Reading.{skip_blank, expect, expect_al
 /// The first character, and what follows it.
 #[inline(always)]
 pub fn split_first(text: &str) -> Option<(char, &str)>
-    ensures { MatchOption result (chars text.now ≡ []) (λ parts. chars text.now ≡ parts.0 ∷ chars parts.1.now) }
+    ensures { MatchOption result (chars text.now ≡ [])
+        (λ parts. chars text.now ≡ parts.0 ∷ chars parts.1.now) }
 {
     let mut characters = text.chars();
     let first = characters.next()?;
@@ -27,7 +28,8 @@ pub fn after_char(text: &str, expected: char) -> Option<&str>
 
 /// What follows these characters, where they stand first.
 pub fn after_all<'a>(text: &'a str, expected: &[char]) -> Option<&'a str>
-    ensures { option_map (λ rest. chars rest.now) result ≡ expect_all expected.now (chars text.now) }
+    ensures { option_map
+        (λ rest. chars rest.now) result ≡ expect_all expected.now (chars text.now) }
 {
     let mut rest = text;
     for character in expected {

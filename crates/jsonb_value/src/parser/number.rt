@@ -1,11 +1,14 @@
 //! Reading a number.
 
-ghost use Rattle.std.specs.Prelude.{◌≡◌, ℕ, ◌+◌, ◌*◌, List, Some, None, chars, option_map, MatchOption, SomeIff, IsTrue};
+ghost use Rattle.std.specs.Prelude.{◌≡◌, ℕ, ◌+◌, ◌*◌, List, Some, None, chars, option_map};
+ghost use Rattle.std.specs.Prelude.{MatchOption, SomeIff, IsTrue};
 ghost use Rattle.std.specs.Char.{digit_value, is_ascii_digit};
 ghost use Rattle.std.specs.Str.Parse.{digits_value};
 ghost use Rattle.jsonb_value.specs.NumCode.{is_within};
-ghost use Rattle.jsonb_value.specs.Json.Numeral.{signed, number_of, whole_number, decimal_number};
-ghost use Rattle.jsonb_value.specs.Reader.Reading.{read_sign, read_whole, read_fraction, read_number, front_digits, after_digits};
+ghost use Rattle.jsonb_value.specs.Json.Numeral.{signed_number, number_of, whole_number};
+ghost use Rattle.jsonb_value.specs.Json.Numeral.{decimal_number};
+ghost use Rattle.jsonb_value.specs.Reader.Reading.{read_sign, read_whole, read_fraction};
+ghost use Rattle.jsonb_value.specs.Reader.Reading.{read_number, front_digits, after_digits};
 ghost use Rattle.jsonb_value.specs.Reader.Digits.{Counts, AreDigits};
 
 use crate::number::{Decimal64, Decimal128, Number};
@@ -49,7 +52,8 @@ fn with_digit(value: Option<u128>, digit: char) -> Option<u128>
 // The digits at the front, behind those of `start`, and what follows them.
 #[inline(always)]
 fn read_digits(start: Option<u128>, text: &str) -> (Digits, &str)
-    ensures digits { (n : ℕ) → Counts n start → AreDigits n (front_digits (chars text.now)) result.0 }
+    ensures digits { (n : ℕ) → Counts n start
+        → AreDigits n (front_digits (chars text.now)) result.0 }
     ensures rest { chars result.1.now ≡ after_digits (chars text.now) }
 {
     let mut digits = Digits {
@@ -71,7 +75,9 @@ fn read_digits(start: Option<u128>, text: &str) -> (Digits, &str)
 // `0`, or digits that begin with another: their number, unless it is too large, and what follows.
 #[inline(always)]
 fn read_whole(text: &str) -> Option<(Option<u128>, &str)>
-    ensures { MatchOption result (read_whole (chars text.now) ≡ None) (λ found. (ds : List ℕ) × (read_whole (chars text.now) ≡ Some (ds, chars found.1.now)) × Counts (digits_value 10 ds) found.0) }
+    ensures { MatchOption result (read_whole (chars text.now) ≡ None)
+        (λ found. (ds : List ℕ) × (read_whole (chars text.now) ≡ Some (ds, chars found.1.now))
+        × Counts (digits_value 10 ds) found.0) }
 {
     let (first, rest) = split_first(text)?;
     if !first.is_ascii_digit() {
@@ -88,7 +94,10 @@ fn read_whole(text: &str) -> Option<(Option<u128>, &str)>
 // The digits after a point, where one stands, behind those of `whole`.
 #[inline(always)]
 fn read_fraction(whole: Option<u128>, text: &str) -> Option<(Digits, &str)>
-    ensures { (n : ℕ) → Counts n whole → MatchOption result (read_fraction (chars text.now) ≡ None) (λ found. (ds : List ℕ) × (read_fraction (chars text.now) ≡ Some (ds, chars found.1.now)) × AreDigits n ds found.0) }
+    ensures { (n : ℕ) → Counts n whole
+        → MatchOption result (read_fraction (chars text.now) ≡ None)
+        (λ found. (ds : List ℕ) × (read_fraction (chars text.now) ≡ Some (ds, chars found.1.now))
+        × AreDigits n ds found.0) }
 {
     let Some(rest) = after_char(text, '.') else {
         let digits = Digits {
@@ -138,7 +147,8 @@ fn decimal_number(scale: u8, value: i128) -> Number
 
 // The magnitude with its sign, where it lies within the type.
 fn signed(is_negative: bool, magnitude: u128) -> Option<i128>
-    ensures { SomeIff result (IsTrue (is_within 127 (signed is_negative magnitude))) (signed is_negative magnitude) }
+    ensures { SomeIff result (IsTrue (is_within 127 (signed_number is_negative magnitude)))
+        (signed_number is_negative magnitude) }
 {
     if is_negative {
         0i128.checked_sub_unsigned(magnitude)
@@ -149,7 +159,8 @@ fn signed(is_negative: bool, magnitude: u128) -> Option<i128>
 
 /// The number at the front of the text, and what follows it.
 pub fn read_number(text: &str) -> Option<(Number, &str)>
-    ensures { option_map (λ found. (found.0, chars found.1.now)) result ≡ read_number (chars text.now) }
+    ensures { option_map
+        (λ found. (found.0, chars found.1.now)) result ≡ read_number (chars text.now) }
 {
     let (is_negative, rest) = read_sign(text);
     let (whole, rest) = read_whole(rest)?;

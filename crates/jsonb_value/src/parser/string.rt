@@ -1,10 +1,13 @@
 //! Reading a string, behind the quote that opens it.
 
-ghost use Rattle.std.specs.Prelude.{◌≡◌, ℕ, ◌<◌, ◌++◌, true, [], Some, None, chars, length, option_map, string_bytes, encode_utf8_all, IfSome};
+ghost use Rattle.std.specs.Prelude.{◌≡◌, ℕ, ◌<◌, ◌++◌, true, [], Some, None, chars, length};
+ghost use Rattle.std.specs.Prelude.{option_map, string_bytes, encode_utf8_all, IfSome};
 ghost use Rattle.std.specs.List.{list_all};
 ghost use Rattle.jsonb_value.specs.Value.{cow_bytes};
-ghost use Rattle.jsonb_value.specs.Json.Piece.{unit4, unit_value, escape_value, unit_character, pair_character, is_plain};
-ghost use Rattle.jsonb_value.specs.Reader.Reading.{read_unit, read_second, read_character, read_escape, read_piece, read_text};
+ghost use Rattle.jsonb_value.specs.Json.Piece.{unit4, unit_value, escape_value, unit_character};
+ghost use Rattle.jsonb_value.specs.Json.Piece.{pair_character, is_plain};
+ghost use Rattle.jsonb_value.specs.Reader.Reading.{read_unit, read_second, read_character};
+ghost use Rattle.jsonb_value.specs.Reader.Reading.{read_escape, read_piece, read_text};
 ghost use Rattle.jsonb_value.specs.Reader.Gives.{Gives};
 
 use crate::error::Error;
@@ -15,7 +18,8 @@ use std::borrow::CowStr;
 
 // Four hexadecimal digits, and what follows them.
 fn read_unit(text: &str) -> Option<(u32, &str)>
-    ensures value { option_map (λ found. (found.0, chars found.1.now)) result ≡ read_unit (chars text.now) }
+    ensures value { option_map
+        (λ found. (found.0, chars found.1.now)) result ≡ read_unit (chars text.now) }
     ensures short { IfSome result (λ found. found.0 < 65536) }
 {
     let (first, text) = split_first(text)?;
@@ -40,7 +44,8 @@ fn unit_value(first: char, second: char, third: char, fourth: char) -> Option<u3
 
 // A further `\u` with its digits.
 fn read_second(text: &str) -> Option<(u32, &str)>
-    ensures value { option_map (λ found. (found.0, chars found.1.now)) result ≡ read_second (chars text.now) }
+    ensures value { option_map
+        (λ found. (found.0, chars found.1.now)) result ≡ read_second (chars text.now) }
     ensures short { IfSome result (λ found. found.0 < 65536) }
 {
     let (backslash, text) = split_first(text)?;
@@ -76,7 +81,8 @@ fn pair_character(high: u32, low: u32) -> Option<char>
 // The character that begins with this unit.
 fn read_character(unit: u32, text: &str) -> Option<(char, &str)>
     requires { unit < 65536 }
-    ensures { option_map (λ found. (found.0, chars found.1.now)) result ≡ read_character unit (chars text.now) }
+    ensures { option_map
+        (λ found. (found.0, chars found.1.now)) result ≡ read_character unit (chars text.now) }
 {
     if (0xd800..0xdc00).contains(&unit) {
         let (low, text) = read_second(text)?;
@@ -102,7 +108,8 @@ fn escape_value(letter: char) -> Option<char>
 
 // What follows a backslash.
 fn read_escape(text: &str) -> Option<(char, &str)>
-    ensures { option_map (λ found. (found.0, chars found.1.now)) result ≡ read_escape (chars text.now) }
+    ensures { option_map
+        (λ found. (found.0, chars found.1.now)) result ≡ read_escape (chars text.now) }
 {
     let (letter, text) = split_first(text)?;
     if letter == 'u' {
@@ -115,7 +122,8 @@ fn read_escape(text: &str) -> Option<(char, &str)>
 
 // One character, as it stands or escaped.
 fn read_piece(text: &str) -> Option<(char, &str)>
-    ensures { option_map (λ found. (found.0, chars found.1.now)) result ≡ read_piece (chars text.now) }
+    ensures { option_map
+        (λ found. (found.0, chars found.1.now)) result ≡ read_piece (chars text.now) }
 {
     let (first, rest) = split_first(text)?;
     match first {
@@ -138,7 +146,9 @@ fn split_plain(text: &str) -> (&str, &str)
 // The string that begins with `front`, up to the quote that closes it, and what follows.
 #[inline(never)]
 fn read_escaped<'a>(alloc: Global, front: &str, text: &'a str) -> Result<(String, &'a str), Error>
-    ensures { (n : ℕ) → length (chars text.now) < n → Gives (λ found. (string_bytes found.0, chars found.1.now)) result (read_text n front.now (chars text.now)) }
+    ensures { (n : ℕ) → length (chars text.now) < n
+        → Gives (λ found. (string_bytes found.0, chars found.1.now)) result
+        (read_text n front.now (chars text.now)) }
 {
     let mut content = String::from_str(alloc, front)?;
     let mut rest = text;
@@ -162,7 +172,9 @@ fn read_escaped<'a>(alloc: Global, front: &str, text: &'a str) -> Result<(String
 /// The string up to the quote that closes it, borrowed where it has no escape, and what follows.
 #[inline(always)]
 pub fn read_string<'a>(alloc: Global, text: &'a str) -> Result<(CowStr<'a>, &'a str), Error>
-    ensures { (n : ℕ) → length (chars text.now) < n → Gives (λ found. (cow_bytes found.0, chars found.1.now)) result (read_text n [] (chars text.now)) }
+    ensures { (n : ℕ) → length (chars text.now) < n
+        → Gives (λ found. (cow_bytes found.0, chars found.1.now)) result
+        (read_text n [] (chars text.now)) }
 {
     let (front, rest) = split_plain(text);
     if let Some(after) = after_char(rest, '"') {

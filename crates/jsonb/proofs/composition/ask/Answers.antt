@@ -4,7 +4,8 @@ use Rattle.jsonb.proofs.composition.ask.Goals as goal
 
 pub returns-clause-answers : goal.returns-clause-answers
 returns-clause-answers c = λ t means.
-    let kind : c.in_ok-jsonb_item_type.field-0 ≡ kind_of_tree t = let is = c.in_ok-jsonb_item_type.ensures.document t means in cc in
+    let kind : c.in_ok-jsonb_item_type.field-0 ≡ kind_of_tree t =
+    let is = c.in_ok-jsonb_item_type.ensures.document t means in cc in
     record {
       kind = kind;
       text = c.in_ok-to_string.ensures.document t means;
@@ -23,13 +24,17 @@ returns-clause-answers c = λ t means.
     }
 
 pub returns-in_err-object_keys-clause-memory : goal.returns-in_err-object_keys-clause-memory
-returns-in_err-object_keys-clause-memory c = λ t h. let known = c.in_err-object_keys.ensures.memory t h in search rules
+returns-in_err-object_keys-clause-memory c =
+    λ t h. let known = c.in_err-object_keys.ensures.memory t h in search rules
 
 pub returns-in_err-object_values-clause-memory : goal.returns-in_err-object_values-clause-memory
-returns-in_err-object_values-clause-memory c = λ t h. let known = c.in_err-object_values.ensures.memory t h in search rules
+returns-in_err-object_values-clause-memory c =
+    λ t h. let known = c.in_err-object_values.ensures.memory t h in search rules
 
 pub returns-in_err-object_pairs-clause-memory : goal.returns-in_err-object_pairs-clause-memory
-returns-in_err-object_pairs-clause-memory c = λ t h. let known = c.in_err-object_pairs.ensures.memory t h in search rules
+returns-in_err-object_pairs-clause-memory c =
+    λ t h. let known = c.in_err-object_pairs.ensures.memory t h in search rules
 
 pub returns-in_err-find_by_name-clause-memory : goal.returns-in_err-find_by_name-clause-memory
-returns-in_err-find_by_name-clause-memory c = λ t h. absurd (c.in_err-find_by_name.ensures.value t h)
+returns-in_err-find_by_name-clause-memory c =
+    λ t h. absurd (c.in_err-find_by_name.ensures.value t h)

@@ -5,4 +5,5 @@ use Rattle.jsonb.proofs.item.number_item.Goals as goal
 
 pub returns-in_err-from_bytes : goal.returns-in_err-from_bytes
 returns-in_err-from_bytes c =
-    let none = number_item-none c.args.bytes.now c.in_err-from_bytes.ensures.none in grind (arith, common_steps)
+    let none = number_item-none c.args.bytes.now c.in_err-from_bytes.ensures.none in grind
+    (arith, common_steps)

@@ -1,5 +1,6 @@
-use Rattle.jsonb.proofs.MeantLaws.{meaning_of-document, meaning_of-other, shown_meaning-document}
+use Rattle.jsonb.proofs.MeantLaws.{meaning_of-document, meaning_of-other, view_meaning-document}
 use Rattle.jsonb.proofs.order.meaning_laws.Goals as goal
 
 pub returns : goal.returns
-returns c = record { document = meaning_of-document; other = meaning_of-other; item = shown_meaning-document }
+returns c =
+    record { document = meaning_of-document; other = meaning_of-other; item = view_meaning-document }

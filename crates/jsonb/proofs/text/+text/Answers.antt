@@ -20,15 +20,18 @@ pub write_items-items-init : goal.write_items-items-init
 write_items-items-init g t c =
     let l = layout_of c.args.layout in
     let u = node_tree c.in-Some.first in
-    let behind = items_behind (trees_left c.args.items) (trees_left c.next.new.self) u c.in-Some.ensures.steps in (
+    let behind = items_behind (trees_left c.args.items)
+    (trees_left c.next.new.self) u c.in-Some.ensures.steps in (
       behind.less,
       behind.no_deeper,
       codes "[" ++ (line_start (inside l) ++ laid_out (inside l) u),
-      items_begin l (trees_of (trees_left c.args.items)) u (trees_of (trees_left c.next.new.self)) (ap trees_of c.in-Some.ensures.steps),
+      items_begin l (trees_of (trees_left c.args.items)) u (trees_of (trees_left c.next.new.self))
+          (ap trees_of c.in-Some.ensures.steps),
       λ flush.
           let one = c.write_str-2.ensures.styled flush (search rules) in
           let two = c.write_line.ensures one.flush (search rules) in
-          joins_two _ _ _ _ _ _ _ one two (ap (λ i. codes "[" ++ (line_start i ++ laid_out i u)) c.inside.ensures),
+          joins_two _ _ _ _ _ _ _ one two
+          (ap (λ i. codes "[" ++ (line_start i ++ laid_out i u)) c.inside.ensures),
     )
 
 pub write_items-items-preserved : goal.write_items-items-preserved
@@ -44,12 +47,16 @@ write_items-items-preserved g t c =
       omega (arith, behind.no_deeper, no_deeper),
       done ++ (codes "," ++ (line_start (inside l) ++ line)),
       lines_next (inside l) done end _ line (item_lines (inside l) (trees_of left))
-          (subst (λ xs. done ++ (more_lines (inside l) (item_lines (inside l) (trees_of xs)) ++ end) ≡ laid_out l (array (trees_of (trees_left c.args.items)))) c.in-Some-next.ensures.steps whole),
+          (subst (λ xs. done ++ (more_lines (inside l) (item_lines (inside l) (trees_of xs)) ++ end)
+          ≡ laid_out l
+          (array (trees_of (trees_left c.args.items)))) c.in-Some-next.ensures.steps whole),
       λ flush.
           let so_far = writes flush in
           let one = c.write_str-in-Some-next.ensures.styled so_far.flush (search rules) in
           let two = c.write_line-in-Some-next.ensures one.flush (search rules) in
-          joins_three _ _ _ _ _ _ _ _ _ so_far one two (ap (λ i. done ++ (codes "," ++ (line_start i ++ laid_out i u))) c.inside-in-Some-next.ensures),
+          joins_three _ _ _ _ _ _ _ _ _ so_far one two
+          (ap (λ i. done
+          ++ (codes "," ++ (line_start i ++ laid_out i u))) c.inside-in-Some-next.ensures),
     )
 
 pub write_items-returns : goal.write_items-returns
@@ -61,7 +68,9 @@ write_items-returns g t c flush ok =
     let one = c.start_line.ensures so_far.flush (search rules) in
     let two = c.write_str-3.ensures.styled one.flush ok in
     joins_three _ _ _ _ _ _ _ _ _ so_far one two
-    (subst (λ xs. done ++ (more_lines (inside l) (item_lines (inside l) (trees_of xs)) ++ end) ≡ laid_out l (array (trees_of (trees_left c.args.items)))) c.in_default-next.ensures.steps.0 whole)
+    (subst (λ xs. done ++ (more_lines (inside l) (item_lines (inside l) (trees_of xs)) ++ end)
+    ≡ laid_out l
+    (array (trees_of (trees_left c.args.items)))) c.in_default-next.ensures.steps.0 whole)
 
 pub write_member-returns : goal.write_member-returns
 write_member-returns g t c flush ok =
@@ -70,7 +79,8 @@ write_member-returns g t c flush ok =
     let three = c.write_str.ensures.styled two.flush (search rules) in
     let four = c.write_node.ensures three.flush ok in
     let value = laid_out (layout_of c.args.layout) (node_tree c.args.value) in
-    let ends = joins_two _ _ _ _ _ _ _ three four (ap (λ between. between ++ value) c.colon.ensures) in
+    let ends =
+    joins_two _ _ _ _ _ _ _ three four (ap (λ between. between ++ value) c.colon.ensures) in
     joins_three _ _ _ _ _ _ _ _ _ one two ends refl
 
 pub write_members-members-init : goal.write_members-members-init
@@ -78,15 +88,18 @@ write_members-members-init g t c =
     let l = layout_of c.args.layout in
     let k = c.in-Some.key.now in
     let u = node_tree c.in-Some.value in
-    let behind = pairs_behind (pairs_left c.args.members) (pairs_left c.next.new.self) k u c.in-Some.ensures.steps in (
+    let behind = pairs_behind (pairs_left c.args.members)
+    (pairs_left c.next.new.self) k u c.in-Some.ensures.steps in (
       behind.less,
       behind.no_deeper,
       codes "{" ++ (line_start (inside l) ++ pair_text (inside l) k u),
-      pairs_begin l (pairs_of (pairs_left c.args.members)) k u (pairs_of (pairs_left c.next.new.self)) (ap pairs_of c.in-Some.ensures.steps),
+      pairs_begin l (pairs_of (pairs_left c.args.members)) k u
+          (pairs_of (pairs_left c.next.new.self)) (ap pairs_of c.in-Some.ensures.steps),
       λ flush.
           let one = c.write_str-2.ensures.styled flush (search rules) in
           let two = c.write_member.ensures one.flush (search rules) in
-          joins_two _ _ _ _ _ _ _ one two (ap (λ i. codes "{" ++ (line_start i ++ pair_text i k u)) c.inside.ensures),
+          joins_two _ _ _ _ _ _ _ one two
+          (ap (λ i. codes "{" ++ (line_start i ++ pair_text i k u)) c.inside.ensures),
     )
 
 pub write_members-members-preserved : goal.write_members-members-preserved
@@ -98,17 +111,22 @@ write_members-members-preserved g t c =
     let line = pair_text (inside l) k u in
     let left = pairs_left c.next-in-members.new.self in
     let (less, no_deeper, done, whole, writes) = c.members.invariant in
-    let behind = pairs_behind (pairs_left c.members.members) left k u c.in-Some-next.ensures.steps in (
+    let behind =
+    pairs_behind (pairs_left c.members.members) left k u c.in-Some-next.ensures.steps in (
       omega (arith, behind.less, less),
       omega (arith, behind.no_deeper, no_deeper),
       done ++ (codes "," ++ (line_start (inside l) ++ line)),
       lines_next (inside l) done end _ line (pair_lines (inside l) (pairs_of left))
-          (subst (λ ps. done ++ (more_lines (inside l) (pair_lines (inside l) (pairs_of ps)) ++ end) ≡ laid_out l (object (pairs_of (pairs_left c.args.members)))) c.in-Some-next.ensures.steps whole),
+          (subst (λ ps. done ++ (more_lines (inside l) (pair_lines (inside l) (pairs_of ps)) ++ end)
+          ≡ laid_out l
+          (object (pairs_of (pairs_left c.args.members)))) c.in-Some-next.ensures.steps whole),
       λ flush.
           let so_far = writes flush in
           let one = c.write_str-in-Some-next.ensures.styled so_far.flush (search rules) in
           let two = c.write_member-in-Some-next.ensures one.flush (search rules) in
-          joins_three _ _ _ _ _ _ _ _ _ so_far one two (ap (λ i. done ++ (codes "," ++ (line_start i ++ pair_text i k u))) c.inside-in-Some-next.ensures),
+          joins_three _ _ _ _ _ _ _ _ _ so_far one two
+          (ap (λ i. done
+          ++ (codes "," ++ (line_start i ++ pair_text i k u))) c.inside-in-Some-next.ensures),
     )
 
 pub write_members-returns : goal.write_members-returns
@@ -120,4 +138,6 @@ write_members-returns g t c flush ok =
     let one = c.start_line.ensures so_far.flush (search rules) in
     let two = c.write_str-3.ensures.styled one.flush ok in
     joins_three _ _ _ _ _ _ _ _ _ so_far one two
-    (subst (λ ps. done ++ (more_lines (inside l) (pair_lines (inside l) (pairs_of ps)) ++ end) ≡ laid_out l (object (pairs_of (pairs_left c.args.members)))) c.in_default-next.ensures.steps.0 whole)
+    (subst (λ ps. done ++ (more_lines (inside l) (pair_lines (inside l) (pairs_of ps)) ++ end)
+    ≡ laid_out l
+    (object (pairs_of (pairs_left c.args.members)))) c.in_default-next.ensures.steps.0 whole)

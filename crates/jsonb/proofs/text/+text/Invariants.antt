@@ -37,7 +37,8 @@ invariant-write_items-items g l =
     (sizes left ≤ sizes all)
     × (depths left ≤ depths all)
     × (done : List ℕ)
-    × (done ++ (more_lines (inside layout) (item_lines (inside layout) left) ++ (line_start layout ++ codes "]")) ≡ laid_out layout (array_of (trees_left l.fn.items)))
+    × (done ++ (more_lines (inside layout) (item_lines (inside layout) left)
+    ++ (line_start layout ++ codes "]")) ≡ laid_out layout (array_of (trees_left l.fn.items)))
     × (IsFlush l.fn.f → HasWrittenStyled g.W.Write.write_str_gives l.fn.f done l.f)
 
 abbrev pub decreases-write_items-items : goal.decreases-write_items-items
@@ -51,7 +52,9 @@ invariant-write_members-members g l =
     (pair_sizes left ≤ pair_sizes all)
     × (pair_depths left ≤ pair_depths all)
     × (done : List ℕ)
-    × (done ++ (more_lines (inside layout) (pair_lines (inside layout) left) ++ (line_start layout ++ codes "}")) ≡ laid_out layout (object_of (pairs_left l.fn.members)))
+    × (done ++ (more_lines (inside layout) (pair_lines (inside layout) left)
+    ++ (line_start layout ++ codes "}"))
+    ≡ laid_out layout (object_of (pairs_left l.fn.members)))
     × (IsFlush l.fn.f → HasWrittenStyled g.W.Write.write_str_gives l.fn.f done l.f)
 
 abbrev pub decreases-write_members-members : goal.decreases-write_members-members

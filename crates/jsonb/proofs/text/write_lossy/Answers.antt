@@ -1,4 +1,5 @@
-use Rattle.std.proofs.Common.{rules, ◌≡◌, ◌++◌, ◌∷◌, List, ℕ, encode_utf8, encode_utf8_all, refl, sym, ap, ◌∙◌, append_assoc}
+use Rattle.std.proofs.Common.{rules, ◌≡◌, ◌++◌, ◌∷◌, List, ℕ, encode_utf8, encode_utf8_all, refl}
+use Rattle.std.proofs.Common.{sym, ap, ◌∙◌, append_assoc}
 use Rattle.jsonb_value.proofs.Writing.{joins_two}
 use Rattle.jsonb.proofs.text.write_lossy.Goals as goal
 
@@ -14,5 +15,6 @@ chars-preserved g c =
           ∙ whole,
       λ flush.
           let so_far = writes flush in
-          joins_two _ _ _ _ _ _ _ so_far (c.write_char.ensures.styled so_far.flush (search rules)) refl,
+          joins_two _ _ _ _ _ _ _ so_far
+          (c.write_char.ensures.styled so_far.flush (search rules)) refl,
     )

@@ -3,21 +3,27 @@ use Rattle.std.proofs.Output.{has_written_styled_of_eq}
 use Rattle.jsonb_codec.proofs.WellFormed.{IsTree-Doc}
 use Rattle.jsonb.specs.Document.{document_tree}
 use Rattle.jsonb.proofs.DocumentLaws.{tree_of_bytes, no_document}
-use Rattle.jsonb.proofs.TextLaws.{pretty_shown_text-Doc, pretty_shown_text-other}
+use Rattle.jsonb.proofs.TextLaws.{pretty_display_text-Doc, pretty_display_text-other}
 use Rattle.jsonb.proofs.text.write_pretty.Goals as goal
 
 pub returns-in-Some-clause-text : goal.returns-in-Some-clause-text
 returns-in-Some-clause-text g c flush ok =
     let b = c.args.bytes.now in let d = c.in-Some.document in
-    has_written_styled_of_eq _ _ _ _ _ (sym (pretty_shown_text-Doc b (document_tree d) (tree_of_bytes b d c.in-Some.ensures.bytes))) (c.write_document.ensures flush ok)
+    has_written_styled_of_eq _ _ _ _ _
+    (sym (pretty_display_text-Doc b (document_tree d)
+    (tree_of_bytes b d c.in-Some.ensures.bytes))) (c.write_document.ensures flush ok)
 
 pub returns-in-None-clause-text : goal.returns-in-None-clause-text
 returns-in-None-clause-text g c flush ok =
     let b = c.args.bytes.now in
-    has_written_styled_of_eq _ _ _ _ _ (sym (pretty_shown_text-other b (no_document b c.in-None.ensures.known))) (c.write_str.ensures.styled flush ok)
+    has_written_styled_of_eq _ _ _ _ _
+    (sym (pretty_display_text-other b (no_document b c.in-None.ensures.known)))
+    (c.write_str.ensures.styled flush ok)
 
 pub returns-in-Some-clause-tree : goal.returns-in-Some-clause-tree
-returns-in-Some-clause-tree g c t = IsTree-Doc c.args.bytes.now t (λ i. omega (arith, c.type_inv.bytes i))
+returns-in-Some-clause-tree g c t =
+    IsTree-Doc c.args.bytes.now t (λ i. omega (arith, c.type_inv.bytes i))
 
 pub returns-in-None-clause-tree : goal.returns-in-None-clause-tree
-returns-in-None-clause-tree g c t = IsTree-Doc c.args.bytes.now t (λ i. omega (arith, c.type_inv.bytes i))
+returns-in-None-clause-tree g c t =
+    IsTree-Doc c.args.bytes.now t (λ i. omega (arith, c.type_inv.bytes i))

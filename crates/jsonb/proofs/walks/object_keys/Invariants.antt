@@ -1,9 +1,10 @@
 use Rattle.std.proofs.Common.{◌≡◌, ◌++◌, map, Ok, length}
-use Rattle.jsonb.specs.Shown.{shown}
+use Rattle.jsonb.specs.ItemView.{item_view}
 use Rattle.jsonb.proofs.walks.object_keys.Given as goal
 
 abbrev pub invariant-loop-key : goal.invariant-loop-key
-invariant-loop-key l = map (λ x. Ok (shown x)) l.keys.items ++ l.key-iterator.rest ≡ l.initial.key-iterator.rest
+invariant-loop-key l =
+    map (λ x. Ok (item_view x)) l.keys.items ++ l.key-iterator.rest ≡ l.initial.key-iterator.rest
 
 abbrev pub decreases-loop-key : goal.decreases-loop-key
 decreases-loop-key l = length l.key-iterator.rest

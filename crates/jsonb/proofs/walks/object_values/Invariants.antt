@@ -1,9 +1,10 @@
 use Rattle.std.proofs.Common.{◌≡◌, ◌++◌, map, Ok, length}
-use Rattle.jsonb.specs.Shown.{shown}
+use Rattle.jsonb.specs.ItemView.{item_view}
 use Rattle.jsonb.proofs.walks.object_values.Given as goal
 
 abbrev pub invariant-loop-value : goal.invariant-loop-value
-invariant-loop-value l = map (λ x. Ok (shown x)) l.values.items ++ l.value-iterator.rest ≡ l.initial.value-iterator.rest
+invariant-loop-value l = map (λ x. Ok (item_view x)) l.values.items ++ l.value-iterator.rest
+    ≡ l.initial.value-iterator.rest
 
 abbrev pub decreases-loop-value : goal.decreases-loop-value
 decreases-loop-value l = length l.value-iterator.rest

@@ -11,12 +11,20 @@ use Rattle.jsonb_cli.specs.AnswerLine.{outcome_line}
 use Rattle.jsonb_cli.proofs.answer.written_line.Goals as goal
 
 -- the line of a counted word, as it is printed
-counted_line : (outcome : Result Answer Refusal) (answer : Answer) (word : Bor (List ℕ)) (count : ℕ) (line : List ℕ) → outcome ≡ Ok answer
-    → answer ≡ Counted word count → line ≡ codes "ok " ++ (word.now ++ 32 ∷ (decimal count ++ 10 ∷ [])) → line ≡ outcome_line outcome ++ 10 ∷ []
+counted_line : (outcome : Result Answer Refusal) (answer : Answer) (word : Bor (List ℕ)) (count : ℕ)
+    (line : List ℕ) → outcome ≡ Ok answer
+    → answer ≡ Counted word count
+    → line ≡ codes "ok " ++ (word.now ++ 32 ∷ (decimal count ++ 10 ∷ []))
+    → line ≡ outcome_line outcome ++ 10 ∷ []
 counted_line outcome answer word count line ok counted is =
-    rw (ok, counted) (is ∙ ap (λ bytes. codes "ok " ++ bytes) (sym (append_assoc word.now (32 ∷ decimal count) (10 ∷ []))))
+    rw (ok, counted)
+    (is ∙ ap (λ bytes. codes "ok " ++ bytes)
+    (sym (append_assoc word.now (32 ∷ decimal count) (10 ∷ []))))
 
 pub returns-in-Ok-Counted : goal.returns-in-Ok-Counted
 returns-in-Ok-Counted c =
-    let counted : c.in-Ok-Counted.field-0 ≡ Counted c.in-Ok-Counted.word c.in-Ok-Counted.count = search rules in
-    IfOk-weaker _ _ _ (λ line. counted_line _ _ _ _ (string_bytes line) c.in-Ok-Counted.is counted) c.format-in-Ok-Counted.ensures.ok
+    let counted : c.in-Ok-Counted.field-0 ≡ Counted c.in-Ok-Counted.word c.in-Ok-Counted.count =
+    search rules in
+    IfOk-weaker _ _ _
+    (λ line. counted_line _ _ _ _
+    (string_bytes line) c.in-Ok-Counted.is counted) c.format-in-Ok-Counted.ensures.ok

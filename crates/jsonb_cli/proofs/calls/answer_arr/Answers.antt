@@ -1,10 +1,12 @@
 use Rattle.std.proofs.Common.{rules, ◌≡◌, ◌∷◌, [], ap, ◌∙◌}
 use Rattle.std.specs.Prelude.{Err}
-use Rattle.jsonb_cli.proofs.Answering.{nothing_read, one_more_read, arr_unread, arr_built, arr_unbuilt}
+use Rattle.jsonb_cli.proofs.Answering.{nothing_read, one_more_read, arr_unread, arr_built}
+use Rattle.jsonb_cli.proofs.Answering.{arr_unbuilt}
 use Rattle.jsonb_cli.proofs.calls.answer_arr.Goals as goal
 
 pub loop-word-init : goal.loop-word-init
-loop-word-init c = nothing_read _ _ _ c.into_iter-word-iterator.ensures.into_iter_gives c.new-builder.ensures
+loop-word-init c =
+    nothing_read _ _ _ c.into_iter-word-iterator.ensures.into_iter_gives c.new-builder.ensures
 
 pub returns-in-Err : goal.returns-in-Err
 returns-in-Err c =

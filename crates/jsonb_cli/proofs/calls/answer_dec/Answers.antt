@@ -7,7 +7,8 @@ use Rattle.jsonb_cli.proofs.calls.answer_dec.Goals as goal
 pub returns-in-Ok : goal.returns-in-Ok
 returns-in-Ok c =
     let (t, (means, is)) = rw c.deref.ensures.value at c.in-Ok.ensures.ok in
-    inl (printed c.in_ok-bytes.bytes.items t c.in_ok-bytes.ensures.ok means (ap (λ (l : List ℕ). ok_line l) is))
+    inl (printed c.in_ok-bytes.bytes.items t c.in_ok-bytes.ensures.ok means
+    (ap (λ (l : List ℕ). ok_line l) is))
 
 pub returns : goal.returns
 returns c =

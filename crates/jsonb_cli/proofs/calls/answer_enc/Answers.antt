@@ -11,7 +11,8 @@ pub returns-in-Ok-parse : goal.returns-in-Ok-parse
 returns-in-Ok-parse c =
     let same : c.in-Ok.json.now ≡ c.args.text.now = search rules in
     let (t, (means, is)) = c.in-Ok-parse.ensures.ok in
-    inl (encoded t c.in-Ok.ensures.cases.1 (subst (λ (s : List ℕ). Json (chars s) t) same means) (c.in-Ok-parse.ensures.fits t means)
+    inl (encoded t c.in-Ok.ensures.cases.1 (subst (λ (s : List ℕ). Json (chars s) t) same means)
+    (c.in-Ok-parse.ensures.fits t means)
     (ap (λ (l : List ℕ). ok_line (encode_lower l)) (c.to_vec.ensures ∙ is)))
 
 pub returns-in-Err : goal.returns-in-Err

@@ -10,7 +10,8 @@ pub returns-in-Ok : goal.returns-in-Ok
 returns-in-Ok c =
     let (t, (means, is)) = rw c.deref.ensures.value at c.in-Ok.ensures.ok in
     let bytes : c.into_bytes.result.items ≡ string_bytes c.in-Ok.text = search rules in
-    inl (printed c.in_ok-bytes.bytes.items t c.in_ok-bytes.ensures.ok means (ap (λ (l : List ℕ). ok_line (encode_lower l)) (bytes ∙ is)))
+    inl (printed c.in_ok-bytes.bytes.items t c.in_ok-bytes.ensures.ok means
+    (ap (λ (l : List ℕ). ok_line (encode_lower l)) (bytes ∙ is)))
 
 pub returns : goal.returns
 returns c =

@@ -8,7 +8,8 @@ use Rattle.jsonb_cli.proofs.calls.answer_type.Goals as goal
 pub returns-in-Ok : goal.returns-in-Ok
 returns-in-Ok c =
     let is : kind c.in_ok-bytes.bytes.items ≡ Ok c.in-Ok.kind = search rules in
-    inl (told c.in_ok-bytes.bytes.items c.in_ok-bytes.ensures.ok (ap (λ (l : List ℕ). ok_line l) c.kind_answer.ensures ∙ ap kind_line (sym is)))
+    inl (told c.in_ok-bytes.bytes.items c.in_ok-bytes.ensures.ok
+    (ap (λ (l : List ℕ). ok_line l) c.kind_answer.ensures ∙ ap kind_line (sym is)))
 
 pub returns : goal.returns
 returns c =

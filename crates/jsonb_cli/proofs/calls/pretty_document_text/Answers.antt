@@ -7,11 +7,14 @@ use Rattle.jsonb_codec.specs.Doc.{Doc}
 use Rattle.jsonb_cli.proofs.calls.pretty_document_text.Goals as goal
 
 -- the text is that of the tree that the bytes mean
-text_of_tree : (bytes : List ℕ) (t : Tree) → Doc bytes t → (text : String Global) → string_bytes text ≡ pretty t
+text_of_tree : (bytes : List ℕ) (t : Tree) → Doc bytes t → (text : String Global)
+    → string_bytes text ≡ pretty t
     → (u : Tree) × (Doc bytes u × (string_bytes text ≡ pretty u))
 text_of_tree bytes t means text is = (t, (means, is))
 
 pub returns-in-Ok-clause-ok : goal.returns-in-Ok-clause-ok
 returns-in-Ok-clause-ok c =
     let (t, means) = c.in-Ok.ensures.document in
-    IfOk-weaker _ _ _ (text_of_tree c.args.bytes.now t means) (c.to_pretty_string.ensures.document t (subst (λ (b : List ℕ). Doc b t) (sym c.in-Ok.ensures.ok) means))
+    IfOk-weaker _ _ _ (text_of_tree c.args.bytes.now t means)
+    (c.to_pretty_string.ensures.document t
+    (subst (λ (b : List ℕ). Doc b t) (sym c.in-Ok.ensures.ok) means))

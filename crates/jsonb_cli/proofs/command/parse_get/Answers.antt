@@ -4,4 +4,5 @@ use Rattle.jsonb_cli.proofs.command.parse_get.Goals as goal
 
 pub returns-in_err-key-clause-none : goal.returns-in_err-key-clause-none
 returns-in_err-key-clause-none c = if_none _ _
-    (no_get _ (one_word_alone _ _ _ c.in_err-key.was c.split_word.ensures.word c.split_word.ensures.parts))
+    (no_get _
+    (one_word_alone _ _ _ c.in_err-key.was c.split_word.ensures.word c.split_word.ensures.parts))

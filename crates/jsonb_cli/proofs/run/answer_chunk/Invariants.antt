@@ -3,7 +3,8 @@ use Rattle.jsonb_cli.proofs.Running.{Collects}
 use Rattle.jsonb_cli.proofs.run.answer_chunk.Given as goal
 
 abbrev pub invariant-loop-end : goal.invariant-loop-end
-invariant-loop-end g l = Collects (l.initial.begun.items ++ l.chunk) l.begun.items l.rest l.waiting.items
+invariant-loop-end g l =
+    Collects (l.initial.begun.items ++ l.chunk) l.begun.items l.rest l.waiting.items
     (g.W.Write.contents l.initial.writer) (g.W.Write.contents l.writer)
 
 abbrev pub decreases-loop-end : goal.decreases-loop-end

@@ -5,6 +5,7 @@ use Rattle.jsonb_cli.proofs.run.answer_lines.Given as goal
 abbrev pub invariant-reads : goal.invariant-reads
 invariant-reads g l = record {
   one_line : IsLine l.begun.items;
-  answered : IsPrompt (g.R.LineReader.remaining l.initial.reader) (g.R.LineReader.remaining l.reader) l.begun.items
+  answered : IsPrompt (g.R.LineReader.remaining l.initial.reader)
+      (g.R.LineReader.remaining l.reader) l.begun.items
       (g.W.Write.contents l.initial.writer) (g.W.Write.contents l.writer);
 }

@@ -1,6 +1,7 @@
 use Rattle.std.proofs.Common.{rules, ◌≢◌, [], sym}
 use Rattle.std.proofs.lemmas.List.{append-nil}
-use Rattle.jsonb_cli.proofs.Running.{IsReplyTo, last_none, last_answered, last_faults, begins_nothing, reply_in, on_err}
+use Rattle.jsonb_cli.proofs.Running.{IsReplyTo, last_none, last_answered, last_faults}
+use Rattle.jsonb_cli.proofs.Running.{begins_nothing, reply_in, on_err}
 use Rattle.jsonb_cli.proofs.run.answer_rest.Goals as goal
 
 pub returns-then-is_empty-clause-ok : goal.returns-then-is_empty-clause-ok

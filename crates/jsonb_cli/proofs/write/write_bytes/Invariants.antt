@@ -3,7 +3,8 @@ use Rattle.jsonb_cli.specs.Written.{AppendsAllBut}
 use Rattle.jsonb_cli.proofs.write.write_bytes.Given as goal
 
 abbrev pub invariant-loop-rest : goal.invariant-loop-rest
-invariant-loop-rest g l = AppendsAllBut l.rest (g.W.Write.contents l.initial.writer) (g.W.Write.contents l.writer) l.bytes
+invariant-loop-rest g l =
+    AppendsAllBut l.rest (g.W.Write.contents l.initial.writer) (g.W.Write.contents l.writer) l.bytes
 
 abbrev pub decreases-loop-rest : goal.decreases-loop-rest
 decreases-loop-rest g l = length l.rest

@@ -1,5 +1,6 @@
 use Rattle.std.proofs.Common.{sym, refl, ◌∙◌, arith}
-use Rattle.jsonb_codec.proofs.CanonicalSteps.{written_as, written_onward, written_back, none_written, written_container}
+use Rattle.jsonb_codec.proofs.CanonicalSteps.{written_as, written_onward, written_back}
+use Rattle.jsonb_codec.proofs.CanonicalSteps.{none_written, written_container}
 use Rattle.jsonb_codec.proofs.Scalars.{iff_trans}
 use Rattle.jsonb_codec.proofs.canonical.+written.Goals as goal
 
@@ -10,7 +11,8 @@ are_written-returns-then-not-is_written t c ts h =
     let f = k.first us are in (
       λ yes. cc,
       λ w.
-          let yes = (c.is_written.ensures f.first f.is).1 (written_onward us _ _ _ _ _ _ f k.entries k.payloads k.short (same.1 w)).0 in
+          let yes = (c.is_written.ensures f.first f.is).1
+          (written_onward us _ _ _ _ _ _ f k.entries k.payloads k.short (same.1 w)).0 in
           let never = sym c.if-not-is_written.true ∙ yes in cc,
     )
 
@@ -40,12 +42,15 @@ are_written-returns t c ts h =
     (λ yes. same.0 (none_written us _ _ (c.in_default.ensures.none us are) are), λ w. refl)
 
 pub is_written-returns-in-536870912 : goal.is_written-returns-in-536870912
-is_written-returns-in-536870912 t c u h = written_as _ u _ _ (c.number.ensures u h) h.1 c.is_written_number.ensures
+is_written-returns-in-536870912 t c u h =
+    written_as _ u _ _ (c.number.ensures u h) h.1 c.is_written_number.ensures
 
 pub is_written-returns-in-1610612736 : goal.is_written-returns-in-1610612736
-is_written-returns-in-1610612736 t c u h = written_as _ u _ _ (c.extension.ensures u h) h.1 c.is_written_extension.ensures
+is_written-returns-in-1610612736 t c u h =
+    written_as _ u _ _ (c.extension.ensures u h) h.1 c.is_written_extension.ensures
 
 pub is_written-returns-in-1342177280 : goal.is_written-returns-in-1342177280
 is_written-returns-in-1342177280 t c u h =
     let o = c.container.ensures.opened u h in
-    iff_trans (c.are_written.ensures o.children o.are) (written_container u _ _ _ _ o c.container.ensures.bytes)
+    iff_trans (c.are_written.ensures o.children o.are)
+    (written_container u _ _ _ _ o c.container.ensures.bytes)

@@ -15,7 +15,8 @@ abbrev pub invariant-are_written-loop-child : goal.invariant-are_written-loop-ch
 invariant-are_written-loop-child l = record {
   same : (ts : Trees) → AreChildren ts l.fn.children
       → (us : Trees) × (AreChildren us l.left
-      × (AreWritten us l.left.entries.now l.left.payloads.now ↔ AreWritten ts l.fn.children.entries.now l.fn.children.payloads.now));
+      × (AreWritten us l.left.entries.now l.left.payloads.now
+      ↔ AreWritten ts l.fn.children.entries.now l.fn.children.payloads.now));
   shorter : length l.left.payloads.now ≤ length l.fn.children.payloads.now;
 }
 

@@ -3,7 +3,8 @@ use Rattle.std.specs.Prelude.{string_cmp}
 use Rattle.std.specs.BTreeMap.{IsFromIterResult}
 use Rattle.jsonb_value.specs.Tree.{Ascend}
 use Rattle.jsonb_value.specs.Value.{tree_of, pairs_view}
-use Rattle.jsonb_codec.proofs.Building.{trees_and, trees_and-none, pairs_and, pairs_and-none, trees_and-push, pairs_and-push, pairs_and-behind, seen}
+use Rattle.jsonb_codec.proofs.Building.{trees_and, trees_and-none, pairs_and, pairs_and-none}
+use Rattle.jsonb_codec.proofs.Building.{trees_and-push, pairs_and-push, pairs_and-behind, seen}
 use Rattle.jsonb_codec.proofs.Sorted.{from_ascending}
 use Rattle.jsonb_codec.proofs.de.+value.Goals as goal
 
@@ -14,8 +15,10 @@ build_items-loop-child-preserved t c =
     record {
       left = λ ts are.
           let (us, (whole, left)) = l.invariant.left ts are in
-          let f = k.first us left in
-          (f.others, (trees_and-push l.built.items c.push_part.new.items.items v ts us f.others f.first whole f.are (same f.first f.is) more, f.behind));
+          let f = k.first us left in (
+            f.others,
+            (trees_and-push l.built.items c.push_part.new.items.items v ts us f.others f.first whole f.are (same f.first f.is) more, f.behind),
+          );
       shorter = omega (arith, k.payloads_len, l.invariant.shorter);
     }
 
@@ -31,8 +34,10 @@ build_members-loop-member-preserved t c =
     record {
       left = λ all whole_are.
           let (us, (whole, left)) = l.invariant.left all whole_are in
-          let f = k.first us left in
-          (f.others, (pairs_and-push l.built.entries c.insert_member.new.members.entries c.in_ok-key.key c.in_ok-value.value all us f.others c.in-Some.member.key.now f.value whole_are.0 whole f.are c.in_ok-key.ensures.ok (c.in_ok-value.ensures.ok f.value f.is) c.in_ok-insert_member.ensures.ok, f.left));
+          let f = k.first us left in (
+            f.others,
+            (pairs_and-push l.built.entries c.insert_member.new.members.entries c.in_ok-key.key c.in_ok-value.value all us f.others c.in-Some.member.key.now f.value whole_are.0 whole f.are c.in_ok-key.ensures.ok (c.in_ok-value.ensures.ok f.value f.is) c.in_ok-insert_member.ensures.ok, f.left),
+          );
       shorter = omega (arith, k.values_len, l.invariant.shorter);
     }
 
@@ -45,12 +50,15 @@ build_members-returns-clause-ok t c ps are =
 pub build_many-loop-member-preserved : goal.build_many-loop-member-preserved
 build_many-loop-member-preserved t c =
     let l = c.loop-member in let k = c.in-Some.ensures in
-    let more : c.push.new.self.items ≡ l.built.items ++ (c.in_ok-key.key, c.in_ok-value.value) ∷ [] = search rules in
+    let more : c.push.new.self.items ≡ l.built.items ++ (c.in_ok-key.key, c.in_ok-value.value)
+    ∷ [] = search rules in
     record {
       left = λ all whole_are.
           let (us, (whole, left)) = l.invariant.left all whole_are in
-          let f = k.first us left in
-          (f.others, (pairs_and-behind l.built.items c.push.new.self.items c.in_ok-key.key c.in_ok-value.value all us f.others c.in-Some.member.key.now f.value whole f.are c.in_ok-key.ensures.ok (c.in_ok-value.ensures.ok f.value f.is) more, f.left));
+          let f = k.first us left in (
+            f.others,
+            (pairs_and-behind l.built.items c.push.new.self.items c.in_ok-key.key c.in_ok-value.value all us f.others c.in-Some.member.key.now f.value whole f.are c.in_ok-key.ensures.ok (c.in_ok-value.ensures.ok f.value f.is) more, f.left),
+          );
       shorter = omega (arith, k.values_len, l.invariant.shorter);
     }
 
@@ -58,6 +66,7 @@ pub build_many-returns-clause-ok : goal.build_many-returns-clause-ok
 build_many-returns-clause-ok t c ps are =
     let es = c.loop-member.built.items in
     let (us, (whole, left)) = c.loop-member.invariant.left ps are in
-    let all : ps ≡ pairs_view es = whole ∙ ap (pairs_and (seen es)) (c.in_default.ensures.none us left) ∙ pairs_and-none (seen es) in
+    let all : ps ≡ pairs_view es = whole
+    ∙ ap (pairs_and (seen es)) (c.in_default.ensures.none us left) ∙ pairs_and-none (seen es) in
     let made : IsFromIterResult string_cmp es c.in_ok-collect.field-0 = search rules in
     from_ascending es c.in_ok-collect.field-0 (subst Ascend all are.0) made ∙ sym all

@@ -26,7 +26,8 @@ decreases-build_many l = 4 * length l.members.values.payloads.now + 4
 -- The items so far, and those that are left, are the items of the whole.
 abbrev pub invariant-build_items-loop-child : goal.invariant-build_items-loop-child
 invariant-build_items-loop-child l = record {
-  left : (ts : Trees) → AreChildren ts l.fn.items → (others : Trees) × ((ts ≡ trees_and (map tree_of l.built.items) others) × AreChildren others l.left);
+  left : (ts : Trees) → AreChildren ts l.fn.items → (others : Trees)
+      × ((ts ≡ trees_and (map tree_of l.built.items) others) × AreChildren others l.left);
   shorter : length l.left.payloads.now ≤ length l.fn.items.payloads.now;
 }
 
@@ -36,7 +37,8 @@ decreases-build_items-loop-child l = length l.left.entries.now
 -- The members so far, and those that are left, are the members of the whole.
 abbrev pub invariant-build_members-loop-member : goal.invariant-build_members-loop-member
 invariant-build_members-loop-member l = record {
-  left : (ps : Pairs) → AreMembers ps l.fn.members → (others : Pairs) × ((ps ≡ pairs_and (seen l.built.entries) others) × AreMembers others l.left);
+  left : (ps : Pairs) → AreMembers ps l.fn.members → (others : Pairs)
+      × ((ps ≡ pairs_and (seen l.built.entries) others) × AreMembers others l.left);
   shorter : length l.left.values.payloads.now ≤ length l.fn.members.values.payloads.now;
 }
 
@@ -45,7 +47,8 @@ decreases-build_members-loop-member l = length l.left.keys.entries.now
 
 abbrev pub invariant-build_many-loop-member : goal.invariant-build_many-loop-member
 invariant-build_many-loop-member l = record {
-  left : (ps : Pairs) → AreMembers ps l.fn.members → (others : Pairs) × ((ps ≡ pairs_and (seen l.built.items) others) × AreMembers others l.left);
+  left : (ps : Pairs) → AreMembers ps l.fn.members → (others : Pairs)
+      × ((ps ≡ pairs_and (seen l.built.items) others) × AreMembers others l.left);
   shorter : length l.left.values.payloads.now ≤ length l.fn.members.values.payloads.now;
 }
 

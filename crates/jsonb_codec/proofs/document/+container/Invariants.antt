@@ -29,8 +29,10 @@ decreases-check_keys l = 4 * (length l.entries.now + length l.payloads.now) + 7
 -- What is left can be children exactly if the whole can.
 abbrev pub invariant-check_children-loop-entry : goal.invariant-check_children-loop-entry
 invariant-check_children-loop-entry l = record {
-  onward : HasChildren l.depth l.entries l.payloads → HasChildren l.depth l.entries_left l.payloads_left;
-  back : HasChildren l.depth l.entries_left l.payloads_left → HasChildren l.depth l.entries l.payloads;
+  onward : HasChildren l.depth l.entries l.payloads
+      → HasChildren l.depth l.entries_left l.payloads_left;
+  back : HasChildren l.depth l.entries_left l.payloads_left
+      → HasChildren l.depth l.entries l.payloads;
   words : length l.entries_left % 4 ≡ 0;
   entries_shorter : length l.entries_left ≤ length l.entries;
   payloads_shorter : length l.payloads_left ≤ length l.payloads;
@@ -42,8 +44,11 @@ decreases-check_children-loop-entry l = length l.entries_left
 -- What is left can be keys exactly if the whole can, as long as the children were keys in order.
 abbrev pub invariant-check_keys-loop-entry : goal.invariant-check_keys-loop-entry
 invariant-check_keys-loop-entry l = record {
-  onward : (q : List ℕ) → HasKeys None l.entries l.payloads q → IsTrue l.ascend × HasKeys (option_map (λ b. b.now) l.before) l.entries_left l.payloads_left q;
-  back : IsTrue l.ascend → (q : List ℕ) → HasKeys (option_map (λ b. b.now) l.before) l.entries_left l.payloads_left q → HasKeys None l.entries l.payloads q;
+  onward : (q : List ℕ) → HasKeys None l.entries l.payloads q → IsTrue l.ascend
+      × HasKeys (option_map (λ b. b.now) l.before) l.entries_left l.payloads_left q;
+  back : IsTrue l.ascend → (q : List ℕ)
+      → HasKeys (option_map (λ b. b.now) l.before) l.entries_left l.payloads_left q
+      → HasKeys None l.entries l.payloads q;
   words : length l.entries_left % 4 ≡ 0;
   entries_shorter : length l.entries_left ≤ length l.entries;
   payloads_shorter : length l.payloads_left ≤ length l.payloads;

@@ -7,7 +7,8 @@ use Rattle.jsonb_codec.proofs.parts.keys_len.Goals as goal
 pub loop-entry-preserved : goal.loop-entry-preserved
 loop-entry-preserved c =
     let l = c.loop-entry in let e = c.in-Some.entry in let k = c.in-Some.ensures in
-    let read : Read e.tag e.number e.rest.now l.left.now = record { parts = k.found; tag = k.tag; number = k.number; small = k.small } in
+    let read : Read e.tag e.number e.rest.now l.left.now =
+    record { parts = k.found; tag = k.tag; number = k.number; small = k.small } in
     let word = ap length k.found ∙ length-word-append (e.tag + e.number) e.rest.now in (
       omega (arith, l.invariant.0, word, k.number),
       λ ps p h.
@@ -19,7 +20,11 @@ loop-entry-preserved c =
 pub loop-entry-smaller : goal.loop-entry-smaller
 loop-entry-smaller c =
     let e = c.in-Some.entry in
-    omega (arith, ap length c.in-Some.ensures.found ∙ length-word-append (e.tag + e.number) e.rest.now)
+    omega (
+      arith,
+      ap length c.in-Some.ensures.found
+          ∙ length-word-append (e.tag + e.number) e.rest.now,
+    )
 
 pub returns : goal.returns
 returns c ps p h =

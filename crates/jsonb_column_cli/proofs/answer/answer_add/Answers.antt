@@ -8,7 +8,13 @@ use Rattle.jsonb_column_cli.proofs.answer.answer_add.Goals as goal
 pub returns-in_err-push_json : goal.returns-in_err-push_json
 returns-in_err-push_json c =
     let e = c.in_err-push_json.field-0.0 in
-    said_err (λ outcome. IsOutcome c.args.column.now (add c.args.text.now) outcome c.push_json.new.self) c.from_residual-in_err-push_json.result (Call e)
+    said_err (λ outcome. IsOutcome c.args.column.now
+    (add c.args.text.now) outcome c.push_json.new.self) c.from_residual-in_err-push_json.result
+    (Call e)
     c.from_residual-in_err-push_json.ensures.1
-    (text_errors (λ e. IsOutcome c.args.column.now (add c.args.text.now) (Err (Call e)) c.push_json.new.self) e c.in_err-push_json.ensures.only
-    (λ is. (c.in_err-push_json.ensures.invalid (ap Err is), c.in_err-push_json.ensures.kept)) (λ is. (c.in_err-push_json.ensures.past (ap Err is), c.in_err-push_json.ensures.kept)) (tt, c.in_err-push_json.ensures.kept))
+    (text_errors
+    (λ e. IsOutcome c.args.column.now (add c.args.text.now)
+    (Err (Call e)) c.push_json.new.self) e c.in_err-push_json.ensures.only
+    (λ is. (c.in_err-push_json.ensures.invalid (ap Err is), c.in_err-push_json.ensures.kept))
+    (λ is. (c.in_err-push_json.ensures.past (ap Err is), c.in_err-push_json.ensures.kept))
+    (tt, c.in_err-push_json.ensures.kept))

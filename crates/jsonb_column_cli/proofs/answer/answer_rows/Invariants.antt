@@ -6,4 +6,5 @@ use Rattle.jsonb_column_cli.specs.Answers.{rows_line}
 use Rattle.jsonb_column_cli.proofs.answer.answer_rows.Given as goal
 
 abbrev pub invariant-loop-row : goal.invariant-loop-row
-invariant-loop-row l = string_bytes l.line ≡ rows_line (map document_bytes (take l.row-index l.rows))
+invariant-loop-row l =
+    string_bytes l.line ≡ rows_line (map document_bytes (take l.row-index l.rows))

@@ -8,6 +8,8 @@ use Rattle.jsonb_column_cli.proofs.answer.parse_document.Goals as goal
 pub returns-in_err-parse-clause-refused : goal.returns-in_err-parse-clause-refused
 returns-in_err-parse-clause-refused c =
     let e = c.in_err-parse.field-0.0 in
-    if_err (IsRefusal [] (add c.args.text.now)) c.from_residual.result (Call e) c.from_residual.ensures.1
+    if_err (IsRefusal [] (add c.args.text.now)) c.from_residual.result
+    (Call e) c.from_residual.ensures.1
     (text_errors (λ e. IsRefusal [] (add c.args.text.now) (Call e)) e c.in_err-parse.ensures.errors
-    (λ is. c.in_err-parse.ensures.invalid (ap Err is)) (λ is. c.in_err-parse.ensures.past (ap Err is)) tt)
+    (λ is. c.in_err-parse.ensures.invalid (ap Err is))
+    (λ is. c.in_err-parse.ensures.past (ap Err is)) tt)

@@ -1,4 +1,5 @@
-use Rattle.std.proofs.Common.{◌≡◌, ◌∷◌, ◌++◌, [], List, ℕ, OnOk, ap, ap₂, ◌∙◌, subst, take, drop, replicate, rules}
+use Rattle.std.proofs.Common.{◌≡◌, ◌∷◌, ◌++◌, [], List, ℕ, OnOk, ap, ap₂, ◌∙◌, subst, take, drop}
+use Rattle.std.proofs.Common.{replicate, rules}
 use Rattle.std.specs.Int.{w32, w64}
 use mir.Val.{SFits}
 use borrow.Rule.Slice.PartMut.{post_of}
@@ -8,7 +9,8 @@ use Rattle.jsonb_value.proofs.extension.append_interval.Goals as goal
 
 -- what stands behind the tag once the months are written, and then the days
 abbrev with_days : List ℕ → List ℕ → List ℕ
-with_days months days = take 4 (months ++ []) ++ (days ++ post_of {X = ℕ} 5 12 (64 ∷ (months ++ [])))
+with_days months days =
+    take 4 (months ++ []) ++ (days ++ post_of {X = ℕ} 5 12 (64 ∷ (months ++ [])))
 
 -- the whole payload
 abbrev with_micros : List ℕ → List ℕ → List ℕ
@@ -29,5 +31,7 @@ returns-clause-appended c =
     let micros : c.write_i64.new.buf ≡ signed_bytes w64 given.micros =
     written_bytes w64 given.micros _ c.write_i64.new.buf micros_fit c.write_i64.ensures
     ∙ ap (λ f. signed_bytes w64 given.micros ++ drop 8 (take 8 (drop 8 f))) front in
-    let P : List ℕ → Type 0 = λ payload. OnOk c.append.result (c.append.new.buf.items ≡ c.args.buf.now.items ++ payload) in
+    let P : List ℕ
+    → Type 0 = λ payload. OnOk c.append.result
+    (c.append.new.buf.items ≡ c.args.buf.now.items ++ payload) in
     subst P (ap₂ with_micros front micros) c.append.ensures.appended

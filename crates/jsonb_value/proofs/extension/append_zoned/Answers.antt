@@ -15,7 +15,11 @@ returns-clause-appended c =
     written_bytes w64 given.value _ c.write_i64.new.buf value_fits c.write_i64.ensures in
     let Left : List ℕ → List ℕ = λ v. drop 4 (take 4 (drop 8 (v ++ []))) in
     let offset : c.write_i32.new.buf ≡ signed_bytes w32 given.offset =
-    written_bytes w32 given.offset _ c.write_i32.new.buf offset_fits c.write_i32.ensures ∙ ap (λ v. signed_bytes w32 given.offset ++ Left v) value in
+    written_bytes w32 given.offset _ c.write_i32.new.buf offset_fits c.write_i32.ensures ∙ ap
+    (λ v. signed_bytes w32 given.offset ++ Left v) value in
     let P : List ℕ → List ℕ → Type 0 =
-    λ v o. OnOk c.append.result (c.append.new.buf.items ≡ c.args.buf.now.items ++ 48 ∷ (take 8 (v ++ []) ++ (o ++ post_of {X = ℕ} 9 4 (48 ∷ (v ++ []))))) in
-    subst (λ v. P v (signed_bytes w32 given.offset)) value (subst (λ o. P c.write_i64.new.buf o) offset c.append.ensures.appended)
+    λ v o. OnOk c.append.result
+    (c.append.new.buf.items ≡ c.args.buf.now.items ++ 48
+    ∷ (take 8 (v ++ []) ++ (o ++ post_of {X = ℕ} 9 4 (48 ∷ (v ++ []))))) in
+    subst (λ v. P v (signed_bytes w32 given.offset)) value
+    (subst (λ o. P c.write_i64.new.buf o) offset c.append.ensures.appended)

@@ -5,10 +5,13 @@ pub returns-in-None-clause-none : goal.returns-in-None-clause-none
 returns-in-None-clause-none c = no_date c.args.tag c.args.rest.now c.in-16.is c.in-None.ensures.none
 
 pub returns-in-None-timestamp_of-clause-none : goal.returns-in-None-timestamp_of-clause-none
-returns-in-None-timestamp_of-clause-none c = no_timestamp c.args.tag c.args.rest.now c.in-32.is c.in-None-timestamp_of.ensures.none
+returns-in-None-timestamp_of-clause-none c =
+    no_timestamp c.args.tag c.args.rest.now c.in-32.is c.in-None-timestamp_of.ensures.none
 
 pub returns-in-None-zoned_of-clause-none : goal.returns-in-None-zoned_of-clause-none
-returns-in-None-zoned_of-clause-none c = no_zoned c.args.tag c.args.rest.now c.in-48.is c.in-None-zoned_of.ensures.none
+returns-in-None-zoned_of-clause-none c =
+    no_zoned c.args.tag c.args.rest.now c.in-48.is c.in-None-zoned_of.ensures.none
 
 pub returns-in-None-interval_of-clause-none : goal.returns-in-None-interval_of-clause-none
-returns-in-None-interval_of-clause-none c = no_interval c.args.tag c.args.rest.now c.in-64.is c.in-None-interval_of.ensures.none
+returns-in-None-interval_of-clause-none c =
+    no_interval c.args.tag c.args.rest.now c.in-64.is c.in-None-interval_of.ensures.none

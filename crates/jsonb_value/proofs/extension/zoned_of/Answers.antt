@@ -17,7 +17,8 @@ pub returns-in-9-clause-found : goal.returns-in-9-clause-found
 returns-in-9-clause-found c =
     let byte : SFits w8 c.cast_signed.result = search rules in
     let hour : SFits w32 c.from.result = search rules in
-    let seconds : SFits w32 (to_z w32 (of_z w32 c.from.result) *ℤ pos 3600) = first_of (search rules, search (rules, ints), grind (arith, ints), omega (arith, ints)) in
+    let seconds : SFits w32 (to_z w32 (of_z w32 c.from.result) *ℤ pos 3600) =
+    first_of (search rules, search (rules, ints), grind (arith, ints), omega (arith, ints)) in
     inr (IsOldZoned-from c.args.bytes.now c.from.result _ _ c.in-9.is
     (c.from.ensures ∙ to_z-of_z w8 c.cast_signed.result byte ∙ c.cast_signed.ensures)
     (to_z-of_z w32 _ seconds ∙ ap (λ (z : ℤ). z *ℤ pos 3600) (to_z-of_z w32 c.from.result hour))

@@ -11,5 +11,7 @@ returns-clause-appended c =
     let fits : SFits w128 given.value = search rules in
     let value : c.write_i128.new.buf ≡ signed_bytes w128 given.value ++ 0 ∷ [] =
     written_bytes w128 given.value _ c.write_i128.new.buf fits c.write_i128.ensures in
-    let P : List ℕ → Type 0 = λ v. OnOk c.append.result (c.append.new.buf.items ≡ c.args.buf.now.items ++ 112 ∷ set (v ++ []) 16 given.scale) in
+    let P : List ℕ
+    → Type 0 = λ v. OnOk c.append.result
+    (c.append.new.buf.items ≡ c.args.buf.now.items ++ 112 ∷ set (v ++ []) 16 given.scale) in
     subst P value c.append.ensures.appended

@@ -14,7 +14,8 @@ returns-then-left-right c =
     let left_fits : FitsSigned w128 left.value = search rules in
     let right_fits : FitsSigned w128 right.value = search rules in
     let answer = simp to_z-of_z at c.cmp_scaled.ensures in
-    answer ∙ aligned (fraction_of (Decimal128 left)) (fraction_of (Decimal128 right)) c.if-left-right.true
+    answer ∙ aligned (fraction_of (Decimal128 left))
+    (fraction_of (Decimal128 right)) c.if-left-right.true
 
 pub returns-else-left-right : goal.returns-else-left-right
 returns-else-left-right c =
@@ -23,4 +24,6 @@ returns-else-left-right c =
     let left_fits : FitsSigned w128 left.value = search rules in
     let right_fits : FitsSigned w128 right.value = search rules in
     let answer = simp to_z-of_z at c.cmp_scaled-else-left-right.ensures in
-    c.reverse.ensures ∙ ap ordering_reverse answer ∙ aligned_back (fraction_of (Decimal128 left)) (fraction_of (Decimal128 right)) (omega (arith, c.if-left-right.false))
+    c.reverse.ensures ∙ ap ordering_reverse answer
+    ∙ aligned_back (fraction_of (Decimal128 left)) (fraction_of (Decimal128 right))
+    (omega (arith, c.if-left-right.false))

@@ -20,7 +20,8 @@ abbrev pub invariant-read_array-items : goal.invariant-read_array-items
 invariant-read_array-items l =
     shadow (Utf8 l.rest)
     × (length (chars l.rest) ≤ length (chars l.fn.text))
-    × ((n : ℕ) → length (chars l.fn.text) < n → ItemsGoOn n (chars l.fn.text) (map tree_of l.items.items) (chars l.rest))
+    × ((n : ℕ) → length (chars l.fn.text) < n
+    → ItemsGoOn n (chars l.fn.text) (map tree_of l.items.items) (chars l.rest))
 
 abbrev pub decreases-read_array-items : goal.decreases-read_array-items
 decreases-read_array-items l = length (chars l.rest)
@@ -35,7 +36,8 @@ abbrev pub invariant-read_object-members : goal.invariant-read_object-members
 invariant-read_object-members l =
     shadow (Utf8 l.rest)
     × (length (chars l.rest) ≤ length (chars l.fn.text))
-    × ((n : ℕ) → length (chars l.fn.text) < n → MembersGoOn n (chars l.fn.text) (map entry_of l.members.entries) (chars l.rest))
+    × ((n : ℕ) → length (chars l.fn.text) < n
+    → MembersGoOn n (chars l.fn.text) (map entry_of l.members.entries) (chars l.rest))
 
 abbrev pub decreases-read_object-members : goal.decreases-read_object-members
 decreases-read_object-members l = length (chars l.rest)

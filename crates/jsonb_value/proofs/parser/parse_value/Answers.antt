@@ -13,14 +13,19 @@ returns-in_err-value-clause-one c = one_meaning (chars c.args.text.now)
 
 pub returns-in-None-clause-ok : goal.returns-in-None-clause-ok
 returns-in-None-clause-ok c =
-    read_whole (chars c.args.text.now) (tree_of c.in_ok-value.value) (chars c.in_ok-value.rest.now) (c.in_ok-value.ensures (suc (length (chars c.args.text.now))) (omega arith)) c.in-None.ensures
+    read_whole (chars c.args.text.now) (tree_of c.in_ok-value.value) (chars c.in_ok-value.rest.now)
+    (c.in_ok-value.ensures (suc (length (chars c.args.text.now)))
+    (omega arith)) c.in-None.ensures
 
 pub returns-in-None-clause-one : goal.returns-in-None-clause-one
 returns-in-None-clause-one c = one_meaning (chars c.args.text.now)
 
 pub returns-clause-invalid : goal.returns-clause-invalid
 returns-clause-invalid c = λ _.
-    left_over (chars c.args.text.now) (tree_of c.in_ok-value.value) (chars c.in_ok-value.rest.now) _ _ (c.in_ok-value.ensures (suc (length (chars c.args.text.now))) (omega arith)) c.in-Some.ensures
+    left_over (chars c.args.text.now) (tree_of c.in_ok-value.value)
+    (chars c.in_ok-value.rest.now) _ _
+    (c.in_ok-value.ensures (suc (length (chars c.args.text.now)))
+    (omega arith)) c.in-Some.ensures
 
 pub returns-clause-one : goal.returns-clause-one
 returns-clause-one c = one_meaning (chars c.args.text.now)

@@ -1,5 +1,5 @@
 use Rattle.std.proofs.Common.{◌≡◌, ◌<◌, ◌^◌, ◌++◌, codes, arith, rules}
-use Rattle.jsonb_value.specs.Text.{pointed}
+use Rattle.jsonb_value.specs.Text.{point_text}
 use Rattle.jsonb_value.proofs.Decimals.{pointed-long, pointed-short}
 use Rattle.jsonb_value.proofs.Writing.{joins_three}
 use Rattle.jsonb_value.proofs.text.write_fraction.Goals as goal
@@ -11,7 +11,7 @@ returns-in_ok-write_str-2 g c flush ok =
     let small : m < 10 ^ 64 = omega arith in
     let digits = c.format-digits.ensures.text in
     let long = rw digits at c.if-digits-scale.true in
-    let text : c.split_at.result.0.now ++ (codes "." ++ c.split_at.result.1.now) ≡ pointed s m =
+    let text : c.split_at.result.0.now ++ (codes "." ++ c.split_at.result.1.now) ≡ point_text s m =
     rw (c.split_at.ensures.front, c.split_at.ensures.back, digits) (pointed-long s m small long) in
     let one = c.write_str.ensures.styled flush (search rules) in
     let two = c.write_str-then-digits-scale.ensures.styled one.flush (search rules) in

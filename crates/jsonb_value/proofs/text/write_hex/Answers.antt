@@ -11,6 +11,11 @@ bytes-preserved g c flush =
     let i = c.bytes.byte-index in
     let so_far = c.bytes.invariant flush in
     let next = c.write_hex_byte.ensures so_far.flush (search rules) in
-    let text : flat_map hex_byte (take i bytes) ++ hex_byte (get_or bytes i 0) ≡ flat_map hex_byte (take (i + 1) bytes) =
-    rw (take_more bytes i 0 c.bytes-test.true, flat_map-append hex_byte (take i bytes) (get_or bytes i 0 ∷ [])) refl in
+    let text : flat_map hex_byte (take i bytes) ++ hex_byte (get_or bytes i 0)
+    ≡ flat_map hex_byte (take (i + 1) bytes) =
+    rw (
+      take_more bytes i 0 c.bytes-test.true,
+      flat_map-append hex_byte (take i bytes)
+          (get_or bytes i 0 ∷ []),
+    ) refl in
     joins_two _ _ _ _ _ _ _ so_far next text

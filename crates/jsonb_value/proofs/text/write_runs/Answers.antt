@@ -1,4 +1,5 @@
-use Rattle.std.proofs.Common.{◌≡◌, ◌++◌, ℕ, List, get_or, take, flat_map, refl, sym, ap, ◌∙◌, arith, rules, append_assoc}
+use Rattle.std.proofs.Common.{◌≡◌, ◌++◌, ℕ, List, get_or, take, flat_map, refl, sym, ap, ◌∙◌, arith}
+use Rattle.std.proofs.Common.{rules, append_assoc}
 use Rattle.std.proofs.lemmas.Grind.{common_steps}
 use Rattle.std.proofs.lemmas.Str.{IsCharBoundary-after_ascii, IsCharBoundary-before_ascii}
 use Rattle.jsonb_value.specs.Text.{byte_text, escape}
@@ -36,7 +37,8 @@ runs-preserved g c =
       c.range_from-rest.utf8,
       done ++ (front ++ escaped),
       append_assoc done (front ++ escaped) (flat_map byte_text left)
-          ∙ ap (λ (l : List ℕ). done ++ l) (append_assoc front escaped (flat_map byte_text left) ∙ sym parts)
+          ∙ ap (λ (l : List ℕ). done ++ l)
+          (append_assoc front escaped (flat_map byte_text left) ∙ sym parts)
           ∙ whole,
       λ flush.
           let so_far = writes flush in
@@ -51,4 +53,5 @@ returns g c flush ok =
     let (text, done, whole, writes) = c.runs.invariant in
     let plain : flat_map byte_text rest ≡ rest = content-plain rest (search rules) in
     let so_far = writes flush in
-    joins_two _ _ _ _ _ _ _ so_far (c.write_str-2.ensures.styled so_far.flush ok) (rw plain at whole)
+    joins_two _ _ _ _ _ _ _ so_far (c.write_str-2.ensures.styled so_far.flush ok)
+    (rw plain at whole)

@@ -1,5 +1,5 @@
 use Rattle.std.proofs.Common.{◌≡◌, ◌++◌, length, map}
-use Rattle.jsonb.specs.Shown.{raw}
+use Rattle.jsonb.specs.ItemView.{raw}
 use Rattle.kohiblad.proofs.building.array_of.Given as goal
 
 abbrev pub invariant-loop-row : goal.invariant-loop-row

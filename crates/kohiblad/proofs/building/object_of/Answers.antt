@@ -8,11 +8,13 @@ use Rattle.jsonb.specs.Owned.{owned_bytes}
 use Rattle.jsonb.proofs.InputLaws.{not_there}
 use Rattle.jsonb.proofs.BuiltObjects.{both_ok, IsObjectOfInputs-IsObjectOf}
 use Rattle.kohiblad.specs.Rows.{pairs_in}
-use Rattle.kohiblad.proofs.Objects.{PairsSoFar, no_pair, one_more_pair, no_text, not_distinct, all_put}
+use Rattle.kohiblad.proofs.Objects.{PairsSoFar, no_pair, one_more_pair, no_text, not_distinct}
+use Rattle.kohiblad.proofs.Objects.{all_put}
 use Rattle.kohiblad.proofs.building.object_of.Goals as goal
 
 pub loop-key-init : goal.loop-key-init
-loop-key-init c = subst (PairsSoFar (pairs_in c.args.rows) (pairs_in c.args.rows)) (sym c.new-builder.ensures) (no_pair (pairs_in c.args.rows))
+loop-key-init c = subst (PairsSoFar (pairs_in c.args.rows) (pairs_in c.args.rows))
+    (sym c.new-builder.ensures) (no_pair (pairs_in c.args.rows))
 
 pub returns-in_default-from_utf8-clause-utf8 : goal.returns-in_default-from_utf8-clause-utf8
 returns-in_default-from_utf8-clause-utf8 c = λ same.
@@ -22,7 +24,8 @@ pub loop-key-preserved : goal.loop-key-preserved
 loop-key-preserved c =
     let walk = c.loop-key in
     let key = c.in-Ok.ensures.cases in
-    let new = not_there _ _ (has_key walk.builder c.in-Ok.key.now) c.in_ok-push_raw_jsonb.was c.push_raw_jsonb.ensures.duplicate in
+    let new = not_there _ _
+    (has_key walk.builder c.in-Ok.key.now) c.in_ok-push_raw_jsonb.was c.push_raw_jsonb.ensures.duplicate in
     one_more_pair _ _ _ walk.builder walk.invariant _ c.in-Some.ensures c.push_raw_jsonb.new.self c.in-Ok.key c.new.result key.0 c.new.ensures key.1 new c.in_ok-push_raw_jsonb.ensures.pushed
 
 pub returns-in_err-push_raw_jsonb-clause-twice : goal.returns-in_err-push_raw_jsonb-clause-twice
@@ -39,6 +42,9 @@ returns-clause-ok c =
     (λ owned h. (
       subst (λ (ps : List (List ℕ × List ℕ)). AreTexts (keys_of ps)) all walk.invariant.texts,
       subst (λ (ps : List (List ℕ × List ℕ)). IsObjectOfInputs ps (owned_bytes owned)) all
-          (IsObjectOfInputs-IsObjectOf (map input_pair walk.invariant.done) walk.builder _ walk.invariant.built walk.invariant.distinct h.0 h.1),
+          (IsObjectOfInputs-IsObjectOf
+          (map input_pair walk.invariant.done) walk.builder _ walk.invariant.built walk.invariant.distinct h.0 h.1),
     ))
-    (both_ok c.build.result (λ owned. IsObjectOf walk.builder (owned_bytes owned)) (AreKeys (keys_of walk.builder)) c.build.ensures.ok c.build.ensures.keys)
+    (both_ok c.build.result
+    (λ owned. IsObjectOf walk.builder (owned_bytes owned))
+    (AreKeys (keys_of walk.builder)) c.build.ensures.ok c.build.ensures.keys)

@@ -12,7 +12,9 @@ loop-character-preserved c =
     let low = walk.invariant.low in
     record {
       same =
-          one_more_character (text_depth c.args.text.now ≤ c.args.depth) walk.place walk.level _ c.args.depth _ _ cut walk.invariant.inside walk.invariant.same
+          one_more_character
+          (text_depth c.args.text.now
+          ≤ c.args.depth) walk.place walk.level _ c.args.depth _ _ cut walk.invariant.inside walk.invariant.same
           _ _ c.place_after-place.ensures c.level_after-level.ensures.value;
       low = omega arith;
       inside = c.if-depth-level.false;
@@ -24,7 +26,9 @@ returns-then-depth-level c =
     let cut = drop_more c.args.text.now walk.character-index 0 c.loop-character-test.true in (
       λ h. let never : ⊥ = cc in absurd never,
       λ a. absurd (
-          one_too_many (text_depth c.args.text.now ≤ c.args.depth) walk.place walk.level _ c.args.depth _ _ cut walk.invariant.inside walk.invariant.same
+          one_too_many
+          (text_depth c.args.text.now
+          ≤ c.args.depth) walk.place walk.level _ c.args.depth _ _ cut walk.invariant.inside walk.invariant.same
           _ c.level_after-level.ensures.value c.if-depth-level.true a
           ),
     )

@@ -4,7 +4,8 @@ use Rattle.kohiblad.proofs.depth.is_text_within.Given as goal
 
 abbrev pub invariant-loop-character : goal.invariant-loop-character
 invariant-loop-character l = record {
-  same : (text_depth l.text ≤ l.depth) ↔ (greatest_level l.place l.level (drop l.character-index l.text) ≤ l.depth);
+  same : (text_depth l.text ≤ l.depth)
+      ↔ (greatest_level l.place l.level (drop l.character-index l.text) ≤ l.depth);
   low : l.level ≤ l.character-index;
   inside : l.level ≤ l.depth;
 }

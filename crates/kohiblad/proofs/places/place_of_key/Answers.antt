@@ -2,7 +2,8 @@ use Rattle.std.proofs.Common.{◌≡◌, Result, Ok, Err, sym, subst, arith, rul
 use Rattle.jsonb_value.specs.declared.error.Error.{Error}
 use Rattle.kohiblad.specs.declared.places.Place.{Place}
 use Rattle.kohiblad.specs.Places.{some_place, IsPlaceFound}
-use Rattle.kohiblad.proofs.Lookups.{no_place_found, error_found, none_found, some_found, count_bound}
+use Rattle.kohiblad.proofs.Lookups.{no_place_found, error_found, none_found, some_found}
+use Rattle.kohiblad.proofs.Lookups.{count_bound}
 use Rattle.kohiblad.proofs.places.place_of_key.Goals as goal
 
 pub returns-in_err-count-clause-place : goal.returns-in_err-count-clause-place
@@ -18,7 +19,8 @@ returns-in_err-get_object_value_by_key_name_counted-clause-place c = λ text.
     let found =
     error_found _ c.args.name.now c.in-Ok.name.now c.args.bytes.now _ c.in-Ok.ensures.cases.0 c.new.ensures (λ key b says. search rules) call.result _ call.ensures.bytes e
     (search rules) in
-    let is : c.from_residual-in_err-get_object_value_by_key_name_counted.result ≡ Err e = search rules in
+    let is : c.from_residual-in_err-get_object_value_by_key_name_counted.result ≡ Err e =
+    search rules in
     subst (IsPlaceFound c.args.name.now c.args.bytes.now) (sym is) found
 
 pub returns-then-not-is_there-clause-place : goal.returns-then-not-is_there-clause-place
@@ -45,12 +47,14 @@ returns-in_err-part_place-clause-place c = λ text.
     let number = c.saturating_sub-number.ensures in
     let found =
     some_found _ c.args.name.now c.in-Ok.name.now c.args.bytes.now _ c.in-Ok.ensures.cases.0 c.new.ensures (λ key b says. search rules) call.result _ call.ensures.bytes
-    c.in_ok-get_object_value_by_key_name_counted.field-0 (c.in_ok-count.field-0-0, c.in_ok-count.count) c.saturating_sub-number.result c.part_place.result
+    c.in_ok-get_object_value_by_key_name_counted.field-0
+    (c.in_ok-count.field-0-0, c.in_ok-count.count) c.saturating_sub-number.result c.part_place.result
     (search rules) (search rules) (search rules) (omega arith) c.part_place.ensures.value in
     let cut : c.part_place.result ≡ Err e = c.in_err-part_place.was in
     let is : c.from_residual-in_err-part_place.result ≡ Err e = search rules in
     subst (IsPlaceFound c.args.name.now c.args.bytes.now) (sym is)
-    (subst (λ (r : Result Place Error). IsPlaceFound c.args.name.now c.args.bytes.now (some_place r)) cut found)
+    (subst (λ (r : Result Place Error). IsPlaceFound c.args.name.now c.args.bytes.now
+    (some_place r)) cut found)
 
 pub returns-clause-place : goal.returns-clause-place
 returns-clause-place c = λ text.
@@ -60,7 +64,9 @@ returns-clause-place c = λ text.
     let number = c.saturating_sub-number.ensures in
     let found =
     some_found _ c.args.name.now c.in-Ok.name.now c.args.bytes.now _ c.in-Ok.ensures.cases.0 c.new.ensures (λ key b says. search rules) call.result _ call.ensures.bytes
-    c.in_ok-get_object_value_by_key_name_counted.field-0 (c.in_ok-count.field-0-0, c.in_ok-count.count) c.saturating_sub-number.result c.part_place.result
+    c.in_ok-get_object_value_by_key_name_counted.field-0
+    (c.in_ok-count.field-0-0, c.in_ok-count.count) c.saturating_sub-number.result c.part_place.result
     (search rules) (search rules) (search rules) (omega arith) c.part_place.ensures.value in
     let there : c.part_place.result ≡ Ok c.in_ok-part_place.field-0 = c.in_ok-part_place.was in
-    subst (λ (r : Result Place Error). IsPlaceFound c.args.name.now c.args.bytes.now (some_place r)) there found
+    subst (λ (r : Result Place Error). IsPlaceFound c.args.name.now c.args.bytes.now
+    (some_place r)) there found

@@ -9,7 +9,10 @@ use Rattle.jsonb.proofs.document.Document.find_member.Given as goal
 abbrev pub invariant-loop-first : goal.invariant-loop-first
 invariant-loop-first l =
     (ps : Pairs) → AreMembers ps l.members
-    → (others : Pairs) × (AreMembers others l.left × (find_pair (pointwise nat_eq l.name) (length l.name) ps ≡ find_pair (pointwise nat_eq l.name) (length l.name) others))
+    → (others : Pairs)
+    × (AreMembers others l.left
+    × (find_pair (pointwise nat_eq l.name) (length l.name) ps
+    ≡ find_pair (pointwise nat_eq l.name) (length l.name) others))
 
 abbrev pub decreases-loop-first : goal.decreases-loop-first
 decreases-loop-first l = length l.left.keys.entries.now

@@ -8,21 +8,26 @@ pub new-requires : goal.new-requires
 new-requires c =
     let t = document_tree c.args.self.now in
     let is : c.over_object.result ≡ Ok (Some (c.in-Ok-Some.keys, c.in-Ok-Some.values)) = cc in
-    (subst (FindsMembers t) (sym c.over_object.ensures ∙ is) (object_entries-Doc _ t c.as_bytes.ensures.document)).0
+    (subst (FindsMembers t) (sym c.over_object.ensures ∙ is)
+    (object_entries-Doc _ t c.as_bytes.ensures.document)).0
 
 pub unreachable-requires : goal.unreachable-requires
 unreachable-requires c =
     let t = document_tree c.args.self.now in
-    subst (FindsMembers t) (sym c.over_object.ensures ∙ c.in-Err.is) (object_entries-Doc _ t c.as_bytes.ensures.document)
+    subst (FindsMembers t) (sym c.over_object.ensures ∙ c.in-Err.is)
+    (object_entries-Doc _ t c.as_bytes.ensures.document)
 
 pub returns-in-Ok-Some : goal.returns-in-Ok-Some
 returns-in-Ok-Some c =
     let t = document_tree c.args.self.now in
     let is : c.over_object.result ≡ Ok (Some (c.in-Ok-Some.keys, c.in-Ok-Some.values)) = cc in
     ap (λ x. Some (pairs_left x)) c.new.ensures
-    ∙ (subst (FindsMembers t) (sym c.over_object.ensures ∙ is) (object_entries-Doc _ t c.as_bytes.ensures.document)).1
+    ∙ (subst (FindsMembers t) (sym c.over_object.ensures ∙ is)
+    (object_entries-Doc _ t c.as_bytes.ensures.document)).1
 
 pub returns-in-Ok-None : goal.returns-in-Ok-None
 returns-in-Ok-None c =
     let t = document_tree c.args.self.now in
-    subst (FindsMembers t) (sym c.over_object.ensures ∙ c.in-Ok-None.is ∙ ap Ok c.in-Ok-None.field-0-is) (object_entries-Doc _ t c.as_bytes.ensures.document)
+    subst (FindsMembers t)
+    (sym c.over_object.ensures ∙ c.in-Ok-None.is ∙ ap Ok c.in-Ok-None.field-0-is)
+    (object_entries-Doc _ t c.as_bytes.ensures.document)

@@ -6,4 +6,6 @@ use Rattle.jsonb.proofs.entries.Cursor.len.Goals as goal
 pub returns : goal.returns
 returns c =
     let i = c.self.inside in
-    subst (λ xs. i.left ≡ length xs) c.self.view_is (length-AreParts i.bytes.now i.left i.place i.start (subst AreParts (sym c.self.view_is) c.requires))
+    subst (λ xs. i.left ≡ length xs) c.self.view_is
+    (length-AreParts i.bytes.now i.left i.place i.start
+    (subst AreParts (sym c.self.view_is) c.requires))

@@ -1,7 +1,7 @@
 use Rattle.std.proofs.Common.{◌≡◌, ◌∙◌}
 use Rattle.jsonb.specs.Raw.{raw_bytes}
-use Rattle.jsonb.specs.Shown.{Shown}
-use Rattle.jsonb.specs.Code.{stored, CanBeStored}
+use Rattle.jsonb.specs.ItemView.{ItemView}
+use Rattle.jsonb.specs.Code.{item_document, CanBeStored}
 use Rattle.jsonb.specs.Walked.{IsItemIn}
 use Rattle.jsonb.proofs.ItemLaws.{item_in-Doc, shown_ok}
 use Rattle.jsonb.proofs.item.JsonbItem.from_raw_jsonb.Goals as goal
@@ -16,4 +16,6 @@ pub returns-clause-again : goal.returns-clause-again
 returns-clause-again c = λ t h.
     let b = raw_bytes c.args.raw in
     let found = item_in-Doc b t h in
-    shown_ok _ found.0 (λ (x : Shown). (stored x ≡ b) × CanBeStored x) (c.item_of_bytes.ensures ∙ found.1.0) found.1.1.1
+    shown_ok _ found.0
+    (λ (x : ItemView). (item_document x ≡ b) × CanBeStored x)
+    (c.item_of_bytes.ensures ∙ found.1.0) found.1.1.1

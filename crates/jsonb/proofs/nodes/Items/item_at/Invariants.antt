@@ -7,5 +7,6 @@ abbrev pub invariant-loop : goal.invariant-loop
 invariant-loop l = record {
   parts : AreParts l.entries;
   few : l.counter ≤ l.fn.index;
-  same : slice_get (trees_left l.fn.self) l.fn.index ≡ slice_get (trees_left l.entries) (l.fn.index - l.counter);
+  same : slice_get (trees_left l.fn.self) l.fn.index
+      ≡ slice_get (trees_left l.entries) (l.fn.index - l.counter);
 }

@@ -7,4 +7,5 @@ pub returns-clause-steps : goal.returns-clause-steps
 returns-clause-steps c =
     sym (ap trees_left c.self.view_is)
     ∙ ap trees_left c.in_ok-part.ensures.steps
-    ∙ ap (λ t. t ∷ trees_left c.next_part.new.self) (entry_tree-node c.in_ok-part.part c.of_part.result c.of_part.ensures.means)
+    ∙ ap (λ t. t ∷ trees_left c.next_part.new.self)
+    (entry_tree-node c.in_ok-part.part c.of_part.result c.of_part.ensures.means)

@@ -22,7 +22,8 @@ decreases-cmp_members l = 3 * pair_sizes (pairs_of (pairs_left l.left)) + 2
 
 abbrev pub invariant-cmp_items-loop-left_item : goal.invariant-cmp_items-loop-left_item
 invariant-cmp_items-loop-left_item l = record {
-  decides : trees_cmp (trees_of (trees_left l.fn.left)) (trees_of (trees_left l.fn.right)) ≡ trees_cmp (trees_of (trees_left l.left)) (trees_of (trees_left l.right));
+  decides : trees_cmp (trees_of (trees_left l.fn.left)) (trees_of (trees_left l.fn.right))
+      ≡ trees_cmp (trees_of (trees_left l.left)) (trees_of (trees_left l.right));
   less : sizes (trees_of (trees_left l.left)) ≤ sizes (trees_of (trees_left l.fn.left));
 }
 
@@ -31,7 +32,8 @@ decreases-cmp_items-loop-left_item l = length (trees_left l.left)
 
 abbrev pub invariant-cmp_members-loop-left_key : goal.invariant-cmp_members-loop-left_key
 invariant-cmp_members-loop-left_key l = record {
-  decides : pairs_cmp (pairs_of (pairs_left l.fn.left)) (pairs_of (pairs_left l.fn.right)) ≡ pairs_cmp (pairs_of (pairs_left l.left)) (pairs_of (pairs_left l.right));
+  decides : pairs_cmp (pairs_of (pairs_left l.fn.left)) (pairs_of (pairs_left l.fn.right))
+      ≡ pairs_cmp (pairs_of (pairs_left l.left)) (pairs_of (pairs_left l.right));
   less : pair_sizes (pairs_of (pairs_left l.left)) ≤ pair_sizes (pairs_of (pairs_left l.fn.left));
 }
 

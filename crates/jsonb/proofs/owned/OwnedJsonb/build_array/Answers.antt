@@ -1,7 +1,7 @@
 use Rattle.std.proofs.Common.{map, sym, ◌∙◌}
 use Rattle.std.proofs.lemmas.Result.{IfOk-weaker}
 use Rattle.jsonb.specs.Raw.{raw_bytes}
-use Rattle.jsonb.specs.Shown as items
+use Rattle.jsonb.specs.ItemView as items
 use Rattle.jsonb.proofs.BuiltLaws.{map-map, IsArrayOfInputs-IsArrayOf}
 use Rattle.jsonb.proofs.owned.OwnedJsonb.build_array.Goals as goal
 
@@ -16,7 +16,13 @@ returns-clause-ok g c =
         walk.yielded,
         (
           c.into_iter-input-iterator.ensures.into_iter_gives,
-          ((c.next.new.self, (walk.input-iterator, walk.yielded_by, c.in-None.ensures.steps)), IsArrayOfInputs-IsArrayOf (map raw_bytes walk.yielded) _ _ same h),
+          (
+            (
+              c.next.new.self,
+              (walk.input-iterator, walk.yielded_by, c.in-None.ensures.steps),
+            ),
+            IsArrayOfInputs-IsArrayOf (map raw_bytes walk.yielded) _ _ same h,
+          ),
         ),
       ),
     )) c.build.ensures.ok

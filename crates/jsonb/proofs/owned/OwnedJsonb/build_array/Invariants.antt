@@ -1,6 +1,6 @@
 use Rattle.std.proofs.Common.{◌≡◌, map}
 use Rattle.jsonb.specs.Raw.{raw_bytes}
-use Rattle.jsonb.specs.Shown as items
+use Rattle.jsonb.specs.ItemView as items
 use Rattle.jsonb.proofs.owned.OwnedJsonb.build_array.Given as goal
 
 abbrev pub invariant-loop-input : goal.invariant-loop-input

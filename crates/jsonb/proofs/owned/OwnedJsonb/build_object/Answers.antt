@@ -19,21 +19,35 @@ pub loop-key-preserved : goal.loop-key-preserved
 loop-key-preserved g c =
     let walk = c.loop-key in
     let x : Bor (List ℕ) × RawJsonb = (c.in-Some.key, c.in-Some.input) in
-    let new = not_there _ _ (has_key walk.builder c.in-Some.key.now) c.in_ok-push_raw_jsonb.was c.push_raw_jsonb.ensures.duplicate in
+    let new = not_there _ _
+    (has_key walk.builder c.in-Some.key.now) c.in_ok-push_raw_jsonb.was c.push_raw_jsonb.ensures.duplicate in
     record {
-      built = one_more walk.builder walk.yielded walk.invariant.built c.push_raw_jsonb.new.self x c.in_ok-push_raw_jsonb.ensures.pushed;
-      distinct = still_distinct walk.builder walk.yielded walk.invariant.built x new walk.invariant.distinct;
+      built =
+          one_more walk.builder walk.yielded walk.invariant.built c.push_raw_jsonb.new.self x c.in_ok-push_raw_jsonb.ensures.pushed;
+      distinct =
+          still_distinct walk.builder walk.yielded walk.invariant.built x new walk.invariant.distinct;
     }
 
 pub returns-in_err-push_raw_jsonb-clause-duplicate : goal.returns-in_err-push_raw_jsonb-clause-duplicate
 returns-in_err-push_raw_jsonb-clause-duplicate g c = λ e.
     let walk = c.loop-key in
     let refused : c.push_raw_jsonb.result ≡ Err ObjectDuplicateKey = search (rules, e) in
-    let there = subst IsTrue (key_there walk.builder walk.yielded walk.invariant.built c.in-Some.key.now) (c.push_raw_jsonb.ensures.duplicate.0 refused) in (
+    let there = subst IsTrue
+    (key_there walk.builder walk.yielded walk.invariant.built c.in-Some.key.now)
+    (c.push_raw_jsonb.ensures.duplicate.0 refused) in (
       c.into_iter-key-iterator.result,
       (
         walk.yielded,
-        ((c.in-Some.key, c.in-Some.input), (c.next.new.self, (c.into_iter-key-iterator.ensures.into_iter_gives, ((walk.key-iterator, walk.yielded_by, c.in-Some.ensures.steps), there)))),
+        (
+          (c.in-Some.key, c.in-Some.input),
+          (
+            c.next.new.self,
+            (
+              c.into_iter-key-iterator.ensures.into_iter_gives,
+              ((walk.key-iterator, walk.yielded_by, c.in-Some.ensures.steps), there),
+            ),
+          ),
+        ),
       ),
     )
 
@@ -49,8 +63,11 @@ returns-clause-ok g c =
           c.into_iter-key-iterator.ensures.into_iter_gives,
           (
             (c.next.new.self, (walk.key-iterator, walk.yielded_by, c.in-None.ensures.steps)),
-            IsObjectOfInputs-IsObjectOf (map input_pair walk.yielded) walk.builder _ walk.invariant.built walk.invariant.distinct h.0 h.1,
+            IsObjectOfInputs-IsObjectOf
+                (map input_pair walk.yielded) walk.builder _ walk.invariant.built walk.invariant.distinct h.0 h.1,
           ),
         ),
       ),
-    )) (both_ok c.build.result (λ owned. IsObjectOf walk.builder (owned_bytes owned)) (AreKeys (keys_of walk.builder)) c.build.ensures.ok c.build.ensures.keys)
+    )) (both_ok c.build.result
+    (λ owned. IsObjectOf walk.builder (owned_bytes owned))
+    (AreKeys (keys_of walk.builder)) c.build.ensures.ok c.build.ensures.keys)

@@ -14,21 +14,33 @@ pub returns-clause-ok : goal.returns-clause-ok
 returns-clause-ok c =
     let k = c.in_ok-append_canonical.ensures in
     let b = raw_bytes c.args.self.now in
-    let h : (t : Tree) × Doc b t = subst (λ x. (t : Tree) × Doc x t) c.as_bytes.ensures k.document in
-    let known = k.appended h.0 (subst (λ x. Doc x h.0) (sym c.as_bytes.ensures) h.1) in
-    (h.0, (h.1, (known.0, c.new.ensures ∙ known.1 ∙ ap (λ (x : List ℕ). x ++ canon h.0) c.new-bytes.ensures.items)))
+    let h : (t : Tree) × Doc b t =
+    subst (λ x. (t : Tree) × Doc x t) c.as_bytes.ensures k.document in
+    let known = k.appended h.0 (subst (λ x. Doc x h.0) (sym c.as_bytes.ensures) h.1) in (
+      h.0,
+      (
+        h.1,
+        (
+          known.0,
+          c.new.ensures ∙ known.1 ∙ ap
+              (λ (x : List ℕ). x ++ canon h.0) c.new-bytes.ensures.items,
+        ),
+      ),
+    )
 
 pub returns-clause-same : goal.returns-clause-same
 returns-clause-same c =
     let b = raw_bytes c.args.self.now in
     let (t, (h, (fit, e))) = returns-clause-ok c in
-    let ok = c.in_ok-append_canonical.ensures.tree t (subst (λ x. Doc x t) (sym c.as_bytes.ensures) h) in
+    let ok =
+    c.in_ok-append_canonical.ensures.tree t (subst (λ x. Doc x t) (sym c.as_bytes.ensures) h) in
     subst (λ x. (x ≡ b) ↔ IsCanonical b) (sym e) (canonical_same b t ok h fit)
 
 pub returns-clause-canonical : goal.returns-clause-canonical
 returns-clause-canonical c =
     let (t, (h, (fit, e))) = returns-clause-ok c in
-    let ok = c.in_ok-append_canonical.ensures.tree t (subst (λ x. Doc x t) (sym c.as_bytes.ensures) h) in
+    let ok =
+    c.in_ok-append_canonical.ensures.tree t (subst (λ x. Doc x t) (sym c.as_bytes.ensures) h) in
     (t, (ok, (fit, sym e)))
 
 pub returns-clause-means : goal.returns-clause-means
@@ -50,5 +62,6 @@ returns-clause-equal c t u h =
 pub returns-clause-twice : goal.returns-clause-twice
 returns-clause-twice c =
     let (t, (h, (fit, e))) = returns-clause-ok c in
-    let ok = c.in_ok-append_canonical.ensures.tree t (subst (λ x. Doc x t) (sym c.as_bytes.ensures) h) in
+    let ok =
+    c.in_ok-append_canonical.ensures.tree t (subst (λ x. Doc x t) (sym c.as_bytes.ensures) h) in
     canonical_twice (owned_bytes c.new.result) t e ok fit

@@ -3,23 +3,28 @@ use Rattle.jsonb_value.specs.Text.{on_lines}
 use Rattle.jsonb_codec.specs.Doc.{Doc}
 use Rattle.jsonb_codec.proofs.RereadLaws.{reread_text}
 use Rattle.jsonb.specs.Raw.{raw_bytes}
-use Rattle.jsonb.specs.Texts.{pretty_shown_text}
-use Rattle.jsonb.proofs.TextLaws.{pretty_shown_text-Doc, pretty_shown_text-other, string_written, prints_as, reads_again}
+use Rattle.jsonb.specs.Texts.{pretty_display_text}
+use Rattle.jsonb.proofs.TextLaws.{pretty_display_text-Doc, pretty_display_text-other}
+use Rattle.jsonb.proofs.TextLaws.{string_written, prints_as, reads_again}
 use Rattle.jsonb.proofs.raw.RawJsonb.to_pretty_string.Goals as goal
 
 pub returns-clause-shown : goal.returns-clause-shown
 returns-clause-shown c =
     prints_as _ _ _
-    (string_written c.new.result _ _ _ _ _ (c.write_pretty-answer.ensures.text c.new-f.ensures.plain.flush) c.new.ensures.bytes c.new-f.ensures.writer c.written.ensures.ok c.written.ensures.text)
-    (ap pretty_shown_text c.as_bytes.ensures)
+    (string_written c.new.result _ _ _ _ _
+    (c.write_pretty-answer.ensures.text c.new-f.ensures.plain.flush) c.new.ensures.bytes c.new-f.ensures.writer c.written.ensures.ok c.written.ensures.text)
+    (ap pretty_display_text c.as_bytes.ensures)
 
 pub returns-clause-document : goal.returns-clause-document
-returns-clause-document c t doc = prints_as _ _ _ (returns-clause-shown c) (pretty_shown_text-Doc (raw_bytes c.args.self.now) t doc)
+returns-clause-document c t doc = prints_as _ _ _ (returns-clause-shown c)
+    (pretty_display_text-Doc (raw_bytes c.args.self.now) t doc)
 
 pub returns-clause-other : goal.returns-clause-other
-returns-clause-other c none = prints_as _ _ _ (returns-clause-shown c) (pretty_shown_text-other (raw_bytes c.args.self.now) none)
+returns-clause-other c none = prints_as _ _ _ (returns-clause-shown c)
+    (pretty_display_text-other (raw_bytes c.args.self.now) none)
 
 pub returns-clause-read_again : goal.returns-clause-read_again
 returns-clause-read_again c t doc plain fits =
     let again = subst (λ (b : List ℕ). Doc b t) (sym c.as_bytes.ensures) doc in
-    reads_again _ _ t (returns-clause-document c t doc) (reread_text (on_lines 0) t (c.write_pretty-answer.ensures.tree t again) plain fits)
+    reads_again _ _ t (returns-clause-document c t doc)
+    (reread_text (on_lines 0) t (c.write_pretty-answer.ensures.tree t again) plain fits)

@@ -3,28 +3,34 @@ use Rattle.jsonb_value.specs.Text.{in_one_line}
 use Rattle.jsonb_codec.specs.Doc.{Doc}
 use Rattle.jsonb_codec.proofs.RereadLaws.{reread_text}
 use Rattle.jsonb.specs.Raw.{raw_bytes}
-use Rattle.jsonb.specs.Texts.{shown_text}
-use Rattle.jsonb.proofs.TextLaws.{shown_text-Doc, shown_text-other, string_written, prints_as, reads_again, other_text-short, short_text}
+use Rattle.jsonb.specs.Texts.{display_text}
+use Rattle.jsonb.proofs.TextLaws.{display_text-Doc, display_text-other, string_written, prints_as}
+use Rattle.jsonb.proofs.TextLaws.{reads_again, other_text-short, short_text}
 use Rattle.jsonb.proofs.raw.RawJsonb.to_string.Goals as goal
 
 pub returns-clause-shown : goal.returns-clause-shown
 returns-clause-shown c =
     prints_as _ _ _
-    (string_written c.in_ok-text.text _ _ _ _ _ (c.write_shown-answer.ensures.text c.new-f.ensures.plain.flush) c.in_ok-text.ensures.bytes c.new-f.ensures.writer c.written.ensures.ok c.written.ensures.text)
-    (ap shown_text c.as_bytes.ensures)
+    (string_written c.in_ok-text.text _ _ _ _ _
+    (c.write_shown-answer.ensures.text c.new-f.ensures.plain.flush) c.in_ok-text.ensures.bytes c.new-f.ensures.writer c.written.ensures.ok c.written.ensures.text)
+    (ap display_text c.as_bytes.ensures)
 
 pub returns-clause-document : goal.returns-clause-document
-returns-clause-document c t doc = prints_as _ _ _ (returns-clause-shown c) (shown_text-Doc (raw_bytes c.args.self.now) t doc)
+returns-clause-document c t doc =
+    prints_as _ _ _ (returns-clause-shown c) (display_text-Doc (raw_bytes c.args.self.now) t doc)
 
 pub returns-clause-other : goal.returns-clause-other
-returns-clause-other c none = prints_as _ _ _ (returns-clause-shown c) (shown_text-other (raw_bytes c.args.self.now) none)
+returns-clause-other c none =
+    prints_as _ _ _ (returns-clause-shown c) (display_text-other (raw_bytes c.args.self.now) none)
 
 pub returns-clause-read_again : goal.returns-clause-read_again
 returns-clause-read_again c t doc plain fits =
     let again = subst (λ (b : List ℕ). Doc b t) (sym c.as_bytes.ensures) doc in
-    reads_again _ _ t (returns-clause-document c t doc) (reread_text in_one_line t (c.write_shown-answer.ensures.tree t again) plain fits)
+    reads_again _ _ t (returns-clause-document c t doc)
+    (reread_text in_one_line t (c.write_shown-answer.ensures.tree t again) plain fits)
 
 pub returns-clause-short_text : goal.returns-clause-short_text
 returns-clause-short_text c utf8 zeros some short =
     let b = raw_bytes c.args.self.now in
-    prints_as _ _ _ (returns-clause-other c (short_text b zeros short)) (other_text-short b utf8 some)
+    prints_as _ _ _ (returns-clause-other c (short_text b zeros short))
+    (other_text-short b utf8 some)

@@ -6,4 +6,6 @@ use Rattle.jsonb.proofs.raw.RawJsonb.to_value.Goals as goal
 
 pub returns-clause-fault : goal.returns-clause-fault
 returns-clause-fault c =
-    subst (λ (b : List ℕ). IfErr c.value_of.result (λ e. (e ≡ OutOfMemory) ⊎ (IsTreeFault e × (IsDocument b → ⊥)))) c.as_bytes.ensures c.value_of.ensures.fault
+    subst (λ (b : List ℕ). IfErr c.value_of.result
+    (λ e. (e ≡ OutOfMemory)
+    ⊎ (IsTreeFault e × (IsDocument b → ⊥)))) c.as_bytes.ensures c.value_of.ensures.fault

@@ -7,4 +7,5 @@ pub returns-in_ok-write_str-in-OnLines : goal.returns-in_ok-write_str-in-OnLines
 returns-in_ok-write_str-in-OnLines g c flush ok =
     let one = c.write_str.ensures.styled flush (search rules) in
     let two = c.write_repeated.ensures.styled one.flush ok in
-    rw c.in-OnLines.is (joins_two _ _ _ _ _ _ _ one two (ap (λ spaces. 10 ∷ spaces) (indent c.in-OnLines.depth)))
+    rw c.in-OnLines.is
+    (joins_two _ _ _ _ _ _ _ one two (ap (λ spaces. 10 ∷ spaces) (indent c.in-OnLines.depth)))

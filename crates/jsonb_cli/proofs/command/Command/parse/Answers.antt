@@ -4,7 +4,8 @@ use Rattle.jsonb_cli.proofs.command.Command.parse.Goals as goal
 
 pub returns-then-eq-clause-some : goal.returns-then-eq-clause-some
 returns-then-eq-clause-some c =
-    let name : c.split_word.result.0.now ≡ codes "arr" = equals _ _ _ _ c.as_slice.ensures c.eq.ensures c.if-eq.true in
+    let name : c.split_word.result.0.now ≡ codes "arr" =
+    equals _ _ _ _ c.as_slice.ensures c.eq.ensures c.if-eq.true in
     rw c.new.ensures (arr_form _ _ _ name c.split_word.ensures.parts)
 
 pub returns-in_err-rest-clause-none : goal.returns-in_err-rest-clause-none

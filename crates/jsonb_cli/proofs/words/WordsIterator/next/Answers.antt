@@ -5,10 +5,12 @@ use Rattle.jsonb_cli.proofs.words.WordsIterator.next.Goals as goal
 
 pub returns-clause-steps : goal.returns-clause-steps
 returns-clause-steps c =
-    sym c.self.view_is ∙ words_from-first _ _ _ _ c.in_ok-self.was c.split_word.ensures.word c.split_word.ensures.parts
+    sym c.self.view_is
+    ∙ words_from-first _ _ _ _ c.in_ok-self.was c.split_word.ensures.word c.split_word.ensures.parts
 
 pub returns-clause-goes : goal.returns-clause-goes
 returns-clause-goes c =
     let left : c.args.self.now ≡ c.split_word.result.0.now ∷ words_from c.split_word.result.1 =
-    sym c.self.view_is ∙ words_from-first _ _ _ _ c.in_ok-self.was c.split_word.ensures.word c.split_word.ensures.parts in
+    sym c.self.view_is
+    ∙ words_from-first _ _ _ _ c.in_ok-self.was c.split_word.ensures.word c.split_word.ensures.parts in
     rw left (search rules)

@@ -10,7 +10,8 @@ abbrev pub decreases-append_container : goal.decreases-append_container
 decreases-append_container l = 4 * length l.part.payload.now + 2
 
 abbrev pub decreases-append_payloads : goal.decreases-append_payloads
-decreases-append_payloads l = 4 * (length l.children.entries.now + length l.children.payloads.now) + 5
+decreases-append_payloads l =
+    4 * (length l.children.entries.now + length l.children.payloads.now) + 5
 
 abbrev pub invariant-append_payloads-loop-child : goal.invariant-append_payloads-loop-child
 invariant-append_payloads-loop-child l = record {

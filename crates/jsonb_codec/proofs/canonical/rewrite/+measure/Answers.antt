@@ -11,11 +11,23 @@ measure_container-returns-clause-some t c tree h =
     let parts = c.container.result in
     let o = c.container.ensures.opened tree (h.0, h.1) in
     let m = c.in_ok-payloads.ensures.some o.children o.are in
-    let written = ap length o.written ∙ length-word-append parts.header (entries_of o.children ++ payloads_of o.children) in
-    (o.fit.0 m.0, omega (arith, written, length-append (entries_of o.children) (payloads_of o.children), length-entries_of o.children, length-Children o.children parts.children.entries.now parts.children.payloads.now o.are, m.1))
+    let written = ap length o.written
+    ∙ length-word-append parts.header (entries_of o.children ++ payloads_of o.children) in (
+      o.fit.0 m.0,
+      omega (
+        arith,
+        written,
+        length-append (entries_of o.children)
+            (payloads_of o.children),
+        length-entries_of o.children,
+        length-Children o.children parts.children.entries.now parts.children.payloads.now o.are,
+        m.1,
+      ),
+    )
 
 pub measure_payloads-loop-child-init : goal.measure_payloads-loop-child-init
-measure_payloads-loop-child-init t c = record { measured = measured_start _ _ c.args.children.known; small = omega arith; payloads_shorter = omega arith }
+measure_payloads-loop-child-init t c =
+    record { measured = measured_start _ _ c.args.children.known; small = omega arith; payloads_shorter = omega arith }
 
 pub measure_payloads-returns-in_err-total-clause-none : goal.measure_payloads-returns-in_err-total-clause-none
 measure_payloads-returns-in_err-total-clause-none t c =

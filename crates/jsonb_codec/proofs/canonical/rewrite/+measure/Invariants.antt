@@ -13,7 +13,8 @@ abbrev pub decreases-measure_container : goal.decreases-measure_container
 decreases-measure_container l = 4 * length l.part.payload.now + 2
 
 abbrev pub decreases-measure_payloads : goal.decreases-measure_payloads
-decreases-measure_payloads l = 4 * (length l.children.entries.now + length l.children.payloads.now) + 5
+decreases-measure_payloads l =
+    4 * (length l.children.entries.now + length l.children.payloads.now) + 5
 
 abbrev pub invariant-measure_payloads-loop-child : goal.invariant-measure_payloads-loop-child
 invariant-measure_payloads-loop-child l = record {

@@ -3,4 +3,5 @@ use Rattle.std.proofs.Math.Logic.{∥∥₁_map}
 use Rattle.jsonb_codec.proofs.document.DocumentBytes.of_container.Goals as goal
 
 pub invariant_of-result : goal.invariant_of-result
-invariant_of-result c = record { known = ∥∥₁_map c.args.part.known (λ (t, h). (t, inr (h.0 ∙ c.requires, h.1))) }
+invariant_of-result c =
+    record { known = ∥∥₁_map c.args.part.known (λ (t, h). (t, inr (h.0 ∙ c.requires, h.1))) }

@@ -11,20 +11,23 @@ returns-in_default-clause-none c ts h = (children_end ts _ _ c.in_default.ensure
 pub split_at-requires : goal.split_at-requires
 split_at-requires c =
     let e = c.in-Some.entry in let k = c.in-Some.ensures in
-    let read : Read e.tag e.number e.rest.now c.args.self.entries.now = record { parts = k.found; tag = k.tag; number = k.number; small = k.small } in
+    let read : Read e.tag e.number e.rest.now c.args.self.entries.now =
+    record { parts = k.found; tag = k.tag; number = k.number; small = k.small } in
     let (ts, h) = known_children _ _ c.args.self.known in
     first_fits _ _ _ _ _ read ts h
 
 pub returns-clause-first : goal.returns-clause-first
 returns-clause-first c =
     let e = c.in-Some.entry in let k = c.in-Some.ensures in
-    let read : Read e.tag e.number e.rest.now c.args.self.entries.now = record { parts = k.found; tag = k.tag; number = k.number; small = k.small } in
+    let read : Read e.tag e.number e.rest.now c.args.self.entries.now =
+    record { parts = k.found; tag = k.tag; number = k.number; small = k.small } in
     first_child _ _ _ _ _ read _ _ c.split_at.ensures.front c.split_at.ensures.back
 
 pub invariant_of-result : goal.invariant_of-result
 invariant_of-result c =
     let e = c.in-Some.entry in let k = c.in-Some.ensures in
-    let read : Read e.tag e.number e.rest.now c.args.self.entries.now = record { parts = k.found; tag = k.tag; number = k.number; small = k.small } in
+    let read : Read e.tag e.number e.rest.now c.args.self.entries.now =
+    record { parts = k.found; tag = k.tag; number = k.number; small = k.small } in
     let (ts, h) = known_children _ _ c.args.self.known in
     let f = first_child _ _ _ _ _ read _ _ c.split_at.ensures.front c.split_at.ensures.back ts h in
     record { known = merely (f.first, f.is) }
@@ -32,7 +35,8 @@ invariant_of-result c =
 pub invariant_of-result-2 : goal.invariant_of-result-2
 invariant_of-result-2 c =
     let e = c.in-Some.entry in let k = c.in-Some.ensures in
-    let read : Read e.tag e.number e.rest.now c.args.self.entries.now = record { parts = k.found; tag = k.tag; number = k.number; small = k.small } in
+    let read : Read e.tag e.number e.rest.now c.args.self.entries.now =
+    record { parts = k.found; tag = k.tag; number = k.number; small = k.small } in
     let (ts, h) = known_children _ _ c.args.self.known in
     let f = first_child _ _ _ _ _ read _ _ c.split_at.ensures.front c.split_at.ensures.back ts h in
     record { known = merely (f.others, f.behind) }
@@ -40,4 +44,8 @@ invariant_of-result-2 c =
 pub returns-clause-entries_len : goal.returns-clause-entries_len
 returns-clause-entries_len c =
     let e = c.in-Some.entry in
-    omega (arith, ap length c.in-Some.ensures.found ∙ length-word-append (e.tag + e.number) e.rest.now)
+    omega (
+      arith,
+      ap length c.in-Some.ensures.found
+          ∙ length-word-append (e.tag + e.number) e.rest.now,
+    )

@@ -4,11 +4,13 @@ use Rattle.std.proofs.Math.Logic.{∥∥₁_elim, ∥∥₁_map}
 use Rattle.std.proofs.lemmas.Bool.{cases_eq}
 use Rattle.jsonb_codec.proofs.Decision.{known}
 use Rattle.jsonb_codec.proofs.KeySteps.{values_of, children_of_values}
-use Rattle.jsonb_codec.proofs.PairLaws.{keys_of, first_pair, as_many_values, no_keys, children_of_keys}
+use Rattle.jsonb_codec.proofs.PairLaws.{keys_of, first_pair, as_many_values, no_keys}
+use Rattle.jsonb_codec.proofs.PairLaws.{children_of_keys}
 use Rattle.jsonb_codec.proofs.parts.Members.split_first.Goals as goal
 
 pub returns-in_default-clause-none : goal.returns-in_default-clause-none
-returns-in_default-clause-none c ps h = no_keys ps (c.in_default.ensures.none (keys_of ps) (children_of_keys ps _ _ h.1.0))
+returns-in_default-clause-none c ps h =
+    no_keys ps (c.in_default.ensures.none (keys_of ps) (children_of_keys ps _ _ h.1.0))
 
 pub unreachable-requires : goal.unreachable-requires
 unreachable-requires c =
@@ -20,19 +22,31 @@ unreachable-requires c =
 pub text-requires : goal.text-requires
 text-requires c =
     known (cases_eq _ _) (∥∥₁_map c.args.self.known (λ (ps, h).
-    (first_pair ps h.0 _ _ _ _ (c.in-Some.ensures.first (keys_of ps) (children_of_keys ps _ _ h.1.0)) _ _ _ _
-    (c.in-Some-split_first.ensures.first (values_of ps) (children_of_values ps _ _ h.1.1))).is_text))
+    (first_pair ps h.0 _ _ _ _
+    (c.in-Some.ensures.first (keys_of ps) (children_of_keys ps _ _ h.1.0)) _ _ _ _
+    (c.in-Some-split_first.ensures.first (values_of ps)
+    (children_of_values ps _ _ h.1.1))).is_text))
 
 pub invariant_of-result : goal.invariant_of-result
 invariant_of-result c = record {
   known = ∥∥₁_map c.args.self.known (λ (ps, h).
-      let f = first_pair ps h.0 _ _ _ _ (c.in-Some.ensures.first (keys_of ps) (children_of_keys ps _ _ h.1.0)) _ _ _ _
+      let f = first_pair ps h.0 _ _ _ _
+      (c.in-Some.ensures.first (keys_of ps) (children_of_keys ps _ _ h.1.0)) _ _ _ _
       (c.in-Some-split_first.ensures.first (values_of ps) (children_of_values ps _ _ h.1.1)) in
       (f.others, f.behind));
 }
 
 pub returns-clause-first : goal.returns-clause-first
 returns-clause-first c ps h =
-    let f = first_pair ps h.0 _ _ _ _ (c.in-Some.ensures.first (keys_of ps) (children_of_keys ps _ _ h.1.0)) _ _ _ _
+    let f = first_pair ps h.0 _ _ _ _
+    (c.in-Some.ensures.first (keys_of ps) (children_of_keys ps _ _ h.1.0)) _ _ _ _
     (c.in-Some-split_first.ensures.first (values_of ps) (children_of_values ps _ _ h.1.1)) in
-    record { value = f.value; others = f.others; are = f.are ∙ ap (λ (x : List ℕ). pair x f.value f.others) (sym c.text.ensures.bytes); is = f.is; left = f.behind }
+    record {
+      value = f.value;
+      others = f.others;
+      are = f.are ∙ ap
+          (λ (x : List ℕ). pair x f.value f.others)
+          (sym c.text.ensures.bytes);
+      is = f.is;
+      left = f.behind;
+    }

@@ -5,4 +5,5 @@ use Rattle.jsonb_codec.proofs.Building.{meant}
 use Rattle.jsonb_codec.proofs.parts.Part.extension.Goals as goal
 
 pub returns : goal.returns
-returns c t h = meant c.args.self.tag c.args.self.payload.now t (extension (extension_of c.in-Ok.value)) h (sym c.requires, c.in-Ok.ensures.ok)
+returns c t h = meant c.args.self.tag c.args.self.payload.now t
+    (extension (extension_of c.in-Ok.value)) h (sym c.requires, c.in-Ok.ensures.ok)

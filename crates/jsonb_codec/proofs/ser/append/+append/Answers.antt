@@ -1,6 +1,7 @@
 use Rattle.std.proofs.Common.{◌+◌, length, length-append, arith, le_trans, ◌∙◌}
 use Rattle.jsonb_codec.specs.Doc.{type_of}
-use Rattle.jsonb_codec.specs.Canon.{payload_of, entry_word, entries_of, payloads_of, value_entries, value_payloads}
+use Rattle.jsonb_codec.specs.Canon.{payload_of, entry_word, entries_of, payloads_of, value_entries}
+use Rattle.jsonb_codec.specs.Canon.{value_payloads}
 use Rattle.jsonb_codec.specs.Node.{node_tree, items_trees, object_pairs, left_pairs}
 use Rattle.jsonb_codec.proofs.Appending.{length-Appended, append-Appended}
 use Rattle.jsonb_codec.proofs.Lengths.{length-payload_of-array, length-payload_of-object}
@@ -13,11 +14,23 @@ append_items-overflow_sub-size t c =
 
 pub append_items-overflow_sub-size-2 : goal.append_items-overflow_sub-size-2
 append_items-overflow_sub-size-2 t c =
-    omega (arith, c.requires.size, c.len-count.ensures, length-payload_of-array (items_trees c.args.items))
+    omega (
+      arith,
+      c.requires.size,
+      c.len-count.ensures,
+      length-payload_of-array
+          (items_trees c.args.items),
+    )
 
 pub append_items-append_entries-requires-clause-size : goal.append_items-append_entries-requires-clause-size
 append_items-append_entries-requires-clause-size t c =
-    omega (arith, c.requires.size, c.len-count.ensures, length-payload_of-array (items_trees c.args.items))
+    omega (
+      arith,
+      c.requires.size,
+      c.len-count.ensures,
+      length-payload_of-array
+          (items_trees c.args.items),
+    )
 
 pub append_pairs-overflow_sub-size : goal.append_pairs-overflow_sub-size
 append_pairs-overflow_sub-size t c =
@@ -25,7 +38,13 @@ append_pairs-overflow_sub-size t c =
 
 pub append_pairs-overflow_sub-size-2 : goal.append_pairs-overflow_sub-size-2
 append_pairs-overflow_sub-size-2 t c =
-    omega (arith, c.requires.size, c.len-count.ensures, length-payload_of-object (object_pairs c.args.pairs))
+    omega (
+      arith,
+      c.requires.size,
+      c.len-count.ensures,
+      length-payload_of-object
+          (object_pairs c.args.pairs),
+    )
 
 pub append_pairs-overflow_sub-size-3 : goal.append_pairs-overflow_sub-size-3
 append_pairs-overflow_sub-size-3 t c =
@@ -41,8 +60,14 @@ append_payloads-append_payload-requires t c =
     let others = items_trees c.in-Some.others in
     let before = rw c.in-Some.ensures.trees at c.loop-item.invariant in
     let payloads = length-append (payload_of first) (payloads_of others) in
-    let entry = Stands-first c.loop-item.entry (entry_word first) (entries_of others) c.loop-item.out.items before.words in
-    (omega (arith, before.smaller), (record { inside = before.fit.0.0; short = before.fit.0.1 }, (entry, omega (arith, before.room, payloads))))
+    let entry = Stands-first c.loop-item.entry (entry_word first)
+    (entries_of others) c.loop-item.out.items before.words in (
+      omega (arith, before.smaller),
+      (
+        record { inside = before.fit.0.0; short = before.fit.0.1 },
+        (entry, omega (arith, before.room, payloads)),
+      ),
+    )
 
 pub append_payloads-loop-item-preserved : goal.append_payloads-loop-item-preserved
 append_payloads-loop-item-preserved t c =
@@ -59,7 +84,8 @@ append_payloads-loop-item-preserved t c =
       written = append-Appended (payloads_of others) c.append_payload.ensures ∙ before.written;
       capacity = le_trans before.capacity c.append_payload.ensures.capacity;
       smaller = omega (arith, before.smaller);
-      words = Stands-next l.entry k (entries_of others) c.append_payload.new.out.items (Stands-more l.entry _ before.words c.append_payload.ensures);
+      words = Stands-next l.entry k (entries_of others) c.append_payload.new.out.items
+          (Stands-more l.entry _ before.words c.append_payload.ensures);
     }
 
 pub append_values-append_payload-requires : goal.append_values-append_payload-requires
@@ -68,8 +94,14 @@ append_values-append_payload-requires t c =
     let others = left_pairs c.in-Some.others in
     let before = rw c.in-Some.ensures.pairs at c.loop-value.invariant in
     let payloads = length-append (payload_of first) (value_payloads others) in
-    let entry = Stands-first c.loop-value.entry (entry_word first) (value_entries others) c.loop-value.out.items before.words in
-    (omega (arith, before.smaller), (record { inside = before.fit.0.1.0; short = before.fit.0.1.1 }, (entry, omega (arith, before.room, payloads))))
+    let entry = Stands-first c.loop-value.entry (entry_word first)
+    (value_entries others) c.loop-value.out.items before.words in (
+      omega (arith, before.smaller),
+      (
+        record { inside = before.fit.0.1.0; short = before.fit.0.1.1 },
+        (entry, omega (arith, before.room, payloads)),
+      ),
+    )
 
 pub append_values-loop-value-preserved : goal.append_values-loop-value-preserved
 append_values-loop-value-preserved t c =
@@ -86,5 +118,6 @@ append_values-loop-value-preserved t c =
       written = append-Appended (value_payloads others) c.append_payload.ensures ∙ before.written;
       capacity = le_trans before.capacity c.append_payload.ensures.capacity;
       smaller = omega (arith, before.smaller);
-      words = Stands-next l.entry k (value_entries others) c.append_payload.new.out.items (Stands-more l.entry _ before.words c.append_payload.ensures);
+      words = Stands-next l.entry k (value_entries others) c.append_payload.new.out.items
+          (Stands-more l.entry _ before.words c.append_payload.ensures);
     }

@@ -2,7 +2,8 @@ use Rattle.std.proofs.Common.{◌≡◌, ◌≤◌, ◌+◌, ◌*◌, ◌++◌, 
 use Rattle.jsonb_value.specs.Tree.{count, pair_count}
 use Rattle.jsonb_value.specs.Value.{items_view, pairs_view}
 use Rattle.jsonb_value.specs.Ast.{asts_view, ast_pairs_view}
-use Rattle.jsonb_codec.specs.Canon.{entries_of, payloads_of, value_entries, value_payloads, AllFit, PairsFit}
+use Rattle.jsonb_codec.specs.Canon.{entries_of, payloads_of, value_entries, value_payloads, AllFit}
+use Rattle.jsonb_codec.specs.Canon.{PairsFit}
 use Rattle.jsonb_codec.specs.Depth.{size, sizes, pair_sizes}
 use Rattle.jsonb_codec.specs.Node.{node_tree, items_trees, object_pairs, left_pairs}
 use Rattle.jsonb_codec.specs.Room.{HasRoom, Stands}
@@ -42,7 +43,8 @@ decreases-append_value_pairs l = 6 * pair_sizes (pairs_view l.pairs.now.entries)
 abbrev pub decreases-append_ast_pairs : goal.decreases-append_ast_pairs
 decreases-append_ast_pairs l = 6 * pair_sizes (ast_pairs_view l.pairs.now) + 4
 
--- What is written and what is left to write is the whole, and the words of what is left stand where they were written.
+-- What is written and what is left to write is the whole, and the words of what is left stand where
+-- they were written.
 abbrev pub invariant-append_payloads-loop-item : goal.invariant-append_payloads-loop-item
 invariant-append_payloads-loop-item l =
     let all = items_trees l.fn.items in

@@ -9,7 +9,8 @@ use Rattle.jsonb_codec.proofs.Lengths.{length-canon-scalar}
 use Rattle.jsonb_codec.proofs.ser.append.append_document.Goals as goal
 
 -- What is neither array nor object has no container's type.
-scalar_type : (n : Node) → ((xs : Items) → n ≡ nodes.Array xs → ⊥) → ((ps : Pairs) → n ≡ nodes.Object ps → ⊥) → type_of (node_tree n) ≡ 1342177280 → ⊥
+scalar_type : (n : Node) → ((xs : Items) → n ≡ nodes.Array xs → ⊥)
+    → ((ps : Pairs) → n ≡ nodes.Object ps → ⊥) → type_of (node_tree n) ≡ 1342177280 → ⊥
 scalar_type nodes.Null no_array no_object is = absurd (omega (arith, is))
 scalar_type (nodes.Bool true) no_array no_object is = absurd (omega (arith, is))
 scalar_type (nodes.Bool false) no_array no_object is = absurd (omega (arith, is))
@@ -21,12 +22,26 @@ scalar_type (nodes.Object ps) no_array no_object is = no_object ps refl
 
 pub overflow_sub-size : goal.overflow_sub-size
 overflow_sub-size c =
-    omega (arith, c.requires.size, length-canon-scalar (node_tree c.args.node) (scalar_type c.args.node c.in_default.not-Array c.in_default.not-Object))
+    omega (
+      arith,
+      c.requires.size,
+      length-canon-scalar (node_tree c.args.node)
+          (scalar_type c.args.node c.in_default.not-Array c.in_default.not-Object),
+    )
 
 pub append_entry-requires-clause-fits : goal.append_entry-requires-clause-fits
 append_entry-requires-clause-fits c =
-    record { inside = c.requires.fits.inside; short = c.requires.fits.short (scalar_type c.args.node c.in_default.not-Array c.in_default.not-Object) }
+    record {
+      inside = c.requires.fits.inside;
+      short = c.requires.fits.short
+          (scalar_type c.args.node c.in_default.not-Array c.in_default.not-Object);
+    }
 
 pub append_entry-requires-clause-size : goal.append_entry-requires-clause-size
 append_entry-requires-clause-size c =
-    omega (arith, c.requires.size, length-canon-scalar (node_tree c.args.node) (scalar_type c.args.node c.in_default.not-Array c.in_default.not-Object))
+    omega (
+      arith,
+      c.requires.size,
+      length-canon-scalar (node_tree c.args.node)
+          (scalar_type c.args.node c.in_default.not-Array c.in_default.not-Object),
+    )

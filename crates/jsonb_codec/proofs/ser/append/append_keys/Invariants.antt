@@ -10,7 +10,8 @@ invariant-loop-key l =
     let left = left_pairs l.left in
     record {
       room : HasRoom l.out (key_payloads left);
-      written : l.out.items ++ key_payloads left ≡ l.fn.out.items ++ key_payloads (object_pairs l.fn.pairs);
+      written : l.out.items ++ key_payloads left ≡ l.fn.out.items
+          ++ key_payloads (object_pairs l.fn.pairs);
       capacity : vec_capacity l.fn.out ≤ vec_capacity l.out;
     }
 

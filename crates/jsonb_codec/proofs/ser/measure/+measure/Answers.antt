@@ -12,8 +12,12 @@ measure_items-returns-clause-some t c =
     let done : items_trees l.left ≡ no_trees = c.in_default.ensures.trees in
     let few = c.if-count-gt-MAX_COUNT.false in
     let total : l.total + 0 ≡ 4 + 4 * count all + length (payloads_of all) =
-    subst (λ ts. l.total + length (payloads_of ts) ≡ 4 + 4 * count all + length (payloads_of all)) done l.invariant.total in
-    ((omega (arith, c.len-count.ensures), l.invariant.back (subst AllFit (sym done) tt)), omega (arith, length-payload_of-array all, total))
+    subst (λ ts. l.total + length (payloads_of ts)
+    ≡ 4 + 4 * count all + length (payloads_of all)) done l.invariant.total in (
+      (omega (arith, c.len-count.ensures), l.invariant.back (subst AllFit (sym done) tt)),
+      omega
+          (arith, length-payload_of-array all, total),
+    )
 
 pub measure_pairs-returns-clause-some : goal.measure_pairs-returns-clause-some
 measure_pairs-returns-clause-some t c =
@@ -21,6 +25,12 @@ measure_pairs-returns-clause-some t c =
     let all = object_pairs c.args.pairs in
     let done : left_pairs l.left ≡ no_pairs = c.in_default.ensures.pairs in
     let few = c.if-count-gt-MAX_COUNT.false in
-    let total : l.total + 0 ≡ 4 + 8 * pair_count all + (length (key_payloads all) + length (value_payloads all)) =
-    subst (λ ps. l.total + (length (key_payloads ps) + length (value_payloads ps)) ≡ 4 + 8 * pair_count all + (length (key_payloads all) + length (value_payloads all))) done l.invariant.total in
-    ((omega (arith, c.len-count.ensures), l.invariant.back (subst PairsFit (sym done) tt)), omega (arith, length-payload_of-object all, total))
+    let total : l.total + 0
+    ≡ 4 + 8 * pair_count all + (length (key_payloads all) + length (value_payloads all)) =
+    subst (λ ps. l.total + (length (key_payloads ps) + length (value_payloads ps))
+    ≡ 4 + 8 * pair_count all
+    + (length (key_payloads all) + length (value_payloads all))) done l.invariant.total in (
+      (omega (arith, c.len-count.ensures), l.invariant.back (subst PairsFit (sym done) tt)),
+      omega
+          (arith, length-payload_of-object all, total),
+    )

@@ -5,7 +5,8 @@ use Rattle.jsonb_value.specs.Ast.{asts_view, ast_pairs_view}
 use Rattle.jsonb_value.specs.WellFormed.{AreTrees, ArePairs}
 use Rattle.jsonb_codec.specs.Canon.{payloads_of, AllFit, PairsFit, key_payloads, value_payloads}
 use Rattle.jsonb_codec.specs.Depth.{size, sizes, pair_sizes}
-use Rattle.jsonb_codec.specs.Node.{node_tree, items_trees, object_pairs, left_pairs, ItemsAscend, ObjectAscends, LeftAscend}
+use Rattle.jsonb_codec.specs.Node.{node_tree, items_trees, object_pairs, left_pairs, ItemsAscend}
+use Rattle.jsonb_codec.specs.Node.{ObjectAscends, LeftAscend}
 use Rattle.jsonb_codec.proofs.ser.measure.+measure.Given as goal
 
 -- A tree is larger than what stands in it.
@@ -58,7 +59,8 @@ invariant-measure_pairs-loop-key l =
       onward : PairsFit all → PairsFit left;
       back : PairsFit left → PairsFit all;
       ascend : ObjectAscends l.fn.pairs → LeftAscend l.left × (ArePairs left → ArePairs all);
-      total : l.total + (length (key_payloads left) + length (value_payloads left)) ≡ 4 + 8 * pair_count all + (length (key_payloads all) + length (value_payloads all));
+      total : l.total + (length (key_payloads left) + length (value_payloads left))
+          ≡ 4 + 8 * pair_count all + (length (key_payloads all) + length (value_payloads all));
       small : l.total + 2 ^ 29 * pair_count left ≤ 4 + 2 ^ 30 * pair_count all;
       smaller : pair_sizes left ≤ pair_sizes all;
     }

@@ -7,5 +7,6 @@ pub returns-in-Some-clause-ok : goal.returns-in-Some-clause-ok
 returns-in-Some-clause-ok c =
     let tree = node_tree c.args.node in
     let found = c.in-Some.ensures.some in
-    let scalar = length-canon-scalar tree (λ is. c.if-entry_type-eq-CONTAINER_TAG.false (c.entry_type.ensures.value ∙ is)) in
+    let scalar = length-canon-scalar tree
+    (λ is. c.if-type_code-eq-CONTAINER_TAG.false (c.type_code.ensures.value ∙ is)) in
     (Fits-scalar tree found.0, omega (arith, found.1, scalar))

@@ -11,7 +11,8 @@ items_within-returns t c =
     let all = items_trees c.args.items in
     let done : items_trees l.left ≡ no_trees = c.in_default.ensures.trees in
     let total : l.total + 0 ≡ 4 + 4 * count all + length (payloads_of all) =
-    subst (λ ts. l.total + length (payloads_of ts) ≡ 4 + 4 * count all + length (payloads_of all)) done l.invariant.total in
+    subst (λ ts. l.total + length (payloads_of ts)
+    ≡ 4 + 4 * count all + length (payloads_of all)) done l.invariant.total in
     omega (arith, length-payload_of-array all, total)
 
 pub pairs_within-returns : goal.pairs_within-returns
@@ -19,6 +20,9 @@ pairs_within-returns t c =
     let l = c.loop-key in
     let all = object_pairs c.args.pairs in
     let done : left_pairs l.left ≡ no_pairs = c.in_default.ensures.pairs in
-    let total : l.total + 0 ≡ 4 + 8 * pair_count all + (length (key_payloads all) + length (value_payloads all)) =
-    subst (λ ps. l.total + (length (key_payloads ps) + length (value_payloads ps)) ≡ 4 + 8 * pair_count all + (length (key_payloads all) + length (value_payloads all))) done l.invariant.total in
+    let total : l.total + 0
+    ≡ 4 + 8 * pair_count all + (length (key_payloads all) + length (value_payloads all)) =
+    subst (λ ps. l.total + (length (key_payloads ps) + length (value_payloads ps))
+    ≡ 4 + 8 * pair_count all
+    + (length (key_payloads all) + length (value_payloads all))) done l.invariant.total in
     omega (arith, length-payload_of-object all, total)

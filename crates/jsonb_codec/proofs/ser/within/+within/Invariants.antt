@@ -50,7 +50,8 @@ invariant-pairs_within-loop-key l =
     let left = left_pairs l.left in
     record {
       fit : PairsFit left;
-      total : l.total + (length (key_payloads left) + length (value_payloads left)) ≡ 4 + 8 * pair_count all + (length (key_payloads all) + length (value_payloads all));
+      total : l.total + (length (key_payloads left) + length (value_payloads left))
+          ≡ 4 + 8 * pair_count all + (length (key_payloads all) + length (value_payloads all));
       small : l.total + 2 ^ 29 * pair_count left ≤ 4 + 2 ^ 30 * pair_count all;
       smaller : pair_sizes left ≤ pair_sizes all;
     }

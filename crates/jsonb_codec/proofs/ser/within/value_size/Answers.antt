@@ -5,4 +5,9 @@ use Rattle.jsonb_codec.proofs.ser.within.value_size.Goals as goal
 
 pub returns-then-len-eq0 : goal.returns-then-len-eq0
 returns-then-len-eq0 c =
-    omega (arith, c.requires.left, length-value_payloads-none (left_pairs c.args.behind.now) (sym c.len.ensures ∙ c.if-len-eq0.true))
+    omega (
+      arith,
+      c.requires.left,
+      length-value_payloads-none (left_pairs c.args.behind.now)
+          (sym c.len.ensures ∙ c.if-len-eq0.true),
+    )

@@ -9,4 +9,5 @@ pub returns-clause-each : goal.returns-clause-each
 returns-clause-each c =
     let column = c.self.inside in
     subst (All IsRow) c.self.view_is
-    (IsRow-all (rows_in column.bytes.items column.places.items) c.self.invariant.rows.documents (omega (arith, ap length c.self.invariant.whole, column.bytes.ok, column.bytes.small)))
+    (IsRow-all (rows_in column.bytes.items column.places.items) c.self.invariant.rows.documents
+    (omega (arith, ap length c.self.invariant.whole, column.bytes.ok, column.bytes.small)))

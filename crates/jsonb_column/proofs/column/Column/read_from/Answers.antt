@@ -16,7 +16,8 @@ returns-in_err-push-clause-invalid c refused rows all =
 
 pub loop-rest-preserved : goal.loop-rest-preserved
 loop-rest-preserved c =
-    let row : IsRow c.in_ok-row.row.now = record { document = c.in_ok-push.ensures.document; short = c.in_ok-row.ensures.short } in
+    let row : IsRow c.in_ok-row.row.now =
+    record { document = c.in_ok-push.ensures.document; short = c.in_ok-row.ensures.short } in
     IsRead-more c.args.bytes.now c.loop-rest.rest.now c.in_ok-row.row.now c.in_ok-row.behind.now c.loop-rest.column c.push.new.self c.loop-rest.invariant
     c.in_ok-row.ensures.ok row c.in_ok-push.ensures.pushed
 

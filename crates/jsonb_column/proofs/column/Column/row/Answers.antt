@@ -8,6 +8,13 @@ use Rattle.jsonb_column.proofs.column.Column.row.Goals as goal
 pub document_at-requires-clause-document : goal.document_at-requires-clause-document
 document_at-requires-clause-document c =
     let places = c.self.inside.places.items in
-    let low : c.args.index < length places = omega (arith, c.requires, ap length c.self.view_is, length-map places (row_in c.self.inside.bytes.items)) in
+    let low : c.args.index
+    < length places = omega (
+      arith,
+      c.requires,
+      ap length c.self.view_is,
+      length-map places
+          (row_in c.self.inside.bytes.items),
+    ) in
     subst (λ b. IsDocument (row_in b c.index.result.now)) (sym c.deref.ensures.value)
     (row_document c.self.inside.bytes.items places c.args.index c.index.result.now c.self.invariant.rows low c.index.ensures)

@@ -1,4 +1,5 @@
-use Rattle.std.proofs.Common.{rules, ◌≡◌, ◌∷◌, ◌++◌, [], ◌<◌, length, map, true, false, ap, sym, arith, ◌∙◌}
+use Rattle.std.proofs.Common.{rules, ◌≡◌, ◌∷◌, ◌++◌, [], ◌<◌, length, map, true, false, ap, sym}
+use Rattle.std.proofs.Common.{arith, ◌∙◌}
 use Rattle.std.proofs.lemmas.List.Sums.{sum_by_more, sum_by_more_le}
 use Rattle.std.proofs.lemmas.List.Elements.{All-weaker}
 use Rattle.jsonb_codec.specs.Doc.{IsDocument}
@@ -7,11 +8,19 @@ use Rattle.jsonb.specs.Document.{document_bytes, document_tree}
 use Rattle.jsonb_column.specs.Select.{has_member, row_reads}
 use Rattle.jsonb_column.proofs.SelectLaws.{words-take, found-more, found-same}
 use Rattle.jsonb_column.proofs.column.Column.select.Goals as goal
-use Rattle.jsonb_column.proofs.column.Column.select.Goals.{then-has_member+in_ok-push, else-has_member}
+use Rattle.jsonb_column.proofs.column.Column.select.Goals.{then-has_member+in_ok-push}
+use Rattle.jsonb_column.proofs.column.Column.select.Goals.{else-has_member}
 
 pub has_member-requires : goal.has_member-requires
 has_member-requires c =
-    omega (arith, c.loop-index.invariant.few, words-take c.args.self.now c.loop-index.index (All-weaker IsRow IsDocument (λ row means. means.document) c.args.self.now c.len-index-end.ensures.each), c.requires)
+    omega (
+      arith,
+      c.loop-index.invariant.few,
+      words-take c.args.self.now c.loop-index.index
+          (All-weaker IsRow IsDocument
+          (λ row means. means.document) c.args.self.now c.len-index-end.ensures.each),
+      c.requires,
+    )
 
 pub returns-in_err-push-clause-bound : goal.returns-in_err-push-clause-bound
 returns-in_err-push-clause-bound c =
@@ -26,19 +35,26 @@ loop-index-preserved c =
     let low : c.loop-index.index < length c.args.self.now = omega arith in
     let read = ap row_reads c.row-row.ensures in
     let wanted = has_member c.args.name.now (document_tree c.args.value) in
-    let answer : c.has_member.result ≡ wanted (document_bytes c.row-row.result) = c.has_member.ensures.member (document_tree c.args.value) c.loop-index.invariant.value in
+    let answer : c.has_member.result ≡ wanted (document_bytes c.row-row.result) =
+    c.has_member.ensures.member (document_tree c.args.value) c.loop-index.invariant.value in
     record {
       value = c.loop-index.invariant.value;
       found = elim c.if-has_member.branch [
         | then-has_member+in_ok-push w ↦
-            let passes : wanted (document_bytes c.row-row.result) ≡ true = sym answer ∙ w.if-has_member.true in
-            let rows : c.if-has_member.rows.items ≡ c.loop-index.rows.items ++ c.row-row.result ∷ [] = search rules in
-            ap (λ xs. map document_bytes xs) rows ∙ found-more wanted c.args.self.now c.loop-index.index c.loop-index.rows.items c.row-row.result low c.row-row.ensures c.loop-index.invariant.found passes
+            let passes : wanted (document_bytes c.row-row.result) ≡ true =
+            sym answer ∙ w.if-has_member.true in
+            let rows : c.if-has_member.rows.items ≡ c.loop-index.rows.items ++ c.row-row.result
+            ∷ [] = search rules in
+            ap (λ xs. map document_bytes xs) rows
+            ∙ found-more wanted c.args.self.now c.loop-index.index c.loop-index.rows.items c.row-row.result low c.row-row.ensures c.loop-index.invariant.found passes
         | else-has_member w ↦
-            let fails : wanted (document_bytes c.row-row.result) ≡ false = sym answer ∙ w.if-has_member.false in
+            let fails : wanted (document_bytes c.row-row.result) ≡ false =
+            sym answer ∙ w.if-has_member.false in
             let rows : c.if-has_member.rows.items ≡ c.loop-index.rows.items = search rules in
-            ap (λ xs. map document_bytes xs) rows ∙ found-same wanted c.args.self.now c.loop-index.index c.loop-index.rows.items c.row-row.result low c.row-row.ensures c.loop-index.invariant.found fails
+            ap (λ xs. map document_bytes xs) rows
+            ∙ found-same wanted c.args.self.now c.loop-index.index c.loop-index.rows.items c.row-row.result low c.row-row.ensures c.loop-index.invariant.found fails
       ];
       counted = omega (arith, c.loop-index.invariant.counted, c.has_member.ensures.bound.0);
-      few = omega (arith, c.loop-index.invariant.few, c.has_member.ensures.bound.1, read, sum_by_more row_reads c.args.self.now c.loop-index.index [] low);
+      few = omega
+          (arith, c.loop-index.invariant.few, c.has_member.ensures.bound.1, read, sum_by_more row_reads c.args.self.now c.loop-index.index [] low);
     }

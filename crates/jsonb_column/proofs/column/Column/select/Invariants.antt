@@ -1,4 +1,5 @@
--- Of the rows so far those that are wanted are found, and no more words are read than they may cost.
+-- Of the rows so far those that are wanted are found, and no more words are read than they may
+-- cost.
 use Rattle.std.proofs.Common.{◌≡◌, ◌+◌, ◌≤◌, map, take}
 use Rattle.std.specs.Prelude.{filter}
 use Rattle.jsonb_value.specs.Meaning.{document}
@@ -11,7 +12,8 @@ abbrev pub invariant-loop-index : goal.invariant-loop-index
 invariant-loop-index l =
     record {
       value : item_meaning l.value ≡ document (document_tree l.fn.value);
-      found : map document_bytes l.rows.items ≡ filter (has_member l.name (document_tree l.fn.value)) (take l.index l.self);
+      found : map document_bytes l.rows.items
+          ≡ filter (has_member l.name (document_tree l.fn.value)) (take l.index l.self);
       counted : l.initial.reads ≤ l.reads;
       few : l.reads ≤ l.initial.reads + most_reads (take l.index l.self);
     }

@@ -1,4 +1,5 @@
-use Rattle.std.proofs.Common.{rules, ◌≡◌, ◌++◌, ◌<◌, length, take, refl, sym, ap, arith, ◌∙◌, append_assoc}
+use Rattle.std.proofs.Common.{rules, ◌≡◌, ◌++◌, ◌<◌, length, take, refl, sym, ap, arith, ◌∙◌}
+use Rattle.std.proofs.Common.{append_assoc}
 use Rattle.jsonb_column.specs.Stored.{stored, stored_row}
 use Rattle.jsonb_column.proofs.StoredLaws.{stored-more}
 use Rattle.jsonb_column.proofs.column.Column.write_to.Goals as goal
@@ -12,8 +13,12 @@ returns-clause-stored c = record { each = c.len-index-end.ensures.each; written 
 pub loop-index-preserved : goal.loop-index-preserved
 loop-index-preserved c =
     let low : c.loop-index.index < length c.args.self.now = omega arith in
-    let old = c.args.buf.now.items in let rows = c.args.self.now in let row = c.as_bytes.result.now in
-    let appended : c.append_row.new.buf.items ≡ c.loop-index.buf.items ++ stored_row row = search rules in
+    let old =
+    c.args.buf.now.items in let rows = c.args.self.now in let row = c.as_bytes.result.now in
+    let appended : c.append_row.new.buf.items ≡ c.loop-index.buf.items ++ stored_row row =
+    search rules in
     appended ∙ ap (λ b. b ++ stored_row row) c.loop-index.invariant
     ∙ append_assoc old (stored (take c.loop-index.index rows)) (stored_row row)
-    ∙ ap (λ b. old ++ b) (sym (stored-more rows c.loop-index.index row low (c.as_bytes.ensures.bytes ∙ c.row.ensures)))
+    ∙ ap (λ b. old ++ b)
+    (sym (stored-more rows c.loop-index.index row low
+    (c.as_bytes.ensures.bytes ∙ c.row.ensures)))

@@ -8,5 +8,9 @@ use Rattle.jsonb_column.proofs.sorted.Sorted.new.Goals as goal
 
 pub returns-clause-rows : goal.returns-clause-rows
 returns-clause-rows c =
-    let all : map document_bytes c.in_ok-rows.rows.items ≡ c.args.column.now = map_from_collect {E = AllocError} (Ok c.in_ok-rows.rows) c.in_ok-rows.ensures.ran (YieldsList-from_first document_bytes (λ rows. rows) c.args.column.now c.iter.ensures) in
-    subst (λ rows. IsPermutation rows (map document_bytes c.sort.new.self.items)) all (IsPermutation-map document_bytes _ _ c.sort.ensures.permutation)
+    let all : map document_bytes c.in_ok-rows.rows.items
+    ≡ c.args.column.now = map_from_collect {E = AllocError}
+    (Ok c.in_ok-rows.rows) c.in_ok-rows.ensures.ran
+    (YieldsList-from_first document_bytes (λ rows. rows) c.args.column.now c.iter.ensures) in
+    subst (λ rows. IsPermutation rows (map document_bytes c.sort.new.self.items)) all
+    (IsPermutation-map document_bytes _ _ c.sort.ensures.permutation)

@@ -6,4 +6,6 @@ use Rattle.jsonb_value.proofs.parser.cursor.after_all.Given as goal
 
 -- what is left to expect decides
 abbrev pub invariant-loop-character : goal.invariant-loop-character
-invariant-loop-character l = shadow (Utf8 l.rest) × (expect_all (drop l.character-index l.expected) (chars l.rest) ≡ expect_all l.expected (chars l.fn.text))
+invariant-loop-character l = shadow (Utf8 l.rest)
+    × (expect_all (drop l.character-index l.expected) (chars l.rest)
+    ≡ expect_all l.expected (chars l.fn.text))

@@ -7,4 +7,5 @@ pub returns : goal.returns
 returns c =
     let first = c.in_ok-first.first in
     chars_past_char c.args.text.now c.as_str.result.now first c.utf8.text
-    (sym c.chars-characters.ensures.rest ∙ c.in_ok-first.ensures.steps.0 ∙ ap (λ t. encode_utf8 first ++ t) (sym c.as_str.ensures))
+    (sym c.chars-characters.ensures.rest ∙ c.in_ok-first.ensures.steps.0 ∙ ap
+    (λ t. encode_utf8 first ++ t) (sym c.as_str.ensures))

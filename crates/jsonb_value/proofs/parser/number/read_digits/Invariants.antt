@@ -10,8 +10,11 @@ use Rattle.jsonb_value.proofs.parser.number.read_digits.Given as goal
 abbrev pub invariant-digits : goal.invariant-digits
 invariant-digits l =
     shadow (Utf8 l.rest)
-    × (l.digits.count + length (front_digits (chars l.rest)) ≡ length (front_digits (chars l.fn.text)))
-    × ((n : ℕ) → Counts n l.fn.start → (m : ℕ) × Counts m l.digits.value × (digits_value_after 10 m (front_digits (chars l.rest)) ≡ digits_value_after 10 n (front_digits (chars l.fn.text))))
+    × (l.digits.count + length (front_digits (chars l.rest))
+    ≡ length (front_digits (chars l.fn.text)))
+    × ((n : ℕ) → Counts n l.fn.start → (m : ℕ) × Counts m l.digits.value
+    × (digits_value_after 10 m (front_digits (chars l.rest))
+    ≡ digits_value_after 10 n (front_digits (chars l.fn.text))))
     × (after_digits (chars l.rest) ≡ after_digits (chars l.fn.text))
 
 abbrev pub decreases-digits : goal.decreases-digits

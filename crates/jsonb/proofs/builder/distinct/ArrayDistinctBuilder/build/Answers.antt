@@ -10,5 +10,8 @@ use Rattle.jsonb.proofs.builder.distinct.ArrayDistinctBuilder.build.Goals as goa
 pub returns-clause-means : goal.returns-clause-means
 returns-clause-means c =
     let made = c.array_document in
-    IfOk-weaker made.result _ _ (λ owned h. IsArrayUpToZeros-IsArrayOf c.args.self.list (owned_bytes owned) h.0 h.1)
-    (both_ok made.result (λ owned. IsArrayOf c.args.self.list (owned_bytes owned)) (AreHeld c.args.self.list) (search rules) (search rules))
+    IfOk-weaker made.result _ _
+    (λ owned h. IsArrayUpToZeros-IsArrayOf c.args.self.list (owned_bytes owned) h.0 h.1)
+    (both_ok made.result
+    (λ owned. IsArrayOf c.args.self.list (owned_bytes owned)) (AreHeld c.args.self.list)
+    (search rules) (search rules))

@@ -8,15 +8,15 @@ use Rattle.jsonb.specs.declared.number_item.NumberItem.{NumberItem}
 use Rattle.jsonb.specs.declared.extension_item.ExtensionItem.{ExtensionItem}
 
 -- the bytes as they were given, where it was made of bytes
-abbrev pub number_given : NumberItem → Option (List ℕ)
-number_given item = option_copied item.given
+abbrev pub number_source : NumberItem → Option (List ℕ)
+number_source item = option_copied item.given
 
-abbrev pub extension_given : ExtensionItem → Option (List ℕ)
-extension_given item = option_copied item.given
+abbrev pub extension_source : ExtensionItem → Option (List ℕ)
+extension_source item = option_copied item.given
 
 -- the value
-abbrev pub number_held : NumberItem → Number
-number_held item = item.number
+abbrev pub number_of_item : NumberItem → Number
+number_of_item item = item.number
 
-abbrev pub extension_held : ExtensionItem → Extension
-extension_held item = extension_of item.value
+abbrev pub extension_of_item : ExtensionItem → Extension
+extension_of_item item = extension_of item.value
