@@ -120,18 +120,49 @@ fn push_part<'a>(alloc: Global, items: &mut Vec<Value<'a>>, part: Part<'a>) -> R
     Ok(())
 }
 
-// The value of a part.
+// Puts the value of a part under the key.
 #[cycle(value)]
 #[inline(always)]
-fn build_part<'a>(alloc: Global, part: Part<'a>) -> Result<Value<'a>, Error>
-    ensures ok { IfOk result (λ v. (t : Tree) → Means part.entry t → tree_of v ≡ t) }
+fn insert_part<'a>(
+    alloc: Global,
+    members: &mut Object<'a>,
+    key: String,
+    part: Part<'a>,
+) -> Result<(), Error>
+    ensures ok { OnOk result ((v : Value)
+        × ((members.new.entries ≡ insert_entry string_cmp members.old.entries key v)
+        × ((t : Tree) → Means part.entry t → tree_of v ≡ t))) }
     ensures memory { IfErr result (λ e. e ≡ Error.OutOfMemory) }
 {
-    if part.tag == CONTAINER_TAG {
-        build_container(alloc, part)
+    let value = if part.tag == CONTAINER_TAG {
+        build_container(alloc, part)?
     } else {
-        Ok(build_scalar(part))
-    }
+        build_scalar(part)
+    };
+    insert_member(members, key, value)
+}
+
+// Pushes the key and the value of a part.
+#[cycle(value)]
+#[inline(always)]
+fn push_pair<'a>(
+    alloc: Global,
+    pairs: &mut Vec<(String, Value<'a>)>,
+    key: String,
+    part: Part<'a>,
+) -> Result<(), Error>
+    ensures ok { OnOk result ((v : Value)
+        × ((pairs.new.items ≡ pairs.old.items ++ (key, v) ∷ [])
+        × ((t : Tree) → Means part.entry t → tree_of v ≡ t))) }
+    ensures memory { IfErr result (λ e. e ≡ Error.OutOfMemory) }
+{
+    let value = if part.tag == CONTAINER_TAG {
+        build_container(alloc, part)?
+    } else {
+        build_scalar(part)
+    };
+    pairs.push((key, value))?;
+    Ok(())
 }
 
 // Puts the value under the key. What that takes of the stack is not held while values inside are
@@ -189,8 +220,7 @@ fn build_members<'a>(alloc: Global, members: Members<'a>) -> Result<Object<'a>, 
     let mut built = BTreeMap::new(alloc);
     while let Some(member) = left.split_first() {
         let key = String::from_str(alloc, member.key)?;
-        let value = build_part(alloc, member.value)?;
-        insert_member(&mut built, key, value)?;
+        insert_part(alloc, &mut built, key, member.value)?;
         left = member.behind;
     }
     Ok(built)
@@ -208,8 +238,7 @@ fn build_many<'a>(alloc: Global, members: Members<'a>) -> Result<Object<'a>, Err
     let mut built = Vec::with_capacity(alloc, members.keys.entries.len() / 4)?;
     while let Some(member) = left.split_first() {
         let key = String::from_str(alloc, member.key)?;
-        let value = build_part(alloc, member.value)?;
-        built.push((key, value))?;
+        push_pair(alloc, &mut built, key, member.value)?;
         left = member.behind;
     }
     Ok(built.into_iter().collect(alloc)?)

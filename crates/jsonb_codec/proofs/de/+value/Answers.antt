@@ -31,12 +31,13 @@ build_items-returns-clause-ok t c ts are =
 pub build_members-loop-member-preserved : goal.build_members-loop-member-preserved
 build_members-loop-member-preserved t c =
     let l = c.loop-member in let k = c.in-Some.ensures in
+    let (v, (more, same)) = c.in_ok-insert_part.ensures.ok in
     record {
       left = λ all whole_are.
           let (us, (whole, left)) = l.invariant.left all whole_are in
           let f = k.first us left in (
             f.others,
-            (pairs_and-push l.built.entries c.insert_member.new.members.entries c.in_ok-key.key c.in_ok-value.value all us f.others c.in-Some.member.key.now f.value whole_are.0 whole f.are c.in_ok-key.ensures.ok (c.in_ok-value.ensures.ok f.value f.is) c.in_ok-insert_member.ensures.ok, f.left),
+            (pairs_and-push l.built.entries c.insert_part.new.members.entries c.in_ok-key.key v all us f.others c.in-Some.member.key.now f.value whole_are.0 whole f.are c.in_ok-key.ensures.ok (same f.value f.is) more, f.left),
           );
       shorter = omega (arith, k.values_len, l.invariant.shorter);
     }
@@ -50,14 +51,13 @@ build_members-returns-clause-ok t c ps are =
 pub build_many-loop-member-preserved : goal.build_many-loop-member-preserved
 build_many-loop-member-preserved t c =
     let l = c.loop-member in let k = c.in-Some.ensures in
-    let more : c.push.new.self.items ≡ l.built.items ++ (c.in_ok-key.key, c.in_ok-value.value)
-    ∷ [] = search rules in
+    let (v, (more, same)) = c.in_ok-push_pair.ensures.ok in
     record {
       left = λ all whole_are.
           let (us, (whole, left)) = l.invariant.left all whole_are in
           let f = k.first us left in (
             f.others,
-            (pairs_and-behind l.built.items c.push.new.self.items c.in_ok-key.key c.in_ok-value.value all us f.others c.in-Some.member.key.now f.value whole f.are c.in_ok-key.ensures.ok (c.in_ok-value.ensures.ok f.value f.is) more, f.left),
+            (pairs_and-behind l.built.items c.push_pair.new.pairs.items c.in_ok-key.key v all us f.others c.in-Some.member.key.now f.value whole f.are c.in_ok-key.ensures.ok (same f.value f.is) more, f.left),
           );
       shorter = omega (arith, k.values_len, l.invariant.shorter);
     }

@@ -5,8 +5,11 @@ use Rattle.jsonb_codec.specs.Contents.{AreChildren, AreMembers}
 use Rattle.jsonb_codec.proofs.Building.{trees_and, pairs_and, seen}
 use Rattle.jsonb_codec.proofs.de.+value.Given as goal
 
-abbrev pub decreases-build_part : goal.decreases-build_part
-decreases-build_part l = 4 * length l.part.payload.now + 3
+abbrev pub decreases-insert_part : goal.decreases-insert_part
+decreases-insert_part l = 4 * length l.part.payload.now + 3
+
+abbrev pub decreases-push_pair : goal.decreases-push_pair
+decreases-push_pair l = 4 * length l.part.payload.now + 3
 
 abbrev pub decreases-push_part : goal.decreases-push_part
 decreases-push_part l = 4 * length l.part.payload.now + 3
