@@ -11,10 +11,11 @@ def text_of(path):
 
 
 def exported():
-    """The names that the root of `jsonb` exports, by the library that they come from."""
+    """What the roots of `jsonb` and `jsonb_column` export, by the library that it comes from."""
     names = {}
-    root = text_of(f"{TOP}/crates/jsonb/src/lib.rt")
-    for source, listed in re.findall(r"^pub use (\w+)(?:::\w+)*::(\{[^}]*\}|\w+);", root, re.M):
-        library = source if source.startswith("jsonb_") else "jsonb"
-        names.setdefault(library, set()).update(re.findall(r"\w+", listed))
+    for crate in ("jsonb", "jsonb_column"):
+        root = text_of(f"{TOP}/crates/{crate}/src/lib.rt")
+        for source, listed in re.findall(r"^pub use (\w+)(?:::\w+)*::(\{[^}]*\}|\w+);", root, re.M):
+            library = source if source.startswith("jsonb_") else crate
+            names.setdefault(library, set()).update(re.findall(r"\w+", listed))
     return names
