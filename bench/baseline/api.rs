@@ -44,3 +44,11 @@ pub fn has(bytes: &[u8], name: &str) -> bool {
     let found = RawJsonb::new(bytes).get_object_value_by_key_name(&name.into(), |l, r| l == r);
     matches!(found, Ok(Some(_)))
 }
+
+/// Whether an object has a member of that name and number.
+pub fn has_number(bytes: &[u8], name: &str, wanted: &Number) -> bool {
+    match RawJsonb::new(bytes).get_object_value_by_key_name(&name.into(), |l, r| l == r) {
+        Ok(Some(JsonbItem::Number(number))) => number.as_number().is_ok_and(|it| it == *wanted),
+        _ => false,
+    }
+}
