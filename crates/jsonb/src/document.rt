@@ -3,14 +3,15 @@
 use crate::entries::Cursor;
 use crate::item_type::JsonbItemType;
 use crate::nodes::{Items, Members};
+use crate::owned::OwnedJsonb;
 use crate::raw::RawJsonb;
 use crate::text::{Layout, document_text, write_document};
 use jsonb_codec::constants::{
     CONTAINER_TAG, EXTENSION_TAG, FALSE_TAG, NULL_TAG, NUMBER_TAG, STRING_TAG, TRUE_TAG,
 };
 use jsonb_codec::parts::Part;
-use jsonb_codec::{DocumentBytes, parts};
-use jsonb_value::{Error, ExtensionValue, Number};
+use jsonb_codec::{DocumentBytes, parts, value_of_document};
+use jsonb_value::{Error, ExtensionValue, Number, Value};
 use std::alloc::Global;
 use std::fmt;
 
@@ -40,12 +41,15 @@ pub enum Contents<'a> {
 }
 
 impl<'a> Document<'a> {
-    ghost use Rattle.std.specs.Prelude.{◌≡◌, ◌↔◌, ◌<◌, ◌^◌, length, nat_eq, None, Some, IfOk};
-    ghost use Rattle.std.specs.Prelude.{IfErr, IfSome, IsSome, MatchOption, option_map};
-    ghost use Rattle.std.specs.Prelude.{string_bytes};
+    ghost use Rattle.std.specs.Prelude.{◌≡◌, ◌↔◌, ◌⊎◌, ◌<◌, ◌^◌, length, nat_eq, None, Some, Err};
+    ghost use Rattle.std.specs.Prelude.{IfOk, IfErr, IfSome, IsSome, IsTrue, MatchOption};
+    ghost use Rattle.std.specs.Prelude.{option_map, string_bytes};
     ghost use Rattle.std.specs.Cmp.Lexicographic.{pointwise};
     ghost use Rattle.jsonb_value.specs.Text.{compact, pretty};
     ghost use Rattle.jsonb_value.specs.Tree.{Tree, Pairs};
+    ghost use Rattle.jsonb_value.specs.Value.{tree_of};
+    ghost use Rattle.jsonb_codec.specs.Canon.{canon, Fits};
+    ghost use Rattle.jsonb_codec.specs.Canonical.{IsCanonical};
     ghost use Rattle.jsonb_codec.specs.declared.constants.TheConstants.{CONTAINER_TAG};
     ghost use Rattle.jsonb_codec.specs.Contents.{Means, AreMembers};
     ghost use Rattle.jsonb_codec.specs.Depth.{IsDocumentWithin, depth};
@@ -57,6 +61,7 @@ impl<'a> Document<'a> {
     ghost use Rattle.jsonb.specs.Lookup.{find_pair};
     ghost use Rattle.jsonb.specs.Node.{node_tree, value_of_key, items_of, item_at_index};
     ghost use Rattle.jsonb.specs.Node.{members_of, IsContainer, HoldsNoScalar};
+    ghost use Rattle.jsonb.specs.Owned.{owned_bytes};
     ghost use Rattle.jsonb.specs.Raw.{raw_bytes};
 
     /// The bytes as a document. `None` where they are none.
@@ -233,6 +238,33 @@ impl<'a> Document<'a> {
         ensures memory { IfErr result (λ e. e ≡ Error.OutOfMemory) }
     {
         document_text(alloc, *self, Layout::OnLines(0))
+    }
+
+    /// The value. Its strings and extension data are borrowed from the bytes. Only memory can be
+    /// refused.
+    pub fn to_value(&self, alloc: Global) -> Result<Value<'a>, Error>
+        ensures ok { IfOk result (λ value. tree_of value ≡ document_tree self.now) }
+        ensures memory { IfErr result (λ e. e ≡ Error.OutOfMemory) }
+    {
+        value_of_document(alloc, self.bytes)
+    }
+
+    /// Whether the bytes are the one document that is written for their tree.
+    pub fn is_canonical(&self) -> bool
+        ensures { IsTrue result ↔ IsCanonical (document_bytes self.now) }
+    {
+        jsonb_codec::is_canonical(self.as_bytes())
+    }
+
+    /// The canonical document of the tree. `InvalidJsonb` where an old payload is past its limit in
+    /// its newer form, before memory is asked for; else only `OutOfMemory`.
+    pub fn to_canonical(&self, alloc: Global) -> Result<OwnedJsonb, Error>
+        ensures ok { IfOk result (λ owned. owned_bytes owned ≡ canon (document_tree self.now)) }
+        ensures past { (result ≡ Err Error.InvalidJsonb)
+            ↔ (Fits (document_tree self.now) → ⊥) }
+        ensures only { IfErr result (λ e. (e ≡ Error.InvalidJsonb) ⊎ (e ≡ Error.OutOfMemory)) }
+    {
+        self.as_raw().to_canonical(alloc)
     }
 
     // The value of a key among members.

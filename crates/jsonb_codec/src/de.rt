@@ -87,11 +87,11 @@ fn read<'a>(alloc: Global, faults: FaultTable, bytes: &'a [u8]) -> Result<Value<
         (λ e. (e ≡ Error.OutOfMemory) ⊎ (IsFault faults e × (IsDocument bytes.now → ⊥))) }
     ensures memory { IfErr result (λ e. e ≡ Error.OutOfMemory → IsDocument bytes.now) }
 {
-    build(alloc, check(faults, bytes.len(), bytes)?)
+    value_of_document(alloc, check(faults, bytes.len(), bytes)?)
 }
 
-// The value of a document.
-fn build<'a>(alloc: Global, document: DocumentBytes<'a>) -> Result<Value<'a>, Error>
+/// The value of a document that was checked. Only memory can be refused.
+pub fn value_of_document<'a>(alloc: Global, document: DocumentBytes<'a>) -> Result<Value<'a>, Error>
     ensures ok { IfOk result (λ v. (t : Tree) → Doc (bytes_of document.entry) t → tree_of v ≡ t) }
     ensures memory { IfErr result (λ e. e ≡ Error.OutOfMemory) }
 {

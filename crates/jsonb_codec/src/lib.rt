@@ -12,7 +12,7 @@ mod ser;
 mod word;
 
 pub use canonical::{append_canonical, is_canonical};
-pub use de::{Decoder, value_of};
+pub use de::{Decoder, value_of, value_of_document};
 pub use document::{DocumentBytes, document_laws, document_text, is_document, is_document_within};
 pub use jentry::JEntry;
 pub use reread::printed_text_laws;

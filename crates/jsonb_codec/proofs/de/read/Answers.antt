@@ -21,5 +21,5 @@ returns-in_err-check-clause-fault c =
 pub returns-clause-ok : goal.returns-clause-ok
 returns-clause-ok c =
     let b = c.args.bytes.now in
-    the_tree _ b c.build.result c.in_ok-check.ensures.bytes
-    ((document_within_length b).0 c.in_ok-check.ensures.told) c.build.ensures.ok
+    the_tree _ b c.value_of_document.result c.in_ok-check.ensures.bytes
+    ((document_within_length b).0 c.in_ok-check.ensures.told) c.value_of_document.ensures.ok
