@@ -13,9 +13,9 @@ ghost use Rattle.jsonb_value.specs.Tree.{Tree, text};
 ghost use Rattle.jsonb_value.specs.Value.{cow_bytes, tree_of};
 ghost use Rattle.jsonb_codec.specs.Doc.{Doc, IsDocument};
 ghost use Rattle.jsonb.specs.Code.{item_document, CanBeStored};
+ghost use Rattle.jsonb.specs.Document.{document_bytes};
 ghost use Rattle.jsonb.specs.Lookup.{find, IsItemFound};
 ghost use Rattle.jsonb.specs.Standing.{IsFoundIn};
-ghost use Rattle.jsonb.specs.Raw.{raw_bytes};
 ghost use Rattle.jsonb.specs.ItemView.{item_view, owned};
 ghost use Rattle.jsonb_cli.specs.AnswerLine.{answer_words, ok_line, outcome_line};
 ghost use Rattle.jsonb_cli.specs.Answers.{IsEncAnswer, IsDecAnswer, IsPrettyAnswer, IsTypeAnswer};
@@ -26,7 +26,8 @@ use crate::answer::{Answer, Refusal};
 use crate::command::decode_word;
 use crate::words::Words;
 use jsonb::{
-    ArrayBuilder, Error, JsonbItem, JsonbItemType, OwnedJsonb, RawJsonb, Value, parse_value,
+    ArrayBuilder, Document, Error, JsonbItem, JsonbItemType, OwnedJsonb, RawJsonb, Value,
+    parse_value,
 };
 use std::alloc::Global;
 use std::borrow::CowStr;
@@ -68,18 +69,13 @@ pub fn answer_pretty(alloc: Global, word: &[u8]) -> Result<Answer, Refusal>
     }
 }
 
-// A view of a document. `InvalidJsonb` where the bytes are none.
-fn document_in(bytes: &[u8]) -> Result<RawJsonb<'_>, Error>
-    ensures ok { IfOk result (λ raw. raw_bytes raw ≡ bytes.now) }
+// The document that the bytes are. `InvalidJsonb` where they are none.
+fn document_in(bytes: &[u8]) -> Result<Document<'_>, Error>
+    ensures ok { IfOk result (λ document. document_bytes document ≡ bytes.now) }
     ensures document { OnOk result (IsDocument bytes.now) }
     ensures none { IfErr result (λ e. (e ≡ Error.InvalidJsonb) × (IsDocument bytes.now → ⊥)) }
 {
-    let raw = RawJsonb::new(bytes);
-    if raw.is_document() {
-        Ok(raw)
-    } else {
-        Err(Error::InvalidJsonb)
-    }
+    Document::new(bytes).ok_or(Error::InvalidJsonb)
 }
 
 // The compact text of the tree that the bytes mean.
@@ -89,10 +85,7 @@ fn document_text(alloc: Global, bytes: &[u8]) -> Result<String, Error>
     ensures none { IfErr result (λ e. e ≡ Error.InvalidJsonb → IsDocument bytes.now → ⊥) }
     ensures only { IfErr result (λ e. (e ≡ Error.InvalidJsonb) ⊎ (e ≡ Error.OutOfMemory)) }
 {
-    match document_in(bytes) {
-        Ok(raw) => raw.to_string(alloc),
-        Err(error) => Err(error),
-    }
+    document_in(bytes)?.to_string(alloc)
 }
 
 // The pretty text of the tree that the bytes mean.
@@ -102,10 +95,7 @@ fn pretty_document_text(alloc: Global, bytes: &[u8]) -> Result<String, Error>
     ensures none { IfErr result (λ e. e ≡ Error.InvalidJsonb → IsDocument bytes.now → ⊥) }
     ensures only { IfErr result (λ e. (e ≡ Error.InvalidJsonb) ⊎ (e ≡ Error.OutOfMemory)) }
 {
-    match document_in(bytes) {
-        Ok(raw) => raw.to_pretty_string(alloc),
-        Err(error) => Err(error),
-    }
+    document_in(bytes)?.to_pretty_string(alloc)
 }
 
 /// The order of two byte strings.
@@ -275,6 +265,6 @@ fn value_named<'a>(bytes: &'a [u8], name: &str) -> Result<Option<JsonbItem<'a>>,
     ensures none { IfErr result (λ e. (e ≡ Error.InvalidJsonb) × (IsDocument bytes.now → ⊥)) }
     ensures some { IfOk result (λ item. IsDocument bytes.now) }
 {
-    let raw = document_in(bytes)?;
+    let raw = document_in(bytes)?.as_raw();
     raw.get_object_value_by_key_name(name, |wanted, key| wanted == key)
 }
