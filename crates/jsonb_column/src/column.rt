@@ -2,7 +2,7 @@
 
 ghost use Rattle.std.specs.Prelude.{◌≡◌, ◌+◌, ◌<◌, ◌≤◌, ◌∷◌, ◌++◌, ◌⊎◌, [], ℕ, List, All, Err};
 ghost use Rattle.std.specs.Prelude.{IfOk, IfErr, OnOk, OnErr, chars, filter, length, map};
-ghost use Rattle.std.specs.Prelude.{slice_index_or};
+ghost use Rattle.std.specs.Prelude.{option_map, slice_get, slice_index_or};
 ghost use Rattle.jsonb_value.specs.Json.Syntax.{Json};
 ghost use Rattle.jsonb_value.specs.Tree.{Tree};
 ghost use Rattle.jsonb_codec.specs.Canon.{canon, Fits};
@@ -101,8 +101,19 @@ impl Column {
         Ok(())
     }
 
-    /// The row at this index, which must be below `len`.
-    pub fn row(&self, index: usize) -> Document<'_>
+    /// The row at this index. `None` where there are no more than so many rows.
+    pub fn row(&self, index: usize) -> Option<Document<'_>>
+        ensures { option_map document_bytes result ≡ slice_get self.now index }
+    {
+        if index < self.len() {
+            Some(self.row_within(index))
+        } else {
+            None
+        }
+    }
+
+    // The same, where there is one.
+    fn row_within(&self, index: usize) -> Document<'_>
         requires { index < length self.now }
         ensures { document_bytes result ≡ slice_index_or self.now index [] }
     {
@@ -147,7 +158,7 @@ impl Column {
         let value = item_of(value);
         let mut rows = Vec::new(alloc);
         for index in 0..self.len() {
-            let row = self.row(index);
+            let row = self.row_within(index);
             if has_member(row, name, &value, reads) {
                 rows.push(row)?;
             }
@@ -165,7 +176,7 @@ impl Column {
     {
         let start = buf.len();
         for index in 0..self.len() {
-            if let Err(error) = append_row(buf, self.row(index).as_bytes()) {
+            if let Err(error) = append_row(buf, self.row_within(index).as_bytes()) {
                 buf.truncate(start);
                 return Err(error);
             }

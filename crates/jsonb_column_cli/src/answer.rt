@@ -120,14 +120,15 @@ pub fn answer_count(alloc: Global, column: &Column) -> Result<String, Refusal>
 pub fn answer_row(alloc: Global, column: &Column, index: &str) -> Result<String, Refusal>
     ensures { IsOutcome column.now (row index.now) (said result) column.now }
 {
-    let count = column.len();
+    // A column has no more rows than a `usize` can count: a greater number is no index.
+    let _ = column.len();
     let Ok(index) = index.parse::<usize>() else {
         return Err(Refusal::NoRow);
     };
-    if count <= index {
+    let Some(row) = column.row(index) else {
         return Err(Refusal::NoRow);
-    }
-    answer_rows(alloc, &[column.row(index)])
+    };
+    answer_rows(alloc, &[row])
 }
 
 /// All rows in order.

@@ -1,20 +1,11 @@
-use Rattle.std.proofs.Common.{◌<◌, length, ap, arith, sym, subst}
-use Rattle.std.proofs.lemmas.List.{length-map}
-use Rattle.jsonb_codec.specs.Doc.{IsDocument}
-use Rattle.jsonb_column.specs.Rows.{row_in}
-use Rattle.jsonb_column.proofs.RowsLaws.{row_document}
+use Rattle.std.proofs.Common.{[], Some, ap, sym, ◌∙◌, arith}
+use Rattle.std.proofs.lemmas.Option.{slice_get-get_or, slice_get_past}
 use Rattle.jsonb_column.proofs.column.Column.row.Goals as goal
 
-pub document_at-requires-clause-document : goal.document_at-requires-clause-document
-document_at-requires-clause-document c =
-    let places = c.self.inside.places.items in
-    let low : c.args.index
-    < length places = omega (
-      arith,
-      c.requires,
-      ap length c.self.view_is,
-      length-map places
-          (row_in c.self.inside.bytes.items),
-    ) in
-    subst (λ b. IsDocument (row_in b c.index.result.now)) (sym c.deref.ensures.value)
-    (row_document c.self.inside.bytes.items places c.args.index c.index.result.now c.self.invariant.rows low c.index.ensures)
+pub returns-then-index-len : goal.returns-then-index-len
+returns-then-index-len c =
+    ap Some c.row_within.ensures
+    ∙ sym (slice_get-get_or c.args.self.now c.args.index [] (omega arith))
+
+pub returns-else-index-len : goal.returns-else-index-len
+returns-else-index-len c = sym (slice_get_past c.args.self.now c.args.index (omega arith))

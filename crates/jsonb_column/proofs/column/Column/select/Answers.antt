@@ -25,7 +25,7 @@ has_member-requires c =
 pub returns-in_err-push-clause-bound : goal.returns-in_err-push-clause-bound
 returns-in_err-push-clause-bound c =
     let low : c.loop-index.index < length c.args.self.now = omega arith in
-    let read = ap row_reads c.row-row.ensures in (
+    let read = ap row_reads c.row_within-row.ensures in (
       omega (arith, c.loop-index.invariant.counted, c.has_member.ensures.bound.0),
       omega (arith, c.loop-index.invariant.few, c.has_member.ensures.bound.1, read, sum_by_more_le row_reads c.args.self.now c.loop-index.index [] low),
     )
@@ -33,26 +33,26 @@ returns-in_err-push-clause-bound c =
 pub loop-index-preserved : goal.loop-index-preserved
 loop-index-preserved c =
     let low : c.loop-index.index < length c.args.self.now = omega arith in
-    let read = ap row_reads c.row-row.ensures in
+    let read = ap row_reads c.row_within-row.ensures in
     let wanted = has_member c.args.name.now (document_tree c.args.value) in
-    let answer : c.has_member.result ≡ wanted (document_bytes c.row-row.result) =
+    let answer : c.has_member.result ≡ wanted (document_bytes c.row_within-row.result) =
     c.has_member.ensures.member (document_tree c.args.value) c.loop-index.invariant.value in
     record {
       value = c.loop-index.invariant.value;
       found = elim c.if-has_member.branch [
         | then-has_member+in_ok-push w ↦
-            let passes : wanted (document_bytes c.row-row.result) ≡ true =
+            let passes : wanted (document_bytes c.row_within-row.result) ≡ true =
             sym answer ∙ w.if-has_member.true in
-            let rows : c.if-has_member.rows.items ≡ c.loop-index.rows.items ++ c.row-row.result
+            let rows : c.if-has_member.rows.items ≡ c.loop-index.rows.items ++ c.row_within-row.result
             ∷ [] = search rules in
             ap (λ xs. map document_bytes xs) rows
-            ∙ found-more wanted c.args.self.now c.loop-index.index c.loop-index.rows.items c.row-row.result low c.row-row.ensures c.loop-index.invariant.found passes
+            ∙ found-more wanted c.args.self.now c.loop-index.index c.loop-index.rows.items c.row_within-row.result low c.row_within-row.ensures c.loop-index.invariant.found passes
         | else-has_member w ↦
-            let fails : wanted (document_bytes c.row-row.result) ≡ false =
+            let fails : wanted (document_bytes c.row_within-row.result) ≡ false =
             sym answer ∙ w.if-has_member.false in
             let rows : c.if-has_member.rows.items ≡ c.loop-index.rows.items = search rules in
             ap (λ xs. map document_bytes xs) rows
-            ∙ found-same wanted c.args.self.now c.loop-index.index c.loop-index.rows.items c.row-row.result low c.row-row.ensures c.loop-index.invariant.found fails
+            ∙ found-same wanted c.args.self.now c.loop-index.index c.loop-index.rows.items c.row_within-row.result low c.row_within-row.ensures c.loop-index.invariant.found fails
       ];
       counted = omega (arith, c.loop-index.invariant.counted, c.has_member.ensures.bound.0);
       few = omega

@@ -21,4 +21,4 @@ loop-index-preserved c =
     ∙ append_assoc old (stored (take c.loop-index.index rows)) (stored_row row)
     ∙ ap (λ b. old ++ b)
     (sym (stored-more rows c.loop-index.index row low
-    (c.as_bytes.ensures.bytes ∙ c.row.ensures)))
+    (c.as_bytes.ensures.bytes ∙ c.row_within.ensures)))

@@ -1,0 +1,20 @@
+use Rattle.std.proofs.Common.{◌<◌, length, ap, arith, sym, subst}
+use Rattle.std.proofs.lemmas.List.{length-map}
+use Rattle.jsonb_codec.specs.Doc.{IsDocument}
+use Rattle.jsonb_column.specs.Rows.{row_in}
+use Rattle.jsonb_column.proofs.RowsLaws.{row_document}
+use Rattle.jsonb_column.proofs.column.Column.row_within.Goals as goal
+
+pub document_at-requires-clause-document : goal.document_at-requires-clause-document
+document_at-requires-clause-document c =
+    let places = c.self.inside.places.items in
+    let low : c.args.index
+    < length places = omega (
+      arith,
+      c.requires,
+      ap length c.self.view_is,
+      length-map places
+          (row_in c.self.inside.bytes.items),
+    ) in
+    subst (λ b. IsDocument (row_in b c.index.result.now)) (sym c.deref.ensures.value)
+    (row_document c.self.inside.bytes.items places c.args.index c.index.result.now c.self.invariant.rows low c.index.ensures)
