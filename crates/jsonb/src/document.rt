@@ -137,7 +137,7 @@ impl<'a> Document<'a> {
 
     // The one part that the document is.
     #[inline(always)]
-    fn part(&self) -> Part<'a>
+    pub(crate) fn part(&self) -> Part<'a>
         ensures means { Means result (document_tree self.now) }
         ensures len { length result.payload.now < 2 ^ 64 }
     {

@@ -9,13 +9,21 @@ ghost use Rattle.jsonb.specs.Node.{node_tree, HoldsNoScalar, IsContainer, array_
 
 use crate::document::{Contents, Document, Node};
 use crate::nodes::{Items, Members};
+use jsonb_codec::constants::{CONTAINER_TAG, NUMBER_TAG, STRING_TAG};
 use std::cmp::Ordering;
 
 /// The order of two documents.
 pub fn cmp_documents(left: Document<'_>, right: Document<'_>) -> Ordering
     ensures { result ≡ tree_cmp (document_tree left.entry) (document_tree right.entry) }
 {
-    cmp_nodes(left.node(), right.node())
+    let (left_part, right_part) = (left.part(), right.part());
+    // What is compared most is told by the tags, before a node is made of each part.
+    match (left_part.tag, right_part.tag) {
+        (NUMBER_TAG, NUMBER_TAG) => left_part.number().cmp_value(&right_part.number()),
+        (STRING_TAG, STRING_TAG) => left_part.text().cmp(right_part.text()),
+        (CONTAINER_TAG, CONTAINER_TAG) => cmp_containers(left, right),
+        _ => cmp_nodes(Node::of_part(left_part), Node::of_part(right_part)),
+    }
 }
 
 /// The order of two values.
