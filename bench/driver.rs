@@ -11,14 +11,40 @@ extern "C" {
     fn measured_build(bytes: *const u8, length: usize) -> bool;
     fn measured_encode(bytes: *const u8, length: usize, times: usize) -> usize;
     fn measured_find(bytes: *const u8, length: usize, name: *const u8, name_length: usize) -> bool;
-    fn measured_get(bytes: *const u8, length: usize, name: *const u8, name_length: usize, times: usize) -> usize;
+    fn measured_get(
+        bytes: *const u8,
+        length: usize,
+        name: *const u8,
+        name_length: usize,
+        times: usize,
+    ) -> usize;
     fn measured_text(bytes: *const u8, length: usize, times: usize) -> usize;
-    fn measured_cmp(left: *const u8, left_length: usize, right: *const u8, right_length: usize) -> i32;
+    fn measured_cmp(
+        left: *const u8,
+        left_length: usize,
+        right: *const u8,
+        right_length: usize,
+    ) -> i32;
     fn measured_print(bytes: *const u8, length: usize) -> usize;
     fn measured_parse(text: *const u8, length: usize) -> usize;
-    fn measured_sort(bytes: *const u8, length: usize, ends: *const u64, count: usize, order: *mut u64, room: usize) -> bool;
+    fn measured_sort(
+        bytes: *const u8,
+        length: usize,
+        ends: *const u64,
+        count: usize,
+        order: *mut u64,
+        room: usize,
+    ) -> bool;
     fn measured_canonical(bytes: *const u8, length: usize) -> usize;
-    fn measured_column(stored: *const u8, length: usize, keys: *const u8, keys_length: usize, name: *const u8, name_length: usize, step: usize) -> usize;
+    fn measured_column(
+        stored: *const u8,
+        length: usize,
+        keys: *const u8,
+        keys_length: usize,
+        name: *const u8,
+        name_length: usize,
+        step: usize,
+    ) -> usize;
 }
 
 // The seconds that a call of either side takes, the least of fifteen. The two take turns, so that
@@ -39,7 +65,11 @@ fn seconds(call: &mut impl FnMut() -> usize) -> f64 {
 }
 
 fn numbers() -> Value<'static> {
-    Value::Array((0..100_000u64).map(|i| Value::Number(Number::UInt64(i * 7919 % 1_000_003))).collect())
+    Value::Array(
+        (0..100_000u64)
+            .map(|i| Value::Number(Number::UInt64(i * 7919 % 1_000_003)))
+            .collect(),
+    )
 }
 
 fn string(text: String) -> Value<'static> {
@@ -77,19 +107,35 @@ fn scattered(number: usize) -> String {
 
 fn report(name: &str, what: &str, bytes: usize, ours: f64, theirs: f64) {
     let megabytes = bytes as f64 / 1e6;
-    println!("{name:10} {what:8} {:9.1} MB/s, the crate {:9.1} MB/s: {:.2} of its time", megabytes / ours, megabytes / theirs, ours / theirs);
+    println!(
+        "{name:10} {what:8} {:9.1} MB/s, the crate {:9.1} MB/s: {:.2} of its time",
+        megabytes / ours,
+        megabytes / theirs,
+        ours / theirs
+    );
 }
 
 fn documents() {
-    for (name, value) in [("numbers", numbers()), ("objects", objects()), ("deep", deep()), ("of 3000", keyed(3_000, numbered))] {
+    for (name, value) in [
+        ("numbers", numbers()),
+        ("objects", objects()),
+        ("deep", deep()),
+        ("of 3000", keyed(3_000, numbered)),
+    ] {
         let mut bytes = Vec::new();
         api::encode(&value, &mut bytes);
         let (start, length) = (bytes.as_ptr(), bytes.len());
         assert!(unsafe { measured_check(start, length) });
-        let (ours, theirs) = fastest(|| unsafe { measured_check(start, length) as usize }, || api::decode(&bytes).is_ok() as usize);
+        let (ours, theirs) = fastest(
+            || unsafe { measured_check(start, length) as usize },
+            || api::decode(&bytes).is_ok() as usize,
+        );
         report(name, "check", length, ours, theirs);
         let to_value = || RawJsonb::new(&bytes).to_value().is_ok() as usize;
-        let (ours, theirs) = fastest(|| unsafe { measured_build(start, length) as usize }, to_value);
+        let (ours, theirs) = fastest(
+            || unsafe { measured_build(start, length) as usize },
+            to_value,
+        );
         report(name, "build", length, ours, theirs);
         encode(name, &value, &bytes);
     }
@@ -106,7 +152,10 @@ fn encode(name: &str, value: &Value, bytes: &[u8]) {
 }
 
 fn look_ups() {
-    for (shape, name) in [("numbered", numbered as fn(usize) -> String), ("scattered", scattered)] {
+    for (shape, name) in [
+        ("numbered", numbered as fn(usize) -> String),
+        ("scattered", scattered),
+    ] {
         for count in [10, 1_000, 100_000] {
             look_up(shape, count, name);
         }
@@ -116,26 +165,62 @@ fn look_ups() {
 fn look_up(shape: &str, count: usize, name: fn(usize) -> String) {
     let value = keyed(count, name);
     let bytes = encoded(&value);
-    let Value::Object(pairs) = &value else { unreachable!() };
+    let Value::Object(pairs) = &value else {
+        unreachable!()
+    };
     let turns = 1_000_000 / count;
     for (place, key) in [("first", 0), ("middle", count / 2), ("last", count - 1)] {
         let name = pairs.keys().nth(key).unwrap();
-        let find = || unsafe { measured_find(black_box(bytes.as_ptr()), bytes.len(), name.as_ptr(), name.len()) };
+        let find = || unsafe {
+            measured_find(
+                black_box(bytes.as_ptr()),
+                bytes.len(),
+                name.as_ptr(),
+                name.len(),
+            )
+        };
         let (ours, theirs) = fastest(
             || (0..turns).filter(|_| find()).count(),
-            || (0..turns).filter(|_| api::has(black_box(&bytes), name)).count(),
+            || {
+                (0..turns)
+                    .filter(|_| api::has(black_box(&bytes), name))
+                    .count()
+            },
         );
-        println!("{place:6} of {count:6} {shape:9} {:10.1} ns, the crate {:10.1} ns: {:.2} of its time", ours * 1e9 / turns as f64, theirs * 1e9 / turns as f64, ours / theirs);
+        println!(
+            "{place:6} of {count:6} {shape:9} {:10.1} ns, the crate {:10.1} ns: {:.2} of its time",
+            ours * 1e9 / turns as f64,
+            theirs * 1e9 / turns as f64,
+            ours / theirs
+        );
         // A document is checked at each call: what so many more turns take is the look-up's alone.
-        let get = |times| unsafe { measured_get(black_box(bytes.as_ptr()), bytes.len(), name.as_ptr(), name.len(), times) };
+        let get = |times| unsafe {
+            measured_get(
+                black_box(bytes.as_ptr()),
+                bytes.len(),
+                name.as_ptr(),
+                name.len(),
+                times,
+            )
+        };
         assert_eq!(get(turns), turns);
         let (more, theirs) = fastest(
             || get(turns + 1),
-            || (0..turns).filter(|_| api::has(black_box(&bytes), name)).count(),
+            || {
+                (0..turns)
+                    .filter(|_| api::has(black_box(&bytes), name))
+                    .count()
+            },
         );
         let (once, _) = fastest(|| get(1), || 0);
         let ours = more - once;
-        println!("{place:6} of {count:6} {shape:9} {:10.1} ns, the crate {:10.1} ns: {:.2} of its time (get of a document)", ours * 1e9 / turns as f64, theirs * 1e9 / turns as f64, ours / theirs);
+        println!(
+            "{place:6} of {count:6} {shape:9} {:10.1} ns, the crate {:10.1} ns: \
+             {:.2} of its time (get of a document)",
+            ours * 1e9 / turns as f64,
+            theirs * 1e9 / turns as f64,
+            ours / theirs
+        );
     }
 }
 
@@ -147,24 +232,46 @@ fn encoded(value: &Value) -> Vec<u8> {
 
 fn sorts() {
     let shapes: [(&str, fn(usize) -> Value<'static>); 5] = [
-        ("numbers", |i| Value::Number(Number::UInt64((i as u64 * 7919) % 1_000_003))),
-        ("strings", |i| string(format!("value {}", (i * 7919) % 1_000_003))),
+        ("numbers", |i| {
+            Value::Number(Number::UInt64((i as u64 * 7919) % 1_000_003))
+        }),
+        ("strings", |i| {
+            string(format!("value {}", (i * 7919) % 1_000_003))
+        }),
         ("objects", |i| {
-            let pairs = (0..4).map(|k| (format!("key{k}"), Value::Number(Number::UInt64(((i * 7919 + k * i) % 100_003) as u64))));
+            let pairs = (0..4).map(|k| {
+                (
+                    format!("key{k}"),
+                    Value::Number(Number::UInt64(((i * 7919 + k * i) % 100_003) as u64)),
+                )
+            });
             Value::Object(pairs.collect::<BTreeMap<_, _>>())
         }),
         ("of 20", |i| {
-            let pairs = (0..20).map(|k| (format!("key{k:02}"), Value::Number(Number::UInt64(((i * 7919 + k * i) % 100_003) as u64))));
+            let pairs = (0..20).map(|k| {
+                (
+                    format!("key{k:02}"),
+                    Value::Number(Number::UInt64(((i * 7919 + k * i) % 100_003) as u64)),
+                )
+            });
             Value::Object(pairs.collect::<BTreeMap<_, _>>())
         }),
-        ("arrays", |i| Value::Array((0..50).map(|k| Value::Number(Number::UInt64(((i * 7919 + k * i) % 100_003) as u64))).collect())),
+        ("arrays", |i| {
+            Value::Array(
+                (0..50)
+                    .map(|k| Value::Number(Number::UInt64(((i * 7919 + k * i) % 100_003) as u64)))
+                    .collect(),
+            )
+        }),
     ];
     for (name, shape) in shapes {
         let documents: Vec<Vec<u8>> = (0..100_000).map(|i| encoded(&shape(i))).collect();
         let size = documents.iter().map(Vec::len).sum();
         let sort = || {
             let mut all: Vec<&[u8]> = documents.iter().map(Vec::as_slice).collect();
-            all.sort_by(|l, r| unsafe { measured_cmp(l.as_ptr(), l.len(), r.as_ptr(), r.len()) }.cmp(&0));
+            all.sort_by(|l, r| {
+                unsafe { measured_cmp(l.as_ptr(), l.len(), r.as_ptr(), r.len()) }.cmp(&0)
+            });
             all[0].len()
         };
         let sort_theirs = || {
@@ -175,10 +282,25 @@ fn sorts() {
         let (ours, theirs) = fastest(sort, sort_theirs);
         report(name, "sort", size, ours, theirs);
         let bytes = documents.concat();
-        let ends: Vec<u64> = documents.iter().scan(0, |end, d| { *end += d.len() as u64; Some(*end) }).collect();
+        let ends: Vec<u64> = documents
+            .iter()
+            .scan(0, |end, d| {
+                *end += d.len() as u64;
+                Some(*end)
+            })
+            .collect();
         let mut order = vec![0; ends.len()];
         let once = || {
-            let done = unsafe { measured_sort(bytes.as_ptr(), bytes.len(), ends.as_ptr(), ends.len(), order.as_mut_ptr(), order.len()) };
+            let done = unsafe {
+                measured_sort(
+                    bytes.as_ptr(),
+                    bytes.len(),
+                    ends.as_ptr(),
+                    ends.len(),
+                    order.as_mut_ptr(),
+                    order.len(),
+                )
+            };
             assert!(done);
             1
         };
@@ -187,12 +309,16 @@ fn sorts() {
     }
 }
 
-// Containers inside one another, each the first of two children: so many levels of arrays, or of objects.
+// Containers inside one another, each the first of two children: so many levels of arrays, or of
+// objects.
 fn chain(levels: usize, objects: bool) -> Value<'static> {
     let one = || Value::Number(Number::UInt64(1));
     (0..levels).fold(one(), |inner, _| match objects {
         false => Value::Array(vec![inner, one()]),
-        true => Value::Object(BTreeMap::from([("a".to_string(), inner), ("b".to_string(), one())])),
+        true => Value::Object(BTreeMap::from([
+            ("a".to_string(), inner),
+            ("b".to_string(), one()),
+        ])),
     })
 }
 
@@ -203,7 +329,8 @@ fn halves(levels: usize) -> Value<'static> {
     }
 }
 
-// The shapes whose lengths are dearest to find: what encoding and the canonical form cost beside the crate's encoder.
+// The shapes whose lengths are dearest to find: what encoding and the canonical form cost beside
+// the crate's encoder.
 fn nested() {
     let mut shapes: Vec<(String, Value)> = Vec::new();
     for levels in [100, 1_000, 10_000] {
@@ -217,20 +344,38 @@ fn nested() {
         let both = || unsafe { measured_encode(bytes.as_ptr(), bytes.len(), 1) };
         // The build of the value stands in both, so its own time is taken off.
         let (with, without) = fastest(both, build);
-        let (theirs, canonical) = fastest(|| encoded(&value).len(), || unsafe { measured_canonical(bytes.as_ptr(), bytes.len()) });
-        report(&name, "encode", bytes.len(), (with - without).max(1e-9), theirs);
+        let (theirs, canonical) = fastest(
+            || encoded(&value).len(),
+            || unsafe { measured_canonical(bytes.as_ptr(), bytes.len()) },
+        );
+        report(
+            &name,
+            "encode",
+            bytes.len(),
+            (with - without).max(1e-9),
+            theirs,
+        );
         report(&name, "canon", bytes.len(), canonical, theirs);
         std::mem::forget(value);
     }
 }
 
 fn texts() {
-    let item = |i: usize| format!(r#"{{"id":{i},"name":"name of {i}","price":{}.{:02},"tags":["a","b\n{i}"],"on":true}}"#, i % 1000, i % 100);
+    let item = |i: usize| {
+        format!(
+            r#"{{"id":{i},"name":"name of {i}","price":{}.{:02},"tags":["a","b\n{i}"],"on":true}}"#,
+            i % 1000,
+            i % 100
+        )
+    };
     let text = format!("[{}]", (0..130_000).map(item).collect::<Vec<_>>().join(","));
     let value: serde_json::Value = serde_json::from_str(&text).unwrap();
     let length = text.len();
     let from_str = || serde_json::from_str::<serde_json::Value>(&text).is_ok() as usize;
-    let (ours, theirs) = fastest(|| unsafe { measured_parse(text.as_ptr(), length) }, from_str);
+    let (ours, theirs) = fastest(
+        || unsafe { measured_parse(text.as_ptr(), length) },
+        from_str,
+    );
     report("text", "parse", length, ours, theirs);
     let whole = || encoded(&value_of_json(serde_json::from_str(&text).unwrap())).len();
     assert_eq!(whole(), unsafe { measured_parse(text.as_ptr(), length) });
@@ -241,10 +386,16 @@ fn texts() {
     let tree: serde_json::Value = objects_as_json();
     assert_eq!(printed, serde_json::to_string(&tree).unwrap().len());
     let to_string = || serde_json::to_string(&tree).unwrap().len();
-    let (ours, theirs) = fastest(|| unsafe { measured_print(objects.as_ptr(), objects.len()) }, to_string);
+    let (ours, theirs) = fastest(
+        || unsafe { measured_print(objects.as_ptr(), objects.len()) },
+        to_string,
+    );
     report("objects", "print", printed, ours, theirs);
     let (start, count) = (objects.as_ptr(), objects.len());
-    let (more, theirs) = fastest(|| unsafe { measured_text(start, count, 5) }, || (0..4).map(|_| to_string()).sum());
+    let (more, theirs) = fastest(
+        || unsafe { measured_text(start, count, 5) },
+        || (0..4).map(|_| to_string()).sum(),
+    );
     let (once, _) = fastest(|| unsafe { measured_text(start, count, 1) }, || 0);
     report("objects", "text", 4 * printed, more - once, theirs);
     drop(value);
@@ -257,8 +408,15 @@ fn value_of_json(json: serde_json::Value) -> Value<'static> {
         serde_json::Value::Bool(truth) => Value::Bool(truth),
         serde_json::Value::Number(number) => Value::Number(number_of_json(&number)),
         serde_json::Value::String(text) => string(text),
-        serde_json::Value::Array(items) => Value::Array(items.into_iter().map(value_of_json).collect()),
-        serde_json::Value::Object(pairs) => Value::Object(pairs.into_iter().map(|(key, value)| (key, value_of_json(value))).collect()),
+        serde_json::Value::Array(items) => {
+            Value::Array(items.into_iter().map(value_of_json).collect())
+        }
+        serde_json::Value::Object(pairs) => Value::Object(
+            pairs
+                .into_iter()
+                .map(|(key, value)| (key, value_of_json(value)))
+                .collect(),
+        ),
     }
 }
 
@@ -271,30 +429,59 @@ fn number_of_json(number: &serde_json::Number) -> Number {
     }
     let text = number.to_string();
     let (whole, fraction) = text.split_once('.').unwrap();
-    Number::Decimal64(Decimal64 { scale: fraction.len() as u8, value: format!("{whole}{fraction}").parse().unwrap() })
+    Number::Decimal64(Decimal64 {
+        scale: fraction.len() as u8,
+        value: format!("{whole}{fraction}").parse().unwrap(),
+    })
 }
 
 fn objects_as_json() -> serde_json::Value {
     let object = |i: usize| {
-        let pairs = (0..10).map(|k| (format!("key{k:02}"), serde_json::Value::String(format!("value {i} {k}"))));
+        let pairs = (0..10).map(|k| {
+            (
+                format!("key{k:02}"),
+                serde_json::Value::String(format!("value {i} {k}")),
+            )
+        });
         serde_json::Value::Object(pairs.collect())
     };
     serde_json::Value::Array((0..10_000).map(object).collect())
 }
 
-// A column of 100,000 rows of ten keys: read and checked, sorted, searched for each of its rows, and
-// one selection. The crate's side is a vector of views. Its load builds each value: that is its check.
+// A column of 100,000 rows of ten keys: read and checked, sorted, searched for each of its rows,
+// and one selection. The crate's side is a vector of views. Its load builds each value: that is its
+// check.
 fn column() {
     let row = |i: usize| {
-        let pairs = (0..10).map(|k| (format!("key{k:02}"), Value::Number(Number::UInt64(((i * 7919 + k * i) % 100_003) as u64))));
+        let pairs = (0..10).map(|k| {
+            (
+                format!("key{k:02}"),
+                Value::Number(Number::UInt64(((i * 7919 + k * i) % 100_003) as u64)),
+            )
+        });
         Value::Object(pairs.collect::<BTreeMap<_, _>>())
     };
-    let stored = |documents: &[Vec<u8>]| documents.iter().flat_map(|d| [&(d.len() as u64).to_be_bytes(), d.as_slice()].concat()).collect::<Vec<u8>>();
+    let stored = |documents: &[Vec<u8>]| {
+        documents
+            .iter()
+            .flat_map(|d| [&(d.len() as u64).to_be_bytes(), d.as_slice()].concat())
+            .collect::<Vec<u8>>()
+    };
     let documents: Vec<Vec<u8>> = (0..100_000).map(|i| encoded(&row(i))).collect();
     let rows = stored(&documents);
     let wanted = Number::UInt64(7919);
     let value = stored(&[encoded(&Value::Number(wanted.clone()))]);
-    let ours = |keys: &[u8], step| unsafe { measured_column(rows.as_ptr(), rows.len(), keys.as_ptr(), keys.len(), "key00".as_ptr(), 5, step) };
+    let ours = |keys: &[u8], step| unsafe {
+        measured_column(
+            rows.as_ptr(),
+            rows.len(),
+            keys.as_ptr(),
+            keys.len(),
+            "key00".as_ptr(),
+            5,
+            step,
+        )
+    };
     let load = || documents.iter().filter(|d| api::decode(d).is_ok()).count();
     let sorted = || {
         let mut all: Vec<RawJsonb> = documents.iter().map(|d| RawJsonb::new(d)).collect();
@@ -302,16 +489,27 @@ fn column() {
         all
     };
     let order = sorted();
-    let search = || documents.iter().map(|key| {
-        let key = RawJsonb::new(key);
-        let from = order.partition_point(|row| *row < key);
-        order[from..].partition_point(|row| *row <= key)
-    }).sum();
-    let select = || documents.iter().filter(|d| api::has_number(d, "key00", &wanted)).count();
+    let search = || {
+        documents
+            .iter()
+            .map(|key| {
+                let key = RawJsonb::new(key);
+                let from = order.partition_point(|row| *row < key);
+                order[from..].partition_point(|row| *row <= key)
+            })
+            .sum()
+    };
+    let select = || {
+        documents
+            .iter()
+            .filter(|d| api::has_number(d, "key00", &wanted))
+            .count()
+    };
     assert_eq!(ours(&value, 3), select());
     let (loaded, theirs) = fastest(|| ours(&[], 0), load);
     report("column", "load", rows.len(), loaded, theirs);
-    // Our calls read the rows first, and the keys where there are some: what they take beyond that is the step's alone.
+    // Our calls read the rows first, and the keys where there are some: what they take beyond that
+    // is the step's alone.
     let (selected, theirs) = fastest(|| ours(&value, 3), select);
     report("column", "select", rows.len(), selected - loaded, theirs);
     let (ordered, theirs) = fastest(|| ours(&value, 1), || sorted().len());

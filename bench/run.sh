@@ -1,5 +1,6 @@
 #!/bin/sh
-# Times the library beside the Rust crate: run.sh BASELINE, a cargo project of the crate's own core named crate_baseline.
+# Times the library beside the Rust crate: run.sh BASELINE, a cargo project of the crate's own core
+# named crate_baseline.
 set -eu
 here=$(cd "$(dirname "$0")" && pwd)
 baseline=$(cd "$1" && pwd)
@@ -13,5 +14,9 @@ cp "$here/measured.rt.in" "$scratch/crates/measured/src/lib.rt"
 cp "$here/driver.rs" "$baseline/examples/driver.rs"
 (cd "$scratch" && git init -q && cd crates/measured && rt check && rt lib)
 cd "$baseline"
-RUSTFLAGS="-C target-cpu=x86-64-v2 -C link-arg=$scratch/crates/measured/out/libmeasured.a -C link-arg=$kit/c/liblibc_c.a -C link-arg=$kit/c/libos_c.a" \
-    cargo run --release --offline --example driver
+flags="-C target-cpu=x86-64-v2"
+for archive in "$scratch/crates/measured/out/libmeasured.a" \
+    "$kit/c/liblibc_c.a" "$kit/c/libos_c.a"; do
+    flags="$flags -C link-arg=$archive"
+done
+RUSTFLAGS=$flags cargo run --release --offline --example driver

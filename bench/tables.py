@@ -64,14 +64,14 @@ def tables(found):
     look_ups = []
     for kind in ["numbered", "scattered"]:
         for count in ["10", "1000", "100000"]:
-            for call in ["", " (get of a document)"]:
+            for call, name in [("", ""), (" (get of a document)", ", `get`")]:
                 places = [cell(found[f"{place} of {count} {kind}{call}"])
                           for place in ["first", "middle", "last"]]
-                look_ups.append([f"{int(count):,} {kind}{call}"] + places)
-    sorts = [[call] + [cell(found[f"{shape} {name}"])
-                       for shape in ["numbers", "strings", "objects", "of 20", "arrays"]]
-             for call, name in [("views (`RawJsonb`)", "sort"),
-                                ("keys checked once (`SortKey`)", "sort once")]]
+                look_ups.append([f"{int(count):,} {kind}{name}"] + places)
+    sorts = [[name] + [cell(found[f"{shape} {call}"]) for call in ["sort", "sort once"]]
+             for name, shape in [("numbers", "numbers"), ("strings", "strings"),
+                                 ("objects of 4 keys", "objects"), ("objects of 20", "of 20"),
+                                 ("arrays of 50", "arrays")]]
     nested = [[levels, cell(found[f"{levels} encode"]), cell(found[f"{levels} canon"])]
               for levels in ["arrays 100", "arrays 1000", "arrays 10000", "objects 100",
                              "objects 1000", "objects 10000", "halves 17"]]
@@ -81,8 +81,7 @@ def tables(found):
     return "\n".join([
         table(["", "numbers", "objects", "1,000 deep"], documents),
         table(["look-up of the", "first", "middle", "last"], look_ups),
-        table(["sort of 100,000", "numbers", "strings", "objects of 4 keys", "objects of 20",
-               "arrays of 50"], sorts),
+        table(["sort of 100,000", "views (`RawJsonb`)", "keys checked once (`SortKey`)"], sorts),
         table(["containers in one another", "encoder", "canonical form"], nested),
         table(["texts, beside serde_json", ""], texts),
     ])

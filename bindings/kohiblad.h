@@ -24,15 +24,15 @@
  * THREADS: there is no state. Any call may run in any thread, beside any other, also over the same
  * bytes, as long as nobody writes them. Calls are not for signal handlers.
  *
- * STACK: calls recurse as deep as a document or a text nests. KOHIBLAD_LEVEL_STACK bytes for each level
- * of a document, KOHIBLAD_TEXT_LEVEL_STACK for each of a text, and KOHIBLAD_CALL_STACK beside them are
- * enough: 64 levels need 48 KB, of texts 136 KB; 1,000 levels 633 KB, of texts 2 MB. So pass foreign
- * bytes through kohiblad_check, and foreign texts through the depth of kohiblad_parse. kind, get, find,
- * part, array_item and object_member look into no child, and do not recurse.
+ * STACK: calls recurse as deep as a document or a text nests. KOHIBLAD_LEVEL_STACK bytes for each
+ * level of a document, KOHIBLAD_TEXT_LEVEL_STACK for each of a text, and KOHIBLAD_CALL_STACK beside
+ * them are enough: 64 levels need 48 KB, of texts 136 KB; 1,000 levels 633 KB, of texts 2 MB. So
+ * pass foreign bytes through kohiblad_check, and foreign texts through the depth of kohiblad_parse.
+ * kind, get, find, part, array_item and object_member look into no child, and do not recurse.
  *
- * NULL is allowed for bytes, texts, ends, out and order whose length is 0, since macros at the end of
- * this file guard it. A caller that passes the macros by, through a function pointer or from another
- * language, must pass some other pointer there. `length` is never null. */
+ * NULL is allowed for bytes, texts, ends, out and order whose length is 0, since macros at the end
+ * of this file guard it. A caller that passes the macros by, through a function pointer or from
+ * another language, must pass some other pointer there. `length` is never null. */
 #ifndef KOHIBLAD_H
 #define KOHIBLAD_H
 
@@ -127,7 +127,8 @@ int32_t kohiblad_compare(const uint8_t *left, size_t left_size,
 struct kohiblad_kind kohiblad_kind(const uint8_t *bytes, size_t size);
 
 /* The value of a key, as a document of its own. NONE: there is no such key, or no object.
- * INVALID_UTF8: the name is none. Other bytes than documents give an answer or an error's status. */
+ * INVALID_UTF8: the name is none. Other bytes than documents give an answer or an error's
+ * status. */
 uint32_t kohiblad_get(const uint8_t *bytes, size_t size, const uint8_t *name, size_t name_size,
                       uint8_t *out, size_t room, size_t *length);
 
@@ -135,8 +136,9 @@ uint32_t kohiblad_get(const uint8_t *bytes, size_t size, const uint8_t *name, si
 struct kohiblad_place kohiblad_find(const uint8_t *bytes, size_t size,
                                     const uint8_t *name, size_t name_size);
 
-/* Where a part stands: of an array of n the items, 0 to n - 1; of an object of n pairs the keys, 0 to
- * n - 1, and the values, n to 2n - 1. NONE: there is no such part. Costs a word for each part before. */
+/* Where a part stands: of an array of n the items, 0 to n - 1; of an object of n pairs the keys, 0
+ * to n - 1, and the values, n to 2n - 1. NONE: there is no such part. Costs a word for each part
+ * before. */
 struct kohiblad_place kohiblad_part(const uint8_t *bytes, size_t size, size_t number);
 
 /* An item of an array, as a document of its own. NONE: no such item, or no array. */
@@ -149,48 +151,50 @@ uint32_t kohiblad_object_member(const uint8_t *bytes, size_t size, size_t index,
                                 uint8_t *key, size_t key_room, size_t *key_length,
                                 uint8_t *out, size_t room, size_t *length);
 
-/* The JSON text, with no white space: of bytes that are no document their own text, and "null" of no
- * bytes. Takes memory. */
+/* The JSON text, with no white space: of bytes that are no document their own text, and "null" of
+ * no bytes. Takes memory. */
 uint32_t kohiblad_to_string(const uint8_t *bytes, size_t size,
                             uint8_t *out, size_t room, size_t *length);
 
-/* The JSON text on lines, indented by two spaces; "null" of bytes that are no document. Takes memory. */
+/* The JSON text on lines, indented by two spaces; "null" of bytes that are no document. Takes
+ * memory. */
 uint32_t kohiblad_to_pretty(const uint8_t *bytes, size_t size,
                             uint8_t *out, size_t room, size_t *length);
 
-/* The canonical document of a JSON text. TOO_DEEP: more than so many of its brackets are open at once,
- * and it was not read; INVALID_UTF8; INVALID_JSON; INVALID_JSONB: past a limit of the format. Takes
- * memory. The result has less than 4 times the text's bytes and 8 more. */
+/* The canonical document of a JSON text. TOO_DEEP: more than so many of its brackets are open at
+ * once, and it was not read; INVALID_UTF8; INVALID_JSON; INVALID_JSONB: past a limit of the format.
+ * Takes memory. The result has less than 4 times the text's bytes and 8 more. */
 uint32_t kohiblad_parse(const uint8_t *text, size_t size, size_t depth,
                         uint8_t *out, size_t room, size_t *length);
 
-/* ROWS stand one behind another in `bytes`; `ends` has where each ends, and the first begins at 0. So
- * the ends of a column of Arrow are its offsets without the first. INVALID_EOF: an end goes back, or
- * past the bytes. */
+/* ROWS stand one behind another in `bytes`; `ends` has where each ends, and the first begins at 0.
+ * So the ends of a column of Arrow are its offsets without the first. INVALID_EOF: an end goes
+ * back, or past the bytes. */
 
-/* The array of the documents in these rows. INVALID_JSONB: a row is no document, or past a limit. Takes
- * memory. */
+/* The array of the documents in these rows. INVALID_JSONB: a row is no document, or past a limit.
+ * Takes memory. */
 uint32_t kohiblad_build_array(const uint8_t *bytes, size_t size, const size_t *ends, size_t rows,
                               uint8_t *out, size_t room, size_t *length);
 
-/* The object of these rows: a key's text, then its document, and so on; keys in any order. INVALID_EOF
- * also where the last key has no document; INVALID_UTF8: a key is none; OBJECT_DUPLICATE_KEY: a key
- * comes twice; INVALID_JSONB: a document is none, or past a limit. Takes memory. */
+/* The object of these rows: a key's text, then its document, and so on; keys in any order.
+ * INVALID_EOF also where the last key has no document; INVALID_UTF8: a key is none;
+ * OBJECT_DUPLICATE_KEY: a key comes twice; INVALID_JSONB: a document is none, or past a limit.
+ * Takes memory. */
 uint32_t kohiblad_build_object(const uint8_t *bytes, size_t size, const size_t *ends, size_t rows,
                                uint8_t *out, size_t room, size_t *length);
 
 /* Whether the bytes are a document as it is written today. */
 bool kohiblad_is_canonical(const uint8_t *bytes, size_t size);
 
-/* The same document as it is written today; it compares equal. INVALID_JSONB: no document, or past a
- * limit in its newer form. Takes memory. */
+/* The same document as it is written today; it compares equal. INVALID_JSONB: no document, or past
+ * a limit in its newer form. Takes memory. */
 uint32_t kohiblad_to_canonical(const uint8_t *bytes, size_t size,
                                uint8_t *out, size_t room, size_t *length);
 
-/* The numbers of the rows, in the order of kohiblad_compare, equal rows in the order that they stand in.
- * They are written to the front of `order`, which has room for `room` numbers. NO_ROOM: for fewer than
- * there are rows; then, and where another status is answered, `order` is untouched. Each row is checked
- * once. Takes memory. */
+/* The numbers of the rows, in the order of kohiblad_compare, equal rows in the order that they
+ * stand in. They are written to the front of `order`, which has room for `room` numbers. NO_ROOM:
+ * for fewer than there are rows; then, and where another status is answered, `order` is untouched.
+ * Each row is checked once. Takes memory. */
 uint32_t kohiblad_sort(const uint8_t *bytes, size_t size, const size_t *ends, size_t rows,
                        size_t *order, size_t room);
 

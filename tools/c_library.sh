@@ -1,15 +1,16 @@
 #!/usr/bin/env bash
-# Builds the library for C, and tests it: libkohiblad.a by `rt lib`, over proofs that are kept or, from a
-# clean tree, made first; then a shared library beside it.
+# Builds the library for C, and tests it: libkohiblad.a by `rt lib`, over proofs that are kept or,
+# from a clean tree, made first; then a shared library beside it.
 #
 #     tools/c_library.sh
 #
-# It holds the header against the exports, and runs the worked examples in C and Python and the tests of
-# tests/c_library: null pointers; any bytes, with a page of no access behind and before each block, under
-# the sanitizers and under valgrind; each request for memory refused in turn; the depths that the header
-# names; std::sort; known answers, and the lines of tests/lines, asked from Python. A test whose tool is
-# missing is passed over, and the package that brings the tool is named. The libraries are left in
-# crates/kohiblad/out. The status is 1 where something differs or is refused.
+# It holds the header against the exports, and runs the worked examples in C and Python and the
+# tests of tests/c_library: null pointers; any bytes, with a page of no access behind and before
+# each block, under the sanitizers and under valgrind; each request for memory refused in turn; the
+# depths that the header names; std::sort; known answers, and the lines of tests/lines, asked from
+# Python. A test whose tool is missing is passed over, and the package that brings the tool is
+# named. The libraries are left in crates/kohiblad/out. The status is 1 where something differs or
+# is refused.
 set -euo pipefail
 cd "$(dirname "$0")/.."
 out=$PWD/crates/kohiblad/out
@@ -53,8 +54,8 @@ if has nm binutils; then
 fi
 
 note 'the examples'
-"$cc" -std=c99 -Wall -Wextra -Wpedantic -Werror -Ibindings bindings/examples/rows.c "$out/libkohiblad.a" \
-    "$kit/c/liblibc_c.a" -o "$work/rows"
+"$cc" -std=c99 -Wall -Wextra -Wpedantic -Werror -Ibindings bindings/examples/rows.c \
+    "$out/libkohiblad.a" "$kit/c/liblibc_c.a" -o "$work/rows"
 "$work/rows" | diff bindings/examples/rows.out -
 if has python3 python3; then
     python3 bindings/examples/rows.py "$out/libkohiblad.so" | diff bindings/examples/rows.out -
@@ -114,8 +115,8 @@ done
 
 note 'std::sort'
 if has "${CXX:-c++}" g++; then
-    "${CXX:-c++}" -std=c++17 -O1 -Wall -Wextra -Wpedantic -Werror -Ibindings tests/c_library/sort.cc \
-        "$out/libkohiblad.a" "$kit/c/liblibc_c.a" -o "$work/sort"
+    "${CXX:-c++}" -std=c++17 -O1 -Wall -Wextra -Wpedantic -Werror -Ibindings \
+        tests/c_library/sort.cc "$out/libkohiblad.a" "$kit/c/liblibc_c.a" -o "$work/sort"
     "$work/sort"
 fi
 

@@ -5,8 +5,9 @@
 #
 #     tools/main_faults.sh [PROGRAM]
 #
-# PROGRAM is what `rt ci` or `rt run` leaves, crates/jsonb_cli/out/jsonb_cli, if none is given. A C compiler ($CC, or
-# cc) is needed for tools/refuse_request.c, and /dev/full. The status is 1 where a case differs.
+# PROGRAM is what `rt ci` or `rt run` leaves, crates/jsonb_cli/out/jsonb_cli, if none is given. A C
+# compiler ($CC, or cc) is needed for tools/refuse_request.c, and /dev/full. The status is 1 where a
+# case differs.
 set -uo pipefail
 top=$(cd "$(dirname "$0")/.." && pwd)
 program=${1:-$top/crates/jsonb_cli/out/jsonb_cli}
@@ -21,8 +22,8 @@ printf 'enc [false,true]\n' > "$work/line"
 answer=$'ok 800000023000000040000000\n'
 failed=0
 
-# Judges the run that ended with status $2: its standard error must be the text $4 and its output $5,
-# byte for byte.
+# Judges the run that ended with status $2: its standard error must be the text $4 and its output
+# $5, byte for byte.
 expect() {
     local name=$1 status=$2 right_status=$3 right_errors=$4 right_output=$5
     if [ "$status" = "$right_status" ] && printf '%s' "$right_errors" | cmp -s - "$work/errors" &&
@@ -81,7 +82,8 @@ expect 'output full' $? 1 $'jsonb_cli: write failed\n' ''
 { sleep 1; cat "$work/line"; } | { "$program" 2> "$work/errors"; echo $? > "$work/status"; } | true
 expect 'output a broken pipe' "$(cat "$work/status")" 1 $'jsonb_cli: write failed\n' ''
 
-REFUSE_REQUEST=1 LD_PRELOAD=$work/refuse.so "$program" < "$work/line" > "$work/output" 2> "$work/errors"
+REFUSE_REQUEST=1 LD_PRELOAD=$work/refuse.so "$program" \
+    < "$work/line" > "$work/output" 2> "$work/errors"
 expect 'memory refused' $? 1 $'jsonb_cli: out of memory\n' ''
 
 "$program" <&- > "$work/output" 2>&-

@@ -1,8 +1,8 @@
-/* Loaded into a program by LD_PRELOAD, refuses one of its requests for memory: the one whose number, from
- * 1, the environment gives as REFUSE_REQUEST (none where that is 0 or not there). A request is a call of
- * malloc, calloc or realloc. Into the file that REFUSE_REPORT names it writes a line `refused` when it
- * refuses, and at the program's end a line with the number of requests that were made. So a report with no
- * line `refused` says that the request was not reached. */
+/* Loaded into a program by LD_PRELOAD, refuses one of its requests for memory: the one whose
+ * number, from 1, the environment gives as REFUSE_REQUEST (none where that is 0 or not there). A
+ * request is a call of malloc, calloc or realloc. Into the file that REFUSE_REPORT names it writes
+ * a line `refused` when it refuses, and at the program's end a line with the number of requests
+ * that were made. So a report with no line `refused` says that the request was not reached. */
 #define _GNU_SOURCE
 #include <dlfcn.h>
 #include <errno.h>

@@ -20,7 +20,8 @@ def ask(name, *given):
     room = 64
     while True:
         out, length = ctypes.create_string_buffer(room), ctypes.c_size_t()
-        status = getattr(library, name)(*arguments, out, ctypes.c_size_t(room), ctypes.byref(length))
+        room_size = ctypes.c_size_t(room)
+        status = getattr(library, name)(*arguments, out, room_size, ctypes.byref(length))
         if status != NO_ROOM:
             return status, out.raw[:length.value]
         room = length.value

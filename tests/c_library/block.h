@@ -1,5 +1,5 @@
-/* Blocks of exactly their size. With GUARD a page behind each block (1) or before it (2) has no access
- * right, which shows what code that no sanitizer saw reads and writes. */
+/* Blocks of exactly their size. With GUARD a page behind each block (1) or before it (2) has no
+ * access right, which shows what code that no sanitizer saw reads and writes. */
 #ifndef BLOCK_H
 #define BLOCK_H
 

@@ -1,5 +1,5 @@
-"""Asks the shared library by ctypes: known answers of each call, and the lines of tests/lines that a
-call of it answers, beside the answers that stand there.
+"""Asks the shared library by ctypes: known answers of each call, and the lines of tests/lines that
+one of its calls answers, beside the answers that stand there.
 
     python3 border.py libkohiblad.so TESTS/LINES
 """
@@ -47,14 +47,15 @@ def tell(call, *values):
 def ask(call, *values):
     """The status and the bytes; first without room, and with one byte too few."""
     length = SIZE(7)
-    status = getattr(LIBRARY, "kohiblad_" + call)(*given(values), b"", SIZE(0), ctypes.byref(length))
+    export = getattr(LIBRARY, "kohiblad_" + call)
+    status = export(*given(values), b"", SIZE(0), ctypes.byref(length))
     if status != NO_ROOM:
         assert length.value == 0, (call, status)
         return status, b""
     size = length.value
     for room in (size - 1, size):
         out = ctypes.create_string_buffer(b"\xa5" * (size + 1), size + 1)
-        status = getattr(LIBRARY, "kohiblad_" + call)(*given(values), out, SIZE(room), ctypes.byref(length))
+        status = export(*given(values), out, SIZE(room), ctypes.byref(length))
         assert status == (NO_ROOM if room < size else 0) and length.value == size, (call, status)
         assert room == size or out.raw == b"\xa5" * (size + 1), call
     return status, out.raw[:size]
@@ -93,8 +94,8 @@ def known_answers():
     array = bytes.fromhex("8000000330000000200000025000000e500a4000000110000001100000016b76")
     assert tell("version") == 6000
     names = ("Ok InvalidEOF InvalidJsonb InvalidJsonbHeader InvalidJsonbJEntry InvalidJsonbNumber "
-             "InvalidJsonbExtension InvalidUtf8 ObjectDuplicateKey InvalidJson OutOfMemory NoRoom None "
-             "TooDeep Unknown").split()
+             "InvalidJsonbExtension InvalidUtf8 ObjectDuplicateKey InvalidJson OutOfMemory NoRoom "
+             "None TooDeep Unknown").split()
     assert [name_of(status) for status in range(15)] == names
     assert ask("parse", b'[false,10,{"k":"v"}]', 2) == (0, array)
     assert ask("parse", b'[false,10,{"k":"v"}]', 1) == (TOO_DEEP, b"")
@@ -103,7 +104,8 @@ def known_answers():
     assert name_of(ask("parse", b"\xff", 9)[0]) == "InvalidUtf8"
     assert ask("to_string", array) == (0, b'[false,10,{"k":"v"}]')
     assert ask("to_pretty", array)[1].count(b"\n") == 6
-    assert tell("check", array, 2) and not tell("check", array, 1) and not tell("check", array[:-1], 9)
+    assert tell("check", array, 2)
+    assert not tell("check", array, 1) and not tell("check", array[:-1], 9)
     kind = tell("kind", array)
     assert (kind.status, kind.kind, kind.count) == (0, 5, 3)
     assert ask("array_item", array, 0) == (0, bytes.fromhex("2000000030000000"))
@@ -122,7 +124,8 @@ def known_answers():
     parts = [ask("array_item", array, i)[1] for i in range(3)]
     assert ask("build_array", *rows(parts)) == (0, array)
     assert ask("build_object", *rows([b"k", ask("parse", b'"v"', 0)[1]])) == (0, inner)
-    assert name_of(ask("build_object", *rows([b"k", inner, b"k", inner]))[0]) == "ObjectDuplicateKey"
+    status, _ = ask("build_object", *rows([b"k", inner, b"k", inner]))
+    assert name_of(status) == "ObjectDuplicateKey"
     assert name_of(ask("build_array", array, [40])[0]) == "InvalidEOF"
     order = (SIZE * 4)(9, 9, 9, 9)
     documents = [ask("parse", text, 9)[1] for text in (b"null", b'"a"', b"5.0", b"5")]
@@ -141,20 +144,22 @@ def probe(line, answer):
         else:
             parts = [bytes.fromhex(it) for word in words for it in word.split("=", 1)]
         return said(ask("build_" + command[:-3], *rows(parts))) == answer
-    taken = {"is_document": 1, "is_canonical": 1, "within": 2, "to_canonical": 1, "item_type": 1, "cmp": 2,
-             "to_string": 1, "to_pretty_string": 1, "lookup": 2, "array": 1, "pairs": 1}
+    taken = {"is_document": 1, "is_canonical": 1, "within": 2, "to_canonical": 1, "item_type": 1,
+             "cmp": 2, "to_string": 1, "to_pretty_string": 1, "lookup": 2, "array": 1, "pairs": 1}
     if len(words) != taken.get(command):
         return None
     given_bytes = bytes.fromhex(words[0])
     if command in ("is_document", "is_canonical"):
         return str(tell(command, given_bytes)).lower() == answer
     if command == "within":
-        return int(words[1]) >= 2 ** 63 or str(tell("check", given_bytes, int(words[1]))).lower() == answer
+        depth = int(words[1])
+        return depth >= 2 ** 63 or str(tell("check", given_bytes, depth)).lower() == answer
     if command == "item_type":
         kind = tell("kind", given_bytes)
         count = f" {kind.count}" if kind.kind > 4 else ""
-        right = f"ok {KINDS[kind.kind]}{count}" if kind.status == 0 else f"error {name_of(kind.status)}"
-        return right == answer
+        if kind.status:
+            return f"error {name_of(kind.status)}" == answer
+        return f"ok {KINDS[kind.kind]}{count}" == answer
     if command == "cmp":
         sign = tell("compare", given_bytes, bytes.fromhex(words[1]))
         return ("equal", "greater", "less")[sign] == answer.split(" ")[0]
@@ -169,7 +174,9 @@ def probe(line, answer):
     if not tell("is_document", given_bytes):
         return None
     if answer == "none":
-        return (ask("array_item", given_bytes, 0) if command == "array" else member(given_bytes, 0))[0] == NONE
+        is_array = command == "array"
+        first = ask("array_item", given_bytes, 0) if is_array else member(given_bytes, 0)
+        return first[0] == NONE
     items = answer.split(" | ")[1:-1]
     if command == "array":
         mine = [ask("array_item", given_bytes, i) for i in range(len(items))]
@@ -189,8 +196,8 @@ def cli(line, answer):
 
 def agreement(folder):
     for program, judge, files in (
-        ("jsonb_probe", probe, "sample rows-builders rows-canonical rows-documents rows-items rows-lookup "
-                               "rows-texts"),
+        ("jsonb_probe", probe, "sample rows-builders rows-canonical rows-documents rows-items "
+                               "rows-lookup rows-texts"),
         ("jsonb_cli", cli, "sample rows-texts"),
     ):
         asked = 0

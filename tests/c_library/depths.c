@@ -1,5 +1,5 @@
-/* How many levels a call survives on a stack of a given size: depths CALL KILOBYTES LEVELS SHAPE. Ends
- * well where the call came back. SHAPE is a or o, for nested arrays or objects. */
+/* How many levels a call survives on a stack of a given size: depths CALL KILOBYTES LEVELS SHAPE.
+ * Ends well where the call came back. SHAPE is a or o, for nested arrays or objects. */
 #define _DEFAULT_SOURCE
 #include "kohiblad.h"
 

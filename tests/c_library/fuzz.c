@@ -1,5 +1,5 @@
-/* Any bytes to each call, in blocks of exactly their size: fuzz [ROUNDS]. What must hold of the answers
- * is asserted beside what one call says of another's. */
+/* Any bytes to each call, in blocks of exactly their size: fuzz [ROUNDS]. What must hold of the
+ * answers is asserted beside what one call says of another's. */
 #define _DEFAULT_SOURCE
 #include "block.h"
 #include "kohiblad.h"
@@ -17,7 +17,8 @@ static uint32_t below(uint32_t limit) {
 static const char *const texts[] = {
     "null", "true", "0", "-1", "1.50", "18446744073709551615", "\"\"", "\"abc\"", "[]", "{}",
     "[1,[2,{\"a\":null}],\"x\"]", "{\"a\":1,\"b\":[true,false,null],\"c\":{\"d\":\"e\\u00e9\"}}",
-    "{\"\":{\"\":{\"\":[[[[]]]]}}}", "[\"\\ud83d\\ude00\",1e5]", "{\"a\":1,\"a\":2}", "[1,2", "[\"]\\\"]\"]",
+    "{\"\":{\"\":{\"\":[[[[]]]]}}}", "[\"\\ud83d\\ude00\",1e5]", "{\"a\":1,\"a\":2}", "[1,2",
+    "[\"]\\\"]\"]",
 };
 enum { TEXTS = sizeof texts / sizeof *texts, ROOM = 512, DEPTH = 5 };
 
@@ -32,7 +33,8 @@ enum { TEXTS = sizeof texts / sizeof *texts, ROOM = 512, DEPTH = 5 };
         else if (status == KOHIBLAD_OK) assert(length <= out.size); \
         else assert(length == 0); \
         size_t kept = status == KOHIBLAD_OK ? length : 0; \
-        if (out.size > kept) assert(!memcmp(out.at + kept, out##_before.at + kept, out.size - kept)); \
+        if (out.size > kept) \
+            assert(!memcmp(out.at + kept, out##_before.at + kept, out.size - kept)); \
         drop(out##_before); \
     } while (0)
 
@@ -58,7 +60,8 @@ int main(int argc, char **argv) {
         uint32_t from = below(count);
         size_t size = below(3) ? sizes[from] : below((uint32_t)sizes[from] + 1);
         struct block b = make(size + (below(4) ? 0 : below(9)));
-        for (size_t i = 0; i < b.size; i++) b.at[i] = i < size ? docs[from][i] : (uint8_t)below(256);
+        for (size_t i = 0; i < b.size; i++)
+            b.at[i] = i < size ? docs[from][i] : (uint8_t)below(256);
         for (uint32_t edits = below(4); edits > 0 && b.size > 0; edits--) {
             uint8_t other = below(2) ? (uint8_t)below(256) : (uint8_t)(1u << below(8));
             b.at[below((uint32_t)b.size)] = other;
@@ -103,7 +106,8 @@ int main(int argc, char **argv) {
         for (size_t i = key_kept; i < key.size; i++) assert(key.at[i] == 0xA5);
         for (size_t i = out_kept; i < out.size; i++) assert(out.at[i] == 0xA5);
         if (is && status == KOHIBLAD_OK) assert(kohiblad_is_document(out.at, length));
-        if (is) assert((status == KOHIBLAD_NONE) == (kind.kind != KOHIBLAD_OBJECT || index >= kind.count));
+        bool is_member = kind.kind == KOHIBLAD_OBJECT && index < kind.count;
+        if (is) assert((status == KOHIBLAD_NONE) == !is_member);
         place = kohiblad_find(b.at, b.size, name.at, name.size);
         if (place.status == KOHIBLAD_OK) assert(place.offset + place.length <= b.size);
         ANSWER(status, out, length,
@@ -111,7 +115,8 @@ int main(int argc, char **argv) {
         if (status == KOHIBLAD_OK) found++;
         if (status == KOHIBLAD_OK && is) assert(kohiblad_is_document(out.at, length));
         if (status != KOHIBLAD_NO_ROOM) assert(status == place.status);
-        assert(!is || status == KOHIBLAD_OK || status == KOHIBLAD_NO_ROOM || status == KOHIBLAD_NONE);
+        bool is_answer = status == KOHIBLAD_OK || status == KOHIBLAD_NO_ROOM;
+        assert(!is || is_answer || status == KOHIBLAD_NONE);
 
         /* Texts, and read again. */
         ANSWER(status, out, length, kohiblad_to_pretty(b.at, b.size, out.at, out.size, &length));
@@ -174,7 +179,7 @@ int main(int argc, char **argv) {
         drop(name); drop(key); drop(out); drop(b);
     }
     assert(documents && found && built && sorted);
-    printf("%ld rounds: %ld documents, %ld values found, %ld built, %ld sorted\n", rounds, documents,
-           found, built, sorted);
+    printf("%ld rounds: %ld documents, %ld values found, %ld built, %ld sorted\n", rounds,
+           documents, found, built, sorted);
     return 0;
 }

@@ -1,5 +1,6 @@
-/* Each request for memory is refused in turn: a call that takes memory answers OUT_OF_MEMORY with its
- * room untouched, or the right answer; the others answer as ever. Linked with --wrap=malloc,realloc. */
+/* Each request for memory is refused in turn: a call that takes memory answers OUT_OF_MEMORY with
+ * its room untouched, or the right answer; the others answer as ever. Linked with
+ * --wrap=malloc,realloc. */
 #include "kohiblad.h"
 
 #include <assert.h>
@@ -23,7 +24,8 @@ void *__wrap_realloc(void *block, size_t size) {
     return refuses() ? NULL : __real_realloc(block, size);
 }
 
-static const char text[] = "{\"a\":1,\"b\":[true,\"\\u00e9\"],\"c\":{\"d\":\"e\",\"f\":-12.5,\"g\":[[],{}]}}";
+static const char text[] = "{\"a\":1,\"b\":[true,\"\\u00e9\"],"
+                           "\"c\":{\"d\":\"e\",\"f\":-12.5,\"g\":[[],{}]}}";
 enum { ROOM = 1024, CALLS = 15 };
 static uint8_t document[ROOM], pairs[ROOM];
 static size_t size, stops[4], pairs_size, order[4];

@@ -52,10 +52,11 @@ int main() {
         return 1;
     }
     std::iota(stable.begin(), stable.end(), size_t(0));
-    std::stable_sort(stable.begin(), stable.end(), [&](size_t l, size_t r) { return less(rows[l], rows[r]); });
+    auto less_at = [&](size_t l, size_t r) { return less(rows[l], rows[r]); };
+    std::stable_sort(stable.begin(), stable.end(), less_at);
     std::sort(rows.begin(), rows.end(), less);
     bool ascend = std::is_sorted(rows.begin(), rows.end(), less);
-    std::printf("std::sort %s, kohiblad_sort is std::stable_sort: %s\n", ascend ? "ascends" : "FAILED",
-                order == stable ? "yes" : "NO");
+    std::printf("std::sort %s, kohiblad_sort is std::stable_sort: %s\n",
+                ascend ? "ascends" : "FAILED", order == stable ? "yes" : "NO");
     return ascend && order == stable ? 0 : 1;
 }
