@@ -9,7 +9,7 @@ cc) for tools/refuse_request.c.
 
 A run of a test passes where the test does, and, once a request was refused, where the test hands on want of memory as
 its error: a failed assertion is a wrong answer. The run behind the last refusal must pass. The tests of a module
-`unrefused` must make no request at all. A run of a program passes where each line of output is the
+`no_requests` must make no request at all. A run of a program passes where each line of output is the
 right answer or ends in `error OutOfMemory`; once a request was refused, also where it ends by saying
 so and has written the first of such lines.
 
@@ -96,7 +96,7 @@ LINES = {
 # What each program says where its run ends for want of memory.
 OUT_OF_MEMORY = {"jsonb_cli": b"jsonb_cli: out of memory\n", "jsonb_probe": b"Error: Kind(OutOfMemory)\n"}
 # The module of tests that make no request, and two tests that differ by the encoding of a small tree alone.
-UNREFUSED = "jsonb_rows unrefused"
+NO_REQUESTS = "jsonb_rows no_requests"
 COUNTED = [f"jsonb_rows memory::counted_{it}_an_encoding" for it in ("with", "without")]
 
 Series = collections.namedtuple("Series", "name words given is_right")
@@ -157,7 +157,7 @@ def run_series(series, work):
         return run
 
     requests = judged(0, False).requests
-    if series.name.startswith(f"{UNREFUSED}::") and requests:
+    if series.name.startswith(f"{NO_REQUESTS}::") and requests:
         raise Wrong(f"makes {requests} requests")
     numbers = chosen(requests)
     for number in numbers:
@@ -205,7 +205,7 @@ def main(names):
     left_out, crates = passed_over(), names or crates_to_run()
     tests = [it for crate in crates if has_tests(crate) or crate not in LINES for it in series_of_tests(crate)]
     found = {it.name for it in tests} | {it.name.partition("::")[0] for it in tests}
-    lacking = {it for it in {*left_out, *COUNTED, UNREFUSED} - found if not names or it.split()[0] in names}
+    lacking = {it for it in {*left_out, *COUNTED, NO_REQUESTS} - found if not names or it.split()[0] in names}
     if lacking:
         raise SystemExit(f"named for refusals, and not there: {', '.join(sorted(lacking))}")
     all_series = [it for it in tests if it.name not in left_out]

@@ -36,8 +36,8 @@ fn a_number_by_value(rt: HostRuntime) -> Result<(), Fail> {
 
 #[test]
 fn a_number_as_given(rt: HostRuntime) -> Result<(), Fail> {
-    let given = NumberItem::from_bytes(&[0x40, 0])?;
-    let zero = array_of(rt.alloc(), JsonbItem::Number(given))?;
+    let number = NumberItem::from_bytes(&[0x40, 0])?;
+    let zero = array_of(rt.alloc(), JsonbItem::Number(number))?;
     assert!(rt; zero.as_bytes() == b"\x80\0\0\x01\x20\0\0\x02\x40\0".as_slice());
     Ok(())
 }

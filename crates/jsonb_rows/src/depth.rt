@@ -1,5 +1,5 @@
 // How deep a document of some length can be, and how deep it is followed.
-use crate::known::{decoded, nested, read_as_tree};
+use crate::documents::{decoded, nested, read_as_tree};
 use jsonb::{Error, RawJsonb};
 use jsonb_codec::{is_document, is_document_within};
 use std::alloc::Global;

@@ -26,8 +26,8 @@ fn binary_length(bytes: &[u8], count: usize) -> Option<Result<usize, Error>> {
 fn limit_of_binary_data(rt: HostRuntime) -> Result<(), Fail> {
     let letters = vec![in rt.alloc(); b'a'; 268_435_455]?;
     // Behind the tag of a binary value one byte less has room than a payload holds.
-    let refused = Some(Err(Error::InvalidJsonb));
-    assert!(rt; binary_length(&letters, 268_435_455) == refused);
+    let refusal = Some(Err(Error::InvalidJsonb));
+    assert!(rt; binary_length(&letters, 268_435_455) == refusal);
     assert!(rt; binary_length(&letters, 268_435_454) == Some(Ok(268_435_463)));
     Ok(())
 }
@@ -54,13 +54,13 @@ fn nested<'a>(alloc: Global, text: &'a str, count: usize) -> Result<Value<'a>, E
 fn limit_of_an_inner_array(rt: HostRuntime) -> Result<(), Fail> {
     let letters = vec![in rt.alloc(); b'a'; MEBIBYTES_16]?;
     let text = str::from_utf8(&letters)?;
-    let taken = nested(rt.alloc(), text, 15)?;
-    assert_eq!(rt; Encoder::measure(&taken), Ok(251_658_312));
-    let refused = nested(rt.alloc(), text, 16)?;
-    assert_eq!(rt; Encoder::measure(&refused), Err(Error::InvalidJsonb));
+    let within = nested(rt.alloc(), text, 15)?;
+    assert_eq!(rt; Encoder::measure(&within), Ok(251_658_312));
+    let past = nested(rt.alloc(), text, 16)?;
+    assert_eq!(rt; Encoder::measure(&past), Err(Error::InvalidJsonb));
     let mut buf = vec![in rt.alloc(); 0xaa]?;
     assert_eq!(rt;
-        Encoder::new(&mut buf).encode(&refused),
+        Encoder::new(&mut buf).encode(&past),
         Err(Error::InvalidJsonb)
     );
     assert!(rt; buf.as_slice() == b"\xaa".as_slice());

@@ -31,16 +31,16 @@ fn assert_stored(
 fn a_number_by_value(rt: HostRuntime) -> Result<(), Fail> {
     let minus = NumberItem::from_number(Number::Int64(-100));
     assert!(rt; minus.as_number() == Number::Int64(-100));
-    let stored = b"\x20\0\0\0\x20\0\0\x02\x40\x9c";
-    assert_stored(&rt, rt.alloc(), JsonbItem::Number(minus), stored)
+    let document = b"\x20\0\0\0\x20\0\0\x02\x40\x9c";
+    assert_stored(&rt, rt.alloc(), JsonbItem::Number(minus), document)
 }
 
 #[test]
 fn an_extension_value_by_value(rt: HostRuntime) -> Result<(), Fail> {
     let binary = ExtensionItem::from_value(ExtensionValue::Binary(&[1, 2, 3]));
     assert!(rt; binary.as_extension_value() == ExtensionValue::Binary(&[1, 2, 3]));
-    let stored = b"\x20\0\0\0\x60\0\0\x04\0\x01\x02\x03";
-    assert_stored(&rt, rt.alloc(), JsonbItem::Extension(binary), stored)
+    let document = b"\x20\0\0\0\x60\0\0\x04\0\x01\x02\x03";
+    assert_stored(&rt, rt.alloc(), JsonbItem::Extension(binary), document)
 }
 
 #[test]

@@ -10,11 +10,13 @@
 #[cfg(test)]
 mod builders;
 #[cfg(test)]
-mod changed;
+mod changes;
 #[cfg(test)]
 mod constants;
 #[cfg(test)]
 mod depth;
+#[cfg(test)]
+mod documents;
 #[cfg(test)]
 mod encoding;
 #[cfg(test)]
@@ -22,11 +24,11 @@ mod errors;
 #[cfg(test)]
 mod items;
 #[cfg(test)]
-mod known;
-#[cfg(test)]
 mod lookup;
 #[cfg(test)]
 mod memory;
+#[cfg(test)]
+mod no_requests;
 #[cfg(test)]
 mod order;
 #[cfg(test)]
@@ -37,7 +39,5 @@ mod queue;
 mod readers;
 #[cfg(test)]
 mod texts;
-#[cfg(test)]
-mod unrefused;
 #[cfg(test)]
 mod value_texts;

@@ -1,7 +1,7 @@
 // What each call that takes memory leaves behind where a request is refused. A test ends in the
 // right answer, or hands on the error once it has seen what the refusal left: tools/refuse_each.py
 // runs it with each of its requests refused in turn.
-use crate::known::{decoded, encoded, read_as_tree};
+use crate::documents::{decoded, encoded, read_as_tree};
 use jsonb::{
     ArrayBuilder, ArrayDistinctBuilder, Date, Decimal64, Decoder, Encoder, Error, ExtensionValue,
     JsonAst, JsonAstEncoder, JsonbItem, Number, NumberItem, ObjectBuilder, OwnedJsonb, RawJsonb,
@@ -39,8 +39,8 @@ const OLD_ZERO: &[u8] = b"\x20\0\0\0\x20\0\0\x02\x40\0";
 const ZERO: &[u8] = b"\x20\0\0\0\x20\0\0\x01\0";
 
 // Ends a test by the error of a call that was made again since.
-fn hand_on(refused: Option<Error>) -> Result<(), Error> {
-    match refused {
+fn hand_on(refusal: Option<Error>) -> Result<(), Error> {
+    match refusal {
         Some(error) => Err(error),
         None => Ok(()),
     }
@@ -74,11 +74,11 @@ fn a_view_is_read(rt: HostRuntime) -> Result<(), Fail> {
 #[test]
 fn a_decoder_is_as_before(rt: HostRuntime) -> Result<(), Fail> {
     let mut decoder = Decoder::new(DOCUMENT);
-    let refused = decoder.decode(rt.alloc()).err();
-    if refused.is_some() {
+    let refusal = decoder.decode(rt.alloc()).err();
+    if refusal.is_some() {
         assert!(rt; decoded_again(rt.alloc(), decoder)?.as_slice() == DOCUMENT);
     }
-    Ok(hand_on(refused)?)
+    Ok(hand_on(refusal)?)
 }
 
 #[test]
@@ -208,7 +208,7 @@ fn an_object_is_asked(rt: HostRuntime) -> Result<(), Fail> {
 
 // What is appended to a buffer.
 #[derive(Drop)]
-enum Given {
+enum Piece {
     Number(Number),
     Extension(ExtensionValue<'static>),
     Value(Value<'static>),
@@ -216,17 +216,17 @@ enum Given {
     OldDocument(&'static [u8]),
 }
 
-impl Given {
+impl Piece {
     fn append_to(&self, buffer: &mut Vec<u8>) -> Result<(), Error> {
         match self {
-            Given::Number(number) => number.compact_encode(buffer).map(|_| ()),
-            Given::Extension(value) => value.compact_encode(buffer).map(|_| ()),
-            Given::Value(value) => Encoder::new(buffer).encode(value),
-            Given::Lists(value) if value.has_ascending_keys() => {
+            Piece::Number(number) => number.compact_encode(buffer).map(|_| ()),
+            Piece::Extension(value) => value.compact_encode(buffer).map(|_| ()),
+            Piece::Value(value) => Encoder::new(buffer).encode(value),
+            Piece::Lists(value) if value.has_ascending_keys() => {
                 JsonAstEncoder::new(buffer).encode(value)
             }
-            Given::Lists(_) => Err(Error::InvalidJsonb),
-            Given::OldDocument(bytes) => append_canonical(buffer, bytes),
+            Piece::Lists(_) => Err(Error::InvalidJsonb),
+            Piece::OldDocument(bytes) => append_canonical(buffer, bytes),
         }
     }
 }
@@ -235,17 +235,17 @@ impl Given {
 fn assert_appended(
     rt: &impl Abort,
     alloc: Global,
-    given: Given,
+    piece: Piece,
     bytes: &[u8],
 ) -> Result<(), Error> {
     let mut buffer = vec![in alloc; 0xaa]?;
-    let refused = given.append_to(&mut buffer).err();
-    if refused.is_some() {
+    let refusal = piece.append_to(&mut buffer).err();
+    if refusal.is_some() {
         assert!(rt; buffer.as_slice() == b"\xaa".as_slice());
-        given.append_to(&mut buffer)?;
+        piece.append_to(&mut buffer)?;
     }
     assert!(rt; matches!(buffer.split_first(), Some((0xaa, behind)) if behind == bytes));
-    hand_on(refused)
+    hand_on(refusal)
 }
 
 #[test]
@@ -255,7 +255,7 @@ fn a_payload_leaves_its_buffer(rt: HostRuntime) -> Result<(), Fail> {
         value: 1234,
     });
     let payload = b"\x70\0\0\0\0\0\0\x04\xd2\x02";
-    Ok(assert_appended(&rt, rt.alloc(), Given::Number(number), payload)?)
+    Ok(assert_appended(&rt, rt.alloc(), Piece::Number(number), payload)?)
 }
 
 #[test]
@@ -264,7 +264,7 @@ fn an_extension_payload_leaves_its_buffer(rt: HostRuntime) -> Result<(), Fail> {
     Ok(assert_appended(
         &rt,
         rt.alloc(),
-        Given::Extension(date),
+        Piece::Extension(date),
         b"\x10\xff\xff\xff\xff",
     )?)
 }
@@ -272,7 +272,7 @@ fn an_extension_payload_leaves_its_buffer(rt: HostRuntime) -> Result<(), Fail> {
 #[test]
 fn an_encoder_leaves_its_buffer(rt: HostRuntime) -> Result<(), Fail> {
     let value = parse_value(rt.alloc(), TEXT)?;
-    Ok(assert_appended(&rt, rt.alloc(), Given::Value(value), DOCUMENT)?)
+    Ok(assert_appended(&rt, rt.alloc(), Piece::Value(value), DOCUMENT)?)
 }
 
 // The same array as a parser leaves it.
@@ -287,12 +287,12 @@ fn ast(alloc: Global) -> Result<JsonAst<'static>, Error> {
 #[test]
 fn an_encoder_of_lists_leaves_its_buffer(rt: HostRuntime) -> Result<(), Fail> {
     let value = ast(rt.alloc())?;
-    Ok(assert_appended(&rt, rt.alloc(), Given::Lists(value), DOCUMENT)?)
+    Ok(assert_appended(&rt, rt.alloc(), Piece::Lists(value), DOCUMENT)?)
 }
 
 #[test]
 fn a_canonical_form_leaves_its_buffer(rt: HostRuntime) -> Result<(), Fail> {
-    Ok(assert_appended(&rt, rt.alloc(), Given::OldDocument(OLD_ZERO), ZERO)?)
+    Ok(assert_appended(&rt, rt.alloc(), Piece::OldDocument(OLD_ZERO), ZERO)?)
 }
 
 // How the string "x" is given to a builder.
@@ -315,12 +315,12 @@ fn push_to_array(alloc: Global, builder: &mut ArrayBuilder, x: As) -> Result<(),
 fn assert_array(rt: &impl Abort, alloc: Global, x: As) -> Result<(), Error> {
     let mut builder = ArrayBuilder::with_capacity(alloc, 1)?;
     builder.push_raw_jsonb(RawJsonb::new(FIVE))?;
-    let refused = push_to_array(alloc, &mut builder, x).err();
-    if refused.is_some() {
+    let refusal = push_to_array(alloc, &mut builder, x).err();
+    if refusal.is_some() {
         push_to_array(alloc, &mut builder, x)?;
     }
     assert!(rt; builder.build()?.as_bytes() == FIVE_AND_X);
-    hand_on(refused)
+    hand_on(refusal)
 }
 
 #[test]
@@ -363,17 +363,17 @@ fn push_to_object<'a>(
 // Ends a test in which a refused push leaves a builder another.
 fn assert_object(rt: &impl Abort, alloc: Global, x: As) -> Result<(), Error> {
     let mut builder = ObjectBuilder::new(alloc);
-    let mut refused = None;
+    let mut refusal = None;
     for &key in KEYS {
         if let Err(error) = push_to_object(alloc, &mut builder, key, x) {
             assert!(rt; !builder.contains_key(key));
             push_to_object(alloc, &mut builder, key, x)?;
-            refused = Some(error);
+            refusal = Some(error);
         }
         assert!(rt; builder.contains_key(key));
     }
     assert!(rt; builder.build()?.as_raw().to_string(alloc)?.as_str() == PAIRS);
-    hand_on(refused)
+    hand_on(refusal)
 }
 
 #[test]
@@ -402,8 +402,8 @@ fn push_to_set(alloc: Global, builder: &mut ArrayDistinctBuilder, x: As) -> Resu
 fn assert_set(rt: &impl Abort, alloc: Global, x: As) -> Result<(), Error> {
     let mut builder = ArrayDistinctBuilder::new(alloc, 1)?;
     builder.push_raw_jsonb(RawJsonb::new(FIVE))?;
-    let refused = push_to_set(alloc, &mut builder, x).err();
-    if refused.is_some() {
+    let refusal = push_to_set(alloc, &mut builder, x).err();
+    if refusal.is_some() {
         assert!(rt; builder.pop_raw_jsonb(RawJsonb::new(X)) == None);
         push_to_set(alloc, &mut builder, x)?;
     }
@@ -411,7 +411,7 @@ fn assert_set(rt: &impl Abort, alloc: Global, x: As) -> Result<(), Error> {
     assert!(rt; builder.pop_raw_jsonb(RawJsonb::new(X)) == None);
     assert!(rt; builder.pop_raw_jsonb(RawJsonb::new(FIVE)) == Some(()));
     assert!(rt; builder.build()?.as_bytes() == FIVE_AND_X);
-    hand_on(refused)
+    hand_on(refusal)
 }
 
 #[test]

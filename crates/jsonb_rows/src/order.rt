@@ -1,5 +1,5 @@
 // Worked answers of the order, on documents and on other bytes.
-use crate::known::bytes_of;
+use crate::documents::bytes_of;
 use jsonb::{
     Decimal64, ExtensionItem, ExtensionValue, JsonbItem, Number, NumberItem, OwnedJsonb, RawJsonb,
 };
@@ -11,7 +11,7 @@ use std::test::Fail;
 const NO_DOCUMENT: usize = 50;
 
 // Bytes, each with its place among them: those of one place are equal.
-const PLACED: &[(usize, &str)] = &[
+const ROWS: &[(usize, &str)] = &[
     // Extension values: Binary, Date, Timestamp, TimestampTz twice, Interval.
     (0, "20000000 60000001 00"),
     (1, "20000000 60000002 00 00"),
@@ -93,15 +93,15 @@ const PLACED: &[(usize, &str)] = &[
 ];
 
 // The bytes of the table, with their places.
-fn placed(alloc: Global) -> Result<Vec<(usize, OwnedJsonb)>, Fail> {
+fn rows(alloc: Global) -> Result<Vec<(usize, OwnedJsonb)>, Fail> {
     let mut values = Vec::new(alloc);
-    for &(place, text) in PLACED {
+    for &(place, text) in ROWS {
         values.push((place, OwnedJsonb::new(bytes_of(alloc, text)?)))?;
     }
     Ok(values)
 }
 
-// Whether documents that are held are in the order of their places.
+// Whether documents are in the order of their places.
 fn are_in_order(left: &(usize, OwnedJsonb), right: &(usize, OwnedJsonb)) -> bool {
     let order = left.0.cmp(&right.0);
     left.1.cmp(&right.1) == order
@@ -111,7 +111,7 @@ fn are_in_order(left: &(usize, OwnedJsonb), right: &(usize, OwnedJsonb)) -> bool
 
 #[test]
 fn by_places(rt: HostRuntime) -> Result<(), Fail> {
-    let values = placed(rt.alloc())?;
+    let values = rows(rt.alloc())?;
     for left in &values {
         for right in &values {
             assert!(rt; are_in_order(left, right), "{} and {}", left.0, right.0);
@@ -123,17 +123,17 @@ fn by_places(rt: HostRuntime) -> Result<(), Fail> {
 // The same of views of them, and of documents alone by the order that tells these.
 fn are_views_in_order(left: &(usize, OwnedJsonb), right: &(usize, OwnedJsonb)) -> bool {
     let order = left.0.cmp(&right.0);
-    let told = left.0 < NO_DOCUMENT && right.0 < NO_DOCUMENT;
+    let are_documents = left.0 < NO_DOCUMENT && right.0 < NO_DOCUMENT;
     let (left, right) = (left.1.as_raw(), right.1.as_raw());
     left.cmp(&right) == order
         && left.partial_cmp(&right) == Some(order)
         && (left == right) == order.is_eq()
-        && left.try_cmp(&right) == told.then_some(order)
+        && left.try_cmp(&right) == are_documents.then_some(order)
 }
 
 #[test]
 fn views_by_places(rt: HostRuntime) -> Result<(), Fail> {
-    let values = placed(rt.alloc())?;
+    let values = rows(rt.alloc())?;
     for left in &values {
         for right in &values {
             assert!(rt;
@@ -150,16 +150,16 @@ fn views_by_places(rt: HostRuntime) -> Result<(), Fail> {
 // The same of an item that holds all bytes and one that was read.
 fn are_items_in_order(left: &(usize, OwnedJsonb), right: &(usize, OwnedJsonb)) -> bool {
     let order = left.0.cmp(&right.0);
-    let held = JsonbItem::Raw(left.1.as_raw());
+    let whole = JsonbItem::Raw(left.1.as_raw());
     match JsonbItem::from_raw_jsonb(right.1.as_raw()) {
-        Ok(read) => held.cmp(&read) == order && (held == read) == order.is_eq(),
+        Ok(item) => whole.cmp(&item) == order && (whole == item) == order.is_eq(),
         Err(_) => right.0 >= NO_DOCUMENT,
     }
 }
 
 #[test]
 fn items_by_places(rt: HostRuntime) -> Result<(), Fail> {
-    let values = placed(rt.alloc())?;
+    let values = rows(rt.alloc())?;
     for left in &values {
         for right in &values {
             assert!(rt;
@@ -177,7 +177,7 @@ fn items_by_places(rt: HostRuntime) -> Result<(), Fail> {
 // not above.
 #[test]
 fn triples(rt: HostRuntime) -> Result<(), Fail> {
-    let values = placed(rt.alloc())?;
+    let values = rows(rt.alloc())?;
     assert_eq!(rt; values.len(), 59);
     for (_, a) in &values {
         for (_, b) in &values {

@@ -1,5 +1,5 @@
 // Texts with line feeds, and what a value that is read keeps of its text.
-use crate::known::bytes_of;
+use crate::documents::bytes_of;
 use jsonb::{Error, Number, OwnedJsonb, Value, parse_value};
 use std::borrow::CowStr;
 use std::test::Fail;
@@ -30,7 +30,7 @@ fn no_string_has_a_line_feed(rt: HostRuntime) {
 }
 
 // Texts, and how the values that they mean are shown.
-const SHOWN: &[(&str, &str)] = &[
+const DEBUG_TEXTS: &[(&str, &str)] = &[
     (" [null,[ true ]] ", "Array([Null, Array([Bool(true)])])"),
     ("{\"a\":1,\"a\":2}", "Object({\"a\": Number(UInt64(2))})"),
     (
@@ -41,10 +41,10 @@ const SHOWN: &[(&str, &str)] = &[
 
 #[test]
 fn values_are_shown_by_their_variants(rt: HostRuntime) -> Result<(), Fail> {
-    for &(text, shown) in SHOWN {
+    for &(text, debug_text) in DEBUG_TEXTS {
         let value = parse_value(rt.alloc(), text)?;
         assert!(rt;
-            format!(in rt.alloc(); "{value:?}")?.as_str() == shown,
+            format!(in rt.alloc(); "{value:?}")?.as_str() == debug_text,
             "{text}"
         );
     }

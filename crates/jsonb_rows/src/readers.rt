@@ -13,11 +13,11 @@ fn asked_twice(alloc: Global, bytes: &[u8]) -> (Option<Error>, Option<Error>) {
 
 #[test]
 fn a_decoder_is_asked_again(rt: HostRuntime) {
-    let taken = asked_twice(rt.alloc(), b"\x80\0\0\x01\x40\0\0\0");
-    assert!(rt; taken == (None, Some(Error::InvalidJsonb)));
+    let answers = asked_twice(rt.alloc(), b"\x80\0\0\x01\x40\0\0\0");
+    assert!(rt; answers == (None, Some(Error::InvalidJsonb)));
     let header = Some(Error::InvalidJsonbHeader);
-    let refused = asked_twice(rt.alloc(), b"\x80\0\0\x01\x50\0\0\x04\x20\0\0\0");
-    assert!(rt; refused == (header, header));
+    let answers = asked_twice(rt.alloc(), b"\x80\0\0\x01\x50\0\0\x04\x20\0\0\0");
+    assert!(rt; answers == (header, header));
 }
 
 // The object {"a":1,"b":"123"}.

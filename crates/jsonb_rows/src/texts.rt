@@ -1,5 +1,5 @@
 // Texts of documents under width and fill, and before a writer that refuses.
-use crate::known::{DOCUMENTS, Narrow, bytes_of};
+use crate::documents::{DOCUMENTS, Narrow, bytes_of};
 use jsonb::{OwnedJsonb, RawJsonb};
 use std::alloc::Global;
 use std::fmt;
@@ -28,13 +28,15 @@ fn other_bytes_pass_over_width_and_fill(rt: HostRuntime) -> Result<(), Fail> {
 
 // Whether a writer with so much room took the whole text, or else some beginning of it.
 fn is_taken(alloc: Global, owned: &OwnedJsonb, room: usize, text: &str) -> bool {
-    let taken = String::new(alloc);
-    let mut f = fmt::Formatter::new(Narrow { taken, room });
+    let mut f = fmt::Formatter::new(Narrow {
+        text: String::new(alloc),
+        room,
+    });
     let answer = fmt::Display::fmt(owned, &mut f);
-    let taken = f.into_inner().taken;
+    let beginning = f.into_inner().text;
     answer.is_ok() == (room >= text.len())
-        && answer.is_ok() == (taken.as_str() == text)
-        && text.starts_with(taken.as_str())
+        && answer.is_ok() == (beginning.as_str() == text)
+        && text.starts_with(beginning.as_str())
 }
 
 #[test]

@@ -1,6 +1,6 @@
 // Texts of numbers, strings and extension values before a writer that refuses, and under width and
 // fill.
-use crate::known::Narrow;
+use crate::documents::Narrow;
 use jsonb::{
     Decimal64, ExtensionValue, Interval, Number, Opaque, extension_text, write_number, write_string,
 };
@@ -9,16 +9,16 @@ use std::fmt;
 use std::test::Fail;
 
 fn with_room(alloc: Global, room: usize) -> fmt::Formatter<Narrow> {
-    let taken = String::new(alloc);
-    fmt::Formatter::new(Narrow { taken, room })
+    let text = String::new(alloc);
+    fmt::Formatter::new(Narrow { text, room })
 }
 
 // Whether a writer that had so much room took the whole text, or else some beginning of it.
 fn is_taken(f: fmt::Formatter<Narrow>, answer: fmt::Result, room: usize, text: &str) -> bool {
-    let taken = f.into_inner().taken;
+    let beginning = f.into_inner().text;
     answer.is_ok() == (room >= text.len())
-        && answer.is_ok() == (taken.as_str() == text)
-        && text.starts_with(taken.as_str())
+        && answer.is_ok() == (beginning.as_str() == text)
+        && text.starts_with(beginning.as_str())
 }
 
 const NUMBER: Number = Number::Decimal64(Decimal64 {

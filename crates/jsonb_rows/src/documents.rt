@@ -104,7 +104,7 @@ pub fn nested(alloc: Global, levels: u32) -> Result<Vec<u8>, Fail> {
 /// A writer that takes so many bytes, and refuses a piece that is too long for what is left.
 #[derive(Drop)]
 pub struct Narrow {
-    pub taken: String,
+    pub text: String,
     pub room: usize,
 }
 
@@ -114,6 +114,6 @@ impl fmt::Write for Narrow {
             return Err(fmt::Error);
         }
         self.room -= piece.len();
-        self.taken.push_str(piece).map_err(|_| fmt::Error)
+        self.text.push_str(piece).map_err(|_| fmt::Error)
     }
 }
