@@ -2,7 +2,9 @@
 use Rattle.std.proofs.Common.{◌≡◌, ◌⊎◌, ◌∷◌, ◌++◌, [], ℕ, Bool, List, length, map, append_assoc}
 use Rattle.std.proofs.Common.{sym, ◌∙◌, Option, Some, None, Result, Ok, Err, refl, inl, inr, ap}
 use Rattle.std.proofs.Common.{subst, chars, option_map}
-use Rattle.std.specs.Prelude.{IfErr, OnOk, nat_eq}
+use Rattle.std.specs.Prelude.{IfErr, IfOk, OnOk, nat_eq}
+use Rattle.std.specs.String.{string_bytes}
+use Rattle.std.specs.declared.string.String.{String}
 use Rattle.std.specs.Cmp.Lexicographic.{pointwise}
 use Rattle.std.proofs.lemmas.List.{append-nil, map-append}
 use Rattle.hex.specs.Hex.{encode_lower}
@@ -28,15 +30,17 @@ use Rattle.jsonb.specs.declared.item.JsonbItem.{JsonbItem}
 use Rattle.jsonb.specs.ItemView.{ItemView, item_view, owned}
 use Rattle.jsonb.specs.Standing.{IsFoundIn}
 use Rattle.jsonb.specs.Walked.{IsItemOf}
+use Rattle.answer_lines.specs.Session as session
 use Rattle.jsonb_cli.specs.declared.answer.Answer.{Answer}
 use Rattle.jsonb_cli.specs.declared.answer.Refusal.{Refusal}
 use Rattle.jsonb_cli.specs.declared.answer.Refusal.TheVariants.{BadHex, Call}
-use Rattle.jsonb_cli.specs.Lines as lines
-use Rattle.jsonb_cli.specs.Lines.{Each}
-use Rattle.jsonb_cli.proofs.Replies.{Each-append}
+use Rattle.jsonb_cli.specs.Each as each
+use Rattle.jsonb_cli.specs.Each.{Each}
 use Rattle.jsonb_cli.specs.AnswerLine.{ok_line, error_line, refusal_name, outcome_line}
 use Rattle.jsonb_cli.specs.Answers as answers
-use Rattle.jsonb_cli.specs.Answers.{IsReply, IsEncAnswer, no_tree, too_large, IsDecAnswer}
+use Rattle.jsonb_cli.specs.declared.run.Commands.{Commands}
+use Rattle.jsonb_cli.specs.Answers.{IsReply, IsLineReply, answered}
+use Rattle.jsonb_cli.specs.Answers.{IsEncAnswer, no_tree, too_large, IsDecAnswer}
 use Rattle.jsonb_cli.specs.Answers.{IsPrettyAnswer, IsArrAnswer, no_array, built, IsCanonAnswer}
 use Rattle.jsonb_cli.specs.Answers.{IsGetAnswer, no_name, IsName, value_of_key, bad_hex}
 use Rattle.jsonb_cli.specs.Answers.{no_document, IsHexOf}
@@ -140,6 +144,11 @@ pub cow_str_bytes-cow_bytes : (s : CowStr Global) → cow_str_bytes s ≡ cow_by
 cow_str_bytes-cow_bytes (Borrowed s) = refl
 cow_str_bytes-cow_bytes (Owned s) = refl
 
+Each-append : {A B : Type 0} {R : A → B → Type 0} {xs xs' : List A} {ys ys' : List B}
+    → Each R xs ys → Each R xs' ys' → Each R (xs ++ xs') (ys ++ ys')
+Each-append each.none later = later
+Each-append (each.more r rs) later = each.more r (Each-append rs later)
+
 -- the words that were read, the bytes that they spell, and what the builder holds of them
 pub record IsRead (words rest : List (List ℕ)) (held : List ItemView) : Type 0 where
   pub inputs : List (List ℕ)
@@ -151,7 +160,7 @@ pub record IsRead (words rest : List (List ℕ)) (held : List ItemView) : Type 0
 pub nothing_read : (words rest : List (List ℕ)) (held : List ItemView) → rest ≡ words → held ≡ []
     → IsRead words rest held
 nothing_read words rest held same empty =
-    record { inputs = []; before = []; parts = sym same; hex = lines.none; holds = empty }
+    record { inputs = []; before = []; parts = sym same; hex = each.none; holds = empty }
 
 pub one_more_read : (words rest left : List (List ℕ)) (held new : List ItemView)
     (word bytes : List ℕ) → IsRead words rest held → rest ≡ word ∷ left → IsHexOf bytes word
@@ -161,7 +170,7 @@ one_more_read words rest left held new word bytes read is hex pushed = record {
   before = read.before ++ word ∷ [];
   parts = read.parts ∙ ap (λ (l : List (List ℕ)). read.before ++ l) is
       ∙ sym (append_assoc read.before (word ∷ []) left);
-  hex = Each-append read.hex (lines.more hex lines.none);
+  hex = Each-append read.hex (each.more hex each.none);
   holds = pushed ∙ ap (λ (l : List ItemView). l ++ owned bytes ∷ []) read.holds
       ∙ sym (map-append owned read.inputs (bytes ∷ []));
 }
@@ -199,3 +208,12 @@ arr_unbuilt words rest held e read end (inl is) unfit =
     inl (no_array read.inputs (all_read words rest held read end)
     (subst (λ (xs : List ItemView). FitArray xs → ⊥) read.holds (unfit is)) (ap said_of is))
 arr_unbuilt words rest held e read end (inr is) unfit = inr (ap said_of is)
+
+-- what a line is answered, with its line feed
+pub replied : {E : Type 0} (r : Result (String Global) E) (state : Commands) (line outcome : List ℕ)
+    → IsLineReply line outcome → IfOk r (λ text. string_bytes text ≡ outcome ++ 10 ∷ [])
+    → IfOk r (λ text. (reply : List ℕ)
+    × (session.IsReply answered state line reply state × (string_bytes text ≡ reply ++ 10 ∷ [])))
+replied (Ok text) state line outcome (inl answer) is = (outcome, (inl answer, is))
+replied (Ok text) state line outcome (inr refused) is = (outcome, (inr (refused, refl), is))
+replied (Err e) state line outcome reply is = tt

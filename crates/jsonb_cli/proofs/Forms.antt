@@ -12,7 +12,8 @@ use Rattle.std.specs.Borrow.{Bor}
 use Rattle.jsonb_cli.specs.Words.{IsWord, after_space, words_behind_spaces, words_from}
 use Rattle.jsonb_cli.specs.Commands.{Form, enc, dec, pretty, item_type, get, cmp, arr, canon}
 use Rattle.jsonb_cli.specs.Commands.{line_of, HasWords, IsOfForm}
-use Rattle.jsonb_cli.proofs.Split.{no_space, StartsAtSpace, one_cut, one_cut_at, one_spaced}
+use Rattle.answer_lines.proofs.Cuts.{one_cut, one_cut_at}
+use Rattle.jsonb_cli.proofs.Split.{no_space, StartsAtSpace, one_spaced}
 use Rattle.jsonb_cli.proofs.Split.{after_space-starts, spaced-starts, spaced-words_from}
 use Rattle.jsonb_cli.proofs.Split.{words_from-words}
 

@@ -23,7 +23,9 @@ use Rattle.jsonb.proofs.BuiltLaws.{array_of-IsArrayOf}
 use Rattle.jsonb.proofs.StandingLaws.{IsFoundIn-one}
 use Rattle.jsonb_cli.specs.AnswerLine.{ok_line}
 use Rattle.jsonb_cli.specs.Answers as answers
-use Rattle.jsonb_cli.specs.Answers.{IsLineReply, AreAnswers, IsRefused, IsHexOf, IsName}
+use Rattle.answer_lines.specs.Session.{AreAnswers}
+use Rattle.answer_lines.proofs.OneOutput as session
+use Rattle.jsonb_cli.specs.Answers.{answered, commands, IsHexOf, IsName}
 use Rattle.jsonb_cli.specs.Answers.{order_words, kind_line, value_of_key, IsEncAnswer, IsDecAnswer}
 use Rattle.jsonb_cli.specs.Answers.{IsPrettyAnswer, IsTypeAnswer, IsGetAnswer, IsCmpAnswer}
 use Rattle.jsonb_cli.specs.Answers.{IsArrAnswer, IsCanonAnswer, IsFormAnswer, IsAnswer}
@@ -31,10 +33,9 @@ use Rattle.jsonb_cli.specs.Answers.{not_text, no_tree, too_large, encoded, bad_h
 use Rattle.jsonb_cli.specs.Answers.{printed, told, no_name, found, bad_left, bad_right, no_array}
 use Rattle.jsonb_cli.specs.Answers.{built, written, of_form, of_none}
 use Rattle.jsonb_cli.specs.Commands.{Form, enc, dec, pretty, item_type, get, cmp, arr, canon}
-use Rattle.jsonb_cli.specs.Lines as lines
-use Rattle.jsonb_cli.specs.Lines.{Each, Replies}
+use Rattle.jsonb_cli.specs.Each as each
+use Rattle.jsonb_cli.specs.Each.{Each}
 use Rattle.jsonb_cli.proofs.Forms.{one_form}
-use Rattle.jsonb_cli.proofs.Replies.{one_lines}
 
 -- a word spells one byte string
 one_hex : (a b word : List ℕ) → IsHexOf a word → IsHexOf b word → a ≡ b
@@ -263,7 +264,7 @@ one_inputs [] (y ∷ ys) (word ∷ words) first second = elim first [ ]
 one_inputs (x ∷ xs) [] [] first second = elim first [ ]
 one_inputs (x ∷ xs) [] (word ∷ words) first second = elim second [ ]
 one_inputs (x ∷ xs) (y ∷ ys) [] first second = elim first [ ]
-one_inputs (x ∷ xs) (y ∷ ys) (word ∷ words) (lines.more first others) (lines.more second rest) =
+one_inputs (x ∷ xs) (y ∷ ys) (word ∷ words) (each.more first others) (each.more second rest) =
     ap₂ (λ (b : List ℕ) (bs : List (List ℕ)). b ∷ bs) (one_hex x y word first second)
     (one_inputs xs ys words others rest)
 
@@ -272,8 +273,8 @@ all_hex : (xs before after : List (List ℕ)) (word : List ℕ)
     → Each IsHexOf xs (before ++ word ∷ after) → (x : List ℕ) × IsHexOf x word
 all_hex [] [] after word each = elim each [ ]
 all_hex [] (one ∷ before) after word each = elim each [ ]
-all_hex (x ∷ xs) [] after word (lines.more first others) = (x, first)
-all_hex (x ∷ xs) (one ∷ before) after word (lines.more first others) =
+all_hex (x ∷ xs) [] after word (each.more first others) = (x, first)
+all_hex (x ∷ xs) (one ∷ before) after word (each.more first others) =
     all_hex xs before after word others
 
 no_bad_hex : (words xs before after : List (List ℕ)) (word : List ℕ)
@@ -333,34 +334,7 @@ one_answer line a b (of_none cannot is) (of_none also then) = is ∙ sym then
 
 -- ---- an input
 
-one_reply : (line a b : List ℕ) → IsLineReply line a → IsLineReply line b → (IsRefused a → ⊥)
-    → (IsRefused b → ⊥) → a ≡ b
-one_reply line a b (inl first) (inl second) given also = one_answer line a b first second
-one_reply line a b (inl first) (inr refused) given also = absurd (also refused)
-one_reply line a b (inr refused) second given also = absurd (given refused)
-
-abbrev IsGiven : List ℕ → Type 0
-IsGiven reply = IsRefused reply → ⊥
-
-one_replies : (asked xs ys : List (List ℕ)) → Each IsLineReply asked xs → Each IsLineReply asked ys
-    → All IsGiven xs → All IsGiven ys → xs ≡ ys
-one_replies [] [] [] first second given also = refl
-one_replies [] [] (y ∷ ys) first second given also = elim second [ ]
-one_replies [] (x ∷ xs) ys first second given also = elim first [ ]
-one_replies (line ∷ asked) [] ys first second given also = elim first [ ]
-one_replies (line ∷ asked) (x ∷ xs) [] first second given also = elim second [ ]
-one_replies (line ∷ asked) (x ∷ xs) (y ∷ ys) (lines.more first others)
-    (lines.more second rest) given also =
-    ap₂ (λ (b : List ℕ) (bs : List (List ℕ)). b ∷ bs)
-    (one_reply line x y first second (All-head IsGiven x xs given) (All-head IsGiven y ys also))
-    (one_replies asked xs ys others rest (All-tail IsGiven x xs given) (All-tail IsGiven y ys also))
-
-pub one_output : (input a b : List ℕ) → AreAnswers input a → AreAnswers input b → a ≡ b
-one_output input a b first second =
-    let asked =
-    one_lines input first.all.lines second.all.lines first.all.of_input second.all.of_input in
-    let same = one_replies second.all.lines first.all.replies second.all.replies
-    (subst (λ
-    (ls : List
-    (List ℕ)). Each IsLineReply ls first.all.replies) asked first.all.each) second.all.each first.given second.given in
-    first.all.joined ∙ ap lines.line_bytes same ∙ sym second.all.joined
+pub one_output : (input a b : List ℕ) → AreAnswers answered commands input a
+    → AreAnswers answered commands input b → a ≡ b
+one_output = session.one_output answered
+    (λ state x y line a b first second given also. (one_answer line a b first second, refl)) commands

@@ -7,6 +7,7 @@ use Rattle.std.proofs.lemmas.List.Elements.{All-nil, All-cons, All-head, All-tai
 use Rattle.std.specs.Prelude.{All, Option, None, Some}
 use Rattle.std.specs.List.{slice_split, onto_first}
 use Rattle.std.specs.Borrow.{Bor}
+use Rattle.answer_lines.proofs.Cuts.{StartsAt, not_before, one_cut, one_cut_at}
 use Rattle.jsonb_cli.specs.Words.{IsWord, after_space, words_behind_spaces, words_from}
 
 -- ---- one word, and the rest
@@ -94,49 +95,10 @@ pub words_from-words : (rest : Option (Bor (List ℕ))) → All IsWord (words_fr
 words_from-words None = All-nil IsWord
 words_from-words (Some rest) = words-slice_split rest.now
 
--- ---- bytes are cut at their first mark, as a space or a line feed, in one way
-
--- no mark
-abbrev pub IsBefore : ℕ → List ℕ → Type 0
-IsBefore mark bytes = All (λ b. b ≢ mark) bytes
-
--- nothing, or a mark and what follows it
-abbrev pub StartsAt : ℕ → List ℕ → Type 0
-StartsAt mark bytes = (bytes ≡ []) ⊎ ((rest : List ℕ) × (bytes ≡ mark ∷ rest))
+-- ---- words, told by what they are put together to
 
 abbrev pub StartsAtSpace : List ℕ → Type 0
 StartsAtSpace = StartsAt 32
-
-pub one_cut : (mark : ℕ) (a b xs ys : List ℕ) → IsBefore mark a → IsBefore mark b → StartsAt mark xs
-    → StartsAt mark ys → a ++ xs ≡ b ++ ys
-    → (a ≡ b) × (xs ≡ ys)
-one_cut mark [] [] xs ys one_a one_b from_xs from_ys same = (refl, same)
-one_cut mark [] (b ∷ bs) xs ys one_a one_b (inl none) from_ys same = absurd cc
-one_cut mark [] (b ∷ bs) xs ys one_a one_b (inr (rest, is)) from_ys same =
-    let marked : b ≡ mark = cc in absurd (All-head (λ c. c ≢ mark) b bs one_b marked)
-one_cut mark (a ∷ more) [] xs ys one_a one_b from_xs (inl none) same = absurd cc
-one_cut mark (a ∷ more) [] xs ys one_a one_b from_xs (inr (rest, is)) same =
-    let marked : a ≡ mark = cc in absurd (All-head (λ c. c ≢ mark) a more one_a marked)
-one_cut mark (a ∷ others) (b ∷ bs) xs ys one_a one_b from_xs from_ys same =
-    let head : a ≡ b = cc in
-    let tails : others ++ xs ≡ bs ++ ys = cc in
-    let rest = one_cut mark others bs xs ys (All-tail (λ c. c ≢ mark) a others one_a)
-    (All-tail (λ c. c ≢ mark) b bs one_b) from_xs from_ys tails in
-    let words : others ≡ bs = rest.0 in (cc, rest.1)
-
--- bytes with a mark are not before it
-pub not_before : (mark : ℕ) (bytes more : List ℕ) → IsBefore mark (bytes ++ mark ∷ more) → ⊥
-not_before mark [] more one = All-head (λ c. c ≢ mark) mark more one refl
-not_before mark (b ∷ bytes) more one =
-    not_before mark bytes more (All-tail (λ c. c ≢ mark) b (bytes ++ mark ∷ more) one)
-
--- a cut at a mark that is there
-pub one_cut_at : (mark : ℕ) (a b xs ys : List ℕ) → IsBefore mark a → IsBefore mark b
-    → a ++ mark ∷ xs ≡ b ++ mark ∷ ys → (a ≡ b) × (xs ≡ ys)
-one_cut_at mark a b xs ys one_a one_b same =
-    let cut = one_cut mark a b (mark ∷ xs) (mark ∷ ys) one_a one_b (inr (xs, refl))
-    (inr (ys, refl)) same in
-    let rests : mark ∷ xs ≡ mark ∷ ys = cut.1 in (cut.0, cc)
 
 pub after_space-starts : (rest : Option (Bor (List ℕ))) → StartsAtSpace (after_space rest)
 after_space-starts None = inl refl

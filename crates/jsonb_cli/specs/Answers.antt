@@ -29,10 +29,12 @@ use Rattle.jsonb.specs.Walked.{IsItemOf}
 use Rattle.jsonb.specs.declared.item_type.JsonbItemType.{JsonbItemType}
 use Rattle.jsonb.specs.declared.item_type.JsonbItemType.TheVariants.{Null, Boolean, Number, String}
 use Rattle.jsonb.specs.declared.item_type.JsonbItemType.TheVariants.{Extension, Array, Object}
+use Rattle.answer_lines.specs.Session.{IsRefused}
 use Rattle.jsonb_cli.specs.AnswerLine.{ok_line, error_line}
-use Rattle.jsonb_cli.specs.Lines.{Each, Replies, AppendsWhole}
+use Rattle.jsonb_cli.specs.Each.{Each}
 use Rattle.jsonb_cli.specs.Commands.{Form, enc, dec, pretty, item_type, get, cmp, arr, canon}
 use Rattle.jsonb_cli.specs.Commands.{IsOfForm}
+use Rattle.jsonb_cli.specs.declared.run.Commands.{Commands}
 
 -- the answer to a line of no form
 abbrev pub IsBadCommand : List ℕ → Type 0
@@ -174,10 +176,6 @@ pub data IsAnswer (line answer : List ℕ) : Type 0 where
   of_form : (form : Form) → IsOfForm form line → IsFormAnswer form answer → IsAnswer line answer
   of_none : ((form : Form) → IsOfForm form line → ⊥) → IsBadCommand answer → IsAnswer line answer
 
--- the line that tells of refused memory
-abbrev pub IsRefused : List ℕ → Type 0
-IsRefused reply = reply ≡ error_line (name_of OutOfMemory)
-
 -- an answer, or in its place that the command was refused memory
 abbrev pub IsReply : {A : Type 0} → (A → List ℕ → Type 0) → A → List ℕ → Type 0
 IsReply Answers asked reply = Answers asked reply ⊎ IsRefused reply
@@ -186,15 +184,10 @@ IsReply Answers asked reply = Answers asked reply ⊎ IsRefused reply
 abbrev pub IsLineReply : List ℕ → List ℕ → Type 0
 IsLineReply = IsReply IsAnswer
 
--- Of the input that is left, all whole lines that were read are answered, where the bytes are
--- known. A begun line follows these.
-abbrev pub IsPrompt : Option (List ℕ) → Option (List ℕ) → List ℕ → Option (List ℕ) → Option (List ℕ)
-    → Type 0
-IsPrompt None left begun old new = ⊤
-IsPrompt (Some input) None begun old new = ⊥
-IsPrompt (Some input) (Some left) begun old new = AppendsWhole IsLineReply input begun left old new
+-- what answers lines, which keeps nothing of them
+abbrev pub commands : Commands
+commands = record {}
 
--- A reply to each line of the input, none of them that memory was refused.
-pub record AreAnswers (input output : List ℕ) : Type 0 where
-  pub all : Replies IsLineReply input output
-  pub given : All (λ reply. IsRefused reply → ⊥) all.replies
+-- The answer to a line. What answers lines stays the same.
+abbrev pub answered : Commands → List ℕ → List ℕ → Commands → Type 0
+answered state line answer next = IsAnswer line answer

@@ -2,7 +2,6 @@ pub mod Words
 pub mod Commands
 pub mod Parsed
 pub mod AnswerLine
+pub mod Each
 pub mod Answers
-pub mod Lines
-pub mod Written
 pub mod Fault

@@ -8,7 +8,6 @@ mod run;
 #[cfg(test)]
 mod tests;
 mod words;
-mod write;
 
 use std::io;
 use std::process::ExitCode;
@@ -18,7 +17,7 @@ fn main(rt: HostRuntime) -> ExitCode {
         Ok(()) => ExitCode::SUCCESS,
         Err(error) => {
             // Where standard error takes no line either, the status alone tells of the fault.
-            let _ = eprintln!(rt; "{}", error.line());
+            let _ = eprintln!(rt; "{}", run::fault_line(error));
             ExitCode::FAILURE
         }
     }

@@ -1,6 +1,7 @@
 //! Lines and their answers, and runs that meet a fault. The readers and writers take no memory.
 
-use crate::run::{RunError, run};
+use crate::run::{fault_line, run};
+use answer_lines::RunError;
 use std::alloc::AllocError;
 use std::cell::Cell;
 use std::io::{ErrorKind, Read, Write};
@@ -360,7 +361,7 @@ fn with_memory(outcome: Result<(), RunError>) -> Result<Result<(), RunError>, Ru
 
 #[test]
 fn tells_faults(rt: HostRuntime) {
-    assert_eq!(rt; RunError::Read.line(), "jsonb_cli: read failed");
-    assert_eq!(rt; RunError::Write.line(), "jsonb_cli: write failed");
-    assert_eq!(rt; RunError::Memory.line(), "jsonb_cli: out of memory");
+    assert_eq!(rt; fault_line(RunError::Read), "jsonb_cli: read failed");
+    assert_eq!(rt; fault_line(RunError::Write), "jsonb_cli: write failed");
+    assert_eq!(rt; fault_line(RunError::Memory), "jsonb_cli: out of memory");
 }

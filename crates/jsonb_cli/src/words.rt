@@ -1,21 +1,11 @@
 //! Words between single spaces.
 
-ghost use Rattle.std.specs.Prelude.{◌≡◌, ◌≢◌, ◌∷◌, ◌++◌, List, ℕ, All, IfSome, IfNone};
+ghost use Rattle.std.specs.Prelude.{◌≡◌, ◌++◌, List, ℕ};
 ghost use Rattle.std.specs.Iterator.{YieldsFirstRef, item_count};
 ghost use Rattle.jsonb_cli.specs.Words.{IsWord, after_space, words_from};
 
+use answer_lines::split_once;
 use std::marker::Model;
-
-/// What stands before the first separator and what follows it, where there is a separator.
-pub fn split_once(bytes: &[u8], separator: u8) -> Option<(&[u8], &[u8])>
-    ensures before { IfSome result (λ parts. All (λ b. b ≢ separator) parts.0.now) }
-    ensures parts { IfSome result (λ parts.
-        bytes.now ≡ parts.0.now ++ separator ∷ parts.1.now) }
-    ensures none { IfNone result (All (λ b. b ≢ separator) bytes.now) }
-{
-    let place = bytes.iter().position(|byte| *byte == separator)?;
-    Some((&bytes[..place], &bytes[place + 1..]))
-}
 
 /// What stands before the first space, and what follows it, where there is a space.
 pub fn split_word(bytes: &[u8]) -> (&[u8], Option<&[u8]>)

@@ -1,0 +1,5 @@
+pub mod Cuts
+pub mod Written
+pub mod Replies
+pub mod Running
+pub mod OneOutput

@@ -1,0 +1,8 @@
+use Rattle.std.proofs.Common.{arith}
+use Rattle.std.proofs.lemmas.Grind.{common_steps}
+use Rattle.answer_lines.proofs.Written.{all_but_more}
+use Rattle.answer_lines.proofs.write.write_bytes.Goals as goal
+
+pub loop-rest-preserved : goal.loop-rest-preserved
+loop-rest-preserved g c =
+    all_but_more c.loop-rest.rest.now _ _ _ _ c.in-Ok.count _ c.loop-rest.invariant c.in-Ok.ensures.bytes (grind (arith, common_steps))

@@ -1,0 +1,35 @@
+//! What lines are read from.
+
+ghost use Rattle.std.specs.Prelude.{ℕ, List, Option, ⊤};
+ghost use Rattle.std.specs.Io.{ReadsAtMost};
+ghost use Rattle.std.specs.Io.KnownBytes.{ReadConsumes};
+
+use std::io::{self, Read, Write};
+
+/// A reader of lines. It is shown the writer of their answers at each request, and may demand what
+/// that holds by then.
+pub trait LineReader<W: Write> {
+    // The bytes that requests will give from here on, where they are known.
+    ghost remaining: { Self → Option (List ℕ) };
+
+    // Whether the reader may be asked while the writer holds these bytes.
+    ghost may_ask: { Self → Option (List ℕ) → Type 0 };
+
+    /// Reads once, as `Read::read` does.
+    fn ask(&mut self, writer: &W, buffer: &mut [u8]) -> io::Result<usize>
+        requires { may_ask self.old (W.contents writer.now) }
+        ensures bound { ReadsAtMost result buffer.new }
+        ensures bytes { ReadConsumes (remaining self.old) (remaining self.new)
+            result buffer.new };
+}
+
+/// Each reader reads lines, and demands nothing.
+impl<R: Read, W: Write> LineReader<W> for R {
+    ghost remaining = { R.remaining };
+
+    ghost may_ask = { λ _ _. ⊤ };
+
+    fn ask(&mut self, _writer: &W, buffer: &mut [u8]) -> io::Result<usize> {
+        self.read(buffer)
+    }
+}

@@ -1,0 +1,152 @@
+//! Lines in, answers out, over any reader and any writer.
+
+ghost use Rattle.std.specs.Prelude.{◌≡◌, ℕ, [], ◌∷◌, ◌++◌, List, Option, OnOk, OnErr, IfOk};
+ghost use Rattle.std.specs.Prelude.{IfSome, IsErrOf, IsOkUnless, string_bytes};
+ghost use Rattle.std.specs.Io.KnownBytes.{IsAtEnd};
+ghost use Rattle.answer_lines.specs.Lines.{IsLine};
+ghost use Rattle.answer_lines.specs.Session.{IsReply, AppendsReplies, AppendsBeginning};
+ghost use Rattle.answer_lines.specs.Session.{AppendsWhole, IsPrompt};
+ghost use Rattle.answer_lines.specs.declared.run.RunError.TheVariants.{Memory};
+
+use crate::answerer::LineAnswerer;
+use crate::reader::LineReader;
+use crate::split::split_once;
+use crate::write::{write_bytes, write_later};
+use std::alloc::{AllocError, Global};
+use std::io::Write;
+
+/// Why a run ended early.
+#[derive(Clone, Copy, Debug, PartialEq, Eq)]
+pub enum RunError {
+    /// The reader failed, or never met the end of its input.
+    Read,
+    /// The writer failed, or took no byte.
+    Write,
+    /// The room for a line or for a reply was refused.
+    Memory,
+}
+
+impl From<AllocError> for RunError {
+    ghost from_gives = { λ _ e. e ≡ Memory };
+
+    fn from(_error: AllocError) -> RunError {
+        RunError::Memory
+    }
+}
+
+// What answers a line that was begun and ends so, with its line feed.
+fn reply_to<A: LineAnswerer>(
+    alloc: Global,
+    answerer: &mut A,
+    begun: &mut Vec<u8>,
+    end: &[u8],
+) -> Result<String, RunError>
+    ensures ok { IfOk result (λ text. (reply : List ℕ)
+        × (IsReply A.rule answerer.old (begun.old.items ++ end.now) reply answerer.new
+        × (string_bytes text ≡ reply ++ 10 ∷ []))) }
+    ensures refused { IsOkUnless result RunError.Memory }
+{
+    begun.extend_from_slice(end)?;
+    Ok(answerer.answer(alloc, begun)?)
+}
+
+// Goes on with a line that was begun: answers each line that ends in the chunk, and keeps what
+// follows. All answers are written together.
+fn answer_chunk<A: LineAnswerer, W: Write>(
+    alloc: Global,
+    answerer: &mut A,
+    writer: &mut W,
+    begun: &mut Vec<u8>,
+    chunk: &[u8],
+) -> Result<(), RunError>
+    requires { IsLine begun.old.items }
+    ensures ok { OnOk result (AppendsWhole A.rule answerer.old answerer.new
+        (begun.old.items ++ chunk.now) begun.new.items []
+        (W.contents writer.old) (W.contents writer.new)) }
+    ensures err { OnErr result ((later : List ℕ) → AppendsBeginning A.rule answerer.old
+        (begun.old.items ++ (chunk.now ++ later))
+        (W.contents writer.old) (W.contents writer.new)) }
+    ensures refused { IsErrOf result RunError.Read → ⊥ }
+{
+    let mut waiting = Vec::new(alloc);
+    let mut rest = chunk;
+    while let Some((end, behind)) = split_once(rest, b'\n') {
+        let Ok(reply) = reply_to(alloc, answerer, begun, end) else {
+            write_bytes(writer, &waiting)?;
+            return Err(RunError::Memory);
+        };
+        write_later(writer, &mut waiting, reply.as_bytes())?;
+        begun.clear();
+        rest = behind;
+    }
+    write_bytes(writer, &waiting)?;
+    begun.extend_from_slice(rest)?;
+    Ok(())
+}
+
+// Answers the last line, if it has no line feed.
+fn answer_rest<A: LineAnswerer, W: Write>(
+    alloc: Global,
+    answerer: &mut A,
+    writer: &mut W,
+    begun: &mut Vec<u8>,
+) -> Result<(), RunError>
+    requires { IsLine begun.old.items }
+    ensures ok { OnOk result (AppendsReplies A.rule answerer.old answerer.new begun.old.items
+        (W.contents writer.old) (W.contents writer.new)) }
+    ensures err { OnErr result (AppendsBeginning A.rule answerer.old begun.old.items
+        (W.contents writer.old) (W.contents writer.new)) }
+    ensures refused { IsErrOf result RunError.Read → ⊥ }
+{
+    if begun.is_empty() {
+        return Ok(());
+    }
+    write_bytes(writer, reply_to(alloc, answerer, begun, &[])?.as_bytes())
+}
+
+/// Answers each line of the reader's bytes to the writer by one line. A line is what stands before
+/// a line feed, and what follows the last one where it is not empty. All whole lines that were read
+/// are answered before the reader is asked again, which the reader may demand. After `Ok` all input
+/// was read, and its answers were written, in order and nothing else.
+///
+/// Where an answer is refused memory, `error OutOfMemory` stands in its place and the run goes on.
+/// After an error what was written is a beginning of such answers. `Read`: the reader failed, or was
+/// asked 18,446,744,073,709,551,615 times and met no end of input. `Write`: the writer failed, or
+/// took no byte. `Memory`: the room for a line or for a reply was refused.
+pub fn answer_lines<A: LineAnswerer, R: LineReader<W>, W: Write>(
+    alloc: Global,
+    answerer: &mut A,
+    reader: &mut R,
+    writer: &mut W,
+) -> Result<(), RunError>
+    // At each request all whole lines that the reader gave are answered.
+    requires { (a : A) (r : R) (begun : List ℕ) (now : Option (List ℕ)) → IsPrompt A.rule
+        answerer.old a (R.remaining reader.old) (R.remaining r) begun (W.contents writer.old) now
+        → R.may_ask r now }
+    ensures done { OnOk result (IfSome (R.remaining reader.old) (λ input.
+        AppendsReplies A.rule answerer.old answerer.new input
+        (W.contents writer.old) (W.contents writer.new))) }
+    ensures all_read { OnOk result (IsAtEnd (R.remaining reader.new)) }
+    ensures begun { OnErr result (IfSome (R.remaining reader.old) (λ input.
+        AppendsBeginning A.rule answerer.old input
+        (W.contents writer.old) (W.contents writer.new))) }
+
+    // After the reader's fault exactly the whole lines that it gave are answered.
+    ensures prompt { IsErrOf result RunError.Read → IfSome (R.remaining reader.old) (λ input.
+        IfSome (R.remaining reader.new) (λ left. (begun : List ℕ) × AppendsWhole A.rule
+        answerer.old answerer.new input begun left
+        (W.contents writer.old) (W.contents writer.new))) }
+{
+    let mut begun = Vec::new(alloc);
+    let mut buffer = [0; 4096];
+    'reads: for _ in 0..u64::MAX {
+        let Ok(count) = reader.ask(writer, &mut buffer) else {
+            return Err(RunError::Read);
+        };
+        if count == 0 {
+            return answer_rest(alloc, answerer, writer, &mut begun);
+        }
+        answer_chunk(alloc, answerer, writer, &mut begun, &buffer[..count])?;
+    }
+    Err(RunError::Read)
+}

@@ -1,0 +1,14 @@
+//! Bytes, split at a separator.
+
+ghost use Rattle.std.specs.Prelude.{◌≡◌, ◌≢◌, ◌∷◌, ◌++◌, All, IfSome, IfNone};
+
+/// What stands before the first separator and what follows it, where there is a separator.
+pub fn split_once(bytes: &[u8], separator: u8) -> Option<(&[u8], &[u8])>
+    ensures before { IfSome result (λ parts. All (λ b. b ≢ separator) parts.0.now) }
+    ensures parts { IfSome result (λ parts.
+        bytes.now ≡ parts.0.now ++ separator ∷ parts.1.now) }
+    ensures none { IfNone result (All (λ b. b ≢ separator) bytes.now) }
+{
+    let place = bytes.iter().position(|byte| *byte == separator)?;
+    Some((&bytes[..place], &bytes[place + 1..]))
+}

@@ -1,0 +1,50 @@
+//! Writing to any writer.
+
+ghost use Rattle.std.specs.Prelude.{◌++◌, OnOk, OnErr, IsOkUnless};
+ghost use Rattle.std.specs.Io.KnownBytes.{Appends};
+ghost use Rattle.answer_lines.specs.Written.{AppendsPrefix, AppendsAllBut};
+
+use crate::run::RunError;
+use std::io::Write;
+
+// At most so many bytes wait, so that a long reply is not held twice.
+const MOST_WAITING: usize = 1 << 16;
+
+/// Writes all the bytes. A writer that takes none is at fault, and so is one that errs.
+pub fn write_bytes<W: Write>(writer: &mut W, bytes: &[u8]) -> Result<(), RunError>
+    ensures ok { OnOk result (Appends (W.contents writer.old) (W.contents writer.new) bytes.now) }
+    ensures err { OnErr result (AppendsPrefix
+        (W.contents writer.old) (W.contents writer.new) bytes.now) }
+    ensures refused { IsOkUnless result RunError.Write }
+{
+    let mut rest = bytes;
+    while !rest.is_empty() {
+        match writer.write(rest) {
+            Ok(0) | Err(_) => return Err(RunError::Write),
+            Ok(count) => rest = &rest[count..],
+        }
+    }
+    Ok(())
+}
+
+/// Writes the bytes, or has them wait behind others that do. Where too many would wait, or there is
+/// no memory for more, all are written.
+pub fn write_later<W: Write>(
+    writer: &mut W,
+    waiting: &mut Vec<u8>,
+    bytes: &[u8],
+) -> Result<(), RunError>
+    ensures ok { OnOk result (AppendsAllBut waiting.new.items
+        (W.contents writer.old) (W.contents writer.new) (waiting.old.items ++ bytes.now)) }
+    ensures err { OnErr result (AppendsPrefix
+        (W.contents writer.old) (W.contents writer.new) (waiting.old.items ++ bytes.now)) }
+    ensures refused { IsOkUnless result RunError.Write }
+{
+    let fits = bytes.len() <= MOST_WAITING && waiting.len() <= MOST_WAITING - bytes.len();
+    if fits && waiting.extend_from_slice(bytes).is_ok() {
+        return Ok(());
+    }
+    write_bytes(writer, waiting)?;
+    waiting.clear();
+    write_bytes(writer, bytes)
+}
