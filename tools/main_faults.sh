@@ -1,29 +1,21 @@
 #!/usr/bin/env bash
-# Runs the program jsonb_cli with its standard streams closed, full or broken, with memory refused,
-# and with a line that waits for the answer to the one before, and compares its status, its line on
-# standard error and what it wrote with what it must say.
+# Runs the programs jsonb_cli and jsonb_column_cli with their standard streams closed, full or broken,
+# with memory refused, and with a line that waits for the answer to the one before, and compares the
+# status, the line on standard error and what was written with what they must be.
 #
-#     tools/main_faults.sh [PROGRAM]
+#     tools/main_faults.sh
 #
-# PROGRAM is what `rt ci` or `rt run` leaves, crates/jsonb_cli/out/jsonb_cli, if none is given. A C
-# compiler ($CC, or cc) is needed for tools/refuse_request.c, and /dev/full. The status is 1 where a
-# case differs.
+# It takes what `rt ci` or `rt run` leaves, crates/PROGRAM/out/PROGRAM. A C compiler ($CC, or cc) is
+# needed for tools/refuse_request.c, and /dev/full. The status is 1 where a case differs.
 set -uo pipefail
 top=$(cd "$(dirname "$0")/.." && pwd)
-program=${1:-$top/crates/jsonb_cli/out/jsonb_cli}
 work=$(mktemp -d)
 trap 'rm -rf "$work"' EXIT
-if [ ! -x "$program" ]; then
-    echo "$program is not there: run rt ci first" >&2
-    exit 1
-fi
 ${CC:-cc} -O2 -shared -fPIC -o "$work/refuse.so" "$top/tools/refuse_request.c" -ldl || exit 1
-printf 'enc [false,true]\n' > "$work/line"
-answer=$'ok 800000023000000040000000\n'
 failed=0
 
-# Judges the run that ended with status $2: its standard error must be the text $4 and its output
-# $5, byte for byte.
+# Judges the run that ended with status $2: its standard error must be the text $4 and its output $5,
+# byte for byte.
 expect() {
     local name=$1 status=$2 right_status=$3 right_errors=$4 right_output=$5
     if [ "$status" = "$right_status" ] && printf '%s' "$right_errors" | cmp -s - "$work/errors" &&
@@ -38,58 +30,72 @@ expect() {
     : > "$work/output"
 }
 
-: > "$work/errors"
-: > "$work/output"
+# Runs the program of this name on a line whose answer is known.
+run_faults() {
+    local name=$1 program=$top/crates/$1/out/$1 answer=$3$'\n'
+    local read_failed="$1: read failed"$'\n' write_failed="$1: write failed"$'\n'
+    local out_of_memory="$1: out of memory"$'\n'
+    if [ ! -x "$program" ]; then
+        echo "$program is not there: run rt ci first" >&2
+        exit 1
+    fi
+    echo "$name"
+    printf '%s\n' "$2" > "$work/line"
+    : > "$work/errors"
+    : > "$work/output"
 
-"$program" < "$work/line" > "$work/output" 2> "$work/errors"
-expect 'a line' $? 0 '' "$answer"
+    "$program" < "$work/line" > "$work/output" 2> "$work/errors"
+    expect 'a line' $? 0 '' "$answer"
 
-# The next line comes once the answer to the one before was read.
-mkfifo "$work/lines" "$work/answers"
-"$program" < "$work/lines" > "$work/answers" 2> "$work/errors" &
-exec 3> "$work/lines" 4< "$work/answers"
-for line in 1 2; do
-    cat "$work/line" >&3
-    IFS= read -r -t 10 said <&4 && echo "$said" >> "$work/output"
-done
-exec 3>&-
-wait $!
-expect 'each answer before the next line' $? 0 '' "$answer$answer"
-exec 4<&-
+    # The next line comes once the answer to the one before was read.
+    rm -f "$work/lines" "$work/answers"
+    mkfifo "$work/lines" "$work/answers"
+    "$program" < "$work/lines" > "$work/answers" 2> "$work/errors" &
+    exec 3> "$work/lines" 4< "$work/answers"
+    for line in 1 2; do
+        cat "$work/line" >&3
+        IFS= read -r -t 10 said <&4 && echo "$said" >> "$work/output"
+    done
+    exec 3>&-
+    wait $!
+    expect 'each answer before the next line' $? 0 '' "$answer$answer"
+    exec 4<&-
 
-"$program" --help a b < "$work/line" > "$work/output" 2> "$work/errors"
-expect 'arguments are passed over' $? 0 '' "$answer"
+    "$program" --help a b < "$work/line" > "$work/output" 2> "$work/errors"
+    expect 'arguments are passed over' $? 0 '' "$answer"
 
-"$program" < /dev/null > "$work/output" 2> "$work/errors"
-expect 'no input' $? 0 '' ''
+    "$program" < /dev/null > "$work/output" 2> "$work/errors"
+    expect 'no input' $? 0 '' ''
 
-"$program" < /dev/null 2> "$work/errors" >&-
-expect 'no input and output closed' $? 0 '' ''
+    "$program" < /dev/null 2> "$work/errors" >&-
+    expect 'no input and output closed' $? 0 '' ''
 
-"$program" <&- > "$work/output" 2> "$work/errors"
-expect 'input closed' $? 1 $'jsonb_cli: read failed\n' ''
+    "$program" <&- > "$work/output" 2> "$work/errors"
+    expect 'input closed' $? 1 "$read_failed" ''
 
-"$program" < "$work" > "$work/output" 2> "$work/errors"
-expect 'input is a folder' $? 1 $'jsonb_cli: read failed\n' ''
+    "$program" < "$work" > "$work/output" 2> "$work/errors"
+    expect 'input is a folder' $? 1 "$read_failed" ''
 
-"$program" < "$work/line" 2> "$work/errors" >&-
-expect 'output closed' $? 1 $'jsonb_cli: write failed\n' ''
+    "$program" < "$work/line" 2> "$work/errors" >&-
+    expect 'output closed' $? 1 "$write_failed" ''
 
-"$program" < "$work/line" > /dev/full 2> "$work/errors"
-expect 'output full' $? 1 $'jsonb_cli: write failed\n' ''
+    "$program" < "$work/line" > /dev/full 2> "$work/errors"
+    expect 'output full' $? 1 "$write_failed" ''
 
-# The line comes once nothing reads the answers any more.
-{ sleep 1; cat "$work/line"; } | { "$program" 2> "$work/errors"; echo $? > "$work/status"; } | true
-expect 'output a broken pipe' "$(cat "$work/status")" 1 $'jsonb_cli: write failed\n' ''
+    # The line comes once nothing reads the answers any more.
+    { sleep 1; cat "$work/line"; } | { "$program" 2> "$work/errors"; echo $? > "$work/status"; } | true
+    expect 'output a broken pipe' "$(cat "$work/status")" 1 "$write_failed" ''
 
-REFUSE_REQUEST=1 LD_PRELOAD=$work/refuse.so "$program" \
-    < "$work/line" > "$work/output" 2> "$work/errors"
-expect 'memory refused' $? 1 $'jsonb_cli: out of memory\n' ''
+    REFUSE_REQUEST=1 LD_PRELOAD=$work/refuse.so "$program" < "$work/line" > "$work/output" 2> "$work/errors"
+    expect 'memory refused' $? 1 "$out_of_memory" ''
 
-"$program" <&- > "$work/output" 2>&-
-expect 'input and standard error closed' $? 1 '' ''
+    "$program" <&- > "$work/output" 2>&-
+    expect 'input and standard error closed' $? 1 '' ''
 
-"$program" < "$work/line" > /dev/full 2> /dev/full
-expect 'output and standard error full' $? 1 '' ''
+    "$program" < "$work/line" > /dev/full 2> /dev/full
+    expect 'output and standard error full' $? 1 '' ''
+}
 
+run_faults jsonb_cli 'enc [false,true]' 'ok 800000023000000040000000'
+run_faults jsonb_column_cli 'find a 1' 'ok'
 exit $failed

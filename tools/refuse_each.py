@@ -1,5 +1,5 @@
 #!/usr/bin/env python3
-"""Runs the tests of every crate that has some, and the programs jsonb_cli and jsonb_probe, with their
+"""Runs the tests of every crate that has some, and the programs jsonb_cli, jsonb_column_cli and jsonb_probe, with their
 first request for memory refused, then their second, and so on up to a run that meets no refusal.
 
     tools/refuse_each.py [CRATE ..]
@@ -36,7 +36,9 @@ TOP = os.path.dirname(os.path.dirname(os.path.abspath(__file__)))
 REFUSAL = re.compile(rb"[Ee]rror: (OutOfMemory|Call\(OutOfMemory\)|Memory|AllocError|AllocFailed)")
 OBJECT = "400000021000000210000002200000025000000a61616162500180000001200000025002"
 PAIRS = "400000021000000110000001200000021000000361625001313233"
-# Lines for each program, and their answers: one of each command, and some that are refused.
+STORED = f"000000000000001b{PAIRS}00000000000000082000000040000000"
+# Lines for each program, and their answers: one of each command, and some that are refused. The rows of the column are
+# loaded twice, and the line that adds one is the last: so the answers are the same where one of these is refused.
 LINES = {
     "jsonb_cli": [
         ("type 80000000", "ok array 0"),
@@ -49,6 +51,22 @@ LINES = {
         ("canon 200000006000000a30000640d6b723800008", "ok 200000006000000d30000640d6b723800000007080"),
         ("enc 1e5", "error InvalidJson"),
         ("", "error BadCommand"),
+    ],
+    "jsonb_column_cli": [
+        (f"load {STORED}", "ok"),
+        (f"load {STORED}", "ok"),
+        ("count", "ok 2"),
+        ("row 1", "ok true"),
+        ("row 2", "error NoRow"),
+        ("sort", 'ok true {"a":1,"b":"123"}'),
+        ('find b "123"', 'ok {"a":1,"b":"123"}'),
+        ("range false true", "ok true"),
+        ("save", f"ok {STORED}"),
+        ("load 8", "error BadHex"),
+        ("load 01", "error InvalidEOF"),
+        ("add 1e5", "error InvalidJson"),
+        ("", "error BadCommand"),
+        ("add [1]", "ok"),
     ],
     "jsonb_probe": [
         ("is_document 80000000", "true"),
@@ -94,7 +112,11 @@ LINES = {
     ],
 }
 # What each program says where its run ends for want of memory.
-OUT_OF_MEMORY = {"jsonb_cli": b"jsonb_cli: out of memory\n", "jsonb_probe": b"Error: Kind(OutOfMemory)\n"}
+OUT_OF_MEMORY = {
+    "jsonb_cli": b"jsonb_cli: out of memory\n",
+    "jsonb_column_cli": b"jsonb_column_cli: out of memory\n",
+    "jsonb_probe": b"Error: Kind(OutOfMemory)\n",
+}
 # The module of tests that make no request, and two tests that differ by the encoding of a small tree alone.
 NO_REQUESTS = "jsonb_rows no_requests"
 COUNTED = [f"jsonb_rows memory::counted_{it}_an_encoding" for it in ("with", "without")]

@@ -1,7 +1,8 @@
 -- What the answers of rows say, and why a text is refused.
 use Rattle.std.proofs.Common.{◌≡◌, ◌⊎◌, inl, inr, ℕ, ◌+◌, ◌<◌, List, [], ◌∷◌, ◌++◌, length, map}
 use Rattle.std.proofs.Common.{take, refl, sym, ap, subst, ◌∙◌, append_assoc, Result, Ok, Err}
-use Rattle.std.specs.Prelude.{IfErr, IfOk, IsErrAnd, slice_index_or}
+use Rattle.std.specs.Prelude.{IfErr, IfOk, IfSome, IsErrAnd, OnOk, Option, None, Some}
+use Rattle.std.specs.Prelude.{slice_index_or}
 use Rattle.std.specs.String.{string_bytes}
 use Rattle.std.specs.declared.alloc.Global.{Global}
 use Rattle.std.specs.declared.string.String.{String}
@@ -12,11 +13,12 @@ use Rattle.jsonb_value.specs.declared.error.Error.TheVariants.{OutOfMemory}
 use Rattle.jsonb_value.specs.Text.{compact}
 use Rattle.jsonb.specs.declared.document.Document.{Document}
 use Rattle.jsonb.specs.Document.{document_bytes, tree_in}
+use Rattle.answer_lines.specs.Session.{IsReply}
 use Rattle.jsonb_column_cli.specs.declared.answer.Refusal.{Refusal}
 use Rattle.jsonb_column_cli.specs.declared.answer.Refusal.TheVariants.{Call}
 use Rattle.jsonb_column_cli.specs.Commands.{Form}
 use Rattle.jsonb_column_cli.specs.Answers.{Rows, spoken, rows_line, said, IsAnswer, IsOutcome}
-use Rattle.jsonb_column_cli.specs.Answers.{IsRefusal}
+use Rattle.jsonb_column_cli.specs.Answers.{IsRefusal, IsLineOutcome, Answered, reply_line}
 
 spoken-append : (xs ys : Rows) → spoken (xs ++ ys) ≡ spoken xs ++ spoken ys
 spoken-append [] ys = refl
@@ -69,3 +71,31 @@ pub shows : (rows shown : Rows) (form : Form) (r : Result (String Global) Refusa
 shows rows shown form (Ok line) ok memory answers = answers (string_bytes line) ok
 shows rows shown form (Err x) ok memory answers =
     (subst (IsRefusal rows form) (sym memory) tt, refl)
+
+-- ---- a line, and a run
+
+-- what a line is answered, with its line feed
+pub replied : {E : Type 0} (r : Result (String Global) E) (rows next : Rows) (line : List ℕ)
+    (outcome : Result (List ℕ) Refusal) → IsLineOutcome rows line outcome next
+    → IfOk r (λ text. string_bytes text ≡ reply_line outcome ++ 10 ∷ [])
+    → IfOk r (λ text. (reply : List ℕ)
+    × (IsReply Answered rows line reply next × (string_bytes text ≡ reply ++ 10 ∷ [])))
+replied (Ok text) rows next line outcome means is =
+    (reply_line outcome, (inl record { outcome = outcome; is_outcome = means; said = refl }, is))
+replied (Err e) rows next line outcome means is = tt
+
+-- the rows that are there at the end
+pub some_rows : {T E : Type 0} (r : Result T E) (known : Option (List ℕ))
+    (P : List ℕ → Rows → Type 0) (rows : Rows) → OnOk r (IfSome known (λ input. P input rows))
+    → OnOk r (IfSome known (λ input. (end : Rows) × P input end))
+some_rows (Ok x) None P rows h = tt
+some_rows (Ok x) (Some input) P rows h = (rows, h)
+some_rows (Err e) known P rows h = tt
+
+pub some_begun : (known left : Option (List ℕ)) (P : List ℕ → List ℕ → List ℕ → Rows → Type 0)
+    (rows : Rows) → IfSome known (λ input. IfSome left (λ l. (begun : List ℕ) × P input l begun rows))
+    → IfSome known (λ input. IfSome left
+    (λ l. (begun : List ℕ) × ((end : Rows) × P input l begun end)))
+some_begun None left P rows h = tt
+some_begun (Some input) None P rows h = tt
+some_begun (Some input) (Some l) P rows h = (h.0, (rows, h.1))

@@ -137,3 +137,9 @@ said (Err refusal) = Err refusal
 abbrev pub reply_line : Result (List ℕ) Refusal → List ℕ
 reply_line (Ok reply) = reply
 reply_line (Err refusal) = codes "error " ++ refusal_name refusal
+
+-- The reply to a line on these rows, and the rows behind it.
+pub record Answered (rows : Rows) (line reply : List ℕ) (next : Rows) : Type 0 where
+  pub outcome : Result (List ℕ) Refusal
+  pub is_outcome : IsLineOutcome rows line outcome next
+  pub said : reply ≡ reply_line outcome

@@ -1,7 +1,7 @@
 -- The lines that tell why a run ended early.
 use Rattle.std.specs.Prelude.{ℕ, List, codes}
-use Rattle.jsonb_column_cli.specs.declared.run.RunError.{RunError}
-use Rattle.jsonb_column_cli.specs.declared.run.RunError.TheVariants.{Read, Write, Memory}
+use Rattle.answer_lines.specs.declared.run.RunError.{RunError}
+use Rattle.answer_lines.specs.declared.run.RunError.TheVariants.{Read, Write, Memory}
 
 abbrev pub fault_line : RunError → List ℕ
 fault_line Read = codes "jsonb_column_cli: read failed"

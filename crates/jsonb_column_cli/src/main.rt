@@ -13,7 +13,7 @@ fn main(rt: HostRuntime) -> ExitCode {
         Ok(()) => ExitCode::SUCCESS,
         Err(error) => {
             // Where standard error takes no line either, the status alone tells of the fault.
-            let _ = eprintln!(rt; "{}", error.line());
+            let _ = eprintln!(rt; "{}", run::fault_line(error));
             ExitCode::FAILURE
         }
     }

@@ -1,107 +1,86 @@
-//! Lines in, replies out, over any reader of lines and any writer.
+//! Lines in, replies out, over any reader and any writer.
 
-ghost use Rattle.std.specs.Prelude.{◌≡◌, List, ℕ, OnOk, IfSome, IsErrOf};
+ghost use Rattle.std.specs.Prelude.{◌≡◌, [], List, ℕ, OnOk, OnErr, IfSome, IsErrOf};
 ghost use Rattle.std.specs.Io.KnownBytes.{IsAtEnd};
-ghost use Rattle.jsonb_column_cli.specs.Answers.{Rows};
+ghost use Rattle.answer_lines.specs.Session.{AppendsReplies, AppendsBeginning, AppendsWhole};
+ghost use Rattle.jsonb_column_cli.specs.Answers.{Rows, Answered};
 ghost use Rattle.jsonb_column_cli.specs.Fault.{fault_line};
-ghost use Rattle.jsonb_column_cli.specs.Session.{AppendsBeginning, AppendsReply, AppendsSession};
-ghost use Rattle.jsonb_column_cli.specs.declared.run.RunError.TheVariants.{Memory};
 
 use crate::answer::written_line;
-use crate::command::answer;
+use crate::command;
+use answer_lines::{LineAnswerer, RunError, answer_lines};
 use jsonb_column::Column;
 use std::alloc::{AllocError, Global};
-use std::io::{BufRead, Write};
+use std::io::{Read, Write};
+use std::marker::Model;
 
-/// Why a run ended early.
-#[derive(Clone, Copy, Debug, PartialEq, Eq)]
-pub enum RunError {
-    /// The reader failed, had no room for a line, or never met the end of its input.
-    Read,
-    /// The writer failed, or took no byte.
-    Write,
-    /// The room for a reply was refused.
-    Memory,
+/// The line that tells of a fault on standard error.
+pub fn fault_line(error: RunError) -> &'static str
+    ensures { result.now ≡ fault_line error }
+{
+    match error {
+        RunError::Read => "jsonb_column_cli: read failed",
+        RunError::Write => "jsonb_column_cli: write failed",
+        RunError::Memory => "jsonb_column_cli: out of memory",
+    }
 }
 
-impl RunError {
-    /// The line that says so on standard error.
-    pub fn line(&self) -> &'static str
-        ensures { result.now ≡ fault_line self.now }
+/// What answers each line by its command, on the rows that the line before has left.
+#[derive(Drop)]
+pub struct Commands {
+    column: Column,
+}
+
+// What answers lines is told by its rows.
+impl Model for Commands {
+    ghost Value = { List (List ℕ) };
+
+    ghost view = { λ commands. commands.column };
+}
+
+impl Commands {
+    // On no rows.
+    fn new(alloc: Global) -> Self
+        ensures { result ≡ [] }
     {
-        match self {
-            RunError::Read => "jsonb_column_cli: read failed",
-            RunError::Write => "jsonb_column_cli: write failed",
-            RunError::Memory => "jsonb_column_cli: out of memory",
+        Commands {
+            column: Column::new(alloc),
         }
     }
 }
 
-impl From<AllocError> for RunError {
-    ghost from_gives = { λ _ e. e ≡ Memory };
+impl LineAnswerer for Commands {
+    ghost rule = { Answered };
 
-    fn from(_error: AllocError) -> RunError {
-        RunError::Memory
-    }
-}
-
-// Answers one line. The whole reply is made before its first byte is written.
-fn answer_line<W: Write>(
-    alloc: Global,
-    column: &mut Column,
-    line: &[u8],
-    writer: &mut W,
-) -> Result<(), RunError>
-    ensures ok { OnOk result (AppendsReply column.old line.now column.new
-        (W.contents writer.old) (W.contents writer.new)) }
-    ensures refused { IsErrOf result RunError.Read → ⊥ }
-{
-    let outcome = answer(alloc, column, line);
-    let reply = written_line(alloc, outcome)?;
-    match writer.write_all(reply.as_bytes()) {
-        Ok(()) => Ok(()),
-        Err(_) => Err(RunError::Write),
+    fn answer(&mut self, alloc: Global, line: &[u8]) -> Result<String, AllocError> {
+        let outcome = command::answer(alloc, &mut self.column, line);
+        written_line(alloc, outcome)
     }
 }
 
 /// Answers each line of the reader's bytes to the writer by one line, on a column that begins with
 /// no rows. A line is what stands before a line feed, and what follows the last one where it is not
-/// empty. Each is answered before the next is read. After `Ok` all input was read, and its answers
-/// were written, in order and nothing else.
+/// empty. All whole lines that were read are answered before the reader is asked again. After `Ok`
+/// all input was read, and its answers were written, in order and nothing else.
 ///
 /// Where a command is refused memory, its answer is `error OutOfMemory`, the rows stay, and the run
-/// goes on. `Read`: the reader failed, had no room for a line, or was asked
-/// 18,446,744,073,709,551,615 times and met no end; the whole lines before are answered. `Write`:
-/// the writer failed, or took no byte. `Memory`: the room for a reply was refused.
-pub fn run<R: BufRead, W: Write>(
-    alloc: Global,
-    reader: &mut R,
-    writer: &mut W,
-) -> Result<(), RunError>
-    ensures done { OnOk result (IfSome (R.remaining reader.old) (λ input.
-        AppendsSession input (W.contents writer.old) (W.contents writer.new))) }
-    ensures all_read { OnOk result (IfSome (R.remaining reader.old)
-        (λ _. IsAtEnd (R.remaining reader.new))) }
+/// goes on. After an error what was written is a beginning of such answers. `Read`: the reader
+/// failed, or was asked 18,446,744,073,709,551,615 times and met no end of input. `Write`: the
+/// writer failed, or took no byte. `Memory`: the room for a line or for a reply was refused.
+pub fn run<R: Read, W: Write>(alloc: Global, reader: &mut R, writer: &mut W) -> Result<(), RunError>
+    ensures done { OnOk result (IfSome (R.remaining reader.old) (λ input. (rows : Rows)
+        × AppendsReplies Answered [] rows input
+        (W.contents writer.old) (W.contents writer.new))) }
+    ensures all_read { OnOk result (IsAtEnd (R.remaining reader.new)) }
+    ensures begun { OnErr result (IfSome (R.remaining reader.old) (λ input.
+        AppendsBeginning Answered [] input (W.contents writer.old) (W.contents writer.new))) }
 
-    // After the reader's fault exactly some whole lines at the beginning are answered.
-    ensures stopped { IsErrOf result RunError.Read → IfSome (R.remaining reader.old) (λ input.
-        (left : List ℕ) × ((rows : Rows)
-        × AppendsBeginning input left rows (W.contents writer.old) (W.contents writer.new))) }
+    // After the reader's fault exactly the whole lines that it gave are answered.
+    ensures prompt { IsErrOf result RunError.Read → IfSome (R.remaining reader.old) (λ input.
+        IfSome (R.remaining reader.new) (λ left. (begun : List ℕ) × ((rows : Rows)
+        × AppendsWhole Answered [] rows input begun left
+        (W.contents writer.old) (W.contents writer.new)))) }
 {
-    let mut column = Column::new(alloc);
-    let mut line = Vec::new(alloc);
-    'lines: for _ in 0..u64::MAX {
-        line.clear();
-        let Ok(_) = reader.read_until(b'\n', &mut line) else {
-            return Err(RunError::Read);
-        };
-        let Some((last, whole)) = line.split_last() else {
-            return Ok(());
-        };
-        if *last != b'\n' {
-            return answer_line(alloc, &mut column, &line, writer);
-        }
-        answer_line(alloc, &mut column, whole, writer)?;
-    }
-    Err(RunError::Read)
+    let mut commands = Commands::new(alloc);
+    answer_lines(alloc, &mut commands, reader, writer)
 }
