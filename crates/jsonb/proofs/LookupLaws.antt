@@ -651,7 +651,7 @@ module _ (answers : List ℕ → Bool → Type 0) (accepts : List ℕ → Bool) 
       (λ e. let fits : length k ≡ size = ap length (sym same)
       ∙ eqb-true (length key) size e in ap accepts same ∙ sym (by k false fits (pass fits)))
 
-  find_entry-none : (ms : List (List ℕ × Entry)) (ps : Pairs)
+  pub find_entry-none : (ms : List (List ℕ × Entry)) (ps : Pairs)
       → ArePairsOf (keys_of ms) (values_of ms) ps → NoneAccepted answers size ps
       → find_entry accepts size ms ≡ None
   find_entry-none [] ps h none = refl
@@ -659,7 +659,7 @@ module _ (answers : List ℕ → Bool → Type 0) (accepts : List ℕ → Bool) 
   find_entry-none (m ∷ ms) (pair k t ps) h none =
       let test = entry_passed m.0 k h.0 none.0 in rw test (find_entry-none ms ps h.1.1 none.1)
 
-  find_entry-first : (ms : List (List ℕ × Entry)) (ps : Pairs) (i : ℕ) (v : Tree)
+  pub find_entry-first : (ms : List (List ℕ × Entry)) (ps : Pairs) (i : ℕ) (v : Tree)
       → ArePairsOf (keys_of ms) (values_of ms) ps → IsFirstAccepted answers size ps i v
       → find_entry accepts size ms ≡ slice_get (values_of ms) i
   find_entry-first [] ps i v h first =

@@ -1,4 +1,5 @@
 pub mod Depths
+pub mod FoundPlaces
 pub mod Lookups
 pub mod Objects
 pub mod Orders

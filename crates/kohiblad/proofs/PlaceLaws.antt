@@ -16,6 +16,7 @@ use Rattle.jsonb_codec.specs.Doc.{Doc, Payload, Scalar}
 use Rattle.jsonb_codec.specs.Word.{word, header_at}
 use Rattle.jsonb.specs.Building.{code_entries, code_payloads, key_codes, object_of}
 use Rattle.jsonb.specs.Item.{Entry}
+use Rattle.jsonb.specs.Standing.{HasMembers}
 use Rattle.jsonb.specs.Steps.{◌>>=◌}
 use Rattle.jsonb.proofs.KindLaws.{header_at-Scalar, header_at-array, header_at-object}
 use Rattle.jsonb.proofs.Places.{At, At-all, At-left, At-right, At-behind_word, take-At, within-At}
@@ -36,7 +37,7 @@ place_behind-cut bytes (suc nth) index start e some cut =
     >>= (λ (entry : JEntry). place_behind bytes nth (index + 4) (start + entry.length))) cut
 
 -- the place of an entry that stands there
-abbrev StandsAt : List ℕ → Result Place Error → Entry → Type 0
+abbrev pub StandsAt : List ℕ → Result Place Error → Entry → Type 0
 StandsAt bytes found entry =
     (place : Place) × ((found ≡ Ok place) × (entry_there bytes place ≡ entry))
 
@@ -253,6 +254,22 @@ module _ (b : List ℕ) (ms : List (List ℕ × Entry)) (is : AreEntries (all_en
   member_at (inr (past, absent)) =
       let test = le-leb (length ms) index past in
       (None, (rw test refl, sym absent))
+
+-- where a value's entry stands
+pub value_standing : (b : List ℕ) (ps : Pairs) (ms : List (List ℕ × Entry)) → HasMembers b ps ms
+    → (index : ℕ) (c : Entry) → slice_get (values_of ms) index ≡ Some c
+    → StandsAt b (place_behind b (length ms + index) 4 (4 + 4 * (2 * length ms))) c
+value_standing b ps ms h index c there =
+    let at = all_at b ms h.few h.written in
+    let is = AreEntries-append (key_codes (keys_of ms)) (values_of ms)
+    (AreEntries-keys (keys_of ms) h.short_keys)
+    (AreEntries-pairs (keys_of ms) (values_of ms) ps h.mean h.short) in
+    let number_of : length ms + index ≡ length (key_codes (keys_of ms)) + index =
+    ap (λ (n : ℕ). n + index) (sym (length-all_keys ms)) in
+    place_behind_standing b (length ms + index) 4 (4 + 4 * (2 * length ms))
+    (all_entries ms) c is at.entries_at at.payloads_at
+    (behind_keys (key_codes (keys_of ms)) (values_of ms) (length ms + index) index c number_of
+    there)
 
 member_standing : (b : List ℕ) (ps : Pairs) (index : ℕ) → Payload (object ps) b
     → AreMemberPlaces b (object ps) index (member_places b index)

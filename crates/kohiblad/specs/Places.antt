@@ -13,7 +13,7 @@ use Rattle.jsonb_codec.specs.Word.{header_at}
 use Rattle.jsonb.specs.Code.{scalar_bytes}
 use Rattle.jsonb.specs.Item.{Entry}
 use Rattle.jsonb.specs.ItemView.{ItemView}
-use Rattle.jsonb.specs.Standing.{HasItems, HasMembers}
+use Rattle.jsonb.specs.Standing.{HasItems, HasMembers, find_entry}
 use Rattle.jsonb.specs.Steps.{◌>>=◌}
 use Rattle.jsonb.specs.Lookup.{header_count, LooksUpBytes}
 use Rattle.kohiblad.specs.declared.places.Place.{Place}
@@ -183,3 +183,13 @@ AreMemberPlaces b (object ps) index found =
     × ((o : Option (Place × Place))
     × ((found ≡ Ok o) × (option_map (member_there b) o ≡ slice_get members index))))
 AreMemberPlaces b t index found = found ≡ Ok None
+
+-- The place is that of the entry at the key that is the name, where the document has one.
+abbrev pub IsValuePlace : List ℕ → Tree → List ℕ → Result (Option Place) Error → Type 0
+IsValuePlace b (object ps) name found =
+    (members : List (List ℕ × Entry))
+    × (HasMembers b ps members
+    × ((o : Option Place)
+    × ((found ≡ Ok o)
+    × (option_map (entry_there b) o ≡ find_entry (is_name name) (length name) members))))
+IsValuePlace b t name found = found ≡ Ok None

@@ -10,7 +10,7 @@ ghost use Rattle.jsonb_codec.specs.Doc.{Doc};
 ghost use Rattle.kohiblad.specs.Places.{IsItemPlace, AreMemberPlaces, part_place, place_in};
 ghost use Rattle.kohiblad.specs.Places.{item_place, IsPlaceFound, IsPlaceIn, IsInside, AreInside};
 ghost use Rattle.kohiblad.specs.Places.{member_places, IsMemberHandedOver, told_place, entry_there};
-ghost use Rattle.kohiblad.specs.Places.{entry_document, IsPlaceHandedOver};
+ghost use Rattle.kohiblad.specs.Places.{entry_document, IsPlaceHandedOver, IsValuePlace};
 
 use crate::answer::{NO_ROOM, NONE, OK, code, hand_over, hand_over_scalar, refuse};
 use jsonb::{Error, RawJsonb, Reads, read_header, read_jentry};
@@ -50,6 +50,9 @@ pub extern "C" fn kohiblad_find(bytes: &[u8], name: &[u8]) -> KohibladPlace
     ensures utf8 { (IsUtf8 name.now → ⊥) → result ≡ told_place (Err Error.InvalidUtf8) }
     ensures place { IsUtf8 name.now → (found : Result (Option Place) Error)
         × (IsPlaceFound name.now bytes.now found × (result ≡ told_place found)) }
+    ensures document { IsUtf8 name.now → (t : Tree) → Doc bytes.now t
+        → (found : Result (Option Place) Error)
+        × (IsValuePlace bytes.now t name.now found × (result ≡ told_place found)) }
 {
     told_place(place_of_key(bytes, name))
 }
@@ -61,6 +64,10 @@ pub extern "C" fn kohiblad_get(bytes: &[u8], name: &[u8], out: &mut [u8], length
         → IsRefused (code Error.InvalidUtf8) out.old out.new length.new result }
     ensures place { IsUtf8 name.now → (found : Result (Option Place) Error)
         × (IsPlaceFound name.now bytes.now found
+        × IsPlaceHandedOver bytes.now found out.old out.new length.new result) }
+    ensures document { IsUtf8 name.now → (t : Tree) → Doc bytes.now t
+        → (found : Result (Option Place) Error)
+        × (IsValuePlace bytes.now t name.now found
         × IsPlaceHandedOver bytes.now found out.old out.new length.new result) }
 {
     hand_over_found(bytes, place_of_key(bytes, name), out, length)
@@ -158,6 +165,8 @@ fn item_place(bytes: &[u8], index: usize) -> Result<Option<Place>, Error>
 fn place_of_key(bytes: &[u8], name: &[u8]) -> Result<Option<Place>, Error>
     ensures utf8 { (IsUtf8 name.now → ⊥) → result ≡ Err Error.InvalidUtf8 }
     ensures place { IsUtf8 name.now → IsPlaceFound name.now bytes.now result }
+    ensures document { IsUtf8 name.now → (t : Tree) → Doc bytes.now t
+        → IsValuePlace bytes.now t name.now result }
     ensures inside { IsInside bytes.now result }
 {
     let Ok(name) = str::from_utf8(name) else {
