@@ -16,7 +16,7 @@ use jsonb_codec::constants::{
     CONTAINER_TAG, EXTENSION_TAG, FALSE_TAG, JENTRY_OFF_LEN_MASK, NULL_TAG, NUMBER_TAG,
     SCALAR_CONTAINER_TAG, STRING_TAG, TRUE_TAG,
 };
-use jsonb_codec::read_header;
+use jsonb_codec::{append_bytes, append_extension, append_number, append_word, read_header};
 use jsonb_value::{Error, ExtensionValue, Number};
 use std::alloc::Global;
 
@@ -50,16 +50,8 @@ impl Payload<'_> {
     {
         match self {
             Payload::Bytes(bytes) => append_bytes(out, bytes),
-            Payload::Number(number) => {
-                let Ok(_) = number.compact_encode(out) else {
-                    unreachable!();
-                };
-            }
-            Payload::Extension(value) => {
-                let Ok(_) = value.compact_encode(out) else {
-                    unreachable!();
-                };
-            }
+            Payload::Number(number) => append_number(out, *number),
+            Payload::Extension(value) => append_extension(out, *value),
         }
     }
 }
@@ -84,26 +76,6 @@ impl Code<'_> {
     {
         append_word(out, self.type_code + self.payload.len() as u32);
     }
-}
-
-#[inline(always)]
-fn append_bytes(out: &mut Vec<u8>, bytes: &[u8])
-    requires { HasRoom out.old bytes.now }
-    ensures { AppendsBytes out.old out.new bytes.now }
-{
-    let Ok(()) = out.extend_from_slice(bytes) else {
-        unreachable!();
-    };
-}
-
-/// Appends one word where there is room for it.
-#[tactic(auto, unfolding(jsonb_codec::specs::Word::word))]
-#[inline(always)]
-pub fn append_word(out: &mut Vec<u8>, number: u32)
-    requires { HasRoom out.old (word number) }
-    ensures { AppendsBytes out.old out.new (word number) }
-{
-    append_bytes(out, &number.to_be_bytes());
 }
 
 /// The scalar document of an entry of this type and of this payload, measured first and written

@@ -10,7 +10,7 @@ use jsonb_codec::constants::{
     CONTAINER_TAG, EXTENSION_TAG, FALSE_TAG, NULL_TAG, NUMBER_TAG, STRING_TAG, TRUE_TAG,
 };
 use jsonb_codec::parts::Part;
-use jsonb_codec::{DocumentBytes, parts, value_of_document};
+use jsonb_codec::{DocumentBytes, append_canonical_document, parts, value_of_document};
 use jsonb_value::{Error, ExtensionValue, Number, Value};
 use std::alloc::Global;
 use std::fmt;
@@ -264,7 +264,9 @@ impl<'a> Document<'a> {
             ↔ (Fits (document_tree self.now) → ⊥) }
         ensures only { IfErr result (λ e. (e ≡ Error.InvalidJsonb) ⊎ (e ≡ Error.OutOfMemory)) }
     {
-        self.as_raw().to_canonical(alloc)
+        let mut bytes = Vec::new(alloc);
+        append_canonical_document(&mut bytes, self.bytes)?;
+        Ok(OwnedJsonb::new(bytes))
     }
 
     // The value of a key among members.

@@ -5,7 +5,7 @@ use Rattle.std.proofs.Common.{take, drop, true, false, refl, sym, ap, ap₂, sub
 use Rattle.std.proofs.Common.{length-append, append-nil, append_assoc, [], Option, Some, None}
 use Rattle.std.proofs.Common.{IfNone}
 use Rattle.std.specs.Global.{Vec}
-use Rattle.std.specs.Prelude.{Result, Ok, Err, IsErrAnd}
+use Rattle.std.specs.Prelude.{Result, Ok, Err, IsErrAnd, OnOk}
 use Rattle.jsonb_value.specs.declared.error.Error.{Error}
 use Rattle.jsonb_value.specs.declared.error.Error.TheVariants.{InvalidJsonb, OutOfMemory}
 use Rattle.jsonb_value.specs.Tree.{Tree, null, boolean, number, text, extension, array, object}
@@ -23,12 +23,14 @@ use Rattle.jsonb_codec.specs.Canon.{canon, Fits, FitsInside, payload_of, entry_w
 use Rattle.jsonb_codec.specs.Canon.{payloads_of, key_entries, key_payloads, value_entries}
 use Rattle.jsonb_codec.specs.Canon.{value_payloads, FitsEntry, AllFit, PairsFit}
 use Rattle.jsonb_codec.specs.Canonical.{IsCanonical}
-use Rattle.jsonb_codec.specs.Room.{HasRoom, AppendsBytes, Stands}
+use Rattle.jsonb_codec.specs.Room.{HasRoom, AppendsBytes, Stands, CanEnter, CanFollow}
 use Rattle.jsonb_codec.specs.Rewriting.{FirstChild, Opened, LeavesTo}
 use Rattle.jsonb_codec.proofs.Words.{length-word-append, same_words}
+use Rattle.jsonb_codec.proofs.Appending.{Underway, underway_start, underway_next, underway_on}
+use Rattle.jsonb_codec.proofs.Appending.{underway_end}
 use Rattle.jsonb_codec.proofs.Lengths.{length-entries_of}
 use Rattle.jsonb_codec.proofs.Standing.{Stands-first, Stands-more, Stands-next}
-use Rattle.jsonb_codec.proofs.Unique.{same_trees, Doc-unique}
+use Rattle.jsonb_codec.proofs.Unique.{same_tree, same_trees, Doc-unique}
 use Rattle.jsonb_codec.proofs.CanonLaws.{type_of-norm, count-norms, pair_count-norm_pairs}
 use Rattle.jsonb_codec.proofs.CanonLaws.{payload_of-norm, canon-norm, Doc-canon}
 use Rattle.jsonb_codec.proofs.Entries.{length-Children, length-Keys, length-Values}
@@ -204,6 +206,11 @@ pub refuses : {A : Type 0} (r : Option A) (P : Type 0) → P → IfNone r P
 refuses None P h = h
 refuses (Some x) P h = tt
 
+-- what holds at any rate holds where it is answered
+pub on_ok : {A E : Type 0} (r : Result A E) (P : Type 0) → P → OnOk r P
+on_ok (Ok x) P h = h
+on_ok (Err e) P h = tt
+
 -- What is measured of them, and those that are left.
 pub record Measured (all_entries all_payloads : List ℕ) (total : ℕ)
     (entries payloads : List ℕ) : Type 0 where
@@ -268,62 +275,53 @@ pub record Written (Bytes : Trees → List ℕ) (old now : Vec ℕ)
   pub left : Trees
   pub are_left : Children left entries payloads
   pub fit : AllFit left
-  pub room : HasRoom now (Bytes left)
-  pub bytes : now.items ++ Bytes left ≡ old.items ++ Bytes all
+  pub underway : Underway old now (Bytes all) (Bytes left)
 
 pub written_start : (Bytes : Trees → List ℕ) (v : Vec ℕ) (e p : List ℕ)
     → ((ts : Trees) × (Children ts e p × (AllFit ts × HasRoom v (Bytes ts))))
     → Written Bytes v v e p e p
 written_start Bytes v e p (ts, (h, (fit, room))) =
-    record { all = ts; are_all = h; left = ts; are_left = h; fit = fit; room = room; bytes = refl }
+    record { all = ts; are_all = h; left = ts; are_left = h; fit = fit; underway = underway_start room }
 
 module _ (Bytes : Trees → List ℕ) (One : Tree → List ℕ)
     (law : (t : Tree) (us : Trees) → Bytes (tree t us) ≡ One t ++ Bytes us) (old now : Vec ℕ)
     (ae qs e p : List ℕ) (w : Written Bytes old now ae qs e p) (ty : ℕ) (q e2 p2 : List ℕ)
     (f : FirstChild w.left ty q e2 p2) where
-  both_parts : Bytes w.left ≡ One f.first ++ Bytes f.others
-  both_parts = ap Bytes f.are ∙ law f.first f.others
+  both_left : Underway old now (Bytes w.all) (One f.first ++ Bytes f.others)
+  both_left = subst (Underway old now (Bytes w.all)) (ap Bytes f.are ∙ law f.first f.others)
+      w.underway
 
-  pub written_next : (t : Tree) × (IsPayloadOf ty q t × (FitsEntry t × HasRoom now (One t)))
-  written_next =
-      let fit = subst AllFit f.are w.fit in
-      let long : length (Bytes w.left) ≡ length (One f.first) + length (Bytes f.others) =
-      ap length both_parts ∙ length-append (One f.first) (Bytes f.others) in
-      let room = w.room in
-      (f.first, (f.is, (record { inside = fit.0.0; short = fit.0.1 }, omega arith)))
+  pub written_room : HasRoom now (One f.first)
+  written_room = underway_next (One f.first) (Bytes f.others) both_left
+
+  pub written_fit : FitsEntry f.first
+  written_fit =
+      let fit = subst AllFit f.are w.fit in record { inside = fit.0.0; short = fit.0.1 }
 
   pub written_on : (new : Vec ℕ) → ((t : Tree) → IsPayloadOf ty q t → AppendsBytes now new (One t))
       → Written Bytes old new ae qs e2 p2
   written_on new known =
-      let here = known f.first f.is in
-      let fit = subst AllFit f.are w.fit in
-      let long : length (Bytes w.left) ≡ length (One f.first) + length (Bytes f.others) =
-      ap length both_parts ∙ length-append (One f.first) (Bytes f.others) in
-      let grown : length new.items ≡ length now.items + length (One f.first) =
-      ap length here.items ∙ length-append now.items (One f.first) in
-      let room = w.room in
-      let kept = here.capacity in
       record {
         all = w.all;
         are_all = w.are_all;
         left = f.others;
         are_left = f.behind;
-        fit = fit.1;
-        room = omega arith;
-        bytes =
-            ap (λ (x : List ℕ). x ++ Bytes f.others) here.items
-            ∙ append_assoc now.items (One f.first) (Bytes f.others)
-            ∙ ap (λ (x : List ℕ). now.items ++ x) (sym both_parts) ∙ w.bytes;
+        fit = (subst AllFit f.are w.fit).1;
+        underway = underway_on (One f.first) (Bytes f.others) both_left (known f.first f.is);
       }
 
 pub written_end : (Bytes : Trees → List ℕ) (old now : Vec ℕ) (ae qs e p : List ℕ)
     → Bytes no_trees ≡ [] → (w : Written Bytes old now ae qs e p) → w.left ≡ no_trees → (ts : Trees)
-    → Children ts ae qs → now.items ≡ old.items ++ Bytes ts
+    → Children ts ae qs → AppendsBytes old now (Bytes ts)
 written_end Bytes old now ae qs e p nothing w none ts h =
     let same : w.all ≡ ts = Children-unique w.all ts ae qs w.are_all h in
-    let last : Bytes w.left ≡ [] = ap Bytes none ∙ nothing in
-    sym (append-nil now.items) ∙ ap (λ (x : List ℕ). now.items ++ x) (sym last) ∙ w.bytes ∙ ap
-    (λ (us : Trees). old.items ++ Bytes us) same
+    subst (λ (us : Trees). AppendsBytes old now (Bytes us)) same
+    (underway_end (subst (Underway old now (Bytes w.all)) (ap Bytes none ∙ nothing) w.underway))
+
+-- What is known of one tree of a payload is known of each.
+pub of_each : (P : Tree → Type 0) (ty : ℕ) (q : List ℕ) → (t : Tree) × (IsPayloadOf ty q t × P t)
+    → (u : Tree) → IsPayloadOf ty q u → P u
+of_each P ty q (t, (h, p)) u k = subst P (same_tree t u (h.0 ∙ sym k.0) q h.1 k.1) p
 
 -- how long what was opened is written
 pub length-Opened : (t : Tree) (header : ℕ) (e p : List ℕ) (o : Opened t header e p)
@@ -362,9 +360,21 @@ module _ (old now : Vec ℕ) (ae qs : List ℕ) (size_left : ℕ) (e p : List �
         (f.is, (record { inside = fit.0.0; short = fit.0.1 }, record { behind = f.others; are = f.behind; fit = fit.1; both = entered_parts })),
       )
 
-  pub entered_next : (t : Tree) × (IsPayloadOf ty q t × (FitsEntry t × HasRoom now (entry_word t)))
-  entered_next =
-      written_next entries_of entry_word (λ t us. refl) old now ae qs e p m.written ty q e2 p2 f
+  pub entered_next : (size : ℕ) → ((t : Tree) → IsPayloadOf ty q t → size ≡ length (payload_of t))
+      → (t : Tree) × (IsPayloadOf ty q t × CanEnter now t size)
+  entered_next size known = (
+    f.first,
+    (
+      f.is,
+      record {
+        fits = written_fit entries_of entry_word
+            (λ t us. refl) old now ae qs e p m.written ty q e2 p2 f;
+        len = known f.first f.is;
+        room = written_room entries_of entry_word
+            (λ t us. refl) old now ae qs e p m.written ty q e2 p2 f;
+      },
+    ),
+  )
 
   pub entered_within : (size : ℕ) → ((t : Tree) → IsPayloadOf ty q t → size ≡ length (payload_of t))
       → size ≤ size_left
@@ -401,29 +411,21 @@ module _ (old now : Vec ℕ) (ae qs : List ℕ) (index : ℕ) (e p : List ℕ)
   followed_words : Stands index (entry_word f.first ++ entries_of f.others) now.items
   followed_words = subst (λ (ts : Trees). Stands index (entries_of ts) now.items) f.are m.words
 
-  pub followed_next : (t : Tree)
-      × (IsPayloadOf ty q t
-      × (FitsEntry t × (Stands index (entry_word t) now.items × HasRoom now (payload_of t))))
-  followed_next =
-      let fit = subst AllFit f.are m.written.fit in
-      let long : length (payloads_of m.written.left)
-      ≡ length (payload_of f.first) + length (payloads_of f.others) =
-      ap (λ (ts : Trees). length (payloads_of ts)) f.are
-      ∙ length-append (payload_of f.first) (payloads_of f.others) in
-      let room = m.written.room in (
-        f.first,
-        (
-          f.is,
-          (
-            record { inside = fit.0.0; short = fit.0.1 },
-            (
-              Stands-first index (entry_word f.first)
-                  (entries_of f.others) now.items followed_words,
-              omega arith,
-            ),
-          ),
-        ),
-      )
+  pub followed_next : (t : Tree) × (IsPayloadOf ty q t × CanFollow now t index)
+  followed_next = (
+    f.first,
+    (
+      f.is,
+      record {
+        fits = written_fit payloads_of payload_of
+            (λ t us. refl) old now ae qs e p m.written ty q e2 p2 f;
+        stands = Stands-first index (entry_word f.first)
+            (entries_of f.others) now.items followed_words;
+        room = written_room payloads_of payload_of
+            (λ t us. refl) old now ae qs e p m.written ty q e2 p2 f;
+      },
+    ),
+  )
 
   pub followed_on : (new : Vec ℕ)
       → ((t : Tree) → IsPayloadOf ty q t → AppendsBytes now new (payload_of t))

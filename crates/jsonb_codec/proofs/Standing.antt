@@ -1,6 +1,6 @@
 -- Words that stand in bytes, and what is read there.
-use Rattle.std.proofs.Common.{◌≡◌, ℕ, ◌+◌, ◌%◌, ◌^◌, ◌<◌, ◌≤◌, List, [], ◌++◌, Vec, Global, Result}
-use Rattle.std.proofs.Common.{Ok, Err, length, rules, take, drop, refl, sym, ap, ◌∙◌, arith}
+use Rattle.std.proofs.Common.{◌≡◌, ℕ, ◌+◌, ◌-◌, ◌%◌, ◌^◌, ◌<◌, ◌≤◌, List, [], ◌++◌, Vec, Global, Result}
+use Rattle.std.proofs.Common.{Ok, Err, length, rules, take, drop, refl, sym, ap, subst, ◌∙◌, arith}
 use Rattle.std.proofs.Common.{length-append, append_assoc}
 use Rattle.std.specs.Int.{w32, from_be_bytes}
 use Rattle.std.proofs.lemmas.List.{drop_at, take_at, append-nil}
@@ -8,8 +8,11 @@ use Rattle.jsonb_value.specs.Tree.{Tree}
 use Rattle.jsonb_value.specs.declared.error.Error.{Error}
 use Rattle.jsonb_codec.specs.Word.{word, word_at}
 use Rattle.jsonb_codec.specs.Doc.{type_of}
-use Rattle.jsonb_codec.specs.Room.{AppendsBytes, Stands}
+use Rattle.jsonb_codec.specs.Canon.{payload_of, entry_word}
+use Rattle.jsonb_codec.specs.Room.{AppendsBytes, Stands, CanWriteDocument, CanEnter, CanFollow}
+use Rattle.jsonb_codec.proofs.Appending.{length-Appended}
 use Rattle.jsonb_codec.proofs.Entries.{IsType-type_of}
+use Rattle.jsonb_codec.proofs.Lengths.{length-canon-scalar, FitsEntry-scalar}
 use Rattle.jsonb_codec.proofs.Words.{length-word, length-word-append, word-value}
 
 -- what was appended stands from the old end on
@@ -59,6 +62,34 @@ Stands-first at words others bytes s = record {
   parts = s.parts ∙ ap (λ (x : List ℕ). s.front ++ x) (append_assoc words others s.rest);
   is_at = s.is_at;
 }
+
+-- Behind a scalar's header its entry word can be written,
+pub CanEnter-scalar : {out headed : Vec ℕ Global} {t : Tree} {size : ℕ} → CanWriteDocument out t size
+    → (type_of t ≡ 1342177280 → ⊥) → AppendsBytes out headed (word 536870912)
+    → CanEnter headed t (size - 8)
+CanEnter-scalar {t = t} can other header =
+    let long = length-canon-scalar t other in
+    record {
+      fits = FitsEntry-scalar t other can.fits;
+      len = omega (arith, can.len, long);
+      room = omega
+          (arith, can.room, long, length-Appended header, header.capacity, length-word 536870912, length-word (type_of t + length (payload_of t)));
+    }
+
+-- and behind that its payload.
+pub CanFollow-scalar : {out headed now : Vec ℕ Global} {t : Tree} {size : ℕ}
+    → CanWriteDocument out t size → (type_of t ≡ 1342177280 → ⊥)
+    → AppendsBytes out headed (word 536870912) → AppendsBytes headed now (entry_word t) → (entry : ℕ)
+    → entry ≡ length headed.items → CanFollow now t entry
+CanFollow-scalar {now = now} {t = t} can other header word entry at =
+    let enter = CanEnter-scalar can other header in
+    record {
+      fits = enter.fits;
+      stands =
+          subst (λ (n : ℕ). Stands n (entry_word t) now.items) (sym at) (Stands-Appended word);
+      room = omega
+          (arith, can.room, length-canon-scalar t other, length-Appended header, header.capacity, length-Appended word, word.capacity, length-word 536870912, length-word (type_of t + length (payload_of t)));
+    }
 
 -- A word is inside,
 pub Stands-within : (at k : ℕ) (bytes : List ℕ) → Stands at (word k) bytes → at + 4 ≤ length bytes

@@ -13,7 +13,7 @@ use crate::constants::{CONTAINER_TAG, EXTENSION_TAG, NUMBER_TAG};
 use crate::document::DocumentBytes;
 use crate::parts::{Children, Part};
 use jsonb_value::{ExtensionValue, Number};
-pub use rewrite::append_canonical;
+pub use rewrite::{append_canonical, append_canonical_document};
 
 /// Whether the bytes are the one document that is written for some tree: a document in which each
 /// whole number stands in the fewest bytes, zero as the one byte 0, and no decimal and no point in

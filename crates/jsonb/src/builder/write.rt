@@ -13,9 +13,9 @@ ghost use Rattle.jsonb.specs.Children.{children_views, pair_views, key_texts, va
 ghost use Rattle.jsonb.specs.Children.{object_parts};
 
 use super::children::Children;
-use crate::code::append_word;
 use crate::item::JsonbItem;
 use crate::owned::OwnedJsonb;
+use jsonb_codec::append_word;
 use jsonb_codec::constants::{
     ARRAY_CONTAINER_TAG, CONTAINER_HEADER_LEN_MASK, OBJECT_CONTAINER_TAG,
 };

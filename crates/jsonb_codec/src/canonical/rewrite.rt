@@ -12,8 +12,10 @@ ghost use Rattle.jsonb_value.specs.WellFormed.{IsTree};
 ghost use Rattle.jsonb_codec.specs.Doc.{Doc, IsDocument};
 ghost use Rattle.jsonb_codec.specs.Canon.{payload_of, entry_word, entries_of, payloads_of, canon};
 ghost use Rattle.jsonb_codec.specs.Canon.{AllFit, FitsInside, FitsEntry, Fits};
+ghost use Rattle.jsonb_codec.specs.DocumentBytes.{bytes_of};
 ghost use Rattle.jsonb_codec.specs.Contents.{Means, AreChildren};
 ghost use Rattle.jsonb_codec.specs.Room.{HasRoom, AppendsBytes, Stands};
+ghost use Rattle.jsonb_codec.specs.Room.{CanWrite, CanWriteDocument, CanEnter, CanFollow};
 ghost use Rattle.jsonb_codec.specs.Rewriting.{LeavesTo};
 
 use crate::constants::{CONTAINER_TAG, EXTENSION_TAG, NUMBER_TAG, SCALAR_CONTAINER_TAG};
@@ -47,6 +49,26 @@ pub fn append_canonical(buf: &mut Vec<u8>, bytes: &[u8]) -> Result<(), Error>
     let Some(document) = DocumentBytes::new(bytes) else {
         return Err(Error::InvalidJsonb);
     };
+    append_canonical_document(buf, document)
+}
+
+/// The same of a document that was checked: `InvalidJsonb` comes only where a payload of its tree
+/// is past its limit once it is written.
+pub fn append_canonical_document(
+    buf: &mut Vec<u8>,
+    document: DocumentBytes<'_>,
+) -> Result<(), Error>
+    ensures appended { OnOk result ((t : Tree) → Doc (bytes_of document.entry) t
+        → Fits t × (buf.new.items ≡ buf.old.items ++ canon t)) }
+    ensures err { OnErr result (buf.new.items ≡ buf.old.items) }
+    ensures past { (result ≡ Err Error.InvalidJsonb)
+        ↔ ((t : Tree) → Doc (bytes_of document.entry) t → Fits t → ⊥) }
+    ensures memory { result ≡ Err Error.OutOfMemory
+        → (t : Tree) × (Doc (bytes_of document.entry) t × Fits t) }
+    ensures only { IfErr result (λ e. (e ≡ Error.InvalidJsonb) ⊎ (e ≡ Error.OutOfMemory)) }
+    ensures room { (t : Tree) → Doc (bytes_of document.entry) t → Fits t
+        → length buf.old.items + length (canon t) ≤ vec_capacity buf.old → IsOk result }
+{
     let whole = document.part();
     let Some(size) = measure_document(whole) else {
         return Err(Error::InvalidJsonb);
@@ -134,12 +156,8 @@ fn measure_payloads(children: Children<'_>) -> Option<usize>
 
 // Appends the canonical document, which has that length, where there is room for all of it.
 fn append_document(out: &mut Vec<u8>, whole: Part<'_>, size: usize)
-    requires document { (t : Tree) × (Means whole t
-        × (Fits t × HasRoom out.old (canon t))) }
-    requires size { (t : Tree) → Means whole t
-        → size ≡ length (canon t) }
-    ensures { (t : Tree) → Means whole.entry t
-        → AppendsBytes out.old out.new (canon t) }
+    requires { (t : Tree) × (Means whole t × CanWriteDocument out.old t size) }
+    ensures { (t : Tree) → Means whole.entry t → AppendsBytes out.old out.new (canon t) }
 {
     if whole.tag == CONTAINER_TAG {
         append_container(out, whole, size);
@@ -153,12 +171,8 @@ fn append_document(out: &mut Vec<u8>, whole: Part<'_>, size: usize)
 
 // The entry word of what is written with that length.
 fn append_entry(out: &mut Vec<u8>, part: Part<'_>, size: usize)
-    requires child { (t : Tree) × (Means part t
-        × (FitsEntry t × HasRoom out.old (entry_word t))) }
-    requires size { (t : Tree) → Means part t
-        → size ≡ length (payload_of t) }
-    ensures { (t : Tree) → Means part.entry t
-        → AppendsBytes out.old out.new (entry_word t) }
+    requires { (t : Tree) × (Means part t × CanEnter out.old t size) }
+    ensures { (t : Tree) → Means part.entry t → AppendsBytes out.old out.new (entry_word t) }
 {
     append_word(out, part.tag + size as u32);
 }
@@ -167,10 +181,8 @@ fn append_entry(out: &mut Vec<u8>, part: Part<'_>, size: usize)
 #[cycle(append)]
 #[inline(always)]
 fn append_payload(out: &mut Vec<u8>, part: Part<'_>, entry: usize)
-    requires part { (t : Tree) × (Means part t × (FitsEntry t
-        × (Stands entry (entry_word t) out.old.items × HasRoom out.old (payload_of t)))) }
-    ensures { (t : Tree) → Means part.entry t
-        → AppendsBytes out.old out.new (payload_of t) }
+    requires { (t : Tree) × (Means part t × CanFollow out.old t entry) }
+    ensures { (t : Tree) → Means part.entry t → AppendsBytes out.old out.new (payload_of t) }
 {
     match part.tag {
         NUMBER_TAG => append_number(out, part.number()),
@@ -187,9 +199,7 @@ fn append_payload(out: &mut Vec<u8>, part: Part<'_>, entry: usize)
 #[cycle(append)]
 fn append_container(out: &mut Vec<u8>, part: Part<'_>, size: usize)
     requires is { part.tag ≡ CONTAINER_TAG }
-    requires container { (t : Tree) × (Means part t
-        × (FitsInside t × HasRoom out.old (payload_of t))) }
-    requires size { (t : Tree) → Means part t → size ≡ length (payload_of t) }
+    requires container { (t : Tree) × (Means part t × CanWrite out.old t size) }
     ensures { (t : Tree) → Means part.entry t → AppendsBytes out.old out.new (payload_of t) }
 {
     let container = part.container();

@@ -13,9 +13,10 @@ ghost use Rattle.jsonb_value.specs.ExtCode.{extension_payload, extension_of};
 ghost use Rattle.jsonb_codec.specs.Word.{word};
 ghost use Rattle.jsonb_codec.specs.Canon.{payload_of, entry_word, entries_of, payloads_of};
 ghost use Rattle.jsonb_codec.specs.Canon.{key_entries, value_entries, key_payloads, value_payloads};
-ghost use Rattle.jsonb_codec.specs.Canon.{canon, AllFit, PairsFit, FitsInside, FitsEntry, Fits};
+ghost use Rattle.jsonb_codec.specs.Canon.{canon, AllFit, PairsFit, FitsInside, FitsEntry};
 ghost use Rattle.jsonb_codec.specs.Node.{node_tree, items_trees, object_pairs};
 ghost use Rattle.jsonb_codec.specs.Room.{HasRoom, AppendsBytes, Stands};
+ghost use Rattle.jsonb_codec.specs.Room.{CanWrite, CanWriteDocument, CanEnter, CanFollow};
 
 use super::node::{AstPair, Items, Node, Pairs};
 use super::within::{item_size, value_size};
@@ -32,9 +33,7 @@ const PLAIN_LEVELS: usize = 4;
 
 /// Appends the canonical document of a value that fits, which has that length.
 pub fn append_document(out: &mut Vec<u8>, node: Node<'_, '_>, size: usize)
-    requires fits { Fits (node_tree node) }
-    requires size { size ≡ length (canon (node_tree node)) }
-    requires room { HasRoom out.old (canon (node_tree node)) }
+    requires { CanWriteDocument out.old (node_tree node) size }
     ensures { AppendsBytes out.old out.new (canon (node_tree node.entry)) }
 {
     match node {
@@ -73,9 +72,7 @@ pub fn append_word(out: &mut Vec<u8>, number: u32)
 // The entry word of a value, whose payload has that length.
 #[inline(always)]
 fn append_entry(out: &mut Vec<u8>, node: Node<'_, '_>, size: usize)
-    requires fits { FitsEntry (node_tree node) }
-    requires size { size ≡ length (payload_of (node_tree node)) }
-    requires room { HasRoom out.old (entry_word (node_tree node)) }
+    requires { CanEnter out.old (node_tree node) size }
     ensures { AppendsBytes out.old out.new (entry_word (node_tree node.entry)) }
 {
     append_word(out, node.type_code() + size as u32);
@@ -98,9 +95,7 @@ pub fn written_size(out: &Vec<u8>, entry: usize) -> usize
 #[cycle(append)]
 #[inline(always)]
 fn append_payload(out: &mut Vec<u8>, node: Node<'_, '_>, entry: usize, plain_levels: usize)
-    requires fits { FitsEntry (node_tree node) }
-    requires entry { Stands entry (entry_word (node_tree node)) out.old.items }
-    requires room { HasRoom out.old (payload_of (node_tree node)) }
+    requires { CanFollow out.old (node_tree node) entry }
     ensures { AppendsBytes out.old out.new (payload_of (node_tree node.entry)) }
 {
     match node {
@@ -145,9 +140,7 @@ pub fn append_extension(out: &mut Vec<u8>, value: ExtensionValue<'_>)
 #[cycle(append)]
 #[inline(always)]
 fn append_array(out: &mut Vec<u8>, items: Items<'_, '_>, size: usize, plain_levels: usize)
-    requires fits { FitsInside (array (items_trees items)) }
-    requires size { size ≡ length (payload_of (array (items_trees items))) }
-    requires room { HasRoom out.old (payload_of (array (items_trees items))) }
+    requires { CanWrite out.old (array (items_trees items)) size }
     ensures { AppendsBytes out.old out.new (payload_of (array (items_trees items.entry))) }
 {
     match items {
@@ -160,9 +153,7 @@ fn append_array(out: &mut Vec<u8>, items: Items<'_, '_>, size: usize, plain_leve
 #[cycle(append)]
 #[inline(always)]
 fn append_object(out: &mut Vec<u8>, pairs: Pairs<'_, '_>, size: usize, plain_levels: usize)
-    requires fits { FitsInside (object (object_pairs pairs)) }
-    requires size { size ≡ length (payload_of (object (object_pairs pairs))) }
-    requires room { HasRoom out.old (payload_of (object (object_pairs pairs))) }
+    requires { CanWrite out.old (object (object_pairs pairs)) size }
     ensures { AppendsBytes out.old out.new (payload_of (object (object_pairs pairs.entry))) }
 {
     match pairs {
@@ -174,9 +165,7 @@ fn append_object(out: &mut Vec<u8>, pairs: Pairs<'_, '_>, size: usize, plain_lev
 // The four below are functions of their own, so that the code of each knows what it walks over.
 #[cycle(append)]
 fn append_value_items(out: &mut Vec<u8>, items: &[Value<'_>], size: usize, plain_levels: usize)
-    requires fits { FitsInside (array (items_view items.now)) }
-    requires size { size ≡ length (payload_of (array (items_view items.now))) }
-    requires room { HasRoom out.old (payload_of (array (items_view items.now))) }
+    requires { CanWrite out.old (array (items_view items.now)) size }
     ensures { AppendsBytes out.old out.new (payload_of (array (items_view items.now))) }
 {
     append_items(out, Items::Values(items), size, plain_levels);
@@ -184,9 +173,7 @@ fn append_value_items(out: &mut Vec<u8>, items: &[Value<'_>], size: usize, plain
 
 #[cycle(append)]
 fn append_ast_items(out: &mut Vec<u8>, items: &[JsonAst<'_>], size: usize, plain_levels: usize)
-    requires fits { FitsInside (array (asts_view items.now)) }
-    requires size { size ≡ length (payload_of (array (asts_view items.now))) }
-    requires room { HasRoom out.old (payload_of (array (asts_view items.now))) }
+    requires { CanWrite out.old (array (asts_view items.now)) size }
     ensures { AppendsBytes out.old out.new (payload_of (array (asts_view items.now))) }
 {
     append_items(out, Items::Asts(items), size, plain_levels);
@@ -194,9 +181,7 @@ fn append_ast_items(out: &mut Vec<u8>, items: &[JsonAst<'_>], size: usize, plain
 
 #[cycle(append)]
 fn append_value_pairs(out: &mut Vec<u8>, pairs: &Object<'_>, size: usize, plain_levels: usize)
-    requires fits { FitsInside (object (pairs_view pairs.now.entries)) }
-    requires size { size ≡ length (payload_of (object (pairs_view pairs.now.entries))) }
-    requires room { HasRoom out.old (payload_of (object (pairs_view pairs.now.entries))) }
+    requires { CanWrite out.old (object (pairs_view pairs.now.entries)) size }
     ensures { AppendsBytes out.old out.new (payload_of (object (pairs_view pairs.now.entries))) }
 {
     append_pairs(out, Pairs::Values(pairs), size, plain_levels);
@@ -204,9 +189,7 @@ fn append_value_pairs(out: &mut Vec<u8>, pairs: &Object<'_>, size: usize, plain_
 
 #[cycle(append)]
 fn append_ast_pairs(out: &mut Vec<u8>, pairs: &[AstPair<'_>], size: usize, plain_levels: usize)
-    requires fits { FitsInside (object (ast_pairs_view pairs.now)) }
-    requires size { size ≡ length (payload_of (object (ast_pairs_view pairs.now))) }
-    requires room { HasRoom out.old (payload_of (object (ast_pairs_view pairs.now))) }
+    requires { CanWrite out.old (object (ast_pairs_view pairs.now)) size }
     ensures { AppendsBytes out.old out.new (payload_of (object (ast_pairs_view pairs.now))) }
 {
     append_pairs(out, Pairs::Asts(pairs), size, plain_levels);
@@ -216,9 +199,7 @@ fn append_ast_pairs(out: &mut Vec<u8>, pairs: &[AstPair<'_>], size: usize, plain
 #[cycle(append)]
 #[inline(always)]
 fn append_items(out: &mut Vec<u8>, items: Items<'_, '_>, size: usize, plain_levels: usize)
-    requires fits { FitsInside (array (items_trees items)) }
-    requires size { size ≡ length (payload_of (array (items_trees items))) }
-    requires room { HasRoom out.old (payload_of (array (items_trees items))) }
+    requires { CanWrite out.old (array (items_trees items)) size }
     ensures { AppendsBytes out.old out.new (payload_of (array (items_trees items.entry))) }
 {
     let count = items.len();
@@ -270,9 +251,7 @@ fn append_payloads(out: &mut Vec<u8>, items: Items<'_, '_>, entries: usize, plai
 #[cycle(append)]
 #[inline(always)]
 fn append_pairs(out: &mut Vec<u8>, pairs: Pairs<'_, '_>, size: usize, plain_levels: usize)
-    requires fits { FitsInside (object (object_pairs pairs)) }
-    requires size { size ≡ length (payload_of (object (object_pairs pairs))) }
-    requires room { HasRoom out.old (payload_of (object (object_pairs pairs))) }
+    requires { CanWrite out.old (object (object_pairs pairs)) size }
     ensures { AppendsBytes out.old out.new (payload_of (object (object_pairs pairs.entry))) }
 {
     let count = pairs.len();

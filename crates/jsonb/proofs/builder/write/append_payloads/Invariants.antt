@@ -1,20 +1,17 @@
-use Rattle.std.proofs.Common.{◌≡◌, ◌≤◌, ◌++◌, length, vec_capacity}
-use Rattle.jsonb_codec.specs.Room.{HasRoom}
+use Rattle.std.proofs.Common.{length}
+use Rattle.jsonb_codec.proofs.Appending.{Underway}
 use Rattle.jsonb.specs.Stored.{codes_of, AreStorable}
 use Rattle.jsonb.specs.Building.{code_payloads}
 use Rattle.jsonb.specs.Children.{children_views}
 use Rattle.jsonb.proofs.builder.write.append_payloads.Given as goal
 
--- What is written and what is left to write is the whole.
 abbrev pub invariant-loop-child : goal.invariant-loop-child
 invariant-loop-child l =
     let left = children_views l.left in
     record {
       storable : AreStorable left;
-      room : HasRoom l.out (code_payloads (codes_of left));
-      written : l.out.items ++ code_payloads (codes_of left) ≡ l.fn.out.items
-          ++ code_payloads (codes_of (children_views l.fn.children));
-      capacity : vec_capacity l.fn.out ≤ vec_capacity l.out;
+      underway : Underway l.fn.out l.out (code_payloads (codes_of (children_views l.fn.children)))
+          (code_payloads (codes_of left));
     }
 
 abbrev pub decreases-loop-child : goal.decreases-loop-child

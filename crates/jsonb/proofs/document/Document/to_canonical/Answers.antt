@@ -1,34 +1,44 @@
-use Rattle.std.proofs.Common.{◌≡◌, ℕ, List, Result, Ok, Err, IfOk, ap, sym, subst, ◌∙◌}
+use Rattle.std.proofs.Common.{◌≡◌, ◌↔◌, List, ℕ, ◌++◌, Result, Err, rules, refl, ap, subst, ◌∙◌}
 use Rattle.jsonb_value.specs.declared.error.Error.{Error}
+use Rattle.jsonb_value.specs.declared.error.Error.TheVariants.{InvalidJsonb}
 use Rattle.jsonb_value.specs.Tree.{Tree}
 use Rattle.jsonb_codec.specs.Canon.{canon, Fits}
 use Rattle.jsonb_codec.specs.Doc.{Doc}
 use Rattle.jsonb_codec.proofs.Unique.{Doc-unique}
-use Rattle.jsonb.specs.declared.owned.OwnedJsonb.{OwnedJsonb}
 use Rattle.jsonb.specs.Document.{document_tree}
-use Rattle.jsonb.specs.Owned.{owned_bytes}
-use Rattle.jsonb.specs.Raw.{raw_bytes}
+use Rattle.jsonb.proofs.DocumentLaws.{tree_of_bytes}
 use Rattle.jsonb.proofs.document.Document.to_canonical.Goals as goal
 
--- the one tree of the bytes is written
-written : (r : Result OwnedJsonb Error) (b : List ℕ) (t : Tree) → Doc b t
-    → IfOk r (λ owned. (u : Tree) × (Doc b u × (Fits u × (owned_bytes owned ≡ canon u))))
-    → IfOk r (λ owned. owned_bytes owned ≡ canon t)
-written (Ok owned) b t doc told = told.1.1.1 ∙ ap canon (Doc-unique b told.0 t told.1.0 doc)
-written (Err e) b t doc told = tt
+-- a refusal that is handed on says the same of the one tree of the bytes
+handed_on : {A B : Type 0} (r : Result A Error) (s : Result B Error) (e : Error) (b : List ℕ)
+    (t : Tree) → r ≡ Err e → s ≡ Err e → Doc b t
+    → (s ≡ Err InvalidJsonb) ↔ ((u : Tree) → Doc b u → Fits u → ⊥)
+    → (r ≡ Err InvalidJsonb) ↔ (Fits t → ⊥)
+handed_on r s e b t r_is s_is doc past = (
+  λ refused.
+      let is : e ≡ InvalidJsonb = cc in past.0 (s_is ∙ ap Err is) t doc,
+  λ none.
+      let told = past.1 (λ u h fits. none (subst Fits (Doc-unique b u t h doc) fits)) in
+      let is : e ≡ InvalidJsonb = cc in r_is ∙ ap Err is,
+)
+
+pub returns-in_err-append_canonical_document-clause-past : goal.returns-in_err-append_canonical_document-clause-past
+returns-in_err-append_canonical_document-clause-past c =
+    let e = c.in_err-append_canonical_document.field-0.0 in
+    let handed : c.from_residual.result ≡ Err e = search rules in
+    let refused : c.append_canonical_document.result ≡ Err e = search rules in
+    handed_on _ _ e _ _ handed refused
+    (tree_of_bytes _ c.args.self.now refl) c.append_canonical_document.ensures.past
 
 pub returns-clause-ok : goal.returns-clause-ok
 returns-clause-ok c =
     let t = document_tree c.args.self.now in
-    written c.to_canonical.result (raw_bytes c.as_raw.result) t c.as_raw.ensures.document
-    c.to_canonical.ensures.ok
+    let doc = tree_of_bytes _ c.args.self.now refl in
+    let known = c.in_ok-append_canonical_document.ensures.appended t doc in
+    c.new.ensures ∙ known.1 ∙ ap (λ (x : List ℕ). x ++ canon t) c.new-bytes.ensures.items
 
 pub returns-clause-past : goal.returns-clause-past
 returns-clause-past c =
-    let b = raw_bytes c.as_raw.result in
-    let t = document_tree c.args.self.now in
-    let doc : Doc b t = c.as_raw.ensures.document in
-    let past = c.to_canonical.ensures.past in (
-      λ refused. past.0 refused t doc,
-      λ none. past.1 (λ u h fits. none (subst Fits (Doc-unique b u t h doc) fits)),
-    )
+    let doc = tree_of_bytes _ c.args.self.now refl in
+    let known = c.in_ok-append_canonical_document.ensures.appended _ doc in
+    (λ refused. absurd (let never : ⊥ = cc in never), λ none. absurd (none known.0))

@@ -1,4 +1,4 @@
-use Rattle.std.proofs.Common.{◌≤◌, ◌+◌, ◌*◌, length, vec_capacity}
+use Rattle.std.proofs.Common.{◌≤◌, ◌+◌, ◌*◌, length}
 use Rattle.jsonb_codec.proofs.Rewriting.{Followed}
 use Rattle.jsonb_codec.proofs.canonical.rewrite.+append.Given as goal
 
@@ -16,7 +16,6 @@ decreases-append_payloads l =
 abbrev pub invariant-append_payloads-loop-child : goal.invariant-append_payloads-loop-child
 invariant-append_payloads-loop-child l = record {
   followed : Followed l.fn.out l.out l.children.entries.now l.children.payloads.now l.entry l.left.entries.now l.left.payloads.now;
-  capacity : vec_capacity l.fn.out ≤ vec_capacity l.out;
   payloads_shorter : length l.left.payloads.now ≤ length l.children.payloads.now;
 }
 

@@ -1,4 +1,4 @@
-use Rattle.std.proofs.Common.{refl, arith, le_trans}
+use Rattle.std.proofs.Common.{refl, arith}
 use Rattle.jsonb_codec.specs.Canon.{entries_of}
 use Rattle.jsonb_codec.proofs.Rewriting.{written_end, entered_start, entered_size, entered_next}
 use Rattle.jsonb_codec.proofs.Rewriting.{entered_within, entered_on}
@@ -7,7 +7,6 @@ use Rattle.jsonb_codec.proofs.canonical.rewrite.append_entries.Goals as goal
 pub loop-child-init : goal.loop-child-init
 loop-child-init c = record {
   entered = entered_start _ _ _ _ c.requires.children c.requires.size;
-  capacity = omega arith;
   fewer = omega arith;
 }
 
@@ -22,10 +21,11 @@ child_size-size-requires c =
           (arith, c.requires.few, l.invariant.fewer, c.in-Some.ensures.entries_len);
     }
 
-pub append_entry-requires-clause-child : goal.append_entry-requires-clause-child
-append_entry-requires-clause-child c =
+pub append_entry-requires : goal.append_entry-requires
+append_entry-requires c =
     let l = c.loop-child in let m = l.invariant.entered in
-    entered_next _ _ _ _ _ _ _ m _ _ _ _ (c.in-Some.ensures.first m.written.left m.written.are_left)
+    entered_next _ _ _ _ _ _ _ m _ _ _ _
+    (c.in-Some.ensures.first m.written.left m.written.are_left) _ c.child_size-size.ensures
 
 pub overflow_sub-size_left : goal.overflow_sub-size_left
 overflow_sub-size_left c =
@@ -40,15 +40,10 @@ loop-child-preserved c =
     record {
       entered =
           entered_on _ _ _ _ _ _ _ m _ _ _ _ f c.append_entry.new.out c.child_size-size.result c.child_size-size.ensures c.append_entry.ensures;
-      capacity = le_trans l.invariant.capacity (c.append_entry.ensures f.first f.is).capacity;
       fewer = omega (arith, l.invariant.fewer, c.in-Some.ensures.entries_len);
     }
 
 pub returns : goal.returns
 returns c ts h =
     let l = c.loop-child in let w = l.invariant.entered.written in
-    record {
-      items = written_end entries_of _ _ _ _ _ _ refl w
-          (c.in_default.ensures.none w.left w.are_left) ts h;
-      capacity = l.invariant.capacity;
-    }
+    written_end entries_of _ _ _ _ _ _ refl w (c.in_default.ensures.none w.left w.are_left) ts h

@@ -1,11 +1,10 @@
-use Rattle.std.proofs.Common.{◌≤◌, length, vec_capacity}
+use Rattle.std.proofs.Common.{◌≤◌, length}
 use Rattle.jsonb_codec.proofs.Rewriting.{Entered}
 use Rattle.jsonb_codec.proofs.canonical.rewrite.append_entries.Given as goal
 
 abbrev pub invariant-loop-child : goal.invariant-loop-child
 invariant-loop-child l = record {
   entered : Entered l.fn.out l.out l.children.entries.now l.children.payloads.now l.size_left l.left.entries.now l.left.payloads.now;
-  capacity : vec_capacity l.fn.out ≤ vec_capacity l.out;
   fewer : length l.left.entries.now ≤ length l.children.entries.now;
 }
 

@@ -6,7 +6,8 @@ use Rattle.jsonb_codec.specs.Canon.{entries_of, payloads_of, value_entries, valu
 use Rattle.jsonb_codec.specs.Canon.{PairsFit}
 use Rattle.jsonb_codec.specs.Depth.{size, sizes, pair_sizes}
 use Rattle.jsonb_codec.specs.Node.{node_tree, items_trees, object_pairs, left_pairs}
-use Rattle.jsonb_codec.specs.Room.{HasRoom, Stands}
+use Rattle.jsonb_codec.specs.Room.{Stands}
+use Rattle.jsonb_codec.proofs.Appending.{Underway}
 use Rattle.jsonb_codec.proofs.ser.append.+append.Given as goal
 
 -- A tree is larger than what stands in it.
@@ -51,9 +52,7 @@ invariant-append_payloads-loop-item l =
     let left = items_trees l.left in
     record {
       fit : AllFit left;
-      room : HasRoom l.out (payloads_of left);
-      written : l.out.items ++ payloads_of left ≡ l.fn.out.items ++ payloads_of all;
-      capacity : vec_capacity l.fn.out ≤ vec_capacity l.out;
+      underway : Underway l.fn.out l.out (payloads_of all) (payloads_of left);
       smaller : sizes left ≤ sizes all;
       words : Stands l.entry (entries_of left) l.out.items;
     }
@@ -67,9 +66,7 @@ invariant-append_values-loop-value l =
     let left = left_pairs l.left in
     record {
       fit : PairsFit left;
-      room : HasRoom l.out (value_payloads left);
-      written : l.out.items ++ value_payloads left ≡ l.fn.out.items ++ value_payloads all;
-      capacity : vec_capacity l.fn.out ≤ vec_capacity l.out;
+      underway : Underway l.fn.out l.out (value_payloads all) (value_payloads left);
       smaller : pair_sizes left ≤ pair_sizes all;
       words : Stands l.entry (value_entries left) l.out.items;
     }

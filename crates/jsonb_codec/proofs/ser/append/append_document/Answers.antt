@@ -6,6 +6,7 @@ use Rattle.jsonb_codec.specs.declared.ser.node.Node.TheVariants as nodes
 use Rattle.jsonb_codec.specs.declared.ser.node.Items.{Items}
 use Rattle.jsonb_codec.specs.declared.ser.node.Pairs.{Pairs}
 use Rattle.jsonb_codec.proofs.Lengths.{length-canon-scalar}
+use Rattle.jsonb_codec.proofs.Standing.{CanEnter-scalar}
 use Rattle.jsonb_codec.proofs.ser.append.append_document.Goals as goal
 
 -- What is neither array nor object has no container's type.
@@ -24,24 +25,12 @@ pub overflow_sub-size : goal.overflow_sub-size
 overflow_sub-size c =
     omega (
       arith,
-      c.requires.size,
+      c.requires.len,
       length-canon-scalar (node_tree c.args.node)
           (scalar_type c.args.node c.in_default.not-Array c.in_default.not-Object),
     )
 
-pub append_entry-requires-clause-fits : goal.append_entry-requires-clause-fits
-append_entry-requires-clause-fits c =
-    record {
-      inside = c.requires.fits.inside;
-      short = c.requires.fits.short
-          (scalar_type c.args.node c.in_default.not-Array c.in_default.not-Object);
-    }
-
-pub append_entry-requires-clause-size : goal.append_entry-requires-clause-size
-append_entry-requires-clause-size c =
-    omega (
-      arith,
-      c.requires.size,
-      length-canon-scalar (node_tree c.args.node)
-          (scalar_type c.args.node c.in_default.not-Array c.in_default.not-Object),
-    )
+pub append_entry-requires : goal.append_entry-requires
+append_entry-requires c =
+    CanEnter-scalar c.requires
+    (scalar_type c.args.node c.in_default.not-Array c.in_default.not-Object) c.append_word.ensures

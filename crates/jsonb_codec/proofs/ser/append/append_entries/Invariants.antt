@@ -2,7 +2,7 @@ use Rattle.std.proofs.Common.{◌≡◌, ◌≤◌, ◌++◌, length, vec_capaci
 use Rattle.jsonb_value.specs.Tree.{count}
 use Rattle.jsonb_codec.specs.Canon.{entries_of, payloads_of, AllFit}
 use Rattle.jsonb_codec.specs.Node.{items_trees}
-use Rattle.jsonb_codec.specs.Room.{HasRoom}
+use Rattle.jsonb_codec.proofs.Appending.{Underway}
 use Rattle.jsonb_codec.proofs.ser.append.append_entries.Given as goal
 
 abbrev pub invariant-loop-item : goal.invariant-loop-item
@@ -11,9 +11,7 @@ invariant-loop-item l =
     let left = items_trees l.left in
     record {
       fit : AllFit left;
-      room : HasRoom l.out (entries_of left);
-      written : l.out.items ++ entries_of left ≡ l.fn.out.items ++ entries_of all;
-      capacity : vec_capacity l.fn.out ≤ vec_capacity l.out;
+      underway : Underway l.fn.out l.out (entries_of all) (entries_of left);
       size_left : l.size_left ≡ length (payloads_of left);
       few : count left ≤ count all;
     }

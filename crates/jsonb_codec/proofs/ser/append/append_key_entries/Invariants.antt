@@ -2,7 +2,7 @@ use Rattle.std.proofs.Common.{◌≡◌, ◌≤◌, ◌+◌, ◌++◌, length, v
 use Rattle.jsonb_value.specs.Tree.{pair_count}
 use Rattle.jsonb_codec.specs.Canon.{key_entries, key_payloads, PairsFit}
 use Rattle.jsonb_codec.specs.Node.{object_pairs, left_pairs}
-use Rattle.jsonb_codec.specs.Room.{HasRoom}
+use Rattle.jsonb_codec.proofs.Appending.{Underway}
 use Rattle.jsonb_codec.proofs.ser.append.append_key_entries.Given as goal
 
 abbrev pub invariant-loop-key : goal.invariant-loop-key
@@ -11,9 +11,7 @@ invariant-loop-key l =
     let left = left_pairs l.left in
     record {
       fit : PairsFit left;
-      room : HasRoom l.out (key_entries left);
-      written : l.out.items ++ key_entries left ≡ l.fn.out.items ++ key_entries all;
-      capacity : vec_capacity l.fn.out ≤ vec_capacity l.out;
+      underway : Underway l.fn.out l.out (key_entries all) (key_entries left);
       size : l.size + length (key_payloads left) ≡ length (key_payloads all);
     }
 

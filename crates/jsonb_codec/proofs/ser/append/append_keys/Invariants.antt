@@ -2,17 +2,14 @@ use Rattle.std.proofs.Common.{◌≡◌, ◌≤◌, ◌++◌, vec_capacity}
 use Rattle.jsonb_value.specs.Tree.{pair_count}
 use Rattle.jsonb_codec.specs.Canon.{key_payloads}
 use Rattle.jsonb_codec.specs.Node.{object_pairs, left_pairs}
-use Rattle.jsonb_codec.specs.Room.{HasRoom}
+use Rattle.jsonb_codec.proofs.Appending.{Underway}
 use Rattle.jsonb_codec.proofs.ser.append.append_keys.Given as goal
 
 abbrev pub invariant-loop-key : goal.invariant-loop-key
 invariant-loop-key l =
     let left = left_pairs l.left in
     record {
-      room : HasRoom l.out (key_payloads left);
-      written : l.out.items ++ key_payloads left ≡ l.fn.out.items
-          ++ key_payloads (object_pairs l.fn.pairs);
-      capacity : vec_capacity l.fn.out ≤ vec_capacity l.out;
+      underway : Underway l.fn.out l.out (key_payloads (object_pairs l.fn.pairs)) (key_payloads left);
     }
 
 abbrev pub decreases-loop-key : goal.decreases-loop-key

@@ -2,7 +2,7 @@ use Rattle.std.proofs.Common.{◌≡◌, ◌≤◌, ◌++◌, length, vec_capaci
 use Rattle.jsonb_value.specs.Tree.{pair_count}
 use Rattle.jsonb_codec.specs.Canon.{value_entries, value_payloads, PairsFit}
 use Rattle.jsonb_codec.specs.Node.{object_pairs, left_pairs}
-use Rattle.jsonb_codec.specs.Room.{HasRoom}
+use Rattle.jsonb_codec.proofs.Appending.{Underway}
 use Rattle.jsonb_codec.proofs.ser.append.append_value_entries.Given as goal
 
 abbrev pub invariant-loop-value : goal.invariant-loop-value
@@ -11,9 +11,7 @@ invariant-loop-value l =
     let left = left_pairs l.left in
     record {
       fit : PairsFit left;
-      room : HasRoom l.out (value_entries left);
-      written : l.out.items ++ value_entries left ≡ l.fn.out.items ++ value_entries all;
-      capacity : vec_capacity l.fn.out ≤ vec_capacity l.out;
+      underway : Underway l.fn.out l.out (value_entries all) (value_entries left);
       size_left : l.size_left ≡ length (value_payloads left);
       few : pair_count left ≤ pair_count all;
     }
