@@ -1,7 +1,7 @@
 -- What the iterators give on a document.
 use Rattle.std.proofs.Common.{◌≡◌, ◌≢◌, ℕ, ◌+◌, ◌*◌, List, ◌∷◌, ◌++◌, length, Option, Some, None}
-use Rattle.std.proofs.Common.{option_map, Result, Ok, refl, sym, ap, subst, ◌∙◌, inl, inr, true}
-use Rattle.std.proofs.Common.{false, arith, length-append}
+use Rattle.std.proofs.Common.{option_map, Result, Ok, refl, sym, ap, ap₂, subst, ◌∙◌, inl, inr}
+use Rattle.std.proofs.Common.{true, false, arith, length-append}
 use Rattle.jsonb_value.specs.declared.error.Error.{Error}
 use Rattle.jsonb_value.specs.Tree.{Tree, null, boolean, number, text, extension, array, object}
 use Rattle.jsonb_value.specs.Tree.{Trees, no_trees, tree, Pairs, no_pairs, pair, count, pair_count}
@@ -12,10 +12,10 @@ use Rattle.jsonb_codec.specs.Doc.{One, IsKey, Keys, Values, Children, Payload, D
 use Rattle.jsonb.specs.Steps.{◌>>=◌}
 use Rattle.jsonb.specs.ItemView.{ItemView}
 use Rattle.jsonb.specs.ItemView as items
-use Rattle.jsonb.specs.Item.{item_of, entry_at}
-use Rattle.jsonb.specs.Walk.{Walk, items_from, pairs_from, payloads_end, count_if, count_under}
-use Rattle.jsonb.specs.Walk.{array_items, array_walk, key_items, keys_walk, value_items, values_of}
-use Rattle.jsonb.specs.Walk.{values_walk, pair_items, pairs_of, pairs_walk}
+use Rattle.jsonb.specs.Item.{Entry, item_of, entry_at}
+use Rattle.jsonb.specs.Walk.{Walk, entries_from, items_in, pairs_in, payloads_end, count_if}
+use Rattle.jsonb.specs.Walk.{count_under, item_entries, key_entries, item_walk, array_walk}
+use Rattle.jsonb.specs.Walk.{keys_walk, values_of, values_walk, pair_walk, pairs_of, pairs_walk}
 use Rattle.jsonb.specs.Walked.{ShowsTrees, key_views, ShowsValues, ShowsPairs, WalksArray}
 use Rattle.jsonb.specs.Walked.{WalksKeys, WalksValues, WalksPairs}
 use Rattle.jsonb.proofs.Utf8.{is_text_yes}
@@ -24,7 +24,8 @@ use Rattle.jsonb.proofs.Places.{jentry_at-At}
 use Rattle.jsonb.proofs.KindLaws.{IsTag-type_of, header_at-Scalar, header_at-array}
 use Rattle.jsonb.proofs.KindLaws.{header_at-object}
 use Rattle.jsonb.proofs.ItemLaws.{IsItemOf-Payload, entry_at-At}
-use Rattle.jsonb.proofs.StandingLaws.{items_from-first, key_at-entry, pairs_from-first}
+use Rattle.jsonb.proofs.WalkLaws.{entries_from-first, value_entries-end}
+use Rattle.jsonb.proofs.StandingLaws.{items_in-first, key_of-entry, pairs_in-first}
 
 -- the first entry of those that stand in bytes, and where the others stand
 pub record First (bytes : List ℕ) (i j : ℕ) (t : Tree)
@@ -53,26 +54,29 @@ first bytes i j t M O e p h a b =
     }
 
 -- the items of an array
-items_from-Children : (bytes : List ℕ) (ts : Trees) (e p : List ℕ) (i j : ℕ) → Children ts e p
-    → At bytes i e → At bytes j p → ShowsTrees ts (items_from bytes (count ts) i j)
-items_from-Children bytes no_trees e p i j h a b = refl
-items_from-Children bytes (tree t ts) e p i j h a b =
+items_in-Children : (bytes : List ℕ) (ts : Trees) (e p : List ℕ) (i j : ℕ) → Children ts e p
+    → At bytes i e → At bytes j p → ShowsTrees ts (items_in (entries_from bytes (count ts) i j))
+items_in-Children bytes no_trees e p i j h a b = refl
+items_in-Children bytes (tree t ts) e p i j h a b =
     let f = first bytes i j t (Payload t) (Children ts) e p h a b in
     let x = IsItemOf-Payload t h.payload h.short h.means in
-    let step = items_from-first bytes (count ts) i j _ x.0 f.entry x.1.0 in
-    let others = items_from-Children bytes ts h.other_entries h.other_payloads (i + 4)
+    let step = ap items_in (entries_from-first bytes (count ts) i j _ f.entry)
+    ∙ items_in-first _ _ x.0 x.1.0 in
+    let others = items_in-Children bytes ts h.other_entries h.other_payloads (i + 4)
     (j + length h.payload) h.others f.other_entries f.other_payloads in
     subst (ShowsTrees (tree t ts)) (sym step) (x.1.1, others)
 
 -- the values of an object
-items_from-Values : (bytes : List ℕ) (ps : Pairs) (e p : List ℕ) (i j : ℕ) → Values ps e p
-    → At bytes i e → At bytes j p → ShowsValues ps (items_from bytes (pair_count ps) i j)
-items_from-Values bytes no_pairs e p i j h a b = refl
-items_from-Values bytes (pair k t ps) e p i j h a b =
+items_in-Values : (bytes : List ℕ) (ps : Pairs) (e p : List ℕ) (i j : ℕ) → Values ps e p
+    → At bytes i e → At bytes j p
+    → ShowsValues ps (items_in (entries_from bytes (pair_count ps) i j))
+items_in-Values bytes no_pairs e p i j h a b = refl
+items_in-Values bytes (pair k t ps) e p i j h a b =
     let f = first bytes i j t (Payload t) (Values ps) e p h a b in
     let x = IsItemOf-Payload t h.payload h.short h.means in
-    let step = items_from-first bytes (pair_count ps) i j _ x.0 f.entry x.1.0 in
-    let others = items_from-Values bytes ps h.other_entries h.other_payloads (i + 4)
+    let step = ap items_in (entries_from-first bytes (pair_count ps) i j _ f.entry)
+    ∙ items_in-first _ _ x.0 x.1.0 in
+    let others = items_in-Values bytes ps h.other_entries h.other_payloads (i + 4)
     (j + length h.payload) h.others f.other_entries f.other_payloads in
     subst (ShowsValues (pair k t ps)) (sym step) (x.1.1, others)
 
@@ -81,14 +85,15 @@ unfolding item_of
 item_of-key k p h = rw (h.0, is_text_yes k h.1) refl
 
 -- the keys of an object
-items_from-Keys : (bytes : List ℕ) (ps : Pairs) (e p : List ℕ) (i j : ℕ) → Keys ps e p
-    → At bytes i e → At bytes j p → items_from bytes (pair_count ps) i j ≡ key_views ps
-items_from-Keys bytes no_pairs e p i j h a b = refl
-items_from-Keys bytes (pair k t ps) e p i j h a b =
+items_in-Keys : (bytes : List ℕ) (ps : Pairs) (e p : List ℕ) (i j : ℕ) → Keys ps e p
+    → At bytes i e → At bytes j p
+    → items_in (entries_from bytes (pair_count ps) i j) ≡ key_views ps
+items_in-Keys bytes no_pairs e p i j h a b = refl
+items_in-Keys bytes (pair k t ps) e p i j h a b =
     let f = first bytes i j (text k) (IsKey k) (Keys ps) e p h a b in
-    let step = items_from-first bytes (pair_count ps) i j _ (items.text k) f.entry
-    (item_of-key k h.payload h.means) in
-    let others = items_from-Keys bytes ps h.other_entries h.other_payloads (i + 4)
+    let step = ap items_in (entries_from-first bytes (pair_count ps) i j _ f.entry)
+    ∙ items_in-first _ _ (items.text k) (item_of-key k h.payload h.means) in
+    let others = items_in-Keys bytes ps h.other_entries h.other_payloads (i + 4)
     (j + length h.payload) h.others f.other_entries f.other_payloads in
     step ∙ ap (λ (xs : List (Result ItemView Error)). Ok (items.text k) ∷ xs) others
 
@@ -109,19 +114,24 @@ payloads_end-Keys bytes (pair k t ps) e p i j h a b =
     ∙ ap Ok same
 
 -- the pairs of an object
-pairs_from-Pairs : (bytes : List ℕ) (ps : Pairs) (ke kp ve vp : List ℕ) (i j place start : ℕ)
+pairs_in-Pairs : (bytes : List ℕ) (ps : Pairs) (ke kp ve vp : List ℕ) (i j place start : ℕ)
     → Keys ps ke kp → Values ps ve vp
     → At bytes i ke → At bytes j kp → At bytes place ve → At bytes start vp
-    → ShowsPairs ps (pairs_from bytes (pair_count ps) i j place start)
-pairs_from-Pairs bytes no_pairs ke kp ve vp i j place start h k a b c d = refl
-pairs_from-Pairs bytes (pair key t ps) ke kp ve vp i j place start h k a b c d =
+    → ShowsPairs ps (pairs_in (entries_from bytes (pair_count ps) i j)
+    (entries_from bytes (pair_count ps) place start))
+pairs_in-Pairs bytes no_pairs ke kp ve vp i j place start h k a b c d = refl
+pairs_in-Pairs bytes (pair key t ps) ke kp ve vp i j place start h k a b c d =
     let f = first bytes i j (text key) (IsKey key) (Keys ps) ke kp h a b in
     let g = first bytes place start t (Payload t) (Values ps) ve vp k c d in
     let x = IsItemOf-Payload t k.payload k.short k.means in
-    let step = pairs_from-first bytes (pair_count ps) i j place start _ _ key x.0 f.entry
-    (key_at-entry bytes i j key h.payload h.means f.entry) g.entry x.1.0 in
+    let step = ap₂ pairs_in (entries_from-first bytes (pair_count ps) i j _ f.entry)
+    (entries_from-first bytes (pair_count ps) place start _ g.entry)
+    ∙ pairs_in-first record { type = 268435456; payload = h.payload } _
+    (entries_from bytes (pair_count ps) (i + 4) (j + length h.payload))
+    (entries_from bytes (pair_count ps) (place + 4) (start + length k.payload))
+    key x.0 (key_of-entry key h.payload h.means) x.1.0 in
     let others =
-    pairs_from-Pairs bytes ps h.other_entries h.other_payloads k.other_entries k.other_payloads
+    pairs_in-Pairs bytes ps h.other_entries h.other_payloads k.other_entries k.other_payloads
     (i + 4) (j + length h.payload) (place + 4) (start + length k.payload)
     h.others k.others f.other_entries f.other_payloads g.other_entries g.other_payloads in
     subst (ShowsPairs (pair key t ps)) (sym step) (refl, (x.1.1, others))
@@ -218,15 +228,19 @@ count_under-header b tag header e =
     ap (λ (r : Result (ℕ × ℕ) Error). r >>= (λ (h : ℕ × ℕ). Ok (count_if tag h))) e
 
 pub array_walk-header : (b : List ℕ) (header : ℕ × ℕ) → header_at b 0 ≡ Ok header
-    → array_walk b ≡ Ok (option_map (array_items b) (count_if 2147483648 header))
+    → array_walk b
+    ≡ Ok (option_map (λ (n : ℕ). item_walk n (item_entries b n)) (count_if 2147483648 header))
 array_walk-header b header e = ap
-    (λ (r : Result (Option ℕ) Error). r >>= (λ (n : Option ℕ). Ok (option_map (array_items b) n)))
+    (λ (r : Result (Option ℕ) Error). r
+    >>= (λ (n : Option ℕ). Ok (option_map (λ (n : ℕ). item_walk n (item_entries b n)) n)))
     (count_under-header b 2147483648 header e)
 
 keys_walk-header : (b : List ℕ) (header : ℕ × ℕ) → header_at b 0 ≡ Ok header
-    → keys_walk b ≡ Ok (option_map (key_items b) (count_if 1073741824 header))
+    → keys_walk b
+    ≡ Ok (option_map (λ (n : ℕ). item_walk n (key_entries b n)) (count_if 1073741824 header))
 keys_walk-header b header e = ap
-    (λ (r : Result (Option ℕ) Error). r >>= (λ (n : Option ℕ). Ok (option_map (key_items b) n)))
+    (λ (r : Result (Option ℕ) Error). r
+    >>= (λ (n : Option ℕ). Ok (option_map (λ (n : ℕ). item_walk n (key_entries b n)) n)))
     (count_under-header b 1073741824 header e)
 
 pub values_walk-header : (b : List ℕ) (header : ℕ × ℕ) → header_at b 0 ≡ Ok header
@@ -290,7 +304,7 @@ shown_array : (b : List ℕ) (ts : Trees) → Payload (array ts) b
     → WalksArray (array ts) (array_walk b)
 shown_array b ts h =
     let p = array_parts b ts h in
-    let shows = items_from-Children b ts p.entries p.payloads 4
+    let shows = items_in-Children b ts p.entries p.payloads 4
     (4 + 4 * count ts) p.children p.entries_at p.payloads_at in
     let found = array_walk-header b (2147483648, count ts) (header_at-array b ts h) in
     subst (WalksArray (array ts)) (sym found) (refl, shows)
@@ -299,7 +313,7 @@ shown_keys_of : (b : List ℕ) (ps : Pairs) → Payload (object ps) b
     → WalksKeys (object ps) (keys_walk b)
 shown_keys_of b ps h =
     let p = object_parts b ps h in
-    let shows = items_from-Keys b ps p.key_entries p.key_payloads 4
+    let shows = items_in-Keys b ps p.key_entries p.key_payloads 4
     (4 + 8 * pair_count ps) p.keys p.key_entries_at p.key_payloads_at in
     let found = keys_walk-header b (1073741824, pair_count ps) (header_at-object b ps h) in
     subst (WalksKeys (object ps)) (sym found) (refl, shows)
@@ -311,10 +325,12 @@ shown_values b ps h =
     let n = pair_count ps in
     let end = payloads_end-Keys b ps p.key_entries p.key_payloads 4
     (4 + 8 * n) p.keys p.key_entries_at p.key_payloads_at in
-    let shows = items_from-Values b ps p.value_entries p.value_payloads (4 + 4 * n)
+    let shows = items_in-Values b ps p.value_entries p.value_payloads (4 + 4 * n)
     (4 + 8 * n + length p.key_payloads) p.values p.value_entries_at p.value_payloads_at in
     let found = values_walk-header b (1073741824, n) (header_at-object b ps h) ∙ ap
-    (λ (r : Result ℕ Error). r >>= (λ (start : ℕ). Ok (Some (value_items b n start)))) end in
+    (λ (r : Result (List (Result Entry Error)) Error). r
+    >>= (λ (values : List (Result Entry Error)). Ok (Some (item_walk n values))))
+    (value_entries-end b n _ end) in
     subst (WalksValues (object ps)) (sym found) (refl, shows)
 
 shown_pairs : (b : List ℕ) (ps : Pairs) → Payload (object ps) b
@@ -325,11 +341,13 @@ shown_pairs b ps h =
     let end = payloads_end-Keys b ps p.key_entries p.key_payloads 4
     (4 + 8 * n) p.keys p.key_entries_at p.key_payloads_at in
     let shows =
-    pairs_from-Pairs b ps p.key_entries p.key_payloads p.value_entries p.value_payloads 4
+    pairs_in-Pairs b ps p.key_entries p.key_payloads p.value_entries p.value_payloads 4
     (4 + 8 * n) (4 + 4 * n) (4 + 8 * n + length p.key_payloads)
     p.keys p.values p.key_entries_at p.key_payloads_at p.value_entries_at p.value_payloads_at in
     let found = pairs_walk-header b (1073741824, n) (header_at-object b ps h) ∙ ap
-    (λ (r : Result ℕ Error). r >>= (λ (start : ℕ). Ok (Some (pair_items b n start)))) end in
+    (λ (r : Result (List (Result Entry Error)) Error). r
+    >>= (λ (values : List (Result Entry Error)). Ok (Some (pair_walk n (key_entries b n) values))))
+    (value_entries-end b n _ end) in
     subst (WalksPairs (object ps)) (sym found) (refl, shows)
 
 -- a container, or a refutation

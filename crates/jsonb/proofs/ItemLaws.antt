@@ -14,7 +14,7 @@ use Rattle.jsonb.specs.Steps.{◌>>=◌}
 use Rattle.jsonb.specs.ItemView.{ItemView, null, boolean, number, text, extension, raw, owned}
 use Rattle.jsonb.specs.ItemView.{item_view, result_view}
 use Rattle.jsonb.specs.Item.{Entry, item_of, number_found, extension_found, text_item, part_at}
-use Rattle.jsonb.specs.Item.{entry_at, item_at, scalar_item, item_under, item_in}
+use Rattle.jsonb.specs.Item.{entry_at, scalar_item, item_under, item_in}
 use Rattle.jsonb.specs.Code.{Means, HasCode, item_document, CanBeStored, scalar_bytes}
 use Rattle.jsonb.specs.Walked.{IsItemOf, IsItemIn}
 use Rattle.jsonb.proofs.PayloadLaws.{number_in-NumCode, extension_in-ExtCode}
@@ -94,12 +94,6 @@ pub entry_at-At : (bytes : List ℕ) (i j : ℕ) (t : Tree) (p : List ℕ) → l
     → entry_at bytes i j ≡ Ok record { type = type_of t; payload = p }
 entry_at-At bytes i j t p short h k =
     entry_at-entry bytes i j record { type = type_of t; payload = p } (IsTag-type_of t) short h k
-
-pub item_at-entry : (bytes : List ℕ) (i j : ℕ) (entry : Entry) → entry_at bytes i j ≡ Ok entry
-    → item_at bytes i j ≡ item_of entry.type entry.payload
-unfolding item_at
-item_at-entry bytes i j entry e =
-    ap (λ (r : Result Entry Error). r >>= (λ (x : Entry). item_of x.type x.payload)) e
 
 item_in-header : (b : List ℕ) (header : ℕ × ℕ) → header_at b 0 ≡ Ok header
     → item_in b ≡ item_under header b

@@ -18,8 +18,8 @@ use Rattle.jsonb.specs.ItemView.{ItemView}
 use Rattle.jsonb.specs.ItemView as items
 use Rattle.jsonb.specs.Code.{Means}
 use Rattle.jsonb.specs.Item.{Entry, item_of, entry_at}
-use Rattle.jsonb.specs.Walk.{entries_from, array_entries, member_entries, object_entries, count_if}
-use Rattle.jsonb.specs.Walk.{length_at, payload_length}
+use Rattle.jsonb.specs.Walk.{entries_from, item_entries, key_entries, array_entries}
+use Rattle.jsonb.specs.Walk.{member_entries, object_entries, count_if, length_at}
 use Rattle.jsonb.specs.Known.{shown_tree, item_tree, entry_tree, entry_of_part, AreParts, AreKeys}
 use Rattle.jsonb.specs.Known.{AreMembers, trees_left, pairs_left}
 use Rattle.jsonb_value.specs.Value.{trees_of}
@@ -28,13 +28,10 @@ use Rattle.jsonb.specs.Node.{items_of, members_of}
 use Rattle.jsonb.proofs.Places.{At}
 use Rattle.jsonb.proofs.ItemLaws.{found_item}
 use Rattle.jsonb.proofs.DocumentLaws.{tree_in-is}
+use Rattle.jsonb.proofs.WalkLaws.{ahead, entries_from-first, value_entries-end}
 use Rattle.jsonb.proofs.KindLaws.{header_at-Scalar, header_at-array, header_at-object}
 use Rattle.jsonb.proofs.DocumentWalks.{first, array_parts, object_parts, payloads_end-Keys}
 use Rattle.jsonb.proofs.DocumentWalks.{count_under-header}
-
--- one more, and nothing behind an error
-abbrev ahead : Result Entry Error → List (Result Entry Error) → List (Result Entry Error)
-ahead r rest = r ∷ (if is_ok r then rest else [])
 
 length-ahead : (r : Result Entry Error) (rest : List (Result Entry Error)) (n : ℕ)
     → (AreParts rest → n ≡ length rest) → AreParts (ahead r rest) → suc n ≡ length (ahead r rest)
@@ -80,14 +77,6 @@ pub record MeanPairs (ps : Pairs) (ks xs : List (Result Entry Error)) : Type 0 w
   pub parts : AreParts xs
   pub as_many : length ks ≡ length xs
   pub pairs_are : pairs_left (ks, xs) ≡ pair_list ps
-
-entries_from-first : (bytes : List ℕ) (left place start : ℕ) (entry : Entry)
-    → entry_at bytes place start ≡ Ok entry
-    → entries_from bytes (suc left) place start ≡ Ok entry
-    ∷ entries_from bytes left (place + 4) (start + length entry.payload)
-entries_from-first bytes left place start entry e =
-    ap (λ (r : Result Entry Error). ahead r
-    (entries_from bytes left (place + 4) (start + payload_length r))) e
 
 MeanTrees-Children : (bytes : List ℕ) (ts : Trees) (e p : List ℕ) (i j : ℕ) → Children ts e p
     → At bytes i e → At bytes j p → MeanTrees ts (entries_from bytes (count ts) i j)
@@ -142,10 +131,10 @@ FindsItems t (Err e) = ⊥
 
 array_entries-header : (b : List ℕ) (header : ℕ × ℕ) → header_at b 0 ≡ Ok header
     → array_entries b
-    ≡ Ok (option_map (λ n. entries_from b n 4 (4 + 4 * n)) (count_if 2147483648 header))
+    ≡ Ok (option_map (item_entries b) (count_if 2147483648 header))
 array_entries-header b header e =
     ap (λ (r : Result (Option ℕ) Error). r
-    >>= (λ (n : Option ℕ). Ok (option_map (λ n. entries_from b n 4 (4 + 4 * n)) n)))
+    >>= (λ (n : Option ℕ). Ok (option_map (item_entries b) n)))
     (count_under-header b 2147483648 header e)
 
 finds_array : (b : List ℕ) (ts : Trees) → Payload (array ts) b
@@ -198,9 +187,9 @@ finds_object b ps h =
     (4 + 8 * n) (4 + 4 * n) (4 + 8 * n + length p.key_payloads)
     p.keys p.values p.key_entries_at p.key_payloads_at p.value_entries_at p.value_payloads_at in
     let found = object_entries-header b (1073741824, n) (header_at-object b ps h)
-    ∙ ap (λ (r : Result ℕ Error). r
-    >>= (λ (start : ℕ). Ok
-    (Some (entries_from b n 4 (4 + 8 * n), entries_from b n (4 + 4 * n) start)))) end in
+    ∙ ap (λ (r : Result Entries Error). r
+    >>= (λ (values : Entries). Ok (Some (key_entries b n, values))))
+    (value_entries-end b n _ end) in
     subst (FindsMembers (object ps)) (sym found)
     (((mean.key_parts, mean.keys), (mean.parts, mean.as_many)), ap Some mean.pairs_are)
 

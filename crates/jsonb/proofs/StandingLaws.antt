@@ -3,6 +3,7 @@
 use Rattle.std.proofs.Common.{◌≡◌, ℕ, suc, ◌+◌, ◌*◌, ◌<◌, ◌^◌, Bool, List, [], ◌∷◌, ◌++◌, length}
 use Rattle.std.proofs.Common.{map, Option, Some, option_map, Result, Ok, refl, sym, ap, ap₂, subst}
 use Rattle.std.proofs.Common.{◌∙◌, arith}
+use Rattle.std.specs.List.{zip}
 use Rattle.std.specs.Map.{keys_of, values_of}
 use Rattle.std.specs.Str.{IsUtf8}
 use Rattle.std.proofs.lemmas.Map.Entries.{length-keys_of, length-values_of}
@@ -14,18 +15,20 @@ use Rattle.jsonb_codec.specs.JEntry.{jentry_at}
 use Rattle.jsonb_codec.specs.Doc.{Keys, Values, Children, Payload, IsKey, type_of}
 use Rattle.jsonb.specs.Steps.{◌>>=◌}
 use Rattle.jsonb.specs.ItemView.{ItemView}
-use Rattle.jsonb.specs.Item.{Entry, item_of, entry_at, item_at}
+use Rattle.jsonb.specs.Item.{Entry, item_of, entry_at}
 use Rattle.jsonb.specs.Building.{AreShort, AreTexts, code_entries, code_payloads, key_codes}
 use Rattle.jsonb.specs.Building.{array_of, object_of}
 use Rattle.jsonb.specs.Standing.{AreCodesOf, ArePairsOf, HasItems, HasMembers, entry_item}
 use Rattle.jsonb.specs.Standing.{member_item, find_entry, IsFoundIn}
 use Rattle.jsonb.specs.Lookup.{counted_in}
-use Rattle.jsonb.specs.Walk.{items_from, key_of, key_at, pair_at, pairs_from}
+use Rattle.jsonb.specs.Walk.{entries_from, until_error, item_read, items_in, key_of, pair_read}
+use Rattle.jsonb.specs.Walk.{pairs_in}
 use Rattle.jsonb.proofs.Utf8.{is_text_yes}
 use Rattle.jsonb.proofs.Places.{At, At-whole, At-all, At-left, At-right, At-behind_word, IsTag}
 use Rattle.jsonb.proofs.Places.{jentry_at-At, header_at-At, header_of-array, header_of-object}
 use Rattle.jsonb.proofs.KindLaws.{IsTag-type_of}
-use Rattle.jsonb.proofs.ItemLaws.{IsItemOf-Payload, entry_at-entry, item_at-entry}
+use Rattle.jsonb.proofs.ItemLaws.{IsItemOf-Payload, entry_at-entry}
+use Rattle.jsonb.proofs.WalkLaws.{entries_from-first}
 use Rattle.jsonb.proofs.StoredLaws.{length-code_entries}
 
 pub length-AreCodesOf : (cs : List Entry) (ts : Trees) → AreCodesOf cs ts → length cs ≡ count ts
@@ -163,77 +166,57 @@ same_entries bytes i j (c ∷ cs) (x ∷ ds) is are n a b d e =
     (same_entries bytes (i + 4)
     (j + length c.payload) cs ds is.1 are.1 long f.other_entries f.other_payloads g.other_entries payloads)
 
+-- the item of the first entry that was read, and those behind it
+pub items_in-first : (entry : Entry) (others : List (Result Entry Error)) (x : ItemView)
+    → entry_item entry ≡ Ok x → items_in (Ok entry ∷ others) ≡ Ok x ∷ items_in others
+items_in-first entry others x h =
+    ap (λ (r : Result ItemView Error). until_error (r ∷ map item_read others)) h
+
 -- what a walk gives where entries stand
-pub items_from-first : (bytes : List ℕ) (n i j : ℕ) (entry : Entry) (x : ItemView)
-    → entry_at bytes i j ≡ Ok entry → item_of entry.type entry.payload ≡ Ok x
-    → items_from bytes (suc n) i j ≡ Ok x ∷ items_from bytes n (i + 4) (j + length entry.payload)
-items_from-first bytes n i j entry x e h =
-    let item = item_at-entry bytes i j entry e ∙ h in rw (item, e) refl
-
-pub items_from-entries : (bytes : List ℕ) (i j : ℕ) (cs : List Entry) → AreEntries cs → HaveItems cs
+pub entries_from-entries : (bytes : List ℕ) (i j : ℕ) (cs : List Entry) → AreEntries cs
     → At bytes i (code_entries cs) → At bytes j (code_payloads cs)
-    → items_from bytes (length cs) i j ≡ map entry_item cs
-items_from-entries bytes i j [] is shows a b = refl
-items_from-entries bytes i j (c ∷ cs) is shows a b =
+    → entries_from bytes (length cs) i j ≡ map Ok cs
+entries_from-entries bytes i j [] is a b = refl
+entries_from-entries bytes i j (c ∷ cs) is a b =
     let f = first_entry bytes i j c cs is.0 a b in
-    items_from-first bytes (length cs) i j c shows.0.0 f.entry shows.0.1
+    entries_from-first bytes (length cs) i j c f.entry
+    ∙ ap (λ (rs : List (Result Entry Error)). Ok c ∷ rs)
+    (entries_from-entries bytes (i + 4) (j + length c.payload) cs is.1
+    f.other_entries f.other_payloads)
+
+pub items_in-entries : (cs : List Entry) → HaveItems cs → items_in (map Ok cs) ≡ map entry_item cs
+items_in-entries [] shows = refl
+items_in-entries (c ∷ cs) shows = items_in-first c (map Ok cs) shows.0.0 shows.0.1
     ∙ ap₂ (λ (r : Result ItemView Error) (rs : List (Result ItemView Error)). r ∷ rs)
-    (sym shows.0.1)
-    (items_from-entries bytes (i + 4)
-    (j + length c.payload) cs is.1 shows.1 f.other_entries f.other_payloads)
+    (sym shows.0.1) (items_in-entries cs shows.1)
 
-pub key_at-entry : (bytes : List ℕ) (i j : ℕ) (k p : List ℕ) → IsKey k p
-    → entry_at bytes i j ≡ Ok record { type = 268435456; payload = p } → key_at bytes i j ≡ Ok k
-unfolding key_at
-key_at-entry bytes i j k p h e =
-    let found : key_of record { type = 268435456; payload = p }
-    ≡ Ok k = rw (h.0, is_text_yes k h.1) refl in
-    ap (λ (r : Result Entry Error). r >>= key_of) e ∙ found
+pub key_of-entry : (k p : List ℕ) → IsKey k p
+    → key_of record { type = 268435456; payload = p } ≡ Ok k
+key_of-entry k p h = rw (h.0, is_text_yes k h.1) refl
 
-pub pair_at-both : (bytes : List ℕ) (i j place start : ℕ) (k : List ℕ) (x : ItemView)
-    → key_at bytes i j ≡ Ok k → item_at bytes place start ≡ Ok x
-    → pair_at bytes i j place start ≡ Ok (k, x)
-unfolding pair_at
-pair_at-both bytes i j place start k x h e =
-    ap (λ (r : Result (List ℕ) Error). r
-    >>= (λ (key : List ℕ). item_at bytes place start
-    >>= (λ (value : ItemView). Ok (key, value)))) h
-    ∙ ap (λ (r : Result ItemView Error). r >>= (λ (value : ItemView). Ok (k, value))) e
-
-pub pairs_from-first : (bytes : List ℕ) (n i j place start : ℕ) (key entry : Entry) (k : List ℕ)
+-- the pair of the first two entries that were read, and those behind it
+pub pairs_in-first : (key entry : Entry) (keys others : List (Result Entry Error)) (k : List ℕ)
     (x : ItemView)
-    → entry_at bytes i j ≡ Ok key → key_at bytes i j ≡ Ok k → entry_at bytes place start ≡ Ok entry
-    → item_of entry.type entry.payload ≡ Ok x
-    → pairs_from bytes (suc n) i j place start ≡ Ok (k, x)
-    ∷ pairs_from bytes n (i + 4) (j + length key.payload) (place + 4)
-    (start + length entry.payload)
-pairs_from-first bytes n i j place start key entry k x e h d g =
-    let both =
-    pair_at-both bytes i j place start k x h (item_at-entry bytes place start entry d ∙ g) in
-    rw (both, e, d) refl
+    → key_of key ≡ Ok k → entry_item entry ≡ Ok x
+    → pairs_in (Ok key ∷ keys) (Ok entry ∷ others) ≡ Ok (k, x) ∷ pairs_in keys others
+pairs_in-first key entry keys others k x h e =
+    ap₂ (λ (r : Result (List ℕ) Error) (q : Result ItemView Error).
+    until_error ((r >>= (λ (name : List ℕ). q >>= (λ (value : ItemView). Ok (name, value))))
+    ∷ map pair_read (zip keys others))) h e
 
-pub pairs_from-members : (bytes : List ℕ) (i j place start : ℕ) (ms : List (List ℕ × Entry))
-    → AreTexts (keys_of ms) → AreEntries (key_codes (keys_of ms)) → AreEntries (values_of ms)
+pub pairs_in-members : (ms : List (List ℕ × Entry)) → AreTexts (keys_of ms)
     → HaveItems (values_of ms)
-    → At bytes i (code_entries (key_codes (keys_of ms)))
-    → At bytes j (code_payloads (key_codes (keys_of ms)))
-    → At bytes place (code_entries (values_of ms))
-    → At bytes start (code_payloads (values_of ms))
-    → pairs_from bytes (length ms) i j place start ≡ map member_item ms
-pairs_from-members bytes i j place start [] texts keys is shows a b d e = refl
-pairs_from-members bytes i j place start (m ∷ ms) texts keys is shows a b d e =
-    let f = first_entry bytes i j record { type = 268435456; payload = m.0 }
-    (key_codes (keys_of ms)) keys.0 a b in
-    let g = first_entry bytes place start m.1 (values_of ms) is.0 d e in
-    let key = key_at-entry bytes i j m.0 m.0 (refl, texts.0) f.entry in
+    → pairs_in (map Ok (key_codes (keys_of ms))) (map Ok (values_of ms)) ≡ map member_item ms
+pairs_in-members [] texts shows = refl
+pairs_in-members (m ∷ ms) texts shows =
     let item : member_item m ≡ Ok (m.0, shows.0.0) =
     ap (λ (r : Result ItemView Error). r >>= (λ (x : ItemView). Ok (m.0, x))) shows.0.1 in
-    pairs_from-first bytes
-    (length ms) i j place start record { type = 268435456; payload = m.0 } m.1 m.0 shows.0.0 f.entry key g.entry shows.0.1
+    pairs_in-first record { type = 268435456; payload = m.0 } m.1
+    (map Ok (key_codes (keys_of ms))) (map Ok (values_of ms)) m.0 shows.0.0
+    (key_of-entry m.0 m.0 (refl, texts.0)) shows.0.1
     ∙ ap₂ (λ (r : Result (List ℕ × ItemView) Error)
     (rs : List (Result (List ℕ × ItemView) Error)). r ∷ rs) (sym item)
-    (pairs_from-members bytes (i + 4) (j + length m.0) (place + 4)
-    (start + length m.1.payload) ms texts.1 keys.1 is.1 shows.1 f.other_entries f.other_payloads g.other_entries g.other_payloads)
+    (pairs_in-members ms texts.1 shows.1)
 
 -- the entries of an array's children
 record FromChildren (ts : Trees) (e p : List ℕ) : Type 0 where
@@ -396,7 +379,7 @@ pub record MembersAt (b : List ℕ) (ms : List (List ℕ × Entry)) : Type 0 whe
   pub payloads_at : At b (4 + 8 * length ms + length (code_payloads (key_codes (keys_of ms))))
       (code_payloads (values_of ms))
 
-length-key_codes : (ks : List (List ℕ)) → length (key_codes ks) ≡ length ks
+pub length-key_codes : (ks : List (List ℕ)) → length (key_codes ks) ≡ length ks
 length-key_codes [] = refl
 length-key_codes (k ∷ ks) = ap suc (length-key_codes ks)
 

@@ -1,16 +1,19 @@
 -- Laws of walks on any bytes.
-use Rattle.std.proofs.Common.{◌≡◌, ℕ, zero, suc, ◌+◌, ◌*◌, ◌<◌, ◌≤◌, List, [], ◌∷◌, length, Option}
-use Rattle.std.proofs.Common.{Some, None, option_map, IfOk, IfSome, is_ok, if◌then◌else◌, Result}
-use Rattle.std.proofs.Common.{Ok, Err, refl, ap, arith}
+use Rattle.std.proofs.Common.{◌≡◌, ℕ, zero, suc, ◌+◌, ◌*◌, ◌<◌, ◌≤◌, List, [], ◌∷◌, length, map}
+use Rattle.std.proofs.Common.{Option, Some, None, option_map, IfOk, IfSome, is_ok, if◌then◌else◌}
+use Rattle.std.proofs.Common.{Result, Ok, Err, refl, ap, arith}
+use Rattle.std.proofs.lemmas.List.{length-map}
+use Rattle.std.specs.List.{zip}
 use Rattle.jsonb_value.specs.declared.error.Error.{Error}
 use Rattle.jsonb_codec.specs.declared.jentry.JEntry.{JEntry}
 use Rattle.jsonb_codec.specs.JEntry.{jentry_at}
 use Rattle.jsonb.specs.Steps.{◌>>=◌}
 use Rattle.jsonb.specs.ItemView.{ItemView}
-use Rattle.jsonb.specs.Item.{item_at}
-use Rattle.jsonb.specs.Walk.{Walk, ErrsLast, IsBounded, length_at, items_from, pair_at, pairs_from}
-use Rattle.jsonb.specs.Walk.{payloads_end, count_under, array_items, array_walk, key_items}
-use Rattle.jsonb.specs.Walk.{keys_walk, value_items, values_of, values_walk, pair_items, pairs_of}
+use Rattle.jsonb.specs.Item.{Entry, entry_at}
+use Rattle.jsonb.specs.Walk.{Walk, ErrsLast, IsBounded, payload_length, length_at, entries_from}
+use Rattle.jsonb.specs.Walk.{until_error, item_read, pair_read, payloads_end}
+use Rattle.jsonb.specs.Walk.{count_under, item_entries, key_entries, value_entries, item_walk}
+use Rattle.jsonb.specs.Walk.{array_walk, keys_walk, values_of, values_walk, pair_walk, pairs_of}
 use Rattle.jsonb.specs.Walk.{pairs_walk}
 
 -- where an entry is cut, there is no end
@@ -22,48 +25,72 @@ payloads_end-cut bytes (suc left) place end e some cut =
     >>= (λ (entry : JEntry). payloads_end bytes left (place + 4) (end + entry.length))) cut
 
 -- one more, and nothing behind an error
-abbrev first_of : {A : Type 0} → Result A Error → List (Result A Error) → List (Result A Error)
-first_of r rest = r ∷ (if is_ok r then rest else [])
+abbrev pub ahead : {A : Type 0} → Result A Error → List (Result A Error) → List (Result A Error)
+ahead r rest = r ∷ (if is_ok r then rest else [])
 
-length-first_of : {A : Type 0} (r : Result A Error) (rest : List (Result A Error)) (n : ℕ)
-    → length rest ≤ n → length (first_of r rest) ≤ suc n
-length-first_of (Ok x) rest n few = omega arith
-length-first_of (Err e) rest n few = omega arith
+length-ahead : {A : Type 0} (r : Result A Error) (rest : List (Result A Error)) (n : ℕ)
+    → length rest ≤ n → length (ahead r rest) ≤ suc n
+length-ahead (Ok x) rest n few = omega arith
+length-ahead (Err e) rest n few = omega arith
 
-ErrsLast-first_of : {A : Type 0} (r : Result A Error) (rest : List (Result A Error)) → ErrsLast rest
-    → ErrsLast (first_of r rest)
-ErrsLast-first_of (Ok x) rest last = last
-ErrsLast-first_of (Err e) rest last = refl
+-- the first of the entries from a place on, and those behind it
+pub entries_from-first : (bytes : List ℕ) (left place start : ℕ) (entry : Entry)
+    → entry_at bytes place start ≡ Ok entry
+    → entries_from bytes (suc left) place start ≡ Ok entry
+    ∷ entries_from bytes left (place + 4) (start + length entry.payload)
+entries_from-first bytes left place start entry e =
+    ap (λ (r : Result Entry Error). ahead r
+    (entries_from bytes left (place + 4) (start + payload_length r))) e
 
-length-items_from : (bytes : List ℕ) (left place start : ℕ)
-    → length (items_from bytes left place start) ≤ left
-length-items_from bytes zero place start = omega arith
-length-items_from bytes (suc left) place start =
-    length-first_of (item_at bytes place start) _ left
-    (length-items_from bytes left (place + 4) (start + length_at bytes place start))
+-- the entries of values, where the payloads of their keys have an end
+pub value_entries-end : (bytes : List ℕ) (n start : ℕ)
+    → payloads_end bytes n 4 (4 + 8 * n) ≡ Ok start
+    → value_entries bytes n ≡ Ok (entries_from bytes n (4 + 4 * n) start)
+value_entries-end bytes n start e =
+    ap (λ (r : Result ℕ Error). r >>= (λ (i : ℕ). Ok (entries_from bytes n (4 + 4 * n) i))) e
 
-ErrsLast-items_from : (bytes : List ℕ) (left place start : ℕ)
-    → ErrsLast (items_from bytes left place start)
-ErrsLast-items_from bytes zero place start = tt
-ErrsLast-items_from bytes (suc left) place start =
-    ErrsLast-first_of (item_at bytes place start) _
-    (ErrsLast-items_from bytes left (place + 4) (start + length_at bytes place start))
+length-entries_from : (bytes : List ℕ) (left place start : ℕ)
+    → length (entries_from bytes left place start) ≤ left
+length-entries_from bytes zero place start = omega arith
+length-entries_from bytes (suc left) place start =
+    length-ahead (entry_at bytes place start) _ left
+    (length-entries_from bytes left (place + 4) (start + length_at bytes place start))
 
-length-pairs_from : (bytes : List ℕ) (left i j place start : ℕ)
-    → length (pairs_from bytes left i j place start) ≤ left
-length-pairs_from bytes zero i j place start = omega arith
-length-pairs_from bytes (suc left) i j place start =
-    length-first_of (pair_at bytes i j place start) _ left
-    (length-pairs_from bytes left (i + 4) (j + length_at bytes i j) (place + 4)
-    (start + length_at bytes place start))
+length-until_error : {A : Type 0} (xs : List (Result A Error)) → length (until_error xs) ≤ length xs
+length-until_error [] = omega arith
+length-until_error (Ok x ∷ xs) = let few = length-until_error xs in omega arith
+length-until_error (Err e ∷ xs) = omega arith
 
-ErrsLast-pairs_from : (bytes : List ℕ) (left i j place start : ℕ)
-    → ErrsLast (pairs_from bytes left i j place start)
-ErrsLast-pairs_from bytes zero i j place start = tt
-ErrsLast-pairs_from bytes (suc left) i j place start =
-    ErrsLast-first_of (pair_at bytes i j place start) _
-    (ErrsLast-pairs_from bytes left (i + 4) (j + length_at bytes i j) (place + 4)
-    (start + length_at bytes place start))
+ErrsLast-until_error : {A : Type 0} (xs : List (Result A Error)) → ErrsLast (until_error xs)
+ErrsLast-until_error [] = tt
+ErrsLast-until_error (Ok x ∷ xs) = ErrsLast-until_error xs
+ErrsLast-until_error (Err e ∷ xs) = refl
+
+length-zip : (ks xs : List (Result Entry Error)) → length (zip ks xs) ≤ length ks
+length-zip [] xs = omega arith
+length-zip (k ∷ ks) [] = omega arith
+length-zip (k ∷ ks) (x ∷ xs) = let few = length-zip ks xs in omega arith
+
+-- no more items than entries
+bounded_items : (bytes : List ℕ) (n place start : ℕ)
+    → IsBounded (item_walk n (entries_from bytes n place start))
+bounded_items bytes n place start =
+    let entries = entries_from bytes n place start in
+    let few = length-entries_from bytes n place start in
+    let items = length-until_error (map item_read entries) in
+    let all = length-map entries item_read in
+    record { few = omega arith; last = ErrsLast-until_error (map item_read entries) }
+
+-- and no more pairs than keys
+bounded_pairs : (bytes : List ℕ) (n : ℕ) (values : List (Result Entry Error))
+    → IsBounded (pair_walk n (key_entries bytes n) values)
+bounded_pairs bytes n values =
+    let keys = key_entries bytes n in
+    let few = length-entries_from bytes n 4 (4 + 8 * n) in
+    let both = length-zip keys values in
+    let pairs = length-until_error (map pair_read (zip keys values)) in
+    let all = length-map (zip keys values) pair_read in
+    record { few = omega arith; last = ErrsLast-until_error (map pair_read (zip keys values)) }
 
 -- the iterators that there are give no more than the header counts
 abbrev AreBounded : {A : Type 0} → Result (Option (Walk A)) Error → Type 0
@@ -80,56 +107,39 @@ bounded_steps : {A : Type 0} (f : Option ℕ → Result (Option (Walk A)) Error)
 bounded_steps f bounded (Ok o) = bounded o
 bounded_steps f bounded (Err e) = tt
 
-bounded_at : {A : Type 0} (f : ℕ → Walk A) → ((n : ℕ) → IsBounded (f n)) → (r : Result ℕ Error)
-    → AreBounded (r >>= (λ (n : ℕ). Ok (Some (f n))))
-bounded_at f bounded (Ok n) = bounded n
-bounded_at f bounded (Err e) = tt
-
 pub array_walk-bounded : (bytes : List ℕ) → AreBounded (array_walk bytes)
 array_walk-bounded bytes =
-    bounded_map (array_items bytes)
-    (λ n. record {
-      few = length-items_from bytes n 4
-          (4 + 4 * n);
-      last = ErrsLast-items_from bytes n 4 (4 + 4 * n);
-    })
-    (count_under bytes 2147483648)
+    bounded_map (λ n. item_walk n (item_entries bytes n))
+    (λ n. bounded_items bytes n 4 (4 + 4 * n)) (count_under bytes 2147483648)
 
 pub keys_walk-bounded : (bytes : List ℕ) → AreBounded (keys_walk bytes)
 keys_walk-bounded bytes =
-    bounded_map (key_items bytes)
-    (λ n. record {
-      few = length-items_from bytes n 4
-          (4 + 8 * n);
-      last = ErrsLast-items_from bytes n 4 (4 + 8 * n);
-    })
-    (count_under bytes 1073741824)
+    bounded_map (λ n. item_walk n (key_entries bytes n))
+    (λ n. bounded_items bytes n 4 (4 + 8 * n)) (count_under bytes 1073741824)
+
+values_found : (bytes : List ℕ) (n : ℕ) (r : Result ℕ Error)
+    → AreBounded (r >>= (λ (start : ℕ). Ok (entries_from bytes n (4 + 4 * n) start))
+    >>= (λ (values : List (Result Entry Error)). Ok (Some (item_walk n values))))
+values_found bytes n (Ok start) = bounded_items bytes n (4 + 4 * n) start
+values_found bytes n (Err e) = tt
 
 values_of-bounded : (bytes : List ℕ) (o : Option ℕ) → AreBounded (values_of bytes o)
 values_of-bounded bytes None = tt
-values_of-bounded bytes (Some n) =
-    bounded_at (value_items bytes n)
-    (λ start. record {
-      few = length-items_from bytes n
-          (4 + 4 * n) start;
-      last = ErrsLast-items_from bytes n (4 + 4 * n) start;
-    })
-    (payloads_end bytes n 4 (4 + 8 * n))
+values_of-bounded bytes (Some n) = values_found bytes n (payloads_end bytes n 4 (4 + 8 * n))
 
 pub values_walk-bounded : (bytes : List ℕ) → AreBounded (values_walk bytes)
 values_walk-bounded bytes =
     bounded_steps (values_of bytes) (values_of-bounded bytes) (count_under bytes 1073741824)
 
+pairs_found : (bytes : List ℕ) (n : ℕ) (r : Result (List (Result Entry Error)) Error)
+    → AreBounded (r >>= (λ (values : List (Result Entry Error)).
+    Ok (Some (pair_walk n (key_entries bytes n) values))))
+pairs_found bytes n (Ok values) = bounded_pairs bytes n values
+pairs_found bytes n (Err e) = tt
+
 pairs_of-bounded : (bytes : List ℕ) (o : Option ℕ) → AreBounded (pairs_of bytes o)
 pairs_of-bounded bytes None = tt
-pairs_of-bounded bytes (Some n) =
-    bounded_at (pair_items bytes n)
-    (λ start. record {
-      few = length-pairs_from bytes n 4 (4 + 8 * n)
-          (4 + 4 * n) start;
-      last = ErrsLast-pairs_from bytes n 4 (4 + 8 * n) (4 + 4 * n) start;
-    })
-    (payloads_end bytes n 4 (4 + 8 * n))
+pairs_of-bounded bytes (Some n) = pairs_found bytes n (value_entries bytes n)
 
 pub pairs_walk-bounded : (bytes : List ℕ) → AreBounded (pairs_walk bytes)
 pairs_walk-bounded bytes =

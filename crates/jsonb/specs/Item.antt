@@ -65,12 +65,6 @@ entry_at bytes place start = do
   payload ← part_at bytes start jentry.length
   Ok (record { type = jentry.type_code; payload = payload })
 
--- the item of that entry
-unfoldable pub item_at : List ℕ → ℕ → ℕ → Result ItemView Error
-item_at bytes place start = do
-  entry ← entry_at bytes place start
-  item_of entry.type entry.payload
-
 -- the item under a scalar's header, which is no container
 unfoldable pub scalar_item : Entry → Result ItemView Error
 scalar_item entry =

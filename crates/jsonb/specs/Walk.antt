@@ -1,6 +1,8 @@
 -- What the iterators give, on any bytes.
 use Rattle.std.specs.Prelude.{◌≡◌, ◌≤◌, ⊤, ℕ, zero, suc, ◌+◌, ◌*◌, ◌==◌, if◌then◌else◌, List, []}
-use Rattle.std.specs.Prelude.{◌∷◌, length, Option, Some, None, option_map, Result, Ok, Err, is_ok}
+use Rattle.std.specs.Prelude.{◌∷◌, length, map, Option, Some, None, option_map, Result, Ok, Err}
+use Rattle.std.specs.Prelude.{is_ok}
+use Rattle.std.specs.List.{zip}
 use Rattle.jsonb_value.specs.declared.error.Error.{Error}
 use Rattle.jsonb_value.specs.declared.error.Error.TheVariants.{InvalidJsonb, InvalidUtf8}
 use Rattle.jsonb_codec.specs.declared.constants.TheConstants.{ARRAY_CONTAINER_TAG}
@@ -10,7 +12,7 @@ use Rattle.jsonb_codec.specs.JEntry.{jentry_at}
 use Rattle.jsonb.specs.Steps.{◌>>=◌}
 use Rattle.jsonb.specs.Payloads.{is_text}
 use Rattle.jsonb.specs.ItemView.{ItemView}
-use Rattle.jsonb.specs.Item.{Entry, entry_at, item_at}
+use Rattle.jsonb.specs.Item.{Entry, item_of, entry_at}
 
 -- an iterator: the header's count, and what is left to give
 pub record Walk (A : Type 0) : Type 0 where
@@ -33,37 +35,36 @@ entries_from bytes (suc left) place start =
     ∷ (if is_ok (entry_at bytes place start)
     then entries_from bytes left (place + 4) (start + length_at bytes place start) else [])
 
--- the items of `left` entries from a place on, up to the first error
-abbrev pub items_from : List ℕ → ℕ → ℕ → ℕ → List (Result ItemView Error)
-items_from bytes zero place start = []
-items_from bytes (suc left) place start =
-    item_at bytes place start
-    ∷ (if is_ok (item_at bytes place start)
-    then items_from bytes left (place + 4) (start + length_at bytes place start) else [])
+-- what comes before the first error, and the error
+abbrev pub until_error : {A : Type 0} → List (Result A Error) → List (Result A Error)
+until_error [] = []
+until_error (Ok x ∷ others) = Ok x ∷ until_error others
+until_error (Err e ∷ others) = Err e ∷ []
+
+-- the item of what was read as an entry
+abbrev pub item_read : Result Entry Error → Result ItemView Error
+item_read read = read >>= λ entry. item_of entry.type entry.payload
+
+-- the items of entries, up to the first error
+abbrev pub items_in : List (Result Entry Error) → List (Result ItemView Error)
+items_in entries = until_error (map item_read entries)
 
 -- a key, which must be a string of UTF-8
 abbrev pub key_of : Entry → Result (List ℕ) Error
 key_of entry = if entry.type == STRING_TAG
     then (if is_text entry.payload then Ok entry.payload else Err InvalidUtf8) else Err InvalidJsonb
 
-unfoldable pub key_at : List ℕ → ℕ → ℕ → Result (List ℕ) Error
-key_at bytes place start = entry_at bytes place start >>= key_of
-
--- the key of one entry, and the item of another
-unfoldable pub pair_at : List ℕ → ℕ → ℕ → ℕ → ℕ → Result (List ℕ × ItemView) Error
-pair_at bytes key_place key_start place start = do
-  key ← key_at bytes key_place key_start
-  value ← item_at bytes place start
+-- the key of what was read as one entry, and the item of another
+abbrev pub pair_read : Result Entry Error × Result Entry Error → Result (List ℕ × ItemView) Error
+pair_read read = do
+  key ← read.0 >>= key_of
+  value ← item_read read.1
   Ok (key, value)
 
--- the pairs of `left` keys and values, up to the first error
-abbrev pub pairs_from : List ℕ → ℕ → ℕ → ℕ → ℕ → ℕ → List (Result (List ℕ × ItemView) Error)
-pairs_from bytes zero key_place key_start place start = []
-pairs_from bytes (suc left) key_place key_start place start =
-    pair_at bytes key_place key_start place start
-    ∷ (if is_ok (pair_at bytes key_place key_start place start)
-    then pairs_from bytes left (key_place + 4) (key_start + length_at bytes key_place key_start)
-    (place + 4) (start + length_at bytes place start) else [])
+-- the pairs of keys and values, up to the first error
+abbrev pub pairs_in : List (Result Entry Error) → List (Result Entry Error)
+    → List (Result (List ℕ × ItemView) Error)
+pairs_in keys values = until_error (map pair_read (zip keys values))
 
 -- where the payloads end whose entries stand from a place on
 abbrev pub payloads_end : List ℕ → ℕ → ℕ → ℕ → Result ℕ Error
@@ -78,59 +79,66 @@ count_if tag header = if header.0 == tag then Some header.1 else None
 unfoldable pub count_under : List ℕ → ℕ → Result (Option ℕ) Error
 count_under bytes tag = header_at bytes 0 >>= λ header. Ok (count_if tag header)
 
+-- the entries of an array of so many items,
+abbrev pub item_entries : List ℕ → ℕ → List (Result Entry Error)
+item_entries bytes n = entries_from bytes n 4 (4 + 4 * n)
+
+-- those of the keys of an object of so many,
+abbrev pub key_entries : List ℕ → ℕ → List (Result Entry Error)
+key_entries bytes n = entries_from bytes n 4 (4 + 8 * n)
+
+-- and those of its values, whose payloads stand behind the keys
+abbrev pub value_entries : List ℕ → ℕ → Result (List (Result Entry Error)) Error
+value_entries bytes n = payloads_end bytes n 4 (4 + 8 * n)
+    >>= λ start. Ok (entries_from bytes n (4 + 4 * n) start)
+
 -- the entries of an array, and those of an object's keys and values
 abbrev pub array_entries : List ℕ → Result (Option (List (Result Entry Error))) Error
 array_entries bytes = count_under bytes ARRAY_CONTAINER_TAG
-    >>= λ n. Ok (option_map (λ n. entries_from bytes n 4 (4 + 4 * n)) n)
+    >>= λ n. Ok (option_map (item_entries bytes) n)
 
 abbrev pub member_entries : List ℕ → Option ℕ
     → Result (Option (List (Result Entry Error) × List (Result Entry Error))) Error
 member_entries bytes None = Ok None
-member_entries bytes (Some n) = payloads_end bytes n 4 (4 + 8 * n)
-    >>= λ start. Ok
-    (Some (entries_from bytes n 4 (4 + 8 * n), entries_from bytes n (4 + 4 * n) start))
+member_entries bytes (Some n) =
+    value_entries bytes n >>= λ values. Ok (Some (key_entries bytes n, values))
 
 abbrev pub object_entries : List ℕ
     → Result (Option (List (Result Entry Error) × List (Result Entry Error))) Error
 object_entries bytes = count_under bytes OBJECT_CONTAINER_TAG >>= member_entries bytes
 
--- the items of an array
-abbrev pub array_items : List ℕ → ℕ → Walk ItemView
-array_items bytes n = record { count = n; rest = items_from bytes n 4 (4 + 4 * n) }
+-- that many items of these entries
+abbrev pub item_walk : ℕ → List (Result Entry Error) → Walk ItemView
+item_walk n entries = record { count = n; rest = items_in entries }
 
+-- the items of an array
 abbrev pub array_walk : List ℕ → Result (Option (Walk ItemView)) Error
-array_walk bytes =
-    count_under bytes ARRAY_CONTAINER_TAG >>= λ n. Ok (option_map (array_items bytes) n)
+array_walk bytes = count_under bytes ARRAY_CONTAINER_TAG
+    >>= λ n. Ok (option_map (λ n. item_walk n (item_entries bytes n)) n)
 
 -- the keys of an object, each as an item
-abbrev pub key_items : List ℕ → ℕ → Walk ItemView
-key_items bytes n = record { count = n; rest = items_from bytes n 4 (4 + 8 * n) }
-
 abbrev pub keys_walk : List ℕ → Result (Option (Walk ItemView)) Error
-keys_walk bytes =
-    count_under bytes OBJECT_CONTAINER_TAG >>= λ n. Ok (option_map (key_items bytes) n)
+keys_walk bytes = count_under bytes OBJECT_CONTAINER_TAG
+    >>= λ n. Ok (option_map (λ n. item_walk n (key_entries bytes n)) n)
 
--- the values of an object, whose payloads stand behind the keys
-abbrev pub value_items : List ℕ → ℕ → ℕ → Walk ItemView
-value_items bytes n start = record { count = n; rest = items_from bytes n (4 + 4 * n) start }
-
+-- the values of an object
 abbrev pub values_of : List ℕ → Option ℕ → Result (Option (Walk ItemView)) Error
 values_of bytes None = Ok None
 values_of bytes (Some n) =
-    payloads_end bytes n 4 (4 + 8 * n) >>= λ start. Ok (Some (value_items bytes n start))
+    value_entries bytes n >>= λ values. Ok (Some (item_walk n values))
 
 abbrev pub values_walk : List ℕ → Result (Option (Walk ItemView)) Error
 values_walk bytes = count_under bytes OBJECT_CONTAINER_TAG >>= values_of bytes
 
 -- the pairs of an object
-abbrev pub pair_items : List ℕ → ℕ → ℕ → Walk (List ℕ × ItemView)
-pair_items bytes n start =
-    record { count = n; rest = pairs_from bytes n 4 (4 + 8 * n) (4 + 4 * n) start }
+abbrev pub pair_walk : ℕ → List (Result Entry Error) → List (Result Entry Error)
+    → Walk (List ℕ × ItemView)
+pair_walk n keys values = record { count = n; rest = pairs_in keys values }
 
 abbrev pub pairs_of : List ℕ → Option ℕ → Result (Option (Walk (List ℕ × ItemView))) Error
 pairs_of bytes None = Ok None
 pairs_of bytes (Some n) =
-    payloads_end bytes n 4 (4 + 8 * n) >>= λ start. Ok (Some (pair_items bytes n start))
+    value_entries bytes n >>= λ values. Ok (Some (pair_walk n (key_entries bytes n) values))
 
 abbrev pub pairs_walk : List ℕ → Result (Option (Walk (List ℕ × ItemView))) Error
 pairs_walk bytes = count_under bytes OBJECT_CONTAINER_TAG >>= pairs_of bytes

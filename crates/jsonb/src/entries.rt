@@ -9,12 +9,12 @@ ghost use Rattle.jsonb_codec.specs.declared.constants.TheConstants.{OBJECT_CONTA
 ghost use Rattle.jsonb.specs.Item.{Entry as ItemEntry, entry_at};
 ghost use Rattle.jsonb.specs.Entries.{shown_entry};
 ghost use Rattle.jsonb.specs.Known.{AreParts, entry_of_part};
-ghost use Rattle.jsonb.specs.Walk.{entries_from, array_entries, object_entries};
+ghost use Rattle.jsonb.specs.Walk.{count_under, payloads_end, entries_from, item_entries};
+ghost use Rattle.jsonb.specs.Walk.{key_entries, value_entries, array_entries, object_entries};
 
-use crate::iterator::{count_under, keys_end};
 use jsonb_codec::constants::{ARRAY_CONTAINER_TAG, OBJECT_CONTAINER_TAG};
 use jsonb_codec::parts::Part;
-use jsonb_codec::read_jentry;
+use jsonb_codec::{read_header, read_jentry};
 use jsonb_value::Error;
 use std::marker::Model;
 
@@ -54,22 +54,37 @@ impl<'a> Entries<'a> {
             payload: &self.bytes[self.start..end],
         })
     }
+}
 
-    /// The entries behind this one, which is the first.
-    pub fn behind(&self, entry: Entry<'a>) -> Entries<'a>
-        requires place { self.now.place ≤ 2 ^ 62 }
-        requires start { self.now.start ≤ 2 ^ 63 }
-        requires short { length entry.payload.now < 2 ^ 32 }
-        ensures bytes { result.bytes.now ≡ self.now.bytes.now }
-        ensures place { result.place ≡ self.now.place + 4 }
-        ensures start { result.start ≡ self.now.start + length entry.entry.payload.now }
-    {
-        Entries {
-            bytes: self.bytes,
-            place: self.place + 4,
-            start: self.start + entry.payload.len(),
-        }
+/// How many children a container of this kind has: `None` for bytes of another kind.
+#[tactic(auto, unfolding(crate::specs::Walk::count_under))]
+pub fn count_under(bytes: &[u8], tag: u32) -> Result<Option<usize>, Error>
+    ensures value { result ≡ count_under bytes.now tag }
+    ensures small { IfOk result (λ n. IfSome n (λ n. n < 2 ^ 29)) }
+{
+    let (kind, count) = read_header(bytes, 0)?;
+    if kind == tag {
+        Ok(Some(count))
+    } else {
+        Ok(None)
     }
+}
+
+// Where the payloads of an object's keys end.
+fn keys_end(bytes: &[u8], count: usize) -> Result<usize, Error>
+    requires { count < 2 ^ 29 }
+    ensures value { result ≡ payloads_end bytes.now count 4 (4 + 8 * count) }
+    ensures near { IfOk result (λ end. end ≤ 4 + 8 * count + 2 ^ 32 * count) }
+{
+    let mut left = count;
+    let mut place = 4;
+    let mut end = 4 + 8 * count;
+    while left > 0 {
+        end += read_jentry(bytes, place)?.length as usize;
+        place += 4;
+        left -= 1;
+    }
+    Ok(end)
 }
 
 /// A place among entries and their payloads, from which they are read one by one up to the first
@@ -108,6 +123,35 @@ impl<'a> Cursor<'a> {
         }
     }
 
+    /// The entries of an array of that many items.
+    #[inline(always)]
+    pub fn over_items(bytes: &'a [u8], count: usize) -> Self
+        requires { count < 2 ^ 29 }
+        ensures { result ≡ item_entries bytes.entry.now count }
+    {
+        Cursor::new(bytes, 4, 4 + 4 * count, count)
+    }
+
+    /// The entries of the keys of an object of that many.
+    #[inline(always)]
+    pub fn over_keys(bytes: &'a [u8], count: usize) -> Self
+        requires { count < 2 ^ 29 }
+        ensures { result ≡ key_entries bytes.entry.now count }
+    {
+        Cursor::new(bytes, 4, 4 + 8 * count, count)
+    }
+
+    /// The entries of the values of an object of that many keys. `InvalidEOF` where the entry of a
+    /// key is cut.
+    #[inline(always)]
+    pub fn over_values(bytes: &'a [u8], count: usize) -> Result<Self, Error>
+        requires { count < 2 ^ 29 }
+        ensures { result ≡ value_entries bytes.entry.now count }
+    {
+        let start = keys_end(bytes, count)?;
+        Ok(Cursor::new(bytes, 4 + 4 * count, start, count))
+    }
+
     /// The entries of an array: `None` of bytes of another kind.
     pub fn over_array(bytes: &'a [u8]) -> Result<Option<Self>, Error>
         ensures { result ≡ array_entries bytes.entry.now }
@@ -115,7 +159,7 @@ impl<'a> Cursor<'a> {
         let Some(count) = count_under(bytes, ARRAY_CONTAINER_TAG)? else {
             return Ok(None);
         };
-        Ok(Some(Cursor::new(bytes, 4, 4 + 4 * count, count)))
+        Ok(Some(Cursor::over_items(bytes, count)))
     }
 
     /// The entries of an object's keys, and those of its values: `None` of bytes of another kind.
@@ -125,10 +169,8 @@ impl<'a> Cursor<'a> {
         let Some(count) = count_under(bytes, OBJECT_CONTAINER_TAG)? else {
             return Ok(None);
         };
-        let end = keys_end(bytes, count)?;
-        let keys = Cursor::new(bytes, 4, 4 + 8 * count, count);
-        let values = Cursor::new(bytes, 4 + 4 * count, end, count);
-        Ok(Some((keys, values)))
+        let values = Cursor::over_values(bytes, count)?;
+        Ok(Some((Cursor::over_keys(bytes, count), values)))
     }
 
     /// The next entry. `InvalidEOF` where its word is cut, `InvalidJsonb` where its payload runs
@@ -153,10 +195,17 @@ impl<'a> Cursor<'a> {
                 Some(Ok(entry))
             }
             Err(error) => {
-                self.left = 0;
+                self.end();
                 Some(Err(error))
             }
         }
+    }
+
+    /// Ends the walk: no entry is left.
+    pub fn end(&mut self)
+        ensures { self.new ≡ [] }
+    {
+        self.left = 0;
     }
 
     /// The next entry of a document, as the part that it is.

@@ -1,82 +1,43 @@
 //! What a container holds, one after the other, where it stands.
 
-ghost use Rattle.std.specs.Prelude.{◌≡◌, ℕ, ◌+◌, ◌*◌, ◌^◌, ◌<◌, ◌≤◌, List, [], Ok, length, IfOk};
-ghost use Rattle.std.specs.Prelude.{IfErr, IfSome};
+ghost use Rattle.std.specs.Prelude.{◌≡◌, ℕ, List, [], length, IfOk, IfErr, IfSome};
 ghost use Rattle.std.specs.Iterator.{YieldsFirstBy, MakesProgress, item_count};
-ghost use Rattle.jsonb_codec.specs.declared.constants.TheConstants.{ARRAY_CONTAINER_TAG};
-ghost use Rattle.jsonb_codec.specs.declared.constants.TheConstants.{OBJECT_CONTAINER_TAG};
 ghost use Rattle.jsonb.specs.Raw.{raw_bytes};
-ghost use Rattle.jsonb.specs.ItemView.{ItemView, item_view, result_view, pair_view};
-ghost use Rattle.jsonb.specs.Item.{item_at};
-ghost use Rattle.jsonb.specs.Walk.{Walk, length_at, items_from, count_under, key_at, pair_at};
-ghost use Rattle.jsonb.specs.Walk.{pairs_from, array_walk, keys_walk, values_walk, pairs_walk};
-ghost use Rattle.jsonb.specs.Walk.{payloads_end, IsBounded};
+ghost use Rattle.jsonb.specs.ItemView.{ItemView, result_view, pair_view};
+ghost use Rattle.jsonb.specs.Entries.{entry_of, shown_entry};
+ghost use Rattle.jsonb.specs.Walk.{Walk, item_read, key_of, pair_read, items_in, pairs_in};
+ghost use Rattle.jsonb.specs.Walk.{array_walk, keys_walk, values_walk, pairs_walk, IsBounded};
 ghost use Rattle.jsonb_value.specs.Tree.{Tree};
 ghost use Rattle.jsonb_codec.specs.Doc.{Doc};
 ghost use Rattle.jsonb.specs.Walked.{WalksArray, WalksKeys, WalksValues, WalksPairs, WalksItems};
 ghost use Rattle.jsonb.specs.Walked.{WalksValueItems, WalksMembers};
 
-use crate::entries::Entries;
+use crate::entries::{Cursor, Entry, count_under};
 use crate::item::{JsonbItem, item_of_entry};
 use crate::raw::RawJsonb;
 use jsonb_codec::constants::{ARRAY_CONTAINER_TAG, OBJECT_CONTAINER_TAG, STRING_TAG};
-use jsonb_codec::{read_header, read_jentry};
 use jsonb_value::Error;
 use std::marker::Model;
 use std::str;
 
-// The items of entries, one behind the other, up to the first error.
+// The item of what was read as an entry.
+fn item_read<'a>(entry: Result<Entry<'a>, Error>) -> Result<JsonbItem<'a>, Error>
+    ensures { result_view result ≡ item_read (shown_entry entry.entry) }
+{
+    item_of_entry(entry?)
+}
+
+// The items of entries, up to the first error, and how many the header counts.
 #[derive(Drop)]
 struct Items<'a> {
-    entries: Entries<'a>,
-    left: usize,
+    entries: Cursor<'a>,
     count: usize,
 }
 
 impl<'a> Model for Items<'a> {
     ghost Value = { Walk ItemView };
 
-    ghost view = { λ s.
-        record {
-          count = s.count;
-          rest =
-              items_from s.entries.bytes.now s.left s.entries.place s.entries.start;
-        } };
-
-    ghost invariant = { λ s. (s.entries.place + 4 * s.left ≤ 2 ^ 34)
-        × (s.entries.start + 2 ^ 32 * s.left ≤ 2 ^ 63) };
-}
-
-// An item, and the entries behind its own.
-#[derive(Drop)]
-struct Placed<'a> {
-    item: JsonbItem<'a>,
-    behind: Entries<'a>,
-}
-
-// The item of the first entry.
-#[tactic(auto, unfolding(crate::specs::Item::item_at))]
-fn first_item<'a>(entries: Entries<'a>) -> Result<Placed<'a>, Error>
-    requires place { entries.place ≤ 2 ^ 34 }
-    requires start { entries.start ≤ 2 ^ 63 }
-    ensures ok { IfOk result
-        (λ x. item_at entries.entry.bytes.now entries.entry.place entries.entry.start
-        ≡ Ok (item_view x.item)) }
-    ensures bytes { IfOk result (λ x. x.behind.bytes.now ≡ entries.entry.bytes.now) }
-    ensures place { IfOk result (λ x. x.behind.place ≡ entries.entry.place + 4) }
-    ensures start { IfOk result
-        (λ x. x.behind.start ≡ entries.entry.start
-        + length_at entries.entry.bytes.now entries.entry.place entries.entry.start) }
-    ensures near { IfOk result (λ x. x.behind.start < entries.entry.start + 2 ^ 32) }
-    ensures err { IfErr result
-        (λ e. item_at entries.entry.bytes.now entries.entry.place entries.entry.start ≡ Err e) }
-{
-    let entry = entries.first()?;
-    let item = item_of_entry(entry)?;
-    Ok(Placed {
-        item,
-        behind: entries.behind(entry),
-    })
+    ghost view = { λ s. record { count = s.count; rest = items_in s.entries } };
 }
 
 impl<'a> Items<'a> {
@@ -88,17 +49,11 @@ impl<'a> Items<'a> {
         ensures count { self.new.count ≡ self.old.count }
         ensures ended { IfSome result (λ item. IfErr item (λ _. self.new.rest ≡ [])) }
     {
-        if self.left == 0 {
-            return None;
-        }
-        match first_item(self.entries) {
-            Ok(Placed { item, behind }) => {
-                self.left -= 1;
-                self.entries = behind;
-                Some(Ok(item))
-            }
+        let entry = self.entries.next()?;
+        match item_read(entry) {
+            Ok(item) => Some(Ok(item)),
             Err(error) => {
-                self.left = 0;
+                self.entries.end();
                 Some(Err(error))
             }
         }
@@ -108,58 +63,6 @@ impl<'a> Items<'a> {
         ensures { result ≡ self.now.count }
     {
         self.count
-    }
-}
-
-/// How many children a container of this kind has: `None` for bytes of another kind.
-#[tactic(auto, unfolding(crate::specs::Walk::count_under))]
-pub fn count_under(bytes: &[u8], tag: u32) -> Result<Option<usize>, Error>
-    ensures value { result ≡ count_under bytes.now tag }
-    ensures small { IfOk result (λ n. IfSome n (λ n. n < 2 ^ 29)) }
-{
-    let (kind, count) = read_header(bytes, 0)?;
-    if kind == tag {
-        Ok(Some(count))
-    } else {
-        Ok(None)
-    }
-}
-
-/// Where the payloads of an object's keys end.
-pub fn keys_end(bytes: &[u8], count: usize) -> Result<usize, Error>
-    requires { count < 2 ^ 29 }
-    ensures value { result ≡ payloads_end bytes.now count 4 (4 + 8 * count) }
-    ensures near { IfOk result (λ end. end ≤ 4 + 8 * count + 2 ^ 32 * count) }
-{
-    let mut left = count;
-    let mut place = 4;
-    let mut end = 4 + 8 * count;
-    while left > 0 {
-        end += read_jentry(bytes, place)?.length as usize;
-        place += 4;
-        left -= 1;
-    }
-    Ok(end)
-}
-
-impl<'a> Items<'a> {
-    // That many items, whose entries and payloads begin there.
-    fn new(bytes: &'a [u8], place: usize, start: usize, count: usize) -> Items<'a>
-        requires count { count < 2 ^ 29 }
-        requires place { place ≤ 2 ^ 33 }
-        requires start { start ≤ 2 ^ 62 }
-        ensures { result
-            ≡ record { count = count; rest = items_from bytes.entry.now count place start } }
-    {
-        Items {
-            entries: Entries {
-                bytes,
-                place,
-                start,
-            },
-            left: count,
-            count,
-        }
     }
 }
 
@@ -202,8 +105,10 @@ impl<'a> ArrayIterator<'a> {
         let Some(count) = count_under(bytes, ARRAY_CONTAINER_TAG)? else {
             return Ok(None);
         };
-        let items = Items::new(bytes, 4, 4 + 4 * count, count);
-        Ok(Some(ArrayIterator { items }))
+        let entries = Cursor::over_items(bytes, count);
+        Ok(Some(ArrayIterator {
+            items: Items { entries, count },
+        }))
     }
 
     /// The header's count, whatever was taken so far.
@@ -267,8 +172,10 @@ impl<'a> ObjectKeyIterator<'a> {
         let Some(count) = count_under(bytes, OBJECT_CONTAINER_TAG)? else {
             return Ok(None);
         };
-        let keys = Items::new(bytes, 4, 4 + 8 * count, count);
-        Ok(Some(ObjectKeyIterator { keys }))
+        let entries = Cursor::over_keys(bytes, count);
+        Ok(Some(ObjectKeyIterator {
+            keys: Items { entries, count },
+        }))
     }
 
     /// The header's count, whatever was taken so far.
@@ -337,9 +244,10 @@ impl<'a> ObjectValueIterator<'a> {
         let Some(count) = count_under(bytes, OBJECT_CONTAINER_TAG)? else {
             return Ok(None);
         };
-        let start = keys_end(bytes, count)?;
-        let values = Items::new(bytes, 4 + 4 * count, start, count);
-        Ok(Some(ObjectValueIterator { values }))
+        let entries = Cursor::over_values(bytes, count)?;
+        Ok(Some(ObjectValueIterator {
+            values: Items { entries, count },
+        }))
     }
 
     /// The header's count, whatever was taken so far.
@@ -368,111 +276,43 @@ impl<'a> Iterator for ObjectValueIterator<'a> {
     }
 }
 
-// A key, and the entries behind its own.
-#[derive(Clone, Copy)]
-struct PlacedKey<'a> {
-    key: &'a str,
-    behind: Entries<'a>,
-}
-
-// The key of the first entry, which must be a string of UTF-8.
-#[tactic(auto, using(crate::proofs::Utf8::is_text_yes, crate::proofs::Utf8::is_text_no), unfolding(crate::specs::Walk::key_at))]
-fn first_key<'a>(entries: Entries<'a>) -> Result<PlacedKey<'a>, Error>
-    requires place { entries.place ≤ 2 ^ 34 }
-    requires start { entries.start ≤ 2 ^ 63 }
-    ensures ok { IfOk result
-        (λ x. key_at entries.entry.bytes.now entries.entry.place entries.entry.start
-        ≡ Ok x.key.now) }
-    ensures bytes { IfOk result (λ x. x.behind.bytes.now ≡ entries.entry.bytes.now) }
-    ensures place { IfOk result (λ x. x.behind.place ≡ entries.entry.place + 4) }
-    ensures start { IfOk result
-        (λ x. x.behind.start ≡ entries.entry.start
-        + length_at entries.entry.bytes.now entries.entry.place entries.entry.start) }
-    ensures near { IfOk result (λ x. x.behind.start < entries.entry.start + 2 ^ 32) }
-    ensures err { IfErr result
-        (λ e. key_at entries.entry.bytes.now entries.entry.place entries.entry.start ≡ Err e) }
+// The key of what was read as an entry, which must be a string of UTF-8.
+#[tactic(auto, using(crate::proofs::Utf8::is_text_yes, crate::proofs::Utf8::is_text_no))]
+fn key_of_entry<'a>(entry: Entry<'a>) -> Result<&'a str, Error>
+    ensures ok { IfOk result (λ key. key_of (entry_of entry.entry) ≡ Ok key.now) }
+    ensures err { IfErr result (λ e. key_of (entry_of entry.entry) ≡ Err e) }
 {
-    let entry = entries.first()?;
     if entry.type_code != STRING_TAG {
         return Err(Error::InvalidJsonb);
     }
     match str::from_utf8(entry.payload) {
-        Ok(key) => Ok(PlacedKey {
-            key,
-            behind: entries.behind(entry),
-        }),
+        Ok(key) => Ok(key),
         Err(_) => Err(Error::InvalidUtf8),
     }
 }
 
-// A key and its value's item, and the entries behind theirs.
-#[derive(Drop)]
-struct PlacedPair<'a> {
-    key: &'a str,
-    item: JsonbItem<'a>,
-    keys: Entries<'a>,
-    values: Entries<'a>,
-}
-
-// The key of the first entry of the keys, and then the item of the first entry of the values.
-#[tactic(auto, unfolding(crate::specs::Walk::pair_at))]
-fn first_pair<'a>(keys: Entries<'a>, values: Entries<'a>) -> Result<PlacedPair<'a>, Error>
-    requires same { keys.bytes.now ≡ values.bytes.now }
-    requires key_place { keys.place ≤ 2 ^ 34 }
-    requires key_start { keys.start ≤ 2 ^ 63 }
-    requires place { values.place ≤ 2 ^ 34 }
-    requires start { values.start ≤ 2 ^ 63 }
-    ensures ok { IfOk result
-        (λ x. pair_at values.entry.bytes.now keys.entry.place keys.entry.start values.entry.place values.entry.start ≡ Ok (x.key.now, item_view x.item)) }
-    ensures key_bytes { IfOk result (λ x. x.keys.bytes.now ≡ values.entry.bytes.now) }
-    ensures key_place { IfOk result (λ x. x.keys.place ≡ keys.entry.place + 4) }
-    ensures key_start { IfOk result
-        (λ x. x.keys.start ≡ keys.entry.start
-        + length_at values.entry.bytes.now keys.entry.place keys.entry.start) }
-    ensures key_near { IfOk result (λ x. x.keys.start < keys.entry.start + 2 ^ 32) }
-    ensures bytes { IfOk result (λ x. x.values.bytes.now ≡ values.entry.bytes.now) }
-    ensures place { IfOk result (λ x. x.values.place ≡ values.entry.place + 4) }
-    ensures start { IfOk result
-        (λ x. x.values.start ≡ values.entry.start
-        + length_at values.entry.bytes.now values.entry.place values.entry.start) }
-    ensures near { IfOk result (λ x. x.values.start < values.entry.start + 2 ^ 32) }
-    ensures err { IfErr result
-        (λ e. pair_at values.entry.bytes.now keys.entry.place keys.entry.start values.entry.place values.entry.start ≡ Err e) }
+// The key of what was read as one entry, and then the item of another.
+fn pair_read<'a>(
+    key: Result<Entry<'a>, Error>,
+    value: Result<Entry<'a>, Error>,
+) -> Result<(&'a str, JsonbItem<'a>), Error>
+    ensures { pair_view result ≡ pair_read (shown_entry key.entry, shown_entry value.entry) }
 {
-    let key = first_key(keys)?;
-    let value = first_item(values)?;
-    Ok(PlacedPair {
-        key: key.key,
-        item: value.item,
-        keys: key.behind,
-        values: value.behind,
-    })
+    Ok((key_of_entry(key?)?, item_read(value)?))
 }
 
 /// The pairs of an object, in order: each key with its value's item.
 #[derive(Drop)]
 pub struct ObjectIterator<'a> {
-    keys: Entries<'a>,
-    values: Entries<'a>,
-    pairs_left: usize,
+    keys: Cursor<'a>,
+    values: Cursor<'a>,
     pair_count: usize,
 }
 
 impl<'a> Model for ObjectIterator<'a> {
     ghost Value = { Walk (List ℕ × ItemView) };
 
-    ghost view = { λ s.
-        record {
-          count = s.pair_count;
-          rest =
-              pairs_from s.values.bytes.now s.pairs_left s.keys.place s.keys.start s.values.place s.values.start;
-        } };
-
-    ghost invariant = { λ s. (s.keys.bytes.now ≡ s.values.bytes.now)
-        × (s.keys.place + 4 * s.pairs_left ≤ 2 ^ 34)
-        × (s.keys.start + 2 ^ 32 * s.pairs_left ≤ 2 ^ 63)
-        × (s.values.place + 4 * s.pairs_left ≤ 2 ^ 34)
-        × (s.values.start + 2 ^ 32 * s.pairs_left ≤ 2 ^ 63) };
+    ghost view = { λ s. record { count = s.pair_count; rest = pairs_in s.keys s.values } };
 }
 
 impl<'a> ObjectIterator<'a> {
@@ -503,19 +343,10 @@ impl<'a> ObjectIterator<'a> {
         let Some(count) = count_under(bytes, OBJECT_CONTAINER_TAG)? else {
             return Ok(None);
         };
-        let end = keys_end(bytes, count)?;
+        let values = Cursor::over_values(bytes, count)?;
         Ok(Some(ObjectIterator {
-            keys: Entries {
-                bytes,
-                place: 4,
-                start: 4 + 8 * count,
-            },
-            values: Entries {
-                bytes,
-                place: 4 + 4 * count,
-                start: end,
-            },
-            pairs_left: count,
+            keys: Cursor::over_keys(bytes, count),
+            values,
             pair_count: count,
         }))
     }
@@ -542,25 +373,16 @@ impl<'a> Iterator for ObjectIterator<'a> {
         ensures count { self.new.count ≡ self.old.count }
         ensures ended { IfSome result (λ item. IfErr item (λ _. self.new.rest ≡ [])) }
     {
-        if self.pairs_left == 0 {
+        let key = self.keys.next()?;
+        // There are as many values as keys, so the walk ends with either.
+        let Some(value) = self.values.next() else {
+            self.keys.end();
             return None;
-        }
-        match first_pair(self.keys, self.values) {
-            Ok(
-                PlacedPair {
-                    key,
-                    item,
-                    keys,
-                    values,
-                },
-            ) => {
-                self.pairs_left -= 1;
-                self.keys = keys;
-                self.values = values;
-                Some(Ok((key, item)))
-            }
+        };
+        match pair_read(key, value) {
+            Ok(pair) => Some(Ok(pair)),
             Err(error) => {
-                self.pairs_left = 0;
+                self.keys.end();
                 Some(Err(error))
             }
         }

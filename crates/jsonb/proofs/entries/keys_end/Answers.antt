@@ -1,6 +1,6 @@
 use Rattle.std.proofs.Common.{rules, sym}
 use Rattle.jsonb.proofs.WalkLaws.{payloads_end-cut}
-use Rattle.jsonb.proofs.iterator.keys_end.Goals as goal
+use Rattle.jsonb.proofs.entries.keys_end.Goals as goal
 
 pub returns-in_err-end-clause-value : goal.returns-in_err-end-clause-value
 returns-in_err-end-clause-value c =

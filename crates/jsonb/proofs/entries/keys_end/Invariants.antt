@@ -1,6 +1,6 @@
 use Rattle.std.proofs.Common.{◌≡◌, ◌+◌, ◌*◌, ◌^◌, ◌≤◌}
 use Rattle.jsonb.specs.Walk.{payloads_end}
-use Rattle.jsonb.proofs.iterator.keys_end.Given as goal
+use Rattle.jsonb.proofs.entries.keys_end.Given as goal
 
 abbrev pub invariant-loop-left : goal.invariant-loop-left
 invariant-loop-left l = record {
