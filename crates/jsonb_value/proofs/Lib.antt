@@ -8,6 +8,7 @@ pub mod ExtensionLaws
 pub mod Tokens
 pub mod TreeLaws
 pub mod MeaningLaws
+pub mod MemberLaws
 pub mod KindLaws
 pub mod Json
 pub mod Writing

@@ -1,25 +1,28 @@
 //! Texts of JSON, read.
 
 ghost use Rattle.std.specs.Prelude.{◌≡◌, ◌⊎◌, ℕ, ◌<◌, ◌≤◌, [], ◌∷◌, ◌++◌, List, Err, chars, length};
-ghost use Rattle.std.specs.Prelude.{string_cmp, IfOk, IfErr, IsOkAnd};
+ghost use Rattle.std.specs.Prelude.{string_bytes, string_cmp, IfOk, IfErr, IsOkAnd};
 ghost use Rattle.std.specs.BTreeMap.{insert_entry};
-ghost use Rattle.jsonb_value.specs.Tree.{Tree};
+ghost use Rattle.jsonb_value.specs.Tree.{Tree, object};
 ghost use Rattle.jsonb_value.specs.Json.Syntax.{Json};
 ghost use Rattle.jsonb_value.specs.Reader.Reading.{skip_blank, read_word, read_element, read_value};
 ghost use Rattle.jsonb_value.specs.Reader.Reading.{read_array, read_object, read_member, read_kind};
 ghost use Rattle.jsonb_value.specs.Reader.Reading.{kind_of, string_kind, number_kind};
 ghost use Rattle.jsonb_value.specs.Reader.Gives.{Fails, Gives};
-ghost use Rattle.jsonb_value.specs.Reader.Held.{ItemIsRead, MemberIsRead};
-ghost use Rattle.jsonb_value.specs.Value.{tree_of};
+ghost use Rattle.jsonb_value.specs.Reader.Held.{ItemIsRead, KeyIsRead, MemberIsRead};
+ghost use Rattle.jsonb_value.specs.Reader.Held.{members_held};
+ghost use Rattle.jsonb_value.specs.Value.{tree_of, pairs_view};
 ghost use Rattle.jsonb_value.specs.Reader.Kind.{kind_view};
 
 mod cursor;
+mod members;
 mod number;
 mod string;
 
 use crate::error::Error;
-use crate::value::{Object, Value};
+use crate::value::Value;
 use cursor::{after_all, after_char, skip_blank, split_first};
+use members::Members;
 use number::read_number;
 use std::alloc::Global;
 use std::collections::BTreeMap;
@@ -180,10 +183,10 @@ fn read_object<'a>(alloc: Global, text: &'a str) -> Result<(Value<'a>, &'a str),
         → Gives (λ found. (tree_of found.0, chars found.1.now)) result
         (read_object (read_value n) n (chars text.now)) }
 {
-    let mut members = BTreeMap::new(alloc);
     if let Some(rest) = after_char(skip_blank(text), '}') {
-        return Ok((Value::Object(members), rest));
+        return Ok((Value::Object(BTreeMap::new(alloc)), rest));
     }
+    let mut members = Members::new(alloc);
     let mut rest = text;
     'members: loop {
         let after = read_member(alloc, &mut members, rest)?;
@@ -191,7 +194,7 @@ fn read_object<'a>(alloc: Global, text: &'a str) -> Result<(Value<'a>, &'a str),
             return Err(Error::InvalidJson);
         };
         if mark == '}' {
-            return Ok((Value::Object(members), after));
+            return close_object(alloc, &mut members, after);
         }
         if mark != ',' {
             return Err(Error::InvalidJson);
@@ -200,14 +203,26 @@ fn read_object<'a>(alloc: Global, text: &'a str) -> Result<(Value<'a>, &'a str),
     }
 }
 
-// A key between white space and its value, put in, and what follows them.
-#[cycle(reading)]
-#[inline(always)]
-fn read_member<'a>(alloc: Global, members: &mut Object<'a>, text: &'a str) -> Result<&'a str, Error>
-    ensures ok { IfOk result (λ rest. MemberIsRead members.old.entries members.new.entries
-        (chars text.now) (chars rest.now)) }
-    ensures err { IfErr result (λ e. (n turns : ℕ) → length (chars text.now) < n
-        → length (chars text.now) ≤ turns
+// The object of the members, and what follows it.
+#[inline(never)]
+fn close_object<'a>(
+    alloc: Global,
+    members: &mut Members<'a>,
+    rest: &'a str,
+) -> Result<(Value<'a>, &'a str), Error>
+    ensures ok { IfOk result (λ found. (chars found.1.now ≡ chars rest.now)
+        × (tree_of found.0 ≡ object (pairs_view (members_held members.old)))) }
+    ensures memory { IfErr result (λ e. e ≡ Error.OutOfMemory) }
+{
+    Ok((Value::Object(members.take_object(alloc)?), rest))
+}
+
+// A key between white space, and what follows the colon behind it.
+#[inline(never)]
+fn read_key<'a>(alloc: Global, text: &'a str) -> Result<(String, &'a str), Error>
+    ensures ok { IfOk result (λ found. KeyIsRead (chars text.now) (string_bytes found.0)
+        (chars found.1.now)) }
+    ensures err { IfErr result (λ e. (n turns : ℕ) → length (chars text.now) ≤ turns
         → Fails e (read_member (read_value n) turns (chars text.now))) }
 {
     let Some(opened) = after_char(skip_blank(text), '"') else {
@@ -218,23 +233,41 @@ fn read_member<'a>(alloc: Global, members: &mut Object<'a>, text: &'a str) -> Re
     let Some(behind) = after_char(skip_blank(after), ':') else {
         return Err(Error::InvalidJson);
     };
+    Ok((key, behind))
+}
+
+// A key between white space and its value, put in, and what follows them.
+#[cycle(reading)]
+#[inline(always)]
+fn read_member<'a>(
+    alloc: Global,
+    members: &mut Members<'a>,
+    text: &'a str,
+) -> Result<&'a str, Error>
+    ensures ok { IfOk result (λ rest. MemberIsRead (members_held members.old)
+        (members_held members.new) (chars text.now) (chars rest.now)) }
+    ensures err { IfErr result (λ e. (n turns : ℕ) → length (chars text.now) < n
+        → length (chars text.now) ≤ turns
+        → Fails e (read_member (read_value n) turns (chars text.now))) }
+{
+    let (key, behind) = read_key(alloc, text)?;
     insert_member(members, key, read_value(alloc, skip_blank(behind)))
 }
 
 // Puts the value that was found under the key.
 #[inline(never)]
 fn insert_member<'a>(
-    members: &mut Object<'a>,
+    members: &mut Members<'a>,
     key: String,
     found: Result<(Value<'a>, &'a str), Error>,
 ) -> Result<&'a str, Error>
     ensures ok { IfOk result (λ rest. IsOkAnd found.entry (λ f.
-        (members.new.entries ≡ insert_entry string_cmp members.old.entries key f.0)
+        (members_held members.new ≡ insert_entry string_cmp (members_held members.old) key f.0)
         × (chars rest.now ≡ skip_blank (chars f.1.now)))) }
     ensures err { IfErr result (λ e. (e ≡ Error.OutOfMemory) ⊎ (found.entry ≡ Err e)) }
 {
     let (value, rest) = found?;
-    drop(members.insert(key, value)?);
+    members.insert(key, value)?;
     Ok(skip_blank(rest))
 }
 

@@ -3,7 +3,7 @@ use Rattle.std.proofs.Common.{◌≡◌, ◌⊎◌, ℕ, zero, suc, ◌<◌, ◌
 use Rattle.std.proofs.Common.{ap, subst, ◌∙◌, List, [], ◌∷◌, ◌++◌, length, arith, Option, Some}
 use Rattle.std.proofs.Common.{None, Result, Ok, Err, inl, inr, eqb-true, rules, Vec}
 use Rattle.std.specs.Prelude.{◌≢◌, ◌==◌, String, map, string_bytes, string_cmp, IsErrAnd, IsOkAnd}
-use Rattle.std.specs.Prelude.{IfErr}
+use Rattle.std.specs.Prelude.{IfOk, IfErr}
 use Rattle.std.specs.Ordering.{nat_cmp, match_ordering}
 use Rattle.std.specs.declared.cmp.Ordering.{Ordering}
 use Rattle.std.specs.declared.cmp.Ordering.TheVariants.{Less, Equal, Greater}
@@ -28,8 +28,8 @@ use Rattle.jsonb_value.specs.declared.value.Value.{Value, Array, Object, Null, B
 use Rattle.jsonb_value.specs.declared.value.Value.{the_lemmas, fold-Value}
 use mathlib.Core.Former.{pair, const, this}
 use Rattle.jsonb_value.specs.Reader.Gives.{Gives, Fails}
-use Rattle.jsonb_value.specs.Reader.Held.{ItemIsRead, MemberIsRead}
-use Rattle.jsonb_value.specs.Value.{trees_of, pairs_of, tree_of, tree_step}
+use Rattle.jsonb_value.specs.Reader.Held.{ItemIsRead, KeyIsRead, MemberIsRead}
+use Rattle.jsonb_value.specs.Value.{trees_of, pairs_of, pairs_view, tree_of, tree_step}
 
 pub view-Null : tree_of Null ≡ null
 view-Null = search (rules, the_lemmas)
@@ -47,6 +47,10 @@ entries-map : (es : List (String Global × Value))
     ≡ pairs (map entry_of es)
 entries-map [] = refl
 entries-map (e ∷ es) = ap (λ q. tree_pair (string_bytes e.0) (tree_of e.1) q) (entries-map es)
+
+pairs_seen : (es : List (String Global × Value)) → pairs_view es ≡ pairs (map entry_of es)
+pairs_seen [] = refl
+pairs_seen (e ∷ es) = ap (λ q. tree_pair (string_bytes e.0) (tree_of e.1) q) (pairs_seen es)
 
 pub view-Object : (m : BTreeMap (String Global) Value)
     → tree_of (Object m) ≡ object (pairs (map entry_of m.entries))
@@ -415,6 +419,22 @@ pub key_read : (k : ℕ) (s opened key after : List ℕ) → expect quote (skip_
     → read_text k [] opened ≡ Some (key, after) → KeyRead k s key after
 key_read k s opened key after opens is = record { opened = opened; is_opened = opens; is_key = is }
 
+-- a key with its colon
+pub key_shorter : (s key behind : List ℕ) → KeyIsRead s key behind → length behind < length s
+key_shorter s key behind k =
+    omega (
+      arith,
+      opened_shorter s (skip_blank s) k.opened refl (sym k.is_opened),
+      behind_shorter k.opened key k.after (skip_blank k.after) behind k.is_key refl
+          (sym k.is_behind),
+    )
+
+pub key_in_turns : (s key behind : List ℕ) (turns : ℕ) (k : KeyIsRead s key behind)
+    → length s ≤ turns → KeyRead turns s key k.after
+key_in_turns s key behind turns k enough =
+    let shorter = opened_shorter s (skip_blank s) k.opened refl (sym k.is_opened) in
+    key_read turns s k.opened key k.after k.is_opened (k.is_key turns (omega (arith, shorter)))
+
 -- the member and the mark behind it are taken from the front
 pub member_then_shorter : (rest key : List ℕ) (t : Tree) (after : List ℕ) (c : ℕ) (last : List ℕ)
     → ((n k : ℕ) → length rest < n → length rest ≤ k
@@ -490,36 +510,48 @@ item_fails found s inside e skipped finds why n h =
     (element_fails n s inside skipped) why
 
 pub member_is_read : (found : Result (Value × Bor (List ℕ)) Error)
-    (old new : List (String Global × Value)) (key : String Global)
-    (s bytes after colon_at behind inside rest : List ℕ)
-    → ((turns : ℕ) → length s ≤ turns → KeyRead turns s bytes after) → string_bytes key ≡ bytes
-    → colon_at ≡ skip_blank after → Some behind ≡ expect colon colon_at
-    → length behind ≤ length s → inside ≡ skip_blank behind → Finds found inside
+    (old new : List (String Global × Value)) (key : String Global) (s behind inside rest : List ℕ)
+    → KeyIsRead s (string_bytes key) behind → inside ≡ skip_blank behind → Finds found inside
     → IsOkAnd found
     (λ f. (new ≡ insert_entry string_cmp old key f.0) × (rest ≡ skip_blank (chars f.1.now)))
     → MemberIsRead old new s rest
-member_is_read
-    (Err e) old new key s bytes after colon_at behind inside rest read same at found short skipped finds is = absurd is
-member_is_read
-    (Ok f) old new key s bytes after colon_at behind inside rest read same at found short skipped finds is = record {
-      key = key;
-      value = f.0;
-      inserted = is.0;
-      reads = λ n turns h k.
-          let value = element_reads n behind inside (tree_of f.0) (chars f.1.now) rest skipped
-          (finds n (omega (arith, skipped_shorter behind inside skipped))) is.1 in
-          member_reads n turns s bytes after colon_at behind (tree_of f.0) rest
-          (read turns k) at found value ∙ ap (λ q. member_found q (tree_of f.0) rest) (sym same);
-    }
+member_is_read (Err e) old new key s behind inside rest read skipped finds is = absurd is
+member_is_read (Ok f) old new key s behind inside rest read skipped finds is = record {
+  key = key;
+  value = f.0;
+  inserted = is.0;
+  reads = λ n turns h k.
+      let short = key_shorter s (string_bytes key) behind read in
+      let value = element_reads n behind inside (tree_of f.0) (chars f.1.now) rest skipped
+      (finds n (omega (arith, short, skipped_shorter behind inside skipped))) is.1 in
+      member_reads n turns s (string_bytes key) read.after (skip_blank read.after) behind
+      (tree_of f.0) rest (key_in_turns s (string_bytes key) behind turns read k) refl
+      (sym read.is_behind) value;
+}
 
-pub member_fails : (found : Result (Value × Bor (List ℕ)) Error)
-    (s bytes after colon_at behind inside : List ℕ) (e : Error)
-    → ((turns : ℕ) → length s ≤ turns → KeyRead turns s bytes after) → colon_at ≡ skip_blank after
-    → Some behind ≡ expect colon colon_at
-    → length behind ≤ length s → inside ≡ skip_blank behind → Finds found inside → (e ≡ OutOfMemory)
-    ⊎ (found ≡ Err e)
+pub member_fails : (found : Result (Value × Bor (List ℕ)) Error) (s key behind inside : List ℕ)
+    (e : Error) → KeyIsRead s key behind → inside ≡ skip_blank behind → Finds found inside
+    → (e ≡ OutOfMemory) ⊎ (found ≡ Err e)
     → (n turns : ℕ) → length s < n → length s ≤ turns → Fails e (read_member (read_value n) turns s)
-member_fails found s bytes after colon_at behind inside e read at is short skipped finds why n turns h k =
-    fails_behind found inside n _ e (omega (arith, skipped_shorter behind inside skipped)) finds
-    (λ none. member_no_value n turns s bytes after colon_at behind (read turns k) at is
+member_fails found s key behind inside e read skipped finds why n turns h k =
+    let short = key_shorter s key behind read in
+    fails_behind found inside n _ e (omega (arith, short, skipped_shorter behind inside skipped))
+    finds
+    (λ none. member_no_value n turns s key read.after (skip_blank read.after) behind
+    (key_in_turns s key behind turns read k) refl (sym read.is_behind)
     (element_fails n behind inside skipped none)) why
+
+-- the object of the members that were put in
+pub object_closes : (n : ℕ) (s : List ℕ) (front : Entries) (after rest : List ℕ) (c : ℕ)
+    (es : List (String Global × Value)) (r : Result (Value × Bor (List ℕ)) Error)
+    → MemberRead n s front after → after ≡ c ∷ rest → c ≡ close_brace → map entry_of es ≡ front
+    → IfOk r (λ f. (chars f.1.now ≡ rest) × (tree_of f.0 ≡ object (pairs_view es)))
+    → IfErr r (λ e. e ≡ OutOfMemory)
+    → Gives (λ f. (tree_of f.0, chars f.1.now)) r (read_object (read_value n) n s)
+object_closes n s front after rest c es (Ok f) m e is held ok err =
+    let tree : object (pairs front) ≡ tree_of f.0 =
+    ap (λ l. object (pairs l)) (sym held) ∙ ap object (sym (pairs_seen es)) ∙ sym ok.1 in
+    member_last n s front after rest c m e is
+    ∙ ap (λ t. Some (t, rest)) tree ∙ ap (λ l. Some (tree_of f.0, l)) (sym ok.0)
+object_closes n s front after rest c es (Err e) m h is held ok err =
+    subst (λ x. Fails x (read_object (read_value n) n s)) (sym err) tt

@@ -3,15 +3,37 @@ use Rattle.std.specs.Prelude.{◌≡◌, ℕ, ◌<◌, ◌≤◌, List, [], ◌�
 use Rattle.std.specs.Prelude.{string_bytes, string_cmp}
 use Rattle.std.specs.declared.alloc.Global.{Global}
 use Rattle.std.specs.BTreeMap.{insert_entry}
+use Rattle.jsonb_value.specs.declared.parser.members.Members.{Members}
 use Rattle.jsonb_value.specs.declared.value.Value.{Value}
 use Rattle.jsonb_value.specs.Value.{tree_of}
-use Rattle.jsonb_value.specs.Reader.Reading.{read_element, read_member, read_value}
+use Rattle.jsonb_value.specs.Json.Characters.{quote, colon}
+use Rattle.jsonb_value.specs.Reader.Reading.{read_element, read_member, read_value, read_text}
+use Rattle.jsonb_value.specs.Reader.Reading.{expect, skip_blank}
 
 -- One item at the front of the characters was put behind the others.
 pub record ItemIsRead (old new : List Value) (s rest : List ℕ) : Type 0 where
   pub item : Value
   pub pushed : new ≡ old ++ item ∷ []
   pub reads : (n : ℕ) → length s < n → read_element (read_value n) s ≡ Some (tree_of item, rest)
+
+-- A key between white space and the colon behind it stand at the front of the characters.
+pub record KeyIsRead (s key behind : List ℕ) : Type 0 where
+  pub opened : List ℕ
+  pub after : List ℕ
+  pub is_opened : expect quote (skip_blank s) ≡ Some opened
+  pub is_key : (turns : ℕ) → length opened < turns → read_text turns [] opened ≡ Some (key, after)
+  pub is_behind : expect colon (skip_blank after) ≡ Some behind
+
+-- These members with others put in, one after another: each at its key's place in the order of bytes,
+-- instead of an equal key's.
+abbrev pub with_members : List (String Global × Value) → List (String Global × Value)
+    → List (String Global × Value)
+with_members es [] = es
+with_members es (m ∷ ms) = with_members (insert_entry string_cmp es m.0 m.1) ms
+
+-- The members of the object that is read, in the order of their keys.
+abbrev pub members_held : Members → List (String Global × Value)
+members_held ms = with_members ms.few.entries ms.others.items
 
 -- One member at the front of the characters was put in.
 pub record MemberIsRead (old new : List (String Global × Value)) (s rest : List ℕ) : Type 0 where

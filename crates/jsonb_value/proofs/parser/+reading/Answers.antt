@@ -8,18 +8,18 @@ use Rattle.jsonb_value.specs.Reader.Reading.{expect, read_word, null_kind, true_
 use Rattle.jsonb_value.specs.Reader.Reading.{string_kind, array_kind, object_kind, number_kind}
 use Rattle.jsonb_value.specs.Value.{cow_bytes, trees_of, tree_of}
 use Rattle.std.proofs.lemmas.Result.{IfOk-weaker, IfErr-weaker}
-use Rattle.jsonb_value.proofs.Json.ValueSteps.{entry_of, KeyRead, fails_on, err_is, item_is_read}
-use Rattle.jsonb_value.proofs.Json.ValueSteps.{item_fails, member_is_read, member_fails, view-Null}
-use Rattle.jsonb_value.proofs.Json.ValueSteps.{view-Bool, view-Array, gives_same, reads_kind}
-use Rattle.jsonb_value.proofs.Json.ValueSteps.{value_ends, skipped_shorter, passed_on, array_begins}
-use Rattle.jsonb_value.proofs.Json.ValueSteps.{items_fail, item_read, item_last, item_then_end}
-use Rattle.jsonb_value.proofs.Json.ValueSteps.{item_then_other, item_then_comma, item_shorter}
-use Rattle.jsonb_value.proofs.Json.ValueSteps.{items_grown, opened_shorter, opens, member_no_key}
-use Rattle.jsonb_value.proofs.Json.ValueSteps.{member_no_colon, behind_shorter, key_read}
-use Rattle.jsonb_value.proofs.Json.ValueSteps.{object_begins, members_stop, member_read}
-use Rattle.jsonb_value.proofs.Json.ValueSteps.{member_last, member_then_end, member_then_other}
-use Rattle.jsonb_value.proofs.Json.ValueSteps.{member_then_comma, member_then_shorter}
-use Rattle.jsonb_value.proofs.Json.ValueSteps.{members_grown, view-Object}
+use Rattle.jsonb_value.proofs.Json.ValueSteps.{array_begins, entry_of, err_is, gives_same}
+use Rattle.jsonb_value.proofs.Json.ValueSteps.{item_fails, item_is_read, item_last, item_read}
+use Rattle.jsonb_value.proofs.Json.ValueSteps.{item_shorter, item_then_comma, item_then_end}
+use Rattle.jsonb_value.proofs.Json.ValueSteps.{item_then_other, items_fail, items_grown}
+use Rattle.jsonb_value.proofs.Json.ValueSteps.{key_shorter, member_fails, member_is_read}
+use Rattle.jsonb_value.proofs.Json.ValueSteps.{member_read, member_then_comma, member_then_end}
+use Rattle.jsonb_value.proofs.Json.ValueSteps.{member_then_other, member_then_shorter}
+use Rattle.jsonb_value.proofs.Json.ValueSteps.{members_grown, members_stop, object_begins}
+use Rattle.jsonb_value.proofs.Json.ValueSteps.{object_closes, passed_on, reads_kind}
+use Rattle.jsonb_value.proofs.Json.ValueSteps.{skipped_shorter, value_ends, view-Array, view-Bool}
+use Rattle.jsonb_value.proofs.Json.ValueSteps.{view-Null}
+use Rattle.jsonb_value.specs.Reader.Held.{members_held}
 use Rattle.jsonb_value.proofs.parser.+reading.Goals as goal
 
 pub read_item-read_value-requires : goal.read_item-read_value-requires
@@ -185,85 +185,32 @@ read_array-items-preserved t c =
 
 pub read_member-returns-in_err-key-clause-err : goal.read_member-returns-in_err-key-clause-err
 read_member-returns-in_err-key-clause-err t c =
-    let text = chars c.args.text.now in
-    let skipped = chars c.skip_blank.result.now in
-    let opened = chars c.in-Some.opened.now in
-    let shorter = opened_shorter text skipped opened c.skip_blank.ensures c.in-Some.ensures in
     err_is c.from_residual.result c.in_err-key.field-0.0 _ c.from_residual.ensures.1
-    (λ n turns h k. fails_on c.in_err-key.field-0.0 _ _
-    (member_no_key n turns text opened
-    (opens text skipped opened c.skip_blank.ensures c.in-Some.ensures))
-    (c.in_err-key.ensures turns (omega (arith, shorter))))
-
-pub read_member-returns-in_default-after_char-clause-err : goal.read_member-returns-in_default-after_char-clause-err
-read_member-returns-in_default-after_char-clause-err t c = λ n turns h k.
-    let text = chars c.args.text.now in
-    let skipped = chars c.skip_blank.result.now in
-    let opened = chars c.in-Some.opened.now in
-    let shorter = opened_shorter text skipped opened c.skip_blank.ensures c.in-Some.ensures in
-    let key = key_read turns text opened (cow_bytes c.in_ok-key.key) (chars c.in_ok-key.after.now)
-    (opens text skipped opened c.skip_blank.ensures c.in-Some.ensures)
-    (c.in_ok-key.ensures turns (omega (arith, shorter))) in
-    member_no_colon n turns text (cow_bytes c.in_ok-key.key) (chars c.in_ok-key.after.now)
-    (chars c.skip_blank-2.result.now) key c.skip_blank-2.ensures c.in_default-after_char.ensures
+    (λ n turns h k. c.in_err-key.ensures.err n turns k)
 
 pub read_member-read_value-requires : goal.read_member-read_value-requires
 read_member-read_value-requires t c =
-    let opened = chars c.in-Some.opened.now in
-    let shorter = opened_shorter (chars c.args.text.now)
-    (chars c.skip_blank.result.now) opened c.skip_blank.ensures c.in-Some.ensures in
-    let shorter' = behind_shorter opened (cow_bytes c.in_ok-key.key) (chars c.in_ok-key.after.now)
-    (chars c.skip_blank-2.result.now)
-    (chars c.in-Some-after_char.behind.now) c.in_ok-key.ensures c.skip_blank-2.ensures c.in-Some-after_char.ensures in
-    let inside = skipped_shorter (chars c.in-Some-after_char.behind.now)
-    (chars c.skip_blank-3.result.now) c.skip_blank-3.ensures in
-    (omega (arith, shorter, shorter', inside), tt)
+    let behind = chars c.in_ok-key.behind.now in
+    let shorter = key_shorter (chars c.args.text.now)
+    (string_bytes c.in_ok-key.key) behind c.in_ok-key.ensures.ok in
+    let inside = skipped_shorter behind (chars c.skip_blank.result.now) c.skip_blank.ensures in
+    (omega (arith, shorter, inside), tt)
 
 pub read_member-returns-clause-ok : goal.read_member-returns-clause-ok
 read_member-returns-clause-ok t c =
-    let text = chars c.args.text.now in
-    let opened = chars c.in-Some.opened.now in
-    let after = chars c.in_ok-key.after.now in
-    let behind = chars c.in-Some-after_char.behind.now in
-    let shorter = opened_shorter text
-    (chars c.skip_blank.result.now) opened c.skip_blank.ensures c.in-Some.ensures in
-    let shorter' = behind_shorter opened (cow_bytes c.in_ok-key.key) after
-    (chars c.skip_blank-2.result.now) behind c.in_ok-key.ensures c.skip_blank-2.ensures c.in-Some-after_char.ensures in
-    let opens =
-    opens text (chars c.skip_blank.result.now) opened c.skip_blank.ensures c.in-Some.ensures in
-    let key : (turns : ℕ) → length text ≤ turns
-    → KeyRead turns text (cow_bytes c.in_ok-key.key) after =
-    λ turns enough. key_read turns text opened (cow_bytes c.in_ok-key.key) after opens
-    (c.in_ok-key.ensures turns (omega (arith, shorter))) in
-    let inside : length behind ≤ length text = omega (arith, shorter, shorter') in
     IfOk-weaker c.insert_member.result _ _
-    (λ rest. member_is_read c.read_value.result _ _ c.in_ok-key-2.key text
-    (cow_bytes c.in_ok-key.key) after (chars c.skip_blank-2.result.now) behind
-    (chars c.skip_blank-3.result.now) (chars rest.now)
-    key c.in_ok-key-2.ensures.ok c.skip_blank-2.ensures c.in-Some-after_char.ensures inside c.skip_blank-3.ensures c.read_value.ensures)
+    (λ rest. member_is_read c.read_value.result _ _ c.in_ok-key.key (chars c.args.text.now)
+    (chars c.in_ok-key.behind.now) (chars c.skip_blank.result.now)
+    (chars rest.now) c.in_ok-key.ensures.ok c.skip_blank.ensures c.read_value.ensures)
     c.insert_member.ensures.ok
 
 pub read_member-returns-clause-err : goal.read_member-returns-clause-err
 read_member-returns-clause-err t c =
-    let text = chars c.args.text.now in
-    let opened = chars c.in-Some.opened.now in
-    let after = chars c.in_ok-key.after.now in
-    let behind = chars c.in-Some-after_char.behind.now in
-    let shorter = opened_shorter text
-    (chars c.skip_blank.result.now) opened c.skip_blank.ensures c.in-Some.ensures in
-    let shorter' = behind_shorter opened (cow_bytes c.in_ok-key.key) after
-    (chars c.skip_blank-2.result.now) behind c.in_ok-key.ensures c.skip_blank-2.ensures c.in-Some-after_char.ensures in
-    let opens =
-    opens text (chars c.skip_blank.result.now) opened c.skip_blank.ensures c.in-Some.ensures in
-    let key : (turns : ℕ) → length text ≤ turns
-    → KeyRead turns text (cow_bytes c.in_ok-key.key) after =
-    λ turns enough. key_read turns text opened (cow_bytes c.in_ok-key.key) after opens
-    (c.in_ok-key.ensures turns (omega (arith, shorter))) in
-    let inside : length behind ≤ length text = omega (arith, shorter, shorter') in
     IfErr-weaker c.insert_member.result _ _
-    (λ e. member_fails c.read_value.result text (cow_bytes c.in_ok-key.key) after
-    (chars c.skip_blank-2.result.now) behind (chars c.skip_blank-3.result.now) e
-    key c.skip_blank-2.ensures c.in-Some-after_char.ensures inside c.skip_blank-3.ensures c.read_value.ensures)
+    (λ e. member_fails c.read_value.result (chars c.args.text.now)
+    (string_bytes c.in_ok-key.key) (chars c.in_ok-key.behind.now)
+    (chars c.skip_blank.result.now) e c.in_ok-key.ensures.ok c.skip_blank.ensures
+    c.read_value.ensures)
     c.insert_member.ensures.err
 
 pub read_object-members-init : goal.read_object-members-init
@@ -273,7 +220,7 @@ read_object-members-init t c = (
   λ n h.
       object_begins n (chars c.args.text.now) _ h
       (c.in_default.ensures ∙ ap (expect close_brace) c.skip_blank.ensures)
-      (sym (ap (map entry_of) c.new-members.ensures.empty)),
+      (sym (ap (map entry_of) c.new-members.ensures)),
 )
 
 pub read_object-returns-in_err-after : goal.read_object-returns-in_err-after
@@ -297,10 +244,11 @@ read_object-returns-then-mark-eq125 t c = λ n h.
     let r = member_read n _ _ _ (string_bytes c.in_ok-after.ensures.ok.key)
     (tree_of c.in_ok-after.ensures.ok.value) _ (c.members.invariant.2 n h)
     (λ k enough. c.in_ok-after.ensures.ok.reads n k within enough) in
-    member_last n _ _ _ _ _ r c.in-Some-split_first.ensures c.if-mark-eq125.true
-    ∙ ap (λ x. Some (x, chars c.in-Some-split_first.after.now))
-    (ap (λ es. object (pairs es))
-    (sym (members_grown c.members.members.entries _ c.in_ok-after.ensures.ok.key c.in_ok-after.ensures.ok.value c.in_ok-after.ensures.ok.inserted)) ∙ sym (view-Object c.read_member.new.members))
+    object_closes n _ _ _ _ _ _ c.close_object.result r c.in-Some-split_first.ensures
+    c.if-mark-eq125.true
+    (members_grown (members_held c.members.members) _ c.in_ok-after.ensures.ok.key
+    c.in_ok-after.ensures.ok.value c.in_ok-after.ensures.ok.inserted)
+    c.close_object.ensures.ok c.close_object.ensures.memory
 
 pub read_object-returns-then-mark-ne44 : goal.read_object-returns-then-mark-ne44
 read_object-returns-then-mark-ne44 t c = λ n h.
@@ -333,5 +281,5 @@ read_object-members-preserved t c =
           (tree_of c.in_ok-after.ensures.ok.value) _ (c.members.invariant.2 n h)
           (λ k enough. c.in_ok-after.ensures.ok.reads n k within enough) in
           member_then_comma n _ _ _ _ _ _ r c.in-Some-split_first.ensures c.if-mark-ne44.false
-          (members_grown c.members.members.entries _ c.in_ok-after.ensures.ok.key c.in_ok-after.ensures.ok.value c.in_ok-after.ensures.ok.inserted),
+          (members_grown (members_held c.members.members) _ c.in_ok-after.ensures.ok.key c.in_ok-after.ensures.ok.value c.in_ok-after.ensures.ok.inserted),
     )

@@ -3,6 +3,7 @@ use Rattle.std.proofs.Common.{ℕ, ◌+◌, ◌*◌, ◌<◌, ◌≤◌, chars, 
 use Rattle.std.specs.Prelude.{map}
 use denote.Text.{Utf8}
 use denote.Shadow.{shadow}
+use Rattle.jsonb_value.specs.Reader.Held.{members_held}
 use Rattle.jsonb_value.specs.Value.{tree_of}
 use Rattle.jsonb_value.proofs.Json.ValueSteps.{entry_of, ItemsGoOn, MembersGoOn}
 use Rattle.jsonb_value.proofs.parser.+reading.Given as goal
@@ -37,7 +38,7 @@ invariant-read_object-members l =
     shadow (Utf8 l.rest)
     × (length (chars l.rest) ≤ length (chars l.fn.text))
     × ((n : ℕ) → length (chars l.fn.text) < n
-    → MembersGoOn n (chars l.fn.text) (map entry_of l.members.entries) (chars l.rest))
+    → MembersGoOn n (chars l.fn.text) (map entry_of (members_held l.members)) (chars l.rest))
 
 abbrev pub decreases-read_object-members : goal.decreases-read_object-members
 decreases-read_object-members l = length (chars l.rest)

@@ -1,0 +1,87 @@
+//! The members of an object while it is read.
+
+ghost use Rattle.std.specs.Prelude.{◌≡◌, ◌++◌, [], string_cmp, IfOk, IfErr, OnOk};
+ghost use Rattle.std.specs.BTreeMap.{insert_entry, IsFromIterResult};
+ghost use Rattle.jsonb_value.specs.Reader.Held.{members_held};
+ghost use Rattle.jsonb_value.specs.Value.{pairs_view};
+
+use crate::error::Error;
+use crate::value::{Object, Value};
+use std::alloc::Global;
+use std::collections::BTreeMap;
+use std::mem::replace;
+
+// So many pairs stand in one leaf of a map.
+const LEAF_PAIRS: usize = 15;
+
+/// Members in the order of their keys while one leaf of a map holds them. Those behind are a list,
+/// in the order in which they were read, since to make a map of all at once costs less than to put
+/// each into its place.
+#[derive(Drop)]
+pub struct Members<'a> {
+    few: Object<'a>,
+    others: Vec<(String, Value<'a>)>,
+}
+
+impl<'a> Members<'a> {
+    /// No members.
+    pub fn new(alloc: Global) -> Members<'a>
+        ensures { members_held result ≡ [] }
+    {
+        Members {
+            few: BTreeMap::new(alloc),
+            others: Vec::new(alloc),
+        }
+    }
+
+    /// Puts the value under the key. Of equal keys the last value is kept.
+    pub fn insert(&mut self, key: String, value: Value<'a>) -> Result<(), Error>
+        ensures ok { OnOk result (members_held self.new
+            ≡ insert_entry string_cmp (members_held self.old) key value.entry) }
+        ensures memory { IfErr result (λ e. e ≡ Error.OutOfMemory) }
+    {
+        if self.others.is_empty() && self.few.len() < LEAF_PAIRS {
+            drop(self.few.insert(key, value)?);
+        } else {
+            self.others.push((key, value))?;
+        }
+        Ok(())
+    }
+
+    /// Takes the object of all members out, and leaves none.
+    pub fn take_object(&mut self, alloc: Global) -> Result<Object<'a>, Error>
+        ensures ok { IfOk result
+            (λ object. pairs_view object.entries ≡ pairs_view (members_held self.old)) }
+        ensures memory { IfErr result (λ e. e ≡ Error.OutOfMemory) }
+    {
+        let few = replace(&mut self.few, BTreeMap::new(alloc));
+        if self.others.is_empty() {
+            return Ok(few);
+        }
+        let all = join(alloc, few, replace(&mut self.others, Vec::new(alloc)))?;
+        object_of(alloc, all)
+    }
+}
+
+// The members of a map and others behind them.
+fn join<'a>(
+    alloc: Global,
+    few: Object<'a>,
+    others: Vec<(String, Value<'a>)>,
+) -> Result<Vec<(String, Value<'a>)>, Error>
+    ensures ok { IfOk result (λ all. all.items ≡ few.entry.entries ++ others.entry.items) }
+    ensures memory { IfErr result (λ e. e ≡ Error.OutOfMemory) }
+{
+    let mut others = others;
+    let mut all: Vec<(String, Value<'a>)> = few.into_iter().collect(alloc)?;
+    all.append(&mut others)?;
+    Ok(all)
+}
+
+// A map of these pairs. Of equal keys the last value is kept.
+fn object_of<'a>(alloc: Global, pairs: Vec<(String, Value<'a>)>) -> Result<Object<'a>, Error>
+    ensures ok { IfOk result (IsFromIterResult string_cmp pairs.entry.items) }
+    ensures memory { IfErr result (λ e. e ≡ Error.OutOfMemory) }
+{
+    Ok(pairs.into_iter().collect(alloc)?)
+}
