@@ -1,5 +1,5 @@
 -- Equal items have one count, and are both listed or both not.
-use Rattle.std.proofs.Common.{◌≡◌, ℕ, ◌-◌, List, [], ◌∷◌, ◌++◌, Bool, true, false, refl, ap, sym}
+use Rattle.std.proofs.Common.{◌≡◌, ℕ, ◌-◌, List, [], ◌∷◌, ◌++◌, Bool, true, false, refl, ap}
 use Rattle.std.proofs.Common.{cond, arith, ◌∙◌, subst}
 use Rattle.std.specs.Prelude.{Some, is_some, unwrap_or}
 use Rattle.std.proofs.lemmas.List.Folds.{list_any-append}
@@ -59,35 +59,6 @@ shown_count_of_set tally old new x n shows sets f is =
     ≡ cond (same_meaning x (item_view item)) (f (count_in es (item_view item)))
     (count_in es (item_view item)) in
     subst P shows (count_of_set old new x n sets f is)
-
--- no class counts less after a pop at 0
-pub count_of_kept : (tally : Tally) (x : ItemView) → count_of tally x ≡ 0
-    → (item : JsonbItem)
-    → count_of tally (item_view item)
-    ≡ cond (same_meaning x (item_view item)) (count_of tally (item_view item) - 1)
-    (count_of tally (item_view item))
-count_of_kept tally x none item = case (same_meaning x (item_view item)) refl where
-  case : (b : Bool) → same_meaning x (item_view item) ≡ b
-      → count_of tally (item_view item)
-      ≡ cond b (count_of tally (item_view item) - 1) (count_of tally (item_view item))
-  case true same = let level : count_of tally x ≡ count_of tally (item_view item) = ap
-      (λ o. unwrap_or o 0) (lookup_same x (item_view item) tally.counts same) in omega arith
-  case false other = refl
-
--- A class has a count exactly if it is listed,
--- and so after the count of a listed class was set
-pub lists_known : (list : List ItemView) (old new : List (JsonbItem × ℕ)) (x : ItemView) (n : ℕ)
-    → Lists list old → SetsCount old new x n
-    → is_some (count_at old x) ≡ true → Lists list new
-lists_known list old new x n lists sets known item =
-    case (same_meaning x (item_view item)) refl where
-      case : (b : Bool) → same_meaning x (item_view item) ≡ b
-          → is_some (count_at new (item_view item)) ≡ has_equal list (item_view item)
-      case true same = ap is_some (sets item) ∙ ap
-          (λ c. is_some (cond c (Some n) (count_at old (item_view item)))) same
-          ∙ sym known ∙ ap is_some (lookup_same x (item_view item) old same) ∙ lists item
-      case false other = ap is_some (sets item) ∙ ap
-          (λ c. is_some (cond c (Some n) (count_at old (item_view item)))) other ∙ lists item
 
 -- and after an item was listed with its first count
 pub lists_new : (list : List ItemView) (old new : List (JsonbItem × ℕ)) (x : ItemView) (n : ℕ)

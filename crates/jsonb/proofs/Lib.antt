@@ -24,4 +24,3 @@ pub mod BuiltMeanings
 pub mod Classes
 pub mod DocumentLaws
 pub mod KnownLaws
-pub mod NodeLaws

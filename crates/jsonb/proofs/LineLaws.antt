@@ -9,7 +9,7 @@ use Rattle.jsonb_value.specs.Text.{Layout, in_one_line, on_lines, inside, line_s
 use Rattle.jsonb_value.specs.Text.{laid_out, more_items, more_pairs, string_text}
 use Rattle.jsonb_value.specs.Value.{trees_of}
 use Rattle.jsonb_codec.specs.Depth.{depth, depths, pair_depths, size, sizes, pair_sizes}
-use Rattle.jsonb.specs.Lines.{more_lines, bracket_text, pair_text, item_lines, pair_lines, HasRoom}
+use Rattle.jsonb.specs.Lines.{more_lines, bracket_text, pair_text, item_lines, pair_lines}
 use Rattle.jsonb.specs.Node.{pairs_of}
 
 more_lines-items : (l : Layout) (ts : Trees) → more_lines l (item_lines l ts) ≡ more_items l ts
@@ -68,11 +68,6 @@ indent (suc n) =
   where
     twice : (n : ℕ) → suc (suc (2 * n)) ≡ 2 * suc n
     twice n = omega arith
-
--- room for what a container holds
-pub HasRoom-inside : (l : Layout) (n m : ℕ) → HasRoom l (1 + n) → m ≤ n → HasRoom (inside l) m
-HasRoom-inside in_one_line n m room few = tt
-HasRoom-inside (on_lines depth) n m room few = omega arith
 
 -- A container's lines, written one after the other: the first,
 lines_begin : (l : Layout) (front end line : List ℕ) (lines : List (List ℕ))

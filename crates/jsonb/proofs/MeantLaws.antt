@@ -1,5 +1,5 @@
 -- What `meaning_of` answers, and the items that mean a tree.
-use Rattle.std.proofs.Common.{◌≡◌, ℕ, List, inl, inr, refl, sym, ap, subst}
+use Rattle.std.proofs.Common.{◌≡◌, ℕ, List, inl, inr, refl, sym, ap}
 use Rattle.jsonb_value.specs.Tree.{Tree}
 use Rattle.jsonb_value.specs.Tree as trees
 use Rattle.jsonb_value.specs.Value.{cow_bytes}
@@ -37,16 +37,6 @@ pub meaning_of-other : (b : List ℕ) → (IsDocument b → ⊥) → meaning_of 
 unfolding meaning_of
 meaning_of-other b none = meaning_found-other b none (decide b)
 
-Doc-meaning_found : (b : List ℕ) (t : Tree) → (d : Decided (IsDocument b))
-    → meaning_found b d ≡ document t → Doc b t
-Doc-meaning_found b t (inl found) e = let same : found.0 ≡ t = cc in subst (Doc b) same found.1
-Doc-meaning_found b t (inr none) e = let different : ⊥ = cc in absurd different
-
--- Bytes that mean a tree are a document of it.
-pub Doc-meaning_of : (b : List ℕ) (t : Tree) → meaning_of b ≡ document t → Doc b t
-unfolding meaning_of
-Doc-meaning_of b t e = Doc-meaning_found b t (decide b) e
-
 -- An item that means a tree has it as its meaning.
 pub view_meaning-document : (x : ItemView) (t : Tree) → Means x t → view_meaning x ≡ document t
 view_meaning-document null t e = ap document (sym e)
@@ -56,16 +46,6 @@ view_meaning-document (text s) t e = ap document (sym e)
 view_meaning-document (extension given x) t e = ap document (sym e)
 view_meaning-document (raw b) t doc = meaning_of-document b t doc
 view_meaning-document (owned b) t doc = meaning_of-document b t doc
-
--- Where the meaning is a tree, the item means it.
-pub Means-shown_meaning : (x : ItemView) (t : Tree) → view_meaning x ≡ document t → Means x t
-Means-shown_meaning null t e = cc
-Means-shown_meaning (boolean b) t e = cc
-Means-shown_meaning (number given x) t e = cc
-Means-shown_meaning (text s) t e = cc
-Means-shown_meaning (extension given x) t e = cc
-Means-shown_meaning (raw b) t e = Doc-meaning_of b t e
-Means-shown_meaning (owned b) t e = Doc-meaning_of b t e
 
 -- An item that holds no bytes means the tree that it holds.
 pub value_meaning : (x : JsonbItem) → ((r : RawJsonb) → x ≡ items.Raw r → ⊥)

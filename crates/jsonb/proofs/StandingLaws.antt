@@ -358,18 +358,6 @@ items_at b cs few written =
           At-right b 4 (4 + 4 * length cs) (code_entries cs) (code_payloads cs) (omega arith) whole;
     }
 
--- The bytes determine the entries of an array.
-pub HasItems-one : (b : List ℕ) (ts us : Trees) (cs ds : List Entry) → HasItems b ts cs
-    → HasItems b us ds → cs ≡ ds
-HasItems-one b ts us cs ds h k =
-    let left = items_at b cs h.few h.written in
-    let right = items_at b ds k.few k.written in
-    let n : length cs ≡ length ds = ap counted_in (sym left.header ∙ right.header) in
-    same_entries b 4 (4 + 4 * length cs) cs ds (AreEntries-trees cs ts h.mean h.short)
-    (AreEntries-trees ds us k.mean k.short) n left.entries_at left.payloads_at
-    right.entries_at
-    (subst (λ (m : ℕ). At b (4 + 4 * m) (code_payloads ds)) (sym n) right.payloads_at)
-
 -- where the members of an object stand
 pub record MembersAt (b : List ℕ) (ms : List (List ℕ × Entry)) : Type 0 where
   pub header : header_at b 0 ≡ Ok (1073741824, length ms)

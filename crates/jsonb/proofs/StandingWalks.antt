@@ -10,7 +10,7 @@ use Rattle.jsonb_codec.specs.Doc.{Payload, Doc}
 use Rattle.jsonb.specs.Steps.{◌>>=◌}
 use Rattle.jsonb.specs.Item.{Entry}
 use Rattle.jsonb.specs.Building.{key_codes, code_payloads}
-use Rattle.jsonb.specs.Standing.{HasMembers, entry_item, member_item}
+use Rattle.jsonb.specs.Standing.{HasMembers, entry_item}
 use Rattle.jsonb.specs.Walk.{entries_from, items_in, payloads_end, item_entries, key_entries}
 use Rattle.jsonb.specs.Walk.{value_entries, item_walk, array_walk, values_walk, pair_walk}
 use Rattle.jsonb.specs.Walk.{pairs_walk}

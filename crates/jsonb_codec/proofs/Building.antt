@@ -1,6 +1,6 @@
 -- A list built from its front: what was put in it, and the others that follow.
-use Rattle.std.proofs.Common.{◌≡◌, ℕ, List, [], ◌∷◌, ◌++◌, Option, Some, None, Vec, Result, Ok, Err}
-use Rattle.std.proofs.Common.{IfOk, refl, sym, ap, ap₂, subst, ◌∙◌, rules}
+use Rattle.std.proofs.Common.{◌≡◌, ℕ, List, [], ◌∷◌, ◌++◌, Option, Some, None, Result, Ok, Err}
+use Rattle.std.proofs.Common.{IfOk, refl, sym, ap, ap₂, subst, ◌∙◌}
 use Rattle.std.specs.Prelude.{String, map, string_bytes, string_cmp}
 use Rattle.std.specs.declared.alloc.Global.{Global}
 use Rattle.std.specs.declared.cmp.Ordering.{Ordering}
@@ -9,13 +9,13 @@ use Rattle.std.specs.Ordering.{nat_cmp, match_ordering, ordering_reverse}
 use Rattle.std.specs.Cmp.Lexicographic.{slice_cmp}
 use Rattle.std.proofs.lemmas.Cmp.{nat_list_cmp_total}
 use Rattle.std.proofs.lemmas.List.{map-append}
-use Rattle.std.specs.BTreeMap.{BTreeMap, insert_entry}
+use Rattle.std.specs.BTreeMap.{insert_entry}
 use mathlib.Core.Former as Former
-use Rattle.jsonb_value.specs.declared.value.Value.{Value, Array, Object, the_lemmas, fold-Value}
+use Rattle.jsonb_value.specs.declared.value.Value.{Value, fold-Value}
 use Rattle.jsonb_value.specs.declared.error.Error.{Error}
-use Rattle.jsonb_value.specs.Tree.{Tree, Trees, no_trees, tree, Pairs, no_pairs, pair, array}
-use Rattle.jsonb_value.specs.Tree.{object, Ascends, Ascend}
-use Rattle.jsonb_value.specs.Value.{trees_of, pairs_of, tree_of, tree_step, items_view, pairs_view}
+use Rattle.jsonb_value.specs.Tree.{Tree, Trees, no_trees, tree, Pairs, no_pairs, pair}
+use Rattle.jsonb_value.specs.Tree.{Ascends, Ascend}
+use Rattle.jsonb_value.specs.Value.{trees_of, pairs_of, tree_of, tree_step, pairs_view}
 use Rattle.jsonb_codec.specs.Doc.{Doc, IsDocument}
 use Rattle.jsonb_codec.specs.Parts.{IsPayloadOf}
 use Rattle.jsonb_codec.proofs.Unique.{same_tree}
@@ -76,19 +76,12 @@ insert_entry-append before (e ∷ es) k v t qs h =
 pub meant : (ty : ℕ) (p : List ℕ) (t u : Tree) → IsPayloadOf ty p t → IsPayloadOf ty p u → t ≡ u
 meant ty p t u h k = same_tree t u (h.0 ∙ sym k.0) p h.1 k.1
 
-pub tree_of-Array : (v : Vec Value Global) → tree_of (Array v) ≡ array (items_view v.items)
-tree_of-Array v = search (rules, the_lemmas)
-
 pairs_of-map : (es : List (String Global × Value))
     → pairs_of
     (map ((Former.pair (Former.const (String Global)) Former.this).map Value Tree
     (fold-Value Tree tree_step)) es) ≡ pairs_view es
 pairs_of-map [] = refl
 pairs_of-map (e ∷ es) = ap (pair (string_bytes e.0) (tree_of e.1)) (pairs_of-map es)
-
-pub tree_of-Object : (m : BTreeMap (String Global) Value)
-    → tree_of (Object m) ≡ object (pairs_view m.entries)
-tree_of-Object m = search (rules, the_lemmas, pairs_of-map m.entries)
 
 -- one more value behind those so far
 pub trees_and-push : (vs ws : List Value) (v : Value) (ts us others : Trees) (first : Tree)

@@ -1,13 +1,13 @@
 -- Whether parts are as they are written: payloads, children one by one, and whole documents.
-use Rattle.std.proofs.Common.{◌≡◌, ◌≢◌, ◌↔◌, ◌<◌, ◌+◌, ◌^◌, ℕ, List, ◌++◌, length, false, inl, inr}
+use Rattle.std.proofs.Common.{◌≡◌, ◌↔◌, ◌<◌, ◌+◌, ◌^◌, ℕ, List, ◌++◌, length, false, inl, inr}
 use Rattle.std.proofs.Common.{refl, sym, ap, ap₂, subst, ◌∙◌, arith, IsTrue, nat_eq}
 use Rattle.std.proofs.lemmas.Bool.{eqb-true, eq-eqb, cases_eq}
 use Rattle.jsonb_value.specs.declared.number.Number.{Number}
 use Rattle.jsonb_value.specs.Norm.{norm}
 use Rattle.jsonb_value.specs.NumCode.{NumCode, number_payload}
 use Rattle.jsonb_value.specs.ExtCode.{ExtCode, extension_payload}
-use Rattle.jsonb_value.specs.Tree.{Extension, Tree, Trees, null, boolean, number, text, extension}
-use Rattle.jsonb_value.specs.Tree.{array, object, no_trees}
+use Rattle.jsonb_value.specs.Tree.{Extension, Tree, Trees, number, extension}
+use Rattle.jsonb_value.specs.Tree.{no_trees}
 use Rattle.jsonb_value.proofs.BigEndian.{AreBytes}
 use Rattle.jsonb_value.proofs.Written.{number_payload-NumCode, extension_payload-ExtCode}
 use Rattle.jsonb_codec.specs.Word.{word}
@@ -22,17 +22,6 @@ use Rattle.jsonb_codec.proofs.Lengths.{length-entries_of, length-canon-scalar, d
 use Rattle.jsonb_codec.proofs.CanonLaws.{Doc-canon}
 use Rattle.jsonb_codec.proofs.Rewriting.{canonical_twice}
 use Rattle.jsonb_codec.proofs.WellFormed.{IsTree-Doc}
-
--- null, a truth value or a text is
-pub written_plain : (t : Tree) (p : List ℕ) → type_of t ≢ 536870912 → type_of t ≢ 1610612736
-    → type_of t ≢ 1342177280 → Payload t p → IsWritten t p
-written_plain null p x y z h = (tt, sym h)
-written_plain (boolean b) p x y z h = (tt, sym h)
-written_plain (number n) p x y z h = absurd (x refl)
-written_plain (text s) p x y z h = (tt, sym h.0)
-written_plain (extension n) p x y z h = absurd (y refl)
-written_plain (array ts) p x y z h = absurd (z refl)
-written_plain (object ps) p x y z h = absurd (z refl)
 
 -- a test of two lengths, where one is another's
 length_test : (a b n : ℕ) (P : Type 0) → b ≡ n → ((a ≡ n) ↔ P) → IsTrue (nat_eq a b) ↔ P

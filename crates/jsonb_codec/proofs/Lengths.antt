@@ -11,7 +11,7 @@ use Rattle.jsonb_value.specs.Ast.{asts_view, ast_pairs_view}
 use Rattle.jsonb_value.specs.Value.{items_view, pairs_view}
 use Rattle.jsonb_codec.specs.Word.{word}
 use Rattle.jsonb_codec.specs.Doc.{type_of}
-use Rattle.jsonb_codec.specs.Canon.{document_of, FitsInside, FitsEntry, Fits, canon, payload_of}
+use Rattle.jsonb_codec.specs.Canon.{document_of, FitsEntry, Fits, canon, payload_of}
 use Rattle.jsonb_codec.specs.Canon.{entries_of, payloads_of, key_entries, value_entries}
 use Rattle.jsonb_codec.specs.Canon.{key_payloads, value_payloads}
 use Rattle.jsonb_codec.proofs.Words.{length-word-append}
@@ -102,6 +102,3 @@ Fits-scalar t h = record { inside = h.inside; short = λ other. h.short }
 
 pub FitsEntry-scalar : (t : Tree) → (type_of t ≡ 1342177280 → ⊥) → Fits t → FitsEntry t
 FitsEntry-scalar t other h = record { inside = h.inside; short = h.short other }
-
-pub Fits-container : (t : Tree) → type_of t ≡ 1342177280 → FitsInside t → Fits t
-Fits-container t is h = record { inside = h; short = λ other. absurd (other is) }

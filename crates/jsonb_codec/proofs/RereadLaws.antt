@@ -1,5 +1,5 @@
 -- A tree that is read again from its text fits where the tree that was printed does.
-use Rattle.std.proofs.Common.{ℕ, List, ◌≡◌, ◌≤◌, suc, Bool, length, chars, refl, ap, ◌∙◌, arith}
+use Rattle.std.proofs.Common.{◌≡◌, ◌≤◌, suc, Bool, length, chars, refl, ap, ◌∙◌, arith}
 use Rattle.std.proofs.Common.{length-append}
 use Rattle.jsonb_value.specs.Plain.{IsPlain}
 use Rattle.jsonb_value.specs.Text.{Layout, laid_out}
@@ -8,12 +8,10 @@ use Rattle.jsonb_value.specs.Tree.{no_trees, tree, Pairs, no_pairs, pair, count,
 use Rattle.jsonb_value.specs.WellFormed.{IsTree}
 use Rattle.jsonb_value.proofs.Json.Same.{IsSame, AreSame, PairsSame}
 use Rattle.jsonb_value.proofs.Json.PrintedTrees.{reread_tree}
-use Rattle.jsonb_value.proofs.BigEndian.{AreBytes}
-use Rattle.jsonb_codec.specs.Doc.{type_of, Doc}
+use Rattle.jsonb_codec.specs.Doc.{type_of}
 use Rattle.jsonb_codec.specs.Canon.{payload_of, payloads_of, key_payloads, value_payloads}
 use Rattle.jsonb_codec.specs.Canon.{FitsInside, AllFit, PairsFit, Fits}
 use Rattle.jsonb_codec.specs.Reread.{MeansAgain}
-use Rattle.jsonb_codec.proofs.WellFormed.{IsTree-Doc}
 use Rattle.jsonb_codec.proofs.Lengths.{length-payload_of-array, length-payload_of-object}
 
 type_of-IsSame : (u t : Tree) → IsSame u t → type_of u ≡ type_of t
@@ -137,8 +135,3 @@ pub reread_text : (l : Layout) (t : Tree) → IsTree t → IsPlain t → Fits t
 reread_text l t ok plain fits =
     let read = reread_tree l t ok plain in
     record { again = read.tree_is; is_tree = read.is_tree; fits = Fits-IsSame read.tree_is t read.is_same fits; is_meant = read.is_meant; is_equal = read.is_equal }
-
--- The same of the text of a document.
-pub reread_document : (l : Layout) (b : List ℕ) (t : Tree) → AreBytes b → Doc b t → IsPlain t
-    → Fits t → MeansAgain (chars (laid_out l t)) t
-reread_document l b t bytes h = reread_text l t (IsTree-Doc b t bytes h)

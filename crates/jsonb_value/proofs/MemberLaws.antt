@@ -1,7 +1,6 @@
 -- Members put in one after another, beside a map that is made of all at once.
 use Rattle.std.proofs.Common.{◌≡◌, ℕ, List, [], ◌∷◌, ◌++◌, Bool, true, false, cond, Option, None}
 use Rattle.std.proofs.Common.{Some, String, Global, refl, sym, ap, subst, ◌∙◌, ap₂, inl, inr}
-use Rattle.std.specs.Prelude.{map}
 use Rattle.std.specs.String.{string_bytes, string_cmp, string_cmp_total}
 use Rattle.std.specs.Ordering.{eq_by_cmp, is_eq, match_ordering, ordering_reverse, nat_cmp}
 use Rattle.std.specs.declared.cmp.Ordering.{Ordering}

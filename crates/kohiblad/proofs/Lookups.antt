@@ -1,9 +1,7 @@
 -- What a look-up finds, where its answers are told otherwise.
-use Rattle.std.proofs.Common.{◌≡◌, ℕ, ◌+◌, ◌-◌, ◌*◌, ◌^◌, ◌<◌, Bool, true, false, ◌==◌, ◌||◌}
+use Rattle.std.proofs.Common.{◌≡◌, ℕ, ◌-◌, ◌*◌, ◌^◌, ◌<◌, Bool, true, false, ◌==◌, ◌||◌}
 use Rattle.std.proofs.Common.{if◌then◌else◌, is_some, List, length, Option, None, Some, IfSome}
 use Rattle.std.proofs.Common.{Result, Ok, Err, IsOkAnd, refl, ap, ap₂, subst, sym, ◌∙◌, arith}
-use Rattle.jsonb_codec.specs.declared.jentry.JEntry.{JEntry}
-use Rattle.jsonb_codec.specs.JEntry.{jentry_of, jentry_in}
 use Rattle.jsonb_codec.specs.declared.constants.TheConstants.{ARRAY_CONTAINER_TAG}
 use Rattle.jsonb_codec.specs.declared.constants.TheConstants.{OBJECT_CONTAINER_TAG}
 use Rattle.jsonb_codec.specs.declared.constants.TheConstants.{SCALAR_CONTAINER_TAG}
@@ -56,14 +54,6 @@ module _ (answers others : List ℕ → Bool → Type 0)
       all_passed n count (passed_before n n none) is cost
   LooksUpBytes-weaker r reads (one_accepted n pair entry count key there is cost) =
       one_accepted n pair entry count (accepted n pair key) there is cost
-
--- type and length of an entry make one word
-pub small_entry : (r : Result ℕ Error) (entry : JEntry) → jentry_in r ≡ Ok entry
-    → entry.type_code + entry.length < 2 ^ 31
-small_entry (Ok k) entry is =
-    let same : jentry_of k ≡ entry = cc in
-    subst (λ (x : JEntry). x.type_code + x.length < 2 ^ 31) same (omega arith)
-small_entry (Err e) entry is = let different : ⊥ = cc in absurd different
 
 -- where the header cannot be read, nothing is found
 pub no_place_found : (name bytes : List ℕ) (e : Error) → header_at bytes 0 ≡ Err e

@@ -8,7 +8,7 @@ use Rattle.std.specs.Ordering.{nat_cmp, match_ordering}
 use Rattle.std.specs.declared.cmp.Ordering.{Ordering}
 use Rattle.std.specs.declared.cmp.Ordering.TheVariants.{Less, Equal, Greater}
 use Rattle.std.specs.Cmp.Lexicographic.{slice_cmp}
-use Rattle.std.specs.BTreeMap.{BTreeMap, insert_entry}
+use Rattle.std.specs.BTreeMap.{insert_entry}
 use Rattle.std.specs.declared.alloc.Global.{Global}
 use Rattle.jsonb_value.specs.Tree.{Tree, null, boolean, array, object, no_trees, no_pairs}
 use Rattle.jsonb_value.specs.Tree.{pair as tree_pair}
@@ -24,7 +24,7 @@ use Rattle.jsonb_value.proofs.Json.Shorter.{skip_shorter, expect_shorter, text_s
 use Rattle.jsonb_value.proofs.Json.Shorter.{element_shorter, member_shorter}
 use Rattle.jsonb_value.specs.declared.error.Error.{Error}
 use Rattle.jsonb_value.specs.declared.error.Error.TheVariants.{OutOfMemory, InvalidJson}
-use Rattle.jsonb_value.specs.declared.value.Value.{Value, Array, Object, Null, Bool as Boolean}
+use Rattle.jsonb_value.specs.declared.value.Value.{Value, Array, Null, Bool as Boolean}
 use Rattle.jsonb_value.specs.declared.value.Value.{the_lemmas, fold-Value}
 use mathlib.Core.Former.{pair, const, this}
 use Rattle.jsonb_value.specs.Reader.Gives.{Gives, Fails}
@@ -51,10 +51,6 @@ entries-map (e ∷ es) = ap (λ q. tree_pair (string_bytes e.0) (tree_of e.1) q)
 pairs_seen : (es : List (String Global × Value)) → pairs_view es ≡ pairs (map entry_of es)
 pairs_seen [] = refl
 pairs_seen (e ∷ es) = ap (λ q. tree_pair (string_bytes e.0) (tree_of e.1) q) (pairs_seen es)
-
-pub view-Object : (m : BTreeMap (String Global) Value)
-    → tree_of (Object m) ≡ object (pairs (map entry_of m.entries))
-view-Object m = search (rules, the_lemmas, entries-map m.entries)
 
 -- the same answer to what reads the same
 pub gives_same : {X Y : Type 0} (view : X → Y) (r : Result X Error) (read other : Option Y)
@@ -214,17 +210,6 @@ unfolding read_members
 members_none n turns front s e = ap
     (λ o. o >>= λ m. after_member (read_members (read_value n) turns)
     (insert_entry (slice_cmp nat_cmp) front m.0.0 m.0.1) m.1) e
-
-members_zero : (n : ℕ) (front : Entries) (s : List ℕ)
-    → read_members (read_value n) zero front s ≡ None
-unfolding read_members
-members_zero n front s = refl
-
-pub members_fail : (n turns : ℕ) (front : Entries) (s : List ℕ) → length s < turns
-    → ((k : ℕ) → length s ≤ k → read_member (read_value n) k s ≡ None)
-    → read_members (read_value n) turns front s ≡ None
-members_fail n zero front s h e = members_zero n front s
-members_fail n (suc turns) front s h e = members_none n turns front s (e turns (omega arith))
 
 pub record MemberRead (n : ℕ) (s : List ℕ) (front : Entries) (after : List ℕ) : Type 0 where
   pub turns : ℕ

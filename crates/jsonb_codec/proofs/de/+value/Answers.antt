@@ -1,4 +1,4 @@
-use Rattle.std.proofs.Common.{rules, ◌≡◌, [], ◌∷◌, ◌++◌, map, sym, ap, subst, ◌∙◌, arith}
+use Rattle.std.proofs.Common.{rules, ◌≡◌, map, sym, ap, subst, ◌∙◌, arith}
 use Rattle.std.specs.Prelude.{string_cmp}
 use Rattle.std.specs.BTreeMap.{IsFromIterResult}
 use Rattle.jsonb_value.specs.Tree.{Ascend}

@@ -1,12 +1,11 @@
-use Rattle.std.proofs.Common.{rules, arith, sym, ap, ◌∙◌, ◌≡◌, ℕ, ◌<◌, ◌≤◌, ◌++◌, ◌∷◌, [], chars}
+use Rattle.std.proofs.Common.{rules, arith, sym, ap, ◌∙◌, ◌≡◌, ◌<◌, ◌++◌, ◌∷◌, [], chars}
 use Rattle.std.proofs.Common.{length, Some, true, false}
 use Rattle.std.specs.Prelude.{map, string_bytes}
-use Rattle.jsonb_value.specs.Tree.{null, boolean, array, object}
-use Rattle.jsonb_value.specs.Json.Syntax.{pairs}
+use Rattle.jsonb_value.specs.Tree.{null, boolean, array}
 use Rattle.jsonb_value.specs.Json.Characters.{close_bracket, close_brace}
 use Rattle.jsonb_value.specs.Reader.Reading.{expect, read_word, null_kind, true_kind, false_kind}
 use Rattle.jsonb_value.specs.Reader.Reading.{string_kind, array_kind, object_kind, number_kind}
-use Rattle.jsonb_value.specs.Value.{cow_bytes, trees_of, tree_of}
+use Rattle.jsonb_value.specs.Value.{trees_of, tree_of}
 use Rattle.std.proofs.lemmas.Result.{IfOk-weaker, IfErr-weaker}
 use Rattle.jsonb_value.proofs.Json.ValueSteps.{array_begins, entry_of, err_is, gives_same}
 use Rattle.jsonb_value.proofs.Json.ValueSteps.{item_fails, item_is_read, item_last, item_read}

@@ -1,4 +1,4 @@
-use Rattle.std.proofs.Common.{◌≡◌, ◌≤◌, ◌++◌, length, vec_capacity}
+use Rattle.std.proofs.Common.{◌≡◌, ◌≤◌, length}
 use Rattle.jsonb_value.specs.Tree.{count}
 use Rattle.jsonb_codec.specs.Canon.{entries_of, payloads_of, AllFit}
 use Rattle.jsonb_codec.specs.Node.{items_trees}
