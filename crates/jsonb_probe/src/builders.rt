@@ -73,8 +73,8 @@ pub fn distinct(alloc: Global, words: &[&[u8]]) -> Result<String, Refusal> {
         match step {
             Step::Push(bytes) => builder.push_raw_jsonb(RawJsonb::new(bytes))?,
             Step::Pop(bytes) => {
-                let popped = builder.pop_raw_jsonb(RawJsonb::new(bytes));
-                text.push_str(if popped.is_some() { "some " } else { "none " })?;
+                let pop = builder.pop_raw_jsonb(RawJsonb::new(bytes));
+                text.push_str(if pop.is_some() { "some " } else { "none " })?;
             }
         }
     }

@@ -23,8 +23,8 @@ pub fn item_type(alloc: Global, word: &[u8]) -> Result<String, Refusal> {
 pub fn item(alloc: Global, word: &[u8]) -> Result<String, Refusal> {
     let bytes = decoded(alloc, word)?;
     let item = JsonbItem::from_raw_jsonb(RawJsonb::new(&bytes))?;
-    let shown = item_text(alloc, item)?;
-    Ok(format!(in alloc; "ok {shown}")?)
+    let text = item_text(alloc, item)?;
+    Ok(format!(in alloc; "ok {text}")?)
 }
 
 /// An item's variant, and the bytes that it becomes.

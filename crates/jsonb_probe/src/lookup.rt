@@ -37,8 +37,8 @@ pub fn lookup(alloc: Global, keys: Keys, document: &[u8], key: &[u8]) -> Result<
     let count = reads.count();
     match found {
         Ok(Some(item)) => {
-            let shown = item_text(alloc, item)?;
-            Ok(format!(in alloc; "reads {count} {shown}")?)
+            let text = item_text(alloc, item)?;
+            Ok(format!(in alloc; "reads {count} {text}")?)
         }
         Ok(None) => Ok(format!(in alloc; "reads {count} none")?),
         Err(error) => Ok(format!(in alloc; "reads {count} error {}", error.name())?),

@@ -70,9 +70,9 @@ fn begun(alloc: Global, len: usize) -> Result<String, Refusal> {
 fn push_item(
     alloc: Global,
     text: &mut String,
-    given: Result<JsonbItem<'_>, Error>,
+    item: Result<JsonbItem<'_>, Error>,
 ) -> Result<(), Refusal> {
-    match given {
+    match item {
         Ok(item) => push_part(text, &item_text(alloc, item)?),
         Err(error) => push_error(text, error),
     }
@@ -82,9 +82,9 @@ fn push_item(
 fn push_pair(
     alloc: Global,
     text: &mut String,
-    given: Result<(&str, JsonbItem<'_>), Error>,
+    pair: Result<(&str, JsonbItem<'_>), Error>,
 ) -> Result<(), Refusal> {
-    match given {
+    match pair {
         Ok((key, value)) => {
             push_part(text, &hex::encode(alloc, key)?)?;
             text.push_str(" ")?;
