@@ -3,7 +3,9 @@
 use crate::line::words_of;
 use crate::lookup::Keys;
 use crate::refusal::Refusal;
-use crate::{builders, documents, items, lookup, order, payloads, texts, walks, words};
+use crate::{
+    agreement, builders, documents, items, lookup, order, payloads, single, texts, walks, words,
+};
 use std::alloc::Global;
 
 /// What a line is answered: a name of a command, and as many words as it takes.
@@ -40,6 +42,21 @@ fn answer_one(alloc: Global, name: &[u8], word: &[u8]) -> Result<String, Refusal
         b"display" => texts::display(alloc, word),
         b"number" => payloads::number(alloc, word),
         b"extension" => payloads::extension(alloc, word),
+        _ => answer_of_document(alloc, name, word),
+    }
+}
+
+// The commands that ask a document.
+fn answer_of_document(alloc: Global, name: &[u8], word: &[u8]) -> Result<String, Refusal> {
+    match name {
+        b"document" => agreement::document(alloc, word),
+        b"document_item_type" => single::item_type(alloc, word),
+        b"document_value_of" => single::value_of(alloc, word),
+        b"document_is_canonical" => single::is_canonical(alloc, word),
+        b"document_to_canonical" => single::to_canonical(alloc, word),
+        b"document_to_string" => single::to_string(alloc, word),
+        b"document_to_pretty_string" => single::to_pretty_string(alloc, word),
+        b"document_display" => single::display(alloc, word),
         _ => Err(Refusal::BadCommand),
     }
 }
@@ -47,6 +64,8 @@ fn answer_one(alloc: Global, name: &[u8], word: &[u8]) -> Result<String, Refusal
 fn answer_two(alloc: Global, name: &[u8], left: &[u8], right: &[u8]) -> Result<String, Refusal> {
     match name {
         b"within" => documents::within(alloc, left, right),
+        b"document_within" => single::within(alloc, left, right),
+        b"document_cmp" => single::cmp(alloc, left, right),
         b"lookup" => lookup::lookup(alloc, Keys::Exact, left, right),
         b"lookup_nocase" => lookup::lookup(alloc, Keys::AnyCase, left, right),
         b"cmp" => order::cmp(alloc, left, right),

@@ -21,16 +21,17 @@ pub fn within(alloc: Global, word: &[u8], depth: &[u8]) -> Result<String, Refusa
 /// The value that the tree reader gives, encoded again.
 pub fn value_of(alloc: Global, word: &[u8]) -> Result<String, Refusal> {
     let bytes = decoded(alloc, word)?;
-    encoded(alloc, &jsonb::value_of(alloc, &bytes)?)
+    value_hex(alloc, &jsonb::value_of(alloc, &bytes)?)
 }
 
 /// The value that the decoder gives, encoded again.
 pub fn decoder(alloc: Global, word: &[u8]) -> Result<String, Refusal> {
     let bytes = decoded(alloc, word)?;
-    encoded(alloc, &Decoder::new(&bytes).decode(alloc)?)
+    value_hex(alloc, &Decoder::new(&bytes).decode(alloc)?)
 }
 
-fn encoded(alloc: Global, value: &Value<'_>) -> Result<String, Refusal> {
+/// `ok` and the document of a value.
+pub fn value_hex(alloc: Global, value: &Value<'_>) -> Result<String, Refusal> {
     let mut bytes = Vec::new(alloc);
     Encoder::new(&mut bytes).encode(value)?;
     ok_hex(alloc, &bytes)

@@ -8,14 +8,20 @@ use std::alloc::Global;
 /// The kind that the bytes show.
 pub fn item_type(alloc: Global, word: &[u8]) -> Result<String, Refusal> {
     let bytes = decoded(alloc, word)?;
-    match RawJsonb::new(&bytes).jsonb_item_type()? {
-        JsonbItemType::Null => fixed(alloc, "ok null"),
-        JsonbItemType::Boolean => fixed(alloc, "ok boolean"),
-        JsonbItemType::Number => fixed(alloc, "ok number"),
-        JsonbItemType::String => fixed(alloc, "ok string"),
-        JsonbItemType::Extension => fixed(alloc, "ok extension"),
-        JsonbItemType::Array(count) => Ok(format!(in alloc; "ok array {count}")?),
-        JsonbItemType::Object(count) => Ok(format!(in alloc; "ok object {count}")?),
+    let kind = kind_text(alloc, RawJsonb::new(&bytes).jsonb_item_type()?)?;
+    Ok(format!(in alloc; "ok {kind}")?)
+}
+
+/// A kind, and the count of an array or object.
+pub fn kind_text(alloc: Global, kind: JsonbItemType) -> Result<String, Refusal> {
+    match kind {
+        JsonbItemType::Null => fixed(alloc, "null"),
+        JsonbItemType::Boolean => fixed(alloc, "boolean"),
+        JsonbItemType::Number => fixed(alloc, "number"),
+        JsonbItemType::String => fixed(alloc, "string"),
+        JsonbItemType::Extension => fixed(alloc, "extension"),
+        JsonbItemType::Array(count) => Ok(format!(in alloc; "array {count}")?),
+        JsonbItemType::Object(count) => Ok(format!(in alloc; "object {count}")?),
     }
 }
 

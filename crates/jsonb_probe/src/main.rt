@@ -2,6 +2,7 @@
 //! bytes, and is answered by one line on standard output.
 #![tactic(auto)]
 
+mod agreement;
 mod builders;
 mod command;
 mod documents;
@@ -11,6 +12,7 @@ mod lookup;
 mod order;
 mod payloads;
 mod refusal;
+mod single;
 mod texts;
 mod walks;
 mod words;

@@ -11,8 +11,13 @@ pub fn cmp(alloc: Global, left: &[u8], right: &[u8]) -> Result<String, Refusal> 
     let left = decoded(alloc, left)?;
     let right = decoded(alloc, right)?;
     let (left, right) = (RawJsonb::new(&left), RawJsonb::new(&right));
-    let order = order_word(left.cmp(&right));
-    let sameness = if left == right { "same" } else { "different" };
+    order_text(alloc, left.cmp(&right), left == right)
+}
+
+/// An order, and whether two things are the same by `==`.
+pub fn order_text(alloc: Global, order: Ordering, is_same: bool) -> Result<String, Refusal> {
+    let order = order_word(order);
+    let sameness = if is_same { "same" } else { "different" };
     Ok(format!(in alloc; "{order} {sameness}")?)
 }
 

@@ -11,6 +11,8 @@ pub enum Refusal {
     BadCommand,
     /// A word is no hexadecimal.
     BadHex,
+    /// The bytes of which a document is asked for are none.
+    NoDocument,
     /// The library refused.
     Call(Error),
 }
@@ -21,6 +23,7 @@ impl Refusal {
         match self {
             Refusal::BadCommand => "BadCommand",
             Refusal::BadHex => "BadHex",
+            Refusal::NoDocument => "NoDocument",
             Refusal::Call(error) => error.name(),
         }
     }
