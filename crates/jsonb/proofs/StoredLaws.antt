@@ -9,6 +9,9 @@ use Rattle.jsonb_value.specs.Tree.{Tree}
 use Rattle.jsonb_value.specs.Tree as trees
 use Rattle.jsonb_codec.specs.Word.{word}
 use Rattle.jsonb_codec.specs.Doc.{Doc, Scalar, Payload, type_of}
+use Rattle.jsonb_codec.specs.Canon.{document_of}
+use Rattle.jsonb_codec.specs.Parts.{IsPayloadOf}
+use Rattle.jsonb_codec.proofs.Lengths.{document_of-scalar}
 use Rattle.jsonb_codec.proofs.Words.{length-word, length-word-append, same_parts}
 use Rattle.jsonb.specs.ItemView.{ItemView, null, boolean, number, text, extension, raw, owned}
 use Rattle.jsonb.specs.Item.{Entry}
@@ -55,6 +58,30 @@ document_code-container b t is h = ap
     (λ (o : Option Entry). unwrap_or o (record { type = 1342177280; payload = b }))
     (scalar_entry-container b t is h)
 
+-- Scalars whose bytes are the same have the same payload.
+pub same_payload : (type n : ℕ) (p q : List ℕ)
+    → scalar_bytes type p ≡ word 536870912 ++ (word n ++ q) → p ≡ q
+same_payload type n p q e =
+    let behind = same_parts (word 536870912) (word 536870912) (word (type + length p) ++ p)
+    (word n ++ q) refl e in
+    (same_parts (word (type + length p)) (word n) p q
+    (length-word (type + length p) ∙ sym (length-word n)) behind.1).1
+
+-- The one part that a document is has its code.
+pub document_code-part : (b : List ℕ) (t : Tree) (type : ℕ) (p : List ℕ) → Doc b t
+    → IsPayloadOf type p t → document_of type p ≡ b
+    → record { type = type; payload = p } ≡ document_code b
+document_code-part b t type p (inl (other, h)) (is, means) parts =
+    let scalar = document_of-scalar type p (λ e. other (is ∙ e)) in
+    ap₂ (λ (n : ℕ) (q : List ℕ). record { type = n; payload = q }) (sym is)
+    (same_payload type _ p h.payload (sym scalar ∙ parts ∙ h.parts))
+    ∙ sym (document_code-Scalar b t h)
+document_code-part b t type p (inr (whole, h)) (is, means) parts =
+    let container = sym is ∙ whole in
+    ap₂ (λ (n : ℕ) (q : List ℕ). record { type = n; payload = q }) container
+    (subst (λ (n : ℕ). document_of n p ≡ b) container parts)
+    ∙ sym (document_code-container b t whole h)
+
 -- A document is stored with its code,
 IsDocumentCode-document_code : (b : List ℕ) (t : Tree) → Doc b t
     → IsDocumentCode t b (document_code b).type (document_code b).payload
@@ -73,14 +100,6 @@ IsDocumentCode-document_code b t (inr (is, h)) =
     inr (is, (ap (λ (c : Entry). c.type) code, ap (λ (c : Entry). c.payload) code))
 
 -- and with no other.
-pub same_payload : (type n : ℕ) (p q : List ℕ)
-    → scalar_bytes type p ≡ word 536870912 ++ (word n ++ q) → p ≡ q
-same_payload type n p q e =
-    let behind = same_parts (word 536870912) (word 536870912) (word (type + length p) ++ p)
-    (word n ++ q) refl e in
-    (same_parts (word (type + length p)) (word n) p q
-    (length-word (type + length p) ∙ sym (length-word n)) behind.1).1
-
 document_code-IsDocumentCode : (b : List ℕ) (t : Tree) (c : Entry) → Doc b t
     → IsDocumentCode t b c.type c.payload → c ≡ document_code b
 document_code-IsDocumentCode b t c (inl (other, h)) (inl (q, k)) =

@@ -1,22 +1,21 @@
 //! With what values are stored: the type of an entry, and its payload.
 
-ghost use Rattle.std.specs.Prelude.{◌≡◌, ◌≤◌, ◌<◌, ◌+◌, ◌^◌, ◌⊎◌, Err, length, option_map, IfOk};
+ghost use Rattle.std.specs.Prelude.{◌≡◌, ◌≤◌, ◌<◌, ◌+◌, ◌^◌, ◌⊎◌, Err, length, IfOk};
 ghost use Rattle.std.specs.Prelude.{IfErr, OnOk};
 ghost use Rattle.std.specs.Str.{IsUtf8};
 ghost use Rattle.jsonb_codec.specs.Word.{word};
+ghost use Rattle.jsonb_codec.specs.Doc.{IsDocument};
 ghost use Rattle.jsonb_codec.specs.Room.{HasRoom, AppendsBytes};
 ghost use Rattle.jsonb.specs.ItemView.{item_view};
-ghost use Rattle.jsonb.specs.Entries.{entry_of};
-ghost use Rattle.jsonb.specs.Stored.{scalar_entry, document_code, code_of, IsHeld};
+ghost use Rattle.jsonb.specs.Stored.{document_code, code_of, IsStored, IsHeld};
 ghost use Rattle.jsonb.specs.Code.{scalar_bytes, payload_bytes, code_view};
 
-use crate::entries::{Entries, Entry};
 use crate::item::{JsonbItem, text_of};
 use jsonb_codec::constants::{
-    CONTAINER_TAG, EXTENSION_TAG, FALSE_TAG, JENTRY_OFF_LEN_MASK, NULL_TAG, NUMBER_TAG,
-    SCALAR_CONTAINER_TAG, STRING_TAG, TRUE_TAG,
+    EXTENSION_TAG, FALSE_TAG, JENTRY_OFF_LEN_MASK, NULL_TAG, NUMBER_TAG, SCALAR_CONTAINER_TAG,
+    STRING_TAG, TRUE_TAG,
 };
-use jsonb_codec::{append_bytes, append_extension, append_number, append_word, read_header};
+use jsonb_codec::{DocumentBytes, append_bytes, append_extension, append_number, append_word};
 use jsonb_value::{Error, ExtensionValue, Number};
 use std::alloc::Global;
 
@@ -117,9 +116,10 @@ pub fn text_code(text: &str) -> Code
     }
 }
 
-/// With what an item is stored, where it can be: bytes that were given as they were given.
+/// With what an item is stored that has an entry: bytes that were given as they were given.
 #[inline(always)]
 pub fn item_code<'s>(item: &'s JsonbItem<'_>) -> Code<'s>
+    requires { IsStored (item_view item.now) }
     ensures code { code_view result ≡ code_of (item_view item.now) }
     ensures held { IsHeld (item_view item.now) }
 {
@@ -139,33 +139,12 @@ pub fn item_code<'s>(item: &'s JsonbItem<'_>) -> Code<'s>
 // With what a document is stored: a scalar with its entry, an array or object whole.
 #[inline(always)]
 fn document_code(bytes: &[u8]) -> Code<'_>
+    requires { IsDocument bytes.now }
     ensures { code_view result ≡ document_code bytes.now }
 {
-    match scalar_entry(bytes) {
-        Some(entry) => Code {
-            type_code: entry.type_code,
-            payload: Payload::Bytes(entry.payload),
-        },
-        None => Code {
-            type_code: CONTAINER_TAG,
-            payload: Payload::Bytes(bytes),
-        },
-    }
-}
-
-// The entry under a scalar's header.
-#[tactic(auto, unfolding(crate::specs::Stored::scalar_entry))]
-#[inline(always)]
-fn scalar_entry(bytes: &[u8]) -> Option<Entry<'_>>
-    ensures { option_map entry_of result ≡ scalar_entry bytes.now }
-{
-    let entries = Entries {
-        bytes,
-        place: 4,
-        start: 8,
-    };
-    match read_header(bytes, 0) {
-        Ok((SCALAR_CONTAINER_TAG, _)) => entries.first().ok(),
-        _ => None,
+    let part = DocumentBytes::new_unchecked(bytes).part();
+    Code {
+        type_code: part.tag,
+        payload: Payload::Bytes(part.payload),
     }
 }

@@ -87,6 +87,7 @@ impl<'s, 'a> Child<'s, 'a> {
     /// The type of the entry, and the payload.
     #[inline(always)]
     pub fn code(self) -> Code<'s>
+        requires { IsStored (child_view self) }
         ensures code { code_view result ≡ code_of (child_view self.entry) }
         ensures held { IsHeld (child_view self.entry) }
     {
