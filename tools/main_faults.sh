@@ -1,7 +1,7 @@
 #!/usr/bin/env bash
-# Runs the programs jsonb_cli and jsonb_column_cli with their standard streams closed, full or broken,
-# with memory refused, and with a line that waits for the answer to the one before, and compares the
-# status, the line on standard error and what was written with what they must be.
+# Runs the programs jsonb_cli and jsonb_column_cli with their standard streams closed, full or
+# broken, with memory refused, and with a line that waits for the answer to the one before, and
+# compares the status, the line on standard error and what was written with what they must be.
 #
 #     tools/main_faults.sh
 #
@@ -14,8 +14,8 @@ trap 'rm -rf "$work"' EXIT
 ${CC:-cc} -O2 -shared -fPIC -o "$work/refuse.so" "$top/tools/refuse_request.c" -ldl || exit 1
 failed=0
 
-# Judges the run that ended with status $2: its standard error must be the text $4 and its output $5,
-# byte for byte.
+# Judges the run that ended with status $2: its standard error must be the text $4 and its output
+# $5, byte for byte.
 expect() {
     local name=$1 status=$2 right_status=$3 right_errors=$4 right_output=$5
     if [ "$status" = "$right_status" ] && printf '%s' "$right_errors" | cmp -s - "$work/errors" &&
@@ -83,10 +83,12 @@ run_faults() {
     expect 'output full' $? 1 "$write_failed" ''
 
     # The line comes once nothing reads the answers any more.
-    { sleep 1; cat "$work/line"; } | { "$program" 2> "$work/errors"; echo $? > "$work/status"; } | true
+    { sleep 1; cat "$work/line"; } |
+        { "$program" 2> "$work/errors"; echo $? > "$work/status"; } | true
     expect 'output a broken pipe' "$(cat "$work/status")" 1 "$write_failed" ''
 
-    REFUSE_REQUEST=1 LD_PRELOAD=$work/refuse.so "$program" < "$work/line" > "$work/output" 2> "$work/errors"
+    REFUSE_REQUEST=1 LD_PRELOAD=$work/refuse.so "$program" < "$work/line" > "$work/output" \
+        2> "$work/errors"
     expect 'memory refused' $? 1 "$out_of_memory" ''
 
     "$program" <&- > "$work/output" 2>&-

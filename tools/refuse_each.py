@@ -1,24 +1,26 @@
 #!/usr/bin/env python3
-"""Runs the tests of every crate that has some, and the programs jsonb_cli, jsonb_column_cli and jsonb_probe, with their
-first request for memory refused, then their second, and so on up to a run that meets no refusal.
+"""Runs the tests of every crate that has some, and the programs jsonb_cli, jsonb_column_cli and
+jsonb_probe, with their first request for memory refused, then their second, and so on up to a
+run that meets no refusal.
 
     tools/refuse_each.py [CRATE ..]
 
-It takes the programs that `rt ci` leaves in crates/*/out, of all such crates where none is named, and a C compiler (CC, or
-cc) for tools/refuse_request.c.
+It takes the programs that `rt ci` leaves in crates/*/out, of all such crates where none is named,
+and a C compiler (CC, or cc) for tools/refuse_request.c.
 
-A run of a test passes where the test does, and, once a request was refused, where the test hands on want of memory as
-its error: a failed assertion is a wrong answer. The run behind the last refusal must pass. The tests of a module
-`no_requests` must make no request at all. A run of a program passes where each line of output is the
-right answer or ends in `error OutOfMemory`; once a request was refused, also where it ends by saying
-so and has written the first of such lines.
+A run of a test passes where the test does, and, once a request was refused, where the test hands on
+want of memory as its error: a failed assertion is a wrong answer. The run behind the last refusal
+must pass. The tests of a module `no_requests` must make no request at all. A run of a program
+passes where each line of output is the right answer or ends in `error OutOfMemory`; once a request
+was refused, also where it ends by saying so and has written the first of such lines.
 
-A run repeats what comes before the refused request, so all runs of a test with very many requests would take hours. Of a
-test of more than 400 requests 200 are refused, the first and the last among them and the others spread evenly, and of one
-of more than 10,000 requests 20. The tests in tools/refusals_passed_over are left out; that file says why.
+A run repeats what comes before the refused request, so all runs of a test with very many requests
+would take hours. Of a test of more than 400 requests 200 are refused, the first and the last among
+them and the others spread evenly, and of one of more than 10,000 requests 20. The tests in
+tools/refusals_passed_over are left out; that file says why.
 
-The last line counts the runs. The status is 1 where a run gave a wrong answer, a series did not come
-to its end, or a test that is named here or in tools/refusals_passed_over is not there.
+The last line counts the runs. The status is 1 where a run gave a wrong answer, a series did not
+come to its end, or a test that is named here or in tools/refusals_passed_over is not there.
 """
 import collections
 import concurrent.futures
@@ -37,18 +39,25 @@ REFUSAL = re.compile(rb"[Ee]rror: (OutOfMemory|Call\(OutOfMemory\)|Memory|AllocE
 OBJECT = "400000021000000210000002200000025000000a61616162500180000001200000025002"
 PAIRS = "400000021000000110000001200000021000000361625001313233"
 STORED = f"000000000000001b{PAIRS}00000000000000082000000040000000"
-# Lines for each program, and their answers: one of each command, and some that are refused. The rows of the column are
-# loaded twice, and the line that adds one is the last: so the answers are the same where one of these is refused.
+# Lines for each program, and their answers: one of each command, and some that are refused. The
+# rows of the column are loaded twice, and no line adds one: so the answers are the same where one
+# of these is refused.
 LINES = {
     "jsonb_cli": [
         ("type 80000000", "ok array 0"),
         ("enc [false,true]", "ok 800000023000000040000000"),
-        ("dec 400000021000000110000001200000022000000a616240f970000000000000009602", 'ok {"a":-7,"b":1.50}'),
+        (
+            "dec 400000021000000110000001200000022000000a616240f970000000000000009602",
+            'ok {"a":-7,"b":1.50}',
+        ),
         ("pretty 80000000", "ok 5b5d"),
         (f'get {OBJECT} "ab"', "ok 80000001200000025002"),
         ("cmp 20000000200000025005 20000000200000024005", "ok equal"),
         ("arr 20000000200000025001 2000000000000000", "ok 8000000220000002000000005001"),
-        ("canon 200000006000000a30000640d6b723800008", "ok 200000006000000d30000640d6b723800000007080"),
+        (
+            "canon 200000006000000a30000640d6b723800008",
+            "ok 200000006000000d30000640d6b723800000007080",
+        ),
         ("enc 1e5", "error InvalidJson"),
         ("", "error BadCommand"),
     ],
@@ -77,10 +86,19 @@ LINES = {
         ("to_canonical 20000000200000024000", "ok 200000002000000100"),
         ("item_type 9fffffff", "ok array 536870911"),
         ("item 200000002000000100ff", "ok number 200000002000000100"),
-        ("array 80000002200000017000000000", "len 2 | number 200000002000000100 | error InvalidJsonb | end 2"),
+        (
+            "array 80000002200000017000000000",
+            "len 2 | number 200000002000000100 | error InvalidJsonb | end 2",
+        ),
         (f"keys {PAIRS}", "len 2 | string 200000001000000161 | string 200000001000000162 | end 2"),
-        (f"values {PAIRS}", "len 2 | number 20000000200000025001 | string 2000000010000003313233 | end 2"),
-        (f"pairs {PAIRS}", "len 2 | 61 number 20000000200000025001 | 62 string 2000000010000003313233 | end 2"),
+        (
+            f"values {PAIRS}",
+            "len 2 | number 20000000200000025001 | string 2000000010000003313233 | end 2",
+        ),
+        (
+            f"pairs {PAIRS}",
+            "len 2 | 61 number 20000000200000025001 | 62 string 2000000010000003313233 | end 2",
+        ),
         (f"lookup {OBJECT} 6162", "reads 5 raw 80000001200000025002"),
         (f"lookup_nocase {OBJECT} 4142", "reads 5 raw 80000001200000025002"),
         ("cmp 20000000200000025005 20000000200000024005", "equal same"),
@@ -131,11 +149,12 @@ OUT_OF_MEMORY = {
     "jsonb_column_cli": b"jsonb_column_cli: out of memory\n",
     "jsonb_probe": b"Error: Kind(OutOfMemory)\n",
 }
-# The module of tests that make no request, and two tests that differ by the encoding of a small tree alone.
+# The module of tests that make no request, and two tests that differ by the encoding of a small
+# tree alone.
 NO_REQUESTS = "jsonb_rows no_requests"
 COUNTED = [f"jsonb_rows memory::counted_{it}_an_encoding" for it in ("with", "without")]
 
-Series = collections.namedtuple("Series", "name words given is_right")
+Series = collections.namedtuple("Series", "name words lines is_right")
 Run = collections.namedtuple("Run", "status output errors is_refused requests")
 
 
@@ -144,7 +163,8 @@ class Wrong(Exception):
 
 
 def is_right_test(run):
-    return run.status == 0 or (run.is_refused and run.status == 101 and bool(REFUSAL.match(run.errors)))
+    hands_on = run.is_refused and run.status == 101 and bool(REFUSAL.match(run.errors))
+    return run.status == 0 or hands_on
 
 
 def program_judge(program, wanted):
@@ -155,10 +175,11 @@ def program_judge(program, wanted):
         if run.status == 0:
             is_whole = len(lines) == len(right) and not run.errors
         else:
-            said = OUT_OF_MEMORY[program]
-            is_whole = run.is_refused and run.status == 1 and run.errors == said and len(lines) <= len(right)
+            is_told = run.status == 1 and run.errors == OUT_OF_MEMORY[program]
+            is_whole = run.is_refused and is_told and len(lines) <= len(right)
         return is_whole and all(
-            it == to or (run.is_refused and it.endswith(b"error OutOfMemory")) for it, to in zip(lines, right)
+            it == to or (run.is_refused and it.endswith(b"error OutOfMemory"))
+            for it, to in zip(lines, right)
         )
 
     return is_right
@@ -167,8 +188,18 @@ def program_judge(program, wanted):
 def refused(series, number, work):
     """Runs a program with one request refused, or none for number 0."""
     with tempfile.NamedTemporaryFile(dir=work) as report:
-        said = {"REFUSE_REQUEST": str(number), "REFUSE_REPORT": report.name, "LD_PRELOAD": f"{work}/refuse.so"}
-        ran = subprocess.run(series.words, input=series.given, capture_output=True, timeout=120, env={**os.environ, **said})
+        asked = {
+            "REFUSE_REQUEST": str(number),
+            "REFUSE_REPORT": report.name,
+            "LD_PRELOAD": f"{work}/refuse.so",
+        }
+        ran = subprocess.run(
+            series.words,
+            input=series.lines,
+            capture_output=True,
+            timeout=120,
+            env={**os.environ, **asked},
+        )
         lines = report.read().split()
     requests = int(lines[-1]) if lines and lines[-1] != b"refused" else None
     return Run(ran.returncode, ran.stdout, ran.stderr, b"refused" in lines, requests)
@@ -204,7 +235,8 @@ def run_series(series, work):
 
 def passed_over():
     with open(f"{TOP}/tools/refusals_passed_over", encoding="utf-8") as lines:
-        return {line.split()[0].replace("::", " ", 1) for line in lines if line.strip() and not line.startswith("#")}
+        names = [line.split()[0] for line in lines if line.strip() and not line.startswith("#")]
+    return {it.replace("::", " ", 1) for it in names}
 
 
 def series_of_tests(crate):
@@ -221,9 +253,12 @@ def series_of_program(name):
     lines, program = LINES[name], f"{TOP}/crates/{name}/out/{name}"
     if not os.path.exists(program):
         raise SystemExit(f"crates/{name}/out has no built program: run rt ci first")
-    inputs = {"two lines": lines[:2], "lines of each command": lines}
-    told = [(on, *("".join(f"{it}\n" for it in column).encode() for column in zip(*rows))) for on, rows in inputs.items()]
-    return [Series(f"{name} on {on}", [program], given, program_judge(name, wanted)) for on, given, wanted in told]
+
+    def series(on, rows):
+        asked, wanted = ("".join(f"{it}\n" for it in column).encode() for column in zip(*rows))
+        return Series(f"{name} on {on}", [program], asked, program_judge(name, wanted))
+
+    return [series("two lines", lines[:2]), series("lines of each command", lines)]
 
 
 def has_tests(crate):
@@ -233,24 +268,29 @@ def has_tests(crate):
 
 def crates_to_run():
     with open(f"{TOP}/crates.txt", encoding="utf-8") as lines:
-        listed = [line.split(":")[0].split()[0] for line in lines if ":" in line and not line.startswith("#")]
+        rows = [line for line in lines if ":" in line and not line.startswith("#")]
+    listed = [line.split(":")[0].split()[0] for line in rows]
     return [it for it in listed if it in LINES or has_tests(it)]
 
 
 def main(names):
     left_out, crates = passed_over(), names or crates_to_run()
-    tests = [it for crate in crates if has_tests(crate) or crate not in LINES for it in series_of_tests(crate)]
+    tested = [it for it in crates if has_tests(it) or it not in LINES]
+    tests = [it for crate in tested for it in series_of_tests(crate)]
     found = {it.name for it in tests} | {it.name.partition("::")[0] for it in tests}
-    lacking = {it for it in {*left_out, *COUNTED, NO_REQUESTS} - found if not names or it.split()[0] in names}
+    wanted = {*left_out, *COUNTED, NO_REQUESTS}
+    lacking = {it for it in wanted - found if not names or it.split()[0] in names}
     if lacking:
         raise SystemExit(f"named for refusals, and not there: {', '.join(sorted(lacking))}")
     all_series = [it for it in tests if it.name not in left_out]
     all_series += [it for crate in crates if crate in LINES for it in series_of_program(crate)]
     counts, runs, failed = {}, 0, 0
-    with tempfile.TemporaryDirectory() as work, concurrent.futures.ThreadPoolExecutor(os.cpu_count()) as pool:
+    threads = concurrent.futures.ThreadPoolExecutor(os.cpu_count())
+    with tempfile.TemporaryDirectory() as work, threads as pool:
         compiler = shlex.split(os.environ.get("CC", "cc"))
-        shim = ["-O2", "-shared", "-fPIC", "-o", f"{work}/refuse.so", f"{TOP}/tools/refuse_request.c", "-ldl"]
-        subprocess.run([*compiler, *shim], check=True)
+        shim = ["-O2", "-shared", "-fPIC", "-o", f"{work}/refuse.so"]
+        source = [f"{TOP}/tools/refuse_request.c", "-ldl"]
+        subprocess.run([*compiler, *shim, *source], check=True)
         started = [(it, pool.submit(run_series, it, work)) for it in all_series]
         for series, given in started:
             try:
