@@ -1,4 +1,5 @@
 pub mod RowsLaws
 pub mod OrderLaws
 pub mod SelectLaws
+pub mod StableLaws
 pub mod StoredLaws

@@ -1,28 +1,27 @@
 -- What a look-up by one test finds in a document, and how many words it reads at most.
 use Rattle.std.proofs.Common.{◌≡◌, ℕ, zero, suc, ◌+◌, ◌*◌, ◌≤◌, ◌<◌, ◌==◌, ◌&&◌, Bool, true, false}
-use Rattle.std.proofs.Common.{List, [], ◌∷◌, ◌++◌, length, take, Option, Some, None, refl, sym, ap}
-use Rattle.std.proofs.Common.{ap₂, cond, subst, ◌∙◌, inl, inr, arith, eq-eqb, eqb-true, option_map}
-use Rattle.std.specs.Prelude.{All, filter, map, slice_index_or}
+use Rattle.std.proofs.Common.{List, [], ◌∷◌, ◌++◌, length, take, sum_by, Option, Some, None, refl}
+use Rattle.std.proofs.Common.{sym, ap, ap₂, cond, subst, ◌∙◌, inl, inr, arith, eq-eqb, eqb-true}
+use Rattle.std.specs.Prelude.{filter, map, option_map, slice_index_or}
 use Rattle.std.specs.List.{concat}
 use Rattle.std.proofs.lemmas.List.{append-nil, length-append, map-append}
-use Rattle.std.proofs.lemmas.List.Elements.{All-head, All-tail, filter_more}
-use Rattle.std.proofs.lemmas.List.Sums.{sum_by-cons, sum_by-take-le}
+use Rattle.std.proofs.lemmas.List.Elements.{filter_more}
+use Rattle.std.proofs.lemmas.List.Sums.{sum_by-cons}
 use Rattle.jsonb_value.specs.Tree.{Tree, null, boolean, number, text, extension, array, object}
 use Rattle.jsonb_value.specs.Tree.{Pairs, no_pairs, pair, count, pair_count}
 use Rattle.jsonb_codec.specs.declared.constants.TheConstants.{ARRAY_CONTAINER_TAG}
 use Rattle.jsonb_codec.specs.declared.constants.TheConstants.{OBJECT_CONTAINER_TAG}
 use Rattle.jsonb_codec.specs.declared.constants.TheConstants.{SCALAR_CONTAINER_TAG, STRING_TAG}
 use Rattle.jsonb_codec.specs.Word.{word}
-use Rattle.jsonb_codec.specs.Doc.{Doc, IsDocument, Scalar, Keys, Values, type_of}
+use Rattle.jsonb_codec.specs.Doc.{Doc, Scalar, Keys, Values, type_of}
 use Rattle.jsonb.specs.Code.{Means}
 use Rattle.jsonb.specs.Document.{document_bytes}
 use Rattle.jsonb.specs.declared.document.Document.{Document}
 use Rattle.jsonb.specs.declared.item.JsonbItem.{JsonbItem}
 use Rattle.jsonb.specs.ItemView.{ItemView, item_view}
-use Rattle.jsonb.proofs.DocumentLaws.{tree_in-is}
 use Rattle.jsonb.specs.Lookup.{LooksUp, NoneAccepted, IsFirstAccepted, IsPassed, find, find_pair}
 use Rattle.jsonb.specs.Lookup.{AnswersBy, IsItemFound}
-use Rattle.jsonb_column.specs.Select.{pairs_of, row_reads, most_reads}
+use Rattle.jsonb_column.specs.Select.{pairs_of}
 
 and-false : (a b : Bool) → (a ≡ true → b ≡ false) → a && b ≡ false
 and-false true b h = h refl
@@ -150,21 +149,16 @@ words-Doc b (number v) (inr h) = absurd (omega (arith, h.0))
 words-Doc b (text v) (inr h) = absurd (omega (arith, h.0))
 words-Doc b (extension v) (inr h) = absurd (omega (arith, h.0))
 
-words-row : (row : List ℕ) → IsDocument row → row_reads row ≤ length row
-words-row row means =
-    let is = tree_in-is row means.0 means.1 in rw is (words-Doc row means.0 means.1)
+pub words-row : (raw row : List ℕ) (t : Tree) → Doc raw t → raw ≡ row
+    → 2 * pairs_of t + 1 ≤ length row
+words-row raw row t means is = omega (arith, words-Doc raw t means, ap length is)
 
-words-rows : (rows : List (List ℕ)) → All IsDocument rows → most_reads rows ≤ length (concat rows)
-words-rows [] all = omega arith
-words-rows (row ∷ rows) all =
-    let first = words-row row (All-head IsDocument row rows all) in
-    let others = words-rows rows (All-tail IsDocument row rows all) in
-    omega (arith, first, others, sum_by-cons row_reads row rows, length-append row (concat rows))
-
-pub words-take : (rows : List (List ℕ)) (i : ℕ) → All IsDocument rows
-    → most_reads (take i rows) ≤ length (concat rows)
-words-take rows i all =
-    let whole = words-rows rows all in omega (arith, whole, sum_by-take-le row_reads rows i)
+-- The bytes of all rows are as many as those of each together.
+pub length-concat : (rows : List (List ℕ)) → length (concat rows) ≡ sum_by length rows
+length-concat [] = refl
+length-concat (row ∷ rows) =
+    let others = length-concat rows in
+    omega (arith, others, length-append row (concat rows), sum_by-cons length row rows)
 
 -- what was found is the value of the key
 pub member_found : (value : Option Tree) (found : Option JsonbItem) (item : JsonbItem)

@@ -1,18 +1,19 @@
 -- Stored rows are read back as one list of rows.
-use Rattle.std.proofs.Common.{◌≡◌, ℕ, ◌+◌, ◌<◌, ◌^◌, List, [], ◌∷◌, ◌++◌, length, take, refl, sym}
-use Rattle.std.proofs.Common.{ap, ap₂, subst, ◌∙◌, arith, append_assoc}
-use Rattle.std.specs.Prelude.{All, slice_index_or}
+use Rattle.std.proofs.Common.{◌≡◌, ℕ, ◌+◌, ◌<◌, ◌^◌, List, [], ◌∷◌, ◌++◌, length, take, drop, refl}
+use Rattle.std.proofs.Common.{◌⊎◌, inl, inr, sym, ap, ap₂, subst, ◌∙◌, arith, append_assoc}
+use Rattle.std.proofs.Common.{Result, Ok, Err}
+use Rattle.std.specs.Prelude.{All, IfErr, IsErrAnd, slice_index_or}
 use Rattle.std.specs.Int.{w64, to_be_bytes, from_be_bytes}
 use Rattle.std.specs.List.{concat}
+use Rattle.std.proofs.Math.Seq.{drop-append_seam, take-append_seam}
 use Rattle.std.proofs.lemmas.List.{append-nil, length-append, take_more}
 use Rattle.std.proofs.lemmas.List.Elements.{All-cons, All-head, All-nil, All-push, All-tail}
 use Rattle.std.proofs.lemmas.Nat.{from_be_bytes-to_be_bytes_8}
+use Rattle.jsonb_value.specs.declared.error.Error.{Error}
+use Rattle.jsonb_value.specs.declared.error.Error.TheVariants.{InvalidEOF, InvalidJsonb}
+use Rattle.jsonb_value.specs.declared.error.Error.TheVariants.{OutOfMemory}
 use Rattle.jsonb_codec.specs.Doc.{IsDocument}
-use Rattle.jsonb_codec.proofs.Words.{same_parts}
-use Rattle.jsonb_column.specs.Stored.{stored_row, stored, IsRow, AreStored}
-
-length-be : (n : ℕ) → length (to_be_bytes w64 n) ≡ 8
-length-be n = refl
+use Rattle.jsonb_column.specs.Stored.{stored_row, stored, IsRow, AreStored, IsCut, HasFaultyRow}
 
 pub length-stored_row : (row : List ℕ) → length (stored_row row) ≡ 8 + length row
 length-stored_row row = length-append (to_be_bytes w64 (length row)) row
@@ -47,6 +48,15 @@ IsRow-all (row ∷ rows) all few =
     }
     (IsRow-all rows (All-tail IsDocument row rows all)
     (omega (arith, length-append row (concat rows))))
+
+-- Parts of one length in front of others are the same where the whole is.
+same_parts : (a b x y : List ℕ) → length a ≡ length b → a ++ x ≡ b ++ y → (a ≡ b) × (x ≡ y)
+same_parts a b x y size same = (
+  sym (take-append_seam a x) ∙ ap₂ (λ (n : ℕ) (s : List ℕ). take n s) size same
+      ∙ take-append_seam b y,
+  sym (drop-append_seam a x) ∙ ap₂ (λ (n : ℕ) (s : List ℕ). drop n s) size same
+      ∙ drop-append_seam b y,
+)
 
 -- A row in front of other bytes is told from them by its length.
 same_row : (f r x y : List ℕ) → length f < 2 ^ 64 → length r < 2 ^ 64
@@ -148,10 +158,6 @@ IsRead-document bytes rest row behind front rows read is short all =
     let (same, _) = same_row first row others behind means.short short (sym also ∙ is) in
     subst IsDocument same means.document
 
-pub IsRead-none : (bytes : List ℕ) (rows : List (List ℕ)) → rows ≡ [] → IsRead bytes rows bytes
-IsRead-none bytes rows none =
-    subst (λ rs. IsRead bytes rs bytes) (sym none) record { each = All-nil IsRow; parts = refl }
-
 pub IsRead-more : (bytes rest row behind : List ℕ) (front rows : List (List ℕ))
     → IsRead bytes front rest → rest ≡ stored_row row ++ behind → IsRow row
     → rows ≡ front ++ row ∷ []
@@ -164,3 +170,105 @@ IsRead-more bytes rest row behind front rows read is means rows_are =
           ∙ sym (append_assoc (stored front) (stored_row row) behind) ∙ ap
           (λ b. b ++ behind) (sym (stored-push front row));
     }
+
+pub IsRead-stored : (bytes rest : List ℕ) (rows : List (List ℕ)) → IsRead bytes rows rest
+    → length rest ≡ 0 → AreStored rows bytes
+IsRead-stored bytes [] rows read none =
+    record { each = read.each; written = read.parts ∙ append-nil (stored rows) }
+IsRead-stored bytes (b ∷ rest) rows read none = absurd (omega (arith, none))
+
+pub IsRead-IsCut : (bytes rest : List ℕ) (rows : List (List ℕ)) → IsRead bytes rows rest
+    → 0 < length rest
+    → ((row behind : List ℕ) → length row < 2 ^ 64 → rest ≡ stored_row row ++ behind → ⊥)
+    → IsCut bytes
+IsRead-IsCut bytes rest rows read some none =
+    record {
+      rows = rows;
+      rest = rest;
+      each = read.each;
+      parts = read.parts;
+      some = some;
+      no_row = none;
+    }
+
+pub IsRead-HasFaultyRow : (bytes rest row behind : List ℕ) (rows : List (List ℕ))
+    → IsRead bytes rows rest → rest ≡ stored_row row ++ behind → length row < 2 ^ 64
+    → (IsDocument row → ⊥) → HasFaultyRow bytes
+IsRead-HasFaultyRow bytes rest row behind rows read is short fault =
+    record {
+      rows = rows;
+      row = row;
+      behind = behind;
+      each = read.each;
+      parts = read.parts ∙ ap (λ b. stored rows ++ b) is;
+      short = short;
+      no_document = fault;
+    }
+
+-- ---- what bytes store
+
+-- they store one list of rows
+pub one_stored : (bytes : List ℕ) (rows others : List (List ℕ)) → AreStored rows bytes
+    → AreStored others bytes → rows ≡ others
+one_stored bytes rows others first second =
+    IsRead-all bytes [] rows others
+    record { each = first.each; parts = first.written ∙ sym (append-nil (stored rows)) } refl second
+
+-- or none
+pub not_cut : (bytes : List ℕ) (rows : List (List ℕ)) → AreStored rows bytes → IsCut bytes → ⊥
+not_cut bytes rows all cut =
+    IsRead-cut bytes cut.rest cut.rows rows record { each = cut.each; parts = cut.parts } cut.some
+    all cut.no_row
+
+pub not_faulty : (bytes : List ℕ) (rows : List (List ℕ)) → AreStored rows bytes
+    → HasFaultyRow bytes → ⊥
+not_faulty bytes rows all faulty =
+    faulty.no_document
+    (IsRead-document bytes (stored_row faulty.row ++ faulty.behind) faulty.row faulty.behind
+    faulty.rows rows record { each = faulty.each; parts = faulty.parts } refl faulty.short all)
+
+-- and then for one reason
+apart : (xs ys : List (List ℕ)) (rest row behind : List ℕ) → All IsRow xs → All IsRow ys
+    → ((r b : List ℕ) → length r < 2 ^ 64 → rest ≡ stored_row r ++ b → ⊥) → length row < 2 ^ 64
+    → (IsDocument row → ⊥) → stored xs ++ rest ≡ stored ys ++ (stored_row row ++ behind) → ⊥
+apart [] [] rest row behind first second none short fault same = none row behind short same
+apart [] (y ∷ ys) rest row behind first second none short fault same =
+    none y (stored ys ++ (stored_row row ++ behind)) (All-head IsRow y ys second).short
+    (same ∙ append_assoc (stored_row y) (stored ys) (stored_row row ++ behind))
+apart (x ∷ xs) [] rest row behind first second none short fault same =
+    let means = All-head IsRow x xs first in
+    let (is, _) = same_row x row (stored xs ++ rest) behind means.short short
+    (sym (append_assoc (stored_row x) (stored xs) rest) ∙ same) in
+    fault (subst IsDocument is means.document)
+apart (x ∷ xs) (y ∷ ys) rest row behind first second none short fault same =
+    let other = stored_row row ++ behind in
+    let (_, others) = same_row x y (stored xs ++ rest) (stored ys ++ other)
+    (All-head IsRow x xs first).short (All-head IsRow y ys second).short
+    (sym (append_assoc (stored_row x) (stored xs) rest) ∙ same
+    ∙ append_assoc (stored_row y) (stored ys) other) in
+    apart xs ys rest row behind (All-tail IsRow x xs first) (All-tail IsRow y ys second) none short
+    fault others
+
+pub cut_or_faulty : (bytes : List ℕ) → IsCut bytes → HasFaultyRow bytes → ⊥
+cut_or_faulty bytes cut faulty =
+    apart cut.rows faulty.rows cut.rest faulty.row faulty.behind cut.each faulty.each cut.no_row
+    faulty.short faulty.no_document (sym cut.parts ∙ faulty.parts)
+
+-- So a call that refuses a row tells why.
+pub told_cut : {T : Type 0} (bytes : List ℕ) (r : Result T Error) (e : Error)
+    → IsErrAnd r (λ x. x ≡ e) → (e ≡ InvalidJsonb) ⊎ (e ≡ OutOfMemory)
+    → (e ≡ InvalidJsonb → HasFaultyRow bytes) → IsCut bytes
+    → IsErrAnd r (λ x. (x ≡ InvalidEOF) ⊎ (x ≡ OutOfMemory))
+told_cut bytes (Ok x) e is kind faulty cut = absurd is
+told_cut bytes (Err x) e is (inl kind) faulty cut =
+    absurd (cut_or_faulty bytes cut (faulty kind))
+told_cut bytes (Err x) e is (inr kind) faulty cut = inr (is ∙ kind)
+
+pub told_memory : {T : Type 0} (bytes : List ℕ) (r : Result T Error) (e : Error)
+    → IsErrAnd r (λ x. x ≡ e) → (e ≡ InvalidJsonb) ⊎ (e ≡ OutOfMemory)
+    → (e ≡ InvalidJsonb → HasFaultyRow bytes) → (rows : List (List ℕ)) → AreStored rows bytes
+    → IfErr r (λ x. x ≡ OutOfMemory)
+told_memory bytes (Ok x) e is kind faulty rows all = absurd is
+told_memory bytes (Err x) e is (inl kind) faulty rows all =
+    absurd (not_faulty bytes rows all (faulty kind))
+told_memory bytes (Err x) e is (inr kind) faulty rows all = is ∙ kind

@@ -21,3 +21,22 @@ pub record IsRow (row : List ℕ) : Type 0 where
 pub record AreStored (rows : List (List ℕ)) (bytes : List ℕ) : Type 0 where
   pub each : All IsRow rows
   pub written : bytes ≡ stored rows
+
+-- Behind stored rows there are bytes that begin with no whole row.
+pub record IsCut (bytes : List ℕ) : Type 0 where
+  pub rows : List (List ℕ)
+  pub rest : List ℕ
+  pub each : All IsRow rows
+  pub parts : bytes ≡ stored rows ++ rest
+  pub some : 0 < length rest
+  pub no_row : (row behind : List ℕ) → length row < 2 ^ 64 → rest ≡ stored_row row ++ behind → ⊥
+
+-- Behind stored rows there is one that is no document.
+pub record HasFaultyRow (bytes : List ℕ) : Type 0 where
+  pub rows : List (List ℕ)
+  pub row : List ℕ
+  pub behind : List ℕ
+  pub each : All IsRow rows
+  pub parts : bytes ≡ stored rows ++ (stored_row row ++ behind)
+  pub short : length row < 2 ^ 64
+  pub no_document : IsDocument row → ⊥

@@ -1,7 +1,7 @@
 //! Documents one behind another in one buffer.
 
 ghost use Rattle.std.specs.Prelude.{◌≡◌, ◌+◌, ◌<◌, ◌≤◌, ◌∷◌, ◌++◌, ◌⊎◌, [], ℕ, List, All, Err};
-ghost use Rattle.std.specs.Prelude.{IfOk, IfErr, OnOk, OnErr, chars, filter, length, map};
+ghost use Rattle.std.specs.Prelude.{IfOk, IfErr, IsErrAnd, OnOk, OnErr, chars, filter, length, map};
 ghost use Rattle.std.specs.Prelude.{option_map, slice_get, slice_index_or};
 ghost use Rattle.jsonb_value.specs.Json.Syntax.{Json};
 ghost use Rattle.jsonb_value.specs.Tree.{Tree};
@@ -11,7 +11,7 @@ ghost use Rattle.jsonb.specs.Document.{document_bytes, document_tree};
 ghost use Rattle.std.specs.List.{concat};
 ghost use Rattle.std.specs.Iterator.{YieldsFirstBy, item_count};
 ghost use Rattle.jsonb_column.specs.Select.{has_member, most_reads};
-ghost use Rattle.jsonb_column.specs.Stored.{AreStored, IsRow, stored};
+ghost use Rattle.jsonb_column.specs.Stored.{AreStored, HasFaultyRow, IsCut, IsRow, stored};
 ghost use Rattle.jsonb_column.specs.Rows.{row_in, rows_in, IsWithin, AreRows, FillBytes};
 
 use crate::place::Place;
@@ -83,7 +83,8 @@ impl Column {
     /// past its limit. After a refusal the rows are as before.
     pub fn push_json(&mut self, alloc: Global, text: &str) -> Result<(), Error>
         ensures pushed { OnOk result ((t : Tree)
-            × (Json (chars text.now) t × (self.new ≡ self.old ++ canon t ∷ []))) }
+            × (Json (chars text.now) t
+            × (Fits t × (self.new ≡ self.old ++ canon t ∷ [])))) }
         ensures kept { OnErr result (self.new ≡ self.old) }
         ensures invalid { result ≡ Err Error.InvalidJson
             → (t : Tree) → Json (chars text.now) t → ⊥ }
@@ -138,9 +139,9 @@ impl Column {
         self.bytes.len()
     }
 
-    /// The objects that have a member of this name that is equal to the value, in order. Of each row
-    /// at most two words for each of its pairs are read, and one more, all by the tally. That and
-    /// `size` must be at most `MAX_READS` together. Only memory can be refused.
+    /// The objects that have a member of this name that is equal to the value, in order. Of each
+    /// row at most two words for each of its pairs are read, and one more, all by the tally. That
+    /// and `size` must be at most `MAX_READS` together. Only memory can be refused.
     pub fn select(
         &self,
         alloc: Global,
@@ -184,16 +185,21 @@ impl Column {
         Ok(())
     }
 
-    /// The rows that these bytes store, each checked once. `InvalidEOF`: a length or a row is cut.
-    /// `InvalidJsonb`: a row is no document. Both come only where the bytes store no rows.
+    /// The rows that these bytes store, each checked once. `InvalidEOF`: behind stored rows a
+    /// length or a row is cut. `InvalidJsonb`: behind stored rows there is one that is no document.
+    /// Where the bytes store rows only memory can be refused.
     pub fn read_from(alloc: Global, bytes: &[u8]) -> Result<Column, Error>
         ensures stored { IfOk result (λ column. AreStored column bytes.now) }
         ensures same { (rows : List (List ℕ)) → AreStored rows bytes.now
             → IfOk result (λ column. column ≡ rows) }
-        ensures cut { result ≡ Err Error.InvalidEOF
-            → (rows : List (List ℕ)) → AreStored rows bytes.now → ⊥ }
-        ensures invalid { result ≡ Err Error.InvalidJsonb
-            → (rows : List (List ℕ)) → AreStored rows bytes.now → ⊥ }
+        ensures memory { (rows : List (List ℕ)) → AreStored rows bytes.now
+            → IfErr result (λ e. e ≡ Error.OutOfMemory) }
+        ensures cut { result ≡ Err Error.InvalidEOF → IsCut bytes.now }
+        ensures told_cut { IsCut bytes.now
+            → IsErrAnd result (λ e. (e ≡ Error.InvalidEOF) ⊎ (e ≡ Error.OutOfMemory)) }
+        ensures invalid { result ≡ Err Error.InvalidJsonb → HasFaultyRow bytes.now }
+        ensures told_invalid { HasFaultyRow bytes.now
+            → IsErrAnd result (λ e. (e ≡ Error.InvalidJsonb) ⊎ (e ≡ Error.OutOfMemory)) }
         ensures only { IfErr result (λ e. (e ≡ Error.InvalidEOF)
             ⊎ ((e ≡ Error.InvalidJsonb) ⊎ (e ≡ Error.OutOfMemory))) }
     {

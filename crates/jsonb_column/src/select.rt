@@ -1,6 +1,6 @@
 //! Whether a row has a member that is equal to a value.
 
-ghost use Rattle.std.specs.Prelude.{◌≡◌, ◌+◌, ◌≤◌, IfOk};
+ghost use Rattle.std.specs.Prelude.{◌≡◌, ◌+◌, ◌≤◌, IfOk, length};
 ghost use Rattle.jsonb_value.specs.Meaning.{document};
 ghost use Rattle.jsonb_value.specs.Tree.{Tree};
 ghost use Rattle.jsonb.specs.Document.{document_bytes, document_tree};
@@ -27,6 +27,7 @@ pub fn has_member(row: Document<'_>, name: &str, value: &JsonbItem<'_>, reads: &
         → result ≡ has_member name.now u (document_bytes row.entry) }
     ensures bound { (reads.old ≤ reads.new)
         × (reads.new ≤ reads.old + row_reads (document_bytes row.entry)) }
+    ensures few { row_reads (document_bytes row.entry) ≤ length (document_bytes row.entry) }
 {
     meaning_laws();
     let raw = row.as_raw();

@@ -2,9 +2,10 @@
 
 ghost use Rattle.std.specs.Prelude.{◌≡◌, ◌≢◌, ◌≤◌, ◌<◌, ℕ, map, length, filter, IfOk, IfErr};
 ghost use Rattle.std.specs.Prelude.{IsPermutation, IsSorted};
+ghost use Rattle.std.specs.List.Sorted.{IsStable};
 ghost use Rattle.std.specs.Ordering.{on};
 ghost use Rattle.jsonb_value.specs.TreeOrder.{tree_cmp};
-ghost use Rattle.jsonb.specs.Document.{document_bytes, document_tree};
+ghost use Rattle.jsonb.specs.Document.{document_bytes, document_tree, tree_in};
 
 use crate::column::Column;
 use jsonb::{Document, Error, order_of_trees};
@@ -27,8 +28,11 @@ impl<'c> Sorted<'c> {
             (λ s. IsPermutation column.now (map document_bytes (sorted_rows s))) }
         ensures ordered { IfOk result
             (λ s. IsSorted (on document_tree tree_cmp) (sorted_rows s)) }
+        ensures stable { IfOk result (λ s. IsStable (on tree_in tree_cmp)
+            column.now (map document_bytes (sorted_rows s))) }
         ensures memory { IfErr result (λ e. e ≡ Error.OutOfMemory) }
     {
+        order_of_trees();
         let mut rows = column.iter().collect::<Vec<_>>(alloc)?;
         rows.sort()?;
         Ok(Sorted { rows })

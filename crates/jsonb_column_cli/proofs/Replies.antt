@@ -8,7 +8,6 @@ use Rattle.std.specs.declared.alloc.Global.{Global}
 use Rattle.std.specs.declared.string.String.{String}
 use Rattle.std.proofs.lemmas.List.{append-nil, map-append, take_more}
 use Rattle.jsonb_value.specs.declared.error.Error.{Error}
-use Rattle.jsonb_value.specs.declared.error.Error.TheVariants.{InvalidJson, InvalidJsonb}
 use Rattle.jsonb_value.specs.declared.error.Error.TheVariants.{OutOfMemory}
 use Rattle.jsonb_value.specs.Text.{compact}
 use Rattle.jsonb.specs.declared.document.Document.{Document}
@@ -49,14 +48,12 @@ pub said_err : (P : Result (List ℕ) Refusal → Type 0) (r : Result (String Gl
 said_err P (Ok reply) refusal is p = absurd is
 said_err P (Err x) refusal is p = subst (λ y. P (Err y)) (sym is) p
 
--- the three errors of a text
-pub text_errors : (P : Error → Type 0) (e : Error) → (e ≡ InvalidJson)
-    ⊎ ((e ≡ InvalidJsonb) ⊎ (e ≡ OutOfMemory)) → (e ≡ InvalidJson → P InvalidJson)
-    → (e ≡ InvalidJsonb → P InvalidJsonb)
-    → P OutOfMemory → P e
-text_errors P e (inl is) none large memory = subst P (sym is) (none is)
-text_errors P e (inr (inl is)) none large memory = subst P (sym is) (large is)
-text_errors P e (inr (inr is)) none large memory = subst P (sym is) memory
+-- an error that is one of two, or that memory was refused
+pub call_errors : (P : Error → Type 0) {a b : Error} (e : Error)
+    → (e ≡ a) ⊎ ((e ≡ b) ⊎ (e ≡ OutOfMemory)) → (e ≡ a → P a) → (e ≡ b → P b) → P OutOfMemory → P e
+call_errors P e (inl is) first second memory = subst P (sym is) (first is)
+call_errors P e (inr (inl is)) first second memory = subst P (sym is) (second is)
+call_errors P e (inr (inr is)) first second memory = subst P (sym is) memory
 
 pub if_err : {A : Type 0} (P : Refusal → Type 0) (r : Result A Refusal) (refusal : Refusal)
     → IsErrAnd r (λ x. x ≡ refusal) → P refusal → IfErr r P

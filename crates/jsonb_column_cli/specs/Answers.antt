@@ -2,6 +2,7 @@
 use Rattle.std.specs.Prelude.{◌≡◌, ◌⊎◌, ◌<◌, ℕ, List, [], ◌∷◌, ◌++◌, codes, chars, filter, length}
 use Rattle.std.specs.Prelude.{map, slice_index_or, Result, Ok, Err, IsPermutation, IsSorted, ⊤}
 use Rattle.std.specs.Fmt.{decimal}
+use Rattle.std.specs.List.Sorted.{IsStable}
 use Rattle.std.specs.Ordering.{on}
 use Rattle.std.specs.Str.{IsUtf8}
 use Rattle.std.specs.Str.Parse.{IsNumeral, digits_value, without_leading_plus}
@@ -23,7 +24,7 @@ use Rattle.jsonb.specs.declared.document.Document.{Document}
 use Rattle.jsonb.specs.Document.{document_bytes, document_tree, tree_in}
 use Rattle.jsonb_column.specs.Select.{has_member}
 use Rattle.jsonb_column.specs.Sorted.{is_between}
-use Rattle.jsonb_column.specs.Stored.{AreStored, stored}
+use Rattle.jsonb_column.specs.Stored.{AreStored, HasFaultyRow, IsCut, stored}
 use Rattle.jsonb_column_cli.specs.declared.answer.Refusal.{Refusal}
 use Rattle.jsonb_column_cli.specs.declared.answer.Refusal.TheVariants.{BadCommand, BadHex, NoRow}
 use Rattle.jsonb_column_cli.specs.declared.answer.Refusal.TheVariants.{Call}
@@ -44,7 +45,7 @@ rows_line rows = codes "ok" ++ spoken rows
 
 -- The text means a tree, and these bytes are its document.
 abbrev pub IsGiven : List ℕ → List ℕ → Type 0
-IsGiven text bytes = (t : Tree) × (Json (chars text) t × (bytes ≡ canon t))
+IsGiven text bytes = (t : Tree) × (Json (chars text) t × (Fits t × (bytes ≡ canon t)))
 
 -- Why a text gives no document.
 abbrev pub RefusesText : List ℕ → Error → Type 0
@@ -52,10 +53,11 @@ RefusesText text InvalidJson = (t : Tree) → Json (chars text) t → ⊥
 RefusesText text InvalidJsonb = (t : Tree) × (Json (chars text) t × (Fits t → ⊥))
 RefusesText text e = ⊥
 
--- The documents are the rows, in the order of their trees.
+-- The documents are the rows, in the order of their trees; equal ones as they stand in the column.
 pub record IsOrderOf (rows : Rows) (order : List Document) : Type 0 where
   pub permutation : IsPermutation rows (map document_bytes order)
   pub ordered : IsSorted (on document_tree tree_cmp) order
+  pub stable : IsStable (on tree_in tree_cmp) rows (map document_bytes order)
 
 -- The digits are the index of a row.
 abbrev pub index_in : List ℕ → ℕ
@@ -70,8 +72,8 @@ IsHexOf bytes word = decode_of word ≡ Ok bytes
 
 -- Why bytes store no rows.
 abbrev pub RefusesBytes : List ℕ → Error → Type 0
-RefusesBytes bytes InvalidEOF = (rows : Rows) → AreStored rows bytes → ⊥
-RefusesBytes bytes InvalidJsonb = (rows : Rows) → AreStored rows bytes → ⊥
+RefusesBytes bytes InvalidEOF = IsCut bytes
+RefusesBytes bytes InvalidJsonb = HasFaultyRow bytes
 RefusesBytes bytes e = ⊥
 
 -- The answer to a command on these rows, and the rows behind it.
@@ -104,7 +106,8 @@ IsRefusal rows form (Call OutOfMemory) = ⊤
 IsRefusal rows (add text) (Call e) = RefusesText text e
 IsRefusal rows (row index) NoRow = IsIndex rows index → ⊥
 IsRefusal rows (find name value) (Call e) = RefusesText value e
-IsRefusal rows (range low high) (Call e) = RefusesText low e ⊎ RefusesText high e
+IsRefusal rows (range low high) (Call e) =
+    RefusesText low e ⊎ (((bytes : List ℕ) × IsGiven low bytes) × RefusesText high e)
 IsRefusal rows (load word) BadHex = (bytes : List ℕ) → IsHexOf bytes word → ⊥
 IsRefusal rows (load word) (Call e) = (bytes : List ℕ) × (IsHexOf bytes word × RefusesBytes bytes e)
 IsRefusal rows unknown BadCommand = ⊤

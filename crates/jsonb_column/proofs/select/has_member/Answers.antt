@@ -8,6 +8,7 @@ use Rattle.jsonb.specs.Node.{value_of_key}
 use Rattle.jsonb.specs.ItemView.{item_view}
 use Rattle.jsonb_column.specs.Select.{is_member}
 use Rattle.jsonb_column.proofs.SelectLaws.{item-LooksUp, reads-LooksUp, member_found, none_found}
+use Rattle.jsonb_column.proofs.SelectLaws.{words-row}
 use Rattle.jsonb_column.proofs.select.has_member.Goals as goal
 
 pub returns-in-Ok-Some-clause-member : goal.returns-in-Ok-Some-clause-member
@@ -40,3 +41,11 @@ returns-in-Ok-None-clause-member c = λ u is.
     item-LooksUp _ _ (pointwise nat_eq c.args.name.now)
     (λ key b same answers. search rules) _ _ _ _ looked in
     sym (ap (is_member u) (none_found _ c.in-Ok-None.field-0 c.in-Ok-None.field-0-is found))
+
+pub returns-in-Ok-Some-clause-few : goal.returns-in-Ok-Some-clause-few
+returns-in-Ok-Some-clause-few c =
+    words-row _ _ (document_tree c.args.row) c.as_raw-raw.ensures.document c.as_raw-raw.ensures.bytes
+
+pub returns-in-Ok-None-clause-few : goal.returns-in-Ok-None-clause-few
+returns-in-Ok-None-clause-few c =
+    words-row _ _ (document_tree c.args.row) c.as_raw-raw.ensures.document c.as_raw-raw.ensures.bytes

@@ -2,7 +2,7 @@ use Rattle.std.proofs.Common.{ap, Err}
 use Rattle.jsonb_column_cli.specs.declared.answer.Refusal.TheVariants.{Call}
 use Rattle.jsonb_column_cli.specs.Answers.{IsOutcome}
 use Rattle.jsonb_column_cli.specs.Commands.{add}
-use Rattle.jsonb_column_cli.proofs.Replies.{said_err, text_errors}
+use Rattle.jsonb_column_cli.proofs.Replies.{said_err, call_errors}
 use Rattle.jsonb_column_cli.proofs.answer.answer_add.Goals as goal
 
 pub returns-in_err-push_json : goal.returns-in_err-push_json
@@ -12,7 +12,7 @@ returns-in_err-push_json c =
     (add c.args.text.now) outcome c.push_json.new.self) c.from_residual-in_err-push_json.result
     (Call e)
     c.from_residual-in_err-push_json.ensures.1
-    (text_errors
+    (call_errors
     (λ e. IsOutcome c.args.column.now (add c.args.text.now)
     (Err (Call e)) c.push_json.new.self) e c.in_err-push_json.ensures.only
     (λ is. (c.in_err-push_json.ensures.invalid (ap Err is), c.in_err-push_json.ensures.kept))

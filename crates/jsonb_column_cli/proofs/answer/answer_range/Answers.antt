@@ -12,7 +12,11 @@ pub returns : goal.returns
 returns c =
     let order = sorted_rows c.in_ok-sorted.sorted in
     let ordered : IsOrderOf c.args.column.now order =
-    record { permutation = c.in_ok-sorted.ensures.rows; ordered = c.in_ok-sorted.ensures.ordered } in
+    record {
+      permutation = c.in_ok-sorted.ensures.rows;
+      ordered = c.in_ok-sorted.ensures.ordered;
+      stable = c.in_ok-sorted.ensures.stable;
+    } in
     let low : document_bytes c.new_unchecked-low.result ≡ owned_bytes c.in_ok-low.low =
     c.new_unchecked-low.ensures ∙ c.as_bytes.ensures in
     let high : document_bytes c.new_unchecked-high.result ≡ owned_bytes c.in_ok-high.high =

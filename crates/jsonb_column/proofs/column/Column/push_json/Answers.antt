@@ -40,7 +40,10 @@ returns-clause-pushed c =
       tree_of c.in_ok-value.value,
       (
         c.in_ok-value.ensures.ok,
-        (pushed b x _ c.self.inside.places.items _ p c.self.invariant means bytes
-            (search rules) start size).1 ∙ ap (λ rows. rows ++ x ∷ []) c.self.view_is,
+        (
+          c.in_ok-encode.ensures.fits,
+          (pushed b x _ c.self.inside.places.items _ p c.self.invariant means bytes
+              (search rules) start size).1 ∙ ap (λ rows. rows ++ x ∷ []) c.self.view_is,
+        ),
       ),
     )

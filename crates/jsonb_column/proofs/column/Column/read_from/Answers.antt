@@ -1,18 +1,52 @@
-use Rattle.std.proofs.Common.{rules, ◌≡◌, ◌<◌, length}
+use Rattle.std.proofs.Common.{rules, ◌≡◌, ◌<◌, length, ap, Err}
 use Rattle.jsonb_column.specs.Stored.{IsRow}
-use Rattle.jsonb_column.proofs.StoredLaws.{IsRead-all, IsRead-cut, IsRead-document, IsRead-more}
+use Rattle.jsonb_column.proofs.StoredLaws.{IsRead-all, IsRead-cut, IsRead-more, IsRead-stored}
+use Rattle.jsonb_column.proofs.StoredLaws.{IsRead-IsCut, IsRead-HasFaultyRow, cut_or_faulty}
+use Rattle.jsonb_column.proofs.StoredLaws.{not_cut, not_faulty, told_cut, told_memory}
 use Rattle.jsonb_column.proofs.column.Column.read_from.Goals as goal
 
-pub returns-in_err-row-clause-cut : goal.returns-in_err-row-clause-cut
-returns-in_err-row-clause-cut c refused rows all =
+-- where the next row is cut
+pub returns-in_err-row-clause-memory : goal.returns-in_err-row-clause-memory
+returns-in_err-row-clause-memory c rows all =
     let some : 0 < length c.loop-rest.rest.now = search rules in
-    IsRead-cut c.args.bytes.now c.loop-rest.rest.now c.loop-rest.column rows c.loop-rest.invariant some all c.in_err-row.ensures.cut
+    absurd (IsRead-cut c.args.bytes.now c.loop-rest.rest.now c.loop-rest.column rows
+    c.loop-rest.invariant some all c.in_err-row.ensures.cut)
+
+pub returns-in_err-row-clause-cut : goal.returns-in_err-row-clause-cut
+returns-in_err-row-clause-cut c = λ refused.
+    let some : 0 < length c.loop-rest.rest.now = search rules in
+    IsRead-IsCut c.args.bytes.now c.loop-rest.rest.now c.loop-rest.column c.loop-rest.invariant some
+    c.in_err-row.ensures.cut
+
+pub returns-in_err-row-clause-told_invalid : goal.returns-in_err-row-clause-told_invalid
+returns-in_err-row-clause-told_invalid c = λ faulty.
+    let some : 0 < length c.loop-rest.rest.now = search rules in
+    absurd (cut_or_faulty c.args.bytes.now
+    (IsRead-IsCut c.args.bytes.now c.loop-rest.rest.now c.loop-rest.column c.loop-rest.invariant
+    some c.in_err-row.ensures.cut) faulty)
+
+-- where it is no document
+pub returns-in_err-push-clause-memory : goal.returns-in_err-push-clause-memory
+returns-in_err-push-clause-memory c =
+    told_memory c.args.bytes.now c.from_residual-in_err-push.result c.in_err-push.field-0.0
+    c.from_residual-in_err-push.ensures.1 c.in_err-push.ensures.only
+    (λ is. IsRead-HasFaultyRow c.args.bytes.now c.loop-rest.rest.now c.in_ok-row.row.now
+    c.in_ok-row.behind.now c.loop-rest.column c.loop-rest.invariant c.in_ok-row.ensures.ok
+    c.in_ok-row.ensures.short (c.in_err-push.ensures.invalid (ap Err is)))
+
+pub returns-in_err-push-clause-told_cut : goal.returns-in_err-push-clause-told_cut
+returns-in_err-push-clause-told_cut c =
+    told_cut c.args.bytes.now c.from_residual-in_err-push.result c.in_err-push.field-0.0
+    c.from_residual-in_err-push.ensures.1 c.in_err-push.ensures.only
+    (λ is. IsRead-HasFaultyRow c.args.bytes.now c.loop-rest.rest.now c.in_ok-row.row.now
+    c.in_ok-row.behind.now c.loop-rest.column c.loop-rest.invariant c.in_ok-row.ensures.ok
+    c.in_ok-row.ensures.short (c.in_err-push.ensures.invalid (ap Err is)))
 
 pub returns-in_err-push-clause-invalid : goal.returns-in_err-push-clause-invalid
-returns-in_err-push-clause-invalid c refused rows all =
-    c.in_err-push.ensures.invalid (search rules)
-    (IsRead-document c.args.bytes.now c.loop-rest.rest.now c.in_ok-row.row.now c.in_ok-row.behind.now c.loop-rest.column rows c.loop-rest.invariant
-    c.in_ok-row.ensures.ok c.in_ok-row.ensures.short all)
+returns-in_err-push-clause-invalid c = λ refused.
+    IsRead-HasFaultyRow c.args.bytes.now c.loop-rest.rest.now c.in_ok-row.row.now
+    c.in_ok-row.behind.now c.loop-rest.column c.loop-rest.invariant c.in_ok-row.ensures.ok
+    c.in_ok-row.ensures.short (c.in_err-push.ensures.invalid (search rules))
 
 pub loop-rest-preserved : goal.loop-rest-preserved
 loop-rest-preserved c =
@@ -25,3 +59,17 @@ pub returns-clause-same : goal.returns-clause-same
 returns-clause-same c = λ rows all.
     let none : length c.loop-rest.rest.now ≡ 0 = search rules in
     IsRead-all c.args.bytes.now c.loop-rest.rest.now c.loop-rest.column rows c.loop-rest.invariant none all
+
+pub returns-clause-told_cut : goal.returns-clause-told_cut
+returns-clause-told_cut c = λ cut.
+    let none : length c.loop-rest.rest.now ≡ 0 = search rules in
+    absurd (not_cut c.args.bytes.now c.loop-rest.column
+    (IsRead-stored c.args.bytes.now c.loop-rest.rest.now c.loop-rest.column c.loop-rest.invariant
+    none) cut)
+
+pub returns-clause-told_invalid : goal.returns-clause-told_invalid
+returns-clause-told_invalid c = λ faulty.
+    let none : length c.loop-rest.rest.now ≡ 0 = search rules in
+    absurd (not_faulty c.args.bytes.now c.loop-rest.column
+    (IsRead-stored c.args.bytes.now c.loop-rest.rest.now c.loop-rest.column c.loop-rest.invariant
+    none) faulty)

@@ -1,12 +1,9 @@
 use Rattle.std.proofs.Common.{rules, ◌≡◌, ◌∷◌, ◌++◌, [], ◌<◌, length, map, true, false, ap, sym}
 use Rattle.std.proofs.Common.{arith, ◌∙◌}
-use Rattle.std.proofs.lemmas.List.Sums.{sum_by_more, sum_by_more_le}
-use Rattle.std.proofs.lemmas.List.Elements.{All-weaker}
-use Rattle.jsonb_codec.specs.Doc.{IsDocument}
-use Rattle.jsonb_column.specs.Stored.{IsRow}
+use Rattle.std.proofs.lemmas.List.Sums.{sum_by-take-le, sum_by_more, sum_by_more_le}
 use Rattle.jsonb.specs.Document.{document_bytes, document_tree}
 use Rattle.jsonb_column.specs.Select.{has_member, row_reads}
-use Rattle.jsonb_column.proofs.SelectLaws.{words-take, found-more, found-same}
+use Rattle.jsonb_column.proofs.SelectLaws.{length-concat, found-more, found-same}
 use Rattle.jsonb_column.proofs.column.Column.select.Goals as goal
 use Rattle.jsonb_column.proofs.column.Column.select.Goals.{then-has_member+in_ok-push}
 use Rattle.jsonb_column.proofs.column.Column.select.Goals.{else-has_member}
@@ -16,9 +13,9 @@ has_member-requires c =
     omega (
       arith,
       c.loop-index.invariant.few,
-      words-take c.args.self.now c.loop-index.index
-          (All-weaker IsRow IsDocument
-          (λ row means. means.document) c.args.self.now c.len-index-end.ensures.each),
+      c.loop-index.invariant.short,
+      sum_by-take-le length c.args.self.now c.loop-index.index,
+      length-concat c.args.self.now,
       c.requires,
     )
 
@@ -57,4 +54,6 @@ loop-index-preserved c =
       counted = omega (arith, c.loop-index.invariant.counted, c.has_member.ensures.bound.0);
       few = omega
           (arith, c.loop-index.invariant.few, c.has_member.ensures.bound.1, read, sum_by_more row_reads c.args.self.now c.loop-index.index [] low);
+      short = omega
+          (arith, c.loop-index.invariant.short, c.has_member.ensures.few, read, ap length c.row_within-row.ensures, sum_by_more row_reads c.args.self.now c.loop-index.index [] low, sum_by_more length c.args.self.now c.loop-index.index [] low);
     }

@@ -1,6 +1,7 @@
 -- Of the rows so far those that are wanted are found, and no more words are read than they may
--- cost.
-use Rattle.std.proofs.Common.{◌≡◌, ◌+◌, ◌≤◌, map, take}
+-- cost, which are no more than the rows have bytes.
+use Rattle.std.proofs.Common.{◌≡◌, ◌+◌, ◌≤◌, length, map, take}
+use Rattle.std.specs.List.{sum_by}
 use Rattle.std.specs.Prelude.{filter}
 use Rattle.jsonb_value.specs.Meaning.{document}
 use Rattle.jsonb.specs.Document.{document_bytes, document_tree}
@@ -16,4 +17,5 @@ invariant-loop-index l =
           ≡ filter (has_member l.name (document_tree l.fn.value)) (take l.index l.self);
       counted : l.initial.reads ≤ l.reads;
       few : l.reads ≤ l.initial.reads + most_reads (take l.index l.self);
+      short : most_reads (take l.index l.self) ≤ sum_by length (take l.index l.self);
     }
