@@ -2,7 +2,8 @@
 
 ghost use Rattle.std.specs.Prelude.{◌≡◌, [], List, ℕ, OnOk, OnErr, IfSome, IsErrOf};
 ghost use Rattle.std.specs.Io.KnownBytes.{IsAtEnd};
-ghost use Rattle.answer_lines.specs.Session.{AppendsReplies, AppendsBeginning, AppendsWhole};
+ghost use Rattle.answer_lines.specs.Session.{AreAnswers, AppendsReplies, AppendsBeginning};
+ghost use Rattle.answer_lines.specs.Session.{AppendsWhole};
 ghost use Rattle.jsonb_column_cli.specs.Answers.{Rows, Answered};
 ghost use Rattle.jsonb_column_cli.specs.Fault.{fault_line};
 
@@ -80,6 +81,10 @@ pub fn run<R: Read, W: Write>(alloc: Global, reader: &mut R, writer: &mut W) -> 
         IfSome (R.remaining reader.new) (λ left. (begun : List ℕ) × ((rows : Rows)
         × AppendsWhole Answered [] rows input begun left
         (W.contents writer.old) (W.contents writer.new)))) }
+
+    // Where no reply is `error OutOfMemory`, an input has one output.
+    ensures one_output { (input a b : List ℕ) → AreAnswers Answered [] input a
+        → AreAnswers Answered [] input b → a ≡ b }
 {
     let mut commands = Commands::new(alloc);
     answer_lines(alloc, &mut commands, reader, writer)

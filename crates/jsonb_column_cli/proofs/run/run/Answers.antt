@@ -1,6 +1,7 @@
 use Rattle.std.proofs.Common.{[]}
 use Rattle.answer_lines.specs.Session.{AppendsReplies, AppendsWhole}
 use Rattle.jsonb_column_cli.specs.Answers.{Answered}
+use Rattle.jsonb_column_cli.proofs.OneAnswer.{one_output}
 use Rattle.jsonb_column_cli.proofs.Replies.{some_rows, some_begun}
 use Rattle.jsonb_column_cli.proofs.run.run.Goals as goal
 
@@ -23,3 +24,6 @@ returns-clause-prompt g c fault =
     (λ input left begun rows. AppendsWhole Answered [] rows input begun left
     (g.W.Write.contents c.args.writer.now) (g.W.Write.contents c.answer_lines.new.writer))
     c.answer_lines.new.answerer prompt
+
+pub returns-clause-one_output : goal.returns-clause-one_output
+returns-clause-one_output g c = one_output

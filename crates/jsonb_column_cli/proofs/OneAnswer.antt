@@ -1,0 +1,268 @@
+-- A command on some rows has one answer, and leaves one list of rows.
+use Rattle.std.proofs.Common.{◌≡◌, ◌⊎◌, inl, inr, ℕ, List, [], ◌∷◌, ◌++◌, ◌&&◌, Bool, not, map}
+use Rattle.std.proofs.Common.{refl, sym, ap, ap₂, subst, ◌∙◌, chars, Result, Ok, Err}
+use Rattle.std.specs.Prelude.{filter}
+use Rattle.std.specs.Ordering.{is_lt, is_gt}
+use Rattle.jsonb_value.specs.declared.error.Error.{Error}
+use Rattle.jsonb_value.specs.declared.error.Error.TheVariants.{InvalidEOF, InvalidJson}
+use Rattle.jsonb_value.specs.declared.error.Error.TheVariants.{InvalidJsonb, OutOfMemory}
+use Rattle.jsonb_value.specs.Tree.{Tree}
+use Rattle.jsonb_value.specs.TreeOrder.{tree_cmp}
+use Rattle.jsonb_value.proofs.Json.SpelledLaws.{one_meaning}
+use Rattle.jsonb_value.proofs.TreeLaws.{tree_cmp_total}
+use Rattle.jsonb_codec.specs.Canon.{canon, Fits}
+use Rattle.jsonb.specs.declared.document.Document.{Document}
+use Rattle.jsonb.specs.Document.{document_bytes, tree_in}
+use Rattle.jsonb_column.specs.Select.{has_member}
+use Rattle.jsonb_column.specs.Sorted.{is_between}
+use Rattle.jsonb_column.specs.Stored.{AreStored}
+use Rattle.jsonb_column.proofs.StableLaws.{filter-map}
+use Rattle.jsonb_column.proofs.StoredLaws.{one_stored, not_cut, not_faulty, cut_or_faulty}
+use Rattle.answer_lines.specs.Session.{AreAnswers, IsRefused}
+use Rattle.answer_lines.proofs.OneOutput as session
+use Rattle.jsonb_column_cli.specs.declared.answer.Refusal.{Refusal}
+use Rattle.jsonb_column_cli.specs.declared.answer.Refusal.TheVariants.{BadCommand, BadHex, NoRow}
+use Rattle.jsonb_column_cli.specs.declared.answer.Refusal.TheVariants.{Call}
+use Rattle.jsonb_column_cli.specs.Commands.{Form, add, count, row, sort, find, range, save, load}
+use Rattle.jsonb_column_cli.specs.Commands.{unknown, form_in}
+use Rattle.jsonb_column_cli.specs.Answers.{Rows, Answered, IsAnswer, IsGiven, IsHexOf, IsIndex}
+use Rattle.jsonb_column_cli.specs.Answers.{IsLineOutcome, IsOrderOf, IsOutcome, IsRefusal}
+use Rattle.jsonb_column_cli.specs.Answers.{RefusesBytes, RefusesText, reply_line, rows_line}
+use Rattle.jsonb_column_cli.proofs.OneOrder.{one_order}
+
+-- ---- a text gives one document, or is refused for one reason
+
+one_given : (text a b : List ℕ) → IsGiven text a → IsGiven text b → a ≡ b
+one_given text a b (t, (means, (fits, is))) (u, (also, (fit, then))) =
+    is ∙ ap canon (one_meaning (chars text) t u means also) ∙ sym then
+
+not_refused : (text bytes : List ℕ) (e : Error) → IsGiven text bytes → RefusesText text e → ⊥
+not_refused text bytes InvalidJson (t, (means, (fits, is))) none = none t means
+not_refused text bytes InvalidJsonb (t, (means, (fits, is))) (u, (also, past)) =
+    past (subst Fits (one_meaning (chars text) t u means also) fits)
+not_refused text bytes e given refuses = absurd refuses
+
+one_error : (text : List ℕ) (e g : Error) → RefusesText text e → RefusesText text g → e ≡ g
+one_error text InvalidJson InvalidJson first second = refl
+one_error text InvalidJson InvalidJsonb none (t, (means, past)) = absurd (none t means)
+one_error text InvalidJsonb InvalidJson (t, (means, past)) none = absurd (none t means)
+one_error text InvalidJsonb InvalidJsonb first second = refl
+one_error text InvalidJson g first second = absurd second
+one_error text InvalidJsonb g first second = absurd second
+one_error text e g first second = absurd first
+
+-- the second of two texts is refused where the first is not
+abbrev RefusesTexts : List ℕ → List ℕ → Error → Type 0
+RefusesTexts low high e =
+    RefusesText low e ⊎ (((bytes : List ℕ) × IsGiven low bytes) × RefusesText high e)
+
+not_both : (low high a b : List ℕ) (e : Error) → IsGiven low a → IsGiven high b
+    → RefusesTexts low high e → ⊥
+not_both low high a b e first second (inl h) = not_refused low a e first h
+not_both low high a b e first second (inr h) = not_refused high b e second h.1
+
+one_of_both : (low high : List ℕ) (e g : Error) → RefusesTexts low high e
+    → RefusesTexts low high g → e ≡ g
+one_of_both low high e g (inl first) (inl second) = one_error low e g first second
+one_of_both low high e g (inl first) (inr ((bytes, given), second)) =
+    absurd (not_refused low bytes e given first)
+one_of_both low high e g (inr ((bytes, given), first)) (inl second) =
+    absurd (not_refused low bytes g given second)
+one_of_both low high e g (inr first) (inr second) = one_error high e g first.1 second.1
+
+-- ---- so does a word that stores rows
+
+one_hex : (a b word : List ℕ) → IsHexOf a word → IsHexOf b word → a ≡ b
+one_hex a b word first second = let same = sym first ∙ second in cc
+
+not_stored : (rows : Rows) (bytes : List ℕ) (e : Error) → AreStored rows bytes
+    → RefusesBytes bytes e → ⊥
+not_stored rows bytes InvalidEOF all cut = not_cut bytes rows all cut
+not_stored rows bytes InvalidJsonb all faulty = not_faulty bytes rows all faulty
+not_stored rows bytes e all refuses = absurd refuses
+
+one_fault : (bytes : List ℕ) (e g : Error) → RefusesBytes bytes e → RefusesBytes bytes g → e ≡ g
+one_fault bytes InvalidEOF InvalidEOF first second = refl
+one_fault bytes InvalidEOF InvalidJsonb cut faulty = absurd (cut_or_faulty bytes cut faulty)
+one_fault bytes InvalidJsonb InvalidEOF faulty cut = absurd (cut_or_faulty bytes cut faulty)
+one_fault bytes InvalidJsonb InvalidJsonb first second = refl
+one_fault bytes InvalidEOF g first second = absurd second
+one_fault bytes InvalidJsonb g first second = absurd second
+one_fault bytes e g first second = absurd first
+
+-- ---- the rows have one order
+
+one_sorted : (rows : Rows) (order other : List Document) → IsOrderOf rows order
+    → IsOrderOf rows other → map document_bytes order ≡ map document_bytes other
+one_sorted rows order other first second =
+    one_order tree_cmp tree_cmp_total tree_in document_bytes order other first.ordered
+    second.ordered (λ b. first.stable b ∙ sym (second.stable b))
+
+-- and those from one value to another are told by their bytes
+abbrev is_within : Tree → Tree → List ℕ → Bool
+is_within low high bytes =
+    not (is_lt (tree_cmp (tree_in bytes) low)) && not (is_gt (tree_cmp (tree_in bytes) high))
+
+abbrev shown : List ℕ → List ℕ → Rows → List ℕ
+shown low high rows = rows_line (filter (is_within (tree_in low) (tree_in high)) rows)
+
+range_line : (low high : List ℕ) (order : List Document)
+    → rows_line (map document_bytes (filter (is_between (tree_in low) (tree_in high)) order))
+    ≡ shown low high (map document_bytes order)
+range_line low high order =
+    ap rows_line (sym (filter-map document_bytes (is_within (tree_in low) (tree_in high)) order))
+
+-- ---- each command
+
+one_reply : (rows x y : Rows) (form : Form) (a b : List ℕ) → IsAnswer rows form a x
+    → IsAnswer rows form b y → (a ≡ b) × (x ≡ y)
+one_reply rows x y (add text) a b (doc, (given, (is, next))) (other, (also, (then, left))) = (
+  is ∙ sym then,
+  next ∙ ap (λ (d : List ℕ). rows ++ d ∷ []) (one_given text doc other given also) ∙ sym left,
+)
+one_reply rows x y count a b first second =
+    (first.0 ∙ sym second.0, first.1 ∙ sym second.1)
+one_reply rows x y (row index) a b first second =
+    (first.1.0 ∙ sym second.1.0, first.1.1 ∙ sym second.1.1)
+one_reply rows x y sort a b (order, (sorted, (is, next))) (other, (also, (then, left))) =
+    (is ∙ ap rows_line (one_sorted rows order other sorted also) ∙ sym then, next ∙ sym left)
+one_reply rows x y (find name value) a b (doc, (given, (is, next)))
+    (other, (also, (then, left))) = (
+      is
+          ∙ ap (λ (d : List ℕ). rows_line (filter (has_member name (tree_in d)) rows))
+          (one_given value doc other given also)
+          ∙ sym then,
+      next ∙ sym left,
+    )
+one_reply rows x y (range low high) a b
+    (from, (to, (order, (given, (limit, (sorted, (is, next)))))))
+    (start, (end, (other, (also, (bound, (ordered, (then, left))))))) = (
+      is ∙ range_line from to order
+          ∙ ap₂ (λ (l h : List ℕ). shown l h (map document_bytes order))
+          (one_given low from start given also) (one_given high to end limit bound)
+          ∙ ap (shown start end) (one_sorted rows order other sorted ordered)
+          ∙ sym (range_line start end other)
+          ∙ sym then,
+      next ∙ sym left,
+    )
+one_reply rows x y save a b first second =
+    (first.0 ∙ sym second.0, first.1 ∙ sym second.1)
+one_reply rows x y (load word) a b (bytes, (hex, (stored, is))) (more, (again, (also, then))) = (
+  is ∙ sym then,
+  one_stored more x y
+      (subst (λ (d : List ℕ). AreStored x d) (one_hex bytes more word hex again) stored) also,
+)
+one_reply rows x y unknown a b first second = absurd first
+
+abbrev RefusesWord : List ℕ → Error → Type 0
+RefusesWord word e = (bytes : List ℕ) × (IsHexOf bytes word × RefusesBytes bytes e)
+
+-- why a command is refused, where memory is not
+abbrev Cause : Rows → Form → Refusal → Type 0
+Cause rows (add text) r = (e : Error) × ((r ≡ Call e) × RefusesText text e)
+Cause rows (row index) r = (r ≡ NoRow) × (IsIndex rows index → ⊥)
+Cause rows (find name value) r = (e : Error) × ((r ≡ Call e) × RefusesText value e)
+Cause rows (range low high) r = (e : Error) × ((r ≡ Call e) × RefusesTexts low high e)
+Cause rows (load word) r = ((r ≡ BadHex) × ((bytes : List ℕ) → IsHexOf bytes word → ⊥))
+    ⊎ ((e : Error) × ((r ≡ Call e) × RefusesWord word e))
+Cause rows unknown r = r ≡ BadCommand
+Cause rows form r = ⊥
+
+cause_of : (rows : Rows) (form : Form) (r : Refusal) → IsRefusal rows form r
+    → (r ≡ Call OutOfMemory → ⊥) → Cause rows form r
+cause_of rows form (Call OutOfMemory) why given = absurd (given refl)
+cause_of rows (add text) (Call e) why given = (e, (refl, why))
+cause_of rows (row index) NoRow why given = (refl, why)
+cause_of rows (find name value) (Call e) why given = (e, (refl, why))
+cause_of rows (range low high) (Call e) why given = (e, (refl, why))
+cause_of rows (load word) BadHex why given = inl (refl, why)
+cause_of rows (load word) (Call e) why given = inr (e, (refl, why))
+cause_of rows unknown BadCommand why given = refl
+cause_of rows form r why given = absurd why
+
+one_cause : (rows : Rows) (form : Form) (r s : Refusal) → Cause rows form r → Cause rows form s
+    → r ≡ s
+one_cause rows (add text) r s (e, (is, why)) (g, (then, also)) =
+    is ∙ ap Call (one_error text e g why also) ∙ sym then
+one_cause rows (row index) r s first second = first.0 ∙ sym second.0
+one_cause rows (find name value) r s (e, (is, why)) (g, (then, also)) =
+    is ∙ ap Call (one_error value e g why also) ∙ sym then
+one_cause rows (range low high) r s (e, (is, why)) (g, (then, also)) =
+    is ∙ ap Call (one_of_both low high e g why also) ∙ sym then
+one_cause rows (load word) r s (inl first) (inl second) = first.0 ∙ sym second.0
+one_cause rows (load word) r s (inl first) (inr (e, (is, (bytes, (hex, why))))) =
+    absurd (first.1 bytes hex)
+one_cause rows (load word) r s (inr (e, (is, (bytes, (hex, why))))) (inl second) =
+    absurd (second.1 bytes hex)
+one_cause rows (load word) r s (inr (e, (is, (bytes, (hex, why)))))
+    (inr (g, (then, (more, (again, also))))) =
+    is
+    ∙ ap Call (one_fault more e g
+    (subst (λ (d : List ℕ). RefusesBytes d e) (one_hex bytes more word hex again) why) also)
+    ∙ sym then
+one_cause rows unknown r s first second = first ∙ sym second
+one_cause rows form r s first second = absurd first
+
+answered_or_refused : (rows x : Rows) (form : Form) (a : List ℕ) (r : Refusal)
+    → IsAnswer rows form a x → Cause rows form r → ⊥
+answered_or_refused rows x (add text) a r (doc, (given, others)) (e, (is, why)) =
+    not_refused text doc e given why
+answered_or_refused rows x (row index) a r answer cause = cause.1 answer.0
+answered_or_refused rows x (find name value) a r (doc, (given, others)) (e, (is, why)) =
+    not_refused value doc e given why
+answered_or_refused rows x (range low high) a r (from, (to, (order, (given, (limit, others)))))
+    (e, (is, why)) = not_both low high from to e given limit why
+answered_or_refused rows x (load word) a r (bytes, (hex, others)) (inl bad) = bad.1 bytes hex
+answered_or_refused rows x (load word) a r (bytes, (hex, (stored, said)))
+    (inr (e, (is, (more, (again, why))))) =
+    not_stored x more e
+    (subst (λ (d : List ℕ). AreStored x d) (one_hex bytes more word hex again) stored) why
+answered_or_refused rows x unknown a r answer cause = absurd answer
+answered_or_refused rows x form a r answer cause = absurd cause
+
+-- ---- a line
+
+abbrev IsTold : Result (List ℕ) Refusal → Type 0
+IsTold outcome = outcome ≡ Err (Call OutOfMemory) → ⊥
+
+one_outcome : (rows x y : Rows) (form : Form) (o p : Result (List ℕ) Refusal)
+    → IsOutcome rows form o x → IsOutcome rows form p y → IsTold o → IsTold p
+    → (reply_line o ≡ reply_line p) × (x ≡ y)
+one_outcome rows x y form (Ok a) (Ok b) first second told also =
+    one_reply rows x y form a b first second
+one_outcome rows x y form (Ok a) (Err r) first second told also =
+    absurd (answered_or_refused rows x form a r first
+    (cause_of rows form r second.0 (λ is. also (ap Err is))))
+one_outcome rows x y form (Err r) (Ok b) first second told also =
+    absurd (answered_or_refused rows y form b r second
+    (cause_of rows form r first.0 (λ is. told (ap Err is))))
+one_outcome rows x y form (Err r) (Err s) first second told also = (
+  ap (λ (z : Refusal). reply_line (Err z))
+      (one_cause rows form r s (cause_of rows form r first.0 (λ is. told (ap Err is)))
+      (cause_of rows form s second.0 (λ is. also (ap Err is)))),
+  first.1 ∙ sym second.1,
+)
+
+one_line : (rows x y : Rows) (line : List ℕ) (o p : Result (List ℕ) Refusal)
+    → IsLineOutcome rows line o x → IsLineOutcome rows line p y → IsTold o → IsTold p
+    → (reply_line o ≡ reply_line p) × (x ≡ y)
+one_line rows x y line o p (inl first) (inl second) told also =
+    one_outcome rows x y (form_in line) o p first.1 second.1 told also
+one_line rows x y line o p (inl first) (inr second) told also = absurd (second.0 first.0)
+one_line rows x y line o p (inr first) (inl second) told also = absurd (first.0 second.0)
+one_line rows x y line o p (inr first) (inr second) told also =
+    (ap reply_line (first.1.0 ∙ sym second.1.0), first.1.1 ∙ sym second.1.1)
+
+one_answer : (rows x y : Rows) (line a b : List ℕ) → Answered rows line a x
+    → Answered rows line b y → (IsRefused a → ⊥) → (IsRefused b → ⊥) → (a ≡ b) × (x ≡ y)
+one_answer rows x y line a b first second told also =
+    let one = one_line rows x y line first.outcome second.outcome first.is_outcome
+    second.is_outcome (λ is. told (first.said ∙ ap reply_line is))
+    (λ is. also (second.said ∙ ap reply_line is)) in
+    (first.said ∙ one.0 ∙ sym second.said, one.1)
+
+-- ---- an input
+
+pub one_output : (input a b : List ℕ) → AreAnswers Answered [] input a
+    → AreAnswers Answered [] input b → a ≡ b
+one_output = session.one_output Answered one_answer []
