@@ -1,9 +1,9 @@
 -- An input has one output, where a line has one reply.
-use Rattle.std.proofs.Common.{◌≡◌, ◌⊎◌, inl, inr, ℕ, List, [], ◌∷◌, refl, sym, ap, ap₂, subst, ◌∙◌}
+use Rattle.std.proofs.Common.{◌≡◌, inl, inr, ℕ, List, [], ◌∷◌, refl, sym, ap, ap₂, subst, ◌∙◌}
 use Rattle.std.proofs.lemmas.List.Elements.{All-head, All-tail}
 use Rattle.std.specs.Prelude.{All}
 use Rattle.answer_lines.specs.Lines.{line_bytes}
-use Rattle.answer_lines.specs.Session.{Rule, IsRefused, IsReply, Session, none, more, AreAnswers}
+use Rattle.answer_lines.specs.Session.{Rule, IsRefused, IsReply, Session, more, AreAnswers}
 use Rattle.answer_lines.proofs.Replies.{one_lines}
 
 abbrev IsGiven : List ℕ → Type 0

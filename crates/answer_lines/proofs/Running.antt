@@ -10,7 +10,7 @@ use Rattle.answer_lines.specs.Session.{Rule, IsReply, none, more, AppendsReplies
 use Rattle.answer_lines.specs.Session.{AppendsWhole, IsPrompt}
 use Rattle.answer_lines.specs.Written.{AppendsPrefix, AppendsAllBut}
 use Rattle.answer_lines.proofs.Written.{appends_nothing, appends_both, all_but_begins}
-use Rattle.answer_lines.proofs.Written.{all_but_waits, all_but_written, all_but_faults}
+use Rattle.answer_lines.proofs.Written.{all_but_waits, all_but_faults}
 use Rattle.answer_lines.proofs.Replies.{no_feed, ended-append, Session-append, appends_no_last}
 use Rattle.answer_lines.proofs.Replies.{appends_last, begins_last, replies_after_whole}
 use Rattle.answer_lines.proofs.Replies.{beginning_after_whole, beginning_of_none, beginning_within}
@@ -147,26 +147,7 @@ module _ {S : Type 0} (rule : Rule S) where
       (line_ends state last next input begun left waiting end behind bytes old mid so_far cut one is)
       (all_but_faults old mid new so_far.output waiting bytes so_far.all_but then)
 
-  -- all that waited was appended
-  pub collects_all : (state next : S) (input begun left waiting : List ℕ)
-      (old mid new : Option (List ℕ))
-      → Collects rule state next input begun left waiting old mid → IsLine left
-      → Appends mid new waiting → AppendsWhole rule state next input (begun ++ left) [] old new
-  collects_all state next input begun left waiting old mid new so_far one then =
-      let more = whole_more state next input begun left [] (Some []) (Some so_far.output)
-      (rw append-nil so_far.whole) one in
-      let all = all_but_written old mid new so_far.output waiting so_far.all_but then in
-      record {
-        lines = more.lines;
-        replies = more.replies;
-        parts = more.parts;
-        whole_lines = more.whole_lines;
-        begun_line = more.begun_line;
-        session = more.session;
-        appends = rw more.appends at all;
-      }
-
-  -- or only a beginning of it
+  -- only a beginning of what waited was appended
   pub collects_stops : (state next : S) (input begun left waiting later : List ℕ)
       (old mid new : Option (List ℕ))
       → Collects rule state next input begun left waiting old mid
@@ -330,10 +311,6 @@ module _ {S : Type 0} (rule : Rule S) where
 pub on_err : {T E : Type 0} (r : Result T E) (P : Type 0) → P → OnErr r P
 on_err (Ok x) P p = tt
 on_err (Err e) P p = p
-
-pub on_ok : {T E : Type 0} (r : Result T E) (P : Type 0) → P → OnOk r P
-on_ok (Ok x) P p = p
-on_ok (Err e) P p = tt
 
 pub ok_gives : {T E : Type 0} (r : Result T E) (P Q : Type 0) → (P → Q) → OnOk r P → OnOk r Q
 ok_gives (Ok x) P Q f p = f p

@@ -31,24 +31,6 @@ all_but_more rest old mid new bytes n left so_far more is = rw is (record {
   appends = appends_both old mid new so_far.written (take n rest) so_far.appends more;
 })
 
-pub all_but_ends : (rest : List ℕ) (old new : Option (List ℕ)) (bytes : List ℕ) → rest ≡ []
-    → AppendsAllBut rest old new bytes → Appends old new bytes
-all_but_ends rest old new bytes none so_far =
-    let whole : bytes ≡ so_far.written =
-    so_far.parts ∙ ap (λ zs. so_far.written ++ zs) none ∙ append-nil so_far.written in
-    rw whole so_far.appends
-
--- what was appended before a fault that kept the writer's bytes
-pub all_but_stops : (rest : List ℕ) (old mid new : Option (List ℕ)) (bytes : List ℕ)
-    → AppendsAllBut rest old mid bytes → Appends mid new [] → AppendsPrefix old new bytes
-all_but_stops rest old mid new bytes so_far kept = record {
-  written = so_far.written;
-  unwritten = rest;
-  parts = so_far.parts;
-  appends = rw (append-nil so_far.written) at
-      (appends_both old mid new so_far.written [] so_far.appends kept);
-}
-
 -- ---- a beginning of what was to be appended
 
 pub prefix_of_all : (old new : Option (List ℕ)) (bytes : List ℕ) → Appends old new bytes
@@ -99,11 +81,6 @@ all_but_waits old mid new bytes waiting waiting' more so_far then = record {
       ∙ sym (append_assoc so_far.written then.written waiting');
   appends = appends_both old mid new so_far.written then.written so_far.appends then.appends;
 }
-
-pub all_but_written : (old mid new : Option (List ℕ)) (bytes waiting : List ℕ)
-    → AppendsAllBut waiting old mid bytes → Appends mid new waiting → Appends old new bytes
-all_but_written old mid new bytes waiting so_far then =
-    rw so_far.parts (appends_both old mid new so_far.written waiting so_far.appends then)
 
 pub all_but_faults : (old mid new : Option (List ℕ)) (bytes waiting more : List ℕ)
     → AppendsAllBut waiting old mid bytes → AppendsPrefix mid new (waiting ++ more)

@@ -110,9 +110,9 @@ fn answer_rest<A: LineAnswerer, W: Write>(
 /// was read, and its answers were written, in order and nothing else.
 ///
 /// Where an answer is refused memory, `error OutOfMemory` stands in its place and the run goes on.
-/// After an error what was written is a beginning of such answers. `Read`: the reader failed, or was
-/// asked 18,446,744,073,709,551,615 times and met no end of input. `Write`: the writer failed, or
-/// took no byte. `Memory`: the room for a line or for a reply was refused.
+/// After an error what was written is a beginning of such answers. `Read`: the reader failed, or
+/// was asked 18,446,744,073,709,551,615 times and met no end of input. `Write`: the writer failed,
+/// or took no byte. `Memory`: the room for a line or for a reply was refused.
 pub fn answer_lines<A: LineAnswerer, R: LineReader<W>, W: Write>(
     alloc: Global,
     answerer: &mut A,

@@ -1,5 +1,5 @@
 -- Which line answers a line.
-use Rattle.std.specs.Prelude.{◌≡◌, ◌⊎◌, ◌++◌, ◌∷◌, ℕ, List, length, map, All, ⊤, nat_eq, codes}
+use Rattle.std.specs.Prelude.{◌≡◌, ◌⊎◌, ◌++◌, ◌∷◌, ℕ, List, length, map, nat_eq, codes}
 use Rattle.std.specs.Prelude.{chars, Option, Some, None, Result, Ok, Err}
 use Rattle.std.specs.Cmp.Lexicographic.{pointwise}
 use Rattle.std.specs.Fmt.{decimal}
@@ -10,7 +10,7 @@ use Rattle.hex.specs.Hex.{decode_of, encode_lower}
 use Rattle.jsonb_value.specs.ErrorName.{name_of}
 use Rattle.jsonb_value.specs.declared.error.Error.{Error}
 use Rattle.jsonb_value.specs.declared.error.Error.TheVariants.{InvalidJson, InvalidJsonb}
-use Rattle.jsonb_value.specs.declared.error.Error.TheVariants.{InvalidUtf8, OutOfMemory}
+use Rattle.jsonb_value.specs.declared.error.Error.TheVariants.{InvalidUtf8}
 use Rattle.jsonb_value.specs.Json.Syntax.{Json}
 use Rattle.jsonb_value.specs.Text.{compact, pretty as pretty_text}
 use Rattle.jsonb_value.specs.Meaning.{meaning_cmp}

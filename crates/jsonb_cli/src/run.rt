@@ -42,9 +42,9 @@ impl LineAnswerer for Commands {
 /// were written, in order and nothing else.
 ///
 /// Where a command is refused memory, its answer is `error OutOfMemory` and the run goes on. After
-/// an error what was written is a beginning of such answers. `Read`: the reader failed, or was asked
-/// 18,446,744,073,709,551,615 times and met no end of input. `Write`: the writer failed, or took no
-/// byte. `Memory`: the room for a line or for an answer was refused.
+/// an error what was written is a beginning of such answers. `Read`: the reader failed, or was
+/// asked 18,446,744,073,709,551,615 times and met no end of input. `Write`: the writer failed, or
+/// took no byte. `Memory`: the room for a line or for an answer was refused.
 pub fn run<R: Read, W: Write>(alloc: Global, reader: &mut R, writer: &mut W) -> Result<(), RunError>
     ensures done { OnOk result (IfSome (R.remaining reader.old) (λ input. AppendsReplies
         answered commands commands input (W.contents writer.old) (W.contents writer.new))) }
