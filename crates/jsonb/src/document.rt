@@ -10,7 +10,9 @@ use jsonb_codec::constants::{
     CONTAINER_TAG, EXTENSION_TAG, FALSE_TAG, NULL_TAG, NUMBER_TAG, STRING_TAG, TRUE_TAG,
 };
 use jsonb_codec::parts::Part;
-use jsonb_codec::{DocumentBytes, append_canonical_document, parts, value_of_document};
+use jsonb_codec::{
+    DocumentBytes, append_canonical_document, is_canonical_document, parts, value_of_document,
+};
 use jsonb_value::{Error, ExtensionValue, Number, Value};
 use std::alloc::Global;
 use std::fmt;
@@ -253,7 +255,7 @@ impl<'a> Document<'a> {
     pub fn is_canonical(&self) -> bool
         ensures { IsTrue result ↔ IsCanonical (document_bytes self.now) }
     {
-        jsonb_codec::is_canonical(self.as_bytes())
+        is_canonical_document(self.bytes)
     }
 
     /// The canonical document of the tree. `InvalidJsonb` where an old payload is past its limit in

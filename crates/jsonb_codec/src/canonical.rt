@@ -6,7 +6,8 @@ ghost use Rattle.std.specs.Prelude.{◌↔◌, IsTrue};
 ghost use Rattle.jsonb_value.specs.Tree.{Tree, Trees, number, extension};
 ghost use Rattle.jsonb_value.specs.ExtCode.{extension_of};
 ghost use Rattle.jsonb_codec.specs.Canonical.{IsCanonical, IsWritten, AreWritten};
-ghost use Rattle.jsonb_codec.specs.Doc.{Payload};
+ghost use Rattle.jsonb_codec.specs.Doc.{IsDocument, Payload};
+ghost use Rattle.jsonb_codec.specs.DocumentBytes.{bytes_of};
 ghost use Rattle.jsonb_codec.specs.Contents.{Means, AreChildren};
 
 use crate::constants::{CONTAINER_TAG, EXTENSION_TAG, NUMBER_TAG};
@@ -22,9 +23,25 @@ pub fn is_canonical(bytes: &[u8]) -> bool
     ensures { IsTrue result ↔ IsCanonical bytes.now }
 {
     match DocumentBytes::new(bytes) {
-        Some(document) => is_written(document.part()),
+        Some(document) => is_canonical_document(document),
         None => false,
     }
+}
+
+/// Whether the bytes are the one document that is written for their tree, as `is_canonical` tells.
+/// They are not checked again.
+pub fn is_canonical_document(document: DocumentBytes<'_>) -> bool
+    ensures { IsTrue result ↔ IsCanonical (bytes_of document.entry) }
+{
+    is_written_document(document.as_bytes())
+}
+
+// The same of bytes that are known to be a document.
+fn is_written_document(bytes: &[u8]) -> bool
+    requires { IsDocument bytes.now }
+    ensures { IsTrue result ↔ IsCanonical bytes.now }
+{
+    is_written(DocumentBytes::new_unchecked(bytes).part())
 }
 
 // Whether each payload is as it is written.

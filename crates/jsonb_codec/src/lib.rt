@@ -11,7 +11,9 @@ mod reread;
 mod ser;
 mod word;
 
-pub use canonical::{append_canonical, append_canonical_document, is_canonical};
+pub use canonical::{
+    append_canonical, append_canonical_document, is_canonical, is_canonical_document,
+};
 pub use de::{Decoder, value_of, value_of_document};
 pub use document::{DocumentBytes, document_laws, document_text, is_document, is_document_within};
 pub use jentry::JEntry;

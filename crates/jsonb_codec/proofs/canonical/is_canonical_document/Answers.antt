@@ -1,0 +1,14 @@
+use Rattle.std.proofs.Common.{◌↔◌, IsTrue, subst, sym}
+use Rattle.jsonb_codec.specs.Doc.{IsDocument}
+use Rattle.jsonb_codec.specs.Canonical.{IsCanonical}
+use Rattle.jsonb_codec.proofs.Decision.{known_document}
+use Rattle.jsonb_codec.proofs.canonical.is_canonical_document.Goals as goal
+
+pub is_written_document-requires : goal.is_written_document-requires
+is_written_document-requires c =
+    subst IsDocument (sym c.as_bytes.ensures) (known_document _ c.args.document.known)
+
+pub returns : goal.returns
+returns c =
+    subst (λ b. IsTrue c.is_written_document.result ↔ IsCanonical b) c.as_bytes.ensures
+    c.is_written_document.ensures
