@@ -11,6 +11,7 @@ pub mod StandingWalks
 pub mod HeldLaws
 pub mod PartLaws
 pub mod LookupLaws
+pub mod KeyEnds
 pub mod WholeWalks
 pub mod BuiltLaws
 pub mod ObjectLaws

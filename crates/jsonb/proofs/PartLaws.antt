@@ -148,7 +148,7 @@ module _ (answers : List ℕ → Bool → Type 0) (size : ℕ) (bytes : List ℕ
   unread_past jentry start e among before read fits begins past =
       key_unread pair among before (key_past size bytes n pair jentry start read fits begins e past)
 
-word_cut : (bytes : List ℕ) (i : ℕ) → length bytes < i + 4 → word_at bytes i ≡ Err InvalidEOF
+pub word_cut : (bytes : List ℕ) (i : ℕ) → length bytes < i + 4 → word_at bytes i ≡ Err InvalidEOF
 word_cut bytes i short = let test = lt-leb (i + 4) (length bytes) short in rw test refl
 
 pub value_cut : (bytes : List ℕ) (n pair : ℕ) → length bytes < 4 + 4 * (n + pair) + 4

@@ -4,6 +4,7 @@ use Rattle.std.proofs.Common.{drop, Ok, refl, sym, ap, ◌∙◌, arith, length-
 use Rattle.std.proofs.Common.{append-nil, le-leb}
 use Rattle.std.specs.Int.{w32, from_be_bytes}
 use Rattle.std.proofs.lemmas.Nat.{from_be_bytes-to_be_bytes_4}
+use Rattle.std.proofs.lemmas.List.{take-append-le}
 use Rattle.std.proofs.Math.Seq.{take-append_seam}
 use Rattle.jsonb_value.proofs.ExtCodes.{back_of}
 use Rattle.jsonb_codec.specs.declared.jentry.JEntry.{JEntry}
@@ -66,6 +67,17 @@ part_at-At bytes i n xs e h =
     let inside = within-At bytes i xs h in
     let test = le-leb (i + n) (length bytes) (omega arith) in
     rw test (ap Ok (ap (λ (k : ℕ). take k (drop i bytes)) e ∙ take-At bytes i xs h))
+
+-- a word of bytes that stand in others
+pub word_at-within : (bytes : List ℕ) (i : ℕ) (xs : List ℕ) → At bytes i xs → 4 ≤ length xs
+    → word_at bytes i ≡ word_at xs 0
+word_at-within bytes i xs h long =
+    let inside = within-At bytes i xs h in
+    let test = le-leb (i + 4) (length bytes) (omega arith) in
+    let own = le-leb 4 (length xs) long in
+    let there : take 4 (drop i bytes) ≡ take 4 xs =
+    ap (take 4) (drop-At bytes i xs h) ∙ take-append-le 4 xs h.rest long in
+    rw (test, own) (ap (λ (x : List ℕ). Ok (from_be_bytes w32 x)) there)
 
 length-word : (k : ℕ) → length (word k) ≡ 4
 unfolding word

@@ -1,12 +1,10 @@
 -- Laws of walks on any bytes.
-use Rattle.std.proofs.Common.{◌≡◌, ℕ, zero, suc, ◌+◌, ◌*◌, ◌<◌, ◌≤◌, List, [], ◌∷◌, length, map}
+use Rattle.std.proofs.Common.{◌≡◌, ℕ, zero, suc, ◌+◌, ◌*◌, ◌≤◌, List, [], ◌∷◌, length, map}
 use Rattle.std.proofs.Common.{Option, Some, None, option_map, IfOk, IfSome, is_ok, if◌then◌else◌}
 use Rattle.std.proofs.Common.{Result, Ok, Err, refl, ap, arith}
 use Rattle.std.proofs.lemmas.List.{length-map}
 use Rattle.std.specs.List.{zip}
 use Rattle.jsonb_value.specs.declared.error.Error.{Error}
-use Rattle.jsonb_codec.specs.declared.jentry.JEntry.{JEntry}
-use Rattle.jsonb_codec.specs.JEntry.{jentry_at}
 use Rattle.jsonb.specs.Steps.{◌>>=◌}
 use Rattle.jsonb.specs.ItemView.{ItemView}
 use Rattle.jsonb.specs.Item.{Entry, entry_at}
@@ -15,14 +13,6 @@ use Rattle.jsonb.specs.Walk.{until_error, item_read, pair_read, payloads_end}
 use Rattle.jsonb.specs.Walk.{count_under, item_entries, key_entries, value_entries, item_walk}
 use Rattle.jsonb.specs.Walk.{array_walk, keys_walk, values_of, values_walk, pair_walk, pairs_of}
 use Rattle.jsonb.specs.Walk.{pairs_walk}
-
--- where an entry is cut, there is no end
-pub payloads_end-cut : (bytes : List ℕ) (left place end : ℕ) (e : Error) → 0 < left
-    → jentry_at bytes place ≡ Err e → payloads_end bytes left place end ≡ Err e
-payloads_end-cut bytes zero place end e some cut = absurd (omega arith)
-payloads_end-cut bytes (suc left) place end e some cut =
-    ap (λ (r : Result JEntry Error). r
-    >>= (λ (entry : JEntry). payloads_end bytes left (place + 4) (end + entry.length))) cut
 
 -- one more, and nothing behind an error
 abbrev pub ahead : {A : Type 0} → Result A Error → List (Result A Error) → List (Result A Error)

@@ -61,6 +61,7 @@ impl<'a> Entries<'a> {
 pub fn count_under(bytes: &[u8], tag: u32) -> Result<Option<usize>, Error>
     ensures value { result ≡ count_under bytes.now tag }
     ensures small { IfOk result (λ n. IfSome n (λ n. n < 2 ^ 29)) }
+    ensures header { IfOk result (λ _. 4 ≤ length bytes.now) }
 {
     let (kind, count) = read_header(bytes, 0)?;
     if kind == tag {
@@ -70,19 +71,22 @@ pub fn count_under(bytes: &[u8], tag: u32) -> Result<Option<usize>, Error>
     }
 }
 
-// Where the payloads of an object's keys end.
+// Where the payloads of an object's keys end. `InvalidEOF` where the entry of a key is cut.
+#[inline(always)]
 fn keys_end(bytes: &[u8], count: usize) -> Result<usize, Error>
-    requires { count < 2 ^ 29 }
+    requires count { count < 2 ^ 29 }
+    requires header { 4 ≤ length bytes.now }
     ensures value { result ≡ payloads_end bytes.now count 4 (4 + 8 * count) }
     ensures near { IfOk result (λ end. end ≤ 4 + 8 * count + 2 ^ 32 * count) }
 {
-    let mut left = count;
-    let mut place = 4;
+    // All words are known to be there at once, so that the loop has one end and not two.
+    let Some(mut words) = bytes.get(4..4 + 4 * count) else {
+        return Err(Error::InvalidEOF);
+    };
     let mut end = 4 + 8 * count;
-    while left > 0 {
-        end += read_jentry(bytes, place)?.length as usize;
-        place += 4;
-        left -= 1;
+    while let Ok(entry) = read_jentry(words, 0) {
+        end += entry.length as usize;
+        words = &words[4..];
     }
     Ok(end)
 }
@@ -145,7 +149,8 @@ impl<'a> Cursor<'a> {
     /// key is cut.
     #[inline(always)]
     pub fn over_values(bytes: &'a [u8], count: usize) -> Result<Self, Error>
-        requires { count < 2 ^ 29 }
+        requires count { count < 2 ^ 29 }
+        requires header { 4 ≤ length bytes.now }
         ensures { result ≡ value_entries bytes.entry.now count }
     {
         let start = keys_end(bytes, count)?;

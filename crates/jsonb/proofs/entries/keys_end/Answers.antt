@@ -1,10 +1,45 @@
-use Rattle.std.proofs.Common.{rules, sym}
-use Rattle.jsonb.proofs.WalkLaws.{payloads_end-cut}
+use Rattle.std.proofs.Common.{◌≡◌, ◌+◌, ◌*◌, length, sym, ap, subst, ◌∙◌, arith}
+use Rattle.std.proofs.lemmas.List.{take_rest, length-drop}
+use Rattle.jsonb.proofs.KeyEnds.{EndsBy, payloads_end-short, ends_by-all, ends_by-others}
+use Rattle.jsonb.proofs.KeyEnds.{ends_by-none, no_entry, some_entry, short_entry, not_all}
 use Rattle.jsonb.proofs.entries.keys_end.Goals as goal
 
-pub returns-in_err-end-clause-value : goal.returns-in_err-end-clause-value
-returns-in_err-end-clause-value c =
-    let cut =
-    payloads_end-cut c.args.bytes.now c.loop-left.left c.loop-left.place c.loop-left.end _ c.loop-left-test.true (sym c.in_err-end.ensures) in
-    let same = c.loop-left.invariant.same in
-    search rules
+pub returns-in_default-clause-value : goal.returns-in_default-clause-value
+returns-in_default-clause-value c =
+    let long = length c.args.bytes.now in
+    sym (payloads_end-short c.args.bytes.now c.args.count 4 (4 + 8 * c.args.count)
+    c.requires.header (not_all long c.args.count c.in_default.ensures.lookup.0))
+
+pub loop-entry-init : goal.loop-entry-init
+loop-entry-init c =
+    let part = c.in-Some.ensures.lookup.0 in
+    let long : length c.in-Some.words.now ≡ 4 * c.args.count = omega (arith, part.3) in
+    record {
+      by = ends_by-all c.args.bytes.now c.args.count c.in-Some.words.now part.1 part.2 long;
+      near = omega (arith, long);
+    }
+
+pub loop-entry-preserved : goal.loop-entry-preserved
+loop-entry-preserved c =
+    let l = c.loop-entry in
+    let entry = c.in-Ok.entry in
+    let read = sym c.read_jentry.ensures ∙ c.in-Ok.is in
+    let some = some_entry l.words.now entry read in
+    let rest = take_rest l.words.now 4 in
+    let long = length-drop 4 l.words.now in
+    let by = ends_by-others c.args.bytes.now c.args.count l.words.now l.end entry
+    l.invariant.by some read in
+    record {
+      by = subst (λ words. EndsBy c.args.bytes.now c.args.count words (l.end + entry.length))
+          (sym rest) by;
+      near = let same = ap length rest in
+          let short = short_entry l.words.now entry read in
+          omega (arith, l.invariant.near, same, long, some, short);
+    }
+
+pub returns-clause-value : goal.returns-clause-value
+returns-clause-value c =
+    ends_by-none c.args.bytes.now c.args.count c.loop-entry.words.now c.loop-entry.end
+    c.loop-entry.invariant.by
+    (no_entry c.loop-entry.words.now c.in_default-read_jentry.field-0
+    (sym c.read_jentry.ensures ∙ c.in_default-read_jentry.is))
