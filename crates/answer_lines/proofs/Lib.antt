@@ -1,5 +1,5 @@
 pub mod Cuts
-pub mod Written
+pub mod Output
 pub mod Replies
 pub mod Running
 pub mod OneOutput

@@ -46,5 +46,5 @@ module _ {S : Type 0} (rule : Rule S) (one : HasOneReply rule) where
       let same = one_session second.all.lines state first.end second.end
       first.all.replies second.all.replies
       (subst (λ (ls : List (List ℕ)). Session rule state ls first.all.replies first.end)
-      asked first.all.session) second.all.session first.given second.given in
-      first.all.joined ∙ ap line_bytes same ∙ sym second.all.joined
+      asked first.all.session) second.all.session first.no_refusal second.no_refusal in
+      first.all.bytes ∙ ap line_bytes same ∙ sym second.all.bytes

@@ -6,11 +6,11 @@ use Rattle.std.proofs.lemmas.List.{append-nil}
 use Rattle.std.proofs.lemmas.List.Elements.{All-nil, All-cons, All-head, All-tail, All-append}
 use Rattle.std.specs.Prelude.{All, Option, Some, codes}
 use Rattle.std.specs.Io.KnownBytes.{Appends}
-use Rattle.answer_lines.specs.Written.{AppendsPrefix}
+use Rattle.answer_lines.specs.Output.{AppendsPrefix}
 use Rattle.answer_lines.specs.Lines.{line_bytes, IsLine, AreLines, last_line}
 use Rattle.answer_lines.specs.Session.{Rule, IsReply, Session, none, more, Replies}
 use Rattle.answer_lines.specs.Session.{AppendsReplies, AppendsBeginning, AppendsWhole}
-use Rattle.answer_lines.proofs.Written.{appends_nothing, appends_both}
+use Rattle.answer_lines.proofs.Output.{appends_nothing, appends_both}
 use Rattle.answer_lines.proofs.Cuts.{not_before, one_cut_at}
 
 abbrev pub no_feed : ℕ → Type 0
@@ -110,11 +110,11 @@ one_lines bytes xs ys first second =
     ∙ sym second.lines_are
 
 -- bytes behind a begun line and what is left
-after_whole : (input lines begun left later : List ℕ) → input ≡ lines ++ (begun ++ left)
-    → input ++ later ≡ lines ++ (begun ++ (left ++ later))
-after_whole input lines begun left later parts =
-    ap (λ es. es ++ later) parts ∙ append_assoc lines (begun ++ left) later ∙ ap
-    (λ es. lines ++ es) (append_assoc begun left later)
+after_whole : (input lines start left later : List ℕ) → input ≡ lines ++ (start ++ left)
+    → input ++ later ≡ lines ++ (start ++ (left ++ later))
+after_whole input lines start left later parts =
+    ap (λ es. es ++ later) parts ∙ append_assoc lines (start ++ left) later ∙ ap
+    (λ es. lines ++ es) (append_assoc start left later)
 
 -- ---- replies: each line has one, if only that there was no memory
 
@@ -145,7 +145,7 @@ module _ {S : Type 0} (rule : Rule S) where
             rest_line = cut.rest_line;
           };
           session = replies.1;
-          joined = refl;
+          bytes = refl;
         },
       )
 
@@ -170,8 +170,8 @@ module _ {S : Type 0} (rule : Rule S) where
       rest_line = later.of_input.rest_line;
     };
     session = Session-append session later.session;
-    joined =
-        ap (λ es. line_bytes replies ++ es) later.joined ∙ sym (ended-append replies later.replies);
+    bytes =
+        ap (λ es. line_bytes replies ++ es) later.bytes ∙ sym (ended-append replies later.replies);
   }
 
   -- a last line with no line feed
@@ -190,7 +190,7 @@ module _ {S : Type 0} (rule : Rule S) where
       rest_line = one;
     };
     session = more is none;
-    joined = refl;
+    bytes = refl;
   }
 
   -- ---- what was appended, of a last line
@@ -205,7 +205,7 @@ module _ {S : Type 0} (rule : Rule S) where
       of_input =
           record { whole = []; rest = []; parts = refl; lines_are = refl; whole_lines = All-nil IsLine; rest_line = All-nil no_feed };
       session = none;
-      joined = refl;
+      bytes = refl;
     };
     appends = appends_nothing known;
   })
@@ -222,41 +222,41 @@ module _ {S : Type 0} (rule : Rule S) where
   pub begins_last : (state next : S) (line reply : List ℕ) (old new : Option (List ℕ))
       → line ≢ [] → IsLine line → IsReply rule state line reply next
       → AppendsPrefix old new (reply ++ 10 ∷ []) → AppendsBeginning rule state line old new
-  begins_last state next line reply old new some one is begun = record {
+  begins_last state next line reply old new some one is start = record {
     end = next;
-    written = begun.written;
-    unwritten = begun.unwritten;
-    replies = rw (sym begun.parts) (replies_last state next line reply some one is);
-    appends = begun.appends;
+    written = start.written;
+    unwritten = start.unwritten;
+    replies = rw (sym start.parts) (replies_last state next line reply some one is);
+    appends = start.appends;
   }
 
   -- ---- what was appended, after some whole lines
 
-  pub replies_after_whole : (state next end : S) (input begun : List ℕ)
-      (old mid new : Option (List ℕ)) → AppendsWhole rule state next input begun [] old mid
-      → AppendsReplies rule next end begun mid new → AppendsReplies rule state end input old new
-  replies_after_whole state next end input begun old mid new so_far then = record {
+  pub replies_after_whole : (state next end : S) (input start : List ℕ)
+      (old mid new : Option (List ℕ)) → AppendsWhole rule state next input start [] old mid
+      → AppendsReplies rule next end start mid new → AppendsReplies rule state end input old new
+  replies_after_whole state next end input start old mid new so_far then = record {
     written = line_bytes so_far.replies ++ then.written;
     replies = rw (so_far.parts, append-nil)
-        (replies_after state next end so_far.lines so_far.replies begun then.written so_far.whole_lines so_far.session then.replies);
+        (replies_after state next end so_far.lines so_far.replies start then.written so_far.whole_lines so_far.session then.replies);
     appends = appends_both old mid new
         (line_bytes so_far.replies) then.written so_far.appends then.appends;
   }
 
-  pub beginning_after_whole : (state next : S) (input begun left later : List ℕ)
-      (old mid new : Option (List ℕ)) → AppendsWhole rule state next input begun left old mid
-      → AppendsBeginning rule next (begun ++ (left ++ later)) mid new
+  pub beginning_after_whole : (state next : S) (input start left later : List ℕ)
+      (old mid new : Option (List ℕ)) → AppendsWhole rule state next input start left old mid
+      → AppendsBeginning rule next (start ++ (left ++ later)) mid new
       → AppendsBeginning rule state (input ++ later) old new
-  beginning_after_whole state next input begun left later old mid new so_far then =
-      let parts : input ++ later ≡ line_bytes so_far.lines ++ (begun ++ (left ++ later)) =
-      after_whole input (line_bytes so_far.lines) begun left later so_far.parts in
+  beginning_after_whole state next input start left later old mid new so_far then =
+      let parts : input ++ later ≡ line_bytes so_far.lines ++ (start ++ (left ++ later)) =
+      after_whole input (line_bytes so_far.lines) start left later so_far.parts in
       record {
         end = then.end;
         written = line_bytes so_far.replies ++ then.written;
         unwritten = then.unwritten;
         replies = rw (parts, append_assoc)
             (replies_after state next then.end so_far.lines so_far.replies
-            (begun ++ (left ++ later))
+            (start ++ (left ++ later))
             (then.written ++ then.unwritten) so_far.whole_lines so_far.session then.replies);
         appends = appends_both old mid new
             (line_bytes so_far.replies) then.written so_far.appends then.appends;
@@ -276,16 +276,16 @@ module _ {S : Type 0} (rule : Rule S) where
       }
 
   -- a fault within what answers whole lines
-  pub beginning_within : (state next : S) (input begun left later output : List ℕ)
+  pub beginning_within : (state next : S) (input start left later output : List ℕ)
       (old new : Option (List ℕ))
-      → AppendsWhole rule state next input begun left (Some []) (Some output)
+      → AppendsWhole rule state next input start left (Some []) (Some output)
       → AppendsPrefix old new output → AppendsBeginning rule state (input ++ later) old new
-  beginning_within state next input begun left later output old new so_far prefix =
-      let some = some_replies next (begun ++ (left ++ later)) in
-      let parts : input ++ later ≡ line_bytes so_far.lines ++ (begun ++ (left ++ later)) =
-      after_whole input (line_bytes so_far.lines) begun left later so_far.parts in
+  beginning_within state next input start left later output old new so_far prefix =
+      let some = some_replies next (start ++ (left ++ later)) in
+      let parts : input ++ later ≡ line_bytes so_far.lines ++ (start ++ (left ++ later)) =
+      after_whole input (line_bytes so_far.lines) start left later so_far.parts in
       let all = replies_after state next next so_far.lines so_far.replies
-      (begun ++ (left ++ later)) some.0 so_far.whole_lines so_far.session some.1 in
+      (start ++ (left ++ later)) some.0 so_far.whole_lines so_far.session some.1 in
       record {
         end = next;
         written = prefix.written;

@@ -1,3 +1,3 @@
 pub mod Lines
 pub mod Session
-pub mod Written
+pub mod Output

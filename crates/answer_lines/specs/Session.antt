@@ -31,14 +31,14 @@ pub record Replies {S : Type 0} (rule : Rule S) (state end : S) (input output : 
     pub replies : List (List ℕ)
     pub of_input : AreLines input lines
     pub session : Session rule state lines replies end
-    pub joined : output ≡ line_bytes replies
+    pub bytes : output ≡ line_bytes replies
 
 -- Such replies, none of them that memory was refused.
 pub record AreAnswers {S : Type 0} (rule : Rule S) (state : S) (input output : List ℕ) : Type 0
   where
     pub end : S
     pub all : Replies rule state end input output
-    pub given : All (λ reply. IsRefused reply → ⊥) all.replies
+    pub no_refusal : All (λ reply. IsRefused reply → ⊥) all.replies
 
 -- Such replies were appended.
 pub record AppendsReplies {S : Type 0} (rule : Rule S) (state end : S) (input : List ℕ)
@@ -58,13 +58,13 @@ pub record AppendsBeginning {S : Type 0} (rule : Rule S) (state : S) (input : Li
 
 -- Replies to exactly some whole lines of the input were appended. A begun line follows these, and
 -- then what is left.
-pub record AppendsWhole {S : Type 0} (rule : Rule S) (state next : S) (input begun left : List ℕ)
+pub record AppendsWhole {S : Type 0} (rule : Rule S) (state next : S) (input start left : List ℕ)
     (old new : Option (List ℕ)) : Type 0 where
   pub lines : List (List ℕ)
   pub replies : List (List ℕ)
-  pub parts : input ≡ line_bytes lines ++ (begun ++ left)
+  pub parts : input ≡ line_bytes lines ++ (start ++ left)
   pub whole_lines : All IsLine lines
-  pub begun_line : IsLine begun
+  pub start_line : IsLine start
   pub session : Session rule state lines replies next
   pub appends : Appends old new (line_bytes replies)
 
@@ -72,7 +72,7 @@ pub record AppendsWhole {S : Type 0} (rule : Rule S) (state next : S) (input beg
 -- known. A begun line follows these.
 abbrev pub IsPrompt : {S : Type 0} → Rule S → S → S → Option (List ℕ) → Option (List ℕ) → List ℕ
     → Option (List ℕ) → Option (List ℕ) → Type 0
-IsPrompt rule state next None left begun old new = ⊤
-IsPrompt rule state next (Some input) None begun old new = ⊥
-IsPrompt rule state next (Some input) (Some left) begun old new =
-    AppendsWhole rule state next input begun left old new
+IsPrompt rule state next None left start old new = ⊤
+IsPrompt rule state next (Some input) None start old new = ⊥
+IsPrompt rule state next (Some input) (Some left) start old new =
+    AppendsWhole rule state next input start left old new

@@ -38,16 +38,16 @@ impl From<AllocError> for RunError {
 fn reply_to<A: LineAnswerer>(
     alloc: Global,
     answerer: &mut A,
-    begun: &mut Vec<u8>,
+    start: &mut Vec<u8>,
     end: &[u8],
 ) -> Result<String, RunError>
     ensures ok { IfOk result (λ text. (reply : List ℕ)
-        × (IsReply A.rule answerer.old (begun.old.items ++ end.now) reply answerer.new
+        × (IsReply A.rule answerer.old (start.old.items ++ end.now) reply answerer.new
         × (string_bytes text ≡ reply ++ 10 ∷ []))) }
     ensures refused { IsOkUnless result RunError.Memory }
 {
-    begun.extend_from_slice(end)?;
-    Ok(answerer.answer(alloc, begun)?)
+    start.extend_from_slice(end)?;
+    Ok(answerer.answer(alloc, start)?)
 }
 
 // Goes on with a line that was begun: answers each line that ends in the chunk, and keeps what
@@ -56,31 +56,31 @@ fn answer_chunk<A: LineAnswerer, W: Write>(
     alloc: Global,
     answerer: &mut A,
     writer: &mut W,
-    begun: &mut Vec<u8>,
+    start: &mut Vec<u8>,
     chunk: &[u8],
 ) -> Result<(), RunError>
-    requires { IsLine begun.old.items }
+    requires { IsLine start.old.items }
     ensures ok { OnOk result (AppendsWhole A.rule answerer.old answerer.new
-        (begun.old.items ++ chunk.now) begun.new.items []
+        (start.old.items ++ chunk.now) start.new.items []
         (W.contents writer.old) (W.contents writer.new)) }
     ensures err { OnErr result ((later : List ℕ) → AppendsBeginning A.rule answerer.old
-        (begun.old.items ++ (chunk.now ++ later))
+        (start.old.items ++ (chunk.now ++ later))
         (W.contents writer.old) (W.contents writer.new)) }
     ensures refused { IsErrOf result RunError.Read → ⊥ }
 {
     let mut waiting = Vec::new(alloc);
     let mut rest = chunk;
     while let Some((end, behind)) = split_once(rest, b'\n') {
-        let Ok(reply) = reply_to(alloc, answerer, begun, end) else {
+        let Ok(reply) = reply_to(alloc, answerer, start, end) else {
             write_bytes(writer, &waiting)?;
             return Err(RunError::Memory);
         };
         write_later(writer, &mut waiting, reply.as_bytes())?;
-        begun.clear();
+        start.clear();
         rest = behind;
     }
     write_bytes(writer, &waiting)?;
-    begun.extend_from_slice(rest)?;
+    start.extend_from_slice(rest)?;
     Ok(())
 }
 
@@ -89,19 +89,19 @@ fn answer_rest<A: LineAnswerer, W: Write>(
     alloc: Global,
     answerer: &mut A,
     writer: &mut W,
-    begun: &mut Vec<u8>,
+    start: &mut Vec<u8>,
 ) -> Result<(), RunError>
-    requires { IsLine begun.old.items }
-    ensures ok { OnOk result (AppendsReplies A.rule answerer.old answerer.new begun.old.items
+    requires { IsLine start.old.items }
+    ensures ok { OnOk result (AppendsReplies A.rule answerer.old answerer.new start.old.items
         (W.contents writer.old) (W.contents writer.new)) }
-    ensures err { OnErr result (AppendsBeginning A.rule answerer.old begun.old.items
+    ensures err { OnErr result (AppendsBeginning A.rule answerer.old start.old.items
         (W.contents writer.old) (W.contents writer.new)) }
     ensures refused { IsErrOf result RunError.Read → ⊥ }
 {
-    if begun.is_empty() {
+    if start.is_empty() {
         return Ok(());
     }
-    write_bytes(writer, reply_to(alloc, answerer, begun, &[])?.as_bytes())
+    write_bytes(writer, reply_to(alloc, answerer, start, &[])?.as_bytes())
 }
 
 /// Answers each line of the reader's bytes to the writer by one line. A line is what stands before
@@ -120,33 +120,33 @@ pub fn answer_lines<A: LineAnswerer, R: LineReader<W>, W: Write>(
     writer: &mut W,
 ) -> Result<(), RunError>
     // At each request all whole lines that the reader gave are answered.
-    requires { (a : A) (r : R) (begun : List ℕ) (now : Option (List ℕ)) → IsPrompt A.rule
-        answerer.old a (R.remaining reader.old) (R.remaining r) begun (W.contents writer.old) now
+    requires { (a : A) (r : R) (start : List ℕ) (now : Option (List ℕ)) → IsPrompt A.rule
+        answerer.old a (R.remaining reader.old) (R.remaining r) start (W.contents writer.old) now
         → R.may_ask r now }
     ensures done { OnOk result (IfSome (R.remaining reader.old) (λ input.
         AppendsReplies A.rule answerer.old answerer.new input
         (W.contents writer.old) (W.contents writer.new))) }
     ensures all_read { OnOk result (IsAtEnd (R.remaining reader.new)) }
-    ensures begun { OnErr result (IfSome (R.remaining reader.old) (λ input.
+    ensures beginning { OnErr result (IfSome (R.remaining reader.old) (λ input.
         AppendsBeginning A.rule answerer.old input
         (W.contents writer.old) (W.contents writer.new))) }
 
     // After the reader's fault exactly the whole lines that it gave are answered.
     ensures prompt { IsErrOf result RunError.Read → IfSome (R.remaining reader.old) (λ input.
-        IfSome (R.remaining reader.new) (λ left. (begun : List ℕ) × AppendsWhole A.rule
-        answerer.old answerer.new input begun left
+        IfSome (R.remaining reader.new) (λ left. (start : List ℕ) × AppendsWhole A.rule
+        answerer.old answerer.new input start left
         (W.contents writer.old) (W.contents writer.new))) }
 {
-    let mut begun = Vec::new(alloc);
+    let mut start = Vec::new(alloc);
     let mut buffer = [0; 4096];
     'reads: for _ in 0..u64::MAX {
         let Ok(count) = reader.ask(writer, &mut buffer) else {
             return Err(RunError::Read);
         };
         if count == 0 {
-            return answer_rest(alloc, answerer, writer, &mut begun);
+            return answer_rest(alloc, answerer, writer, &mut start);
         }
-        answer_chunk(alloc, answerer, writer, &mut begun, &buffer[..count])?;
+        answer_chunk(alloc, answerer, writer, &mut start, &buffer[..count])?;
     }
     Err(RunError::Read)
 }

@@ -2,7 +2,7 @@
 
 ghost use Rattle.std.specs.Prelude.{◌++◌, OnOk, OnErr, IsOkUnless};
 ghost use Rattle.std.specs.Io.KnownBytes.{Appends};
-ghost use Rattle.answer_lines.specs.Written.{AppendsPrefix, AppendsAllBut};
+ghost use Rattle.answer_lines.specs.Output.{AppendsPrefix, AppendsAllBut};
 
 use crate::run::RunError;
 use std::io::Write;

@@ -8,7 +8,7 @@ use Rattle.std.specs.Cmp.{IsEquivalence}
 use Rattle.jsonb_value.proofs.MeaningLaws.{meaning_cmp_total}
 use Rattle.jsonb.specs.declared.item.JsonbItem.{JsonbItem}
 use Rattle.jsonb.specs.ItemView.{ItemView, item_view}
-use Rattle.jsonb.specs.Meant.{view_meaning}
+use Rattle.jsonb.specs.ItemMeaning.{view_meaning}
 use Rattle.jsonb.specs.Tally.{Tally, same_meaning, has_equal, count_at, SetsCount, Lists, count_of}
 
 same_meaning_equivalence : IsEquivalence same_meaning

@@ -9,14 +9,15 @@ use Rattle.jsonb_codec.proofs.Decision.{decide}
 use Rattle.jsonb_codec.proofs.Unique.{Doc-unique}
 use Rattle.jsonb_value.specs.Meaning.{document}
 use Rattle.jsonb.specs.declared.document.Document.{Document}
-use Rattle.jsonb.specs.Document.{tree_found, tree_in, document_bytes, document_tree}
-use Rattle.jsonb.specs.Meant.{meaning_of}
-use Rattle.jsonb.proofs.MeantLaws.{meaning_of-document}
+use Rattle.jsonb.specs.Document.{tree_or_null, tree_in, document_bytes, document_tree}
+use Rattle.jsonb.specs.ItemMeaning.{meaning_of}
+use Rattle.jsonb.proofs.ItemMeaningLaws.{meaning_of-document}
 
 empty_prop : IsProp ⊥
 empty_prop = Prim.hlevel
 
-found_at : (b : List ℕ) → ∥ IsDocument b ∥₁ → (d : Decided (IsDocument b)) → Doc b (tree_found b d)
+found_at : (b : List ℕ) → ∥ IsDocument b ∥₁ → (d : Decided (IsDocument b))
+    → Doc b (tree_or_null b d)
 found_at b known (inl found) = found.1
 found_at b known (inr none) = absurd (∥∥₁_elim known empty_prop none)
 
@@ -25,7 +26,7 @@ unfolding tree_in
 known_Doc b known = found_at b known (decide b)
 
 -- the tree is the one that the bytes mean
-found_is : (b : List ℕ) (t : Tree) → Doc b t → (d : Decided (IsDocument b)) → tree_found b d ≡ t
+found_is : (b : List ℕ) (t : Tree) → Doc b t → (d : Decided (IsDocument b)) → tree_or_null b d ≡ t
 found_is b t doc (inl found) = Doc-unique b found.0 t found.1 doc
 found_is b t doc (inr none) = absurd (none (t, doc))
 
@@ -36,7 +37,7 @@ tree_in-is b t doc = found_is b t doc (decide b)
 -- a document that holds these bytes means their tree,
 pub tree_of_bytes : (b : List ℕ) (d : Document) → document_bytes d ≡ b → Doc b (document_tree d)
 tree_of_bytes b d is =
-    subst (λ x. Doc x (document_tree d)) is (known_Doc (document_bytes d) d.bytes.known)
+    subst (λ x. Doc x (document_tree d)) is (known_Doc (document_bytes d) d.bytes.fact)
 
 pub document_tree-is : (b : List ℕ) (t : Tree) (found : Option Document) → Doc b t
     → IfSome found (λ d. document_bytes d ≡ b) → IfSome found (λ d. document_tree d ≡ t)

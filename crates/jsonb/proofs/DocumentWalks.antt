@@ -16,8 +16,8 @@ use Rattle.jsonb.specs.Item.{Entry, item_of, entry_at}
 use Rattle.jsonb.specs.Walk.{Walk, entries_from, items_in, pairs_in, payloads_end, count_if}
 use Rattle.jsonb.specs.Walk.{count_under, item_entries, key_entries, item_walk, array_walk}
 use Rattle.jsonb.specs.Walk.{keys_walk, values_of, values_walk, pair_walk, pairs_of, pairs_walk}
-use Rattle.jsonb.specs.Walked.{ShowsTrees, key_views, ShowsValues, ShowsPairs, WalksArray}
-use Rattle.jsonb.specs.Walked.{WalksKeys, WalksValues, WalksPairs}
+use Rattle.jsonb.specs.DocumentWalk.{ShowsTrees, key_views, ShowsValues, ShowsPairs, WalksArray}
+use Rattle.jsonb.specs.DocumentWalk.{WalksKeys, WalksValues, WalksPairs}
 use Rattle.jsonb.proofs.Utf8.{is_text_yes}
 use Rattle.jsonb.proofs.Places.{At, At-all, At-left, At-right, At-behind_word, length-word-append}
 use Rattle.jsonb.proofs.Places.{jentry_at-At}

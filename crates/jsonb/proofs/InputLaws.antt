@@ -20,7 +20,7 @@ use Rattle.jsonb.specs.declared.raw.RawJsonb.{RawJsonb}
 use Rattle.jsonb.specs.Raw.{raw_bytes}
 use Rattle.jsonb.specs.ItemView.{ItemView, raw}
 use Rattle.jsonb.specs.Building.{has_key, with_pair, with_pairs, in_order}
-use Rattle.jsonb.specs.Built.{raw_pairs, input_pair}
+use Rattle.jsonb.specs.Results.{raw_pairs, input_pair}
 
 bytes_equiv : IsEquivalence bytes_eq
 bytes_equiv =

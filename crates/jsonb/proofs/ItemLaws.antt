@@ -13,10 +13,10 @@ use Rattle.jsonb.specs.declared.item.JsonbItem.{JsonbItem}
 use Rattle.jsonb.specs.Steps.{◌>>=◌}
 use Rattle.jsonb.specs.ItemView.{ItemView, null, boolean, number, text, extension, raw, owned}
 use Rattle.jsonb.specs.ItemView.{item_view, result_view}
-use Rattle.jsonb.specs.Item.{Entry, item_of, number_found, extension_found, text_item, part_at}
+use Rattle.jsonb.specs.Item.{Entry, item_of, item_of_number, item_of_extension, text_item, part_at}
 use Rattle.jsonb.specs.Item.{entry_at, scalar_item, item_under, item_in}
 use Rattle.jsonb.specs.Code.{Means, HasCode, item_document, CanBeStored, scalar_bytes}
-use Rattle.jsonb.specs.Walked.{IsItemOf, IsItemIn}
+use Rattle.jsonb.specs.DocumentWalk.{IsItemOf, IsItemIn}
 use Rattle.jsonb.proofs.PayloadLaws.{number_in-NumCode, extension_in-ExtCode}
 use Rattle.jsonb.proofs.Utf8.{is_text_yes}
 use Rattle.jsonb.proofs.Places.{At, At-left, IsTag, part_at-At, jentry_at-At}
@@ -37,7 +37,7 @@ found_item trees.null p h = (null, (refl, (refl, (refl, h))))
 found_item (trees.boolean true) p h = (boolean true, (refl, (refl, (refl, h))))
 found_item (trees.boolean false) p h = (boolean false, (refl, (refl, (refl, h))))
 found_item (trees.number x) p h =
-    (number (Some p) x, (ap (number_found p) (number_in-NumCode p x h), (refl, (refl, refl))))
+    (number (Some p) x, (ap (item_of_number p) (number_in-NumCode p x h), (refl, (refl, refl))))
 found_item (trees.text s) p h = (
   text p,
   (
@@ -47,7 +47,7 @@ found_item (trees.text s) p h = (
 )
 found_item (trees.extension e) p h = (
   extension (Some p) e,
-  (ap (extension_found p) (extension_in-ExtCode p e h), (refl, (refl, refl))),
+  (ap (item_of_extension p) (extension_in-ExtCode p e h), (refl, (refl, refl))),
 )
 found_item (trees.array ts) p h =
     (raw p, (refl, (inr (refl, h), (trees.array ts, (inr (refl, h), inr (refl, (refl, refl)))))))

@@ -21,7 +21,7 @@ use Rattle.jsonb.specs.declared.item.JsonbItem.{JsonbItem}
 use Rattle.jsonb.specs.ItemView.{ItemView, item_view}
 use Rattle.jsonb.specs.Payloads.{is_text, number_in, extension_in, has_known_tag}
 use Rattle.jsonb.specs.Steps.{◌>>=◌}
-use Rattle.jsonb.specs.Item.{Entry, item_of, entry_at, part_at, number_found, extension_found}
+use Rattle.jsonb.specs.Item.{Entry, item_of, entry_at, part_at, item_of_number, item_of_extension}
 use Rattle.jsonb.specs.Building.{key_codes, code_entries, code_payloads}
 use Rattle.jsonb.specs.Standing.{ArePairsOf, HasMembers, entry_item, find_entry, IsFoundIn}
 use Rattle.jsonb.specs.Walk.{count_under}
@@ -558,7 +558,7 @@ if_refused : (b : Bool) (x y : Result ItemView Error) → IfErr x IsRefusal → 
 if_refused true x y h k = h
 if_refused false x y h k = k
 
-number_refused : (p : List ℕ) (o : Option Number) → IfErr (number_found p o) IsRefusal
+number_refused : (p : List ℕ) (o : Option Number) → IfErr (item_of_number p o) IsRefusal
 number_refused p (Some x) = tt
 number_refused p None = tt
 
@@ -566,7 +566,7 @@ error_refused : (b : Bool) → IsRefusal (if b then InvalidJsonbNumber else Inva
 error_refused true = tt
 error_refused false = tt
 
-extension_refused : (p : List ℕ) (o : Option Extension) → IfErr (extension_found p o) IsRefusal
+extension_refused : (p : List ℕ) (o : Option Extension) → IfErr (item_of_extension p o) IsRefusal
 extension_refused p (Some x) = tt
 extension_refused p None = error_refused (has_known_tag p)
 

@@ -19,12 +19,12 @@ use Rattle.jsonb_codec.proofs.Words.{length-word-append}
 use Rattle.jsonb.specs.declared.item.JsonbItem.{JsonbItem}
 use Rattle.jsonb.specs.ItemView.{ItemView, item_view}
 use Rattle.jsonb.specs.Item.{Entry}
-use Rattle.jsonb.specs.Stored.{codes_of, AreStorable, AreHeld}
+use Rattle.jsonb.specs.Storage.{codes_of, AreStorable, AreHeld}
 use Rattle.jsonb.specs.Children.{pair_views, key_texts, value_items, object_parts}
 use Rattle.jsonb.specs.Building.{AreCodes, AreShort, code_entries, code_payloads, key_codes}
 use Rattle.jsonb.specs.Building.{AreTexts, AreKeys, FitObject, IsObjectOf, has_key, with_pair}
-use Rattle.jsonb.proofs.StoredLaws.{AreCodes-codes_of, codes_of-AreCodes, length-codes_of}
-use Rattle.jsonb.proofs.StoredLaws.{length-code_entries}
+use Rattle.jsonb.proofs.StorageLaws.{AreCodes-codes_of, codes_of-AreCodes, length-codes_of}
+use Rattle.jsonb.proofs.StorageLaws.{length-code_entries}
 
 -- the pairs of a map's entries
 abbrev Entries : Type 0

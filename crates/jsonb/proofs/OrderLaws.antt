@@ -15,10 +15,10 @@ use Rattle.jsonb_codec.specs.Doc.{Doc, IsDocument}
 use Rattle.jsonb.specs.declared.item_type.JsonbItemType.{JsonbItemType}
 use Rattle.jsonb.specs.Code.{Means}
 use Rattle.jsonb.specs.Kind.{kind, kind_of_tree, rank_order}
-use Rattle.jsonb.specs.Meant.{meaning_of, view_meaning}
+use Rattle.jsonb.specs.ItemMeaning.{meaning_of, view_meaning}
 use Rattle.jsonb.specs.ItemView.{ItemView}
 use Rattle.jsonb.proofs.KindLaws.{kind-Doc}
-use Rattle.jsonb.proofs.MeantLaws.{meaning_of-document, view_meaning-document}
+use Rattle.jsonb.proofs.ItemMeaningLaws.{meaning_of-document, view_meaning-document}
 
 pub bytes_total : IsTotalOrder (on meaning_of meaning_cmp)
 bytes_total = on_total meaning_of meaning_cmp_total

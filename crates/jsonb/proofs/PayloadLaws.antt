@@ -9,7 +9,7 @@ use Rattle.jsonb_value.proofs.Codes.{NumCode-unique}
 use Rattle.jsonb_value.proofs.ExtCodes.{ExtCode-unique}
 use Rattle.jsonb_value.proofs.PayloadDecision.{Decided, decide_number, decide_extension}
 use Rattle.jsonb.specs.Payloads.{witness_of, number_in, extension_in, extension_error}
-use Rattle.jsonb.specs.Item.{number_found, number_item, extension_found, extension_item}
+use Rattle.jsonb.specs.Item.{item_of_number, number_item, item_of_extension, extension_item}
 
 -- what was found is what there is, where there is one thing at most
 found-some : {A : Type 0} (P : A → Type 0) (d : Decided ((x : A) × P x)) (x : A)
@@ -70,8 +70,8 @@ extension_in-given bytes x h given e =
 -- no item of bytes that mean none
 pub number_item-none : (p : List ℕ) → ((x : Number) → NumCode p x → ⊥)
     → Err InvalidJsonbNumber ≡ number_item p
-number_item-none p nothing = ap (number_found p) (sym (number_in-none p nothing))
+number_item-none p nothing = ap (item_of_number p) (sym (number_in-none p nothing))
 
 pub extension_item-none : (p : List ℕ) → ((x : Extension) → ExtCode p x → ⊥)
     → Err (extension_error p) ≡ extension_item p
-extension_item-none p nothing = ap (extension_found p) (sym (extension_in-none p nothing))
+extension_item-none p nothing = ap (item_of_extension p) (sym (extension_in-none p nothing))

@@ -20,7 +20,7 @@ use Rattle.jsonb.specs.Building.{AreShort, AreTexts, code_entries, code_payloads
 use Rattle.jsonb.specs.Building.{array_of, object_of}
 use Rattle.jsonb.specs.Standing.{AreCodesOf, ArePairsOf, HasItems, HasMembers, entry_item}
 use Rattle.jsonb.specs.Standing.{member_item, find_entry, IsFoundIn}
-use Rattle.jsonb.specs.Lookup.{counted_in}
+use Rattle.jsonb.specs.Lookup.{count_or_zero}
 use Rattle.jsonb.specs.Walk.{entries_from, until_error, item_read, items_in, key_of, pair_read}
 use Rattle.jsonb.specs.Walk.{pairs_in}
 use Rattle.jsonb.proofs.Utf8.{is_text_yes}
@@ -29,7 +29,7 @@ use Rattle.jsonb.proofs.Places.{jentry_at-At, header_at-At, header_of-array, hea
 use Rattle.jsonb.proofs.KindLaws.{IsTag-type_of}
 use Rattle.jsonb.proofs.ItemLaws.{IsItemOf-Payload, entry_at-entry}
 use Rattle.jsonb.proofs.WalkLaws.{entries_from-first}
-use Rattle.jsonb.proofs.StoredLaws.{length-code_entries}
+use Rattle.jsonb.proofs.StorageLaws.{length-code_entries}
 
 pub length-AreCodesOf : (cs : List Entry) (ts : Trees) → AreCodesOf cs ts → length cs ≡ count ts
 length-AreCodesOf [] ts h = sym (ap count h)
@@ -423,7 +423,7 @@ pub HasMembers-one : (b : List ℕ) (ps qs : Pairs) (ms ns : List (List ℕ × E
 HasMembers-one b ps qs ms ns h k =
     let left = members_at b ms h.few h.written in
     let right = members_at b ns k.few k.written in
-    let n : length ms ≡ length ns = ap counted_in (sym left.header ∙ right.header) in
+    let n : length ms ≡ length ns = ap count_or_zero (sym left.header ∙ right.header) in
     let long : length (key_codes (keys_of ms)) ≡ length (key_codes (keys_of ns)) =
     length-key_codes (keys_of ms) ∙ length-keys_of ms ∙ n
     ∙ sym (length-key_codes (keys_of ns) ∙ length-keys_of ns) in

@@ -14,8 +14,9 @@ use Rattle.jsonb.specs.Standing.{HasMembers, entry_item}
 use Rattle.jsonb.specs.Walk.{entries_from, items_in, payloads_end, item_entries, key_entries}
 use Rattle.jsonb.specs.Walk.{value_entries, item_walk, array_walk, values_walk, pair_walk}
 use Rattle.jsonb.specs.Walk.{pairs_walk}
-use Rattle.jsonb.specs.Walked.{WalksArray, WalksValues, WalksPairs, WalksItems, WalksValueItems}
-use Rattle.jsonb.specs.Walked.{WalksMembers}
+use Rattle.jsonb.specs.DocumentWalk.{WalksArray, WalksValues, WalksPairs, WalksItems}
+use Rattle.jsonb.specs.DocumentWalk.{WalksValueItems}
+use Rattle.jsonb.specs.DocumentWalk.{WalksMembers}
 use Rattle.jsonb.proofs.Places.{At}
 use Rattle.jsonb.proofs.KindLaws.{header_at-array, header_at-object}
 use Rattle.jsonb.proofs.StandingLaws.{length-AreCodesOf, length-ArePairsOf, AreEntries-trees}

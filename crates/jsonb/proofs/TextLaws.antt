@@ -17,7 +17,7 @@ use Rattle.bstr.proofs.lemmas.EncodeLemmas.{lossy_chars-utf8}
 use Rattle.std.specs.Str.{IsUtf8}
 use Rattle.jsonb.specs.Texts.{lossy_text, other_text, plain_text, display_text, lined_text}
 use Rattle.jsonb.specs.Texts.{pretty_display_text}
-use Rattle.jsonb.proofs.MeantLaws.{meaning_of-document, meaning_of-other}
+use Rattle.jsonb.proofs.ItemMeaningLaws.{meaning_of-document, meaning_of-other}
 
 pub display_text-Doc : (b : List ℕ) (t : Tree) → Doc b t → display_text b ≡ compact t
 display_text-Doc b t doc = ap plain_text (meaning_of-document b t doc)

@@ -6,9 +6,9 @@ use Rattle.jsonb_value.specs.Tree.{Tree, array, object, Trees, no_trees, tree, P
 use Rattle.jsonb_value.specs.Tree.{pair, count, pair_count}
 use Rattle.jsonb.specs.ItemView.{ItemView}
 use Rattle.jsonb.specs.Walk.{Walk}
-use Rattle.jsonb.specs.Walked.{ShowsTrees, key_views, ShowsValues, ShowsPairs, WalksArray}
-use Rattle.jsonb.specs.Walked.{WalksKeys, WalksValues, WalksPairs}
-use Rattle.jsonb.specs.Asked.{walk_of}
+use Rattle.jsonb.specs.DocumentWalk.{ShowsTrees, key_views, ShowsValues, ShowsPairs, WalksArray}
+use Rattle.jsonb.specs.DocumentWalk.{WalksKeys, WalksValues, WalksPairs}
+use Rattle.jsonb.specs.Question.{walk_of}
 
 -- what was taken of an iterator that has ended is all that it had to give, by whatever is said of
 -- it

@@ -5,7 +5,7 @@ use Rattle.jsonb.specs.declared.item.JsonbItem.{JsonbItem}
 use Rattle.jsonb.specs.ItemView.{ItemView, item_view, text}
 use Rattle.jsonb_codec.specs.declared.constants.TheConstants.{OBJECT_CONTAINER_TAG}
 use Rattle.jsonb_codec.specs.Word.{word}
-use Rattle.jsonb.specs.Stored.{codes_of}
+use Rattle.jsonb.specs.Storage.{codes_of}
 use Rattle.jsonb.specs.Building.{code_entries, code_payloads}
 use Rattle.jsonb.specs.declared.builder.children.Child.{Child}
 use Rattle.jsonb.specs.declared.builder.children.Child.TheVariants as child

@@ -40,11 +40,11 @@ IsDocumentCode t b type payload =
     ⊎ ((type_of t ≡ CONTAINER_TAG) × ((type ≡ CONTAINER_TAG) × (payload ≡ b)))
 
 -- the payload of a number or an extension value: as it was given, else as it is written
-abbrev pub stored_number : Option (List ℕ) → Number → List ℕ
-stored_number given x = unwrap_or given (number_payload x)
+abbrev pub number_bytes : Option (List ℕ) → Number → List ℕ
+number_bytes given x = unwrap_or given (number_payload x)
 
-abbrev pub stored_extension : Option (List ℕ) → Extension → List ℕ
-stored_extension given e = unwrap_or given (extension_payload e)
+abbrev pub extension_bytes : Option (List ℕ) → Extension → List ℕ
+extension_bytes given e = unwrap_or given (extension_payload e)
 
 -- the bytes of a payload that is to be stored
 abbrev pub payload_bytes : Payload → List ℕ
@@ -61,10 +61,10 @@ abbrev pub HasCode : ItemView → ℕ → List ℕ → Type 0
 HasCode null type payload = (type ≡ NULL_TAG) × (payload ≡ [])
 HasCode (boolean false) type payload = (type ≡ FALSE_TAG) × (payload ≡ [])
 HasCode (boolean true) type payload = (type ≡ TRUE_TAG) × (payload ≡ [])
-HasCode (number given x) type payload = (type ≡ NUMBER_TAG) × (payload ≡ stored_number given x)
+HasCode (number given x) type payload = (type ≡ NUMBER_TAG) × (payload ≡ number_bytes given x)
 HasCode (text s) type payload = (type ≡ STRING_TAG) × (payload ≡ s)
 HasCode (extension given e) type payload =
-    (type ≡ EXTENSION_TAG) × (payload ≡ stored_extension given e)
+    (type ≡ EXTENSION_TAG) × (payload ≡ extension_bytes given e)
 HasCode (raw b) type payload = (t : Tree) × (Doc b t × IsDocumentCode t b type payload)
 HasCode (owned b) type payload = (t : Tree) × (Doc b t × IsDocumentCode t b type payload)
 
@@ -73,9 +73,9 @@ abbrev pub item_document : ItemView → List ℕ
 item_document null = scalar_bytes NULL_TAG []
 item_document (boolean false) = scalar_bytes FALSE_TAG []
 item_document (boolean true) = scalar_bytes TRUE_TAG []
-item_document (number given x) = scalar_bytes NUMBER_TAG (stored_number given x)
+item_document (number given x) = scalar_bytes NUMBER_TAG (number_bytes given x)
 item_document (text s) = scalar_bytes STRING_TAG s
-item_document (extension given e) = scalar_bytes EXTENSION_TAG (stored_extension given e)
+item_document (extension given e) = scalar_bytes EXTENSION_TAG (extension_bytes given e)
 item_document (raw b) = b
 item_document (owned b) = b
 
@@ -83,8 +83,8 @@ item_document (owned b) = b
 abbrev pub CanBeStored : ItemView → Type 0
 CanBeStored null = ⊤
 CanBeStored (boolean b) = ⊤
-CanBeStored (number given x) = length (stored_number given x) < 2 ^ 28
+CanBeStored (number given x) = length (number_bytes given x) < 2 ^ 28
 CanBeStored (text s) = length s < 2 ^ 28
-CanBeStored (extension given e) = length (stored_extension given e) < 2 ^ 28
+CanBeStored (extension given e) = length (extension_bytes given e) < 2 ^ 28
 CanBeStored (raw b) = ⊤
 CanBeStored (owned b) = ⊤

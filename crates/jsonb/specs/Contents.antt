@@ -2,10 +2,10 @@
 use Rattle.jsonb_value.specs.Tree.{Tree}
 use Rattle.jsonb.specs.declared.document.Contents.{Contents}
 use Rattle.jsonb.specs.declared.document.Contents.TheVariants as contents
-use Rattle.jsonb.specs.Known.{trees_left, pairs_left}
+use Rattle.jsonb.specs.Facts.{rest_trees, rest_pairs}
 use Rattle.jsonb.specs.Node.{array_of, object_of}
 
 -- its tree
 abbrev pub contents_tree : Contents → Tree
-contents_tree (contents.Array items) = array_of (trees_left items)
-contents_tree (contents.Object members) = object_of (pairs_left members)
+contents_tree (contents.Array items) = array_of (rest_trees items)
+contents_tree (contents.Object members) = object_of (rest_pairs members)

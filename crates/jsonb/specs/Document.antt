@@ -9,13 +9,13 @@ use Rattle.jsonb_codec.proofs.Decision.{decide}
 use Rattle.jsonb.specs.declared.document.Document.{Document}
 
 -- the tree that was found; there is one in each document
-abbrev pub tree_found : (b : List ℕ) → Decided (IsDocument b) → Tree
-tree_found b (inl found) = found.0
-tree_found b (inr none) = null
+abbrev pub tree_or_null : (b : List ℕ) → Decided (IsDocument b) → Tree
+tree_or_null b (inl found) = found.0
+tree_or_null b (inr none) = null
 
 -- the tree of the bytes of a document
 unfoldable pub tree_in : List ℕ → Tree
-tree_in b = tree_found b (decide b)
+tree_in b = tree_or_null b (decide b)
 
 -- its bytes
 abbrev pub document_bytes : Document → List ℕ

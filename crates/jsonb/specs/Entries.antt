@@ -7,6 +7,6 @@ use Rattle.jsonb.specs.Item.{Entry}
 abbrev pub entry_of : src.Entry → Entry
 entry_of entry = record { type = entry.type_code; payload = entry.payload.now }
 
-abbrev pub shown_entry : Result src.Entry Error → Result Entry Error
-shown_entry (Ok entry) = Ok (entry_of entry)
-shown_entry (Err e) = Err e
+abbrev pub entry_view : Result src.Entry Error → Result Entry Error
+entry_view (Ok entry) = Ok (entry_of entry)
+entry_view (Err e) = Err e

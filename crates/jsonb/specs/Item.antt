@@ -21,20 +21,20 @@ abbrev pub text_item : List ℕ → Result ItemView Error
 text_item p = if is_text p then Ok (text p) else Err InvalidUtf8
 
 -- as a number,
-abbrev pub number_found : List ℕ → Option Number → Result ItemView Error
-number_found p (Some x) = Ok (number (Some p) x)
-number_found p None = Err InvalidJsonbNumber
+abbrev pub item_of_number : List ℕ → Option Number → Result ItemView Error
+item_of_number p (Some x) = Ok (number (Some p) x)
+item_of_number p None = Err InvalidJsonbNumber
 
 abbrev pub number_item : List ℕ → Result ItemView Error
-number_item p = number_found p (number_in p)
+number_item p = item_of_number p (number_in p)
 
 -- as an extension value
-abbrev pub extension_found : List ℕ → Option Extension → Result ItemView Error
-extension_found p (Some e) = Ok (extension (Some p) e)
-extension_found p None = Err (extension_error p)
+abbrev pub item_of_extension : List ℕ → Option Extension → Result ItemView Error
+item_of_extension p (Some e) = Ok (extension (Some p) e)
+item_of_extension p None = Err (extension_error p)
 
 abbrev pub extension_item : List ℕ → Result ItemView Error
-extension_item p = extension_found p (extension_in p)
+extension_item p = item_of_extension p (extension_in p)
 
 -- the item of an entry of this type and of its bytes; a container's are not looked into
 unfoldable pub item_of : ℕ → List ℕ → Result ItemView Error

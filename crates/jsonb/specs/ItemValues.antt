@@ -9,10 +9,10 @@ use Rattle.jsonb.specs.declared.extension_item.ExtensionItem.{ExtensionItem}
 
 -- the bytes as they were given, where it was made of bytes
 abbrev pub number_source : NumberItem → Option (List ℕ)
-number_source item = option_copied item.given
+number_source item = option_copied item.payload
 
 abbrev pub extension_source : ExtensionItem → Option (List ℕ)
-extension_source item = option_copied item.given
+extension_source item = option_copied item.payload
 
 -- the value
 abbrev pub number_of_item : NumberItem → Number

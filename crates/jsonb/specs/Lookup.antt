@@ -18,7 +18,7 @@ use Rattle.jsonb.specs.Item.{Entry}
 use Rattle.jsonb.specs.Parts.{value_entry, PassedBefore, IsAccepted, IsUnreadable}
 use Rattle.jsonb.specs.Standing.{HasMembers, entry_item}
 use Rattle.jsonb.specs.Walk.{count_under}
-use Rattle.jsonb.specs.Walked.{IsItemOf}
+use Rattle.jsonb.specs.DocumentWalk.{IsItemOf}
 
 -- The key is passed over: it has another length, or is not accepted.
 abbrev pub IsPassed : (List ℕ → Bool → Type 0) → ℕ → List ℕ → Type 0
@@ -119,17 +119,17 @@ abbrev pub LooksUpInBytes : (List ℕ → Bool → Type 0) → ℕ → List ℕ 
 LooksUpInBytes answers size b r = (reads : ℕ) × LooksUpBytes answers size b r reads
 
 -- what a look-up's answer shows
-abbrev pub found_view : Result (Option JsonbItem) Error → Result (Option ItemView) Error
-found_view (Ok item) = Ok (option_map item_view item)
-found_view (Err e) = Err e
+abbrev pub value_view : Result (Option JsonbItem) Error → Result (Option ItemView) Error
+value_view (Ok item) = Ok (option_map item_view item)
+value_view (Err e) = Err e
 
 -- the count in a header, where there is one
-abbrev pub counted_in : Result (ℕ × ℕ) Error → ℕ
-counted_in (Ok header) = header.1
-counted_in (Err e) = 0
+abbrev pub count_or_zero : Result (ℕ × ℕ) Error → ℕ
+count_or_zero (Ok header) = header.1
+count_or_zero (Err e) = 0
 
 unfoldable pub header_count : List ℕ → ℕ
-header_count bytes = counted_in (header_at bytes 0)
+header_count bytes = count_or_zero (header_at bytes 0)
 
 -- why a look-up can be refused
 abbrev pub IsRefusal : Error → Type 0

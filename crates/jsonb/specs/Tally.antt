@@ -7,7 +7,7 @@ use Rattle.std.specs.Ordering.{on, eq_by_cmp}
 use Rattle.jsonb_value.specs.Meaning.{meaning_cmp}
 use Rattle.jsonb.specs.declared.item.JsonbItem.{JsonbItem}
 use Rattle.jsonb.specs.ItemView.{ItemView, item_view}
-use Rattle.jsonb.specs.Meant.{view_meaning}
+use Rattle.jsonb.specs.ItemMeaning.{view_meaning}
 
 -- the first of each class of equal items, in the order that they came, and counts of classes, in
 -- any order

@@ -5,7 +5,7 @@ use Rattle.jsonb_value.specs.Meaning.{Meaning, document, other_bytes}
 use Rattle.jsonb_value.specs.Text.{Layout, in_one_line, on_lines, compact, pretty}
 use Rattle.jsonb.specs.declared.text.Layout as given
 use Rattle.jsonb.specs.declared.text.Layout.TheVariants as layouts
-use Rattle.jsonb.specs.Meant.{meaning_of}
+use Rattle.jsonb.specs.ItemMeaning.{meaning_of}
 
 -- the layout that the walk is given
 abbrev pub layout_of : given.Layout → Layout

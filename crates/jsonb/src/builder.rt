@@ -16,9 +16,9 @@ ghost use Rattle.jsonb.specs.Building.{FitArray, IsArrayOf, has_key, with_pair, 
 ghost use Rattle.jsonb.specs.Building.{IsObjectOf, AreKeys};
 ghost use Rattle.std.specs.Map.{keys_of};
 ghost use Rattle.jsonb.specs.Children.{pair_views};
-ghost use Rattle.jsonb.specs.Built.{AllMean, AllMeanAt, IsArrayUpToZeros, IsObjectUpToZeros};
-ghost use Rattle.jsonb.specs.Built.{IsArrayOfInputs, IsObjectOfInputs, MakeNoObject, input_pair};
-ghost use Rattle.jsonb.specs.Built.{TakesAll, TakesUpTo};
+ghost use Rattle.jsonb.specs.Results.{AllMean, AllMeanAt, IsArrayUpToZeros, IsObjectUpToZeros};
+ghost use Rattle.jsonb.specs.Results.{IsArrayOfInputs, IsObjectOfInputs, MakeNoObject, input_pair};
+ghost use Rattle.jsonb.specs.Results.{TakesAll, TakesUpTo};
 
 use crate::item::JsonbItem;
 use crate::owned::OwnedJsonb;

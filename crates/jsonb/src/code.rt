@@ -7,7 +7,7 @@ ghost use Rattle.jsonb_codec.specs.Word.{word};
 ghost use Rattle.jsonb_codec.specs.Doc.{IsDocument};
 ghost use Rattle.jsonb_codec.specs.Room.{HasRoom, AppendsBytes};
 ghost use Rattle.jsonb.specs.ItemView.{item_view};
-ghost use Rattle.jsonb.specs.Stored.{document_code, code_of, IsStored, IsHeld};
+ghost use Rattle.jsonb.specs.Storage.{document_code, code_of, IsStored, IsHeld};
 ghost use Rattle.jsonb.specs.Code.{scalar_bytes, payload_bytes, code_view};
 
 use crate::item::{JsonbItem, text_of};

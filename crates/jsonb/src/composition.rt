@@ -9,7 +9,7 @@ ghost use Rattle.jsonb_value.specs.Value.{tree_of};
 ghost use Rattle.jsonb_codec.specs.Canon.{canon, Fits};
 ghost use Rattle.jsonb_codec.specs.Doc.{Doc};
 ghost use Rattle.jsonb.specs.Raw.{raw_bytes};
-ghost use Rattle.jsonb.specs.Asked.{AnswersOf};
+ghost use Rattle.jsonb.specs.Question.{AnswersOf};
 ghost use Rattle.jsonb.specs.Lookup.{find, IsItemFound};
 ghost use Rattle.jsonb.specs.Standing.{IsFoundIn};
 ghost use Rattle.jsonb.specs.ItemView.{item_view};

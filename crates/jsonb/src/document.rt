@@ -59,7 +59,7 @@ impl<'a> Document<'a> {
     ghost use Rattle.jsonb.specs.Contents.{contents_tree};
     ghost use Rattle.jsonb.specs.Document.{document_bytes, document_tree};
     ghost use Rattle.jsonb.specs.Kind.{kind_of_tree};
-    ghost use Rattle.jsonb.specs.Known.{trees_left, pairs_left};
+    ghost use Rattle.jsonb.specs.Facts.{rest_trees, rest_pairs};
     ghost use Rattle.jsonb.specs.Lookup.{find_pair};
     ghost use Rattle.jsonb.specs.Node.{node_tree, value_of_key, items_of, item_at_index};
     ghost use Rattle.jsonb.specs.Node.{members_of, IsContainer, HoldsNoScalar};
@@ -68,7 +68,7 @@ impl<'a> Document<'a> {
 
     /// The bytes as a document. `None` where they are none.
     pub fn new(bytes: &'a [u8]) -> Option<Self>
-        ensures known { IsSome result ↔ IsDocument bytes.entry.now }
+        ensures exact { IsSome result ↔ IsDocument bytes.entry.now }
         ensures bytes { IfSome result (λ d. document_bytes d ≡ bytes.entry.now) }
     {
         match DocumentBytes::new(bytes) {
@@ -81,7 +81,7 @@ impl<'a> Document<'a> {
     /// object 1 where it is empty, and otherwise one more than its deepest child. `None` where they
     /// are none. What nests deeper is not looked into.
     pub fn within(bytes: &'a [u8], depth: usize) -> Option<Self>
-        ensures known { IsSome result ↔ IsDocumentWithin depth bytes.entry.now }
+        ensures exact { IsSome result ↔ IsDocumentWithin depth bytes.entry.now }
         ensures bytes { IfSome result (λ d. document_bytes d ≡ bytes.entry.now) }
     {
         match DocumentBytes::within(bytes, depth) {
@@ -180,7 +180,7 @@ impl<'a> Document<'a> {
 
     /// The items of an array, in order. `None` for all but arrays.
     pub fn items(&self) -> Option<Items<'a>>
-        ensures { option_map trees_left result ≡ items_of (document_tree self.now) }
+        ensures { option_map rest_trees result ≡ items_of (document_tree self.now) }
     {
         match Cursor::over_array(self.as_bytes()) {
             Ok(Some(entries)) => Some(Items::new(entries)),
@@ -191,7 +191,7 @@ impl<'a> Document<'a> {
 
     /// The members of an object, in the order of their keys. `None` for all but objects.
     pub fn members(&self) -> Option<Members<'a>>
-        ensures { option_map pairs_left result ≡ members_of (document_tree self.now) }
+        ensures { option_map rest_pairs result ≡ members_of (document_tree self.now) }
     {
         match Cursor::over_object(self.as_bytes()) {
             Ok(Some((keys, values))) => Some(Members::new(keys, values)),

@@ -7,8 +7,8 @@ ghost use Rattle.jsonb_value.specs.declared.error.Error.{Error};
 ghost use Rattle.jsonb_codec.specs.declared.constants.TheConstants.{ARRAY_CONTAINER_TAG};
 ghost use Rattle.jsonb_codec.specs.declared.constants.TheConstants.{OBJECT_CONTAINER_TAG};
 ghost use Rattle.jsonb.specs.Item.{Entry as ItemEntry, entry_at};
-ghost use Rattle.jsonb.specs.Entries.{shown_entry};
-ghost use Rattle.jsonb.specs.Known.{AreParts, entry_of_part};
+ghost use Rattle.jsonb.specs.Entries.{entry_view};
+ghost use Rattle.jsonb.specs.Facts.{AreParts, entry_of_part};
 ghost use Rattle.jsonb.specs.Walk.{count_under, payloads_end, entries_from, item_entries};
 ghost use Rattle.jsonb.specs.Walk.{key_entries, value_entries, array_entries, object_entries};
 
@@ -40,7 +40,7 @@ impl<'a> Entries<'a> {
     #[tactic(auto, unfolding(crate::specs::Item::entry_at, crate::specs::Item::part_at))]
     pub fn first(&self) -> Result<Entry<'a>, Error>
         requires { self.now.start ≤ 2 ^ 63 }
-        ensures entry { shown_entry result
+        ensures entry { entry_view result
             ≡ entry_at self.now.bytes.now self.now.place self.now.start }
         ensures short { IfOk result (λ entry. length entry.payload.now < 2 ^ 32) }
     {
@@ -182,7 +182,7 @@ impl<'a> Cursor<'a> {
     /// past the end; after an error there is none.
     #[inline(always)]
     pub fn next(&mut self) -> Option<Result<Entry<'a>, Error>>
-        ensures steps { YieldsFirstBy shown_entry (λ it. it) self.old result self.new }
+        ensures steps { YieldsFirstBy entry_view (λ it. it) self.old result self.new }
     {
         if self.left == 0 {
             return None;

@@ -12,8 +12,8 @@ use jsonb_value::{Error, ExtensionValue};
 #[derive(Clone, Copy, Debug)]
 pub struct ExtensionItem<'a> {
     value: ExtensionValue<'a>,
-    given: Option<&'a [u8]>,
-    ghost means: { ForSome given (λ bytes. extension_in bytes.now ≡ Some (extension_of value)) },
+    payload: Option<&'a [u8]>,
+    ghost means: { ForSome payload (λ bytes. extension_in bytes.now ≡ Some (extension_of value)) },
 }
 
 impl<'a> ExtensionItem<'a> {
@@ -23,31 +23,34 @@ impl<'a> ExtensionItem<'a> {
     ghost use Rattle.jsonb.specs.ItemValues.{extension_source, extension_of_item};
     ghost use Rattle.jsonb.specs.Payloads.{extension_error};
     ghost use Rattle.jsonb.specs.ItemView.{extension};
-    ghost use Rattle.jsonb.specs.Stored.{IsHeld};
-    ghost use Rattle.jsonb.specs.Code.{stored_extension, payload_bytes};
+    ghost use Rattle.jsonb.specs.Storage.{IsHeld};
+    ghost use Rattle.jsonb.specs.Code.{extension_bytes, payload_bytes};
 
     /// The extension value that these bytes mean as a payload, held as these bytes. Else
     /// `InvalidJsonbNumber` for a known first byte, `InvalidJsonbExtension` for another first
     /// byte and for no bytes.
     pub fn from_bytes(bytes: &'a [u8]) -> Result<ExtensionItem<'a>, Error>
         ensures ok { IfOk result (λ item. ExtCode bytes.entry.now (extension_of_item item)) }
-        ensures given { IfOk result (λ item. extension_source item ≡ Some bytes.entry.now) }
+        ensures source { IfOk result (λ item. extension_source item ≡ Some bytes.entry.now) }
         ensures none { OnErr result ((e : Extension) → ExtCode bytes.entry.now e → ⊥) }
         ensures err { IfErr result (λ e. e ≡ extension_error bytes.entry.now) }
     {
         let value = ExtensionValue::decode(bytes)?;
         Ok(ExtensionItem {
             value,
-            given: Some(bytes),
+            payload: Some(bytes),
         })
     }
 
     /// This extension value, by value.
     pub fn from_value(value: ExtensionValue<'a>) -> ExtensionItem<'a>
         ensures value { extension_of_item result ≡ extension_of value.entry }
-        ensures given { extension_source result ≡ None }
+        ensures source { extension_source result ≡ None }
     {
-        ExtensionItem { value, given: None }
+        ExtensionItem {
+            value,
+            payload: None,
+        }
     }
 
     /// The extension value.
@@ -60,10 +63,10 @@ impl<'a> ExtensionItem<'a> {
     /// The payload to store: the bytes as they were given, else those that are written.
     pub(crate) fn payload(&self) -> Payload<'a>
         ensures bytes { payload_bytes result
-            ≡ stored_extension (extension_source self.now) (extension_of_item self.now) }
+            ≡ extension_bytes (extension_source self.now) (extension_of_item self.now) }
         ensures held { IsHeld (extension (extension_source self.now) (extension_of_item self.now)) }
     {
-        match self.given {
+        match self.payload {
             Some(bytes) => Payload::Bytes(bytes),
             None => Payload::Extension(self.as_extension_value()),
         }

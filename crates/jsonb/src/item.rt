@@ -11,7 +11,7 @@ ghost use Rattle.jsonb.specs.Item.{item_in, item_of, scalar_item, text_item, num
 ghost use Rattle.jsonb.specs.Item.{extension_item};
 ghost use Rattle.jsonb.specs.Entries.{entry_of};
 ghost use Rattle.jsonb.specs.Code.{item_document, CanBeStored};
-ghost use Rattle.jsonb.specs.Walked.{IsItemIn};
+ghost use Rattle.jsonb.specs.DocumentWalk.{IsItemIn};
 ghost use Rattle.jsonb.specs.Views.{kind_of_view, raw_in, text_in};
 
 use crate::entries::{Entries, Entry};

@@ -4,13 +4,14 @@ ghost use Rattle.std.specs.Prelude.{◌≡◌, ℕ, List, [], length, IfOk, IfEr
 ghost use Rattle.std.specs.Iterator.{YieldsFirstBy, MakesProgress, item_count};
 ghost use Rattle.jsonb.specs.Raw.{raw_bytes};
 ghost use Rattle.jsonb.specs.ItemView.{ItemView, result_view, pair_view};
-ghost use Rattle.jsonb.specs.Entries.{entry_of, shown_entry};
+ghost use Rattle.jsonb.specs.Entries.{entry_of, entry_view};
 ghost use Rattle.jsonb.specs.Walk.{Walk, item_read, key_of, pair_read, items_in, pairs_in};
 ghost use Rattle.jsonb.specs.Walk.{array_walk, keys_walk, values_walk, pairs_walk, IsBounded};
 ghost use Rattle.jsonb_value.specs.Tree.{Tree};
 ghost use Rattle.jsonb_codec.specs.Doc.{Doc};
-ghost use Rattle.jsonb.specs.Walked.{WalksArray, WalksKeys, WalksValues, WalksPairs, WalksItems};
-ghost use Rattle.jsonb.specs.Walked.{WalksValueItems, WalksMembers};
+ghost use Rattle.jsonb.specs.DocumentWalk.{WalksArray, WalksKeys, WalksValues, WalksPairs};
+ghost use Rattle.jsonb.specs.DocumentWalk.{WalksItems};
+ghost use Rattle.jsonb.specs.DocumentWalk.{WalksValueItems, WalksMembers};
 
 use crate::entries::{Cursor, Entry, count_under};
 use crate::item::{JsonbItem, item_of_entry};
@@ -22,7 +23,7 @@ use std::str;
 
 // The item of what was read as an entry.
 fn item_read<'a>(entry: Result<Entry<'a>, Error>) -> Result<JsonbItem<'a>, Error>
-    ensures { result_view result ≡ item_read (shown_entry entry.entry) }
+    ensures { result_view result ≡ item_read (entry_view entry.entry) }
 {
     item_of_entry(entry?)
 }
@@ -296,7 +297,7 @@ fn pair_read<'a>(
     key: Result<Entry<'a>, Error>,
     value: Result<Entry<'a>, Error>,
 ) -> Result<(&'a str, JsonbItem<'a>), Error>
-    ensures { pair_view result ≡ pair_read (shown_entry key.entry, shown_entry value.entry) }
+    ensures { pair_view result ≡ pair_read (entry_view key.entry, entry_view value.entry) }
 {
     Ok((key_of_entry(key?)?, item_read(value)?))
 }

@@ -82,7 +82,7 @@ struct Accepted {
 
 // Asks about the keys of the name's length, in order, until one is accepted.
 #[tactic(auto, using(crate::proofs::PartLaws::length_before_bound, crate::proofs::PartLaws::part_fits))]
-fn accepted_key<F: Fn(&[u8], &[u8]) -> bool>(
+fn matching_key<F: Fn(&[u8], &[u8]) -> bool>(
     bytes: &[u8],
     count: usize,
     name: &[u8],
@@ -181,7 +181,7 @@ pub fn find_value<'a, F: Fn(&[u8], &[u8]) -> bool>(
     ensures whole { HasParts bytes.now count → IsOk result }
     ensures refused { IfErr result IsRefusal }
 {
-    let Some(key) = accepted_key(bytes, count, name.as_bytes(), eq_func, reads)? else {
+    let Some(key) = matching_key(bytes, count, name.as_bytes(), eq_func, reads)? else {
         return Ok(None);
     };
     let wanted = count + key.pair;

@@ -4,7 +4,7 @@ ghost use Rattle.std.specs.Prelude.{◌≡◌, List, length, Result, IfSome, sli
 ghost use Rattle.std.specs.Iterator.{YieldsFirstBy, MakesProgress, item_count};
 ghost use Rattle.jsonb_value.specs.declared.error.Error.{Error};
 ghost use Rattle.jsonb.specs.Item.{Entry};
-ghost use Rattle.jsonb.specs.Known.{AreParts, AreMembers, trees_left, pairs_left};
+ghost use Rattle.jsonb.specs.Facts.{AreParts, AreMembers, rest_trees, rest_pairs};
 ghost use Rattle.jsonb.specs.Node.{node_tree, member_tree, HoldsNoScalar};
 
 use crate::document::Node;
@@ -36,14 +36,14 @@ impl<'a> Items<'a> {
 
     /// How many items are left.
     pub fn len(&self) -> usize
-        ensures { result ≡ length (trees_left self.now) }
+        ensures { result ≡ length (rest_trees self.now) }
     {
         self.entries.len()
     }
 
     // The item at an index of what is left. `None` where there are no more than so many.
     pub(crate) fn item_at(self, index: usize) -> Option<Node<'a>>
-        ensures { option_map node_tree result ≡ slice_get (trees_left self.entry) index }
+        ensures { option_map node_tree result ≡ slice_get (rest_trees self.entry) index }
     {
         let Items { mut entries } = self;
         for _ in 0..index {
@@ -57,15 +57,15 @@ impl<'a> Items<'a> {
 impl<'a> Iterator for Items<'a> {
     type Item = Node<'a>;
 
-    ghost next_gives = { YieldsFirstBy node_tree trees_left };
+    ghost next_gives = { YieldsFirstBy node_tree rest_trees };
 
-    ghost remaining = { item_count trees_left };
+    ghost remaining = { item_count rest_trees };
 
     #[inline(always)]
     fn next(&mut self) -> Option<Node<'a>>
-        ensures steps { YieldsFirstBy node_tree trees_left self.old result self.new }
+        ensures steps { YieldsFirstBy node_tree rest_trees self.old result self.new }
         ensures goes { MakesProgress
-            (λ _. Unit {0}) (item_count trees_left) self.old result self.new }
+            (λ _. Unit {0}) (item_count rest_trees) self.old result self.new }
         ensures container { IfSome result (HoldsNoScalar) }
     {
         let part = self.entries.next_part()?;
@@ -99,7 +99,7 @@ impl<'a> Members<'a> {
 
     /// How many members are left.
     pub fn len(&self) -> usize
-        ensures { result ≡ length (pairs_left self.now) }
+        ensures { result ≡ length (rest_pairs self.now) }
     {
         self.keys.len()
     }
@@ -108,15 +108,15 @@ impl<'a> Members<'a> {
 impl<'a> Iterator for Members<'a> {
     type Item = (&'a str, Node<'a>);
 
-    ghost next_gives = { YieldsFirstBy member_tree pairs_left };
+    ghost next_gives = { YieldsFirstBy member_tree rest_pairs };
 
-    ghost remaining = { item_count pairs_left };
+    ghost remaining = { item_count rest_pairs };
 
     #[inline(always)]
     fn next(&mut self) -> Option<(&'a str, Node<'a>)>
-        ensures steps { YieldsFirstBy member_tree pairs_left self.old result self.new }
+        ensures steps { YieldsFirstBy member_tree rest_pairs self.old result self.new }
         ensures goes { MakesProgress
-            (λ _. Unit {0}) (item_count pairs_left) self.old result self.new }
+            (λ _. Unit {0}) (item_count rest_pairs) self.old result self.new }
         ensures container { IfSome result (λ member. HoldsNoScalar member.1) }
     {
         let key = self.keys.next_part()?;

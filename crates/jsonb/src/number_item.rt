@@ -11,8 +11,8 @@ use jsonb_value::{Error, Number};
 #[derive(Clone, Copy, Debug)]
 pub struct NumberItem<'a> {
     number: Number,
-    given: Option<&'a [u8]>,
-    ghost means: { ForSome given (λ bytes. number_in bytes.now ≡ Some number) },
+    payload: Option<&'a [u8]>,
+    ghost means: { ForSome payload (λ bytes. number_in bytes.now ≡ Some number) },
 }
 
 impl<'a> NumberItem<'a> {
@@ -21,32 +21,32 @@ impl<'a> NumberItem<'a> {
     ghost use Rattle.jsonb_value.specs.NumCode.{NumCode};
     ghost use Rattle.jsonb.specs.ItemValues.{number_source, number_of_item};
     ghost use Rattle.jsonb.specs.ItemView.{number};
-    ghost use Rattle.jsonb.specs.Stored.{IsHeld};
-    ghost use Rattle.jsonb.specs.Code.{stored_number, payload_bytes};
+    ghost use Rattle.jsonb.specs.Storage.{IsHeld};
+    ghost use Rattle.jsonb.specs.Code.{number_bytes, payload_bytes};
 
     /// The number that these bytes mean as a payload, held as these bytes. `InvalidJsonbNumber`
     /// where they mean none.
     pub fn from_bytes(bytes: &'a [u8]) -> Result<NumberItem<'a>, Error>
         ensures ok { IfOk result (λ item. NumCode bytes.entry.now (number_of_item item)) }
-        ensures given { IfOk result (λ item. number_source item ≡ Some bytes.entry.now) }
+        ensures source { IfOk result (λ item. number_source item ≡ Some bytes.entry.now) }
         ensures none { OnErr result ((x : Number) → NumCode bytes.entry.now x → ⊥) }
         ensures err { IfErr result (λ e. e ≡ Error.InvalidJsonbNumber) }
     {
         let number = Number::decode(bytes)?;
         Ok(NumberItem {
             number,
-            given: Some(bytes),
+            payload: Some(bytes),
         })
     }
 
     /// This number, by value.
     pub fn from_number(number: Number) -> NumberItem<'a>
         ensures number { number_of_item result ≡ number }
-        ensures given { number_source result ≡ None }
+        ensures source { number_source result ≡ None }
     {
         NumberItem {
             number,
-            given: None,
+            payload: None,
         }
     }
 
@@ -60,10 +60,10 @@ impl<'a> NumberItem<'a> {
     /// The payload to store: the bytes as they were given, else those that are written.
     pub(crate) fn payload(&self) -> Payload<'a>
         ensures bytes { payload_bytes result
-            ≡ stored_number (number_source self.now) (number_of_item self.now) }
+            ≡ number_bytes (number_source self.now) (number_of_item self.now) }
         ensures held { IsHeld (number (number_source self.now) (number_of_item self.now)) }
     {
-        match self.given {
+        match self.payload {
             Some(bytes) => Payload::Bytes(bytes),
             None => Payload::Number(self.as_number()),
         }

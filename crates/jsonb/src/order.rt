@@ -10,7 +10,7 @@ ghost use Rattle.jsonb_value.specs.TreeOrder.{tree_cmp};
 ghost use Rattle.jsonb_codec.specs.Doc.{Doc, IsDocument};
 ghost use Rattle.jsonb.specs.Code.{Means};
 ghost use Rattle.jsonb.specs.Kind.{kind, rank_order};
-ghost use Rattle.jsonb.specs.Meant.{meaning_of, view_meaning, item_meaning};
+ghost use Rattle.jsonb.specs.ItemMeaning.{meaning_of, view_meaning, item_meaning};
 ghost use Rattle.jsonb.specs.Raw.{raw_bytes};
 ghost use Rattle.jsonb.specs.ItemView.{ItemView, item_view};
 ghost use Rattle.jsonb.specs.Node.{node_tree, HoldsNoScalar};

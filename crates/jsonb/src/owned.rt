@@ -9,7 +9,7 @@ use crate::code::{Code, item_code, scalar_document};
 use crate::document::Document;
 use crate::item::JsonbItem;
 use crate::raw::RawJsonb;
-use crate::text::write_shown;
+use crate::text::write_view;
 use jsonb_codec::Encoder;
 use jsonb_value::{Error, parse_value};
 use std::alloc::Global;
@@ -89,7 +89,7 @@ impl OwnedJsonb {
 
     /// The bytes as a document, checked once. `None` where they are none.
     pub fn as_document(&self) -> Option<Document<'_>>
-        ensures known { IsSome result ↔ IsDocument (owned_bytes self.now) }
+        ensures exact { IsSome result ↔ IsDocument (owned_bytes self.now) }
         ensures bytes { IfSome result (λ d. document_bytes d ≡ owned_bytes self.now) }
     {
         Document::new(self.as_bytes())
@@ -173,7 +173,7 @@ impl fmt::Display for OwnedJsonb {
     ghost styled_output = { λ owned _. Some (display_text (owned_bytes owned)) };
 
     fn fmt<W: fmt::Write>(&self, f: &mut fmt::Formatter<W>) -> fmt::Result {
-        write_shown(self.as_bytes(), f)
+        write_view(self.as_bytes(), f)
     }
 }
 

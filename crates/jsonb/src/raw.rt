@@ -6,7 +6,7 @@ use crate::item_type::{JsonbItemType, kind_of};
 use crate::lookup::{MAX_READS, count_pairs, find_value};
 use crate::owned::OwnedJsonb;
 use crate::reads::Reads;
-use crate::text::{write_pretty, write_shown, written};
+use crate::text::{text_of_document, write_pretty, write_view};
 use jsonb_codec::{append_canonical, value_of};
 use jsonb_value::{Error, Value};
 use std::alloc::Global;
@@ -42,8 +42,8 @@ impl<'a> RawJsonb<'a> {
     ghost use Rattle.jsonb.specs.Document.{document_bytes, document_tree};
     ghost use Rattle.jsonb.specs.Kind.{kind, kind_of_tree};
     ghost use Rattle.jsonb.specs.Lookup.{header_count, IsRefusal, LooksUp, LooksUpIn, LooksUpBytes};
-    ghost use Rattle.jsonb.specs.Lookup.{LooksUpInBytes, found_view, find, AnswersBy, IsItemFound};
-    ghost use Rattle.jsonb.specs.Meant.{raw_meaning};
+    ghost use Rattle.jsonb.specs.Lookup.{LooksUpInBytes, value_view, find, AnswersBy, IsItemFound};
+    ghost use Rattle.jsonb.specs.ItemMeaning.{raw_meaning};
     ghost use Rattle.jsonb.specs.Owned.{owned_bytes};
     ghost use Rattle.jsonb.specs.Raw.{raw_bytes};
     ghost use Rattle.jsonb.specs.ItemView.{item_view};
@@ -121,7 +121,7 @@ impl<'a> RawJsonb<'a> {
 
     /// The bytes as a document, checked once. `None` where they are none.
     pub fn as_document(&self) -> Option<Document<'a>>
-        ensures known { IsSome result ↔ IsDocument (raw_bytes self.now) }
+        ensures exact { IsSome result ↔ IsDocument (raw_bytes self.now) }
         ensures bytes { IfSome result (λ d. document_bytes d ≡ raw_bytes self.now) }
         ensures tree { (t : Tree) → Doc (raw_bytes self.now) t
             → IfSome result (λ d. document_tree d ≡ t) }
@@ -181,7 +181,7 @@ impl<'a> RawJsonb<'a> {
 
         // On any bytes, by the closure's own contract: which answer, and which error.
         ensures bytes { LooksUpBytes (λ key b. FnReturnsAtPair F.Fn eq_func name.now key b)
-            (length name.now) (raw_bytes self.now) (found_view result) (reads.new - reads.old) }
+            (length name.now) (raw_bytes self.now) (value_view result) (reads.new - reads.old) }
 
         // On a document an answer, by the trees and the entries that stand there.
         ensures document { (t : Tree) → Doc (raw_bytes self.now) t
@@ -220,7 +220,7 @@ impl<'a> RawJsonb<'a> {
 
         // On any bytes, by the closure's own contract: which answer, and which error.
         ensures bytes { LooksUpInBytes (λ key b. FnReturnsAtPair F.Fn eq_func name.now key b)
-            (length name.now) (raw_bytes self.now) (found_view result) }
+            (length name.now) (raw_bytes self.now) (value_view result) }
 
         // On a document an answer, by the trees and the entries that stand there;
         ensures document { (t : Tree) → Doc (raw_bytes self.now) t
@@ -254,7 +254,7 @@ impl<'a> RawJsonb<'a> {
     /// The text of a document without extension values is read back by `parse` as an equal
     /// document. A text without a zero byte of at most 4,294,967,296 bytes comes back unchanged.
     pub fn to_string(&self, alloc: Global) -> Result<String, Error>
-        ensures shown { IfOk result
+        ensures display { IfOk result
             (λ text. string_bytes text ≡ display_text (raw_bytes self.now)) }
         ensures document { (t : Tree) → Doc (raw_bytes self.now) t
             → IfOk result (λ text. string_bytes text ≡ compact t) }
@@ -270,8 +270,8 @@ impl<'a> RawJsonb<'a> {
         // The text is about as long as the bytes.
         let text = String::with_capacity(alloc, self.len())?;
         let mut f = fmt::Formatter::new(text);
-        let answer = write_shown(self.as_bytes(), &mut f);
-        written(answer, f)
+        let answer = write_view(self.as_bytes(), &mut f);
+        text_of_document(answer, f)
     }
 
     /// The text of a document with each item or pair on a line of its own, indented by two spaces
@@ -279,7 +279,7 @@ impl<'a> RawJsonb<'a> {
     /// refused. The text of a document without extension values is read back by `parse` as an
     /// equal document.
     pub fn to_pretty_string(&self, alloc: Global) -> Result<String, Error>
-        ensures shown { IfOk result
+        ensures display { IfOk result
             (λ text. string_bytes text ≡ pretty_display_text (raw_bytes self.now)) }
         ensures document { (t : Tree) → Doc (raw_bytes self.now) t
             → IfOk result (λ text. string_bytes text ≡ pretty t) }
@@ -291,7 +291,7 @@ impl<'a> RawJsonb<'a> {
     {
         let mut f = fmt::Formatter::new(String::new(alloc));
         let answer = write_pretty(self.as_bytes(), &mut f);
-        written(answer, f)
+        text_of_document(answer, f)
     }
 
     /// Whether the bytes are the one document that is written for some tree.

@@ -8,7 +8,7 @@ use crate::document::Document;
 #[derive(Clone, Copy, Debug)]
 pub struct OtherBytes<'a> {
     bytes: &'a [u8],
-    ghost known: { IsDocument bytes.now → ⊥ },
+    ghost fact: { IsDocument bytes.now → ⊥ },
 }
 
 /// Any bytes, with what one check has told of them. A key is ordered as a `RawJsonb` of its bytes
@@ -35,7 +35,7 @@ impl<'a> OtherBytes<'a> {
 
 impl<'a> SortKey<'a> {
     ghost use Rattle.std.specs.Prelude.{◌≡◌};
-    ghost use Rattle.jsonb.specs.Meant.{meaning_of};
+    ghost use Rattle.jsonb.specs.ItemMeaning.{meaning_of};
     ghost use Rattle.jsonb.specs.SortKey.{key_bytes, key_meaning};
 
     /// The key of these bytes.

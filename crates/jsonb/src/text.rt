@@ -11,7 +11,7 @@ ghost use Rattle.jsonb_value.specs.Text.{quoted_text, extension_text};
 ghost use Rattle.jsonb_codec.specs.Depth.{depth};
 ghost use Rattle.jsonb_codec.specs.Doc.{Doc};
 ghost use Rattle.jsonb.specs.Document.{document_tree};
-ghost use Rattle.jsonb.specs.Known.{trees_left, pairs_left};
+ghost use Rattle.jsonb.specs.Facts.{rest_trees, rest_pairs};
 ghost use Rattle.jsonb.specs.Node.{node_tree, array_of, object_of, IsContainer, HoldsNoScalar};
 ghost use Rattle.jsonb.specs.Texts.{layout_of, lossy_text, other_text, display_text};
 ghost use Rattle.jsonb.specs.Texts.{pretty_display_text};
@@ -32,7 +32,7 @@ pub fn text_laws()
 {}
 
 /// What a `String` was given. It refuses only for want of memory.
-pub fn written(answer: fmt::Result, f: fmt::Formatter<String>) -> Result<String, Error>
+pub fn text_of_document(answer: fmt::Result, f: fmt::Formatter<String>) -> Result<String, Error>
     ensures ok { OnOk result (IsOk answer) }
     ensures text { IfOk result (λ text. text ≡ formatter_writer f) }
     ensures memory { IfErr result (λ e. e ≡ Error.OutOfMemory) }
@@ -88,7 +88,7 @@ impl Layout {
 }
 
 /// The text of any bytes.
-pub fn write_shown<W: fmt::Write>(bytes: &[u8], f: &mut fmt::Formatter<W>) -> fmt::Result
+pub fn write_view<W: fmt::Write>(bytes: &[u8], f: &mut fmt::Formatter<W>) -> fmt::Result
     ensures text { WritesStyledOnOk W.write_str_gives f.old result (display_text bytes.now) f.new }
     ensures tree { (t : Tree) → Doc bytes.now t → IsTree t }
 {
@@ -132,7 +132,7 @@ pub fn document_text(alloc: Global, document: Document, layout: Layout) -> Resul
     let text = String::with_capacity(alloc, document.as_bytes().len())?;
     let mut f = fmt::Formatter::new(text);
     let answer = write_document(document, layout, &mut f);
-    written(answer, f)
+    text_of_document(answer, f)
 }
 
 /// Writes the text of a document.
@@ -167,7 +167,7 @@ fn write_node<W: fmt::Write>(
         Node::Boolean(false) => f.write_str("false"),
         Node::Number(number) => write_number(&number, f),
         Node::String(text) => write_string(text, f),
-        Node::Extension(value) => write_quoted(&value, f),
+        Node::Extension(value) => write_quotes(&value, f),
         Node::Container(document) => write_container(document, layout, f),
     }
 }
@@ -196,9 +196,9 @@ fn write_items<W: fmt::Write>(
     layout: Layout,
     f: &mut fmt::Formatter<W>,
 ) -> fmt::Result
-    requires room { HasRoom (layout_of layout) (depth (array_of (trees_left items))) }
+    requires room { HasRoom (layout_of layout) (depth (array_of (rest_trees items))) }
     ensures { WritesStyledOnOk W.write_str_gives f.old result
-        (laid_out (layout_of layout) (array_of (trees_left items.entry))) f.new }
+        (laid_out (layout_of layout) (array_of (rest_trees items.entry))) f.new }
 {
     let Some(first) = items.next() else {
         return f.write_str("[]");
@@ -238,9 +238,9 @@ fn write_members<W: fmt::Write>(
     layout: Layout,
     f: &mut fmt::Formatter<W>,
 ) -> fmt::Result
-    requires room { HasRoom (layout_of layout) (depth (object_of (pairs_left members))) }
+    requires room { HasRoom (layout_of layout) (depth (object_of (rest_pairs members))) }
     ensures { WritesStyledOnOk W.write_str_gives f.old result
-        (laid_out (layout_of layout) (object_of (pairs_left members.entry))) f.new }
+        (laid_out (layout_of layout) (object_of (rest_pairs members.entry))) f.new }
 {
     let Some((key, value)) = members.next() else {
         return f.write_str("{}");
@@ -276,7 +276,7 @@ fn write_member<W: fmt::Write>(
 }
 
 #[tactic(auto, using(jsonb_value::proofs::Writing::joins))]
-fn write_quoted<W: fmt::Write>(value: &ExtensionValue, f: &mut fmt::Formatter<W>) -> fmt::Result
+fn write_quotes<W: fmt::Write>(value: &ExtensionValue, f: &mut fmt::Formatter<W>) -> fmt::Result
     ensures { WritesStyledOnOk W.write_str_gives f.old result
         (quoted_text (extension_text (extension_of value.now))) f.new }
 {

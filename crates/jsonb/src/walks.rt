@@ -4,9 +4,10 @@ ghost use Rattle.std.specs.Prelude.{◌≡◌, IfOk, IfErr, option_map};
 ghost use Rattle.jsonb_value.specs.Tree.{Tree};
 ghost use Rattle.jsonb_codec.specs.Doc.{Doc};
 ghost use Rattle.jsonb.specs.Raw.{raw_bytes};
-ghost use Rattle.jsonb.specs.Asked.{walked_items, walked_pairs};
-ghost use Rattle.jsonb.specs.Walked.{WalksArray, WalksKeys, WalksValues, WalksPairs, WalksItems};
-ghost use Rattle.jsonb.specs.Walked.{WalksValueItems, WalksMembers};
+ghost use Rattle.jsonb.specs.Question.{walk_of_items, walk_of_pairs};
+ghost use Rattle.jsonb.specs.DocumentWalk.{WalksArray, WalksKeys, WalksValues, WalksPairs};
+ghost use Rattle.jsonb.specs.DocumentWalk.{WalksItems};
+ghost use Rattle.jsonb.specs.DocumentWalk.{WalksValueItems, WalksMembers};
 
 use crate::item::JsonbItem;
 use crate::iterator::{ArrayIterator, ObjectIterator, ObjectKeyIterator, ObjectValueIterator};
@@ -20,10 +21,10 @@ pub fn array_items<'a>(
     raw: RawJsonb<'a>,
 ) -> Result<Option<Vec<JsonbItem<'a>>>, Error>
     ensures all { (t : Tree) → Doc (raw_bytes raw.entry) t
-        → IfOk result (λ o. WalksArray t (walked_items (option_map (λ xs. xs.items) o))) }
+        → IfOk result (λ o. WalksArray t (walk_of_items (option_map (λ xs. xs.items) o))) }
     ensures entries { (t : Tree) → Doc (raw_bytes raw.entry) t
         → IfOk result (λ o. WalksItems (raw_bytes raw.entry) t
-        (walked_items (option_map (λ xs. xs.items) o))) }
+        (walk_of_items (option_map (λ xs. xs.items) o))) }
     ensures memory { (t : Tree) → Doc (raw_bytes raw.entry) t
         → IfErr result (λ e. e ≡ Error.OutOfMemory) }
 {
@@ -43,7 +44,7 @@ pub fn object_keys<'a>(
     raw: RawJsonb<'a>,
 ) -> Result<Option<Vec<JsonbItem<'a>>>, Error>
     ensures all { (t : Tree) → Doc (raw_bytes raw.entry) t
-        → IfOk result (λ o. WalksKeys t (walked_items (option_map (λ xs. xs.items) o))) }
+        → IfOk result (λ o. WalksKeys t (walk_of_items (option_map (λ xs. xs.items) o))) }
     ensures memory { (t : Tree) → Doc (raw_bytes raw.entry) t
         → IfErr result (λ e. e ≡ Error.OutOfMemory) }
 {
@@ -63,10 +64,10 @@ pub fn object_values<'a>(
     raw: RawJsonb<'a>,
 ) -> Result<Option<Vec<JsonbItem<'a>>>, Error>
     ensures all { (t : Tree) → Doc (raw_bytes raw.entry) t
-        → IfOk result (λ o. WalksValues t (walked_items (option_map (λ xs. xs.items) o))) }
+        → IfOk result (λ o. WalksValues t (walk_of_items (option_map (λ xs. xs.items) o))) }
     ensures entries { (t : Tree) → Doc (raw_bytes raw.entry) t
         → IfOk result (λ o. WalksValueItems (raw_bytes raw.entry) t
-        (walked_items (option_map (λ xs. xs.items) o))) }
+        (walk_of_items (option_map (λ xs. xs.items) o))) }
     ensures memory { (t : Tree) → Doc (raw_bytes raw.entry) t
         → IfErr result (λ e. e ≡ Error.OutOfMemory) }
 {
@@ -86,10 +87,10 @@ pub fn object_pairs<'a>(
     raw: RawJsonb<'a>,
 ) -> Result<Option<Vec<(&'a str, JsonbItem<'a>)>>, Error>
     ensures all { (t : Tree) → Doc (raw_bytes raw.entry) t
-        → IfOk result (λ o. WalksPairs t (walked_pairs (option_map (λ xs. xs.items) o))) }
+        → IfOk result (λ o. WalksPairs t (walk_of_pairs (option_map (λ xs. xs.items) o))) }
     ensures entries { (t : Tree) → Doc (raw_bytes raw.entry) t
         → IfOk result (λ o. WalksMembers (raw_bytes raw.entry) t
-        (walked_pairs (option_map (λ xs. xs.items) o))) }
+        (walk_of_pairs (option_map (λ xs. xs.items) o))) }
     ensures memory { (t : Tree) → Doc (raw_bytes raw.entry) t
         → IfErr result (λ e. e ≡ Error.OutOfMemory) }
 {

@@ -29,7 +29,7 @@ use Rattle.jsonb.specs.Lookup.{IsItemFound}
 use Rattle.jsonb.specs.declared.item.JsonbItem.{JsonbItem}
 use Rattle.jsonb.specs.ItemView.{ItemView, item_view, owned}
 use Rattle.jsonb.specs.Standing.{IsFoundIn}
-use Rattle.jsonb.specs.Walked.{IsItemOf}
+use Rattle.jsonb.specs.DocumentWalk.{IsItemOf}
 use Rattle.answer_lines.specs.Session as session
 use Rattle.jsonb_cli.specs.declared.answer.Answer.{Answer}
 use Rattle.jsonb_cli.specs.declared.answer.Refusal.{Refusal}
@@ -39,7 +39,7 @@ use Rattle.jsonb_cli.specs.Each.{Each}
 use Rattle.jsonb_cli.specs.AnswerLine.{ok_line, error_line, refusal_name, outcome_line}
 use Rattle.jsonb_cli.specs.Answers as answers
 use Rattle.jsonb_cli.specs.declared.run.Commands.{Commands}
-use Rattle.jsonb_cli.specs.Answers.{IsReply, IsLineReply, answered}
+use Rattle.jsonb_cli.specs.Answers.{IsReply, IsLineReply, line_rule}
 use Rattle.jsonb_cli.specs.Answers.{IsEncAnswer, no_tree, too_large, IsDecAnswer}
 use Rattle.jsonb_cli.specs.Answers.{IsPrettyAnswer, IsArrAnswer, no_array, built, IsCanonAnswer}
 use Rattle.jsonb_cli.specs.Answers.{IsGetAnswer, no_name, IsName, value_of_key, bad_hex}
@@ -213,7 +213,7 @@ arr_unbuilt words rest held e read end (inr is) unfit = inr (ap said_of is)
 pub replied : {E : Type 0} (r : Result (String Global) E) (state : Commands) (line outcome : List ℕ)
     → IsLineReply line outcome → IfOk r (λ text. string_bytes text ≡ outcome ++ 10 ∷ [])
     → IfOk r (λ text. (reply : List ℕ)
-    × (session.IsReply answered state line reply state × (string_bytes text ≡ reply ++ 10 ∷ [])))
+    × (session.IsReply line_rule state line reply state × (string_bytes text ≡ reply ++ 10 ∷ [])))
 replied (Ok text) state line outcome (inl answer) is = (outcome, (inl answer, is))
 replied (Ok text) state line outcome (inr refused) is = (outcome, (inr (refused, refl), is))
 replied (Err e) state line outcome reply is = tt

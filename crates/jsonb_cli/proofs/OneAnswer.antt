@@ -14,17 +14,17 @@ use Rattle.jsonb_codec.specs.Doc.{Doc, IsDocument}
 use Rattle.jsonb_codec.proofs.Unique.{Doc-unique}
 use Rattle.jsonb.specs.Building.{FitArray, IsArrayOf}
 use Rattle.jsonb.specs.Kind.{kind}
-use Rattle.jsonb.specs.Meant.{meaning_of}
+use Rattle.jsonb.specs.ItemMeaning.{meaning_of}
 use Rattle.jsonb.specs.Code.{item_document}
 use Rattle.jsonb.specs.ItemView.{ItemView, owned}
 use Rattle.jsonb.specs.Standing.{IsFoundIn}
-use Rattle.jsonb.proofs.BuiltLaws.{array_of-IsArrayOf}
+use Rattle.jsonb.proofs.ResultLaws.{array_of-IsArrayOf}
 use Rattle.jsonb.proofs.StandingLaws.{IsFoundIn-one}
 use Rattle.jsonb_cli.specs.AnswerLine.{ok_line}
 use Rattle.jsonb_cli.specs.Answers as answers
 use Rattle.answer_lines.specs.Session.{AreAnswers}
 use Rattle.answer_lines.proofs.OneOutput as session
-use Rattle.jsonb_cli.specs.Answers.{answered, commands, IsHexOf, IsName}
+use Rattle.jsonb_cli.specs.Answers.{line_rule, commands, IsHexOf, IsName}
 use Rattle.jsonb_cli.specs.Answers.{order_words, kind_line, value_of_key, IsEncAnswer, IsDecAnswer}
 use Rattle.jsonb_cli.specs.Answers.{IsPrettyAnswer, IsTypeAnswer, IsGetAnswer, IsCmpAnswer}
 use Rattle.jsonb_cli.specs.Answers.{IsArrAnswer, IsCanonAnswer, IsFormAnswer, IsAnswer}
@@ -333,7 +333,7 @@ one_answer line a b (of_none cannot is) (of_none also then) = is ∙ sym then
 
 -- ---- an input
 
-pub one_output : (input a b : List ℕ) → AreAnswers answered commands input a
-    → AreAnswers answered commands input b → a ≡ b
-one_output = session.one_output answered
+pub one_output : (input a b : List ℕ) → AreAnswers line_rule commands input a
+    → AreAnswers line_rule commands input b → a ≡ b
+one_output = session.one_output line_rule
     (λ state x y line a b first second given also. (one_answer line a b first second, refl)) commands

@@ -22,10 +22,10 @@ use Rattle.jsonb.specs.Building.{FitArray, IsArrayOf}
 use Rattle.jsonb.specs.Code.{item_document}
 use Rattle.jsonb.specs.Kind.{kind}
 use Rattle.jsonb.specs.Lookup.{find}
-use Rattle.jsonb.specs.Meant.{meaning_of}
+use Rattle.jsonb.specs.ItemMeaning.{meaning_of}
 use Rattle.jsonb.specs.ItemView.{ItemView, owned}
 use Rattle.jsonb.specs.Standing.{IsFoundIn}
-use Rattle.jsonb.specs.Walked.{IsItemOf}
+use Rattle.jsonb.specs.DocumentWalk.{IsItemOf}
 use Rattle.jsonb.specs.declared.item_type.JsonbItemType.{JsonbItemType}
 use Rattle.jsonb.specs.declared.item_type.JsonbItemType.TheVariants.{Null, Boolean, Number, String}
 use Rattle.jsonb.specs.declared.item_type.JsonbItemType.TheVariants.{Extension, Array, Object}
@@ -189,5 +189,5 @@ abbrev pub commands : Commands
 commands = record {}
 
 -- The answer to a line. What answers lines stays the same.
-abbrev pub answered : Commands → List ℕ → List ℕ → Commands → Type 0
-answered state line answer next = IsAnswer line answer
+abbrev pub line_rule : Commands → List ℕ → List ℕ → Commands → Type 0
+line_rule state line answer next = IsAnswer line answer

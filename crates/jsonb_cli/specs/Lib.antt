@@ -1,6 +1,6 @@
 pub mod Words
 pub mod Commands
-pub mod Parsed
+pub mod Grammar
 pub mod AnswerLine
 pub mod Each
 pub mod Answers

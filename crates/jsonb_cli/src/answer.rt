@@ -54,7 +54,7 @@ impl Refusal {
 }
 
 /// The line of an outcome, with its line feed.
-pub fn written_line(alloc: Global, outcome: &Result<Answer, Refusal>) -> Result<String, AllocError>
+pub fn line_text(alloc: Global, outcome: &Result<Answer, Refusal>) -> Result<String, AllocError>
     ensures { IfOk result (λ line. string_bytes line ≡ outcome_line outcome.now ++ 10 ∷ []) }
 {
     match outcome {

@@ -199,15 +199,15 @@ pub fn answer_get(alloc: Global, word: &[u8], key: &[u8]) -> Result<Answer, Refu
         Ok(name) => name,
         Err(error) => return Err(Refusal::Call(error)),
     };
-    match value_named(&bytes, &name) {
-        Ok(Some(item)) => stored_answer(alloc, item),
+    match value_of_name(&bytes, &name) {
+        Ok(Some(item)) => item_answer(alloc, item),
         Ok(None) => Ok(Answer::Word("none")),
         Err(error) => Err(Refusal::Call(error)),
     }
 }
 
 // The bytes that an item becomes.
-fn stored_answer(alloc: Global, item: JsonbItem) -> Result<Answer, Refusal>
+fn item_answer(alloc: Global, item: JsonbItem) -> Result<Answer, Refusal>
     ensures ok { OnOk result
         (outcome_line result ≡ ok_line (encode_lower (item_document (item_view item.entry)))) }
     ensures memory { CanBeStored (item_view item.entry)
@@ -254,7 +254,7 @@ fn string_of<'a>(value: Value<'a>) -> Option<CowStr<'a>>
 }
 
 // The value of the key of this name. `InvalidJsonb` where the bytes are no document.
-fn value_named<'a>(bytes: &'a [u8], name: &str) -> Result<Option<JsonbItem<'a>>, Error>
+fn value_of_name<'a>(bytes: &'a [u8], name: &str) -> Result<Option<JsonbItem<'a>>, Error>
     ensures found { (t : Tree) → Doc bytes.now t
         → IsOkAnd result (λ item. IsItemFound (find (pointwise nat_eq name.now) (length name.now) t)
         (option_map item_view item)) }

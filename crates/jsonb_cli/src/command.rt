@@ -4,7 +4,7 @@ ghost use Rattle.std.specs.Prelude.{◌≡◌, ◌⊎◌, ◌++◌, ℕ, List, c
 ghost use Rattle.std.specs.Prelude.{IsErrOf};
 ghost use Rattle.jsonb_value.specs.declared.error.Error.TheVariants.{OutOfMemory};
 ghost use Rattle.jsonb_cli.specs.Commands.{Form, IsOfForm};
-ghost use Rattle.jsonb_cli.specs.Parsed.{form_of};
+ghost use Rattle.jsonb_cli.specs.Grammar.{form_of};
 ghost use Rattle.jsonb_cli.specs.AnswerLine.{outcome_line};
 ghost use Rattle.jsonb_cli.specs.Answers.{IsAnswer, IsFormAnswer, IsReply, IsLineReply, IsHexOf};
 

@@ -4,10 +4,10 @@ ghost use Rattle.std.specs.Prelude.{◌≡◌, ℕ, List, OnOk, OnErr, IfSome, I
 ghost use Rattle.std.specs.Io.KnownBytes.{IsAtEnd};
 ghost use Rattle.answer_lines.specs.Session.{AreAnswers, AppendsReplies, AppendsBeginning};
 ghost use Rattle.answer_lines.specs.Session.{AppendsWhole};
-ghost use Rattle.jsonb_cli.specs.Answers.{answered, commands};
+ghost use Rattle.jsonb_cli.specs.Answers.{line_rule, commands};
 ghost use Rattle.jsonb_cli.specs.Fault.{fault_line};
 
-use crate::answer::written_line;
+use crate::answer::line_text;
 use crate::command;
 use answer_lines::{LineAnswerer, RunError, answer_lines};
 use std::alloc::{AllocError, Global};
@@ -29,10 +29,10 @@ pub fn fault_line(error: RunError) -> &'static str
 pub struct Commands;
 
 impl LineAnswerer for Commands {
-    ghost rule = { answered };
+    ghost rule = { line_rule };
 
     fn answer(&mut self, alloc: Global, line: &[u8]) -> Result<String, AllocError> {
-        written_line(alloc, &command::answer(alloc, line))
+        line_text(alloc, &command::answer(alloc, line))
     }
 }
 
@@ -47,19 +47,19 @@ impl LineAnswerer for Commands {
 /// took no byte. `Memory`: the room for a line or for an answer was refused.
 pub fn run<R: Read, W: Write>(alloc: Global, reader: &mut R, writer: &mut W) -> Result<(), RunError>
     ensures done { OnOk result (IfSome (R.remaining reader.old) (λ input. AppendsReplies
-        answered commands commands input (W.contents writer.old) (W.contents writer.new))) }
+        line_rule commands commands input (W.contents writer.old) (W.contents writer.new))) }
     ensures all_read { OnOk result (IsAtEnd (R.remaining reader.new)) }
-    ensures begun { OnErr result (IfSome (R.remaining reader.old) (λ input. AppendsBeginning
-        answered commands input (W.contents writer.old) (W.contents writer.new))) }
+    ensures beginning { OnErr result (IfSome (R.remaining reader.old) (λ input. AppendsBeginning
+        line_rule commands input (W.contents writer.old) (W.contents writer.new))) }
 
     // After the reader's fault exactly the whole lines that it gave are answered.
     ensures prompt { IsErrOf result RunError.Read → IfSome (R.remaining reader.old) (λ input.
-        IfSome (R.remaining reader.new) (λ left. (begun : List ℕ) × AppendsWhole answered
-        commands commands input begun left (W.contents writer.old) (W.contents writer.new))) }
+        IfSome (R.remaining reader.new) (λ left. (start : List ℕ) × AppendsWhole line_rule
+        commands commands input start left (W.contents writer.old) (W.contents writer.new))) }
 
     // Where no reply is `error OutOfMemory`, an input has one output.
-    ensures one_output { (input a b : List ℕ) → AreAnswers answered commands input a
-        → AreAnswers answered commands input b → a ≡ b }
+    ensures one_output { (input a b : List ℕ) → AreAnswers line_rule commands input a
+        → AreAnswers line_rule commands input b → a ≡ b }
 {
     answer_lines(alloc, &mut Commands, reader, writer)
 }

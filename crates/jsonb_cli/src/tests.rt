@@ -191,20 +191,20 @@ fn writes_nothing_for_no_input(rt: HostRuntime) -> Result<(), Fail> {
 #[derive(Drop)]
 struct WaitingReader<'a> {
     bytes: &'a [u8],
-    given: usize,
-    answered: &'a Cell<usize>,
+    lines: usize,
+    replies: &'a Cell<usize>,
 }
 
 impl Read for WaitingReader<'_> {
     fn read(&mut self, buf: &mut [u8]) -> io::Result<usize> {
-        if self.answered.get() != self.given {
+        if self.replies.get() != self.lines {
             return Err(io::Error::from(ErrorKind::Other));
         }
         let mut piece = self.bytes.get(..20).unwrap_or(self.bytes);
         let count = piece.read(buf)?;
         self.bytes = self.bytes.get(count..).unwrap_or(b"");
-        self.given = self
-            .given
+        self.lines = self
+            .lines
             .saturating_add(lines_in(buf.get(..count).unwrap_or(b"")));
         Ok(count)
     }
@@ -213,13 +213,13 @@ impl Read for WaitingReader<'_> {
 /// Takes all bytes, and tells how many lines they ended.
 #[derive(Drop)]
 struct CountingWriter<'a> {
-    answered: &'a Cell<usize>,
+    replies: &'a Cell<usize>,
 }
 
 impl Write for CountingWriter<'_> {
     fn write(&mut self, buf: &[u8]) -> io::Result<usize> {
-        self.answered
-            .set(self.answered.get().saturating_add(lines_in(buf)));
+        self.replies
+            .set(self.replies.get().saturating_add(lines_in(buf)));
         Ok(buf.len())
     }
 
@@ -234,17 +234,15 @@ fn lines_in(bytes: &[u8]) -> usize {
 
 #[test]
 fn answers_before_it_reads_on(rt: HostRuntime) -> Result<(), Fail> {
-    let answered = Cell::new(0);
+    let replies = Cell::new(0);
     let mut reader = WaitingReader {
         bytes: LINES.as_bytes(),
-        given: 0,
-        answered: &answered,
+        lines: 0,
+        replies: &replies,
     };
-    let mut writer = CountingWriter {
-        answered: &answered,
-    };
+    let mut writer = CountingWriter { replies: &replies };
     run(rt.alloc(), &mut reader, &mut writer)?;
-    assert_eq!(rt; answered.get(), lines_in(LINES.as_bytes()));
+    assert_eq!(rt; replies.get(), lines_in(LINES.as_bytes()));
     Ok(())
 }
 

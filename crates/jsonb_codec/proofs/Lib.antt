@@ -19,5 +19,5 @@ pub mod WellFormed
 pub mod Decision
 pub mod ZeroLaws
 pub mod Vectors
-pub mod Sorted
+pub mod SortOrder
 pub mod Building

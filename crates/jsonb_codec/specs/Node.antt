@@ -22,9 +22,9 @@ abbrev pub object_pairs : declared.Pairs → Pairs
 object_pairs (pairs.Values m) = pairs_view m.now.entries
 object_pairs (pairs.Asts s) = ast_pairs_view s.now
 
-abbrev pub left_pairs : PairsLeft → Pairs
-left_pairs (left.Values ps) = pairs_view ps
-left_pairs (left.Asts s) = ast_pairs_view s.now
+abbrev pub rest_pairs : PairsLeft → Pairs
+rest_pairs (left.Values ps) = pairs_view ps
+rest_pairs (left.Asts s) = ast_pairs_view s.now
 
 abbrev pub node_tree : Node → Tree
 node_tree nodes.Null = null

@@ -46,11 +46,11 @@ pub struct Decoder<'a> {
 }
 
 impl<'a> Decoder<'a> {
-    ghost use Rattle.jsonb_codec.specs.Decoder.{bytes_held};
+    ghost use Rattle.jsonb_codec.specs.Decoder.{input_of};
 
     /// A decoder that holds these bytes.
     pub fn new(buf: &'a [u8]) -> Decoder<'a>
-        ensures { bytes_held result ≡ buf.now }
+        ensures { input_of result ≡ buf.now }
     {
         Decoder { bytes: buf }
     }
@@ -62,15 +62,15 @@ impl<'a> Decoder<'a> {
     /// asked for: one of those that `value_of` gives, `InvalidJsonbHeader` or
     /// `InvalidJsonbJEntry`. `OutOfMemory` comes only where they are a document.
     pub fn decode(&mut self, alloc: Global) -> Result<Value<'a>, Error>
-        ensures ok { IfOk result (λ v. Doc (bytes_held self.old) (tree_of v)) }
+        ensures ok { IfOk result (λ v. Doc (input_of self.old) (tree_of v)) }
         ensures one_tree { IfOk result
-            (λ v. (t : Tree) → Doc (bytes_held self.old) t → tree_of v ≡ t) }
-        ensures spent { OnOk result (bytes_held self.new ≡ []) }
+            (λ v. (t : Tree) → Doc (input_of self.old) t → tree_of v ≡ t) }
+        ensures spent { OnOk result (input_of self.new ≡ []) }
         ensures fault { IfErr result
             (λ e. (e ≡ Error.OutOfMemory)
-            ⊎ (IsDecoderFault e × (IsDocument (bytes_held self.old) → ⊥))) }
+            ⊎ (IsDecoderFault e × (IsDocument (input_of self.old) → ⊥))) }
         ensures memory { IfErr result
-            (λ e. e ≡ Error.OutOfMemory → IsDocument (bytes_held self.old)) }
+            (λ e. e ≡ Error.OutOfMemory → IsDocument (input_of self.old)) }
         ensures kept { OnErr result (self.new ≡ self.old) }
     {
         let value = read(alloc, FaultTable::Decoder, self.bytes)?;

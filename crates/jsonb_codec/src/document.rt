@@ -94,7 +94,7 @@ pub enum FaultTable {
 
 impl FaultTable {
     // Fewer than four bytes for the header of the whole.
-    fn header_cut(self) -> Error
+    fn short_header(self) -> Error
         ensures { IsFault self result }
     {
         match self {
@@ -104,7 +104,7 @@ impl FaultTable {
     }
 
     // The same of a container inside.
-    fn inner_header_cut(self) -> Error
+    fn short_inner_header(self) -> Error
         ensures { IsFault self result }
     {
         Error::InvalidEOF
@@ -121,7 +121,7 @@ impl FaultTable {
     }
 
     // Fewer entry words than the header counts.
-    fn entries_cut(self) -> Error
+    fn short_entries(self) -> Error
         ensures { IsFault self result }
     {
         Error::InvalidEOF
@@ -160,7 +160,7 @@ impl FaultTable {
     }
 
     // Bytes behind the last payload.
-    fn left_over(self) -> Error
+    fn excess(self) -> Error
         ensures { IsFault self result }
     {
         Error::InvalidJsonb
@@ -171,7 +171,7 @@ impl FaultTable {
 #[derive(Clone, Copy, Debug)]
 pub struct DocumentBytes<'a> {
     bytes: &'a [u8],
-    ghost known: { ∥ IsDocument bytes.now ∥₁ },
+    ghost fact: { ∥ IsDocument bytes.now ∥₁ },
 }
 
 impl<'a> DocumentBytes<'a> {
@@ -186,7 +186,7 @@ impl<'a> DocumentBytes<'a> {
     /// The bytes as those of a document. `None` where they are none.
     #[inline(always)]
     pub fn new(bytes: &'a [u8]) -> Option<Self>
-        ensures known { IsSome result ↔ IsDocument bytes.entry.now }
+        ensures exact { IsSome result ↔ IsDocument bytes.entry.now }
         ensures bytes { IfSome result (λ d. bytes_of d ≡ bytes.entry.now) }
     {
         // No document nests as deep as it has bytes.
@@ -198,7 +198,7 @@ impl<'a> DocumentBytes<'a> {
     /// where they are none. What nests deeper is not looked into.
     #[inline(always)]
     pub fn within(bytes: &'a [u8], depth: usize) -> Option<Self>
-        ensures known { IsSome result ↔ IsDocumentWithin depth bytes.entry.now }
+        ensures exact { IsSome result ↔ IsDocumentWithin depth bytes.entry.now }
         ensures bytes { IfSome result (λ d. bytes_of d ≡ bytes.entry.now) }
     {
         check(FaultTable::Tree, depth, bytes).ok()
@@ -281,7 +281,7 @@ fn find_fault(faults: FaultTable, depth: usize, bytes: &[u8]) -> Result<(), Erro
     ensures { Tells faults result (IsDocumentWithin depth bytes.now) }
 {
     let Some(header) = split_header(bytes) else {
-        return Err(faults.header_cut());
+        return Err(faults.short_header());
     };
     if header.tag == SCALAR_CONTAINER_TAG {
         check_scalar(faults, header.number, header.rest)
@@ -300,7 +300,7 @@ fn check_scalar(faults: FaultTable, count: usize, body: &[u8]) -> Result<(), Err
         return Err(faults.header_kind());
     }
     let Some(entry) = split_entry(body) else {
-        return Err(faults.entries_cut());
+        return Err(faults.short_entries());
     };
     if entry.tag == CONTAINER_TAG {
         return Err(faults.entry());
@@ -308,7 +308,7 @@ fn check_scalar(faults: FaultTable, count: usize, body: &[u8]) -> Result<(), Err
     let (payload, behind) = split_payload(faults, entry.tag, entry.number, entry.rest)?;
     check_scalar_payload(faults, entry.tag, payload)?;
     if !behind.is_empty() {
-        return Err(faults.left_over());
+        return Err(faults.excess());
     }
     Ok(())
 }
@@ -322,7 +322,7 @@ fn check_container(faults: FaultTable, depth: usize, bytes: &[u8]) -> Result<(),
         return Err(Error::InvalidJsonb);
     }
     let Some(header) = split_header(bytes) else {
-        return Err(faults.inner_header_cut());
+        return Err(faults.short_inner_header());
     };
     match header.tag {
         ARRAY_CONTAINER_TAG => check_array(faults, depth - 1, header.number, header.rest),
@@ -338,7 +338,7 @@ fn check_array(faults: FaultTable, depth: usize, count: usize, body: &[u8]) -> R
     ensures { Tells faults result (HasArray depth count body.now) }
 {
     if body.len() < 4 * count {
-        return Err(faults.entries_cut());
+        return Err(faults.short_entries());
     }
     let (entries, payloads) = body.split_at(4 * count);
     check_children(faults, depth, entries, payloads)
@@ -351,7 +351,7 @@ fn check_object(faults: FaultTable, depth: usize, count: usize, body: &[u8]) -> 
     ensures { Tells faults result (HasObject depth count body.now) }
 {
     if body.len() < 8 * count {
-        return Err(faults.entries_cut());
+        return Err(faults.short_entries());
     }
     let (key_entries, behind_keys) = body.split_at(4 * count);
     let (value_entries, payloads) = behind_keys.split_at(4 * count);
@@ -386,7 +386,7 @@ fn check_children(
     if payloads_left.is_empty() {
         Ok(())
     } else {
-        Err(faults.left_over())
+        Err(faults.excess())
     }
 }
 

@@ -17,7 +17,7 @@ use jsonb_value::{ExtensionValue, Number};
 pub struct Part<'a> {
     pub tag: u32,
     pub payload: &'a [u8],
-    ghost known: { ∥ IsSomePayload tag payload.now ∥₁ },
+    ghost fact: { ∥ IsSomePayload tag payload.now ∥₁ },
 }
 
 /// Entry words and their payloads: those of an array's items, of an object's keys or of its values,
@@ -26,7 +26,7 @@ pub struct Part<'a> {
 pub struct Children<'a> {
     pub entries: &'a [u8],
     pub payloads: &'a [u8],
-    ghost known: { ∥ AreSomeChildren entries.now payloads.now ∥₁ },
+    ghost fact: { ∥ AreSomeChildren entries.now payloads.now ∥₁ },
 }
 
 /// The first child, and those behind it.
@@ -41,7 +41,7 @@ pub struct Child<'a> {
 pub struct Members<'a> {
     pub keys: Children<'a>,
     pub values: Children<'a>,
-    ghost known: { ∥ AreSomeMembers keys.entries.now keys.payloads.now
+    ghost fact: { ∥ AreSomeMembers keys.entries.now keys.payloads.now
         values.entries.now values.payloads.now ∥₁ },
 }
 

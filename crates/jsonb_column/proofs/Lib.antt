@@ -2,4 +2,4 @@ pub mod RowsLaws
 pub mod OrderLaws
 pub mod SelectLaws
 pub mod StableLaws
-pub mod StoredLaws
+pub mod StorageLaws

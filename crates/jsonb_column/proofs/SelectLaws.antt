@@ -164,13 +164,13 @@ length-concat (row ∷ rows) =
 pub member_found : (value : Option Tree) (found : Option JsonbItem) (item : JsonbItem)
     → found ≡ Some item → IsItemFound value (option_map item_view found)
     → (member : Tree) × ((value ≡ Some member) × Means (item_view item) member)
-member_found value found item is h = found_view value (item_view item)
+member_found value found item is h = value_view value (item_view item)
     (subst (λ (o : Option JsonbItem). IsItemFound value (option_map item_view o)) is h)
   where
-    found_view : (value : Option Tree) (x : ItemView) → IsItemFound value (Some x) → (member : Tree)
+    value_view : (value : Option Tree) (x : ItemView) → IsItemFound value (Some x) → (member : Tree)
         × ((value ≡ Some member) × Means x member)
-    found_view (Some member) x h = (member, (refl, h.means))
-    found_view None x h = absurd h
+    value_view (Some member) x h = (member, (refl, h.means))
+    value_view None x h = absurd h
 
 pub none_found : (value : Option Tree) (found : Option JsonbItem) → found ≡ None
     → IsItemFound value (option_map item_view found) → value ≡ None

@@ -1,4 +1,4 @@
 pub mod Rows
 pub mod Select
-pub mod Sorted
-pub mod Stored
+pub mod SortOrder
+pub mod Storage

@@ -11,12 +11,12 @@ ghost use Rattle.jsonb.specs.Document.{document_bytes, document_tree};
 ghost use Rattle.std.specs.List.{concat};
 ghost use Rattle.std.specs.Iterator.{YieldsFirstBy, item_count};
 ghost use Rattle.jsonb_column.specs.Select.{has_member, most_reads};
-ghost use Rattle.jsonb_column.specs.Stored.{AreStored, HasFaultyRow, IsCut, IsRow, stored};
+ghost use Rattle.jsonb_column.specs.Storage.{AreStored, HasFaultyRow, IsCut, IsRow, storage};
 ghost use Rattle.jsonb_column.specs.Rows.{row_in, rows_in, IsWithin, AreRows, FillBytes};
 
 use crate::place::Place;
 use crate::select::{has_member, item_of};
-use crate::stored::{append_row, split_row};
+use crate::storage::{append_row, split_row};
 use jsonb::{Document, Encoder, Error, MAX_READS, Reads, is_document, parse_value};
 use std::alloc::Global;
 use std::marker::Model;
@@ -170,8 +170,8 @@ impl Column {
     /// Appends the rows as they are stored: each behind its length in eight bytes, the most
     /// significant first. Only memory can be refused, and the bytes are then as before.
     pub fn write_to(&self, buf: &mut Vec<u8>) -> Result<(), Error>
-        ensures written { OnOk result (buf.new.items ≡ buf.old.items ++ stored self.now) }
-        ensures stored { AreStored self.now (stored self.now) }
+        ensures written { OnOk result (buf.new.items ≡ buf.old.items ++ storage self.now) }
+        ensures storage { AreStored self.now (storage self.now) }
         ensures kept { OnErr result (buf.new.items ≡ buf.old.items) }
         ensures memory { IfErr result (λ e. e ≡ Error.OutOfMemory) }
     {
@@ -189,7 +189,7 @@ impl Column {
     /// length or a row is cut. `InvalidJsonb`: behind stored rows there is one that is no document.
     /// Where the bytes store rows only memory can be refused.
     pub fn read_from(alloc: Global, bytes: &[u8]) -> Result<Column, Error>
-        ensures stored { IfOk result (λ column. AreStored column bytes.now) }
+        ensures storage { IfOk result (λ column. AreStored column bytes.now) }
         ensures same { (rows : List (List ℕ)) → AreStored rows bytes.now
             → IfOk result (λ column. column ≡ rows) }
         ensures memory { (rows : List (List ℕ)) → AreStored rows bytes.now

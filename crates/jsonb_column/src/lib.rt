@@ -6,7 +6,7 @@ mod column;
 mod place;
 mod select;
 mod sorted;
-mod stored;
+mod storage;
 
 pub use column::{Column, Rows};
 pub use sorted::Sorted;

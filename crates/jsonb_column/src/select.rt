@@ -4,7 +4,7 @@ ghost use Rattle.std.specs.Prelude.{◌≡◌, ◌+◌, ◌≤◌, IfOk, length}
 ghost use Rattle.jsonb_value.specs.Meaning.{document};
 ghost use Rattle.jsonb_value.specs.Tree.{Tree};
 ghost use Rattle.jsonb.specs.Document.{document_bytes, document_tree};
-ghost use Rattle.jsonb.specs.Meant.{item_meaning};
+ghost use Rattle.jsonb.specs.ItemMeaning.{item_meaning};
 ghost use Rattle.jsonb_column.specs.Select.{has_member, row_reads};
 
 use jsonb::{Document, JsonbItem, MAX_READS, Reads, meaning_laws};

@@ -16,17 +16,17 @@ use std::cmp::Ordering;
 #[derive(Drop)]
 pub struct Sorted<'c> {
     rows: Vec<Document<'c>>,
-    ghost ordered: { IsSorted (on document_tree tree_cmp) rows.items },
+    ghost order: { IsSorted (on document_tree tree_cmp) rows.items },
 }
 
 impl<'c> Sorted<'c> {
-    ghost use Rattle.jsonb_column.specs.Sorted.{sorted_rows, row_order, is_between, is_equal};
+    ghost use Rattle.jsonb_column.specs.SortOrder.{sorted_rows, row_order, is_between, is_equal};
 
     /// The rows of the column, sorted: equal ones stay in their order. Only memory can be refused.
     pub fn new(alloc: Global, column: &'c Column) -> Result<Self, Error>
         ensures rows { IfOk result
             (λ s. IsPermutation column.now (map document_bytes (sorted_rows s))) }
-        ensures ordered { IfOk result
+        ensures order { IfOk result
             (λ s. IsSorted (on document_tree tree_cmp) (sorted_rows s)) }
         ensures stable { IfOk result (λ s. IsStable (on tree_in tree_cmp)
             column.now (map document_bytes (sorted_rows s))) }

@@ -14,10 +14,10 @@ use Rattle.jsonb_codec.specs.Canon.{canon, Fits}
 use Rattle.jsonb.specs.declared.document.Document.{Document}
 use Rattle.jsonb.specs.Document.{document_bytes, tree_in}
 use Rattle.jsonb_column.specs.Select.{has_member}
-use Rattle.jsonb_column.specs.Sorted.{is_between}
-use Rattle.jsonb_column.specs.Stored.{AreStored}
+use Rattle.jsonb_column.specs.SortOrder.{is_between}
+use Rattle.jsonb_column.specs.Storage.{AreStored}
 use Rattle.jsonb_column.proofs.StableLaws.{filter-map}
-use Rattle.jsonb_column.proofs.StoredLaws.{one_stored, not_cut, not_faulty, cut_or_faulty}
+use Rattle.jsonb_column.proofs.StorageLaws.{one_stored, not_cut, not_faulty, cut_or_faulty}
 use Rattle.answer_lines.specs.Session.{AreAnswers, IsRefused}
 use Rattle.answer_lines.proofs.OneOutput as session
 use Rattle.jsonb_column_cli.specs.declared.answer.Refusal.{Refusal}
@@ -25,7 +25,7 @@ use Rattle.jsonb_column_cli.specs.declared.answer.Refusal.TheVariants.{BadComman
 use Rattle.jsonb_column_cli.specs.declared.answer.Refusal.TheVariants.{Call}
 use Rattle.jsonb_column_cli.specs.Commands.{Form, add, count, row, sort, find, range, save, load}
 use Rattle.jsonb_column_cli.specs.Commands.{unknown, form_in}
-use Rattle.jsonb_column_cli.specs.Answers.{Rows, Answered, IsAnswer, IsGiven, IsHexOf, IsIndex}
+use Rattle.jsonb_column_cli.specs.Answers.{Rows, AnswersLine, IsAnswer, IsGiven, IsHexOf, IsIndex}
 use Rattle.jsonb_column_cli.specs.Answers.{IsLineOutcome, IsOrderOf, IsOutcome, IsRefusal}
 use Rattle.jsonb_column_cli.specs.Answers.{RefusesBytes, RefusesText, reply_line, rows_line}
 use Rattle.jsonb_column_cli.proofs.OneOrder.{one_order}
@@ -147,10 +147,10 @@ one_reply rows x y (range low high) a b
     )
 one_reply rows x y save a b first second =
     (first.0 ∙ sym second.0, first.1 ∙ sym second.1)
-one_reply rows x y (load word) a b (bytes, (hex, (stored, is))) (more, (again, (also, then))) = (
+one_reply rows x y (load word) a b (bytes, (hex, (storage, is))) (more, (again, (also, then))) = (
   is ∙ sym then,
   one_stored more x y
-      (subst (λ (d : List ℕ). AreStored x d) (one_hex bytes more word hex again) stored) also,
+      (subst (λ (d : List ℕ). AreStored x d) (one_hex bytes more word hex again) storage) also,
 )
 one_reply rows x y unknown a b first second = absurd first
 
@@ -213,10 +213,10 @@ answered_or_refused rows x (find name value) a r (doc, (given, others)) (e, (is,
 answered_or_refused rows x (range low high) a r (from, (to, (order, (given, (limit, others)))))
     (e, (is, why)) = not_both low high from to e given limit why
 answered_or_refused rows x (load word) a r (bytes, (hex, others)) (inl bad) = bad.1 bytes hex
-answered_or_refused rows x (load word) a r (bytes, (hex, (stored, said)))
+answered_or_refused rows x (load word) a r (bytes, (hex, (storage, same)))
     (inr (e, (is, (more, (again, why))))) =
     not_stored x more e
-    (subst (λ (d : List ℕ). AreStored x d) (one_hex bytes more word hex again) stored) why
+    (subst (λ (d : List ℕ). AreStored x d) (one_hex bytes more word hex again) storage) why
 answered_or_refused rows x unknown a r answer cause = absurd answer
 answered_or_refused rows x form a r answer cause = absurd cause
 
@@ -253,16 +253,16 @@ one_line rows x y line o p (inr first) (inl second) told also = absurd (first.0 
 one_line rows x y line o p (inr first) (inr second) told also =
     (ap reply_line (first.1.0 ∙ sym second.1.0), first.1.1 ∙ sym second.1.1)
 
-one_answer : (rows x y : Rows) (line a b : List ℕ) → Answered rows line a x
-    → Answered rows line b y → (IsRefused a → ⊥) → (IsRefused b → ⊥) → (a ≡ b) × (x ≡ y)
+one_answer : (rows x y : Rows) (line a b : List ℕ) → AnswersLine rows line a x
+    → AnswersLine rows line b y → (IsRefused a → ⊥) → (IsRefused b → ⊥) → (a ≡ b) × (x ≡ y)
 one_answer rows x y line a b first second told also =
     let one = one_line rows x y line first.outcome second.outcome first.is_outcome
-    second.is_outcome (λ is. told (first.said ∙ ap reply_line is))
-    (λ is. also (second.said ∙ ap reply_line is)) in
-    (first.said ∙ one.0 ∙ sym second.said, one.1)
+    second.is_outcome (λ is. told (first.text ∙ ap reply_line is))
+    (λ is. also (second.text ∙ ap reply_line is)) in
+    (first.text ∙ one.0 ∙ sym second.text, one.1)
 
 -- ---- an input
 
-pub one_output : (input a b : List ℕ) → AreAnswers Answered [] input a
-    → AreAnswers Answered [] input b → a ≡ b
-one_output = session.one_output Answered one_answer []
+pub one_output : (input a b : List ℕ) → AreAnswers AnswersLine [] input a
+    → AreAnswers AnswersLine [] input b → a ≡ b
+one_output = session.one_output AnswersLine one_answer []

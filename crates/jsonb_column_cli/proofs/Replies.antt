@@ -16,8 +16,8 @@ use Rattle.answer_lines.specs.Session.{IsReply}
 use Rattle.jsonb_column_cli.specs.declared.answer.Refusal.{Refusal}
 use Rattle.jsonb_column_cli.specs.declared.answer.Refusal.TheVariants.{Call}
 use Rattle.jsonb_column_cli.specs.Commands.{Form}
-use Rattle.jsonb_column_cli.specs.Answers.{Rows, spoken, rows_line, said, IsAnswer, IsOutcome}
-use Rattle.jsonb_column_cli.specs.Answers.{IsRefusal, IsLineOutcome, Answered, reply_line}
+use Rattle.jsonb_column_cli.specs.Answers.{Rows, spoken, rows_line, reply_of, IsAnswer, IsOutcome}
+use Rattle.jsonb_column_cli.specs.Answers.{IsRefusal, IsLineOutcome, AnswersLine, reply_line}
 
 spoken-append : (xs ys : Rows) → spoken (xs ++ ys) ≡ spoken xs ++ spoken ys
 spoken-append [] ys = refl
@@ -43,10 +43,10 @@ rows_line-more rows i row low is =
     (λ b. spoken front ++ 32 ∷ b) (append-nil text))
 
 -- an error that a call passed on
-pub said_err : (P : Result (List ℕ) Refusal → Type 0) (r : Result (String Global) Refusal)
-    (refusal : Refusal) → IsErrAnd r (λ x. x ≡ refusal) → P (Err refusal) → P (said r)
-said_err P (Ok reply) refusal is p = absurd is
-said_err P (Err x) refusal is p = subst (λ y. P (Err y)) (sym is) p
+pub reply_of_err : (P : Result (List ℕ) Refusal → Type 0) (r : Result (String Global) Refusal)
+    (refusal : Refusal) → IsErrAnd r (λ x. x ≡ refusal) → P (Err refusal) → P (reply_of r)
+reply_of_err P (Ok reply) refusal is p = absurd is
+reply_of_err P (Err x) refusal is p = subst (λ y. P (Err y)) (sym is) p
 
 -- an error that is one of two, or that memory was refused
 pub call_errors : (P : Error → Type 0) {a b : Error} (e : Error)
@@ -64,7 +64,7 @@ if_err P (Err x) refusal is p = subst P (sym is) p
 pub shows : (rows shown : Rows) (form : Form) (r : Result (String Global) Refusal)
     → IfOk r (λ line. string_bytes line ≡ rows_line shown) → IfErr r (λ x. x ≡ Call OutOfMemory)
     → ((reply : List ℕ) → reply ≡ rows_line shown → IsAnswer rows form reply rows)
-    → IsOutcome rows form (said r) rows
+    → IsOutcome rows form (reply_of r) rows
 shows rows shown form (Ok line) ok memory answers = answers (string_bytes line) ok
 shows rows shown form (Err x) ok memory answers =
     (subst (IsRefusal rows form) (sym memory) tt, refl)
@@ -76,9 +76,9 @@ pub replied : {E : Type 0} (r : Result (String Global) E) (rows next : Rows) (li
     (outcome : Result (List ℕ) Refusal) → IsLineOutcome rows line outcome next
     → IfOk r (λ text. string_bytes text ≡ reply_line outcome ++ 10 ∷ [])
     → IfOk r (λ text. (reply : List ℕ)
-    × (IsReply Answered rows line reply next × (string_bytes text ≡ reply ++ 10 ∷ [])))
+    × (IsReply AnswersLine rows line reply next × (string_bytes text ≡ reply ++ 10 ∷ [])))
 replied (Ok text) rows next line outcome means is =
-    (reply_line outcome, (inl record { outcome = outcome; is_outcome = means; said = refl }, is))
+    (reply_line outcome, (inl record { outcome = outcome; is_outcome = means; text = refl }, is))
 replied (Err e) rows next line outcome means is = tt
 
 -- the rows that are there at the end
@@ -89,10 +89,10 @@ some_rows (Ok x) None P rows h = tt
 some_rows (Ok x) (Some input) P rows h = (rows, h)
 some_rows (Err e) known P rows h = tt
 
-pub some_begun : (known left : Option (List ℕ)) (P : List ℕ → List ℕ → List ℕ → Rows → Type 0)
-    (rows : Rows) → IfSome known (λ input. IfSome left (λ l. (begun : List ℕ) × P input l begun rows))
+pub some_start : (known left : Option (List ℕ)) (P : List ℕ → List ℕ → List ℕ → Rows → Type 0)
+    (rows : Rows) → IfSome known (λ input. IfSome left (λ l. (start : List ℕ) × P input l start rows))
     → IfSome known (λ input. IfSome left
-    (λ l. (begun : List ℕ) × ((end : Rows) × P input l begun end)))
-some_begun None left P rows h = tt
-some_begun (Some input) None P rows h = tt
-some_begun (Some input) (Some l) P rows h = (h.0, (rows, h.1))
+    (λ l. (start : List ℕ) × ((end : Rows) × P input l start end)))
+some_start None left P rows h = tt
+some_start (Some input) None P rows h = tt
+some_start (Some input) (Some l) P rows h = (h.0, (rows, h.1))

@@ -23,8 +23,8 @@ use Rattle.jsonb_codec.specs.Canon.{canon, Fits}
 use Rattle.jsonb.specs.declared.document.Document.{Document}
 use Rattle.jsonb.specs.Document.{document_bytes, document_tree, tree_in}
 use Rattle.jsonb_column.specs.Select.{has_member}
-use Rattle.jsonb_column.specs.Sorted.{is_between}
-use Rattle.jsonb_column.specs.Stored.{AreStored, HasFaultyRow, IsCut, stored}
+use Rattle.jsonb_column.specs.SortOrder.{is_between}
+use Rattle.jsonb_column.specs.Storage.{AreStored, HasFaultyRow, IsCut, storage}
 use Rattle.jsonb_column_cli.specs.declared.answer.Refusal.{Refusal}
 use Rattle.jsonb_column_cli.specs.declared.answer.Refusal.TheVariants.{BadCommand, BadHex, NoRow}
 use Rattle.jsonb_column_cli.specs.declared.answer.Refusal.TheVariants.{Call}
@@ -95,7 +95,7 @@ IsAnswer rows (range low high) reply next =
     × ((order : List Document) × (IsGiven low a × (IsGiven high b × (IsOrderOf rows order
     × ((reply ≡ rows_line (map document_bytes (filter (is_between (tree_in a) (tree_in b)) order)))
     × (next ≡ rows)))))))
-IsAnswer rows save reply next = (reply ≡ codes "ok " ++ encode_lower (stored rows)) × (next ≡ rows)
+IsAnswer rows save reply next = (reply ≡ codes "ok " ++ encode_lower (storage rows)) × (next ≡ rows)
 IsAnswer rows (load word) reply next =
     (bytes : List ℕ) × (IsHexOf bytes word × (AreStored next bytes × (reply ≡ codes "ok")))
 IsAnswer rows unknown reply next = ⊥
@@ -132,9 +132,9 @@ refusal_name NoRow = codes "NoRow"
 refusal_name (Call e) = name_of e
 
 -- the bytes of a reply
-abbrev pub said : Result (String Global) Refusal → Result (List ℕ) Refusal
-said (Ok reply) = Ok (string_bytes reply)
-said (Err refusal) = Err refusal
+abbrev pub reply_of : Result (String Global) Refusal → Result (List ℕ) Refusal
+reply_of (Ok reply) = Ok (string_bytes reply)
+reply_of (Err refusal) = Err refusal
 
 -- the line, without its line feed
 abbrev pub reply_line : Result (List ℕ) Refusal → List ℕ
@@ -142,7 +142,7 @@ reply_line (Ok reply) = reply
 reply_line (Err refusal) = codes "error " ++ refusal_name refusal
 
 -- The reply to a line on these rows, and the rows behind it.
-pub record Answered (rows : Rows) (line reply : List ℕ) (next : Rows) : Type 0 where
+pub record AnswersLine (rows : Rows) (line reply : List ℕ) (next : Rows) : Type 0 where
   pub outcome : Result (List ℕ) Refusal
   pub is_outcome : IsLineOutcome rows line outcome next
-  pub said : reply ≡ reply_line outcome
+  pub text : reply ≡ reply_line outcome

@@ -1,4 +1,4 @@
 pub mod Commands
-pub mod Parsed
+pub mod Grammar
 pub mod Answers
 pub mod Fault

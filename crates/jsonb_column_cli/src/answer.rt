@@ -9,7 +9,7 @@ ghost use Rattle.jsonb.specs.Owned.{owned_bytes};
 ghost use Rattle.jsonb_column_cli.specs.declared.answer.Refusal.TheVariants.{Call};
 ghost use Rattle.jsonb_column_cli.specs.Commands.{add, count, row, sort, find, range, save, load};
 ghost use Rattle.jsonb_column_cli.specs.Answers.{IsGiven, IsOutcome, IsRefusal, refusal_name};
-ghost use Rattle.jsonb_column_cli.specs.Answers.{reply_line, rows_line, said};
+ghost use Rattle.jsonb_column_cli.specs.Answers.{reply_line, rows_line, reply_of};
 
 use hex::FromHexError;
 use jsonb::{Document, Error, OwnedJsonb, Reads};
@@ -60,8 +60,8 @@ impl Refusal {
 }
 
 /// The line of an outcome, with its line feed.
-pub fn written_line(alloc: Global, outcome: Result<String, Refusal>) -> Result<String, AllocError>
-    ensures { IfOk result (λ line. string_bytes line ≡ reply_line (said outcome) ++ 10 ∷ []) }
+pub fn line_text(alloc: Global, outcome: Result<String, Refusal>) -> Result<String, AllocError>
+    ensures { IfOk result (λ line. string_bytes line ≡ reply_line (reply_of outcome) ++ 10 ∷ []) }
 {
     match outcome {
         Ok(mut line) => {
@@ -91,7 +91,7 @@ fn answer_rows(alloc: Global, rows: &[Document<'_>]) -> Result<String, Refusal>
 
 // The canonical document of a JSON text's tree.
 fn parse_document(alloc: Global, text: &str) -> Result<OwnedJsonb, Refusal>
-    ensures given { IfOk result (λ document. IsGiven text.now (owned_bytes document)) }
+    ensures meaning { IfOk result (λ document. IsGiven text.now (owned_bytes document)) }
     ensures document { IfOk result (λ document. IsDocument (owned_bytes document)) }
     ensures refused { IfErr result (λ refusal. IsRefusal [] (add text.now) refusal) }
 {
@@ -100,7 +100,7 @@ fn parse_document(alloc: Global, text: &str) -> Result<OwnedJsonb, Refusal>
 
 /// A row more.
 pub fn answer_add(alloc: Global, column: &mut Column, text: &str) -> Result<String, Refusal>
-    ensures { IsOutcome column.old (add text.now) (said result) column.new }
+    ensures { IsOutcome column.old (add text.now) (reply_of result) column.new }
 {
     // The answer has its room before the rows change.
     let reply = String::from_str(alloc, "ok")?;
@@ -110,7 +110,7 @@ pub fn answer_add(alloc: Global, column: &mut Column, text: &str) -> Result<Stri
 
 /// How many rows there are.
 pub fn answer_count(alloc: Global, column: &Column) -> Result<String, Refusal>
-    ensures { IsOutcome column.now count (said result) column.now }
+    ensures { IsOutcome column.now count (reply_of result) column.now }
 {
     let count = column.len();
     Ok(format!(in alloc; "ok {count}")?)
@@ -118,7 +118,7 @@ pub fn answer_count(alloc: Global, column: &Column) -> Result<String, Refusal>
 
 /// One row.
 pub fn answer_row(alloc: Global, column: &Column, index: &str) -> Result<String, Refusal>
-    ensures { IsOutcome column.now (row index.now) (said result) column.now }
+    ensures { IsOutcome column.now (row index.now) (reply_of result) column.now }
 {
     // A column has no more rows than a `usize` can count: a greater number is no index.
     let _ = column.len();
@@ -133,7 +133,7 @@ pub fn answer_row(alloc: Global, column: &Column, index: &str) -> Result<String,
 
 /// All rows in order.
 pub fn answer_sort(alloc: Global, column: &Column) -> Result<String, Refusal>
-    ensures { IsOutcome column.now sort (said result) column.now }
+    ensures { IsOutcome column.now sort (reply_of result) column.now }
 {
     let sorted = Sorted::new(alloc, column)?;
     answer_rows(alloc, sorted.rows())
@@ -146,7 +146,7 @@ pub fn answer_find(
     name: &str,
     value: &str,
 ) -> Result<String, Refusal>
-    ensures { IsOutcome column.now (find name.now value.now) (said result) column.now }
+    ensures { IsOutcome column.now (find name.now value.now) (reply_of result) column.now }
 {
     let value = parse_document(alloc, value)?;
     let value = Document::new_unchecked(value.as_bytes());
@@ -162,7 +162,7 @@ pub fn answer_range(
     low: &str,
     high: &str,
 ) -> Result<String, Refusal>
-    ensures { IsOutcome column.now (range low.now high.now) (said result) column.now }
+    ensures { IsOutcome column.now (range low.now high.now) (reply_of result) column.now }
 {
     let low = parse_document(alloc, low)?;
     let high = parse_document(alloc, high)?;
@@ -174,7 +174,7 @@ pub fn answer_range(
 
 /// The rows as they are stored, in hexadecimal.
 pub fn answer_save(alloc: Global, column: &Column) -> Result<String, Refusal>
-    ensures { IsOutcome column.now save (said result) column.now }
+    ensures { IsOutcome column.now save (reply_of result) column.now }
 {
     let mut bytes = Vec::new(alloc);
     column.write_to(&mut bytes)?;
@@ -184,7 +184,7 @@ pub fn answer_save(alloc: Global, column: &Column) -> Result<String, Refusal>
 
 /// The rows that are stored in a word, in place of those that were there.
 pub fn answer_load(alloc: Global, column: &mut Column, word: &str) -> Result<String, Refusal>
-    ensures { IsOutcome column.old (load word.now) (said result) column.new }
+    ensures { IsOutcome column.old (load word.now) (reply_of result) column.new }
 {
     // The answer has its room before the rows change.
     let reply = String::from_str(alloc, "ok")?;

@@ -2,7 +2,7 @@
 
 ghost use Rattle.std.specs.Prelude.{◌≡◌};
 ghost use Rattle.std.specs.List.{before_first, after_first};
-ghost use Rattle.jsonb_column_cli.specs.Answers.{IsLineOutcome, said};
+ghost use Rattle.jsonb_column_cli.specs.Answers.{IsLineOutcome, reply_of};
 ghost use Rattle.jsonb_column_cli.specs.Commands.{is_space, form_in};
 
 use crate::answer::{
@@ -37,8 +37,8 @@ fn split_space(text: &str) -> (&str, &str)
 }
 
 impl<'a> Command<'a> {
-    ghost use Rattle.jsonb_column_cli.specs.Answers.{IsOutcome, said};
-    ghost use Rattle.jsonb_column_cli.specs.Parsed.{form_of};
+    ghost use Rattle.jsonb_column_cli.specs.Answers.{IsOutcome, reply_of};
+    ghost use Rattle.jsonb_column_cli.specs.Grammar.{form_of};
 
     /// The command of a line.
     pub fn parse(line: &'a str) -> Command<'a>
@@ -70,7 +70,7 @@ impl<'a> Command<'a> {
 
     /// What the command answers. It changes the rows where it adds one or loads others.
     pub fn answer(self, alloc: Global, column: &mut Column) -> Result<String, Refusal>
-        ensures { IsOutcome column.old (form_of self.entry) (said result) column.new }
+        ensures { IsOutcome column.old (form_of self.entry) (reply_of result) column.new }
     {
         match self {
             Command::Add(text) => answer_add(alloc, column, text),
@@ -88,7 +88,7 @@ impl<'a> Command<'a> {
 
 /// What a line is answered: what its command answers, or that it is no text.
 pub fn answer(alloc: Global, column: &mut Column, line: &[u8]) -> Result<String, Refusal>
-    ensures { IsLineOutcome column.old line.now (said result) column.new }
+    ensures { IsLineOutcome column.old line.now (reply_of result) column.new }
 {
     match str::from_utf8(line) {
         Ok(line) => Command::parse(line).answer(alloc, column),

@@ -4,10 +4,10 @@ ghost use Rattle.std.specs.Prelude.{◌≡◌, [], List, ℕ, OnOk, OnErr, IfSom
 ghost use Rattle.std.specs.Io.KnownBytes.{IsAtEnd};
 ghost use Rattle.answer_lines.specs.Session.{AreAnswers, AppendsReplies, AppendsBeginning};
 ghost use Rattle.answer_lines.specs.Session.{AppendsWhole};
-ghost use Rattle.jsonb_column_cli.specs.Answers.{Rows, Answered};
+ghost use Rattle.jsonb_column_cli.specs.Answers.{Rows, AnswersLine};
 ghost use Rattle.jsonb_column_cli.specs.Fault.{fault_line};
 
-use crate::answer::written_line;
+use crate::answer::line_text;
 use crate::command;
 use answer_lines::{LineAnswerer, RunError, answer_lines};
 use jsonb_column::Column;
@@ -51,11 +51,11 @@ impl Commands {
 }
 
 impl LineAnswerer for Commands {
-    ghost rule = { Answered };
+    ghost rule = { AnswersLine };
 
     fn answer(&mut self, alloc: Global, line: &[u8]) -> Result<String, AllocError> {
         let outcome = command::answer(alloc, &mut self.column, line);
-        written_line(alloc, outcome)
+        line_text(alloc, outcome)
     }
 }
 
@@ -70,21 +70,21 @@ impl LineAnswerer for Commands {
 /// writer failed, or took no byte. `Memory`: the room for a line or for a reply was refused.
 pub fn run<R: Read, W: Write>(alloc: Global, reader: &mut R, writer: &mut W) -> Result<(), RunError>
     ensures done { OnOk result (IfSome (R.remaining reader.old) (λ input. (rows : Rows)
-        × AppendsReplies Answered [] rows input
+        × AppendsReplies AnswersLine [] rows input
         (W.contents writer.old) (W.contents writer.new))) }
     ensures all_read { OnOk result (IsAtEnd (R.remaining reader.new)) }
-    ensures begun { OnErr result (IfSome (R.remaining reader.old) (λ input.
-        AppendsBeginning Answered [] input (W.contents writer.old) (W.contents writer.new))) }
+    ensures beginning { OnErr result (IfSome (R.remaining reader.old) (λ input.
+        AppendsBeginning AnswersLine [] input (W.contents writer.old) (W.contents writer.new))) }
 
     // After the reader's fault exactly the whole lines that it gave are answered.
     ensures prompt { IsErrOf result RunError.Read → IfSome (R.remaining reader.old) (λ input.
-        IfSome (R.remaining reader.new) (λ left. (begun : List ℕ) × ((rows : Rows)
-        × AppendsWhole Answered [] rows input begun left
+        IfSome (R.remaining reader.new) (λ left. (start : List ℕ) × ((rows : Rows)
+        × AppendsWhole AnswersLine [] rows input start left
         (W.contents writer.old) (W.contents writer.new)))) }
 
     // Where no reply is `error OutOfMemory`, an input has one output.
-    ensures one_output { (input a b : List ℕ) → AreAnswers Answered [] input a
-        → AreAnswers Answered [] input b → a ≡ b }
+    ensures one_output { (input a b : List ℕ) → AreAnswers AnswersLine [] input a
+        → AreAnswers AnswersLine [] input b → a ≡ b }
 {
     let mut commands = Commands::new(alloc);
     answer_lines(alloc, &mut commands, reader, writer)

@@ -2,7 +2,7 @@
 //! alike.
 
 use crate::items::kind_text;
-use crate::line::{decoded, fixed};
+use crate::line::{decode_hex, plain_word};
 use crate::refusal::Refusal;
 use crate::single::document_of;
 use jsonb::{
@@ -26,10 +26,10 @@ const OTHERS: &[&[u8]] = &[
 /// The first call that a `Document` answers otherwise than a `RawJsonb`. Where there is none, what
 /// was compared: the kind, the depth, and how many children there are.
 pub fn document(alloc: Global, word: &[u8]) -> Result<String, Refusal> {
-    let bytes = decoded(alloc, word)?;
+    let bytes = decode_hex(alloc, word)?;
     let raw = RawJsonb::new(&bytes);
     if Document::new(&bytes).is_some() != raw.is_document() {
-        return fixed(alloc, "different new");
+        return plain_word(alloc, "different new");
     }
     let document = document_of(&bytes)?;
     if let Some(call) = difference(alloc, document, raw)? {

@@ -1,6 +1,6 @@
 //! Arrays and objects, put together of bytes.
 
-use crate::line::{decoded, key_of, ok_hex};
+use crate::line::{decode_hex, key_of, ok_hex};
 use crate::refusal::Refusal;
 use jsonb::{ArrayDistinctBuilder, OwnedJsonb, RawJsonb};
 use std::alloc::Global;
@@ -9,7 +9,7 @@ use std::alloc::Global;
 pub fn array_of(alloc: Global, words: &[&[u8]]) -> Result<String, Refusal> {
     let mut inputs = Vec::new(alloc);
     for word in words {
-        inputs.push(decoded(alloc, word)?)?;
+        inputs.push(decode_hex(alloc, word)?)?;
     }
     let array = OwnedJsonb::build_array(alloc, inputs.iter().map(|bytes| RawJsonb::new(bytes)))?;
     ok_hex(alloc, array.as_bytes())
@@ -42,8 +42,8 @@ fn pairs_in(alloc: Global, words: &[&[u8]]) -> Result<Vec<Pair>, Refusal> {
     for word in words {
         let (key, value) = split_pair(word)?;
         pairs.push(Pair {
-            key: decoded(alloc, key)?,
-            value: decoded(alloc, value)?,
+            key: decode_hex(alloc, key)?,
+            value: decode_hex(alloc, value)?,
         })?;
     }
     Ok(pairs)
@@ -96,8 +96,8 @@ fn steps_in(alloc: Global, words: &[&[u8]]) -> Result<Vec<Step>, Refusal> {
     let mut steps = Vec::new(alloc);
     for word in words {
         match word {
-            [b'+', rest @ ..] => steps.push(Step::Push(decoded(alloc, rest)?))?,
-            [b'-', rest @ ..] => steps.push(Step::Pop(decoded(alloc, rest)?))?,
+            [b'+', rest @ ..] => steps.push(Step::Push(decode_hex(alloc, rest)?))?,
+            [b'-', rest @ ..] => steps.push(Step::Pop(decode_hex(alloc, rest)?))?,
             _ => return Err(Refusal::BadCommand),
         }
     }

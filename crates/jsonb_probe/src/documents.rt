@@ -1,32 +1,32 @@
 //! Whole documents: the check, both readers, and the canonical form.
 
-use crate::line::{decoded, number_in, ok_hex, truth};
+use crate::line::{decode_hex, number_in, ok_hex, truth};
 use crate::refusal::Refusal;
 use jsonb::{Decoder, Encoder, RawJsonb, Value};
 use std::alloc::Global;
 
 /// Whether the bytes are a document.
 pub fn is_document(alloc: Global, word: &[u8]) -> Result<String, Refusal> {
-    let bytes = decoded(alloc, word)?;
+    let bytes = decode_hex(alloc, word)?;
     truth(alloc, RawJsonb::new(&bytes).is_document())
 }
 
 /// Whether the bytes are a document of at most that depth.
 pub fn within(alloc: Global, word: &[u8], depth: &[u8]) -> Result<String, Refusal> {
     let depth = number_in(depth)?;
-    let bytes = decoded(alloc, word)?;
+    let bytes = decode_hex(alloc, word)?;
     truth(alloc, RawJsonb::new(&bytes).is_document_within(depth))
 }
 
 /// The value that the tree reader gives, encoded again.
 pub fn value_of(alloc: Global, word: &[u8]) -> Result<String, Refusal> {
-    let bytes = decoded(alloc, word)?;
+    let bytes = decode_hex(alloc, word)?;
     value_hex(alloc, &jsonb::value_of(alloc, &bytes)?)
 }
 
 /// The value that the decoder gives, encoded again.
 pub fn decoder(alloc: Global, word: &[u8]) -> Result<String, Refusal> {
-    let bytes = decoded(alloc, word)?;
+    let bytes = decode_hex(alloc, word)?;
     value_hex(alloc, &Decoder::new(&bytes).decode(alloc)?)
 }
 
@@ -39,13 +39,13 @@ pub fn value_hex(alloc: Global, value: &Value<'_>) -> Result<String, Refusal> {
 
 /// Whether the bytes are a canonical document.
 pub fn is_canonical(alloc: Global, word: &[u8]) -> Result<String, Refusal> {
-    let bytes = decoded(alloc, word)?;
+    let bytes = decode_hex(alloc, word)?;
     truth(alloc, RawJsonb::new(&bytes).is_canonical())
 }
 
 /// The canonical document of the tree that the bytes mean.
 pub fn to_canonical(alloc: Global, word: &[u8]) -> Result<String, Refusal> {
-    let bytes = decoded(alloc, word)?;
+    let bytes = decode_hex(alloc, word)?;
     let document = RawJsonb::new(&bytes).to_canonical(alloc)?;
     ok_hex(alloc, document.as_bytes())
 }

@@ -1,13 +1,13 @@
 //! Items and their kinds.
 
-use crate::line::{decoded, fixed};
+use crate::line::{decode_hex, plain_word};
 use crate::refusal::Refusal;
 use jsonb::{JsonbItem, JsonbItemType, OwnedJsonb, RawJsonb};
 use std::alloc::Global;
 
 /// The kind that the bytes show.
 pub fn item_type(alloc: Global, word: &[u8]) -> Result<String, Refusal> {
-    let bytes = decoded(alloc, word)?;
+    let bytes = decode_hex(alloc, word)?;
     let kind = kind_text(alloc, RawJsonb::new(&bytes).jsonb_item_type()?)?;
     Ok(format!(in alloc; "ok {kind}")?)
 }
@@ -15,11 +15,11 @@ pub fn item_type(alloc: Global, word: &[u8]) -> Result<String, Refusal> {
 /// A kind, and the count of an array or object.
 pub fn kind_text(alloc: Global, kind: JsonbItemType) -> Result<String, Refusal> {
     match kind {
-        JsonbItemType::Null => fixed(alloc, "null"),
-        JsonbItemType::Boolean => fixed(alloc, "boolean"),
-        JsonbItemType::Number => fixed(alloc, "number"),
-        JsonbItemType::String => fixed(alloc, "string"),
-        JsonbItemType::Extension => fixed(alloc, "extension"),
+        JsonbItemType::Null => plain_word(alloc, "null"),
+        JsonbItemType::Boolean => plain_word(alloc, "boolean"),
+        JsonbItemType::Number => plain_word(alloc, "number"),
+        JsonbItemType::String => plain_word(alloc, "string"),
+        JsonbItemType::Extension => plain_word(alloc, "extension"),
         JsonbItemType::Array(count) => Ok(format!(in alloc; "array {count}")?),
         JsonbItemType::Object(count) => Ok(format!(in alloc; "object {count}")?),
     }
@@ -27,7 +27,7 @@ pub fn kind_text(alloc: Global, kind: JsonbItemType) -> Result<String, Refusal> 
 
 /// The item that the bytes hold.
 pub fn item(alloc: Global, word: &[u8]) -> Result<String, Refusal> {
-    let bytes = decoded(alloc, word)?;
+    let bytes = decode_hex(alloc, word)?;
     let item = JsonbItem::from_raw_jsonb(RawJsonb::new(&bytes))?;
     let text = item_text(alloc, item)?;
     Ok(format!(in alloc; "ok {text}")?)

@@ -11,7 +11,7 @@ pub fn words_of(alloc: Global, line: &[u8]) -> Result<Vec<&[u8]>, Refusal> {
 }
 
 /// The bytes of a hexadecimal word.
-pub fn decoded(alloc: Global, word: &[u8]) -> Result<Vec<u8>, Refusal> {
+pub fn decode_hex(alloc: Global, word: &[u8]) -> Result<Vec<u8>, Refusal> {
     Ok(hex::decode(alloc, word)?)
 }
 
@@ -39,11 +39,11 @@ pub fn ok_hex(alloc: Global, bytes: &[u8]) -> Result<String, Refusal> {
 }
 
 /// A fixed word.
-pub fn fixed(alloc: Global, word: &str) -> Result<String, Refusal> {
+pub fn plain_word(alloc: Global, word: &str) -> Result<String, Refusal> {
     Ok(String::from_str(alloc, word)?)
 }
 
 /// `true` or `false`.
 pub fn truth(alloc: Global, holds: bool) -> Result<String, Refusal> {
-    fixed(alloc, if holds { "true" } else { "false" })
+    plain_word(alloc, if holds { "true" } else { "false" })
 }

@@ -1,7 +1,7 @@
 //! The look-up of a key, with its count of reads.
 
 use crate::items::item_text;
-use crate::line::{decoded, key_of};
+use crate::line::{decode_hex, key_of};
 use crate::refusal::Refusal;
 use jsonb::{RawJsonb, Reads};
 use std::alloc::Global;
@@ -26,8 +26,8 @@ impl Keys {
 
 /// How many words were read, and the value that was found.
 pub fn lookup(alloc: Global, keys: Keys, document: &[u8], key: &[u8]) -> Result<String, Refusal> {
-    let bytes = decoded(alloc, document)?;
-    let key = decoded(alloc, key)?;
+    let bytes = decode_hex(alloc, document)?;
+    let key = decode_hex(alloc, key)?;
     let mut reads = Reads::new();
     let found = RawJsonb::new(&bytes).get_object_value_by_key_name_counted(
         key_of(&key)?,

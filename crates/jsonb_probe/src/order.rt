@@ -1,6 +1,6 @@
 //! Comparisons: of bytes, items, kinds and payloads.
 
-use crate::line::{decoded, fixed};
+use crate::line::{decode_hex, plain_word};
 use crate::refusal::Refusal;
 use jsonb::{ExtensionValue, JsonbItem, Number, RawJsonb};
 use std::alloc::Global;
@@ -8,8 +8,8 @@ use std::cmp::Ordering;
 
 /// The order of all bytes, and whether they are the same by `==`.
 pub fn cmp(alloc: Global, left: &[u8], right: &[u8]) -> Result<String, Refusal> {
-    let left = decoded(alloc, left)?;
-    let right = decoded(alloc, right)?;
+    let left = decode_hex(alloc, left)?;
+    let right = decode_hex(alloc, right)?;
     let (left, right) = (RawJsonb::new(&left), RawJsonb::new(&right));
     order_text(alloc, left.cmp(&right), left == right)
 }
@@ -23,46 +23,46 @@ pub fn order_text(alloc: Global, order: Ordering, is_same: bool) -> Result<Strin
 
 /// The order of two documents.
 pub fn try_cmp(alloc: Global, left: &[u8], right: &[u8]) -> Result<String, Refusal> {
-    let left = decoded(alloc, left)?;
-    let right = decoded(alloc, right)?;
+    let left = decode_hex(alloc, left)?;
+    let right = decode_hex(alloc, right)?;
     let order = RawJsonb::new(&left).try_cmp(&RawJsonb::new(&right));
-    fixed(alloc, order.map_or("none", order_word))
+    plain_word(alloc, order.map_or("none", order_word))
 }
 
 /// The order of two items.
 pub fn item_cmp(alloc: Global, left: &[u8], right: &[u8]) -> Result<String, Refusal> {
-    let left = decoded(alloc, left)?;
-    let right = decoded(alloc, right)?;
+    let left = decode_hex(alloc, left)?;
+    let right = decode_hex(alloc, right)?;
     let left = JsonbItem::from_raw_jsonb(RawJsonb::new(&left))?;
     let right = JsonbItem::from_raw_jsonb(RawJsonb::new(&right))?;
-    fixed(alloc, order_word(left.cmp(&right)))
+    plain_word(alloc, order_word(left.cmp(&right)))
 }
 
 /// What the kinds alone say of the order.
 pub fn rank(alloc: Global, left: &[u8], right: &[u8]) -> Result<String, Refusal> {
-    let left = decoded(alloc, left)?;
-    let right = decoded(alloc, right)?;
+    let left = decode_hex(alloc, left)?;
+    let right = decode_hex(alloc, right)?;
     let left = RawJsonb::new(&left).jsonb_item_type()?;
     let right = RawJsonb::new(&right).jsonb_item_type()?;
-    fixed(alloc, left.rank_cmp(&right).map_or("none", order_word))
+    plain_word(alloc, left.rank_cmp(&right).map_or("none", order_word))
 }
 
 /// The order of two numbers by value.
 pub fn cmp_number(alloc: Global, left: &[u8], right: &[u8]) -> Result<String, Refusal> {
-    let left = decoded(alloc, left)?;
-    let right = decoded(alloc, right)?;
+    let left = decode_hex(alloc, left)?;
+    let right = decode_hex(alloc, right)?;
     let left = Number::decode(&left)?;
     let right = Number::decode(&right)?;
-    fixed(alloc, order_word(left.cmp_value(&right)))
+    plain_word(alloc, order_word(left.cmp_value(&right)))
 }
 
 /// The order of two extension values.
 pub fn cmp_extension(alloc: Global, left: &[u8], right: &[u8]) -> Result<String, Refusal> {
-    let left = decoded(alloc, left)?;
-    let right = decoded(alloc, right)?;
+    let left = decode_hex(alloc, left)?;
+    let right = decode_hex(alloc, right)?;
     let left = ExtensionValue::decode(&left)?;
     let right = ExtensionValue::decode(&right)?;
-    fixed(alloc, order_word(left.cmp_value(&right)))
+    plain_word(alloc, order_word(left.cmp_value(&right)))
 }
 
 fn order_word(order: Ordering) -> &'static str {

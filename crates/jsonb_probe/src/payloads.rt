@@ -1,13 +1,13 @@
 //! Payloads of numbers and extension values.
 
-use crate::line::decoded;
+use crate::line::decode_hex;
 use crate::refusal::Refusal;
 use jsonb::{ExtensionValue, Number};
 use std::alloc::Global;
 
 /// The number that the payload means, and the payload that is written for it.
 pub fn number(alloc: Global, word: &[u8]) -> Result<String, Refusal> {
-    let number = Number::decode(&decoded(alloc, word)?)?;
+    let number = Number::decode(&decode_hex(alloc, word)?)?;
     let mut payload = Vec::new(alloc);
     number.compact_encode(&mut payload)?;
     let written = hex::encode(alloc, payload)?;
@@ -31,7 +31,7 @@ pub fn number(alloc: Global, word: &[u8]) -> Result<String, Refusal> {
 
 /// The text of the extension value that the payload means, and the payload that is written for it.
 pub fn extension(alloc: Global, word: &[u8]) -> Result<String, Refusal> {
-    let bytes = decoded(alloc, word)?;
+    let bytes = decode_hex(alloc, word)?;
     let value = ExtensionValue::decode(&bytes)?;
     let mut payload = Vec::new(alloc);
     value.compact_encode(&mut payload)?;

@@ -2,7 +2,7 @@
 
 use crate::documents::value_hex;
 use crate::items::kind_text;
-use crate::line::{decoded, number_in, ok_hex, truth};
+use crate::line::{decode_hex, number_in, ok_hex, truth};
 use crate::order::order_text;
 use crate::refusal::Refusal;
 use jsonb::Document;
@@ -16,53 +16,53 @@ pub fn document_of(bytes: &[u8]) -> Result<Document<'_>, Refusal> {
 /// Whether the bytes are a document of at most that depth.
 pub fn within(alloc: Global, word: &[u8], depth: &[u8]) -> Result<String, Refusal> {
     let depth = number_in(depth)?;
-    let bytes = decoded(alloc, word)?;
+    let bytes = decode_hex(alloc, word)?;
     truth(alloc, Document::within(&bytes, depth).is_some())
 }
 
 /// The kind.
 pub fn item_type(alloc: Global, word: &[u8]) -> Result<String, Refusal> {
-    let bytes = decoded(alloc, word)?;
+    let bytes = decode_hex(alloc, word)?;
     let kind = kind_text(alloc, document_of(&bytes)?.kind())?;
     Ok(format!(in alloc; "ok {kind}")?)
 }
 
 /// The value, encoded again.
 pub fn value_of(alloc: Global, word: &[u8]) -> Result<String, Refusal> {
-    let bytes = decoded(alloc, word)?;
+    let bytes = decode_hex(alloc, word)?;
     value_hex(alloc, &document_of(&bytes)?.to_value(alloc)?)
 }
 
 /// Whether the document is canonical.
 pub fn is_canonical(alloc: Global, word: &[u8]) -> Result<String, Refusal> {
-    let bytes = decoded(alloc, word)?;
+    let bytes = decode_hex(alloc, word)?;
     truth(alloc, document_of(&bytes)?.is_canonical())
 }
 
 /// The canonical document of its tree.
 pub fn to_canonical(alloc: Global, word: &[u8]) -> Result<String, Refusal> {
-    let bytes = decoded(alloc, word)?;
+    let bytes = decode_hex(alloc, word)?;
     let document = document_of(&bytes)?.to_canonical(alloc)?;
     ok_hex(alloc, document.as_bytes())
 }
 
 /// The compact text.
 pub fn to_string(alloc: Global, word: &[u8]) -> Result<String, Refusal> {
-    let bytes = decoded(alloc, word)?;
+    let bytes = decode_hex(alloc, word)?;
     let text = document_of(&bytes)?.to_string(alloc)?;
     ok_hex(alloc, text.as_bytes())
 }
 
 /// The pretty text.
 pub fn to_pretty_string(alloc: Global, word: &[u8]) -> Result<String, Refusal> {
-    let bytes = decoded(alloc, word)?;
+    let bytes = decode_hex(alloc, word)?;
     let text = document_of(&bytes)?.to_pretty_string(alloc)?;
     ok_hex(alloc, text.as_bytes())
 }
 
 /// The text that `Display` writes.
 pub fn display(alloc: Global, word: &[u8]) -> Result<String, Refusal> {
-    let bytes = decoded(alloc, word)?;
+    let bytes = decode_hex(alloc, word)?;
     let document = document_of(&bytes)?;
     let text = format!(in alloc; "{document}")?;
     ok_hex(alloc, text.as_bytes())
@@ -70,8 +70,8 @@ pub fn display(alloc: Global, word: &[u8]) -> Result<String, Refusal> {
 
 /// The order of two documents, and whether they are the same by `==`.
 pub fn cmp(alloc: Global, left: &[u8], right: &[u8]) -> Result<String, Refusal> {
-    let left = decoded(alloc, left)?;
-    let right = decoded(alloc, right)?;
+    let left = decode_hex(alloc, left)?;
+    let right = decode_hex(alloc, right)?;
     let (left, right) = (document_of(&left)?, document_of(&right)?);
     order_text(alloc, left.cmp(&right), left == right)
 }

@@ -1,27 +1,27 @@
 //! The texts of documents, in hexadecimal since they may have lines.
 
-use crate::line::{decoded, ok_hex};
+use crate::line::{decode_hex, ok_hex};
 use crate::refusal::Refusal;
 use jsonb::{OwnedJsonb, RawJsonb};
 use std::alloc::Global;
 
 /// The compact text.
 pub fn to_string(alloc: Global, word: &[u8]) -> Result<String, Refusal> {
-    let bytes = decoded(alloc, word)?;
+    let bytes = decode_hex(alloc, word)?;
     let text = RawJsonb::new(&bytes).to_string(alloc)?;
     ok_hex(alloc, text.as_bytes())
 }
 
 /// The pretty text.
 pub fn to_pretty_string(alloc: Global, word: &[u8]) -> Result<String, Refusal> {
-    let bytes = decoded(alloc, word)?;
+    let bytes = decode_hex(alloc, word)?;
     let text = RawJsonb::new(&bytes).to_pretty_string(alloc)?;
     ok_hex(alloc, text.as_bytes())
 }
 
 /// The text that `Display` writes.
 pub fn display(alloc: Global, word: &[u8]) -> Result<String, Refusal> {
-    let owned = OwnedJsonb::new(decoded(alloc, word)?);
+    let owned = OwnedJsonb::new(decode_hex(alloc, word)?);
     let text = format!(in alloc; "{owned}")?;
     ok_hex(alloc, text.as_bytes())
 }

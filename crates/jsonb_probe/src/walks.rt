@@ -1,7 +1,7 @@
 //! Walks over the children of an array or object, to their end and one step beyond.
 
 use crate::items::item_text;
-use crate::line::{decoded, fixed};
+use crate::line::{decode_hex, plain_word};
 use crate::refusal::Refusal;
 use jsonb::{
     ArrayIterator, Error, JsonbItem, ObjectIterator, ObjectKeyIterator, ObjectValueIterator,
@@ -11,58 +11,58 @@ use std::alloc::Global;
 
 /// The items of an array.
 pub fn array(alloc: Global, word: &[u8]) -> Result<String, Refusal> {
-    let bytes = decoded(alloc, word)?;
+    let bytes = decode_hex(alloc, word)?;
     let Some(mut items) = ArrayIterator::new(RawJsonb::new(&bytes))? else {
-        return fixed(alloc, "none");
+        return plain_word(alloc, "none");
     };
-    let mut text = begun(alloc, items.len())?;
+    let mut text = head(alloc, items.len())?;
     for item in &mut items {
         push_item(alloc, &mut text, item)?;
     }
-    ended(alloc, &text, items.len(), items.next().is_some())
+    tail(alloc, &text, items.len(), items.next().is_some())
 }
 
 /// The keys of an object.
 pub fn keys(alloc: Global, word: &[u8]) -> Result<String, Refusal> {
-    let bytes = decoded(alloc, word)?;
+    let bytes = decode_hex(alloc, word)?;
     let Some(mut keys) = ObjectKeyIterator::new(RawJsonb::new(&bytes))? else {
-        return fixed(alloc, "none");
+        return plain_word(alloc, "none");
     };
-    let mut text = begun(alloc, keys.len())?;
+    let mut text = head(alloc, keys.len())?;
     for key in &mut keys {
         push_item(alloc, &mut text, key)?;
     }
-    ended(alloc, &text, keys.len(), keys.next().is_some())
+    tail(alloc, &text, keys.len(), keys.next().is_some())
 }
 
 /// The values of an object.
 pub fn values(alloc: Global, word: &[u8]) -> Result<String, Refusal> {
-    let bytes = decoded(alloc, word)?;
+    let bytes = decode_hex(alloc, word)?;
     let Some(mut values) = ObjectValueIterator::new(RawJsonb::new(&bytes))? else {
-        return fixed(alloc, "none");
+        return plain_word(alloc, "none");
     };
-    let mut text = begun(alloc, values.len())?;
+    let mut text = head(alloc, values.len())?;
     for value in &mut values {
         push_item(alloc, &mut text, value)?;
     }
-    ended(alloc, &text, values.len(), values.next().is_some())
+    tail(alloc, &text, values.len(), values.next().is_some())
 }
 
 /// The pairs of an object.
 pub fn pairs(alloc: Global, word: &[u8]) -> Result<String, Refusal> {
-    let bytes = decoded(alloc, word)?;
+    let bytes = decode_hex(alloc, word)?;
     let Some(mut pairs) = ObjectIterator::new(RawJsonb::new(&bytes))? else {
-        return fixed(alloc, "none");
+        return plain_word(alloc, "none");
     };
-    let mut text = begun(alloc, pairs.len())?;
+    let mut text = head(alloc, pairs.len())?;
     for pair in &mut pairs {
         push_pair(alloc, &mut text, pair)?;
     }
-    ended(alloc, &text, pairs.len(), pairs.next().is_some())
+    tail(alloc, &text, pairs.len(), pairs.next().is_some())
 }
 
 // How many children there are.
-fn begun(alloc: Global, len: usize) -> Result<String, Refusal> {
+fn head(alloc: Global, len: usize) -> Result<String, Refusal> {
     Ok(format!(in alloc; "len {len}")?)
 }
 
@@ -108,7 +108,7 @@ fn push_part(text: &mut String, part: &str) -> Result<(), Refusal> {
 }
 
 // The length behind the end, and whether the walk goes on from there.
-fn ended(alloc: Global, text: &str, len: usize, again: bool) -> Result<String, Refusal> {
+fn tail(alloc: Global, text: &str, len: usize, again: bool) -> Result<String, Refusal> {
     let again = if again { " again" } else { "" };
     Ok(format!(in alloc; "{text} | end {len}{again}")?)
 }

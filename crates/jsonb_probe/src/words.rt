@@ -1,6 +1,6 @@
 //! Single words of bytes, at any place.
 
-use crate::line::{decoded, number_in};
+use crate::line::{decode_hex, number_in};
 use crate::refusal::Refusal;
 use jsonb::{Reads, read_header, read_jentry};
 use std::alloc::Global;
@@ -8,7 +8,7 @@ use std::alloc::Global;
 /// The header at a place.
 pub fn header(alloc: Global, word: &[u8], index: &[u8]) -> Result<String, Refusal> {
     let index = number_in(index)?;
-    let bytes = decoded(alloc, word)?;
+    let bytes = decode_hex(alloc, word)?;
     let (kind, count) = read_header(&bytes, index)?;
     Ok(format!(in alloc; "ok {kind:08x} {count}")?)
 }
@@ -16,7 +16,7 @@ pub fn header(alloc: Global, word: &[u8], index: &[u8]) -> Result<String, Refusa
 /// The entry at a place, and the word that it is written as.
 pub fn jentry(alloc: Global, word: &[u8], index: &[u8]) -> Result<String, Refusal> {
     let index = number_in(index)?;
-    let bytes = decoded(alloc, word)?;
+    let bytes = decode_hex(alloc, word)?;
     let entry = read_jentry(&bytes, index)?;
     let (kind, length, encoded) = (entry.type_code, entry.length, entry.encoded());
     Ok(format!(in alloc; "ok {kind:08x} {length} {encoded:08x}")?)
@@ -25,7 +25,7 @@ pub fn jentry(alloc: Global, word: &[u8], index: &[u8]) -> Result<String, Refusa
 /// The word at a place, and the count of reads behind it.
 pub fn word(alloc: Global, word: &[u8], index: &[u8]) -> Result<String, Refusal> {
     let index = number_in(index)?;
-    let bytes = decoded(alloc, word)?;
+    let bytes = decode_hex(alloc, word)?;
     let mut reads = Reads::new();
     let read = reads.word(&bytes, index);
     let count = reads.count();

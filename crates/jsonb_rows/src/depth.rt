@@ -1,5 +1,5 @@
 // How deep a document of some length can be, and how deep it is followed.
-use crate::documents::{decoded, nested, read_as_tree};
+use crate::documents::{decode_again, nested, read_as_tree};
 use jsonb::{Error, RawJsonb};
 use jsonb_codec::{is_document, is_document_within};
 use std::alloc::Global;
@@ -8,7 +8,7 @@ use std::test::Fail;
 // Whether both readers read the bytes, and these are encoded again.
 fn is_read(alloc: Global, bytes: &[u8]) -> Result<bool, Error> {
     let is_tree = read_as_tree(alloc, bytes)?.as_slice() == bytes;
-    Ok(is_tree && decoded(alloc, bytes)?.as_slice() == bytes)
+    Ok(is_tree && decode_again(alloc, bytes)?.as_slice() == bytes)
 }
 
 #[test]

@@ -85,7 +85,7 @@ pub fn read_as_tree(alloc: Global, bytes: &[u8]) -> Result<Vec<u8>, Error> {
 }
 
 /// What the decoder makes of the bytes, encoded again.
-pub fn decoded(alloc: Global, bytes: &[u8]) -> Result<Vec<u8>, Error> {
+pub fn decode_again(alloc: Global, bytes: &[u8]) -> Result<Vec<u8>, Error> {
     encoded(alloc, &Decoder::new(bytes).decode(alloc)?)
 }
 

@@ -1,7 +1,7 @@
 // What each call that takes memory leaves behind where a request is refused. A test ends in the
 // right answer, or hands on the error once it has seen what the refusal left: tools/refuse_each.py
 // runs it with each of its requests refused in turn.
-use crate::documents::{decoded, encoded, read_as_tree};
+use crate::documents::{decode_again, encoded, read_as_tree};
 use jsonb::{
     ArrayBuilder, ArrayDistinctBuilder, Date, Decimal64, Decoder, Encoder, Error, ExtensionValue,
     JsonAst, JsonAstEncoder, JsonbItem, Number, NumberItem, ObjectBuilder, OwnedJsonb, RawJsonb,
@@ -54,7 +54,7 @@ fn documents_are_read(rt: HostRuntime) -> Result<(), Fail> {
 
 #[test]
 fn documents_are_decoded(rt: HostRuntime) -> Result<(), Fail> {
-    assert!(rt; decoded(rt.alloc(), DOCUMENT)?.as_slice() == DOCUMENT);
+    assert!(rt; decode_again(rt.alloc(), DOCUMENT)?.as_slice() == DOCUMENT);
     Ok(())
 }
 

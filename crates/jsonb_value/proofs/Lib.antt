@@ -20,5 +20,5 @@ pub mod BigEndian
 pub mod PayloadLaws
 pub mod PayloadDecision
 mod PayloadLengths
-pub mod Written
+pub mod Output
 pub mod NormTexts

@@ -16,7 +16,7 @@ use Rattle.std.proofs.lemmas.Map.Lookups.{exact_bytes}
 use Rattle.std.proofs.lemmas.Map.Made.{update_all_none}
 use Rattle.jsonb_value.specs.declared.value.Value.{Value}
 use Rattle.jsonb_value.specs.Tree.{pair}
-use Rattle.jsonb_value.specs.Reader.Held.{with_members}
+use Rattle.jsonb_value.specs.Reader.Content.{with_members}
 use Rattle.jsonb_value.specs.Value.{tree_of, pairs_view}
 use Rattle.std.specs.Cmp.Lexicographic.{slice_cmp}
 use Rattle.std.proofs.lemmas.Bool.{cases_Bool}

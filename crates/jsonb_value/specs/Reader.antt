@@ -4,4 +4,4 @@ pub mod Reading
 pub mod Gives
 pub mod Digits
 pub mod Kind
-pub mod Held
+pub mod Content

@@ -15,7 +15,7 @@ use crate::constants::{
 };
 use crate::error::Error;
 use crate::opaque::Opaque;
-use crate::payload::{append, append_tagged};
+use crate::payload::{append, append_opaque};
 use byteorder::{BigEndian, ByteOrder};
 
 // An entry has room for the tag and this many bytes.
@@ -72,7 +72,7 @@ impl<'a> ExtensionValue<'a> {
             (λ e. (e ≡ Error.InvalidJsonbNumber) ⊎ (e ≡ Error.InvalidJsonbExtension)) }
     {
         match bytes {
-            [tag, rest @ ..] => tagged_extension(*tag, rest),
+            [tag, rest @ ..] => opaque_extension(*tag, rest),
             [] => Err(Error::InvalidJsonbExtension),
         }
     }
@@ -100,7 +100,7 @@ impl<'a> ExtensionValue<'a> {
             ExtensionValue::Binary(bytes) => append_data(buf, EXTENSION_BINARY, bytes),
             ExtensionValue::Date(date) => append_date(buf, date),
             ExtensionValue::Timestamp(timestamp) => append_timestamp(buf, timestamp),
-            ExtensionValue::TimestampTz(zoned) => append_zoned(buf, zoned),
+            ExtensionValue::TimestampTz(zoned) => append_timestamp_tz(buf, zoned),
             ExtensionValue::Interval(interval) => append_interval(buf, interval),
             ExtensionValue::Opaque(opaque) => append_data(buf, opaque.tag(), opaque.bytes()),
         }
@@ -122,7 +122,7 @@ impl<'a> ExtensionValue<'a> {
 }
 
 // The extension value of a payload that begins with this tag.
-fn tagged_extension<'a>(tag: u8, rest: &'a [u8]) -> Result<ExtensionValue<'a>, Error>
+fn opaque_extension<'a>(tag: u8, rest: &'a [u8]) -> Result<ExtensionValue<'a>, Error>
     ensures ok { IfOk result (λ x. ExtCode (tag ∷ rest.now) (extension_of x)) }
     ensures none { OnErr result ((e : Extension) → ExtCode (tag ∷ rest.now) e → ⊥) }
     ensures length { result ≡ Err Error.InvalidJsonbNumber → HasKnownTag (tag ∷ rest.now) }
@@ -140,7 +140,7 @@ fn tagged_extension<'a>(tag: u8, rest: &'a [u8]) -> Result<ExtensionValue<'a>, E
             Some(timestamp) => Ok(ExtensionValue::Timestamp(timestamp)),
             None => Err(Error::InvalidJsonbNumber),
         },
-        EXTENSION_TIMESTAMP_TZ => match zoned_of(rest) {
+        EXTENSION_TIMESTAMP_TZ => match timestamp_tz_of(rest) {
             Some(zoned) => Ok(ExtensionValue::TimestampTz(zoned)),
             None => Err(Error::InvalidJsonbNumber),
         },
@@ -179,7 +179,7 @@ fn timestamp_of(bytes: &[u8]) -> Option<Timestamp>
     }
 }
 
-fn zoned_of(bytes: &[u8]) -> Option<TimestampTz>
+fn timestamp_tz_of(bytes: &[u8]) -> Option<TimestampTz>
     ensures found { IfSome result (λ t. IsZoned bytes.now t ⊎ IsOldZoned bytes.now t) }
     ensures none { IfNone result
         ((t : TimestampTz) → (IsZoned bytes.now t ⊎ IsOldZoned bytes.now t) → ⊥) }
@@ -228,7 +228,7 @@ fn append_data(buf: &mut Vec<u8>, tag: u8, bytes: &[u8]) -> Result<usize, Error>
     if bytes.len() > MAX_DATA {
         return Err(Error::InvalidJsonb);
     }
-    append_tagged(buf, tag, bytes)
+    append_opaque(buf, tag, bytes)
 }
 
 fn append_date(buf: &mut Vec<u8>, given: &Date) -> Result<usize, Error>
@@ -263,7 +263,7 @@ fn append_timestamp(buf: &mut Vec<u8>, given: &Timestamp) -> Result<usize, Error
     append(buf, &payload)
 }
 
-fn append_zoned(buf: &mut Vec<u8>, zoned: &TimestampTz) -> Result<usize, Error>
+fn append_timestamp_tz(buf: &mut Vec<u8>, zoned: &TimestampTz) -> Result<usize, Error>
     ensures len { IfOk result (λ n. n ≡ length (extension_payload (timestamp_tz zoned.now))) }
     ensures appended { OnOk result
         (buf.new.items ≡ buf.old.items ++ extension_payload (timestamp_tz zoned.now)) }

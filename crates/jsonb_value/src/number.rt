@@ -48,7 +48,7 @@ impl Number {
         ensures err { IfErr result (λ e. e ≡ Error.InvalidJsonbNumber) }
     {
         match bytes {
-            [tag, rest @ ..] => tagged_of(*tag, rest).ok_or(Error::InvalidJsonbNumber),
+            [tag, rest @ ..] => number_of_tag(*tag, rest).ok_or(Error::InvalidJsonbNumber),
             [] => Err(Error::InvalidJsonbNumber),
         }
     }
@@ -59,7 +59,7 @@ impl Number {
         ensures { IsTrue result ↔ ((x : Number) × NumCode bytes.now x) }
     {
         match bytes {
-            [tag, rest @ ..] => is_tagged(*tag, rest.len()),
+            [tag, rest @ ..] => has_tag(*tag, rest.len()),
             [] => false,
         }
     }
@@ -101,7 +101,7 @@ impl Number {
 
 // Whether so many bytes behind this tag are a number.
 #[inline(always)]
-fn is_tagged(tag: u8, count: usize) -> bool
+fn has_tag(tag: u8, count: usize) -> bool
     ensures { (rest : List ℕ) → length rest ≡ count
         → (IsTrue result ↔ ((x : Number) × NumCode (tag ∷ rest) x)) }
 {
@@ -132,7 +132,7 @@ fn is_decimal_length(length: usize) -> bool
 
 // The number of a payload that begins with this tag.
 #[inline(always)]
-fn tagged_of(tag: u8, rest: &[u8]) -> Option<Number>
+fn number_of_tag(tag: u8, rest: &[u8]) -> Option<Number>
     ensures found { IfSome result (λ x. NumCode (tag ∷ rest.now) x) }
     ensures none { IfNone result ((x : Number) → NumCode (tag ∷ rest.now) x → ⊥) }
 {

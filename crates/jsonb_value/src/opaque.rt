@@ -9,7 +9,7 @@ ghost use Rattle.jsonb_value.specs.Opaque.{IsOpaqueTag};
 pub struct Opaque<'a> {
     tag: u8,
     bytes: &'a [u8],
-    ghost known: { IsOpaqueTag tag },
+    ghost fact: { IsOpaqueTag tag },
 }
 
 impl<'a> Opaque<'a> {
@@ -17,7 +17,7 @@ impl<'a> Opaque<'a> {
 
     /// A value of this tag and these bytes. `None` for any other tag.
     pub fn new(tag: u8, bytes: &'a [u8]) -> Option<Opaque<'a>>
-        ensures known { IsSome result ↔ IsOpaqueTag tag }
+        ensures exact { IsSome result ↔ IsOpaqueTag tag }
         ensures tag { IfSome result (λ o. opaque_tag o ≡ tag) }
         ensures bytes { IfSome result (λ o. opaque_bytes o ≡ bytes.entry.now) }
     {
@@ -30,7 +30,7 @@ impl<'a> Opaque<'a> {
     /// The tag, one of the eleven.
     pub fn tag(&self) -> u8
         ensures tag { result ≡ opaque_tag self.now }
-        ensures known { IsOpaqueTag result }
+        ensures fact { IsOpaqueTag result }
     {
         self.tag
     }

@@ -58,15 +58,15 @@ fn cmp_decimals(left: Decimal128, right: Decimal128) -> Ordering
     ensures { result ≡ number_cmp (Number.Decimal128 left) (Number.Decimal128 right) }
 {
     if left.scale <= right.scale {
-        cmp_scaled(left.value, right.scale - left.scale, right.value)
+        cmp_by_scale(left.value, right.scale - left.scale, right.value)
     } else {
-        cmp_scaled(right.value, left.scale - right.scale, left.value).reverse()
+        cmp_by_scale(right.value, left.scale - right.scale, left.value).reverse()
     }
 }
 
 // How the value, multiplied by ten `steps` times, compares with the other. A product too large for
 // the type lies beyond all that the type holds, on the side of its sign.
-fn cmp_scaled(value: i128, steps: u8, other: i128) -> Ordering
+fn cmp_by_scale(value: i128, steps: u8, other: i128) -> Ordering
     ensures { result ≡ int_cmp (value *ℤ pos (10 ^ steps)) other }
 {
     let mut scaled = value;

@@ -9,8 +9,8 @@ ghost use Rattle.jsonb_value.specs.Reader.Reading.{skip_blank, read_word, read_e
 ghost use Rattle.jsonb_value.specs.Reader.Reading.{read_array, read_object, read_member, read_kind};
 ghost use Rattle.jsonb_value.specs.Reader.Reading.{kind_of, string_kind, number_kind};
 ghost use Rattle.jsonb_value.specs.Reader.Gives.{Fails, Gives};
-ghost use Rattle.jsonb_value.specs.Reader.Held.{ItemIsRead, KeyIsRead, MemberIsRead};
-ghost use Rattle.jsonb_value.specs.Reader.Held.{members_held};
+ghost use Rattle.jsonb_value.specs.Reader.Content.{ItemIsRead, KeyIsRead, MemberIsRead};
+ghost use Rattle.jsonb_value.specs.Reader.Content.{members_held};
 ghost use Rattle.jsonb_value.specs.Value.{tree_of, pairs_view};
 ghost use Rattle.jsonb_value.specs.Reader.Kind.{kind_view};
 
@@ -65,7 +65,7 @@ fn read_word<'a>(text: &'a str, word: &[char]) -> Result<&'a str, Error>
 // A string as a value, behind the quote that opens it. What this and the other small steps take of
 // the stack is not held while values inside are read.
 #[inline(never)]
-fn read_quoted<'a>(alloc: Global, text: &'a str) -> Result<(Value<'a>, &'a str), Error>
+fn read_quotes<'a>(alloc: Global, text: &'a str) -> Result<(Value<'a>, &'a str), Error>
     ensures { (n : ℕ) → length (chars text.now) < n
         → Gives (λ found. (tree_of found.0, chars found.1.now)) result
         (read_kind (read_value n) n string_kind 34 (chars text.now)) }
@@ -111,7 +111,7 @@ fn read_value<'a>(alloc: Global, text: &'a str) -> Result<(Value<'a>, &'a str), 
         Kind::Null => Ok((Value::Null, read_word(rest, &['u', 'l', 'l'])?)),
         Kind::True => Ok((Value::Bool(true), read_word(rest, &['r', 'u', 'e'])?)),
         Kind::False => Ok((Value::Bool(false), read_word(rest, &['a', 'l', 's', 'e'])?)),
-        Kind::String => read_quoted(alloc, rest),
+        Kind::String => read_quotes(alloc, rest),
         Kind::Array => read_array(alloc, rest),
         Kind::Object => read_object(alloc, rest),
         Kind::Number => read_numeral(text),

@@ -21,7 +21,7 @@ pub fn append(buf: &mut Vec<u8>, payload: &[u8]) -> Result<usize, Error>
 
 /// Appends a tag and the bytes behind it in one growth, all of it or nothing, and answers the
 /// payload's length.
-pub fn append_tagged(buf: &mut Vec<u8>, tag: u8, bytes: &[u8]) -> Result<usize, Error>
+pub fn append_opaque(buf: &mut Vec<u8>, tag: u8, bytes: &[u8]) -> Result<usize, Error>
     requires { length bytes.now < 2 ^ 63 }
     ensures len { IfOk result (λ n. n ≡ length (tag ∷ bytes.now)) }
     ensures appended { OnOk result (buf.new.items ≡ buf.old.items ++ tag ∷ bytes.now) }

@@ -19,7 +19,7 @@ fn is_plain(byte: u8) -> bool
 
 // The lanes that hold an escaped byte, a bit for each.
 #[inline(always)]
-fn escaped_lanes<const N: usize>(lanes: Simd<u8, N>) -> u64
+fn escape_lanes<const N: usize>(lanes: Simd<u8, N>) -> u64
     requires { N ≤ 64 }
     ensures { result ≡ mask_l (map is_escaped lanes.entry) }
 {
@@ -36,7 +36,7 @@ fn is_plain_at<const N: usize>(bytes: &[u8], at: usize) -> bool
     requires within { at + N ≤ length bytes.now }
     ensures { OnTrue result (NoneEscaped bytes.now at (at + N)) }
 {
-    escaped_lanes(Simd::<u8, N>::from_slice(&bytes[at..])) == 0
+    escape_lanes(Simd::<u8, N>::from_slice(&bytes[at..])) == 0
 }
 
 #[inline(always)]
@@ -86,9 +86,9 @@ pub fn is_all_plain(bytes: &[u8]) -> bool
     if len >= 16 {
         is_plain_long(bytes)
     } else if len >= 8 {
-        escaped_lanes(ends_of_eight(bytes)) == 0
+        escape_lanes(ends_of_eight(bytes)) == 0
     } else if len >= 4 {
-        escaped_lanes(ends_of_four(bytes)) == 0
+        escape_lanes(ends_of_four(bytes)) == 0
     } else {
         plain_len_by_one(bytes) == len
     }
@@ -109,7 +109,7 @@ pub fn plain_len(bytes: &[u8]) -> usize
 {
     let mut at = 0;
     'vectors: while bytes.len() - at >= 16 {
-        let escaped = escaped_lanes(u8x16::from_slice(&bytes[at..]));
+        let escaped = escape_lanes(u8x16::from_slice(&bytes[at..]));
         if escaped != 0 {
             return at + escaped.trailing_zeros() as usize;
         }

@@ -53,7 +53,7 @@ pub fn extension_text<W: fmt::Write>(
         ExtensionValue::Binary(bytes) => write_hex(bytes, f),
         ExtensionValue::Date(date) => write_whole(date.value, f),
         ExtensionValue::Timestamp(timestamp) => write_whole(timestamp.value, f),
-        ExtensionValue::TimestampTz(zoned) => write_zoned(zoned, f),
+        ExtensionValue::TimestampTz(zoned) => write_timestamp_tz(zoned, f),
         ExtensionValue::Interval(interval) => write_interval(interval, f),
         ExtensionValue::Opaque(opaque) => {
             write_hex_byte(opaque.tag(), f)?;
@@ -116,7 +116,7 @@ fn write_fraction<W: fmt::Write>(
 }
 
 #[tactic(auto, using(crate::proofs::Writing::joins))]
-fn write_zoned<W: fmt::Write>(zoned: &TimestampTz, f: &mut fmt::Formatter<W>) -> fmt::Result
+fn write_timestamp_tz<W: fmt::Write>(zoned: &TimestampTz, f: &mut fmt::Formatter<W>) -> fmt::Result
     ensures { WritesStyledOnOk W.write_str_gives f.old result
         (extension_text (timestamp_tz zoned.now)) f.new }
 {
@@ -184,7 +184,7 @@ fn write_runs<W: fmt::Write>(text: &str, f: &mut fmt::Formatter<W>) -> fmt::Resu
     ensures { WritesStyledOnOk W.write_str_gives f.old result (flat_map byte_text text.now) f.new }
 {
     let mut rest = text;
-    'runs: while let Some(at) = first_escaped(rest) {
+    'runs: while let Some(at) = first_escape(rest) {
         f.write_str(&rest[..at])?;
         write_escape(rest.as_bytes()[at], f)?;
         rest = &rest[at + 1..];
@@ -192,7 +192,7 @@ fn write_runs<W: fmt::Write>(text: &str, f: &mut fmt::Formatter<W>) -> fmt::Resu
     f.write_str(rest)
 }
 
-fn first_escaped(text: &str) -> Option<usize>
+fn first_escape(text: &str) -> Option<usize>
     ensures { result ≡ position is_escaped text.now }
 {
     let at = plain_len(text.as_bytes());

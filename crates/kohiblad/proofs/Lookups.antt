@@ -11,7 +11,7 @@ use Rattle.jsonb.specs.Steps.{◌>>=◌}
 use Rattle.jsonb.specs.Walk.{count_under, count_if}
 use Rattle.jsonb.specs.Lookup as lookup
 use Rattle.kohiblad.specs.declared.places.Place.{Place}
-use Rattle.kohiblad.specs.Places.{is_name, part_place, some_place, place_found, IsPlaceFound}
+use Rattle.kohiblad.specs.Places.{is_name, part_place, some_place, value_place, IsPlaceFound}
 use Rattle.jsonb_value.specs.declared.error.Error.{Error}
 use Rattle.jsonb_value.specs.declared.error.Error.TheVariants.{InvalidJsonb}
 use Rattle.jsonb.specs.ItemView.{ItemView}
@@ -56,10 +56,10 @@ module _ (answers others : List ℕ → Bool → Type 0)
       one_accepted n pair entry count (accepted n pair key) there is cost
 
 -- where the header cannot be read, nothing is found
-pub no_place_found : (name bytes : List ℕ) (e : Error) → header_at bytes 0 ≡ Err e
+pub no_value_place : (name bytes : List ℕ) (e : Error) → header_at bytes 0 ≡ Err e
     → IsPlaceFound name bytes (Err e)
 unfolding count_under
-no_place_found name bytes e cut = record {
+no_value_place name bytes e cut = record {
   item = Err e;
   reads = 0;
   looks_up = no_header e
@@ -70,11 +70,11 @@ no_place_found name bytes e cut = record {
 
 -- the count in a header is small
 small_count : (b : Bool) (k : ℕ) (e : Error)
-    → lookup.counted_in (if b then Ok (header_type k, header_count k) else Err e) < 2 ^ 29
+    → lookup.count_or_zero (if b then Ok (header_type k, header_count k) else Err e) < 2 ^ 29
 small_count true k e = omega arith
 small_count false k e = omega arith
 
-count_in : (r : Result ℕ Error) → lookup.counted_in (header_in r) < 2 ^ 29
+count_in : (r : Result ℕ Error) → lookup.count_or_zero (header_in r) < 2 ^ 29
 count_in (Ok k) = small_count
     ((header_type k == ARRAY_CONTAINER_TAG) || (header_type k == OBJECT_CONTAINER_TAG) ||
     (header_type k == SCALAR_CONTAINER_TAG)) k InvalidJsonb
@@ -87,37 +87,37 @@ count_bound bytes = count_in (word_at bytes 0)
 pub counted : (bytes : List ℕ) (header : ℕ × ℕ) → header_at bytes 0 ≡ Ok header
     → lookup.header_count bytes ≡ header.1
 unfolding lookup.header_count
-counted bytes header is = ap lookup.counted_in is
+counted bytes header is = ap lookup.count_or_zero is
 
 -- what is found, by what the call answered
 module _ (answers : List ℕ → Bool → Type 0) (name given bytes viewed : List ℕ)
     (named : given ≡ name) (same : viewed ≡ bytes)
     (imply : (key : List ℕ) (b : Bool) → answers key b → b ≡ is_name given key)
     (r : Result (Option JsonbItem) Error) (reads : ℕ)
-    (looks_up : LooksUpBytes answers (length given) viewed (lookup.found_view r) reads) where
+    (looks_up : LooksUpBytes answers (length given) viewed (lookup.value_view r) reads) where
   looked_up : LooksUpBytes
-      (λ key b. b ≡ is_name name key) (length name) bytes (lookup.found_view r) reads
+      (λ key b. b ≡ is_name name key) (length name) bytes (lookup.value_view r) reads
   looked_up =
       subst (λ (b : List ℕ). LooksUpBytes
-      (λ key b. b ≡ is_name name key) (length name) b (lookup.found_view r) reads) same
+      (λ key b. b ≡ is_name name key) (length name) b (lookup.value_view r) reads) same
       (subst (λ (n : List ℕ). LooksUpBytes
-      (λ key b. b ≡ is_name n key) (length n) viewed (lookup.found_view r) reads) named
+      (λ key b. b ≡ is_name n key) (length n) viewed (lookup.value_view r) reads) named
       (LooksUpBytes-weaker answers
       (λ key b. b ≡ is_name given key) imply (length given) viewed
-      (lookup.found_view r) reads looks_up))
+      (lookup.value_view r) reads looks_up))
 
   found_by : (found : Result (Option Place) Error)
-      → found ≡ place_found bytes reads (lookup.found_view r) → IsPlaceFound name bytes found
+      → found ≡ value_place bytes reads (lookup.value_view r) → IsPlaceFound name bytes found
   found_by found is =
-      record { item = lookup.found_view r; reads = reads; looks_up = looked_up; place = is }
+      record { item = lookup.value_view r; reads = reads; looks_up = looked_up; place = is }
 
   pub error_found : (e : Error) → r ≡ Err e → IsPlaceFound name bytes (Err e)
   error_found e is = found_by (Err e)
-      (ap (λ (x : Result (Option JsonbItem) Error). place_found bytes reads (lookup.found_view x))
+      (ap (λ (x : Result (Option JsonbItem) Error). value_place bytes reads (lookup.value_view x))
       (sym is))
 
   none_by : (o : Option JsonbItem) → is_some o ≡ false
-      → Ok None ≡ place_found bytes reads (lookup.found_view (Ok o))
+      → Ok None ≡ value_place bytes reads (lookup.value_view (Ok o))
   none_by None absent = refl
   none_by (Some x) absent = let different : ⊥ = cc in absurd different
 
@@ -125,12 +125,12 @@ module _ (answers : List ℕ → Bool → Type 0) (name given bytes viewed : Lis
       → IsPlaceFound name bytes (Ok None)
   none_found o is absent = found_by (Ok None)
       (none_by o absent ∙ ap
-      (λ (x : Result (Option JsonbItem) Error). place_found bytes reads (lookup.found_view x))
+      (λ (x : Result (Option JsonbItem) Error). value_place bytes reads (lookup.value_view x))
       (sym is))
 
   some_by : (o : Option JsonbItem) → is_some o ≡ true
       → some_place (part_place bytes (2 * lookup.header_count bytes) (reads - 2))
-      ≡ place_found bytes reads (lookup.found_view (Ok o))
+      ≡ value_place bytes reads (lookup.value_view (Ok o))
   some_by None there = let different : ⊥ = cc in absurd different
   some_by (Some x) there = refl
 
@@ -143,5 +143,5 @@ module _ (answers : List ℕ → Bool → Type 0) (name given bytes viewed : Lis
       ∙ ap₂ (λ (n k : ℕ). some_place (part_place bytes (2 * n) k))
       (sym (counted bytes header read)) at
       ∙ some_by o found
-      ∙ ap (λ (x : Result (Option JsonbItem) Error). place_found bytes reads (lookup.found_view x))
+      ∙ ap (λ (x : Result (Option JsonbItem) Error). value_place bytes reads (lookup.value_view x))
       (sym is))

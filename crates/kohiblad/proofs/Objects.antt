@@ -10,7 +10,7 @@ use Rattle.jsonb.specs.declared.raw.RawJsonb.{RawJsonb}
 use Rattle.jsonb.specs.Raw.{raw_bytes}
 use Rattle.jsonb.specs.ItemView.{ItemView, raw}
 use Rattle.jsonb.specs.Building.{AreTexts, has_key, with_pair, in_order}
-use Rattle.jsonb.specs.Built.{raw_pairs, input_pair}
+use Rattle.jsonb.specs.Results.{raw_pairs, input_pair}
 use Rattle.jsonb.proofs.InputLaws.{key_there, one_more, still_distinct}
 
 -- the pairs that were put in, and those that are left

@@ -13,10 +13,10 @@ use Rattle.std.specs.Ordering.{nat_cmp, ordering_then, is_lt}
 use Rattle.std.specs.declared.cmp.Ordering.{Ordering}
 use Rattle.jsonb_value.specs.Meaning.{Meaning, meaning_cmp}
 use Rattle.jsonb.specs.declared.sort_key.SortKey.{SortKey}
-use Rattle.jsonb.specs.Meant.{meaning_of}
+use Rattle.jsonb.specs.ItemMeaning.{meaning_of}
 use Rattle.jsonb.specs.SortKey.{key_meaning}
 use Rattle.kohiblad.specs.Rows.{rows_from}
-use Rattle.kohiblad.specs.Sorted.{row_cmp, IsOrderOf}
+use Rattle.kohiblad.specs.SortOrder.{row_cmp, IsOrderOf}
 
 abbrev pub numbers_of : List (SortKey × ℕ) → List ℕ
 numbers_of keys = map (λ key. key.1) keys

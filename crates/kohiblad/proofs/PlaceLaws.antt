@@ -23,7 +23,7 @@ use Rattle.jsonb.proofs.Places.{At, At-all, At-left, At-right, At-behind_word, t
 use Rattle.jsonb.proofs.StandingLaws.{AreEntries, AreEntries-trees, AreEntries-keys}
 use Rattle.jsonb.proofs.StandingLaws.{AreEntries-pairs, HasItems-Payload, HasMembers-Payload}
 use Rattle.jsonb.proofs.StandingLaws.{first_entry, items_at, members_at}
-use Rattle.jsonb.proofs.StoredLaws.{length-code_entries}
+use Rattle.jsonb.proofs.StorageLaws.{length-code_entries}
 use Rattle.kohiblad.specs.declared.places.Place.{Place}
 use Rattle.kohiblad.specs.Places.{place_at, place_behind, item_under, item_place, member_under}
 use Rattle.kohiblad.specs.Places.{member_places, entry_there, member_there, IsItemPlace}

@@ -6,8 +6,8 @@ use Rattle.jsonb_value.specs.declared.error.Error.TheVariants.{OutOfMemory}
 use Rattle.jsonb_value.specs.Tree.{Tree}
 use Rattle.jsonb_value.specs.Json.Syntax.{Json}
 use Rattle.jsonb_codec.specs.Canon.{Fits}
-use Rattle.kohiblad.specs.Answered.{code, IsRefused}
-use Rattle.kohiblad.specs.Written.{IsRead}
+use Rattle.kohiblad.specs.Status.{code, IsRefused}
+use Rattle.kohiblad.specs.Output.{IsRead}
 
 -- a text that is not read is refused by one of three names
 pub read_refused : {A : Type 0} (text before after : List ℕ) (told status : ℕ) (r : Result A Error)

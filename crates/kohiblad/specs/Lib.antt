@@ -1,8 +1,8 @@
-pub mod Answered
-pub mod Built
+pub mod Status
+pub mod Results
 pub mod Places
 pub mod Rows
-pub mod Sorted
+pub mod SortOrder
 pub mod TextDepth
-pub mod Told
-pub mod Written
+pub mod KindAnswer
+pub mod Output

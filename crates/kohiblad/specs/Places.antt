@@ -18,7 +18,7 @@ use Rattle.jsonb.specs.Steps.{◌>>=◌}
 use Rattle.jsonb.specs.Lookup.{header_count, LooksUpBytes}
 use Rattle.kohiblad.specs.declared.places.Place.{Place}
 use Rattle.kohiblad.specs.declared.places.KohibladPlace.{KohibladPlace}
-use Rattle.kohiblad.specs.Answered.{code, none, no_room, IsCopied, IsHandedOver, IsRefused}
+use Rattle.kohiblad.specs.Status.{code, none, no_room, IsCopied, IsHandedOver, IsRefused}
 
 -- the place of a payload that begins there, by its entry at another; it must end with the bytes
 abbrev pub place_at : List ℕ → ℕ → ℕ → Result Place Error
@@ -82,11 +82,11 @@ abbrev pub member_places : List ℕ → ℕ → Result (Option (Place × Place))
 member_places bytes index = header_at bytes 0 >>= member_under bytes index
 
 -- the place of the value that a look-up finds: its entry is the last word that was read
-abbrev pub place_found : List ℕ → ℕ → Result (Option ItemView) Error → Result (Option Place) Error
-place_found bytes reads (Ok (Some x)) =
+abbrev pub value_place : List ℕ → ℕ → Result (Option ItemView) Error → Result (Option Place) Error
+value_place bytes reads (Ok (Some x)) =
     some_place (part_place bytes (2 * header_count bytes) (reads - 2))
-place_found bytes reads (Ok None) = Ok None
-place_found bytes reads (Err e) = Err e
+value_place bytes reads (Ok None) = Ok None
+value_place bytes reads (Err e) = Err e
 
 -- whether a key is the name
 abbrev pub is_name : List ℕ → List ℕ → Bool
@@ -97,7 +97,7 @@ pub record IsPlaceFound (name bytes : List ℕ) (found : Result (Option Place) E
   pub item : Result (Option ItemView) Error
   pub reads : ℕ
   pub looks_up : LooksUpBytes (λ key b. b ≡ is_name name key) (length name) bytes item reads
-  pub place : found ≡ place_found bytes reads item
+  pub place : found ≡ value_place bytes reads item
 
 -- The place lies inside the bytes, and its type and length make one entry word.
 abbrev pub IsPlaceIn : List ℕ → Place → Type 0
@@ -114,11 +114,11 @@ AreInside bytes found =
     IfOk found (λ o. IfSome o (λ places. IsPlaceIn bytes places.0 × IsPlaceIn bytes places.1))
 
 -- what C is told of a place
-abbrev pub told_place : Result (Option Place) Error → KohibladPlace
-told_place (Ok (Some place)) =
+abbrev pub place_answer : Result (Option Place) Error → KohibladPlace
+place_answer (Ok (Some place)) =
     record { status = 0; type_code = place.type_code; offset = place.start; length = place.length }
-told_place (Ok None) = record { status = none; type_code = 0; offset = 0; length = 0 }
-told_place (Err e) = record { status = code e; type_code = 0; offset = 0; length = 0 }
+place_answer (Ok None) = record { status = none; type_code = 0; offset = 0; length = 0 }
+place_answer (Err e) = record { status = code e; type_code = 0; offset = 0; length = 0 }
 
 -- the entry at a place
 abbrev pub entry_there : List ℕ → Place → Entry

@@ -2,7 +2,7 @@
 
 ghost use Rattle.std.specs.Prelude.{◌≡◌, ◌+◌, ◌<◌, ◌^◌, length};
 ghost use Rattle.jsonb.specs.Code.{scalar_bytes};
-ghost use Rattle.kohiblad.specs.Answered.{code, status_name, IsHandedOver, IsRefused};
+ghost use Rattle.kohiblad.specs.Status.{code, status_name, IsHandedOver, IsRefused};
 
 use jsonb::Error;
 use jsonb_codec::constants::SCALAR_CONTAINER_TAG;

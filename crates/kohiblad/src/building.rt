@@ -5,10 +5,10 @@ ghost use Rattle.std.specs.List.{IsDistinct};
 ghost use Rattle.std.specs.Map.{keys_of};
 ghost use Rattle.std.specs.Str.{bytes_eq};
 ghost use Rattle.jsonb.specs.Building.{FitArray, AreTexts};
-ghost use Rattle.jsonb.specs.Built.{IsArrayOfInputs, IsObjectOfInputs, MakeNoObject};
+ghost use Rattle.jsonb.specs.Results.{IsArrayOfInputs, IsObjectOfInputs, MakeNoObject};
 ghost use Rattle.jsonb.specs.Owned.{owned_bytes};
 ghost use Rattle.jsonb.specs.ItemView.{raw};
-ghost use Rattle.kohiblad.specs.Built.{IsArrayOfRows, IsObjectOfRows};
+ghost use Rattle.kohiblad.specs.Results.{IsArrayOfRows, IsObjectOfRows};
 ghost use Rattle.kohiblad.specs.Rows.{pairs_in};
 
 use crate::answer::{code, hand_over, refuse};

@@ -2,7 +2,7 @@
 
 ghost use Rattle.std.specs.Prelude.{◌↔◌, IsTrue};
 ghost use Rattle.jsonb_codec.specs.Canonical.{IsCanonical};
-ghost use Rattle.kohiblad.specs.Written.{IsRewritten};
+ghost use Rattle.kohiblad.specs.Output.{IsRewritten};
 
 use crate::answer::{code, hand_over, refuse};
 use jsonb::{RawJsonb, is_canonical};

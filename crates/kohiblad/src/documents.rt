@@ -6,9 +6,9 @@ ghost use Rattle.jsonb_value.specs.Tree.{Tree};
 ghost use Rattle.jsonb_codec.specs.Depth.{IsDocumentWithin};
 ghost use Rattle.jsonb_codec.specs.Doc.{Doc, IsDocument};
 ghost use Rattle.jsonb.specs.Kind.{kind, kind_of_tree};
-ghost use Rattle.jsonb.specs.Meant.{meaning_of};
-ghost use Rattle.kohiblad.specs.Answered.{sign};
-ghost use Rattle.kohiblad.specs.Told.{told_kind};
+ghost use Rattle.jsonb.specs.ItemMeaning.{meaning_of};
+ghost use Rattle.kohiblad.specs.Status.{sign};
+ghost use Rattle.kohiblad.specs.KindAnswer.{kind_answer};
 
 use crate::answer::{OK, code};
 use jsonb::{JsonbItemType, RawJsonb, is_document, is_document_within};
@@ -54,8 +54,8 @@ pub struct KohibladKind {
 /// The kind that the bytes show by their first two words.
 #[unsafe(no_mangle)]
 pub extern "C" fn kohiblad_kind(bytes: &[u8]) -> KohibladKind
-    ensures kind { result ≡ told_kind (kind bytes.now) }
-    ensures document { (t : Tree) → Doc bytes.now t → result ≡ told_kind (Ok (kind_of_tree t)) }
+    ensures kind { result ≡ kind_answer (kind bytes.now) }
+    ensures document { (t : Tree) → Doc bytes.now t → result ≡ kind_answer (Ok (kind_of_tree t)) }
 {
     let (kind, count) = match RawJsonb::new(bytes).jsonb_item_type() {
         Ok(JsonbItemType::Null) => (0, 0),

@@ -4,12 +4,13 @@ ghost use Rattle.std.specs.Prelude.{◌≡◌, ◌+◌, ◌≤◌, ◌<◌, ◌^
 ghost use Rattle.jsonb_value.specs.declared.error.Error.{Error};
 ghost use Rattle.kohiblad.specs.declared.places.Place.{Place};
 ghost use Rattle.std.specs.Str.{IsUtf8};
-ghost use Rattle.kohiblad.specs.Answered.{code, IsHandedOver, IsRefused};
+ghost use Rattle.kohiblad.specs.Status.{code, IsHandedOver, IsRefused};
 ghost use Rattle.jsonb_value.specs.Tree.{Tree};
 ghost use Rattle.jsonb_codec.specs.Doc.{Doc};
 ghost use Rattle.kohiblad.specs.Places.{IsItemPlace, AreMemberPlaces, part_place, place_in};
 ghost use Rattle.kohiblad.specs.Places.{item_place, IsPlaceFound, IsPlaceIn, IsInside, AreInside};
-ghost use Rattle.kohiblad.specs.Places.{member_places, IsMemberHandedOver, told_place, entry_there};
+ghost use Rattle.kohiblad.specs.Places.{member_places, IsMemberHandedOver, place_answer};
+ghost use Rattle.kohiblad.specs.Places.{entry_there};
 ghost use Rattle.kohiblad.specs.Places.{entry_document, IsPlaceHandedOver, IsValuePlace};
 
 use crate::answer::{NO_ROOM, NONE, OK, code, hand_over, hand_over_scalar, refuse};
@@ -39,22 +40,22 @@ pub struct KohibladPlace {
 /// object the keys and behind them the values.
 #[unsafe(no_mangle)]
 pub extern "C" fn kohiblad_part(bytes: &[u8], number: usize) -> KohibladPlace
-    ensures { result ≡ told_place (place_in bytes.now number) }
+    ensures { result ≡ place_answer (place_in bytes.now number) }
 {
-    told_place(place_in(bytes, number))
+    place_answer(place_in(bytes, number))
 }
 
 /// Where the value of a key stands.
 #[unsafe(no_mangle)]
 pub extern "C" fn kohiblad_find(bytes: &[u8], name: &[u8]) -> KohibladPlace
-    ensures utf8 { (IsUtf8 name.now → ⊥) → result ≡ told_place (Err Error.InvalidUtf8) }
+    ensures utf8 { (IsUtf8 name.now → ⊥) → result ≡ place_answer (Err Error.InvalidUtf8) }
     ensures place { IsUtf8 name.now → (found : Result (Option Place) Error)
-        × (IsPlaceFound name.now bytes.now found × (result ≡ told_place found)) }
+        × (IsPlaceFound name.now bytes.now found × (result ≡ place_answer found)) }
     ensures document { IsUtf8 name.now → (t : Tree) → Doc bytes.now t
         → (found : Result (Option Place) Error)
-        × (IsValuePlace bytes.now t name.now found × (result ≡ told_place found)) }
+        × (IsValuePlace bytes.now t name.now found × (result ≡ place_answer found)) }
 {
-    told_place(place_of_key(bytes, name))
+    place_answer(place_of_key(bytes, name))
 }
 
 /// The value of a key, as a document of its own.
@@ -70,7 +71,7 @@ pub extern "C" fn kohiblad_get(bytes: &[u8], name: &[u8], out: &mut [u8], length
         × (IsValuePlace bytes.now t name.now found
         × IsPlaceHandedOver bytes.now found out.old out.new length.new result) }
 {
-    hand_over_found(bytes, place_of_key(bytes, name), out, length)
+    hand_over_item(bytes, place_of_key(bytes, name), out, length)
 }
 
 /// An item of an array, as a document of its own.
@@ -86,7 +87,7 @@ pub extern "C" fn kohiblad_array_item(
     ensures document { (t : Tree) → Doc bytes.now t
         → IsItemPlace bytes.now t index (item_place bytes.now index) }
 {
-    hand_over_found(bytes, item_place(bytes, index), out, length)
+    hand_over_item(bytes, item_place(bytes, index), out, length)
 }
 
 /// A key of an object and its value, as a document of its own.
@@ -186,7 +187,7 @@ fn place_of_key(bytes: &[u8], name: &[u8]) -> Result<Option<Place>, Error>
 }
 
 // Hands over the document of a place, where one was found.
-fn hand_over_found(
+fn hand_over_item(
     bytes: &[u8],
     found: Result<Option<Place>, Error>,
     out: &mut [u8],
@@ -217,8 +218,8 @@ fn hand_over_place(bytes: &[u8], place: Place, out: &mut [u8], told: &mut usize)
 }
 
 // What C is told of a place.
-fn told_place(found: Result<Option<Place>, Error>) -> KohibladPlace
-    ensures { result ≡ told_place found }
+fn place_answer(found: Result<Option<Place>, Error>) -> KohibladPlace
+    ensures { result ≡ place_answer found }
 {
     match found {
         Ok(Some(place)) => KohibladPlace {

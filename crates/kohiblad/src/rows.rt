@@ -28,7 +28,7 @@ impl<'a> Rows<'a> {
     /// The rows that end there. `InvalidEOF` where an end goes back, or past the bytes.
     pub fn new(bytes: &'a [u8], ends: &'a [usize]) -> Result<Self, Error>
         ensures rows { IfOk result (λ all. all ≡ rows bytes.now ends.now) }
-        ensures known { is_ok result ≡ are_ends (length bytes.now) 0 ends.now }
+        ensures exact { is_ok result ≡ are_ends (length bytes.now) 0 ends.now }
         ensures past { IfErr result (λ e. e ≡ Error.InvalidEOF) }
     {
         if are_ends(bytes.len(), ends) {

@@ -1,7 +1,7 @@
 //! The order of rows that stand one behind another.
 
 ghost use Rattle.std.specs.Prelude.{◌≡◌, ◌≤◌, ◌++◌, length, drop, map, IfOk, IfErr};
-ghost use Rattle.kohiblad.specs.Sorted.{IsOrderOf, AreRowsOrdered};
+ghost use Rattle.kohiblad.specs.SortOrder.{IsOrderOf, AreRowsOrdered};
 
 use crate::answer::{NO_ROOM, OK, code};
 use crate::rows::Rows;
@@ -25,7 +25,7 @@ pub extern "C" fn kohiblad_sort(
     let Ok(rows) = Rows::new(bytes, ends) else {
         return code(Error::InvalidEOF);
     };
-    match sorted_keys(alloc, rows) {
+    match keys_in_order(alloc, rows) {
         Ok(keys) => {
             put_numbers(&keys, order);
             OK
@@ -35,7 +35,7 @@ pub extern "C" fn kohiblad_sort(
 }
 
 // The keys of the rows with their numbers, in order.
-fn sorted_keys<'a>(alloc: Global, rows: Rows<'a>) -> Result<Vec<(SortKey<'a>, usize)>, Error>
+fn keys_in_order<'a>(alloc: Global, rows: Rows<'a>) -> Result<Vec<(SortKey<'a>, usize)>, Error>
     ensures ok { IfOk result (λ keys. IsOrderOf rows.entry (map (λ key. key.1) keys.items)) }
     ensures len { IfOk result (λ keys. length keys.items ≡ length rows.entry) }
     ensures memory { IfErr result (λ e. e ≡ Error.OutOfMemory) }

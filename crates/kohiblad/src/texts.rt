@@ -4,7 +4,7 @@ ghost use Rattle.jsonb_value.specs.Text.{compact, pretty};
 ghost use Rattle.jsonb_value.specs.Tree.{Tree};
 ghost use Rattle.jsonb_codec.specs.Doc.{Doc};
 ghost use Rattle.jsonb.specs.Texts.{display_text, pretty_display_text};
-ghost use Rattle.kohiblad.specs.Written.{IsWritten, IsRead, IsReadWithin};
+ghost use Rattle.kohiblad.specs.Output.{IsWritten, IsRead, IsReadWithin};
 
 use crate::answer::{TOO_DEEP, code, hand_over, refuse};
 use crate::depth::is_text_within;
@@ -20,7 +20,7 @@ pub extern "C" fn kohiblad_to_string(
     out: &mut [u8],
     length: &mut usize,
 ) -> u32
-    ensures shown { IsWritten (display_text bytes.now) out.old out.new length.new result }
+    ensures display { IsWritten (display_text bytes.now) out.old out.new length.new result }
     ensures document { (t : Tree) → Doc bytes.now t
         → IsWritten (compact t) out.old out.new length.new result }
 {
@@ -38,7 +38,7 @@ pub extern "C" fn kohiblad_to_pretty(
     out: &mut [u8],
     length: &mut usize,
 ) -> u32
-    ensures shown { IsWritten (pretty_display_text bytes.now) out.old out.new length.new result }
+    ensures display { IsWritten (pretty_display_text bytes.now) out.old out.new length.new result }
     ensures document { (t : Tree) → Doc bytes.now t
         → IsWritten (pretty t) out.old out.new length.new result }
 {

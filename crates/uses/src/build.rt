@@ -3,7 +3,7 @@
 ghost use Rattle.std.specs.Prelude.{◌≡◌, ◌⊎◌, codes, IfOk, IfErr};
 ghost use Rattle.jsonb_value.specs.Tree.{Tree, tree, no_trees, pair, no_pairs};
 ghost use Rattle.jsonb_codec.specs.Doc.{Doc};
-ghost use Rattle.jsonb.specs.Built.{IsArrayUpToZeros, IsObjectUpToZeros};
+ghost use Rattle.jsonb.specs.Results.{IsArrayUpToZeros, IsObjectUpToZeros};
 ghost use Rattle.jsonb.specs.Owned.{owned_bytes};
 
 use jsonb::{ArrayBuilder, Error, ObjectBuilder, OwnedJsonb, RawJsonb};

@@ -5,7 +5,7 @@ ghost use Rattle.jsonb_value.specs.Tree.{Tree, Trees, array, tree};
 ghost use Rattle.jsonb_codec.specs.Doc.{Doc};
 ghost use Rattle.jsonb.specs.Raw.{raw_bytes};
 ghost use Rattle.jsonb.specs.ItemView.{item_view};
-ghost use Rattle.jsonb.specs.Walked.{IsItemOf};
+ghost use Rattle.jsonb.specs.DocumentWalk.{IsItemOf};
 
 use jsonb::{ArrayIterator, Error, JsonbItem, RawJsonb};
 

@@ -3,7 +3,7 @@
 ghost use Rattle.std.specs.Prelude.{◌≡◌, ◌↔◌, ◌∷◌, [], length, IsTrue, IfOk, IfErr, OnErr};
 ghost use Rattle.std.specs.Prelude.{MatchOption, OnOk};
 ghost use Rattle.jsonb.specs.Code.{code_view};
-ghost use Rattle.jsonb.specs.Stored.{code_of, IsStored, IsStorable, IsHeld};
+ghost use Rattle.jsonb.specs.Storage.{code_of, IsStored, IsStorable, IsHeld};
 ghost use Rattle.jsonb.specs.Children.{child_view, children_views};
 
 use crate::code::{Code, item_code, text_code};

@@ -9,7 +9,7 @@ ghost use Rattle.jsonb.specs.Owned.{owned_bytes};
 ghost use Rattle.jsonb.specs.ItemView.{item_view};
 ghost use Rattle.jsonb.specs.ItemView as items;
 ghost use Rattle.jsonb.specs.Building.{FitArray, IsArrayOf};
-ghost use Rattle.jsonb.specs.Built.{AllMean, IsArrayUpToZeros};
+ghost use Rattle.jsonb.specs.Results.{AllMean, IsArrayUpToZeros};
 ghost use Rattle.jsonb.specs.Tally.{Tally, has_equal, count_at, SetsCount, Lists, count_of};
 ghost use Rattle.jsonb.specs.Tally.{list_with, CountsOneMore, CountsOneLess};
 
@@ -100,7 +100,7 @@ impl<'a> ArrayDistinctBuilder<'a> {
     /// The list stays as it is. No memory is asked for.
     #[tactic(auto, using(crate::proofs::Classes::lookup_same, crate::proofs::Classes::has_equal_same))]
     pub fn pop_jsonb_item(&mut self, item: JsonbItem<'a>) -> Option<()>
-        ensures known { IsSome result ↔ (count_of self.old (item_view item.entry) ≢ 0) }
+        ensures exact { IsSome result ↔ (count_of self.old (item_view item.entry) ≢ 0) }
         ensures list { self.new.list ≡ self.old.list }
         ensures counts { CountsOneLess self.old self.new (item_view item.entry) }
     {
@@ -114,7 +114,7 @@ impl<'a> ArrayDistinctBuilder<'a> {
 
     /// Takes one off the count of these bytes, as `pop_jsonb_item` does of the item of them.
     pub fn pop_raw_jsonb(&mut self, raw: RawJsonb<'a>) -> Option<()>
-        ensures known { IsSome result
+        ensures exact { IsSome result
             ↔ (count_of self.old (items.raw (raw_bytes raw.entry)) ≢ 0) }
         ensures list { self.new.list ≡ self.old.list }
         ensures counts { CountsOneLess self.old self.new (items.raw (raw_bytes raw.entry)) }
@@ -151,7 +151,7 @@ fn set_count<'a>(
     ensures set { OnOk result
         (SetsCount counts.old.entries counts.new.entries (item_view item.entry) count) }
     ensures err { OnErr result (counts.new.entries ≡ counts.old.entries) }
-    ensures known { is_some (count_at counts.old.entries (item_view item.entry)) ≡ true
+    ensures exact { is_some (count_at counts.old.entries (item_view item.entry)) ≡ true
         → IsOk result }
     ensures memory { IfErr result (λ e. e ≡ Error.OutOfMemory) }
 {

@@ -5,7 +5,7 @@ ghost use Rattle.std.specs.Prelude.{Err, ◌⊎◌};
 ghost use Rattle.jsonb_codec.specs.Room.{HasRoom, AppendsBytes};
 ghost use Rattle.jsonb.specs.Owned.{owned_bytes};
 ghost use Rattle.jsonb.specs.ItemView.{item_view};
-ghost use Rattle.jsonb.specs.Stored.{codes_of, AreStorable, AreHeld};
+ghost use Rattle.jsonb.specs.Storage.{codes_of, AreStorable, AreHeld};
 ghost use Rattle.jsonb.specs.Building.{code_entries, code_payloads, array_of, FitArray, IsArrayOf};
 ghost use Rattle.jsonb.specs.Building.{FitObject, IsObjectOf, AreKeys};
 ghost use Rattle.std.specs.Map.{keys_of, values_of};

@@ -4,7 +4,7 @@ ghost use Rattle.std.specs.Prelude.{◌≡◌, unwrap_or};
 ghost use Rattle.jsonb_value.specs.TreeOrder.{tree_cmp};
 ghost use Rattle.jsonb.specs.Document.{document_tree};
 ghost use Rattle.jsonb.specs.Kind.{kind_of_tree, rank_order};
-ghost use Rattle.jsonb.specs.Known.{trees_left, pairs_left};
+ghost use Rattle.jsonb.specs.Facts.{rest_trees, rest_pairs};
 ghost use Rattle.jsonb.specs.Node.{node_tree, HoldsNoScalar, IsContainer, array_of, object_of};
 
 use crate::document::{Contents, Document, Node};
@@ -74,7 +74,7 @@ fn cmp_containers(left: Document<'_>, right: Document<'_>) -> Ordering
 #[cycle(documents)]
 fn cmp_items(mut left: Items<'_>, mut right: Items<'_>) -> Ordering
     ensures { result
-        ≡ tree_cmp (array_of (trees_left left.entry)) (array_of (trees_left right.entry)) }
+        ≡ tree_cmp (array_of (rest_trees left.entry)) (array_of (rest_trees right.entry)) }
 {
     while let Some(left_item) = left.next() {
         let Some(right_item) = right.next() else {
@@ -97,7 +97,7 @@ fn cmp_items(mut left: Items<'_>, mut right: Items<'_>) -> Ordering
 #[cycle(documents)]
 fn cmp_members(mut left: Members<'_>, mut right: Members<'_>) -> Ordering
     ensures { result
-        ≡ tree_cmp (object_of (pairs_left left.entry)) (object_of (pairs_left right.entry)) }
+        ≡ tree_cmp (object_of (rest_pairs left.entry)) (object_of (rest_pairs right.entry)) }
 {
     while let Some((left_key, left_value)) = left.next() {
         let Some((right_key, right_value)) = right.next() else {

@@ -7,7 +7,7 @@ ghost use Rattle.std.specs.Ordering.{on, eq_by_cmp, as_partial_cmp};
 ghost use Rattle.std.proofs.Common.{rules};
 ghost use Rattle.jsonb_value.specs.Meaning.{meaning_cmp};
 ghost use Rattle.jsonb_value.proofs.MeaningLaws.{meaning_cmp_total};
-ghost use Rattle.jsonb.specs.Meant.{raw_meaning};
+ghost use Rattle.jsonb.specs.ItemMeaning.{raw_meaning};
 
 use super::cmp_bytes;
 use crate::raw::RawJsonb;

@@ -21,9 +21,7 @@ ghost use Rattle.jsonb_codec.specs.Rewriting.{LeavesTo};
 use crate::constants::{CONTAINER_TAG, EXTENSION_TAG, NUMBER_TAG, SCALAR_CONTAINER_TAG};
 use crate::document::DocumentBytes;
 use crate::parts::{Child, Children, Part};
-use crate::ser::append::{
-    append_bytes, append_extension, append_number, append_word, written_size,
-};
+use crate::ser::append::{append_bytes, append_extension, append_number, append_word, entry_size};
 use crate::ser::measure::MAX_PAYLOAD;
 use jsonb_value::Error;
 
@@ -188,7 +186,7 @@ fn append_payload(out: &mut Vec<u8>, part: Part<'_>, entry: usize)
         NUMBER_TAG => append_number(out, part.number()),
         EXTENSION_TAG => append_extension(out, part.extension()),
         CONTAINER_TAG => {
-            let size = written_size(out, entry);
+            let size = entry_size(out, entry);
             append_container(out, part, size);
         }
         _ => append_bytes(out, part.payload),
@@ -221,10 +219,10 @@ fn child_size(child: Child<'_>, left: usize) -> usize
     if child.part.tag == CONTAINER_TAG && behind < child.part.payload.len() {
         return left - payloads_size(child.behind);
     }
-    measured_size(child.part)
+    part_size(child.part)
 }
 
-fn measured_size(part: Part<'_>) -> usize
+fn part_size(part: Part<'_>) -> usize
     requires { (t : Tree) × (Means part t × FitsEntry t) }
     ensures { (t : Tree) → Means part.entry t
         → result ≡ length (payload_of t) }

@@ -80,7 +80,7 @@ fn append_entry(out: &mut Vec<u8>, node: Node<'_, '_>, size: usize)
 
 /// The length in the entry word that was written at the index.
 #[inline(always)]
-pub fn written_size(out: &Vec<u8>, entry: usize) -> usize
+pub fn entry_size(out: &Vec<u8>, entry: usize) -> usize
     requires { (t : Tree) × (FitsEntry t × Stands entry (entry_word t) out.now.items) }
     ensures { (t : Tree) → FitsEntry t → Stands entry (entry_word t) out.now.items
         → result ≡ length (payload_of t) }
@@ -104,11 +104,11 @@ fn append_payload(out: &mut Vec<u8>, node: Node<'_, '_>, entry: usize, plain_lev
         Node::Number(number) => append_number(out, *number),
         Node::Extension(value) => append_extension(out, value),
         Node::Array(items) => {
-            let size = written_size(out, entry);
+            let size = entry_size(out, entry);
             append_array(out, items, size, plain_levels);
         }
         Node::Object(pairs) => {
-            let size = written_size(out, entry);
+            let size = entry_size(out, entry);
             append_object(out, pairs, size, plain_levels);
         }
     }

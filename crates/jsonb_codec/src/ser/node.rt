@@ -5,7 +5,7 @@ ghost use Rattle.jsonb_value.specs.Tree.{no_trees, tree, no_pairs, pair, count, 
 ghost use Rattle.jsonb_value.specs.Value.{tree_of};
 ghost use Rattle.jsonb_value.specs.Ast.{ast_tree, AscendEverywhere};
 ghost use Rattle.jsonb_codec.specs.Doc.{type_of};
-ghost use Rattle.jsonb_codec.specs.Node.{node_tree, items_trees, object_pairs, left_pairs};
+ghost use Rattle.jsonb_codec.specs.Node.{node_tree, items_trees, object_pairs, rest_pairs};
 ghost use Rattle.jsonb_codec.specs.Node.{NodeAscends, ItemsAscend, ObjectAscends, LeftAscend};
 
 use crate::constants::{
@@ -153,7 +153,7 @@ impl<'s, 'a> Pairs<'s, 'a> {
     /// A walk over all of them.
     #[inline(always)]
     pub fn walk(self) -> PairsLeft<'s, 'a>
-        ensures pairs { left_pairs result ≡ object_pairs self.entry }
+        ensures pairs { rest_pairs result ≡ object_pairs self.entry }
         ensures ascend { ObjectAscends self.entry
             → Ascend (object_pairs self.entry) × LeftAscend result }
     {
@@ -168,7 +168,7 @@ impl<'s, 'a> PairsLeft<'s, 'a> {
     /// How many pairs are left.
     #[inline(always)]
     pub fn len(&self) -> usize
-        ensures { result ≡ pair_count (left_pairs self.now) }
+        ensures { result ≡ pair_count (rest_pairs self.now) }
     {
         match self {
             PairsLeft::Values(pairs) => pairs.len(),
@@ -179,7 +179,7 @@ impl<'s, 'a> PairsLeft<'s, 'a> {
     /// A second walk over the pairs that are left.
     #[inline(always)]
     pub fn again(&self) -> PairsLeft<'s, 'a>
-        ensures { left_pairs result ≡ left_pairs self.now }
+        ensures { rest_pairs result ≡ rest_pairs self.now }
     {
         match self {
             PairsLeft::Values(pairs) => {
@@ -195,8 +195,8 @@ impl<'s, 'a> PairsLeft<'s, 'a> {
     /// The first key and its value, and the other pairs.
     #[inline(always)]
     pub fn split_first(self) -> Option<(&'s str, Node<'s, 'a>, PairsLeft<'s, 'a>)>
-        ensures pairs { MatchOption result (left_pairs self.entry ≡ no_pairs)
-            (λ x. left_pairs self.entry ≡ pair x.0.now (node_tree x.1) (left_pairs x.2)) }
+        ensures pairs { MatchOption result (rest_pairs self.entry ≡ no_pairs)
+            (λ x. rest_pairs self.entry ≡ pair x.0.now (node_tree x.1) (rest_pairs x.2)) }
         ensures ascend { LeftAscend self.entry
             → IfSome result (λ x. NodeAscends x.1 × LeftAscend x.2) }
     {

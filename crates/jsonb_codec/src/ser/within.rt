@@ -11,7 +11,7 @@ ghost use Rattle.jsonb_value.specs.Value.{items_view, pairs_view};
 ghost use Rattle.jsonb_value.specs.Ast.{asts_view, ast_pairs_view};
 ghost use Rattle.jsonb_codec.specs.Canon.{payload_of, payloads_of, value_payloads, FitsInside};
 ghost use Rattle.jsonb_codec.specs.Canon.{FitsEntry};
-ghost use Rattle.jsonb_codec.specs.Node.{node_tree, items_trees, object_pairs, left_pairs};
+ghost use Rattle.jsonb_codec.specs.Node.{node_tree, items_trees, object_pairs, rest_pairs};
 
 use super::measure::measure_payload;
 use super::node::{AstPair, Items, Node, Pairs, PairsLeft};
@@ -21,7 +21,7 @@ const FIRST_LIMIT: usize = 64;
 
 /// The length of a payload.
 #[inline(always)]
-pub fn measured_size(node: Node<'_, '_>) -> usize
+pub fn part_size(node: Node<'_, '_>) -> usize
     requires { FitsEntry (node_tree node) }
     ensures { result ≡ length (payload_of (node_tree node.entry)) }
 {
@@ -51,12 +51,12 @@ pub fn item_size(
             if behind.len() == 0 {
                 left
             } else if plain_levels > 0 {
-                measured_size(item)
+                part_size(item)
             } else {
-                found_by_items(item, behind, left)
+                size_by_items(item, behind, left)
             }
         }
-        _ => measured_size(item),
+        _ => part_size(item),
     }
 }
 
@@ -69,9 +69,9 @@ pub fn value_size(
     plain_levels: usize,
 ) -> usize
     requires fits { FitsEntry (node_tree value) }
-    requires behind { FitsInside (object (left_pairs behind.now)) }
+    requires behind { FitsInside (object (rest_pairs behind.now)) }
     requires left { left ≡ length (payload_of (node_tree value))
-        + length (value_payloads (left_pairs behind.now)) }
+        + length (value_payloads (rest_pairs behind.now)) }
     ensures { result ≡ length (payload_of (node_tree value.entry)) }
 {
     match value {
@@ -79,17 +79,17 @@ pub fn value_size(
             if behind.len() == 0 {
                 left
             } else if plain_levels > 0 {
-                measured_size(value)
+                part_size(value)
             } else {
-                found_by_pairs(value, behind.again(), left)
+                size_by_pairs(value, behind.again(), left)
             }
         }
-        _ => measured_size(value),
+        _ => part_size(value),
     }
 }
 
 // The same, of a container.
-fn found_by_items(item: Node<'_, '_>, behind: Items<'_, '_>, left: usize) -> usize
+fn size_by_items(item: Node<'_, '_>, behind: Items<'_, '_>, left: usize) -> usize
     requires fits { FitsEntry (node_tree item) }
     requires behind { FitsInside (array (items_trees behind)) }
     requires left { left ≡ length (payload_of (node_tree item))
@@ -106,15 +106,15 @@ fn found_by_items(item: Node<'_, '_>, behind: Items<'_, '_>, left: usize) -> usi
         }
         most *= 4;
     }
-    measured_size(item)
+    part_size(item)
 }
 
 // The same, of a container.
-fn found_by_pairs(value: Node<'_, '_>, behind: PairsLeft<'_, '_>, left: usize) -> usize
+fn size_by_pairs(value: Node<'_, '_>, behind: PairsLeft<'_, '_>, left: usize) -> usize
     requires fits { FitsEntry (node_tree value) }
-    requires behind { FitsInside (object (left_pairs behind)) }
+    requires behind { FitsInside (object (rest_pairs behind)) }
     requires left { left ≡ length (payload_of (node_tree value))
-        + length (value_payloads (left_pairs behind)) }
+        + length (value_payloads (rest_pairs behind)) }
     ensures { result ≡ length (payload_of (node_tree value.entry)) }
 {
     let mut most = FIRST_LIMIT;
@@ -127,7 +127,7 @@ fn found_by_pairs(value: Node<'_, '_>, behind: PairsLeft<'_, '_>, left: usize) -
         }
         most *= 4;
     }
-    measured_size(value)
+    part_size(value)
 }
 
 // The length of a payload, or none once it is past the limit.
@@ -230,8 +230,8 @@ fn payloads_within(items: Items<'_, '_>, most: usize) -> Option<usize>
 
 // The same of the values in pairs, each of which counts for eight bytes more.
 fn values_within(pairs: PairsLeft<'_, '_>, most: usize) -> Option<usize>
-    requires { FitsInside (object (left_pairs pairs)) }
-    ensures { IfSome result (λ n. n ≡ length (value_payloads (left_pairs pairs.entry))) }
+    requires { FitsInside (object (rest_pairs pairs)) }
+    ensures { IfSome result (λ n. n ≡ length (value_payloads (rest_pairs pairs.entry))) }
 {
     if pairs.len() > most / 8 {
         return None;

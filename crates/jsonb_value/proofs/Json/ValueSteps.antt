@@ -28,7 +28,7 @@ use Rattle.jsonb_value.specs.declared.value.Value.{Value, Array, Null, Bool as B
 use Rattle.jsonb_value.specs.declared.value.Value.{the_lemmas, fold-Value}
 use mathlib.Core.Former.{pair, const, this}
 use Rattle.jsonb_value.specs.Reader.Gives.{Gives, Fails}
-use Rattle.jsonb_value.specs.Reader.Held.{ItemIsRead, KeyIsRead, MemberIsRead}
+use Rattle.jsonb_value.specs.Reader.Content.{ItemIsRead, KeyIsRead, MemberIsRead}
 use Rattle.jsonb_value.specs.Value.{trees_of, pairs_of, pairs_view, tree_of, tree_step}
 
 pub view-Null : tree_of Null ≡ null

@@ -2,7 +2,7 @@
 
 ghost use Rattle.std.specs.Prelude.{◌≡◌, ◌++◌, [], string_cmp, IfOk, IfErr, OnOk};
 ghost use Rattle.std.specs.BTreeMap.{insert_entry, IsFromIterResult};
-ghost use Rattle.jsonb_value.specs.Reader.Held.{members_held};
+ghost use Rattle.jsonb_value.specs.Reader.Content.{members_held};
 ghost use Rattle.jsonb_value.specs.Value.{pairs_view};
 
 use crate::error::Error;

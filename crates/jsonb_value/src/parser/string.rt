@@ -145,7 +145,7 @@ fn split_plain(text: &str) -> (&str, &str)
 
 // The string that begins with `front`, up to the quote that closes it, and what follows.
 #[inline(never)]
-fn read_escaped<'a>(alloc: Global, front: &str, text: &'a str) -> Result<(String, &'a str), Error>
+fn read_escapes<'a>(alloc: Global, front: &str, text: &'a str) -> Result<(String, &'a str), Error>
     ensures { (n : ℕ) → length (chars text.now) < n
         → Gives (λ found. (string_bytes found.0, chars found.1.now)) result
         (read_text n front.now (chars text.now)) }
@@ -180,6 +180,6 @@ pub fn read_string<'a>(alloc: Global, text: &'a str) -> Result<(CowStr<'a>, &'a 
     if let Some(after) = after_char(rest, '"') {
         return Ok((CowStr::Borrowed(front), after));
     }
-    let (content, after) = read_escaped(alloc, front, rest)?;
+    let (content, after) = read_escapes(alloc, front, rest)?;
     Ok((CowStr::Owned(content), after))
 }

@@ -6,12 +6,12 @@ use Rattle.answer_lines.proofs.run.answer_lines.Goals as goal
 
 pub reads-init : goal.reads-init
 reads-init g c = record {
-  one_line = rw c.new-begun.ensures.items no_line;
-  answered = rw c.new-begun.ensures.items (run_begins g.A.LineAnswerer.rule _ _ _);
+  one_line = rw c.new-start.ensures.items no_line;
+  answered = rw c.new-start.ensures.items (run_begins g.A.LineAnswerer.rule _ _ _);
 }
 
-pub returns-in_default-clause-begun : goal.returns-in_default-clause-begun
-returns-in_default-clause-begun g c = run_stops g.A.LineAnswerer.rule _ _ _ _ _ _ _ c.reads.invariant.answered
+pub returns-in_default-clause-beginning : goal.returns-in_default-clause-beginning
+returns-in_default-clause-beginning g c = run_stops g.A.LineAnswerer.rule _ _ _ _ _ _ _ c.reads.invariant.answered
 
 pub returns-in_default-clause-prompt : goal.returns-in_default-clause-prompt
 returns-in_default-clause-prompt g c fault =
@@ -27,8 +27,8 @@ returns-then-count-eq0-clause-done g c =
     (run_ends g.A.LineAnswerer.rule _ _ _ _ _ _ _ _ _ _ c.reads.invariant.answered read.0
     (read.1 refl room)) c.answer_rest.ensures.ok
 
-pub returns-then-count-eq0-clause-begun : goal.returns-then-count-eq0-clause-begun
-returns-then-count-eq0-clause-begun g c =
+pub returns-then-count-eq0-clause-beginning : goal.returns-then-count-eq0-clause-beginning
+returns-then-count-eq0-clause-beginning g c =
     let zero : c.in-Ok.count ≡ 0 = search rules in
     let read = rw zero at c.in-Ok.ensures.bytes in
     let room : 0 < length c.ask.new.buffer = search rules in
@@ -36,21 +36,22 @@ returns-then-count-eq0-clause-begun g c =
     (run_ends_early g.A.LineAnswerer.rule _ _ _ _ _ _ _ _ _ c.reads.invariant.answered read.0
     (read.1 refl room)) c.answer_rest.ensures.err
 
-pub returns-in_err-answer_chunk-clause-begun : goal.returns-in_err-answer_chunk-clause-begun
-returns-in_err-answer_chunk-clause-begun g c =
+pub returns-in_err-answer_chunk-clause-beginning : goal.returns-in_err-answer_chunk-clause-beginning
+returns-in_err-answer_chunk-clause-beginning g c =
     on_err _ _
     (run_faults g.A.LineAnswerer.rule _ _ _ _ _ _ _ _ _ _ c.reads.invariant.answered c.in-Ok.ensures.bytes.0
     (search rules))
 
 pub reads-preserved : goal.reads-preserved
 reads-preserved g c = record {
-  one_line = c.in_ok-answer_chunk.ensures.ok.begun_line;
+  one_line = c.in_ok-answer_chunk.ensures.ok.start_line;
   answered =
       run_chunk g.A.LineAnswerer.rule _ _ _ _ _ _ _ _ _ _ _ _ c.reads.invariant.answered c.in-Ok.ensures.bytes.0 (search rules);
 }
 
-pub returns-clause-begun : goal.returns-clause-begun
-returns-clause-begun g c = run_stops g.A.LineAnswerer.rule _ _ _ _ _ _ _ c.reads.invariant.answered
+pub returns-clause-beginning : goal.returns-clause-beginning
+returns-clause-beginning g c =
+    run_stops g.A.LineAnswerer.rule _ _ _ _ _ _ _ c.reads.invariant.answered
 
 pub returns-clause-prompt : goal.returns-clause-prompt
 returns-clause-prompt g c fault =

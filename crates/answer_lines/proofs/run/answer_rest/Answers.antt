@@ -12,18 +12,18 @@ returns-in_err-reply_to-clause-err g c = on_err _ _ (begins_nothing g.A.LineAnsw
 
 pub returns-clause-ok : goal.returns-clause-ok
 returns-clause-ok g c =
-    let some : c.args.begun.now.items ≢ [] = search rules in
+    let some : c.args.start.now.items ≢ [] = search rules in
     let reply : IsReplyTo g.A.LineAnswerer.rule c.args.answerer.now c.reply_to.new.answerer
-    c.args.begun.now.items c.as_bytes.result.now =
+    c.args.start.now.items c.as_bytes.result.now =
     reply_in g.A.LineAnswerer.rule _ _
     _ _ _ _ c.in_ok-reply_to.ensures.ok (sym (append-nil _)) c.as_bytes.ensures.value in
     last_answered g.A.LineAnswerer.rule _ _ _ _ _ _ _ some c.requires reply c.write_bytes.ensures.ok
 
 pub returns-clause-err : goal.returns-clause-err
 returns-clause-err g c =
-    let some : c.args.begun.now.items ≢ [] = search rules in
+    let some : c.args.start.now.items ≢ [] = search rules in
     let reply : IsReplyTo g.A.LineAnswerer.rule c.args.answerer.now c.reply_to.new.answerer
-    c.args.begun.now.items c.as_bytes.result.now =
+    c.args.start.now.items c.as_bytes.result.now =
     reply_in g.A.LineAnswerer.rule _ _
     _ _ _ _ c.in_ok-reply_to.ensures.ok (sym (append-nil _)) c.as_bytes.ensures.value in
     last_faults g.A.LineAnswerer.rule _ _ _ _ _ _ _ some c.requires reply c.write_bytes.ensures.err

@@ -1,6 +1,6 @@
 use Rattle.std.proofs.Common.{arith}
 use Rattle.std.proofs.lemmas.Grind.{common_steps}
-use Rattle.answer_lines.proofs.Written.{all_but_more}
+use Rattle.answer_lines.proofs.Output.{all_but_more}
 use Rattle.answer_lines.proofs.write.write_bytes.Goals as goal
 
 pub loop-rest-preserved : goal.loop-rest-preserved

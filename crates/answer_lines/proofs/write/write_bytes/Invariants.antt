@@ -1,5 +1,5 @@
 use Rattle.std.proofs.Common.{length}
-use Rattle.answer_lines.specs.Written.{AppendsAllBut}
+use Rattle.answer_lines.specs.Output.{AppendsAllBut}
 use Rattle.answer_lines.proofs.write.write_bytes.Given as goal
 
 abbrev pub invariant-loop-rest : goal.invariant-loop-rest

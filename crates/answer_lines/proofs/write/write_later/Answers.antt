@@ -1,15 +1,15 @@
 use Rattle.std.proofs.Common.{rules}
 use Rattle.std.specs.Io.KnownBytes.{Appends}
-use Rattle.answer_lines.specs.Written.{AppendsPrefix}
+use Rattle.answer_lines.specs.Output.{AppendsPrefix}
 use Rattle.answer_lines.proofs.Running.{on_err, ok_gives, err_gives}
-use Rattle.answer_lines.proofs.Written.{prefix_of_more, prefix_after_all, all_but_none}
+use Rattle.answer_lines.proofs.Output.{prefix_of_more, prefix_after_all, all_but_none}
 use Rattle.answer_lines.proofs.write.write_later.Goals as goal
 
 pub returns-in_err-write_bytes-clause-err : goal.returns-in_err-write_bytes-clause-err
 returns-in_err-write_bytes-clause-err g c =
-    let begun : AppendsPrefix (g.W.Write.contents c.args.writer.now)
+    let start : AppendsPrefix (g.W.Write.contents c.args.writer.now)
     (g.W.Write.contents c.write_bytes.new.writer) c.args.waiting.now.items = search rules in
-    on_err c.from_residual.result _ (prefix_of_more _ _ _ _ begun)
+    on_err c.from_residual.result _ (prefix_of_more _ _ _ _ start)
 
 pub returns-clause-ok : goal.returns-clause-ok
 returns-clause-ok g c =

@@ -1,6 +1,6 @@
 use Rattle.std.proofs.Common.{subst, sym, ◌∙◌}
 use Rattle.jsonb_codec.specs.Doc.{Doc}
-use Rattle.jsonb.proofs.StoredLaws.{document_code-part}
+use Rattle.jsonb.proofs.StorageLaws.{document_code-part}
 use Rattle.jsonb.proofs.code.document_code.Goals as goal
 
 pub returns : goal.returns

@@ -11,8 +11,8 @@ returns-in_err-key-clause-unread g c =
     let why = λ (name : List ℕ). IsUnreadable
     (λ (key : List ℕ) (b : Bool). FnReturnsAtPair g.F.Fn c.args.eq_func.now name key b)
     (length name) c.args.bytes.now c.args.count in
-    let unread = if_err c.accepted_key.result c.in_err-key.field-0.0
-    (why c.as_bytes.result.now) c.accepted_key.ensures.unread c.in_err-key.was in
+    let unread = if_err c.matching_key.result c.in_err-key.field-0.0
+    (why c.as_bytes.result.now) c.matching_key.ensures.unread c.in_err-key.was in
     let refused : c.from_residual.result ≡ Err c.in_err-key.field-0.0 = search rules in
     if_refused c.from_residual.result _ (why c.args.name.now) refused
     (subst (λ (name : List ℕ). why name c.in_err-key.field-0.0) c.as_bytes.ensures.value unread)

@@ -1,4 +1,4 @@
-use Rattle.jsonb.proofs.MeantLaws.{value_meaning}
+use Rattle.jsonb.proofs.ItemMeaningLaws.{value_meaning}
 use Rattle.jsonb.proofs.order.bytes_of.Goals as goal
 
 pub returns-in_default : goal.returns-in_default

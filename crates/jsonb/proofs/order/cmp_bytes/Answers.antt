@@ -1,7 +1,7 @@
 use Rattle.std.proofs.Common.{sym, ◌∙◌}
 use Rattle.jsonb_value.specs.Meaning.{meaning_cmp}
 use Rattle.jsonb_value.specs.Tree.{text}
-use Rattle.jsonb.proofs.MeantLaws.{meaning_of-document}
+use Rattle.jsonb.proofs.ItemMeaningLaws.{meaning_of-document}
 use Rattle.jsonb.proofs.order.cmp_bytes.Goals as goal
 
 pub returns-in-Some-Some : goal.returns-in-Some-Some

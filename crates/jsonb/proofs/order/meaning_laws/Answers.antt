@@ -1,4 +1,5 @@
-use Rattle.jsonb.proofs.MeantLaws.{meaning_of-document, meaning_of-other, view_meaning-document}
+use Rattle.jsonb.proofs.ItemMeaningLaws.{meaning_of-document, meaning_of-other}
+use Rattle.jsonb.proofs.ItemMeaningLaws.{view_meaning-document}
 use Rattle.jsonb.proofs.order.meaning_laws.Goals as goal
 
 pub returns : goal.returns

@@ -1,7 +1,7 @@
 use Rattle.std.proofs.Common.{sym, ap, ◌∙◌}
 use Rattle.jsonb_value.specs.Meaning.{document}
 use Rattle.jsonb.proofs.DocumentLaws.{document_meaning, no_document}
-use Rattle.jsonb.proofs.MeantLaws.{meaning_of-other}
+use Rattle.jsonb.proofs.ItemMeaningLaws.{meaning_of-other}
 use Rattle.jsonb.proofs.order.node_in.Goals as goal
 
 pub returns-in-Some-clause-means : goal.returns-in-Some-clause-means
@@ -9,4 +9,4 @@ returns-in-Some-clause-means c = sym (document_meaning _ c.in-Some.document c.in
     ∙ ap document (sym c.node.ensures.tree)
 
 pub returns-in-None-clause-means : goal.returns-in-None-clause-means
-returns-in-None-clause-means c = meaning_of-other _ (no_document _ c.in-None.ensures.known)
+returns-in-None-clause-means c = meaning_of-other _ (no_document _ c.in-None.ensures.exact)

@@ -3,7 +3,7 @@ use Rattle.jsonb_value.specs.Tree.{array, object}
 use Rattle.jsonb_value.specs.Text.{inside, line_start, laid_out}
 use Rattle.jsonb_value.specs.Value.{trees_of}
 use Rattle.jsonb_value.proofs.Writing.{joins_two, joins_three}
-use Rattle.jsonb.specs.Known.{trees_left, pairs_left}
+use Rattle.jsonb.specs.Facts.{rest_trees, rest_pairs}
 use Rattle.jsonb.specs.Lines.{more_lines, item_lines, pair_lines, pair_text}
 use Rattle.jsonb.specs.Node.{node_tree, pairs_of}
 use Rattle.jsonb.specs.Texts.{layout_of}
@@ -20,12 +20,12 @@ pub write_items-items-init : goal.write_items-items-init
 write_items-items-init g t c =
     let l = layout_of c.args.layout in
     let u = node_tree c.in-Some.first in
-    let behind = items_behind (trees_left c.args.items)
-    (trees_left c.next.new.self) u c.in-Some.ensures.steps in (
+    let behind = items_behind (rest_trees c.args.items)
+    (rest_trees c.next.new.self) u c.in-Some.ensures.steps in (
       behind.less,
       behind.no_deeper,
       codes "[" ++ (line_start (inside l) ++ laid_out (inside l) u),
-      items_begin l (trees_of (trees_left c.args.items)) u (trees_of (trees_left c.next.new.self))
+      items_begin l (trees_of (rest_trees c.args.items)) u (trees_of (rest_trees c.next.new.self))
           (ap trees_of c.in-Some.ensures.steps),
       λ flush.
           let one = c.write_str-2.ensures.styled flush (search rules) in
@@ -40,16 +40,16 @@ write_items-items-preserved g t c =
     let end = line_start l ++ codes "]" in
     let u = node_tree c.in-Some-next.next in
     let line = laid_out (inside l) u in
-    let left = trees_left c.next-in-items.new.self in
+    let left = rest_trees c.next-in-items.new.self in
     let (less, no_deeper, done, whole, writes) = c.items.invariant in
-    let behind = items_behind (trees_left c.items.items) left u c.in-Some-next.ensures.steps in (
+    let behind = items_behind (rest_trees c.items.items) left u c.in-Some-next.ensures.steps in (
       omega (arith, behind.less, less),
       omega (arith, behind.no_deeper, no_deeper),
       done ++ (codes "," ++ (line_start (inside l) ++ line)),
       lines_next (inside l) done end _ line (item_lines (inside l) (trees_of left))
           (subst (λ xs. done ++ (more_lines (inside l) (item_lines (inside l) (trees_of xs)) ++ end)
           ≡ laid_out l
-          (array (trees_of (trees_left c.args.items)))) c.in-Some-next.ensures.steps whole),
+          (array (trees_of (rest_trees c.args.items)))) c.in-Some-next.ensures.steps whole),
       λ flush.
           let so_far = writes flush in
           let one = c.write_str-in-Some-next.ensures.styled so_far.flush (search rules) in
@@ -70,7 +70,7 @@ write_items-returns g t c flush ok =
     joins_three _ _ _ _ _ _ _ _ _ so_far one two
     (subst (λ xs. done ++ (more_lines (inside l) (item_lines (inside l) (trees_of xs)) ++ end)
     ≡ laid_out l
-    (array (trees_of (trees_left c.args.items)))) c.in_default-next.ensures.steps.0 whole)
+    (array (trees_of (rest_trees c.args.items)))) c.in_default-next.ensures.steps.0 whole)
 
 pub write_member-returns : goal.write_member-returns
 write_member-returns g t c flush ok =
@@ -88,13 +88,13 @@ write_members-members-init g t c =
     let l = layout_of c.args.layout in
     let k = c.in-Some.key.now in
     let u = node_tree c.in-Some.value in
-    let behind = pairs_behind (pairs_left c.args.members)
-    (pairs_left c.next.new.self) k u c.in-Some.ensures.steps in (
+    let behind = pairs_behind (rest_pairs c.args.members)
+    (rest_pairs c.next.new.self) k u c.in-Some.ensures.steps in (
       behind.less,
       behind.no_deeper,
       codes "{" ++ (line_start (inside l) ++ pair_text (inside l) k u),
-      pairs_begin l (pairs_of (pairs_left c.args.members)) k u
-          (pairs_of (pairs_left c.next.new.self)) (ap pairs_of c.in-Some.ensures.steps),
+      pairs_begin l (pairs_of (rest_pairs c.args.members)) k u
+          (pairs_of (rest_pairs c.next.new.self)) (ap pairs_of c.in-Some.ensures.steps),
       λ flush.
           let one = c.write_str-2.ensures.styled flush (search rules) in
           let two = c.write_member.ensures one.flush (search rules) in
@@ -109,17 +109,17 @@ write_members-members-preserved g t c =
     let k = c.in-Some-next.key.now in
     let u = node_tree c.in-Some-next.value in
     let line = pair_text (inside l) k u in
-    let left = pairs_left c.next-in-members.new.self in
+    let left = rest_pairs c.next-in-members.new.self in
     let (less, no_deeper, done, whole, writes) = c.members.invariant in
     let behind =
-    pairs_behind (pairs_left c.members.members) left k u c.in-Some-next.ensures.steps in (
+    pairs_behind (rest_pairs c.members.members) left k u c.in-Some-next.ensures.steps in (
       omega (arith, behind.less, less),
       omega (arith, behind.no_deeper, no_deeper),
       done ++ (codes "," ++ (line_start (inside l) ++ line)),
       lines_next (inside l) done end _ line (pair_lines (inside l) (pairs_of left))
           (subst (λ ps. done ++ (more_lines (inside l) (pair_lines (inside l) (pairs_of ps)) ++ end)
           ≡ laid_out l
-          (object (pairs_of (pairs_left c.args.members)))) c.in-Some-next.ensures.steps whole),
+          (object (pairs_of (rest_pairs c.args.members)))) c.in-Some-next.ensures.steps whole),
       λ flush.
           let so_far = writes flush in
           let one = c.write_str-in-Some-next.ensures.styled so_far.flush (search rules) in
@@ -140,4 +140,4 @@ write_members-returns g t c flush ok =
     joins_three _ _ _ _ _ _ _ _ _ so_far one two
     (subst (λ ps. done ++ (more_lines (inside l) (pair_lines (inside l) (pairs_of ps)) ++ end)
     ≡ laid_out l
-    (object (pairs_of (pairs_left c.args.members)))) c.in_default-next.ensures.steps.0 whole)
+    (object (pairs_of (rest_pairs c.args.members)))) c.in_default-next.ensures.steps.0 whole)

@@ -17,7 +17,7 @@ pub returns-in-None-clause-text : goal.returns-in-None-clause-text
 returns-in-None-clause-text g c flush ok =
     let b = c.args.bytes.now in
     has_written_styled_of_eq _ _ _ _ _
-    (sym (pretty_display_text-other b (no_document b c.in-None.ensures.known)))
+    (sym (pretty_display_text-other b (no_document b c.in-None.ensures.exact)))
     (c.write_str.ensures.styled flush ok)
 
 pub returns-in-Some-clause-tree : goal.returns-in-Some-clause-tree

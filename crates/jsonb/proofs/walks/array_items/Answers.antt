@@ -1,5 +1,5 @@
 use Rattle.jsonb.specs.Raw.{raw_bytes}
-use Rattle.jsonb.specs.Walked.{WalksArray, WalksItems}
+use Rattle.jsonb.specs.DocumentWalk.{WalksArray, WalksItems}
 use Rattle.jsonb.proofs.WholeWalks.{whole_walk, no_error, WalksArray-count, WalksArray-error}
 use Rattle.jsonb.proofs.walks.array_items.Goals as goal
 

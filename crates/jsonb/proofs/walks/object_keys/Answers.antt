@@ -1,4 +1,4 @@
-use Rattle.jsonb.specs.Walked.{WalksKeys}
+use Rattle.jsonb.specs.DocumentWalk.{WalksKeys}
 use Rattle.jsonb.proofs.WholeWalks.{whole_walk, no_error, WalksKeys-count, WalksKeys-error}
 use Rattle.jsonb.proofs.walks.object_keys.Goals as goal
 

@@ -1,5 +1,5 @@
 use Rattle.jsonb.specs.Raw.{raw_bytes}
-use Rattle.jsonb.specs.Walked.{WalksPairs, WalksMembers}
+use Rattle.jsonb.specs.DocumentWalk.{WalksPairs, WalksMembers}
 use Rattle.jsonb.proofs.WholeWalks.{whole_walk, no_error, WalksPairs-count, WalksPairs-error}
 use Rattle.jsonb.proofs.walks.object_pairs.Goals as goal
 

@@ -1,5 +1,5 @@
 use Rattle.jsonb.specs.Raw.{raw_bytes}
-use Rattle.jsonb.specs.Walked.{WalksValues, WalksValueItems}
+use Rattle.jsonb.specs.DocumentWalk.{WalksValues, WalksValueItems}
 use Rattle.jsonb.proofs.WholeWalks.{whole_walk, no_error, WalksValues-count, WalksValues-error}
 use Rattle.jsonb.proofs.walks.object_values.Goals as goal
 

@@ -1,6 +1,6 @@
 use Rattle.std.proofs.Common.{◌≡◌, ℕ, List, inl, ap, ap₂, ◌∙◌}
 use Rattle.jsonb_value.specs.Meaning.{meaning_cmp}
-use Rattle.jsonb.specs.Meant.{meaning_of}
+use Rattle.jsonb.specs.ItemMeaning.{meaning_of}
 use Rattle.jsonb_cli.specs.AnswerLine.{ok_line}
 use Rattle.jsonb_cli.specs.Answers.{told, order_words}
 use Rattle.jsonb_cli.proofs.calls.answer_cmp.Goals as goal

@@ -43,9 +43,9 @@ returns-in-Ok-Some c =
     let stands =
     item_stands _ _ _ _ t c.in-Ok-Some.field-0 c.in-Ok-Some.item c.deref.ensures.value c.in-Ok-Some.field-0-is (c.in-Ok-Some.ensures.entry t means) in
     get_found c.args.word.now c.args.key.now c.in_ok-bytes.bytes.items name t u
-    (item_view c.in-Ok-Some.item) c.stored_answer.result c.in_ok-bytes.ensures.ok named
-    (subst (λ b. Doc b t) c.deref.ensures.value means) is item stands c.stored_answer.ensures.ok
-    (c.stored_answer.ensures.memory (IsItemOf-CanBeStored u (item_view c.in-Ok-Some.item) item))
+    (item_view c.in-Ok-Some.item) c.item_answer.result c.in_ok-bytes.ensures.ok named
+    (subst (λ b. Doc b t) c.deref.ensures.value means) is item stands c.item_answer.ensures.ok
+    (c.item_answer.ensures.memory (IsItemOf-CanBeStored u (item_view c.in-Ok-Some.item) item))
 
 pub returns-in-Ok-None : goal.returns-in-Ok-None
 returns-in-Ok-None c =
@@ -79,6 +79,6 @@ returns c =
           (subst (λ n. Json (chars c.in-Ok.json.now)
           (text n)) is_name c.in-Ok-parse_name.ensures.ok),
     ) in
-    let (is, not) = c.in-Err-value_named.ensures.none in
+    let (is, not) = c.in-Err-value_of_name.ensures.none in
     inl (no_document c.in_ok-bytes.bytes.items name c.in_ok-bytes.ensures.ok named
     (subst (λ b. IsDocument b → ⊥) c.deref.ensures.value not) (ap said_of is))

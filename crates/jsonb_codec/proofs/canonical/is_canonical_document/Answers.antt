@@ -6,7 +6,7 @@ use Rattle.jsonb_codec.proofs.canonical.is_canonical_document.Goals as goal
 
 pub is_written_document-requires : goal.is_written_document-requires
 is_written_document-requires c =
-    subst IsDocument (sym c.as_bytes.ensures) (known_document _ c.args.document.known)
+    subst IsDocument (sym c.as_bytes.ensures) (known_document _ c.args.document.fact)
 
 pub returns : goal.returns
 returns c =

@@ -5,7 +5,7 @@ use Rattle.jsonb_value.specs.Tree.{Ascend}
 use Rattle.jsonb_value.specs.Value.{tree_of, pairs_view}
 use Rattle.jsonb_codec.proofs.Building.{trees_and, trees_and-none, pairs_and, pairs_and-none}
 use Rattle.jsonb_codec.proofs.Building.{trees_and-push, pairs_and-push, pairs_and-behind, seen}
-use Rattle.jsonb_codec.proofs.Sorted.{from_ascending}
+use Rattle.jsonb_codec.proofs.SortOrder.{from_ascending}
 use Rattle.jsonb_codec.proofs.de.+value.Goals as goal
 
 pub build_items-loop-child-preserved : goal.build_items-loop-child-preserved

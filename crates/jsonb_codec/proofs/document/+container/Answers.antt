@@ -17,7 +17,7 @@ use Rattle.jsonb_codec.proofs.document.+container.Goals as goal
 
 pub check_array-returns-then-body-count : goal.check_array-returns-then-body-count
 check_array-returns-then-body-count t c =
-    (c.entries_cut.ensures, λ h. let room = array_room c.args.count c.args.body.now h.0 h.1.1 in let short = c.if-body-count.true in let never : ⊥ = omega arith in never)
+    (c.short_entries.ensures, λ h. let room = array_room c.args.count c.args.body.now h.0 h.1.1 in let short = c.if-body-count.true in let never : ⊥ = omega arith in never)
 
 pub check_array-returns : goal.check_array-returns
 check_array-returns t c =
@@ -87,7 +87,7 @@ check_children-returns-then-is_empty t c =
 pub check_children-returns-else-is_empty : goal.check_children-returns-else-is_empty
 check_children-returns-else-is_empty t c =
     let l = c.loop-entry in (
-      c.left_over.ensures,
+      c.excess.ensures,
       λ h. not_empty _ l.payloads_left.now c.is_empty.ensures c.if-is_empty.false
           (ap length
           (let left = l.invariant.onward h in
@@ -96,7 +96,7 @@ check_children-returns-else-is_empty t c =
 
 pub check_container-returns-in_default : goal.check_container-returns-in_default
 check_container-returns-in_default t c =
-    (c.inner_header_cut.ensures, λ h. let room = container_room h.0 c.args.bytes.now h.1.1 in let short = c.in_default.ensures.none in let never : ⊥ = omega arith in never)
+    (c.short_inner_header.ensures, λ h. let room = container_room h.0 c.args.bytes.now h.1.1 in let short = c.in_default.ensures.none in let never : ⊥ = omega arith in never)
 
 pub check_container-check_array-requires : goal.check_container-check_array-requires
 check_container-check_array-requires t c =
@@ -232,7 +232,7 @@ check_keys-returns-clause-ascend t c =
 
 pub check_object-returns-then-body-count : goal.check_object-returns-then-body-count
 check_object-returns-then-body-count t c =
-    (c.entries_cut.ensures, λ h. let room = object_room c.args.count c.args.body.now h.0 h.1.1 in let short = c.if-body-count.true in let never : ⊥ = omega arith in never)
+    (c.short_entries.ensures, λ h. let room = object_room c.args.count c.args.body.now h.0 h.1.1 in let short = c.if-body-count.true in let never : ⊥ = omega arith in never)
 
 pub check_object-returns-in_err-keys : goal.check_object-returns-in_err-keys
 check_object-returns-in_err-keys t c =

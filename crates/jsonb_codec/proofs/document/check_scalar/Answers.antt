@@ -13,7 +13,7 @@ returns-then-count-ne0 c = (
 
 pub returns-in_default : goal.returns-in_default
 returns-in_default c =
-    (c.entries_cut.ensures, λ h. let room = scalar_entry c.args.count c.args.body.now c.requires h.0 h.1.1 in let short = c.in_default.ensures.none in let never : ⊥ = omega arith in never)
+    (c.short_entries.ensures, λ h. let room = scalar_entry c.args.count c.args.body.now c.requires h.0 h.1.1 in let short = c.in_default.ensures.none in let never : ⊥ = omega arith in never)
 
 pub returns-then-entry-eq-CONTAINER_TAG : goal.returns-then-entry-eq-CONTAINER_TAG
 returns-then-entry-eq-CONTAINER_TAG c =
@@ -54,7 +54,7 @@ returns-then-not-is_empty c =
     let onward =
     scalar_onward c.args.count c.args.body.now c.requires e.tag e.number e.rest.now read in
     let behind = ap length c.in_ok-payload.ensures.behind ∙ length-drop e.number e.rest.now in (
-      c.left_over.ensures,
+      c.excess.ensures,
       λ h. let len =
           (onward h).1.0 in not_empty _ c.in_ok-payload.behind.now c.is_empty.ensures c.if-not-is_empty.true (omega arith),
     )

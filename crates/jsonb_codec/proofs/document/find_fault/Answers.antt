@@ -8,7 +8,7 @@ use Rattle.jsonb_codec.proofs.document.find_fault.Goals as goal
 
 pub returns-in_default : goal.returns-in_default
 returns-in_default c =
-    (c.header_cut.ensures, λ h. let room = document_room h.0 c.args.bytes.now h.1.1 in let short = c.in_default.ensures.none in let never : ⊥ = omega arith in never)
+    (c.short_header.ensures, λ h. let room = document_room h.0 c.args.bytes.now h.1.1 in let short = c.in_default.ensures.none in let never : ⊥ = omega arith in never)
 
 pub returns-then-header-eq-SCALAR_CONTAINER_TAG : goal.returns-then-header-eq-SCALAR_CONTAINER_TAG
 returns-then-header-eq-SCALAR_CONTAINER_TAG c =

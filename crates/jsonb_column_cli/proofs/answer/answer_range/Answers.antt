@@ -2,7 +2,7 @@ use Rattle.std.proofs.Common.{◌≡◌, ℕ, List, map, refl, ap, ap₂, ◌∙
 use Rattle.std.specs.Prelude.{filter}
 use Rattle.jsonb.specs.Document.{document_bytes, tree_in}
 use Rattle.jsonb.specs.Owned.{owned_bytes}
-use Rattle.jsonb_column.specs.Sorted.{is_between, sorted_rows}
+use Rattle.jsonb_column.specs.SortOrder.{is_between, sorted_rows}
 use Rattle.jsonb_column_cli.specs.Answers.{rows_line, IsOrderOf}
 use Rattle.jsonb_column_cli.specs.Commands.{range}
 use Rattle.jsonb_column_cli.proofs.Replies.{shows}
@@ -14,7 +14,7 @@ returns c =
     let ordered : IsOrderOf c.args.column.now order =
     record {
       permutation = c.in_ok-sorted.ensures.rows;
-      ordered = c.in_ok-sorted.ensures.ordered;
+      ordered = c.in_ok-sorted.ensures.order;
       stable = c.in_ok-sorted.ensures.stable;
     } in
     let low : document_bytes c.new_unchecked-low.result ≡ owned_bytes c.in_ok-low.low =
@@ -33,8 +33,8 @@ returns c =
         (
           order,
           (
-            c.in_ok-low.ensures.given,
-            (c.in_ok-high.ensures.given, (ordered, (is ∙ ap rows_line shown, refl))),
+            c.in_ok-low.ensures.meaning,
+            (c.in_ok-high.ensures.meaning, (ordered, (is ∙ ap rows_line shown, refl))),
           ),
         ),
       ),

@@ -13,7 +13,7 @@ returns-then-left-right c =
     let right = c.args.right in
     let left_fits : FitsSigned w128 left.value = search rules in
     let right_fits : FitsSigned w128 right.value = search rules in
-    let answer = simp to_z-of_z at c.cmp_scaled.ensures in
+    let answer = simp to_z-of_z at c.cmp_by_scale.ensures in
     answer ∙ aligned (fraction_of (Decimal128 left))
     (fraction_of (Decimal128 right)) c.if-left-right.true
 
@@ -23,7 +23,7 @@ returns-else-left-right c =
     let right = c.args.right in
     let left_fits : FitsSigned w128 left.value = search rules in
     let right_fits : FitsSigned w128 right.value = search rules in
-    let answer = simp to_z-of_z at c.cmp_scaled-else-left-right.ensures in
+    let answer = simp to_z-of_z at c.cmp_by_scale-else-left-right.ensures in
     c.reverse.ensures ∙ ap ordering_reverse answer
     ∙ aligned_back (fraction_of (Decimal128 left)) (fraction_of (Decimal128 right))
     (omega (arith, c.if-left-right.false))

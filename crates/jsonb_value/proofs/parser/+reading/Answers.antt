@@ -18,7 +18,7 @@ use Rattle.jsonb_value.proofs.Json.ValueSteps.{members_grown, members_stop, obje
 use Rattle.jsonb_value.proofs.Json.ValueSteps.{object_closes, passed_on, reads_kind}
 use Rattle.jsonb_value.proofs.Json.ValueSteps.{skipped_shorter, value_ends, view-Array, view-Bool}
 use Rattle.jsonb_value.proofs.Json.ValueSteps.{view-Null}
-use Rattle.jsonb_value.specs.Reader.Held.{members_held}
+use Rattle.jsonb_value.specs.Reader.Content.{members_held}
 use Rattle.jsonb_value.proofs.parser.+reading.Goals as goal
 
 pub read_item-read_value-requires : goal.read_item-read_value-requires
@@ -97,7 +97,7 @@ read_value-returns-in-String t c = λ n h.
     let k = reads_kind n (chars c.args.text.now)
     (chars c.in-Some.rest.now) c.in-Some.first string_kind h c.in-Some.ensures
     (sym c.in-String.ensures) in
-    gives_same _ _ _ _ k.same (c.read_quoted.ensures k.turns k.enough)
+    gives_same _ _ _ _ k.same (c.read_quotes.ensures k.turns k.enough)
 
 pub read_value-returns-in-Array : goal.read_value-returns-in-Array
 read_value-returns-in-Array t c = λ n h.

@@ -3,7 +3,7 @@ use Rattle.std.proofs.Common.{ℕ, ◌+◌, ◌*◌, ◌<◌, ◌≤◌, chars, 
 use Rattle.std.specs.Prelude.{map}
 use denote.Text.{Utf8}
 use denote.Shadow.{shadow}
-use Rattle.jsonb_value.specs.Reader.Held.{members_held}
+use Rattle.jsonb_value.specs.Reader.Content.{members_held}
 use Rattle.jsonb_value.specs.Value.{tree_of}
 use Rattle.jsonb_value.proofs.Json.ValueSteps.{entry_of, ItemsGoOn, MembersGoOn}
 use Rattle.jsonb_value.proofs.parser.+reading.Given as goal

@@ -7,14 +7,14 @@ use Rattle.jsonb_value.proofs.runs.is_all_plain.Goals as goal
 pub returns-then-len-ge8 : goal.returns-then-len-ge8
 returns-then-len-ge8 c =
     let mask =
-    c.escaped_lanes.ensures ∙ ap (λ l. mask_l (map is_escaped l)) c.ends_of_eight.ensures in
-    none_escaped_at_ends c.args.bytes.now 8 c.escaped_lanes.result (omega arith) (omega arith) mask
+    c.escape_lanes.ensures ∙ ap (λ l. mask_l (map is_escaped l)) c.ends_of_eight.ensures in
+    none_escaped_at_ends c.args.bytes.now 8 c.escape_lanes.result (omega arith) (omega arith) mask
 
 pub returns-then-len-ge4 : goal.returns-then-len-ge4
 returns-then-len-ge4 c =
-    let mask = c.escaped_lanes-then-len-ge4.ensures ∙ ap
+    let mask = c.escape_lanes-then-len-ge4.ensures ∙ ap
     (λ l. mask_l (map is_escaped l)) c.ends_of_four.ensures in
-    none_escaped_at_ends c.args.bytes.now 4 c.escaped_lanes-then-len-ge4.result (omega arith)
+    none_escaped_at_ends c.args.bytes.now 4 c.escape_lanes-then-len-ge4.result (omega arith)
     (omega arith) mask
 
 pub returns-else-len-ge4 : goal.returns-else-len-ge4

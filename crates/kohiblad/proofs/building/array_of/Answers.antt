@@ -2,7 +2,7 @@ use Rattle.std.proofs.Common.{List, map, sym, ap, ◌++◌, ◌∙◌, ℕ}
 use Rattle.std.proofs.lemmas.List.{append-nil}
 use Rattle.std.proofs.lemmas.Result.{IfOk-weaker}
 use Rattle.jsonb.specs.ItemView.{raw}
-use Rattle.jsonb.proofs.BuiltLaws.{IsArrayOfInputs-IsArrayOf}
+use Rattle.jsonb.proofs.ResultLaws.{IsArrayOfInputs-IsArrayOf}
 use Rattle.kohiblad.proofs.building.array_of.Goals as goal
 
 pub returns-clause-ok : goal.returns-clause-ok

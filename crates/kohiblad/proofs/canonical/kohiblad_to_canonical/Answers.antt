@@ -1,6 +1,6 @@
 use Rattle.std.proofs.Common.{ℕ, List, subst, inl, ◌∙◌}
 use Rattle.jsonb_codec.specs.Doc.{Doc}
-use Rattle.kohiblad.specs.Answered.{IsHandedOver}
+use Rattle.kohiblad.specs.Status.{IsHandedOver}
 use Rattle.kohiblad.proofs.canonical.kohiblad_to_canonical.Goals as goal
 
 pub returns-in-Ok : goal.returns-in-Ok

@@ -2,7 +2,7 @@ use Rattle.std.proofs.Common.{◌≡◌, Result, Ok, Err, sym, subst, arith, rul
 use Rattle.jsonb_value.specs.declared.error.Error.{Error}
 use Rattle.kohiblad.specs.declared.places.Place.{Place}
 use Rattle.kohiblad.specs.Places.{some_place, IsPlaceFound, IsValuePlace}
-use Rattle.kohiblad.proofs.Lookups.{no_place_found, error_found, none_found, some_found}
+use Rattle.kohiblad.proofs.Lookups.{no_value_place, error_found, none_found, some_found}
 use Rattle.kohiblad.proofs.Lookups.{count_bound}
 use Rattle.kohiblad.proofs.FoundPlaces.{no_header_read, never_refused, none_standing}
 use Rattle.kohiblad.proofs.FoundPlaces.{some_standing}
@@ -10,7 +10,7 @@ use Rattle.kohiblad.proofs.places.place_of_key.Goals as goal
 
 pub returns-in_err-count-clause-place : goal.returns-in_err-count-clause-place
 returns-in_err-count-clause-place c = λ text.
-    let found = no_place_found c.args.name.now c.args.bytes.now _ (sym c.in_err-count.ensures) in
+    let found = no_value_place c.args.name.now c.args.bytes.now _ (sym c.in_err-count.ensures) in
     let is : c.from_residual.result ≡ Err c.in_err-count.field-0.0 = search rules in
     subst (IsPlaceFound c.args.name.now c.args.bytes.now) (sym is) found
 

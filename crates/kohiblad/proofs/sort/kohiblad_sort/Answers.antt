@@ -1,34 +1,34 @@
 use Rattle.std.proofs.Common.{◌++◌, List, ℕ, length, drop, subst, sym, ◌∙◌, ap, ap₂, inl, inr}
 use Rattle.std.proofs.Common.{arith, refl}
-use Rattle.kohiblad.specs.Sorted.{IsOrderOf}
+use Rattle.kohiblad.specs.SortOrder.{IsOrderOf}
 use Rattle.kohiblad.proofs.Orders.{numbers_of, length-rows_from}
 use Rattle.kohiblad.proofs.sort.kohiblad_sort.Goals as goal
 
 pub put_numbers-requires : goal.put_numbers-requires
 put_numbers-requires c =
     let keys = ap length c.deref.ensures.value in
-    let count = c.in-Ok-sorted_keys.ensures.len ∙ ap length c.in-Ok.ensures.rows
+    let count = c.in-Ok-keys_in_order.ensures.len ∙ ap length c.in-Ok.ensures.rows
     ∙ length-rows_from c.args.bytes.now 0 c.args.ends.now in
     let room = c.if-order-ends.false in
     omega arith
 
-pub returns-in-Ok-sorted_keys : goal.returns-in-Ok-sorted_keys
-returns-in-Ok-sorted_keys c =
-    let keys = c.in-Ok-sorted_keys.keys.items in
+pub returns-in-Ok-keys_in_order : goal.returns-in-Ok-keys_in_order
+returns-in-Ok-keys_in_order c =
+    let keys = c.in-Ok-keys_in_order.keys.items in
     let all = c.in-Ok.ensures.rows in
     let same = c.deref.ensures.value in
-    let count = ap length same ∙ c.in-Ok-sorted_keys.ensures.len ∙ ap length all in
+    let count = ap length same ∙ c.in-Ok-keys_in_order.ensures.len ∙ ap length all in
     let after = c.put_numbers.ensures ∙ ap₂
     (λ (ns : List ℕ) (k : ℕ). ns ++ drop k c.args.order.now) (ap numbers_of same) count in
     inr (
       c.if-order-ends.false,
       inr (
-        sym c.in-Ok.ensures.known,
+        sym c.in-Ok.ensures.exact,
         inl (
           numbers_of keys,
           (
             subst (λ (rs : List (List ℕ)). IsOrderOf rs
-                (numbers_of keys)) all c.in-Ok-sorted_keys.ensures.ok,
+                (numbers_of keys)) all c.in-Ok-keys_in_order.ensures.ok,
             (after, refl),
           ),
         ),

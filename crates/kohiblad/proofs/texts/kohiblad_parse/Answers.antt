@@ -1,5 +1,5 @@
 use Rattle.std.proofs.Common.{ℕ, List, subst, inr, rules}
-use Rattle.kohiblad.specs.Written.{IsRead}
+use Rattle.kohiblad.specs.Output.{IsRead}
 use Rattle.kohiblad.proofs.texts.kohiblad_parse.Goals as goal
 
 pub returns : goal.returns

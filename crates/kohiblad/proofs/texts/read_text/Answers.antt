@@ -1,5 +1,5 @@
 use Rattle.std.proofs.Common.{ℕ, List, subst, inl, ◌∙◌}
-use Rattle.kohiblad.specs.Answered.{IsHandedOver, IsRefused}
+use Rattle.kohiblad.specs.Status.{IsHandedOver, IsRefused}
 use Rattle.kohiblad.proofs.Readings.{read_refused}
 use Rattle.kohiblad.proofs.texts.read_text.Goals as goal
 

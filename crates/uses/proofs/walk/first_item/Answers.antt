@@ -5,7 +5,7 @@ use Rattle.jsonb_value.specs.declared.error.Error.{Error}
 use Rattle.jsonb_value.specs.Tree.{Tree, Trees, array, tree}
 use Rattle.jsonb.specs.declared.item.JsonbItem.{JsonbItem}
 use Rattle.jsonb.specs.ItemView.{ItemView, item_view, result_view}
-use Rattle.jsonb.specs.Walked.{ShowsTrees, IsItemOf}
+use Rattle.jsonb.specs.DocumentWalk.{ShowsTrees, IsItemOf}
 use Rattle.uses.proofs.walk.first_item.Goals as goal
 
 first : (t : Tree) (ts : Trees) (rest behind : List (Result ItemView Error))

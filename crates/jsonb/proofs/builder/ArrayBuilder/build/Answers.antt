@@ -1,10 +1,10 @@
 use Rattle.std.proofs.Common.{rules}
 use Rattle.std.proofs.lemmas.Result.{IfOk-weaker}
 use Rattle.jsonb.specs.Owned.{owned_bytes}
-use Rattle.jsonb.specs.Stored.{AreHeld}
+use Rattle.jsonb.specs.Storage.{AreHeld}
 use Rattle.jsonb.specs.Building.{IsArrayOf}
-use Rattle.jsonb.proofs.BuiltObjects.{both_ok}
-use Rattle.jsonb.proofs.BuiltMeanings.{IsArrayUpToZeros-IsArrayOf}
+use Rattle.jsonb.proofs.ResultObjects.{both_ok}
+use Rattle.jsonb.proofs.ResultMeanings.{IsArrayUpToZeros-IsArrayOf}
 use Rattle.jsonb.proofs.builder.ArrayBuilder.build.Goals as goal
 
 pub returns-clause-means : goal.returns-clause-means

@@ -2,10 +2,10 @@ use Rattle.std.proofs.Common.{rules}
 use Rattle.std.proofs.lemmas.Result.{IfOk-weaker}
 use Rattle.std.specs.Map.{keys_of, values_of}
 use Rattle.jsonb.specs.Owned.{owned_bytes}
-use Rattle.jsonb.specs.Stored.{AreHeld}
+use Rattle.jsonb.specs.Storage.{AreHeld}
 use Rattle.jsonb.specs.Building.{AreKeys, IsObjectOf}
-use Rattle.jsonb.proofs.BuiltObjects.{both_ok}
-use Rattle.jsonb.proofs.BuiltMeanings.{IsObjectUpToZeros-IsObjectOf}
+use Rattle.jsonb.proofs.ResultObjects.{both_ok}
+use Rattle.jsonb.proofs.ResultMeanings.{IsObjectUpToZeros-IsObjectOf}
 use Rattle.jsonb.proofs.builder.ObjectBuilder.build.Goals as goal
 
 pub returns-clause-means : goal.returns-clause-means

@@ -1,7 +1,7 @@
 use Rattle.std.proofs.Common.{◌≤◌, subst, sym}
 use Rattle.jsonb.specs.Item.{Entry}
-use Rattle.jsonb.specs.Stored.{AreStorable}
-use Rattle.jsonb.proofs.StoredLaws.{small_code}
+use Rattle.jsonb.specs.Storage.{AreStorable}
+use Rattle.jsonb.proofs.StorageLaws.{small_code}
 use Rattle.jsonb.proofs.builder.write.append_entries.Goals as goal
 
 pub append_entry_to-requires-clause-type_code : goal.append_entry_to-requires-clause-type_code

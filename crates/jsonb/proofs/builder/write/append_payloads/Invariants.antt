@@ -1,6 +1,6 @@
 use Rattle.std.proofs.Common.{length}
 use Rattle.jsonb_codec.proofs.Appending.{Underway}
-use Rattle.jsonb.specs.Stored.{codes_of, AreStorable}
+use Rattle.jsonb.specs.Storage.{codes_of, AreStorable}
 use Rattle.jsonb.specs.Building.{code_payloads}
 use Rattle.jsonb.specs.Children.{children_views}
 use Rattle.jsonb.proofs.builder.write.append_payloads.Given as goal

@@ -1,7 +1,7 @@
 use Rattle.std.proofs.Common.{map, rules, sym}
 use Rattle.std.proofs.lemmas.List.{length-map}
 use Rattle.jsonb.specs.ItemView.{item_view}
-use Rattle.jsonb.proofs.StoredLaws.{FitArray-AreStorable, IsArrayOf-parts}
+use Rattle.jsonb.proofs.StorageLaws.{FitArray-AreStorable, IsArrayOf-parts}
 use Rattle.jsonb.proofs.builder.write.array_document.Goals as goal
 
 pub returns-in_err-try_reserve-clause-memory : goal.returns-in_err-try_reserve-clause-memory

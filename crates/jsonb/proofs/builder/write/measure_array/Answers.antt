@@ -2,9 +2,9 @@ use Rattle.std.proofs.Common.{map, arith}
 use Rattle.std.proofs.lemmas.List.{length-map}
 use Rattle.jsonb_codec.proofs.Scalars.{on_err}
 use Rattle.jsonb.specs.ItemView.{item_view}
-use Rattle.jsonb.specs.Stored.{codes_of}
+use Rattle.jsonb.specs.Storage.{codes_of}
 use Rattle.jsonb.specs.Building.{FitArray}
-use Rattle.jsonb.proofs.StoredLaws.{AreStorable-FitArray, length-array_of, length-codes_of}
+use Rattle.jsonb.proofs.StorageLaws.{AreStorable-FitArray, length-array_of, length-codes_of}
 use Rattle.jsonb.proofs.builder.write.measure_array.Goals as goal
 
 pub returns-then-count-clause-err : goal.returns-then-count-clause-err

@@ -3,7 +3,7 @@ use Rattle.std.proofs.lemmas.List.{length-map}
 use Rattle.jsonb_codec.proofs.Scalars.{on_err}
 use Rattle.jsonb.specs.declared.item.JsonbItem.{JsonbItem}
 use Rattle.jsonb.specs.ItemView.{item_view, text}
-use Rattle.jsonb.specs.Stored.{codes_of}
+use Rattle.jsonb.specs.Storage.{codes_of}
 use Rattle.jsonb.specs.Building.{code_payloads, FitObject}
 use Rattle.jsonb.specs.Children.{pair_views, key_texts, value_items}
 use Rattle.jsonb.proofs.ObjectLaws.{AreStorable-FitObject, length-object_parts}

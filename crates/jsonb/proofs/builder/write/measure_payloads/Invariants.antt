@@ -1,5 +1,5 @@
 use Rattle.std.proofs.Common.{◌≡◌, ◌≤◌, ◌+◌, ◌*◌, ◌^◌, length}
-use Rattle.jsonb.specs.Stored.{codes_of, AreStorable, AreHeld}
+use Rattle.jsonb.specs.Storage.{codes_of, AreStorable, AreHeld}
 use Rattle.jsonb.specs.Building.{code_payloads}
 use Rattle.jsonb.specs.Children.{children_views}
 use Rattle.jsonb.proofs.builder.write.measure_payloads.Given as goal

@@ -1,5 +1,5 @@
 use Rattle.std.proofs.Common.{rules, refl, subst, length}
-use Rattle.jsonb.specs.Stored.{AreHeld}
+use Rattle.jsonb.specs.Storage.{AreHeld}
 use Rattle.jsonb.proofs.ObjectLaws.{FitObject-AreStorable, IsObjectOf-parts, AreKeys-AreHeld}
 use Rattle.jsonb.proofs.ObjectLaws.{value_items-values_of}
 use Rattle.jsonb.proofs.builder.write.object_document.Goals as goal

@@ -1,7 +1,7 @@
 use Rattle.std.proofs.Common.{Ok, Some, sym, subst, ap, ◌∙◌}
 use Rattle.jsonb.specs.Document.{document_tree}
-use Rattle.jsonb.specs.Known.{trees_left}
-use Rattle.jsonb.proofs.KnownLaws.{FindsItems, array_entries-Doc}
+use Rattle.jsonb.specs.Facts.{rest_trees}
+use Rattle.jsonb.proofs.FactLaws.{FindsItems, array_entries-Doc}
 use Rattle.jsonb.proofs.document.Document.items.Goals as goal
 
 pub new-requires : goal.new-requires
@@ -20,7 +20,7 @@ unreachable-requires c =
 pub returns-in-Ok-Some : goal.returns-in-Ok-Some
 returns-in-Ok-Some c =
     let t = document_tree c.args.self.now in
-    ap (λ xs. Some (trees_left xs)) c.new.ensures
+    ap (λ xs. Some (rest_trees xs)) c.new.ensures
     ∙ (subst (FindsItems t)
     (sym c.over_array.ensures ∙ c.in-Ok-Some.is ∙ ap Ok c.in-Ok-Some.field-0-is)
     (array_entries-Doc _ t c.as_bytes.ensures.document)).1

@@ -1,7 +1,7 @@
 use Rattle.std.proofs.Common.{◌≡◌, Ok, Some, sym, subst, ap, ◌∙◌}
 use Rattle.jsonb.specs.Document.{document_tree}
-use Rattle.jsonb.specs.Known.{pairs_left}
-use Rattle.jsonb.proofs.KnownLaws.{FindsMembers, object_entries-Doc}
+use Rattle.jsonb.specs.Facts.{rest_pairs}
+use Rattle.jsonb.proofs.FactLaws.{FindsMembers, object_entries-Doc}
 use Rattle.jsonb.proofs.document.Document.members.Goals as goal
 
 pub new-requires : goal.new-requires
@@ -21,7 +21,7 @@ pub returns-in-Ok-Some : goal.returns-in-Ok-Some
 returns-in-Ok-Some c =
     let t = document_tree c.args.self.now in
     let is : c.over_object.result ≡ Ok (Some (c.in-Ok-Some.keys, c.in-Ok-Some.values)) = cc in
-    ap (λ x. Some (pairs_left x)) c.new.ensures
+    ap (λ x. Some (rest_pairs x)) c.new.ensures
     ∙ (subst (FindsMembers t) (sym c.over_object.ensures ∙ is)
     (object_entries-Doc _ t c.as_bytes.ensures.document)).1
 

@@ -1,6 +1,6 @@
 use Rattle.std.proofs.Common.{◌≡◌, length, sym, subst}
-use Rattle.jsonb.specs.Known.{AreParts}
-use Rattle.jsonb.proofs.KnownLaws.{length-AreParts}
+use Rattle.jsonb.specs.Facts.{AreParts}
+use Rattle.jsonb.proofs.FactLaws.{length-AreParts}
 use Rattle.jsonb.proofs.entries.Cursor.len.Goals as goal
 
 pub returns : goal.returns

@@ -1,4 +1,4 @@
-use Rattle.jsonb.proofs.HeldLaws.{IsHeld-extension_given}
+use Rattle.jsonb.proofs.ContentLaws.{IsHeld-extension_given}
 use Rattle.jsonb.proofs.extension_item.ExtensionItem.payload.Goals as goal
 
 pub returns-in-Some-clause-held : goal.returns-in-Some-clause-held

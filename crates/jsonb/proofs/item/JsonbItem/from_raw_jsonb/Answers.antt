@@ -2,7 +2,7 @@ use Rattle.std.proofs.Common.{◌≡◌, ◌∙◌}
 use Rattle.jsonb.specs.Raw.{raw_bytes}
 use Rattle.jsonb.specs.ItemView.{ItemView}
 use Rattle.jsonb.specs.Code.{item_document, CanBeStored}
-use Rattle.jsonb.specs.Walked.{IsItemIn}
+use Rattle.jsonb.specs.DocumentWalk.{IsItemIn}
 use Rattle.jsonb.proofs.ItemLaws.{item_in-Doc, shown_ok}
 use Rattle.jsonb.proofs.item.JsonbItem.from_raw_jsonb.Goals as goal
 

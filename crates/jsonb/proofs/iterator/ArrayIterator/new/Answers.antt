@@ -3,7 +3,7 @@ use Rattle.jsonb_value.specs.declared.error.Error.{Error}
 use Rattle.jsonb.specs.Raw.{raw_bytes}
 use Rattle.jsonb.specs.ItemView.{ItemView}
 use Rattle.jsonb.specs.Walk.{Walk, IsBounded}
-use Rattle.jsonb.specs.Walked.{WalksArray, WalksItems}
+use Rattle.jsonb.specs.DocumentWalk.{WalksArray, WalksItems}
 use Rattle.jsonb.proofs.WalkLaws.{array_walk-bounded}
 use Rattle.jsonb.proofs.DocumentWalks.{array_walk-Doc}
 use Rattle.jsonb.proofs.StandingWalks.{array_items-Doc}

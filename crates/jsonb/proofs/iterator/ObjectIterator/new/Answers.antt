@@ -3,7 +3,7 @@ use Rattle.jsonb_value.specs.declared.error.Error.{Error}
 use Rattle.jsonb.specs.Raw.{raw_bytes}
 use Rattle.jsonb.specs.ItemView.{ItemView}
 use Rattle.jsonb.specs.Walk.{Walk, IsBounded}
-use Rattle.jsonb.specs.Walked.{WalksPairs, WalksMembers}
+use Rattle.jsonb.specs.DocumentWalk.{WalksPairs, WalksMembers}
 use Rattle.jsonb.proofs.WalkLaws.{pairs_walk-bounded}
 use Rattle.jsonb.proofs.DocumentWalks.{pairs_walk-Doc}
 use Rattle.jsonb.proofs.StandingWalks.{members-Doc}

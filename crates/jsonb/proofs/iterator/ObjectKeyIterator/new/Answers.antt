@@ -3,7 +3,7 @@ use Rattle.jsonb_value.specs.declared.error.Error.{Error}
 use Rattle.jsonb.specs.Raw.{raw_bytes}
 use Rattle.jsonb.specs.ItemView.{ItemView}
 use Rattle.jsonb.specs.Walk.{Walk, IsBounded}
-use Rattle.jsonb.specs.Walked.{WalksKeys}
+use Rattle.jsonb.specs.DocumentWalk.{WalksKeys}
 use Rattle.jsonb.proofs.WalkLaws.{keys_walk-bounded}
 use Rattle.jsonb.proofs.DocumentWalks.{keys_walk-Doc}
 use Rattle.jsonb.proofs.iterator.ObjectKeyIterator.new.Goals as goal

@@ -3,7 +3,7 @@ use Rattle.jsonb_value.specs.declared.error.Error.{Error}
 use Rattle.jsonb.specs.Raw.{raw_bytes}
 use Rattle.jsonb.specs.ItemView.{ItemView}
 use Rattle.jsonb.specs.Walk.{Walk, IsBounded}
-use Rattle.jsonb.specs.Walked.{WalksValues, WalksValueItems}
+use Rattle.jsonb.specs.DocumentWalk.{WalksValues, WalksValueItems}
 use Rattle.jsonb.proofs.WalkLaws.{values_walk-bounded}
 use Rattle.jsonb.proofs.DocumentWalks.{values_walk-Doc}
 use Rattle.jsonb.proofs.StandingWalks.{values_items-Doc}

@@ -1,12 +1,12 @@
 -- What is left begins with the item after as many as were passed over.
 use Rattle.std.proofs.Common.{◌≡◌, ◌-◌, ◌≤◌, slice_get}
-use Rattle.jsonb.specs.Known.{AreParts, trees_left}
+use Rattle.jsonb.specs.Facts.{AreParts, rest_trees}
 use Rattle.jsonb.proofs.nodes.Items.item_at.Given as goal
 
 abbrev pub invariant-loop : goal.invariant-loop
 invariant-loop l = record {
   parts : AreParts l.entries;
   few : l.counter ≤ l.fn.index;
-  same : slice_get (trees_left l.fn.self) l.fn.index
-      ≡ slice_get (trees_left l.entries) (l.fn.index - l.counter);
+  same : slice_get (rest_trees l.fn.self) l.fn.index
+      ≡ slice_get (rest_trees l.entries) (l.fn.index - l.counter);
 }

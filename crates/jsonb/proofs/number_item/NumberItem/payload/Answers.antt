@@ -1,4 +1,4 @@
-use Rattle.jsonb.proofs.HeldLaws.{IsHeld-number_given}
+use Rattle.jsonb.proofs.ContentLaws.{IsHeld-number_given}
 use Rattle.jsonb.proofs.number_item.NumberItem.payload.Goals as goal
 
 pub returns-in-Some-clause-held : goal.returns-in-Some-clause-held

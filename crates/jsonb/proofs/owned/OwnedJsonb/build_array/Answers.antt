@@ -2,7 +2,7 @@ use Rattle.std.proofs.Common.{map, sym, ◌∙◌}
 use Rattle.std.proofs.lemmas.Result.{IfOk-weaker}
 use Rattle.jsonb.specs.Raw.{raw_bytes}
 use Rattle.jsonb.specs.ItemView as items
-use Rattle.jsonb.proofs.BuiltLaws.{map-map, IsArrayOfInputs-IsArrayOf}
+use Rattle.jsonb.proofs.ResultLaws.{map-map, IsArrayOfInputs-IsArrayOf}
 use Rattle.jsonb.proofs.owned.OwnedJsonb.build_array.Goals as goal
 
 pub returns-clause-ok : goal.returns-clause-ok

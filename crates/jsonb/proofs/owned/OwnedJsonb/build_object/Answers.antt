@@ -6,9 +6,9 @@ use Rattle.jsonb_value.specs.declared.error.Error.TheVariants.{ObjectDuplicateKe
 use Rattle.jsonb.specs.declared.raw.RawJsonb.{RawJsonb}
 use Rattle.jsonb.specs.Owned.{owned_bytes}
 use Rattle.jsonb.specs.Building.{has_key, AreKeys, IsObjectOf}
-use Rattle.jsonb.specs.Built.{input_pair}
+use Rattle.jsonb.specs.Results.{input_pair}
 use Rattle.jsonb.proofs.InputLaws.{key_there, one_more, still_distinct, not_there}
-use Rattle.jsonb.proofs.BuiltObjects.{both_ok, IsObjectOfInputs-IsObjectOf}
+use Rattle.jsonb.proofs.ResultObjects.{both_ok, IsObjectOfInputs-IsObjectOf}
 use Rattle.jsonb.proofs.owned.OwnedJsonb.build_object.Goals as goal
 
 pub loop-key-init : goal.loop-key-init

@@ -3,7 +3,7 @@ use Rattle.std.specs.List.{IsDistinct}
 use Rattle.std.specs.Map.{keys_of}
 use Rattle.std.specs.Str.{bytes_eq}
 use Rattle.jsonb.specs.Building.{in_order}
-use Rattle.jsonb.specs.Built.{input_pair, raw_pairs}
+use Rattle.jsonb.specs.Results.{input_pair, raw_pairs}
 use Rattle.jsonb.proofs.owned.OwnedJsonb.build_object.Given as goal
 
 -- The inputs so far are put together, and no two of them have one key.

@@ -6,7 +6,7 @@ use Rattle.jsonb_codec.specs.Doc.{Doc}
 use Rattle.jsonb.specs.Steps.{◌>>=◌}
 use Rattle.jsonb.specs.ItemView.{ItemView, item_view}
 use Rattle.jsonb.specs.Entries.{entry_of}
-use Rattle.jsonb.specs.Lookup.{LooksUp, found_view}
+use Rattle.jsonb.specs.Lookup.{LooksUp, value_view}
 use Rattle.jsonb.specs.Parts.{IsValueFound, IsUnreadable}
 use Rattle.jsonb.specs.declared.entries.Entry.{Entry}
 use Rattle.jsonb.proofs.PartLaws.{if_err}
@@ -23,7 +23,7 @@ returns-in_err-count-clause-bytes g c =
     let size = length c.args.name.now in
     let bytes = c.as_bytes-bytes.result.now in
     let refused : c.from_residual.result ≡ Err c.in_err-count.field-0.0 = search rules in
-    answer_no_header answers size bytes _ c.as_bytes-bytes.ensures _ _ _ c.in_err-count.ensures.value (ap found_view refused)
+    answer_no_header answers size bytes _ c.as_bytes-bytes.ensures _ _ _ c.in_err-count.ensures.value (ap value_view refused)
 
 pub returns-in_err-entry-clause-bytes : goal.returns-in_err-entry-clause-bytes
 returns-in_err-entry-clause-bytes g c =
@@ -37,7 +37,7 @@ returns-in_err-entry-clause-bytes g c =
     let past = if_err c.find_value.result _
     (IsUnreadable answers size bytes c.in-Some.count) c.find_value.ensures.unread c.in_err-entry.was in
     answer_unread answers size bytes _ c.as_bytes-bytes.ensures _ _ _ _ count past
-    (ap found_view refused)
+    (ap value_view refused)
 
 pub returns-in_default-2-clause-bytes : goal.returns-in_default-2-clause-bytes
 returns-in_default-2-clause-bytes g c =
@@ -68,7 +68,7 @@ returns-in_err-item_of_entry-clause-bytes g c =
     let refused : c.from_residual-in_err-item_of_entry.result
     ≡ Err c.in_err-item_of_entry.field-0.0 = search rules in
     answer_found answers size bytes _ c.as_bytes-bytes.ensures _ _ _ _ _ count found
-    (ap found_view refused ∙ ap
+    (ap value_view refused ∙ ap
     (λ (r : Result ItemView Error). r
     >>= (λ (x : ItemView). Ok (Some x))) c.in_err-item_of_entry.ensures) more
 

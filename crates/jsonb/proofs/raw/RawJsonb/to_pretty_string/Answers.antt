@@ -8,19 +8,19 @@ use Rattle.jsonb.proofs.TextLaws.{pretty_display_text-Doc, pretty_display_text-o
 use Rattle.jsonb.proofs.TextLaws.{string_written, prints_as, reads_again}
 use Rattle.jsonb.proofs.raw.RawJsonb.to_pretty_string.Goals as goal
 
-pub returns-clause-shown : goal.returns-clause-shown
-returns-clause-shown c =
+pub returns-clause-display : goal.returns-clause-display
+returns-clause-display c =
     prints_as _ _ _
     (string_written c.new.result _ _ _ _ _
-    (c.write_pretty-answer.ensures.text c.new-f.ensures.plain.flush) c.new.ensures.bytes c.new-f.ensures.writer c.written.ensures.ok c.written.ensures.text)
+    (c.write_pretty-answer.ensures.text c.new-f.ensures.plain.flush) c.new.ensures.bytes c.new-f.ensures.writer c.text_of_document.ensures.ok c.text_of_document.ensures.text)
     (ap pretty_display_text c.as_bytes.ensures)
 
 pub returns-clause-document : goal.returns-clause-document
-returns-clause-document c t doc = prints_as _ _ _ (returns-clause-shown c)
+returns-clause-document c t doc = prints_as _ _ _ (returns-clause-display c)
     (pretty_display_text-Doc (raw_bytes c.args.self.now) t doc)
 
 pub returns-clause-other : goal.returns-clause-other
-returns-clause-other c none = prints_as _ _ _ (returns-clause-shown c)
+returns-clause-other c none = prints_as _ _ _ (returns-clause-display c)
     (pretty_display_text-other (raw_bytes c.args.self.now) none)
 
 pub returns-clause-read_again : goal.returns-clause-read_again

@@ -8,26 +8,26 @@ use Rattle.jsonb.proofs.TextLaws.{display_text-Doc, display_text-other, string_w
 use Rattle.jsonb.proofs.TextLaws.{reads_again, other_text-short, short_text}
 use Rattle.jsonb.proofs.raw.RawJsonb.to_string.Goals as goal
 
-pub returns-clause-shown : goal.returns-clause-shown
-returns-clause-shown c =
+pub returns-clause-display : goal.returns-clause-display
+returns-clause-display c =
     prints_as _ _ _
     (string_written c.in_ok-text.text _ _ _ _ _
-    (c.write_shown-answer.ensures.text c.new-f.ensures.plain.flush) c.in_ok-text.ensures.bytes c.new-f.ensures.writer c.written.ensures.ok c.written.ensures.text)
+    (c.write_view-answer.ensures.text c.new-f.ensures.plain.flush) c.in_ok-text.ensures.bytes c.new-f.ensures.writer c.text_of_document.ensures.ok c.text_of_document.ensures.text)
     (ap display_text c.as_bytes.ensures)
 
 pub returns-clause-document : goal.returns-clause-document
 returns-clause-document c t doc =
-    prints_as _ _ _ (returns-clause-shown c) (display_text-Doc (raw_bytes c.args.self.now) t doc)
+    prints_as _ _ _ (returns-clause-display c) (display_text-Doc (raw_bytes c.args.self.now) t doc)
 
 pub returns-clause-other : goal.returns-clause-other
 returns-clause-other c none =
-    prints_as _ _ _ (returns-clause-shown c) (display_text-other (raw_bytes c.args.self.now) none)
+    prints_as _ _ _ (returns-clause-display c) (display_text-other (raw_bytes c.args.self.now) none)
 
 pub returns-clause-read_again : goal.returns-clause-read_again
 returns-clause-read_again c t doc plain fits =
     let again = subst (λ (b : List ℕ). Doc b t) (sym c.as_bytes.ensures) doc in
     reads_again _ _ t (returns-clause-document c t doc)
-    (reread_text in_one_line t (c.write_shown-answer.ensures.tree t again) plain fits)
+    (reread_text in_one_line t (c.write_view-answer.ensures.tree t again) plain fits)
 
 pub returns-clause-short_text : goal.returns-clause-short_text
 returns-clause-short_text c utf8 zeros some short =

@@ -1,7 +1,7 @@
 use Rattle.std.proofs.Common.{sym, ap, ◌∙◌}
 use Rattle.jsonb_value.specs.Meaning.{other_bytes}
 use Rattle.jsonb.specs.SortKey.{key_meaning}
-use Rattle.jsonb.proofs.MeantLaws.{meaning_of-document, meaning_of-other}
+use Rattle.jsonb.proofs.ItemMeaningLaws.{meaning_of-document, meaning_of-other}
 use Rattle.jsonb.proofs.sort_key.SortKey.as_bytes.Goals as goal
 
 pub returns-in-Document-clause-meaning : goal.returns-in-Document-clause-meaning

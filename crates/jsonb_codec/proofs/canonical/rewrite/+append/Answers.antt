@@ -9,7 +9,7 @@ pub append_payload-append_container-requires : goal.append_payload-append_contai
 append_payload-append_container-requires t c =
     let is = c.in-1342177280.is in
     let (tree, (h, f)) = c.requires in
-    let size = c.written_size-size.ensures tree f.fits f.stands in
+    let size = c.entry_size-size.ensures tree f.fits f.stands in
     (omega arith, (is, (tree, (h, record { fits = f.fits.inside; len = size; room = f.room }))))
 
 pub append_container-overflow_sub-inside : goal.append_container-overflow_sub-inside

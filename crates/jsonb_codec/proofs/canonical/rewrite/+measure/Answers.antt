@@ -27,7 +27,7 @@ measure_container-returns-clause-some t c tree h =
 
 pub measure_payloads-loop-child-init : goal.measure_payloads-loop-child-init
 measure_payloads-loop-child-init t c =
-    record { measured = measured_start _ _ c.args.children.known; small = omega arith; payloads_shorter = omega arith }
+    record { measured = measured_start _ _ c.args.children.fact; small = omega arith; payloads_shorter = omega arith }
 
 pub measure_payloads-returns-in_err-total-clause-none : goal.measure_payloads-returns-in_err-total-clause-none
 measure_payloads-returns-in_err-total-clause-none t c =

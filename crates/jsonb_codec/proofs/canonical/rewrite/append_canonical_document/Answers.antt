@@ -16,7 +16,7 @@ returns-in_default-clause-room c t h fit room = absurd
 
 pub append_document-requires : goal.append_document-requires
 append_document-requires c =
-    let (t, h) = known_document _ c.args.document.known in
+    let (t, h) = known_document _ c.args.document.fact in
     let part = c.part-whole.ensures.means t h in
     let told = c.in-Some.ensures.some t part in
     let fit = c.in_ok-try_reserve.ensures.ok in
@@ -24,7 +24,7 @@ append_document-requires c =
 
 pub returns-in_err-try_reserve-clause-memory : goal.returns-in_err-try_reserve-clause-memory
 returns-in_err-try_reserve-clause-memory c _ =
-    let whole = known_document _ c.args.document.known in (
+    let whole = known_document _ c.args.document.fact in (
       whole.0,
       (
         whole.1,
@@ -49,7 +49,7 @@ pub returns-clause-past : goal.returns-clause-past
 returns-clause-past c = (
   λ e. absurd (let never : ⊥ = cc in never),
   λ none.
-      let whole = known_document _ c.args.document.known in
+      let whole = known_document _ c.args.document.fact in
       absurd (none whole.0 whole.1
       (c.in-Some.ensures.some whole.0 (c.part-whole.ensures.means whole.0 whole.1)).0),
 )
@@ -58,7 +58,7 @@ pub returns-in_err-try_reserve-clause-past : goal.returns-in_err-try_reserve-cla
 returns-in_err-try_reserve-clause-past c = (
   λ e. absurd (no_fault c.from_residual.result c.from_residual.ensures.1 e),
   λ none.
-      let whole = known_document _ c.args.document.known in
+      let whole = known_document _ c.args.document.fact in
       absurd (none whole.0 whole.1
       (c.in-Some.ensures.some whole.0 (c.part-whole.ensures.means whole.0 whole.1)).0),
 )

@@ -4,4 +4,4 @@ use Rattle.jsonb_codec.proofs.document.DocumentBytes.of_container.Goals as goal
 
 pub invariant_of-result : goal.invariant_of-result
 invariant_of-result c =
-    record { known = ∥∥₁_map c.args.part.known (λ (t, h). (t, inr (h.0 ∙ c.requires, h.1))) }
+    record { fact = ∥∥₁_map c.args.part.fact (λ (t, h). (t, inr (h.0 ∙ c.requires, h.1))) }

@@ -8,7 +8,7 @@ use Rattle.jsonb_codec.proofs.document.DocumentBytes.part.Goals as goal
 
 pub unreachable-requires : goal.unreachable-requires
 unreachable-requires c =
-    let (t, h) = known_document _ c.args.self.known in
+    let (t, h) = known_document _ c.args.self.fact in
     let room = document_room t c.args.self.bytes.now h in omega (arith, c.in_default.ensures.none)
 
 pub returns-then-header-ne-SCALAR_CONTAINER_TAG-clause-means : goal.returns-then-header-ne-SCALAR_CONTAINER_TAG-clause-means
@@ -19,16 +19,16 @@ returns-then-header-ne-SCALAR_CONTAINER_TAG-clause-means c =
 pub invariant_of-result : goal.invariant_of-result
 invariant_of-result c =
     let g = c.in-Some.ensures in
-    let (t, h) = known_document _ c.args.self.known in
+    let (t, h) = known_document _ c.args.self.fact in
     record {
-      known = merely
+      fact = merely
           (t, document_container _ _ _ _ g.found g.tag g.number g.small c.if-header-ne-SCALAR_CONTAINER_TAG.true t h);
     }
 
 pub unreachable-requires-in_default-split_entry : goal.unreachable-requires-in_default-split_entry
 unreachable-requires-in_default-split_entry c =
     let g = c.in-Some.ensures in
-    let (t, h) = known_document _ c.args.self.known in
+    let (t, h) = known_document _ c.args.self.fact in
     let s =
     document_scalar _ _ _ _ g.found g.tag g.number g.small c.if-header-ne-SCALAR_CONTAINER_TAG.false t h in
     let room = scalar_entry _ _ g.number t s.1 in
@@ -50,10 +50,10 @@ invariant_of-result-2 c =
     let e = c.in-Some-split_entry.entry in let k = c.in-Some-split_entry.ensures in
     let read : Read e.tag e.number e.rest.now c.in-Some.header.rest.now =
     record { parts = k.found; tag = k.tag; number = k.number; small = k.small } in
-    let (t, h) = known_document _ c.args.self.known in
+    let (t, h) = known_document _ c.args.self.fact in
     let s =
     document_scalar _ _ _ _ g.found g.tag g.number g.small c.if-header-ne-SCALAR_CONTAINER_TAG.false t h in
-    record { known = merely (t, (scalar_in _ _ g.number _ _ _ read t s.1).1) }
+    record { fact = merely (t, (scalar_in _ _ g.number _ _ _ read t s.1).1) }
 
 pub returns-clause-bytes : goal.returns-clause-bytes
 returns-clause-bytes c =
@@ -61,7 +61,7 @@ returns-clause-bytes c =
     let e = c.in-Some-split_entry.entry in let k = c.in-Some-split_entry.ensures in
     let read : Read e.tag e.number e.rest.now c.in-Some.header.rest.now =
     record { parts = k.found; tag = k.tag; number = k.number; small = k.small } in
-    let (t, h) = known_document _ c.args.self.known in
+    let (t, h) = known_document _ c.args.self.fact in
     let is = c.if-header-ne-SCALAR_CONTAINER_TAG.false in
     let s = document_scalar _ _ _ _ g.found g.tag g.number g.small is t h in
     let found = scalar_in _ _ g.number _ _ _ read t s.1 in

@@ -13,7 +13,7 @@ split_at-requires c =
     let e = c.in-Some.entry in let k = c.in-Some.ensures in
     let read : Read e.tag e.number e.rest.now c.args.self.entries.now =
     record { parts = k.found; tag = k.tag; number = k.number; small = k.small } in
-    let (ts, h) = known_children _ _ c.args.self.known in
+    let (ts, h) = known_children _ _ c.args.self.fact in
     first_fits _ _ _ _ _ read ts h
 
 pub returns-clause-first : goal.returns-clause-first
@@ -28,18 +28,18 @@ invariant_of-result c =
     let e = c.in-Some.entry in let k = c.in-Some.ensures in
     let read : Read e.tag e.number e.rest.now c.args.self.entries.now =
     record { parts = k.found; tag = k.tag; number = k.number; small = k.small } in
-    let (ts, h) = known_children _ _ c.args.self.known in
+    let (ts, h) = known_children _ _ c.args.self.fact in
     let f = first_child _ _ _ _ _ read _ _ c.split_at.ensures.front c.split_at.ensures.back ts h in
-    record { known = merely (f.first, f.is) }
+    record { fact = merely (f.first, f.is) }
 
 pub invariant_of-result-2 : goal.invariant_of-result-2
 invariant_of-result-2 c =
     let e = c.in-Some.entry in let k = c.in-Some.ensures in
     let read : Read e.tag e.number e.rest.now c.args.self.entries.now =
     record { parts = k.found; tag = k.tag; number = k.number; small = k.small } in
-    let (ts, h) = known_children _ _ c.args.self.known in
+    let (ts, h) = known_children _ _ c.args.self.fact in
     let f = first_child _ _ _ _ _ read _ _ c.split_at.ensures.front c.split_at.ensures.back ts h in
-    record { known = merely (f.others, f.behind) }
+    record { fact = merely (f.others, f.behind) }
 
 pub returns-clause-entries_len : goal.returns-clause-entries_len
 returns-clause-entries_len c =

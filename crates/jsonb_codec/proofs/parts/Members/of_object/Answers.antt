@@ -24,20 +24,20 @@ invariant_of-result c =
     let one = c.split_at.ensures in let two = c.split_at-2.ensures in let (ps, h) = c.requires in
     let are =
     pairs_of_object _ _ _ _ _ _ one.front one.back two.front two.back one.front_len two.front_len _ c.keys_len.ensures ps h _ _ c.split_at-3.ensures.front c.split_at-3.ensures.back in
-    record { known = merely (keys_of ps, children_of_keys ps _ _ are.1.0) }
+    record { fact = merely (keys_of ps, children_of_keys ps _ _ are.1.0) }
 
 pub invariant_of-result-2 : goal.invariant_of-result-2
 invariant_of-result-2 c =
     let one = c.split_at.ensures in let two = c.split_at-2.ensures in let (ps, h) = c.requires in
     let are =
     pairs_of_object _ _ _ _ _ _ one.front one.back two.front two.back one.front_len two.front_len _ c.keys_len.ensures ps h _ _ c.split_at-3.ensures.front c.split_at-3.ensures.back in
-    record { known = merely (values_of ps, children_of_values ps _ _ are.1.1) }
+    record { fact = merely (values_of ps, children_of_values ps _ _ are.1.1) }
 
 pub invariant_of-result-3 : goal.invariant_of-result-3
 invariant_of-result-3 c =
     let one = c.split_at.ensures in let two = c.split_at-2.ensures in let (ps, h) = c.requires in
     record {
-      known = merely
+      fact = merely
           (ps, pairs_of_object _ _ _ _ _ _ one.front one.back two.front two.back one.front_len two.front_len _ c.keys_len.ensures ps h _ _ c.split_at-3.ensures.front c.split_at-3.ensures.back);
     }
 

@@ -15,13 +15,13 @@ returns-in_default-clause-none c ps h =
 pub unreachable-requires : goal.unreachable-requires
 unreachable-requires c =
     let empty : IsProp ⊥ = Prim.hlevel in
-    ∥∥₁_elim c.args.self.known empty (λ (ps, h).
+    ∥∥₁_elim c.args.self.fact empty (λ (ps, h).
     as_many_values ps _ _ _ _ (c.in-Some.ensures.first (keys_of ps) (children_of_keys ps _ _ h.1.0))
     (c.in_default-split_first.ensures.none (values_of ps) (children_of_values ps _ _ h.1.1)))
 
 pub text-requires : goal.text-requires
 text-requires c =
-    known (cases_eq _ _) (∥∥₁_map c.args.self.known (λ (ps, h).
+    known (cases_eq _ _) (∥∥₁_map c.args.self.fact (λ (ps, h).
     (first_pair ps h.0 _ _ _ _
     (c.in-Some.ensures.first (keys_of ps) (children_of_keys ps _ _ h.1.0)) _ _ _ _
     (c.in-Some-split_first.ensures.first (values_of ps)
@@ -29,7 +29,7 @@ text-requires c =
 
 pub invariant_of-result : goal.invariant_of-result
 invariant_of-result c = record {
-  known = ∥∥₁_map c.args.self.known (λ (ps, h).
+  fact = ∥∥₁_map c.args.self.fact (λ (ps, h).
       let f = first_pair ps h.0 _ _ _ _
       (c.in-Some.ensures.first (keys_of ps) (children_of_keys ps _ _ h.1.0)) _ _ _ _
       (c.in-Some-split_first.ensures.first (values_of ps) (children_of_values ps _ _ h.1.1)) in

@@ -10,14 +10,14 @@ use Rattle.jsonb_codec.proofs.parts.Part.container.Goals as goal
 
 pub unreachable-requires : goal.unreachable-requires
 unreachable-requires c =
-    let (t, h) = known_part _ _ c.args.self.known in
+    let (t, h) = known_part _ _ c.args.self.fact in
     let room = container_room t c.args.self.payload.now (h.0 ∙ c.requires, h.1) in omega
     (arith, c.in_default.ensures.none)
 
 pub split_at-requires : goal.split_at-requires
 split_at-requires c =
     let g = c.in-Some.ensures in let w = c.entry_words-words.ensures in
-    let (t, h) = known_part _ _ c.args.self.known in
+    let (t, h) = known_part _ _ c.args.self.fact in
     opened_room _ _ _ _ g.found g.tag g.number g.small _ w.array w.object t (h.0 ∙ c.requires, h.1)
 
 pub returns-clause-opened : goal.returns-clause-opened
@@ -28,10 +28,10 @@ returns-clause-opened c t is =
 pub invariant_of-result : goal.invariant_of-result
 invariant_of-result c =
     let g = c.in-Some.ensures in let w = c.entry_words-words.ensures in
-    let (t, h) = known_part _ _ c.args.self.known in
+    let (t, h) = known_part _ _ c.args.self.fact in
     let o =
     opened_as _ _ _ _ g.found g.tag g.number g.small _ w.array w.object _ _ c.split_at.ensures.front c.split_at.ensures.back t (h.0 ∙ c.requires, h.1) in
-    record { known = merely (o.children, o.are) }
+    record { fact = merely (o.children, o.are) }
 
 pub returns-clause-bytes : goal.returns-clause-bytes
 returns-clause-bytes c =

@@ -9,14 +9,14 @@ use Rattle.jsonb_codec.proofs.parts.Part.contents.Goals as goal
 
 pub unreachable-requires : goal.unreachable-requires
 unreachable-requires c =
-    let (t, h) = known_part _ _ c.args.self.known in
+    let (t, h) = known_part _ _ c.args.self.fact in
     let room = container_room t c.args.self.payload.now (h.0 ∙ c.requires, h.1) in omega
     (arith, c.in_default.ensures.none)
 
 pub split_at-requires : goal.split_at-requires
 split_at-requires c =
     let h = c.in-Some.header in let g = c.in-Some.ensures in
-    let (t, k) = known_part _ _ c.args.self.known in
+    let (t, k) = known_part _ _ c.args.self.fact in
     let x = array_in _ _ _ _ g.found g.tag g.number g.small c.if-header.true t
     (k.0 ∙ c.requires, k.1) in
     array_room _ _ x.0 x.1.1
@@ -24,11 +24,11 @@ split_at-requires c =
 pub invariant_of-result : goal.invariant_of-result
 invariant_of-result c =
     let h = c.in-Some.header in let g = c.in-Some.ensures in
-    let (t, k) = known_part _ _ c.args.self.known in
+    let (t, k) = known_part _ _ c.args.self.fact in
     let x = array_in _ _ _ _ g.found g.tag g.number g.small c.if-header.true t
     (k.0 ∙ c.requires, k.1) in
     record {
-      known = merely (
+      fact = merely (
         x.0,
         array_children _ _ _ _
             (cut _ _ _ _ c.split_at.ensures.front c.split_at.ensures.back) c.split_at.ensures.front_len x.0 x.1.1,
@@ -38,7 +38,7 @@ invariant_of-result c =
 pub of_object-requires : goal.of_object-requires
 of_object-requires c =
     let h = c.in-Some.header in let g = c.in-Some.ensures in
-    let (t, k) = known_part _ _ c.args.self.known in
+    let (t, k) = known_part _ _ c.args.self.fact in
     let x = object_in _ _ _ _ g.found g.tag g.number g.small c.if-header.false t
     (k.0 ∙ c.requires, k.1) in
     (x.0, x.1.1)

@@ -5,4 +5,4 @@ use Rattle.jsonb_codec.proofs.parts.Part.text.Goals as goal
 
 pub from_utf8_unchecked-requires : goal.from_utf8_unchecked-requires
 from_utf8_unchecked-requires c =
-    let (t, h) = known_part _ _ c.args.self.known in text_behind t _ (h.0 ∙ c.requires) h.1
+    let (t, h) = known_part _ _ c.args.self.fact in text_behind t _ (h.0 ∙ c.requires) h.1

@@ -2,7 +2,7 @@ use Rattle.std.proofs.Common.{◌+◌, length, arith}
 use Rattle.jsonb_codec.specs.Doc.{type_of}
 use Rattle.jsonb_codec.specs.Canon.{payload_of, entry_word, entries_of, payloads_of, value_entries}
 use Rattle.jsonb_codec.specs.Canon.{value_payloads}
-use Rattle.jsonb_codec.specs.Node.{node_tree, items_trees, object_pairs, left_pairs}
+use Rattle.jsonb_codec.specs.Node.{node_tree, items_trees, object_pairs, rest_pairs}
 use Rattle.jsonb_codec.proofs.Appending.{underway_next, underway_on}
 use Rattle.jsonb_codec.proofs.Lengths.{length-payload_of-array, length-payload_of-object}
 use Rattle.jsonb_codec.proofs.Standing.{Stands-first, Stands-more, Stands-next}
@@ -88,7 +88,7 @@ append_payloads-loop-item-preserved t c =
 pub append_values-append_payload-requires : goal.append_values-append_payload-requires
 append_values-append_payload-requires t c =
     let first = node_tree c.in-Some.value in
-    let others = left_pairs c.in-Some.others in
+    let others = rest_pairs c.in-Some.others in
     let before = rw c.in-Some.ensures.pairs at c.loop-value.invariant in
     let entry = Stands-first c.loop-value.entry (entry_word first)
     (value_entries others) c.loop-value.out.items before.words in (
@@ -104,7 +104,7 @@ pub append_values-loop-value-preserved : goal.append_values-loop-value-preserved
 append_values-loop-value-preserved t c =
     let l = c.loop-value in
     let first = node_tree c.in-Some.value in
-    let others = left_pairs c.in-Some.others in
+    let others = rest_pairs c.in-Some.others in
     let k = type_of first + length (payload_of first) in
     let before = rw c.in-Some.ensures.pairs at l.invariant in
     record {

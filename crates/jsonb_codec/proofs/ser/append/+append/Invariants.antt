@@ -5,7 +5,7 @@ use Rattle.jsonb_value.specs.Ast.{asts_view, ast_pairs_view}
 use Rattle.jsonb_codec.specs.Canon.{entries_of, payloads_of, value_entries, value_payloads, AllFit}
 use Rattle.jsonb_codec.specs.Canon.{PairsFit}
 use Rattle.jsonb_codec.specs.Depth.{size, sizes, pair_sizes}
-use Rattle.jsonb_codec.specs.Node.{node_tree, items_trees, object_pairs, left_pairs}
+use Rattle.jsonb_codec.specs.Node.{node_tree, items_trees, object_pairs, rest_pairs}
 use Rattle.jsonb_codec.specs.Room.{Stands}
 use Rattle.jsonb_codec.proofs.Appending.{Underway}
 use Rattle.jsonb_codec.proofs.ser.append.+append.Given as goal
@@ -63,7 +63,7 @@ decreases-append_payloads-loop-item l = count (items_trees l.left)
 abbrev pub invariant-append_values-loop-value : goal.invariant-append_values-loop-value
 invariant-append_values-loop-value l =
     let all = object_pairs l.fn.pairs in
-    let left = left_pairs l.left in
+    let left = rest_pairs l.left in
     record {
       fit : PairsFit left;
       underway : Underway l.fn.out l.out (value_payloads all) (value_payloads left);
@@ -72,4 +72,4 @@ invariant-append_values-loop-value l =
     }
 
 abbrev pub decreases-append_values-loop-value : goal.decreases-append_values-loop-value
-decreases-append_values-loop-value l = pair_count (left_pairs l.left)
+decreases-append_values-loop-value l = pair_count (rest_pairs l.left)

@@ -1,7 +1,7 @@
 use Rattle.std.proofs.Common.{◌≡◌, ◌+◌, ◌*◌, length, subst, sym, arith}
 use Rattle.jsonb_value.specs.Tree.{no_trees, no_pairs, count, pair_count}
 use Rattle.jsonb_codec.specs.Canon.{payloads_of, key_payloads, value_payloads, AllFit, PairsFit}
-use Rattle.jsonb_codec.specs.Node.{items_trees, object_pairs, left_pairs}
+use Rattle.jsonb_codec.specs.Node.{items_trees, object_pairs, rest_pairs}
 use Rattle.jsonb_codec.proofs.Lengths.{length-payload_of-array, length-payload_of-object}
 use Rattle.jsonb_codec.proofs.ser.measure.+measure.Goals as goal
 
@@ -23,7 +23,7 @@ pub measure_pairs-returns-clause-some : goal.measure_pairs-returns-clause-some
 measure_pairs-returns-clause-some t c =
     let l = c.loop-key in
     let all = object_pairs c.args.pairs in
-    let done : left_pairs l.left ≡ no_pairs = c.in_default.ensures.pairs in
+    let done : rest_pairs l.left ≡ no_pairs = c.in_default.ensures.pairs in
     let few = c.if-count-gt-MAX_COUNT.false in
     let total : l.total + 0
     ≡ 4 + 8 * pair_count all + (length (key_payloads all) + length (value_payloads all)) =

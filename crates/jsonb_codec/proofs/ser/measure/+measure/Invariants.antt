@@ -5,7 +5,7 @@ use Rattle.jsonb_value.specs.Ast.{asts_view, ast_pairs_view}
 use Rattle.jsonb_value.specs.WellFormed.{AreTrees, ArePairs}
 use Rattle.jsonb_codec.specs.Canon.{payloads_of, AllFit, PairsFit, key_payloads, value_payloads}
 use Rattle.jsonb_codec.specs.Depth.{size, sizes, pair_sizes}
-use Rattle.jsonb_codec.specs.Node.{node_tree, items_trees, object_pairs, left_pairs, ItemsAscend}
+use Rattle.jsonb_codec.specs.Node.{node_tree, items_trees, object_pairs, rest_pairs, ItemsAscend}
 use Rattle.jsonb_codec.specs.Node.{ObjectAscends, LeftAscend}
 use Rattle.jsonb_codec.proofs.ser.measure.+measure.Given as goal
 
@@ -54,7 +54,7 @@ decreases-measure_items-loop-item l = count (items_trees l.left)
 abbrev pub invariant-measure_pairs-loop-key : goal.invariant-measure_pairs-loop-key
 invariant-measure_pairs-loop-key l =
     let all = object_pairs l.fn.pairs in
-    let left = left_pairs l.left in
+    let left = rest_pairs l.left in
     record {
       onward : PairsFit all → PairsFit left;
       back : PairsFit left → PairsFit all;
@@ -66,4 +66,4 @@ invariant-measure_pairs-loop-key l =
     }
 
 abbrev pub decreases-measure_pairs-loop-key : goal.decreases-measure_pairs-loop-key
-decreases-measure_pairs-loop-key l = pair_count (left_pairs l.left)
+decreases-measure_pairs-loop-key l = pair_count (rest_pairs l.left)

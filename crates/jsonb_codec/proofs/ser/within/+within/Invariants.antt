@@ -4,7 +4,7 @@ use Rattle.jsonb_value.specs.Value.{items_view, pairs_view}
 use Rattle.jsonb_value.specs.Ast.{asts_view, ast_pairs_view}
 use Rattle.jsonb_codec.specs.Canon.{payloads_of, key_payloads, value_payloads, AllFit, PairsFit}
 use Rattle.jsonb_codec.specs.Depth.{size, sizes, pair_sizes}
-use Rattle.jsonb_codec.specs.Node.{node_tree, items_trees, object_pairs, left_pairs}
+use Rattle.jsonb_codec.specs.Node.{node_tree, items_trees, object_pairs, rest_pairs}
 use Rattle.jsonb_codec.proofs.ser.within.+within.Given as goal
 
 -- A tree is larger than what stands in it.
@@ -47,7 +47,7 @@ decreases-items_within-loop-item l = count (items_trees l.left)
 abbrev pub invariant-pairs_within-loop-key : goal.invariant-pairs_within-loop-key
 invariant-pairs_within-loop-key l =
     let all = object_pairs l.fn.pairs in
-    let left = left_pairs l.left in
+    let left = rest_pairs l.left in
     record {
       fit : PairsFit left;
       total : l.total + (length (key_payloads left) + length (value_payloads left))
@@ -57,4 +57,4 @@ invariant-pairs_within-loop-key l =
     }
 
 abbrev pub decreases-pairs_within-loop-key : goal.decreases-pairs_within-loop-key
-decreases-pairs_within-loop-key l = pair_count (left_pairs l.left)
+decreases-pairs_within-loop-key l = pair_count (rest_pairs l.left)

@@ -1,5 +1,5 @@
 use Rattle.std.proofs.Common.{arith, ◌∙◌, sym}
-use Rattle.jsonb_codec.specs.Node.{left_pairs}
+use Rattle.jsonb_codec.specs.Node.{rest_pairs}
 use Rattle.jsonb_codec.proofs.Appending.{length-value_payloads-none}
 use Rattle.jsonb_codec.proofs.ser.within.value_size.Goals as goal
 
@@ -8,6 +8,6 @@ returns-then-len-eq0 c =
     omega (
       arith,
       c.requires.left,
-      length-value_payloads-none (left_pairs c.args.behind.now)
+      length-value_payloads-none (rest_pairs c.args.behind.now)
           (sym c.len.ensures ∙ c.if-len-eq0.true),
     )

@@ -1,8 +1,8 @@
 use Rattle.std.proofs.Common.{subst, ap, arith, length}
 use Rattle.std.specs.Prelude.{All}
 use Rattle.jsonb_column.specs.Rows.{rows_in}
-use Rattle.jsonb_column.specs.Stored.{IsRow}
-use Rattle.jsonb_column.proofs.StoredLaws.{IsRow-all}
+use Rattle.jsonb_column.specs.Storage.{IsRow}
+use Rattle.jsonb_column.proofs.StorageLaws.{IsRow-all}
 use Rattle.jsonb_column.proofs.column.Column.len.Goals as goal
 
 pub returns-clause-each : goal.returns-clause-each

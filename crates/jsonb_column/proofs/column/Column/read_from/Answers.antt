@@ -1,8 +1,8 @@
 use Rattle.std.proofs.Common.{rules, ◌≡◌, ◌<◌, length, ap, Err}
-use Rattle.jsonb_column.specs.Stored.{IsRow}
-use Rattle.jsonb_column.proofs.StoredLaws.{IsRead-all, IsRead-cut, IsRead-more, IsRead-stored}
-use Rattle.jsonb_column.proofs.StoredLaws.{IsRead-IsCut, IsRead-HasFaultyRow, cut_or_faulty}
-use Rattle.jsonb_column.proofs.StoredLaws.{not_cut, not_faulty, told_cut, told_memory}
+use Rattle.jsonb_column.specs.Storage.{IsRow}
+use Rattle.jsonb_column.proofs.StorageLaws.{IsRead-all, IsRead-cut, IsRead-more, IsRead-stored}
+use Rattle.jsonb_column.proofs.StorageLaws.{IsRead-IsCut, IsRead-HasFaultyRow, cut_or_faulty}
+use Rattle.jsonb_column.proofs.StorageLaws.{not_cut, not_faulty, told_cut, told_memory}
 use Rattle.jsonb_column.proofs.column.Column.read_from.Goals as goal
 
 -- where the next row is cut

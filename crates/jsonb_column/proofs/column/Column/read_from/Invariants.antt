@@ -1,6 +1,6 @@
 -- Some rows are read, and the rest of the bytes is left.
 use Rattle.std.proofs.Common.{length}
-use Rattle.jsonb_column.proofs.StoredLaws.{IsRead}
+use Rattle.jsonb_column.proofs.StorageLaws.{IsRead}
 use Rattle.jsonb_column.proofs.column.Column.read_from.Given as goal
 
 abbrev pub invariant-loop-rest : goal.invariant-loop-rest

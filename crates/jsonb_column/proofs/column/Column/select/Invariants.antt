@@ -5,7 +5,7 @@ use Rattle.std.specs.List.{sum_by}
 use Rattle.std.specs.Prelude.{filter}
 use Rattle.jsonb_value.specs.Meaning.{document}
 use Rattle.jsonb.specs.Document.{document_bytes, document_tree}
-use Rattle.jsonb.specs.Meant.{item_meaning}
+use Rattle.jsonb.specs.ItemMeaning.{item_meaning}
 use Rattle.jsonb_column.specs.Select.{has_member, most_reads}
 use Rattle.jsonb_column.proofs.column.Column.select.Given as goal
 

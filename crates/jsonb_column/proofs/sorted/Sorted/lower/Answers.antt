@@ -12,7 +12,7 @@ pub returns-clause-below : goal.returns-clause-below
 returns-clause-below c = λ i d low.
     let rows = c.deref.result.now in
     let sorted = subst (IsSorted (on document_tree tree_cmp))
-    (sym c.deref.ensures.value) c.args.self.now.ordered in
+    (sym c.deref.ensures.value) c.args.self.now.order in
     let point = IsPartitionPoint-from_clause
     (λ y. is_lt
     (tree_cmp (document_tree y)
@@ -26,7 +26,7 @@ pub returns-clause-others : goal.returns-clause-others
 returns-clause-others c = λ i d low within e.
     let rows = c.deref.result.now in
     let sorted = subst (IsSorted (on document_tree tree_cmp))
-    (sym c.deref.ensures.value) c.args.self.now.ordered in
+    (sym c.deref.ensures.value) c.args.self.now.order in
     let point = IsPartitionPoint-from_clause
     (λ y. is_lt
     (tree_cmp (document_tree y)

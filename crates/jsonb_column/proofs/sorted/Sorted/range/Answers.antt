@@ -1,6 +1,6 @@
 use Rattle.std.proofs.Common.{◌-◌, arith, take, drop, ap, ◌∙◌}
 use Rattle.jsonb.specs.Document.{document_tree}
-use Rattle.jsonb_column.specs.Sorted.{is_between, sorted_rows}
+use Rattle.jsonb_column.specs.SortOrder.{is_between, sorted_rows}
 use Rattle.jsonb_column.proofs.OrderLaws.{filter-between, below, above, between}
 use Rattle.jsonb_column.proofs.sorted.Sorted.range.Goals as goal
 

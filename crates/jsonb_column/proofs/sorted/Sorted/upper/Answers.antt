@@ -12,7 +12,7 @@ pub returns-clause-others : goal.returns-clause-others
 returns-clause-others c = λ i d low e.
     let rows = c.deref.result.now in
     let sorted = subst (IsSorted (on document_tree tree_cmp))
-    (sym c.deref.ensures.value) c.args.self.now.ordered in
+    (sym c.deref.ensures.value) c.args.self.now.order in
     let point = IsPartitionPoint-from_clause
     (λ y. is_le
     (tree_cmp (document_tree y)
@@ -29,7 +29,7 @@ pub returns-clause-above : goal.returns-clause-above
 returns-clause-above c = λ i d low within.
     let rows = c.deref.result.now in
     let sorted = subst (IsSorted (on document_tree tree_cmp))
-    (sym c.deref.ensures.value) c.args.self.now.ordered in
+    (sym c.deref.ensures.value) c.args.self.now.order in
     let point = IsPartitionPoint-from_clause
     (λ y. is_le
     (tree_cmp (document_tree y)

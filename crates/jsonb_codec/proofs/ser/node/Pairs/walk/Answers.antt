@@ -1,4 +1,4 @@
-use Rattle.jsonb_codec.proofs.Sorted.{Ascend-pairs_view}
+use Rattle.jsonb_codec.proofs.SortOrder.{Ascend-pairs_view}
 use Rattle.jsonb_codec.proofs.ser.node.Pairs.walk.Goals as goal
 
 pub returns-in-Values-clause-ascend : goal.returns-in-Values-clause-ascend

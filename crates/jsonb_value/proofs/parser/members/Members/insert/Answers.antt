@@ -1,5 +1,5 @@
 use Rattle.std.proofs.Common.{◌≡◌, ◌∷◌, ◌++◌, [], ap, ◌∙◌}
-use Rattle.jsonb_value.specs.Reader.Held.{with_members}
+use Rattle.jsonb_value.specs.Reader.Content.{with_members}
 use Rattle.jsonb_value.proofs.MemberLaws.{with_members-push}
 use Rattle.jsonb_value.proofs.parser.members.Members.insert.Goals as goal
 

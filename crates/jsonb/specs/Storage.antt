@@ -1,0 +1,80 @@
+-- The entry that is written for an item, as a function of what the item shows.
+use Rattle.std.specs.Prelude.{◌==◌, ◌<◌, ◌^◌, if◌then◌else◌, ⊤, ℕ, List, [], ◌∷◌, length, map, true}
+use Rattle.std.specs.Prelude.{false, Option, Some, None, unwrap_or, Result, Ok, Err}
+use Rattle.std.specs.Result.{result_ok}
+use Rattle.jsonb_value.specs.declared.error.Error.{Error}
+use Rattle.std.specs.Str.{IsUtf8}
+use Rattle.jsonb_value.specs.NumCode.{NumCode}
+use Rattle.jsonb_value.specs.ExtCode.{ExtCode}
+use Rattle.jsonb_value.specs.WellFormed.{IsNumber, IsExtension}
+use Rattle.jsonb_codec.specs.declared.constants.TheConstants.{SCALAR_CONTAINER_TAG, NULL_TAG}
+use Rattle.jsonb_codec.specs.declared.constants.TheConstants.{STRING_TAG, NUMBER_TAG, FALSE_TAG}
+use Rattle.jsonb_codec.specs.declared.constants.TheConstants.{TRUE_TAG, CONTAINER_TAG}
+use Rattle.jsonb_codec.specs.declared.constants.TheConstants.{EXTENSION_TAG}
+use Rattle.jsonb_codec.specs.Word.{header_at}
+use Rattle.jsonb_codec.specs.Doc.{IsDocument}
+use Rattle.jsonb.specs.ItemView.{ItemView, null, boolean, number, text, extension, raw, owned}
+use Rattle.jsonb.specs.Item.{Entry, entry_at}
+use Rattle.jsonb.specs.Code.{number_bytes, extension_bytes}
+
+-- the entry under a scalar's header; none under another header, and where it is cut
+abbrev pub entry_under : Result (ℕ × ℕ) Error → List ℕ → Option Entry
+entry_under (Ok header) b =
+    if header.0 == SCALAR_CONTAINER_TAG then result_ok (entry_at b 4 8) else None
+entry_under (Err e) b = None
+
+unfoldable pub scalar_entry : List ℕ → Option Entry
+scalar_entry b = entry_under (header_at b 0) b
+
+-- the entry with which a document is stored: a scalar's own, an array or object whole
+abbrev pub document_code : List ℕ → Entry
+document_code b = unwrap_or (scalar_entry b) (record { type = CONTAINER_TAG; payload = b })
+
+-- the entry with which an item is stored that has one
+abbrev pub code_of : ItemView → Entry
+code_of null = record { type = NULL_TAG; payload = [] }
+code_of (boolean false) = record { type = FALSE_TAG; payload = [] }
+code_of (boolean true) = record { type = TRUE_TAG; payload = [] }
+code_of (number given x) = record { type = NUMBER_TAG; payload = number_bytes given x }
+code_of (text s) = record { type = STRING_TAG; payload = s }
+code_of (extension given e) = record { type = EXTENSION_TAG; payload = extension_bytes given e }
+code_of (raw b) = document_code b
+code_of (owned b) = document_code b
+
+-- The item has an entry: bytes must be a document.
+abbrev pub IsStored : ItemView → Type 0
+IsStored null = ⊤
+IsStored (boolean b) = ⊤
+IsStored (number given x) = ⊤
+IsStored (text s) = ⊤
+IsStored (extension given e) = ⊤
+IsStored (raw b) = IsDocument b
+IsStored (owned b) = IsDocument b
+
+-- And its payload is not past the limit.
+abbrev pub IsStorable : ItemView → Type 0
+IsStorable x = IsStored x × (length (code_of x).payload < 2 ^ 28)
+
+abbrev pub AreStorable : List ItemView → Type 0
+AreStorable [] = ⊤
+AreStorable (x ∷ xs) = IsStorable x × AreStorable xs
+
+abbrev pub codes_of : List ItemView → List Entry
+codes_of xs = map code_of xs
+
+-- What an item holds is as its type has it: a number within its width, a text of UTF-8, bytes that
+-- were given those of the value.
+abbrev pub IsHeld : ItemView → Type 0
+IsHeld null = ⊤
+IsHeld (boolean b) = ⊤
+IsHeld (number None x) = IsNumber x
+IsHeld (number (Some p) x) = NumCode p x
+IsHeld (text s) = IsUtf8 s
+IsHeld (extension None e) = IsExtension e
+IsHeld (extension (Some p) e) = ExtCode p e
+IsHeld (raw b) = ⊤
+IsHeld (owned b) = ⊤
+
+abbrev pub AreHeld : List ItemView → Type 0
+AreHeld [] = ⊤
+AreHeld (x ∷ xs) = IsHeld x × AreHeld xs

@@ -1,0 +1,39 @@
+//! A row as it is stored.
+
+ghost use Rattle.std.specs.Prelude.{◌≡◌, ◌<◌, ◌^◌, ◌++◌, ◌⊎◌, ℕ, List, length, IfOk, IfErr, OnErr};
+ghost use Rattle.std.specs.Prelude.{OnOk};
+ghost use Rattle.jsonb_column.specs.Storage.{row_bytes};
+
+use byteorder::{BigEndian, ByteOrder};
+use jsonb::Error;
+
+/// Appends a row as it is stored. After a refusal the bytes may end in a part of it.
+pub fn append_row(buf: &mut Vec<u8>, row: &[u8]) -> Result<(), Error>
+    ensures ok { OnOk result (buf.new.items ≡ buf.old.items ++ row_bytes row.now) }
+    ensures beginning { OnErr result ((part : List ℕ) × (buf.new.items ≡ buf.old.items ++ part)) }
+    ensures memory { IfErr result (λ e. e ≡ Error.OutOfMemory) }
+{
+    buf.extend_from_slice(&(row.len() as u64).to_be_bytes())?;
+    buf.extend_from_slice(row)?;
+    Ok(())
+}
+
+/// The first row of some bytes, and what is behind it. `InvalidEOF` where they begin with no whole
+/// row.
+pub fn split_row(bytes: &[u8]) -> Result<(&[u8], &[u8]), Error>
+    ensures ok { IfOk result (λ parts. bytes.now ≡ row_bytes parts.0.now ++ parts.1.now) }
+    ensures short { IfOk result (λ parts. length parts.0.now < 2 ^ 64) }
+    ensures cut { OnErr result ((row behind : List ℕ) → length row < 2 ^ 64
+        → bytes.now ≡ row_bytes row ++ behind → ⊥) }
+    ensures only { IfErr result (λ e. e ≡ Error.InvalidEOF) }
+{
+    if bytes.len() < 8 {
+        return Err(Error::InvalidEOF);
+    }
+    let (length, behind) = bytes.split_at(8);
+    let length = BigEndian::read_u64(length) as usize;
+    if behind.len() < length {
+        return Err(Error::InvalidEOF);
+    }
+    Ok(behind.split_at(length))
+}

@@ -1,6 +1,0 @@
--- What is left to multiply by makes the whole product.
-use Rattle.std.proofs.Common.{◌≡◌, ◌^◌, pos, ◌*ℤ◌, ◌-◌}
-use Rattle.jsonb_value.proofs.order.cmp_scaled.Given as goal
-
-abbrev pub invariant-loop-step : goal.invariant-loop-step
-invariant-loop-step l = l.scaled *ℤ pos (10 ^ (l.steps - l._step)) ≡ l.value *ℤ pos (10 ^ l.steps)

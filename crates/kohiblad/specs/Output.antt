@@ -1,0 +1,49 @@
+-- What is written of texts and of documents, as C is answered.
+use Rattle.std.specs.Prelude.{◌<◌, ◌≤◌, ◌⊎◌, ℕ, List, chars}
+use Rattle.std.specs.Str.{IsUtf8}
+use Rattle.jsonb_value.specs.declared.error.Error.TheVariants as errors
+use Rattle.jsonb_value.specs.Tree.{Tree}
+use Rattle.jsonb_value.specs.Json.Syntax.{Json}
+use Rattle.jsonb_codec.specs.Canon.{canon, Fits}
+use Rattle.jsonb_codec.specs.Doc.{Doc}
+use Rattle.kohiblad.specs.Status.{code, too_deep, IsHandedOver, IsRefused}
+use Rattle.kohiblad.specs.TextDepth.{text_depth}
+
+-- The text is handed over, or memory is refused.
+abbrev pub IsWritten : List ℕ → List ℕ → List ℕ → ℕ → ℕ → Type 0
+IsWritten text before after told status = IsHandedOver text before after told status
+    ⊎ IsRefused (code errors.OutOfMemory) before after told status
+
+-- The canonical document of the tree that the bytes mean is handed over; or there is none; or there
+-- is one, and memory is refused.
+abbrev pub IsRewritten : List ℕ → List ℕ → List ℕ → ℕ → ℕ → Type 0
+IsRewritten bytes before after told status =
+    ((t : Tree) × (Doc bytes t × (Fits t × IsHandedOver (canon t) before after told status)))
+    ⊎ ((((t : Tree) → Doc bytes t → Fits t → ⊥)
+    × IsRefused (code errors.InvalidJsonb) before after told status)
+    ⊎ (((t : Tree) × (Doc bytes t × Fits t))
+    × IsRefused (code errors.OutOfMemory) before after told status))
+
+-- The canonical document of a text's tree is handed over; or the text is no JSON; or its tree has
+-- no canonical document; or memory is refused.
+abbrev pub IsRead : List ℕ → List ℕ → List ℕ → ℕ → ℕ → Type 0
+IsRead text before after told status =
+    ((t : Tree)
+    × (Json (chars text) t × (Fits t × IsHandedOver (canon t) before after told status)))
+    ⊎ ((((t : Tree) → Json (chars text) t → ⊥)
+    × IsRefused (code errors.InvalidJson) before after told status)
+    ⊎ (((t : Tree) × (Json (chars text) t × (Fits t → ⊥)))
+    × IsRefused (code errors.InvalidJsonb) before after told status)
+    ⊎ IsRefused (code errors.OutOfMemory) before after told status)
+
+-- The same of any bytes as a text: what is no UTF-8 is refused,
+abbrev pub IsReadAsText : List ℕ → List ℕ → List ℕ → ℕ → ℕ → Type 0
+IsReadAsText text before after told status =
+    ((IsUtf8 text → ⊥) × IsRefused (code errors.InvalidUtf8) before after told status)
+    ⊎ (IsUtf8 text × IsRead text before after told status)
+
+-- and before that a text that nests deeper.
+abbrev pub IsReadWithin : ℕ → List ℕ → List ℕ → List ℕ → ℕ → ℕ → Type 0
+IsReadWithin depth text before after told status =
+    ((depth < text_depth text) × IsRefused too_deep before after told status)
+    ⊎ ((text_depth text ≤ depth) × IsReadAsText text before after told status)
