@@ -90,8 +90,8 @@ impl<'a> Document<'a> {
         }
     }
 
-    /// The bytes, of which the caller knows that they are a document: nothing is checked again. This
-    /// is for a caller that keeps checked bytes, as a column of documents does.
+    /// The bytes, of which the caller knows that they are a document: nothing is checked again.
+    /// This is for a caller that keeps checked bytes, as a column of documents does.
     pub fn new_unchecked(bytes: &'a [u8]) -> Self
         requires { IsDocument bytes.now }
         ensures { document_bytes result ≡ bytes.entry.now }

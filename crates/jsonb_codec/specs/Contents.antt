@@ -20,7 +20,8 @@ AreChildren ts children = Children ts children.entries.now children.payloads.now
 -- The members are these pairs.
 abbrev pub AreMembers : Pairs → Members → Type 0
 AreMembers ps members =
-    ArePairsOf ps members.keys.entries.now members.keys.payloads.now members.values.entries.now members.values.payloads.now
+    ArePairsOf ps members.keys.entries.now members.keys.payloads.now
+    members.values.entries.now members.values.payloads.now
 
 -- The contents are those of the tree.
 abbrev pub AreContents : Contents → Tree → Type 0
