@@ -27,6 +27,7 @@ use Rattle.jsonb.proofs.StorageLaws.{length-code_entries}
 use Rattle.kohiblad.specs.declared.places.Place.{Place}
 use Rattle.kohiblad.specs.Places.{place_at, place_behind, item_under, item_place, member_under}
 use Rattle.kohiblad.specs.Places.{member_places, entry_there, member_there, IsItemPlace}
+use Rattle.kohiblad.specs.Places.{place_in, place_under, place_among, all_entries, IsPartPlace}
 use Rattle.kohiblad.specs.Places.{AreMemberPlaces}
 
 pub place_behind-cut : (bytes : List ℕ) (nth index start : ℕ) (e : Error) → 0 < nth
@@ -77,21 +78,22 @@ place_behind_standing bytes (suc nth) i j (x ∷ cs) c is a b there =
     (more.0, (next ∙ more.1.0, more.1.1))
 
 module _ (b : List ℕ) (cs : List Entry) (is : AreEntries cs) (entries_at : At b 4 (code_entries cs))
-    (payloads_at : At b (4 + 4 * length cs) (code_payloads cs)) (index : ℕ) where
-  item_there :
-      ((x : Entry) × (index < length cs) × (slice_get cs index ≡ Some x)
-      × (slice_index_or cs index x ≡ x)) ⊎ ((length cs ≤ index) × (slice_get cs index ≡ None))
+    (n : ℕ) (counted : n ≡ length cs) (payloads_at : At b (4 + 4 * n) (code_payloads cs))
+    (nth : ℕ) where
+  part_there :
+      ((x : Entry) × (nth < length cs) × (slice_get cs nth ≡ Some x)
+      × (slice_index_or cs nth x ≡ x)) ⊎ ((length cs ≤ nth) × (slice_get cs nth ≡ None))
       → (o : Option Place)
-      × ((item_under b index (2147483648, length cs) ≡ Ok o)
-      × (option_map (entry_there b) o ≡ slice_get cs index))
-  item_there (inl (x, inside, there, here)) =
-      let stands = place_behind_standing b index 4
-      (4 + 4 * length cs) cs x is entries_at payloads_at there in
-      let test = lt-leb (length cs) index inside in
+      × ((place_among b nth n ≡ Ok o)
+      × (option_map (entry_there b) o ≡ slice_get cs nth))
+  part_there (inl (x, inside, there, here)) =
+      let stands = place_behind_standing b nth 4
+      (4 + 4 * n) cs x is entries_at payloads_at there in
+      let test = lt-leb n nth (omega arith) in
       let found = stands.1.0 in
       (Some stands.0, (rw (test, found) refl, ap (λ (c : Entry). Some c) stands.1.1 ∙ sym there))
-  item_there (inr (past, absent)) =
-      let test = le-leb (length cs) index past in
+  part_there (inr (past, absent)) =
+      let test = le-leb n nth (omega arith) in
       (None, (rw test refl, sym absent))
 
 item_standing : (b : List ℕ) (ts : Trees) (index : ℕ) → Payload (array ts) b
@@ -99,8 +101,9 @@ item_standing : (b : List ℕ) (ts : Trees) (index : ℕ) → Payload (array ts)
 item_standing b ts index h =
     let m = HasItems-Payload b ts h in
     let at = items_at b m.0 m.1.few m.1.written in
-    let there = item_there b m.0
-    (AreEntries-trees m.0 ts m.1.mean m.1.short) at.entries_at at.payloads_at index
+    let there = part_there b m.0
+    (AreEntries-trees m.0 ts m.1.mean m.1.short) at.entries_at
+    (length m.0) refl at.payloads_at index
     (slice_get_cases m.0 index).1 in (
       m.0,
       (
@@ -138,10 +141,6 @@ item_place_standing b (boolean false) index (inr (is, h)) = absurd (omega arith)
 item_place_standing b (number x) index (inr (is, h)) = absurd (omega arith)
 item_place_standing b (text x) index (inr (is, h)) = absurd (omega arith)
 item_place_standing b (extension x) index (inr (is, h)) = absurd (omega arith)
-
--- The entries of an object are those of its keys, and behind them those of its values.
-abbrev all_entries : List (List ℕ × Entry) → List Entry
-all_entries ms = key_codes (keys_of ms) ++ values_of ms
 
 AreEntries-append : (cs ds : List Entry) → AreEntries cs → AreEntries ds → AreEntries (cs ++ ds)
 AreEntries-append [] ds is are = are
@@ -293,6 +292,64 @@ member_standing b ps index h =
         ),
       ),
     )
+
+part_standing : (b : List ℕ) (ps : Pairs) (nth : ℕ) → Payload (object ps) b
+    → IsPartPlace b (object ps) nth (place_in b nth)
+part_standing b ps nth h =
+    let m = HasMembers-Payload b ps h in
+    let at = all_at b m.0 m.1.few m.1.written in
+    let is = AreEntries-append (key_codes (keys_of m.0)) (values_of m.0)
+    (AreEntries-keys (keys_of m.0) m.1.short_keys)
+    (AreEntries-pairs (keys_of m.0) (values_of m.0) ps m.1.mean m.1.short) in
+    let keys = length-all_keys m.0 in
+    let values = length-values_of m.0 in
+    let all = length-append (key_codes (keys_of m.0)) (values_of m.0) in
+    let there = part_there b (all_entries m.0) is at.entries_at
+    (2 * length m.0) (omega arith) at.payloads_at nth
+    (slice_get_cases (all_entries m.0) nth).1 in (
+      m.0,
+      (
+        m.1,
+        (
+          there.0,
+          (
+            ap (λ (r : Result (ℕ × ℕ) Error). r >>= place_under b nth) at.header
+                ∙ there.1.0,
+            there.1.1,
+          ),
+        ),
+      ),
+    )
+
+no_part : (b : List ℕ) (t : Tree) (nth : ℕ) → Scalar t b → place_in b nth ≡ Ok None
+no_part b t nth h =
+    let test = le-leb 0 nth (omega arith) in
+    let none : place_among b nth 0 ≡ Ok None = rw test refl in
+    ap (λ (r : Result (ℕ × ℕ) Error). r >>= place_under b nth) (header_at-Scalar b t h) ∙ none
+
+pub place_in_standing : (b : List ℕ) (t : Tree) (nth : ℕ) → Doc b t
+    → IsPartPlace b t nth (place_in b nth)
+place_in_standing b (object ps) nth (inr (is, h)) = part_standing b ps nth h
+place_in_standing b (object ps) nth (inl (other, h)) = absurd (other refl)
+place_in_standing b (array ts) nth (inr (is, h)) =
+    let item = item_standing b ts nth h in
+    let same = ap (λ (r : Result (ℕ × ℕ) Error). r >>= place_under b nth)
+    (header_at-array b ts h) in
+    let alike = ap (λ (r : Result (ℕ × ℕ) Error). r >>= item_under b nth)
+    (header_at-array b ts h) in
+    subst (IsItemPlace b (array ts) nth) (alike ∙ sym same) item
+place_in_standing b (array ts) nth (inl (other, h)) = absurd (other refl)
+place_in_standing b null nth (inl (other, h)) = no_part b null nth h
+place_in_standing b (boolean x) nth (inl (other, h)) = no_part b (boolean x) nth h
+place_in_standing b (number x) nth (inl (other, h)) = no_part b (number x) nth h
+place_in_standing b (text x) nth (inl (other, h)) = no_part b (text x) nth h
+place_in_standing b (extension x) nth (inl (other, h)) = no_part b (extension x) nth h
+place_in_standing b null nth (inr (is, h)) = absurd (omega arith)
+place_in_standing b (boolean true) nth (inr (is, h)) = absurd (omega arith)
+place_in_standing b (boolean false) nth (inr (is, h)) = absurd (omega arith)
+place_in_standing b (number x) nth (inr (is, h)) = absurd (omega arith)
+place_in_standing b (text x) nth (inr (is, h)) = absurd (omega arith)
+place_in_standing b (extension x) nth (inr (is, h)) = absurd (omega arith)
 
 no_member : (b : List ℕ) (t : Tree) (index : ℕ) → Scalar t b → member_places b index ≡ Ok None
 no_member b t index h =

@@ -2,6 +2,8 @@
 use Rattle.std.specs.Prelude.{◌≡◌, ℕ, zero, suc, ◌+◌, ◌-◌, ◌*◌, ◌==◌, nat_le, if◌then◌else◌, Bool}
 use Rattle.std.specs.Prelude.{List, length, take, drop, slice_get, option_map, Option, Some, None}
 use Rattle.std.specs.Prelude.{Result, Ok, Err, IfOk, IfSome, nat_eq, ◌≤◌, ◌<◌, ◌⊎◌, ◌^◌}
+use Rattle.std.specs.Prelude.{◌++◌}
+use Rattle.std.specs.Map.{keys_of, values_of}
 use Rattle.std.specs.Cmp.Lexicographic.{pointwise}
 use Rattle.jsonb_value.specs.declared.error.Error.{Error}
 use Rattle.jsonb_value.specs.declared.error.Error.TheVariants.{InvalidJsonb}
@@ -10,6 +12,7 @@ use Rattle.jsonb_codec.specs.declared.constants.TheConstants.{ARRAY_CONTAINER_TA
 use Rattle.jsonb_codec.specs.declared.constants.TheConstants.{OBJECT_CONTAINER_TAG, CONTAINER_TAG}
 use Rattle.jsonb_codec.specs.JEntry.{jentry_at}
 use Rattle.jsonb_codec.specs.Word.{header_at}
+use Rattle.jsonb.specs.Building.{key_codes}
 use Rattle.jsonb.specs.Code.{scalar_bytes}
 use Rattle.jsonb.specs.Item.{Entry}
 use Rattle.jsonb.specs.ItemView.{ItemView}
@@ -49,10 +52,14 @@ abbrev pub some_place : Result Place Error → Result (Option Place) Error
 some_place (Ok place) = Ok (Some place)
 some_place (Err e) = Err e
 
--- the place of a part of an array or object by its number, where there is one
+-- the place of a part by its number, where there is one among so many entries
+abbrev pub place_among : List ℕ → ℕ → ℕ → Result (Option Place) Error
+place_among bytes number entries =
+    if nat_le entries number then Ok None else some_place (part_place bytes entries number)
+
+-- the place of a part of an array or object by its number
 abbrev pub place_under : List ℕ → ℕ → ℕ × ℕ → Result (Option Place) Error
-place_under bytes number header = if nat_le (entry_count header) number then Ok None
-    else some_place (part_place bytes (entry_count header) number)
+place_under bytes number header = place_among bytes number (entry_count header)
 
 abbrev pub place_in : List ℕ → ℕ → Result (Option Place) Error
 place_in bytes number = header_at bytes 0 >>= place_under bytes number
@@ -183,6 +190,20 @@ AreMemberPlaces b (object ps) index found =
     × ((o : Option (Place × Place))
     × ((found ≡ Ok o) × (option_map (member_there b) o ≡ slice_get members index))))
 AreMemberPlaces b t index found = found ≡ Ok None
+
+-- A part is an item of an array, or of an object one of its keys' entries and of its values' behind
+-- them.
+abbrev pub all_entries : List (List ℕ × Entry) → List Entry
+all_entries members = key_codes (keys_of members) ++ values_of members
+
+abbrev pub IsPartPlace : List ℕ → Tree → ℕ → Result (Option Place) Error → Type 0
+IsPartPlace b (object ps) number found =
+    (members : List (List ℕ × Entry))
+    × (HasMembers b ps members
+    × ((o : Option Place)
+    × ((found ≡ Ok o)
+    × (option_map (entry_there b) o ≡ slice_get (all_entries members) number))))
+IsPartPlace b t number found = IsItemPlace b t number found
 
 -- The place is that of the entry at the key that is the name, where the document has one.
 abbrev pub IsValuePlace : List ℕ → Tree → List ℕ → Result (Option Place) Error → Type 0

@@ -8,6 +8,7 @@ ghost use Rattle.kohiblad.specs.Status.{code, IsHandedOver, IsRefused};
 ghost use Rattle.jsonb_value.specs.Tree.{Tree};
 ghost use Rattle.jsonb_codec.specs.Doc.{Doc};
 ghost use Rattle.kohiblad.specs.Places.{IsItemPlace, AreMemberPlaces, part_place, place_in};
+ghost use Rattle.kohiblad.specs.Places.{IsPartPlace};
 ghost use Rattle.kohiblad.specs.Places.{item_place, IsPlaceFound, IsPlaceIn, IsInside, AreInside};
 ghost use Rattle.kohiblad.specs.Places.{member_places, IsMemberHandedOver, place_answer};
 ghost use Rattle.kohiblad.specs.Places.{entry_there};
@@ -40,7 +41,9 @@ pub struct KohibladPlace {
 /// object the keys and behind them the values.
 #[unsafe(no_mangle)]
 pub extern "C" fn kohiblad_part(bytes: &[u8], number: usize) -> KohibladPlace
-    ensures { result ≡ place_answer (place_in bytes.now number) }
+    ensures value { result ≡ place_answer (place_in bytes.now number) }
+    ensures document { (t : Tree) → Doc bytes.now t
+        → IsPartPlace bytes.now t number (place_in bytes.now number) }
 {
     place_answer(place_in(bytes, number))
 }
