@@ -76,12 +76,12 @@ fn string(text: String) -> Value<'static> {
     Value::String(Cow::Owned(text))
 }
 
-fn objects() -> Value<'static> {
+fn objects(count: usize) -> Value<'static> {
     let object = |i: usize| {
         let pairs = (0..10).map(|k| (format!("key{k:02}"), string(format!("value {i} {k}"))));
         Value::Object(pairs.collect::<BTreeMap<_, _>>())
     };
-    Value::Array((0..10_000).map(object).collect())
+    Value::Array((0..count).map(object).collect())
 }
 
 fn deep() -> Value<'static> {
@@ -118,7 +118,7 @@ fn report(name: &str, what: &str, bytes: usize, ours: f64, theirs: f64) {
 fn documents() {
     for (name, value) in [
         ("numbers", numbers()),
-        ("objects", objects()),
+        ("objects", objects(10_000)),
         ("deep", deep()),
         ("of 3000", keyed(3_000, numbered)),
     ] {
@@ -360,7 +360,8 @@ fn nested() {
     }
 }
 
-fn texts() {
+// A text of so many records of five members.
+fn records(count: usize) -> String {
     let item = |i: usize| {
         format!(
             r#"{{"id":{i},"name":"name of {i}","price":{}.{:02},"tags":["a","b\n{i}"],"on":true}}"#,
@@ -368,7 +369,11 @@ fn texts() {
             i % 100
         )
     };
-    let text = format!("[{}]", (0..130_000).map(item).collect::<Vec<_>>().join(","));
+    format!("[{}]", (0..count).map(item).collect::<Vec<_>>().join(","))
+}
+
+fn texts() {
+    let text = records(130_000);
     let value: serde_json::Value = serde_json::from_str(&text).unwrap();
     let length = text.len();
     let from_str = || serde_json::from_str::<serde_json::Value>(&text).is_ok() as usize;
@@ -381,7 +386,7 @@ fn texts() {
     assert_eq!(whole(), unsafe { measured_parse(text.as_ptr(), length) });
     let (ours, theirs) = fastest(|| unsafe { measured_parse(text.as_ptr(), length) }, whole);
     report("text", "document", length, ours, theirs);
-    let objects = encoded(&objects());
+    let objects = encoded(&objects(10_000));
     let printed = unsafe { measured_print(objects.as_ptr(), objects.len()) };
     let tree: serde_json::Value = objects_as_json();
     assert_eq!(printed, serde_json::to_string(&tree).unwrap().len());
@@ -399,6 +404,36 @@ fn texts() {
     let (once, _) = fastest(|| unsafe { measured_text(start, count, 1) }, || 0);
     report("objects", "text", 4 * printed, more - once, theirs);
     drop(value);
+}
+
+// What ten times the size costs, up to 100 MB. The build stands in the encoder's time.
+fn sizes() {
+    let mut before = [0.0; 4];
+    for count in [13_000, 130_000, 1_300_000] {
+        let text = records(count);
+        let document = encoded(&objects(count / 3));
+        let (start, length) = (document.as_ptr(), document.len());
+        let now = [
+            least(|| unsafe { measured_parse(text.as_ptr(), text.len()) }),
+            least(|| unsafe { measured_build(start, length) as usize }),
+            least(|| unsafe { measured_encode(start, length, 1) }),
+            least(|| unsafe { measured_print(start, length) }),
+        ];
+        let lengths = [text.len(), length, length, length];
+        for (i, name) in ["parse", "build", "encode", "print"].iter().enumerate() {
+            let megabytes = lengths[i] as f64 / 1e6;
+            print!("{name:8} of {megabytes:6.1} MB takes {:8.1} ms", now[i] * 1e3);
+            if before[i] > 0.0 {
+                print!(", {:.1} times what a tenth takes", now[i] / before[i]);
+            }
+            println!();
+        }
+        before = now;
+    }
+}
+
+fn least(mut call: impl FnMut() -> usize) -> f64 {
+    (0..3).map(|_| seconds(&mut call)).fold(f64::INFINITY, f64::min)
 }
 
 // The crate's value of serde_json's, as a user of the crate makes it.
@@ -520,12 +555,13 @@ fn column() {
 }
 
 fn main() {
-    let parts: [(&str, fn()); 6] = [
+    let parts: [(&str, fn()); 7] = [
         ("documents", documents),
         ("look_ups", look_ups),
         ("sorts", sorts),
         ("nested", nested),
         ("texts", texts),
+        ("sizes", sizes),
         ("column", column),
     ];
     let wanted: Vec<String> = std::env::args().skip(1).collect();
