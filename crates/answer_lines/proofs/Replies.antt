@@ -21,7 +21,8 @@ ended-append [] ys = refl
 ended-append (x ∷ xs) ys = ap (λ es. x ++ 10 ∷ es) (ended-append xs ys)
     ∙ sym (append_assoc x (10 ∷ line_bytes xs) (line_bytes ys))
 
-pub Session-append : {S : Type 0} {rule : Rule S} {state mid end : S} {xs xs' ys ys' : List (List ℕ)}
+pub Session-append : {S : Type 0} {rule : Rule S} {state mid end : S}
+    {xs xs' ys ys' : List (List ℕ)}
     → Session rule state xs ys mid → Session rule mid xs' ys' end
     → Session rule state (xs ++ xs') (ys ++ ys') end
 Session-append none later = later
@@ -70,11 +71,18 @@ cut_step b bytes true test cut =
     let feed : b ≡ 10 = grind (arith, nat_tests) in rw feed (cut_feed bytes cut)
 cut_step b bytes false test cut =
     let other : b ≢ 10 = grind
-    (arith, nat_tests) in cut_byte b bytes cut.whole cut.rest other cut.parts cut.whole_lines cut.rest_line
+    (arith, nat_tests) in cut_byte b bytes cut.whole cut.rest other cut.parts cut.whole_lines
+    cut.rest_line
 
 cut_of : (bytes : List ℕ) → Cut bytes
 cut_of [] =
-    record { whole = []; rest = []; parts = refl; whole_lines = All-nil IsLine; rest_line = All-nil no_feed }
+    record {
+      whole = [];
+      rest = [];
+      parts = refl;
+      whole_lines = All-nil IsLine;
+      rest_line = All-nil no_feed;
+    }
 cut_of (b ∷ bytes) = cut_step b bytes (b == 10) refl (cut_of bytes)
 
 -- ---- and these are their only ones
@@ -104,7 +112,8 @@ pub one_lines : (bytes : List ℕ) (xs ys : List (List ℕ)) → AreLines bytes 
     → xs ≡ ys
 one_lines bytes xs ys first second =
     let cut =
-    one_ended first.whole second.whole first.rest second.rest first.whole_lines second.whole_lines first.rest_line second.rest_line
+    one_ended first.whole second.whole first.rest second.rest first.whole_lines second.whole_lines
+    first.rest_line second.rest_line
     (sym first.parts ∙ second.parts) in
     first.lines_are ∙ ap₂ (λ (ls : List (List ℕ)) (r : List ℕ). ls ++ last_line r) cut.0 cut.1
     ∙ sym second.lines_are
@@ -203,7 +212,14 @@ module _ {S : Type 0} (rule : Rule S) where
       lines = [];
       replies = [];
       of_input =
-          record { whole = []; rest = []; parts = refl; lines_are = refl; whole_lines = All-nil IsLine; rest_line = All-nil no_feed };
+          record {
+            whole = [];
+            rest = [];
+            parts = refl;
+            lines_are = refl;
+            whole_lines = All-nil IsLine;
+            rest_line = All-nil no_feed;
+          };
       session = none;
       bytes = refl;
     };
@@ -238,7 +254,8 @@ module _ {S : Type 0} (rule : Rule S) where
   replies_after_whole state next end input start old mid new so_far then = record {
     written = line_bytes so_far.replies ++ then.written;
     replies = rw (so_far.parts, append-nil)
-        (replies_after state next end so_far.lines so_far.replies start then.written so_far.whole_lines so_far.session then.replies);
+        (replies_after state next end so_far.lines so_far.replies start then.written
+        so_far.whole_lines so_far.session then.replies);
     appends = appends_both old mid new
         (line_bytes so_far.replies) then.written so_far.appends then.appends;
   }

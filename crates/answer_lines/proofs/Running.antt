@@ -84,7 +84,8 @@ module _ {S : Type 0} (rule : Rule S) where
     start_line = no_line;
     session = Session-append so_far.session (more is none);
     appends = rw (ended-append so_far.replies (reply ∷ []))
-        (appends_both old mid new (line_bytes so_far.replies) (reply ++ 10 ∷ []) so_far.appends then);
+        (appends_both old mid new (line_bytes so_far.replies)
+        (reply ++ 10 ∷ []) so_far.appends then);
   }
 
   -- a fault with nothing more written
@@ -129,8 +130,10 @@ module _ {S : Type 0} (rule : Rule S) where
       so_far cut one is then = record {
         output = so_far.output ++ bytes;
         whole =
-            line_ends state last next input start left waiting end behind bytes old mid so_far cut one is;
-        all_but = all_but_waits old mid new so_far.output waiting waiting' bytes so_far.all_but then;
+            line_ends state last next input start left waiting end behind bytes old mid so_far cut
+            one is;
+        all_but = all_but_waits old mid new so_far.output waiting waiting' bytes so_far.all_but
+            then;
       }
 
   -- or a fault is within what waits and the reply
@@ -144,7 +147,8 @@ module _ {S : Type 0} (rule : Rule S) where
   collects_fault state last next input start left waiting end behind bytes later old mid new
       so_far cut one is then =
       beginning_within rule state next input [] behind later (so_far.output ++ bytes) old new
-      (line_ends state last next input start left waiting end behind bytes old mid so_far cut one is)
+      (line_ends state last next input start left waiting end behind bytes old mid so_far cut one
+      is)
       (all_but_faults old mid new so_far.output waiting bytes so_far.all_but then)
 
   -- only a beginning of what waited was appended
@@ -229,7 +233,8 @@ module _ {S : Type 0} (rule : Rule S) where
       read then = read
   run_chunk state last next (Some input) (Some before) (Some after) start chunk start' old mid new
       so_far read then =
-      chunk_answered state last next input start before chunk after start' old mid new so_far read then
+      chunk_answered state last next input start before chunk after start' old mid new so_far read
+      then
 
   -- the reader's fault took no bytes
   pub run_kept : (state next : S) (input before after : Option (List ℕ)) (start : List ℕ)

@@ -20,11 +20,11 @@ lookup_same x y [] same = refl
 lookup_same x y (e ∷ es) same =
     rw (same_meaning_equivalence.congr x y (item_view e.0) same, lookup_same x y es same) refl
 
-pub has_equal_same : (x y : ItemView) (list : List ItemView) → same_meaning x y ≡ true
+pub equal_same : (x y : ItemView) (list : List ItemView) → same_meaning x y ≡ true
     → has_equal list x ≡ has_equal list y
-has_equal_same x y [] same = refl
-has_equal_same x y (e ∷ es) same =
-    rw (same_meaning_equivalence.congr x y e same, has_equal_same x y es same) refl
+equal_same x y [] same = refl
+equal_same x y (e ∷ es) same =
+    rw (same_meaning_equivalence.congr x y e same, equal_same x y es same) refl
 
 abbrev count_in : List (JsonbItem × ℕ) → ItemView → ℕ
 count_in counts x = unwrap_or (count_at counts x) 0

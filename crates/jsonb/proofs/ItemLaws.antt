@@ -57,8 +57,20 @@ found_item (trees.object ps) p h =
 pub IsItemOf-Payload : (t : Tree) (p : List ℕ) → length p < 2 ^ 28 → Payload t p → (x : ItemView)
     × ((item_of (type_of t) p ≡ Ok x) × IsItemOf t x)
 IsItemOf-Payload t p short h =
-    let f = found_item t p h in
-    (f.0, (f.1.0, record { payload = p; short = short; payload_means = h; item = f.1.0; means = f.1.1.0; code = f.1.1.1 }))
+    let f = found_item t p h in (
+      f.0,
+      (
+        f.1.0,
+        record {
+          payload = p;
+          short = short;
+          payload_means = h;
+          item = f.1.0;
+          means = f.1.1.0;
+          code = f.1.1.1;
+        },
+      ),
+    )
 
 -- a scalar's item is stored as its document again
 stored_again : (t : Tree) (p : List ℕ) → type_of t ≢ 1342177280 → length p < 2 ^ 28
@@ -142,7 +154,14 @@ item_in-Doc b t (inl (other, h)) =
     let f = found_item t h.payload h.means in
     let again = stored_again t h.payload other h.short h.means in
     let item : IsItemOf t f.0 =
-    record { payload = h.payload; short = h.short; payload_means = h.means; item = f.1.0; means = f.1.1.0; code = f.1.1.1 } in (
+    record {
+      payload = h.payload;
+      short = h.short;
+      payload_means = h.means;
+      item = f.1.0;
+      means = f.1.1.0;
+      code = f.1.1.1;
+    } in (
       f.0,
       (
         item_in-scalar b t other h

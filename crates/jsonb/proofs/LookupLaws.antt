@@ -144,7 +144,8 @@ found_pair : (answers : List ℕ → Bool → Type 0) (size : ℕ) (bytes : List
     → answers given true
     → ((k : ℕ) → i ≤ k → k < j → IsPassedAt answers size bytes n k)
     → Found answers size bytes n ps m wj
-found_pair answers size bytes n i w m j wj given no_pairs ke kp ve vp h v a b c d e g inside there said none = absurd (omega arith)
+found_pair answers size bytes n i w m j wj given no_pairs ke kp ve vp h v a b c d e g inside there
+    said none = absurd (omega arith)
 found_pair answers size bytes n i w zero j wj given
     (pair k t ps) ke kp ve vp h v a b c d e g inside there said none =
     let key = first_part bytes n i (text k) (IsKey k) (Keys ps) ke kp h a b in
@@ -168,7 +169,8 @@ found_pair answers size bytes n i w (suc m) j wj given
     let key = first_part bytes n i (text k) (IsKey k) (Keys ps) ke kp h a b in
     let value = first_part bytes n w t (Payload t) (Values ps) ve vp v c d in
     let more = found_pair answers size bytes n (suc i)
-    (suc w) m j wj given ps h.other_entries h.other_payloads v.other_entries v.other_payloads h.others v.others
+    (suc w) m j wj given ps h.other_entries h.other_payloads v.other_entries v.other_payloads
+    h.others v.others
     key.other_entries key.other_payloads value.other_entries value.other_payloads (omega arith)
     (omega arith) (omega arith) there said
     (λ x low high. none x (omega arith) (omega arith)) in
@@ -262,13 +264,15 @@ numbered bytes ps parts =
     let front : 4 + 8 * pair_count ps ≡ part_start bytes (pair_count ps) 0 = omega arith in
     let keys_at = subst (λ (k : ℕ). At bytes k parts.key_payloads) front parts.key_payloads_at in
     let keys =
-    length_before-Keys bytes n 0 n ps parts.key_entries parts.key_payloads parts.keys parts.key_entries_at keys_at (omega arith) in
+    length_before-Keys bytes n 0 n ps parts.key_entries parts.key_payloads parts.keys
+    parts.key_entries_at keys_at (omega arith) in
     let behind : 4 + 8 * pair_count ps + length parts.key_payloads
     ≡ part_start bytes (pair_count ps) (pair_count ps) = omega arith in
     let values_at =
     subst (λ (k : ℕ). At bytes k parts.value_payloads) behind parts.value_payloads_at in
     let values = length_before-Values bytes n n
-    (2 * n) ps parts.value_entries parts.value_payloads parts.values parts.value_entries_at values_at (omega arith) in
+    (2 * n) ps parts.value_entries parts.value_payloads parts.values parts.value_entries_at
+    values_at (omega arith) in
     let inside = within-At bytes _ parts.value_payloads parts.value_payloads_at in
     record { keys_at = keys_at; values_at = values_at; all = record { all = omega arith } }
 

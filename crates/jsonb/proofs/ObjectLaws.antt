@@ -107,7 +107,8 @@ pub IsObjectOf-parts : (es : Entries) → AreStorable (key_texts es) → AreStor
     → five ≡ four ++ code_payloads (codes_of (value_items es)) → bytes ≡ five
     → IsObjectOf (pair_views es) bytes
 unfolding FitObject-AreStorable
-IsObjectOf-parts es keys values few n one two three four five bytes count header key_words value_words texts payloads whole =
+IsObjectOf-parts es keys values few n one two three four five bytes count header key_words
+    value_words texts payloads whole =
     let ks = codes_of (key_texts es) in
     let vs = codes_of (value_items es) in
     let front = ap

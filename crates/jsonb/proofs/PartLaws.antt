@@ -47,10 +47,10 @@ unfolding part_length
 part_length-bound bytes part = length_in-bound (word_at bytes (4 + 4 * part))
 
 -- no part begins far in
-pub length_before_bound : (bytes : List ℕ) (part : ℕ) → length_before bytes part ≤ 2 ^ 28 * part
-length_before_bound bytes zero = omega arith
-length_before_bound bytes (suc part) =
-    let before = length_before_bound bytes part in
+pub before_bound : (bytes : List ℕ) (part : ℕ) → length_before bytes part ≤ 2 ^ 28 * part
+before_bound bytes zero = omega arith
+before_bound bytes (suc part) =
+    let before = before_bound bytes part in
     let one = part_length-bound bytes part in
     omega arith
 

@@ -106,7 +106,8 @@ document_code-canon b t is fits same =
       of (inl (other, h)) =
           let scalar : b ≡ scalar_bytes (type_of t) (payload_of t) =
           sym same ∙ canon-scalar t (λ e. other (type_of-norm t ∙ e)) in
-          let payload = same_payload (type_of t) _ (payload_of t) h.payload (sym scalar ∙ h.parts) in
+          let payload = same_payload (type_of t) _ (payload_of t) h.payload
+          (sym scalar ∙ h.parts) in
           document_code-Scalar b (norm t) h ∙ ap₂
           (λ (n : ℕ) (p : List ℕ). record { type = n; payload = p }) (type_of-norm t) (sym payload)
       of (inr (whole, h)) =
@@ -164,4 +165,8 @@ pub IsArrayOfInputs-IsArrayOf : (bs : List (List ℕ)) (xs : List ItemView) (byt
     → xs ≡ map raw bs → IsArrayOf xs bytes → IsArrayOfInputs bs bytes
 IsArrayOfInputs-IsArrayOf bs xs bytes same h =
     let array = subst (λ (ys : List ItemView). IsArrayOf ys bytes) same h in
-    record { array = array; document = Doc-documents bs bytes array; canonical = canon-documents bs bytes array }
+    record {
+      array = array;
+      document = Doc-documents bs bytes array;
+      canonical = canon-documents bs bytes array;
+    }

@@ -130,7 +130,14 @@ AreWritten-canonical : (qs : List (List ℕ × List ℕ)) (ps : Pairs) → ArePa
     → AreShort (key_codes (keys_of (raw_pairs qs))) → AreShort (codes_of (values_of (raw_pairs qs)))
     → AreWritten (keys_of (raw_pairs qs)) (codes_of (values_of (raw_pairs qs))) ps
 AreWritten-canonical [] no_pairs h short_keys short =
-    record { key_words = refl; keys = refl; value_words = refl; values = refl; counted = refl; fit = tt }
+    record {
+      key_words = refl;
+      keys = refl;
+      value_words = refl;
+      values = refl;
+      counted = refl;
+      fit = tt;
+    }
 AreWritten-canonical [] (pair k t ps) h short_keys short = let never : ⊥ = cc in absurd never
 AreWritten-canonical (q ∷ qs) no_pairs h short_keys short = absurd h
 AreWritten-canonical (q ∷ qs) (pair k t ps) h short_keys short =

@@ -164,7 +164,8 @@ same_entries bytes i j (c ∷ cs) (x ∷ ds) is are n a b d e =
     (sym here) g.other_payloads in
     ap₂ (λ (y : Entry) (ys : List Entry). y ∷ ys) here
     (same_entries bytes (i + 4)
-    (j + length c.payload) cs ds is.1 are.1 long f.other_entries f.other_payloads g.other_entries payloads)
+    (j + length c.payload) cs ds is.1 are.1 long f.other_entries f.other_payloads g.other_entries
+    payloads)
 
 -- the item of the first entry that was read, and those behind it
 pub items_in-first : (entry : Entry) (others : List (Result Entry Error)) (x : ItemView)
@@ -228,7 +229,13 @@ record FromChildren (ts : Trees) (e p : List ℕ) : Type 0 where
 
 from_children : (ts : Trees) (e p : List ℕ) → Children ts e p → FromChildren ts e p
 from_children no_trees e p h =
-    record { entries = []; mean = refl; short = tt; entries_are = h.no_entries; payloads_are = h.no_payloads }
+    record {
+      entries = [];
+      mean = refl;
+      short = tt;
+      entries_are = h.no_entries;
+      payloads_are = h.no_payloads;
+    }
 from_children (tree t ts) e p h =
     let more = from_children ts h.other_entries h.other_payloads h.others in
     record {
@@ -284,7 +291,8 @@ from_pairs no_pairs ke kp ve vp h v = record {
 }
 from_pairs (pair k t ps) ke kp ve vp h v =
     let more =
-    from_pairs ps h.other_entries h.other_payloads v.other_entries v.other_payloads h.others v.others in
+    from_pairs ps h.other_entries h.other_payloads v.other_entries v.other_payloads h.others
+    v.others in
     record {
       members = (h.payload, record { type = type_of t; payload = v.payload }) ∷ more.members;
       mean = (h.means.0, ((refl, v.means), more.mean));
@@ -304,7 +312,8 @@ pub HasMembers-Payload : (b : List ℕ) (ps : Pairs) → Payload (object ps) b
 HasMembers-Payload b ps h =
     let body = h.1.behind in
     let f =
-    from_pairs ps body.key_entries body.key_payloads body.value_entries body.value_payloads body.keys body.values in
+    from_pairs ps body.key_entries body.key_payloads body.value_entries body.value_payloads
+    body.keys body.values in
     let n : pair_count ps ≡ length (values_of f.members) =
     sym (length-values_of f.members ∙ f.counted) in
     let payloads = ap₂ (λ (x y : List ℕ). x ++ y) f.key_payloads_are f.payloads_are in

@@ -81,7 +81,7 @@ struct Accepted {
 }
 
 // Asks about the keys of the name's length, in order, until one is accepted.
-#[tactic(auto, using(crate::proofs::PartLaws::length_before_bound, crate::proofs::PartLaws::part_fits))]
+#[tactic(auto, using(crate::proofs::PartLaws::before_bound, crate::proofs::PartLaws::part_fits))]
 fn matching_key<F: Fn(&[u8], &[u8]) -> bool>(
     bytes: &[u8],
     count: usize,
@@ -127,7 +127,7 @@ fn matching_key<F: Fn(&[u8], &[u8]) -> bool>(
 }
 
 // Where the payload of an entry begins, by the entries from another one on.
-#[tactic(auto, using(crate::proofs::PartLaws::length_before_bound, crate::proofs::PartLaws::part_fits))]
+#[tactic(auto, using(crate::proofs::PartLaws::before_bound, crate::proofs::PartLaws::part_fits))]
 fn skip_parts(
     bytes: &[u8],
     count: usize,
@@ -156,7 +156,7 @@ fn skip_parts(
 }
 
 /// The entry of the value of the first key that is accepted, among so many pairs.
-#[tactic(auto, using(crate::proofs::PartLaws::length_before_bound, crate::proofs::PartLaws::part_fits))]
+#[tactic(auto, using(crate::proofs::PartLaws::before_bound, crate::proofs::PartLaws::part_fits))]
 pub fn find_value<'a, F: Fn(&[u8], &[u8]) -> bool>(
     bytes: &'a [u8],
     count: usize,

@@ -336,4 +336,5 @@ one_answer line a b (of_none cannot is) (of_none also then) = is ∙ sym then
 pub one_output : (input a b : List ℕ) → AreAnswers line_rule commands input a
     → AreAnswers line_rule commands input b → a ≡ b
 one_output = session.one_output line_rule
-    (λ state x y line a b first second given also. (one_answer line a b first second, refl)) commands
+    (λ state x y line a b first second given also. (one_answer line a b first second, refl))
+    commands

@@ -169,8 +169,8 @@ fn answers_each_line(rt: HostRuntime) -> Result<(), Fail> {
     Ok(())
 }
 
-// The text that was written into a room of which so many bytes are left. Want of memory is handed on:
-// a run with a refused request may answer so.
+// The text that was written into a room of which so many bytes are left. Want of memory is handed
+// on: a run with a refused request may answer so.
 fn written(room: &[u8], left: usize) -> Result<&str, Fail> {
     let count = room.len().saturating_sub(left);
     let text = str::from_utf8(room.get(..count).ok_or("more than there is room")?)?;

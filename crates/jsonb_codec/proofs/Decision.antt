@@ -357,7 +357,8 @@ decide_array limit payloads n body few =
     let parts : body ≡ e ++ p = sym (take-append-drop (4 * n) body) in
     elim (cases_lt (length body) (4 * n)) [
       | inl short ↦ inr
-          (λ (ts, (v, h)). let room = array_room n body ts h in let never : ⊥ = omega arith in never)
+          (λ (ts, (v, h)). let room = array_room n body ts h in let never : ⊥ = omega arith in
+          never)
       | inr long ↦
           let len : length e ≡ 4 * n = length-take-le (4 * n) body long in
           decided_iff (array_iff n body e p parts len limit few)
@@ -377,7 +378,8 @@ decide_object limit payloads n body few =
     ∙ take-append-drop (4 * n) body) in
     elim (cases_lt (length body) (8 * n)) [
       | inl short ↦ inr
-          (λ (ps, (v, h)). let room = object_room n body ps h in let never : ⊥ = omega arith in never)
+          (λ (ps, (v, h)). let room = object_room n body ps h in let never : ⊥ = omega arith in
+          never)
       | inr long ↦
           let left : length behind ≡ length body - 4 * n = length-drop (4 * n) body in
           let kn : length ke ≡ 4 * n = length-take-le (4 * n) body (omega arith) in
@@ -413,7 +415,8 @@ decide_container limit some payloads b =
                   (container_object tag n w.rest b h.parts h.high h.number_is h.small limit some is)
                   (decide_object (limit - 1) payloads n w.rest h.number_is)
               | inr no_object ↦ inr
-                  (no_container tag n w.rest b h.parts h.high h.number_is h.small no_array no_object limit)
+                  (no_container tag n w.rest b h.parts h.high h.number_is h.small no_array no_object
+                  limit)
             ]
           ]
       | inr none ↦ inr (λ h. none (container_front limit b h))

@@ -44,7 +44,8 @@ mutual
   Payload-depth (object ps) p h =
       let room = length-Payload-object ps p h in
       let more =
-      Values-depth ps h.1.behind.value_entries h.1.behind.value_payloads h.1.behind.values in omega arith
+      Values-depth ps h.1.behind.value_entries h.1.behind.value_payloads h.1.behind.values in
+      omega arith
   Payload-depth t p h = omega arith
 
   pub Children-depth : (ts : Trees) (e p : List ℕ) → Children ts e p
@@ -74,7 +75,8 @@ mutual
       let room = length-Payload-object ps p h in
       let keys = length-Keys ps h.1.behind.key_entries h.1.behind.key_payloads h.1.behind.keys in
       let more =
-      Values-size ps h.1.behind.value_entries h.1.behind.value_payloads h.1.behind.values in omega arith
+      Values-size ps h.1.behind.value_entries h.1.behind.value_payloads h.1.behind.values in
+      omega arith
   Payload-size t p h = omega arith
 
   Children-size : (ts : Trees) (e p : List ℕ) → Children ts e p → 4 * sizes ts ≤ length e + length p
@@ -105,7 +107,8 @@ container-size (object ps) b is h =
     let room = length-Payload-object ps b h in
     let keys = length-Keys ps h.1.behind.key_entries h.1.behind.key_payloads h.1.behind.keys in
     let more =
-    Values-size ps h.1.behind.value_entries h.1.behind.value_payloads h.1.behind.values in omega arith
+    Values-size ps h.1.behind.value_entries h.1.behind.value_payloads h.1.behind.values in
+    omega arith
 container-size (boolean true) b is h = absurd (omega arith)
 container-size (boolean false) b is h = absurd (omega arith)
 container-size t b is h = absurd (omega arith)

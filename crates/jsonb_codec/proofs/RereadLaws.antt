@@ -54,10 +54,22 @@ mutual
   shorter (boolean a) (boolean b) s = omega arith
   shorter (number x) (number y) s = s.shorter
   shorter (text a) (text b) s = omega (arith, ap length s)
-  shorter (array us) (array ts) s = omega
-      (arith, length-payload_of-array us, length-payload_of-array ts, count-AreSame us ts s, all_shorter us ts s)
+  shorter (array us) (array ts) s = omega (
+    arith,
+    length-payload_of-array us,
+    length-payload_of-array ts,
+    count-AreSame us ts s,
+    all_shorter us ts s,
+  )
   shorter (object qs) (object ps) s =
-      omega (arith, length-payload_of-object qs, length-payload_of-object ps, pair_count-PairsSame qs ps s, key_payloads-PairsSame qs ps s, pairs_shorter qs ps s)
+      omega (
+        arith,
+        length-payload_of-object qs,
+        length-payload_of-object ps,
+        pair_count-PairsSame qs ps s,
+        key_payloads-PairsSame qs ps s,
+        pairs_shorter qs ps s,
+      )
   shorter u t s = absurd s
 
   all_shorter : (us ts : Trees) → AreSame us ts → length (payloads_of us) ≤ length (payloads_of ts)
@@ -134,4 +146,10 @@ pub reread_text : (l : Layout) (t : Tree) → IsTree t → IsPlain t → Fits t
     → MeansAgain (chars (laid_out l t)) t
 reread_text l t ok plain fits =
     let read = reread_tree l t ok plain in
-    record { again = read.tree_is; is_tree = read.is_tree; fits = Fits-IsSame read.tree_is t read.is_same fits; is_meant = read.is_meant; is_equal = read.is_equal }
+    record {
+      again = read.tree_is;
+      is_tree = read.is_tree;
+      fits = Fits-IsSame read.tree_is t read.is_same fits;
+      is_meant = read.is_meant;
+      is_equal = read.is_equal;
+    }

@@ -154,12 +154,19 @@ module _ (tag n : ℕ) (rest b : List ℕ) (parts : b ≡ word (tag + n) ++ rest
         payloads = k.key_payloads ++ k.value_payloads;
         body = sym words.1 ∙ k.parts
             ∙ sym (append_assoc k.key_entries k.value_entries (k.key_payloads ++ k.value_payloads));
-        len = omega
-            (arith, length-append k.key_entries k.value_entries, length-Keys ps k.key_entries k.key_payloads k.keys, length-Values ps k.value_entries k.value_payloads k.values, words.0, two is);
+        len = omega (
+          arith,
+          length-append k.key_entries k.value_entries,
+          length-Keys ps k.key_entries k.key_payloads k.keys,
+          length-Values ps k.value_entries k.value_payloads k.values,
+          words.0,
+          two is,
+        );
         parts_are = record {
           children = keys_and ps us;
           are =
-              Children-keys_and ps us k.key_entries k.key_payloads k.value_entries k.value_payloads k.keys (children_of_values ps k.value_entries k.value_payloads k.values);
+              Children-keys_and ps us k.key_entries k.key_payloads k.value_entries k.value_payloads
+              k.keys (children_of_values ps k.value_entries k.value_payloads k.values);
           fit = (
             λ a. (
               few,
@@ -225,7 +232,16 @@ pub record Measured (all_entries all_payloads : List ℕ) (total : ℕ)
 pub measured_start : (e p : List ℕ) → ∥ AreSomeChildren e p ∥₁ → Measured e p 0 e p
 measured_start e p some =
     let (ts, h) =
-    known_children e p some in record { all = ts; are_all = h; left = ts; are_left = h; onward = λ f. f; back = λ f. f; sum = omega arith }
+    known_children e p some in
+    record {
+      all = ts;
+      are_all = h;
+      left = ts;
+      are_left = h;
+      onward = λ f. f;
+      back = λ f. f;
+      sum = omega arith;
+    }
 
 module _ (ae ap_all : List ℕ) (total : ℕ) (e p : List ℕ) (m : Measured ae ap_all total e p) (ty : ℕ)
     (q e2 p2 : List ℕ) (f : FirstChild m.left ty q e2 p2) where
@@ -281,7 +297,14 @@ pub written_start : (Bytes : Trees → List ℕ) (v : Vec ℕ) (e p : List ℕ)
     → ((ts : Trees) × (Children ts e p × (AllFit ts × HasRoom v (Bytes ts))))
     → Written Bytes v v e p e p
 written_start Bytes v e p (ts, (h, (fit, room))) =
-    record { all = ts; are_all = h; left = ts; are_left = h; fit = fit; underway = underway_start room }
+    record {
+      all = ts;
+      are_all = h;
+      left = ts;
+      are_left = h;
+      fit = fit;
+      underway = underway_start room;
+    }
 
 module _ (Bytes : Trees → List ℕ) (One : Tree → List ℕ)
     (law : (t : Tree) (us : Trees) → Bytes (tree t us) ≡ One t ++ Bytes us) (old now : Vec ℕ)
@@ -357,7 +380,13 @@ module _ (old now : Vec ℕ) (ae qs : List ℕ) (size_left : ℕ) (e p : List �
   entered_size =
       let fit = subst AllFit f.are m.written.fit in (
         f.first,
-        (f.is, (record { inside = fit.0.0; short = fit.0.1 }, record { behind = f.others; are = f.behind; fit = fit.1; both = entered_parts })),
+        (
+          f.is,
+          (
+            record { inside = fit.0.0; short = fit.0.1 },
+            record { behind = f.others; are = f.behind; fit = fit.1; both = entered_parts },
+          ),
+        ),
       )
 
   pub entered_next : (size : ℕ) → ((t : Tree) → IsPayloadOf ty q t → size ≡ length (payload_of t))

@@ -1,5 +1,6 @@
 -- Words that stand in bytes, and what is read there.
-use Rattle.std.proofs.Common.{◌≡◌, ℕ, ◌+◌, ◌-◌, ◌%◌, ◌^◌, ◌<◌, ◌≤◌, List, [], ◌++◌, Vec, Global, Result}
+use Rattle.std.proofs.Common.{◌≡◌, ℕ, ◌+◌, ◌-◌, ◌%◌, ◌^◌, ◌<◌, ◌≤◌, List, [], ◌++◌, Vec, Global}
+use Rattle.std.proofs.Common.{Result}
 use Rattle.std.proofs.Common.{Ok, Err, length, rules, take, drop, refl, sym, ap, subst, ◌∙◌, arith}
 use Rattle.std.proofs.Common.{length-append, append_assoc}
 use Rattle.std.specs.Int.{w32, from_be_bytes}
@@ -64,7 +65,8 @@ Stands-first at words others bytes s = record {
 }
 
 -- Behind a scalar's header its entry word can be written,
-pub CanEnter-scalar : {out headed : Vec ℕ Global} {t : Tree} {size : ℕ} → CanWriteDocument out t size
+pub CanEnter-scalar : {out headed : Vec ℕ Global} {t : Tree} {size : ℕ}
+    → CanWriteDocument out t size
     → (type_of t ≡ 1342177280 → ⊥) → AppendsBytes out headed (word 536870912)
     → CanEnter headed t (size - 8)
 CanEnter-scalar {t = t} can other header =
@@ -72,14 +74,22 @@ CanEnter-scalar {t = t} can other header =
     record {
       fits = FitsEntry-scalar t other can.fits;
       len = omega (arith, can.len, long);
-      room = omega
-          (arith, can.room, long, length-Appended header, header.capacity, length-word 536870912, length-word (type_of t + length (payload_of t)));
+      room = omega (
+        arith,
+        can.room,
+        long,
+        length-Appended header,
+        header.capacity,
+        length-word 536870912,
+        length-word (type_of t + length (payload_of t)),
+      );
     }
 
 -- and behind that its payload.
 pub CanFollow-scalar : {out headed now : Vec ℕ Global} {t : Tree} {size : ℕ}
     → CanWriteDocument out t size → (type_of t ≡ 1342177280 → ⊥)
-    → AppendsBytes out headed (word 536870912) → AppendsBytes headed now (entry_word t) → (entry : ℕ)
+    → AppendsBytes out headed (word 536870912) → AppendsBytes headed now (entry_word t)
+    → (entry : ℕ)
     → entry ≡ length headed.items → CanFollow now t entry
 CanFollow-scalar {now = now} {t = t} can other header word entry at =
     let enter = CanEnter-scalar can other header in
@@ -87,8 +97,17 @@ CanFollow-scalar {now = now} {t = t} can other header word entry at =
       fits = enter.fits;
       stands =
           subst (λ (n : ℕ). Stands n (entry_word t) now.items) (sym at) (Stands-Appended word);
-      room = omega
-          (arith, can.room, length-canon-scalar t other, length-Appended header, header.capacity, length-Appended word, word.capacity, length-word 536870912, length-word (type_of t + length (payload_of t)));
+      room = omega (
+        arith,
+        can.room,
+        length-canon-scalar t other,
+        length-Appended header,
+        header.capacity,
+        length-Appended word,
+        word.capacity,
+        length-word 536870912,
+        length-word (type_of t + length (payload_of t)),
+      );
     }
 
 -- A word is inside,

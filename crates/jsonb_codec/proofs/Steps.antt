@@ -388,7 +388,11 @@ module _ (tag n : ℕ) (rest b : List ℕ) (parts : b ≡ word (tag + n) ++ rest
       (q, subst (Scalar t) (parts ∙ ap (λ (k : ℕ). word (k + n) ++ rest) is) h)
   document_scalar is t (inr h) =
       absurd (elim
-      (container_kind tag n rest b parts high few small t h) [ inl a ↦ let never : ⊥ = omega arith in never | inr o ↦ let never : ⊥ = omega arith in never ])
+      (container_kind tag n rest b parts high few small t h) [
+        | inl a ↦ let never : ⊥ = omega arith in never
+        | inr o ↦ let never : ⊥ = omega arith in
+            never
+      ])
 
   pub document_container : tag ≢ 536870912 → (t : Tree) → Doc b t → IsPayloadOf 1342177280 b t
   document_container other t (inl (q, h)) =

@@ -191,7 +191,8 @@ mutual
       let keys_after =
       subst (λ x. Keys qs x kk.other_payloads) (sym key_front.other_entries) kk.others in
       let others =
-      same_pairs ps qs hk.other_entries hk.other_payloads h.other_entries h.other_payloads k.other_payloads c
+      same_pairs ps qs hk.other_entries hk.other_payloads h.other_entries h.other_payloads
+      k.other_payloads c
       hk.others
       (subst (λ x. Keys qs hk.other_entries x)
       (key_here.other_payloads ∙ append-nil hk.other_payloads) keys_after)

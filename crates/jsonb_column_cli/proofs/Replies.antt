@@ -90,7 +90,8 @@ some_rows (Ok x) (Some input) P rows h = (rows, h)
 some_rows (Err e) known P rows h = tt
 
 pub some_start : (known left : Option (List ℕ)) (P : List ℕ → List ℕ → List ℕ → Rows → Type 0)
-    (rows : Rows) → IfSome known (λ input. IfSome left (λ l. (start : List ℕ) × P input l start rows))
+    (rows : Rows) → IfSome known
+    (λ input. IfSome left (λ l. (start : List ℕ) × P input l start rows))
     → IfSome known (λ input. IfSome left
     (λ l. (start : List ℕ) × ((end : Rows) × P input l start end)))
 some_start None left P rows h = tt

@@ -2,9 +2,9 @@
 //! and which calls take none; laws over pairs and triples of documents; limits of the format;
 //! writers that refuse; closures; and what is borrowed. The lines stand in `tests/lines`.
 //!
-//! The proof of a test grows faster than its body, by each call that can fail and each value that is
-//! let go: a table is one constant, and a function that is given a row, or makes one value, holds
-//! what the rows share.
+//! The proof of a test grows faster than its body, by each call that can fail and each value that
+//! is let go: a table is one constant, and a function that is given a row, or makes one value,
+//! holds what the rows share.
 #![tactic(auto)]
 
 #[cfg(test)]

@@ -85,7 +85,8 @@ interval_at-value rest i h =
       micros = signed w64
           (drop 4 (drop 4 rest));
     } in z) m d
-    ∙ ap (λ (y : ℤ). let z : Interval = record { months = i.months; days = i.days; micros = y } in z) u
+    ∙ ap (λ (y : ℤ). let z : Interval = record { months = i.months; days = i.days; micros = y } in
+    z) u
 
 abbrev extension_at : List ℕ → Extension
 extension_at [] = binary []

@@ -34,7 +34,13 @@ same_width w x e = absurd (omega arith)
 signed_as_written : (w : Width) (bs : List ℕ) (v : ℤ) → AreBytes bs → IsSignedNumber bs v
     → length bs ≡ length (signed_bytes w v) → signed_bytes w v ≡ bs
 signed_as_written w bs v h is long =
-    elim is [ inl s ↦ from w8 s | inr is ↦ elim is [ inl s ↦ from w16 s | inr is ↦ elim is [ inl s ↦ from w32 s | inr s ↦ from w64 s ] ] ]
+    elim is [
+      | inl s ↦ from w8 s
+      | inr is ↦ elim is [
+        | inl s ↦ from w16 s
+        | inr is ↦ elim is [ inl s ↦ from w32 s | inr s ↦ from w64 s ]
+      ]
+    ]
   where
     from : (x : Width) → IsSigned x bs v → signed_bytes w v ≡ bs
     from x s = signed_bytes-IsSigned w bs v h
@@ -44,7 +50,13 @@ signed_as_written w bs v h is long =
 unsigned_as_written : (w : Width) (bs : List ℕ) (n : ℕ) → AreBytes bs → IsUnsignedNumber bs n
     → length bs ≡ length (to_be_bytes w n) → to_be_bytes w n ≡ bs
 unsigned_as_written w bs n h is long =
-    elim is [ inl s ↦ from w8 s | inr is ↦ elim is [ inl s ↦ from w16 s | inr is ↦ elim is [ inl s ↦ from w32 s | inr s ↦ from w64 s ] ] ]
+    elim is [
+      | inl s ↦ from w8 s
+      | inr is ↦ elim is [
+        | inl s ↦ from w16 s
+        | inr is ↦ elim is [ inl s ↦ from w32 s | inr s ↦ from w64 s ]
+      ]
+    ]
   where
     from : (x : Width) → IsUnsigned x bs n → to_be_bytes w n ≡ bs
     from x s = to_be_bytes-IsUnsigned w bs n h

@@ -138,7 +138,10 @@ decide_decimal rest =
           )
           | inr not18 ↦ inr
               (λ found. elim
-              (decimal_lengths rest found.0 found.1) [ inl n ↦ not9 n | inr other ↦ elim other [ inl n ↦ not17 n | inr n ↦ not18 n ] ])
+              (decimal_lengths rest found.0 found.1) [
+                | inl n ↦ not9 n
+                | inr other ↦ elim other [ inl n ↦ not17 n | inr n ↦ not18 n ]
+              ])
         ]
       ]
     ]
@@ -169,12 +172,21 @@ decide_tagged t rest =
                   (NumCode-first t rest found.0 found.1) [
                     | inl h ↦ more
                         (ap length h.1)
-                    | inr h ↦ elim h [ inl h ↦ not64 h | inr h ↦ elim h [ inl h ↦ not80 h | inr h ↦ not112 h ] ]
+                    | inr h ↦ elim h [
+                      | inl h ↦ not64 h
+                      | inr h ↦ elim h [ inl h ↦ not80 h | inr h ↦ not112 h ]
+                    ]
                   ])
             ]
             | inr not0 ↦ inr
                 (λ found. elim
-                (NumCode-first t rest found.0 found.1) [ inl h ↦ not0 h.0 | inr h ↦ elim h [ inl h ↦ not64 h | inr h ↦ elim h [ inl h ↦ not80 h | inr h ↦ not112 h ] ] ])
+                (NumCode-first t rest found.0 found.1) [
+                  | inl h ↦ not0 h.0
+                  | inr h ↦ elim h [
+                    | inl h ↦ not64 h
+                    | inr h ↦ elim h [ inl h ↦ not80 h | inr h ↦ not112 h ]
+                  ]
+                ])
           ]
         ]
       ]

@@ -84,8 +84,19 @@ ExtCode-extension_payload (date d) h =
     (signed_bytes w32 d.value, (refl, IsSigned-signed_bytes w32 d.value h))
 ExtCode-extension_payload (timestamp t) h =
     (signed_bytes w64 t.value, (refl, IsSigned-signed_bytes w64 t.value h))
-ExtCode-extension_payload (timestamp_tz t) h =
-    (_, (refl, inl record { value_bytes = signed_bytes w64 t.value; offset_bytes = signed_bytes w32 t.offset; parts = refl; value = IsSigned-signed_bytes w64 t.value h.0; offset = IsSigned-signed_bytes w32 t.offset h.1 }))
+ExtCode-extension_payload (timestamp_tz t) h = (
+  _,
+  (
+    refl,
+    inl record {
+      value_bytes = signed_bytes w64 t.value;
+      offset_bytes = signed_bytes w32 t.offset;
+      parts = refl;
+      value = IsSigned-signed_bytes w64 t.value h.0;
+      offset = IsSigned-signed_bytes w32 t.offset h.1;
+    },
+  ),
+)
 ExtCode-extension_payload (interval i) h = (
   _,
   (
@@ -180,7 +191,8 @@ IsExtension-ExtCode p (timestamp_tz t) h (rest, (e, inl z)) =
     AreBytes-equal rest (z.value_bytes ++ z.offset_bytes) z.parts (behind_tag p rest 48 e h) in (
       IsSigned-fits w64 z.value_bytes t.value
           (AreBytes-front z.value_bytes z.offset_bytes parts) z.value,
-      IsSigned-fits w32 z.offset_bytes t.offset (AreBytes-back z.value_bytes z.offset_bytes parts) z.offset,
+      IsSigned-fits w32 z.offset_bytes t.offset
+          (AreBytes-back z.value_bytes z.offset_bytes parts) z.offset,
     )
 IsExtension-ExtCode p (timestamp_tz t) h (rest, (e, inr z)) =
     let parts =

@@ -37,7 +37,13 @@ module _ (answers others : List ℕ → Bool → Type 0)
   accepted : (n pair : ℕ) → IsAccepted answers size bytes n pair
       → IsAccepted others size bytes n pair
   accepted n pair h =
-      record { among = h.among; key = h.key; there = h.there; accepted = imply h.key true h.accepted; earlier = passed_before n pair h.earlier }
+      record {
+        among = h.among;
+        key = h.key;
+        there = h.there;
+        accepted = imply h.key true h.accepted;
+        earlier = passed_before n pair h.earlier;
+      }
 
   unreadable : (n : ℕ) (e : Error) → IsUnreadable answers size bytes n e
       → IsUnreadable others size bytes n e

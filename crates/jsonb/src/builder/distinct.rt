@@ -55,7 +55,7 @@ impl<'a> ArrayDistinctBuilder<'a> {
     /// Counts an item, and puts it behind the others of the list unless the list has an equal one.
     /// `InvalidJsonb` where its count is the greatest `usize`; else only memory can be refused.
     /// After a refusal the builder is as before, and the item is dropped.
-    #[tactic(auto, using(crate::proofs::Classes::lookup_same, crate::proofs::Classes::has_equal_same))]
+    #[tactic(auto, using(crate::proofs::Classes::lookup_same, crate::proofs::Classes::equal_same))]
     pub fn push_jsonb_item(&mut self, item: JsonbItem<'a>) -> Result<(), Error>
         ensures list { OnOk result
             (self.new.list ≡ list_with self.old.list (item_view item.entry)) }
@@ -98,7 +98,7 @@ impl<'a> ArrayDistinctBuilder<'a> {
 
     /// Takes one off the count of an item's equal. `None` where there is none, or its count is 0.
     /// The list stays as it is. No memory is asked for.
-    #[tactic(auto, using(crate::proofs::Classes::lookup_same, crate::proofs::Classes::has_equal_same))]
+    #[tactic(auto, using(crate::proofs::Classes::lookup_same, crate::proofs::Classes::equal_same))]
     pub fn pop_jsonb_item(&mut self, item: JsonbItem<'a>) -> Option<()>
         ensures exact { IsSome result ↔ (count_of self.old (item_view item.entry) ≢ 0) }
         ensures list { self.new.list ≡ self.old.list }

@@ -105,13 +105,24 @@ pub has_parts : (s s1 s2 s3 : List ℕ) (b : Bool) (o : Option ℕ) (digits : Di
     × AreDigits n ds digits) → HasParts s s3 b digits
 has_parts s s1 s2 s3 b o digits sign whole fraction =
     let f = fraction _ whole.2 in
-    record { s1 = s1; s2 = s2; whole = whole.0; fraction = f.0; is_sign = sign; is_whole = whole.1; is_fraction = f.1; are_digits = f.2 }
+    record {
+      s1 = s1;
+      s2 = s2;
+      whole = whole.0;
+      fraction = f.0;
+      is_sign = sign;
+      is_whole = whole.1;
+      is_fraction = f.1;
+      are_digits = f.2;
+    }
 
 pub number_too_large : (s s3 : List ℕ) (b : Bool) (digits : Digits) → HasParts s s3 b digits
     → digits.value ≡ None → read_number s ≡ None
 number_too_large s s3 b digits parts none =
     let large = counted_none _ digits.value parts.are_digits.value none in
-    number_found s parts.s1 parts.whole parts.s2 parts.fraction s3 b None parts.is_sign parts.is_whole parts.is_fraction (number_large (length parts.fraction) _ (within_large b _ large))
+    number_found s parts.s1 parts.whole parts.s2 parts.fraction s3 b None parts.is_sign
+    parts.is_whole parts.is_fraction
+    (number_large (length parts.fraction) _ (within_large b _ large))
 
 -- the number of the parts, by its value
 number_by_value : (s s3 : List ℕ) (b : Bool) (digits : Digits) (m : ℕ) → HasParts s s3 b digits
@@ -119,7 +130,8 @@ number_by_value : (s s3 : List ℕ) (b : Bool) (digits : Digits) (m : ℕ) → H
     → read_number s ≡ (number_of digits.count (signed_number b m) >>= λ n. Some (n, s3))
 number_by_value s s3 b digits m parts some =
     let value = counted_some _ m digits.value parts.are_digits.value some in
-    number_found s parts.s1 parts.whole parts.s2 parts.fraction s3 b _ parts.is_sign parts.is_whole parts.is_fraction
+    number_found s parts.s1 parts.whole parts.s2 parts.fraction s3 b _ parts.is_sign parts.is_whole
+    parts.is_fraction
     (ap (λ k. number_of (length parts.fraction) (signed_number b k)) value ∙ ap
     (λ k. number_of k (signed_number b m)) (sym parts.are_digits.count))
 

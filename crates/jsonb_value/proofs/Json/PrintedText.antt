@@ -189,9 +189,20 @@ printed c =
                                           | inl e ↦ at 13 c e printed_13
                                           | inr r ↦
                                               let o : NoLetter c =
-                                              record { q = q; s = s; b = b; t = t; n = n; f = f; r = r } in
+                                              record {
+                                                q = q;
+                                                s = s;
+                                                b = b;
+                                                t = t;
+                                                n = n;
+                                                f = f;
+                                                r = r;
+                                              } in
                                               elim (bool_cases
-                                              (nat_lt c 32)) [ inl e ↦ printed_control c o e | inr e ↦ printed_plain c o e ]
+                                              (nat_lt c 32)) [
+                                                | inl e ↦ printed_control c o e
+                                                | inr e ↦ printed_plain c o e
+                                              ]
                                         ]
                                   ]
                             ]

@@ -115,12 +115,22 @@ digit_begins c s e = record {
     first = c;
     others = s;
     is_split = refl;
-    is_no_blank = rw
-        (digit_test 32 c e refl, digit_test 9 c e refl, digit_test 10 c e refl, digit_test 13 c e refl) refl;
+    is_no_blank = rw (
+      digit_test 32 c e refl,
+      digit_test 9 c e refl,
+      digit_test 10 c e refl,
+      digit_test 13 c e refl,
+    ) refl;
     is_no_bracket = digit_test close_bracket c e refl;
   };
-  is_kind = rw
-      (digit_test 110 c e refl, digit_test 116 c e refl, digit_test 102 c e refl, digit_test quote c e refl, digit_test open_bracket c e refl, digit_test open_brace c e refl) refl;
+  is_kind = rw (
+    digit_test 110 c e refl,
+    digit_test 116 c e refl,
+    digit_test 102 c e refl,
+    digit_test quote c e refl,
+    digit_test open_bracket c e refl,
+    digit_test open_brace c e refl,
+  ) refl;
 }
 
 numeral_begins : (negative : Bool) (w more : List ℕ) → is_whole w ≡ true
@@ -161,13 +171,39 @@ value_begins (numeral n) t e =
 value_begins (string pieces) t e =
     record { first = quote; others = _; is_split = refl; is_no_blank = refl; is_no_bracket = refl }
 value_begins
-    (empty_array blank) t e = record { first = open_bracket; others = _; is_split = refl; is_no_blank = refl; is_no_bracket = refl }
+    (empty_array blank) t e =
+    record {
+      first = open_bracket;
+      others = _;
+      is_split = refl;
+      is_no_blank = refl;
+      is_no_bracket = refl;
+    }
 value_begins
-    (items x xs) t e = record { first = open_bracket; others = _; is_split = refl; is_no_blank = refl; is_no_bracket = refl }
+    (items x xs) t e = record {
+      first = open_bracket;
+      others = _;
+      is_split = refl;
+      is_no_blank = refl;
+      is_no_bracket = refl;
+    }
 value_begins
-    (empty_object blank) t e = record { first = open_brace; others = _; is_split = refl; is_no_blank = refl; is_no_bracket = refl }
+    (empty_object blank) t e =
+    record {
+      first = open_brace;
+      others = _;
+      is_split = refl;
+      is_no_blank = refl;
+      is_no_bracket = refl;
+    }
 value_begins
-    (members m ms) t e = record { first = open_brace; others = _; is_split = refl; is_no_blank = refl; is_no_bracket = refl }
+    (members m ms) t e = record {
+      first = open_brace;
+      others = _;
+      is_split = refl;
+      is_no_blank = refl;
+      is_no_bracket = refl;
+    }
 
 skip-begins : (s rest : List ℕ) → Begins s → skip_blank (s ++ rest) ≡ s ++ rest
 skip-begins s rest b =

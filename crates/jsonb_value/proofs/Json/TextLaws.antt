@@ -207,7 +207,14 @@ piece-again (plain x) c rest e =
     let stands = cond_some _ _ _ e in
     let others = plain_is_other x stands.0 in
     let same : x ≡ c = some_same x c stands.1 in
-    record { first = x; others = rest; is_split = refl; is_no_quote = others.0; is_read = by_false _ _ _ _ others.1 (by_true _ _ _ _ stands.0 (ap (λ y. Some (y, rest)) same)) }
+    record {
+      first = x;
+      others = rest;
+      is_split = refl;
+      is_no_quote = others.0;
+      is_read = by_false _ _ _ _ others.1
+          (by_true _ _ _ _ stands.0 (ap (λ y. Some (y, rest)) same));
+    }
 piece-again (escape x) c rest e =
     let no_unit : (x == letter_u) ≡ false = passes_no escape_value x letter_u c e refl in
     record {

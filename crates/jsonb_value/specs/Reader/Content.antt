@@ -24,7 +24,8 @@ pub record KeyIsRead (s key behind : List ℕ) : Type 0 where
   pub is_key : (turns : ℕ) → length opened < turns → read_text turns [] opened ≡ Some (key, after)
   pub is_behind : expect colon (skip_blank after) ≡ Some behind
 
--- These members with others put in, one after another: each at its key's place in the order of bytes,
+-- These members with others put in, one after another: each at its key's place in the order of
+-- bytes,
 -- instead of an equal key's.
 abbrev pub with_members : List (String Global × Value) → List (String Global × Value)
     → List (String Global × Value)

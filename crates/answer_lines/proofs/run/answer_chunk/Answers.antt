@@ -9,7 +9,8 @@ use Rattle.answer_lines.proofs.Running.{collects_fault, collects_stops, on_err}
 use Rattle.answer_lines.proofs.run.answer_chunk.Goals as goal
 
 pub loop-end-init : goal.loop-end-init
-loop-end-init g c = rw c.new-waiting.ensures.items (collects_none g.A.LineAnswerer.rule _ _ _ _ c.requires)
+loop-end-init g c = rw c.new-waiting.ensures.items
+    (collects_none g.A.LineAnswerer.rule _ _ _ _ c.requires)
 
 pub returns-in_err-write_bytes-clause-err : goal.returns-in_err-write_bytes-clause-err
 returns-in_err-write_bytes-clause-err g c =
@@ -19,7 +20,8 @@ returns-in_err-write_bytes-clause-err g c =
     → AppendsBeginning g.A.LineAnswerer.rule c.args.answerer.now
     (c.args.start.now.items ++ (c.args.chunk.now ++ later))
     (g.W.Write.contents c.args.writer.now) (g.W.Write.contents c.write_bytes.new.writer) =
-    λ later. rw (← append_assoc) (collects_stops g.A.LineAnswerer.rule _ _ _ _ _ _ later _ _ _ c.loop-end.invariant start) in
+    λ later. rw (← append_assoc)
+    (collects_stops g.A.LineAnswerer.rule _ _ _ _ _ _ later _ _ _ c.loop-end.invariant start) in
     on_err c.from_residual.result _ faults
 
 pub returns-in_default-reply_to-clause-err : goal.returns-in_default-reply_to-clause-err
@@ -27,7 +29,8 @@ returns-in_default-reply_to-clause-err g c later =
     let all : Appends (g.W.Write.contents c.loop-end.writer)
     (g.W.Write.contents c.write_bytes.new.writer) c.loop-end.waiting.items = search rules in
     rw (← append_assoc)
-    (collects_stops g.A.LineAnswerer.rule _ _ _ _ _ _ later _ _ _ c.loop-end.invariant (prefix_of_all _ _ _ all))
+    (collects_stops g.A.LineAnswerer.rule _ _ _ _ _ _ later _ _ _ c.loop-end.invariant
+    (prefix_of_all _ _ _ all))
 
 pub returns-in_err-write_later-clause-err : goal.returns-in_err-write_later-clause-err
 returns-in_err-write_later-clause-err g c =
@@ -45,7 +48,8 @@ returns-in_err-write_later-clause-err g c =
     (c.args.start.now.items ++ (c.args.chunk.now ++ later))
     (g.W.Write.contents c.args.writer.now) (g.W.Write.contents c.write_later.new.writer) =
     λ later. rw (← append_assoc)
-    (collects_fault g.A.LineAnswerer.rule _ _ _ _ _ _ _ _ _ _ later _ _ _ c.loop-end.invariant cut one reply start) in
+    (collects_fault g.A.LineAnswerer.rule _ _ _ _ _ _ _ _ _ _ later _ _ _ c.loop-end.invariant cut
+    one reply start) in
     on_err c.from_residual-in_err-write_later.result _ faults
 
 pub loop-end-preserved : goal.loop-end-preserved
@@ -60,7 +64,8 @@ loop-end-preserved g c =
     (g.W.Write.contents c.write_later.new.writer)
     (c.loop-end.waiting.items ++ c.as_bytes.result.now) = search rules in
     rw c.clear.ensures.items
-    (collects_line g.A.LineAnswerer.rule _ _ _ _ _ _ _ _ _ _ _ _ _ _ c.loop-end.invariant cut one reply waits)
+    (collects_line g.A.LineAnswerer.rule _ _ _ _ _ _ _ _ _ _ _ _ _ _ c.loop-end.invariant cut one
+    reply waits)
 
 pub returns-in_err-write_bytes-2-clause-err : goal.returns-in_err-write_bytes-2-clause-err
 returns-in_err-write_bytes-2-clause-err g c =
@@ -70,7 +75,8 @@ returns-in_err-write_bytes-2-clause-err g c =
     → AppendsBeginning g.A.LineAnswerer.rule c.args.answerer.now
     (c.args.start.now.items ++ (c.args.chunk.now ++ later))
     (g.W.Write.contents c.args.writer.now) (g.W.Write.contents c.write_bytes-2.new.writer) =
-    λ later. rw (← append_assoc) (collects_stops g.A.LineAnswerer.rule _ _ _ _ _ _ later _ _ _ c.loop-end.invariant start) in
+    λ later. rw (← append_assoc)
+    (collects_stops g.A.LineAnswerer.rule _ _ _ _ _ _ later _ _ _ c.loop-end.invariant start) in
     on_err c.from_residual-in_err-write_bytes-2.result _ faults
 
 pub returns-in_err-extend_from_slice-clause-err : goal.returns-in_err-extend_from_slice-clause-err
@@ -82,5 +88,6 @@ returns-in_err-extend_from_slice-clause-err g c =
     (c.args.start.now.items ++ (c.args.chunk.now ++ later))
     (g.W.Write.contents c.args.writer.now) (g.W.Write.contents c.write_bytes-2.new.writer) =
     λ later. rw (← append_assoc)
-    (collects_stops g.A.LineAnswerer.rule _ _ _ _ _ _ later _ _ _ c.loop-end.invariant (prefix_of_all _ _ _ all)) in
+    (collects_stops g.A.LineAnswerer.rule _ _ _ _ _ _ later _ _ _ c.loop-end.invariant
+    (prefix_of_all _ _ _ all)) in
     on_err c.from_residual-in_err-extend_from_slice.result _ faults

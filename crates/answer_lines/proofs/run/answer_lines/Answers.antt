@@ -11,12 +11,14 @@ reads-init g c = record {
 }
 
 pub returns-in_default-clause-beginning : goal.returns-in_default-clause-beginning
-returns-in_default-clause-beginning g c = run_stops g.A.LineAnswerer.rule _ _ _ _ _ _ _ c.reads.invariant.answered
+returns-in_default-clause-beginning g c =
+    run_stops g.A.LineAnswerer.rule _ _ _ _ _ _ _ c.reads.invariant.answered
 
 pub returns-in_default-clause-prompt : goal.returns-in_default-clause-prompt
 returns-in_default-clause-prompt g c fault =
     run_prompt g.A.LineAnswerer.rule _ _ _ _ _ _ _
-    (run_kept g.A.LineAnswerer.rule _ _ _ _ _ _ _ _ c.reads.invariant.answered c.in_default.ensures.bytes)
+    (run_kept g.A.LineAnswerer.rule _ _ _ _ _ _ _ _ c.reads.invariant.answered
+    c.in_default.ensures.bytes)
 
 pub returns-then-count-eq0-clause-done : goal.returns-then-count-eq0-clause-done
 returns-then-count-eq0-clause-done g c =
@@ -39,14 +41,16 @@ returns-then-count-eq0-clause-beginning g c =
 pub returns-in_err-answer_chunk-clause-beginning : goal.returns-in_err-answer_chunk-clause-beginning
 returns-in_err-answer_chunk-clause-beginning g c =
     on_err _ _
-    (run_faults g.A.LineAnswerer.rule _ _ _ _ _ _ _ _ _ _ c.reads.invariant.answered c.in-Ok.ensures.bytes.0
+    (run_faults g.A.LineAnswerer.rule _ _ _ _ _ _ _ _ _ _ c.reads.invariant.answered
+    c.in-Ok.ensures.bytes.0
     (search rules))
 
 pub reads-preserved : goal.reads-preserved
 reads-preserved g c = record {
   one_line = c.in_ok-answer_chunk.ensures.ok.start_line;
   answered =
-      run_chunk g.A.LineAnswerer.rule _ _ _ _ _ _ _ _ _ _ _ _ c.reads.invariant.answered c.in-Ok.ensures.bytes.0 (search rules);
+      run_chunk g.A.LineAnswerer.rule _ _ _ _ _ _ _ _ _ _ _ _ c.reads.invariant.answered
+      c.in-Ok.ensures.bytes.0 (search rules);
 }
 
 pub returns-clause-beginning : goal.returns-clause-beginning

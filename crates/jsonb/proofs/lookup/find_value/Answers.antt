@@ -52,7 +52,8 @@ returns-in_err-payload-clause-unread g c =
     let accepted : IsAccepted answers
     (length c.args.name.now) c.args.bytes.now c.args.count c.in-Some.key.pair = search rules in
     let past =
-    value_past c.args.bytes.now c.args.count c.in-Some.key.pair c.in_ok-start.start _ _ c.in_ok-entry.ensures.value c.in_ok-start.ensures.start c.in_err-payload.ensures.fault in
+    value_past c.args.bytes.now c.args.count c.in-Some.key.pair c.in_ok-start.start _ _
+    c.in_ok-entry.ensures.value c.in_ok-start.ensures.start c.in_err-payload.ensures.fault in
     let refused : c.from_residual-in_err-payload.result ≡ Err c.in_err-payload.field-0.0 =
     search rules in
     if_refused c.from_residual-in_err-payload.result _
@@ -69,6 +70,7 @@ returns-clause-some g c =
       pair = c.in-Some.key.pair;
       key = accepted;
       there =
-          value_there c.args.bytes.now c.args.count c.in-Some.key.pair c.in_ok-start.start _ _ c.in_ok-entry.ensures.value c.in_ok-start.ensures.start c.in_ok-payload.ensures.value;
+          value_there c.args.bytes.now c.args.count c.in-Some.key.pair c.in_ok-start.start _ _
+          c.in_ok-entry.ensures.value c.in_ok-start.ensures.start c.in_ok-payload.ensures.value;
       cost = search rules;
     }

@@ -4,4 +4,8 @@ use Rattle.jsonb.proofs.order.meaning_laws.Goals as goal
 
 pub returns : goal.returns
 returns c =
-    record { document = meaning_of-document; other = meaning_of-other; item = view_meaning-document }
+    record {
+      document = meaning_of-document;
+      other = meaning_of-other;
+      item = view_meaning-document;
+    }

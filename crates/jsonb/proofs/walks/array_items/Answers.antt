@@ -7,15 +7,21 @@ pub returns-clause-all : goal.returns-clause-all
 returns-clause-all c = λ t h.
     whole_walk (WalksArray t) (WalksArray t) (WalksArray-count t) _ _ _ _ _
     (c.in_ok-walk.ensures.document t h)
-    (c.in_ok-walk.ensures.document t h) c.in-Some.is c.into_iter-item-iterator.ensures.into_iter_gives c.loop-item.invariant c.in-None.ensures.steps.0
+    (c.in_ok-walk.ensures.document t h) c.in-Some.is
+    c.into_iter-item-iterator.ensures.into_iter_gives c.loop-item.invariant
+    c.in-None.ensures.steps.0
 
 pub returns-in_err-item-clause-memory : goal.returns-in_err-item-clause-memory
 returns-in_err-item-clause-memory c = λ t h.
     absurd (no_error (WalksArray t) (WalksArray-error t) _ _ _ _ _ _ _
-    (c.in_ok-walk.ensures.document t h) c.in-Some.is c.into_iter-item-iterator.ensures.into_iter_gives c.loop-item.invariant (rw c.in_err-item.was at c.in-Some-item.ensures.steps))
+    (c.in_ok-walk.ensures.document t h) c.in-Some.is
+    c.into_iter-item-iterator.ensures.into_iter_gives c.loop-item.invariant
+    (rw c.in_err-item.was at c.in-Some-item.ensures.steps))
 
 pub returns-clause-entries : goal.returns-clause-entries
 returns-clause-entries c = λ t h.
     whole_walk (WalksArray t) (WalksItems (raw_bytes c.args.raw) t) (WalksArray-count t) _ _ _ _ _
     (c.in_ok-walk.ensures.document t h)
-    (c.in_ok-walk.ensures.entries t h) c.in-Some.is c.into_iter-item-iterator.ensures.into_iter_gives c.loop-item.invariant c.in-None.ensures.steps.0
+    (c.in_ok-walk.ensures.entries t h) c.in-Some.is
+    c.into_iter-item-iterator.ensures.into_iter_gives c.loop-item.invariant
+    c.in-None.ensures.steps.0

@@ -7,15 +7,21 @@ pub returns-clause-all : goal.returns-clause-all
 returns-clause-all c = λ t h.
     whole_walk (WalksPairs t) (WalksPairs t) (WalksPairs-count t) _ _ _ _ _
     (c.in_ok-walk.ensures.document t h)
-    (c.in_ok-walk.ensures.document t h) c.in-Some.is c.into_iter-pair-iterator.ensures.into_iter_gives c.loop-pair.invariant c.in-None.ensures.steps.0
+    (c.in_ok-walk.ensures.document t h) c.in-Some.is
+    c.into_iter-pair-iterator.ensures.into_iter_gives c.loop-pair.invariant
+    c.in-None.ensures.steps.0
 
 pub returns-in_err-pair-clause-memory : goal.returns-in_err-pair-clause-memory
 returns-in_err-pair-clause-memory c = λ t h.
     absurd (no_error (WalksPairs t) (WalksPairs-error t) _ _ _ _ _ _ _
-    (c.in_ok-walk.ensures.document t h) c.in-Some.is c.into_iter-pair-iterator.ensures.into_iter_gives c.loop-pair.invariant (rw c.in_err-pair.was at c.in-Some-pair.ensures.steps))
+    (c.in_ok-walk.ensures.document t h) c.in-Some.is
+    c.into_iter-pair-iterator.ensures.into_iter_gives c.loop-pair.invariant
+    (rw c.in_err-pair.was at c.in-Some-pair.ensures.steps))
 
 pub returns-clause-entries : goal.returns-clause-entries
 returns-clause-entries c = λ t h.
     whole_walk (WalksPairs t) (WalksMembers (raw_bytes c.args.raw) t) (WalksPairs-count t) _ _ _ _ _
     (c.in_ok-walk.ensures.document t h)
-    (c.in_ok-walk.ensures.entries t h) c.in-Some.is c.into_iter-pair-iterator.ensures.into_iter_gives c.loop-pair.invariant c.in-None.ensures.steps.0
+    (c.in_ok-walk.ensures.entries t h) c.in-Some.is
+    c.into_iter-pair-iterator.ensures.into_iter_gives c.loop-pair.invariant
+    c.in-None.ensures.steps.0

@@ -7,15 +7,21 @@ pub returns-clause-all : goal.returns-clause-all
 returns-clause-all c = λ t h.
     whole_walk (WalksValues t) (WalksValues t) (WalksValues-count t) _ _ _ _ _
     (c.in_ok-walk.ensures.document t h)
-    (c.in_ok-walk.ensures.document t h) c.in-Some.is c.into_iter-value-iterator.ensures.into_iter_gives c.loop-value.invariant c.in-None.ensures.steps.0
+    (c.in_ok-walk.ensures.document t h) c.in-Some.is
+    c.into_iter-value-iterator.ensures.into_iter_gives c.loop-value.invariant
+    c.in-None.ensures.steps.0
 
 pub returns-in_err-value-clause-memory : goal.returns-in_err-value-clause-memory
 returns-in_err-value-clause-memory c = λ t h.
     absurd (no_error (WalksValues t) (WalksValues-error t) _ _ _ _ _ _ _
-    (c.in_ok-walk.ensures.document t h) c.in-Some.is c.into_iter-value-iterator.ensures.into_iter_gives c.loop-value.invariant (rw c.in_err-value.was at c.in-Some-value.ensures.steps))
+    (c.in_ok-walk.ensures.document t h) c.in-Some.is
+    c.into_iter-value-iterator.ensures.into_iter_gives c.loop-value.invariant
+    (rw c.in_err-value.was at c.in-Some-value.ensures.steps))
 
 pub returns-clause-entries : goal.returns-clause-entries
 returns-clause-entries c = λ t h.
     whole_walk (WalksValues t) (WalksValueItems (raw_bytes c.args.raw) t)
     (WalksValues-count t) _ _ _ _ _ (c.in_ok-walk.ensures.document t h)
-    (c.in_ok-walk.ensures.entries t h) c.in-Some.is c.into_iter-value-iterator.ensures.into_iter_gives c.loop-value.invariant c.in-None.ensures.steps.0
+    (c.in_ok-walk.ensures.entries t h) c.in-Some.is
+    c.into_iter-value-iterator.ensures.into_iter_gives c.loop-value.invariant
+    c.in-None.ensures.steps.0

@@ -11,7 +11,8 @@ loop-word-init c =
 pub returns-in-Err : goal.returns-in-Err
 returns-in-Err c =
     let is : c.loop-word.word-iterator ≡ c.in-Some.word.now ∷ c.next.new.self = search rules in
-    arr_unread _ _ _ _ c.in-Some.word.now c.in-Err.refusal c.loop-word.invariant is c.in-Err.ensures.refused
+    arr_unread _ _ _ _ c.in-Some.word.now c.in-Err.refusal c.loop-word.invariant is
+    c.in-Err.ensures.refused
     (λ bad. c.push_document.ensures.bad (c.in-Err.is ∙ ap (λ r. Err r) bad))
 
 pub loop-word-preserved : goal.loop-word-preserved

@@ -21,6 +21,7 @@ pub returns : goal.returns
 returns c =
     let same : raw_bytes c.new.result ≡ c.in_ok-bytes.bytes.items =
     c.new.ensures ∙ c.deref.ensures.value in
-    canon_unwritten c.args.word.now c.in_ok-bytes.bytes.items c.in-Err.error c.in_ok-bytes.ensures.ok c.in-Err.ensures.only
+    canon_unwritten c.args.word.now c.in_ok-bytes.bytes.items c.in-Err.error
+    c.in_ok-bytes.ensures.ok c.in-Err.ensures.only
     (λ is. subst WrittenNowhere same
     (c.to_canonical.ensures.past.0 (c.in-Err.is ∙ ap (λ e. Err e) is)))

@@ -12,5 +12,6 @@ returns c =
     c.cmp-order.ensures
     ∙ ap₂ (λ (x y : List ℕ). meaning_cmp (meaning_of x) (meaning_of y))
     (c.new.ensures ∙ c.deref.ensures.value) (c.new-2.ensures ∙ c.deref-2.ensures.value) in
-    inl (told c.in_ok-left.left.items c.in_ok-right.right.items c.in_ok-left.ensures.ok c.in_ok-right.ensures.ok
+    inl (told c.in_ok-left.left.items c.in_ok-right.right.items c.in_ok-left.ensures.ok
+    c.in_ok-right.ensures.ok
     (ap (λ (l : List ℕ). ok_line l) (c.order_word.ensures ∙ ap order_words order)))

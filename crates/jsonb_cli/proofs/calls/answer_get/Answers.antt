@@ -19,7 +19,8 @@ returns-in_default c =
 pub returns-in-Err : goal.returns-in-Err
 returns-in-Err c =
     let same : c.in-Ok.json.now ≡ c.args.key.now = search rules in
-    get_unnamed c.args.word.now c.args.key.now c.in_ok-bytes.bytes.items c.in-Err.error c.in_ok-bytes.ensures.ok c.in-Ok.ensures.cases.1 c.in-Err.ensures.only
+    get_unnamed c.args.word.now c.args.key.now c.in_ok-bytes.bytes.items c.in-Err.error
+    c.in_ok-bytes.ensures.ok c.in-Ok.ensures.cases.1 c.in-Err.ensures.only
     (λ is name means. c.in-Err.ensures.none is name
     (subst (λ s. Json (chars s) (text name)) (sym same) means))
 
@@ -41,7 +42,8 @@ returns-in-Ok-Some c =
     item_found _ c.in-Ok-Some.field-0 c.in-Ok-Some.item c.in-Ok-Some.field-0-is
     (c.in-Ok-Some.ensures.found t means) in
     let stands =
-    item_stands _ _ _ _ t c.in-Ok-Some.field-0 c.in-Ok-Some.item c.deref.ensures.value c.in-Ok-Some.field-0-is (c.in-Ok-Some.ensures.entry t means) in
+    item_stands _ _ _ _ t c.in-Ok-Some.field-0 c.in-Ok-Some.item c.deref.ensures.value
+    c.in-Ok-Some.field-0-is (c.in-Ok-Some.ensures.entry t means) in
     get_found c.args.word.now c.args.key.now c.in_ok-bytes.bytes.items name t u
     (item_view c.in-Ok-Some.item) c.item_answer.result c.in_ok-bytes.ensures.ok named
     (subst (λ b. Doc b t) c.deref.ensures.value means) is item stands c.item_answer.ensures.ok

@@ -15,5 +15,6 @@ returns-in-Ok c =
 
 pub returns : goal.returns
 returns c =
-    pretty_unprinted c.args.word.now c.in_ok-bytes.bytes.items c.in-Err.error c.in_ok-bytes.ensures.ok c.in-Err.ensures.only
+    pretty_unprinted c.args.word.now c.in_ok-bytes.bytes.items c.in-Err.error
+    c.in_ok-bytes.ensures.ok c.in-Err.ensures.only
     (rw c.deref.ensures.value at c.in-Err.ensures.none)

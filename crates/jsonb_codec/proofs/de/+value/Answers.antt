@@ -17,7 +17,11 @@ build_items-loop-child-preserved t c =
           let (us, (whole, left)) = l.invariant.left ts are in
           let f = k.first us left in (
             f.others,
-            (trees_and-push l.built.items c.push_part.new.items.items v ts us f.others f.first whole f.are (same f.first f.is) more, f.behind),
+            (
+              trees_and-push l.built.items c.push_part.new.items.items v ts us f.others f.first whole
+                  f.are (same f.first f.is) more,
+              f.behind,
+            ),
           );
       shorter = omega (arith, k.payloads_len, l.invariant.shorter);
     }
@@ -37,7 +41,12 @@ build_members-loop-member-preserved t c =
           let (us, (whole, left)) = l.invariant.left all whole_are in
           let f = k.first us left in (
             f.others,
-            (pairs_and-push l.built.entries c.insert_part.new.members.entries c.in_ok-key.key v all us f.others c.in-Some.member.key.now f.value whole_are.0 whole f.are c.in_ok-key.ensures.ok (same f.value f.is) more, f.left),
+            (
+              pairs_and-push l.built.entries c.insert_part.new.members.entries c.in_ok-key.key v all
+                  us f.others c.in-Some.member.key.now f.value whole_are.0 whole f.are
+                  c.in_ok-key.ensures.ok (same f.value f.is) more,
+              f.left,
+            ),
           );
       shorter = omega (arith, k.values_len, l.invariant.shorter);
     }
@@ -57,7 +66,12 @@ build_many-loop-member-preserved t c =
           let (us, (whole, left)) = l.invariant.left all whole_are in
           let f = k.first us left in (
             f.others,
-            (pairs_and-behind l.built.items c.push_pair.new.pairs.items c.in_ok-key.key v all us f.others c.in-Some.member.key.now f.value whole f.are c.in_ok-key.ensures.ok (same f.value f.is) more, f.left),
+            (
+              pairs_and-behind l.built.items c.push_pair.new.pairs.items c.in_ok-key.key v all us
+                  f.others c.in-Some.member.key.now f.value whole f.are c.in_ok-key.ensures.ok
+                  (same f.value f.is) more,
+              f.left,
+            ),
           );
       shorter = omega (arith, k.values_len, l.invariant.shorter);
     }

@@ -16,8 +16,11 @@ use Rattle.jsonb_codec.proofs.KeySteps.{keys_none}
 use Rattle.jsonb_codec.proofs.document.+container.Goals as goal
 
 pub check_array-returns-then-body-count : goal.check_array-returns-then-body-count
-check_array-returns-then-body-count t c =
-    (c.short_entries.ensures, λ h. let room = array_room c.args.count c.args.body.now h.0 h.1.1 in let short = c.if-body-count.true in let never : ⊥ = omega arith in never)
+check_array-returns-then-body-count t c = (
+  c.short_entries.ensures,
+  λ h. let room = array_room c.args.count c.args.body.now h.0 h.1.1 in
+      let short = c.if-body-count.true in let never : ⊥ = omega arith in never,
+)
 
 pub check_array-returns : goal.check_array-returns
 check_array-returns t c =
@@ -25,15 +28,18 @@ check_array-returns t c =
     sym (take-append-drop (4 * c.args.count) c.args.body.now) ∙ ap₂
     (λ (x y : List ℕ). x ++ y) (sym c.split_at.ensures.front) (sym c.split_at.ensures.back) in
     tells_iff c.args.faults c.check_children.result c.check_children.ensures
-    (array_iff c.args.count c.args.body.now c.split_at.result.0.now c.split_at.result.1.now split c.split_at.ensures.front_len c.args.depth c.requires)
+    (array_iff c.args.count c.args.body.now c.split_at.result.0.now c.split_at.result.1.now split
+    c.split_at.ensures.front_len c.args.depth c.requires)
 
 pub check_children-returns-in_err-payload : goal.check_children-returns-in_err-payload
 check_children-returns-in_err-payload t c =
     let l = c.loop-entry in let e = c.in-Some.entry in let k = c.in-Some.ensures in
     let read : Read e.tag e.number e.rest.now l.entries_left.now =
     record { parts = k.found; tag = k.tag; number = k.number; small = k.small } in
-    raised c.args.faults _ c.from_residual.result c.in_err-payload.field-0.0 c.from_residual.ensures.1 c.in_err-payload.ensures.fault
-    (λ h. children_too_long e.tag e.number e.rest.now l.entries_left.now l.payloads_left.now read c.args.depth c.in_err-payload.ensures.past (l.invariant.onward h))
+    raised c.args.faults _ c.from_residual.result c.in_err-payload.field-0.0
+    c.from_residual.ensures.1 c.in_err-payload.ensures.fault
+    (λ h. children_too_long e.tag e.number e.rest.now l.entries_left.now l.payloads_left.now read
+    c.args.depth c.in_err-payload.ensures.past (l.invariant.onward h))
 
 pub check_children-returns-in_err-check_payload : goal.check_children-returns-in_err-check_payload
 check_children-returns-in_err-check_payload t c =
@@ -41,9 +47,11 @@ check_children-returns-in_err-check_payload t c =
     let read : Read e.tag e.number e.rest.now l.entries_left.now =
     record { parts = k.found; tag = k.tag; number = k.number; small = k.small } in
     let told = c.in_err-check_payload.ensures in
-    raised c.args.faults _ c.from_residual-in_err-check_payload.result c.in_err-check_payload.field-0.0 c.from_residual-in_err-check_payload.ensures.1 told.0
+    raised c.args.faults _ c.from_residual-in_err-check_payload.result
+    c.in_err-check_payload.field-0.0 c.from_residual-in_err-check_payload.ensures.1 told.0
     (λ h. told.1 (subst (HasPayload c.args.depth e.tag) (sym c.in_ok-payload.ensures.payload)
-    (children_onward e.tag e.number e.rest.now l.entries_left.now l.payloads_left.now read c.args.depth (l.invariant.onward h)).0))
+    (children_onward e.tag e.number e.rest.now l.entries_left.now l.payloads_left.now read
+    c.args.depth (l.invariant.onward h)).0))
 
 pub check_children-loop-entry-smaller : goal.check_children-loop-entry-smaller
 check_children-loop-entry-smaller t c =
@@ -63,11 +71,13 @@ check_children-loop-entry-preserved t c =
     let split = c.in_ok-payload.ensures in
     let behind = ap length split.behind ∙ length-drop e.number l.payloads_left.now in
     let back =
-    children_back e.tag e.number e.rest.now l.entries_left.now l.payloads_left.now read c.args.depth split.fits in
+    children_back e.tag e.number e.rest.now l.entries_left.now l.payloads_left.now read c.args.depth
+    split.fits in
     let words = l.invariant.words in
     record {
       onward = λ h. subst (HasChildren c.args.depth e.rest.now) (sym split.behind)
-          (children_onward e.tag e.number e.rest.now l.entries_left.now l.payloads_left.now read c.args.depth (l.invariant.onward h)).1;
+          (children_onward e.tag e.number e.rest.now l.entries_left.now l.payloads_left.now read
+          c.args.depth (l.invariant.onward h)).1;
       back = λ h. l.invariant.back
           (back (subst (HasPayload c.args.depth e.tag) split.payload c.in_ok-check_payload.ensures)
           (subst (HasChildren c.args.depth e.rest.now) split.behind h));
@@ -91,12 +101,16 @@ check_children-returns-else-is_empty t c =
       λ h. not_empty _ l.payloads_left.now c.is_empty.ensures c.if-is_empty.false
           (ap length
           (let left = l.invariant.onward h in
-          (children_end left.0 l.entries_left.now l.payloads_left.now c.in_default.ensures.none left.1.1).1.1)),
+          (children_end left.0 l.entries_left.now l.payloads_left.now c.in_default.ensures.none
+          left.1.1).1.1)),
     )
 
 pub check_container-returns-in_default : goal.check_container-returns-in_default
-check_container-returns-in_default t c =
-    (c.short_inner_header.ensures, λ h. let room = container_room h.0 c.args.bytes.now h.1.1 in let short = c.in_default.ensures.none in let never : ⊥ = omega arith in never)
+check_container-returns-in_default t c = (
+  c.short_inner_header.ensures,
+  λ h. let room = container_room h.0 c.args.bytes.now h.1.1 in
+      let short = c.in_default.ensures.none in let never : ⊥ = omega arith in never,
+)
 
 pub check_container-check_array-requires : goal.check_container-check_array-requires
 check_container-check_array-requires t c =
@@ -124,18 +138,23 @@ pub check_container-returns-in-2147483648 : goal.check_container-returns-in-2147
 check_container-returns-in-2147483648 t c =
     let h = c.in-Some.header in let g = c.in-Some.ensures in
     tells_iff c.args.faults c.check_array.result c.check_array.ensures
-    (container_array h.tag h.number h.rest.now c.args.bytes.now g.found g.tag g.number g.small c.args.depth c.if-depth-eq0.false c.in-2147483648.is)
+    (container_array h.tag h.number h.rest.now c.args.bytes.now g.found g.tag g.number g.small
+    c.args.depth c.if-depth-eq0.false c.in-2147483648.is)
 
 pub check_container-returns-in-1073741824 : goal.check_container-returns-in-1073741824
 check_container-returns-in-1073741824 t c =
     let h = c.in-Some.header in let g = c.in-Some.ensures in
     tells_iff c.args.faults c.check_object.result c.check_object.ensures
-    (container_object h.tag h.number h.rest.now c.args.bytes.now g.found g.tag g.number g.small c.args.depth c.if-depth-eq0.false c.in-1073741824.is)
+    (container_object h.tag h.number h.rest.now c.args.bytes.now g.found g.tag g.number g.small
+    c.args.depth c.if-depth-eq0.false c.in-1073741824.is)
 
 pub check_container-returns-in_default-tag : goal.check_container-returns-in_default-tag
 check_container-returns-in_default-tag t c =
-    let h = c.in-Some.header in let g = c.in-Some.ensures in
-    (c.header_kind.ensures, no_container h.tag h.number h.rest.now c.args.bytes.now g.found g.tag g.number g.small (search rules) (search rules) c.args.depth)
+    let h = c.in-Some.header in let g = c.in-Some.ensures in (
+      c.header_kind.ensures,
+      no_container h.tag h.number h.rest.now c.args.bytes.now g.found g.tag
+          g.number g.small (search rules) (search rules) c.args.depth,
+    )
 
 pub check_keys-returns-in_err-key-clause-none : goal.check_keys-returns-in_err-key-clause-none
 check_keys-returns-in_err-key-clause-none t c =
@@ -231,8 +250,11 @@ check_keys-returns-clause-ascend t c =
     λ q h. (c.loop-entry.invariant.onward q h).0
 
 pub check_object-returns-then-body-count : goal.check_object-returns-then-body-count
-check_object-returns-then-body-count t c =
-    (c.short_entries.ensures, λ h. let room = object_room c.args.count c.args.body.now h.0 h.1.1 in let short = c.if-body-count.true in let never : ⊥ = omega arith in never)
+check_object-returns-then-body-count t c = (
+  c.short_entries.ensures,
+  λ h. let room = object_room c.args.count c.args.body.now h.0 h.1.1 in
+      let short = c.if-body-count.true in let never : ⊥ = omega arith in never,
+)
 
 pub check_object-returns-in_err-keys : goal.check_object-returns-in_err-keys
 check_object-returns-in_err-keys t c =
@@ -249,9 +271,11 @@ check_object-returns-in_err-keys t c =
     ∙ ap₂ (λ (x y : List ℕ). x ++ y) (sym c.split_at.ensures.front)
     (sym c.split_at.ensures.back ∙ inner) in
     let onward =
-    object_onward c.args.count c.args.body.now ke ve p parts c.split_at.ensures.front_len c.split_at-2.ensures.front_len c.args.depth in
+    object_onward c.args.count c.args.body.now ke ve p parts c.split_at.ensures.front_len
+    c.split_at-2.ensures.front_len c.args.depth in
     let found = c.in_err-keys.ensures in
-    raised c.args.faults _ c.from_residual.result c.in_err-keys.field-0.0 c.from_residual.ensures.1 found.fault
+    raised c.args.faults _ c.from_residual.result c.in_err-keys.field-0.0 c.from_residual.ensures.1
+    found.fault
     (λ object. let w = onward object in found.none w.0 w.1.0)
 
 pub check_object-returns-in_err-check_children : goal.check_object-returns-in_err-check_children
@@ -270,9 +294,12 @@ check_object-returns-in_err-check_children t c =
     (sym c.split_at.ensures.back ∙ inner) in
     let k = c.in_ok-keys.keys in
     let told = c.in_err-check_children.ensures in
-    raised c.args.faults _ c.from_residual-in_err-check_children.result c.in_err-check_children.field-0.0 c.from_residual-in_err-check_children.ensures.1 told.0
+    raised c.args.faults _ c.from_residual-in_err-check_children.result
+    c.in_err-check_children.field-0.0 c.from_residual-in_err-check_children.ensures.1 told.0
     (λ object. told.1
-    (object_values c.args.count c.args.body.now ke ve p parts c.split_at.ensures.front_len c.split_at-2.ensures.front_len c.args.depth k.behind.now k.ascend c.in_ok-keys.ensures.keys c.in_ok-keys.ensures.ascend object))
+    (object_values c.args.count c.args.body.now ke ve p parts c.split_at.ensures.front_len
+    c.split_at-2.ensures.front_len c.args.depth k.behind.now k.ascend c.in_ok-keys.ensures.keys
+    c.in_ok-keys.ensures.ascend object))
 
 pub check_object-returns-then-keys : goal.check_object-returns-then-keys
 check_object-returns-then-keys t c =
@@ -290,7 +317,9 @@ check_object-returns-then-keys t c =
     (sym c.split_at.ensures.back ∙ inner) in
     let k = c.in_ok-keys.keys in
     let either =
-    object_iff c.args.count c.args.body.now ke ve p parts c.split_at.ensures.front_len c.split_at-2.ensures.front_len c.args.depth c.requires k.behind.now k.ascend c.in_ok-keys.ensures.keys c.in_ok-keys.ensures.ascend c.in_ok-check_children.ensures in
+    object_iff c.args.count c.args.body.now ke ve p parts c.split_at.ensures.front_len
+    c.split_at-2.ensures.front_len c.args.depth c.requires k.behind.now k.ascend
+    c.in_ok-keys.ensures.keys c.in_ok-keys.ensures.ascend c.in_ok-check_children.ensures in
     either.0 c.if-keys.true
 
 pub check_object-returns-else-keys : goal.check_object-returns-else-keys
@@ -309,7 +338,9 @@ check_object-returns-else-keys t c =
     (sym c.split_at.ensures.back ∙ inner) in
     let k = c.in_ok-keys.keys in
     let either =
-    object_iff c.args.count c.args.body.now ke ve p parts c.split_at.ensures.front_len c.split_at-2.ensures.front_len c.args.depth c.requires k.behind.now k.ascend c.in_ok-keys.ensures.keys c.in_ok-keys.ensures.ascend c.in_ok-check_children.ensures in
+    object_iff c.args.count c.args.body.now ke ve p parts c.split_at.ensures.front_len
+    c.split_at-2.ensures.front_len c.args.depth c.requires k.behind.now k.ascend
+    c.in_ok-keys.ensures.keys c.in_ok-keys.ensures.ascend c.in_ok-check_children.ensures in
     (c.keys.ensures, λ object. let never = sym c.if-keys.false ∙ either.1 object in cc)
 
 pub check_key-returns-then-tag-eq-STRING_TAG : goal.check_key-returns-then-tag-eq-STRING_TAG

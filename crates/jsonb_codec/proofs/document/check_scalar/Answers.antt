@@ -12,8 +12,11 @@ returns-then-count-ne0 c = (
 )
 
 pub returns-in_default : goal.returns-in_default
-returns-in_default c =
-    (c.short_entries.ensures, λ h. let room = scalar_entry c.args.count c.args.body.now c.requires h.0 h.1.1 in let short = c.in_default.ensures.none in let never : ⊥ = omega arith in never)
+returns-in_default c = (
+  c.short_entries.ensures,
+  λ h. let room = scalar_entry c.args.count c.args.body.now c.requires h.0 h.1.1 in
+      let short = c.in_default.ensures.none in let never : ⊥ = omega arith in never,
+)
 
 pub returns-then-entry-eq-CONTAINER_TAG : goal.returns-then-entry-eq-CONTAINER_TAG
 returns-then-entry-eq-CONTAINER_TAG c =
@@ -32,7 +35,8 @@ returns-in_err-payload c =
     let onward =
     scalar_onward c.args.count c.args.body.now c.requires e.tag e.number e.rest.now read in
     let past = c.in_err-payload.ensures.past in
-    raised c.args.faults _ c.from_residual.result c.in_err-payload.field-0.0 c.from_residual.ensures.1 c.in_err-payload.ensures.fault
+    raised c.args.faults _ c.from_residual.result c.in_err-payload.field-0.0
+    c.from_residual.ensures.1 c.in_err-payload.ensures.fault
     (λ h. let len = (onward h).1.0 in omega arith)
 
 pub returns-in_err-check_scalar_payload : goal.returns-in_err-check_scalar_payload
@@ -43,7 +47,9 @@ returns-in_err-check_scalar_payload c =
     let onward =
     scalar_onward c.args.count c.args.body.now c.requires e.tag e.number e.rest.now read in
     let told = c.in_err-check_scalar_payload.ensures in
-    raised c.args.faults _ c.from_residual-in_err-check_scalar_payload.result c.in_err-check_scalar_payload.field-0.0 c.from_residual-in_err-check_scalar_payload.ensures.1 told.0
+    raised c.args.faults _ c.from_residual-in_err-check_scalar_payload.result
+    c.in_err-check_scalar_payload.field-0.0
+    c.from_residual-in_err-check_scalar_payload.ensures.1 told.0
     (λ h. told.1 (subst (HasPayload 0 e.tag) (sym c.in_ok-payload.ensures.payload) (onward h).1.1))
 
 pub returns-then-not-is_empty : goal.returns-then-not-is_empty
@@ -56,7 +62,8 @@ returns-then-not-is_empty c =
     let behind = ap length c.in_ok-payload.ensures.behind ∙ length-drop e.number e.rest.now in (
       c.excess.ensures,
       λ h. let len =
-          (onward h).1.0 in not_empty _ c.in_ok-payload.behind.now c.is_empty.ensures c.if-not-is_empty.true (omega arith),
+          (onward h).1.0 in not_empty _ c.in_ok-payload.behind.now c.is_empty.ensures
+          c.if-not-is_empty.true (omega arith),
     )
 
 pub returns : goal.returns
@@ -71,4 +78,5 @@ returns c =
     let fits = c.in_ok-payload.ensures.fits in
     let nothing = ap length none in
     back c.if-count-ne0.false c.if-entry-eq-CONTAINER_TAG.false (omega arith)
-    (subst (HasPayload 0 e.tag) c.in_ok-payload.ensures.payload c.in_ok-check_scalar_payload.ensures)
+    (subst (HasPayload 0 e.tag) c.in_ok-payload.ensures.payload
+    c.in_ok-check_scalar_payload.ensures)

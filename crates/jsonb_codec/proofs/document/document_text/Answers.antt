@@ -27,7 +27,8 @@ returns-in_err-entry-clause-none c =
     absurd (omega (arith, c.in_err-entry.ensures.none)) in
     IfNone-from _ _ none
 
-pub returns-then-header-ne-SCALAR_CONTAINER_TAG-clause-none : goal.returns-then-header-ne-SCALAR_CONTAINER_TAG-clause-none
+pub returns-then-header-ne-SCALAR_CONTAINER_TAG-clause-none :
+    goal.returns-then-header-ne-SCALAR_CONTAINER_TAG-clause-none
 returns-then-header-ne-SCALAR_CONTAINER_TAG-clause-none c = λ s d.
     let h = c.in_ok-header in let e = c.in_ok-entry.entry in let k = c.in_ok-entry.ensures in
     let read : Read e.tag e.number e.rest.now h.body.now =
@@ -35,9 +36,11 @@ returns-then-header-ne-SCALAR_CONTAINER_TAG-clause-none c = λ s d.
     let header =
     (text_header h.header h.body.now c.args.bytes.now h.ensures.found h.ensures.small s d).0 in
     let entry =
-    text_entry h.header h.body.now c.args.bytes.now h.ensures.found h.ensures.small s d e.tag e.number e.rest.now read in
+    text_entry h.header h.body.now c.args.bytes.now h.ensures.found h.ensures.small s d e.tag
+    e.number e.rest.now read in
     elim c.then-header-ne-SCALAR_CONTAINER_TAG.branch [
-      | then-header-ne-SCALAR_CONTAINER_TAG-via-then-header-ne-SCALAR_CONTAINER_TAG w ↦ w.if-header-ne-SCALAR_CONTAINER_TAG.true header
+      | then-header-ne-SCALAR_CONTAINER_TAG-via-then-header-ne-SCALAR_CONTAINER_TAG
+          w ↦ w.if-header-ne-SCALAR_CONTAINER_TAG.true header
       | then-header-ne-SCALAR_CONTAINER_TAG-via-else-header-ne-SCALAR_CONTAINER_TAG+then-entry-ne-STRING_TAG w ↦ w.if-entry-ne-STRING_TAG.true entry.0
       | then-header-ne-SCALAR_CONTAINER_TAG-via-else-header-ne-SCALAR_CONTAINER_TAG+else-entry-ne-STRING_TAG+then-entry w ↦ w.if-entry.true entry.1.0
     ]
@@ -48,4 +51,5 @@ returns-in-Err-clause-none c = λ s d.
     let read : Read e.tag e.number e.rest.now h.body.now =
     record { parts = k.found; tag = k.tag; number = k.number; small = k.small } in
     c.in-Err.ensures.1
-    (text_entry h.header h.body.now c.args.bytes.now h.ensures.found h.ensures.small s d e.tag e.number e.rest.now read).1.1
+    (text_entry h.header h.body.now c.args.bytes.now h.ensures.found h.ensures.small s d e.tag
+    e.number e.rest.now read).1.1

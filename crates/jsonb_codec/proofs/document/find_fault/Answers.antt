@@ -7,8 +7,11 @@ use Rattle.jsonb_codec.proofs.Steps.{container_document, document_room}
 use Rattle.jsonb_codec.proofs.document.find_fault.Goals as goal
 
 pub returns-in_default : goal.returns-in_default
-returns-in_default c =
-    (c.short_header.ensures, λ h. let room = document_room h.0 c.args.bytes.now h.1.1 in let short = c.in_default.ensures.none in let never : ⊥ = omega arith in never)
+returns-in_default c = (
+  c.short_header.ensures,
+  λ h. let room = document_room h.0 c.args.bytes.now h.1.1 in
+      let short = c.in_default.ensures.none in let never : ⊥ = omega arith in never,
+)
 
 pub returns-then-header-eq-SCALAR_CONTAINER_TAG : goal.returns-then-header-eq-SCALAR_CONTAINER_TAG
 returns-then-header-eq-SCALAR_CONTAINER_TAG c =
@@ -34,7 +37,8 @@ returns-else-header-eq-SCALAR_CONTAINER_TAG c =
       container_document d b,
       λ document. elim (document_cases d b document) [
         | inl scalar ↦ absurd
-            (no_scalar h.tag h.number h.rest.now b g.found g.tag g.number g.small c.if-header-eq-SCALAR_CONTAINER_TAG.false scalar.0 scalar.1.1)
+            (no_scalar h.tag h.number h.rest.now b g.found g.tag g.number g.small
+            c.if-header-eq-SCALAR_CONTAINER_TAG.false scalar.0 scalar.1.1)
         | inr container ↦ container
       ],
     )

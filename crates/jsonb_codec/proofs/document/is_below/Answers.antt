@@ -10,7 +10,8 @@ pub returns-in-Some-Some : goal.returns-in-Some-Some
 returns-in-Some-Some c =
     let s = c.in-Some-Some in
     let told =
-    slice_cmp-words s.first s.second s.field-0-1-0.now s.field-0-1-1.now s.ensures.small s.ensures'.small c.if-first-second.true in
+    slice_cmp-words s.first s.second s.field-0-1-0.now s.field-0-1-1.now s.ensures.small
+    s.ensures'.small c.if-first-second.true in
     let left = λ (x : List ℕ). IsTrue (nat_lt s.first s.second)
     ↔ (slice_cmp nat_cmp x (word s.second ++ s.field-0-1-1.now) ≡ Less) in
     let right = λ (x : List ℕ). IsTrue (nat_lt s.first s.second)

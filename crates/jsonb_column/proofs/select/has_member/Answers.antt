@@ -44,8 +44,10 @@ returns-in-Ok-None-clause-member c = λ u is.
 
 pub returns-in-Ok-Some-clause-few : goal.returns-in-Ok-Some-clause-few
 returns-in-Ok-Some-clause-few c =
-    words-row _ _ (document_tree c.args.row) c.as_raw-raw.ensures.document c.as_raw-raw.ensures.bytes
+    words-row _ _ (document_tree c.args.row) c.as_raw-raw.ensures.document
+    c.as_raw-raw.ensures.bytes
 
 pub returns-in-Ok-None-clause-few : goal.returns-in-Ok-None-clause-few
 returns-in-Ok-None-clause-few c =
-    words-row _ _ (document_tree c.args.row) c.as_raw-raw.ensures.document c.as_raw-raw.ensures.bytes
+    words-row _ _ (document_tree c.args.row) c.as_raw-raw.ensures.document
+    c.as_raw-raw.ensures.bytes

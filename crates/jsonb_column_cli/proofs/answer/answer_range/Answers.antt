@@ -25,7 +25,8 @@ returns c =
     (λ (x y : List ℕ). map document_bytes
     (filter (is_between (tree_in x) (tree_in y)) order)) low high in
     shows c.args.column.now (map document_bytes c.range.result.now)
-    (range c.args.low.now c.args.high.now) c.answer_rows.result c.answer_rows.ensures.ok c.answer_rows.ensures.memory
+    (range c.args.low.now c.args.high.now) c.answer_rows.result c.answer_rows.ensures.ok
+    c.answer_rows.ensures.memory
     (λ reply is. (
       owned_bytes c.in_ok-low.low,
       (

@@ -22,7 +22,8 @@ returns-in-None c =
     let value_fits : FitsSigned w128 c.args.value = c.ranges.value in
     let kept = simp to_z-of_z at c.loop-step.invariant in
     let past = product_past
-    (to_z w128 c.loop-step.scaled-bits) c.args.other c.args.steps c.loop-step._step c.loop-step-test.true c.in-None.ensures c.ranges.other in
+    (to_z w128 c.loop-step.scaled-bits) c.args.other c.args.steps c.loop-step._step
+    c.loop-step-test.true c.in-None.ensures c.ranges.other in
     c.cmp.ensures ∙ sym past ∙ ap (λ z. int_cmp z c.args.other) kept
 
 pub returns : goal.returns

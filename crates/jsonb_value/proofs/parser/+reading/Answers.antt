@@ -36,7 +36,8 @@ read_item-returns-clause-ok t c =
 pub read_item-returns-clause-err : goal.read_item-returns-clause-err
 read_item-returns-clause-err t c =
     IfErr-weaker c.push_item.result _ _
-    (λ e. item_fails c.read_value.result _ _ e c.skip_blank.ensures c.read_value.ensures) c.push_item.ensures.err
+    (λ e. item_fails c.read_value.result _ _ e c.skip_blank.ensures c.read_value.ensures)
+    c.push_item.ensures.err
 
 pub read_value-returns-in_default : goal.read_value-returns-in_default
 read_value-returns-in_default t c = λ n h. value_ends n (chars c.args.text.now) c.in_default.ensures
@@ -82,7 +83,11 @@ read_value-returns-in_err-read_word-in-False t c = λ n h.
     let k = reads_kind n (chars c.args.text.now)
     (chars c.in-Some.rest.now) c.in-Some.first false_kind h c.in-Some.ensures
     (sym c.in-False.ensures) in
-    passed_on _ c.from_residual-in_err-read_word-in-False.result c.in_err-read_word-in-False.field-0.0 (read_word (97 ∷ 108 ∷ 115 ∷ 101 ∷ []) (boolean false) (chars c.in-Some.rest.now)) _ c.from_residual-in_err-read_word-in-False.ensures.1 (λ none. k.same ∙ none) (c.in_err-read_word-in-False.ensures (boolean false))
+    passed_on _ c.from_residual-in_err-read_word-in-False.result
+    c.in_err-read_word-in-False.field-0.0
+    (read_word (97 ∷ 108 ∷ 115 ∷ 101 ∷ []) (boolean false) (chars c.in-Some.rest.now)) _
+    c.from_residual-in_err-read_word-in-False.ensures.1 (λ none. k.same ∙ none)
+    (c.in_err-read_word-in-False.ensures (boolean false))
 
 pub read_value-returns-in_ok-read_word-in-False : goal.read_value-returns-in_ok-read_word-in-False
 read_value-returns-in_ok-read_word-in-False t c = λ n h.
@@ -158,7 +163,8 @@ pub read_array-returns-then-mark-ne44 : goal.read_array-returns-then-mark-ne44
 read_array-returns-then-mark-ne44 t c = λ n h.
     let r = item_read n _ _ _ (tree_of c.in_ok-after.ensures.ok.item) _ (c.items.invariant.2 n h)
     (c.in_ok-after.ensures.ok.reads n (omega (arith, c.items.invariant.1))) in
-    item_then_other n _ _ _ _ _ r c.in-Some-split_first.ensures c.if-mark-eq93.false c.if-mark-ne44.true
+    item_then_other n _ _ _ _ _ r c.in-Some-split_first.ensures c.if-mark-eq93.false
+    c.if-mark-ne44.true
 
 pub read_array-items-smaller : goal.read_array-items-smaller
 read_array-items-smaller t c =
@@ -227,7 +233,8 @@ read_object-returns-in_err-after t c = λ n h.
     let g = c.members.invariant.2 n h in
     let within : length (chars c.members.rest.now) < n = omega (arith, c.members.invariant.1) in
     members_stop n (chars c.args.text.now)
-    (chars c.members.rest.now) _ c.from_residual.result c.in_err-after.field-0.0 g c.from_residual.ensures.1 (λ k enough. c.in_err-after.ensures.err n k within enough)
+    (chars c.members.rest.now) _ c.from_residual.result c.in_err-after.field-0.0 g
+    c.from_residual.ensures.1 (λ k enough. c.in_err-after.ensures.err n k within enough)
 
 pub read_object-returns-in_default-split_first : goal.read_object-returns-in_default-split_first
 read_object-returns-in_default-split_first t c = λ n h.
@@ -255,14 +262,16 @@ read_object-returns-then-mark-ne44 t c = λ n h.
     let r = member_read n _ _ _ (string_bytes c.in_ok-after.ensures.ok.key)
     (tree_of c.in_ok-after.ensures.ok.value) _ (c.members.invariant.2 n h)
     (λ k enough. c.in_ok-after.ensures.ok.reads n k within enough) in
-    member_then_other n _ _ _ _ _ r c.in-Some-split_first.ensures c.if-mark-eq125.false c.if-mark-ne44.true
+    member_then_other n _ _ _ _ _ r c.in-Some-split_first.ensures c.if-mark-eq125.false
+    c.if-mark-ne44.true
 
 pub read_object-members-smaller : goal.read_object-members-smaller
 read_object-members-smaller t c =
     let shorter : length (chars c.in-Some-split_first.after.now)
     < length (chars c.members.rest.now) = member_then_shorter _
     (string_bytes c.in_ok-after.ensures.ok.key)
-    (tree_of c.in_ok-after.ensures.ok.value) _ _ _ c.in_ok-after.ensures.ok.reads c.in-Some-split_first.ensures in
+    (tree_of c.in_ok-after.ensures.ok.value) _ _ _ c.in_ok-after.ensures.ok.reads
+    c.in-Some-split_first.ensures in
     shorter
 
 pub read_object-members-preserved : goal.read_object-members-preserved
@@ -270,7 +279,8 @@ read_object-members-preserved t c =
     let shorter : length (chars c.in-Some-split_first.after.now)
     < length (chars c.members.rest.now) = member_then_shorter _
     (string_bytes c.in_ok-after.ensures.ok.key)
-    (tree_of c.in_ok-after.ensures.ok.value) _ _ _ c.in_ok-after.ensures.ok.reads c.in-Some-split_first.ensures in (
+    (tree_of c.in_ok-after.ensures.ok.value) _ _ _ c.in_ok-after.ensures.ok.reads
+    c.in-Some-split_first.ensures in (
       search rules,
       omega (arith, shorter, c.members.invariant.1),
       λ n h.
@@ -280,5 +290,6 @@ read_object-members-preserved t c =
           (tree_of c.in_ok-after.ensures.ok.value) _ (c.members.invariant.2 n h)
           (λ k enough. c.in_ok-after.ensures.ok.reads n k within enough) in
           member_then_comma n _ _ _ _ _ _ r c.in-Some-split_first.ensures c.if-mark-ne44.false
-          (members_grown (members_held c.members.members) _ c.in_ok-after.ensures.ok.key c.in_ok-after.ensures.ok.value c.in_ok-after.ensures.ok.inserted),
+          (members_grown (members_held c.members.members) _ c.in_ok-after.ensures.ok.key
+          c.in_ok-after.ensures.ok.value c.in_ok-after.ensures.ok.inserted),
     )

@@ -6,7 +6,9 @@ use Rattle.jsonb_value.proofs.parser.parse_value.Goals as goal
 
 pub returns-in_err-value-clause-invalid : goal.returns-in_err-value-clause-invalid
 returns-in_err-value-clause-invalid c =
-    refused (chars c.args.text.now) c.from_residual.result c.in_err-value.field-0.0 c.from_residual.ensures.1 (c.in_err-value.ensures (suc (length (chars c.args.text.now))) (omega arith))
+    refused (chars c.args.text.now) c.from_residual.result c.in_err-value.field-0.0
+    c.from_residual.ensures.1
+    (c.in_err-value.ensures (suc (length (chars c.args.text.now))) (omega arith))
 
 pub returns-in_err-value-clause-one : goal.returns-in_err-value-clause-one
 returns-in_err-value-clause-one c = one_meaning (chars c.args.text.now)

@@ -17,4 +17,8 @@ returns g c flush ok =
     let space' = c.write_str-2.ensures.styled days.flush (search rules) in
     let micros = c.write_whole-3.ensures space'.flush ok in
     joins_five _ _ _ _ _ _ _ _ _ _ _ _ _ months space days space' micros
-    (rw (to_z-of_z w32 given.months months_fit, to_z-of_z w32 given.days days_fit, to_z-of_z w64 given.micros micros_fit) refl)
+    (rw (
+      to_z-of_z w32 given.months months_fit,
+      to_z-of_z w32 given.days days_fit,
+      to_z-of_z w64 given.micros micros_fit,
+    ) refl)

@@ -16,7 +16,8 @@ returns c =
     let long = length-scalar_bytes c.args.type_code payload in
     let room = c.if-out-told.false in
     let header =
-    word_there c.copy_from_slice.new.self c.to_be_bytes.result 536870912 c.copy_from_slice.ensures.after c.to_be_bytes.ensures in
+    word_there c.copy_from_slice.new.self c.to_be_bytes.result 536870912
+    c.copy_from_slice.ensures.after c.to_be_bytes.ensures in
     let entry = word_there c.copy_from_slice-2.new.self c.to_be_bytes-2.result
     (c.args.type_code
     + length payload) c.copy_from_slice-2.ensures.after c.to_be_bytes-2.ensures in

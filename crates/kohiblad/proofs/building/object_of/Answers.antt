@@ -18,21 +18,25 @@ loop-key-init c = subst (PairsSoFar (pairs_in c.args.rows) (pairs_in c.args.rows
 
 pub returns-in_default-from_utf8-clause-utf8 : goal.returns-in_default-from_utf8-clause-utf8
 returns-in_default-from_utf8-clause-utf8 c = λ same.
-    no_text _ _ _ c.loop-key.builder c.loop-key.invariant _ c.in-Some.ensures c.in_default-from_utf8.ensures.cases.0
+    no_text _ _ _ c.loop-key.builder c.loop-key.invariant _ c.in-Some.ensures
+    c.in_default-from_utf8.ensures.cases.0
 
 pub loop-key-preserved : goal.loop-key-preserved
 loop-key-preserved c =
     let walk = c.loop-key in
     let key = c.in-Ok.ensures.cases in
     let new = not_there _ _
-    (has_key walk.builder c.in-Ok.key.now) c.in_ok-push_raw_jsonb.was c.push_raw_jsonb.ensures.duplicate in
-    one_more_pair _ _ _ walk.builder walk.invariant _ c.in-Some.ensures c.push_raw_jsonb.new.self c.in-Ok.key c.new.result key.0 c.new.ensures key.1 new c.in_ok-push_raw_jsonb.ensures.pushed
+    (has_key walk.builder c.in-Ok.key.now) c.in_ok-push_raw_jsonb.was
+    c.push_raw_jsonb.ensures.duplicate in
+    one_more_pair _ _ _ walk.builder walk.invariant _ c.in-Some.ensures c.push_raw_jsonb.new.self
+    c.in-Ok.key c.new.result key.0 c.new.ensures key.1 new c.in_ok-push_raw_jsonb.ensures.pushed
 
 pub returns-in_err-push_raw_jsonb-clause-twice : goal.returns-in_err-push_raw_jsonb-clause-twice
 returns-in_err-push_raw_jsonb-clause-twice c = λ same.
     let walk = c.loop-key in
     let refused : c.push_raw_jsonb.result ≡ Err ObjectDuplicateKey = search (rules, same) in
-    not_distinct _ _ _ walk.builder walk.invariant _ c.in-Some.ensures c.in-Ok.key.now c.in-Ok.ensures.cases.0 (c.push_raw_jsonb.ensures.duplicate.0 refused)
+    not_distinct _ _ _ walk.builder walk.invariant _ c.in-Some.ensures c.in-Ok.key.now
+    c.in-Ok.ensures.cases.0 (c.push_raw_jsonb.ensures.duplicate.0 refused)
 
 pub returns-clause-ok : goal.returns-clause-ok
 returns-clause-ok c =
@@ -43,7 +47,8 @@ returns-clause-ok c =
       subst (λ (ps : List (List ℕ × List ℕ)). AreTexts (keys_of ps)) all walk.invariant.texts,
       subst (λ (ps : List (List ℕ × List ℕ)). IsObjectOfInputs ps (owned_bytes owned)) all
           (IsObjectOfInputs-IsObjectOf
-          (map input_pair walk.invariant.done) walk.builder _ walk.invariant.built walk.invariant.distinct h.0 h.1),
+          (map input_pair walk.invariant.done) walk.builder _ walk.invariant.built
+          walk.invariant.distinct h.0 h.1),
     ))
     (both_ok c.build.result
     (λ owned. IsObjectOf walk.builder (owned_bytes owned))

@@ -14,7 +14,8 @@ loop-character-preserved c =
       same =
           one_more_character
           (text_depth c.args.text.now
-          ≤ c.args.depth) walk.place walk.level _ c.args.depth _ _ cut walk.invariant.inside walk.invariant.same
+          ≤ c.args.depth) walk.place walk.level _ c.args.depth _ _ cut walk.invariant.inside
+          walk.invariant.same
           _ _ c.place_after-place.ensures c.level_after-level.ensures.value;
       low = omega arith;
       inside = c.if-depth-level.false;
@@ -28,7 +29,8 @@ returns-then-depth-level c =
       λ a. absurd (
           one_too_many
           (text_depth c.args.text.now
-          ≤ c.args.depth) walk.place walk.level _ c.args.depth _ _ cut walk.invariant.inside walk.invariant.same
+          ≤ c.args.depth) walk.place walk.level _ c.args.depth _ _ cut walk.invariant.inside
+          walk.invariant.same
           _ c.level_after-level.ensures.value c.if-depth-level.true a
           ),
     )

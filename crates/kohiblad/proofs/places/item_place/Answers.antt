@@ -5,7 +5,8 @@ pub returns-in_err-read_header-clause-document : goal.returns-in_err-read_header
 returns-in_err-read_header-clause-document c =
     λ t document. item_place_standing c.args.bytes.now t c.args.index document
 
-pub returns-in-2147483648-default-clause-document : goal.returns-in-2147483648-default-clause-document
+pub returns-in-2147483648-default-clause-document :
+    goal.returns-in-2147483648-default-clause-document
 returns-in-2147483648-default-clause-document c =
     λ t document. item_place_standing c.args.bytes.now t c.args.index document
 

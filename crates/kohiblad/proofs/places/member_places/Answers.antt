@@ -5,15 +5,18 @@ pub returns-in_err-count-clause-document : goal.returns-in_err-count-clause-docu
 returns-in_err-count-clause-document c =
     λ t document. member_places_standing c.args.bytes.now t c.args.index document
 
-pub returns-in_err-key-in-1073741824-default-clause-document : goal.returns-in_err-key-in-1073741824-default-clause-document
+pub returns-in_err-key-in-1073741824-default-clause-document :
+    goal.returns-in_err-key-in-1073741824-default-clause-document
 returns-in_err-key-in-1073741824-default-clause-document c =
     λ t document. member_places_standing c.args.bytes.now t c.args.index document
 
-pub returns-in_err-value-in-1073741824-default-clause-document : goal.returns-in_err-value-in-1073741824-default-clause-document
+pub returns-in_err-value-in-1073741824-default-clause-document :
+    goal.returns-in_err-value-in-1073741824-default-clause-document
 returns-in_err-value-in-1073741824-default-clause-document c =
     λ t document. member_places_standing c.args.bytes.now t c.args.index document
 
-pub returns-in_ok-value-in-1073741824-default-clause-document : goal.returns-in_ok-value-in-1073741824-default-clause-document
+pub returns-in_ok-value-in-1073741824-default-clause-document :
+    goal.returns-in_ok-value-in-1073741824-default-clause-document
 returns-in_ok-value-in-1073741824-default-clause-document c =
     λ t document. member_places_standing c.args.bytes.now t c.args.index document
 

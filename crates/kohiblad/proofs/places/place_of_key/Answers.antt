@@ -14,12 +14,14 @@ returns-in_err-count-clause-place c = λ text.
     let is : c.from_residual.result ≡ Err c.in_err-count.field-0.0 = search rules in
     subst (IsPlaceFound c.args.name.now c.args.bytes.now) (sym is) found
 
-pub returns-in_err-get_object_value_by_key_name_counted-clause-place : goal.returns-in_err-get_object_value_by_key_name_counted-clause-place
+pub returns-in_err-get_object_value_by_key_name_counted-clause-place :
+    goal.returns-in_err-get_object_value_by_key_name_counted-clause-place
 returns-in_err-get_object_value_by_key_name_counted-clause-place c = λ text.
     let call = c.get_object_value_by_key_name_counted in
     let e = c.in_err-get_object_value_by_key_name_counted.field-0.0 in
     let found =
-    error_found _ c.args.name.now c.in-Ok.name.now c.args.bytes.now _ c.in-Ok.ensures.cases.0 c.new.ensures (λ key b says. search rules) call.result _ call.ensures.bytes e
+    error_found _ c.args.name.now c.in-Ok.name.now c.args.bytes.now _ c.in-Ok.ensures.cases.0
+    c.new.ensures (λ key b says. search rules) call.result _ call.ensures.bytes e
     (search rules) in
     let is : c.from_residual-in_err-get_object_value_by_key_name_counted.result ≡ Err e =
     search rules in
@@ -28,7 +30,8 @@ returns-in_err-get_object_value_by_key_name_counted-clause-place c = λ text.
 pub returns-then-not-is_there-clause-place : goal.returns-then-not-is_there-clause-place
 returns-then-not-is_there-clause-place c = λ text.
     let call = c.get_object_value_by_key_name_counted in
-    none_found _ c.args.name.now c.in-Ok.name.now c.args.bytes.now _ c.in-Ok.ensures.cases.0 c.new.ensures (λ key b says. search rules) call.result _ call.ensures.bytes
+    none_found _ c.args.name.now c.in-Ok.name.now c.args.bytes.now _ c.in-Ok.ensures.cases.0
+    c.new.ensures (λ key b says. search rules) call.result _ call.ensures.bytes
     c.in_ok-get_object_value_by_key_name_counted.field-0 (search rules) (search rules)
 
 pub part_place-requires-clause-number : goal.part_place-requires-clause-number
@@ -48,9 +51,12 @@ returns-in_err-part_place-clause-place c = λ text.
     let reads = c.count.ensures in
     let number = c.saturating_sub-number.ensures in
     let found =
-    some_found _ c.args.name.now c.in-Ok.name.now c.args.bytes.now _ c.in-Ok.ensures.cases.0 c.new.ensures (λ key b says. search rules) call.result _ call.ensures.bytes
-    c.in_ok-get_object_value_by_key_name_counted.field-0
-    (c.in_ok-count.field-0-0, c.in_ok-count.count) c.saturating_sub-number.result c.part_place.result
+    some_found _ c.args.name.now c.in-Ok.name.now c.args.bytes.now _ c.in-Ok.ensures.cases.0
+    c.new.ensures (λ key b says. search rules) call.result _ call.ensures.bytes
+    c.in_ok-get_object_value_by_key_name_counted.field-0 (
+      c.in_ok-count.field-0-0,
+      c.in_ok-count.count,
+    ) c.saturating_sub-number.result c.part_place.result
     (search rules) (search rules) (search rules) (omega arith) c.part_place.ensures.value in
     let cut : c.part_place.result ≡ Err e = c.in_err-part_place.was in
     let is : c.from_residual-in_err-part_place.result ≡ Err e = search rules in
@@ -65,9 +71,12 @@ returns-clause-place c = λ text.
     let reads = c.count.ensures in
     let number = c.saturating_sub-number.ensures in
     let found =
-    some_found _ c.args.name.now c.in-Ok.name.now c.args.bytes.now _ c.in-Ok.ensures.cases.0 c.new.ensures (λ key b says. search rules) call.result _ call.ensures.bytes
-    c.in_ok-get_object_value_by_key_name_counted.field-0
-    (c.in_ok-count.field-0-0, c.in_ok-count.count) c.saturating_sub-number.result c.part_place.result
+    some_found _ c.args.name.now c.in-Ok.name.now c.args.bytes.now _ c.in-Ok.ensures.cases.0
+    c.new.ensures (λ key b says. search rules) call.result _ call.ensures.bytes
+    c.in_ok-get_object_value_by_key_name_counted.field-0 (
+      c.in_ok-count.field-0-0,
+      c.in_ok-count.count,
+    ) c.saturating_sub-number.result c.part_place.result
     (search rules) (search rules) (search rules) (omega arith) c.part_place.ensures.value in
     let there : c.part_place.result ≡ Ok c.in_ok-part_place.field-0 = c.in_ok-part_place.was in
     subst (λ (r : Result Place Error). IsPlaceFound c.args.name.now c.args.bytes.now
@@ -77,18 +86,21 @@ pub returns-in_err-count-clause-document : goal.returns-in_err-count-clause-docu
 returns-in_err-count-clause-document c = λ text t document.
     absurd (no_header_read c.args.bytes.now t _ document (sym c.in_err-count.ensures))
 
-pub returns-in_err-get_object_value_by_key_name_counted-clause-document : goal.returns-in_err-get_object_value_by_key_name_counted-clause-document
+pub returns-in_err-get_object_value_by_key_name_counted-clause-document :
+    goal.returns-in_err-get_object_value_by_key_name_counted-clause-document
 returns-in_err-get_object_value_by_key_name_counted-clause-document c = λ text t document.
     let call = c.get_object_value_by_key_name_counted in
     let e = c.in_err-get_object_value_by_key_name_counted.field-0.0 in
     absurd
-    (never_refused _ c.args.name.now c.in-Ok.name.now c.args.bytes.now _ c.in-Ok.ensures.cases.0 c.new.ensures (λ key b says. search rules) call.result _ t document call.ensures.document e
+    (never_refused _ c.args.name.now c.in-Ok.name.now c.args.bytes.now _ c.in-Ok.ensures.cases.0
+    c.new.ensures (λ key b says. search rules) call.result _ t document call.ensures.document e
     (search rules))
 
 pub returns-then-not-is_there-clause-document : goal.returns-then-not-is_there-clause-document
 returns-then-not-is_there-clause-document c = λ text t document.
     let call = c.get_object_value_by_key_name_counted in
-    none_standing _ c.args.name.now c.in-Ok.name.now c.args.bytes.now _ c.in-Ok.ensures.cases.0 c.new.ensures (λ key b says. search rules) call.result _ t document call.ensures.document
+    none_standing _ c.args.name.now c.in-Ok.name.now c.args.bytes.now _ c.in-Ok.ensures.cases.0
+    c.new.ensures (λ key b says. search rules) call.result _ t document call.ensures.document
     c.in_ok-get_object_value_by_key_name_counted.field-0 (search rules) (search rules)
 
 pub returns-in_err-part_place-clause-document : goal.returns-in_err-part_place-clause-document
@@ -99,9 +111,12 @@ returns-in_err-part_place-clause-document c = λ text t document.
     let reads = c.count.ensures in
     let number = c.saturating_sub-number.ensures in
     let found =
-    some_standing _ c.args.name.now c.in-Ok.name.now c.args.bytes.now _ c.in-Ok.ensures.cases.0 c.new.ensures (λ key b says. search rules) call.result _ t document call.ensures.document
-    c.in_ok-get_object_value_by_key_name_counted.field-0
-    (c.in_ok-count.field-0-0, c.in_ok-count.count) c.saturating_sub-number.result c.part_place.result
+    some_standing _ c.args.name.now c.in-Ok.name.now c.args.bytes.now _ c.in-Ok.ensures.cases.0
+    c.new.ensures (λ key b says. search rules) call.result _ t document call.ensures.document
+    c.in_ok-get_object_value_by_key_name_counted.field-0 (
+      c.in_ok-count.field-0-0,
+      c.in_ok-count.count,
+    ) c.saturating_sub-number.result c.part_place.result
     (search rules) (search rules) (search rules) (omega arith) c.part_place.ensures.value in
     let cut : c.part_place.result ≡ Err e = c.in_err-part_place.was in
     let is : c.from_residual-in_err-part_place.result ≡ Err e = search rules in
@@ -116,9 +131,12 @@ returns-clause-document c = λ text t document.
     let reads = c.count.ensures in
     let number = c.saturating_sub-number.ensures in
     let found =
-    some_standing _ c.args.name.now c.in-Ok.name.now c.args.bytes.now _ c.in-Ok.ensures.cases.0 c.new.ensures (λ key b says. search rules) call.result _ t document call.ensures.document
-    c.in_ok-get_object_value_by_key_name_counted.field-0
-    (c.in_ok-count.field-0-0, c.in_ok-count.count) c.saturating_sub-number.result c.part_place.result
+    some_standing _ c.args.name.now c.in-Ok.name.now c.args.bytes.now _ c.in-Ok.ensures.cases.0
+    c.new.ensures (λ key b says. search rules) call.result _ t document call.ensures.document
+    c.in_ok-get_object_value_by_key_name_counted.field-0 (
+      c.in_ok-count.field-0-0,
+      c.in_ok-count.count,
+    ) c.saturating_sub-number.result c.part_place.result
     (search rules) (search rules) (search rules) (omega arith) c.part_place.ensures.value in
     let there : c.part_place.result ≡ Ok c.in_ok-part_place.field-0 = c.in_ok-part_place.was in
     subst (λ (r : Result Place Error). IsValuePlace c.args.bytes.now t c.args.name.now

@@ -9,7 +9,8 @@ pub loop-row-preserved : goal.loop-row-preserved
 loop-row-preserved c =
     let walk = c.loop-row in
     let more =
-    one_more_key c.args.rows walk.left c.next.new.self c.in-Some.row.now walk.keys.items c.new.result walk.invariant c.in-Some.ensures c.new.ensures.meaning in
+    one_more_key c.args.rows walk.left c.next.new.self c.in-Some.row.now walk.keys.items
+    c.new.result walk.invariant c.in-Some.ensures c.new.ensures.meaning in
     let number : c.len.result ≡ length walk.keys.items = grind (arith, common_steps) in
     let pushed = c.in_ok-push.ensures.items ∙ ap
     (λ (k : ℕ). walk.keys.items ++ (c.new.result, k) ∷ []) number in
@@ -17,11 +18,15 @@ loop-row-preserved c =
 
 pub returns-clause-ok : goal.returns-clause-ok
 returns-clause-ok c =
-    order_of_keys c.args.rows c.loop-row.left c.loop-row.keys.items c.sort.new.self.items c.in_default.ensures.0 c.loop-row.invariant c.sort.ensures.permutation c.in_ok-sort.ensures.sorted
+    order_of_keys c.args.rows c.loop-row.left c.loop-row.keys.items c.sort.new.self.items
+    c.in_default.ensures.0 c.loop-row.invariant c.sort.ensures.permutation
+    c.in_ok-sort.ensures.sorted
 
 pub returns-clause-len : goal.returns-clause-len
 returns-clause-len c =
     let keys = c.sort.new.self.items in
     let order =
-    order_of_keys c.args.rows c.loop-row.left c.loop-row.keys.items c.sort.new.self.items c.in_default.ensures.0 c.loop-row.invariant c.sort.ensures.permutation c.in_ok-sort.ensures.sorted in
+    order_of_keys c.args.rows c.loop-row.left c.loop-row.keys.items c.sort.new.self.items
+    c.in_default.ensures.0 c.loop-row.invariant c.sort.ensures.permutation
+    c.in_ok-sort.ensures.sorted in
     sym (length-map keys (λ key. key.1)) ∙ length-IsOrderOf c.args.rows (numbers_of keys) order

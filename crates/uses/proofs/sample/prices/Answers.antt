@@ -44,5 +44,6 @@ returns-in_err-price-clause-errors c =
     let row = c.loop-row.invariant.2 c.loop-row.row-index c.row-item.result c.loop-row-test.true in
     let is : raw_bytes c.as_raw-raw.result
     ≡ owned_bytes
-    (slice_index_or c.deref-row-items.result.now c.loop-row.row-index c.row-item.result) = search rules in
+    (slice_index_or c.deref-row-items.result.now c.loop-row.row-index c.row-item.result) =
+    search rules in
     absurd (c.in_err-price.ensures.document row.0 (subst (λ b. Doc b row.0) (sym is) row.1))

@@ -11,6 +11,7 @@ returns-in_err-try_reserve-clause-memory c =
 pub returns-clause-ok : goal.returns-clause-ok
 returns-clause-ok c =
     IsArrayOf-parts
-    (map item_view c.args.items.now) c.in_ok-size.ensures.storable c.in_ok-size.ensures.few _ _ _ _ _
+    (map item_view c.args.items.now) c.in_ok-size.ensures.storable c.in_ok-size.ensures.few _ _ _ _
+    _
     (sym (length-map c.args.items.now item_view))
     (search rules) c.append_entries.ensures.items c.append_payloads.ensures.items c.new.ensures

@@ -43,7 +43,11 @@ returns-then-eq c ps h =
     let w = c.loop-first.invariant ps h in
     let f = c.in-Some.ensures.first w.0 w.1.0 in (
       f.value,
-      (w.1.1 ∙ met c.args.name.now c.in-Some.first.key.now f.value w.0 f.others f.are c.if-eq.ensures, f.is),
+      (
+        w.1.1 ∙ met c.args.name.now c.in-Some.first.key.now f.value w.0 f.others f.are
+            c.if-eq.ensures,
+        f.is,
+      ),
     )
 
 pub loop-first-preserved : goal.loop-first-preserved
@@ -54,7 +58,8 @@ loop-first-preserved c ps h =
       (
         f.left,
         w.1.1
-            ∙ passed c.args.name.now c.in-Some.first.key.now f.value w.0 f.others f.are c.if-eq.ensures,
+            ∙ passed c.args.name.now c.in-Some.first.key.now f.value w.0 f.others f.are
+            c.if-eq.ensures,
       ),
     )
 

@@ -22,7 +22,8 @@ handed_on r s e b t r_is s_is doc past = (
       let is : e ≡ InvalidJsonb = cc in r_is ∙ ap Err is,
 )
 
-pub returns-in_err-append_canonical_document-clause-past : goal.returns-in_err-append_canonical_document-clause-past
+pub returns-in_err-append_canonical_document-clause-past :
+    goal.returns-in_err-append_canonical_document-clause-past
 returns-in_err-append_canonical_document-clause-past c =
     let e = c.in_err-append_canonical_document.field-0.0 in
     let handed : c.from_residual.result ≡ Err e = search rules in

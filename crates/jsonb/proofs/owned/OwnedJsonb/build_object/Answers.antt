@@ -20,15 +20,19 @@ loop-key-preserved g c =
     let walk = c.loop-key in
     let x : Bor (List ℕ) × RawJsonb = (c.in-Some.key, c.in-Some.input) in
     let new = not_there _ _
-    (has_key walk.builder c.in-Some.key.now) c.in_ok-push_raw_jsonb.was c.push_raw_jsonb.ensures.duplicate in
+    (has_key walk.builder c.in-Some.key.now) c.in_ok-push_raw_jsonb.was
+    c.push_raw_jsonb.ensures.duplicate in
     record {
       built =
-          one_more walk.builder walk.yielded walk.invariant.built c.push_raw_jsonb.new.self x c.in_ok-push_raw_jsonb.ensures.pushed;
+          one_more walk.builder walk.yielded walk.invariant.built c.push_raw_jsonb.new.self x
+          c.in_ok-push_raw_jsonb.ensures.pushed;
       distinct =
-          still_distinct walk.builder walk.yielded walk.invariant.built x new walk.invariant.distinct;
+          still_distinct walk.builder walk.yielded walk.invariant.built x new
+          walk.invariant.distinct;
     }
 
-pub returns-in_err-push_raw_jsonb-clause-duplicate : goal.returns-in_err-push_raw_jsonb-clause-duplicate
+pub returns-in_err-push_raw_jsonb-clause-duplicate :
+    goal.returns-in_err-push_raw_jsonb-clause-duplicate
 returns-in_err-push_raw_jsonb-clause-duplicate g c = λ e.
     let walk = c.loop-key in
     let refused : c.push_raw_jsonb.result ≡ Err ObjectDuplicateKey = search (rules, e) in
@@ -64,7 +68,8 @@ returns-clause-ok g c =
           (
             (c.next.new.self, (walk.key-iterator, walk.yielded_by, c.in-None.ensures.steps)),
             IsObjectOfInputs-IsObjectOf
-                (map input_pair walk.yielded) walk.builder _ walk.invariant.built walk.invariant.distinct h.0 h.1,
+                (map input_pair walk.yielded) walk.builder _ walk.invariant.built
+                walk.invariant.distinct h.0 h.1,
           ),
         ),
       ),

@@ -23,7 +23,8 @@ returns-in_err-count-clause-bytes g c =
     let size = length c.args.name.now in
     let bytes = c.as_bytes-bytes.result.now in
     let refused : c.from_residual.result ≡ Err c.in_err-count.field-0.0 = search rules in
-    answer_no_header answers size bytes _ c.as_bytes-bytes.ensures _ _ _ c.in_err-count.ensures.value (ap value_view refused)
+    answer_no_header answers size bytes _ c.as_bytes-bytes.ensures _ _ _
+    c.in_err-count.ensures.value (ap value_view refused)
 
 pub returns-in_err-entry-clause-bytes : goal.returns-in_err-entry-clause-bytes
 returns-in_err-entry-clause-bytes g c =
@@ -35,7 +36,8 @@ returns-in_err-entry-clause-bytes g c =
     let refused : c.from_residual-in_err-entry.result ≡ Err c.in_err-entry.field-0.0 =
     search rules in
     let past = if_err c.find_value.result _
-    (IsUnreadable answers size bytes c.in-Some.count) c.find_value.ensures.unread c.in_err-entry.was in
+    (IsUnreadable answers size bytes c.in-Some.count) c.find_value.ensures.unread
+    c.in_err-entry.was in
     answer_unread answers size bytes _ c.as_bytes-bytes.ensures _ _ _ _ count past
     (ap value_view refused)
 
@@ -128,7 +130,8 @@ returns-in_default-2-clause-document g c = λ t h.
     + 1 = omega (arith, c.in_ok-count.ensures.cost, c.find_value.ensures.bound) in
     subst (λ (b : List ℕ). LooksUp answers size b t None
     (c.find_value.new.reads - c.args.reads.now)) c.as_bytes-bytes.ensures
-    (LooksUp-none c.in_ok-entry.field-0 answers size bytes t _ _ _ c.in_ok-entry.ensures.none c.in_default-2.is doc count more)
+    (LooksUp-none c.in_ok-entry.field-0 answers size bytes t _ _ _ c.in_ok-entry.ensures.none
+    c.in_default-2.is doc count more)
 
 pub returns-in_err-item_of_entry-clause-refused : goal.returns-in_err-item_of_entry-clause-refused
 returns-in_err-item_of_entry-clause-refused g c =

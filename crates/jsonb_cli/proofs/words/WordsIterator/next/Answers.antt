@@ -12,5 +12,6 @@ pub returns-clause-goes : goal.returns-clause-goes
 returns-clause-goes c =
     let left : c.args.self.now ≡ c.split_word.result.0.now ∷ words_from c.split_word.result.1 =
     sym c.self.view_is
-    ∙ words_from-first _ _ _ _ c.in_ok-self.was c.split_word.ensures.word c.split_word.ensures.parts in
+    ∙ words_from-first _ _ _ _ c.in_ok-self.was c.split_word.ensures.word
+    c.split_word.ensures.parts in
     rw left (search rules)

@@ -30,7 +30,8 @@ append_container-overflow_sub-inside-2 t c =
     (c.container-container.ensures.opened tree h) in
     omega (arith, w.len, long)
 
-pub append_container-append_entries-requires-clause-size : goal.append_container-append_entries-requires-clause-size
+pub append_container-append_entries-requires-clause-size :
+    goal.append_container-append_entries-requires-clause-size
 append_container-append_entries-requires-clause-size t c ts k =
     let parts = c.container-container.result in
     let (tree, (h, w)) = c.requires.container in
@@ -39,7 +40,8 @@ append_container-append_entries-requires-clause-size t c ts k =
     length-Opened tree parts.header parts.children.entries.now parts.children.payloads.now o in
     let same = ap
     (λ (us : Trees). length (payloads_of us))
-    (Children-unique o.children ts parts.children.entries.now parts.children.payloads.now o.are k) in
+    (Children-unique o.children ts parts.children.entries.now parts.children.payloads.now o.are
+    k) in
     omega (arith, w.len, long, same)
 
 pub append_payloads-loop-child-init : goal.append_payloads-loop-child-init

@@ -15,7 +15,8 @@ decreases-append_payloads l =
 
 abbrev pub invariant-append_payloads-loop-child : goal.invariant-append_payloads-loop-child
 invariant-append_payloads-loop-child l = record {
-  followed : Followed l.fn.out l.out l.children.entries.now l.children.payloads.now l.entry l.left.entries.now l.left.payloads.now;
+  followed : Followed l.fn.out l.out l.children.entries.now l.children.payloads.now l.entry
+      l.left.entries.now l.left.payloads.now;
   payloads_shorter : length l.left.payloads.now ≤ length l.children.payloads.now;
 }
 

@@ -27,9 +27,14 @@ measure_container-returns-clause-some t c tree h =
 
 pub measure_payloads-loop-child-init : goal.measure_payloads-loop-child-init
 measure_payloads-loop-child-init t c =
-    record { measured = measured_start _ _ c.args.children.fact; small = omega arith; payloads_shorter = omega arith }
+    record {
+      measured = measured_start _ _ c.args.children.fact;
+      small = omega arith;
+      payloads_shorter = omega arith;
+    }
 
-pub measure_payloads-returns-in_err-total-clause-none : goal.measure_payloads-returns-in_err-total-clause-none
+pub measure_payloads-returns-in_err-total-clause-none :
+    goal.measure_payloads-returns-in_err-total-clause-none
 measure_payloads-returns-in_err-total-clause-none t c =
     let l = c.loop-child in
     let f = c.in-Some.ensures.first l.invariant.measured.left l.invariant.measured.are_left in

@@ -18,7 +18,8 @@ decreases-measure_payloads l =
 
 abbrev pub invariant-measure_payloads-loop-child : goal.invariant-measure_payloads-loop-child
 invariant-measure_payloads-loop-child l = record {
-  measured : Measured l.children.entries.now l.children.payloads.now l.total l.left.entries.now l.left.payloads.now;
+  measured : Measured l.children.entries.now l.children.payloads.now l.total l.left.entries.now
+      l.left.payloads.now;
   small : 4 * l.total + 2 ^ 28 * length l.left.entries.now ≤ 2 ^ 28 * length l.children.entries.now;
   payloads_shorter : length l.left.payloads.now ≤ length l.children.payloads.now;
 }

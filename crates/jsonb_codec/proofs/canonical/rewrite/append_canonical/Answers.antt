@@ -14,7 +14,8 @@ pub returns-clause-appended : goal.returns-clause-appended
 returns-clause-appended c =
     subst
     (λ b. OnOk c.append_canonical_document.result
-    ((t : Tree) → Doc b t → Fits t × (c.append_canonical_document.new.buf.items ≡ c.args.buf.now.items ++ canon t)))
+    ((t : Tree) → Doc b t → Fits t
+    × (c.append_canonical_document.new.buf.items ≡ c.args.buf.now.items ++ canon t)))
     c.in-Some.ensures.bytes c.append_canonical_document.ensures.appended
 
 pub returns-clause-tree : goal.returns-clause-tree

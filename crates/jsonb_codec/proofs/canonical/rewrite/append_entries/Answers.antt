@@ -31,7 +31,8 @@ pub overflow_sub-size_left : goal.overflow_sub-size_left
 overflow_sub-size_left c =
     let l = c.loop-child in let m = l.invariant.entered in
     entered_within _ _ _ _ _ _ _ m _ _ _ _
-    (c.in-Some.ensures.first m.written.left m.written.are_left) c.child_size-size.result c.child_size-size.ensures
+    (c.in-Some.ensures.first m.written.left m.written.are_left) c.child_size-size.result
+    c.child_size-size.ensures
 
 pub loop-child-preserved : goal.loop-child-preserved
 loop-child-preserved c =
@@ -39,7 +40,8 @@ loop-child-preserved c =
     let f = c.in-Some.ensures.first m.written.left m.written.are_left in
     record {
       entered =
-          entered_on _ _ _ _ _ _ _ m _ _ _ _ f c.append_entry.new.out c.child_size-size.result c.child_size-size.ensures c.append_entry.ensures;
+          entered_on _ _ _ _ _ _ _ m _ _ _ _ f c.append_entry.new.out c.child_size-size.result
+          c.child_size-size.ensures c.append_entry.ensures;
       fewer = omega (arith, l.invariant.fewer, c.in-Some.ensures.entries_len);
     }
 

@@ -4,7 +4,8 @@ use Rattle.jsonb_codec.proofs.canonical.rewrite.append_entries.Given as goal
 
 abbrev pub invariant-loop-child : goal.invariant-loop-child
 invariant-loop-child l = record {
-  entered : Entered l.fn.out l.out l.children.entries.now l.children.payloads.now l.size_left l.left.entries.now l.left.payloads.now;
+  entered : Entered l.fn.out l.out l.children.entries.now l.children.payloads.now l.size_left
+      l.left.entries.now l.left.payloads.now;
   fewer : length l.left.entries.now ≤ length l.children.entries.now;
 }
 

@@ -11,18 +11,23 @@ unreachable-requires c =
     let (t, h) = known_document _ c.args.self.fact in
     let room = document_room t c.args.self.bytes.now h in omega (arith, c.in_default.ensures.none)
 
-pub returns-then-header-ne-SCALAR_CONTAINER_TAG-clause-means : goal.returns-then-header-ne-SCALAR_CONTAINER_TAG-clause-means
+pub returns-then-header-ne-SCALAR_CONTAINER_TAG-clause-means :
+    goal.returns-then-header-ne-SCALAR_CONTAINER_TAG-clause-means
 returns-then-header-ne-SCALAR_CONTAINER_TAG-clause-means c =
     let g = c.in-Some.ensures in
-    document_container _ _ _ _ g.found g.tag g.number g.small c.if-header-ne-SCALAR_CONTAINER_TAG.true
+    document_container _ _ _ _ g.found g.tag g.number g.small
+    c.if-header-ne-SCALAR_CONTAINER_TAG.true
 
 pub invariant_of-result : goal.invariant_of-result
 invariant_of-result c =
     let g = c.in-Some.ensures in
     let (t, h) = known_document _ c.args.self.fact in
     record {
-      fact = merely
-          (t, document_container _ _ _ _ g.found g.tag g.number g.small c.if-header-ne-SCALAR_CONTAINER_TAG.true t h);
+      fact = merely (
+        t,
+        document_container _ _ _ _ g.found g.tag g.number g.small
+            c.if-header-ne-SCALAR_CONTAINER_TAG.true t h,
+      );
     }
 
 pub unreachable-requires-in_default-split_entry : goal.unreachable-requires-in_default-split_entry
@@ -30,7 +35,8 @@ unreachable-requires-in_default-split_entry c =
     let g = c.in-Some.ensures in
     let (t, h) = known_document _ c.args.self.fact in
     let s =
-    document_scalar _ _ _ _ g.found g.tag g.number g.small c.if-header-ne-SCALAR_CONTAINER_TAG.false t h in
+    document_scalar _ _ _ _ g.found g.tag g.number g.small c.if-header-ne-SCALAR_CONTAINER_TAG.false
+    t h in
     let room = scalar_entry _ _ g.number t s.1 in
     omega (arith, c.in_default-split_entry.ensures.none)
 
@@ -41,7 +47,8 @@ returns-clause-means c t h =
     let read : Read e.tag e.number e.rest.now c.in-Some.header.rest.now =
     record { parts = k.found; tag = k.tag; number = k.number; small = k.small } in
     let s =
-    document_scalar _ _ _ _ g.found g.tag g.number g.small c.if-header-ne-SCALAR_CONTAINER_TAG.false t h in
+    document_scalar _ _ _ _ g.found g.tag g.number g.small c.if-header-ne-SCALAR_CONTAINER_TAG.false
+    t h in
     (scalar_in _ _ g.number _ _ _ read t s.1).1
 
 pub invariant_of-result-2 : goal.invariant_of-result-2
@@ -52,7 +59,8 @@ invariant_of-result-2 c =
     record { parts = k.found; tag = k.tag; number = k.number; small = k.small } in
     let (t, h) = known_document _ c.args.self.fact in
     let s =
-    document_scalar _ _ _ _ g.found g.tag g.number g.small c.if-header-ne-SCALAR_CONTAINER_TAG.false t h in
+    document_scalar _ _ _ _ g.found g.tag g.number g.small c.if-header-ne-SCALAR_CONTAINER_TAG.false
+    t h in
     record { fact = merely (t, (scalar_in _ _ g.number _ _ _ read t s.1).1) }
 
 pub returns-clause-bytes : goal.returns-clause-bytes
@@ -68,7 +76,8 @@ returns-clause-bytes c =
     scalar_document_of _ _ _ _ _ _ _ is (scalar_count _ _ g.number t s.1)
     (λ container. s.0 (found.1.0 ∙ container)) found.0 g.found read
 
-pub returns-then-header-ne-SCALAR_CONTAINER_TAG-clause-len : goal.returns-then-header-ne-SCALAR_CONTAINER_TAG-clause-len
+pub returns-then-header-ne-SCALAR_CONTAINER_TAG-clause-len :
+    goal.returns-then-header-ne-SCALAR_CONTAINER_TAG-clause-len
 returns-then-header-ne-SCALAR_CONTAINER_TAG-clause-len c = c.ranges.self.0
 
 pub returns-clause-len : goal.returns-clause-len

@@ -17,31 +17,39 @@ keys_len-requires c = let few = c.requires.1.1.1.few in omega (arith, c.split_at
 pub split_at-requires-3 : goal.split_at-requires-3
 split_at-requires-3 c =
     let one = c.split_at.ensures in let two = c.split_at-2.ensures in
-    keys_room _ _ _ _ _ _ one.front one.back two.front two.back one.front_len two.front_len _ c.keys_len.ensures c.requires.0 c.requires.1
+    keys_room _ _ _ _ _ _ one.front one.back two.front two.back one.front_len two.front_len _
+    c.keys_len.ensures c.requires.0 c.requires.1
 
 pub invariant_of-result : goal.invariant_of-result
 invariant_of-result c =
     let one = c.split_at.ensures in let two = c.split_at-2.ensures in let (ps, h) = c.requires in
     let are =
-    pairs_of_object _ _ _ _ _ _ one.front one.back two.front two.back one.front_len two.front_len _ c.keys_len.ensures ps h _ _ c.split_at-3.ensures.front c.split_at-3.ensures.back in
+    pairs_of_object _ _ _ _ _ _ one.front one.back two.front two.back one.front_len two.front_len _
+    c.keys_len.ensures ps h _ _ c.split_at-3.ensures.front c.split_at-3.ensures.back in
     record { fact = merely (keys_of ps, children_of_keys ps _ _ are.1.0) }
 
 pub invariant_of-result-2 : goal.invariant_of-result-2
 invariant_of-result-2 c =
     let one = c.split_at.ensures in let two = c.split_at-2.ensures in let (ps, h) = c.requires in
     let are =
-    pairs_of_object _ _ _ _ _ _ one.front one.back two.front two.back one.front_len two.front_len _ c.keys_len.ensures ps h _ _ c.split_at-3.ensures.front c.split_at-3.ensures.back in
+    pairs_of_object _ _ _ _ _ _ one.front one.back two.front two.back one.front_len two.front_len _
+    c.keys_len.ensures ps h _ _ c.split_at-3.ensures.front c.split_at-3.ensures.back in
     record { fact = merely (values_of ps, children_of_values ps _ _ are.1.1) }
 
 pub invariant_of-result-3 : goal.invariant_of-result-3
 invariant_of-result-3 c =
     let one = c.split_at.ensures in let two = c.split_at-2.ensures in let (ps, h) = c.requires in
     record {
-      fact = merely
-          (ps, pairs_of_object _ _ _ _ _ _ one.front one.back two.front two.back one.front_len two.front_len _ c.keys_len.ensures ps h _ _ c.split_at-3.ensures.front c.split_at-3.ensures.back);
+      fact = merely (
+        ps,
+        pairs_of_object _ _ _ _ _ _ one.front one.back two.front two.back one.front_len
+            two.front_len _ c.keys_len.ensures ps h _ _ c.split_at-3.ensures.front
+            c.split_at-3.ensures.back,
+      );
     }
 
 pub returns-clause-members : goal.returns-clause-members
 returns-clause-members c ps h =
     let one = c.split_at.ensures in let two = c.split_at-2.ensures in
-    pairs_of_object _ _ _ _ _ _ one.front one.back two.front two.back one.front_len two.front_len _ c.keys_len.ensures ps h _ _ c.split_at-3.ensures.front c.split_at-3.ensures.back
+    pairs_of_object _ _ _ _ _ _ one.front one.back two.front two.back one.front_len two.front_len _
+    c.keys_len.ensures ps h _ _ c.split_at-3.ensures.front c.split_at-3.ensures.back

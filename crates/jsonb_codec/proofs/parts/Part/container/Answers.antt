@@ -23,14 +23,16 @@ split_at-requires c =
 pub returns-clause-opened : goal.returns-clause-opened
 returns-clause-opened c t is =
     let g = c.in-Some.ensures in let w = c.entry_words-words.ensures in
-    opened_as _ _ _ _ g.found g.tag g.number g.small _ w.array w.object _ _ c.split_at.ensures.front c.split_at.ensures.back t (is.0 ∙ c.requires, is.1)
+    opened_as _ _ _ _ g.found g.tag g.number g.small _ w.array w.object _ _ c.split_at.ensures.front
+    c.split_at.ensures.back t (is.0 ∙ c.requires, is.1)
 
 pub invariant_of-result : goal.invariant_of-result
 invariant_of-result c =
     let g = c.in-Some.ensures in let w = c.entry_words-words.ensures in
     let (t, h) = known_part _ _ c.args.self.fact in
     let o =
-    opened_as _ _ _ _ g.found g.tag g.number g.small _ w.array w.object _ _ c.split_at.ensures.front c.split_at.ensures.back t (h.0 ∙ c.requires, h.1) in
+    opened_as _ _ _ _ g.found g.tag g.number g.small _ w.array w.object _ _ c.split_at.ensures.front
+    c.split_at.ensures.back t (h.0 ∙ c.requires, h.1) in
     record { fact = merely (o.children, o.are) }
 
 pub returns-clause-bytes : goal.returns-clause-bytes

@@ -31,7 +31,8 @@ invariant_of-result c =
       fact = merely (
         x.0,
         array_children _ _ _ _
-            (cut _ _ _ _ c.split_at.ensures.front c.split_at.ensures.back) c.split_at.ensures.front_len x.0 x.1.1,
+            (cut _ _ _ _ c.split_at.ensures.front c.split_at.ensures.back)
+            c.split_at.ensures.front_len x.0 x.1.1,
       );
     }
 
@@ -52,7 +53,8 @@ returns-then-header-clause-contents c t k =
       (
         x.1.0,
         array_children _ _ _ _
-            (cut _ _ _ _ c.split_at.ensures.front c.split_at.ensures.back) c.split_at.ensures.front_len x.0 x.1.1,
+            (cut _ _ _ _ c.split_at.ensures.front c.split_at.ensures.back)
+            c.split_at.ensures.front_len x.0 x.1.1,
       ),
     )
 

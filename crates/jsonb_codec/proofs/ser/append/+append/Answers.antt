@@ -22,7 +22,8 @@ append_items-overflow_sub-size-2 t c =
           (items_trees c.args.items),
     )
 
-pub append_items-append_entries-requires-clause-size : goal.append_items-append_entries-requires-clause-size
+pub append_items-append_entries-requires-clause-size :
+    goal.append_items-append_entries-requires-clause-size
 append_items-append_entries-requires-clause-size t c =
     omega (
       arith,
@@ -48,11 +49,24 @@ append_pairs-overflow_sub-size-2 t c =
 
 pub append_pairs-overflow_sub-size-3 : goal.append_pairs-overflow_sub-size-3
 append_pairs-overflow_sub-size-3 t c =
-    omega (arith, c.requires.len, c.len-count.ensures, c.append_key_entries-keys.ensures.size, length-payload_of-object (object_pairs c.args.pairs))
+    omega (
+      arith,
+      c.requires.len,
+      c.len-count.ensures,
+      c.append_key_entries-keys.ensures.size,
+      length-payload_of-object (object_pairs c.args.pairs),
+    )
 
-pub append_pairs-append_value_entries-requires-clause-size : goal.append_pairs-append_value_entries-requires-clause-size
+pub append_pairs-append_value_entries-requires-clause-size :
+    goal.append_pairs-append_value_entries-requires-clause-size
 append_pairs-append_value_entries-requires-clause-size t c =
-    omega (arith, c.requires.len, c.len-count.ensures, c.append_key_entries-keys.ensures.size, length-payload_of-object (object_pairs c.args.pairs))
+    omega (
+      arith,
+      c.requires.len,
+      c.len-count.ensures,
+      c.append_key_entries-keys.ensures.size,
+      length-payload_of-object (object_pairs c.args.pairs),
+    )
 
 pub append_payloads-append_payload-requires : goal.append_payloads-append_payload-requires
 append_payloads-append_payload-requires t c =

@@ -8,7 +8,8 @@ abbrev pub invariant-loop-key : goal.invariant-loop-key
 invariant-loop-key l =
     let left = rest_pairs l.left in
     record {
-      underway : Underway l.fn.out l.out (key_payloads (object_pairs l.fn.pairs)) (key_payloads left);
+      underway : Underway l.fn.out l.out (key_payloads (object_pairs l.fn.pairs))
+          (key_payloads left);
     }
 
 abbrev pub decreases-loop-key : goal.decreases-loop-key

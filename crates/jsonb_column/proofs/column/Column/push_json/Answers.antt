@@ -15,8 +15,10 @@ returns-in_err-value-clause-invalid c refused t h =
 pub invariant_of-self-2 : goal.invariant_of-self-2
 invariant_of-self-2 c =
     let b = c.self.inside.bytes.items in let x = canon (tree_of c.in_ok-value.value) in
-    let means : IsDocument x =
-    (norm (tree_of c.in_ok-value.value), c.in_ok-encode.ensures.means _ c.in_ok-encode.ensures.tree c.in_ok-encode.ensures.fits) in
+    let means : IsDocument x = (
+      norm (tree_of c.in_ok-value.value),
+      c.in_ok-encode.ensures.means _ c.in_ok-encode.ensures.tree c.in_ok-encode.ensures.fits,
+    ) in
     let bytes : c.encode.new.self.buf.now.items ≡ b ++ x = search rules in
     let p : Place =
     record { start = c.len-start.result; size = c.len.result - c.len-start.result } in
@@ -29,8 +31,10 @@ invariant_of-self-2 c =
 pub returns-clause-pushed : goal.returns-clause-pushed
 returns-clause-pushed c =
     let b = c.self.inside.bytes.items in let x = canon (tree_of c.in_ok-value.value) in
-    let means : IsDocument x =
-    (norm (tree_of c.in_ok-value.value), c.in_ok-encode.ensures.means _ c.in_ok-encode.ensures.tree c.in_ok-encode.ensures.fits) in
+    let means : IsDocument x = (
+      norm (tree_of c.in_ok-value.value),
+      c.in_ok-encode.ensures.means _ c.in_ok-encode.ensures.tree c.in_ok-encode.ensures.fits,
+    ) in
     let bytes : c.encode.new.self.buf.now.items ≡ b ++ x = search rules in
     let p : Place =
     record { start = c.len-start.result; size = c.len.result - c.len-start.result } in

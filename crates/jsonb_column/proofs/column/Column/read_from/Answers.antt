@@ -52,13 +52,15 @@ pub loop-rest-preserved : goal.loop-rest-preserved
 loop-rest-preserved c =
     let row : IsRow c.in_ok-row.row.now =
     record { document = c.in_ok-push.ensures.document; short = c.in_ok-row.ensures.short } in
-    IsRead-more c.args.bytes.now c.loop-rest.rest.now c.in_ok-row.row.now c.in_ok-row.behind.now c.loop-rest.column c.push.new.self c.loop-rest.invariant
+    IsRead-more c.args.bytes.now c.loop-rest.rest.now c.in_ok-row.row.now c.in_ok-row.behind.now
+    c.loop-rest.column c.push.new.self c.loop-rest.invariant
     c.in_ok-row.ensures.ok row c.in_ok-push.ensures.pushed
 
 pub returns-clause-same : goal.returns-clause-same
 returns-clause-same c = λ rows all.
     let none : length c.loop-rest.rest.now ≡ 0 = search rules in
-    IsRead-all c.args.bytes.now c.loop-rest.rest.now c.loop-rest.column rows c.loop-rest.invariant none all
+    IsRead-all c.args.bytes.now c.loop-rest.rest.now c.loop-rest.column rows c.loop-rest.invariant
+    none all
 
 pub returns-clause-told_cut : goal.returns-clause-told_cut
 returns-clause-told_cut c = λ cut.

@@ -17,4 +17,5 @@ document_at-requires-clause-document c =
           (row_in c.self.inside.bytes.items),
     ) in
     subst (λ b. IsDocument (row_in b c.index.result.now)) (sym c.deref.ensures.value)
-    (row_document c.self.inside.bytes.items places c.args.index c.index.result.now c.self.invariant.rows low c.index.ensures)
+    (row_document c.self.inside.bytes.items places c.args.index c.index.result.now
+    c.self.invariant.rows low c.index.ensures)

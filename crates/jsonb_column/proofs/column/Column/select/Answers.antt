@@ -24,7 +24,13 @@ returns-in_err-push-clause-bound c =
     let low : c.loop-index.index < length c.args.self.now = omega arith in
     let read = ap row_reads c.row_within-row.ensures in (
       omega (arith, c.loop-index.invariant.counted, c.has_member.ensures.bound.0),
-      omega (arith, c.loop-index.invariant.few, c.has_member.ensures.bound.1, read, sum_by_more_le row_reads c.args.self.now c.loop-index.index [] low),
+      omega (
+        arith,
+        c.loop-index.invariant.few,
+        c.has_member.ensures.bound.1,
+        read,
+        sum_by_more_le row_reads c.args.self.now c.loop-index.index [] low,
+      ),
     )
 
 pub loop-index-preserved : goal.loop-index-preserved
@@ -40,20 +46,37 @@ loop-index-preserved c =
         | then-has_member+in_ok-push w ↦
             let passes : wanted (document_bytes c.row_within-row.result) ≡ true =
             sym answer ∙ w.if-has_member.true in
-            let rows : c.if-has_member.rows.items ≡ c.loop-index.rows.items ++ c.row_within-row.result
+            let rows : c.if-has_member.rows.items ≡ c.loop-index.rows.items
+            ++ c.row_within-row.result
             ∷ [] = search rules in
             ap (λ xs. map document_bytes xs) rows
-            ∙ found-more wanted c.args.self.now c.loop-index.index c.loop-index.rows.items c.row_within-row.result low c.row_within-row.ensures c.loop-index.invariant.found passes
+            ∙ found-more wanted c.args.self.now c.loop-index.index c.loop-index.rows.items
+            c.row_within-row.result low c.row_within-row.ensures c.loop-index.invariant.found
+            passes
         | else-has_member w ↦
             let fails : wanted (document_bytes c.row_within-row.result) ≡ false =
             sym answer ∙ w.if-has_member.false in
             let rows : c.if-has_member.rows.items ≡ c.loop-index.rows.items = search rules in
             ap (λ xs. map document_bytes xs) rows
-            ∙ found-same wanted c.args.self.now c.loop-index.index c.loop-index.rows.items c.row_within-row.result low c.row_within-row.ensures c.loop-index.invariant.found fails
+            ∙ found-same wanted c.args.self.now c.loop-index.index c.loop-index.rows.items
+            c.row_within-row.result low c.row_within-row.ensures c.loop-index.invariant.found
+            fails
       ];
       counted = omega (arith, c.loop-index.invariant.counted, c.has_member.ensures.bound.0);
-      few = omega
-          (arith, c.loop-index.invariant.few, c.has_member.ensures.bound.1, read, sum_by_more row_reads c.args.self.now c.loop-index.index [] low);
-      short = omega
-          (arith, c.loop-index.invariant.short, c.has_member.ensures.few, read, ap length c.row_within-row.ensures, sum_by_more row_reads c.args.self.now c.loop-index.index [] low, sum_by_more length c.args.self.now c.loop-index.index [] low);
+      few = omega (
+        arith,
+        c.loop-index.invariant.few,
+        c.has_member.ensures.bound.1,
+        read,
+        sum_by_more row_reads c.args.self.now c.loop-index.index [] low,
+      );
+      short = omega (
+        arith,
+        c.loop-index.invariant.short,
+        c.has_member.ensures.few,
+        read,
+        ap length c.row_within-row.ensures,
+        sum_by_more row_reads c.args.self.now c.loop-index.index [] low,
+        sum_by_more length c.args.self.now c.loop-index.index [] low,
+      );
     }

@@ -7,26 +7,33 @@ use Rattle.jsonb_value.proofs.parser.number.read_number.Goals as goal
 pub returns-in_err-digits-2 : goal.returns-in_err-digits-2
 returns-in_err-digits-2 c =
     let parts = has_parts
-    (chars c.args.text.now) _ _ _ _ _ c.in_ok-digits.digits c.read_sign-is_negative.ensures c.in_ok-whole.ensures c.in_ok-digits.ensures in
+    (chars c.args.text.now) _ _ _ _ _ c.in_ok-digits.digits c.read_sign-is_negative.ensures
+    c.in_ok-whole.ensures c.in_ok-digits.ensures in
     ap (option_map _) c.from_residual-in_err-digits-2.ensures
     ∙ sym (number_too_large _ _ _ _ parts c.in_err-digits-2.was)
 
 pub returns-in_err-value : goal.returns-in_err-value
 returns-in_err-value c =
     let parts = has_parts
-    (chars c.args.text.now) _ _ _ _ _ c.in_ok-digits.digits c.read_sign-is_negative.ensures c.in_ok-whole.ensures c.in_ok-digits.ensures in
+    (chars c.args.text.now) _ _ _ _ _ c.in_ok-digits.digits c.read_sign-is_negative.ensures
+    c.in_ok-whole.ensures c.in_ok-digits.ensures in
     ap (option_map _) c.from_residual-in_err-value.ensures
-    ∙ sym (number_out_of_range _ _ _ _ _ _ parts c.in_ok-digits-2.was c.signed.ensures c.in_err-value.was)
+    ∙ sym (number_out_of_range _ _ _ _ _ _ parts c.in_ok-digits-2.was c.signed.ensures
+    c.in_err-value.was)
 
 pub returns-in_err-number : goal.returns-in_err-number
 returns-in_err-number c =
     let parts = has_parts
-    (chars c.args.text.now) _ _ _ _ _ c.in_ok-digits.digits c.read_sign-is_negative.ensures c.in_ok-whole.ensures c.in_ok-digits.ensures in
+    (chars c.args.text.now) _ _ _ _ _ c.in_ok-digits.digits c.read_sign-is_negative.ensures
+    c.in_ok-whole.ensures c.in_ok-digits.ensures in
     ap (option_map _) c.from_residual-in_err-number.ensures
-    ∙ sym (number_of_parts _ _ _ _ _ _ _ _ parts c.in_ok-digits-2.was c.signed.ensures c.in_ok-value.was c.in_err-number.ensures (search rules))
+    ∙ sym (number_of_parts _ _ _ _ _ _ _ _ parts c.in_ok-digits-2.was c.signed.ensures
+    c.in_ok-value.was c.in_err-number.ensures (search rules))
 
 pub returns : goal.returns
 returns c =
     let parts = has_parts
-    (chars c.args.text.now) _ _ _ _ _ c.in_ok-digits.digits c.read_sign-is_negative.ensures c.in_ok-whole.ensures c.in_ok-digits.ensures in
-    sym (number_of_parts _ _ _ _ _ _ _ _ parts c.in_ok-digits-2.was c.signed.ensures c.in_ok-value.was c.in_ok-number.ensures (search rules))
+    (chars c.args.text.now) _ _ _ _ _ c.in_ok-digits.digits c.read_sign-is_negative.ensures
+    c.in_ok-whole.ensures c.in_ok-digits.ensures in
+    sym (number_of_parts _ _ _ _ _ _ _ _ parts c.in_ok-digits-2.was c.signed.ensures
+    c.in_ok-value.was c.in_ok-number.ensures (search rules))

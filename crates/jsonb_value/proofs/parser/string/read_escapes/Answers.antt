@@ -54,9 +54,11 @@ pieces-preserved c = (
       let character = c.in-Some-read_piece.character in
       let piece = goes_on_past_piece n front text content rest
       (chars c.in-Some.after.now) c.in-Some.first character after
-      (c.pieces.invariant.1 n h) c.in-Some.ensures c.if-first-eq34.false c.in-Some-read_piece.ensures in
+      (c.pieces.invariant.1 n h) c.in-Some.ensures c.if-first-eq34.false
+      c.in-Some-read_piece.ensures in
       let plain = goes_on_past_plain n front text (content ++ encode_utf8 character) after last
-      (chars c.split_plain.result.0.now) c.split_plain.result.0.now piece c.split_plain.ensures.whole c.split_plain.ensures.plain c.split_plain.ensures.bytes in
+      (chars c.split_plain.result.0.now) c.split_plain.result.0.now piece
+      c.split_plain.ensures.whole c.split_plain.ensures.plain c.split_plain.ensures.bytes in
       goes_on_as n front text _ last (string_bytes c.push_str.new.self) plain
       (c.in_ok-push_str.ensures.bytes ∙ ap
       (λ q. q ++ c.split_plain.result.0.now) c.in_ok-push.ensures.bytes),

@@ -11,5 +11,8 @@ split_at-requires c = cut_boundary c.args.text.now c.plain_len.result
 pub returns : goal.returns
 returns c =
     let cut =
-    plain_front c.args.text.now c.split_at.result.0.now c.split_at.result.1.now c.plain_len.result c.utf8.text (c.plain_len.ensures ∙ ap (prefix_len is_plain) c.as_bytes.ensures.value) c.split_at.ensures.front c.split_at.ensures.back in
+    plain_front c.args.text.now c.split_at.result.0.now c.split_at.result.1.now c.plain_len.result
+    c.utf8.text (c.plain_len.ensures
+    ∙ ap (prefix_len is_plain) c.as_bytes.ensures.value) c.split_at.ensures.front
+    c.split_at.ensures.back in
     record { plain = cut.is_plain_all; whole = cut.is_whole; bytes = cut.is_encoded }

@@ -9,4 +9,5 @@ returns-clause-value c =
     let third = c.in_ok-to_digit-3.ensures.value in
     let fourth = c.in_ok-to_digit-4.ensures.value in
     rw (first.1, second.1, third.1, fourth.1)
-    (sym (all_digits_give c.args.first c.args.second c.args.third c.args.fourth first.0 second.0 third.0 fourth.0))
+    (sym (all_digits_give c.args.first c.args.second c.args.third c.args.fourth first.0 second.0
+    third.0 fourth.0))

@@ -11,7 +11,8 @@ invariant_of-self-in-None c =
     let old = c.self.inside.counts.entries in
     let list = c.self.inside.list.items in
     let set = subst
-    (λ (x : ItemView). SetsCount old c.set_count-in-None.new.counts.entries x 1) c.in_ok-key-in-None.ensures.ok c.in_ok-set_count-in-None.ensures.set in
+    (λ (x : ItemView). SetsCount old c.set_count-in-None.new.counts.entries x 1)
+    c.in_ok-key-in-None.ensures.ok c.in_ok-set_count-in-None.ensures.set in
     let listed = lists_new (map item_view list) old c.set_count-in-None.new.counts.entries
     (item_view c.args.item) 1 c.self.invariant set in
     let more : c.push.new.self.items ≡ list ++ c.args.item ∷ [] = search rules in
