@@ -58,7 +58,7 @@ def table(head, lines):
 
 def tables(found):
     """All tables of bench/README.md."""
-    shapes = ["numbers", "objects", "deep"]
+    shapes = ["numbers", "objects", "of 3000", "deep"]
     documents = [[call] + [cell(found[f"{shape} {call}"]) for shape in shapes]
                  for call in ["check", "build", "encode"]]
     look_ups = []
@@ -76,14 +76,18 @@ def tables(found):
               for levels in ["arrays 100", "arrays 1000", "arrays 10000", "objects 100",
                              "objects 1000", "objects 10000", "halves 17"]]
     texts = [["parse, beside `from_str`", cell(found["text parse"])],
+             ["parse, beside `from_str` and the crate's encoder", cell(found["text document"])],
              ["`to_string` of a view, beside `to_string`", cell(found["objects print"])],
              ["`to_string` of a `Document`, the same", cell(found["objects text"])]]
+    column = [[call, cell(found[f"column {call}"])]
+              for call in ["load", "sort", "search", "select"]]
     return "\n".join([
-        table(["", "numbers", "objects", "1,000 deep"], documents),
+        table(["", "numbers", "objects", "an object of 3,000", "1,000 deep"], documents),
         table(["look-up of the", "first", "middle", "last"], look_ups),
         table(["sort of 100,000", "views (`RawJsonb`)", "keys checked once (`SortKey`)"], sorts),
         table(["containers in one another", "encoder", "canonical form"], nested),
         table(["texts, beside serde_json", ""], texts),
+        table(["a column of 100,000 rows", ""], column),
     ])
 
 
