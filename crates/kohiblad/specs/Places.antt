@@ -191,11 +191,11 @@ AreMemberPlaces b (object ps) index found =
     × ((found ≡ Ok o) × (option_map (member_there b) o ≡ slice_get members index))))
 AreMemberPlaces b t index found = found ≡ Ok None
 
--- A part is an item of an array, or of an object one of its keys' entries and of its values' behind
--- them.
+-- the entries of an object: those of its keys, and behind them those of its values
 abbrev pub all_entries : List (List ℕ × Entry) → List Entry
 all_entries members = key_codes (keys_of members) ++ values_of members
 
+-- The place is that of the part of that number: an array's item, or one of an object's entries.
 abbrev pub IsPartPlace : List ℕ → Tree → ℕ → Result (Option Place) Error → Type 0
 IsPartPlace b (object ps) number found =
     (members : List (List ℕ × Entry))
