@@ -2,4 +2,5 @@ use Rattle.kohiblad.proofs.PlaceLaws.{place_in_standing}
 use Rattle.kohiblad.proofs.places.kohiblad_part.Goals as goal
 
 pub returns-clause-document : goal.returns-clause-document
-returns-clause-document c = λ t document. place_in_standing c.args.bytes.now t c.args.number document
+returns-clause-document c =
+    λ t document. place_in_standing c.args.bytes.now t c.args.number document
