@@ -18,8 +18,8 @@ build_items-loop-child-preserved t c =
           let f = k.first us left in (
             f.others,
             (
-              trees_and-push l.built.items c.push_part.new.items.items v ts us f.others f.first whole
-                  f.are (same f.first f.is) more,
+              trees_and-push l.built.items c.push_part.new.items.items v ts us
+                  f.others f.first whole f.are (same f.first f.is) more,
               f.behind,
             ),
           );
