@@ -8,10 +8,9 @@ ghost use Rattle.kohiblad.specs.Status.{code, IsHandedOver, IsRefused};
 ghost use Rattle.jsonb_value.specs.Tree.{Tree};
 ghost use Rattle.jsonb_codec.specs.Doc.{Doc};
 ghost use Rattle.kohiblad.specs.Places.{IsItemPlace, AreMemberPlaces, part_place, place_in};
-ghost use Rattle.kohiblad.specs.Places.{IsPartPlace};
 ghost use Rattle.kohiblad.specs.Places.{item_place, IsPlaceFound, IsPlaceIn, IsInside, AreInside};
 ghost use Rattle.kohiblad.specs.Places.{member_places, IsMemberHandedOver, place_answer};
-ghost use Rattle.kohiblad.specs.Places.{entry_there};
+ghost use Rattle.kohiblad.specs.Places.{entry_there, IsPartPlace};
 ghost use Rattle.kohiblad.specs.Places.{entry_document, IsPlaceHandedOver, IsValuePlace};
 
 use crate::answer::{NO_ROOM, NONE, OK, code, hand_over, hand_over_scalar, refuse};

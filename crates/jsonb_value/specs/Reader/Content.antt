@@ -25,8 +25,7 @@ pub record KeyIsRead (s key behind : List ℕ) : Type 0 where
   pub is_behind : expect colon (skip_blank after) ≡ Some behind
 
 -- These members with others put in, one after another: each at its key's place in the order of
--- bytes,
--- instead of an equal key's.
+-- bytes, instead of an equal key's.
 abbrev pub with_members : List (String Global × Value) → List (String Global × Value)
     → List (String Global × Value)
 with_members es [] = es
