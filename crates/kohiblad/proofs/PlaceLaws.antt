@@ -9,7 +9,9 @@ use Rattle.std.proofs.lemmas.Bool.{lt-leb}
 use Rattle.std.proofs.lemmas.Option.{slice_get_cases}
 use Rattle.jsonb_value.specs.declared.error.Error.{Error}
 use Rattle.jsonb_value.specs.Tree.{Tree, null, boolean, number, text, extension, array, object}
-use Rattle.jsonb_value.specs.Tree.{Trees, Pairs}
+use Rattle.jsonb_value.specs.Tree.{Trees, Pairs, Extension}
+use Rattle.jsonb_value.specs.declared.number.Number.{Number}
+use Rattle.std.proofs.Common.{Bool}
 use Rattle.jsonb_codec.specs.declared.jentry.JEntry.{JEntry}
 use Rattle.jsonb_codec.specs.JEntry.{jentry_at}
 use Rattle.jsonb_codec.specs.Doc.{Doc, Payload, Scalar}
@@ -96,6 +98,29 @@ module _ (b : List ℕ) (cs : List Entry) (is : AreEntries cs) (entries_at : At 
       let test = le-leb n nth (omega arith) in
       (None, (rw test refl, sym absent))
 
+-- What holds of the documents of each kind of tree holds of every document.
+by_kind : (P : Tree → Type 0) (b : List ℕ) → ((ts : Trees) → Payload (array ts) b → P (array ts))
+    → ((ps : Pairs) → Payload (object ps) b → P (object ps)) → (Scalar null b → P null)
+    → ((x : Bool) → Scalar (boolean x) b → P (boolean x))
+    → ((x : Number) → Scalar (number x) b → P (number x))
+    → ((x : List ℕ) → Scalar (text x) b → P (text x))
+    → ((x : Extension) → Scalar (extension x) b → P (extension x)) → (t : Tree) → Doc b t → P t
+by_kind P b a o n c d e f (array ts) (inr (is, h)) = a ts h
+by_kind P b a o n c d e f (array ts) (inl (other, h)) = absurd (other refl)
+by_kind P b a o n c d e f (object ps) (inr (is, h)) = o ps h
+by_kind P b a o n c d e f (object ps) (inl (other, h)) = absurd (other refl)
+by_kind P b a o n c d e f null (inl (other, h)) = n h
+by_kind P b a o n c d e f (boolean x) (inl (other, h)) = c x h
+by_kind P b a o n c d e f (number x) (inl (other, h)) = d x h
+by_kind P b a o n c d e f (text x) (inl (other, h)) = e x h
+by_kind P b a o n c d e f (extension x) (inl (other, h)) = f x h
+by_kind P b a o n c d e f null (inr (is, h)) = absurd (omega arith)
+by_kind P b a o n c d e f (boolean true) (inr (is, h)) = absurd (omega arith)
+by_kind P b a o n c d e f (boolean false) (inr (is, h)) = absurd (omega arith)
+by_kind P b a o n c d e f (number x) (inr (is, h)) = absurd (omega arith)
+by_kind P b a o n c d e f (text x) (inr (is, h)) = absurd (omega arith)
+by_kind P b a o n c d e f (extension x) (inr (is, h)) = absurd (omega arith)
+
 item_standing : (b : List ℕ) (ts : Trees) (index : ℕ) → Payload (array ts) b
     → IsItemPlace b (array ts) index (item_place b index)
 item_standing b ts index h =
@@ -125,22 +150,12 @@ no_item b t index h =
 
 pub item_place_standing : (b : List ℕ) (t : Tree) (index : ℕ) → Doc b t
     → IsItemPlace b t index (item_place b index)
-item_place_standing b (array ts) index (inr (is, h)) = item_standing b ts index h
-item_place_standing b (array ts) index (inl (other, h)) = absurd (other refl)
-item_place_standing b (object ps) index (inr (is, h)) =
-    ap (λ (r : Result (ℕ × ℕ) Error). r >>= item_under b index) (header_at-object b ps h)
-item_place_standing b (object ps) index (inl (other, h)) = absurd (other refl)
-item_place_standing b null index (inl (other, h)) = no_item b null index h
-item_place_standing b (boolean x) index (inl (other, h)) = no_item b (boolean x) index h
-item_place_standing b (number x) index (inl (other, h)) = no_item b (number x) index h
-item_place_standing b (text x) index (inl (other, h)) = no_item b (text x) index h
-item_place_standing b (extension x) index (inl (other, h)) = no_item b (extension x) index h
-item_place_standing b null index (inr (is, h)) = absurd (omega arith)
-item_place_standing b (boolean true) index (inr (is, h)) = absurd (omega arith)
-item_place_standing b (boolean false) index (inr (is, h)) = absurd (omega arith)
-item_place_standing b (number x) index (inr (is, h)) = absurd (omega arith)
-item_place_standing b (text x) index (inr (is, h)) = absurd (omega arith)
-item_place_standing b (extension x) index (inr (is, h)) = absurd (omega arith)
+item_place_standing b t index =
+    by_kind (λ (u : Tree). IsItemPlace b u index (item_place b index)) b
+    (λ ts h. item_standing b ts index h)
+    (λ ps h. ap (λ (r : Result (ℕ × ℕ) Error). r >>= item_under b index) (header_at-object b ps h))
+    (no_item b null index) (λ x. no_item b (boolean x) index) (λ x. no_item b (number x) index)
+    (λ x. no_item b (text x) index) (λ x. no_item b (extension x) index) t
 
 AreEntries-append : (cs ds : List Entry) → AreEntries cs → AreEntries ds → AreEntries (cs ++ ds)
 AreEntries-append [] ds is are = are
@@ -321,6 +336,15 @@ part_standing b ps nth h =
       ),
     )
 
+items_part : (b : List ℕ) (ts : Trees) (nth : ℕ) → Payload (array ts) b
+    → IsPartPlace b (array ts) nth (place_in b nth)
+items_part b ts nth h =
+    let part =
+    ap (λ (r : Result (ℕ × ℕ) Error). r >>= place_under b nth) (header_at-array b ts h) in
+    let item =
+    ap (λ (r : Result (ℕ × ℕ) Error). r >>= item_under b nth) (header_at-array b ts h) in
+    subst (IsItemPlace b (array ts) nth) (item ∙ sym part) (item_standing b ts nth h)
+
 no_part : (b : List ℕ) (t : Tree) (nth : ℕ) → Scalar t b → place_in b nth ≡ Ok None
 no_part b t nth h =
     let test = le-leb 0 nth (omega arith) in
@@ -329,27 +353,12 @@ no_part b t nth h =
 
 pub place_in_standing : (b : List ℕ) (t : Tree) (nth : ℕ) → Doc b t
     → IsPartPlace b t nth (place_in b nth)
-place_in_standing b (object ps) nth (inr (is, h)) = part_standing b ps nth h
-place_in_standing b (object ps) nth (inl (other, h)) = absurd (other refl)
-place_in_standing b (array ts) nth (inr (is, h)) =
-    let item = item_standing b ts nth h in
-    let same = ap (λ (r : Result (ℕ × ℕ) Error). r >>= place_under b nth)
-    (header_at-array b ts h) in
-    let alike = ap (λ (r : Result (ℕ × ℕ) Error). r >>= item_under b nth)
-    (header_at-array b ts h) in
-    subst (IsItemPlace b (array ts) nth) (alike ∙ sym same) item
-place_in_standing b (array ts) nth (inl (other, h)) = absurd (other refl)
-place_in_standing b null nth (inl (other, h)) = no_part b null nth h
-place_in_standing b (boolean x) nth (inl (other, h)) = no_part b (boolean x) nth h
-place_in_standing b (number x) nth (inl (other, h)) = no_part b (number x) nth h
-place_in_standing b (text x) nth (inl (other, h)) = no_part b (text x) nth h
-place_in_standing b (extension x) nth (inl (other, h)) = no_part b (extension x) nth h
-place_in_standing b null nth (inr (is, h)) = absurd (omega arith)
-place_in_standing b (boolean true) nth (inr (is, h)) = absurd (omega arith)
-place_in_standing b (boolean false) nth (inr (is, h)) = absurd (omega arith)
-place_in_standing b (number x) nth (inr (is, h)) = absurd (omega arith)
-place_in_standing b (text x) nth (inr (is, h)) = absurd (omega arith)
-place_in_standing b (extension x) nth (inr (is, h)) = absurd (omega arith)
+place_in_standing b t nth =
+    by_kind (λ (u : Tree). IsPartPlace b u nth (place_in b nth)) b
+    (λ ts h. items_part b ts nth h)
+    (λ ps h. part_standing b ps nth h)
+    (no_part b null nth) (λ x. no_part b (boolean x) nth) (λ x. no_part b (number x) nth)
+    (λ x. no_part b (text x) nth) (λ x. no_part b (extension x) nth) t
 
 no_member : (b : List ℕ) (t : Tree) (index : ℕ) → Scalar t b → member_places b index ≡ Ok None
 no_member b t index h =
@@ -357,19 +366,10 @@ no_member b t index h =
 
 pub member_places_standing : (b : List ℕ) (t : Tree) (index : ℕ) → Doc b t
     → AreMemberPlaces b t index (member_places b index)
-member_places_standing b (object ps) index (inr (is, h)) = member_standing b ps index h
-member_places_standing b (object ps) index (inl (other, h)) = absurd (other refl)
-member_places_standing b (array ts) index (inr (is, h)) =
-    ap (λ (r : Result (ℕ × ℕ) Error). r >>= member_under b index) (header_at-array b ts h)
-member_places_standing b (array ts) index (inl (other, h)) = absurd (other refl)
-member_places_standing b null index (inl (other, h)) = no_member b null index h
-member_places_standing b (boolean x) index (inl (other, h)) = no_member b (boolean x) index h
-member_places_standing b (number x) index (inl (other, h)) = no_member b (number x) index h
-member_places_standing b (text x) index (inl (other, h)) = no_member b (text x) index h
-member_places_standing b (extension x) index (inl (other, h)) = no_member b (extension x) index h
-member_places_standing b null index (inr (is, h)) = absurd (omega arith)
-member_places_standing b (boolean true) index (inr (is, h)) = absurd (omega arith)
-member_places_standing b (boolean false) index (inr (is, h)) = absurd (omega arith)
-member_places_standing b (number x) index (inr (is, h)) = absurd (omega arith)
-member_places_standing b (text x) index (inr (is, h)) = absurd (omega arith)
-member_places_standing b (extension x) index (inr (is, h)) = absurd (omega arith)
+member_places_standing b t index =
+    by_kind (λ (u : Tree). AreMemberPlaces b u index (member_places b index)) b
+    (λ ts h. ap (λ (r : Result (ℕ × ℕ) Error). r >>= member_under b index) (header_at-array b ts h))
+    (λ ps h. member_standing b ps index h)
+    (no_member b null index) (λ x. no_member b (boolean x) index)
+    (λ x. no_member b (number x) index) (λ x. no_member b (text x) index)
+    (λ x. no_member b (extension x) index) t
