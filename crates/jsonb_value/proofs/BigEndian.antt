@@ -8,13 +8,11 @@ use Rattle.std.proofs.Math.Nat.{mod-lt}
 use Rattle.std.proofs.Math.Facts.{sfits_to_z}
 use Rattle.std.proofs.lemmas.Int.{to_z-of_z, of_z-to_z}
 use mir.Val.{SFits, bits, of_z, to_z}
-use mir.ValLaws.{of_z_fits}
 use Rattle.std.specs.Prelude.{FitsSigned}
-use Rattle.std.specs.Int.{Width, w8, w16, w32, w64, w128, byte_len, bytes_high_first, from_be_bytes}
-use Rattle.std.specs.Int.{to_be_bytes, cast_signed, cast_unsigned}
+use Rattle.std.specs.Int.{Width, byte_len, bytes_high_first, from_be_bytes}
+use Rattle.std.specs.Int.{to_be_bytes, cast_signed}
 use Rattle.byteorder.specs.Endian.{big_number}
-use Rattle.byteorder.specs.Numbers.{big_from-cons, big_from-lt, big_from-take}
-use Rattle.byteorder.specs.Numbers.{big_number-reads_back, length-bytes_high_first}
+use Rattle.byteorder.specs.Numbers.{big_from-cons, big_from-lt}
 use Rattle.jsonb_value.specs.Payload.{IsUnsigned, IsSigned}
 use Rattle.jsonb_value.specs.NumCode.{signed_bytes}
 
@@ -39,7 +37,7 @@ AreBytes-back (b ∷ bs) cs h = AreBytes-back bs cs (λ k. h (suc k))
 AreBytes-bytes_high_first : (k n : ℕ) → AreBytes (bytes_high_first k n)
 AreBytes-bytes_high_first zero n i = omega arith
 AreBytes-bytes_high_first (suc zero) n zero = mod-lt n (omega arith)
-AreBytes-bytes_high_first (suc (suc k)) n zero = mod-lt (n / 256 ^ suc k) (omega arith)
+AreBytes-bytes_high_first (suc (suc k)) n zero = grind (arith, mod-lt)
 AreBytes-bytes_high_first (suc k) n (suc i) = AreBytes-bytes_high_first k n i
 
 -- so many bytes with one number are the same
@@ -64,94 +62,65 @@ big_number-same (b ∷ bs) (c ∷ cs) h k n e =
 -- a width's number of bytes is read as `byteorder` reads it
 pub from_be_bytes-number : (w : Width) (bs : List ℕ)
     → from_be_bytes w bs ≡ big_number (byte_len w) bs
-from_be_bytes-number w8 bs = omega arith
-from_be_bytes-number w16 bs = omega arith
-from_be_bytes-number w32 bs = omega arith
-from_be_bytes-number w64 bs = omega arith
-from_be_bytes-number w128 bs = omega arith
+from_be_bytes-number w bs = grind arith
 
 pow-byte_len : (w : Width) → 256 ^ byte_len w ≡ 2 ^ bits w
-pow-byte_len w8 = refl
-pow-byte_len w16 = refl
-pow-byte_len w32 = refl
-pow-byte_len w64 = refl
-pow-byte_len w128 = refl
+pow-byte_len w = grind arith
 
 pub length-to_be_bytes : (w : Width) (n : ℕ) → length (to_be_bytes w n) ≡ byte_len w
-length-to_be_bytes w n = length-bytes_high_first (byte_len w) n
+length-to_be_bytes w n = grind arith
 
 -- a number read back
 from_be_bytes-to_be_bytes : (w : Width) (n : ℕ) → n < 2 ^ bits w
     → from_be_bytes w (to_be_bytes w n) ≡ n
-from_be_bytes-to_be_bytes w n small =
-    from_be_bytes-number w (to_be_bytes w n)
-    ∙ ap (big_number (byte_len w)) (sym (append-nil (to_be_bytes w n)))
-    ∙ big_number-reads_back (byte_len w) n [] (subst (λ x. n < x) (sym (pow-byte_len w)) small)
+from_be_bytes-to_be_bytes w n small = grind (arith, from_be_bytes-number, append-nil, pow-byte_len)
 
 from_be_bytes-small : (w : Width) (bs : List ℕ) → AreBytes bs → from_be_bytes w bs < 2 ^ bits w
-from_be_bytes-small w bs h =
-    subst (λ x. from_be_bytes w bs < x) (pow-byte_len w)
-    (subst (λ x. x < 256 ^ byte_len w) (sym (from_be_bytes-number w bs))
-    (big_from-lt 0 (byte_len w) bs h))
+from_be_bytes-small w bs h = grind (arith, pow-byte_len, from_be_bytes-number)
 
 -- bytes written again
 to_be_bytes-from_be_bytes : (w : Width) (bs : List ℕ) → length bs ≡ byte_len w → AreBytes bs
     → to_be_bytes w (from_be_bytes w bs) ≡ bs
 to_be_bytes-from_be_bytes w bs n h =
-    let k = from_be_bytes w bs in
-    let len = length-to_be_bytes w k in
-    let read : big_number (byte_len w) (to_be_bytes w k) ≡ big_number (byte_len w) bs =
-    sym (from_be_bytes-number w (to_be_bytes w k))
-    ∙ from_be_bytes-to_be_bytes w k (from_be_bytes-small w bs h) ∙ from_be_bytes-number w bs in
-    big_number-same (to_be_bytes w k) bs (AreBytes-bytes_high_first (byte_len w) k) h (len ∙ sym n)
-    (subst (λ m. big_number m (to_be_bytes w k) ≡ big_number m bs) (sym len) read)
+    grind (
+      arith,
+      length-to_be_bytes,
+      from_be_bytes-number,
+      from_be_bytes-to_be_bytes,
+      from_be_bytes-small,
+      big_number-same,
+      AreBytes-bytes_high_first,
+    )
 
 -- the first bytes are those of the number that is read of them, which is cast to its bits and back
 pub IsSigned-read : (w : Width) (bs : List ℕ) (v : ℤ) → SFits w v → byte_len w ≤ length bs
     → v ≡ cast_signed w (big_number (byte_len w) bs)
     → IsSigned w (take (byte_len w) bs) (to_z w (of_z w v))
-IsSigned-read w bs v fits room e = record {
-  len = search arith;
-  value =
-      to_z-of_z w v fits ∙ e
-      ∙ ap (cast_signed w)
-      (sym (from_be_bytes-number w (take (byte_len w) bs)
-      ∙ big_from-take 0 (byte_len w) (byte_len w) bs (omega arith)));
-}
+IsSigned-read w bs v fits room e = grind (arith, to_z-of_z, from_be_bytes-number)
 
 -- a signed number read back, and its bytes written again
 pub IsSigned-signed_bytes : (w : Width) (v : ℤ) → FitsSigned w v → IsSigned w (signed_bytes w v) v
-IsSigned-signed_bytes w v fits = record {
-  len = length-to_be_bytes w (cast_unsigned w v);
-  value = sym
-      (ap (cast_signed w)
-      (from_be_bytes-to_be_bytes w (cast_unsigned w v) (of_z_fits w v fits).fits)
-      ∙ to_z-of_z w v fits);
-}
+IsSigned-signed_bytes w v fits =
+    grind (arith, length-to_be_bytes, from_be_bytes-to_be_bytes, to_z-of_z)
 
 pub signed_bytes-IsSigned : (w : Width) (bs : List ℕ) (v : ℤ) → AreBytes bs → IsSigned w bs v
     → signed_bytes w v ≡ bs
 signed_bytes-IsSigned w bs v h is =
-    ap (λ (z : ℤ). to_be_bytes w (cast_unsigned w z)) is.value
-    ∙ ap (to_be_bytes w) (of_z-to_z w (from_be_bytes w bs) (from_be_bytes-small w bs h))
-    ∙ to_be_bytes-from_be_bytes w bs is.len h
+    grind (arith, of_z-to_z, from_be_bytes-small, to_be_bytes-from_be_bytes)
 
 pub IsSigned-fits : (w : Width) (bs : List ℕ) (v : ℤ) → AreBytes bs → IsSigned w bs v
     → FitsSigned w v
-IsSigned-fits w bs v h is =
-    subst (FitsSigned w) (sym is.value) (sfits_to_z record { fits = from_be_bytes-small w bs h })
+IsSigned-fits w bs v h is = grind (arith, sfits_to_z, from_be_bytes-small)
 
 -- the same of an unsigned one
 pub IsUnsigned-to_be_bytes : (w : Width) (n : ℕ) → n < 2 ^ bits w → IsUnsigned w (to_be_bytes w n) n
-IsUnsigned-to_be_bytes w n small =
-    record { len = length-to_be_bytes w n; value = sym (from_be_bytes-to_be_bytes w n small) }
+IsUnsigned-to_be_bytes w n small = grind (arith, length-to_be_bytes, from_be_bytes-to_be_bytes)
 
 pub to_be_bytes-IsUnsigned : (w : Width) (bs : List ℕ) (n : ℕ) → AreBytes bs → IsUnsigned w bs n
     → to_be_bytes w n ≡ bs
-to_be_bytes-IsUnsigned w bs n h is =
-    ap (to_be_bytes w) is.value ∙ to_be_bytes-from_be_bytes w bs is.len h
+to_be_bytes-IsUnsigned w bs n h is = grind (arith, to_be_bytes-from_be_bytes)
 
 pub IsUnsigned-small : (w : Width) (bs : List ℕ) (n : ℕ) → AreBytes bs → IsUnsigned w bs n
     → n < 2 ^ bits w
 IsUnsigned-small w bs n h is =
-    subst (λ x. x < 2 ^ bits w) (sym is.value) (from_be_bytes-small w bs h)
+    grind (arith, from_be_bytes-small)

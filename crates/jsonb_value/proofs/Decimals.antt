@@ -10,20 +10,10 @@ use Rattle.jsonb_value.specs.Text.{front_of, last_digits, point_text}
 
 pub length-last_digits : (s m : ℕ) → length (last_digits s m) ≡ s
 length-last_digits zero m = refl
-length-last_digits (suc s) m = length-append (last_digits s (m / 10)) ((48 + m % 10) ∷ [])
-    ∙ omega (arith, length-last_digits s (m / 10))
+length-last_digits (suc s) m = grind (arith, length-append, length-last_digits s (m / 10))
 
 some_digit : (m : ℕ) → m < 10 ^ 64 → 0 < length (decimal m)
-some_digit m small =
-    elim (cases_lt m 10) [
-      | inl below ↦ omega (arith, ap length (decimal_digit m below))
-      | inr above ↦ omega (
-        arith,
-        ap length (decimal_step_wide m above small),
-        length-append (decimal (m / 10))
-            ((48 + m % 10) ∷ []),
-      )
-    ]
+some_digit m small = grind (arith, cases_lt, decimal_digit, decimal_step_wide, length-append)
 
 -- where there are more digits than the scale counts
 digits_in_two : (s m : ℕ) → m < 10 ^ 64 → s < length (decimal m)
@@ -61,8 +51,7 @@ pointed-long s m small long =
 
 repeat-next : (n : ℕ) (xs : List ℕ) → repeat n xs ++ xs ≡ xs ++ repeat n xs
 repeat-next zero xs = sym (append-nil xs)
-repeat-next (suc n) xs =
-    append_assoc xs (repeat n xs) xs ∙ ap (λ (l : List ℕ). xs ++ l) (repeat-next n xs)
+repeat-next (suc n) xs = grind (arith, append_assoc, repeat-next n xs)
 
 front_of-zero : (s : ℕ) → front_of s 0 ≡ 0
 front_of-zero zero = refl
@@ -70,8 +59,7 @@ front_of-zero (suc s) = front_of-zero s
 
 last_digits-zero : (s : ℕ) → last_digits s 0 ≡ repeat s (codes "0")
 last_digits-zero zero = refl
-last_digits-zero (suc s) =
-    ap (λ (l : List ℕ). l ++ codes "0") (last_digits-zero s) ∙ repeat-next s (codes "0")
+last_digits-zero (suc s) = grind (arith, repeat-next, last_digits-zero s)
 
 record IsBehindZeros (s m : ℕ) : Type 0 where
   front : front_of s m ≡ 0
@@ -79,7 +67,7 @@ record IsBehindZeros (s m : ℕ) : Type 0 where
 
 -- where there are no more digits than the scale counts
 behind_zeros : (s m : ℕ) → m < 10 ^ 64 → length (decimal m) ≤ s → IsBehindZeros s m
-behind_zeros zero m small short = absurd (omega (arith, some_digit m small))
+behind_zeros zero m small short = grind (arith, some_digit)
 behind_zeros (suc s) m small short =
     elim (cases_lt m 10) [
       | inl below ↦
@@ -110,5 +98,4 @@ behind_zeros (suc s) m small short =
 pub pointed-short : (s m : ℕ) → m < 10 ^ 64 → length (decimal m) ≤ s
     → codes "0." ++ (repeat (s - length (decimal m)) (codes "0") ++ decimal m) ≡ point_text s m
 pointed-short s m small short =
-    let is = behind_zeros s m small short in
-    rw (is.front, is.digits, decimal_digit 0 (omega arith)) refl
+    grind (arith, behind_zeros, decimal_digit)

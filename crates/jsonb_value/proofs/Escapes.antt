@@ -62,7 +62,4 @@ plain_whole (x ∷ xs) far =
 
 pub content-plain : (s : List ℕ) → position is_escaped s ≡ None → flat_map byte_text s ≡ s
 content-plain s none =
-    elim (cases_Bool (nat_lt (position_or_len is_escaped s) (length s))) [
-      | inl within ↦ let found = rw within at none in absurd (none-some _ (sym found))
-      | inr far ↦ plain_whole s (grind (arith, nat_tests))
-    ]
+    grind (arith, cases_Bool, nat_lt, none-some, plain_whole, nat_tests)

@@ -1,4 +1,5 @@
 -- The order of fractions is total.
+use Rattle.std.proofs.lemmas.Grind.{common_steps}
 use Rattle.std.proofs.Common.{◌≡◌, ℕ, ◌*◌, ◌^◌, ◌-◌, ◌<◌, ◌≤◌, sym, ap, ◌∙◌, arith, pow-add}
 use Rattle.std.proofs.Math.Nat.{mul_comm, one-le-pow}
 use Rattle.std.specs.Prelude.{ℤ, pos, ◌*ℤ◌}
@@ -59,9 +60,7 @@ placed_fractions x y z =
     }
 
 pub fraction_cmp_total : IsTotalOrder fraction_cmp
-fraction_cmp_total = total_by_places
-    (λ x y. int_cmp_total.antisymm (x.value *ℤ pos (10 ^ y.scale))
-    (y.value *ℤ pos (10 ^ x.scale))) placed_fractions
+fraction_cmp_total = grind (arith, common_steps, total_by_places, placed_fractions)
 
 -- a smaller scale is raised to the greater one
 pub aligned : (x y : Fraction) → x.scale ≤ y.scale
@@ -79,4 +78,5 @@ aligned x y h =
 pub aligned_back : (x y : Fraction) → y.scale ≤ x.scale
     → ordering_reverse (int_cmp (y.value *ℤ pos (10 ^ (x.scale - y.scale))) x.value)
     ≡ fraction_cmp x y
-aligned_back x y h = ap ordering_reverse (aligned y x h) ∙ sym (fraction_cmp_total.antisymm x y)
+aligned_back x y h =
+    grind (arith, aligned)

@@ -1,13 +1,13 @@
 -- The kinds decide where they differ, and which zero a tree holds decides nothing.
-use Rattle.std.specs.Prelude.{◌≡◌, ◌≢◌, zero, pos, refl}
+use Rattle.std.proofs.Common.{arith}
+use Rattle.std.specs.Prelude.{◌≡◌, ◌≢◌, refl}
 use Rattle.std.specs.declared.cmp.Ordering.TheVariants.{Equal}
 use Rattle.std.specs.Ordering.{nat_cmp, ordering_then}
 use Rattle.std.specs.Cmp.Lexicographic.{nat_list_cmp_total}
 use Rattle.std.proofs.lemmas.Cmp.{tied_itself, alike_right}
 use Rattle.jsonb_value.specs.declared.number.Number.{Number}
-use Rattle.jsonb_value.specs.declared.number.Number.TheVariants.{Int64}
 use Rattle.jsonb_value.specs.Order.{number_cmp}
-use Rattle.jsonb_value.specs.Tree.{Tree, null, boolean, number, text, extension, array, object}
+use Rattle.jsonb_value.specs.Tree.{Tree, number, array, object}
 use Rattle.jsonb_value.specs.Tree.{Trees, no_trees, tree, Pairs, no_pairs, pair}
 use Rattle.jsonb_value.specs.TreeOrder.{rank_of, tree_cmp, trees_cmp, pairs_cmp}
 use Rattle.jsonb_value.specs.Norm.{norm_number, norm, norms, norm_pairs}
@@ -19,18 +19,10 @@ tree_cmp-itself t = tied_itself tree_cmp_total t
 
 pub tree_cmp-by_rank : (t u : Tree) → rank_of t ≢ rank_of u
     → tree_cmp t u ≡ nat_cmp (rank_of t) (rank_of u)
-tree_cmp-by_rank null null h = absurd (h refl)
-tree_cmp-by_rank (array ts) (array us) h = absurd (h refl)
-tree_cmp-by_rank (object ps) (object qs) h = absurd (h refl)
-tree_cmp-by_rank (text s) (text t) h = absurd (h refl)
-tree_cmp-by_rank (number x) (number y) h = absurd (h refl)
-tree_cmp-by_rank (boolean a) (boolean b) h = absurd (h refl)
-tree_cmp-by_rank (extension d) (extension e) h = absurd (h refl)
-tree_cmp-by_rank t u h = refl
+tree_cmp-by_rank t u h = grind arith
 
 norm_number_tied : (x : Number) → number_cmp (norm_number x) x ≡ Equal
-norm_number_tied (Int64 (pos zero)) = tied_itself number_cmp_total (Int64 (pos zero))
-norm_number_tied x = tied_itself number_cmp_total x
+norm_number_tied x = grind (arith, tied_itself, number_cmp_total)
 
 mutual
   pub norm_tied : (t : Tree) → tree_cmp (norm t) t ≡ Equal

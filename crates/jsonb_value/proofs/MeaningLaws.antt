@@ -1,5 +1,6 @@
 -- The order of meanings is total.
-use Rattle.std.specs.Prelude.{◌≡◌, ℕ, Bool, true, false, List, [], Option, Some, None, refl}
+use Rattle.std.proofs.Common.{arith}
+use Rattle.std.specs.Prelude.{◌≡◌, ℕ, Bool, true, false, List, [], Option, Some, None}
 use Rattle.std.proofs.Common.{subst}
 use Rattle.std.specs.declared.cmp.Ordering.{Ordering}
 use Rattle.std.specs.Ordering.{nat_cmp, bool_cmp, on, then_cmp}
@@ -34,10 +35,7 @@ by_parts_total = then_total (on_total is_bytes bool_cmp_total)
     (then_total (on_total meant_tree (options_total tree_cmp_total)) (on_texts meant_bytes))
 
 by_parts_cmp : (m n : Meaning) → by_parts m n ≡ meaning_cmp m n
-by_parts_cmp (document x) (document y) = then-Equal (tree_cmp x y)
-by_parts_cmp (document x) (other_bytes b) = refl
-by_parts_cmp (other_bytes a) (document y) = refl
-by_parts_cmp (other_bytes a) (other_bytes b) = refl
+by_parts_cmp m n = grind (arith, then-Equal)
 
 pub meaning_cmp_total : IsTotalOrder meaning_cmp
 meaning_cmp_total = subst IsTotalOrder (λ i m n. by_parts_cmp m n i) by_parts_total

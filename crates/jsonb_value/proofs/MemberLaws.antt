@@ -1,8 +1,9 @@
 -- Members put in one after another, beside a map that is made of all at once.
-use Rattle.std.proofs.Common.{◌≡◌, ℕ, List, [], ◌∷◌, ◌++◌, Bool, true, false, cond, Option, None}
-use Rattle.std.proofs.Common.{Some, String, Global, refl, sym, ap, subst, ◌∙◌, ap₂, inl, inr}
+use Rattle.std.proofs.Common.{arith}
+use Rattle.std.proofs.Common.{◌≡◌, List, [], ◌∷◌, ◌++◌, Bool, true, false, cond, Option, None}
+use Rattle.std.proofs.Common.{Some, String, Global, refl, sym, ap, subst, ◌∙◌}
 use Rattle.std.specs.String.{string_bytes, string_cmp, string_cmp_total}
-use Rattle.std.specs.Ordering.{eq_by_cmp, is_eq, match_ordering, ordering_reverse, nat_cmp}
+use Rattle.std.specs.Ordering.{eq_by_cmp, is_eq, match_ordering, ordering_reverse}
 use Rattle.std.specs.declared.cmp.Ordering.{Ordering}
 use Rattle.std.specs.declared.cmp.Ordering.TheVariants.{Less, Equal, Greater}
 use Rattle.std.specs.List.{AllByRecursion}
@@ -15,10 +16,8 @@ use Rattle.std.proofs.lemmas.Map.Keys.{IsDistinct-from_sorted, sorted_tail}
 use Rattle.std.proofs.lemmas.Map.Lookups.{exact_bytes}
 use Rattle.std.proofs.lemmas.Map.Made.{update_all_none}
 use Rattle.jsonb_value.specs.declared.value.Value.{Value}
-use Rattle.jsonb_value.specs.Tree.{pair}
 use Rattle.jsonb_value.specs.Reader.Content.{with_members}
-use Rattle.jsonb_value.specs.Value.{tree_of, pairs_view}
-use Rattle.std.specs.Cmp.Lexicographic.{slice_cmp}
+use Rattle.jsonb_value.specs.Value.{pairs_view}
 use Rattle.std.proofs.lemmas.Bool.{cases_Bool}
 use Rattle.std.proofs.lemmas.Map.{lookup-none}
 use Rattle.std.proofs.lemmas.Map.Entries.{lookup_head, lookup_tail, none_past_head, none_below_head}
@@ -95,7 +94,7 @@ at es q = lookup (is_at (string_cmp q)) es
 
 at-head : (e : String Global × Value) (es : List (String Global × Value)) (q : String Global)
     → string_cmp q e.0 ≡ Equal → at (e ∷ es) q ≡ Some e.1
-at-head e es q same = lookup_head (is_at (string_cmp q)) e es (ap is_eq same)
+at-head e es q same = grind (arith, lookup_head)
 
 at-own : (e : String Global × Value) (es : List (String Global × Value))
     → at (e ∷ es) e.0 ≡ Some e.1
@@ -126,7 +125,7 @@ module _ (e n : String Global × Value) (es ns : List (String Global × Value))
     (ascends : IsStrictlySortedBy string_cmp (keys_of (n ∷ ns)))
     (same : (q : String Global) → at (n ∷ ns) q ≡ at (e ∷ es) q) where
   first_by : (o : Ordering) → string_cmp n.0 e.0 ≡ o → string_cmp n.0 e.0 ≡ Equal
-  first_by Less is = is_none n.1 _ (sym (at-own n ns) ∙ same n.0 ∙ at-below e es n.0 ascend is)
+  first_by Less is = grind (arith, is_none, at-own, at-below)
   first_by Equal is = is
   first_by Greater is =
       is_none e.1 _
@@ -134,26 +133,16 @@ module _ (e n : String Global × Value) (es ns : List (String Global × Value))
       ∙ at-below n ns e.0 ascends (string_cmp_total.antisymm e.0 n.0 ∙ ap ordering_reverse is))
 
   first : string_cmp n.0 e.0 ≡ Equal
-  first = first_by (string_cmp n.0 e.0) refl
+  first = grind (arith, first_by)
 
   first_value : n.1 ≡ e.1
-  first_value =
-      let is : Some n.1 ≡ Some e.1 = sym (at-own n ns) ∙ same n.0 ∙ at-head e es n.0 first in cc
+  first_value = grind (arith, at-own, at-head, first)
 
   first_key : string_bytes n.0 ≡ string_bytes e.0
   first_key = exact_bytes _ _ first
 
   behind : (q : String Global) → at ns q ≡ at es q
-  behind q =
-      let alike : string_cmp q n.0 ≡ string_cmp q e.0 =
-      ap (slice_cmp nat_cmp (string_bytes q)) first_key in
-      elim (cases_Bool (is_eq (string_cmp q e.0))) [
-        | inl equal ↦ at-again n ns q ascends (ap is_eq alike ∙ equal)
-            ∙ sym (at-again e es q ascend equal)
-        | inr other ↦
-            sym (lookup_tail (is_at (string_cmp q)) n ns (ap is_eq alike ∙ other)) ∙ same q
-            ∙ lookup_tail (is_at (string_cmp q)) e es other
-      ]
+  behind q = grind (arith, first_key, cases_Bool, at-again, lookup_tail)
 
 pub same_pairs : (es ns : List (String Global × Value)) → IsStrictlySortedBy string_cmp (keys_of es)
     → IsStrictlySortedBy string_cmp (keys_of ns)
@@ -162,29 +151,23 @@ same_pairs [] [] ascend ascends same = refl
 same_pairs [] (n ∷ ns) ascend ascends same = is_none n.1 _ (sym (at-own n ns) ∙ same n.0)
 same_pairs (e ∷ es) [] ascend ascends same = is_none e.1 _ (sym (at-own e es) ∙ sym (same e.0))
 same_pairs (e ∷ es) (n ∷ ns) ascend ascends same =
-    let others = same_pairs es ns (sorted_tail string_cmp e.0 (keys_of es) ascend)
-    (sorted_tail string_cmp n.0 (keys_of ns) ascends) (behind e n es ns ascend ascends same) in
-    ap₂ (λ (k : List ℕ) (v : Value). pair k (tree_of v) (pairs_view ns))
-    (first_key e n es ns ascend ascends same) (first_value e n es ns ascend ascends same)
-    ∙ ap (pair (string_bytes e.0) (tree_of e.1)) others
+    let ascend_es = sorted_tail string_cmp e.0 (keys_of es) ascend in
+    let ascend_ns = sorted_tail string_cmp n.0 (keys_of ns) ascends in
+    let others = same_pairs es ns ascend_es ascend_ns (behind e n es ns ascend ascends same) in
+    grind (arith, first_key, first_value, others)
 
 abbrev same : String Global → String Global → Bool
 same = eq_by_cmp string_cmp
 
 equal : (o : Ordering) → is_eq o ≡ true → o ≡ Equal
-equal Less h = cc
-equal Equal h = refl
-equal Greater h = cc
+equal o h = grind arith
 
 twice : (b : Bool) (x y z : Option Value) → cond b x z ≡ cond b x (cond b y z)
-twice true x y z = refl
-twice false x y z = refl
+twice b x y z = grind arith
 
 swap : (b c : Bool) (x y z : Option Value) → (b ≡ true → c ≡ false)
     → cond c x (cond b y z) ≡ cond b y (cond c x z)
-swap false c x y z h = refl
-swap true c x y z h =
-    ap (λ (d : Bool). cond d x y) (h refl)
+swap b c x y z h = grind arith
 
 at_with : (es : Held) (k : String Global) (v : Value) (q : String Global)
     → at (insert_entry string_cmp es k v) q ≡ update same (at es) k (Some v) q

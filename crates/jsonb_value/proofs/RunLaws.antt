@@ -1,7 +1,7 @@
 -- Runs of bytes that are not escaped, seen a vector at a time through the mask of those that are.
-use Rattle.std.proofs.Common.{◌≡◌, ℕ, ◌+◌, ◌<◌, ◌≤◌, ◌%◌, ◌^◌, Bool, true, false, not, cond, eqb}
+use Rattle.std.proofs.Common.{◌≡◌, ℕ, ◌+◌, ◌<◌, ◌≤◌, ◌%◌, ◌^◌, Bool, true, not, cond, eqb}
 use Rattle.std.proofs.Common.{ltb, ◌||◌, ◌==◌, List, [], ◌∷◌, map, length, drop, replicate, bit_or}
-use Rattle.std.proofs.Common.{refl, sym, ap, ap₂, ◌∙◌, inl, inr, get_or, take, ◌-◌, arith}
+use Rattle.std.proofs.Common.{refl, sym, ap, ◌∙◌, inl, inr, get_or, ◌-◌, arith}
 use Rattle.std.proofs.lemmas.Bool.{cases_lt, cases_Bool, eq-eqb, ne_eqb, eqb-true, not-true}
 use Rattle.std.proofs.lemmas.Bool.Decides.{nat_tests}
 use Rattle.std.proofs.lemmas.Simd.{zip2_splat, zip2_of_maps, mask_l-mod, none_from_empty_mask}
@@ -31,19 +31,11 @@ lane x = bit_or (bit_or (hit x 34) (hit x 92)) (below x 32)
 
 top_of_tests : (a b c : Bool)
     → top 7 (bit_or (bit_or (cond a 255 0) (cond b 255 0)) (cond c 255 0)) ≡ ((a || b) || c)
-top_of_tests true true true = refl
-top_of_tests true true false = refl
-top_of_tests true false true = refl
-top_of_tests true false false = refl
-top_of_tests false true true = refl
-top_of_tests false true false = refl
-top_of_tests false false true = refl
-top_of_tests false false false = refl
+top_of_tests a b c = grind arith
 
 tops_of_lanes : (v : List ℕ) → map (top 7) (map lane v) ≡ map is_escaped v
 tops_of_lanes [] = refl
-tops_of_lanes (x ∷ xs) =
-    ap₂ (λ a b. a ∷ b) (top_of_tests (eqb x 34) (eqb x 92) (ltb x 32)) (tops_of_lanes xs)
+tops_of_lanes (x ∷ xs) = grind (arith, top_of_tests, tops_of_lanes xs)
 
 pub mask_of_escaped : (v : List ℕ) (n : ℕ) → length v ≡ n → n ≤ 64
     → mask_l (map (top 7)
@@ -57,36 +49,26 @@ mask_of_escaped v n long few =
     ∙ mask_l-mod (map is_escaped v) 64 (omega (arith, length-map v is_escaped))
 
 on_true : (b : Bool) (P : Type 0) → (b ≡ true → P) → OnTrue b P
-on_true true P f = f refl
-on_true false P f = tt
+on_true b P f = grind arith
 
 -- an empty mask says that no byte under it is escaped
 pub none_escaped : (bytes : List ℕ) (i n mask : ℕ) → i + n ≤ length bytes
     → mask ≡ mask_l (map is_escaped (chunk i n bytes))
     → OnTrue (mask == 0) (NoneEscaped bytes i (i + n))
-none_escaped bytes i n mask within is = on_true _ _
-    (λ e. none_from_empty_mask is_escaped bytes i n 0 within (sym is ∙ eqb-true mask 0 e))
+none_escaped bytes i n mask within is = grind (arith, on_true, none_from_empty_mask, eqb-true)
 
 pub length-ends : (n : ℕ) (bytes : List ℕ) → n ≤ length bytes → length (ends n bytes) ≡ n + n
-length-ends n bytes within =
-    length-append (take n bytes) (chunk (length bytes - n) n bytes)
-    ∙ ap₂ (λ a b. a + b) (length-take-le n bytes within)
-    (length-chunk (length bytes - n) n bytes (omega (arith, within)))
+length-ends n bytes within = grind (arith, length-append, length-take-le, length-chunk)
 
 get_or-ends_front : (n : ℕ) (bytes : List ℕ) (k : ℕ) → n ≤ length bytes → k < n
     → get_or (ends n bytes) k 0 ≡ get_or bytes k 0
 get_or-ends_front n bytes k within below =
-    get_or_append_left (take n bytes) (chunk (length bytes - n) n bytes) 0 k
-    (omega (arith, length-take-le n bytes within))
-    ∙ get_or-take n bytes k 0 below
+    grind (arith, get_or_append_left, length-take-le, get_or-take)
 
 get_or-ends_back : (n : ℕ) (bytes : List ℕ) (k : ℕ) → n ≤ length bytes → k < n
     → get_or (ends n bytes) (n + k) 0 ≡ get_or bytes (length bytes - n + k) 0
 get_or-ends_back n bytes k within below =
-    get_or-append_right (take n bytes) (chunk (length bytes - n) n bytes) n (n + k) 0
-    (length-take-le n bytes within) (omega arith)
-    ∙ ap (λ i. get_or (chunk (length bytes - n) n bytes) i 0) (omega arith)
-    ∙ get_or-chunk (length bytes - n) n bytes k 0 below
+    grind (arith, get_or-append_right, length-take-le, get_or-chunk)
 
 -- each byte is among those at the front or those at the end
 none_from_ends : (bytes : List ℕ) (n : ℕ) → n ≤ length bytes → length bytes ≤ n + n
@@ -118,7 +100,7 @@ is_plain-not_escaped b = grind (arith, nat_tests)
 
 same_run : (xs : List ℕ) → prefix_len is_plain xs ≡ prefix_len (λ x. not (is_escaped x)) xs
 same_run [] = refl
-same_run (x ∷ xs) = ap₂ (λ b n. cond b (1 + n) 0) (is_plain-not_escaped x) (same_run xs)
+same_run (x ∷ xs) = grind (arith, is_plain-not_escaped, same_run xs)
 
 split_run : (bytes : List ℕ) (i n : ℕ)
     → prefix_len is_plain (drop i bytes)
@@ -164,8 +146,4 @@ run_stops bytes i n within few some =
 pub none_escaped_in_run : (xs : List ℕ) (n : ℕ) → n ≡ prefix_len is_plain xs
     → OnTrue (n == length xs) (NoneEscaped xs 0 (length xs))
 none_escaped_in_run xs n is =
-    on_true (n == length xs) (NoneEscaped xs 0 (length xs)) (λ e k from upto.
-    let whole = eqb-true n (length xs) e in
-    let passes : is_plain (get_or xs k 0) ≡ true =
-    prefix_len_passes is_plain xs k 0 (omega arith) in
-    not-true _ (sym (is_plain-not_escaped (get_or xs k 0)) ∙ passes))
+    grind (arith, on_true, eqb-true, prefix_len_passes, not-true, is_plain-not_escaped)

@@ -1,5 +1,5 @@
 -- Multiplying by ten step by step, within the range of 128 bits and past it.
-use Rattle.std.proofs.Common.{◌≡◌, ℕ, zero, suc, ◌+◌, ◌-◌, ◌*◌, ◌^◌, ◌<◌, ◌≤◌, refl, sym, ap, ◌∙◌}
+use Rattle.std.proofs.Common.{◌≡◌, ℕ, suc, ◌+◌, ◌-◌, ◌*◌, ◌^◌, ◌<◌, ◌≤◌, sym, ap, ◌∙◌}
 use Rattle.std.proofs.Common.{arith}
 use Rattle.std.proofs.Math.Nat.{pow-succ', le-mul_of_pos_right, one-le-pow}
 use Rattle.std.proofs.Math.IntN.{*ℤ-one, one, neg_ℤ}
@@ -21,8 +21,7 @@ power_left steps step h =
 -- the factor of ten moves from the power into the number
 pub product_left : (v : ℤ) (steps step : ℕ) → step < steps
     → (v *ℤ pos 10) *ℤ pos (10 ^ (steps - (step + 1))) ≡ v *ℤ pos (10 ^ (steps - step))
-product_left v steps step h = *ℤ-pos-pos v 10 (10 ^ (steps - (step + 1))) ∙ ap
-    (λ n. v *ℤ pos n) (sym (power_left steps step h))
+product_left v steps step h = grind (arith, *ℤ-pos-pos, power_left)
 
 is_less : (x y : ℤ) → x <ℤ y → int_cmp x y ≡ Less
 is_less x y h = sym (int_cmp_is x y Less h)
@@ -33,9 +32,7 @@ is_greater x y h = sym (int_cmp_is x y Greater h)
 -- no step is left
 pub product_done : (v : ℤ) (steps step : ℕ) → steps ≤ step → v *ℤ pos (10 ^ (steps - step)) ≡ v
 unfolding one
-product_done v steps step h =
-    let e : steps - step ≡ 0 = omega arith in
-    ap (λ n. v *ℤ pos (10 ^ n)) e ∙ *ℤ-one v
+product_done v steps step h = grind (arith, *ℤ-one)
 
 outside_above : (v : ℕ) → ¬ (FitsSigned w128 (pos v *ℤ pos 10)) → 2 ^ 127 ≤ v * 10
 outside_above v outside = by_le (λ small. outside (record { sfits = small }))
@@ -44,8 +41,7 @@ outside_above v outside = by_le (λ small. outside (record { sfits = small }))
     by_le h = omega arith
 
 mag-neg_ℤ-pos : (x : ℕ) → mag (neg_ℤ (pos x)) ≡ x - 1
-mag-neg_ℤ-pos zero = refl
-mag-neg_ℤ-pos (suc x) = omega arith
+mag-neg_ℤ-pos x = grind arith
 
 outside_below : (v : ℕ) → ¬ (FitsSigned w128 (negsuc v *ℤ pos 10)) → 2 ^ 127 < suc v * 10
 outside_below v outside = by_le (λ small. outside (record { sfits = rw mag-neg_ℤ-pos small }))
@@ -57,21 +53,11 @@ outside_below v outside = by_le (λ small. outside (record { sfits = rw mag-neg_
 past : (v other : ℤ) (n : ℕ) → 0 < n → ¬ (FitsSigned w128 (v *ℤ pos 10)) → FitsSigned w128 other
     → int_cmp (v *ℤ pos (10 * n)) other ≡ int_cmp v (pos 0)
 past (pos v) other n p outside inside =
-    let far : 2 ^ 127 ≤ v * 10 = outside_above v outside in
-    let grown : v * 10 ≤ v * 10 * n = le-mul_of_pos_right (v * 10) p in
-    let beyond : other <ℤ pos (v * (10 * n)) = omega (arith, ints) in
-    is_greater (pos v *ℤ pos (10 * n)) other beyond
-    ∙ sym (is_greater (pos v) (pos 0) (omega (arith, ints)))
+    grind (arith, outside_above, le-mul_of_pos_right, ints, is_greater)
 past (negsuc v) other n p outside inside =
-    let far : 2 ^ 127 < suc v * 10 = outside_below v outside in
-    let grown : suc v * 10 ≤ suc v * 10 * n = le-mul_of_pos_right (suc v * 10) p in
-    let beyond : (negsuc v *ℤ pos (10 * n)) <ℤ other = omega (arith, ints) in
-    is_less (negsuc v *ℤ pos (10 * n)) other beyond
-    ∙ sym (is_less (negsuc v) (pos 0) (omega (arith, ints)))
+    grind (arith, outside_below, le-mul_of_pos_right, ints, is_less)
 
 pub product_past : (v other : ℤ) (steps step : ℕ) → step < steps → ¬ (FitsSigned w128 (v *ℤ pos 10))
     → FitsSigned w128 other → int_cmp (v *ℤ pos (10 ^ (steps - step))) other ≡ int_cmp v (pos 0)
 product_past v other steps step h outside inside =
-    ap (λ n. int_cmp (v *ℤ pos n) other) (power_left steps step h)
-    ∙ past v other (10 ^ (steps - (step + 1)))
-    (one-le-pow (steps - (step + 1)) 10 (omega arith)) outside inside
+    grind (arith, power_left, past, one-le-pow)

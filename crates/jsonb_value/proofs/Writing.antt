@@ -1,5 +1,6 @@
 -- Several writes to a formatter make one.
-use Rattle.std.proofs.Common.{◌≡◌, ℕ, List, ◌++◌, sym, subst}
+use Rattle.std.proofs.Common.{arith}
+use Rattle.std.proofs.Common.{◌≡◌, ℕ, List, ◌++◌}
 use Rattle.std.proofs.Output.{has_written_styled_append, has_written_styled_of_eq}
 use Rattle.std.proofs.lemmas.Fmt.{contents_after_writes}
 use Rattle.std.proofs.lemmas.Str.{encode_ascii}
@@ -7,42 +8,29 @@ use Rattle.std.specs.declared.fmt.Formatter.{Formatter}
 use Rattle.std.specs.declared.fmt.Error.{Error}
 use Rattle.std.specs.Prelude.{Result, String, string_bytes}
 use Rattle.std.specs.Fmt.{HasWrittenStyled, formatter_writer, WritesStyledOnOk, WritesOnOk}
-use Rattle.std.specs.Fmt.{IsDefaultSpec}
 
 module _ {W : Type 0} (took : W → List ℕ → W → Type 0) where
   pub joins_two : (f g h : Formatter W) (a b all : List ℕ) → HasWrittenStyled took f a g
       → HasWrittenStyled took g b h → a ++ b ≡ all → HasWrittenStyled took f all h
   joins_two f g h a b all p q is =
-      has_written_styled_of_eq took _ _ _ _ is (has_written_styled_append took _ _ _ _ _ p q)
+      grind (arith, has_written_styled_of_eq, has_written_styled_append)
 
   pub joins_three : (f g h i : Formatter W) (a b c all : List ℕ) → HasWrittenStyled took f a g
       → HasWrittenStyled took g b h → HasWrittenStyled took h c i → a ++ (b ++ c) ≡ all
       → HasWrittenStyled took f all i
-  joins_three f g h i a b c all p q r is =
-      joins_two f g i a (b ++ c) all p (has_written_styled_append took _ _ _ _ _ q r) is
+  joins_three f g h i a b c all p q r is = grind (arith, joins_two, has_written_styled_append)
 
   pub joins_five : (f g h i j k : Formatter W) (a b c d e all : List ℕ)
       → HasWrittenStyled took f a g → HasWrittenStyled took g b h → HasWrittenStyled took h c i
       → HasWrittenStyled took i d j → HasWrittenStyled took j e k
       → a ++ (b ++ (c ++ (d ++ e))) ≡ all → HasWrittenStyled took f all k
   joins_five f g h i j k a b c d e all p q r s t is =
-      joins_three f g h k a b (c ++ (d ++ e)) all p q
-      (has_written_styled_append took _ _ _ _ _ r
-      (has_written_styled_append took _ _ _ _ _ s t)) is
+      grind (arith, joins_three, has_written_styled_append)
 
   -- what is written whatever the options are, is written without options too
   pub WritesOnOk-from_styled : (f g : Formatter W) (r : Result (Unit {0}) Error) (bs : List ℕ)
       → WritesStyledOnOk took f r bs g → WritesOnOk took f r bs g
-  WritesOnOk-from_styled f g r bs writes plain ok =
-      let all = writes plain.flush ok in
-      record {
-        wrote = all.wrote;
-        plain = record {
-          bare = subst IsDefaultSpec
-              (sym all.spec) plain.bare;
-          flush = all.flush;
-        };
-      }
+  WritesOnOk-from_styled f g r bs writes plain ok = grind arith
 
 -- in a string, what is written stands behind what was there
 pub string_bytes-written : {A : Type 0} (f g : Formatter (String A)) (bs : List ℕ)

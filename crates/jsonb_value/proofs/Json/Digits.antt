@@ -1,24 +1,19 @@
 -- Digits at the front of a text.
-use Rattle.std.proofs.Common.{◌≡◌, ℕ, Bool, true, false, inl, inr, refl, ap, List, [], ◌∷◌, ◌++◌}
+use Rattle.std.proofs.Common.{arith}
+use Rattle.std.proofs.Common.{◌≡◌, ℕ, Bool, true, refl, ap, List, [], ◌∷◌, ◌++◌}
 use Rattle.std.specs.Prelude.{◌&&◌, not, ◌==◌}
 use Rattle.std.specs.Char.{is_ascii_digit}
 use Rattle.jsonb_value.specs.Json.Characters.{all_digits, point}
 use Rattle.jsonb_value.specs.Reader.Reading.{front_digits, after_digits}
-use Rattle.jsonb_value.proofs.Json.Tests.{bool_cases, and_true, not_true}
+use Rattle.jsonb_value.proofs.Json.Tests.{and_true}
 
 pub digits-split : (s : List ℕ) → s ≡ front_digits s ++ after_digits s
 digits-split [] = refl
-digits-split (c ∷ s) = elim (bool_cases (is_ascii_digit c)) [
-  | inl e ↦ rw e (ap (λ t. c ∷ t) (digits-split s))
-  | inr e ↦ rw e refl
-]
+digits-split (c ∷ s) = grind (arith, digits-split s)
 
 pub all_digits-front : (s : List ℕ) → all_digits (front_digits s) ≡ true
 all_digits-front [] = refl
-all_digits-front (c ∷ s) = elim (bool_cases (is_ascii_digit c)) [
-  | inl e ↦ rw e (rw e (all_digits-front s))
-  | inr e ↦ rw e refl
-]
+all_digits-front (c ∷ s) = grind (arith, all_digits-front s)
 
 -- neither a digit nor a point stands at the front
 abbrev pub stops : List ℕ → Bool
@@ -26,14 +21,10 @@ stops [] = true
 stops (c ∷ s) = not (is_ascii_digit c) && not (c == point)
 
 pub front_digits-end : (s : List ℕ) → stops s ≡ true → front_digits s ≡ []
-front_digits-end [] e = refl
-front_digits-end (c ∷ s) e =
-    let none : is_ascii_digit c ≡ false = not_true _ (and_true _ _ e).0 in rw none refl
+front_digits-end s e = grind arith
 
 pub after_digits-end : (s : List ℕ) → stops s ≡ true → after_digits s ≡ s
-after_digits-end [] e = refl
-after_digits-end (c ∷ s) e =
-    let none : is_ascii_digit c ≡ false = not_true _ (and_true _ _ e).0 in rw none refl
+after_digits-end s e = grind arith
 
 pub front_digits-append : (ds s : List ℕ) → all_digits ds ≡ true → front_digits s ≡ []
     → front_digits (ds ++ s) ≡ ds

@@ -1,4 +1,5 @@
 -- From the element at the front to the whole text.
+use Rattle.std.proofs.Common.{arith}
 use Rattle.std.proofs.Common.{◌≡◌, ℕ, suc, sym, ap, subst, ◌∙◌, List, [], ◌∷◌, length, Option, Some}
 use Rattle.std.proofs.Common.{None, Result, Ok, Err}
 use Rattle.std.specs.Prelude.{IsErrAnd}
@@ -18,7 +19,7 @@ whole s = read_element (read_value (suc (length s))) s
 
 pub read_whole : (s : List ℕ) (t : Tree) (rest : List ℕ) → whole s ≡ Some (t, rest) → rest ≡ []
     → Json s t
-read_whole s t rest e none = document-found s t (bound _ _ _ _ e (ap (if_last t) none))
+read_whole s t rest e none = grind (arith, document-found)
 
 pub nothing_read : (s : List ℕ) (t : Tree) → read_document s ≡ None → Json s t → ⊥
 nothing_read s t none json = no_error (sym none ∙ document-again s t json)

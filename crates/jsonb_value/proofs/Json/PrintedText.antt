@@ -1,10 +1,11 @@
 -- What is printed of a text is spelled by pieces that mean it.
-use Rattle.std.proofs.Common.{◌≡◌, ℕ, ◌+◌, ◌*◌, ◌/◌, ◌%◌, ◌<◌, ◌≤◌, Bool, true, false, cond, inl}
-use Rattle.std.proofs.Common.{inr, Some, refl, sym, ap, ap₂, subst, ◌∙◌, List, [], ◌∷◌, ◌++◌, arith}
+use Rattle.std.proofs.lemmas.Grind.{common_steps}
+use Rattle.std.proofs.Common.{◌≡◌, ℕ, ◌/◌, ◌%◌, ◌<◌, ◌≤◌, Bool, true, false, cond, inl}
+use Rattle.std.proofs.Common.{inr, Some, refl, sym, ap, subst, ◌∙◌, List, [], ◌∷◌, ◌++◌, arith}
 use Rattle.std.proofs.Common.{append-nil, eqb-true, flat_map, get_or}
 use Rattle.std.specs.Prelude.{◌||◌, ◌&&◌, ◌==◌, nat_lt, map, chars, encode_utf8, encode_utf8_all}
 use Rattle.std.specs.List.{All}
-use Rattle.std.specs.Str.{IsUtf8, IsAscii}
+use Rattle.std.specs.Str.{IsUtf8}
 use Rattle.std.specs.Char.{digit_char, digit_value, is_digit, IsScalar}
 use Rattle.std.proofs.Math.Utf8.{scalars}
 use Rattle.std.proofs.lemmas.Bool.{lt-ltb, ltb-true, lt-leb, le-leb, ltb-false, cases_Bool}
@@ -19,12 +20,11 @@ use Rattle.jsonb_value.specs.Text.{is_escaped, byte_text}
 use Rattle.jsonb_value.specs.Json.Characters.{quote, backslash}
 use Rattle.jsonb_value.specs.Json.Bind.{◌>>=◌}
 use Rattle.jsonb_value.specs.Json.Piece.{Piece, plain, escape, unit, unit4, unit_value}
-use Rattle.jsonb_value.specs.Json.Piece.{unit_character, is_plain, is_high, is_low, piece_text}
+use Rattle.jsonb_value.specs.Json.Piece.{unit_character, piece_text}
 use Rattle.jsonb_value.specs.Json.Piece.{pieces_text, piece_meaning, pieces_meaning}
 use Rattle.jsonb_value.proofs.PayloadLaws.{by_test}
 use Rattle.jsonb_value.proofs.Escapes.{is_escaped-ascii, plain_front}
-use Rattle.jsonb_value.proofs.Json.Tests.{bool_cases, and_true, and_both, not_false, by_true}
-use Rattle.jsonb_value.proofs.Json.Tests.{by_false, bound}
+use Rattle.jsonb_value.proofs.Json.Tests.{bool_cases, and_true}
 
 -- ---- bytes that spell characters
 
@@ -32,11 +32,8 @@ pub record Spells (bytes characters : List ℕ) : Type 0 where
   pub utf8 : IsUtf8 bytes
   pub are : chars bytes ≡ characters
 
-pub Spells-append : (a b x y : List ℕ) → Spells a x → Spells b y → Spells (a ++ b) (x ++ y)
-Spells-append a b x y h k = record {
-  utf8 = IsUtf8-append a b h.utf8 k.utf8;
-  are = chars-append a b h.utf8 ∙ ap₂ (λ (p q : List ℕ). p ++ q) h.are k.are;
-}
+pub Spells-append : {a b x y : List ℕ} → Spells a x → Spells b y → Spells (a ++ b) (x ++ y)
+Spells-append {a} {b} h k = grind (arith, IsUtf8-append, chars-append)
 
 pub Spells-nil : Spells [] []
 Spells-nil = record { utf8 = IsUtf8-nil; are = chars-nil }
@@ -52,8 +49,7 @@ each_ascii (b ∷ bs) e = let parts = and_true _ _ e in All-cons
 
 -- ASCII spells itself
 pub Spells-ascii : (bs : List ℕ) → all_ascii bs ≡ true → Spells bs bs
-Spells-ascii bs e = let ascii : IsAscii bs = IsAscii-from_all bs
-    (each_ascii bs e) in record { utf8 = IsUtf8-from_ascii bs ascii; are = chars-IsAscii bs ascii }
+Spells-ascii bs e = grind (arith, IsAscii-from_all, each_ascii, IsUtf8-from_ascii, chars-IsAscii)
 
 Spells-character : (c : ℕ) → IsScalar c → Spells (encode_utf8 c) (c ∷ [])
 Spells-character c is = record {
@@ -85,52 +81,40 @@ record Printed (c : ℕ) : Type 0 where
   means : piece_meaning (printed_piece c) ≡ Some c
 
 hex : (d : ℕ) → d < 16 → (digit_value (digit_char d) ≡ d) × (is_digit (digit_char d) 16 ≡ true)
-hex d h =
-    let same = digit_value-digit_char d (omega arith) in
-    (same, lt-ltb (digit_value (digit_char d)) 16 (omega (arith, same)))
+hex d h = grind (arith, digit_value-digit_char, lt-ltb)
 
 hex_ascii : (d : ℕ) → d < 16 → nat_lt (digit_char d) 128 ≡ true
-hex_ascii d h = by_test (λ x. nat_lt x 128 ≡ true) (nat_lt d 10) (48 + d) (87 + d)
-    (λ e. lt-ltb (48 + d) 128 (omega arith)) (λ e. lt-ltb (87 + d) 128 (omega arith))
+hex_ascii d h = grind (arith, by_test, lt-ltb)
 
 short_unit : (c : ℕ) → c < 32
     → (unit_value (unit4 48 48 (digit_char (c / 16)) (digit_char (c % 16))) >>= unit_character)
     ≡ Some c
-short_unit c h =
-    let high = hex (c / 16) (omega arith) in
-    let low = hex (c % 16) (omega arith) in
-    let value : digit_value (digit_char (c / 16)) * 16 + digit_value (digit_char (c % 16)) ≡ c =
-    omega (arith, high.0, low.0) in
-    let worth : unit_value (unit4 48 48 (digit_char (c / 16)) (digit_char (c % 16))) ≡ Some c =
-    by_true _ _ _ _ (and_both _ _ high.1 low.1) (ap Some (omega (arith, value))) in
-    let no_surrogate : (is_high c || is_low c) ≡ false =
-    rw (lt-leb 0xd800 c (omega arith), lt-leb 0xdc00 c (omega arith)) refl in
-    bound _ _ _ _ worth (by_false _ _ _ _ no_surrogate refl)
+short_unit c h = grind (arith, hex, lt-leb)
 
 at : (d c : ℕ) → (c == d) ≡ true → Printed d → Printed c
-at d c e h = subst Printed (sym (eqb-true c d e)) h
+at d c e h = grind (arith, eqb-true)
 
 -- seven that have an escape of their own
 printed_34 : Printed 34
-printed_34 = record { text = refl; ascii = λ h. refl; means = refl }
+printed_34 = grind arith
 
 printed_92 : Printed 92
-printed_92 = record { text = refl; ascii = λ h. refl; means = refl }
+printed_92 = grind arith
 
 printed_8 : Printed 8
-printed_8 = record { text = refl; ascii = λ h. refl; means = refl }
+printed_8 = grind arith
 
 printed_9 : Printed 9
-printed_9 = record { text = refl; ascii = λ h. refl; means = refl }
+printed_9 = grind arith
 
 printed_10 : Printed 10
-printed_10 = record { text = refl; ascii = λ h. refl; means = refl }
+printed_10 = grind arith
 
 printed_12 : Printed 12
-printed_12 = record { text = refl; ascii = λ h. refl; means = refl }
+printed_12 = grind arith
 
 printed_13 : Printed 13
-printed_13 = record { text = refl; ascii = λ h. refl; means = refl }
+printed_13 = grind arith
 
 record NoLetter (c : ℕ) : Type 0 where
   q : (c == 34) ≡ false
@@ -143,73 +127,28 @@ record NoLetter (c : ℕ) : Type 0 where
 
 -- the other control characters,
 printed_control : (c : ℕ) → NoLetter c → nat_lt c 32 ≡ true → Printed c
-printed_control c o e =
-    let below = ltb-true c 32 e in
-    record {
-      text = rw (o.q, o.s, o.b, o.t, o.n, o.f, o.r, e) refl;
-      ascii = λ h. rw (o.q, o.s, o.b, o.t, o.n, o.f, o.r, e)
-          (and_both _ _ (hex_ascii (c / 16) (omega arith))
-          (and_both _ _ (hex_ascii (c % 16) (omega arith)) refl));
-      means = rw (o.q, o.s, o.b, o.t, o.n, o.f, o.r, e) (short_unit c below);
-    }
+printed_control c o e = grind (arith, common_steps, ltb-true, hex_ascii, short_unit)
 
 -- and all other characters
 printed_plain : (c : ℕ) → NoLetter c → nat_lt c 32 ≡ false → Printed c
-printed_plain c o e =
-    let stands : is_plain c
-    ≡ true = and_both _ _ (and_both _ _ (le-leb 32 c (ltb-false c 32 e)) (not_false _ o.q))
-    (not_false _ o.s) in
-    record {
-      text = rw (o.q, o.s, o.b, o.t, o.n, o.f, o.r, e) refl;
-      ascii = λ h. rw (o.q, o.s, o.b, o.t, o.n, o.f, o.r, e) (and_both _ _ (lt-ltb c 128 h) refl);
-      means = rw (o.q, o.s, o.b, o.t, o.n, o.f, o.r, e) (by_true _ _ _ _ stands refl);
-    }
+printed_plain c o e = grind (arith, le-leb, ltb-false, lt-ltb)
 
 printed : (c : ℕ) → Printed c
 printed c =
-    elim (bool_cases (c == 34)) [
-      | inl e ↦ at 34 c e printed_34
-      | inr q ↦
-          elim (bool_cases (c == 92)) [
-            | inl e ↦ at 92 c e printed_92
-            | inr s ↦
-                elim (bool_cases (c == 8)) [
-                  | inl e ↦ at 8 c e printed_8
-                  | inr b ↦
-                      elim (bool_cases (c == 9)) [
-                        | inl e ↦ at 9 c e printed_9
-                        | inr t ↦
-                            elim (bool_cases (c == 10)) [
-                              | inl e ↦ at 10 c e printed_10
-                              | inr n ↦
-                                  elim (bool_cases (c == 12)) [
-                                    | inl e ↦ at 12 c e printed_12
-                                    | inr f ↦
-                                        elim (bool_cases (c == 13)) [
-                                          | inl e ↦ at 13 c e printed_13
-                                          | inr r ↦
-                                              let o : NoLetter c =
-                                              record {
-                                                q = q;
-                                                s = s;
-                                                b = b;
-                                                t = t;
-                                                n = n;
-                                                f = f;
-                                                r = r;
-                                              } in
-                                              elim (bool_cases
-                                              (nat_lt c 32)) [
-                                                | inl e ↦ printed_control c o e
-                                                | inr e ↦ printed_plain c o e
-                                              ]
-                                        ]
-                                  ]
-                            ]
-                      ]
-                ]
-          ]
-    ]
+    grind (
+      arith,
+      common_steps,
+      at,
+      printed_34,
+      printed_92,
+      printed_8,
+      printed_9,
+      printed_10,
+      printed_12,
+      printed_13,
+      printed_control,
+      printed_plain,
+    )
 
 -- ---- the bytes of a character
 
@@ -226,34 +165,7 @@ wide_plain c wide = plain_front (encode_utf8 c) (λ k below.
     ])
 
 wide_piece : (c : ℕ) → 128 ≤ c → piece_text (printed_piece c) ≡ c ∷ []
-wide_piece c wide =
-    let other : (d : ℕ) → d < 128
-    → (c == d)
-    ≡ false = λ d small. elim
-    (bool_cases (c == d)) [
-      | inl e ↦ absurd
-          (let same = eqb-true c d e in omega arith)
-      | inr e ↦ e
-    ] in
-    let past : nat_lt c 32
-    ≡ false = elim
-    (bool_cases (nat_lt c 32)) [
-      | inl e ↦ absurd
-          (let low = ltb-true c 32 e in omega arith)
-      | inr e ↦ e
-    ] in
-    rw (
-      other 34 (omega arith),
-      other 92 (omega arith),
-      other 8 (omega arith),
-      other 9
-          (omega arith),
-      other 10 (omega arith),
-      other 12 (omega arith),
-      other 13
-          (omega arith),
-      past,
-    ) refl
+wide_piece c wide = grind (arith, eqb-true, ltb-true)
 
 character_spelled : (c : ℕ) → IsScalar c
     → Spells (flat_map byte_text (encode_utf8 c)) (piece_text (printed_piece c))
@@ -277,11 +189,8 @@ characters_spelled : (cs : List ℕ) → scalars cs ≡ true
 characters_spelled [] e = Spells-nil
 characters_spelled (c ∷ cs) e =
     let parts = and_true _ _ e in
-    subst (λ x. Spells x (piece_text (printed_piece c) ++ pieces_text (map printed_piece cs)))
-    (sym (flat_map-append byte_text (encode_utf8 c) (encode_utf8_all cs)))
-    (Spells-append (flat_map byte_text (encode_utf8 c)) (flat_map byte_text (encode_utf8_all cs))
-    (piece_text (printed_piece c)) (pieces_text (map printed_piece cs))
-    (character_spelled c parts.0) (characters_spelled cs parts.1))
+    rw (flat_map-append byte_text (encode_utf8 c) (encode_utf8_all cs))
+    (Spells-append (character_spelled c parts.0) (characters_spelled cs parts.1))
 
 -- The content that is printed is spelled by the pieces,
 pub content_spelled : (bytes : List ℕ) → IsUtf8 bytes
@@ -292,9 +201,10 @@ content_spelled bytes utf8 =
 
 pieces_mean : (cs : List ℕ) → pieces_meaning (map printed_piece cs) ≡ Some (encode_utf8_all cs)
 pieces_mean [] = refl
-pieces_mean (c ∷ cs) = bound _ _ _ _ (printed c).means (bound _ _ _ _ (pieces_mean cs) refl)
+pieces_mean (c ∷ cs) = grind (arith, common_steps, printed, pieces_mean cs)
 
 -- and these mean the text.
 pub text_meaning : (bytes : List ℕ) → IsUtf8 bytes
     → pieces_meaning (printed_text bytes) ≡ Some bytes
-text_meaning bytes utf8 = pieces_mean (chars bytes) ∙ ap Some (encodes-chars bytes utf8)
+text_meaning bytes utf8 =
+    grind (arith, pieces_mean, encodes-chars)

@@ -1,14 +1,12 @@
 -- What is printed of a tree without extension values is spelled by a syntax that means the same
 -- tree.
-use Rattle.std.proofs.Common.{◌≡◌, ℕ, zero, suc, ◌*◌, ◌≤◌, Bool, true, false, None, Option, Some}
-use Rattle.std.proofs.Common.{refl, sym, ap, subst, ◌∙◌, List, [], ◌∷◌, ◌++◌, arith, append_assoc}
+use Rattle.std.proofs.Common.{◌≡◌, ℕ, zero, suc, ◌*◌, Bool, true, false, None, Option, Some}
+use Rattle.std.proofs.Common.{refl, sym, ap, ◌∙◌, List, [], ◌∷◌, ◌++◌, arith, append_assoc}
 use Rattle.std.proofs.Common.{append-nil}
-use Rattle.std.specs.Prelude.{option_map, codes, replicate, flat_map, chars, nat_le, nat_lt}
-use Rattle.std.specs.Char.{is_ascii_digit}
-use Rattle.std.proofs.lemmas.Bool.{leb-true, lt-ltb}
-use Rattle.std.specs.declared.cmp.Ordering.{Ordering}
+use Rattle.std.specs.Prelude.{option_map, codes, replicate, chars}
+use Rattle.std.proofs.lemmas.Bool.Decides.{nat_tests}
 use Rattle.std.specs.declared.cmp.Ordering.TheVariants.{Less, Equal, Greater}
-use Rattle.std.specs.Ordering.{nat_cmp, match_ordering, ordering_reverse}
+use Rattle.std.specs.Ordering.{nat_cmp, ordering_reverse}
 use Rattle.std.specs.Cmp.Lexicographic.{slice_cmp, nat_list_cmp_total}
 use Rattle.std.specs.BTreeMap.{insert_entry}
 use Rattle.std.specs.Str.{IsUtf8}
@@ -26,15 +24,14 @@ use Rattle.jsonb_value.specs.WellFormed.{IsNumber, IsTree, AreTrees, ArePairs}
 use Rattle.jsonb_value.specs.Json.Characters.{all_blank, all_digits}
 use Rattle.jsonb_value.specs.Json.Numeral.{Numeral, sign_text, fraction_text, numeral_text}
 use Rattle.jsonb_value.specs.Json.Numeral.{is_numeral, is_whole}
-use Rattle.jsonb_value.specs.Json.Piece.{pieces_text}
 use Rattle.jsonb_value.specs.Json.Syntax.{Syntax, nothing, truth, numeral, string, empty_array}
 use Rattle.jsonb_value.specs.Json.Syntax.{items, empty_object, members, Element, element, Items}
-use Rattle.jsonb_value.specs.Json.Syntax.{no_item, next_item, member, Members, no_member}
-use Rattle.jsonb_value.specs.Json.Syntax.{next_member, string_text, syntax_text, element_text}
-use Rattle.jsonb_value.specs.Json.Syntax.{items_text, member_text, members_text, Entries, pairs}
-use Rattle.jsonb_value.specs.Json.Syntax.{insert_all, meaning, element_meaning, items_meaning}
-use Rattle.jsonb_value.specs.Json.Syntax.{member_meaning, members_meaning, Json}
-use Rattle.jsonb_value.proofs.Json.Tests.{cond_some, and_true, and_both, by_true, bound, pair_found}
+use Rattle.jsonb_value.specs.Json.Syntax.{no_item, next_item, Member, member, Members, no_member}
+use Rattle.jsonb_value.specs.Json.Syntax.{next_member, string_text, syntax_text}
+use Rattle.jsonb_value.specs.Json.Syntax.{items_text, members_text, Entries, pairs}
+use Rattle.jsonb_value.specs.Json.Syntax.{insert_all, meaning, items_meaning}
+use Rattle.jsonb_value.specs.Json.Syntax.{members_meaning, Json}
+use Rattle.jsonb_value.proofs.Json.Tests.{cond_some}
 use Rattle.jsonb_value.proofs.Json.PrintedNumbers.{printed_number, reread, number_spelled}
 use Rattle.jsonb_value.proofs.Json.PrintedText.{Spells, Spells-append, Spells-nil, Spells-ascii}
 use Rattle.jsonb_value.proofs.Json.PrintedText.{all_ascii, printed_text, content_spelled}
@@ -57,6 +54,14 @@ abbrev pair_behind : Layout → Pairs → List ℕ
 pair_behind l no_pairs = line_start l
 pair_behind l (pair k t ps) = []
 
+-- an item with what the rest of its array has before it, and a pair
+abbrev item_in : Layout → Syntax → Trees → Element
+item_in l x ts = element (line_start (inside l)) x (behind l ts)
+
+abbrev pair_in : Layout → List ℕ → Syntax → Pairs → Member
+pair_in l k x ps = member (line_start (inside l)) (printed_text k) []
+    (element (gap (inside l)) x (pair_behind l ps))
+
 abbrev mutual
   printed : Layout → Tree → Syntax
   printed l null = nothing
@@ -65,27 +70,22 @@ abbrev mutual
   printed l (text s) = string (printed_text s)
   printed l (extension e) = nothing
   printed l (array no_trees) = empty_array []
-  printed l (array (tree t ts)) = items
-      (element (line_start (inside l)) (printed (inside l) t) (behind l ts)) (printed_items l ts)
+  printed l (array (tree t ts)) =
+      items (item_in l (printed (inside l) t) ts) (printed_items l ts)
   printed l (object no_pairs) = empty_object []
   printed l (object (pair k t ps)) =
-      members (member (line_start (inside l)) (printed_text k) []
-      (element (gap (inside l)) (printed (inside l) t) (pair_behind l ps)))
-      (printed_members l ps)
+      members (pair_in l k (printed (inside l) t) ps) (printed_members l ps)
 
   -- the items behind the first, in a container of that layout
   printed_items : Layout → Trees → Items
   printed_items l no_trees = no_item
-  printed_items l (tree t ts) = next_item
-      (element (line_start (inside l)) (printed (inside l) t) (behind l ts)) (printed_items l ts)
+  printed_items l (tree t ts) =
+      next_item (item_in l (printed (inside l) t) ts) (printed_items l ts)
 
   printed_members : Layout → Pairs → Members
   printed_members l no_pairs = no_member
   printed_members l (pair k t ps) =
-      next_member
-      (member (line_start (inside l)) (printed_text k) []
-      (element (gap (inside l)) (printed (inside l) t) (pair_behind l ps)))
-      (printed_members l ps)
+      next_member (pair_in l k (printed (inside l) t) ps) (printed_members l ps)
 
 -- ---- white space
 
@@ -103,20 +103,16 @@ line_start-spelled (on_lines depth) =
     Spells-ascii (10 ∷ replicate (2 * depth) 32) (spaces_ascii (2 * depth))
 
 line_start-blank : (l : Layout) → all_blank (line_start l) ≡ true
-line_start-blank in_one_line = refl
-line_start-blank (on_lines depth) = spaces_blank (2 * depth)
+line_start-blank l = grind (arith, spaces_blank)
 
 gap-blank : (l : Layout) → all_blank (gap l) ≡ true
-gap-blank in_one_line = refl
-gap-blank (on_lines depth) = refl
+gap-blank l = grind arith
 
 behind-blank : (l : Layout) (ts : Trees) → all_blank (behind l ts) ≡ true
-behind-blank l no_trees = line_start-blank l
-behind-blank l (tree t ts) = refl
+behind-blank l ts = grind (arith, line_start-blank)
 
 pair_behind-blank : (l : Layout) (ps : Pairs) → all_blank (pair_behind l ps) ≡ true
-pair_behind-blank l no_pairs = line_start-blank l
-pair_behind-blank l (pair k t ps) = refl
+pair_behind-blank l ps = grind (arith, line_start-blank)
 
 colon-spelled : (l : Layout) → Spells (colon l) (58 ∷ gap l)
 colon-spelled in_one_line = Spells-ascii (58 ∷ []) refl
@@ -129,115 +125,44 @@ colon-inside (on_lines depth) = Spells-ascii (58 ∷ 32 ∷ []) refl
 -- ---- what is printed is what is spelled
 
 -- one ASCII character before the rest
-behind_one : (c : ℕ) (b x : List ℕ) → all_ascii (c ∷ []) ≡ true → Spells b x
+behind_one : {c : ℕ} {b x : List ℕ} → all_ascii (c ∷ []) ≡ true → Spells b x
     → Spells (c ∷ b) (c ∷ x)
-behind_one c b x e h = Spells-append (c ∷ []) b (c ∷ []) x (Spells-ascii (c ∷ []) e) h
+behind_one {c} e h = Spells-append (Spells-ascii (c ∷ []) e) h
 
-string_spelled : (s : List ℕ) → IsUtf8 s
-    → Spells (bytes.string_text s) (string_text (printed_text s))
-string_spelled s utf8 =
-    behind_one 34 _ _ refl
-    (Spells-append (flat_map byte_text s) (34 ∷ []) (pieces_text (printed_text s)) (34 ∷ [])
-    (content_spelled s utf8) (Spells-ascii (34 ∷ []) refl))
-
-digit_ascii : (d : ℕ) → is_ascii_digit d ≡ true → nat_lt d 128 ≡ true
-digit_ascii d e = let high : d
-    ≤ 57 = leb-true d 57 (and_true (nat_le 48 d) (nat_le d 57) e).1 in lt-ltb d 128 (omega arith)
+-- a text between its quotes, and what follows it
+string_spelled : {b x : List ℕ} (s : List ℕ) → IsUtf8 s → Spells b x
+    → Spells (bytes.string_text s ++ b) (string_text (printed_text s) ++ x)
+string_spelled s utf8 more =
+    simp append_assoc
+    (behind_one refl (Spells-append (content_spelled s utf8) (behind_one refl more)))
 
 digits_ascii : (ds : List ℕ) → all_digits ds ≡ true → all_ascii ds ≡ true
 digits_ascii [] e = refl
-digits_ascii (d ∷ ds) e =
-    let parts = and_true _ _ e in and_both _ _ (digit_ascii d parts.0) (digits_ascii ds parts.1)
+digits_ascii (d ∷ ds) e = grind (arith, nat_tests, digits_ascii ds)
 
 whole_ascii : (ds : List ℕ) → is_whole ds ≡ true → all_ascii ds ≡ true
-whole_ascii [] e = refl
-whole_ascii (d ∷ []) e = and_both _ _ (digit_ascii d e) refl
-whole_ascii (d ∷ c ∷ ds) e = digits_ascii (d ∷ c ∷ ds) (and_true _ _ e).1
+whole_ascii ds e = grind (arith, nat_tests, digits_ascii)
 
 ascii-append : (xs ys : List ℕ) → all_ascii xs ≡ true → all_ascii ys ≡ true
     → all_ascii (xs ++ ys) ≡ true
 ascii-append [] ys e h = h
-ascii-append (x ∷ xs) ys e h =
-    let parts = and_true _ _ e in and_both _ _ parts.0 (ascii-append xs ys parts.1 h)
+ascii-append (x ∷ xs) ys e h = grind (arith, ascii-append xs ys)
 
 sign_ascii : (b : Bool) → all_ascii (sign_text b) ≡ true
-sign_ascii true = refl
-sign_ascii false = refl
+sign_ascii b = grind arith
 
 fraction_ascii : (ds : List ℕ) → all_digits ds ≡ true → all_ascii (fraction_text ds) ≡ true
-fraction_ascii [] e = refl
-fraction_ascii (d ∷ ds) e = digits_ascii (d ∷ ds) e
+fraction_ascii ds e = grind (arith, digits_ascii)
 
 numeral_ascii : (n : Numeral) → is_numeral n ≡ true → all_ascii (numeral_text n) ≡ true
-numeral_ascii n e =
-    let parts = and_true _ _ e in
-    ascii-append (sign_text n.is_negative) _ (sign_ascii n.is_negative)
-    (ascii-append n.whole (fraction_text n.fraction) (whole_ascii n.whole parts.0)
-    (fraction_ascii n.fraction parts.1))
+numeral_ascii n e = grind (arith, ascii-append, sign_ascii, whole_ascii, fraction_ascii)
 
 number_as_spelled : (x : Number) → IsNumber x
     → Spells (number_text x) (numeral_text (printed_number x))
 number_as_spelled x ok =
     let proper = (cond_some _ _ _ (reread x ok).is_meant).0 in
-    subst (λ b. Spells b (numeral_text (printed_number x))) (sym (number_spelled x))
+    rw number_spelled
     (Spells-ascii (numeral_text (printed_number x)) (numeral_ascii (printed_number x) proper))
-
--- the parts of an item and of a pair, before what follows them
-assoc_item : (a s b i : List ℕ) → (a ++ (s ++ b)) ++ i ≡ a ++ (s ++ (b ++ i))
-assoc_item a s b i = append_assoc a (s ++ b) i ∙ ap (λ (x : List ℕ). a ++ x) (append_assoc s b i)
-
-assoc_pair : (a k c s b i : List ℕ)
-    → (a ++ (k ++ (c ++ (s ++ b)))) ++ i ≡ a ++ (k ++ (c ++ (s ++ (b ++ i))))
-assoc_pair a k c s b i =
-    append_assoc a (k ++ (c ++ (s ++ b))) i
-    ∙ ap (λ (x : List ℕ). a ++ x)
-    (append_assoc k (c ++ (s ++ b)) i ∙ ap (λ (x : List ℕ). k ++ x) (assoc_item c s b i))
-
-item_spelled : (l : Layout) (t : Tree) (ts : Trees)
-    → Spells (laid_out (inside l) t) (syntax_text (printed (inside l) t))
-    → Spells (more_items (inside l) ts ++ (line_start l ++ codes "]"))
-    (behind l ts ++ items_text (printed_items l ts))
-    → Spells (line_start (inside l)
-    ++ (laid_out (inside l) t ++ (more_items (inside l) ts ++ (line_start l ++ codes "]"))))
-    (element_text (element (line_start (inside l)) (printed (inside l) t) (behind l ts))
-    ++ items_text (printed_items l ts))
-item_spelled l t ts first others =
-    let i = inside l in
-    let s = syntax_text (printed i t) in
-    let rest = behind l ts ++ items_text (printed_items l ts) in
-    subst (Spells
-    (line_start i ++ (laid_out i t ++ (more_items i ts ++ (line_start l ++ codes "]")))))
-    (sym (assoc_item (line_start i) s (behind l ts) (items_text (printed_items l ts))))
-    (Spells-append (line_start i) _ (line_start i) (s ++ rest) (line_start-spelled i)
-    (Spells-append (laid_out i t) _ s rest first others))
-
-pair_spelled : (l : Layout) (k : List ℕ) (t : Tree) (ps : Pairs) (c : List ℕ)
-    → Spells c (58 ∷ gap (inside l)) → IsUtf8 k
-    → Spells (laid_out (inside l) t) (syntax_text (printed (inside l) t))
-    → Spells (more_pairs (inside l) ps ++ (line_start l ++ codes "}"))
-    (pair_behind l ps ++ members_text (printed_members l ps))
-    → Spells (line_start (inside l)
-    ++ (bytes.string_text k
-    ++ (c ++ (laid_out (inside l) t
-    ++ (more_pairs (inside l) ps ++ (line_start l ++ codes "}"))))))
-    (member_text
-    (member (line_start (inside l)) (printed_text k) []
-    (element (gap (inside l)) (printed (inside l) t) (pair_behind l ps)))
-    ++ members_text (printed_members l ps))
-pair_spelled l k t ps c same utf8 first others =
-    let i = inside l in
-    let key = string_text (printed_text k) in
-    let s = syntax_text (printed i t) in
-    let b = pair_behind l ps in
-    let m = members_text (printed_members l ps) in
-    let content = bytes.string_text k in
-    let after = more_pairs i ps ++ (line_start l ++ codes "}") in
-    subst (Spells (line_start i ++ (content ++ (c ++ (laid_out i t ++ after)))))
-    (sym (assoc_pair (line_start i) key (58 ∷ gap i) s b m))
-    (Spells-append (line_start i) _ (line_start i) _ (line_start-spelled i)
-    (Spells-append content _ key _ (string_spelled k utf8)
-    (Spells-append c _ (58 ∷ gap i) (s ++ (b ++ m)) same
-    (Spells-append (laid_out i t) after s (b ++ m) first others))))
 
 mutual
   tree_spelled : (l : Layout) (t : Tree) → IsTree t → IsPlain t
@@ -246,51 +171,37 @@ mutual
   tree_spelled l (boolean true) ok plain = Spells-ascii (codes "true") refl
   tree_spelled l (boolean false) ok plain = Spells-ascii (codes "false") refl
   tree_spelled l (number x) ok plain = number_as_spelled x ok
-  tree_spelled l (text s) ok plain = string_spelled s ok
+  tree_spelled l (text s) ok plain = simp append-nil at (string_spelled s ok Spells-nil)
   tree_spelled l (extension e) ok plain = absurd plain
   tree_spelled l (array no_trees) ok plain = Spells-ascii (codes "[]") refl
-  tree_spelled l (array (tree t ts)) ok plain = behind_one 91 _ _ refl
-      (item_spelled l t ts (tree_spelled (inside l) t ok.0 plain.0)
-      (items_spelled l ts ok.1 plain.1))
+  tree_spelled l (array (tree t ts)) ok plain = simp append_assoc (behind_one refl
+      (Spells-append (line_start-spelled (inside l))
+      (Spells-append (tree_spelled (inside l) t ok.0 plain.0) (items_spelled l ts ok.1 plain.1))))
   tree_spelled l (object no_pairs) ok plain = Spells-ascii (codes "{}") refl
-  tree_spelled l (object (pair k t ps)) ok plain = behind_one 123 _ _ refl
-      (pair_spelled l k t ps (colon l) (colon-inside l) ok.1.0
-      (tree_spelled (inside l) t ok.1.1.0 plain.0) (pairs_spelled l ps ok.1.1.1 plain.1))
+  tree_spelled l (object (pair k t ps)) ok plain = simp append_assoc (behind_one refl
+      (Spells-append (line_start-spelled (inside l)) (simp append_assoc at (string_spelled k ok.1.0
+      (Spells-append (colon-inside l) (Spells-append (tree_spelled (inside l) t ok.1.1.0 plain.0)
+      (pairs_spelled l ps ok.1.1.1 plain.1)))))))
 
   items_spelled : (l : Layout) (ts : Trees) → AreTrees ts → ArePlain ts
       → Spells (more_items (inside l) ts ++ (line_start l ++ codes "]"))
       (behind l ts ++ items_text (printed_items l ts))
-  items_spelled l no_trees ok plain = Spells-append (line_start l) (93 ∷ []) (line_start l)
-      (93 ∷ []) (line_start-spelled l) (Spells-ascii (93 ∷ []) refl)
-  items_spelled l (tree t ts) ok plain =
-      let i = inside l in
-      let others = element_text (element (line_start i) (printed i t) (behind l ts))
-      ++ items_text (printed_items l ts) in
-      subst (λ b. Spells (44 ∷ b) (44 ∷ others))
-      (sym (assoc_item (line_start i) (laid_out i t) (more_items i ts)
-      (line_start l ++ codes "]")))
-      (behind_one 44 _ others refl
-      (item_spelled l t ts (tree_spelled (inside l) t ok.0 plain.0)
-      (items_spelled l ts ok.1 plain.1)))
+  items_spelled l no_trees ok plain =
+      Spells-append (line_start-spelled l) (Spells-ascii (93 ∷ []) refl)
+  items_spelled l (tree t ts) ok plain = simp append_assoc (behind_one refl
+      (Spells-append (line_start-spelled (inside l))
+      (Spells-append (tree_spelled (inside l) t ok.0 plain.0) (items_spelled l ts ok.1 plain.1))))
 
   pairs_spelled : (l : Layout) (ps : Pairs) → ArePairs ps → PairsPlain ps
       → Spells (more_pairs (inside l) ps ++ (line_start l ++ codes "}"))
       (pair_behind l ps ++ members_text (printed_members l ps))
-  pairs_spelled l no_pairs ok plain = Spells-append (line_start l) (125 ∷ []) (line_start l)
-      (125 ∷ []) (line_start-spelled l) (Spells-ascii (125 ∷ []) refl)
-  pairs_spelled l (pair k t ps) ok plain =
-      let i = inside l in
-      let others = member_text
-      (member (line_start i) (printed_text k) []
-      (element (gap i) (printed i t) (pair_behind l ps)))
-      ++ members_text (printed_members l ps) in
-      let content = bytes.string_text k in
-      subst (λ b. Spells (44 ∷ b) (44 ∷ others))
-      (sym (assoc_pair (line_start i) content (colon i) (laid_out i t) (more_pairs i ps)
-      (line_start l ++ codes "}")))
-      (behind_one 44 _ others refl
-      (pair_spelled l k t ps (colon (inside l)) (colon-spelled (inside l)) ok.0
-      (tree_spelled (inside l) t ok.1.0 plain.0) (pairs_spelled l ps ok.1.1 plain.1)))
+  pairs_spelled l no_pairs ok plain =
+      Spells-append (line_start-spelled l) (Spells-ascii (125 ∷ []) refl)
+  pairs_spelled l (pair k t ps) ok plain = simp append_assoc (behind_one refl
+      (Spells-append (line_start-spelled (inside l)) (simp append_assoc at (string_spelled k ok.0
+      (Spells-append (colon-spelled (inside l))
+      (Spells-append (tree_spelled (inside l) t ok.1.0 plain.0)
+      (pairs_spelled l ps ok.1.1 plain.1)))))))
 
 -- ---- keys that ascend are put in one behind another
 
@@ -304,21 +215,16 @@ insert-last : (before : Option (List ℕ)) (es : Entries) (k : List ℕ) (t : Tr
     → insert_entry (slice_cmp nat_cmp) es k t ≡ es ++ (k, t) ∷ []
 insert-last before [] k t ms h = refl
 insert-last before (e ∷ es) k t ms h =
-    let entry : List ℕ × Tree = (k, t) in
     let above : slice_cmp nat_cmp k e.0 ≡ Greater =
     nat_list_cmp_total.antisymm k e.0 ∙ ap ordering_reverse (below e.0 k es t ms h.1) in
-    ap (λ (o : Ordering). match_ordering o (entry ∷ e ∷ es) ((e.0, t) ∷ es)
-    (e ∷ insert_entry (slice_cmp nat_cmp) es k t)) above
-    ∙ ap (λ (q : Entries). e ∷ q) (insert-last (Some e.0) es k t ms h.1)
+    rw (above, insert-last (Some e.0) es k t ms h.1) refl
 
 inserted-ascending : (ms front : Entries) → Ascends None (pairs (front ++ ms))
     → insert_all front ms ≡ front ++ ms
 inserted-ascending [] front h = sym (append-nil front)
 inserted-ascending (m ∷ ms) front h =
-    ap (λ (es : Entries). insert_all es ms) (insert-last None front m.0 m.1 ms h)
-    ∙ inserted-ascending ms (front ++ m ∷ [])
-    (subst (λ es. Ascends None (pairs es)) (sym (append_assoc front (m ∷ []) ms)) h)
-    ∙ append_assoc front (m ∷ []) ms
+    rw (insert-last None front m.0 m.1 ms h)
+    (inserted-ascending ms (front ++ m ∷ []) (rw append_assoc h) ∙ append_assoc front (m ∷ []) ms)
 
 -- ---- what it means
 
@@ -341,16 +247,15 @@ record ReadsPairs (l : Layout) (ps : Pairs) : Type 0 where
   are_pairs : ArePairs (pairs own)
   ascends : (before : Option (List ℕ)) → Ascends before ps → Ascends before (pairs own)
 
-element_printed : (b a : List ℕ) (x : Syntax) (t : Tree) → all_blank b ≡ true → all_blank a ≡ true
-    → meaning x ≡ Some t → element_meaning (element b x a) ≡ Some t
-element_printed b a x t h k is = by_true _ _ _ _ (and_both _ _ h k) is
+-- the items that are not none, and the members
+items_mean : (x : Element) (xs : Items) (own : List Tree)
+    → items_meaning (next_item x xs) ≡ Some own → meaning (items x xs) ≡ Some (array (trees_of own))
+items_mean x xs own e = grind arith
 
-member_printed : (l : Layout) (k : List ℕ) (x : Element) (t : Tree) → IsUtf8 k
-    → element_meaning x ≡ Some t
-    → member_meaning (member (line_start l) (printed_text k) [] x) ≡ pair_found k t
-member_printed l k x t utf8 is = bound _ _ _ _
-    (by_true _ _ _ _ (and_both _ _ (line_start-blank l) refl) (text_meaning k utf8))
-    (bound _ _ _ _ is refl)
+members_mean : (m : Member) (ms : Members) (own : Entries)
+    → members_meaning (next_member m ms) ≡ Some own
+    → meaning (members m ms) ≡ Some (object (pairs (insert_all [] own)))
+members_mean m ms own e = grind arith
 
 mutual
   tree_reads : (l : Layout) (t : Tree) → IsTree t → IsPlain t → ReadsTree l t
@@ -379,40 +284,28 @@ mutual
   tree_reads l (array no_trees) ok plain =
       record { tree_is = array no_trees; is_meant = refl; is_same = tt; is_tree = tt }
   tree_reads l (array (tree t ts)) ok plain =
-      let i = inside l in
-      let first = tree_reads i t ok.0 plain.0 in
-      let others = trees_read l ts ok.1 plain.1 in
+      let all = trees_read l (tree t ts) ok plain in
       record {
-        tree_is = array (tree first.tree_is (trees_of others.own));
-        is_meant = bound _ _ _ _
-            (element_printed (line_start i) (behind l ts) (printed i t) first.tree_is
-            (line_start-blank i) (behind-blank l ts) first.is_meant)
-            (bound _ _ _ _ others.is_meant refl);
-        is_same = (first.is_same, others.are_same);
-        is_tree = (first.is_tree, others.are_trees);
+        tree_is = array (trees_of all.own);
+        is_meant = items_mean (item_in l (printed (inside l) t) ts) (printed_items l ts) all.own
+            all.is_meant;
+        is_same = all.are_same;
+        is_tree = all.are_trees;
       }
   tree_reads l (object no_pairs) ok plain =
       record { tree_is = object no_pairs; is_meant = refl; is_same = tt; is_tree = (tt, tt) }
   tree_reads l (object (pair k t ps)) ok plain =
-      let i = inside l in
-      let first = tree_reads i t ok.1.1.0 plain.0 in
-      let others = pairs_read l ps ok.1.1.1 plain.1 in
-      let entry : List ℕ × Tree = (k, first.tree_is) in
-      let ascend : Ascends None (pairs (entry ∷ others.own)) =
-      (tt, others.ascends (Some k) ok.0.1) in
-      let joined : insert_all [] (entry ∷ others.own) ≡ entry ∷ others.own =
-      inserted-ascending others.own (entry ∷ []) ascend in
-      let value = element_printed (gap i) (pair_behind l ps) (printed i t) first.tree_is
-      (gap-blank i) (pair_behind-blank l ps) first.is_meant in
+      let all = pairs_read l (pair k t ps) ok.1 plain in
+      let ascend = all.ascends None ok.0 in
       record {
-        tree_is = object (pair k first.tree_is (pairs others.own));
-        is_meant = bound _ _ _ _
-            (member_printed i k
-            (element (gap i) (printed i t) (pair_behind l ps)) first.tree_is ok.1.0 value)
-            (bound _ _ _ _ others.is_meant
-            (ap (λ (es : Entries). Some (object (pairs es))) joined));
-        is_same = (refl, (first.is_same, others.are_same));
-        is_tree = (ascend, (ok.1.0, (first.is_tree, others.are_pairs)));
+        tree_is = object (pairs all.own);
+        is_meant =
+            members_mean (pair_in l k (printed (inside l) t) ps) (printed_members l ps) all.own
+            all.is_meant
+            ∙ ap (λ (es : Entries). Some (object (pairs es)))
+            (inserted-ascending all.own [] ascend);
+        is_same = all.are_same;
+        is_tree = (ascend, all.are_pairs);
       }
 
   trees_read : (l : Layout) (ts : Trees) → AreTrees ts → ArePlain ts → ReadsTrees l ts
@@ -424,10 +317,7 @@ mutual
       let others = trees_read l ts ok.1 plain.1 in
       record {
         own = first.tree_is ∷ others.own;
-        is_meant = bound _ _ _ _
-            (element_printed (line_start i) (behind l ts) (printed i t) first.tree_is
-            (line_start-blank i) (behind-blank l ts) first.is_meant)
-            (bound _ _ _ _ others.is_meant refl);
+        is_meant = grind (arith, line_start-blank, behind-blank);
         are_same = (first.is_same, others.are_same);
         are_trees = (first.is_tree, others.are_trees);
       }
@@ -439,15 +329,15 @@ mutual
       let i = inside l in
       let first = tree_reads i t ok.1.0 plain.0 in
       let others = pairs_read l ps ok.1.1 plain.1 in
-      let entry : List ℕ × Tree = (k, first.tree_is) in
-      let value = element_printed (gap i) (pair_behind l ps) (printed i t) first.tree_is
-      (gap-blank i) (pair_behind-blank l ps) first.is_meant in
       record {
-        own = entry ∷ others.own;
-        is_meant = bound _ _ _ _
-            (member_printed i k
-            (element (gap i) (printed i t) (pair_behind l ps)) first.tree_is ok.0 value)
-            (bound _ _ _ _ others.is_meant refl);
+        own = (k, first.tree_is) ∷ others.own;
+        is_meant = grind (
+          arith,
+          line_start-blank,
+          gap-blank,
+          pair_behind-blank,
+          text_meaning k ok.0,
+        );
         are_same = (refl, (first.is_same, others.are_same));
         are_pairs = (ok.0, (first.is_tree, others.are_pairs));
         ascends = λ before h. (h.0, others.ascends (Some k) h.1);

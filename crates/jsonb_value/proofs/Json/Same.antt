@@ -1,4 +1,5 @@
 -- Trees that differ at most in the kinds of numbers of one worth are Equal in the order.
+use Rattle.std.proofs.Common.{arith}
 use Rattle.std.proofs.Common.{◌≡◌, ◌≤◌, Bool, List, ℕ, length, refl, ap, ◌∙◌}
 use Rattle.std.specs.Prelude.{⊤}
 use Rattle.std.specs.declared.cmp.Ordering.{Ordering}
@@ -7,7 +8,6 @@ use Rattle.std.specs.Ordering.{nat_cmp, bool_cmp, ordering_then}
 use Rattle.std.specs.Cmp.Lexicographic.{slice_cmp, nat_list_cmp_total}
 use Rattle.std.proofs.lemmas.Cmp.{tied_itself}
 use Rattle.jsonb_value.specs.declared.number.Number.{Number}
-use Rattle.jsonb_value.specs.Fraction.{Fraction, fraction_cmp}
 use Rattle.jsonb_value.specs.NumCode.{number_payload}
 use Rattle.jsonb_value.specs.Order.{fraction_of, number_cmp}
 use Rattle.jsonb_value.specs.Tree.{Tree, null, boolean, number, text, array, object, Trees}
@@ -43,8 +43,7 @@ abbrev mutual
   PairsSame ps qs = ⊥
 
 same_worth : (x y : Number) → fraction_of x ≡ fraction_of y → number_cmp x y ≡ Equal
-same_worth x y e =
-    ap (λ (f : Fraction). fraction_cmp f (fraction_of y)) e ∙ tied_itself number_cmp_total y
+same_worth x y e = grind (arith, tied_itself, number_cmp_total)
 
 same_bytes : (x y : List ℕ) → x ≡ y → slice_cmp nat_cmp x y ≡ Equal
 same_bytes x y e = ap (λ (z : List ℕ). slice_cmp nat_cmp z y) e ∙ tied_itself nat_list_cmp_total y

@@ -39,7 +39,7 @@ skip_shorter s =
     omega (arith, ap length found.is_spelled, length-append found.blank (skip_blank s))
 
 pub expect_shorter : (k : ℕ) (s rest : List ℕ) → expect k s ≡ Some rest → length rest < length s
-expect_shorter k s rest e = omega (arith, ap length (expect-found k s rest e))
+expect_shorter k s rest e = grind (arith, expect-found)
 
 pub element_shorter : (n : ℕ) (s : List ℕ) (t : Tree) (rest : List ℕ)
     → read_element (read_value n) s ≡ Some (t, rest) → length rest < length s
@@ -50,5 +50,5 @@ element_shorter n s t rest e =
 pub member_shorter : (n k : ℕ) (s key : List ℕ) (t : Tree) (rest : List ℕ)
     → read_member (read_value n) k s ≡ Some ((key, t), rest) → length rest < length s
 member_shorter n k s key t rest e =
-    let found = member-found (read_value n) (value-found n) k s key t rest e in
+    let found = member-found (read_value n) (value-found n) k s (key, t) rest e in
     omega (arith, ap length found.is_spelled, member_positive found.syntax rest)

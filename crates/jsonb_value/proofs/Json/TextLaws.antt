@@ -1,7 +1,7 @@
 -- What is read as a string is spelled so, and what is spelled as a string is read.
 use Rattle.std.proofs.Common.{◌≡◌, ℕ, zero, suc, ◌<◌, true, false, inl, inr, Option, Some, None}
 use Rattle.std.proofs.Common.{refl, sym, ap, ◌∙◌, List, [], ◌∷◌, ◌++◌, length, append_assoc}
-use Rattle.std.proofs.Common.{append-nil, lit<, eqb-true, arith, length-append}
+use Rattle.std.proofs.Common.{append-nil, eqb-true, arith, length-append}
 use Rattle.std.specs.Prelude.{◌==◌, encode_utf8}
 use Rattle.jsonb_value.specs.Json.Characters.{quote, backslash, letter_u}
 use Rattle.jsonb_value.specs.Json.Piece.{Piece, Unit4, unit4, plain, escape, unit, surrogates}
@@ -10,8 +10,8 @@ use Rattle.jsonb_value.specs.Json.Piece.{escape_value, is_high, unit_character, 
 use Rattle.jsonb_value.specs.Json.Piece.{is_plain, piece_meaning, pieces_meaning}
 use Rattle.jsonb_value.specs.Reader.Reading.{read_unit, read_second, read_character, read_escape}
 use Rattle.jsonb_value.specs.Reader.Reading.{read_piece, read_text}
-use Rattle.jsonb_value.proofs.Json.Tests.{bool_cases, bind_then, some_pair, some_same, cond_some}
-use Rattle.jsonb_value.proofs.Json.Tests.{and_true, not_true, no_error, chosen, by_true, by_false}
+use Rattle.jsonb_value.proofs.Json.Tests.{bind_then, some_pair, some_same, cond_some}
+use Rattle.jsonb_value.proofs.Json.Tests.{and_true, no_error, chosen, by_true}
 use Rattle.jsonb_value.proofs.Json.Tests.{bound}
 
 -- four hexadecimal digits at the front
@@ -170,28 +170,20 @@ text-found (suc n) front (x ∷ s) bytes rest e = elim (chosen (x == quote) _ _ 
 -- a character that passes a test is none that fails it
 pub passes_no : {A : Type 0} (f : ℕ → Option A) (c k : ℕ) (y : A) → f c ≡ Some y → f k ≡ None
     → (c == k) ≡ false
-passes_no f c k y is none = elim (bool_cases (c == k)) [
-  | inl e ↦ let here : f c ≡ f k = ap f (eqb-true c k e) in no_error (sym none ∙ sym here ∙ is)
-  | inr e ↦ e
-]
+passes_no f c k y is none = grind (arith, eqb-true)
 
 unit-again : (u : Unit4) (value : ℕ) (rest : List ℕ) → unit_value u ≡ Some value → (s : List ℕ)
     × (unit_text u ++ rest ≡ backslash ∷ letter_u ∷ s) × (read_unit s ≡ Some (value, rest))
 unit-again (unit4 a b c d) value rest is = (a ∷ b ∷ c ∷ d ∷ rest, refl, rw is refl)
 
 plain_is_other : (c : ℕ) → is_plain c ≡ true → ((c == quote) ≡ false) × ((c == backslash) ≡ false)
-plain_is_other c e =
-    let parts = and_true _ _ e in
-    (not_true _ (and_true _ _ parts.0).1, not_true _ parts.1)
+plain_is_other c e = grind arith
 
 one_unit : (u c : ℕ) → unit_character u ≡ Some c → is_high u ≡ false
-one_unit u c e = elim (bool_cases (is_high u)) [
-  | inl high ↦ let none : None ≡ Some c = rw high at e in no_error none
-  | inr other ↦ other
-]
+one_unit u c e = grind arith
 
 high_first : (h l c : ℕ) → pair_character h l ≡ Some c → is_high h ≡ true
-high_first h l c e = (and_true _ _ (cond_some _ _ _ e).0).0
+high_first h l c e = grind arith
 
 -- a piece with a character does not begin with the quote, and is read
 pub record IsRead (s : List ℕ) (c : ℕ) (rest : List ℕ) : Type 0 where
@@ -203,43 +195,9 @@ pub record IsRead (s : List ℕ) (c : ℕ) (rest : List ℕ) : Type 0 where
 
 pub piece-again : (p : Piece) (c : ℕ) (rest : List ℕ) → piece_meaning p ≡ Some c
     → IsRead (piece_text p ++ rest) c rest
-piece-again (plain x) c rest e =
-    let stands = cond_some _ _ _ e in
-    let others = plain_is_other x stands.0 in
-    let same : x ≡ c = some_same x c stands.1 in
-    record {
-      first = x;
-      others = rest;
-      is_split = refl;
-      is_no_quote = others.0;
-      is_read = by_false _ _ _ _ others.1
-          (by_true _ _ _ _ stands.0 (ap (λ y. Some (y, rest)) same));
-    }
-piece-again (escape x) c rest e =
-    let no_unit : (x == letter_u) ≡ false = passes_no escape_value x letter_u c e refl in
-    record {
-      first = backslash;
-      others = x
-          ∷ rest;
-      is_split = refl;
-      is_no_quote = refl;
-      is_read = rw (no_unit, e) refl;
-    }
-piece-again (unit u) c rest e =
-    bind_then (unit_value u) _ _ e (λ value is_worth is_one.
-    let opened = unit-again u value rest is_worth in
-    let low : is_high value ≡ false = one_unit value c is_one in
-    let read : read_piece (backslash ∷ letter_u ∷ opened.0) ≡ Some (c, rest) =
-    bound _ _ _ _ opened.2 (by_false _ _ _ _ low (bound _ _ _ _ is_one refl)) in
-    record {
-      first = backslash;
-      others = letter_u
-          ∷ opened.0;
-      is_split = opened.1;
-      is_no_quote = refl;
-      is_read = ap read_piece opened.1
-          ∙ read;
-    })
+piece-again (plain x) c rest e = grind (arith, plain_is_other)
+piece-again (escape x) c rest e = grind (arith, passes_no)
+piece-again (unit u) c rest e = grind (arith, unit-again, one_unit)
 piece-again (surrogates high low) c rest e =
     bind_then (unit_value high) _ _ e (λ h of_high more.
     bind_then (unit_value low) _ _ more (λ l of_low is_pair.
@@ -266,27 +224,17 @@ text_step : (n : ℕ) (front s bytes rest : List ℕ) (c : ℕ) (r : List ℕ) �
     → read_text n (front ++ encode_utf8 c) r ≡ Some (bytes, rest)
     → read_text (suc n) front s ≡ Some (bytes, rest)
 unfolding read_text
-text_step n front s bytes rest c r is more =
-    let first : read_piece (is.first ∷ is.others) ≡ Some (c, r) =
-    ap read_piece (sym is.is_split) ∙ is.is_read in
-    let read : read_text (suc n) front (is.first ∷ is.others) ≡ Some (bytes, rest) =
-    by_false _ _ _ _ is.is_no_quote (bound _ _ _ _ first more) in
-    ap (read_text (suc n) front) is.is_split ∙ read
+text_step n front s bytes rest c r is more = grind arith
 
 pub piece_length : (p : Piece) → 0 < length (piece_text p)
-piece_length (plain c) = lit< tt
-piece_length (escape c) = lit< tt
-piece_length (unit (unit4 a b c d)) = lit< tt
-piece_length (surrogates (unit4 a b c d) low) = omega arith
+piece_length p = grind arith
 
 pub text-again : (ps : List Piece) (n : ℕ) (front rest own : List ℕ) → pieces_meaning ps ≡ Some own
     → length (pieces_text ps ++ quote ∷ rest) < n
     → read_text n front (pieces_text ps ++ quote ∷ rest) ≡ Some (front ++ own, rest)
 unfolding read_text
 text-again ps zero front rest own e h = absurd (omega arith)
-text-again [] (suc n) front rest own e h =
-    let none : [] ≡ own = some_same [] own e in
-    ap (λ bytes. Some (bytes, rest)) (sym (append-nil front) ∙ ap (λ t. front ++ t) none)
+text-again [] (suc n) front rest own e h = grind (arith, append-nil)
 text-again (p ∷ ps) (suc n) front rest own e h =
     bind_then (piece_meaning p) _ _ e (λ c is_character more.
     bind_then (pieces_meaning ps) _ _ more (λ bytes are_others end.

@@ -2,7 +2,7 @@
 use Rattle.std.proofs.Common.{◌≡◌, ℕ, zero, suc, ◌+◌, ◌*◌, ◌<◌, true, false, refl, sym, ap, subst}
 use Rattle.std.proofs.Common.{take, drop, ◌∙◌, List, [], ◌∷◌, ◌++◌, length, length-append}
 use Rattle.std.proofs.Common.{append_assoc, append-nil, arith, Some, None, inl, inr, eqb-true}
-use Rattle.std.specs.Prelude.{◌≢◌, ◌==◌, ◌≤◌, nat_lt, encode_utf8, encode_utf8_all, chars, IsUtf8}
+use Rattle.std.specs.Prelude.{◌≢◌, ◌==◌, ◌≤◌, encode_utf8, encode_utf8_all, chars, IsUtf8}
 use Rattle.std.specs.List.{list_all, prefix_len}
 use Rattle.std.specs.Char.{digit_value, is_digit}
 use Rattle.std.proofs.lemmas.Bool.{lt-ltb, le-leb, ltb-true, ltb-false}
@@ -12,12 +12,11 @@ use Rattle.std.proofs.lemmas.List.{take-append-drop}
 use Rattle.std.specs.Str.{IsCharBoundary}
 use Rattle.std.proofs.lemmas.List.Sums.{prefix_len_stops, prefix_len-le-length}
 use Rattle.std.proofs.lemmas.List.Folds.{list_all-append}
-use Rattle.jsonb_value.specs.Json.Characters.{quote, backslash}
+use Rattle.jsonb_value.specs.Json.Characters.{quote}
 use Rattle.jsonb_value.specs.Json.Piece.{unit4, unit_value, is_plain}
 use Rattle.jsonb_value.specs.Reader.Reading.{read_piece, read_text}
-use Rattle.jsonb_value.specs.Json.Bind.{◌>>=◌}
-use Rattle.jsonb_value.proofs.Json.Tests.{bool_cases, by_true, by_false, and_true, and_both}
-use Rattle.jsonb_value.proofs.Json.Tests.{not_true, not_false, bound}
+use Rattle.jsonb_value.proofs.Json.Tests.{bool_cases, by_false, and_true, and_both}
+use Rattle.jsonb_value.proofs.Json.Tests.{bound}
 use Rattle.jsonb_value.proofs.Json.Shorter.{piece_shorter}
 
 some_digit : (c : ℕ) → digit_value c < 16 → is_digit c 16 ≡ true
@@ -27,39 +26,27 @@ pub all_digits_give : (a b c d : ℕ) → digit_value a < 16 → digit_value b <
     → digit_value d < 16
     → unit_value (unit4 a b c d)
     ≡ Some (digit_value a * 4096 + digit_value b * 256 + digit_value c * 16 + digit_value d)
-all_digits_give a b c d first second third fourth =
-    by_true _ _ _ _
-    (and_both _ _
-    (and_both _ _ (and_both _ _ (some_digit a first) (some_digit b second))
-    (some_digit c third)) (some_digit d fourth)) refl
+all_digits_give a b c d first second third fourth = grind (arith, some_digit)
 
 no_test : (c k : ℕ) → c ≢ k → (c == k) ≡ false
-no_test c k other =
-    elim (bool_cases (c == k)) [ inl e ↦ absurd (other (eqb-true c k e)) | inr e ↦ e ]
+no_test c k other = grind (arith, eqb-true)
 
 no_quote : (c : ℕ) → c ≢ quote → (c == quote) ≡ false
 no_quote c other = no_test c quote other
 
 pub text_ends : (m : ℕ) (front s : List ℕ) → s ≡ [] → read_text m front s ≡ None
 unfolding read_text
-text_ends zero front s e = refl
-text_ends (suc m) front s e = ap (read_text (suc m) front) e
+text_ends m front s e = grind arith
 
 pub text_closes : (m : ℕ) (front s after : List ℕ) → length s < m → s ≡ quote ∷ after
     → read_text m front s ≡ Some (front, after)
 unfolding read_text
-text_closes zero front s after h e = absurd (omega arith)
-text_closes (suc m) front s after h e = ap (read_text (suc m) front) e
+text_closes m front s after h e = grind arith
 
 pub text_fails : (m : ℕ) (front s after : List ℕ) (c : ℕ) → length s < m → s ≡ c ∷ after → c ≢ quote
     → read_piece s ≡ None → read_text m front s ≡ None
 unfolding read_text
-text_fails zero front s after c h e other none = absurd (omega arith)
-text_fails (suc m) front s after c h e other none =
-    let first : read_piece (c ∷ after) ≡ None = ap read_piece (sym e) ∙ none in
-    ap (read_text (suc m) front) e
-    ∙ by_false _ _ _ _ (no_quote c other)
-    (ap (λ o. o >>= λ p. read_text m (front ++ encode_utf8 p.0) p.1) first)
+text_fails m front s after c h e other none = grind (arith, no_quote)
 
 -- reading goes on behind a piece
 pub record GoesOn (m : ℕ) (front s new rest : List ℕ) : Type 0 where
@@ -97,21 +84,16 @@ goes_on_past_piece m front s middle rest after c x last g e other is =
     goes_on_past m front s middle rest after c x last g e (no_quote c other) (sym is)
 
 read_piece-plain : (c : ℕ) (s : List ℕ) → is_plain c ≡ true → read_piece (c ∷ s) ≡ Some (c, s)
-read_piece-plain c s e = by_false _ _ _ _ (not_true _ (and_true _ _ e).1) (by_true _ _ _ _ e refl)
+read_piece-plain c s e = grind arith
 
 plain_is_no_quote : (c : ℕ) → is_plain c ≡ true → (c == quote) ≡ false
-plain_is_no_quote c e = not_true _ (and_true _ _ (and_true _ _ e).0).1
+plain_is_no_quote c e = grind arith
 
 -- so many characters more that stand for themselves
 goes_on_past_all : (ps : List ℕ) (m : ℕ) (front s middle rest last : List ℕ)
     → GoesOn m front s middle rest → rest ≡ ps ++ last → list_all is_plain ps ≡ true
     → GoesOn m front s (middle ++ encode_utf8_all ps) last
-goes_on_past_all [] m front s middle rest last g e all = record {
-  turns = g.turns;
-  enough = omega (arith, ap length e, g.enough);
-  same = g.same ∙ ap (λ q. read_text g.turns middle q) e ∙ ap
-      (λ q. read_text g.turns q last) (sym (append-nil middle));
-}
+goes_on_past_all [] m front s middle rest last g e all = grind (arith, append-nil)
 goes_on_past_all (p ∷ ps) m front s middle rest last g e all =
     let parts = and_true _ _ all in
     let read : read_piece rest ≡ Some (p, ps ++ last) =
@@ -134,22 +116,11 @@ pub goes_on_past_plain : (m : ℕ) (front s middle rest last ps bytes : List ℕ
     → encode_utf8_all ps ≡ bytes
     → GoesOn m front s (middle ++ bytes) last
 goes_on_past_plain m front s middle rest last ps bytes g e all same =
-    let more = goes_on_past_all ps m front s middle rest last g e all in
-    record {
-      turns = more.turns;
-      enough = more.enough;
-      same = more.same ∙ ap
-          (λ q. read_text more.turns (middle ++ q) last) same;
-    }
+    grind (arith, goes_on_past_all)
 
 pub goes_on_as : (m : ℕ) (front s new rest own : List ℕ) → GoesOn m front s new rest → own ≡ new
     → GoesOn m front s own rest
-goes_on_as m front s new rest own g e = record {
-  turns = g.turns;
-  enough = g.enough;
-  same = g.same
-      ∙ ap (λ q. read_text g.turns q rest) (sym e);
-}
+goes_on_as m front s new rest own g e = grind arith
 
 -- from the quote that opens a string to the end of its plain characters
 pub goes_on_from_start : (n : ℕ) (s last ps bytes : List ℕ) → length s < n → s ≡ ps ++ last
@@ -161,24 +132,13 @@ goes_on_from_start n s last ps bytes h e all same =
 -- ---- plain bytes are plain characters
 
 large_is_plain : (c : ℕ) → 128 ≤ c → is_plain c ≡ true
-large_is_plain c h = and_both _ _
-    (and_both _ _ (le-leb 32 c (omega arith)) (not_false _ (no_test c quote (λ e. omega arith))))
-    (not_false _ (no_test c backslash (λ e. omega arith)))
+large_is_plain c h = grind (arith, le-leb, no_test)
 
 small_if_not_plain : (c : ℕ) → is_plain c ≡ false → c < 128
-small_if_not_plain c e = elim (bool_cases (nat_lt c 128)) [
-  | inl small ↦ ltb-true c 128 small
-  | inr large ↦ let is : is_plain c
-      ≡ true = large_is_plain c (ltb-false c 128 large) in let none : false ≡ true = sym e
-      ∙ is in absurd (let h : ⊥ = cc in h)
-]
+small_if_not_plain c e = grind (arith, ltb-true, large_is_plain, ltb-false)
 
 plain-encoded : (c : ℕ) → list_all is_plain (encode_utf8 c) ≡ true → is_plain c ≡ true
-plain-encoded c e = elim (bool_cases (nat_lt c 128)) [
-  | inl small ↦
-      (and_true _ _ (ap (list_all is_plain) (sym (encode_ascii c (ltb-true c 128 small))) ∙ e)).0
-  | inr large ↦ large_is_plain c (ltb-false c 128 large)
-]
+plain-encoded c e = grind (arith, encode_ascii, ltb-true, large_is_plain, ltb-false)
 
 plain-characters : (cs : List ℕ) → list_all is_plain (encode_utf8_all cs) ≡ true
     → list_all is_plain cs ≡ true
@@ -190,22 +150,22 @@ plain-characters (c ∷ cs) e =
 
 pub plain-chars : (bytes : List ℕ) → IsUtf8 bytes → list_all is_plain bytes ≡ true
     → list_all is_plain (chars bytes) ≡ true
-plain-chars bytes utf8 e =
-    plain-characters (chars bytes) (ap (list_all is_plain) (encodes-chars bytes utf8) ∙ e)
+plain-chars bytes utf8 e = grind (arith, plain-characters, encodes-chars)
 
 -- ---- where the plain characters at the front end
 
 plain_boundary : (bytes : List ℕ) → IsCharBoundary bytes (prefix_len is_plain bytes)
-plain_boundary bytes = elim (bool_cases (nat_lt (prefix_len is_plain bytes) (length bytes))) [
-  | inl within ↦
-      let stops = prefix_len_stops is_plain bytes 0 (ltb-true _ _ within) in
-      IsCharBoundary-before_ascii bytes (prefix_len is_plain bytes) (ltb-true _ _ within)
-      (small_if_not_plain _ stops)
-  | inr past ↦
-      let all : prefix_len is_plain bytes ≡ length bytes =
-      let h = ltb-false _ _ past in omega (arith, prefix_len-le-length is_plain bytes) in
-      subst (IsCharBoundary bytes) (sym all) (IsCharBoundary-end bytes)
-]
+plain_boundary bytes =
+    grind (
+      arith,
+      prefix_len_stops,
+      ltb-true,
+      IsCharBoundary-before_ascii,
+      small_if_not_plain,
+      ltb-false,
+      prefix_len-le-length,
+      IsCharBoundary-end,
+    )
 
 plain_take : (bytes : List ℕ) (n : ℕ) → n ≤ prefix_len is_plain bytes
     → list_all is_plain (take n bytes) ≡ true
@@ -218,7 +178,7 @@ plain_take (b ∷ bytes) (suc n) h = elim (bool_cases (is_plain b)) [
 ]
 
 pub cut_boundary : (bytes : List ℕ) (n : ℕ) → n ≡ prefix_len is_plain bytes → IsCharBoundary bytes n
-cut_boundary bytes n e = subst (IsCharBoundary bytes) (sym e) (plain_boundary bytes)
+cut_boundary bytes n e = grind (arith, plain_boundary)
 
 -- the bytes up to there
 pub record PlainFront (bytes front rest : List ℕ) : Type 0 where

@@ -6,7 +6,7 @@ use Rattle.jsonb_value.proofs.extension.interval_of.Goals as goal
 
 pub returns-clause-found : goal.returns-clause-found
 returns-clause-found c =
-    IsInterval-from c.args.bytes.now _ _ _ c.if-bytes-ne16.false
+    IsInterval-from _ _ _ _ c.if-bytes-ne16.false
     (IsSigned-read w32 _ _ (search rules) (search rules) c.read_i32.ensures)
     (IsSigned-read w32 _ _ (search rules) (search rules) c.read_i32-2.ensures)
     (IsSigned-read w64 _ _ (search rules) (search rules) c.read_i64.ensures)

@@ -9,7 +9,7 @@ use Rattle.jsonb_value.proofs.extension.timestamp_tz_of.Goals as goal
 
 pub returns-in-12-clause-found : goal.returns-in-12-clause-found
 returns-in-12-clause-found c =
-    inl (IsZoned-from c.args.bytes.now _ _ c.in-12.is
+    inl (IsZoned-from _ _ _ c.in-12.is
     (IsSigned-read w32 _ _ (search rules) (search rules) c.read_i32.ensures)
     (IsSigned-read w64 _ _ (search rules) (search rules) c.read_i64.ensures))
 

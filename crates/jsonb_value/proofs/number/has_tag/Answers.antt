@@ -1,3 +1,4 @@
+use Rattle.std.proofs.Common.{arith}
 use Rattle.std.proofs.lemmas.Bool.{eqb-true, eq-eqb}
 use Rattle.jsonb_value.proofs.PayloadLengths.{NumCode-whole, NumCode-decimal, NumCode-zero, tested}
 use Rattle.jsonb_value.proofs.number.has_tag.Goals as goal
@@ -11,5 +12,5 @@ returns-in-112 c = λ rest len. tested c.is_decimal_length.ensures
     (NumCode-decimal c.args.tag c.args.count c.in-112.is rest len)
 
 pub returns-in-0 : goal.returns-in-0
-returns-in-0 c = λ rest len. tested (eqb-true c.args.count 0, eq-eqb c.args.count 0)
-    (NumCode-zero c.args.tag c.args.count c.in-0.is rest len)
+returns-in-0 c =
+    grind (arith, tested, eqb-true, eq-eqb, NumCode-zero)

@@ -1,12 +1,17 @@
-use Rattle.jsonb_value.proofs.Codes.{IfNone-from, no_signed, no_unsigned}
+use Rattle.std.proofs.Common.{◌∷◌}
+use Rattle.jsonb_value.specs.declared.number.Number.{Number}
+use Rattle.jsonb_value.specs.NumCode.{NumCode}
+use Rattle.jsonb_value.proofs.Codes.{IfNone-from, signed_behind, unsigned_behind}
 use Rattle.jsonb_value.proofs.number.number_of_tag.Goals as goal
 
 pub returns-in_err-signed_of-in-64-clause-none : goal.returns-in_err-signed_of-in-64-clause-none
 returns-in_err-signed_of-in-64-clause-none c =
-    IfNone-from _ _
-    (no_signed c.args.tag c.args.rest.now c.in-64.is c.in_err-signed_of-in-64.ensures.none)
+    IfNone-from _ ((x : Number) → NumCode (c.args.tag ∷ _) x → ⊥) (λ x h.
+    let found = signed_behind _ _ x c.in-64.is h in
+    c.in_err-signed_of-in-64.ensures.none found.0 found.1)
 
 pub returns-in_err-unsigned_of-in-80-clause-none : goal.returns-in_err-unsigned_of-in-80-clause-none
 returns-in_err-unsigned_of-in-80-clause-none c =
-    IfNone-from _ _
-    (no_unsigned c.args.tag c.args.rest.now c.in-80.is c.in_err-unsigned_of-in-80.ensures.none)
+    IfNone-from _ ((x : Number) → NumCode (c.args.tag ∷ _) x → ⊥) (λ x h.
+    let found = unsigned_behind _ _ x c.in-80.is h in
+    c.in_err-unsigned_of-in-80.ensures.none found.0 found.1)

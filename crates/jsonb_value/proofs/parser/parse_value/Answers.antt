@@ -1,33 +1,29 @@
 use Rattle.std.proofs.Common.{arith, chars, length, suc}
 use Rattle.jsonb_value.proofs.Json.SpelledLaws.{one_meaning}
-use Rattle.jsonb_value.specs.Value.{tree_of}
 use Rattle.jsonb_value.proofs.Json.Documents.{read_whole, refused, left_over}
 use Rattle.jsonb_value.proofs.parser.parse_value.Goals as goal
 
 pub returns-in_err-value-clause-invalid : goal.returns-in_err-value-clause-invalid
 returns-in_err-value-clause-invalid c =
-    refused (chars c.args.text.now) c.from_residual.result c.in_err-value.field-0.0
+    refused _ _ _
     c.from_residual.ensures.1
-    (c.in_err-value.ensures (suc (length (chars c.args.text.now))) (omega arith))
+    (c.in_err-value.ensures (suc (length _)) (omega arith))
 
 pub returns-in_err-value-clause-one : goal.returns-in_err-value-clause-one
-returns-in_err-value-clause-one c = one_meaning (chars c.args.text.now)
+returns-in_err-value-clause-one c = one_meaning (chars _)
 
 pub returns-in-None-clause-ok : goal.returns-in-None-clause-ok
-returns-in-None-clause-ok c =
-    read_whole (chars c.args.text.now) (tree_of c.in_ok-value.value) (chars c.in_ok-value.rest.now)
-    (c.in_ok-value.ensures (suc (length (chars c.args.text.now)))
-    (omega arith)) c.in-None.ensures
+returns-in-None-clause-ok c = grind (arith, read_whole)
 
 pub returns-in-None-clause-one : goal.returns-in-None-clause-one
-returns-in-None-clause-one c = one_meaning (chars c.args.text.now)
+returns-in-None-clause-one c = one_meaning (chars _)
 
 pub returns-clause-invalid : goal.returns-clause-invalid
 returns-clause-invalid c = λ _.
-    left_over (chars c.args.text.now) (tree_of c.in_ok-value.value)
-    (chars c.in_ok-value.rest.now) _ _
-    (c.in_ok-value.ensures (suc (length (chars c.args.text.now)))
+    left_over _ _
+    _ _ _
+    (c.in_ok-value.ensures (suc (length _))
     (omega arith)) c.in-Some.ensures
 
 pub returns-clause-one : goal.returns-clause-one
-returns-clause-one c = one_meaning (chars c.args.text.now)
+returns-clause-one c = one_meaning (chars _)

@@ -8,15 +8,15 @@ pub returns-then-len-ge8 : goal.returns-then-len-ge8
 returns-then-len-ge8 c =
     let mask =
     c.escape_lanes.ensures ∙ ap (λ l. mask_l (map is_escaped l)) c.ends_of_eight.ensures in
-    none_escaped_at_ends c.args.bytes.now 8 c.escape_lanes.result (omega arith) (omega arith) mask
+    none_escaped_at_ends _ 8 _ (omega arith) (omega arith) mask
 
 pub returns-then-len-ge4 : goal.returns-then-len-ge4
 returns-then-len-ge4 c =
     let mask = c.escape_lanes-then-len-ge4.ensures ∙ ap
     (λ l. mask_l (map is_escaped l)) c.ends_of_four.ensures in
-    none_escaped_at_ends c.args.bytes.now 4 c.escape_lanes-then-len-ge4.result (omega arith)
+    none_escaped_at_ends _ 4 _ (omega arith)
     (omega arith) mask
 
 pub returns-else-len-ge4 : goal.returns-else-len-ge4
 returns-else-len-ge4 c =
-    none_escaped_in_run c.args.bytes.now c.plain_len_by_one.result c.plain_len_by_one.ensures.count
+    grind (arith, none_escaped_in_run)

@@ -8,19 +8,13 @@ use Rattle.jsonb_value.proofs.Writing.{joins_two, joins_three}
 use Rattle.jsonb_value.proofs.text.write_runs.Goals as goal
 
 pub range-requires-clause-end_boundary : goal.range-requires-clause-end_boundary
-range-requires-clause-end_boundary g c =
-    let run = IsRun-found c.runs.rest.now c.in-Some.at (search rules) in
-    IsCharBoundary-before_ascii c.runs.rest.now c.in-Some.at run.within run.ascii
+range-requires-clause-end_boundary g c = grind (arith, IsRun-found, IsCharBoundary-before_ascii)
 
 pub write_escape-requires : goal.write_escape-requires
-write_escape-requires g c =
-    let run = IsRun-found c.runs.rest.now c.in-Some.at (search rules) in
-    rw c.as_bytes.ensures.value run.ascii
+write_escape-requires g c = grind (arith, IsRun-found)
 
 pub range_from-rest-requires : goal.range_from-rest-requires
-range_from-rest-requires g c some =
-    let run = IsRun-found c.runs.rest.now c.in-Some.at (search rules) in
-    IsCharBoundary-after_ascii c.runs.rest.now c.in-Some.at c.runs.invariant.0 run.within run.ascii
+range_from-rest-requires g c some = grind (arith, IsRun-found, IsCharBoundary-after_ascii)
 
 pub runs-preserved : goal.runs-preserved
 runs-preserved g c =
@@ -49,9 +43,4 @@ runs-preserved g c =
 
 pub returns : goal.returns
 returns g c flush ok =
-    let rest = c.runs.rest.now in
-    let (text, done, whole, writes) = c.runs.invariant in
-    let plain : flat_map byte_text rest ≡ rest = content-plain rest (search rules) in
-    let so_far = writes flush in
-    joins_two _ _ _ _ _ _ _ so_far (c.write_str-2.ensures.styled so_far.flush ok)
-    (rw plain at whole)
+    grind (arith, content-plain, joins_two)

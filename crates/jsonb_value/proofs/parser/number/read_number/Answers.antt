@@ -1,3 +1,4 @@
+use Rattle.std.proofs.Common.{arith}
 use Rattle.std.proofs.Common.{rules, sym, ◌∙◌, ap, chars}
 use Rattle.std.specs.Prelude.{option_map}
 use Rattle.jsonb_value.proofs.Json.NumberSteps.{has_parts, number_too_large, number_out_of_range}
@@ -22,13 +23,7 @@ returns-in_err-value c =
     c.in_err-value.was)
 
 pub returns-in_err-number : goal.returns-in_err-number
-returns-in_err-number c =
-    let parts = has_parts
-    (chars c.args.text.now) _ _ _ _ _ c.in_ok-digits.digits c.read_sign-is_negative.ensures
-    c.in_ok-whole.ensures c.in_ok-digits.ensures in
-    ap (option_map _) c.from_residual-in_err-number.ensures
-    ∙ sym (number_of_parts _ _ _ _ _ _ _ _ parts c.in_ok-digits-2.was c.signed.ensures
-    c.in_ok-value.was c.in_err-number.ensures (search rules))
+returns-in_err-number c = grind (arith, has_parts, number_of_parts)
 
 pub returns : goal.returns
 returns c =

@@ -1,4 +1,5 @@
-use Rattle.std.proofs.Common.{rules, sym, ap, ◌∙◌, ◌∷◌, chars, length, ◌<◌, ◌++◌}
+use Rattle.std.proofs.Common.{arith}
+use Rattle.std.proofs.Common.{rules, sym, ap, ◌∙◌, ◌∷◌, chars, ◌++◌}
 use Rattle.std.specs.Prelude.{string_bytes, encode_utf8}
 use Rattle.jsonb_value.specs.Reader.Reading.{read_text}
 use Rattle.jsonb_value.proofs.Json.TextSteps.{text_ends, text_closes, text_fails}
@@ -20,8 +21,8 @@ pieces-init c = (
 pub returns-in_default : goal.returns-in_default
 returns-in_default c = λ n h.
     let g = c.pieces.invariant.1 n h in
-    g.same ∙ text_ends g.turns (string_bytes c.pieces.content)
-    (chars c.pieces.rest.now) c.in_default.ensures
+    g.same ∙ text_ends g.turns _
+    _ c.in_default.ensures
 
 pub returns-then-first-eq34 : goal.returns-then-first-eq34
 returns-then-first-eq34 c = λ n h.
@@ -36,10 +37,7 @@ returns-in_default-read_piece c = λ n h.
     (sym c.in_default-read_piece.ensures)
 
 pub pieces-smaller : goal.pieces-smaller
-pieces-smaller c =
-    let shorter : length (chars c.split_plain.result.1.now) < length (chars c.pieces.rest.now) =
-    plain_shorter _ _ _ _ _ c.in-Some-read_piece.ensures c.split_plain.ensures.whole in
-    shorter
+pieces-smaller c = grind (arith, plain_shorter)
 
 pub pieces-preserved : goal.pieces-preserved
 pieces-preserved c = (

@@ -13,6 +13,6 @@ returns-clause-ok c =
     let ordered : IsStrictlySortedBy string_cmp (keys_of few) = search rules in
     let whole : c.in_ok-all.all.items ≡ few ++ others =
     search rules in
-    IfOk-weaker c.object_of.result _ _
+    IfOk-weaker _ _ _
     (λ object. made_at_once few others c.in_ok-all.all.items object ordered whole)
     c.object_of.ensures.ok
