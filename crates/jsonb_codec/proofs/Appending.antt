@@ -14,7 +14,7 @@ length-Appended {old} {new} {bytes} h = ap length h.items ∙ length-append old.
 pub append-Appended : {old new : Vec ℕ Global} {bytes : List ℕ} (more : List ℕ)
     → AppendsBytes old new bytes → new.items ++ more ≡ old.items ++ (bytes ++ more)
 append-Appended {old} {new} {bytes} more h =
-    ap (λ x. x ++ more) h.items ∙ append_assoc old.items bytes more
+    rw h.items (append_assoc old.items bytes more)
 
 -- Of all the bytes to be appended these are left, and there is room for them.
 pub record Underway (old now : Vec ℕ Global) (all left : List ℕ) : Type 0 where
@@ -45,8 +45,8 @@ underway_end {old} {now} u =
 
 pub length-payloads_of-none : (ts : Trees) → count ts ≡ 0 → length (payloads_of ts) ≡ 0
 length-payloads_of-none no_trees h = refl
-length-payloads_of-none (tree t ts) h = absurd (omega (arith, h))
+length-payloads_of-none (tree t ts) h = absurd (omega arith)
 
 pub length-value_payloads-none : (ps : Pairs) → pair_count ps ≡ 0 → length (value_payloads ps) ≡ 0
 length-value_payloads-none no_pairs h = refl
-length-value_payloads-none (pair k t ps) h = absurd (omega (arith, h))
+length-value_payloads-none (pair k t ps) h = absurd (omega arith)

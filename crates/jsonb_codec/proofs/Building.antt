@@ -1,11 +1,10 @@
 -- A list built from its front: what was put in it, and the others that follow.
 use Rattle.std.proofs.Common.{◌≡◌, ℕ, List, [], ◌∷◌, ◌++◌, Option, Some, None, Result, Ok, Err}
-use Rattle.std.proofs.Common.{IfOk, refl, sym, ap, ap₂, subst, ◌∙◌}
+use Rattle.std.proofs.Common.{IfOk, refl, sym, ap, subst, ◌∙◌}
 use Rattle.std.specs.Prelude.{String, map, string_bytes, string_cmp}
 use Rattle.std.specs.declared.alloc.Global.{Global}
-use Rattle.std.specs.declared.cmp.Ordering.{Ordering}
 use Rattle.std.specs.declared.cmp.Ordering.TheVariants.{Less, Greater}
-use Rattle.std.specs.Ordering.{nat_cmp, match_ordering, ordering_reverse}
+use Rattle.std.specs.Ordering.{nat_cmp, ordering_reverse}
 use Rattle.std.specs.Cmp.Lexicographic.{slice_cmp}
 use Rattle.std.proofs.lemmas.Cmp.{nat_list_cmp_total}
 use Rattle.std.proofs.lemmas.List.{map-append}
@@ -13,8 +12,8 @@ use Rattle.std.specs.BTreeMap.{insert_entry}
 use mathlib.Core.Former as Former
 use Rattle.jsonb_value.specs.declared.value.Value.{Value, fold-Value}
 use Rattle.jsonb_value.specs.declared.error.Error.{Error}
-use Rattle.jsonb_value.specs.Tree.{Tree, Trees, no_trees, tree, Pairs, no_pairs, pair}
-use Rattle.jsonb_value.specs.Tree.{Ascends, Ascend}
+use Rattle.jsonb_value.specs.Tree.{Tree, Trees, no_trees, tree, Pairs, no_pairs, pair, Ascends}
+use Rattle.jsonb_value.specs.Tree.{Ascend}
 use Rattle.jsonb_value.specs.Value.{trees_of, pairs_of, tree_of, tree_step, pairs_view}
 use Rattle.jsonb_codec.specs.Doc.{Doc, IsDocument}
 use Rattle.jsonb_codec.specs.Parts.{IsPayloadOf}
@@ -67,10 +66,7 @@ insert_entry-append before [] k v t qs h = refl
 insert_entry-append before (e ∷ es) k v t qs h =
     let last = above (string_bytes e.0) (string_bytes k)
     (below (string_bytes e.0) (string_bytes k) (map (λ m. (m.0, tree_of m.1)) es) t qs h.1) in
-    ap (λ (o : Ordering). match_ordering o ((k, v) ∷ e ∷ es) ((e.0, v) ∷ es)
-    (e ∷ insert_entry string_cmp es k v)) last
-    ∙ ap (λ (l : List (String Global × Value)). e ∷ l)
-    (insert_entry-append (Some (string_bytes e.0)) es k v t qs h.1)
+    rw (last, insert_entry-append (Some (string_bytes e.0)) es k v t qs h.1)
 
 -- bytes of one type mean one tree
 pub meant : (ty : ℕ) (p : List ℕ) (t u : Tree) → IsPayloadOf ty p t → IsPayloadOf ty p u → t ≡ u
@@ -84,47 +80,41 @@ pairs_of-map [] = refl
 pairs_of-map (e ∷ es) = ap (pair (string_bytes e.0) (tree_of e.1)) (pairs_of-map es)
 
 -- one more value behind those so far
-pub trees_and-push : (vs ws : List Value) (v : Value) (ts us others : Trees) (first : Tree)
-    → ts ≡ trees_and (map tree_of vs) us → us ≡ tree first others → tree_of v ≡ first
+pub trees_and-push : (vs : List Value) (v : Value) {ws : List Value} {ts us others : Trees}
+    {first : Tree} → ts ≡ trees_and (map tree_of vs) us → us ≡ tree first others → tree_of v ≡ first
     → ws ≡ vs ++ (v ∷ []) → ts ≡ trees_and (map tree_of ws) others
-trees_and-push vs ws v ts us others first whole are same more =
-    whole ∙ ap (trees_and (map tree_of vs)) (are ∙ ap (λ (t : Tree). tree t others) (sym same))
-    ∙ sym (trees_and-append (map tree_of vs) (tree_of v) others)
-    ∙ ap (λ (l : List Tree). trees_and l others)
-    (sym (map-append tree_of vs (v ∷ [])) ∙ ap (map tree_of) (sym more))
+trees_and-push vs v {others = others} whole are same more =
+    cc (trees_and-append (map tree_of vs) (tree_of v) others, map-append tree_of vs (v ∷ []))
 
 -- what a map's pairs show
 abbrev pub seen : List (String Global × Value) → List (String Global × Tree)
 seen ms = map (λ m. (m.0, tree_of m.1)) ms
 
 -- one more pair behind those so far
-pub pairs_and-behind : (vs ws : List (String Global × Value)) (k : String Global) (v : Value)
-    (ps us others : Pairs) (key : List ℕ) (value : Tree)
+pub pairs_and-behind : (vs : List (String Global × Value)) (k : String Global) (v : Value)
+    {ws : List (String Global × Value)} {ps us others : Pairs} {key : List ℕ} {value : Tree}
     → ps ≡ pairs_and (seen vs) us → us ≡ pair key value others → string_bytes k ≡ key
     → tree_of v ≡ value → ws ≡ vs ++ ((k, v) ∷ []) → ps ≡ pairs_and (seen ws) others
-pairs_and-behind vs ws k v ps us others key value whole are is same more =
-    let front : us ≡ pair (string_bytes k) (tree_of v) others =
-    are ∙ ap₂ (λ (x : List ℕ) (t : Tree). pair x t others) (sym is) (sym same) in
-    whole ∙ ap (pairs_and (seen vs)) front
-    ∙ sym (pairs_and-append (seen vs) (k, tree_of v) others)
-    ∙ ap (λ (l : List (String Global × Tree)). pairs_and l others)
-    (sym (map-append (λ m. (m.0, tree_of m.1)) vs ((k, v) ∷ [])) ∙ ap seen (sym more))
+pairs_and-behind vs k v {others = others} whole are is same more =
+    cc (
+      pairs_and-append (seen vs) (k, tree_of v) others,
+      map-append {B = String Global × Tree} (λ m. (m.0, tree_of m.1)) vs ((k, v) ∷ []),
+    )
 
 -- the same where it was put into a map, behind the keys that it is above
-pub pairs_and-push : (vs ws : List (String Global × Value)) (k : String Global) (v : Value)
-    (ps us others : Pairs) (key : List ℕ) (value : Tree) → Ascend ps
+pub pairs_and-push : (vs : List (String Global × Value)) (k : String Global) (v : Value)
+    {ws : List (String Global × Value)} {ps us others : Pairs} {key : List ℕ} {value : Tree}
+    → Ascend ps
     → ps ≡ pairs_and (seen vs) us → us ≡ pair key value others → string_bytes k ≡ key
     → tree_of v ≡ value → ws ≡ insert_entry string_cmp vs k v → ps ≡ pairs_and (seen ws) others
-pairs_and-push vs ws k v ps us others key value ascend whole are is same more =
-    let front : us ≡ pair (string_bytes k) (tree_of v) others =
-    are ∙ ap₂ (λ (x : List ℕ) (t : Tree). pair x t others) (sym is) (sym same) in
-    let last = insert_entry-append None vs k v (tree_of v) others
-    (subst Ascend (whole ∙ ap (pairs_and (seen vs)) front) ascend) in
-    pairs_and-behind vs ws k v ps us others key value whole are is same (more ∙ last)
+pairs_and-push vs k v {ps = ps} {others = others} ascend whole are is same more =
+    let front : ps ≡ pairs_and (seen vs) (pair (string_bytes k) (tree_of v) others) = cc in
+    let last = insert_entry-append None vs k v (tree_of v) others (subst Ascend front ascend) in
+    pairs_and-behind vs k v whole are is same (more ∙ last)
 
 -- what was read is the tree of the document
 pub the_tree : (a b : List ℕ) (r : Result Value Error) → a ≡ b → IsDocument b
     → IfOk r (λ v. (t : Tree) → Doc a t → tree_of v ≡ t) → IfOk r (λ v. Doc b (tree_of v))
 the_tree a b (Ok v) is (t, h) same =
-    subst (Doc b) (sym (same t (subst (λ x. Doc x t) (sym is) h))) h
+    rw (same t (subst (λ x. Doc x t) (sym is) h)) h
 the_tree a b (Err e) is doc same = tt

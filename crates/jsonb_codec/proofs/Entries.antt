@@ -1,11 +1,11 @@
 -- How an entry word and the payloads fix each other.
-use Rattle.std.proofs.Common.{◌≡◌, ℕ, ◌+◌, ◌*◌, ◌%◌, ◌^◌, ◌<◌, ◌≤◌, List, ◌++◌, true, false, length}
-use Rattle.std.proofs.Common.{refl, sym, ap, ◌∙◌, arith, append_assoc}
-use Rattle.jsonb_value.specs.Tree.{Tree, null, boolean, number, text, extension, array, object}
-use Rattle.jsonb_value.specs.Tree.{Trees, no_trees, tree, Pairs, no_pairs, pair, count, pair_count}
+use Rattle.std.proofs.Common.{◌≡◌, ℕ, ◌+◌, ◌*◌, ◌%◌, ◌^◌, ◌<◌, ◌≤◌, List, ◌++◌, length, refl, sym}
+use Rattle.std.proofs.Common.{ap, ◌∙◌, arith, length-append}
+use Rattle.jsonb_value.specs.Tree.{Tree, text, Trees, no_trees, tree, Pairs, no_pairs, pair, count}
+use Rattle.jsonb_value.specs.Tree.{pair_count}
 use Rattle.jsonb_codec.specs.Word.{word}
-use Rattle.jsonb_codec.specs.Doc.{type_of, One, Children, Keys, Values}
-use Rattle.jsonb_codec.proofs.Words.{length-word-append, same_words, same_parts}
+use Rattle.jsonb_codec.specs.Doc.{type_of, IsKey, NoMore, One, Children, Keys, Values, Payload}
+use Rattle.jsonb_codec.proofs.Words.{length-word-append, same_words}
 
 -- the tag of a word of which the lower 28 bits are a length
 pub record IsType (t : ℕ) : Type 0 where
@@ -13,23 +13,12 @@ pub record IsType (t : ℕ) : Type 0 where
   pub room : t + 2 ^ 28 ≤ 2 ^ 32
 
 pub IsType-type_of : (t : Tree) → IsType (type_of t)
-IsType-type_of null = record { high = refl; room = omega arith }
-IsType-type_of (boolean true) = record { high = refl; room = omega arith }
-IsType-type_of (boolean false) = record { high = refl; room = omega arith }
-IsType-type_of (number x) = record { high = refl; room = omega arith }
-IsType-type_of (text s) = record { high = refl; room = omega arith }
-IsType-type_of (extension e) = record { high = refl; room = omega arith }
-IsType-type_of (array ts) = record { high = refl; room = omega arith }
-IsType-type_of (object ps) = record { high = refl; room = omega arith }
-
-pub IsType-text : IsType 268435456
-IsType-text = record { high = refl; room = omega arith }
+IsType-type_of t = grind arith
 
 -- a type and a length are told apart in their sum
-pub same_entry : (t u m n : ℕ) → IsType t → IsType u → m < 2 ^ 28 → n < 2 ^ 28 → t + m ≡ u + n
+pub same_entry : {t u m n : ℕ} → IsType t → IsType u → m < 2 ^ 28 → n < 2 ^ 28 → t + m ≡ u + n
     → (t ≡ u) × (m ≡ n)
-same_entry t u m n ht hu hm hn e =
-    (omega (arith, ht.high, hu.high), omega (arith, ht.high, hu.high))
+same_entry ht hu hm hn e = omega (arith, ht.high, hu.high)
 
 -- what two readings of the same entry words share
 pub record SameFront (t u m n : ℕ) (es fs : List ℕ) : Type 0 where
@@ -37,55 +26,72 @@ pub record SameFront (t u m n : ℕ) (es fs : List ℕ) : Type 0 where
   pub len : m ≡ n
   pub other_entries : es ≡ fs
 
-pub same_front : (t u : ℕ) (M N : List ℕ → Type 0) (O Q : List ℕ → List ℕ → Type 0) (e p q : List ℕ)
-    → IsType t → IsType u → (h : One t M O e p) → (k : One u N Q e q)
+pub same_front : {t u : ℕ} {M N : List ℕ → Type 0} {O Q : List ℕ → List ℕ → Type 0}
+    {e p q : List ℕ} → IsType t → IsType u → (h : One t M O e p) → (k : One u N Q e q)
     → SameFront t u (length h.payload) (length k.payload) h.other_entries k.other_entries
-same_front t u M N O Q e p q ht hu h k =
-    let words : word (t + length h.payload) ++ h.other_entries ≡ word (u + length k.payload)
-    ++ k.other_entries = sym h.entries_are ∙ k.entries_are in
-    let hs = h.short in
-    let ks = k.short in
-    let parts = same_words (t + length h.payload) (u + length k.payload) _ _
-    (omega (arith, ht.room)) (omega (arith, hu.room)) words in
-    let entry = same_entry t u (length h.payload) (length k.payload) ht hu hs ks parts.0 in
+same_front ht hu h k =
+    let parts = same_words (omega (arith, h.short, ht.room)) (omega (arith, k.short, hu.room))
+    (sym h.entries_are ∙ k.entries_are) in
+    let entry = same_entry ht hu h.short k.short parts.0 in
     record { type = entry.0; len = entry.1; other_entries = parts.1 }
 
--- and what they share where the payloads of one begin those of the other
-pub record SamePayload (p q xs ys c : List ℕ) : Type 0 where
-  pub payload : p ≡ q
-  pub other_payloads : ys ≡ xs ++ c
-
-pub same_payload : (t u : ℕ) (M N : List ℕ → Type 0) (O Q : List ℕ → List ℕ → Type 0)
-    (e f p q c : List ℕ) → (h : One t M O e p) → (k : One u N Q f q)
-    → length h.payload ≡ length k.payload → q ≡ p ++ c
-    → SamePayload h.payload k.payload h.other_payloads k.other_payloads c
-same_payload t u M N O Q e f p q c h k n same =
-    let bytes : h.payload ++ (h.other_payloads ++ c) ≡ k.payload ++ k.other_payloads =
-    sym (append_assoc h.payload h.other_payloads c) ∙ ap
-    (λ (x : List ℕ). x ++ c) (sym h.payloads_are) ∙ sym same ∙ k.payloads_are in
-    let split = same_parts h.payload k.payload _ _ n bytes in
-    record { payload = split.0; other_payloads = sym split.1 }
-
--- an entry word takes four bytes
-pub length-One : (t : ℕ) (M : List ℕ → Type 0) (O : List ℕ → List ℕ → Type 0) (e p : List ℕ)
+-- an entry word takes four bytes, and a payload is in front of the others
+pub length-One : {t : ℕ} {M : List ℕ → Type 0} {O : List ℕ → List ℕ → Type 0} {e p : List ℕ}
     → (h : One t M O e p) → length e ≡ 4 + length h.other_entries
-length-One t M O e p h =
-    ap length h.entries_are ∙ length-word-append (t + length h.payload) h.other_entries
+length-One h = grind (arith, length-word-append)
+
+pub length-One-payloads : {t : ℕ} {M : List ℕ → Type 0} {O : List ℕ → List ℕ → Type 0}
+    {e p : List ℕ}
+    → (h : One t M O e p) → length p ≡ length h.payload + length h.other_payloads
+length-One-payloads h = grind (arith, length-append)
+
+pub one_more : {t : ℕ} {M : List ℕ → Type 0} {O : List ℕ → List ℕ → Type 0}
+    (q es ps : List ℕ) → length q < 2 ^ 28 → M q → O es ps
+    → One t M O (word (t + length q) ++ es) (q ++ ps)
+one_more q es ps short means others = record {
+  payload = q;
+  other_entries = es;
+  other_payloads = ps;
+  entries_are = refl;
+  payloads_are = refl;
+  short = short;
+  means = means;
+  others = others;
+}
+
+-- so none begins where the words end
+pub not_ended : {t : ℕ} {M : List ℕ → Type 0} {O : List ℕ → List ℕ → Type 0} {e p q : List ℕ}
+    → NoMore e p → One t M O e q → ⊥
+not_ended h k = omega (arith, ap length h.no_entries, length-One k)
+
+-- Keys are children too, as texts, and so are values.
+abbrev pub keys_and : Pairs → Trees → Trees
+keys_and no_pairs us = us
+keys_and (pair k t ps) us = tree (text k) (keys_and ps us)
+
+abbrev pub keys_of : Pairs → Trees
+keys_of ps = keys_and ps no_trees
+
+abbrev pub values_of : Pairs → Trees
+values_of no_pairs = no_trees
+values_of (pair k t ps) = tree t (values_of ps)
+
+pub Keys-children : (ps : Pairs) → Keys ps ≡ Children (keys_of ps)
+Keys-children no_pairs = refl
+Keys-children (pair k t ps) = ap (One 268435456 (IsKey k)) (Keys-children ps)
+
+pub Values-children : (ps : Pairs) → Values ps ≡ Children (values_of ps)
+Values-children no_pairs = refl
+Values-children (pair k t ps) = ap (One (type_of t) (Payload t)) (Values-children ps)
 
 pub length-Children : (ts : Trees) (e p : List ℕ) → Children ts e p → length e ≡ 4 * count ts
 length-Children no_trees e p h = ap length h.no_entries
-length-Children (tree t ts) e p h =
-    let more = length-Children ts h.other_entries h.other_payloads h.others in
-    let one = length-One _ _ _ e p h in omega arith
+length-Children (tree t ts) e p h = omega (arith, length-One h, length-Children ts _ _ h.others)
 
 pub length-Values : (ps : Pairs) (e p : List ℕ) → Values ps e p → length e ≡ 4 * pair_count ps
 length-Values no_pairs e p h = ap length h.no_entries
-length-Values (pair k t ps) e p h =
-    let more = length-Values ps h.other_entries h.other_payloads h.others in
-    let one = length-One _ _ _ e p h in omega arith
+length-Values (pair k t ps) e p h = omega (arith, length-One h, length-Values ps _ _ h.others)
 
 pub length-Keys : (ps : Pairs) (e p : List ℕ) → Keys ps e p → length e ≡ 4 * pair_count ps
 length-Keys no_pairs e p h = ap length h.no_entries
-length-Keys (pair k t ps) e p h =
-    let more = length-Keys ps h.other_entries h.other_payloads h.others in
-    let one = length-One _ _ _ e p h in omega arith
+length-Keys (pair k t ps) e p h = omega (arith, length-One h, length-Keys ps _ _ h.others)

@@ -1,6 +1,6 @@
 -- How long the canonical parts are.
 use Rattle.std.proofs.Common.{◌≡◌, ℕ, suc, ◌+◌, ◌*◌, List, [], ◌∷◌, ◌++◌, length, String, Global}
-use Rattle.std.proofs.Common.{refl, ap, ◌∙◌, arith, length-append, eqb, false, inl, inr}
+use Rattle.std.proofs.Common.{refl, ap, arith, length-append, eqb, false, inl, inr}
 use Rattle.std.proofs.lemmas.Bool.Decides.{eqb_tells}
 use Rattle.jsonb_value.specs.Tree.{Tree, array, object, Trees, no_trees, tree, Pairs, no_pairs}
 use Rattle.jsonb_value.specs.Tree.{pair, count, pair_count}
@@ -11,9 +11,9 @@ use Rattle.jsonb_value.specs.Ast.{asts_view, ast_pairs_view}
 use Rattle.jsonb_value.specs.Value.{items_view, pairs_view}
 use Rattle.jsonb_codec.specs.Word.{word}
 use Rattle.jsonb_codec.specs.Doc.{type_of}
-use Rattle.jsonb_codec.specs.Canon.{document_of, FitsEntry, Fits, canon, payload_of}
-use Rattle.jsonb_codec.specs.Canon.{entries_of, payloads_of, key_entries, value_entries}
-use Rattle.jsonb_codec.specs.Canon.{key_payloads, value_payloads}
+use Rattle.jsonb_codec.specs.Canon.{document_of, FitsEntry, Fits, canon, payload_of, entries_of}
+use Rattle.jsonb_codec.specs.Canon.{payloads_of, key_entries, value_entries, key_payloads}
+use Rattle.jsonb_codec.specs.Canon.{value_payloads}
 use Rattle.jsonb_codec.proofs.Words.{length-word-append}
 
 pub count-items_view : (vs : List Value) → count (items_view vs) ≡ length vs
@@ -37,48 +37,41 @@ pair_count-ast_pairs_view (m ∷ ms) = ap suc (pair_count-ast_pairs_view ms)
 pub length-entries_of : (ts : Trees) → length (entries_of ts) ≡ 4 * count ts
 length-entries_of no_trees = refl
 length-entries_of (tree t ts) =
-    let more = length-entries_of ts in
-    let here = length-word-append (type_of t + length (payload_of t)) (entries_of ts) in omega arith
+    omega (arith, length-entries_of ts, length-word-append)
 
 pub length-key_entries : (ps : Pairs) → length (key_entries ps) ≡ 4 * pair_count ps
 length-key_entries no_pairs = refl
 length-key_entries (pair k t ps) =
-    let more = length-key_entries ps in
-    let here = length-word-append (268435456 + length k) (key_entries ps) in omega arith
+    omega (arith, length-key_entries ps, length-word-append)
 
 pub length-value_entries : (ps : Pairs) → length (value_entries ps) ≡ 4 * pair_count ps
 length-value_entries no_pairs = refl
 length-value_entries (pair k t ps) =
-    let more = length-value_entries ps in
-    let here =
-    length-word-append (type_of t + length (payload_of t)) (value_entries ps) in omega arith
+    omega (arith, length-value_entries ps, length-word-append)
 
 pub length-payload_of-array : (ts : Trees)
     → length (payload_of (array ts)) ≡ 4 + 4 * count ts + length (payloads_of ts)
 length-payload_of-array ts =
-    let here = length-word-append (2147483648 + count ts) (entries_of ts ++ payloads_of ts) in
-    let parts = length-append (entries_of ts) (payloads_of ts) in
-    let entries = length-entries_of ts in omega arith
+    omega (arith, length-word-append, length-append {A = ℕ}, length-entries_of ts)
 
 pub length-payload_of-object : (ps : Pairs)
     → length (payload_of (object ps))
     ≡ 4 + 8 * pair_count ps + (length (key_payloads ps) + length (value_payloads ps))
 length-payload_of-object ps =
-    let here = length-word-append (1073741824 + pair_count ps)
-    (key_entries ps ++ (value_entries ps ++ (key_payloads ps ++ value_payloads ps))) in
-    let one = length-append (key_entries ps)
-    (value_entries ps ++ (key_payloads ps ++ value_payloads ps)) in
-    let two = length-append (value_entries ps) (key_payloads ps ++ value_payloads ps) in
-    let three = length-append (key_payloads ps) (value_payloads ps) in
-    let keys = length-key_entries ps in
-    let values = length-value_entries ps in omega arith
+    omega (
+      arith,
+      length-word-append,
+      length-append {A = ℕ},
+      length-key_entries ps,
+      length-value_entries ps,
+    )
 
 ne-eqb : (a b : ℕ) → (a ≡ b → ⊥) → eqb a b ≡ false
 ne-eqb a b other = elim (eqb_tells a b) [ inl h ↦ absurd (other h.1) | inr h ↦ h.0 ]
 
 pub document_of-scalar : (ty : ℕ) (p : List ℕ) → (ty ≡ 1342177280 → ⊥)
     → document_of ty p ≡ word 536870912 ++ (word (ty + length p) ++ p)
-document_of-scalar ty p other = rw (ne-eqb ty 1342177280 other) refl
+document_of-scalar ty p other = rw (ne-eqb ty 1342177280 other)
 
 -- a scalar's document, and a container's
 pub canon-scalar : (t : Tree) → (type_of t ≡ 1342177280 → ⊥)
@@ -90,11 +83,7 @@ canon-container t is = rw is refl
 
 pub length-canon-scalar : (t : Tree) → (type_of t ≡ 1342177280 → ⊥)
     → length (canon t) ≡ 8 + length (payload_of t)
-length-canon-scalar t other =
-    let outer =
-    length-word-append 536870912 (word (type_of t + length (payload_of t)) ++ payload_of t) in
-    let inner = length-word-append (type_of t + length (payload_of t)) (payload_of t) in
-    ap length (canon-scalar t other) ∙ omega arith
+length-canon-scalar t other = grind (arith, canon-scalar, length-word-append)
 
 -- A scalar fits where its entry does, a container where what is inside it does.
 pub Fits-scalar : (t : Tree) → FitsEntry t → Fits t

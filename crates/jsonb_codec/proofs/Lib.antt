@@ -2,6 +2,7 @@ pub mod Appending
 pub mod Standing
 pub mod Words
 pub mod Entries
+pub mod Containers
 pub mod Unique
 pub mod Scalars
 mod TextDocuments

@@ -1,10 +1,10 @@
 -- A tree that is read again from its text fits where the tree that was printed does.
-use Rattle.std.proofs.Common.{◌≡◌, ◌≤◌, suc, Bool, length, chars, refl, ap, ◌∙◌, arith}
+use Rattle.std.proofs.Common.{◌≡◌, ◌≤◌, ℕ, suc, Bool, length, chars, refl, ap, ◌∙◌, arith}
 use Rattle.std.proofs.Common.{length-append}
 use Rattle.jsonb_value.specs.Plain.{IsPlain}
 use Rattle.jsonb_value.specs.Text.{Layout, laid_out}
-use Rattle.jsonb_value.specs.Tree.{Tree, null, boolean, number, text, array, object, Trees}
-use Rattle.jsonb_value.specs.Tree.{no_trees, tree, Pairs, no_pairs, pair, count, pair_count}
+use Rattle.jsonb_value.specs.Tree.{Tree, boolean, number, text, array, object, Trees, no_trees}
+use Rattle.jsonb_value.specs.Tree.{tree, Pairs, no_pairs, pair, count, pair_count}
 use Rattle.jsonb_value.specs.WellFormed.{IsTree}
 use Rattle.jsonb_value.proofs.Json.Same.{IsSame, AreSame, PairsSame}
 use Rattle.jsonb_value.proofs.Json.PrintedTrees.{reread_tree}
@@ -15,13 +15,8 @@ use Rattle.jsonb_codec.specs.Reread.{MeansAgain}
 use Rattle.jsonb_codec.proofs.Lengths.{length-payload_of-array, length-payload_of-object}
 
 type_of-IsSame : (u t : Tree) → IsSame u t → type_of u ≡ type_of t
-type_of-IsSame null null s = refl
 type_of-IsSame (boolean a) (boolean b) s = ap (λ (c : Bool). type_of (boolean c)) s
-type_of-IsSame (number x) (number y) s = refl
-type_of-IsSame (text a) (text b) s = refl
-type_of-IsSame (array us) (array ts) s = refl
-type_of-IsSame (object qs) (object ps) s = refl
-type_of-IsSame u t s = absurd s
+type_of-IsSame u t s = grind arith
 
 count-AreSame : (us ts : Trees) → AreSame us ts → count us ≡ count ts
 count-AreSame no_trees no_trees s = refl
@@ -37,108 +32,70 @@ key_payloads-PairsSame : (qs ps : Pairs) → PairsSame qs ps
     → length (key_payloads qs) ≡ length (key_payloads ps)
 key_payloads-PairsSame no_pairs no_pairs s = refl
 key_payloads-PairsSame (pair l u qs) (pair k t ps) s =
-    omega (
-      arith,
-      ap length s.0,
-      key_payloads-PairsSame qs ps s.1.1,
-      length-append l
-          (key_payloads qs),
-      length-append k (key_payloads ps),
-    )
+    omega (arith, ap length s.0, key_payloads-PairsSame qs ps s.1.1, length-append {A = ℕ})
 key_payloads-PairsSame qs ps s = absurd s
 
 -- it is written in no more bytes
 mutual
   shorter : (u t : Tree) → IsSame u t → length (payload_of u) ≤ length (payload_of t)
-  shorter null null s = omega arith
-  shorter (boolean a) (boolean b) s = omega arith
   shorter (number x) (number y) s = s.shorter
   shorter (text a) (text b) s = omega (arith, ap length s)
-  shorter (array us) (array ts) s = omega (
+  shorter (array us) (array ts) s =
+      omega (arith, length-payload_of-array, count-AreSame us ts s, all_shorter us ts s)
+  shorter (object qs) (object ps) s = omega (
     arith,
-    length-payload_of-array us,
-    length-payload_of-array ts,
-    count-AreSame us ts s,
-    all_shorter us ts s,
+    length-payload_of-object,
+    pair_count-PairsSame qs ps s,
+    key_payloads-PairsSame qs ps s,
+    pairs_shorter qs ps s,
   )
-  shorter (object qs) (object ps) s =
-      omega (
-        arith,
-        length-payload_of-object qs,
-        length-payload_of-object ps,
-        pair_count-PairsSame qs ps s,
-        key_payloads-PairsSame qs ps s,
-        pairs_shorter qs ps s,
-      )
-  shorter u t s = absurd s
+  shorter u t s = grind arith
 
   all_shorter : (us ts : Trees) → AreSame us ts → length (payloads_of us) ≤ length (payloads_of ts)
   all_shorter no_trees no_trees s = omega arith
   all_shorter (tree u us) (tree t ts) s =
-      omega (
-        arith,
-        shorter u t s.0,
-        all_shorter us ts s.1,
-        length-append (payload_of u)
-            (payloads_of us),
-        length-append (payload_of t) (payloads_of ts),
-      )
+      omega (arith, shorter u t s.0, all_shorter us ts s.1, length-append {A = ℕ})
   all_shorter us ts s = absurd s
 
   pairs_shorter : (qs ps : Pairs) → PairsSame qs ps
       → length (value_payloads qs) ≤ length (value_payloads ps)
   pairs_shorter no_pairs no_pairs s = omega arith
   pairs_shorter (pair l u qs) (pair k t ps) s =
-      omega (
-        arith,
-        shorter u t s.1.0,
-        pairs_shorter qs ps s.1.1,
-        length-append (payload_of u)
-            (value_payloads qs),
-        length-append (payload_of t) (value_payloads ps),
-      )
+      omega (arith, shorter u t s.1.0, pairs_shorter qs ps s.1.1, length-append {A = ℕ})
   pairs_shorter qs ps s = absurd s
 
 mutual
   inside_too : (u t : Tree) → IsSame u t → FitsInside t → FitsInside u
-  inside_too null null s h = tt
-  inside_too (boolean a) (boolean b) s h = tt
-  inside_too (number x) (number y) s h = tt
-  inside_too (text a) (text b) s h = tt
   inside_too (array us) (array ts) s h =
-      let few = h.0 in (omega (arith, count-AreSame us ts s), all_too us ts s h.1)
+      (omega (arith, h.0, count-AreSame us ts s), all_too us ts s h.1)
   inside_too (object qs) (object ps) s h =
-      let few = h.0 in (omega (arith, pair_count-PairsSame qs ps s), pairs_too qs ps s h.1)
-  inside_too u t s h = absurd s
+      (omega (arith, h.0, pair_count-PairsSame qs ps s), pairs_too qs ps s h.1)
+  inside_too u t s h = grind arith
 
   all_too : (us ts : Trees) → AreSame us ts → AllFit ts → AllFit us
   all_too no_trees no_trees s h = tt
-  all_too (tree u us) (tree t ts) s h = let short = h.0.1 in
-      ((inside_too u t s.0 h.0.0, omega (arith, shorter u t s.0)), all_too us ts s.1 h.1)
+  all_too (tree u us) (tree t ts) s h = (
+    (inside_too u t s.0 h.0.0, omega (arith, h.0.1, shorter u t s.0)),
+    all_too us ts s.1 h.1,
+  )
   all_too us ts s h = absurd s
 
   pairs_too : (qs ps : Pairs) → PairsSame qs ps → PairsFit ps → PairsFit qs
   pairs_too no_pairs no_pairs s h = tt
-  pairs_too (pair l u qs) (pair k t ps) s h =
-      let key = h.0.0 in
-      let short = h.0.1.1 in (
-        (
-          omega (arith, ap length s.0),
-          (
-            inside_too u t s.1.0 h.0.1.0,
-            omega
-                (arith, shorter u t s.1.0),
-          ),
-        ),
-        pairs_too qs ps s.1.1 h.1,
-      )
+  pairs_too (pair l u qs) (pair k t ps) s h = (
+    (
+      omega (arith, h.0.0, ap length s.0),
+      (inside_too u t s.1.0 h.0.1.0, omega (arith, h.0.1.1, shorter u t s.1.0)),
+    ),
+    pairs_too qs ps s.1.1 h.1,
+  )
   pairs_too qs ps s h = absurd s
 
 Fits-IsSame : (u t : Tree) → IsSame u t → Fits t → Fits u
 Fits-IsSame u t s h = record {
   inside = inside_too u t s h.inside;
-  short = λ other. let short = h.short
-      (λ e. other (type_of-IsSame u t s ∙ e)) in omega (arith, shorter u t s);
+  short = λ other.
+      omega (arith, shorter u t s, h.short (λ e. other (type_of-IsSame u t s ∙ e)));
 }
 
 -- The text of a tree without extension values means a tree again that fits and is Equal to it.

@@ -1,6 +1,6 @@
 -- What the payload of each type can be.
-use Rattle.std.proofs.Common.{IfErr, ◌≡◌, ◌↔◌, ◌&&◌, ℕ, suc, List, [], Bool, true, false, IsTrue}
-use Rattle.std.proofs.Common.{Result, Ok, Err, IsErrAnd, IfErr, OnErr, eqb, length, ◌∷◌, refl, sym}
+use Rattle.std.proofs.Common.{◌⊎◌, inl, inr, IfErr, ◌≡◌, ◌↔◌, ◌&&◌, ℕ, List, [], Bool, true, false}
+use Rattle.std.proofs.Common.{IsTrue, Result, Ok, Err, IsErrAnd, OnErr, eqb, length, ◌∷◌, refl, sym}
 use Rattle.std.proofs.Common.{subst, ◌∙◌, arith}
 use Rattle.std.proofs.lemmas.Bool.Decides.{nat_tests}
 use Rattle.std.specs.Str.{IsUtf8}
@@ -13,80 +13,61 @@ use Rattle.jsonb_codec.specs.Doc.{type_of, Payload}
 use Rattle.jsonb_codec.specs.declared.document.FaultTable.{FaultTable}
 use Rattle.jsonb_codec.specs.Parts.{IsFault, Tells, HasPayload}
 
-null_behind : (t : Tree) (p : List ℕ) → type_of t ≡ 0 → Payload t p → p ≡ []
-null_behind null p e h = h
-null_behind (boolean true) p e h = absurd (omega arith)
-null_behind (boolean false) p e h = absurd (omega arith)
-null_behind t p e h = absurd (omega arith)
-
-false_behind : (t : Tree) (p : List ℕ) → type_of t ≡ 805306368 → Payload t p → p ≡ []
-false_behind (boolean true) p e h = absurd (omega arith)
-false_behind (boolean false) p e h = h
-false_behind t p e h = absurd (omega arith)
-
-true_behind : (t : Tree) (p : List ℕ) → type_of t ≡ 1073741824 → Payload t p → p ≡ []
-true_behind (boolean true) p e h = h
-true_behind (boolean false) p e h = absurd (omega arith)
-true_behind t p e h = absurd (omega arith)
+empty_behind : (t : Tree) (p : List ℕ)
+    → (type_of t ≡ 0) ⊎ ((type_of t ≡ 805306368) ⊎ (type_of t ≡ 1073741824)) → Payload t p → p ≡ []
+empty_behind null p is h = h
+empty_behind (boolean b) p is h = h
+empty_behind t p is h = absurd (grind arith)
 
 pub text_behind : (t : Tree) (p : List ℕ) → type_of t ≡ 268435456 → Payload t p → IsUtf8 p
 text_behind (text s) p e h = rw h.0 h.1
-text_behind (boolean true) p e h = absurd (omega arith)
-text_behind (boolean false) p e h = absurd (omega arith)
-text_behind t p e h = absurd (omega arith)
+text_behind t p e h = absurd (grind arith)
 
 pub number_behind : (t : Tree) (p : List ℕ) → type_of t ≡ 536870912 → Payload t p → (x : Number)
     × NumCode p x
 number_behind (number x) p e h = (x, h)
-number_behind (boolean true) p e h = absurd (omega arith)
-number_behind (boolean false) p e h = absurd (omega arith)
-number_behind t p e h = absurd (omega arith)
+number_behind t p e h = absurd (grind arith)
 
 pub extension_behind : (t : Tree) (p : List ℕ) → type_of t ≡ 1610612736 → Payload t p
     → (x : Extension) × ExtCode p x
 extension_behind (extension x) p e h = (x, h)
-extension_behind (boolean true) p e h = absurd (omega arith)
-extension_behind (boolean false) p e h = absurd (omega arith)
-extension_behind t p e h = absurd (omega arith)
+extension_behind t p e h = absurd (grind arith)
 
 pub iff_trans : {A B C : Type 0} → (A ↔ B) → (B ↔ C) → A ↔ C
 iff_trans h k = (λ a. k.0 (h.0 a), λ c. h.1 (k.1 c))
 
-pub HasPayload-null : (d k : ℕ) (p : List ℕ) → k ≡ 0 → (p ≡ []) ↔ HasPayload d k p
-HasPayload-null d k p e =
-    (λ h. (null, (omega arith, (sym e, h))), λ w. null_behind w.0 p (w.1.1.0 ∙ e) w.1.1.1)
-
-pub HasPayload-false : (d k : ℕ) (p : List ℕ) → k ≡ 805306368 → (p ≡ []) ↔ HasPayload d k p
-HasPayload-false d k p e =
-    (λ h. (boolean false, (omega arith, (sym e, h))), λ w. false_behind w.0 p (w.1.1.0 ∙ e) w.1.1.1)
-
-pub HasPayload-true : (d k : ℕ) (p : List ℕ) → k ≡ 1073741824 → (p ≡ []) ↔ HasPayload d k p
-HasPayload-true d k p e =
-    (λ h. (boolean true, (omega arith, (sym e, h))), λ w. true_behind w.0 p (w.1.1.0 ∙ e) w.1.1.1)
+pub HasPayload-empty : (d k : ℕ) (p : List ℕ) → (k ≡ 0) ⊎ ((k ≡ 805306368) ⊎ (k ≡ 1073741824))
+    → (p ≡ []) ↔ HasPayload d k p
+HasPayload-empty d k p is = (made is, λ (t, (w, (q, h))). empty_behind t p (rw q is) h)
+  where
+    made : (k ≡ 0) ⊎ ((k ≡ 805306368) ⊎ (k ≡ 1073741824)) → p ≡ [] → HasPayload d k p
+    made (inl e) h = (null, (omega arith, (sym e, h)))
+    made (inr (inl e)) h = (boolean false, (omega arith, (sym e, h)))
+    made (inr (inr e)) h = (boolean true, (omega arith, (sym e, h)))
 
 pub HasPayload-text : (d k : ℕ) (p : List ℕ) → k ≡ 268435456 → IsUtf8 p ↔ HasPayload d k p
-HasPayload-text d k p e =
-    (λ h. (text p, (omega arith, (sym e, (refl, h)))), λ w. text_behind w.0 p (w.1.1.0 ∙ e) w.1.1.1)
+HasPayload-text d k p e = (
+  λ h. (text p, (omega arith, (sym e, (refl, h)))),
+  λ (t, (w, (q, h))). text_behind t p (q ∙ e) h,
+)
 
 pub HasPayload-number : (d k : ℕ) (p : List ℕ) → k ≡ 536870912 → ((x : Number) × NumCode p x)
     ↔ HasPayload d k p
-HasPayload-number d k p e =
-    (λ h. (number h.0, (omega arith, (sym e, h.1))), λ w. number_behind w.0 p (w.1.1.0 ∙ e) w.1.1.1)
+HasPayload-number d k p e = (
+  λ h. (number h.0, (omega arith, (sym e, h.1))),
+  λ (t, (w, (q, h))). number_behind t p (q ∙ e) h,
+)
 
 pub HasPayload-extension : (d k : ℕ) (p : List ℕ) → k ≡ 1610612736 → ((x : Extension) × ExtCode p x)
     ↔ HasPayload d k p
 HasPayload-extension d k p e = (
   λ h. (extension h.0, (omega arith, (sym e, h.1))),
-  λ w. extension_behind w.0 p
-      (w.1.1.0 ∙ e) w.1.1.1,
+  λ (t, (w, (q, h))). extension_behind t p (q ∙ e) h,
 )
-
-never_empty : (n : ℕ) → eqb (suc n) 0 ≡ true → ⊥
-never_empty n e = grind (arith, nat_tests)
 
 pub empty_test : (b : Bool) (p : List ℕ) → b ≡ eqb (length p) 0 → IsTrue b ↔ (p ≡ [])
 empty_test b [] e = (λ _. refl, λ _. e)
-empty_test b (x ∷ p) e = (λ q. absurd (never_empty (length p) (sym e ∙ q)), λ q. cc)
+empty_test b (x ∷ p) e = (λ q. absurd (grind (arith, nat_tests)), λ q. cc)
 
 pub not_empty : (b : Bool) (p : List ℕ) → b ≡ eqb (length p) 0 → b ≡ false → length p ≡ 0 → ⊥
 not_empty b [] e never z = let both = sym never ∙ e in cc

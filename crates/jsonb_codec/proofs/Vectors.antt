@@ -1,5 +1,6 @@
 -- Documents of known trees, byte by byte.
-use Rattle.std.specs.Prelude.{◌≡◌, pos, negsuc, true, false, [], ◌∷◌, refl}
+use Rattle.std.specs.Prelude.{◌≡◌, pos, negsuc, true, false, ℕ, List, [], ◌∷◌, ◌++◌, replicate}
+use Rattle.std.specs.Prelude.{refl}
 use Rattle.std.proofs.Common.{inl, inr, lit<, arith}
 use Rattle.jsonb_value.specs.declared.number.Number.TheVariants.{Int64, UInt64, Decimal64}
 use Rattle.jsonb_value.specs.declared.number.Number.TheVariants.{Decimal128}
@@ -138,31 +139,20 @@ pub old_decimal : Doc
     ∷ 0x00 ∷ 0x00 ∷ 0x00 ∷ 0x00 ∷ 0x00 ∷ 0x00 ∷ 0x00 ∷ 0x00 ∷ 0x00 ∷ 0x04 ∷ 0xd2 ∷ 0x26 ∷ 0x02 ∷ [])
     (number (Decimal128 (record { scale = 2; value = pos 1234 })))
 unfolding word
-old_decimal = inl (
-  λ same. omega arith,
-  record {
-    payload = 0x70 ∷ 0x00 ∷ 0x00 ∷ 0x00 ∷ 0x00 ∷ 0x00 ∷ 0x00 ∷ 0x00
-        ∷ 0x00 ∷ 0x00 ∷ 0x00 ∷ 0x00 ∷ 0x00 ∷ 0x00 ∷ 0x00 ∷ 0x04 ∷ 0xd2 ∷ 0x26 ∷ 0x02
-        ∷ [];
-    parts = refl;
-    short = lit< tt;
-    means = (
-      0x00 ∷ 0x00 ∷ 0x00 ∷ 0x00 ∷ 0x00 ∷ 0x00 ∷ 0x00 ∷ 0x00 ∷ 0x00 ∷ 0x00 ∷ 0x00 ∷ 0x00 ∷ 0x00
-          ∷ 0x00
-          ∷ 0x04 ∷ 0xd2 ∷ 0x26 ∷ 0x02
-          ∷ [],
-      (
-        refl,
-        inr (
-          0x00 ∷ 0x00 ∷ 0x00 ∷ 0x00 ∷ 0x00 ∷ 0x00 ∷ 0x00 ∷ 0x00 ∷ 0x00 ∷ 0x00 ∷ 0x00 ∷ 0x00 ∷ 0x00
-              ∷ 0x00
-              ∷ 0x04 ∷ 0xd2 ∷ [],
-          (0x26, (refl, record { len = refl; value = refl })),
-        ),
-      ),
-    );
-  },
-)
+old_decimal =
+    let value : List ℕ = replicate 14 0x00 ++ (0x04 ∷ 0xd2 ∷ []) in
+    inl (
+      λ same. omega arith,
+      record {
+        payload = 0x70 ∷ (value ++ (0x26 ∷ 0x02 ∷ []));
+        parts = refl;
+        short = lit< tt;
+        means = (
+          value ++ (0x26 ∷ 0x02 ∷ []),
+          (refl, inr (value, (0x26, (refl, record { len = refl; value = refl })))),
+        );
+      },
+    )
 
 -- the offset in hours
 pub old_zoned : Doc
@@ -170,32 +160,29 @@ pub old_zoned : Doc
     ∷ 0x23 ∷ 0x80 ∷ 0x00 ∷ 0x08 ∷ [])
     (extension (timestamp_tz (record { offset = pos 28800; value = pos 1760140800000000 })))
 unfolding word
-old_zoned = inl (
-  λ same. omega arith,
-  record {
-    payload = 0x30 ∷ 0x00 ∷ 0x06 ∷ 0x40 ∷ 0xd6 ∷ 0xb7 ∷ 0x23 ∷ 0x80
-        ∷ 0x00 ∷ 0x08
-        ∷ [];
-    parts = refl;
-    short = lit< tt;
-    means = (
-      0x00 ∷ 0x06 ∷ 0x40 ∷ 0xd6 ∷ 0xb7 ∷ 0x23 ∷ 0x80 ∷ 0x00 ∷ 0x08
-          ∷ [],
-      (
-        refl,
-        inr
-            (record {
-              value_bytes = 0x00 ∷ 0x06 ∷ 0x40 ∷ 0xd6 ∷ 0xb7 ∷ 0x23 ∷ 0x80 ∷ 0x00
-                  ∷ [];
-              hour_bytes = 0x08
-                  ∷ [];
+old_zoned =
+    let value : List ℕ = 0x00 ∷ 0x06 ∷ 0x40 ∷ 0xd6 ∷ 0xb7 ∷ 0x23 ∷ 0x80 ∷ 0x00 ∷ [] in
+    let bytes : List ℕ = value ++ (0x08 ∷ []) in
+    inl (
+      λ same. omega arith,
+      record {
+        payload = 0x30 ∷ bytes;
+        parts = refl;
+        short = lit< tt;
+        means = (
+          bytes,
+          (
+            refl,
+            inr (record {
+              value_bytes = value;
+              hour_bytes = 0x08 ∷ [];
               hours = pos 8;
               parts = refl;
               value = record { len = refl; value = refl };
               hour = record { len = refl; value = refl };
               offset = refl;
             }),
-      ),
-    );
-  },
-)
+          ),
+        );
+      },
+    )

@@ -1,6 +1,6 @@
 use Rattle.std.proofs.Common.{sym, refl, ◌∙◌, arith}
-use Rattle.jsonb_codec.proofs.CanonicalSteps.{written_as, written_onward, written_back}
-use Rattle.jsonb_codec.proofs.CanonicalSteps.{none_written, written_container}
+use Rattle.jsonb_codec.proofs.CanonicalSteps.{written_onward, written_back, none_written}
+use Rattle.jsonb_codec.proofs.CanonicalSteps.{written_container}
 use Rattle.jsonb_codec.proofs.Scalars.{iff_trans}
 use Rattle.jsonb_codec.proofs.canonical.+written.Goals as goal
 
@@ -12,7 +12,7 @@ are_written-returns-then-not-is_written t c ts h =
       λ yes. cc,
       λ w.
           let yes = (c.is_written.ensures f.first f.is).1
-          (written_onward us _ _ _ _ _ _ f k.entries k.payloads k.short (same.1 w)).0 in
+          (written_onward f k.entries k.payloads k.short (same.1 w)).0 in
           let never = sym c.if-not-is_written.true ∙ yes in cc,
     )
 
@@ -28,8 +28,8 @@ are_written-loop-child-preserved t c =
             (
               f.behind,
               (
-                λ w. same.0 (written_back us _ _ _ _ _ _ f k.entries k.payloads k.short is w),
-                λ w. (written_onward us _ _ _ _ _ _ f k.entries k.payloads k.short (same.1 w)).1,
+                λ w. same.0 (written_back f k.entries k.payloads k.short is w),
+                λ w. (written_onward f k.entries k.payloads k.short (same.1 w)).1,
               ),
             ),
           );
@@ -40,14 +40,6 @@ pub are_written-returns : goal.are_written-returns
 are_written-returns t c ts h =
     let (us, (are, same)) = c.loop-child.invariant.same ts h in
     (λ yes. same.0 (none_written us _ _ (c.in_default.ensures.none us are) are), λ w. refl)
-
-pub is_written-returns-in-536870912 : goal.is_written-returns-in-536870912
-is_written-returns-in-536870912 t c u h =
-    written_as _ u _ _ (c.number.ensures u h) h.1 c.is_written_number.ensures
-
-pub is_written-returns-in-1610612736 : goal.is_written-returns-in-1610612736
-is_written-returns-in-1610612736 t c u h =
-    written_as _ u _ _ (c.extension.ensures u h) h.1 c.is_written_extension.ensures
 
 pub is_written-returns-in-1342177280 : goal.is_written-returns-in-1342177280
 is_written-returns-in-1342177280 t c u h =

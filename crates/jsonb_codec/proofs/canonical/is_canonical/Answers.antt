@@ -1,5 +1,3 @@
-use Rattle.std.proofs.Common.{◌↔◌, IsTrue, subst}
-use Rattle.jsonb_codec.specs.Canonical.{IsCanonical}
 use Rattle.jsonb_codec.proofs.CanonicalSteps.{refused, canonical_document}
 use Rattle.jsonb_codec.proofs.canonical.is_canonical.Goals as goal
 
@@ -8,6 +6,4 @@ returns-in-None c = refused
     (λ canonical. let never = c.in-None.ensures.exact.1 (canonical_document _ canonical) in cc)
 
 pub returns-in-Some : goal.returns-in-Some
-returns-in-Some c =
-    subst (λ b. IsTrue c.is_canonical_document.result ↔ IsCanonical b) c.in-Some.ensures.bytes
-    c.is_canonical_document.ensures
+returns-in-Some c = rw c.in-Some.ensures.bytes at c.is_canonical_document.ensures

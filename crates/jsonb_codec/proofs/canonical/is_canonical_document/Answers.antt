@@ -1,6 +1,5 @@
-use Rattle.std.proofs.Common.{◌↔◌, IsTrue, subst, sym}
+use Rattle.std.proofs.Common.{subst, sym}
 use Rattle.jsonb_codec.specs.Doc.{IsDocument}
-use Rattle.jsonb_codec.specs.Canonical.{IsCanonical}
 use Rattle.jsonb_codec.proofs.Decision.{known_document}
 use Rattle.jsonb_codec.proofs.canonical.is_canonical_document.Goals as goal
 
@@ -9,6 +8,4 @@ is_written_document-requires c =
     subst IsDocument (sym c.as_bytes.ensures) (known_document _ c.args.document.fact)
 
 pub returns : goal.returns
-returns c =
-    subst (λ b. IsTrue c.is_written_document.result ↔ IsCanonical b) c.as_bytes.ensures
-    c.is_written_document.ensures
+returns c = rw c.as_bytes.ensures at c.is_written_document.ensures

@@ -18,8 +18,7 @@ build_items-loop-child-preserved t c =
           let f = k.first us left in (
             f.others,
             (
-              trees_and-push l.built.items c.push_part.new.items.items v ts us
-                  f.others f.first whole f.are (same f.first f.is) more,
+              trees_and-push _ v whole f.are (same f.first f.is) more,
               f.behind,
             ),
           );
@@ -42,9 +41,8 @@ build_members-loop-member-preserved t c =
           let f = k.first us left in (
             f.others,
             (
-              pairs_and-push l.built.entries c.insert_part.new.members.entries c.in_ok-key.key v all
-                  us f.others c.in-Some.member.key.now f.value whole_are.0 whole f.are
-                  c.in_ok-key.ensures.ok (same f.value f.is) more,
+              pairs_and-push _ c.in_ok-key.key v whole_are.0 whole f.are c.in_ok-key.ensures.ok
+                  (same f.value f.is) more,
               f.left,
             ),
           );
@@ -67,8 +65,7 @@ build_many-loop-member-preserved t c =
           let f = k.first us left in (
             f.others,
             (
-              pairs_and-behind l.built.items c.push_pair.new.pairs.items c.in_ok-key.key v all us
-                  f.others c.in-Some.member.key.now f.value whole f.are c.in_ok-key.ensures.ok
+              pairs_and-behind _ c.in_ok-key.key v whole f.are c.in_ok-key.ensures.ok
                   (same f.value f.is) more,
               f.left,
             ),

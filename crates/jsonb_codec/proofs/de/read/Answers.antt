@@ -13,13 +13,13 @@ returns-in_err-check-clause-fault c =
     let told = c.in_err-check.ensures.told in
     raised_as
     (λ (e : Error). (e ≡ OutOfMemory)
-    ⊎ (IsFault c.args.faults e
-    × (IsDocument c.args.bytes.now
-    → ⊥))) c.from_residual.result c.in_err-check.field-0.0 c.from_residual.ensures.1
-    (inr (told.0, λ h. told.1 ((document_within_length c.args.bytes.now).1 h)))
+    ⊎ (IsFault _ e
+    × (IsDocument _
+    → ⊥))) _ _ c.from_residual.ensures.1
+    (inr (told.0, λ h. told.1 ((document_within_length _).1 h)))
 
 pub returns-clause-ok : goal.returns-clause-ok
 returns-clause-ok c =
     let b = c.args.bytes.now in
-    the_tree _ b c.value_of_document.result c.in_ok-check.ensures.bytes
+    the_tree _ b _ c.in_ok-check.ensures.bytes
     ((document_within_length b).0 c.in_ok-check.ensures.told) c.value_of_document.ensures.ok

@@ -1,4 +1,5 @@
-use Rattle.std.proofs.Common.{◌≡◌, ◌+◌, ◌*◌, ◌%◌, ◌≤◌, ℕ, List, IsTrue, None, length, option_map}
+use Rattle.std.proofs.Common.{◌≡◌, ◌↔◌, ◌+◌, ◌*◌, ◌%◌, ◌≤◌, ℕ, List, IsTrue, None, length}
+use Rattle.std.proofs.Common.{option_map}
 use Rattle.jsonb_codec.specs.Parts.{HasChildren, HasKeys}
 use Rattle.jsonb_codec.proofs.document.+container.Given as goal
 
@@ -29,10 +30,8 @@ decreases-check_keys l = 4 * (length l.entries.now + length l.payloads.now) + 7
 -- What is left can be children exactly if the whole can.
 abbrev pub invariant-check_children-loop-entry : goal.invariant-check_children-loop-entry
 invariant-check_children-loop-entry l = record {
-  onward : HasChildren l.depth l.entries l.payloads
-      → HasChildren l.depth l.entries_left l.payloads_left;
-  back : HasChildren l.depth l.entries_left l.payloads_left
-      → HasChildren l.depth l.entries l.payloads;
+  same : HasChildren l.depth l.entries_left l.payloads_left
+      ↔ HasChildren l.depth l.entries l.payloads;
   words : length l.entries_left % 4 ≡ 0;
   entries_shorter : length l.entries_left ≤ length l.entries;
   payloads_shorter : length l.payloads_left ≤ length l.payloads;

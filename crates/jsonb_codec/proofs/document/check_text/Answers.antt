@@ -3,4 +3,4 @@ use Rattle.std.proofs.lemmas.Str.{IsUtf8-from_ascii}
 use Rattle.jsonb_codec.proofs.document.check_text.Goals as goal
 
 pub returns-then-is_ascii : goal.returns-then-is_ascii
-returns-then-is_ascii c = IsUtf8-from_ascii c.args.payload.now (search rules)
+returns-then-is_ascii c = IsUtf8-from_ascii _ (search rules)

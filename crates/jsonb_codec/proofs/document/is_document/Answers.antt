@@ -13,7 +13,7 @@ returns-clause-exact c =
     iff_trans c.is_document_within.ensures (document_within_length b)
 
 pub returns-clause-one_tree : goal.returns-clause-one_tree
-returns-clause-one_tree c is = Doc-unique c.args.bytes.now
+returns-clause-one_tree c is = Doc-unique _
 
 pub returns-clause-no_beginning : goal.returns-clause-no_beginning
 returns-clause-no_beginning c is a b parts h =
@@ -23,21 +23,21 @@ returns-clause-no_beginning c is a b parts h =
 pub returns-clause-no_longer : goal.returns-clause-no_longer
 returns-clause-no_longer c is b h =
     let whole = (returns-clause-exact c).0 is in
-    Doc-prefix_free c.args.bytes.now b whole.0 h.0 whole.1 h.1
+    Doc-prefix_free _ b whole.0 h.0 whole.1 h.1
 
 pub returns-clause-size : goal.returns-clause-size
-returns-clause-size c is t h = let few = Doc-size c.args.bytes.now t h in omega arith
+returns-clause-size c is t h = let few = Doc-size _ t h in omega arith
 
 pub returns-clause-depth : goal.returns-clause-depth
-returns-clause-depth c is t h = let flat = Doc-depth c.args.bytes.now t h in omega arith
+returns-clause-depth c is t h = let flat = Doc-depth _ t h in omega arith
 
 pub returns-clause-many_payloads : goal.returns-clause-many_payloads
-returns-clause-many_payloads c is zero_free t h = (Doc-long c.args.bytes.now t h zero_free).0
+returns-clause-many_payloads c is zero_free t h = (Doc-long _ t h zero_free).0
 
 pub returns-clause-long_payloads : goal.returns-clause-long_payloads
-returns-clause-long_payloads c is zero_free t h = (Doc-long c.args.bytes.now t h zero_free).1
+returns-clause-long_payloads c is zero_free t h = (Doc-long _ t h zero_free).1
 
 pub returns-clause-no_zero : goal.returns-clause-no_zero
 returns-clause-no_zero c is zero_free =
     let whole = (returns-clause-exact c).0 is in
-    Doc-least c.args.bytes.now whole.0 whole.1 zero_free
+    Doc-least _ whole.0 whole.1 zero_free

@@ -1,29 +1,13 @@
-use Rattle.std.proofs.Common.{◌++◌, length, ap, ◌∙◌, arith, length-append}
-use Rattle.jsonb_codec.specs.Canon.{entries_of, payloads_of}
-use Rattle.jsonb_codec.proofs.Words.{length-word-append}
-use Rattle.jsonb_codec.proofs.Entries.{length-Children}
-use Rattle.jsonb_codec.proofs.Lengths.{length-entries_of}
-use Rattle.jsonb_codec.proofs.Rewriting.{refuses, measured_start, measured_past, measured_end}
+use Rattle.std.proofs.Common.{arith}
+use Rattle.jsonb_codec.proofs.Rewriting.{length-Opened, refuses, measured_start, measured_past}
+use Rattle.jsonb_codec.proofs.Rewriting.{measured_end}
 use Rattle.jsonb_codec.proofs.canonical.rewrite.+measure.Goals as goal
 
 pub measure_container-returns-clause-some : goal.measure_container-returns-clause-some
 measure_container-returns-clause-some t c tree h =
-    let parts = c.container.result in
     let o = c.container.ensures.opened tree (h.0, h.1) in
     let m = c.in_ok-payloads.ensures.some o.children o.are in
-    let written = ap length o.written
-    ∙ length-word-append parts.header (entries_of o.children ++ payloads_of o.children) in (
-      o.fit.0 m.0,
-      omega (
-        arith,
-        written,
-        length-append (entries_of o.children)
-            (payloads_of o.children),
-        length-entries_of o.children,
-        length-Children o.children parts.children.entries.now parts.children.payloads.now o.are,
-        m.1,
-      ),
-    )
+    (o.fit.0 m.0, omega (arith, length-Opened o, m.1))
 
 pub measure_payloads-loop-child-init : goal.measure_payloads-loop-child-init
 measure_payloads-loop-child-init t c =
@@ -38,10 +22,10 @@ pub measure_payloads-returns-in_err-total-clause-none :
 measure_payloads-returns-in_err-total-clause-none t c =
     let l = c.loop-child in
     let f = c.in-Some.ensures.first l.invariant.measured.left l.invariant.measured.are_left in
-    refuses _ _ (measured_past _ _ _ _ _ l.invariant.measured _ _ _ _ f c.in_err-total.ensures.none)
+    refuses _ _ (measured_past l.invariant.measured f c.in_err-total.ensures.none)
 
 pub measure_payloads-returns-clause-some : goal.measure_payloads-returns-clause-some
 measure_payloads-returns-clause-some t c =
     let l = c.loop-child in
     let m = l.invariant.measured in
-    measured_end _ _ _ _ _ m (c.in_default.ensures.none m.left m.are_left)
+    measured_end m (c.in_default.ensures.none m.left m.are_left)

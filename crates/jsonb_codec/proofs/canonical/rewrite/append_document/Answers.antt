@@ -1,6 +1,6 @@
-use Rattle.std.proofs.Common.{rules, sym, ◌∙◌, arith}
+use Rattle.std.proofs.Common.{sym, ◌∙◌, arith}
 use Rattle.jsonb_codec.proofs.Lengths.{length-canon-scalar}
-use Rattle.jsonb_codec.proofs.Standing.{CanEnter-scalar, CanFollow-scalar}
+use Rattle.jsonb_codec.proofs.Standing.{CanEnter-scalar}
 use Rattle.jsonb_codec.proofs.canonical.rewrite.append_document.Goals as goal
 
 pub overflow_sub-size : goal.overflow_sub-size
@@ -21,17 +21,5 @@ append_entry-requires c =
         h,
         CanEnter-scalar can
             (λ is. c.if-whole-eq-CONTAINER_TAG.false (sym h.0 ∙ is)) c.append_word.ensures,
-      ),
-    )
-
-pub append_payload-requires : goal.append_payload-requires
-append_payload-requires c =
-    let (tree, (h, can)) = c.requires in (
-      tree,
-      (
-        h,
-        CanFollow-scalar can
-            (λ is. c.if-whole-eq-CONTAINER_TAG.false (sym h.0 ∙ is)) c.append_word.ensures
-            (c.append_entry.ensures tree h) _ (search (rules, c.len-entry.ensures)),
       ),
     )

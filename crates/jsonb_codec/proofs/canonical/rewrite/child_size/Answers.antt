@@ -9,7 +9,7 @@ returns-then-behind-child c t h =
     let (tree, (is, (_, leaves))) = c.requires.first in
     let same = ap
     (λ (u : Tree). length (payload_of u))
-    (same_tree tree t (is.0 ∙ sym h.0) c.args.child.part.payload.now is.1 h.1) in
+    (same_tree tree t (is.0 ∙ sym h.0) _ is.1 h.1) in
     omega (arith, leaves.both, c.payloads_size.ensures leaves.behind leaves.are, same)
 
 pub overflow_sub-result : goal.overflow_sub-result

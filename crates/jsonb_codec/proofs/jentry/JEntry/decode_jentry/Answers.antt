@@ -11,4 +11,4 @@ returns-clause-value c =
     (bit_and-type k ∙ type-arithmetic k) (bit_and-length k)
 
 pub returns-clause-again : goal.returns-clause-again
-returns-clause-again c = bit_or-parts c.args.encoded
+returns-clause-again c = bit_or-parts _

@@ -1,11 +1,8 @@
-use Rattle.std.proofs.Common.{ℕ, List, sym, ap, ◌∙◌}
-use Rattle.jsonb_value.specs.Tree.{pair}
 use Rattle.std.proofs.Math.Logic.{∥∥₁_elim, ∥∥₁_map}
 use Rattle.std.proofs.lemmas.Bool.{cases_eq}
 use Rattle.jsonb_codec.proofs.Decision.{known}
-use Rattle.jsonb_codec.proofs.KeySteps.{values_of, children_of_values}
-use Rattle.jsonb_codec.proofs.PairLaws.{keys_of, first_pair, as_many_values, no_keys}
-use Rattle.jsonb_codec.proofs.PairLaws.{children_of_keys}
+use Rattle.jsonb_codec.proofs.Entries.{keys_of}
+use Rattle.jsonb_codec.proofs.PairLaws.{first_pair, as_many_values, no_keys, children_of_keys}
 use Rattle.jsonb_codec.proofs.parts.Members.split_first.Goals as goal
 
 pub returns-in_default-clause-none : goal.returns-in_default-clause-none
@@ -15,38 +12,29 @@ returns-in_default-clause-none c ps h =
 pub unreachable-requires : goal.unreachable-requires
 unreachable-requires c =
     let empty : IsProp ⊥ = Prim.hlevel in
-    ∥∥₁_elim c.args.self.fact empty (λ (ps, h).
-    as_many_values ps _ _ _ _ (c.in-Some.ensures.first (keys_of ps) (children_of_keys ps _ _ h.1.0))
-    (c.in_default-split_first.ensures.none (values_of ps) (children_of_values ps _ _ h.1.1)))
+    ∥∥₁_elim c.args.self.fact empty (λ (ps, h). as_many_values ps _ _ _ _ h c.in-Some.ensures.first
+    c.in_default-split_first.ensures.none)
 
 pub text-requires : goal.text-requires
 text-requires c =
     known (cases_eq _ _) (∥∥₁_map c.args.self.fact (λ (ps, h).
-    (first_pair ps h.0 _ _ _ _
-    (c.in-Some.ensures.first (keys_of ps) (children_of_keys ps _ _ h.1.0)) _ _ _ _
-    (c.in-Some-split_first.ensures.first (values_of ps)
-    (children_of_values ps _ _ h.1.1))).is_text))
+    (first_pair ps _ _ _ _ h c.in-Some.ensures.first c.in-Some-split_first.ensures.first).is_text))
 
 pub invariant_of-result : goal.invariant_of-result
 invariant_of-result c = record {
   fact = ∥∥₁_map c.args.self.fact (λ (ps, h).
-      let f = first_pair ps h.0 _ _ _ _
-      (c.in-Some.ensures.first (keys_of ps) (children_of_keys ps _ _ h.1.0)) _ _ _ _
-      (c.in-Some-split_first.ensures.first (values_of ps) (children_of_values ps _ _ h.1.1)) in
+      let f =
+      first_pair ps _ _ _ _ h c.in-Some.ensures.first c.in-Some-split_first.ensures.first in
       (f.others, f.behind));
 }
 
 pub returns-clause-first : goal.returns-clause-first
 returns-clause-first c ps h =
-    let f = first_pair ps h.0 _ _ _ _
-    (c.in-Some.ensures.first (keys_of ps) (children_of_keys ps _ _ h.1.0)) _ _ _ _
-    (c.in-Some-split_first.ensures.first (values_of ps) (children_of_values ps _ _ h.1.1)) in
+    let f = first_pair ps _ _ _ _ h c.in-Some.ensures.first c.in-Some-split_first.ensures.first in
     record {
       value = f.value;
       others = f.others;
-      are = f.are ∙ ap
-          (λ (x : List ℕ). pair x f.value f.others)
-          (sym c.text.ensures.bytes);
+      are = rw c.text.ensures.bytes f.are;
       is = f.is;
       left = f.behind;
     }

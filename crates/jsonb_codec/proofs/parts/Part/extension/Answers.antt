@@ -5,5 +5,5 @@ use Rattle.jsonb_codec.proofs.Building.{meant}
 use Rattle.jsonb_codec.proofs.parts.Part.extension.Goals as goal
 
 pub returns : goal.returns
-returns c t h = meant c.args.self.tag c.args.self.payload.now t
+returns c t h = meant _ _ t
     (extension (extension_of c.in-Ok.value)) h (sym c.requires, c.in-Ok.ensures.ok)

@@ -1,4 +1,4 @@
-use Rattle.std.proofs.Common.{◌≡◌, true, false, refl, arith}
+use Rattle.std.proofs.Common.{◌≡◌, refl, arith}
 use Rattle.jsonb_codec.specs.Doc.{type_of}
 use Rattle.jsonb_codec.specs.Node.{node_tree}
 use Rattle.jsonb_codec.specs.declared.ser.node.Node.{Node}
@@ -12,25 +12,20 @@ use Rattle.jsonb_codec.proofs.ser.append.append_document.Goals as goal
 -- What is neither array nor object has no container's type.
 scalar_type : (n : Node) → ((xs : Items) → n ≡ nodes.Array xs → ⊥)
     → ((ps : Pairs) → n ≡ nodes.Object ps → ⊥) → type_of (node_tree n) ≡ 1342177280 → ⊥
-scalar_type nodes.Null no_array no_object is = absurd (omega (arith, is))
-scalar_type (nodes.Bool true) no_array no_object is = absurd (omega (arith, is))
-scalar_type (nodes.Bool false) no_array no_object is = absurd (omega (arith, is))
-scalar_type (nodes.Text s) no_array no_object is = absurd (omega (arith, is))
-scalar_type (nodes.Number x) no_array no_object is = absurd (omega (arith, is))
-scalar_type (nodes.Extension e) no_array no_object is = absurd (omega (arith, is))
 scalar_type (nodes.Array xs) no_array no_object is = no_array xs refl
 scalar_type (nodes.Object ps) no_array no_object is = no_object ps refl
+scalar_type n no_array no_object is = grind arith
 
 pub overflow_sub-size : goal.overflow_sub-size
 overflow_sub-size c =
     omega (
       arith,
       c.requires.len,
-      length-canon-scalar (node_tree c.args.node)
-          (scalar_type c.args.node c.in_default.not-Array c.in_default.not-Object),
+      length-canon-scalar (node_tree _)
+          (scalar_type _ c.in_default.not-Array c.in_default.not-Object),
     )
 
 pub append_entry-requires : goal.append_entry-requires
 append_entry-requires c =
     CanEnter-scalar c.requires
-    (scalar_type c.args.node c.in_default.not-Array c.in_default.not-Object) c.append_word.ensures
+    (scalar_type _ c.in_default.not-Array c.in_default.not-Object) c.append_word.ensures

@@ -1,36 +1,17 @@
-use Rattle.std.proofs.Common.{◌≡◌, ◌+◌, ◌*◌, length, subst, sym, arith}
-use Rattle.jsonb_value.specs.Tree.{no_trees, no_pairs, count, pair_count}
-use Rattle.jsonb_codec.specs.Canon.{payloads_of, key_payloads, value_payloads, AllFit, PairsFit}
-use Rattle.jsonb_codec.specs.Node.{items_trees, object_pairs, rest_pairs}
+use Rattle.std.proofs.Common.{arith}
 use Rattle.jsonb_codec.proofs.Lengths.{length-payload_of-array, length-payload_of-object}
 use Rattle.jsonb_codec.proofs.ser.measure.+measure.Goals as goal
 
 pub measure_items-returns-clause-some : goal.measure_items-returns-clause-some
 measure_items-returns-clause-some t c =
-    let l = c.loop-item in
-    let all = items_trees c.args.items in
-    let done : items_trees l.left ≡ no_trees = c.in_default.ensures.trees in
-    let few = c.if-count-gt-MAX_COUNT.false in
-    let total : l.total + 0 ≡ 4 + 4 * count all + length (payloads_of all) =
-    subst (λ ts. l.total + length (payloads_of ts)
-    ≡ 4 + 4 * count all + length (payloads_of all)) done l.invariant.total in (
-      (omega (arith, c.len-count.ensures), l.invariant.back (subst AllFit (sym done) tt)),
-      omega
-          (arith, length-payload_of-array all, total),
+    let left = rw c.in_default.ensures.trees at c.loop-item.invariant in (
+      (omega (arith, c.len-count.ensures, c.if-count-gt-MAX_COUNT.false), left.back tt),
+      omega (arith, length-payload_of-array, left.total),
     )
 
 pub measure_pairs-returns-clause-some : goal.measure_pairs-returns-clause-some
 measure_pairs-returns-clause-some t c =
-    let l = c.loop-key in
-    let all = object_pairs c.args.pairs in
-    let done : rest_pairs l.left ≡ no_pairs = c.in_default.ensures.pairs in
-    let few = c.if-count-gt-MAX_COUNT.false in
-    let total : l.total + 0
-    ≡ 4 + 8 * pair_count all + (length (key_payloads all) + length (value_payloads all)) =
-    subst (λ ps. l.total + (length (key_payloads ps) + length (value_payloads ps))
-    ≡ 4 + 8 * pair_count all
-    + (length (key_payloads all) + length (value_payloads all))) done l.invariant.total in (
-      (omega (arith, c.len-count.ensures), l.invariant.back (subst PairsFit (sym done) tt)),
-      omega
-          (arith, length-payload_of-object all, total),
+    let left = rw c.in_default.ensures.pairs at c.loop-key.invariant in (
+      (omega (arith, c.len-count.ensures, c.if-count-gt-MAX_COUNT.false), left.back tt),
+      omega (arith, length-payload_of-object, left.total),
     )

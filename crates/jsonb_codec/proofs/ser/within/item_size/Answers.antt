@@ -8,6 +8,6 @@ returns-then-len-eq0 c =
     omega (
       arith,
       c.requires.left,
-      length-payloads_of-none (items_trees c.args.behind)
+      length-payloads_of-none (items_trees _)
           (sym c.len.ensures ∙ c.if-len-eq0.true),
     )

@@ -8,6 +8,6 @@ returns-then-len-eq0 c =
     omega (
       arith,
       c.requires.left,
-      length-value_payloads-none (rest_pairs c.args.behind.now)
+      length-value_payloads-none (rest_pairs _)
           (sym c.len.ensures ∙ c.if-len-eq0.true),
     )

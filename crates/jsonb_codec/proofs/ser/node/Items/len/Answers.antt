@@ -3,7 +3,7 @@ use Rattle.jsonb_codec.proofs.Lengths.{count-items_view, count-asts_view}
 use Rattle.jsonb_codec.proofs.ser.node.Items.len.Goals as goal
 
 pub returns-in-Values : goal.returns-in-Values
-returns-in-Values c = rw c.in-Values.is (sym (count-items_view c.in-Values.items.now))
+returns-in-Values c = rw c.in-Values.is (sym (count-items_view _))
 
 pub returns-in-Asts : goal.returns-in-Asts
-returns-in-Asts c = rw c.in-Asts.is (sym (count-asts_view c.in-Asts.items.now))
+returns-in-Asts c = rw c.in-Asts.is (sym (count-asts_view _))

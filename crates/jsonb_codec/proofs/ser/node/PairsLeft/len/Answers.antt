@@ -7,4 +7,4 @@ returns-in-Values c =
     rw c.in-Values.is (c.len.ensures.value ∙ sym (pair_count-pairs_view c.in-Values.pairs))
 
 pub returns-in-Asts : goal.returns-in-Asts
-returns-in-Asts c = rw c.in-Asts.is (sym (pair_count-ast_pairs_view c.in-Asts.pairs.now))
+returns-in-Asts c = rw c.in-Asts.is (sym (pair_count-ast_pairs_view _))
