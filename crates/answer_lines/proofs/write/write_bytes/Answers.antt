@@ -5,5 +5,5 @@ use Rattle.answer_lines.proofs.write.write_bytes.Goals as goal
 
 pub loop-rest-preserved : goal.loop-rest-preserved
 loop-rest-preserved g c =
-    all_but_more c.loop-rest.rest.now _ _ _ _ c.in-Ok.count _ c.loop-rest.invariant
-    c.in-Ok.ensures.bytes (grind (arith, common_steps))
+    all_but_more c.in-Ok.count c.loop-rest.invariant c.in-Ok.ensures.bytes
+    (grind (arith, common_steps))

@@ -1,20 +1,15 @@
-use Rattle.std.proofs.Common.{rules, ◌≡◌, ℕ, List, inl, ap, ◌∙◌}
-use Rattle.std.specs.String.{string_bytes}
-use Rattle.hex.specs.Hex.{encode_lower}
-use Rattle.jsonb_cli.specs.AnswerLine.{ok_line}
-use Rattle.jsonb_cli.specs.Answers.{printed}
-use Rattle.jsonb_cli.proofs.Answering.{pretty_unprinted}
+use Rattle.std.proofs.Common.{inl, ap}
+use Rattle.jsonb_cli.specs.Answers.{no_document, printed}
+use Rattle.jsonb_cli.proofs.Answering.{failed, said_of}
 use Rattle.jsonb_cli.proofs.calls.answer_pretty.Goals as goal
 
 pub returns-in-Ok : goal.returns-in-Ok
 returns-in-Ok c =
     let (t, (means, is)) = rw c.deref.ensures.value at c.in-Ok.ensures.ok in
-    let bytes : c.into_bytes.result.items ≡ string_bytes c.in-Ok.text = search rules in
-    inl (printed c.in_ok-bytes.bytes.items t c.in_ok-bytes.ensures.ok means
-    (ap (λ (l : List ℕ). ok_line (encode_lower l)) (bytes ∙ is)))
+    inl (printed _ t c.in_ok-bytes.ensures.ok means cc)
 
 pub returns : goal.returns
 returns c =
-    pretty_unprinted c.args.word.now c.in_ok-bytes.bytes.items c.in-Err.error
-    c.in_ok-bytes.ensures.ok c.in-Err.ensures.only
-    (rw c.deref.ensures.value at c.in-Err.ensures.none)
+    failed c.in-Err.ensures.only
+    (λ is. no_document _ c.in_ok-bytes.ensures.ok
+    (rw c.deref.ensures.value at (c.in-Err.ensures.none is)) (ap said_of is))

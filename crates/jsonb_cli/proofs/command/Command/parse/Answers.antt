@@ -1,5 +1,7 @@
-use Rattle.std.proofs.Common.{◌≡◌, codes}
+use Rattle.std.proofs.Common.{◌≡◌, ◌≢◌, codes}
+use Rattle.jsonb_cli.specs.Commands.{arr}
 use Rattle.jsonb_cli.proofs.Forms.{no_form, no_form_alone, arr_form, differs, equals, if_none}
+use Rattle.jsonb_cli.proofs.Forms.{name_of}
 use Rattle.jsonb_cli.proofs.command.Command.parse.Goals as goal
 
 pub returns-then-eq-clause-some : goal.returns-then-eq-clause-some
@@ -15,11 +17,7 @@ returns-in_err-rest-clause-none c = if_none _ _
 
 pub returns-else-eq-8-clause-none : goal.returns-else-eq-8-clause-none
 returns-else-eq-8-clause-none c = no_form _ _ _ c.split_word.ensures.word c.split_word.ensures.parts
-    (differs _ _ _ _ c.as_slice.ensures c.eq.ensures c.if-eq.false)
-    (differs _ _ _ _ c.as_slice-2.ensures c.eq-2.ensures c.if-eq-2.false)
-    (differs _ _ _ _ c.as_slice-else-eq-2.ensures c.eq-else-eq-2.ensures c.if-eq-3.false)
-    (differs _ _ _ _ c.as_slice-else-eq-3.ensures c.eq-else-eq-3.ensures c.if-eq-4.false)
-    (differs _ _ _ _ c.as_slice-else-eq-4.ensures c.eq-else-eq-4.ensures c.if-eq-5.false)
-    (differs _ _ _ _ c.as_slice-else-eq-5.ensures c.eq-else-eq-5.ensures c.if-eq-6.false)
-    (differs _ _ _ _ c.as_slice-else-eq-6.ensures c.eq-else-eq-6.ensures c.if-eq-7.false)
-    (differs _ _ _ _ c.as_slice-else-eq-7.ensures c.eq-else-eq-7.ensures c.if-eq-8.false)
+    (λ form. elim form as (λ f. c.split_word.result.0.now ≢ name_of f) [
+      | arr words ↦ search differs
+      | _ ↦ search differs
+    ])

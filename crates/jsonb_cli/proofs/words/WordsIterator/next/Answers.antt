@@ -1,5 +1,4 @@
-use Rattle.std.proofs.Common.{rules, ◌≡◌, ◌∷◌, sym, ◌∙◌}
-use Rattle.jsonb_cli.specs.Words.{words_from}
+use Rattle.std.proofs.Common.{rules, sym, ◌∙◌}
 use Rattle.jsonb_cli.proofs.Split.{words_from-first}
 use Rattle.jsonb_cli.proofs.words.WordsIterator.next.Goals as goal
 
@@ -9,9 +8,4 @@ returns-clause-steps c =
     ∙ words_from-first _ _ _ _ c.in_ok-self.was c.split_word.ensures.word c.split_word.ensures.parts
 
 pub returns-clause-goes : goal.returns-clause-goes
-returns-clause-goes c =
-    let left : c.args.self.now ≡ c.split_word.result.0.now ∷ words_from c.split_word.result.1 =
-    sym c.self.view_is
-    ∙ words_from-first _ _ _ _ c.in_ok-self.was c.split_word.ensures.word
-    c.split_word.ensures.parts in
-    rw left (search rules)
+returns-clause-goes c = rw (returns-clause-steps c) (search rules)
