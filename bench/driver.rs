@@ -1,4 +1,5 @@
 //! Times the library beside the core of the Rust crate, in one run, on the same bytes.
+use crate_baseline::core::{ArrayBuilder, ObjectBuilder};
 use crate_baseline::{api, Decimal64, Number, RawJsonb, Value};
 use std::borrow::Cow;
 use std::collections::BTreeMap;
@@ -36,6 +37,24 @@ extern "C" {
         room: usize,
     ) -> bool;
     fn measured_canonical(bytes: *const u8, length: usize) -> usize;
+    fn measured_array(
+        bytes: *const u8,
+        length: usize,
+        ends: *const u64,
+        count: usize,
+        times: usize,
+    ) -> usize;
+    fn measured_object(
+        names: *const u8,
+        names_length: usize,
+        name_ends: *const u64,
+        name_count: usize,
+        bytes: *const u8,
+        length: usize,
+        ends: *const u64,
+        count: usize,
+        times: usize,
+    ) -> usize;
     fn measured_column(
         stored: *const u8,
         length: usize,
@@ -281,14 +300,7 @@ fn sorts() {
         };
         let (ours, theirs) = fastest(sort, sort_theirs);
         report(name, "sort", size, ours, theirs);
-        let bytes = documents.concat();
-        let ends: Vec<u64> = documents
-            .iter()
-            .scan(0, |end, d| {
-                *end += d.len() as u64;
-                Some(*end)
-            })
-            .collect();
+        let (bytes, ends) = joined(&documents);
         let mut order = vec![0; ends.len()];
         let once = || {
             let done = unsafe {
@@ -307,6 +319,82 @@ fn sorts() {
         let (ours, theirs) = fastest(once, sort_theirs);
         report(name, "sort once", size, ours, theirs);
     }
+}
+
+// The parts one behind the other, and where each ends.
+fn joined(parts: &[impl AsRef<[u8]>]) -> (Vec<u8>, Vec<u64>) {
+    let (mut bytes, mut ends) = (Vec::new(), Vec::new());
+    for part in parts {
+        bytes.extend_from_slice(part.as_ref());
+        ends.push(bytes.len() as u64);
+    }
+    (bytes, ends)
+}
+
+// An array and an object of 100,000 documents. Our builders check each document that they are
+// given, and the crate's do not.
+fn builders() {
+    let shapes: [(&str, fn(usize) -> Value<'static>); 2] = [
+        ("numbers", |i| {
+            Value::Number(Number::UInt64((i as u64 * 7919) % 1_000_003))
+        }),
+        ("objects", |i| {
+            let pairs = (0..4).map(|k| (format!("key{k}"), string(format!("value {i} {k}"))));
+            Value::Object(pairs.collect::<BTreeMap<_, _>>())
+        }),
+    ];
+    let names: Vec<String> = (0..100_000).map(scattered).collect();
+    let (text, name_ends) = joined(&names);
+    for (name, shape) in shapes {
+        let documents: Vec<Vec<u8>> = (0..100_000).map(|i| encoded(&shape(i))).collect();
+        let (bytes, ends) = joined(&documents);
+        let array = |times| unsafe {
+            measured_array(bytes.as_ptr(), bytes.len(), ends.as_ptr(), ends.len(), times)
+        };
+        let their_array = || {
+            let mut builder = ArrayBuilder::new();
+            for document in &documents {
+                builder.push_raw_jsonb(RawJsonb::new(document));
+            }
+            builder.build().unwrap().to_vec().len()
+        };
+        build(name, "array", bytes.len(), array, their_array);
+        let object = |times| unsafe {
+            measured_object(
+                text.as_ptr(),
+                text.len(),
+                name_ends.as_ptr(),
+                name_ends.len(),
+                bytes.as_ptr(),
+                bytes.len(),
+                ends.as_ptr(),
+                ends.len(),
+                times,
+            )
+        };
+        let their_object = || {
+            let mut builder = ObjectBuilder::new();
+            for (name, document) in names.iter().zip(&documents) {
+                builder.push_raw_jsonb(name, RawJsonb::new(document)).unwrap();
+            }
+            builder.build().unwrap().to_vec().len()
+        };
+        build(name, "object", bytes.len(), object, their_object);
+    }
+}
+
+// Our side makes the list of its inputs first: what five more turns take is the builder's alone.
+fn build(
+    name: &str,
+    what: &str,
+    length: usize,
+    ours: impl Fn(usize) -> usize,
+    theirs: impl Fn() -> usize,
+) {
+    assert_eq!(ours(1), theirs());
+    let (six, five) = fastest(|| ours(6), || (0..5).map(|_| theirs()).sum());
+    let (once, _) = fastest(|| ours(1), || 0);
+    report(name, what, 5 * length, six - once, five);
 }
 
 // Containers inside one another, each the first of two children: so many levels of arrays, or of
@@ -555,10 +643,11 @@ fn column() {
 }
 
 fn main() {
-    let parts: [(&str, fn()); 7] = [
+    let parts: [(&str, fn()); 8] = [
         ("documents", documents),
         ("look_ups", look_ups),
         ("sorts", sorts),
+        ("builders", builders),
         ("nested", nested),
         ("texts", texts),
         ("sizes", sizes),

@@ -72,6 +72,9 @@ def tables(found):
              for name, shape in [("numbers", "numbers"), ("strings", "strings"),
                                  ("objects of 4 keys", "objects"), ("objects of 20", "of 20"),
                                  ("arrays of 50", "arrays")]]
+    builders = [[name, cell(found[f"{shape} array"]), cell(found[f"{shape} object"])]
+                for name, shape in [("numbers", "numbers"),
+                                    ("objects of four strings", "objects")]]
     nested = [[levels, cell(found[f"{levels} encode"]), cell(found[f"{levels} canon"])]
               for levels in ["arrays 100", "arrays 1000", "arrays 10000", "objects 100",
                              "objects 1000", "objects 10000", "halves 17"]]
@@ -85,6 +88,7 @@ def tables(found):
         table(["", "numbers", "objects", "an object of 3,000", "1,000 deep"], documents),
         table(["look-up of the", "first", "middle", "last"], look_ups),
         table(["sort of 100,000", "views (`RawJsonb`)", "keys checked once (`SortKey`)"], sorts),
+        table(["100,000 documents put together", "array", "object"], builders),
         table(["containers in one another", "encoder", "canonical form"], nested),
         table(["texts, beside serde_json", ""], texts),
         table(["a column of 100,000 rows", ""], column),

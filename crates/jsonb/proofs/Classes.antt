@@ -1,7 +1,7 @@
 -- Equal items have one count, and are both listed or both not.
-use Rattle.std.proofs.Common.{◌≡◌, ℕ, ◌-◌, List, [], ◌∷◌, ◌++◌, Bool, true, false, refl, ap}
-use Rattle.std.proofs.Common.{cond, arith, ◌∙◌, subst}
-use Rattle.std.specs.Prelude.{Some, is_some, unwrap_or}
+use Rattle.std.proofs.Common.{◌≡◌, ℕ, List, [], ◌∷◌, ◌++◌, Bool, true, false, refl}
+use Rattle.std.proofs.Common.{cond, arith, ◌∙◌}
+use Rattle.std.specs.Prelude.{is_some, unwrap_or}
 use Rattle.std.proofs.lemmas.List.Folds.{list_any-append}
 use Rattle.std.proofs.lemmas.Cmp.{on_total, eq_by_cmp_equiv}
 use Rattle.std.specs.Cmp.{IsEquivalence}
@@ -18,47 +18,32 @@ pub lookup_same : (x y : ItemView) (counts : List (JsonbItem × ℕ)) → same_m
     → count_at counts x ≡ count_at counts y
 lookup_same x y [] same = refl
 lookup_same x y (e ∷ es) same =
-    rw (same_meaning_equivalence.congr x y (item_view e.0) same, lookup_same x y es same) refl
+    rw (same_meaning_equivalence.congr x y (item_view e.0) same, lookup_same x y es same)
 
 pub equal_same : (x y : ItemView) (list : List ItemView) → same_meaning x y ≡ true
     → has_equal list x ≡ has_equal list y
 equal_same x y [] same = refl
 equal_same x y (e ∷ es) same =
-    rw (same_meaning_equivalence.congr x y e same, equal_same x y es same) refl
+    rw (same_meaning_equivalence.congr x y e same, equal_same x y es same)
 
 abbrev count_in : List (JsonbItem × ℕ) → ItemView → ℕ
 count_in counts x = unwrap_or (count_at counts x) 0
 
--- a count that was set, told by what it was
-count_of_set : (old new : List (JsonbItem × ℕ)) (x : ItemView) (n : ℕ) → SetsCount old new x n
-    → (f : ℕ → ℕ) → n ≡ f (count_in old x)
-    → (item : JsonbItem)
-    → count_in new (item_view item)
-    ≡ cond (same_meaning x (item_view item)) (f (count_in old (item_view item)))
-    (count_in old (item_view item))
-count_of_set old new x n sets f is item = case (same_meaning x (item_view item)) refl where
-  case : (b : Bool) → same_meaning x (item_view item) ≡ b
-      → count_in new (item_view item)
-      ≡ cond b (f (count_in old (item_view item))) (count_in old (item_view item))
-  case true same = ap (λ o. unwrap_or o 0) (sets item) ∙ ap
-      (λ c. unwrap_or (cond c (Some n) (count_at old (item_view item))) 0) same ∙ is
-      ∙ ap (λ o. f (unwrap_or o 0)) (lookup_same x (item_view item) old same)
-  case false other = ap (λ o. unwrap_or o 0) (sets item) ∙ ap
-      (λ c. unwrap_or (cond c (Some n) (count_at old (item_view item))) 0) other
-
--- the same, where a builder shows what the count was
+-- a count that was set, told by what a builder shows that it was
 pub shown_count_of_set : (tally : Tally) (old new : List (JsonbItem × ℕ)) (x : ItemView) (n : ℕ)
     → old ≡ tally.counts → SetsCount old new x n
     → (f : ℕ → ℕ) → n ≡ f (count_in old x) → (item : JsonbItem)
     → count_in new (item_view item)
     ≡ cond (same_meaning x (item_view item)) (f (count_of tally (item_view item)))
     (count_of tally (item_view item))
-shown_count_of_set tally old new x n shows sets f is =
-    let P : List (JsonbItem × ℕ) → Type 0 = λ es. (item : JsonbItem)
-    → count_in new (item_view item)
-    ≡ cond (same_meaning x (item_view item)) (f (count_in es (item_view item)))
-    (count_in es (item_view item)) in
-    subst P shows (count_of_set old new x n sets f is)
+shown_count_of_set tally old new x n shows sets f is item =
+    case (same_meaning x (item_view item)) refl
+  where
+    case : (b : Bool) → same_meaning x (item_view item) ≡ b
+        → count_in new (item_view item)
+        ≡ cond b (f (count_of tally (item_view item))) (count_of tally (item_view item))
+    case true same = cc (sets item, same, is, lookup_same x (item_view item) old same)
+    case false other = cc (sets item, other)
 
 -- and after an item was listed with its first count
 pub lists_new : (list : List ItemView) (old new : List (JsonbItem × ℕ)) (x : ItemView) (n : ℕ)

@@ -13,8 +13,8 @@ use Rattle.jsonb.proofs.PayloadLaws.{NumCode-number_in, ExtCode-extension_in}
 
 given_holds : (P : List ℕ → Type 0) (o : Option (Bor (List ℕ))) (bytes : List ℕ)
     → ((b : Bor (List ℕ)) → o ≡ Some b → P b.now) → option_copied o ≡ Some bytes → P bytes
-given_holds P None bytes holds e = let different : ⊥ = cc in absurd different
-given_holds P (Some b) bytes holds e = let same : b.now ≡ bytes = cc in subst P same (holds b refl)
+given_holds P None bytes holds e = cc
+given_holds P (Some b) bytes holds e = let same : b.now ≡ bytes = cc in rw same at (holds b refl)
 
 pub NumCode-given : (item : NumberItem) (bytes : List ℕ) → number_source item ≡ Some bytes
     → NumCode bytes (number_of_item item)
@@ -30,13 +30,11 @@ ExtCode-given item bytes = given_holds (λ p. ExtCode p (extension_of_item item)
 pub IsHeld-number_given : (item : NumberItem) (bytes : Bor (List ℕ)) → item.payload ≡ Some bytes
     → IsHeld (number (number_source item) (number_of_item item))
 IsHeld-number_given item bytes e =
-    subst (λ (o : Option (Bor (List ℕ))). IsHeld (number (option_copied o) item.number)) (sym e)
+    subst (λ o. IsHeld (number (option_copied o) item.number)) (sym e)
     (NumCode-given item bytes.now (ap option_copied e))
 
 pub IsHeld-extension_given : (item : ExtensionItem) (bytes : Bor (List ℕ))
     → item.payload ≡ Some bytes
     → IsHeld (extension (extension_source item) (extension_of_item item))
 IsHeld-extension_given item bytes e =
-    subst (λ (o : Option (Bor (List ℕ))). IsHeld
-    (extension (option_copied o) (extension_of_item item))) (sym e)
-    (ExtCode-given item bytes.now (ap option_copied e))
+    rw e (ExtCode-given item bytes.now (ap option_copied e))

@@ -43,7 +43,7 @@ pub document_tree-is : (b : List ℕ) (t : Tree) (found : Option Document) → D
     → IfSome found (λ d. document_bytes d ≡ b) → IfSome found (λ d. document_tree d ≡ t)
 document_tree-is b t None doc h = tt
 document_tree-is b t (Some d) doc h =
-    tree_in-is (document_bytes d) t (subst (λ x. Doc x t) (sym h) doc)
+    tree_in-is (document_bytes d) t (rw h doc)
 
 -- and so do the bytes
 pub document_meaning : (b : List ℕ) (d : Document) → document_bytes d ≡ b

@@ -1,19 +1,17 @@
 -- The item of an entry of a document.
 use Rattle.std.proofs.Common.{◌≡◌, ◌≢◌, ℕ, ◌+◌, ◌<◌, ◌^◌, List, length, true, false, Result, Ok}
-use Rattle.std.proofs.Common.{Err, IsOkAnd, refl, sym, ap, subst, ◌∙◌, inl, inr, arith, Some}
+use Rattle.std.proofs.Common.{Err, IsOkAnd, refl, sym, ap, ◌∙◌, inl, inr, Some}
 use Rattle.std.proofs.Common.{ne_eqb}
 use Rattle.std.specs.Str.{IsUtf8}
 use Rattle.jsonb_value.specs.declared.error.Error.{Error}
 use Rattle.jsonb_value.specs.Tree.{Tree}
 use Rattle.jsonb_value.specs.Tree as trees
-use Rattle.jsonb_codec.specs.declared.jentry.JEntry.{JEntry}
-use Rattle.jsonb_codec.specs.Word.{word, header_at}
+use Rattle.jsonb_codec.specs.Word.{word}
 use Rattle.jsonb_codec.specs.Doc.{Doc, Scalar, Payload, type_of}
 use Rattle.jsonb.specs.declared.item.JsonbItem.{JsonbItem}
-use Rattle.jsonb.specs.Steps.{◌>>=◌}
-use Rattle.jsonb.specs.ItemView.{ItemView, null, boolean, number, text, extension, raw, owned}
+use Rattle.jsonb.specs.ItemView.{ItemView, null, boolean, number, text, extension, raw}
 use Rattle.jsonb.specs.ItemView.{item_view, result_view}
-use Rattle.jsonb.specs.Item.{Entry, item_of, item_of_number, item_of_extension, text_item, part_at}
+use Rattle.jsonb.specs.Item.{Entry, item_of, item_of_number, item_of_extension}
 use Rattle.jsonb.specs.Item.{entry_at, scalar_item, item_under, item_in}
 use Rattle.jsonb.specs.Code.{Means, HasCode, item_document, CanBeStored, scalar_bytes}
 use Rattle.jsonb.specs.DocumentWalk.{IsItemOf, IsItemIn}
@@ -21,10 +19,11 @@ use Rattle.jsonb.proofs.PayloadLaws.{number_in-NumCode, extension_in-ExtCode}
 use Rattle.jsonb.proofs.Utf8.{is_text_yes}
 use Rattle.jsonb.proofs.Places.{At, At-left, IsTag, part_at-At, jentry_at-At}
 use Rattle.jsonb.proofs.KindLaws.{IsTag-type_of, At-entry, header_at-Scalar, At-payload}
-use Rattle.jsonb.proofs.KindLaws.{header_at-array, header_at-object}
+use Rattle.jsonb.proofs.KindLaws.{container_cases, header_of_tree, header_at-Doc}
 
-text_item-IsUtf8 : (p : List ℕ) → IsUtf8 p → text_item p ≡ Ok (text p)
-text_item-IsUtf8 p h = rw (is_text_yes p h) refl
+pub item_of-text : (p : List ℕ) → IsUtf8 p → item_of 268435456 p ≡ Ok (text p)
+unfolding item_of
+item_of-text p h = rw (is_text_yes p h)
 
 abbrev Found : Tree → List ℕ → Type 0
 Found t p =
@@ -41,7 +40,7 @@ found_item (trees.number x) p h =
 found_item (trees.text s) p h = (
   text p,
   (
-    text_item-IsUtf8 p (subst IsUtf8 (sym h.0) h.1),
+    item_of-text p (rw h.0 h.1),
     (ap trees.text (sym h.0), (refl, refl)),
   ),
 )
@@ -54,23 +53,23 @@ found_item (trees.array ts) p h =
 found_item (trees.object ps) p h =
     (raw p, (refl, (inr (refl, h), (trees.object ps, (inr (refl, h), inr (refl, (refl, refl)))))))
 
+is_item_of : (t : Tree) (p : List ℕ) → length p < 2 ^ 28 → (h : Payload t p)
+    → IsItemOf t (found_item t p h).0
+is_item_of t p short h =
+    let f = found_item t p h in
+    record {
+      payload = p;
+      short = short;
+      payload_means = h;
+      item = f.1.0;
+      means = f.1.1.0;
+      code = f.1.1.1;
+    }
+
 pub IsItemOf-Payload : (t : Tree) (p : List ℕ) → length p < 2 ^ 28 → Payload t p → (x : ItemView)
     × ((item_of (type_of t) p ≡ Ok x) × IsItemOf t x)
 IsItemOf-Payload t p short h =
-    let f = found_item t p h in (
-      f.0,
-      (
-        f.1.0,
-        record {
-          payload = p;
-          short = short;
-          payload_means = h;
-          item = f.1.0;
-          means = f.1.1.0;
-          code = f.1.1.1;
-        },
-      ),
-    )
+    let f = found_item t p h in (f.0, (f.1.0, is_item_of t p short h))
 
 -- a scalar's item is stored as its document again
 stored_again : (t : Tree) (p : List ℕ) → type_of t ≢ 1342177280 → length p < 2 ^ 28
@@ -78,70 +77,28 @@ stored_again : (t : Tree) (p : List ℕ) → type_of t ≢ 1342177280 → length
     → (item_document (found_item t p h).0 ≡ scalar_bytes (type_of t) p)
     × CanBeStored (found_item t p h).0
 unfolding found_item
-stored_again trees.null p other short h = (ap (scalar_bytes 0) (sym h), tt)
-stored_again (trees.boolean true) p other short h = (ap (scalar_bytes 1073741824) (sym h), tt)
-stored_again (trees.boolean false) p other short h = (ap (scalar_bytes 805306368) (sym h), tt)
-stored_again (trees.number x) p other short h = (refl, short)
-stored_again (trees.text s) p other short h = (refl, short)
-stored_again (trees.extension e) p other short h = (refl, short)
+stored_again trees.null p other short h = (rw h, tt)
+stored_again (trees.boolean true) p other short h = (rw h, tt)
+stored_again (trees.boolean false) p other short h = (rw h, tt)
 stored_again (trees.array ts) p other short h = absurd (other refl)
 stored_again (trees.object ps) p other short h = absurd (other refl)
+stored_again t p other short h = (refl, short)
 
 -- an entry that stands in bytes, and the item of it
 pub entry_at-entry : (bytes : List ℕ) (i j : ℕ) (c : Entry) → IsTag c.type
     → length c.payload < 2 ^ 28 → At bytes i (word (c.type + length c.payload))
     → At bytes j c.payload → entry_at bytes i j ≡ Ok c
 unfolding entry_at
-entry_at-entry bytes i j c tag short h k =
-    ap (λ (r : Result JEntry Error). r
-    >>= (λ (e : JEntry). part_at bytes j e.length
-    >>= (λ (x : List ℕ). Ok record { type = e.type_code; payload = x })))
-    (jentry_at-At bytes i c.type (length c.payload) tag short h)
-    ∙ ap (λ (r : Result (List ℕ) Error). r
-    >>= (λ (x : List ℕ). Ok record { type = c.type; payload = x }))
-    (part_at-At bytes j (length c.payload) c.payload refl k)
-
-pub entry_at-At : (bytes : List ℕ) (i j : ℕ) (t : Tree) (p : List ℕ) → length p < 2 ^ 28
-    → At bytes i (word (type_of t + length p)) → At bytes j p
-    → entry_at bytes i j ≡ Ok record { type = type_of t; payload = p }
-entry_at-At bytes i j t p short h k =
-    entry_at-entry bytes i j record { type = type_of t; payload = p } (IsTag-type_of t) short h k
-
-item_in-header : (b : List ℕ) (header : ℕ × ℕ) → header_at b 0 ≡ Ok header
-    → item_in b ≡ item_under header b
-unfolding item_in
-item_in-header b header e =
-    ap (λ (r : Result (ℕ × ℕ) Error). r >>= (λ (h : ℕ × ℕ). item_under h b)) e
-
-scalar_item-other : (entry : Entry) → entry.type ≢ 1342177280
-    → scalar_item entry ≡ item_of entry.type entry.payload
-unfolding scalar_item
-scalar_item-other entry other = rw (ne_eqb entry.type 1342177280 other) refl
+entry_at-entry bytes i j c tag short h k = rw (
+  jentry_at-At bytes i c.type (length c.payload) tag short h,
+  part_at-At bytes j (length c.payload) c.payload refl k,
+)
 
 pub entry_at-Scalar : (b : List ℕ) (t : Tree) (h : Scalar t b)
     → entry_at b 4 8 ≡ Ok record { type = type_of t; payload = h.payload }
-entry_at-Scalar b t h = entry_at-At b 4 8 t h.payload h.short
+entry_at-Scalar b t h =
+    entry_at-entry b 4 8 record { type = type_of t; payload = h.payload } (IsTag-type_of t) h.short
     (At-left b 4 _ h.payload (At-entry b t h)) (At-payload b t h)
-
-item_in-scalar : (b : List ℕ) (t : Tree) → type_of t ≢ 1342177280 → (h : Scalar t b)
-    → item_in b ≡ item_of (type_of t) h.payload
-item_in-scalar b t other h =
-    item_in-header b (536870912, 0) (header_at-Scalar b t h)
-    ∙ ap (λ (r : Result Entry Error). r >>= scalar_item) (entry_at-Scalar b t h)
-    ∙ scalar_item-other record { type = type_of t; payload = h.payload } other
-
-item_in-container : (b : List ℕ) (t : Tree) → type_of t ≡ 1342177280 → Payload t b
-    → item_in b ≡ Ok (raw b)
-item_in-container b (trees.array ts) e h =
-    item_in-header b (2147483648, trees.count ts) (header_at-array b ts h)
-item_in-container b (trees.object ps) e h =
-    item_in-header b (1073741824, trees.pair_count ps) (header_at-object b ps h)
-item_in-container b trees.null e h = absurd (omega arith)
-item_in-container b (trees.boolean true) e h = absurd (omega arith)
-item_in-container b (trees.boolean false) e h = absurd (omega arith)
-item_in-container b (trees.number x) e h = absurd (omega arith)
-item_in-container b (trees.text s) e h = absurd (omega arith)
-item_in-container b (trees.extension x) e h = absurd (omega arith)
 
 -- what is the item of a document is stored as that document
 abbrev pub IsOwnItem : Tree → List ℕ → ItemView → Type 0
@@ -150,42 +107,37 @@ IsOwnItem t b x = IsItemIn t b x × ((item_document x ≡ b) × CanBeStored x)
 -- the item of a document
 pub item_in-Doc : (b : List ℕ) (t : Tree) → Doc b t → (x : ItemView)
     × ((item_in b ≡ Ok x) × IsOwnItem t b x)
+unfolding item_in scalar_item
 item_in-Doc b t (inl (other, h)) =
     let f = found_item t h.payload h.means in
-    let again = stored_again t h.payload other h.short h.means in
-    let item : IsItemOf t f.0 =
-    record {
-      payload = h.payload;
-      short = h.short;
-      payload_means = h.means;
-      item = f.1.0;
-      means = f.1.1.0;
-      code = f.1.1.1;
-    } in (
+    let again = stored_again t h.payload other h.short h.means in (
       f.0,
       (
-        item_in-scalar b t other h
-            ∙ f.1.0,
-        (inl (other, item), (again.0 ∙ sym h.parts, again.1)),
+        rw (header_at-Scalar b t h, entry_at-Scalar b t h, ne_eqb (type_of t) 1342177280 other)
+            f.1.0,
+        (
+          inl (other, is_item_of t h.payload h.short h.means),
+          (again.0 ∙ sym h.parts, again.1),
+        ),
       ),
     )
-item_in-Doc b t (inr (is, h)) = (raw b, (item_in-container b t is h, (inr (is, refl), (refl, tt))))
+item_in-Doc b t (inr (is, h)) =
+    let whole = container_cases (λ t. item_under (header_of_tree t) b ≡ Ok (raw b)) t is
+    (λ ts. refl) (λ ps. refl) in
+    (raw b, (rw (header_at-Doc b t (inr (is, h))) whole, (inr (is, refl), (refl, tt))))
 
 -- what is told of the item that is shown is told of the item
 pub shown_ok : (r : Result JsonbItem Error) (x : ItemView) (P : ItemView → Type 0)
     → result_view r ≡ Ok x → P x → IsOkAnd r (λ item. P (item_view item))
-shown_ok (Ok item) x P e h = let same : item_view item ≡ x = cc in subst P (sym same) h
-shown_ok (Err e) x P q h = let different : ⊥ = cc in different
+shown_ok (Ok item) x P e h = let same : item_view item ≡ x = cc in rw same h
+shown_ok (Err e) x P q h = cc
 
 -- the item of an entry can be stored
 pub IsItemOf-CanBeStored : (t : Tree) (x : ItemView) → IsItemOf t x → CanBeStored x
-IsItemOf-CanBeStored t null item = tt
-IsItemOf-CanBeStored t (boolean b) item = tt
 IsItemOf-CanBeStored t (number given n) item =
-    subst (λ (p : List ℕ). length p < 2 ^ 28) item.code.1 item.short
+    rw item.code.1 at item.short
 IsItemOf-CanBeStored t (text s) item =
-    subst (λ (p : List ℕ). length p < 2 ^ 28) item.code.1 item.short
+    rw item.code.1 at item.short
 IsItemOf-CanBeStored t (extension given e) item =
-    subst (λ (p : List ℕ). length p < 2 ^ 28) item.code.1 item.short
-IsItemOf-CanBeStored t (raw b) item = tt
-IsItemOf-CanBeStored t (owned b) item = tt
+    rw item.code.1 at item.short
+IsItemOf-CanBeStored t x item = tt

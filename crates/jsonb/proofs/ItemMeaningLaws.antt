@@ -1,5 +1,5 @@
 -- What `meaning_of` answers, and the items that mean a tree.
-use Rattle.std.proofs.Common.{◌≡◌, ℕ, List, inl, inr, refl, sym, ap}
+use Rattle.std.proofs.Common.{◌≡◌, ℕ, List, inl, inr, refl}
 use Rattle.jsonb_value.specs.Tree.{Tree}
 use Rattle.jsonb_value.specs.Tree as trees
 use Rattle.jsonb_value.specs.Value.{cow_bytes}
@@ -15,11 +15,11 @@ use Rattle.jsonb.specs.declared.raw.RawJsonb.{RawJsonb}
 use Rattle.jsonb.specs.Code.{Means}
 use Rattle.jsonb.specs.ItemValues.{number_of_item, extension_of_item}
 use Rattle.jsonb.specs.ItemMeaning.{meaning_or_bytes, meaning_of, view_meaning, item_meaning}
-use Rattle.jsonb.specs.ItemView.{ItemView, null, boolean, number, text, extension, raw, owned}
+use Rattle.jsonb.specs.ItemView.{ItemView, raw, owned}
 
 meaning_or_bytes-document : (b : List ℕ) (t : Tree) → Doc b t → (d : Decided (IsDocument b))
     → meaning_or_bytes b d ≡ document t
-meaning_or_bytes-document b t doc (inl found) = ap document (Doc-unique b found.0 t found.1 doc)
+meaning_or_bytes-document b t doc (inl found) = cc (Doc-unique b found.0 t found.1 doc)
 meaning_or_bytes-document b t doc (inr none) = absurd (none (t, doc))
 
 meaning_or_bytes-other : (b : List ℕ) → (IsDocument b → ⊥) → (d : Decided (IsDocument b))
@@ -39,13 +39,9 @@ meaning_of-other b none = meaning_or_bytes-other b none (decide b)
 
 -- An item that means a tree has it as its meaning.
 pub view_meaning-document : (x : ItemView) (t : Tree) → Means x t → view_meaning x ≡ document t
-view_meaning-document null t e = ap document (sym e)
-view_meaning-document (boolean b) t e = ap document (sym e)
-view_meaning-document (number given x) t e = ap document (sym e)
-view_meaning-document (text s) t e = ap document (sym e)
-view_meaning-document (extension given x) t e = ap document (sym e)
 view_meaning-document (raw b) t doc = meaning_of-document b t doc
 view_meaning-document (owned b) t doc = meaning_of-document b t doc
+view_meaning-document x t e = cc
 
 -- An item that holds no bytes means the tree that it holds.
 pub value_meaning : (x : JsonbItem) → ((r : RawJsonb) → x ≡ items.Raw r → ⊥)

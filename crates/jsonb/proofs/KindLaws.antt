@@ -1,28 +1,29 @@
 -- The kind that a document shows is that of its tree.
-use Rattle.std.proofs.Common.{◌≡◌, ◌≢◌, ℕ, ◌+◌, List, ◌++◌, true, false, length, Result, Ok, refl}
+use Rattle.std.proofs.Common.{◌≡◌, ◌≢◌, ℕ, ◌+◌, List, ◌++◌, true, false, length, Ok, refl}
 use Rattle.std.proofs.Common.{ap, ◌∙◌, inl, inr, arith}
-use Rattle.jsonb_value.specs.declared.error.Error.{Error}
-use Rattle.jsonb_value.specs.Tree.{Tree, null, boolean, number, text, extension, array, object}
+use Rattle.jsonb_value.specs.Tree.{Tree, boolean, array, object}
 use Rattle.jsonb_value.specs.Tree.{Trees, Pairs, count, pair_count}
-use Rattle.jsonb_codec.specs.declared.jentry.JEntry.{JEntry}
 use Rattle.jsonb_codec.specs.Word.{word, header_at}
 use Rattle.jsonb_codec.specs.JEntry.{jentry_at}
 use Rattle.jsonb_codec.specs.Doc.{Doc, Scalar, Payload, type_of}
-use Rattle.jsonb.specs.Steps.{◌>>=◌}
 use Rattle.jsonb.specs.Kind.{kind, kind_under, kind_of_type, kind_of_tree}
 use Rattle.jsonb.proofs.Places.{At, At-all, At-whole, At-left, At-behind_word, header_at-At}
 use Rattle.jsonb.proofs.Places.{header_of-array, header_of-object, header_of-scalar, IsTag}
 use Rattle.jsonb.proofs.Places.{jentry_at-At}
 
 pub IsTag-type_of : (t : Tree) → IsTag (type_of t)
-IsTag-type_of null = record { step = refl; room = omega arith }
-IsTag-type_of (boolean true) = record { step = refl; room = omega arith }
-IsTag-type_of (boolean false) = record { step = refl; room = omega arith }
-IsTag-type_of (number x) = record { step = refl; room = omega arith }
-IsTag-type_of (text s) = record { step = refl; room = omega arith }
-IsTag-type_of (extension e) = record { step = refl; room = omega arith }
-IsTag-type_of (array ts) = record { step = refl; room = omega arith }
-IsTag-type_of (object ps) = record { step = refl; room = omega arith }
+IsTag-type_of (boolean true) = omega arith
+IsTag-type_of (boolean false) = omega arith
+IsTag-type_of t = omega arith
+
+-- A tree with the type of a container is an array or an object.
+pub container_cases : (P : Tree → Type 0) (t : Tree) → type_of t ≡ 1342177280
+    → ((ts : Trees) → P (array ts)) → ((ps : Pairs) → P (object ps)) → P t
+container_cases P (array ts) is of_array of_object = of_array ts
+container_cases P (object ps) is of_array of_object = of_object ps
+container_cases P (boolean true) is of_array of_object = absurd (omega arith)
+container_cases P (boolean false) is of_array of_object = absurd (omega arith)
+container_cases P t is of_array of_object = absurd (omega arith)
 
 -- what the words of a document say
 pub header_at-Scalar : (b : List ℕ) (t : Tree) → Scalar t b → header_at b 0 ≡ Ok (536870912, 0)
@@ -47,50 +48,45 @@ pub header_at-array : (b : List ℕ) (ts : Trees) → Payload (array ts) b
     → header_at b 0 ≡ Ok (2147483648, count ts)
 header_at-array b ts h =
     let few = h.behind.few in
-    header_at-At b (2147483648 + count ts) (omega arith)
-    (At-whole b (word (2147483648 + count ts)) h.rest h.parts) ∙ header_of-array (count ts) few
+    header_at-At b (2147483648 + count ts) (omega arith) (At-whole b _ h.rest h.parts)
+    ∙ header_of-array (count ts) few
 
 pub header_at-object : (b : List ℕ) (ps : Pairs) → Payload (object ps) b
     → header_at b 0 ≡ Ok (1073741824, pair_count ps)
 header_at-object b ps h =
     let few = h.1.behind.few in
-    header_at-At b (1073741824 + pair_count ps) (omega arith)
-    (At-whole b (word (1073741824 + pair_count ps)) h.1.rest h.1.parts)
+    header_at-At b (1073741824 + pair_count ps) (omega arith) (At-whole b _ h.1.rest h.1.parts)
     ∙ header_of-object (pair_count ps) few
 
-kind-header : (b : List ℕ) (header : ℕ × ℕ) → header_at b 0 ≡ Ok header
-    → kind b ≡ kind_under header b
-unfolding kind
-kind-header b header e = ap (λ (r : Result (ℕ × ℕ) Error). r >>= (λ (h : ℕ × ℕ). kind_under h b)) e
+abbrev pub header_of_tree : Tree → ℕ × ℕ
+header_of_tree (array ts) = (2147483648, count ts)
+header_of_tree (object ps) = (1073741824, pair_count ps)
+header_of_tree t = (536870912, 0)
+
+header_of_scalar : (t : Tree) → type_of t ≢ 1342177280 → (536870912, 0) ≡ header_of_tree t
+header_of_scalar (array ts) other = absurd (other refl)
+header_of_scalar (object ps) other = absurd (other refl)
+header_of_scalar t other = refl
+
+pub header_at-Doc : (b : List ℕ) (t : Tree) → Doc b t → header_at b 0 ≡ Ok (header_of_tree t)
+header_at-Doc b t (inl (other, h)) = header_at-Scalar b t h ∙ ap Ok (header_of_scalar t other)
+header_at-Doc b t (inr (is, h)) =
+    container_cases (λ t. Payload t b → header_at b 0 ≡ Ok (header_of_tree t)) t is
+    (header_at-array b) (header_at-object b) h
 
 kind_of_type-scalar : (t : Tree) → type_of t ≢ 1342177280
     → kind_of_type (type_of t) ≡ Ok (kind_of_tree t)
-kind_of_type-scalar null other = refl
 kind_of_type-scalar (boolean true) other = refl
 kind_of_type-scalar (boolean false) other = refl
-kind_of_type-scalar (number x) other = refl
-kind_of_type-scalar (text s) other = refl
-kind_of_type-scalar (extension e) other = refl
 kind_of_type-scalar (array ts) other = absurd (other refl)
 kind_of_type-scalar (object ps) other = absurd (other refl)
-
-kind-container : (b : List ℕ) (t : Tree) → type_of t ≡ 1342177280 → Payload t b
-    → kind b ≡ Ok (kind_of_tree t)
-kind-container b (array ts) e h = kind-header b (2147483648, count ts) (header_at-array b ts h)
-kind-container b (object ps) e h =
-    kind-header b (1073741824, pair_count ps) (header_at-object b ps h)
-kind-container b null e h = absurd (omega arith)
-kind-container b (boolean true) e h = absurd (omega arith)
-kind-container b (boolean false) e h = absurd (omega arith)
-kind-container b (number x) e h = absurd (omega arith)
-kind-container b (text s) e h = absurd (omega arith)
-kind-container b (extension x) e h = absurd (omega arith)
+kind_of_type-scalar t other = refl
 
 -- the kind of a document
 pub kind-Doc : (b : List ℕ) (t : Tree) → Doc b t → kind b ≡ Ok (kind_of_tree t)
+unfolding kind
 kind-Doc b t (inl (other, h)) =
-    kind-header b (536870912, 0) (header_at-Scalar b t h)
-    ∙ ap (λ (r : Result JEntry Error). r >>= (λ (entry : JEntry). kind_of_type entry.type_code))
-    (jentry_at-Scalar b t h)
-    ∙ kind_of_type-scalar t other
-kind-Doc b t (inr (is, h)) = kind-container b t is h
+    rw (header_at-Scalar b t h, jentry_at-Scalar b t h) (kind_of_type-scalar t other)
+kind-Doc b t (inr (is, h)) = rw (header_at-Doc b t (inr (is, h)))
+    (container_cases (λ t. kind_under (header_of_tree t) b ≡ Ok (kind_of_tree t)) t is
+    (λ ts. refl) (λ ps. refl))

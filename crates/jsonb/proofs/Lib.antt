@@ -7,7 +7,6 @@ pub mod ItemLaws
 pub mod StorageLaws
 pub mod StandingLaws
 pub mod DocumentWalks
-pub mod StandingWalks
 pub mod ContentLaws
 pub mod PartLaws
 pub mod LookupLaws

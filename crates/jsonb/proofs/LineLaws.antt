@@ -1,6 +1,6 @@
 -- The text of a container is that of its lines.
-use Rattle.std.proofs.Common.{◌≡◌, ℕ, zero, suc, ◌*◌, ◌+◌, ◌≤◌, max, List, ◌∷◌, ◌++◌, codes}
-use Rattle.std.proofs.Common.{replicate, refl, sym, ap, subst, ◌∙◌, arith, append_assoc}
+use Rattle.std.proofs.Common.{◌≡◌, ℕ, zero, suc, ◌*◌, ◌≤◌, List, ◌∷◌, ◌++◌, codes}
+use Rattle.std.proofs.Common.{replicate, refl, sym, ap, ◌∙◌, arith, append_assoc}
 use Rattle.std.specs.List.{repeat}
 use Rattle.std.proofs.Math.Nat.{le-max_right}
 use Rattle.jsonb_value.specs.Tree.{Tree, array, object, Trees, no_trees, tree, Pairs, no_pairs}
@@ -8,38 +8,27 @@ use Rattle.jsonb_value.specs.Tree.{pair}
 use Rattle.jsonb_value.specs.Text.{Layout, in_one_line, on_lines, inside, line_start, colon}
 use Rattle.jsonb_value.specs.Text.{laid_out, more_items, more_pairs, string_text}
 use Rattle.jsonb_value.specs.Value.{trees_of}
-use Rattle.jsonb_codec.specs.Depth.{depth, depths, pair_depths, size, sizes, pair_sizes}
+use Rattle.jsonb_codec.specs.Depth.{depth, depths, pair_depths, sizes, pair_sizes}
 use Rattle.jsonb.specs.Lines.{more_lines, bracket_text, pair_text, item_lines, pair_lines}
 use Rattle.jsonb.specs.Node.{pairs_of}
 
 more_lines-items : (l : Layout) (ts : Trees) → more_lines l (item_lines l ts) ≡ more_items l ts
 more_lines-items l no_trees = refl
-more_lines-items l (tree t ts) = ap
-    (λ (more : List ℕ). codes "," ++ (line_start l ++ (laid_out l t ++ more)))
-    (more_lines-items l ts)
+more_lines-items l (tree t ts) = rw (more_lines-items l ts)
 
 bracketed-items : (l : Layout) (ts : Trees)
     → bracket_text l (codes "[") (codes "]") (item_lines (inside l) ts) ≡ laid_out l (array ts)
 bracketed-items l no_trees = refl
-bracketed-items l (tree t ts) =
-    ap (λ (more : List ℕ). codes "["
-    ++ (line_start (inside l)
-    ++ (laid_out (inside l) t ++ (more ++ (line_start l ++ codes "]")))))
-    (more_lines-items (inside l) ts)
+bracketed-items l (tree t ts) = rw (more_lines-items (inside l) ts)
 
 -- a pair before what follows it
 pair-before : (l : Layout) (k : List ℕ) (t : Tree) (rest : List ℕ)
     → pair_text l k t ++ rest ≡ string_text k ++ (colon l ++ (laid_out l t ++ rest))
-pair-before l k t rest = append_assoc (string_text k) (colon l ++ laid_out l t) rest ∙ ap
-    (λ (x : List ℕ). string_text k ++ x) (append_assoc (colon l) (laid_out l t) rest)
+pair-before l k t rest = simp append_assoc
 
 more_lines-pairs : (l : Layout) (ps : Pairs) → more_lines l (pair_lines l ps) ≡ more_pairs l ps
 more_lines-pairs l no_pairs = refl
-more_lines-pairs l (pair k t ps) =
-    ap (λ (more : List ℕ). codes "," ++ (line_start l ++ (pair_text l k t ++ more)))
-    (more_lines-pairs l ps) ∙ ap
-    (λ (line : List ℕ). codes "," ++ (line_start l ++ line))
-    (pair-before l k t (more_pairs l ps))
+more_lines-pairs l (pair k t ps) = rw (more_lines-pairs l ps, pair-before l k t (more_pairs l ps))
 
 colon-inside : (l : Layout) → colon (inside l) ≡ colon l
 colon-inside in_one_line = refl
@@ -50,21 +39,17 @@ bracketed-pairs : (l : Layout) (ps : Pairs)
 bracketed-pairs l no_pairs = refl
 bracketed-pairs l (pair k t ps) =
     let i = inside l in
-    let end = line_start l ++ codes "}" in
-    ap (λ (more : List ℕ). codes "{" ++ (line_start i ++ (pair_text i k t ++ (more ++ end))))
-    (more_lines-pairs i ps)
-    ∙ ap (λ (line : List ℕ). codes "{" ++ (line_start i ++ line))
-    (pair-before i k t (more_pairs i ps ++ end))
-    ∙ ap (λ (between : List ℕ). codes "{"
-    ++ (line_start i
-    ++ (string_text k ++ (between ++ (laid_out i t ++ (more_pairs i ps ++ end))))))
-    (colon-inside l)
+    rw (
+      more_lines-pairs i ps,
+      pair-before i k t (more_pairs i ps ++ (line_start l ++ codes "}")),
+      colon-inside l,
+    )
 
 -- two spaces for each container
 pub indent : (depth : ℕ) → repeat depth (codes "  ") ≡ replicate (2 * depth) 32
 indent zero = refl
 indent (suc n) =
-    ap (λ (spaces : List ℕ). 32 ∷ 32 ∷ spaces) (indent n) ∙ ap (λ (k : ℕ). replicate k 32) (twice n)
+    ap (λ spaces. 32 ∷ 32 ∷ spaces) (indent n) ∙ ap (λ k. replicate k 32) (twice n)
   where
     twice : (n : ℕ) → suc (suc (2 * n)) ≡ 2 * suc n
     twice n = omega arith
@@ -74,10 +59,7 @@ lines_begin : (l : Layout) (front end line : List ℕ) (lines : List (List ℕ))
     → (front ++ (line_start (inside l) ++ line))
     ++ (more_lines (inside l) lines ++ (line_start l ++ end))
     ≡ bracket_text l front end (line ∷ lines)
-lines_begin l front end line lines =
-    let more = more_lines (inside l) lines ++ (line_start l ++ end) in
-    append_assoc front (line_start (inside l) ++ line) more ∙ ap
-    (λ (t : List ℕ). front ++ t) (append_assoc (line_start (inside l)) line more)
+lines_begin l front end line lines = simp append_assoc
 
 pub items_begin : (l : Layout) (ts : Trees) (t : Tree) (others : Trees) → ts ≡ tree t others
     → (codes "[" ++ (line_start (inside l) ++ laid_out (inside l) t))
@@ -85,7 +67,7 @@ pub items_begin : (l : Layout) (ts : Trees) (t : Tree) (others : Trees) → ts �
     ≡ laid_out l (array ts)
 items_begin l ts t others are =
     lines_begin l (codes "[") (codes "]") (laid_out (inside l) t) (item_lines (inside l) others)
-    ∙ bracketed-items l (tree t others) ∙ ap (λ (x : Trees). laid_out l (array x)) (sym are)
+    ∙ bracketed-items l (tree t others) ∙ ap (λ x. laid_out l (array x)) (sym are)
 
 pub pairs_begin : (l : Layout) (ps : Pairs) (k : List ℕ) (t : Tree) (others : Pairs)
     → ps ≡ pair k t others
@@ -94,21 +76,13 @@ pub pairs_begin : (l : Layout) (ps : Pairs) (k : List ℕ) (t : Tree) (others : 
     ≡ laid_out l (object ps)
 pairs_begin l ps k t others are =
     lines_begin l (codes "{") (codes "}") (pair_text (inside l) k t) (pair_lines (inside l) others)
-    ∙ bracketed-pairs l (pair k t others) ∙ ap (λ (x : Pairs). laid_out l (object x)) (sym are)
+    ∙ bracketed-pairs l (pair k t others) ∙ ap (λ x. laid_out l (object x)) (sym are)
 
 -- and another.
 pub lines_next : (i : Layout) (done end all line : List ℕ) (lines : List (List ℕ))
     → done ++ (more_lines i (line ∷ lines) ++ end) ≡ all
     → (done ++ (codes "," ++ (line_start i ++ line))) ++ (more_lines i lines ++ end) ≡ all
-lines_next i done end all line lines whole =
-    let more = more_lines i lines in
-    let start = line_start i in
-    append_assoc done (codes "," ++ (start ++ line)) (more ++ end)
-    ∙ ap (λ (t : List ℕ). done ++ (codes "," ++ t))
-    (append_assoc start line (more ++ end)
-    ∙ ap (λ (t : List ℕ). start ++ t) (sym (append_assoc line more end))
-    ∙ sym (append_assoc start (line ++ more) end))
-    ∙ whole
+lines_next i done end all line lines whole = simp append_assoc (simp append_assoc at whole)
 
 -- What is left of an array or object holds less, and nests no deeper.
 pub record IsLess (small large shallow deep : ℕ) : Type 0 where
@@ -118,29 +92,15 @@ pub record IsLess (small large shallow deep : ℕ) : Type 0 where
 pub items_behind : (xs ys : List Tree) (t : Tree) → xs ≡ t ∷ ys
     → IsLess (sizes (trees_of ys)) (sizes (trees_of xs)) (depths (trees_of ys))
     (depths (trees_of xs))
-items_behind xs ys t are =
-    let size_is : sizes (trees_of xs) ≡ size t + sizes (trees_of ys) =
-    ap (λ (us : List Tree). sizes (trees_of us)) are in
-    let depth_is : depths (trees_of xs) ≡ max (depth t) (depths (trees_of ys)) =
-    ap (λ (us : List Tree). depths (trees_of us)) are in
-    record {
-      less = omega arith;
-      no_deeper = subst
-          (λ (n : ℕ). depths (trees_of ys) ≤ n) (sym depth_is)
-          (le-max_right (depth t) (depths (trees_of ys)));
-    }
+items_behind xs ys t are = rw are record {
+  less = omega arith;
+  no_deeper = le-max_right (depth t) (depths (trees_of ys));
+}
 
 pub pairs_behind : (xs ys : List (List ℕ × Tree)) (k : List ℕ) (t : Tree) → xs ≡ (k, t) ∷ ys
     → IsLess (pair_sizes (pairs_of ys)) (pair_sizes (pairs_of xs)) (pair_depths (pairs_of ys))
     (pair_depths (pairs_of xs))
-pairs_behind xs ys k t are =
-    let size_is : pair_sizes (pairs_of xs) ≡ suc (size t + pair_sizes (pairs_of ys)) =
-    ap (λ (us : List (List ℕ × Tree)). pair_sizes (pairs_of us)) are in
-    let depth_is : pair_depths (pairs_of xs) ≡ max (depth t) (pair_depths (pairs_of ys)) =
-    ap (λ (us : List (List ℕ × Tree)). pair_depths (pairs_of us)) are in
-    record {
-      less = omega arith;
-      no_deeper = subst
-          (λ (n : ℕ). pair_depths (pairs_of ys) ≤ n) (sym depth_is)
-          (le-max_right (depth t) (pair_depths (pairs_of ys)));
-    }
+pairs_behind xs ys k t are = rw are record {
+  less = omega arith;
+  no_deeper = le-max_right (depth t) (pair_depths (pairs_of ys));
+}

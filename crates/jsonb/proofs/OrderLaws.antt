@@ -1,5 +1,5 @@
 -- The order of bytes by what they mean.
-use Rattle.std.proofs.Common.{◌≡◌, ℕ, List, Some, Ok, sym, ap₂, ◌∙◌}
+use Rattle.std.proofs.Common.{◌≡◌, ℕ, List, Some, Ok, ap₂, ◌∙◌}
 use Rattle.std.specs.declared.cmp.Ordering.{Ordering}
 use Rattle.std.specs.declared.cmp.Ordering.TheVariants.{Equal}
 use Rattle.std.specs.Ordering.{on}
@@ -44,12 +44,12 @@ items_cmp-one_tree x y t h k =
 tree_cmp-kinds : (t u : Tree) (o : Ordering) → rank_order (kind_of_tree t) (kind_of_tree u) ≡ Some o
     → tree_cmp t u ≡ o
 tree_cmp-kinds null null o e = cc
-tree_cmp-kinds (array ts) (array us) o e = let never : ⊥ = cc in absurd never
-tree_cmp-kinds (object ps) (object qs) o e = let never : ⊥ = cc in absurd never
-tree_cmp-kinds (text s) (text r) o e = let never : ⊥ = cc in absurd never
-tree_cmp-kinds (number x) (number y) o e = let never : ⊥ = cc in absurd never
-tree_cmp-kinds (boolean a) (boolean b) o e = let never : ⊥ = cc in absurd never
-tree_cmp-kinds (extension d) (extension f) o e = let never : ⊥ = cc in absurd never
+tree_cmp-kinds (array ts) (array us) o e = cc
+tree_cmp-kinds (object ps) (object qs) o e = cc
+tree_cmp-kinds (text s) (text r) o e = cc
+tree_cmp-kinds (number x) (number y) o e = cc
+tree_cmp-kinds (boolean a) (boolean b) o e = cc
+tree_cmp-kinds (extension d) (extension f) o e = cc
 tree_cmp-kinds t u o e = cc
 
 -- and so of two documents.
@@ -62,7 +62,7 @@ bytes_cmp-kinds l r k m o h g left right e =
     let same_left : k ≡ kind_of_tree h.0 = cc in
     let same_right : m ≡ kind_of_tree g.0 = cc in
     bytes_cmp-trees l r h.0 g.0 h.1 g.1
-    ∙ tree_cmp-kinds h.0 g.0 o (sym (ap₂ rank_order same_left same_right) ∙ e)
+    ∙ tree_cmp-kinds h.0 g.0 o (cc (same_left, same_right, e))
 
 -- A tree and its norm compare alike with all bytes.
 tied_left : (m n k : Meaning) → meaning_cmp m n ≡ Equal → meaning_cmp m k ≡ meaning_cmp n k

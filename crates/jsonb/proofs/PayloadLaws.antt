@@ -1,5 +1,5 @@
 -- What payloads mean as functions of their bytes, told by the relations.
-use Rattle.std.proofs.Common.{◌≡◌, ℕ, List, Some, None, inl, inr, refl, ap, sym, subst, Bor, Err}
+use Rattle.std.proofs.Common.{◌≡◌, ℕ, List, Some, None, inl, inr, refl, ap, Bor, Err}
 use Rattle.jsonb_value.specs.declared.error.Error.TheVariants.{InvalidJsonbNumber}
 use Rattle.jsonb_value.specs.declared.number.Number.{Number}
 use Rattle.jsonb_value.specs.Tree.{Extension}
@@ -9,7 +9,7 @@ use Rattle.jsonb_value.proofs.Codes.{NumCode-unique}
 use Rattle.jsonb_value.proofs.ExtCodes.{ExtCode-unique}
 use Rattle.jsonb_value.proofs.PayloadDecision.{Decided, decide_number, decide_extension}
 use Rattle.jsonb.specs.Payloads.{witness_of, number_in, extension_in, extension_error}
-use Rattle.jsonb.specs.Item.{item_of_number, number_item, item_of_extension, extension_item}
+use Rattle.jsonb.specs.Item.{number_item, extension_item}
 
 -- what was found is what there is, where there is one thing at most
 found-some : {A : Type 0} (P : A → Type 0) (d : Decided ((x : A) × P x)) (x : A)
@@ -24,8 +24,8 @@ found-none P (inr h) nothing = refl
 
 found-holds : {A : Type 0} (P : A → Type 0) (d : Decided ((x : A) × P x)) (x : A)
     → witness_of P d ≡ Some x → P x
-found-holds P (inl h) x e = let same : h.0 ≡ x = cc in subst P same h.1
-found-holds P (inr none) x e = let different : ⊥ = cc in absurd different
+found-holds P (inl h) x e = let same : h.0 ≡ x = cc in rw same at h.1
+found-holds P (inr none) x e = cc
 
 pub number_in-NumCode : (p : List ℕ) (x : Number) → NumCode p x → number_in p ≡ Some x
 unfolding number_in
@@ -57,21 +57,18 @@ ExtCode-extension_in p e h = found-holds (ExtCode p) (decide_extension p) e h
 pub number_in-given : (bytes : Bor (List ℕ)) (x : Number) → NumCode bytes.now x
     → (given : Bor (List ℕ)) → Some bytes ≡ Some given → number_in given.now ≡ Some x
 number_in-given bytes x h given e =
-    let same : bytes ≡ given = cc in subst
-    (λ (r : Bor (List ℕ)). number_in r.now ≡ Some x) same (number_in-NumCode bytes.now x h)
+    let same : bytes ≡ given = cc in rw same at (number_in-NumCode bytes.now x h)
 
 pub extension_in-given : (bytes : Bor (List ℕ)) (x : Extension) → ExtCode bytes.now x
     → (given : Bor (List ℕ)) → Some bytes ≡ Some given → extension_in given.now ≡ Some x
 extension_in-given bytes x h given e =
-    let same : bytes ≡ given = cc in subst
-    (λ (r : Bor (List ℕ)). extension_in r.now ≡ Some x) same
-    (extension_in-ExtCode bytes.now x h)
+    let same : bytes ≡ given = cc in rw same at (extension_in-ExtCode bytes.now x h)
 
 -- no item of bytes that mean none
 pub number_item-none : (p : List ℕ) → ((x : Number) → NumCode p x → ⊥)
     → Err InvalidJsonbNumber ≡ number_item p
-number_item-none p nothing = ap (item_of_number p) (sym (number_in-none p nothing))
+number_item-none p nothing = cc (number_in-none p nothing)
 
 pub extension_item-none : (p : List ℕ) → ((x : Extension) → ExtCode p x → ⊥)
     → Err (extension_error p) ≡ extension_item p
-extension_item-none p nothing = ap (item_of_extension p) (sym (extension_in-none p nothing))
+extension_item-none p nothing = cc (extension_in-none p nothing)

@@ -2,14 +2,12 @@
 use Rattle.std.proofs.Common.{◌≡◌, ℕ, ◌+◌, ◌-◌, ◌%◌, ◌^◌, ◌<◌, ◌≤◌, List, [], ◌++◌, length, take}
 use Rattle.std.proofs.Common.{drop, Ok, refl, sym, ap, ◌∙◌, arith, length-append, append_assoc}
 use Rattle.std.proofs.Common.{append-nil, le-leb}
-use Rattle.std.specs.Int.{w32, from_be_bytes}
 use Rattle.std.proofs.lemmas.Nat.{from_be_bytes-to_be_bytes_4}
 use Rattle.std.proofs.lemmas.List.{take-append-le}
 use Rattle.std.proofs.Math.Seq.{take-append_seam}
 use Rattle.jsonb_value.proofs.ExtCodes.{back_of}
-use Rattle.jsonb_codec.specs.declared.jentry.JEntry.{JEntry}
-use Rattle.jsonb_codec.specs.Word.{word, word_at, header_in, header_of, header_at}
-use Rattle.jsonb_codec.specs.JEntry.{jentry_of, jentry_in, jentry_at}
+use Rattle.jsonb_codec.specs.Word.{word, word_at, header_of, header_at}
+use Rattle.jsonb_codec.specs.JEntry.{jentry_at}
 use Rattle.jsonb.specs.Item.{part_at}
 
 -- bytes stand in others, from a place on
@@ -29,8 +27,7 @@ pub At-left : (bytes : List ℕ) (i : ℕ) (xs ys : List ℕ) → At bytes i (xs
 At-left bytes i xs ys h = record {
   front = h.front;
   rest = ys ++ h.rest;
-  parts = h.parts ∙ ap
-      (λ (x : List ℕ). h.front ++ x) (append_assoc xs ys h.rest);
+  parts = cc (h.parts, append_assoc xs ys h.rest);
   place = h.place;
 }
 
@@ -39,9 +36,8 @@ pub At-right : (bytes : List ℕ) (i j : ℕ) (xs ys : List ℕ) → j ≡ i + l
 At-right bytes i j xs ys e h = record {
   front = h.front ++ xs;
   rest = h.rest;
-  parts = h.parts ∙ ap (λ (x : List ℕ). h.front ++ x) (append_assoc xs ys h.rest)
-      ∙ sym (append_assoc h.front xs (ys ++ h.rest));
-  place = let p = h.place in let n = length-append h.front xs in omega arith;
+  parts = cc (h.parts, append_assoc xs ys h.rest, append_assoc h.front xs (ys ++ h.rest));
+  place = omega (arith, h.place, length-append h.front xs);
 }
 
 drop-At : (bytes : List ℕ) (i : ℕ) (xs : List ℕ) (h : At bytes i xs) → drop i bytes ≡ xs ++ h.rest
@@ -49,15 +45,17 @@ drop-At bytes i xs h = back_of i h.front (xs ++ h.rest) bytes h.parts (sym h.pla
 
 pub take-At : (bytes : List ℕ) (i : ℕ) (xs : List ℕ) → At bytes i xs
     → take (length xs) (drop i bytes) ≡ xs
-take-At bytes i xs h = ap (take (length xs)) (drop-At bytes i xs h) ∙ take-append_seam xs h.rest
+take-At bytes i xs h = cc (drop-At bytes i xs h, take-append_seam xs h.rest)
 
 pub within-At : (bytes : List ℕ) (i : ℕ) (xs : List ℕ) → At bytes i xs
     → i + length xs ≤ length bytes
-within-At bytes i xs h =
-    let a = ap length h.parts ∙ length-append h.front (xs ++ h.rest) in
-    let b = length-append xs h.rest in
-    let p = h.place in
-    omega arith
+within-At bytes i xs h = omega (
+  arith,
+  ap length h.parts,
+  length-append h.front (xs ++ h.rest),
+  length-append xs h.rest,
+  h.place,
+)
 
 -- the bytes that stand there
 pub part_at-At : (bytes : List ℕ) (i n : ℕ) (xs : List ℕ) → n ≡ length xs → At bytes i xs
@@ -66,7 +64,7 @@ unfolding part_at
 part_at-At bytes i n xs e h =
     let inside = within-At bytes i xs h in
     let test = le-leb (i + n) (length bytes) (omega arith) in
-    rw test (ap Ok (ap (λ (k : ℕ). take k (drop i bytes)) e ∙ take-At bytes i xs h))
+    rw test (cc (e, take-At bytes i xs h))
 
 -- a word of bytes that stand in others
 pub word_at-within : (bytes : List ℕ) (i : ℕ) (xs : List ℕ) → At bytes i xs → 4 ≤ length xs
@@ -75,53 +73,43 @@ word_at-within bytes i xs h long =
     let inside = within-At bytes i xs h in
     let test = le-leb (i + 4) (length bytes) (omega arith) in
     let own = le-leb 4 (length xs) long in
-    let there : take 4 (drop i bytes) ≡ take 4 xs =
-    ap (take 4) (drop-At bytes i xs h) ∙ take-append-le 4 xs h.rest long in
-    rw (test, own) (ap (λ (x : List ℕ). Ok (from_be_bytes w32 x)) there)
+    rw (test, own) (cc (drop-At bytes i xs h, take-append-le 4 xs h.rest long))
 
 length-word : (k : ℕ) → length (word k) ≡ 4
 unfolding word
 length-word k = refl
 
 pub length-word-append : (k : ℕ) (xs : List ℕ) → length (word k ++ xs) ≡ 4 + length xs
-length-word-append k xs = length-append (word k) xs ∙ ap (λ (n : ℕ). n + length xs) (length-word k)
-
-word-value : (k : ℕ) → k < 2 ^ 32 → from_be_bytes w32 (word k) ≡ k
-unfolding word
-word-value k h = from_be_bytes-to_be_bytes_4 k h
+length-word-append k xs = cc (length-append (word k) xs, length-word k)
 
 pub At-behind_word : (bytes : List ℕ) (i j k : ℕ) (xs : List ℕ) → j ≡ i + 4
     → At bytes i (word k ++ xs) → At bytes j xs
 At-behind_word bytes i j k xs e h =
-    At-right bytes i j (word k) xs (e ∙ ap (λ (n : ℕ). i + n) (sym (length-word k))) h
+    At-right bytes i j (word k) xs (cc (e, length-word k)) h
 
 -- a word that stands there
 pub word_at-At : (bytes : List ℕ) (i k : ℕ) → k < 2 ^ 32 → At bytes i (word k)
     → word_at bytes i ≡ Ok k
-word_at-At bytes i k small h =
-    let inside = within-At bytes i (word k) h in
-    let four = length-word k in
-    let test = le-leb (i + 4) (length bytes) (omega arith) in
-    let there : take 4 (drop i bytes) ≡ word k =
-    ap (λ (n : ℕ). take n (drop i bytes)) (sym four) ∙ take-At bytes i (word k) h in
-    rw test (ap Ok (ap (from_be_bytes w32) there ∙ word-value k small))
+unfolding word
+word_at-At bytes i k small h = word_at-within bytes i (word k) h (omega (arith, length-word k))
+    ∙ ap Ok (from_be_bytes-to_be_bytes_4 k small)
 
 -- a header that stands there
 pub header_at-At : (bytes : List ℕ) (k : ℕ) → k < 2 ^ 32 → At bytes 0 (word k)
     → header_at bytes 0 ≡ header_of k
-header_at-At bytes k small h = ap header_in (word_at-At bytes 0 k small h)
+header_at-At bytes k small h = cc (word_at-At bytes 0 k small h)
 
 pub header_of-array : (n : ℕ) → n < 2 ^ 29 → header_of (2147483648 + n) ≡ Ok (2147483648, n)
 header_of-array n h =
     let low : (2147483648 + n) % 2 ^ 29 ≡ n = omega arith in
     let high : 2147483648 + n - n ≡ 2147483648 = omega arith in
-    rw (low, high) refl
+    rw (low, high)
 
 pub header_of-object : (n : ℕ) → n < 2 ^ 29 → header_of (1073741824 + n) ≡ Ok (1073741824, n)
 header_of-object n h =
     let low : (1073741824 + n) % 2 ^ 29 ≡ n = omega arith in
     let high : 1073741824 + n - n ≡ 1073741824 = omega arith in
-    rw (low, high) refl
+    rw (low, high)
 
 pub header_of-scalar : header_of 536870912 ≡ Ok (536870912, 0)
 header_of-scalar = refl
@@ -131,24 +119,13 @@ pub record IsTag (type : ℕ) : Type 0 where
   pub step : type % 2 ^ 28 ≡ 0
   pub room : type + 2 ^ 28 ≤ 2 ^ 31
 
-jentry : ℕ → ℕ → JEntry
-jentry type n = record { type_code = type; length = n }
-
-jentry_of-entry : (type n : ℕ) → IsTag type → n < 2 ^ 28 → jentry_of (type + n) ≡ jentry type n
-unfolding jentry
-jentry_of-entry type n tag h =
+-- an entry word that stands there
+pub jentry_at-At : (bytes : List ℕ) (i type n : ℕ) → IsTag type → n < 2 ^ 28
+    → At bytes i (word (type + n)) → jentry_at bytes i ≡ Ok record { type_code = type; length = n }
+jentry_at-At bytes i type n tag short h =
     let step = tag.step in
     let room = tag.room in
     let low : (type + n) % 2 ^ 28 ≡ n = omega arith in
     let all : (type + n) % 2 ^ 31 ≡ type + n = omega arith in
     let high : type + n - n ≡ type = omega arith in
-    rw (low, all, high) refl
-
--- an entry word that stands there
-pub jentry_at-At : (bytes : List ℕ) (i type n : ℕ) → IsTag type → n < 2 ^ 28
-    → At bytes i (word (type + n)) → jentry_at bytes i ≡ Ok record { type_code = type; length = n }
-unfolding jentry
-jentry_at-At bytes i type n tag short h =
-    let room = tag.room in
-    ap jentry_in (word_at-At bytes i (type + n) (omega arith) h)
-    ∙ ap Ok (jentry_of-entry type n tag short)
+    rw (word_at-At bytes i (type + n) (omega arith) h, low, all, high)

@@ -1,6 +1,6 @@
 -- What is built of documents is a document.
 use Rattle.std.proofs.Common.{◌≡◌, ℕ, suc, ◌+◌, ◌<◌, ◌^◌, List, [], ◌∷◌, ◌++◌, length, map, refl}
-use Rattle.std.proofs.Common.{sym, ap, ap₂, subst, ◌∙◌, inl, inr}
+use Rattle.std.proofs.Common.{sym, ap, ap₂, ◌∙◌, inl, inr}
 use Rattle.jsonb_value.specs.Tree.{Tree, Trees, no_trees, tree, array, count}
 use Rattle.jsonb_value.specs.Norm.{norm}
 use Rattle.jsonb_value.specs.WellFormed.{IsTree}
@@ -20,27 +20,27 @@ use Rattle.jsonb.specs.Standing.{AreCodesOf}
 use Rattle.jsonb.proofs.StandingLaws.{length-AreCodesOf}
 use Rattle.jsonb.proofs.StorageLaws.{document_code-Scalar, document_code-container, same_payload}
 use Rattle.jsonb.proofs.StorageLaws.{codes_of-AreCodes, AreCodes-codes_of, length-codes_of}
-use Rattle.jsonb.proofs.StorageLaws.{AreStorable-FitArray}
+use Rattle.jsonb.proofs.StorageLaws.{AreStorable-FitArray, same_code}
 
 pub map-map : {A B C : Type 0} (g : B → C) (f : A → B) (xs : List A)
     → map g (map f xs) ≡ map (λ x. g (f x)) xs
 map-map g f [] = refl
-map-map {C = C} g f (x ∷ xs) = ap (λ (ys : List C). g (f x) ∷ ys) (map-map g f xs)
+map-map {C = C} g f (x ∷ xs) = cc (map-map g f xs)
 
 -- the entry means the tree
 abbrev pub IsCodeOf : Entry → Tree → Type 0
 IsCodeOf c t = IsPayloadOf c.type c.payload t
 
-Children-AreCodesOf : (cs : List Entry) (ts : Trees) → AreCodesOf cs ts → AreShort cs
+pub Children-AreCodesOf : (cs : List Entry) (ts : Trees) → AreCodesOf cs ts → AreShort cs
     → Children ts (code_entries cs) (code_payloads cs)
 Children-AreCodesOf [] no_trees h short = record { no_entries = refl; no_payloads = refl }
-Children-AreCodesOf [] (tree t ts) h short = let never : ⊥ = cc in absurd never
+Children-AreCodesOf [] (tree t ts) h short = cc
 Children-AreCodesOf (c ∷ cs) no_trees h short = absurd h
 Children-AreCodesOf (c ∷ cs) (tree t ts) h short = record {
   payload = c.payload;
   other_entries = code_entries cs;
   other_payloads = code_payloads cs;
-  entries_are = ap (λ (k : ℕ). word (k + length c.payload) ++ code_entries cs) (sym h.0.0);
+  entries_are = rw h.0.0;
   payloads_are = refl;
   short = short.0;
   means = h.0.1;
@@ -56,9 +56,9 @@ Doc-array_of cs ts h short few =
       refl,
       record {
         rest = code_entries cs ++ code_payloads cs;
-        parts = ap (λ (k : ℕ). word (2147483648 + k) ++ (code_entries cs ++ code_payloads cs)) n;
+        parts = cc n;
         behind = record {
-          few = subst (λ (k : ℕ). k < 2 ^ 29) n few;
+          few = rw n at few;
           entries = code_entries cs;
           payloads = code_payloads cs;
           parts = refl;
@@ -70,9 +70,9 @@ Doc-array_of cs ts h short few =
 -- a document's entry means its tree
 pub IsCodeOf-document_code : (b : List ℕ) (t : Tree) → Doc b t → IsCodeOf (document_code b) t
 IsCodeOf-document_code b t (inl (other, h)) =
-    subst (λ (c : Entry). IsCodeOf c t) (sym (document_code-Scalar b t h)) (refl, h.means)
+    rw (document_code-Scalar b t h) (refl, h.means)
 IsCodeOf-document_code b t (inr (is, h)) =
-    subst (λ (c : Entry). IsCodeOf c t) (sym (document_code-container b t is h)) (is, h)
+    rw (document_code-container b t is h) (is, h)
 
 AreCodesOf-documents : (bs : List (List ℕ)) (ts : Trees) → AreDocuments bs ts
     → AreCodesOf (codes_of (map raw bs)) ts
@@ -87,34 +87,29 @@ pub array_of-IsArrayOf : (xs : List ItemView) (bytes : List ℕ) → IsArrayOf x
 array_of-IsArrayOf xs bytes h =
     h.written ∙ ap array_of (codes_of-AreCodes xs h.fit.codes h.fit.are h.fit.short).0
 
--- So of documents a document is built.
-pub Doc-documents : (bs : List (List ℕ)) (bytes : List ℕ) → IsArrayOf (map raw bs) bytes
-    → (ts : Trees) → AreDocuments bs ts → Doc bytes (array ts)
-Doc-documents bs bytes h ts are =
-    let xs = map raw bs in
+pub Doc-IsArrayOf : (xs : List ItemView) (bytes : List ℕ) → IsArrayOf xs bytes → (ts : Trees)
+    → AreCodesOf (codes_of xs) ts → Doc bytes (array ts)
+Doc-IsArrayOf xs bytes h ts are =
     let fit = AreStorable-FitArray xs h.fit in
-    subst (λ (b : List ℕ). Doc b (array ts)) (sym (array_of-IsArrayOf xs bytes h))
-    (Doc-array_of (codes_of xs) ts (AreCodesOf-documents bs ts are) (AreCodes-codes_of xs fit.0).1
-    (subst (λ (n : ℕ). n < 2 ^ 29) (sym (length-codes_of xs)) fit.1))
+    rw (array_of-IsArrayOf xs bytes h) (Doc-array_of (codes_of xs) ts are
+    (AreCodes-codes_of xs fit.0).1 (rw (length-codes_of xs) fit.1))
 
 -- The entry of a canonical document is the one that is written for its tree.
 pub document_code-canon : (b : List ℕ) (t : Tree) → IsTree t → Fits t → canon t ≡ b
     → document_code b ≡ record { type = type_of t; payload = payload_of t }
 document_code-canon b t is fits same =
-    of (subst (λ (x : List ℕ). Doc x (norm t)) same (Doc-canon t is fits)) where
+    of (rw same at (Doc-canon t is fits)) where
       of : Doc b (norm t) → document_code b ≡ record { type = type_of t; payload = payload_of t }
       of (inl (other, h)) =
           let scalar : b ≡ scalar_bytes (type_of t) (payload_of t) =
           sym same ∙ canon-scalar t (λ e. other (type_of-norm t ∙ e)) in
           let payload = same_payload (type_of t) _ (payload_of t) h.payload
           (sym scalar ∙ h.parts) in
-          document_code-Scalar b (norm t) h ∙ ap₂
-          (λ (n : ℕ) (p : List ℕ). record { type = n; payload = p }) (type_of-norm t) (sym payload)
+          rw (document_code-Scalar b (norm t) h) (same_code _ _ (type_of-norm t) (sym payload))
       of (inr (whole, h)) =
           let container = sym (type_of-norm t) ∙ whole in
-          document_code-container b (norm t) whole h
-          ∙ ap₂ (λ (n : ℕ) (p : List ℕ). record { type = n; payload = p }) (sym container)
-          (sym same ∙ canon-container t container)
+          rw (document_code-container b (norm t) whole h)
+          (same_code _ _ (sym container) (sym same ∙ canon-container t container))
 
 record AreWritten (cs : List Entry) (ts : Trees) : Type 0 where
   entries : code_entries cs ≡ entries_of ts
@@ -126,21 +121,19 @@ AreWritten-canonical : (bs : List (List ℕ)) (ts : Trees) → AreCanonical bs t
     → AreShort (codes_of (map raw bs)) → AreWritten (codes_of (map raw bs)) ts
 AreWritten-canonical [] no_trees h short =
     record { entries = refl; payloads = refl; counted = refl; fit = tt }
-AreWritten-canonical [] (tree t ts) h short = let never : ⊥ = cc in absurd never
+AreWritten-canonical [] (tree t ts) h short = cc
 AreWritten-canonical (b ∷ bs) no_trees h short = absurd h
 AreWritten-canonical (b ∷ bs) (tree t ts) h short =
     let more = AreWritten-canonical bs ts h.1 short.1 in
     let code = document_code-canon b t h.0.0 h.0.1.0 h.0.1.1 in
     record {
-      entries = ap₂
-          (λ (c : Entry) (xs : List ℕ). word (c.type + length c.payload) ++ xs) code more.entries;
-      payloads = ap₂ (λ (c : Entry) (xs : List ℕ). c.payload ++ xs) code more.payloads;
+      entries = cc (code, more.entries);
+      payloads = cc (code, more.payloads);
       counted = ap suc more.counted;
       fit = (
         (
           h.0.1.0.inside,
-          subst
-              (λ (c : Entry). length c.payload < 2 ^ 28) code short.0,
+          rw code at short.0,
         ),
         more.fit,
       );
@@ -153,20 +146,20 @@ canon-documents bs bytes h ts are =
     let xs = map raw bs in
     let fit = AreStorable-FitArray xs h.fit in
     let w = AreWritten-canonical bs ts are (AreCodes-codes_of xs fit.0).1 in
-    let few = subst (λ (n : ℕ). n < 2 ^ 29) (sym (length-codes_of xs) ∙ w.counted) fit.1 in (
+    let few = rw (sym (length-codes_of xs) ∙ w.counted) at fit.1 in (
       record { inside = (few, w.fit); short = λ other. absurd (other refl) },
       array_of-IsArrayOf xs bytes h
-          ∙ ap₂ (λ (n : ℕ) (ys : List ℕ). word (2147483648 + n) ++ ys) w.counted
-          (ap₂ (λ (ys zs : List ℕ). ys ++ zs) w.entries w.payloads),
+          ∙ ap₂ (λ n ys. word (2147483648 + n) ++ ys) w.counted
+          (ap₂ (λ ys zs. ys ++ zs) w.entries w.payloads),
     )
 
 -- what is built of inputs
 pub IsArrayOfInputs-IsArrayOf : (bs : List (List ℕ)) (xs : List ItemView) (bytes : List ℕ)
     → xs ≡ map raw bs → IsArrayOf xs bytes → IsArrayOfInputs bs bytes
 IsArrayOfInputs-IsArrayOf bs xs bytes same h =
-    let array = subst (λ (ys : List ItemView). IsArrayOf ys bytes) same h in
+    let array = rw same at h in
     record {
       array = array;
-      document = Doc-documents bs bytes array;
+      document = λ ts are. Doc-IsArrayOf _ bytes array ts (AreCodesOf-documents bs ts are);
       canonical = canon-documents bs bytes array;
     }

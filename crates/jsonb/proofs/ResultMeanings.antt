@@ -1,6 +1,6 @@
 -- What is built means what its items mean, but for zeros.
-use Rattle.std.proofs.Common.{◌≡◌, ℕ, ◌<◌, ◌^◌, List, [], ◌∷◌, Some, None, true, false, refl, sym}
-use Rattle.std.proofs.Common.{ap, ap₂, subst, ◌∙◌}
+use Rattle.std.proofs.Common.{◌≡◌, ℕ, List, [], ◌∷◌, Some, None, true, false, refl, sym}
+use Rattle.std.proofs.Common.{ap, ◌∙◌}
 use Rattle.std.specs.Map.{keys_of, values_of}
 use Rattle.std.proofs.Common.{zero, suc, pos, negsuc}
 use Rattle.jsonb_value.specs.declared.number.Number.{Number}
@@ -11,19 +11,17 @@ use Rattle.jsonb_value.specs.Tree.{object}
 use Rattle.jsonb_value.specs.Tree as trees
 use Rattle.jsonb_value.specs.Norm.{norm_number, norm, norms, norm_pairs}
 use Rattle.jsonb_value.proofs.PayloadLaws.{NumCode-number_payload, ExtCode-extension_payload}
-use Rattle.jsonb_codec.specs.Doc.{Doc}
 use Rattle.jsonb.specs.ItemView.{ItemView, null, boolean, number, text, extension, raw, owned}
 use Rattle.jsonb.specs.Item.{Entry}
 use Rattle.jsonb.specs.Code.{Means}
 use Rattle.jsonb.specs.Storage.{code_of, codes_of, IsStored, IsHeld, AreStorable, AreHeld}
 use Rattle.jsonb.specs.Building.{AreKeys, IsArrayOf, IsObjectOf}
 use Rattle.jsonb.specs.Results.{AllMean, AllMeanAt, IsArrayUpToZeros, IsObjectUpToZeros}
-use Rattle.jsonb.proofs.StorageLaws.{AreCodes-codes_of, codes_of-AreCodes, length-codes_of}
+use Rattle.jsonb.proofs.StorageLaws.{codes_of-AreCodes}
 use Rattle.jsonb.proofs.StorageLaws.{AreStorable-FitArray}
 use Rattle.jsonb.specs.Standing.{AreCodesOf, ArePairsOf}
-use Rattle.jsonb.proofs.ResultLaws.{IsCodeOf, IsCodeOf-document_code, Doc-array_of}
-use Rattle.jsonb.proofs.ResultLaws.{array_of-IsArrayOf}
-use Rattle.jsonb.proofs.ResultObjects.{Doc-object_of}
+use Rattle.jsonb.proofs.ResultLaws.{IsCodeOf, IsCodeOf-document_code, Doc-IsArrayOf}
+use Rattle.jsonb.proofs.ResultObjects.{Doc-IsObjectOf}
 
 norm_number-norm_number : (x : Number) → norm_number (norm_number x) ≡ norm_number x
 norm_number-norm_number (Int64 (pos zero)) = refl
@@ -40,10 +38,10 @@ MeansUpToZeros c t = (u : Tree) × (IsCodeOf c u × (norm u ≡ norm t))
 -- What an item is stored with means what it means.
 code_meaning : (x : ItemView) → IsStored x → IsHeld x → (t : Tree) → Means x t
     → MeansUpToZeros (code_of x) t
-code_meaning null stored held t h = (trees.null, ((refl, refl), ap norm (sym h)))
-code_meaning (boolean true) stored held t h = (trees.boolean true, ((refl, refl), ap norm (sym h)))
+code_meaning null stored held t h = (trees.null, ((refl, refl), cc h))
+code_meaning (boolean true) stored held t h = (trees.boolean true, ((refl, refl), cc h))
 code_meaning (boolean false) stored held t h =
-    (trees.boolean false, ((refl, refl), ap norm (sym h)))
+    (trees.boolean false, ((refl, refl), cc h))
 code_meaning (number None x) stored held t h = (
   trees.number (norm_number x),
   (
@@ -52,24 +50,24 @@ code_meaning (number None x) stored held t h = (
         ∙ ap norm (sym h),
   ),
 )
-code_meaning (number (Some p) x) stored held t h = (trees.number x, ((refl, held), ap norm (sym h)))
-code_meaning (text s) stored held t h = (trees.text s, ((refl, (refl, held)), ap norm (sym h)))
+code_meaning (number (Some p) x) stored held t h = (trees.number x, ((refl, held), cc h))
+code_meaning (text s) stored held t h = (trees.text s, ((refl, (refl, held)), cc h))
 code_meaning (extension None e) stored held t h =
-    (trees.extension e, ((refl, ExtCode-extension_payload e held), ap norm (sym h)))
+    (trees.extension e, ((refl, ExtCode-extension_payload e held), cc h))
 code_meaning (extension (Some p) e) stored held t h =
-    (trees.extension e, ((refl, held), ap norm (sym h)))
+    (trees.extension e, ((refl, held), cc h))
 code_meaning (raw b) stored held t h = (t, (IsCodeOf-document_code b t h, refl))
 code_meaning (owned b) stored held t h = (t, (IsCodeOf-document_code b t h, refl))
 
 codes_meaning : (xs : List ItemView) → AreStorable xs → AreHeld xs → (ts : Trees) → AllMean xs ts
     → (us : Trees) × (AreCodesOf (codes_of xs) us × (norms us ≡ norms ts))
-codes_meaning [] storable held ts h = (no_trees, (refl, ap norms (sym h)))
+codes_meaning [] storable held ts h = (no_trees, (refl, cc h))
 codes_meaning (x ∷ xs) storable held no_trees h = absurd h
 codes_meaning (x ∷ xs) storable held (tree t ts) h =
     let here = code_meaning x storable.0.0 held.0 t h.0 in
     let more = codes_meaning xs storable.1 held.1 ts h.1 in (
       tree here.0 more.0,
-      ((here.1.0, more.1.0), ap₂ (λ (u : Tree) (us : Trees). tree u us) here.1.1 more.1.1),
+      ((here.1.0, more.1.0), cc (here.1.1, more.1.1)),
     )
 
 -- So does what is built of items,
@@ -80,9 +78,7 @@ IsArrayUpToZeros-IsArrayOf xs bytes h held ts mean =
     let means = codes_meaning xs fit.0 held ts mean in
     record {
       stored = means.0;
-      document = subst (λ (b : List ℕ). Doc b (array means.0)) (sym (array_of-IsArrayOf xs bytes h))
-          (Doc-array_of (codes_of xs) means.0 means.1.0 (AreCodes-codes_of xs fit.0).1
-          (subst (λ (n : ℕ). n < 2 ^ 29) (sym (length-codes_of xs)) fit.1));
+      document = Doc-IsArrayOf xs bytes h means.0 means.1.0;
       same = means.1.1;
     }
 
@@ -90,7 +86,7 @@ pairs_meaning : (qs : List (List ℕ × ItemView)) → AreStorable (values_of qs
     → AreHeld (values_of qs) → (ps : Pairs) → AllMeanAt qs ps
     → (us : Pairs)
     × (ArePairsOf (keys_of qs) (codes_of (values_of qs)) us × (norm_pairs us ≡ norm_pairs ps))
-pairs_meaning [] storable held ps h = (no_pairs, (refl, ap norm_pairs (sym h)))
+pairs_meaning [] storable held ps h = (no_pairs, (refl, cc h))
 pairs_meaning (q ∷ qs) storable held no_pairs h = absurd h
 pairs_meaning (q ∷ qs) storable held (pair k t ps) h =
     let here = code_meaning q.1 storable.0.0 held.0 t h.1.0 in
@@ -98,8 +94,7 @@ pairs_meaning (q ∷ qs) storable held (pair k t ps) h =
       pair k here.0 more.0,
       (
         (h.0, (here.1.0, more.1.0)),
-        ap₂
-            (λ (u : Tree) (us : Pairs). pair k u us) here.1.1 more.1.1,
+        cc (here.1.1, more.1.1),
       ),
     )
 
@@ -110,13 +105,8 @@ pub IsObjectUpToZeros-IsObjectOf : (qs : List (List ℕ × ItemView)) (bytes : L
 IsObjectUpToZeros-IsObjectOf qs bytes h keys held ps mean =
     let codes = codes_of-AreCodes (values_of qs) h.fit.codes h.fit.are h.fit.short in
     let means = pairs_meaning qs codes.1 held ps mean in
-    let pairs =
-    subst (λ (cs : List Entry). ArePairsOf (keys_of qs) cs means.0) (sym codes.0) means.1.0 in
     record {
       stored = means.0;
-      document = subst
-          (λ (b : List ℕ). Doc b (object means.0)) (sym h.written)
-          (Doc-object_of
-          (keys_of qs) h.fit.codes means.0 pairs keys h.fit.short_keys h.fit.short h.fit.few);
+      document = Doc-IsObjectOf qs bytes h keys means.0 means.1.0;
       same = means.1.1;
     }

@@ -1,72 +1,57 @@
 -- What is built of documents at keys is a document.
-use Rattle.std.proofs.Common.{◌≡◌, ℕ, suc, ◌+◌, ◌<◌, ◌^◌, List, [], ◌∷◌, ◌++◌, length, Some, Result}
-use Rattle.std.proofs.Common.{Ok, Err, IfOk, OnOk, refl, sym, ap, ap₂, subst, ◌∙◌, inr}
+use Rattle.std.proofs.Common.{◌≡◌, ℕ, ◌<◌, ◌^◌, List, [], ◌∷◌, ◌++◌, length, Some, Result}
+use Rattle.std.proofs.Common.{arith, Ok, Err, IfOk, OnOk, refl, ap, inr}
 use Rattle.std.specs.Map.{keys_of, values_of}
 use Rattle.std.specs.List.Sorted.{IsStrictlySortedBy}
 use Rattle.std.specs.List.{IsDistinct}
 use Rattle.std.specs.Str.{bytes_eq}
-use Rattle.std.specs.declared.cmp.Ordering.TheVariants.{Less}
 use Rattle.std.specs.Ordering.{nat_cmp}
 use Rattle.std.specs.Cmp.Lexicographic.{slice_cmp}
+use Rattle.jsonb_value.specs.Tree.{text, Trees, no_trees, tree}
 use Rattle.jsonb_value.specs.Tree.{Pairs, no_pairs, pair, object, pair_count, Ascends, Ascend}
-use Rattle.jsonb_codec.specs.Word.{word}
-use Rattle.jsonb_codec.specs.Doc.{Doc, Values}
+use Rattle.jsonb_codec.specs.Doc.{Doc, One, IsKey, Keys, Values, Children, Payload, type_of}
 use Rattle.jsonb_codec.specs.Canon.{canon, key_entries, key_payloads, value_entries, value_payloads}
 use Rattle.jsonb_codec.specs.Canon.{PairsFit, Fits}
 use Rattle.jsonb.specs.ItemView.{ItemView}
 use Rattle.jsonb.specs.Item.{Entry}
 use Rattle.jsonb.specs.Storage.{codes_of}
-use Rattle.jsonb.specs.Building.{AreKeys, AreShort, code_entries, code_payloads, key_codes}
+use Rattle.jsonb.specs.Building.{AreKeys, AreTexts, AreShort, code_entries, code_payloads}
+use Rattle.jsonb.specs.Building.{key_codes}
 use Rattle.jsonb.specs.Building.{object_of, in_order, IsObjectOf}
 use Rattle.jsonb.specs.Results.{ArePairDocuments, ArePairsCanonical, raw_pairs, IsObjectOfInputs}
-use Rattle.jsonb.specs.Standing.{ArePairsOf}
-use Rattle.jsonb.proofs.StandingLaws.{length-ArePairsOf, Keys-ArePairsOf}
+use Rattle.jsonb.specs.Standing.{AreCodesOf, ArePairsOf}
+use Rattle.jsonb.proofs.StandingLaws.{pair_keys, value_trees, both_are, length-ArePairsOf}
 use Rattle.jsonb.proofs.StorageLaws.{codes_of-AreCodes}
-use Rattle.jsonb.proofs.ResultLaws.{IsCodeOf-document_code, document_code-canon}
+use Rattle.jsonb.proofs.ResultLaws.{Children-AreCodesOf, IsCodeOf-document_code}
+use Rattle.jsonb.proofs.ResultLaws.{document_code-canon}
 
-Ascends-keys : (b : List ℕ) (ks : List (List ℕ)) (cs : List Entry) (ps : Pairs)
-    → ArePairsOf ks cs ps → IsStrictlySortedBy (slice_cmp nat_cmp) (b ∷ ks) → Ascends (Some b) ps
+Ascends-keys : (b : List ℕ) (ps : Pairs)
+    → IsStrictlySortedBy (slice_cmp nat_cmp) (b ∷ pair_keys ps) → Ascends (Some b) ps
 unfolding IsStrictlySortedBy
-Ascends-keys b [] [] no_pairs h sorted = tt
-Ascends-keys b [] [] (pair l t ps) h sorted = let never : ⊥ = cc in absurd never
-Ascends-keys b [] (c ∷ cs) ps h sorted = absurd h
-Ascends-keys b (k ∷ ks) [] ps h sorted = absurd h
-Ascends-keys b (k ∷ ks) (c ∷ cs) no_pairs h sorted = absurd h
-Ascends-keys b (k ∷ ks) (c ∷ cs) (pair l t ps) h sorted =
-    let more = Ascends-keys k ks cs ps h.1.1 sorted.1 in (
-      subst (λ (x : List ℕ). slice_cmp nat_cmp b x ≡ Less) h.0 sorted.0.0,
-      subst
-          (λ (x : List ℕ). Ascends (Some x) ps) h.0 more,
-    )
+Ascends-keys b no_pairs sorted = tt
+Ascends-keys b (pair k t ps) sorted = (sorted.0.0, Ascends-keys k ps sorted.1)
 
-Ascend-keys : (ks : List (List ℕ)) (cs : List Entry) (ps : Pairs) → ArePairsOf ks cs ps
-    → IsStrictlySortedBy (slice_cmp nat_cmp) ks → Ascend ps
-unfolding IsStrictlySortedBy
-Ascend-keys [] [] no_pairs h sorted = tt
-Ascend-keys [] [] (pair l t ps) h sorted = let never : ⊥ = cc in absurd never
-Ascend-keys [] (c ∷ cs) ps h sorted = absurd h
-Ascend-keys (k ∷ ks) [] ps h sorted = absurd h
-Ascend-keys (k ∷ ks) (c ∷ cs) no_pairs h sorted = absurd h
-Ascend-keys (k ∷ ks) (c ∷ cs) (pair l t ps) h sorted =
-    (tt, subst (λ (x : List ℕ). Ascends (Some x) ps) h.0 (Ascends-keys k ks cs ps h.1.1 sorted))
+Ascend-keys : (ps : Pairs) → IsStrictlySortedBy (slice_cmp nat_cmp) (pair_keys ps) → Ascend ps
+Ascend-keys no_pairs sorted = tt
+Ascend-keys (pair k t ps) sorted = (tt, Ascends-keys k ps sorted)
 
-Values-ArePairsOf : (ks : List (List ℕ)) (cs : List Entry) (ps : Pairs) → ArePairsOf ks cs ps
-    → AreShort cs → Values ps (code_entries cs) (code_payloads cs)
-Values-ArePairsOf [] [] no_pairs h short = record { no_entries = refl; no_payloads = refl }
-Values-ArePairsOf [] [] (pair l t ps) h short = let never : ⊥ = cc in absurd never
-Values-ArePairsOf [] (c ∷ cs) ps h short = absurd h
-Values-ArePairsOf (k ∷ ks) [] ps h short = absurd h
-Values-ArePairsOf (k ∷ ks) (c ∷ cs) no_pairs h short = absurd h
-Values-ArePairsOf (k ∷ ks) (c ∷ cs) (pair l t ps) h short = record {
-  payload = c.payload;
-  other_entries = code_entries cs;
-  other_payloads = code_payloads cs;
-  entries_are = ap (λ (n : ℕ). word (n + length c.payload) ++ code_entries cs) (sym h.1.0.0);
-  payloads_are = refl;
-  short = short.0;
-  means = h.1.0.1;
-  others = Values-ArePairsOf ks cs ps h.1.1 short.1;
-}
+-- keys and values as the children of an array
+abbrev key_trees : Pairs → Trees
+key_trees no_pairs = no_trees
+key_trees (pair k t ps) = tree (text k) (key_trees ps)
+
+keys_are : (ps : Pairs) → Keys ps ≡ Children (key_trees ps)
+keys_are no_pairs = refl
+keys_are (pair k t ps) = ap (One 268435456 (IsKey k)) (keys_are ps)
+
+values_are : (ps : Pairs) → Values ps ≡ Children (value_trees ps)
+values_are no_pairs = refl
+values_are (pair k t ps) = ap (One (type_of t) (Payload t)) (values_are ps)
+
+AreCodesOf-keys : (ps : Pairs) → AreTexts (pair_keys ps)
+    → AreCodesOf (key_codes (pair_keys ps)) (key_trees ps)
+AreCodesOf-keys no_pairs texts = refl
+AreCodesOf-keys (pair k t ps) texts = ((refl, (refl, texts.0)), AreCodesOf-keys ps texts.1)
 
 -- the object of keys that ascend, and of entries that mean trees
 pub Doc-object_of : (ks : List (List ℕ)) (cs : List Entry) (ps : Pairs) → ArePairsOf ks cs ps
@@ -74,28 +59,38 @@ pub Doc-object_of : (ks : List (List ℕ)) (cs : List Entry) (ps : Pairs) → Ar
     → Doc (object_of ks cs) (object ps)
 Doc-object_of ks cs ps h keys short_keys short few =
     let n = length-ArePairsOf ks cs ps h in
+    let (are, mean) = both_are ks cs ps h in
+    let words = AreCodesOf-keys ps (rw are at keys.texts) in
     let body = code_entries (key_codes ks)
     ++ (code_entries cs ++ (code_payloads (key_codes ks) ++ code_payloads cs)) in
     inr (
       refl,
       (
-        Ascend-keys ks cs ps h keys.ascend,
+        Ascend-keys ps (rw are at keys.ascend),
         record {
           rest = body;
-          parts = ap (λ (k : ℕ). word (1073741824 + k) ++ body) n;
+          parts = rw n;
           behind = record {
-            few = subst (λ (k : ℕ). k < 2 ^ 29) n few;
-            key_entries = code_entries (key_codes ks);
+            few = omega arith;
+            key_entries = code_entries (key_codes (pair_keys ps));
             value_entries = code_entries cs;
-            key_payloads = code_payloads (key_codes ks);
+            key_payloads = code_payloads (key_codes (pair_keys ps));
             value_payloads = code_payloads cs;
-            parts = refl;
-            keys = Keys-ArePairsOf ks cs ps h keys.texts short_keys;
-            values = Values-ArePairsOf ks cs ps h short;
+            parts = rw are;
+            keys = rw (keys_are ps) (Children-AreCodesOf _ _ words (rw are at short_keys));
+            values = rw (values_are ps) (Children-AreCodesOf cs _ mean short);
           };
         },
       ),
     )
+
+pub Doc-IsObjectOf : (qs : List (List ℕ × ItemView)) (bytes : List ℕ) → IsObjectOf qs bytes
+    → AreKeys (keys_of qs) → (ps : Pairs) → ArePairsOf (keys_of qs) (codes_of (values_of qs)) ps
+    → Doc bytes (object ps)
+Doc-IsObjectOf qs bytes h keys ps are =
+    let (codes, storable) = codes_of-AreCodes (values_of qs) h.fit.codes h.fit.are h.fit.short in
+    rw h.written (Doc-object_of (keys_of qs) h.fit.codes ps (rw codes are) keys h.fit.short_keys
+    h.fit.short h.fit.few)
 
 ArePairsOf-documents : (qs : List (List ℕ × List ℕ)) (ps : Pairs) → ArePairDocuments qs ps
     → ArePairsOf (keys_of (raw_pairs qs)) (codes_of (values_of (raw_pairs qs))) ps
@@ -103,20 +98,6 @@ ArePairsOf-documents [] ps h = h
 ArePairsOf-documents (q ∷ qs) no_pairs h = absurd h
 ArePairsOf-documents (q ∷ qs) (pair k t ps) h =
     (h.0, (IsCodeOf-document_code q.1 t h.1.0, ArePairsOf-documents qs ps h.1.1))
-
--- So of documents a document is built.
-Doc-pairs : (qs : List (List ℕ × List ℕ)) (bytes : List ℕ) → IsObjectOf (raw_pairs qs) bytes
-    → AreKeys (keys_of (raw_pairs qs)) → (ps : Pairs) → ArePairDocuments qs ps
-    → Doc bytes (object ps)
-Doc-pairs qs bytes h keys ps are =
-    let codes =
-    (codes_of-AreCodes (values_of (raw_pairs qs)) h.fit.codes h.fit.are h.fit.short).0 in
-    let pairs = subst
-    (λ (cs : List Entry). ArePairsOf (keys_of (raw_pairs qs)) cs ps) (sym codes)
-    (ArePairsOf-documents qs ps are) in
-    subst (λ (b : List ℕ). Doc b (object ps)) (sym h.written)
-    (Doc-object_of
-    (keys_of (raw_pairs qs)) h.fit.codes ps pairs keys h.fit.short_keys h.fit.short h.fit.few)
 
 record AreWritten (ks : List (List ℕ)) (cs : List Entry) (ps : Pairs) : Type 0 where
   key_words : code_entries (key_codes ks) ≡ key_entries ps
@@ -138,30 +119,19 @@ AreWritten-canonical [] no_pairs h short_keys short =
       counted = refl;
       fit = tt;
     }
-AreWritten-canonical [] (pair k t ps) h short_keys short = let never : ⊥ = cc in absurd never
+AreWritten-canonical [] (pair k t ps) h short_keys short = cc
 AreWritten-canonical (q ∷ qs) no_pairs h short_keys short = absurd h
 AreWritten-canonical (q ∷ qs) (pair k t ps) h short_keys short =
     let more = AreWritten-canonical qs ps h.1.1 short_keys.1 short.1 in
     let code = document_code-canon q.1 t h.1.0.0 h.1.0.1.0 h.1.0.1.1 in
     record {
-      key_words =
-          ap₂ (λ (x : List ℕ) (ys : List ℕ). word (268435456 + length x) ++ ys) h.0 more.key_words;
-      keys = ap₂ (λ (x ys : List ℕ). x ++ ys) h.0 more.keys;
-      value_words = ap₂
-          (λ (c : Entry) (ys : List ℕ). word (c.type + length c.payload)
-          ++ ys) code more.value_words;
-      values = ap₂ (λ (c : Entry) (ys : List ℕ). c.payload ++ ys) code more.values;
-      counted = ap suc more.counted;
+      key_words = (cc);
+      keys = (cc);
+      value_words = (cc);
+      values = (cc);
+      counted = (cc);
       fit = (
-        (
-          subst
-              (λ (x : List ℕ). length x < 2 ^ 28) h.0 short_keys.0,
-          (
-            h.1.0.1.0.inside,
-            subst
-                (λ (c : Entry). length c.payload < 2 ^ 28) code short.0,
-          ),
-        ),
+        (rw h.0 at short_keys.0, (h.1.0.1.0.inside, rw code at short.0)),
         more.fit,
       );
     }
@@ -170,16 +140,13 @@ AreWritten-canonical (q ∷ qs) (pair k t ps) h short_keys short =
 canon-pairs : (qs : List (List ℕ × List ℕ)) (bytes : List ℕ) → IsObjectOf (raw_pairs qs) bytes
     → (ps : Pairs) → ArePairsCanonical qs ps → Fits (object ps) × (bytes ≡ canon (object ps))
 canon-pairs qs bytes h ps are =
-    let codes =
-    (codes_of-AreCodes (values_of (raw_pairs qs)) h.fit.codes h.fit.are h.fit.short).0 in
-    let w = AreWritten-canonical qs ps are h.fit.short_keys (subst AreShort codes h.fit.short) in
-    let few = subst (λ (n : ℕ). n < 2 ^ 29) (ap length codes ∙ w.counted) h.fit.few in (
+    let (codes, storable) =
+    codes_of-AreCodes (values_of (raw_pairs qs)) h.fit.codes h.fit.are h.fit.short in
+    let w = AreWritten-canonical qs ps are h.fit.short_keys (rw codes at h.fit.short) in
+    let few = rw (codes, w.counted) at h.fit.few in
+    let written = h.written in (
       record { inside = (few, w.fit); short = λ other. absurd (other refl) },
-      h.written ∙ ap (object_of (keys_of (raw_pairs qs))) codes
-          ∙ ap₂ (λ (n : ℕ) (ys : List ℕ). word (1073741824 + n) ++ ys) w.counted
-          (ap₂ (λ (ys zs : List ℕ). ys ++ zs) w.key_words
-          (ap₂ (λ (ys zs : List ℕ). ys ++ zs) w.value_words
-          (ap₂ (λ (ys zs : List ℕ). ys ++ zs) w.keys w.values))),
+      cc,
     )
 
 -- what is built of inputs
@@ -188,15 +155,13 @@ pub IsObjectOfInputs-IsObjectOf : (inputs : List (List ℕ × List ℕ))
     → IsDistinct bytes_eq (keys_of inputs)
     → IsObjectOf pairs bytes → AreKeys (keys_of pairs) → IsObjectOfInputs inputs bytes
 IsObjectOfInputs-IsObjectOf inputs pairs bytes same distinct h keys =
-    let object = subst (λ (ps : List (List ℕ × ItemView)). IsObjectOf ps bytes) same h in
-    let texts = subst (λ (ps : List (List ℕ × ItemView)). AreKeys (keys_of ps)) same keys in
+    let object = rw same at h in
     record {
       distinct = distinct;
       object = object;
-      document = Doc-pairs
-          (in_order inputs) bytes object texts;
-      canonical = canon-pairs
-          (in_order inputs) bytes object;
+      document = λ ps are. Doc-IsObjectOf _ bytes object (rw same at keys) ps
+          (ArePairsOf-documents (in_order inputs) ps are);
+      canonical = canon-pairs (in_order inputs) bytes object;
     }
 
 -- two facts about what is answered

@@ -1,6 +1,6 @@
 -- What the bytes of a document, and other bytes, print as.
-use Rattle.std.proofs.Common.{◌≡◌, ℕ, List, [], ◌∷◌, codes, length, Result, Ok, Err, refl, sym, ap}
-use Rattle.std.proofs.Common.{subst, arith, String, string_bytes, ◌++◌, ◌∙◌}
+use Rattle.std.proofs.Common.{◌≡◌, ℕ, List, [], ◌∷◌, codes, length, Result, Ok, Err, refl}
+use Rattle.std.proofs.Common.{arith, String, string_bytes, ◌++◌}
 use Rattle.std.specs.declared.fmt.Formatter.{Formatter}
 use Rattle.std.specs.declared.alloc.Global.{Global}
 use Rattle.std.specs.declared.fmt.Error as fmt
@@ -15,22 +15,22 @@ use Rattle.jsonb_codec.specs.Doc.{Doc, IsDocument}
 use Rattle.jsonb_codec.proofs.ZeroLaws.{Doc-least}
 use Rattle.bstr.proofs.lemmas.EncodeLemmas.{lossy_chars-utf8}
 use Rattle.std.specs.Str.{IsUtf8}
-use Rattle.jsonb.specs.Texts.{lossy_text, other_text, plain_text, display_text, lined_text}
+use Rattle.jsonb.specs.Texts.{lossy_text, other_text, display_text}
 use Rattle.jsonb.specs.Texts.{pretty_display_text}
 use Rattle.jsonb.proofs.ItemMeaningLaws.{meaning_of-document, meaning_of-other}
 
 pub display_text-Doc : (b : List ℕ) (t : Tree) → Doc b t → display_text b ≡ compact t
-display_text-Doc b t doc = ap plain_text (meaning_of-document b t doc)
+display_text-Doc b t doc = cc (meaning_of-document b t doc)
 
 pub display_text-other : (b : List ℕ) → (IsDocument b → ⊥) → display_text b ≡ other_text b
-display_text-other b none = ap plain_text (meaning_of-other b none)
+display_text-other b none = cc (meaning_of-other b none)
 
 pub pretty_display_text-Doc : (b : List ℕ) (t : Tree) → Doc b t → pretty_display_text b ≡ pretty t
-pretty_display_text-Doc b t doc = ap lined_text (meaning_of-document b t doc)
+pretty_display_text-Doc b t doc = cc (meaning_of-document b t doc)
 
 pub pretty_display_text-other : (b : List ℕ) → (IsDocument b → ⊥)
     → pretty_display_text b ≡ codes "null"
-pretty_display_text-other b none = ap lined_text (meaning_of-other b none)
+pretty_display_text-other b none = cc (meaning_of-other b none)
 
 pub other_text-empty : (b : List ℕ) → length b ≡ 0 → other_text b ≡ codes "null"
 other_text-empty [] e = refl
@@ -40,18 +40,7 @@ pub other_text-some : (b : List ℕ) → (length b ≡ 0 → ⊥) → other_text
 other_text-some [] some = absurd (some refl)
 other_text-some (x ∷ xs) some = refl
 
--- what a formatter over an empty string has written is all that the string holds
-pub string_bytes-all : (empty text : String Global) (f g : Formatter (String Global)) (bs : List ℕ)
-    → HasWrittenStyled (λ s xs t. string_bytes t ≡ string_bytes s ++ xs) f bs g
-    → string_bytes empty ≡ [] → formatter_writer f ≡ empty → text ≡ formatter_writer g
-    → string_bytes text ≡ bs
-string_bytes-all empty text f g bs all none start end =
-    ap string_bytes end
-    ∙ string_bytes-written f g bs all
-    ∙ ap (λ (w : String Global). string_bytes w ++ bs) start
-    ∙ ap (λ (l : List ℕ). l ++ bs) none
-
--- the same of the answer of a call that gives the string
+-- what a formatter over an empty string has written is all that the string holds that a call gives
 pub string_written : (empty : String Global) (f g : Formatter (String Global)) (bs : List ℕ)
     (answer : Result (Unit {0}) fmt.Error) (r : Result (String Global) Error)
     → (IsOk answer → HasWrittenStyled (λ s xs t. string_bytes t ≡ string_bytes s ++ xs) f bs g)
@@ -59,18 +48,18 @@ pub string_written : (empty : String Global) (f g : Formatter (String Global)) (
     → OnOk r (IsOk answer) → IfOk r (λ text. text ≡ formatter_writer g)
     → IfOk r (λ text. string_bytes text ≡ bs)
 string_written empty f g bs answer (Ok text) all none start on is =
-    string_bytes-all empty text f g bs (all on) none start is
+    cc (is, string_bytes-written f g bs (all on), start, none)
 string_written empty f g bs answer (Err e) all none start on is = tt
 
 pub prints_as : (r : Result (String Global) Error) (a b : List ℕ)
     → IfOk r (λ text. string_bytes text ≡ a) → a ≡ b → IfOk r (λ text. string_bytes text ≡ b)
-prints_as r a b h same = subst (λ (x : List ℕ). IfOk r (λ text. string_bytes text ≡ x)) same h
+prints_as r a b h same = rw same at h
 
 -- a text that is read back
 pub reads_again : (r : Result (String Global) Error) (a : List ℕ) (t : Tree)
     → IfOk r (λ text. string_bytes text ≡ a) → MeansAgain (chars a) t
     → IfOk r (λ text. MeansAgain (chars (string_bytes text)) t)
-reads_again (Ok text) a t h again = subst (λ (x : List ℕ). MeansAgain (chars x) t) (sym h) again
+reads_again (Ok text) a t h again = rw h again
 reads_again (Err e) a t h again = tt
 
 -- a text that is no document

@@ -1,16 +1,17 @@
 -- Laws of walks on any bytes.
 use Rattle.std.proofs.Common.{◌≡◌, ℕ, zero, suc, ◌+◌, ◌*◌, ◌≤◌, List, [], ◌∷◌, length, map}
 use Rattle.std.proofs.Common.{Option, Some, None, option_map, IfOk, IfSome, is_ok, if◌then◌else◌}
-use Rattle.std.proofs.Common.{Result, Ok, Err, refl, ap, arith}
+use Rattle.std.proofs.Common.{Result, Ok, Err, refl, arith}
 use Rattle.std.proofs.lemmas.List.{length-map}
+use Rattle.std.proofs.lemmas.Slice.Zip.{length-zip}
 use Rattle.std.specs.List.{zip}
 use Rattle.jsonb_value.specs.declared.error.Error.{Error}
 use Rattle.jsonb.specs.Steps.{◌>>=◌}
 use Rattle.jsonb.specs.ItemView.{ItemView}
 use Rattle.jsonb.specs.Item.{Entry, entry_at}
-use Rattle.jsonb.specs.Walk.{Walk, ErrsLast, IsBounded, payload_length, length_at, entries_from}
+use Rattle.jsonb.specs.Walk.{Walk, ErrsLast, IsBounded, length_at, entries_from}
 use Rattle.jsonb.specs.Walk.{until_error, item_read, pair_read, payloads_end}
-use Rattle.jsonb.specs.Walk.{count_under, item_entries, key_entries, value_entries, item_walk}
+use Rattle.jsonb.specs.Walk.{count_under, key_entries, value_entries, item_walk}
 use Rattle.jsonb.specs.Walk.{array_walk, keys_walk, values_of, values_walk, pair_walk, pairs_of}
 use Rattle.jsonb.specs.Walk.{pairs_walk}
 
@@ -28,16 +29,13 @@ pub entries_from-first : (bytes : List ℕ) (left place start : ℕ) (entry : En
     → entry_at bytes place start ≡ Ok entry
     → entries_from bytes (suc left) place start ≡ Ok entry
     ∷ entries_from bytes left (place + 4) (start + length entry.payload)
-entries_from-first bytes left place start entry e =
-    ap (λ (r : Result Entry Error). ahead r
-    (entries_from bytes left (place + 4) (start + payload_length r))) e
+entries_from-first bytes left place start entry e = rw e
 
 -- the entries of values, where the payloads of their keys have an end
 pub value_entries-end : (bytes : List ℕ) (n start : ℕ)
     → payloads_end bytes n 4 (4 + 8 * n) ≡ Ok start
     → value_entries bytes n ≡ Ok (entries_from bytes n (4 + 4 * n) start)
-value_entries-end bytes n start e =
-    ap (λ (r : Result ℕ Error). r >>= (λ (i : ℕ). Ok (entries_from bytes n (4 + 4 * n) i))) e
+value_entries-end bytes n start e = rw e
 
 length-entries_from : (bytes : List ℕ) (left place start : ℕ)
     → length (entries_from bytes left place start) ≤ left
@@ -55,11 +53,6 @@ ErrsLast-until_error : {A : Type 0} (xs : List (Result A Error)) → ErrsLast (u
 ErrsLast-until_error [] = tt
 ErrsLast-until_error (Ok x ∷ xs) = ErrsLast-until_error xs
 ErrsLast-until_error (Err e ∷ xs) = refl
-
-length-zip : (ks xs : List (Result Entry Error)) → length (zip ks xs) ≤ length ks
-length-zip [] xs = omega arith
-length-zip (k ∷ ks) [] = omega arith
-length-zip (k ∷ ks) (x ∷ xs) = let few = length-zip ks xs in omega arith
 
 -- no more items than entries
 bounded_items : (bytes : List ℕ) (n place start : ℕ)
@@ -86,30 +79,27 @@ bounded_pairs bytes n values =
 abbrev AreBounded : {A : Type 0} → Result (Option (Walk A)) Error → Type 0
 AreBounded r = IfOk r (λ o. IfSome o IsBounded)
 
-bounded_map : (f : ℕ → Walk ItemView) → ((n : ℕ) → IsBounded (f n)) → (r : Result (Option ℕ) Error)
-    → AreBounded (r >>= (λ (n : Option ℕ). Ok (option_map f n)))
-bounded_map f bounded (Ok (Some n)) = bounded n
-bounded_map f bounded (Ok None) = tt
-bounded_map f bounded (Err e) = tt
-
-bounded_steps : {A : Type 0} (f : Option ℕ → Result (Option (Walk A)) Error)
-    → ((o : Option ℕ) → AreBounded (f o)) → (r : Result (Option ℕ) Error) → AreBounded (r >>= f)
-bounded_steps f bounded (Ok o) = bounded o
+bounded_steps : {X A : Type 0} (f : X → Result (Option (Walk A)) Error)
+    → ((x : X) → AreBounded (f x)) → (r : Result X Error) → AreBounded (r >>= f)
+bounded_steps f bounded (Ok x) = bounded x
 bounded_steps f bounded (Err e) = tt
 
+bounded_map : (f : ℕ → Walk ItemView) → ((n : ℕ) → IsBounded (f n)) → (o : Option ℕ)
+    → AreBounded (Ok (option_map f o))
+bounded_map f bounded (Some n) = bounded n
+bounded_map f bounded None = tt
+
 pub array_walk-bounded : (bytes : List ℕ) → AreBounded (array_walk bytes)
-array_walk-bounded bytes =
-    bounded_map (λ n. item_walk n (item_entries bytes n))
-    (λ n. bounded_items bytes n 4 (4 + 4 * n)) (count_under bytes 2147483648)
+array_walk-bounded bytes = bounded_steps _
+    (bounded_map _ (λ n. bounded_items bytes n 4 (4 + 4 * n))) (count_under bytes 2147483648)
 
 pub keys_walk-bounded : (bytes : List ℕ) → AreBounded (keys_walk bytes)
-keys_walk-bounded bytes =
-    bounded_map (λ n. item_walk n (key_entries bytes n))
-    (λ n. bounded_items bytes n 4 (4 + 8 * n)) (count_under bytes 1073741824)
+keys_walk-bounded bytes = bounded_steps _
+    (bounded_map _ (λ n. bounded_items bytes n 4 (4 + 8 * n))) (count_under bytes 1073741824)
 
 values_found : (bytes : List ℕ) (n : ℕ) (r : Result ℕ Error)
-    → AreBounded (r >>= (λ (start : ℕ). Ok (entries_from bytes n (4 + 4 * n) start))
-    >>= (λ (values : List (Result Entry Error)). Ok (Some (item_walk n values))))
+    → AreBounded (r >>= (λ start. Ok (entries_from bytes n (4 + 4 * n) start))
+    >>= (λ values. Ok (Some (item_walk n values))))
 values_found bytes n (Ok start) = bounded_items bytes n (4 + 4 * n) start
 values_found bytes n (Err e) = tt
 
@@ -121,15 +111,9 @@ pub values_walk-bounded : (bytes : List ℕ) → AreBounded (values_walk bytes)
 values_walk-bounded bytes =
     bounded_steps (values_of bytes) (values_of-bounded bytes) (count_under bytes 1073741824)
 
-pairs_found : (bytes : List ℕ) (n : ℕ) (r : Result (List (Result Entry Error)) Error)
-    → AreBounded (r >>= (λ (values : List (Result Entry Error)).
-    Ok (Some (pair_walk n (key_entries bytes n) values))))
-pairs_found bytes n (Ok values) = bounded_pairs bytes n values
-pairs_found bytes n (Err e) = tt
-
 pairs_of-bounded : (bytes : List ℕ) (o : Option ℕ) → AreBounded (pairs_of bytes o)
 pairs_of-bounded bytes None = tt
-pairs_of-bounded bytes (Some n) = pairs_found bytes n (value_entries bytes n)
+pairs_of-bounded bytes (Some n) = bounded_steps _ (bounded_pairs bytes n) (value_entries bytes n)
 
 pub pairs_walk-bounded : (bytes : List ℕ) → AreBounded (pairs_walk bytes)
 pairs_walk-bounded bytes =

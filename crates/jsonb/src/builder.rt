@@ -15,7 +15,7 @@ ghost use Rattle.std.specs.Iterator.{IsFinite};
 ghost use Rattle.jsonb.specs.Building.{FitArray, IsArrayOf, has_key, with_pair, FitObject};
 ghost use Rattle.jsonb.specs.Building.{IsObjectOf, AreKeys};
 ghost use Rattle.std.specs.Map.{keys_of};
-ghost use Rattle.jsonb.specs.Children.{pair_views};
+ghost use Rattle.jsonb.specs.Children.{pairs_by};
 ghost use Rattle.jsonb.specs.Results.{AllMean, AllMeanAt, IsArrayUpToZeros, IsObjectUpToZeros};
 ghost use Rattle.jsonb.specs.Results.{IsArrayOfInputs, IsObjectOfInputs, MakeNoObject, input_pair};
 ghost use Rattle.jsonb.specs.Results.{TakesAll, TakesUpTo};
@@ -23,6 +23,7 @@ ghost use Rattle.jsonb.specs.Results.{TakesAll, TakesUpTo};
 use crate::item::JsonbItem;
 use crate::owned::OwnedJsonb;
 use crate::raw::RawJsonb;
+use children::{ItemList, PairMap};
 pub use distinct::ArrayDistinctBuilder;
 use jsonb_value::Error;
 use std::alloc::Global;
@@ -104,7 +105,7 @@ impl<'a> ArrayBuilder<'a> {
         ensures memory { result ≡ Err Error.OutOfMemory → FitArray self.entry }
         ensures only { IfErr result (λ e. (e ≡ Error.InvalidJsonb) ⊎ (e ≡ Error.OutOfMemory)) }
     {
-        array_document(*self.items.allocator(), &self.items)
+        array_document(*self.items.allocator(), ItemList::Items(&self.items))
     }
 }
 
@@ -118,7 +119,7 @@ pub struct ObjectBuilder<'a> {
 impl<'a> Model for ObjectBuilder<'a> {
     ghost Value = { List (List ℕ × ItemView) };
 
-    ghost view = { λ s. pair_views s.pairs.entries };
+    ghost view = { λ s. pairs_by item_view s.pairs.entries };
 }
 
 impl<'a> ObjectBuilder<'a> {
@@ -198,7 +199,7 @@ impl<'a> ObjectBuilder<'a> {
         ensures memory { result ≡ Err Error.OutOfMemory → FitObject self.entry }
         ensures only { IfErr result (λ e. (e ≡ Error.InvalidJsonb) ⊎ (e ≡ Error.OutOfMemory)) }
     {
-        object_document(self.alloc, &self.pairs)
+        object_document(self.alloc, PairMap::Items(&self.pairs))
     }
 }
 
@@ -222,11 +223,11 @@ impl OwnedJsonb {
             (λ xs. FitArray (map (λ x. items.raw (raw_bytes x)) xs) → ⊥) }
         ensures only { IfErr result (λ e. (e ≡ Error.InvalidJsonb) ⊎ (e ≡ Error.OutOfMemory)) }
     {
-        let mut builder = ArrayBuilder::new(alloc);
+        let mut documents = Vec::new(alloc);
         for input in inputs {
-            builder.push_raw_jsonb(input)?;
+            documents.push(input)?;
         }
-        builder.build()
+        array_document(alloc, ItemList::Raws(&documents))
     }
 
     /// The object of these documents at their keys, keys ascending by their bytes: a scalar stands
@@ -253,10 +254,13 @@ impl OwnedJsonb {
         ensures only { IfErr result (λ e. (e ≡ Error.InvalidJsonb)
             ⊎ ((e ≡ Error.ObjectDuplicateKey) ⊎ (e ≡ Error.OutOfMemory))) }
     {
-        let mut builder = ObjectBuilder::new(alloc);
+        let mut pairs: BTreeMap<&str, RawJsonb> = BTreeMap::new(alloc);
         for (key, input) in inputs {
-            builder.push_raw_jsonb(key, input)?;
+            if pairs.contains_key(key) {
+                return Err(Error::ObjectDuplicateKey);
+            }
+            pairs.insert(key, input)?;
         }
-        builder.build()
+        object_document(alloc, PairMap::Raws(&pairs))
     }
 }

@@ -136,9 +136,9 @@ pub fn item_code<'s>(item: &'s JsonbItem<'_>) -> Code<'s>
     Code { type_code, payload }
 }
 
-// With what a document is stored: a scalar with its entry, an array or object whole.
+/// With what a document is stored: a scalar with its entry, an array or object whole.
 #[inline(always)]
-fn document_code(bytes: &[u8]) -> Code<'_>
+pub fn document_code(bytes: &[u8]) -> Code<'_>
     requires { IsDocument bytes.now }
     ensures { code_view result ≡ document_code bytes.now }
 {

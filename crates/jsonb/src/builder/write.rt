@@ -4,16 +4,14 @@ ghost use Rattle.std.specs.Prelude.{◌≡◌, ◌≤◌, ◌<◌, ◌+◌, ◌^
 ghost use Rattle.std.specs.Prelude.{Err, ◌⊎◌};
 ghost use Rattle.jsonb_codec.specs.Room.{HasRoom, AppendsBytes};
 ghost use Rattle.jsonb.specs.Owned.{owned_bytes};
-ghost use Rattle.jsonb.specs.ItemView.{item_view};
 ghost use Rattle.jsonb.specs.Storage.{codes_of, AreStorable, AreHeld};
 ghost use Rattle.jsonb.specs.Building.{code_entries, code_payloads, array_of, FitArray, IsArrayOf};
 ghost use Rattle.jsonb.specs.Building.{FitObject, IsObjectOf, AreKeys};
 ghost use Rattle.std.specs.Map.{keys_of, values_of};
-ghost use Rattle.jsonb.specs.Children.{children_views, pair_views, key_texts, value_items};
+ghost use Rattle.jsonb.specs.Children.{children_views, list_views, map_pairs, key_texts};
 ghost use Rattle.jsonb.specs.Children.{object_parts};
 
-use super::children::Children;
-use crate::item::JsonbItem;
+use super::children::{Children, ItemList, PairMap};
 use crate::owned::OwnedJsonb;
 use jsonb_codec::append_word;
 use jsonb_codec::constants::{
@@ -21,87 +19,83 @@ use jsonb_codec::constants::{
 };
 use jsonb_value::Error;
 use std::alloc::Global;
-use std::collections::BTreeMap;
 
 /// The array of these items' entries. `InvalidJsonb` where an item has none, or a payload or the
 /// count is past its limit, before memory is asked for.
-pub fn array_document(alloc: Global, items: &[JsonbItem]) -> Result<OwnedJsonb, Error>
-    ensures ok { IfOk result (λ owned. IsArrayOf (map item_view items.now) (owned_bytes owned)) }
-    ensures held { OnOk result (AreHeld (map item_view items.now)) }
-    ensures past { result ≡ Err Error.InvalidJsonb → FitArray (map item_view items.now) → ⊥ }
-    ensures memory { result ≡ Err Error.OutOfMemory → FitArray (map item_view items.now) }
+#[inline(always)]
+pub fn array_document(alloc: Global, items: ItemList<'_, '_>) -> Result<OwnedJsonb, Error>
+    ensures ok { IfOk result (λ owned. IsArrayOf (list_views items.entry) (owned_bytes owned)) }
+    ensures held { OnOk result (AreHeld (list_views items.entry)) }
+    ensures past { result ≡ Err Error.InvalidJsonb → FitArray (list_views items.entry) → ⊥ }
+    ensures memory { result ≡ Err Error.OutOfMemory → FitArray (list_views items.entry) }
     ensures only { IfErr result (λ e. (e ≡ Error.InvalidJsonb) ⊎ (e ≡ Error.OutOfMemory)) }
 {
     let size = measure_array(items)?;
     let mut bytes = Vec::new(alloc);
     bytes.try_reserve(size)?;
     append_word(&mut bytes, ARRAY_CONTAINER_TAG + items.len() as u32);
-    append_entries(&mut bytes, Children::Items(items));
-    append_payloads(&mut bytes, Children::Items(items));
+    append_entries(&mut bytes, items.children());
+    append_payloads(&mut bytes, items.children());
     Ok(OwnedJsonb::new(bytes))
 }
 
 // The length of the array.
-fn measure_array(items: &[JsonbItem]) -> Result<usize, Error>
-    ensures held { OnOk result (AreHeld (map item_view items.now)) }
-    ensures ok { IfOk result (λ n. n ≡ length (array_of (codes_of (map item_view items.now)))) }
-    ensures storable { OnOk result (AreStorable (map item_view items.now)) }
-    ensures few { OnOk result (length (map item_view items.now) < 2 ^ 29) }
-    ensures err { OnErr result (FitArray (map item_view items.now) → ⊥) }
+#[inline(always)]
+fn measure_array(items: ItemList<'_, '_>) -> Result<usize, Error>
+    ensures held { OnOk result (AreHeld (list_views items.entry)) }
+    ensures ok { IfOk result (λ n. n ≡ length (array_of (codes_of (list_views items.entry)))) }
+    ensures storable { OnOk result (AreStorable (list_views items.entry)) }
+    ensures few { OnOk result (length (list_views items.entry) < 2 ^ 29) }
+    ensures err { OnErr result (FitArray (list_views items.entry) → ⊥) }
     ensures only { IfErr result (λ e. e ≡ Error.InvalidJsonb) }
 {
     let count = items.len();
     if count > CONTAINER_HEADER_LEN_MASK as usize {
         return Err(Error::InvalidJsonb);
     }
-    Ok(4 + 4 * count + measure_payloads(Children::Items(items))?)
+    Ok(4 + 4 * count + measure_payloads(items.children())?)
 }
 
 /// The object of these keys and of these items' entries. `InvalidJsonb` where an item has none, or
 /// a key, a payload or the count is past its limit, before memory is asked for.
-pub fn object_document<'a>(
-    alloc: Global,
-    pairs: &BTreeMap<&'a str, JsonbItem<'a>>,
-) -> Result<OwnedJsonb, Error>
-    ensures ok { IfOk result
-        (λ owned. IsObjectOf (pair_views pairs.now.entries) (owned_bytes owned)) }
-    ensures held { OnOk result (AreHeld (values_of (pair_views pairs.now.entries))) }
-    ensures keys { OnOk result (AreKeys (keys_of (pair_views pairs.now.entries))) }
-    ensures past { result ≡ Err Error.InvalidJsonb → FitObject (pair_views pairs.now.entries) → ⊥ }
-    ensures memory { result ≡ Err Error.OutOfMemory → FitObject (pair_views pairs.now.entries) }
+#[inline(always)]
+pub fn object_document(alloc: Global, pairs: PairMap<'_, '_>) -> Result<OwnedJsonb, Error>
+    ensures ok { IfOk result (λ owned. IsObjectOf (map_pairs pairs.entry) (owned_bytes owned)) }
+    ensures held { OnOk result (AreHeld (values_of (map_pairs pairs.entry))) }
+    ensures keys { OnOk result (AreKeys (keys_of (map_pairs pairs.entry))) }
+    ensures past { result ≡ Err Error.InvalidJsonb → FitObject (map_pairs pairs.entry) → ⊥ }
+    ensures memory { result ≡ Err Error.OutOfMemory → FitObject (map_pairs pairs.entry) }
     ensures only { IfErr result (λ e. (e ≡ Error.InvalidJsonb) ⊎ (e ≡ Error.OutOfMemory)) }
 {
     let size = measure_object(pairs)?;
     let mut bytes = Vec::new(alloc);
     bytes.try_reserve(size)?;
     append_word(&mut bytes, OBJECT_CONTAINER_TAG + pairs.len() as u32);
-    append_entries(&mut bytes, Children::Keys(pairs.iter()));
-    append_entries(&mut bytes, Children::Values(pairs.iter()));
-    append_payloads(&mut bytes, Children::Keys(pairs.iter()));
-    append_payloads(&mut bytes, Children::Values(pairs.iter()));
+    append_entries(&mut bytes, pairs.keys());
+    append_entries(&mut bytes, pairs.values());
+    append_payloads(&mut bytes, pairs.keys());
+    append_payloads(&mut bytes, pairs.values());
     Ok(OwnedJsonb::new(bytes))
 }
 
 // The length of the object.
-fn measure_object<'a>(pairs: &BTreeMap<&'a str, JsonbItem<'a>>) -> Result<usize, Error>
-    ensures ok { IfOk result
-        (λ n. n ≡ length
-        (object_parts (length pairs.now.entries) (key_texts pairs.now.entries)
-        (value_items pairs.now.entries))) }
-    ensures held_keys { OnOk result (AreHeld (key_texts pairs.now.entries)) }
-    ensures held { OnOk result (AreHeld (value_items pairs.now.entries)) }
-    ensures keys { OnOk result (AreStorable (key_texts pairs.now.entries)) }
-    ensures values { OnOk result (AreStorable (value_items pairs.now.entries)) }
-    ensures few { OnOk result (length pairs.now.entries < 2 ^ 29) }
-    ensures err { OnErr result (FitObject (pair_views pairs.now.entries) → ⊥) }
+#[inline(always)]
+fn measure_object(pairs: PairMap<'_, '_>) -> Result<usize, Error>
+    ensures ok { IfOk result (λ n. n ≡ length (object_parts (map_pairs pairs.entry))) }
+    ensures held_keys { OnOk result (AreHeld (key_texts (map_pairs pairs.entry))) }
+    ensures held { OnOk result (AreHeld (values_of (map_pairs pairs.entry))) }
+    ensures keys { OnOk result (AreStorable (key_texts (map_pairs pairs.entry))) }
+    ensures values { OnOk result (AreStorable (values_of (map_pairs pairs.entry))) }
+    ensures few { OnOk result (length (map_pairs pairs.entry) < 2 ^ 29) }
+    ensures err { OnErr result (FitObject (map_pairs pairs.entry) → ⊥) }
     ensures only { IfErr result (λ e. e ≡ Error.InvalidJsonb) }
 {
     let count = pairs.len();
     if count > CONTAINER_HEADER_LEN_MASK as usize {
         return Err(Error::InvalidJsonb);
     }
-    let keys = measure_payloads(Children::Keys(pairs.iter()))?;
-    let values = measure_payloads(Children::Values(pairs.iter()))?;
+    let keys = measure_payloads(pairs.keys())?;
+    let values = measure_payloads(pairs.values())?;
     Ok(4 + 8 * count + keys + values)
 }
 

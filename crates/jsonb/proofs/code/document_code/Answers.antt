@@ -1,10 +1,9 @@
-use Rattle.std.proofs.Common.{subst, sym, ◌∙◌}
-use Rattle.jsonb_codec.specs.Doc.{Doc}
+use Rattle.std.proofs.Common.{◌∙◌}
 use Rattle.jsonb.proofs.StorageLaws.{document_code-part}
 use Rattle.jsonb.proofs.code.document_code.Goals as goal
 
 pub returns : goal.returns
 returns c =
     let (t, h) = c.requires in
-    let is = c.part-part.ensures.means t (subst (λ b. Doc b t) (sym c.new_unchecked.ensures) h) in
+    let is = c.part-part.ensures.means t (rw c.new_unchecked.ensures h) in
     document_code-part _ t _ _ h is (c.part-part.ensures.bytes ∙ c.new_unchecked.ensures)

@@ -1,14 +1,13 @@
-use Rattle.std.proofs.Common.{◌≡◌, ◌+◌, ◌*◌, length, sym, ap, subst, ◌∙◌, arith}
+use Rattle.std.proofs.Common.{◌≡◌, ◌+◌, ◌*◌, length, sym, ap, ◌∙◌, arith}
 use Rattle.std.proofs.lemmas.List.{take_rest, length-drop}
-use Rattle.jsonb.proofs.KeyEnds.{EndsBy, payloads_end-short, ends_by-all, ends_by-others}
-use Rattle.jsonb.proofs.KeyEnds.{ends_by-none, no_entry, some_entry, short_entry, not_all}
+use Rattle.jsonb.proofs.KeyEnds.{payloads_end-short, ends_by-all, ends_by-others}
+use Rattle.jsonb.proofs.KeyEnds.{ends_by-none, no_entry, some_entry, short_entry}
 use Rattle.jsonb.proofs.entries.keys_end.Goals as goal
 
 pub returns-in_default-clause-value : goal.returns-in_default-clause-value
 returns-in_default-clause-value c =
-    let long = length c.args.bytes.now in
     sym (payloads_end-short c.args.bytes.now c.args.count 4 (4 + 8 * c.args.count)
-    c.requires.header (not_all long c.args.count c.in_default.ensures.lookup.0))
+    c.requires.header (omega (arith, c.in_default.ensures.lookup.0)))
 
 pub loop-entry-init : goal.loop-entry-init
 loop-entry-init c =
@@ -30,8 +29,7 @@ loop-entry-preserved c =
     let by = ends_by-others c.args.bytes.now c.args.count l.words.now l.end entry
     l.invariant.by some read in
     record {
-      by = subst (λ words. EndsBy c.args.bytes.now c.args.count words (l.end + entry.length))
-          (sym rest) by;
+      by = rw rest by;
       near = let same = ap length rest in
           let short = short_entry l.words.now entry read in
           omega (arith, l.invariant.near, same, long, some, short);

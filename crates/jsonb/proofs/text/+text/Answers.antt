@@ -1,10 +1,9 @@
-use Rattle.std.proofs.Common.{rules, ◌≡◌, ◌++◌, codes, refl, ap, subst, arith}
-use Rattle.jsonb_value.specs.Tree.{array, object}
+use Rattle.std.proofs.Common.{rules, ◌++◌, codes, refl, ap, arith}
 use Rattle.jsonb_value.specs.Text.{inside, line_start, laid_out}
 use Rattle.jsonb_value.specs.Value.{trees_of}
 use Rattle.jsonb_value.proofs.Writing.{joins_two, joins_three}
 use Rattle.jsonb.specs.Facts.{rest_trees, rest_pairs}
-use Rattle.jsonb.specs.Lines.{more_lines, item_lines, pair_lines, pair_text}
+use Rattle.jsonb.specs.Lines.{item_lines, pair_lines, pair_text}
 use Rattle.jsonb.specs.Node.{node_tree, pairs_of}
 use Rattle.jsonb.specs.Texts.{layout_of}
 use Rattle.jsonb.proofs.LineLaws.{items_begin, items_behind, pairs_begin, pairs_behind, lines_next}
@@ -47,16 +46,13 @@ write_items-items-preserved g t c =
       omega (arith, behind.no_deeper, no_deeper),
       done ++ (codes "," ++ (line_start (inside l) ++ line)),
       lines_next (inside l) done end _ line (item_lines (inside l) (trees_of left))
-          (subst (λ xs. done ++ (more_lines (inside l) (item_lines (inside l) (trees_of xs)) ++ end)
-          ≡ laid_out l
-          (array (trees_of (rest_trees c.args.items)))) c.in-Some-next.ensures.steps whole),
+          (rw c.in-Some-next.ensures.steps at whole),
       λ flush.
           let so_far = writes flush in
           let one = c.write_str-in-Some-next.ensures.styled so_far.flush (search rules) in
           let two = c.write_line-in-Some-next.ensures one.flush (search rules) in
           joins_three _ _ _ _ _ _ _ _ _ so_far one two
-          (ap (λ i. done
-          ++ (codes "," ++ (line_start i ++ laid_out i u))) c.inside-in-Some-next.ensures),
+          (cc c.inside-in-Some-next.ensures),
     )
 
 pub write_items-returns : goal.write_items-returns
@@ -68,9 +64,7 @@ write_items-returns g t c flush ok =
     let one = c.start_line.ensures so_far.flush (search rules) in
     let two = c.write_str-3.ensures.styled one.flush ok in
     joins_three _ _ _ _ _ _ _ _ _ so_far one two
-    (subst (λ xs. done ++ (more_lines (inside l) (item_lines (inside l) (trees_of xs)) ++ end)
-    ≡ laid_out l
-    (array (trees_of (rest_trees c.args.items)))) c.in_default-next.ensures.steps.0 whole)
+    (rw c.in_default-next.ensures.steps.0 at whole)
 
 pub write_member-returns : goal.write_member-returns
 write_member-returns g t c flush ok =
@@ -80,7 +74,7 @@ write_member-returns g t c flush ok =
     let four = c.write_node.ensures three.flush ok in
     let value = laid_out (layout_of c.args.layout) (node_tree c.args.value) in
     let ends =
-    joins_two _ _ _ _ _ _ _ three four (ap (λ between. between ++ value) c.colon.ensures) in
+    joins_two _ _ _ _ _ _ _ three four (cc c.colon.ensures) in
     joins_three _ _ _ _ _ _ _ _ _ one two ends refl
 
 pub write_members-members-init : goal.write_members-members-init
@@ -117,16 +111,13 @@ write_members-members-preserved g t c =
       omega (arith, behind.no_deeper, no_deeper),
       done ++ (codes "," ++ (line_start (inside l) ++ line)),
       lines_next (inside l) done end _ line (pair_lines (inside l) (pairs_of left))
-          (subst (λ ps. done ++ (more_lines (inside l) (pair_lines (inside l) (pairs_of ps)) ++ end)
-          ≡ laid_out l
-          (object (pairs_of (rest_pairs c.args.members)))) c.in-Some-next.ensures.steps whole),
+          (rw c.in-Some-next.ensures.steps at whole),
       λ flush.
           let so_far = writes flush in
           let one = c.write_str-in-Some-next.ensures.styled so_far.flush (search rules) in
           let two = c.write_member-in-Some-next.ensures one.flush (search rules) in
           joins_three _ _ _ _ _ _ _ _ _ so_far one two
-          (ap (λ i. done
-          ++ (codes "," ++ (line_start i ++ pair_text i k u))) c.inside-in-Some-next.ensures),
+          (cc c.inside-in-Some-next.ensures),
     )
 
 pub write_members-returns : goal.write_members-returns
@@ -138,6 +129,4 @@ write_members-returns g t c flush ok =
     let one = c.start_line.ensures so_far.flush (search rules) in
     let two = c.write_str-3.ensures.styled one.flush ok in
     joins_three _ _ _ _ _ _ _ _ _ so_far one two
-    (subst (λ ps. done ++ (more_lines (inside l) (pair_lines (inside l) (pairs_of ps)) ++ end)
-    ≡ laid_out l
-    (object (pairs_of (rest_pairs c.args.members)))) c.in_default-next.ensures.steps.0 whole)
+    (rw c.in_default-next.ensures.steps.0 at whole)

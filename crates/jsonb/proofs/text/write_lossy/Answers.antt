@@ -1,4 +1,4 @@
-use Rattle.std.proofs.Common.{rules, ◌≡◌, ◌++◌, ◌∷◌, List, ℕ, encode_utf8, encode_utf8_all, refl}
+use Rattle.std.proofs.Common.{rules, ◌≡◌, ◌++◌, ◌∷◌, encode_utf8, encode_utf8_all, refl}
 use Rattle.std.proofs.Common.{sym, ap, ◌∙◌, append_assoc}
 use Rattle.jsonb_value.proofs.Writing.{joins_two}
 use Rattle.jsonb.proofs.text.write_lossy.Goals as goal
@@ -11,7 +11,7 @@ chars-preserved g c =
     let (done, whole, writes) = c.chars.invariant in (
       done ++ encode_utf8 x,
       append_assoc done (encode_utf8 x) (encode_utf8_all rest)
-          ∙ sym (ap (λ (cs : List ℕ). done ++ encode_utf8_all cs) parts)
+          ∙ sym (ap (λ cs. done ++ encode_utf8_all cs) parts)
           ∙ whole,
       λ flush.
           let so_far = writes flush in

@@ -1,6 +1,5 @@
-use Rattle.std.proofs.Common.{map, rules, sym}
-use Rattle.std.proofs.lemmas.List.{length-map}
-use Rattle.jsonb.specs.ItemView.{item_view}
+use Rattle.std.proofs.Common.{rules}
+use Rattle.jsonb.specs.Children.{list_views}
 use Rattle.jsonb.proofs.StorageLaws.{FitArray-AreStorable, IsArrayOf-parts}
 use Rattle.jsonb.proofs.builder.write.array_document.Goals as goal
 
@@ -11,7 +10,7 @@ returns-in_err-try_reserve-clause-memory c =
 pub returns-clause-ok : goal.returns-clause-ok
 returns-clause-ok c =
     IsArrayOf-parts
-    (map item_view c.args.items.now) c.in_ok-size.ensures.storable c.in_ok-size.ensures.few _ _ _ _
-    _
-    (sym (length-map c.args.items.now item_view))
-    (search rules) c.append_entries.ensures.items c.append_payloads.ensures.items c.new.ensures
+    (list_views c.args.items) c.in_ok-size.ensures.storable c.in_ok-size.ensures.few _ _ _ _ _
+    c.len.ensures (search rules)
+    (rw c.children.ensures at c.append_entries.ensures.items)
+    (rw c.children-2.ensures at c.append_payloads.ensures.items) c.new.ensures

@@ -1,6 +1,7 @@
-use Rattle.std.proofs.Common.{◌≡◌, ◌==◌, ◌&&◌, Bool, true, false, List, Some, ℕ, length, nat_eq}
-use Rattle.std.proofs.Common.{refl, sym, ap, ap₂, ◌∙◌, if◌then◌else◌}
+use Rattle.std.proofs.Common.{◌≡◌, ◌==◌, ◌&&◌, true, false, List, Some, ℕ, length, nat_eq}
+use Rattle.std.proofs.Common.{refl, sym, ap, ◌∙◌}
 use Rattle.std.proofs.lemmas.Bool.{eq-eqb}
+use Rattle.std.proofs.Math.Bool.{and-false}
 use Rattle.std.proofs.lemmas.Bool.Decides.{Decides-eqb}
 use Rattle.std.proofs.lemmas.Slice.Eq.{slice_eq-Decides}
 use Rattle.std.specs.Cmp.Lexicographic.{pointwise}
@@ -8,35 +9,26 @@ use Rattle.jsonb_value.specs.Tree.{Tree, Pairs, pair}
 use Rattle.jsonb.specs.Lookup.{find_pair}
 use Rattle.jsonb.proofs.document.Document.find_member.Goals as goal
 
-and_false : (b : Bool) → false ≡ b && false
-and_false true = refl
-and_false false = refl
-
 -- A key is the name exactly where the test of its bytes passes, and then it is as long.
 test_passes : (name k : List ℕ) → true ≡ pointwise nat_eq name k
     → true ≡ (length k == length name) && pointwise nat_eq name k
 test_passes name k e =
     let same : name ≡ k = (slice_eq-Decides Decides-eqb name k true e).0 refl in
-    ap₂ (λ (a b : Bool). a && b) (sym (eq-eqb (length k) (length name) (ap length (sym same)))) e
+    rw (← e, eq-eqb (length k) (length name) (ap length (sym same)))
 
 test_fails : (name k : List ℕ) → false ≡ pointwise nat_eq name k
     → false ≡ (length k == length name) && pointwise nat_eq name k
-test_fails name k e =
-    and_false (length k == length name) ∙ ap (λ b. (length k == length name) && b) e
+test_fails name k e = rw (← e, and-false)
 
 -- A pair is passed over, or is the one.
 module _ (name k : List ℕ) (t : Tree) (ps qs : Pairs) (are : ps ≡ pair k t qs) where
   passed : false ≡ pointwise nat_eq name k
       → find_pair (pointwise nat_eq name) (length name) ps
       ≡ find_pair (pointwise nat_eq name) (length name) qs
-  passed e = ap (find_pair (pointwise nat_eq name) (length name)) are ∙ ap
-      (λ b. if b then Some t else find_pair (pointwise nat_eq name) (length name) qs)
-      (sym (test_fails name k e))
+  passed e = cc (are, test_fails name k e)
 
   met : true ≡ pointwise nat_eq name k → find_pair (pointwise nat_eq name) (length name) ps ≡ Some t
-  met e = ap (find_pair (pointwise nat_eq name) (length name)) are ∙ ap
-      (λ b. if b then Some t else find_pair (pointwise nat_eq name) (length name) qs)
-      (sym (test_passes name k e))
+  met e = cc (are, test_passes name k e)
 
 pub returns-then-eq : goal.returns-then-eq
 returns-then-eq c ps h =

@@ -1,8 +1,7 @@
-use Rattle.std.proofs.Common.{inr, sym, subst, ◌∙◌}
-use Rattle.jsonb_codec.specs.Doc.{Payload}
+use Rattle.std.proofs.Common.{inr, ◌∙◌}
 use Rattle.jsonb.proofs.DocumentLaws.{tree_in-is}
 use Rattle.jsonb.proofs.document.Document.of_container.Goals as goal
 
 pub returns : goal.returns
 returns c t h =
-    tree_in-is _ t (inr (h.0 ∙ c.requires, subst (Payload t) (sym c.of_container.ensures) h.1))
+    tree_in-is _ t (inr (h.0 ∙ c.requires, rw c.of_container.ensures h.1))

@@ -1,4 +1,4 @@
-use Rattle.std.proofs.Common.{◌≡◌, ◌↔◌, List, ℕ, ◌++◌, Result, Err, rules, refl, ap, subst, ◌∙◌}
+use Rattle.std.proofs.Common.{◌≡◌, ◌↔◌, List, ℕ, ◌++◌, Result, Err, rules, refl, ap, ◌∙◌}
 use Rattle.jsonb_value.specs.declared.error.Error.{Error}
 use Rattle.jsonb_value.specs.declared.error.Error.TheVariants.{InvalidJsonb}
 use Rattle.jsonb_value.specs.Tree.{Tree}
@@ -18,7 +18,7 @@ handed_on r s e b t r_is s_is doc past = (
   λ refused.
       let is : e ≡ InvalidJsonb = cc in past.0 (s_is ∙ ap Err is) t doc,
   λ none.
-      let told = past.1 (λ u h fits. none (subst Fits (Doc-unique b u t h doc) fits)) in
+      let told = past.1 (λ u h fits. none (rw (← Doc-unique b u t h doc) fits)) in
       let is : e ≡ InvalidJsonb = cc in r_is ∙ ap Err is,
 )
 
@@ -36,7 +36,7 @@ returns-clause-ok c =
     let t = document_tree c.args.self.now in
     let doc = tree_of_bytes _ c.args.self.now refl in
     let known = c.in_ok-append_canonical_document.ensures.appended t doc in
-    c.new.ensures ∙ known.1 ∙ ap (λ (x : List ℕ). x ++ canon t) c.new-bytes.ensures.items
+    c.new.ensures ∙ known.1 ∙ ap (λ x. x ++ canon t) c.new-bytes.ensures.items
 
 pub returns-clause-past : goal.returns-clause-past
 returns-clause-past c =

@@ -1,4 +1,4 @@
-use Rattle.std.proofs.Common.{◌≡◌, length, sym, subst}
+use Rattle.std.proofs.Common.{sym, subst}
 use Rattle.jsonb.specs.Facts.{AreParts}
 use Rattle.jsonb.proofs.FactLaws.{length-AreParts}
 use Rattle.jsonb.proofs.entries.Cursor.len.Goals as goal
@@ -6,6 +6,5 @@ use Rattle.jsonb.proofs.entries.Cursor.len.Goals as goal
 pub returns : goal.returns
 returns c =
     let i = c.self.inside in
-    subst (λ xs. i.left ≡ length xs) c.self.view_is
-    (length-AreParts i.bytes.now i.left i.place i.start
+    rw c.self.view_is at (length-AreParts i.bytes.now i.left i.place i.start
     (subst AreParts (sym c.self.view_is) c.requires))

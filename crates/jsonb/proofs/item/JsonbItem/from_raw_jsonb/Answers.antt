@@ -1,6 +1,5 @@
 use Rattle.std.proofs.Common.{◌≡◌, ◌∙◌}
 use Rattle.jsonb.specs.Raw.{raw_bytes}
-use Rattle.jsonb.specs.ItemView.{ItemView}
 use Rattle.jsonb.specs.Code.{item_document, CanBeStored}
 use Rattle.jsonb.specs.DocumentWalk.{IsItemIn}
 use Rattle.jsonb.proofs.ItemLaws.{item_in-Doc, shown_ok}
@@ -17,5 +16,5 @@ returns-clause-again c = λ t h.
     let b = raw_bytes c.args.raw in
     let found = item_in-Doc b t h in
     shown_ok _ found.0
-    (λ (x : ItemView). (item_document x ≡ b) × CanBeStored x)
+    (λ x. (item_document x ≡ b) × CanBeStored x)
     (c.item_of_bytes.ensures ∙ found.1.0) found.1.1.1

@@ -1,23 +1,16 @@
-use Rattle.std.proofs.Common.{ℕ, List, Option, Result, IfOk, IfSome, sym, subst}
-use Rattle.jsonb_value.specs.declared.error.Error.{Error}
 use Rattle.jsonb.specs.Raw.{raw_bytes}
-use Rattle.jsonb.specs.ItemView.{ItemView}
-use Rattle.jsonb.specs.Walk.{Walk, IsBounded}
-use Rattle.jsonb.specs.DocumentWalk.{WalksPairs, WalksMembers}
 use Rattle.jsonb.proofs.WalkLaws.{pairs_walk-bounded}
 use Rattle.jsonb.proofs.DocumentWalks.{pairs_walk-Doc}
-use Rattle.jsonb.proofs.StandingWalks.{members-Doc}
+use Rattle.jsonb.proofs.DocumentWalks.{members-Doc}
 use Rattle.jsonb.proofs.iterator.ObjectIterator.new.Goals as goal
 
 pub returns-clause-bounded : goal.returns-clause-bounded
 returns-clause-bounded c =
-    subst (λ (r : Result (Option (Walk (List ℕ × ItemView))) Error). IfOk r
-    (λ o. IfSome o IsBounded)) (sym c.over.ensures) (pairs_walk-bounded (raw_bytes c.args.raw))
+    rw c.over.ensures (pairs_walk-bounded (raw_bytes c.args.raw))
 
 pub returns-clause-document : goal.returns-clause-document
 returns-clause-document c =
-    λ t h. subst (WalksPairs t) (sym c.over.ensures) (pairs_walk-Doc (raw_bytes c.args.raw) t h)
+    λ t h. rw c.over.ensures (pairs_walk-Doc (raw_bytes c.args.raw) t h)
 
 pub returns-clause-entries : goal.returns-clause-entries
-returns-clause-entries c = λ t h. subst (WalksMembers (raw_bytes c.args.raw) t) (sym c.over.ensures)
-    (members-Doc (raw_bytes c.args.raw) t h)
+returns-clause-entries c = λ t h. rw c.over.ensures (members-Doc (raw_bytes c.args.raw) t h)

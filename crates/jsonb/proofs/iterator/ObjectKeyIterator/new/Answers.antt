@@ -1,18 +1,12 @@
-use Rattle.std.proofs.Common.{Option, Result, IfOk, IfSome, sym, subst}
-use Rattle.jsonb_value.specs.declared.error.Error.{Error}
 use Rattle.jsonb.specs.Raw.{raw_bytes}
-use Rattle.jsonb.specs.ItemView.{ItemView}
-use Rattle.jsonb.specs.Walk.{Walk, IsBounded}
-use Rattle.jsonb.specs.DocumentWalk.{WalksKeys}
 use Rattle.jsonb.proofs.WalkLaws.{keys_walk-bounded}
 use Rattle.jsonb.proofs.DocumentWalks.{keys_walk-Doc}
 use Rattle.jsonb.proofs.iterator.ObjectKeyIterator.new.Goals as goal
 
 pub returns-clause-bounded : goal.returns-clause-bounded
 returns-clause-bounded c =
-    subst (λ (r : Result (Option (Walk ItemView)) Error). IfOk r (λ o. IfSome o IsBounded))
-    (sym c.over.ensures) (keys_walk-bounded (raw_bytes c.args.raw))
+    rw c.over.ensures (keys_walk-bounded (raw_bytes c.args.raw))
 
 pub returns-clause-document : goal.returns-clause-document
 returns-clause-document c =
-    λ t h. subst (WalksKeys t) (sym c.over.ensures) (keys_walk-Doc (raw_bytes c.args.raw) t h)
+    λ t h. rw c.over.ensures (keys_walk-Doc (raw_bytes c.args.raw) t h)

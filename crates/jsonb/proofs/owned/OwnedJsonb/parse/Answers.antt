@@ -3,7 +3,7 @@ use Rattle.jsonb_value.specs.Norm.{norm}
 use Rattle.jsonb_value.specs.Text.{in_one_line, on_lines}
 use Rattle.jsonb_value.specs.Value.{tree_of}
 use Rattle.jsonb_value.proofs.NormTexts.{laid_out-norm}
-use Rattle.jsonb_codec.specs.Canon.{canon, Fits}
+use Rattle.jsonb_codec.specs.Canon.{canon}
 use Rattle.jsonb_codec.specs.Doc.{Doc}
 use Rattle.jsonb.specs.Owned.{owned_bytes}
 use Rattle.jsonb.proofs.TextLaws.{display_text-Doc, pretty_display_text-Doc}
@@ -16,15 +16,14 @@ returns-in_err-value-clause-invalid c refused t h =
 pub returns-clause-fits : goal.returns-clause-fits
 returns-clause-fits c t h =
     let value = c.in_ok-value.ensures in
-    subst Fits (value.one (tree_of c.in_ok-value.value) t value.ok h) c.in_ok-encode.ensures.fits
+    rw (value.one (tree_of c.in_ok-value.value) t value.ok h) at c.in_ok-encode.ensures.fits
 
 pub returns-clause-means : goal.returns-clause-means
 returns-clause-means c t h =
     let value = c.in_ok-value.ensures in
     let u = tree_of c.in_ok-value.value in
     let bytes : owned_bytes c.new-2.result ≡ canon u = search rules in
-    subst (λ x. Doc (owned_bytes c.new-2.result) (norm x)) (value.one u t value.ok h)
-    (subst (λ b. Doc b (norm u)) (sym bytes)
+    rw (value.one u t value.ok h) at (subst (λ b. Doc b (norm u)) (sym bytes)
     (c.in_ok-encode.ensures.means u c.in_ok-encode.ensures.tree c.in_ok-encode.ensures.fits))
 
 pub returns-clause-prints : goal.returns-clause-prints

@@ -1,9 +1,7 @@
-use Rattle.std.proofs.Common.{◌≡◌, ◌↔◌, ℕ, List, ◌++◌, ap, subst, sym, ◌∙◌}
-use Rattle.jsonb_value.specs.Norm.{norm}
+use Rattle.std.proofs.Common.{◌++◌, ap, sym, ◌∙◌}
 use Rattle.jsonb_value.specs.Tree.{Tree}
 use Rattle.jsonb_codec.specs.Doc.{Doc}
 use Rattle.jsonb_codec.specs.Canon.{canon}
-use Rattle.jsonb_codec.specs.Canonical.{IsCanonical}
 use Rattle.jsonb_codec.proofs.CanonLaws.{Doc-canon}
 use Rattle.jsonb_codec.proofs.Rewriting.{canonical_same, canonical_twice, canonical_equal}
 use Rattle.jsonb.specs.Raw.{raw_bytes}
@@ -15,15 +13,15 @@ returns-clause-ok c =
     let k = c.in_ok-append_canonical.ensures in
     let b = raw_bytes c.args.self.now in
     let h : (t : Tree) × Doc b t =
-    subst (λ x. (t : Tree) × Doc x t) c.as_bytes.ensures k.document in
-    let known = k.appended h.0 (subst (λ x. Doc x h.0) (sym c.as_bytes.ensures) h.1) in (
+    rw c.as_bytes.ensures at k.document in
+    let known = k.appended h.0 (rw c.as_bytes.ensures h.1) in (
       h.0,
       (
         h.1,
         (
           known.0,
           c.new.ensures ∙ known.1 ∙ ap
-              (λ (x : List ℕ). x ++ canon h.0) c.new-bytes.ensures.items,
+              (λ x. x ++ canon h.0) c.new-bytes.ensures.items,
         ),
       ),
     )
@@ -33,35 +31,35 @@ returns-clause-same c =
     let b = raw_bytes c.args.self.now in
     let (t, (h, (fit, e))) = returns-clause-ok c in
     let ok =
-    c.in_ok-append_canonical.ensures.tree t (subst (λ x. Doc x t) (sym c.as_bytes.ensures) h) in
-    subst (λ x. (x ≡ b) ↔ IsCanonical b) (sym e) (canonical_same b t ok h fit)
+    c.in_ok-append_canonical.ensures.tree t (simp c.as_bytes.ensures h) in
+    rw e (canonical_same b t ok h fit)
 
 pub returns-clause-canonical : goal.returns-clause-canonical
 returns-clause-canonical c =
     let (t, (h, (fit, e))) = returns-clause-ok c in
     let ok =
-    c.in_ok-append_canonical.ensures.tree t (subst (λ x. Doc x t) (sym c.as_bytes.ensures) h) in
+    c.in_ok-append_canonical.ensures.tree t (simp c.as_bytes.ensures h) in
     (t, (ok, (fit, sym e)))
 
 pub returns-clause-means : goal.returns-clause-means
 returns-clause-means c t h =
     let k = c.in_ok-append_canonical.ensures in
-    let again = subst (λ x. Doc x t) (sym c.as_bytes.ensures) h in
+    let again = rw (← c.as_bytes.ensures) at h in
     let known = k.appended t again in
-    let e = c.new.ensures ∙ known.1 ∙ ap (λ (x : List ℕ). x ++ canon t) c.new-bytes.ensures.items in
-    subst (λ x. Doc x (norm t)) (sym e) (Doc-canon t (k.tree t again) known.0)
+    let e = c.new.ensures ∙ known.1 ∙ ap (λ x. x ++ canon t) c.new-bytes.ensures.items in
+    rw e (Doc-canon t (k.tree t again) known.0)
 
 pub returns-clause-equal : goal.returns-clause-equal
 returns-clause-equal c t u h =
     let k = c.in_ok-append_canonical.ensures in
-    let again = subst (λ x. Doc x t) (sym c.as_bytes.ensures) h in
+    let again = rw (← c.as_bytes.ensures) at h in
     let known = k.appended t again in
-    let e = c.new.ensures ∙ known.1 ∙ ap (λ (x : List ℕ). x ++ canon t) c.new-bytes.ensures.items in
+    let e = c.new.ensures ∙ known.1 ∙ ap (λ x. x ++ canon t) c.new-bytes.ensures.items in
     canonical_equal (owned_bytes c.new.result) t e (k.tree t again) known.0 u
 
 pub returns-clause-twice : goal.returns-clause-twice
 returns-clause-twice c =
     let (t, (h, (fit, e))) = returns-clause-ok c in
     let ok =
-    c.in_ok-append_canonical.ensures.tree t (subst (λ x. Doc x t) (sym c.as_bytes.ensures) h) in
+    c.in_ok-append_canonical.ensures.tree t (simp c.as_bytes.ensures h) in
     canonical_twice (owned_bytes c.new.result) t e ok fit

@@ -1,9 +1,6 @@
-use Rattle.std.proofs.Common.{ℕ, List, ap, sym, subst}
 use Rattle.jsonb_value.specs.Text.{on_lines}
-use Rattle.jsonb_codec.specs.Doc.{Doc}
 use Rattle.jsonb_codec.proofs.RereadLaws.{reread_text}
 use Rattle.jsonb.specs.Raw.{raw_bytes}
-use Rattle.jsonb.specs.Texts.{pretty_display_text}
 use Rattle.jsonb.proofs.TextLaws.{pretty_display_text-Doc, pretty_display_text-other}
 use Rattle.jsonb.proofs.TextLaws.{string_written, prints_as, reads_again}
 use Rattle.jsonb.proofs.raw.RawJsonb.to_pretty_string.Goals as goal
@@ -14,7 +11,7 @@ returns-clause-display c =
     (string_written c.new.result _ _ _ _ _
     (c.write_pretty-answer.ensures.text c.new-f.ensures.plain.flush) c.new.ensures.bytes
     c.new-f.ensures.writer c.text_of_document.ensures.ok c.text_of_document.ensures.text)
-    (ap pretty_display_text c.as_bytes.ensures)
+    (cc c.as_bytes.ensures)
 
 pub returns-clause-document : goal.returns-clause-document
 returns-clause-document c t doc = prints_as _ _ _ (returns-clause-display c)
@@ -26,6 +23,6 @@ returns-clause-other c none = prints_as _ _ _ (returns-clause-display c)
 
 pub returns-clause-read_again : goal.returns-clause-read_again
 returns-clause-read_again c t doc plain fits =
-    let again = subst (λ (b : List ℕ). Doc b t) (sym c.as_bytes.ensures) doc in
+    let again = rw (← c.as_bytes.ensures) at doc in
     reads_again _ _ t (returns-clause-document c t doc)
     (reread_text (on_lines 0) t (c.write_pretty-answer.ensures.tree t again) plain fits)

@@ -1,9 +1,6 @@
-use Rattle.std.proofs.Common.{ℕ, List, ap, sym, subst}
 use Rattle.jsonb_value.specs.Text.{in_one_line}
-use Rattle.jsonb_codec.specs.Doc.{Doc}
 use Rattle.jsonb_codec.proofs.RereadLaws.{reread_text}
 use Rattle.jsonb.specs.Raw.{raw_bytes}
-use Rattle.jsonb.specs.Texts.{display_text}
 use Rattle.jsonb.proofs.TextLaws.{display_text-Doc, display_text-other, string_written, prints_as}
 use Rattle.jsonb.proofs.TextLaws.{reads_again, other_text-short, short_text}
 use Rattle.jsonb.proofs.raw.RawJsonb.to_string.Goals as goal
@@ -14,7 +11,7 @@ returns-clause-display c =
     (string_written c.in_ok-text.text _ _ _ _ _
     (c.write_view-answer.ensures.text c.new-f.ensures.plain.flush) c.in_ok-text.ensures.bytes
     c.new-f.ensures.writer c.text_of_document.ensures.ok c.text_of_document.ensures.text)
-    (ap display_text c.as_bytes.ensures)
+    (cc c.as_bytes.ensures)
 
 pub returns-clause-document : goal.returns-clause-document
 returns-clause-document c t doc =
@@ -26,7 +23,7 @@ returns-clause-other c none =
 
 pub returns-clause-read_again : goal.returns-clause-read_again
 returns-clause-read_again c t doc plain fits =
-    let again = subst (λ (b : List ℕ). Doc b t) (sym c.as_bytes.ensures) doc in
+    let again = rw (← c.as_bytes.ensures) at doc in
     reads_again _ _ t (returns-clause-document c t doc)
     (reread_text in_one_line t (c.write_view-answer.ensures.tree t again) plain fits)
 

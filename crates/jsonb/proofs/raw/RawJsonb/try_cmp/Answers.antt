@@ -1,13 +1,14 @@
-use Rattle.std.proofs.Common.{Some, ap, ap₂, ◌∙◌}
+use Rattle.std.proofs.Common.{ap₂, ◌∙◌}
 use Rattle.jsonb_value.specs.Meaning.{meaning_cmp}
-use Rattle.jsonb_value.specs.TreeOrder.{tree_cmp}
 use Rattle.jsonb.proofs.DocumentLaws.{document_meaning}
 use Rattle.jsonb.proofs.raw.RawJsonb.try_cmp.Goals as goal
 
 pub returns-clause-order : goal.returns-clause-order
-returns-clause-order c t u h k = ap Some
-    (c.cmp.ensures
-    ∙ ap₂ tree_cmp (c.in_ok-as_document.ensures.tree t h) (c.in_ok-as_document-2.ensures.tree u k))
+returns-clause-order c t u h k = cc (
+  c.cmp.ensures,
+  c.in_ok-as_document.ensures.tree t h,
+  c.in_ok-as_document-2.ensures.tree u k,
+)
 
 pub returns-clause-cmp : goal.returns-clause-cmp
 returns-clause-cmp c =
