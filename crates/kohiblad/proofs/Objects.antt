@@ -1,11 +1,14 @@
 -- Pairs of rows that are put together to an object.
 use Rattle.std.proofs.Common.{◌≡◌, ℕ, Bool, true, false, ◌||◌, List, [], ◌∷◌, ◌++◌, map, Bor}
-use Rattle.std.proofs.Common.{IsTrue, refl, sym, ap, ap₂, subst, ◌∙◌, append_assoc}
+use Rattle.std.proofs.Common.{IsTrue, refl, sym, ap, ap₂, subst, ◌∙◌, append_assoc, ◌↔◌, Result}
+use Rattle.std.proofs.Common.{Ok, Err}
 use Rattle.std.specs.List.{IsDistinct, AllByRecursion, list_any}
 use Rattle.std.specs.Map.{keys_of}
 use Rattle.std.specs.Str.{bytes_eq, IsUtf8}
 use Rattle.std.proofs.lemmas.List.{map-append, append-nil}
 use Rattle.std.proofs.lemmas.Slice.Eq.{bytes_eq-Decides}
+use Rattle.jsonb_value.specs.declared.error.Error.{Error}
+use Rattle.jsonb_value.specs.declared.error.Error.TheVariants.{ObjectDuplicateKey}
 use Rattle.jsonb.specs.declared.raw.RawJsonb.{RawJsonb}
 use Rattle.jsonb.specs.Raw.{raw_bytes}
 use Rattle.jsonb.specs.ItemView.{ItemView, raw}
@@ -25,6 +28,13 @@ pub record PairsSoFar (all left : List (List ℕ × List ℕ))
 pub no_pair : (all : List (List ℕ × List ℕ)) → PairsSoFar all all []
 unfolding IsDistinct
 no_pair all = record { done = []; parts = refl; built = refl; distinct = tt; texts = tt }
+
+-- what was accepted was no key that is there
+pub not_there : {A : Type 0} (r : Result A Error) (x : A) (there : Bool) → r ≡ Ok x
+    → (r ≡ Err ObjectDuplicateKey) ↔ IsTrue there → there ≡ false
+not_there r x false accepted refused = refl
+not_there r x true accepted refused =
+    let same = refused.1 refl in let never : ⊥ = cc in absurd never
 
 AreTexts-append : (xs ys : List (List ℕ)) → AreTexts xs → AreTexts ys → AreTexts (xs ++ ys)
 AreTexts-append [] ys h k = k
