@@ -11,9 +11,9 @@ def text_of(path):
 
 
 def exported():
-    """What the roots of `jsonb` and `jsonb_column` export, by the library that it comes from."""
+    """What the roots of the libraries above `jsonb_codec` export, by the library that it comes from."""
     names = {}
-    for crate in ("jsonb", "jsonb_column"):
+    for crate in ("jsonb", "jsonb_composition", "jsonb_column"):
         root = text_of(f"{TOP}/crates/{crate}/src/lib.rt")
         for source, listed in re.findall(r"^pub use (\w+)(?:::\w+)*::(\{[^}]*\}|\w+);", root, re.M):
             library = source if source.startswith("jsonb_") else crate

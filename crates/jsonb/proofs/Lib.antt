@@ -11,7 +11,6 @@ pub mod ContentLaws
 pub mod PartLaws
 pub mod LookupLaws
 pub mod KeyEnds
-pub mod WholeWalks
 pub mod ResultLaws
 pub mod ObjectLaws
 pub mod InputLaws

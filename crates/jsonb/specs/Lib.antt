@@ -23,7 +23,6 @@ pub mod Values
 pub mod Texts
 pub mod Lines
 pub mod Tally
-pub mod Question
 pub mod Document
 pub mod Facts
 pub mod Node

@@ -3,7 +3,6 @@
 
 mod builder;
 mod code;
-mod composition;
 mod document;
 mod entries;
 mod extension_item;
@@ -19,10 +18,8 @@ mod raw;
 mod reads;
 mod sort_key;
 mod text;
-mod walks;
 
 pub use builder::{ArrayBuilder, ArrayDistinctBuilder, ObjectBuilder};
-pub use composition::{Asked, ask, encode_and_ask};
 pub use document::{Document, Node};
 pub use extension_item::ExtensionItem;
 pub use item::JsonbItem;

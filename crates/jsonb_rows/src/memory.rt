@@ -5,8 +5,9 @@ use crate::documents::{decode_again, encoded, read_as_tree};
 use jsonb::{
     ArrayBuilder, ArrayDistinctBuilder, Date, Decimal64, Decoder, Encoder, Error, ExtensionValue,
     JsonAst, JsonAstEncoder, JsonbItem, Number, NumberItem, ObjectBuilder, OwnedJsonb, RawJsonb,
-    Value, append_canonical, ask, encode_and_ask, parse_value, value_of,
+    Value, append_canonical, parse_value, value_of,
 };
+use jsonb_composition::{ask, encode_and_ask};
 use std::alloc::Global;
 use std::borrow::CowStr;
 use std::cmp::Ordering;

@@ -1,7 +1,11 @@
 -- What was given when an iterator has ended, and that it gives no error.
 use Rattle.std.proofs.Common.{◌≡◌, ℕ, zero, suc, List, [], ◌∷◌, ◌++◌, length, Option, Some, Result}
-use Rattle.std.proofs.Common.{Ok}
-use Rattle.std.proofs.Common.{Err, refl, sym, ap, subst, append-nil}
+use Rattle.std.proofs.Common.{Ok, ◌∙◌}
+use Rattle.std.proofs.Common.{Err, refl, sym, ap, subst, append-nil, append_assoc, map, ◌<◌}
+use Rattle.std.specs.Iterator.{Yields}
+use Rattle.std.specs.Result.{IsErr, IsErrAnd, IfOk, IfErr}
+use native.Mathlib.Omega.{arith}
+use Rattle.std.proofs.lemmas.List.{map-append}
 use Rattle.jsonb_value.specs.declared.error.Error.{Error}
 use Rattle.jsonb_value.specs.Tree.{Tree, array, object, Trees, no_trees, tree, Pairs, no_pairs}
 use Rattle.jsonb_value.specs.Tree.{pair, count, pair_count}
@@ -9,7 +13,7 @@ use Rattle.jsonb.specs.ItemView.{ItemView}
 use Rattle.jsonb.specs.Walk.{Walk}
 use Rattle.jsonb.specs.DocumentWalk.{ShowsTrees, key_views, ShowsValues, ShowsPairs, WalksArray}
 use Rattle.jsonb.specs.DocumentWalk.{WalksKeys, WalksValues, WalksPairs}
-use Rattle.jsonb.specs.Question.{walk_of}
+use Rattle.jsonb_composition.specs.Question.{walk_of}
 
 -- so many answers, and no error
 abbrev AreOk : {A : Type 0} → ℕ → List (Result A Error) → Type 0
@@ -33,6 +37,39 @@ AreOk-error zero (x ∷ given) behind e h = cc
 AreOk-error (suc n) [] behind e h = h
 AreOk-error (suc n) (Ok x ∷ given) behind e h = AreOk-error n given behind e h
 AreOk-error (suc n) (Err x ∷ given) behind e h = h
+
+-- what is said of an answer holds where there is none
+pub no_answer : {A E : Type 0} (P : A → Type 0) (r : Result A E) → IsErr r → IfOk r P
+no_answer P (Err e) h = tt
+no_answer P (Ok x) h = let never : ⊥ = cc in absurd never
+
+-- what is said of an error holds where there is none
+pub if_error : {A E : Type 0} (P : E → Type 0) (r : Result A E) → IsErrAnd r P → IfErr r P
+if_error P (Err e) h = h
+if_error P (Ok x) h = tt
+
+-- one was given, and so many less are left
+pub one_less : {A : Type 0} {x : A} {xs ys : List A} → xs ≡ x ∷ ys → length ys < length xs
+one_less given = let shorter = ap length given in omega arith
+
+-- one more was taken of what there is to give
+pub one_taken : {A B : Type 0} (view : B → A) (items after : List B) (x : B) (xs ys : List A)
+    {all : List A} → map view items ++ xs ≡ all → xs ≡ view x ∷ ys → after ≡ items ++ x ∷ []
+    → map view after ++ ys ≡ all
+one_taken view items after x xs ys so_far given pushed =
+    let both : map view after ≡ map view items ++ map view (x ∷ []) =
+    ap (map view) pushed ∙ map-append view items (x ∷ []) in
+    let joined : (map view items ++ (view x ∷ [])) ++ ys ≡ map view items ++ (view x ∷ ys) =
+    append_assoc (map view items) (view x ∷ []) ys in
+    cc
+
+-- the calls that gave so much, and the one behind them
+pub Yields-more : {S A : Type 0} (steps : S → Option A → S → Type 0) (s t u : S) (xs : List A)
+    (x : A) → Yields steps s xs t → steps t (Some x) u → Yields steps s (xs ++ x ∷ []) u
+Yields-more steps s t u [] x so_far step =
+    (u, subst (λ k. steps k (Some x) u) (sym so_far) step, refl)
+Yields-more steps s t u (y ∷ xs) x so_far step =
+    (so_far.0, so_far.1, Yields-more steps so_far.0 t u xs x so_far.2 step)
 
 -- what was taken of an iterator that has ended is all that it had to give, by whatever is said of
 -- it

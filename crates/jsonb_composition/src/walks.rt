@@ -4,15 +4,15 @@ ghost use Rattle.std.specs.Prelude.{◌≡◌, IfOk, IfErr, option_map};
 ghost use Rattle.jsonb_value.specs.Tree.{Tree};
 ghost use Rattle.jsonb_codec.specs.Doc.{Doc};
 ghost use Rattle.jsonb.specs.Raw.{raw_bytes};
-ghost use Rattle.jsonb.specs.Question.{walk_of_items, walk_of_pairs};
+ghost use Rattle.jsonb_composition.specs.Question.{walk_of_items, walk_of_pairs};
 ghost use Rattle.jsonb.specs.DocumentWalk.{WalksArray, WalksKeys, WalksValues, WalksPairs};
 ghost use Rattle.jsonb.specs.DocumentWalk.{WalksItems};
 ghost use Rattle.jsonb.specs.DocumentWalk.{WalksValueItems, WalksMembers};
 
-use crate::item::JsonbItem;
-use crate::iterator::{ArrayIterator, ObjectIterator, ObjectKeyIterator, ObjectValueIterator};
-use crate::raw::RawJsonb;
-use jsonb_value::Error;
+use jsonb::{
+    ArrayIterator, Error, JsonbItem, ObjectIterator, ObjectKeyIterator, ObjectValueIterator,
+    RawJsonb,
+};
 use std::alloc::Global;
 
 /// The items of an array, in order. `None` of a document of another kind.

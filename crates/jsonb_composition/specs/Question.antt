@@ -8,7 +8,7 @@ use Rattle.jsonb_value.specs.Text.{compact, pretty}
 use Rattle.jsonb_value.specs.Tree.{Tree}
 use Rattle.jsonb_value.specs.TreeOrder.{tree_cmp}
 use Rattle.jsonb_codec.specs.Doc.{Doc, IsDocument}
-use Rattle.jsonb.specs.declared.composition.Asked.{Asked}
+use Rattle.jsonb_composition.specs.declared.composition.Asked.{Asked}
 use Rattle.jsonb.specs.declared.item.JsonbItem.{JsonbItem}
 use Rattle.jsonb.specs.Kind.{kind_of_tree}
 use Rattle.jsonb.specs.Lookup.{find, IsItemFound}

@@ -1,6 +1,6 @@
 use Rattle.std.proofs.Common.{◌≡◌, ◌++◌, map, Ok, length}
 use Rattle.jsonb.specs.ItemView.{item_view}
-use Rattle.jsonb.proofs.walks.object_values.Given as goal
+use Rattle.jsonb_composition.proofs.walks.object_values.Given as goal
 
 abbrev pub invariant-loop-value : goal.invariant-loop-value
 invariant-loop-value l = map (λ x. Ok (item_view x)) l.values.items ++ l.value-iterator.rest

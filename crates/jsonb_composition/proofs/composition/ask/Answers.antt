@@ -1,6 +1,6 @@
 use Rattle.std.proofs.Common.{rules, ◌≡◌, inr}
 use Rattle.jsonb.specs.Kind.{kind_of_tree}
-use Rattle.jsonb.proofs.composition.ask.Goals as goal
+use Rattle.jsonb_composition.proofs.composition.ask.Goals as goal
 
 pub returns-clause-answers : goal.returns-clause-answers
 returns-clause-answers c = λ t means.

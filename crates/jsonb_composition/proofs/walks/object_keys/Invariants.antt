@@ -1,6 +1,6 @@
 use Rattle.std.proofs.Common.{◌≡◌, ◌++◌, map, Ok, length}
 use Rattle.jsonb.specs.ItemView.{item_view}
-use Rattle.jsonb.proofs.walks.object_keys.Given as goal
+use Rattle.jsonb_composition.proofs.walks.object_keys.Given as goal
 
 abbrev pub invariant-loop-key : goal.invariant-loop-key
 invariant-loop-key l =

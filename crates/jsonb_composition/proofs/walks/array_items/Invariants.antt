@@ -1,6 +1,6 @@
 use Rattle.std.proofs.Common.{◌≡◌, ◌++◌, map, Ok, length}
 use Rattle.jsonb.specs.ItemView.{item_view}
-use Rattle.jsonb.proofs.walks.array_items.Given as goal
+use Rattle.jsonb_composition.proofs.walks.array_items.Given as goal
 
 abbrev pub invariant-loop-item : goal.invariant-loop-item
 invariant-loop-item l =

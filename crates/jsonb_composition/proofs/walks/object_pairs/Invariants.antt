@@ -1,6 +1,6 @@
 use Rattle.std.proofs.Common.{◌≡◌, ◌++◌, map, Ok, length}
 use Rattle.jsonb.specs.ItemView.{pair_view}
-use Rattle.jsonb.proofs.walks.object_pairs.Given as goal
+use Rattle.jsonb_composition.proofs.walks.object_pairs.Given as goal
 
 abbrev pub invariant-loop-pair : goal.invariant-loop-pair
 invariant-loop-pair l =

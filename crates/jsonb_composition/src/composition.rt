@@ -9,17 +9,13 @@ ghost use Rattle.jsonb_value.specs.Value.{tree_of};
 ghost use Rattle.jsonb_codec.specs.Canon.{canon, Fits};
 ghost use Rattle.jsonb_codec.specs.Doc.{Doc};
 ghost use Rattle.jsonb.specs.Raw.{raw_bytes};
-ghost use Rattle.jsonb.specs.Question.{AnswersOf};
+ghost use Rattle.jsonb_composition.specs.Question.{AnswersOf};
 ghost use Rattle.jsonb.specs.Lookup.{find, IsItemFound};
 ghost use Rattle.jsonb.specs.Standing.{IsFoundIn};
 ghost use Rattle.jsonb.specs.ItemView.{item_view};
 
-use crate::item::JsonbItem;
-use crate::item_type::JsonbItemType;
-use crate::raw::RawJsonb;
 use crate::walks::{array_items, object_keys, object_pairs, object_values};
-use jsonb_codec::Encoder;
-use jsonb_value::{Error, Value};
+use jsonb::{Encoder, Error, JsonbItem, JsonbItemType, RawJsonb, Value};
 use std::alloc::Global;
 use std::cmp::Ordering;
 
