@@ -13,7 +13,6 @@ pub mod LookupLaws
 pub mod KeyEnds
 pub mod ResultLaws
 pub mod ObjectLaws
-pub mod ShownLaws
 pub mod InputLaws
 pub mod ResultObjects
 pub mod ItemMeaningLaws

@@ -1,5 +1,6 @@
 //! Arrays and objects, put together of items.
 
+mod children;
 mod distinct;
 mod write;
 
@@ -19,10 +20,10 @@ ghost use Rattle.jsonb.specs.Results.{AllMean, AllMeanAt, IsArrayUpToZeros, IsOb
 ghost use Rattle.jsonb.specs.Results.{IsArrayOfInputs, IsObjectOfInputs, MakeNoObject, input_pair};
 ghost use Rattle.jsonb.specs.Results.{TakesAll, TakesUpTo};
 
-use crate::code::document_part;
 use crate::item::JsonbItem;
 use crate::owned::OwnedJsonb;
 use crate::raw::RawJsonb;
+use children::{ItemList, PairMap};
 pub use distinct::ArrayDistinctBuilder;
 use jsonb_value::Error;
 use std::alloc::Global;
@@ -104,7 +105,7 @@ impl<'a> ArrayBuilder<'a> {
         ensures memory { result ≡ Err Error.OutOfMemory → FitArray self.entry }
         ensures only { IfErr result (λ e. (e ≡ Error.InvalidJsonb) ⊎ (e ≡ Error.OutOfMemory)) }
     {
-        array_document(*self.items.allocator(), &self.items)
+        array_document(*self.items.allocator(), ItemList::Items(&self.items))
     }
 }
 
@@ -198,7 +199,7 @@ impl<'a> ObjectBuilder<'a> {
         ensures memory { result ≡ Err Error.OutOfMemory → FitObject self.entry }
         ensures only { IfErr result (λ e. (e ≡ Error.InvalidJsonb) ⊎ (e ≡ Error.OutOfMemory)) }
     {
-        object_document(self.alloc, &self.pairs)
+        object_document(self.alloc, PairMap::Items(&self.pairs))
     }
 }
 
@@ -224,9 +225,9 @@ impl OwnedJsonb {
     {
         let mut documents = Vec::new(alloc);
         for input in inputs {
-            documents.push(document_part(input))?;
+            documents.push(input)?;
         }
-        array_document(alloc, &documents)
+        array_document(alloc, ItemList::Raws(&documents))
     }
 
     /// The object of these documents at their keys, keys ascending by their bytes: a scalar stands
@@ -253,13 +254,13 @@ impl OwnedJsonb {
         ensures only { IfErr result (λ e. (e ≡ Error.InvalidJsonb)
             ⊎ ((e ≡ Error.ObjectDuplicateKey) ⊎ (e ≡ Error.OutOfMemory))) }
     {
-        let mut pairs = BTreeMap::new(alloc);
+        let mut pairs: BTreeMap<&str, RawJsonb> = BTreeMap::new(alloc);
         for (key, input) in inputs {
             if pairs.contains_key(key) {
                 return Err(Error::ObjectDuplicateKey);
             }
-            pairs.insert(key, document_part(input))?;
+            pairs.insert(key, input)?;
         }
-        object_document(alloc, &pairs)
+        object_document(alloc, PairMap::Raws(&pairs))
     }
 }
