@@ -13,6 +13,7 @@ pub mod LookupLaws
 pub mod KeyEnds
 pub mod ResultLaws
 pub mod ObjectLaws
+pub mod ShownLaws
 pub mod InputLaws
 pub mod ResultObjects
 pub mod ItemMeaningLaws

@@ -1,10 +1,9 @@
 -- The entry that is written for an item is the one that it has.
-use Rattle.std.proofs.Common.{Ok, ◌≡◌, ℕ, ◌+◌, ◌*◌, ◌<◌, ◌≤◌, ◌^◌, List, [], ◌∷◌, ◌++◌, length}
+use Rattle.std.proofs.Common.{Ok, ◌≡◌, ℕ, ◌+◌, ◌*◌, ◌<◌, ◌^◌, List, [], ◌∷◌, ◌++◌, length}
 use Rattle.std.proofs.Common.{unwrap_or, true, false, refl, sym, ap, ap₂}
-use Rattle.std.proofs.Common.{◌∙◌, inl, inr, arith, length-append, append_assoc}
+use Rattle.std.proofs.Common.{◌∙◌, inl, inr, arith}
 use Rattle.std.proofs.lemmas.List.{length-map}
 use Rattle.jsonb_value.specs.Tree.{Tree}
-use Rattle.jsonb_value.specs.Tree as trees
 use Rattle.jsonb_codec.specs.Word.{word}
 use Rattle.jsonb_codec.specs.Doc.{Doc, Scalar, Payload, type_of}
 use Rattle.jsonb_codec.specs.Canon.{document_of}
@@ -16,8 +15,8 @@ use Rattle.jsonb.specs.Item.{Entry}
 use Rattle.jsonb.specs.Code.{HasCode, IsDocumentCode, scalar_bytes}
 use Rattle.jsonb.specs.Storage.{entry_under, scalar_entry, document_code, code_of, IsStored}
 use Rattle.jsonb.specs.Storage.{AreStorable, codes_of}
-use Rattle.jsonb.specs.Building.{AreCodes, AreShort, code_entries, code_payloads, array_of}
-use Rattle.jsonb.specs.Building.{FitArray, IsArrayOf}
+use Rattle.jsonb.specs.Building.{AreCodes, AreShort, code_entries}
+use Rattle.jsonb.specs.Building.{FitArray}
 use Rattle.jsonb.proofs.KindLaws.{container_cases, header_at-Scalar, header_of_tree, header_at-Doc}
 use Rattle.jsonb.proofs.ItemLaws.{entry_at-Scalar}
 
@@ -98,23 +97,6 @@ code_of-HasCode (raw b) c h = document_code-IsDocumentCode b h.0 c h.1.0 h.1.1
 code_of-HasCode (owned b) c h = document_code-IsDocumentCode b h.0 c h.1.0 h.1.1
 code_of-HasCode x c h = same_code _ _ h.0 h.1
 
--- no entry's type is above that of extension values
-small_type : (t : Tree) → type_of t ≤ 1610612736
-small_type (trees.boolean true) = omega arith
-small_type (trees.boolean false) = omega arith
-small_type t = omega arith
-
-small_document_code : (b : List ℕ) (t : Tree) → Doc b t → (document_code b).type ≤ 1610612736
-small_document_code b t (inl (other, h)) = rw (document_code-Scalar b t h) (small_type t)
-small_document_code b t (inr (is, h)) = rw (document_code-container b t is h) (omega arith)
-
-pub small_code : (x : ItemView) → IsStored x → (code_of x).type ≤ 1610612736
-small_code (boolean false) h = omega arith
-small_code (boolean true) h = omega arith
-small_code (raw b) h = small_document_code b h.0 h.1
-small_code (owned b) h = small_document_code b h.0 h.1
-small_code x h = omega arith
-
 -- and with lists of them
 pub AreCodes-codes_of : (xs : List ItemView) → AreStorable xs → AreCodes xs (codes_of xs)
     × AreShort (codes_of xs)
@@ -142,44 +124,9 @@ length-code_entries (c ∷ cs) =
     let more = length-code_entries cs in
     omega (arith, length-word-append (c.type + length c.payload) (code_entries cs))
 
-pub length-array_of : (cs : List Entry)
-    → length (array_of cs) ≡ 4 + 4 * length cs + length (code_payloads cs)
-length-array_of cs =
-    omega (
-      arith,
-      length-word-append (2147483648 + length cs) (code_entries cs ++ code_payloads cs),
-      length-append (code_entries cs) (code_payloads cs),
-      length-code_entries cs,
-    )
-
--- Items that can be stored make an array, and no others do.
-pub FitArray-AreStorable : (xs : List ItemView) → AreStorable xs → length xs < 2 ^ 29 → FitArray xs
-FitArray-AreStorable xs h few =
-    let codes = AreCodes-codes_of xs h in
-    record {
-      codes = codes_of xs;
-      are = codes.0;
-      short = codes.1;
-      few = omega (arith, length-codes_of xs);
-    }
-
+-- Items of which an array can be made can be stored.
 pub AreStorable-FitArray : (xs : List ItemView) → FitArray xs → AreStorable xs
     × (length xs < 2 ^ 29)
 AreStorable-FitArray xs fit =
     let codes = codes_of-AreCodes xs fit.codes fit.are fit.short in
     (codes.1, omega (arith, ap length codes.0, length-codes_of xs, fit.few))
-
--- the array, written part by part
-pub IsArrayOf-parts : (xs : List ItemView) → AreStorable xs → length xs < 2 ^ 29
-    → (n : ℕ) (one two three bytes : List ℕ) → n ≡ length xs → one ≡ word (2147483648 + n)
-    → two ≡ one ++ code_entries (codes_of xs) → three ≡ two ++ code_payloads (codes_of xs)
-    → bytes ≡ three → IsArrayOf xs bytes
-unfolding FitArray-AreStorable
-IsArrayOf-parts xs storable few n one two three bytes count header entries payloads whole = record {
-  fit = FitArray-AreStorable xs storable few;
-  written = cc (
-    length-codes_of xs,
-    append_assoc (word (2147483648 + length (codes_of xs))) (code_entries (codes_of xs))
-        (code_payloads (codes_of xs)),
-  );
-}

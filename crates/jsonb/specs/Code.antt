@@ -3,7 +3,7 @@ use Rattle.std.specs.Prelude.{◌≡◌, ◌≢◌, ◌⊎◌, ◌+◌, ◌<◌,
 use Rattle.std.specs.Prelude.{Option, unwrap_or, ⊤}
 use Rattle.jsonb_value.specs.declared.number.Number.{Number}
 use Rattle.jsonb_value.specs.NumCode.{number_payload}
-use Rattle.jsonb_value.specs.ExtCode.{extension_of, extension_payload}
+use Rattle.jsonb_value.specs.ExtCode.{extension_payload}
 use Rattle.jsonb_value.specs.Tree.{Tree, Extension}
 use Rattle.jsonb_value.specs.Tree as trees
 use Rattle.jsonb_codec.specs.declared.constants.TheConstants.{SCALAR_CONTAINER_TAG, NULL_TAG}
@@ -12,11 +12,7 @@ use Rattle.jsonb_codec.specs.declared.constants.TheConstants.{TRUE_TAG, CONTAINE
 use Rattle.jsonb_codec.specs.declared.constants.TheConstants.{EXTENSION_TAG}
 use Rattle.jsonb_codec.specs.Word.{word}
 use Rattle.jsonb_codec.specs.Doc.{Doc, type_of}
-use Rattle.jsonb.specs.declared.code.Payload.{Payload}
-use Rattle.jsonb.specs.declared.code.Payload.TheVariants as payloads
-use Rattle.jsonb.specs.declared.code.Code.{Code}
 use Rattle.jsonb.specs.ItemView.{ItemView, null, boolean, number, text, extension, raw, owned}
-use Rattle.jsonb.specs.Item.{Entry}
 
 -- The item means the tree. A borrowed or owned document means the tree of its bytes.
 abbrev pub Means : ItemView → Tree → Type 0
@@ -45,16 +41,6 @@ number_bytes given x = unwrap_or given (number_payload x)
 
 abbrev pub extension_bytes : Option (List ℕ) → Extension → List ℕ
 extension_bytes given e = unwrap_or given (extension_payload e)
-
--- the bytes of a payload that is to be stored
-abbrev pub payload_bytes : Payload → List ℕ
-payload_bytes (payloads.Bytes bytes) = bytes.now
-payload_bytes (payloads.Number x) = number_payload x
-payload_bytes (payloads.Extension value) = extension_payload (extension_of value)
-
--- the entry of a code that is to be stored
-abbrev pub code_view : Code → Entry
-code_view code = record { type = code.type_code; payload = payload_bytes code.payload }
 
 -- The item's entry has this type and payload. Bytes of no document have none.
 abbrev pub HasCode : ItemView → ℕ → List ℕ → Type 0

@@ -41,6 +41,13 @@ code_of (extension given e) = record { type = EXTENSION_TAG; payload = extension
 code_of (raw b) = document_code b
 code_of (owned b) = document_code b
 
+-- the same type and payload as a pair
+abbrev pub pair_of : Entry → ℕ × List ℕ
+pair_of entry = (entry.type, entry.payload)
+
+abbrev pub stored_code : ItemView → ℕ × List ℕ
+stored_code x = pair_of (code_of x)
+
 -- The item has an entry: bytes must be a document.
 abbrev pub IsStored : ItemView → Type 0
 IsStored null = ⊤

@@ -1,6 +1,5 @@
 //! Arrays and objects, put together of items.
 
-mod children;
 mod distinct;
 mod write;
 
@@ -20,10 +19,10 @@ ghost use Rattle.jsonb.specs.Results.{AllMean, AllMeanAt, IsArrayUpToZeros, IsOb
 ghost use Rattle.jsonb.specs.Results.{IsArrayOfInputs, IsObjectOfInputs, MakeNoObject, input_pair};
 ghost use Rattle.jsonb.specs.Results.{TakesAll, TakesUpTo};
 
+use crate::code::document_part;
 use crate::item::JsonbItem;
 use crate::owned::OwnedJsonb;
 use crate::raw::RawJsonb;
-use children::{ItemList, PairMap};
 pub use distinct::ArrayDistinctBuilder;
 use jsonb_value::Error;
 use std::alloc::Global;
@@ -105,7 +104,7 @@ impl<'a> ArrayBuilder<'a> {
         ensures memory { result ≡ Err Error.OutOfMemory → FitArray self.entry }
         ensures only { IfErr result (λ e. (e ≡ Error.InvalidJsonb) ⊎ (e ≡ Error.OutOfMemory)) }
     {
-        array_document(*self.items.allocator(), ItemList::Items(&self.items))
+        array_document(*self.items.allocator(), &self.items)
     }
 }
 
@@ -199,7 +198,7 @@ impl<'a> ObjectBuilder<'a> {
         ensures memory { result ≡ Err Error.OutOfMemory → FitObject self.entry }
         ensures only { IfErr result (λ e. (e ≡ Error.InvalidJsonb) ⊎ (e ≡ Error.OutOfMemory)) }
     {
-        object_document(self.alloc, PairMap::Items(&self.pairs))
+        object_document(self.alloc, &self.pairs)
     }
 }
 
@@ -225,9 +224,9 @@ impl OwnedJsonb {
     {
         let mut documents = Vec::new(alloc);
         for input in inputs {
-            documents.push(input)?;
+            documents.push(document_part(input))?;
         }
-        array_document(alloc, ItemList::Raws(&documents))
+        array_document(alloc, &documents)
     }
 
     /// The object of these documents at their keys, keys ascending by their bytes: a scalar stands
@@ -254,13 +253,13 @@ impl OwnedJsonb {
         ensures only { IfErr result (λ e. (e ≡ Error.InvalidJsonb)
             ⊎ ((e ≡ Error.ObjectDuplicateKey) ⊎ (e ≡ Error.OutOfMemory))) }
     {
-        let mut pairs: BTreeMap<&str, RawJsonb> = BTreeMap::new(alloc);
+        let mut pairs = BTreeMap::new(alloc);
         for (key, input) in inputs {
             if pairs.contains_key(key) {
                 return Err(Error::ObjectDuplicateKey);
             }
-            pairs.insert(key, input)?;
+            pairs.insert(key, document_part(input))?;
         }
-        object_document(alloc, PairMap::Raws(&pairs))
+        object_document(alloc, &pairs)
     }
 }

@@ -1,150 +1,66 @@
-//! With what values are stored: the type of an entry, and its payload.
+//! With what items are stored: the type of an entry, and its payload.
 
-ghost use Rattle.std.specs.Prelude.{◌≡◌, ◌≤◌, ◌<◌, ◌+◌, ◌^◌, ◌⊎◌, Err, length, IfOk};
-ghost use Rattle.std.specs.Prelude.{IfErr, OnOk};
-ghost use Rattle.std.specs.Str.{IsUtf8};
-ghost use Rattle.jsonb_codec.specs.Word.{word};
+ghost use Rattle.std.specs.Prelude.{◌≡◌, IsSome};
+ghost use Rattle.jsonb_codec.specs.Code.{code_of};
+ghost use Rattle.jsonb_codec.specs.Stored.{code_of_some};
 ghost use Rattle.jsonb_codec.specs.Doc.{IsDocument};
-ghost use Rattle.jsonb_codec.specs.Room.{HasRoom, AppendsBytes};
 ghost use Rattle.jsonb.specs.ItemView.{item_view};
-ghost use Rattle.jsonb.specs.Storage.{document_code, code_of, IsStored, IsHeld};
-ghost use Rattle.jsonb.specs.Code.{scalar_bytes, payload_bytes, code_view};
+ghost use Rattle.jsonb.specs.Raw.{raw_bytes};
+ghost use Rattle.jsonb.specs.Storage.{stored_code, document_code, pair_of, IsStored, IsHeld};
+ghost use Rattle.jsonb.specs.Children.{IsShown, raw_view};
 
 use crate::item::{JsonbItem, text_of};
-use jsonb_codec::constants::{
-    EXTENSION_TAG, FALSE_TAG, JENTRY_OFF_LEN_MASK, NULL_TAG, NUMBER_TAG, SCALAR_CONTAINER_TAG,
-    STRING_TAG, TRUE_TAG,
-};
-use jsonb_codec::{DocumentBytes, append_bytes, append_extension, append_number, append_word};
-use jsonb_value::{Error, ExtensionValue, Number};
-use std::alloc::Global;
+use crate::raw::RawJsonb;
+use jsonb_codec::constants::{EXTENSION_TAG, FALSE_TAG, NULL_TAG, NUMBER_TAG, TRUE_TAG};
+use jsonb_codec::parts::Part;
+use jsonb_codec::{Code, DocumentBytes, Stored, part_code};
 
-/// A payload: bytes that stand somewhere, or a value that is yet to be written.
-#[derive(Clone, Copy)]
-pub enum Payload<'a> {
-    Bytes(&'a [u8]),
-    Number(Number),
-    Extension(ExtensionValue<'a>),
-}
+/// Items are stored as they were given, if bytes that were given are a document.
+impl<'a> Stored for JsonbItem<'a> {
+    ghost stored = { λ item. IsStored (item_view item) };
 
-impl Payload<'_> {
-    /// How many bytes the payload has.
+    ghost code = { λ item. stored_code (item_view item) };
+
+    ghost held = { λ item. IsHeld (item_view item) };
+
     #[inline(always)]
-    pub fn len(&self) -> usize
-        ensures { result ≡ length (payload_bytes self.now) }
-    {
+    fn is_stored(&self) -> bool {
         match self {
-            Payload::Bytes(bytes) => bytes.len(),
-            Payload::Number(number) => number.compact_len(),
-            Payload::Extension(value) => value.compact_len(),
+            JsonbItem::Raw(raw) => raw.is_document(),
+            JsonbItem::Owned(owned) => owned.as_raw().is_document(),
+            _ => true,
         }
     }
 
-    /// Appends the payload where there is room for it.
     #[inline(always)]
-    pub fn append_to(&self, out: &mut Vec<u8>)
-        requires short { length (payload_bytes self.now) < 2 ^ 28 }
-        requires room { HasRoom out.old (payload_bytes self.now) }
-        ensures { AppendsBytes out.old out.new (payload_bytes self.now) }
-    {
-        match self {
-            Payload::Bytes(bytes) => append_bytes(out, bytes),
-            Payload::Number(number) => append_number(out, *number),
-            Payload::Extension(value) => append_extension(out, *value),
-        }
+    fn code<'s>(&'s self) -> Code<'s> {
+        let (type_code, payload) = match self {
+            JsonbItem::Null => return Code::of_type(NULL_TAG),
+            JsonbItem::Boolean(false) => return Code::of_type(FALSE_TAG),
+            JsonbItem::Boolean(true) => return Code::of_type(TRUE_TAG),
+            JsonbItem::Number(number) => (NUMBER_TAG, number.payload()),
+            JsonbItem::String(text) => return Code::of_text(text_of(text)),
+            JsonbItem::Extension(extension) => (EXTENSION_TAG, extension.payload()),
+            JsonbItem::Raw(raw) => return document_code(raw.as_bytes()),
+            JsonbItem::Owned(owned) => return document_code(owned.as_bytes()),
+        };
+        Code { type_code, payload }
     }
 }
 
-/// With what a value is stored: the type of its entry, and its payload.
-#[derive(Clone, Copy)]
-pub struct Code<'a> {
-    pub type_code: u32,
-    pub payload: Payload<'a>,
-}
-
-impl Code<'_> {
-    /// Appends the entry word where there is room for it.
-    #[inline(always)]
-    pub fn append_entry_to(&self, out: &mut Vec<u8>)
-        requires type_code { self.now.type_code ≤ 0x60000000 }
-        requires short { length (code_view self.now).payload < 2 ^ 28 }
-        requires room { HasRoom out.old
-            (word ((code_view self.now).type + length (code_view self.now).payload)) }
-        ensures { AppendsBytes out.old out.new
-            (word ((code_view self.now).type + length (code_view self.now).payload)) }
-    {
-        append_word(out, self.type_code + self.payload.len() as u32);
-    }
-}
-
-/// The scalar document of an entry of this type and of this payload, measured first and written
-/// into one growth. `InvalidJsonb` where the payload is past its limit.
-#[tactic(auto, unfolding(jsonb_codec::specs::Word::word))]
-pub fn scalar_document(alloc: Global, code: Code) -> Result<Vec<u8>, Error>
-    requires { code.type_code ≤ 0x60000000 }
-    ensures ok { IfOk result
-        (λ v. v.items ≡ scalar_bytes code.entry.type_code (payload_bytes code.entry.payload)) }
-    ensures fits { OnOk result (length (payload_bytes code.entry.payload) < 2 ^ 28) }
-    ensures past { result ≡ Err Error.InvalidJsonb
-        → 2 ^ 28 ≤ length (payload_bytes code.entry.payload) }
-    ensures memory { result ≡ Err Error.OutOfMemory
-        → length (payload_bytes code.entry.payload) < 2 ^ 28 }
-    ensures only { IfErr result (λ e. (e ≡ Error.InvalidJsonb) ⊎ (e ≡ Error.OutOfMemory)) }
-{
-    let length = code.payload.len();
-    if length > JENTRY_OFF_LEN_MASK as usize {
-        return Err(Error::InvalidJsonb);
-    }
-    let mut bytes = Vec::new(alloc);
-    bytes.try_reserve(8 + length)?;
-    append_word(&mut bytes, SCALAR_CONTAINER_TAG);
-    code.append_entry_to(&mut bytes);
-    code.payload.append_to(&mut bytes);
-    Ok(bytes)
-}
-
-/// With what a text is stored.
+// With what a document is stored: a scalar with its entry, an array or object whole.
 #[inline(always)]
-pub fn text_code(text: &str) -> Code
-    ensures type_code { result.type_code ≡ STRING_TAG }
-    ensures payload { (code_view result).payload ≡ text.now }
-    ensures held { IsUtf8 text.now }
-{
-    Code {
-        type_code: STRING_TAG,
-        payload: Payload::Bytes(text.as_bytes()),
-    }
-}
-
-/// With what an item is stored that has an entry: bytes that were given as they were given.
-#[inline(always)]
-pub fn item_code<'s>(item: &'s JsonbItem<'_>) -> Code<'s>
-    requires { IsStored (item_view item.now) }
-    ensures code { code_view result ≡ code_of (item_view item.now) }
-    ensures held { IsHeld (item_view item.now) }
-{
-    let (type_code, payload) = match item {
-        JsonbItem::Null => (NULL_TAG, Payload::Bytes(&[])),
-        JsonbItem::Boolean(false) => (FALSE_TAG, Payload::Bytes(&[])),
-        JsonbItem::Boolean(true) => (TRUE_TAG, Payload::Bytes(&[])),
-        JsonbItem::Number(number) => (NUMBER_TAG, number.payload()),
-        JsonbItem::String(text) => return text_code(text_of(text)),
-        JsonbItem::Extension(extension) => (EXTENSION_TAG, extension.payload()),
-        JsonbItem::Raw(raw) => return document_code(raw.as_bytes()),
-        JsonbItem::Owned(owned) => return document_code(owned.as_bytes()),
-    };
-    Code { type_code, payload }
-}
-
-/// With what a document is stored: a scalar with its entry, an array or object whole.
-#[inline(always)]
-pub fn document_code(bytes: &[u8]) -> Code<'_>
+fn document_code(bytes: &[u8]) -> Code<'_>
     requires { IsDocument bytes.now }
-    ensures { code_view result ≡ document_code bytes.now }
+    ensures { code_of result ≡ pair_of (document_code bytes.now) }
 {
-    let part = DocumentBytes::new_unchecked(bytes).part();
-    Code {
-        type_code: part.tag,
-        payload: Payload::Bytes(part.payload),
-    }
+    part_code(DocumentBytes::new_unchecked(bytes).part())
+}
+
+/// The one part that a document is. None of bytes that are no document.
+#[inline(always)]
+pub fn document_part<'a>(raw: RawJsonb<'a>) -> Option<Part<'a>>
+    ensures { IsShown IsSome code_of_some result (raw_view raw.entry) }
+{
+    Some(DocumentBytes::new(raw.as_bytes())?.part())
 }

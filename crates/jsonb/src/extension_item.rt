@@ -5,7 +5,7 @@ ghost use Rattle.std.specs.Option.{ForSome};
 ghost use Rattle.jsonb_value.specs.ExtCode.{extension_of};
 ghost use Rattle.jsonb.specs.Payloads.{extension_in};
 
-use crate::code::Payload;
+use jsonb_codec::Payload;
 use jsonb_value::{Error, ExtensionValue};
 
 /// An extension value, by value or as its payload's bytes. These are kept as they were given.
@@ -24,7 +24,8 @@ impl<'a> ExtensionItem<'a> {
     ghost use Rattle.jsonb.specs.Payloads.{extension_error};
     ghost use Rattle.jsonb.specs.ItemView.{extension};
     ghost use Rattle.jsonb.specs.Storage.{IsHeld};
-    ghost use Rattle.jsonb.specs.Code.{extension_bytes, payload_bytes};
+    ghost use Rattle.jsonb_codec.specs.Code.{payload_bytes};
+    ghost use Rattle.jsonb.specs.Code.{extension_bytes};
 
     /// The extension value that these bytes mean as a payload, held as these bytes. Else
     /// `InvalidJsonbNumber` for a known first byte, `InvalidJsonbExtension` for another first

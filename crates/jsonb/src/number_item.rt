@@ -4,7 +4,7 @@ ghost use Rattle.std.specs.Prelude.{◌≡◌, Some};
 ghost use Rattle.std.specs.Option.{ForSome};
 ghost use Rattle.jsonb.specs.Payloads.{number_in};
 
-use crate::code::Payload;
+use jsonb_codec::Payload;
 use jsonb_value::{Error, Number};
 
 /// A number, by value or as its payload's bytes. These are kept as they were given.
@@ -22,7 +22,8 @@ impl<'a> NumberItem<'a> {
     ghost use Rattle.jsonb.specs.ItemValues.{number_source, number_of_item};
     ghost use Rattle.jsonb.specs.ItemView.{number};
     ghost use Rattle.jsonb.specs.Storage.{IsHeld};
-    ghost use Rattle.jsonb.specs.Code.{number_bytes, payload_bytes};
+    ghost use Rattle.jsonb_codec.specs.Code.{payload_bytes};
+    ghost use Rattle.jsonb.specs.Code.{number_bytes};
 
     /// The number that these bytes mean as a payload, held as these bytes. `InvalidJsonbNumber`
     /// where they mean none.

@@ -2,17 +2,18 @@
 
 ghost use Rattle.std.specs.Prelude.{◌≡◌, ◌≤◌, ◌<◌, ◌^◌, ◌⊎◌, length, Err, Some, IfOk, IfErr, OnOk};
 ghost use Rattle.jsonb.specs.Owned.{owned_bytes};
-ghost use Rattle.jsonb.specs.Code.{scalar_bytes, code_view};
+ghost use Rattle.jsonb_codec.specs.Code.{code_of};
+ghost use Rattle.jsonb.specs.Code.{scalar_bytes};
 ghost use Rattle.jsonb.specs.Texts.{display_text};
 
-use crate::code::{Code, item_code, scalar_document};
 use crate::document::Document;
 use crate::item::JsonbItem;
 use crate::raw::RawJsonb;
 use crate::text::write_view;
-use jsonb_codec::Encoder;
+use jsonb_codec::{Code, Encoder, Level, Stored, append_document};
 use jsonb_value::{Error, parse_value};
 use std::alloc::Global;
+use std::collections::BTreeMap;
 use std::fmt;
 
 /// The bytes of a document, owned. Any bytes can be given: a call tells what it answers where
@@ -69,7 +70,7 @@ impl OwnedJsonb {
         match item {
             JsonbItem::Raw(raw) => raw.to_owned(alloc),
             JsonbItem::Owned(owned) => Ok(owned),
-            scalar => of_scalar(alloc, item_code(&scalar)),
+            scalar => of_scalar(alloc, scalar.code()),
         }
     }
 
@@ -179,15 +180,16 @@ impl fmt::Display for OwnedJsonb {
 
 // The scalar document of an entry.
 fn of_scalar(alloc: Global, code: Code) -> Result<OwnedJsonb, Error>
-    requires { code.type_code ≤ 0x60000000 }
     ensures ok { IfOk result (λ owned. owned_bytes owned
-        ≡ scalar_bytes (code_view code.entry).type (code_view code.entry).payload) }
-    ensures fits { OnOk result (length (code_view code.entry).payload < 2 ^ 28) }
+        ≡ scalar_bytes (code_of code.entry).0 (code_of code.entry).1) }
+    ensures fits { OnOk result (length (code_of code.entry).1 < 2 ^ 28) }
     ensures past { result ≡ Err Error.InvalidJsonb
-        → 2 ^ 28 ≤ length (code_view code.entry).payload }
+        → 2 ^ 28 ≤ length (code_of code.entry).1 }
     ensures memory { result ≡ Err Error.OutOfMemory
-        → length (code_view code.entry).payload < 2 ^ 28 }
+        → length (code_of code.entry).1 < 2 ^ 28 }
     ensures only { IfErr result (λ e. (e ≡ Error.InvalidJsonb) ⊎ (e ≡ Error.OutOfMemory)) }
 {
-    Ok(OwnedJsonb::new(scalar_document(alloc, code)?))
+    let mut bytes = Vec::new(alloc);
+    append_document::<&BTreeMap<&str, JsonbItem>>(&mut bytes, Level::Leaf(code))?;
+    Ok(OwnedJsonb::new(bytes))
 }

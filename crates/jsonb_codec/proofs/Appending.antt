@@ -2,8 +2,6 @@
 use Rattle.std.proofs.Common.{◌≡◌, ◌≤◌, ℕ, ◌+◌, List, [], ◌++◌, Vec, Global, length, vec_capacity}
 use Rattle.std.proofs.Common.{refl, sym, ap, ◌∙◌, arith, le_trans, length-append, append-nil}
 use Rattle.std.proofs.lemmas.List.{append_assoc}
-use Rattle.jsonb_value.specs.Tree.{Trees, no_trees, tree, Pairs, no_pairs, pair, count, pair_count}
-use Rattle.jsonb_codec.specs.Canon.{payloads_of, value_payloads}
 use Rattle.jsonb_codec.specs.Room.{HasRoom, AppendsBytes}
 
 pub length-Appended : {old new : Vec ℕ Global} {bytes : List ℕ} → AppendsBytes old new bytes
@@ -42,11 +40,3 @@ pub underway_end : {old now : Vec ℕ Global} {all : List ℕ} → Underway old 
     → AppendsBytes old now all
 underway_end {old} {now} u =
     record { items = sym (append-nil now.items) ∙ u.written; capacity = u.capacity }
-
-pub length-payloads_of-none : (ts : Trees) → count ts ≡ 0 → length (payloads_of ts) ≡ 0
-length-payloads_of-none no_trees h = refl
-length-payloads_of-none (tree t ts) h = absurd (omega arith)
-
-pub length-value_payloads-none : (ps : Pairs) → pair_count ps ≡ 0 → length (value_payloads ps) ≡ 0
-length-value_payloads-none no_pairs h = refl
-length-value_payloads-none (pair k t ps) h = absurd (omega arith)

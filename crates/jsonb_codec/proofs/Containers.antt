@@ -28,7 +28,7 @@ count-keys_and : (ps : Pairs) (us : Trees) → count (keys_and ps us) ≡ pair_c
 count-keys_and no_pairs us = omega arith
 count-keys_and (pair k t ps) us = omega (arith, count-keys_and ps us)
 
-count-values_of : (ps : Pairs) → count (values_of ps) ≡ pair_count ps
+pub count-values_of : (ps : Pairs) → count (values_of ps) ≡ pair_count ps
 count-values_of no_pairs = refl
 count-values_of (pair k t ps) = omega (arith, count-values_of ps)
 

@@ -85,9 +85,5 @@ pub length-canon-scalar : (t : Tree) → (type_of t ≡ 1342177280 → ⊥)
     → length (canon t) ≡ 8 + length (payload_of t)
 length-canon-scalar t other = grind (arith, canon-scalar, length-word-append)
 
--- A scalar fits where its entry does, a container where what is inside it does.
-pub Fits-scalar : (t : Tree) → FitsEntry t → Fits t
-Fits-scalar t h = record { inside = h.inside; short = λ other. h.short }
-
 pub FitsEntry-scalar : (t : Tree) → (type_of t ≡ 1342177280 → ⊥) → Fits t → FitsEntry t
 FitsEntry-scalar t other h = record { inside = h.inside; short = h.short other }

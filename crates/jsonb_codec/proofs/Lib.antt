@@ -1,6 +1,13 @@
 pub mod Appending
 pub mod Standing
 pub mod Words
+pub mod Shapes
+pub mod ShapeWriting
+pub mod TreeShapes
+pub mod PartLaws
+pub mod ValueShapes
+pub mod Encoding
+pub mod StoredLaws
 pub mod Entries
 pub mod Containers
 pub mod Unique

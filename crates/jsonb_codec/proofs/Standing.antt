@@ -1,17 +1,11 @@
 -- Words that stand in bytes, and what is read there.
-use Rattle.std.proofs.Common.{◌≡◌, ℕ, ◌+◌, ◌-◌, ◌%◌, ◌^◌, ◌<◌, ◌≤◌, List, ◌++◌, Vec, Global, Ok}
+use Rattle.std.proofs.Common.{◌≡◌, ℕ, ◌+◌, ◌^◌, ◌<◌, ◌≤◌, List, ◌++◌, Vec, Global, Ok}
 use Rattle.std.proofs.Common.{length, rules, take, drop, ap, ◌∙◌, arith, length-append}
 use Rattle.std.proofs.Common.{append_assoc}
 use Rattle.std.specs.Int.{w32, from_be_bytes}
 use Rattle.std.proofs.lemmas.List.{drop_at, take_at, append-nil}
-use Rattle.jsonb_value.specs.Tree.{Tree}
 use Rattle.jsonb_codec.specs.Word.{word, word_at}
-use Rattle.jsonb_codec.specs.Doc.{type_of}
-use Rattle.jsonb_codec.specs.Canon.{payload_of}
-use Rattle.jsonb_codec.specs.Room.{AppendsBytes, Stands, CanWriteDocument, CanEnter}
-use Rattle.jsonb_codec.proofs.Appending.{length-Appended}
-use Rattle.jsonb_codec.proofs.Entries.{IsType-type_of}
-use Rattle.jsonb_codec.proofs.Lengths.{length-canon-scalar, FitsEntry-scalar}
+use Rattle.jsonb_codec.specs.Room.{AppendsBytes, Stands}
 use Rattle.jsonb_codec.proofs.Words.{length-word, length-word-append, word-value}
 
 -- what was appended stands from the old end on
@@ -49,27 +43,6 @@ Stands-first at words others bytes s = record {
   is_at = s.is_at;
 }
 
--- Behind a scalar's header its entry word can be written.
-pub CanEnter-scalar : {out headed : Vec ℕ Global} {t : Tree} {size : ℕ}
-    → CanWriteDocument out t size
-    → (type_of t ≡ 1342177280 → ⊥) → AppendsBytes out headed (word 536870912)
-    → CanEnter headed t (size - 8)
-CanEnter-scalar {t = t} can other header =
-    let long = length-canon-scalar t other in
-    record {
-      fits = FitsEntry-scalar t other can.fits;
-      len = omega (arith, can.len, long);
-      room = omega (
-        arith,
-        can.room,
-        long,
-        length-Appended header,
-        header.capacity,
-        length-word 536870912,
-        length-word (type_of t + length (payload_of t)),
-      );
-    }
-
 -- A word is inside,
 Stands-within : (at k : ℕ) (bytes : List ℕ) → Stands at (word k) bytes → at + 4 ≤ length bytes
 Stands-within at k bytes s = omega (
@@ -96,10 +69,3 @@ pub Stands-word : (at k : ℕ) (bytes : List ℕ) → k < 2 ^ 32 → Stands at (
     → word_at bytes at ≡ Ok k
 Stands-word at k bytes small s =
     word_at-inside bytes at (Stands-within at k bytes s) ∙ ap Ok (Stands-read at k bytes small s)
-
--- An entry word is one of 32 bits, of which the lower 28 are the length.
-pub entry_small : (t : Tree) (n : ℕ) → n < 2 ^ 28 → type_of t + n < 2 ^ 32
-entry_small t n short = omega (arith, short, (IsType-type_of t).room)
-
-pub entry_length : (t : Tree) (n : ℕ) → n < 2 ^ 28 → (type_of t + n) % 2 ^ 28 ≡ n
-entry_length t n short = omega (arith, short, (IsType-type_of t).high)

@@ -6,9 +6,11 @@ use Rattle.jsonb_value.specs.Tree.{Trees, no_trees, tree, Pairs, no_pairs, pair,
 use Rattle.jsonb_value.proofs.Codes.{NumCode-unique}
 use Rattle.jsonb_value.proofs.ExtCodes.{ExtCode-unique}
 use Rattle.jsonb_codec.specs.Doc.{type_of, Children, Payload, Scalar, Doc}
+use Rattle.jsonb_codec.specs.Parts.{ArePairsOf}
 use Rattle.jsonb_codec.proofs.Words.{same_parts, same_beginning, words_begin}
 use Rattle.jsonb_codec.proofs.Entries.{same_entry, IsType-type_of, same_front, length-One-payloads}
-use Rattle.jsonb_codec.proofs.Entries.{length-Children, not_ended, keys_and, values_of}
+use Rattle.jsonb_codec.proofs.Entries.{length-Children, length-Keys, not_ended, keys_and, values_of}
+use Rattle.jsonb_codec.proofs.Entries.{Keys-children, Values-children}
 use Rattle.jsonb_codec.proofs.Containers.{count-members, members, kind_of, count_of, two_kinds}
 use Rattle.jsonb_codec.proofs.Containers.{container, header_small}
 
@@ -112,6 +114,22 @@ mutual
       same_more t u (values_of ps) (values_of qs) (same_tree t u) (same_values ps qs)
   same_values no_pairs (pair l u qs) = λ e p q c h k. absurd (not_ended h k)
   same_values (pair k t ps) no_pairs = λ e p q c h k. absurd (not_ended k h)
+
+-- The same bytes are the same children,
+pub Children-unique : {ts us : Trees} (e p : List ℕ) → Children ts e p → Children us e p → ts ≡ us
+Children-unique {ts} {us} e p h k = (same_trees ts us e p p [] h k (sym (append-nil p))).0
+
+-- and the same pairs.
+pub pairs_unique : (ps qs : Pairs) (ke kp ve vp : List ℕ) → ArePairsOf ps ke kp ve vp
+    → ArePairsOf qs ke kp ve vp → ps ≡ qs
+pairs_unique ps qs ke kp ve vp h k =
+    let many : pair_count ps ≡ pair_count qs =
+    omega (arith, length-Keys ps ke kp h.1.0, length-Keys qs ke kp k.1.0) in
+    let keys = Children-unique ke kp (subst (λ R. R ke kp) (Keys-children ps) h.1.0)
+    (subst (λ R. R ke kp) (Keys-children qs) k.1.0) in
+    let values = Children-unique ve vp (subst (λ R. R ve vp) (Values-children ps) h.1.1)
+    (subst (λ R. R ve vp) (Values-children qs) k.1.1) in
+    (same_keys ps qs no_trees no_trees many keys).1 values
 
 -- the entry words of children fix how long their payloads are together
 pub length_payloads : (ts us : Trees) (e p q : List ℕ) → Children ts e p → Children us e q

@@ -1,5 +1,5 @@
 -- What the parts of a document mean.
-use Rattle.std.specs.Prelude.{◌≡◌, ◌<◌, ℕ, List, length}
+use Rattle.std.specs.Prelude.{◌≡◌, ◌<◌, ◌+◌, ℕ, List, length}
 use Rattle.jsonb_value.specs.Tree.{Tree, array, object, Trees, Pairs, pair}
 use Rattle.jsonb_codec.specs.declared.parts.Part.{Part}
 use Rattle.jsonb_codec.specs.declared.parts.Children as declared
@@ -28,10 +28,11 @@ abbrev pub AreContents : Contents → Tree → Type 0
 AreContents (contents.Array items) t = (ts : Trees) × ((t ≡ array ts) × AreChildren ts items)
 AreContents (contents.Object members) t = (ps : Pairs) × ((t ≡ object ps) × AreMembers ps members)
 
--- Their payloads take fewer than so many bytes.
+-- Their entry words and payloads take fewer than so many bytes: of an object those of its values.
 abbrev pub AreInside : ℕ → Contents → Type 0
-AreInside n (contents.Array items) = length items.payloads.now < n
-AreInside n (contents.Object members) = length members.values.payloads.now < n
+AreInside n (contents.Array items) = length items.entries.now + length items.payloads.now < n
+AreInside n (contents.Object members) =
+    length members.values.entries.now + length members.values.payloads.now < n
 
 -- The first of these pairs has that key, and its value that type and payload; the others are those
 -- members.

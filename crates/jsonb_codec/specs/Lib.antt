@@ -12,6 +12,13 @@ pub mod Contents
 pub mod Reread
 pub mod Depth
 pub mod Payloads
-pub mod Node
 pub mod Room
+pub mod Code
+pub mod Shape
+pub mod Source
+pub mod Writing
+pub mod TreeShape
+pub mod PartSource
+pub mod ValueSource
+pub mod Stored
 pub mod Encoder

@@ -1,5 +1,5 @@
 -- The parts of a document, taken one by one to be written anew.
-use Rattle.std.specs.Prelude.{◌≡◌, ◌↔◌, ◌+◌, ℕ, List, ◌++◌, length}
+use Rattle.std.specs.Prelude.{◌≡◌, ◌↔◌, ℕ, List, ◌++◌}
 use Rattle.jsonb_value.specs.Tree.{Tree, Trees, tree}
 use Rattle.jsonb_codec.specs.Word.{word}
 use Rattle.jsonb_codec.specs.Doc.{Children}
@@ -22,11 +22,3 @@ pub record Opened (t : Tree) (header : ℕ) (entries payloads : List ℕ) : Type
   pub are : Children children entries payloads
   pub fit : AllFit children ↔ FitsInside t
   pub written : payload_of t ≡ word header ++ (entries_of children ++ payloads_of children)
-
--- Of a length the tree's payload takes what the children in these entry words and payloads leave,
--- and those fit.
-pub record LeavesTo (t : Tree) (left : ℕ) (entries payloads : List ℕ) : Type 0 where
-  pub behind : Trees
-  pub are : Children behind entries payloads
-  pub fit : AllFit behind
-  pub both : left ≡ length (payload_of t) + length (payloads_of behind)

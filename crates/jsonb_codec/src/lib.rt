@@ -10,6 +10,7 @@ pub mod parts;
 mod reread;
 mod ser;
 mod word;
+mod writer;
 
 pub use canonical::{
     append_canonical, append_canonical_document, is_canonical, is_canonical_document,
@@ -18,6 +19,9 @@ pub use de::{Decoder, value_of, value_of_document};
 pub use document::{DocumentBytes, document_laws, document_text, is_document, is_document_within};
 pub use jentry::JEntry;
 pub use reread::printed_text_laws;
-pub use ser::append::{append_bytes, append_extension, append_number, append_word};
 pub use ser::{Encoder, JsonAstEncoder};
 pub use word::{decode_header, read_header, read_jentry, read_word};
+pub use writer::append::append_document;
+pub use writer::code::{Code, Payload};
+pub use writer::source::Level;
+pub use writer::stored::{Stored, part_code};

@@ -217,7 +217,8 @@ impl<'a> Members<'a> {
     fn of_object(count: usize, body: &'a [u8]) -> Self
         requires { (ps : Pairs) × IsObject count body.now ps }
         ensures members { (ps : Pairs) → IsObject count body.entry.now ps → AreMembers ps result }
-        ensures inside { length result.values.payloads.now ≤ length body.entry.now }
+        ensures inside { length result.values.entries.now + length result.values.payloads.now
+            ≤ length body.entry.now }
     {
         let (key_entries, behind) = body.split_at(4 * count);
         let (value_entries, payloads) = behind.split_at(4 * count);
@@ -241,6 +242,8 @@ impl<'a> Members<'a> {
             → FirstMember ps m.key.now m.value.tag m.value.payload.now m.behind) }
         ensures values_len { IfSome result (λ m. length self.entry.values.payloads.now
             ≡ length m.value.payload.now + length m.behind.values.payloads.now) }
+        ensures entries_len { IfSome result (λ m. length self.entry.values.entries.now
+            ≡ 4 + length m.behind.values.entries.now) }
         ensures keys_len { IfSome result (λ m. length self.entry.keys.entries.now
             ≡ 4 + length m.behind.keys.entries.now) }
         ensures none { IfNone result ((ps : Pairs) → AreMembers ps self.entry → ps ≡ no_pairs) }

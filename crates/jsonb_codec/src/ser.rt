@@ -1,9 +1,7 @@
 //! Values, written as documents.
 
-pub mod append;
-pub mod measure;
-mod node;
-mod within;
+pub mod ast;
+pub mod value;
 
 ghost use Rattle.std.specs.Prelude.{◌≡◌, ◌≤◌, ◌+◌, ◌++◌, ◌↔◌, ◌⊎◌, length, vec_capacity, Err, IsOk};
 ghost use Rattle.std.specs.Prelude.{IfOk, IfErr, OnOk, OnErr};
@@ -14,12 +12,12 @@ ghost use Rattle.jsonb_value.specs.Norm.{norm};
 ghost use Rattle.jsonb_value.specs.WellFormed.{IsTree};
 ghost use Rattle.jsonb_codec.specs.Doc.{Doc};
 ghost use Rattle.jsonb_codec.specs.Canon.{canon, Fits};
-ghost use Rattle.jsonb_codec.specs.Node.{node_tree, NodeAscends};
 
-use append::append_document;
+use crate::writer::append::append_document;
+use crate::writer::measure::measure_document;
+use ast::ast_level;
 use jsonb_value::{Error, JsonAst, Value};
-use measure::measure_document;
-use node::Node;
+use value::value_level;
 
 /// Appends values to a buffer, each as its canonical document.
 #[derive(Drop)]
@@ -46,7 +44,7 @@ impl<'a> Encoder<'a> {
         ensures only { IfErr result (λ e. e ≡ Error.InvalidJsonb) }
         ensures tree { OnOk result (IsTree (tree_of value.now)) }
     {
-        measure_document(Node::of_value(value))
+        measure_document::<&Value>(value_level(value))
     }
 
     /// Appends the value's canonical document in one growth. `InvalidJsonb` where a payload, a key
@@ -76,7 +74,7 @@ impl<'a> Encoder<'a> {
         ensures told_apart { (t u : Tree) → IsTree t → IsTree u → Fits t → Fits u
             → (canon t ≡ canon u) ↔ (norm t ≡ norm u) }
     {
-        encode_node(self.buf, Node::of_value(value))
+        append_document::<&Value>(self.buf, value_level(value))
     }
 }
 
@@ -106,7 +104,7 @@ impl<'a> JsonAstEncoder<'a> {
         ensures only { IfErr result (λ e. e ≡ Error.InvalidJsonb) }
         ensures tree { OnOk result (IsTree (ast_tree value.now)) }
     {
-        measure_document(Node::of_ast(value))
+        measure_document::<&JsonAst>(ast_level(value))
     }
 
     /// Appends the value's canonical document in one growth. Its keys must ascend
@@ -139,26 +137,6 @@ impl<'a> JsonAstEncoder<'a> {
         ensures told_apart { (t u : Tree) → IsTree t → IsTree u → Fits t → Fits u
             → (canon t ≡ canon u) ↔ (norm t ≡ norm u) }
     {
-        encode_node(self.buf, Node::of_ast(value))
+        append_document::<&JsonAst>(self.buf, ast_level(value))
     }
-}
-
-// Measures, makes room once, and appends.
-fn encode_node(buf: &mut Vec<u8>, node: Node<'_, '_>) -> Result<(), Error>
-    ensures appended { OnOk result
-        (buf.new.items ≡ buf.old.items ++ canon (node_tree node.entry)) }
-    ensures err { OnErr result (buf.new.items ≡ buf.old.items) }
-    ensures fits { OnOk result (Fits (node_tree node.entry)) }
-    ensures past { (result ≡ Err Error.InvalidJsonb) ↔ (Fits (node_tree node.entry) → ⊥) }
-    ensures memory { result ≡ Err Error.OutOfMemory → Fits (node_tree node.entry) }
-    ensures only { IfErr result (λ e. (e ≡ Error.InvalidJsonb) ⊎ (e ≡ Error.OutOfMemory)) }
-    ensures room { Fits (node_tree node.entry)
-        → length buf.old.items + length (canon (node_tree node.entry)) ≤ vec_capacity buf.old
-        → IsOk result }
-    ensures tree { NodeAscends node.entry → OnOk result (IsTree (node_tree node.entry)) }
-{
-    let size = measure_document(node)?;
-    buf.try_reserve(size)?;
-    append_document(buf, node, size);
-    Ok(())
 }

@@ -13,7 +13,6 @@ ghost use Rattle.jsonb.specs.Results.{AllMean, IsArrayUpToZeros};
 ghost use Rattle.jsonb.specs.Tally.{Tally, has_equal, count_at, SetsCount, Lists, count_of};
 ghost use Rattle.jsonb.specs.Tally.{list_with, CountsOneMore, CountsOneLess};
 
-use super::children::ItemList;
 use super::write::array_document;
 use crate::item::JsonbItem;
 use crate::owned::OwnedJsonb;
@@ -132,7 +131,7 @@ impl<'a> ArrayDistinctBuilder<'a> {
         ensures memory { result ≡ Err Error.OutOfMemory → FitArray self.entry.list }
         ensures only { IfErr result (λ e. (e ≡ Error.InvalidJsonb) ⊎ (e ≡ Error.OutOfMemory)) }
     {
-        array_document(*self.list.allocator(), ItemList::Items(&self.list))
+        array_document(*self.list.allocator(), &self.list)
     }
 }
 

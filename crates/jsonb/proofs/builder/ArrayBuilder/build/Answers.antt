@@ -1,11 +1,19 @@
-use Rattle.std.proofs.Common.{rules}
-use Rattle.std.proofs.lemmas.Result.{IfOk-weaker}
+use Rattle.std.proofs.Common.{◌≡◌, Err, rules}
+use Rattle.std.proofs.lemmas.Result.{IfOk-weaker, on_ok_weaker}
+use Rattle.jsonb_value.specs.declared.error.Error.TheVariants.{InvalidJsonb}
 use Rattle.jsonb.specs.Owned.{owned_bytes}
 use Rattle.jsonb.specs.Storage.{AreHeld}
-use Rattle.jsonb.specs.Building.{IsArrayOf}
+use Rattle.jsonb.specs.Building.{FitArray, IsArrayOf}
 use Rattle.jsonb.proofs.ResultObjects.{both_ok}
 use Rattle.jsonb.proofs.ResultMeanings.{IsArrayUpToZeros-IsArrayOf}
+use Rattle.jsonb.proofs.ShownLaws.{items_shown, items_held}
 use Rattle.jsonb.proofs.builder.ArrayBuilder.build.Goals as goal
+
+pub returns-clause-ok : goal.returns-clause-ok
+returns-clause-ok c =
+    IfOk-weaker c.array_document.result _ _
+    (λ owned h. h _ (rw (← c.self.view_is, c.deref.ensures.value) (items_shown _)))
+    c.array_document.ensures.ok
 
 pub returns-clause-means : goal.returns-clause-means
 returns-clause-means c =
@@ -13,5 +21,22 @@ returns-clause-means c =
     IfOk-weaker made.result _ _
     (λ owned h. IsArrayUpToZeros-IsArrayOf c.args.self (owned_bytes owned) h.0 h.1)
     (both_ok made.result
-    (λ owned. IsArrayOf c.args.self (owned_bytes owned)) (AreHeld c.args.self) (search rules)
-    (search rules))
+    (λ owned. IsArrayOf c.args.self (owned_bytes owned)) (AreHeld c.args.self)
+    (returns-clause-ok c)
+    (on_ok_weaker made.result
+        (λ h. rw (← c.self.view_is) (items_held _ (rw c.deref.ensures.value at h)))
+        made.ensures.held))
+
+pub returns-clause-memory : goal.returns-clause-memory
+returns-clause-memory c =
+    λ e. c.array_document.ensures.memory e _
+    (rw (← c.self.view_is, c.deref.ensures.value) (items_shown _))
+
+pub returns-clause-past : goal.returns-clause-past
+returns-clause-past c =
+    let made = returns-clause-ok c in
+    let memory = returns-clause-memory c in
+    let past : c.array_document.result ≡ Err InvalidJsonb → FitArray c.args.self → ⊥ =
+    λ e. c.array_document.ensures.past e _
+    (rw (← c.self.view_is, c.deref.ensures.value) (items_shown _)) in
+    search rules

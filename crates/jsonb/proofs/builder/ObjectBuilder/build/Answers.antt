@@ -1,12 +1,26 @@
-use Rattle.std.proofs.Common.{rules}
-use Rattle.std.proofs.lemmas.Result.{IfOk-weaker}
+use Rattle.std.proofs.Common.{◌≡◌, Err, rules}
+use Rattle.std.proofs.lemmas.Result.{IfOk-weaker, on_ok_weaker}
 use Rattle.std.specs.Map.{keys_of, values_of}
+use Rattle.jsonb_value.specs.declared.error.Error.TheVariants.{InvalidJsonb}
 use Rattle.jsonb.specs.Owned.{owned_bytes}
+use Rattle.jsonb.specs.ItemView.{item_view}
 use Rattle.jsonb.specs.Storage.{AreHeld}
-use Rattle.jsonb.specs.Building.{AreKeys, IsObjectOf}
+use Rattle.jsonb.specs.Building.{AreKeys, FitObject, IsObjectOf}
 use Rattle.jsonb.proofs.ResultObjects.{both_ok}
 use Rattle.jsonb.proofs.ResultMeanings.{IsObjectUpToZeros-IsObjectOf}
+use Rattle.jsonb.proofs.ShownLaws.{pairs_shown, pairs_held, keys_shown}
 use Rattle.jsonb.proofs.builder.ObjectBuilder.build.Goals as goal
+
+pub returns-clause-ok : goal.returns-clause-ok
+returns-clause-ok c =
+    IfOk-weaker c.object_document.result _ _
+    (λ owned h. h _ (rw (← c.self.view_is) (pairs_shown _))) c.object_document.ensures.ok
+
+pub returns-clause-keys : goal.returns-clause-keys
+returns-clause-keys c =
+    on_ok_weaker c.object_document.result
+    (λ h. rw (← c.self.view_is, ← keys_shown item_view c.self.inside.pairs.entries) h)
+    c.object_document.ensures.keys
 
 pub returns-clause-means : goal.returns-clause-means
 returns-clause-means c =
@@ -18,4 +32,17 @@ returns-clause-means c =
     (AreHeld (values_of c.args.self))
     (both_ok made.result
     (λ owned. IsObjectOf c.args.self (owned_bytes owned)) (AreKeys (keys_of c.args.self))
-    (search rules) (search rules)) (search rules))
+    (returns-clause-ok c) (returns-clause-keys c))
+    (on_ok_weaker made.result (λ h. rw (← c.self.view_is) (pairs_held _ h)) made.ensures.held))
+
+pub returns-clause-memory : goal.returns-clause-memory
+returns-clause-memory c =
+    λ e. c.object_document.ensures.memory e _ (rw (← c.self.view_is) (pairs_shown _))
+
+pub returns-clause-past : goal.returns-clause-past
+returns-clause-past c =
+    let made = returns-clause-ok c in
+    let memory = returns-clause-memory c in
+    let past : c.object_document.result ≡ Err InvalidJsonb → FitObject c.args.self → ⊥ =
+    λ e. c.object_document.ensures.past e _ (rw (← c.self.view_is) (pairs_shown _)) in
+    search rules

@@ -1,5 +1,8 @@
-use Rattle.std.proofs.Common.{◌≡◌}
+use Rattle.std.proofs.Common.{map}
+use Rattle.std.specs.Prelude.{IsSome}
+use Rattle.jsonb_codec.specs.Stored.{code_of_some}
+use Rattle.jsonb.specs.Children.{AreShown, raw_view}
 use Rattle.jsonb.proofs.owned.OwnedJsonb.build_array.Given as goal
 
 abbrev pub invariant-loop-input : goal.invariant-loop-input
-invariant-loop-input g l = l.documents.items ≡ l.yielded
+invariant-loop-input g l = AreShown IsSome code_of_some l.documents.items (map raw_view l.yielded)

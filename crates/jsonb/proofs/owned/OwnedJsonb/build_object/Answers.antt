@@ -1,46 +1,52 @@
-use Rattle.std.proofs.Common.{◌≡◌, ◌∙◌, sym, ℕ, List, Bor, map, IsTrue, true, false}
+use Rattle.std.proofs.Common.{◌≡◌, ◌∙◌, sym, refl, ℕ, List, Bor, map, IsTrue, true, false}
 use Rattle.std.proofs.Common.{rules}
 use Rattle.std.specs.List.{IsDistinct}
+use Rattle.std.specs.Prelude.{IsSome}
 use Rattle.std.proofs.lemmas.Result.{IfOk-weaker}
-use Rattle.std.specs.Map.{keys_of}
+use Rattle.jsonb_codec.specs.Stored.{code_of_some}
 use Rattle.jsonb.specs.declared.raw.RawJsonb.{RawJsonb}
-use Rattle.jsonb.specs.Owned.{owned_bytes}
-use Rattle.jsonb.specs.Building.{has_key, AreKeys, IsObjectOf}
-use Rattle.jsonb.specs.Children.{pairs_by, raw_view}
-use Rattle.jsonb.specs.Results.{input_pair}
+use Rattle.jsonb.specs.Building.{has_key, in_order, AreKeys}
+use Rattle.jsonb.specs.Children.{key_bytes}
+use Rattle.jsonb.specs.Results.{input_pair, raw_pairs}
 use Rattle.jsonb.proofs.InputLaws.{key_there, one_more, still_distinct}
-use Rattle.jsonb.proofs.ObjectLaws.{has_key-entries, with_pair-entries}
 use Rattle.jsonb.proofs.ResultObjects.{both_ok, IsObjectOfInputs-IsObjectOf}
+use Rattle.jsonb.proofs.ShownLaws.{shown_insert, has_key-shown, at_keys}
 use Rattle.jsonb.proofs.owned.OwnedJsonb.build_object.Goals as goal
 
 pub loop-key-init : goal.loop-key-init
 unfolding IsDistinct
-loop-key-init g c = record { built = search rules; distinct = tt }
+loop-key-init g c = record { shown = search rules; distinct = tt }
 
 pub loop-key-preserved : goal.loop-key-preserved
 loop-key-preserved g c =
     let walk = c.loop-key in
-    let before = pairs_by raw_view walk.pairs.entries in
+    let before = raw_pairs (in_order (map input_pair walk.yielded)) in
     let x : Bor (List ℕ) × RawJsonb = (c.in-Some.key, c.in-Some.input) in
-    let new : has_key before c.in-Some.key.now ≡ false =
-    search (rules, has_key-entries raw_view walk.pairs.entries c.in-Some.key.now) in
+    let new : has_key before c.in-Some.key.now ≡ false = search (
+      rules,
+      has_key-shown IsSome code_of_some walk.pairs.entries before walk.invariant.shown
+          c.in-Some.key.now,
+    ) in
+    let more = one_more before walk.yielded refl _ x refl in
     record {
-      built =
-          one_more before walk.yielded walk.invariant.built
-          (pairs_by raw_view c.insert.new.self.entries) x
-          (search (rules, with_pair-entries raw_view walk.pairs.entries x.0 x.1));
-      distinct =
-          still_distinct before walk.yielded walk.invariant.built x new walk.invariant.distinct;
+      shown =
+          rw (← more, c.in_ok-insert.ensures.entries) (shown_insert IsSome code_of_some
+          walk.pairs.entries before walk.invariant.shown c.in-Some.key _ _
+          c.document_part.ensures);
+      distinct = still_distinct before walk.yielded refl x new walk.invariant.distinct;
     }
 
 pub returns-then-contains_key-clause-duplicate : goal.returns-then-contains_key-clause-duplicate
 returns-then-contains_key-clause-duplicate g c = λ e.
     let walk = c.loop-key in
-    let before = pairs_by raw_view walk.pairs.entries in
-    let found : has_key before c.in-Some.key.now ≡ true =
-    search (rules, has_key-entries raw_view walk.pairs.entries c.in-Some.key.now) in
+    let before = raw_pairs (in_order (map input_pair walk.yielded)) in
+    let found : has_key before c.in-Some.key.now ≡ true = search (
+      rules,
+      has_key-shown IsSome code_of_some walk.pairs.entries before walk.invariant.shown
+          c.in-Some.key.now,
+    ) in
     let there : IsTrue (has_key (map input_pair walk.yielded) c.in-Some.key.now) =
-    sym (key_there before walk.yielded walk.invariant.built c.in-Some.key.now) ∙ found in (
+    sym (key_there before walk.yielded refl c.in-Some.key.now) ∙ found in (
       c.into_iter-key-iterator.result,
       (
         walk.yielded,
@@ -57,10 +63,31 @@ returns-then-contains_key-clause-duplicate g c = λ e.
       ),
     )
 
+pub returns-clause-past : goal.returns-clause-past
+returns-clause-past g c = λ e.
+    let walk = c.loop-key in (
+      c.into_iter-key-iterator.result,
+      (
+        walk.yielded,
+        (
+          c.into_iter-key-iterator.ensures.into_iter_gives,
+          (
+            (c.next.new.self, (walk.key-iterator, walk.yielded_by, c.in-None.ensures.steps)),
+            record {
+              distinct = walk.invariant.distinct;
+              none = c.object_document.ensures.past e _ walk.invariant.shown;
+            },
+          ),
+        ),
+      ),
+    )
+
 pub returns-clause-ok : goal.returns-clause-ok
 returns-clause-ok g c =
     let walk = c.loop-key in
-    let built = pairs_by raw_view walk.pairs.entries in
+    let built = raw_pairs (in_order (map input_pair walk.yielded)) in
+    let keys =
+    (at_keys IsSome code_of_some walk.pairs.entries built walk.invariant.shown).0 in
     IfOk-weaker c.object_document.result _ _
     (λ owned h. (
       c.into_iter-key-iterator.result,
@@ -71,11 +98,10 @@ returns-clause-ok g c =
           (
             (c.next.new.self, (walk.key-iterator, walk.yielded_by, c.in-None.ensures.steps)),
             IsObjectOfInputs-IsObjectOf
-                (map input_pair walk.yielded) built _ walk.invariant.built
-                walk.invariant.distinct h.0 h.1,
+                (map input_pair walk.yielded) built _ refl walk.invariant.distinct
+                (h.0 _ walk.invariant.shown) (rw (← keys) h.1),
           ),
         ),
       ),
-    )) (both_ok c.object_document.result
-    (λ owned. IsObjectOf built (owned_bytes owned))
-    (AreKeys (keys_of built)) c.object_document.ensures.ok c.object_document.ensures.keys)
+    )) (both_ok c.object_document.result _ (AreKeys (key_bytes walk.pairs.entries))
+    c.object_document.ensures.ok c.object_document.ensures.keys)

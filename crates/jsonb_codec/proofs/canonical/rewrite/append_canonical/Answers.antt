@@ -1,5 +1,5 @@
 use Rattle.std.proofs.Common.{arith}
-use Rattle.jsonb_codec.proofs.Rewriting.{on_ok}
+use Rattle.std.proofs.lemmas.Result.{on_ok_weaker}
 use Rattle.jsonb_codec.proofs.WellFormed.{IsTree-Doc}
 use Rattle.jsonb_codec.proofs.canonical.rewrite.append_canonical.Goals as goal
 
@@ -10,8 +10,9 @@ returns-clause-appended c =
     rw c.in-Some.ensures.bytes at c.append_canonical_document.ensures.appended
 
 pub returns-clause-tree : goal.returns-clause-tree
-returns-clause-tree c = on_ok c.append_canonical_document.result _
-    (λ t h. IsTree-Doc c.args.bytes.now t (λ i. omega (arith, c.type_inv.bytes i)) h)
+returns-clause-tree c = on_ok_weaker c.append_canonical_document.result
+    (λ _ t h. IsTree-Doc c.args.bytes.now t (λ i. omega (arith, c.type_inv.bytes i)) h)
+    c.append_canonical_document.ensures.appended
 
 pub returns-clause-past : goal.returns-clause-past
 returns-clause-past c = rw c.in-Some.ensures.bytes at c.append_canonical_document.ensures.past

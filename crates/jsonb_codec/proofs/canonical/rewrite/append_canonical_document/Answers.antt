@@ -1,40 +1,45 @@
-use Rattle.std.proofs.Common.{arith}
+use Rattle.std.proofs.Common.{subst}
+use Rattle.std.proofs.lemmas.Result.{on_ok_weaker}
+use Rattle.jsonb_codec.specs.Code.{code_of}
+use Rattle.jsonb_codec.specs.Shape.{Fits}
+use Rattle.jsonb_codec.specs.TreeShape.{shape_of}
 use Rattle.jsonb_codec.proofs.Decision.{known_document}
-use Rattle.jsonb_codec.proofs.Rewriting.{no_fault}
+use Rattle.jsonb_codec.specs.PartSource.{part_laws}
+use Rattle.jsonb_codec.proofs.Shapes.{Is-one}
+use Rattle.jsonb_codec.proofs.TreeShapes.{document-shape_of, Fits-shape_of}
 use Rattle.jsonb_codec.proofs.canonical.rewrite.append_canonical_document.Goals as goal
+
+-- What is said of the part's shape is said of the tree that the document means.
 
 pub append_document-requires : goal.append_document-requires
 append_document-requires c =
     let (t, h) = known_document _ c.args.document.fact in
-    let part = c.part-whole.ensures.means t h in
-    let told = c.in-Some.ensures.some t part in
-    let fit = c.in_ok-try_reserve.ensures.ok in
-    (t, (part, record { fits = told.0; len = told.1; room = omega (arith, told.1, fit) }))
-
-pub returns-in_err-try_reserve-clause-memory : goal.returns-in_err-try_reserve-clause-memory
-returns-in_err-try_reserve-clause-memory c _ =
-    let (t, h) = known_document _ c.args.document.fact in
-    (t, (h, (c.in-Some.ensures.some t (c.part-whole.ensures.means t h)).0))
+    (shape_of t, c.part_level.ensures.is t (c.part.ensures.means t h))
 
 pub returns-clause-appended : goal.returns-clause-appended
-returns-clause-appended c t h =
-    let part = c.part-whole.ensures.means t h in (
-      (c.in-Some.ensures.some t part).0,
-      rw (← c.try_reserve.ensures.items) (c.append_document.ensures t part).items,
-    )
+returns-clause-appended c = on_ok_weaker c.append_document.result (λ known t h.
+    let (fit, items) = known (shape_of t) (c.part_level.ensures.is t (c.part.ensures.means t h)) in
+    ((Fits-shape_of t).0 fit, rw (← document-shape_of t) items))
+    c.append_document.ensures.appended
 
 pub returns-clause-past : goal.returns-clause-past
 returns-clause-past c = (
-  λ e. absurd (let never : ⊥ = cc in never),
-  λ none.
-      let (t, h) = known_document _ c.args.document.fact in
-      absurd (none t h (c.in-Some.ensures.some t (c.part-whole.ensures.means t h)).0),
+  λ e t h fit. c.append_document.ensures.past.0 e (shape_of t)
+      (c.part_level.ensures.is t (c.part.ensures.means t h)) ((Fits-shape_of t).1 fit),
+  λ none. c.append_document.ensures.past.1 (λ s h fit.
+      let (t, k) = known_document _ c.args.document.fact in
+      let is = c.part_level.ensures.is t (c.part.ensures.means t k) in
+      let same = Is-one code_of part_laws c.part_level.result s (shape_of t) h is in
+      none t k ((Fits-shape_of t).0 (subst Fits same fit))),
 )
 
-pub returns-in_err-try_reserve-clause-past : goal.returns-in_err-try_reserve-clause-past
-returns-in_err-try_reserve-clause-past c = (
-  λ e. absurd (no_fault _ c.from_residual.ensures.1 e),
-  λ none.
-      let (t, h) = known_document _ c.args.document.fact in
-      absurd (none t h (c.in-Some.ensures.some t (c.part-whole.ensures.means t h)).0),
-)
+pub returns-clause-memory : goal.returns-clause-memory
+returns-clause-memory c e =
+    let (t, h) = known_document _ c.args.document.fact in
+    let is = c.part_level.ensures.is t (c.part.ensures.means t h) in
+    (t, (h, (Fits-shape_of t).0 (c.append_document.ensures.memory e (shape_of t) is)))
+
+pub returns-clause-room : goal.returns-clause-room
+returns-clause-room c t h fit =
+    rw (← document-shape_of t) (c.append_document.ensures.room (shape_of t)
+    (c.part_level.ensures.is t (c.part.ensures.means t h)) ((Fits-shape_of t).1 fit))

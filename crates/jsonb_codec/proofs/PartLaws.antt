@@ -1,0 +1,77 @@
+-- What the parts of a document are written as.
+use Rattle.std.proofs.Common.{◌≡◌, ◌*◌, ◌≤◌, ℕ, List, [], length, refl, sym, ap, subst, ◌∙◌, arith}
+use Rattle.jsonb_value.specs.Tree.{Tree, Trees, Pairs}
+use Rattle.jsonb_codec.specs.declared.parts.Children as declared
+use Rattle.jsonb_codec.specs.declared.parts.Part.{Part}
+use Rattle.jsonb_codec.specs.declared.parts.Members.{Members}
+use Rattle.jsonb_codec.specs.Contents.{Means, AreChildren, AreMembers, FirstMember}
+use Rattle.jsonb_codec.specs.Doc.{type_of}
+use Rattle.jsonb_codec.specs.PartSource.{PartIs, ItemsAre, MembersAre}
+use Rattle.jsonb_codec.specs.Rewriting.{FirstChild}
+use Rattle.jsonb_codec.specs.Shape.{Shapes, count}
+use Rattle.jsonb_codec.specs.Source.{AreSplit}
+use Rattle.jsonb_codec.specs.TreeShape.{shape_of, items_shapes, pairs_shapes}
+use Rattle.jsonb_codec.proofs.Containers.{count-values_of}
+use Rattle.jsonb_codec.proofs.Entries.{values_of, length-Children}
+use Rattle.jsonb_codec.proofs.PairLaws.{children_of_values}
+use Rattle.jsonb_codec.proofs.TreeShapes.{count-items_shapes, count-pairs_shapes}
+use Rattle.jsonb_codec.proofs.Unique.{Children-unique, pairs_unique, same_tree}
+
+-- A type leaves room for a length.
+pub small_type : (t : Tree) {ty : ℕ} → type_of t ≡ ty → ty ≤ 1879048192
+small_type t is = grind arith
+
+pub items_are : (ts : Trees) (x : declared.Children) → AreChildren ts x
+    → ItemsAre x (items_shapes ts)
+items_are ts x h = ((ts, h), λ us k. ap items_shapes (Children-unique _ _ h k))
+
+pub members_are : (ps : Pairs) (x : Members) → AreMembers ps x → MembersAre x (pairs_shapes ps)
+members_are ps x h = ((ps, h), λ qs k. ap pairs_shapes (pairs_unique ps qs _ _ _ _ h k))
+
+-- There are as many as entry words.
+pub items_count : (x : declared.Children) (ss : Shapes) → ItemsAre x ss
+    → length x.entries.now ≡ 4 * count ss
+items_count x ss h =
+    let ts = h.0.0 in omega (
+      arith,
+      length-Children ts _ _ h.0.1,
+      count-items_shapes ts,
+      ap count (h.1 ts h.0.1),
+    )
+
+pub members_count : (x : Members) (ss : Shapes) → MembersAre x ss
+    → length x.values.entries.now ≡ 4 * count ss
+members_count x ss h =
+    let ps = h.0.0 in omega (
+      arith,
+      length-Children (values_of ps) _ _ (children_of_values ps _ _ h.0.1.1.1),
+      count-values_of ps,
+      count-pairs_shapes ps,
+      ap count (h.1 ps h.0.1),
+    )
+
+-- The first child and the others are written as their shapes.
+part_is : (part : Part) (t : Tree) → Means part t → PartIs part (shape_of t)
+part_is part t h =
+    ((t, h), λ u k. ap shape_of (same_tree t u (h.0 ∙ sym k.0) _ h.1 k.1))
+
+pub split_member : (part : Part) (x behind : Members) {key : List ℕ} (IsKey : List ℕ → Type 0)
+    → IsKey key
+    → ((ps : Pairs) → AreMembers ps x → FirstMember ps key part.tag part.payload.now behind)
+    → (ss : Shapes) → MembersAre x ss → AreSplit IsKey PartIs MembersAre (part, behind) ss
+split_member part x behind IsKey keyed first ss h =
+    let f = first h.0.0 h.0.1 in
+    subst (AreSplit IsKey PartIs MembersAre (part, behind))
+    (sym (h.1 h.0.0 h.0.1 ∙ ap pairs_shapes f.are))
+    (keyed, (part_is part f.value f.is, members_are f.others behind f.left))
+
+pub split_item : (part : Part) (x behind : declared.Children)
+    → ((ts : Trees) → AreChildren ts x
+    → FirstChild ts part.tag part.payload.now behind.entries.now behind.payloads.now)
+    → (ss : Shapes) → ItemsAre x ss
+    → AreSplit (λ key. key ≡ []) PartIs ItemsAre (part, behind) ss
+split_item part x behind first ss h =
+    let f = first h.0.0 h.0.1 in
+    subst (AreSplit (λ key. key ≡ []) PartIs ItemsAre (part, behind))
+    (sym (h.1 h.0.0 h.0.1 ∙ ap items_shapes f.are))
+    (refl, (part_is part f.first f.is, items_are f.others behind f.behind))

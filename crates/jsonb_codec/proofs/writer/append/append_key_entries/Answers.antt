@@ -1,0 +1,18 @@
+use Rattle.std.proofs.Common.{◌+◌, length, refl}
+use Rattle.jsonb_codec.specs.declared.constants.TheConstants.{STRING_TAG}
+use Rattle.jsonb_codec.specs.Word.{word}
+use Rattle.jsonb_codec.proofs.Shapes.{first}
+use Rattle.jsonb_codec.proofs.ShapeWriting.{going_on, going_end}
+use Rattle.jsonb_codec.proofs.writer.append.append_key_entries.Goals as goal
+
+pub loop-key-preserved : goal.loop-key-preserved
+loop-key-preserved g c =
+    let m = g.S.Source.meaning in let w = c.loop-key.invariant in
+    let f = first m.child m.members w.left (c.in-Some.ensures.split w.left w.are_left) in
+    let put = rw f.keyed at c.append_leaf_entry.ensures.written in
+    going_on w f (λ k s. word (STRING_TAG + length k)) (λ k s us. refl) _ put
+
+pub returns : goal.returns
+returns g c =
+    let w = c.loop-key.invariant in
+    going_end w g.S.Source.laws.one_members refl (c.in_default.ensures.split w.left w.are_left)

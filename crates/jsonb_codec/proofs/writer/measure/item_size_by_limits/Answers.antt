@@ -1,0 +1,10 @@
+use Rattle.std.proofs.Common.{arith}
+use Rattle.jsonb_codec.proofs.Shapes.{takes_of_each}
+use Rattle.jsonb_codec.proofs.writer.measure.item_size_by_limits.Goals as goal
+
+-- What the item takes is what the others leave.
+pub returns-in-Some-measure_items : goal.returns-in-Some-measure_items
+returns-in-Some-measure_items g c t is =
+    let known = c.requires.takes in
+    let h = takes_of_each g.S.Leaf.Leaf.code g.S.Source.laws c.args.item known t is in
+    omega (arith, h.both, (c.in-Some-measure_items.ensures.some h.others h.are).1)

@@ -1,0 +1,11 @@
+use Rattle.std.proofs.Common.{arith}
+use Rattle.jsonb_codec.proofs.Shapes.{takes_of_each}
+use Rattle.jsonb_codec.proofs.writer.measure.value_size_by_limits.Goals as goal
+
+-- What the value takes is what the others with their keys leave.
+pub returns-in-Some-measure_members : goal.returns-in-Some-measure_members
+returns-in-Some-measure_members g c t is =
+    let known = c.requires.takes in
+    let h = takes_of_each g.S.Leaf.Leaf.code g.S.Source.laws c.args.value known t is in
+    let are = c.again.ensures h.others h.are in
+    omega (arith, h.both, (c.in-Some-measure_members.ensures.some h.others are).1)

@@ -1,0 +1,58 @@
+-- What the parts of a document are written as: the shapes of the trees that they mean.
+use Rattle.std.specs.Prelude.{◌≡◌, ◌+◌, ℕ, ⊤, length}
+use Rattle.std.proofs.Common.{sym, ap, ◌∙◌}
+use Rattle.jsonb_codec.specs.declared.parts.Children.{Children}
+use Rattle.jsonb_codec.specs.declared.parts.Members.{Members}
+use Rattle.jsonb_codec.specs.declared.parts.Part.{Part}
+use Rattle.jsonb_codec.specs.Contents.{Means, AreChildren, AreMembers}
+use Rattle.jsonb_codec.specs.Shape.{Shape, Shapes, key_payloads}
+use Rattle.jsonb_codec.specs.Source.{Meaning, Laws}
+use Rattle.jsonb_codec.specs.TreeShape.{shape_of, items_shapes, pairs_shapes, bare}
+
+-- Something is meant, and whatever is meant has these shapes.
+abbrev pub Shaped : {A B : Type 0} → (A → Type 0) → (A → B) → B → Type 0
+Shaped {A} IsMeant shapes ss =
+    ((a : A) × IsMeant a) × ((a : A) → IsMeant a → ss ≡ shapes a)
+
+-- So it is written as one.
+pub one_shaped : {A : Type 0} (IsMeant : A → Type 0) (shapes : A → Shapes) (ss us : Shapes)
+    → Shaped IsMeant shapes ss → Shaped IsMeant shapes us → ss ≡ us
+one_shaped IsMeant shapes ss us h k = h.1 h.0.0 h.0.1 ∙ sym (k.1 h.0.0 h.0.1)
+
+abbrev pub PartIs : Part → Shape → Type 0
+PartIs part = Shaped (λ t. Means part t) shape_of
+
+abbrev pub ItemsAre : Children → Shapes → Type 0
+ItemsAre children = Shaped (λ ts. AreChildren ts children) items_shapes
+
+abbrev pub MembersAre : Members → Shapes → Type 0
+MembersAre members = Shaped (λ ps. AreMembers ps members) pairs_shapes
+
+-- A payload is longer than the entry words and payloads inside it.
+abbrev pub items_size : Children → ℕ
+items_size children = length children.entries.now + length children.payloads.now
+
+-- Nothing is kept of them.
+abbrev pub part_meaning : Meaning Part Children Members Members
+part_meaning = record {
+  child = PartIs;
+  child_size = λ part. length part.payload.now;
+  child_held = λ part. ⊤;
+  items = ItemsAre;
+  object = MembersAre;
+  members = MembersAre;
+  items_size = items_size;
+  object_size = λ members. items_size members.values;
+  members_size = λ members. items_size members.values;
+  items_held = λ children. ⊤;
+  object_held = λ members. ⊤;
+  members_held = λ members. ⊤;
+}
+
+pub part_laws : Laws part_meaning
+part_laws = record {
+  one_items = λ x. one_shaped (λ ts. AreChildren ts x) items_shapes;
+  one_object = λ x. one_shaped (λ ps. AreMembers ps x) pairs_shapes;
+  one_members = λ x. one_shaped (λ ps. AreMembers ps x) pairs_shapes;
+  bare_items = λ x ss h. ap key_payloads (h.1 h.0.0 h.0.1) ∙ bare h.0.0;
+}

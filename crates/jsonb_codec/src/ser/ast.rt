@@ -1,0 +1,110 @@
+//! Values whose objects are lists of pairs, one level at a time.
+
+ghost use Rattle.std.specs.Prelude.{◌<◌};
+ghost use Rattle.jsonb_value.specs.Ast.{ast_tree, AscendEverywhere};
+ghost use Rattle.jsonb_value.specs.WellFormed.{IsTree};
+ghost use Rattle.jsonb_codec.specs.Code.{scalar_code};
+ghost use Rattle.jsonb_codec.specs.Depth.{size};
+ghost use Rattle.jsonb_codec.specs.Source.{Is, level_size, LevelHeld};
+ghost use Rattle.jsonb_codec.specs.TreeShape.{shape_of};
+ghost use Rattle.jsonb_codec.specs.ValueSource.{ast_meaning, ast_laws};
+
+use crate::writer::code::Scalar;
+use crate::writer::source::{Level, Source};
+use jsonb_value::JsonAst;
+use std::borrow::CowStr;
+
+/// The members of an object that a walk has left.
+#[derive(Clone, Copy)]
+pub struct Pairs<'s, 'a> {
+    pub left: &'s [(CowStr<'a>, JsonAst<'a>, usize)],
+}
+
+type Member<'s, 'a> = (Scalar<'s>, (&'s JsonAst<'a>, Pairs<'s, 'a>));
+
+pub type AstLevel<'s, 'a> = Level<Scalar<'s>, &'s [JsonAst<'a>], Pairs<'s, 'a>>;
+
+/// One level of a value.
+#[inline(always)]
+pub fn ast_level<'s, 'a>(value: &'s JsonAst<'a>) -> AstLevel<'s, 'a>
+    ensures is { Is scalar_code ast_meaning result (shape_of (ast_tree value.now)) }
+    ensures size { level_size ast_meaning result < size (ast_tree value.now) }
+    ensures held { LevelHeld ast_meaning result → AscendEverywhere (ast_tree value.now)
+        → IsTree (ast_tree value.now) }
+{
+    Level::Leaf(match value {
+        JsonAst::Null => Scalar::Null,
+        JsonAst::Bool(false) => Scalar::Bool(false),
+        JsonAst::Bool(true) => Scalar::Bool(true),
+        JsonAst::String(text) => Scalar::text(text.as_str()),
+        JsonAst::Number(number) => Scalar::number(number),
+        JsonAst::Array(items) => return Level::Array(items),
+        JsonAst::Object(pairs) => return Level::Object(Pairs { left: pairs }),
+    })
+}
+
+impl<'s, 'a> Source for &'s JsonAst<'a> {
+    type Leaf = Scalar<'s>;
+
+    type Child = &'s JsonAst<'a>;
+
+    type Items = &'s [JsonAst<'a>];
+
+    type Object = Pairs<'s, 'a>;
+
+    type Members = Pairs<'s, 'a>;
+
+    ghost meaning = { ast_meaning };
+
+    ghost laws = { ast_laws };
+
+    #[inline(always)]
+    fn level(child: &'s JsonAst<'a>) -> AstLevel<'s, 'a> {
+        ast_level(child)
+    }
+
+    #[inline(always)]
+    fn guess(_: &'s JsonAst<'a>) -> Option<usize> {
+        None
+    }
+
+    #[inline(always)]
+    fn count(items: &'s [JsonAst<'a>]) -> usize {
+        items.len()
+    }
+
+    #[tactic(auto, using(crate::proofs::ValueShapes::size_positive))]
+    #[inline(always)]
+    fn split_item(items: &'s [JsonAst<'a>]) -> Option<(&'s JsonAst<'a>, &'s [JsonAst<'a>])> {
+        match items {
+            [first, rest @ ..] => Some((first, rest)),
+            [] => None,
+        }
+    }
+
+    #[inline(always)]
+    fn members(object: Pairs<'s, 'a>) -> Pairs<'s, 'a> {
+        object
+    }
+
+    #[inline(always)]
+    fn members_left(members: &Pairs<'s, 'a>) -> usize {
+        members.left.len()
+    }
+
+    #[inline(always)]
+    fn again(members: &Pairs<'s, 'a>) -> Pairs<'s, 'a> {
+        *members
+    }
+
+    #[tactic(auto, using(crate::proofs::ValueShapes::size_positive))]
+    #[inline(always)]
+    fn split_member(members: Pairs<'s, 'a>) -> Option<Member<'s, 'a>> {
+        match members.left {
+            [(key, value, _), left @ ..] => {
+                Some((Scalar::text(key.as_str()), (value, Pairs { left })))
+            }
+            [] => None,
+        }
+    }
+}

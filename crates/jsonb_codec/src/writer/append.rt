@@ -1,0 +1,310 @@
+//! Documents, written front to back into a buffer with room for all of it.
+//!
+//! An entry word comes before what it stands for, so a payload's length is to be known when its
+//! entry is written, and is read back from there when the payload is. The length of a container
+//! child is found from that of the container round it, and not measured again whole.
+
+ghost use Rattle.std.specs.Prelude.{◌≡◌, ◌<◌, ◌≤◌, ◌+◌, ◌++◌, ◌^◌, ◌⊎◌, ◌↔◌, ℕ, length};
+ghost use Rattle.std.specs.Prelude.{vec_capacity};
+ghost use Rattle.std.specs.Prelude.{Err, IsOk, IfErr, OnOk, OnErr};
+ghost use Rattle.jsonb_codec.specs.Word.{word};
+ghost use Rattle.jsonb_codec.specs.Shape as shapes;
+ghost use Rattle.jsonb_codec.specs.Shape.{Shape, Shapes, payload, payloads, entries, type_of};
+ghost use Rattle.jsonb_codec.specs.Shape.{key_entries, key_payloads, body, document, Fits};
+ghost use Rattle.jsonb_codec.specs.Shape.{FitsEntry};
+ghost use Rattle.jsonb_codec.specs.Source.{Is, LevelHeld};
+ghost use Rattle.jsonb_codec.specs.Room.{HasRoom, AppendsBytes, Stands};
+ghost use Rattle.jsonb_codec.specs.Writing.{CanWrite, CanGoOn};
+
+use super::measure::{item_size, measure_document, value_size};
+use super::source::{Leaf, Level, Source};
+use crate::constants::{
+    ARRAY_CONTAINER_TAG, CONTAINER_TAG, JENTRY_OFF_LEN_MASK, OBJECT_CONTAINER_TAG,
+    SCALAR_CONTAINER_TAG, STRING_TAG,
+};
+use crate::word::{read_word, word_bytes};
+use jsonb_value::Error;
+
+// In so many levels each container child is measured at once: a document that is wide and not deep
+// gains nothing by limits.
+const PLAIN_LEVELS: usize = 4;
+
+/// Appends the document in one growth. `InvalidJsonb` where the value does not fit, before memory
+/// is asked for, and else only `OutOfMemory`. After a refusal the bytes of the buffer are as
+/// before.
+pub fn append_document<S: Source>(
+    buf: &mut Vec<u8>,
+    level: Level<S::Leaf, S::Items, S::Object>,
+) -> Result<(), Error>
+    requires { (s : Shape) × Is S.Leaf.code S.meaning level s }
+    ensures appended { OnOk result ((s : Shape) → Is S.Leaf.code S.meaning level s
+        → Fits s × (buf.new.items ≡ buf.old.items ++ document s)) }
+    ensures held { OnOk result (LevelHeld S.meaning level) }
+    ensures err { OnErr result (buf.new.items ≡ buf.old.items) }
+    ensures past { (result ≡ Err Error.InvalidJsonb)
+        ↔ ((s : Shape) → Is S.Leaf.code S.meaning level s → Fits s → ⊥) }
+    ensures memory { result ≡ Err Error.OutOfMemory
+        → (s : Shape) → Is S.Leaf.code S.meaning level s → Fits s }
+    ensures only { IfErr result (λ e. (e ≡ Error.InvalidJsonb) ⊎ (e ≡ Error.OutOfMemory)) }
+    ensures room { (s : Shape) → Is S.Leaf.code S.meaning level s → Fits s
+        → length buf.old.items + length (document s) ≤ vec_capacity buf.old → IsOk result }
+{
+    let size = measure_document::<S>(level)?;
+    buf.try_reserve(size)?;
+    match level {
+        Level::Leaf(leaf) => {
+            append_word(buf, SCALAR_CONTAINER_TAG);
+            append_word(buf, leaf.type_code() + leaf.len() as u32);
+            leaf.append_to(buf);
+        }
+        Level::Array(items) => append_array::<S>(buf, items, size, PLAIN_LEVELS),
+        Level::Object(object) => append_object::<S>(buf, object, size, PLAIN_LEVELS),
+    }
+    Ok(())
+}
+
+/// Appends the bytes as they are.
+#[inline(always)]
+pub fn append_bytes(out: &mut Vec<u8>, bytes: &[u8])
+    requires { HasRoom out.old bytes.now }
+    ensures { AppendsBytes out.old out.new bytes.now }
+{
+    let Ok(()) = out.extend_from_slice(bytes) else {
+        unreachable!();
+    };
+}
+
+/// Appends one word.
+#[tactic(auto, unfolding(crate::specs::Word::word))]
+#[inline(always)]
+pub fn append_word(out: &mut Vec<u8>, number: u32)
+    requires { HasRoom out.old (word number) }
+    ensures { AppendsBytes out.old out.new (word number) }
+{
+    append_bytes(out, &word_bytes(number));
+}
+
+// The length in a container's entry word that was written at the index.
+#[inline(always)]
+fn entry_size(out: &Vec<u8>, entry: usize) -> usize
+    requires { (n : ℕ) × ((n < 2 ^ 28) × Stands entry (word (CONTAINER_TAG + n)) out.now.items) }
+    ensures { (n : ℕ) → n < 2 ^ 28 → Stands entry (word (CONTAINER_TAG + n)) out.now.items
+        → result ≡ n }
+{
+    let Ok(word) = read_word(out, entry) else {
+        unreachable!();
+    };
+    (word & JENTRY_OFF_LEN_MASK) as usize
+}
+
+// The payload of an array, which has that length.
+#[cycle(append)]
+fn append_array<S: Source>(out: &mut Vec<u8>, items: S::Items, size: usize, plain_levels: usize)
+    requires { (ss : Shapes) × (S.meaning.items items ss
+        × CanWrite out.old (shapes.array ss) size) }
+    ensures { (ss : Shapes) → S.meaning.items items ss
+        → AppendsBytes out.old out.new (payload (shapes.array ss)) }
+{
+    let count = S::count(items);
+    append_word(out, ARRAY_CONTAINER_TAG + count as u32);
+    let words = out.len();
+    append_item_entries::<S>(out, items, size - 4 - 4 * count, plain_levels);
+    append_items::<S>(out, items, words, plain_levels.saturating_sub(1));
+}
+
+// The payload of an object, which has that length.
+#[cycle(append)]
+fn append_object<S: Source>(out: &mut Vec<u8>, object: S::Object, size: usize, plain_levels: usize)
+    requires { (ss : Shapes) × (S.meaning.object object ss
+        × CanWrite out.old (shapes.object ss) size) }
+    ensures { (ss : Shapes) → S.meaning.object object ss
+        → AppendsBytes out.old out.new (payload (shapes.object ss)) }
+{
+    let members = S::members(object);
+    let count = S::members_left(&members);
+    append_word(out, OBJECT_CONTAINER_TAG + count as u32);
+    append_key_entries::<S>(out, members);
+    let words = out.len();
+    append_value_entries::<S>(out, S::members(object), size - 4 - 8 * count, plain_levels);
+    append_keys::<S>(out, S::members(object));
+    append_values::<S>(
+        out,
+        S::members(object),
+        words,
+        plain_levels.saturating_sub(1),
+    );
+}
+
+// The entry words of items, whose payloads have that length in all.
+#[inline(always)]
+fn append_item_entries<S: Source>(
+    out: &mut Vec<u8>,
+    items: S::Items,
+    size: usize,
+    plain_levels: usize,
+)
+    requires { (ss : Shapes) × (S.meaning.items items ss
+        × (CanGoOn out.old ss (entries ss) × (size ≡ body ss))) }
+    ensures { (ss : Shapes) → S.meaning.items items ss
+        → AppendsBytes out.old out.new (entries ss) }
+{
+    let mut left = items;
+    let mut size_left = size;
+    while let Some((item, others)) = S::split_item(left) {
+        size_left -= match S::level(item) {
+            Level::Leaf(leaf) => append_leaf_entry(out, leaf),
+            container => {
+                let size = item_size::<S>(item, container, others, size_left, plain_levels);
+                append_container_entry(out, size)
+            }
+        };
+        left = others;
+    }
+}
+
+// The entry words of values, which take with their keys that length in all.
+#[inline(always)]
+fn append_value_entries<S: Source>(
+    out: &mut Vec<u8>,
+    members: S::Members,
+    size: usize,
+    plain_levels: usize,
+)
+    requires { (ss : Shapes) × (S.meaning.members members ss
+        × (CanGoOn out.old ss (entries ss) × (size ≡ body ss))) }
+    ensures { (ss : Shapes) → S.meaning.members members ss
+        → AppendsBytes out.old out.new (entries ss) }
+{
+    let mut left = members;
+    let mut size_left = size;
+    while let Some((key, (value, others))) = S::split_member(left) {
+        size_left -= key.len();
+        size_left -= match S::level(value) {
+            Level::Leaf(leaf) => append_leaf_entry(out, leaf),
+            container => {
+                let size = value_size::<S>(value, container, &others, size_left, plain_levels);
+                append_container_entry(out, size)
+            }
+        };
+        left = others;
+    }
+}
+
+// The entry word of a leaf. The length of its payload.
+#[inline(always)]
+fn append_leaf_entry<L: Leaf>(out: &mut Vec<u8>, leaf: L) -> usize
+    requires short { length (L.code leaf).1 < 2 ^ 28 }
+    requires room { HasRoom out.old (word ((L.code leaf).0 + length (L.code leaf).1)) }
+    ensures written { AppendsBytes out.old out.new
+        (word ((L.code leaf).0 + length (L.code leaf).1)) }
+    ensures size { result ≡ length (L.code leaf).1 }
+{
+    let size = leaf.len();
+    append_word(out, leaf.type_code() + size as u32);
+    size
+}
+
+// The entry word of a container, whose payload has that length, which is answered.
+#[inline(always)]
+fn append_container_entry(out: &mut Vec<u8>, size: usize) -> usize
+    requires short { size < 2 ^ 28 }
+    requires room { HasRoom out.old (word (CONTAINER_TAG + size)) }
+    ensures written { AppendsBytes out.old out.new (word (CONTAINER_TAG + size)) }
+    ensures size { result ≡ size }
+{
+    append_word(out, CONTAINER_TAG + size as u32);
+    size
+}
+
+// The entry words of keys.
+#[inline(always)]
+fn append_key_entries<S: Source>(out: &mut Vec<u8>, members: S::Members)
+    requires { (ss : Shapes) × (S.meaning.members members ss
+        × CanGoOn out.old ss (key_entries ss)) }
+    ensures { (ss : Shapes) → S.meaning.members members ss
+        → AppendsBytes out.old out.new (key_entries ss) }
+{
+    let mut left = members;
+    while let Some((key, (_, others))) = S::split_member(left) {
+        let _ = append_leaf_entry(out, key);
+        left = others;
+    }
+}
+
+// The keys.
+#[inline(always)]
+fn append_keys<S: Source>(out: &mut Vec<u8>, members: S::Members)
+    requires { (ss : Shapes) × (S.meaning.members members ss
+        × CanGoOn out.old ss (key_payloads ss)) }
+    ensures { (ss : Shapes) → S.meaning.members members ss
+        → AppendsBytes out.old out.new (key_payloads ss) }
+{
+    let mut left = members;
+    while let Some((key, (_, others))) = S::split_member(left) {
+        key.append_to(out);
+        left = others;
+    }
+}
+
+// The payloads of items, whose entry words stand from the index on.
+#[cycle(append)]
+#[inline(always)]
+fn append_items<S: Source>(out: &mut Vec<u8>, items: S::Items, words: usize, plain_levels: usize)
+    requires { (ss : Shapes) × (S.meaning.items items ss
+        × (CanGoOn out.old ss (payloads ss) × Stands words (entries ss) out.old.items)) }
+    ensures { (ss : Shapes) → S.meaning.items items ss
+        → AppendsBytes out.old out.new (payloads ss) }
+{
+    let mut left = items;
+    let mut entry = words;
+    while let Some((item, others)) = S::split_item(left) {
+        append_child::<S>(out, item, entry, plain_levels);
+        entry += 4;
+        left = others;
+    }
+}
+
+// The payloads of values, whose entry words stand from the index on.
+#[cycle(append)]
+#[inline(always)]
+fn append_values<S: Source>(
+    out: &mut Vec<u8>,
+    members: S::Members,
+    words: usize,
+    plain_levels: usize,
+)
+    requires { (ss : Shapes) × (S.meaning.members members ss
+        × (CanGoOn out.old ss (payloads ss) × Stands words (entries ss) out.old.items)) }
+    ensures { (ss : Shapes) → S.meaning.members members ss
+        → AppendsBytes out.old out.new (payloads ss) }
+{
+    let mut left = members;
+    let mut entry = words;
+    while let Some((_, (value, others))) = S::split_member(left) {
+        append_child::<S>(out, value, entry, plain_levels);
+        entry += 4;
+        left = others;
+    }
+}
+
+// The payload of a child, whose entry word stands at the index.
+#[cycle(append)]
+#[inline(always)]
+fn append_child<S: Source>(out: &mut Vec<u8>, child: S::Child, entry: usize, plain_levels: usize)
+    requires { (s : Shape) × (S.meaning.child child s × (FitsEntry s
+        × (HasRoom out.old (payload s)
+        × Stands entry (word (type_of s + length (payload s))) out.old.items))) }
+    ensures { (s : Shape) → S.meaning.child child s → AppendsBytes out.old out.new (payload s) }
+{
+    match S::level(child) {
+        Level::Leaf(leaf) => leaf.append_to(out),
+        Level::Array(items) => {
+            let size = entry_size(out, entry);
+            append_array::<S>(out, items, size, plain_levels);
+        }
+        Level::Object(object) => {
+            let size = entry_size(out, entry);
+            append_object::<S>(out, object, size, plain_levels);
+        }
+    }
+}

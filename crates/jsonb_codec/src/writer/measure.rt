@@ -1,0 +1,286 @@
+//! How many bytes are written.
+//!
+//! A measure goes on from a start, and ends before a container that begins past a limit. A
+//! container child and all behind it are measured in turn, up to limits that grow, and the one that
+//! ends first tells the other by what is left. So at each level the work is at most a fixed
+//! multiple of all children but the largest, and a document takes time n log n.
+
+ghost use Rattle.std.specs.Prelude.{◌≡◌, ◌≤◌, ◌<◌, ◌+◌, ◌^◌, length, IfSome, IfNone, OnSome};
+ghost use Rattle.std.specs.Prelude.{IfOk, IfErr, OnOk, OnErr};
+ghost use Rattle.jsonb_codec.specs.Shape as shapes;
+ghost use Rattle.jsonb_codec.specs.Shape.{Shape, Shapes, count, body, payload};
+ghost use Rattle.jsonb_codec.specs.Shape.{document, AllFit, FitsInside, Fits, FitsEntry};
+ghost use Rattle.jsonb_codec.specs.Source.{Is, LevelHeld};
+ghost use Rattle.jsonb_codec.specs.Writing.{TakesLeft};
+
+use super::source::{Leaf, Level, Source};
+use jsonb_value::Error;
+
+/// The longest payload that an entry can have.
+pub const MAX_PAYLOAD: usize = 0x0FFFFFFF;
+
+const MAX_COUNT: usize = 0x1FFFFFFF;
+
+// What fits is shorter.
+const NO_LIMIT: usize = 1 << 60;
+
+const FIRST_LIMIT: usize = 32;
+
+/// The length of the document. `InvalidJsonb` where the value does not fit.
+#[inline(always)]
+pub fn measure_document<S: Source>(
+    level: Level<S::Leaf, S::Items, S::Object>,
+) -> Result<usize, Error>
+    requires { (s : Shape) × Is S.Leaf.code S.meaning level s }
+    ensures ok { IfOk result (λ n. (s : Shape) → Is S.Leaf.code S.meaning level s
+        → Fits s × (n ≡ length (document s))) }
+    ensures held { OnOk result (LevelHeld S.meaning level) }
+    ensures err { OnErr result ((s : Shape) → Is S.Leaf.code S.meaning level s → Fits s → ⊥) }
+    ensures only { IfErr result (λ e. e ≡ Error.InvalidJsonb) }
+{
+    let end = match level {
+        Level::Leaf(leaf) => entry_end(8, leaf.len()),
+        Level::Array(items) => measure_array::<S>(items, 0, NO_LIMIT),
+        Level::Object(object) => measure_object::<S>(object, 0, NO_LIMIT),
+    };
+    end.ok_or(Error::InvalidJsonb)
+}
+
+// Where a payload of that length ends, or none if no entry can have it.
+#[inline(always)]
+fn entry_end(start: usize, size: usize) -> Option<usize>
+    requires { start ≤ 2 ^ 61 }
+    ensures some { IfSome result (λ end. (end ≡ start + size) × (size < 2 ^ 28)) }
+    ensures none { IfNone result (2 ^ 28 ≤ size) }
+{
+    if size > MAX_PAYLOAD {
+        return None;
+    }
+    Some(start + size)
+}
+
+// Where the payload of a child ends, or none where it does not fit, or ends past the limit.
+#[cycle(measure)]
+#[inline(always)]
+fn measure_child<S: Source>(
+    child: Level<S::Leaf, S::Items, S::Object>,
+    start: usize,
+    most: usize,
+) -> Option<usize>
+    requires is { (s : Shape) × Is S.Leaf.code S.meaning child s }
+    requires start { start ≤ 2 ^ 61 }
+    requires most { most ≤ 2 ^ 60 }
+    ensures some { IfSome result (λ end. (s : Shape) → Is S.Leaf.code S.meaning child s
+        → FitsEntry s × (end ≡ start + length (payload s))) }
+    ensures held { OnSome result (LevelHeld S.meaning child) }
+    ensures none { IfNone result ((s : Shape) → Is S.Leaf.code S.meaning child s → FitsEntry s
+        → most < start + length (payload s)) }
+{
+    let size = match child {
+        Level::Leaf(leaf) => leaf.len(),
+        Level::Array(items) => measure_array::<S>(items, start, most)? - start,
+        Level::Object(object) => measure_object::<S>(object, start, most)? - start,
+    };
+    entry_end(start, size)
+}
+
+#[cycle(measure)]
+fn measure_array<S: Source>(items: S::Items, start: usize, most: usize) -> Option<usize>
+    requires are { (ss : Shapes) × S.meaning.items items ss }
+    requires start { start ≤ 2 ^ 61 }
+    requires most { most ≤ 2 ^ 60 }
+    ensures some { IfSome result (λ end. (ss : Shapes) → S.meaning.items items ss
+        → FitsInside (shapes.array ss) × (end ≡ start + length (payload (shapes.array ss)))) }
+    ensures held { OnSome result (S.meaning.items_held items) }
+    ensures none { IfNone result ((ss : Shapes) → S.meaning.items items ss
+        → FitsInside (shapes.array ss) → most < start + length (payload (shapes.array ss))) }
+{
+    let count = S::count(items);
+    if count > MAX_COUNT {
+        return None;
+    }
+    measure_items::<S>(items, start + 4 + 4 * count, most)
+}
+
+#[cycle(measure)]
+fn measure_object<S: Source>(object: S::Object, start: usize, most: usize) -> Option<usize>
+    requires are { (ss : Shapes) × S.meaning.object object ss }
+    requires start { start ≤ 2 ^ 61 }
+    requires most { most ≤ 2 ^ 60 }
+    ensures some { IfSome result (λ end. (ss : Shapes) → S.meaning.object object ss
+        → FitsInside (shapes.object ss) × (end ≡ start + length (payload (shapes.object ss)))) }
+    ensures held { OnSome result (S.meaning.object_held object) }
+    ensures none { IfNone result ((ss : Shapes) → S.meaning.object object ss
+        → FitsInside (shapes.object ss) → most < start + length (payload (shapes.object ss))) }
+{
+    let members = S::members(object);
+    let count = S::members_left(&members);
+    if count > MAX_COUNT {
+        return None;
+    }
+    measure_members::<S>(members, start + 4 + 8 * count, most)
+}
+
+// Where the payloads of items end.
+#[cycle(measure)]
+#[inline(always)]
+fn measure_items<S: Source>(items: S::Items, start: usize, most: usize) -> Option<usize>
+    requires are { (ss : Shapes) × (S.meaning.items items ss × (count ss < 2 ^ 29)) }
+    requires most { most ≤ 2 ^ 60 }
+    ensures some { IfSome result (λ end. (ss : Shapes) → S.meaning.items items ss
+        → AllFit ss × (end ≡ start + body ss)) }
+    ensures held { OnSome result (S.meaning.items_held items) }
+    ensures none { IfNone result ((ss : Shapes) → S.meaning.items items ss → AllFit ss
+        → most < start + body ss) }
+{
+    if start > most {
+        return None;
+    }
+    let mut end = start;
+    let mut left = items;
+    while let Some((item, others)) = S::split_item(left) {
+        end = measure_child::<S>(S::level(item), end, most)?;
+        left = others;
+    }
+    Some(end)
+}
+
+// Where the keys and payloads of members end.
+#[cycle(measure)]
+#[inline(always)]
+fn measure_members<S: Source>(members: S::Members, start: usize, most: usize) -> Option<usize>
+    requires are { (ss : Shapes) × (S.meaning.members members ss × (count ss < 2 ^ 29)) }
+    requires most { most ≤ 2 ^ 60 }
+    ensures some { IfSome result (λ end. (ss : Shapes) → S.meaning.members members ss
+        → AllFit ss × (end ≡ start + body ss)) }
+    ensures held { OnSome result (S.meaning.members_held members) }
+    ensures none { IfNone result ((ss : Shapes) → S.meaning.members members ss → AllFit ss
+        → most < start + body ss) }
+{
+    if start > most {
+        return None;
+    }
+    let mut end = start;
+    let mut left = members;
+    while let Some((key, (value, others))) = S::split_member(left) {
+        let key_end = entry_end(end, key.len())?;
+        end = measure_child::<S>(S::level(value), key_end, most)?;
+        left = others;
+    }
+    Some(end)
+}
+
+/// The length of a container's payload that is an item. `left` is what it takes with those behind
+/// it. In so many levels from here on it is measured at once.
+#[inline(always)]
+pub fn item_size<S: Source>(
+    item: S::Child,
+    container: Level<S::Leaf, S::Items, S::Object>,
+    behind: S::Items,
+    left: usize,
+    plain_levels: usize,
+) -> usize
+    requires { (s : Shape) × (Is S.Leaf.code S.meaning container s
+        × TakesLeft S.meaning.items behind s left) }
+    ensures { (s : Shape) → Is S.Leaf.code S.meaning container s → result ≡ length (payload s) }
+{
+    if S::count(behind) == 0 {
+        return left;
+    }
+    let limit = first_limit(S::guess(item), left, plain_levels);
+    item_size_by_limits::<S>(container, behind, left, limit)
+}
+
+/// The same of a member's value; those behind it take their keys, too.
+#[inline(always)]
+pub fn value_size<S: Source>(
+    value: S::Child,
+    container: Level<S::Leaf, S::Items, S::Object>,
+    behind: &S::Members,
+    left: usize,
+    plain_levels: usize,
+) -> usize
+    requires { (s : Shape) × (Is S.Leaf.code S.meaning container s
+        × TakesLeft S.meaning.members behind.now s left) }
+    ensures { (s : Shape) → Is S.Leaf.code S.meaning container s → result ≡ length (payload s) }
+{
+    if S::members_left(behind) == 0 {
+        return left;
+    }
+    let limit = first_limit(S::guess(value), left, plain_levels);
+    value_size_by_limits::<S>(container, S::again(behind), left, limit)
+}
+
+// By a guess the shorter of the two is measured at once, and so is a child of the topmost levels.
+fn first_limit(guess: Option<usize>, left: usize, plain_levels: usize) -> usize
+    ensures { 0 < result }
+{
+    match guess {
+        Some(size) => size.min(left.saturating_sub(size)).max(FIRST_LIMIT),
+        None if plain_levels > 0 => usize::MAX,
+        None => FIRST_LIMIT,
+    }
+}
+
+// The length of a child's payload, by limits that grow.
+#[inline(never)]
+fn item_size_by_limits<S: Source>(
+    item: Level<S::Leaf, S::Items, S::Object>,
+    behind: S::Items,
+    left: usize,
+    first_limit: usize,
+) -> usize
+    requires takes { (s : Shape) × (Is S.Leaf.code S.meaning item s
+        × TakesLeft S.meaning.items behind s left) }
+    requires limit { 0 < first_limit }
+    ensures { (s : Shape) → Is S.Leaf.code S.meaning item s → result ≡ length (payload s) }
+{
+    let mut most = first_limit;
+    while most < left / 16 {
+        if let Some(size) = measure_child::<S>(item, 0, most) {
+            return size;
+        }
+        if let Some(size) = measure_items::<S>(behind, 0, most) {
+            return left - size;
+        }
+        most *= 8;
+    }
+    child_size::<S>(item)
+}
+
+#[inline(never)]
+fn value_size_by_limits<S: Source>(
+    value: Level<S::Leaf, S::Items, S::Object>,
+    behind: S::Members,
+    left: usize,
+    first_limit: usize,
+) -> usize
+    requires takes { (s : Shape) × (Is S.Leaf.code S.meaning value s
+        × TakesLeft S.meaning.members behind s left) }
+    requires limit { 0 < first_limit }
+    ensures { (s : Shape) → Is S.Leaf.code S.meaning value s → result ≡ length (payload s) }
+{
+    let mut most = first_limit;
+    while most < left / 16 {
+        if let Some(size) = measure_child::<S>(value, 0, most) {
+            return size;
+        }
+        if let Some(size) = measure_members::<S>(S::again(&behind), 0, most) {
+            return left - size;
+        }
+        most *= 8;
+    }
+    child_size::<S>(value)
+}
+
+// The length of a child's payload.
+#[inline(always)]
+fn child_size<S: Source>(child: Level<S::Leaf, S::Items, S::Object>) -> usize
+    requires { (s : Shape) × (Is S.Leaf.code S.meaning child s × FitsEntry s) }
+    ensures { (s : Shape) → Is S.Leaf.code S.meaning child s → result ≡ length (payload s) }
+{
+    let Some(size) = measure_child::<S>(child, 0, NO_LIMIT) else {
+        unreachable!();
+    };
+    size
+}

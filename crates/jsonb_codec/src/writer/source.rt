@@ -1,0 +1,105 @@
+//! What the writer asks of what it writes: one level at a time.
+
+ghost use Rattle.std.specs.Prelude.{◌≡◌, ◌<◌, ◌≤◌, ◌+◌, ◌^◌, ℕ, List, [], length, IfSome};
+ghost use Rattle.std.specs.Prelude.{MatchOption};
+ghost use Rattle.jsonb_codec.specs.declared.constants.TheConstants.{STRING_TAG};
+ghost use Rattle.jsonb_codec.specs.Room.{HasRoom, AppendsBytes};
+ghost use Rattle.jsonb_codec.specs.Shape.{Shape, Shapes, no_shapes, count};
+ghost use Rattle.jsonb_codec.specs.Source.{Meaning, Laws, Is, AreSplit, level_size, LevelHeld};
+
+/// What is written as it is.
+pub trait Leaf: Copy {
+    ghost code: { Self → ℕ × List ℕ };
+
+    /// The type of its entry.
+    fn type_code(self) -> u32
+        ensures value { result ≡ (code self).0 }
+        ensures small { result ≤ 0x70000000 };
+
+    /// How many bytes its payload has.
+    fn len(self) -> usize
+        ensures { result ≡ length (code self).1 };
+
+    /// Appends its payload.
+    fn append_to(self, out: &mut Vec<u8>)
+        requires short { length (code self).1 < 2 ^ 28 }
+        requires room { HasRoom out.old (code self).1 }
+        ensures { AppendsBytes out.old out.new (code self).1 };
+}
+
+/// A value's kind, and what stands one level below it.
+#[derive(Clone, Copy)]
+pub enum Level<L, I, O> {
+    Leaf(L),
+    Array(I),
+    Object(O),
+}
+
+/// Values of one type, each of which shows one level of itself.
+pub trait Source {
+    type Leaf: Leaf;
+
+    type Child: Copy;
+
+    type Items: Copy;
+
+    type Object: Copy;
+
+    type Members: Drop;
+
+    ghost meaning: { Meaning Self.Child Self.Items Self.Object Self.Members };
+
+    ghost laws: { Laws meaning };
+
+    /// One level of a child.
+    fn level(child: Self::Child) -> Level<Self::Leaf, Self::Items, Self::Object>
+        requires { (s : Shape) × meaning.child child s }
+        ensures is { (s : Shape) → meaning.child child s → Is Self.Leaf.code meaning result s }
+        ensures size { level_size meaning result ≤ meaning.child_size child }
+        ensures held { LevelHeld meaning result → meaning.child_held child };
+
+    /// About how long a child is written, where that is known at once. It is a guess, by which the
+    /// writer chooses what to measure first.
+    fn guess(child: Self::Child) -> Option<usize>;
+
+    /// How many items there are.
+    fn count(items: Self::Items) -> usize
+        ensures { (ss : Shapes) → meaning.items items ss → result ≡ count ss };
+
+    /// The first item, and the others.
+    fn split_item(items: Self::Items) -> Option<(Self::Child, Self::Items)>
+        requires { (ss : Shapes) × meaning.items items ss }
+        ensures split { (ss : Shapes) → meaning.items items ss → MatchOption result (ss ≡ no_shapes)
+            (λ x. AreSplit (λ key. key ≡ []) meaning.child meaning.items x ss) }
+        ensures size { IfSome result (λ x. meaning.child_size x.0 + meaning.items_size x.1
+            < meaning.items_size items) }
+        ensures held { MatchOption result (meaning.items_held items)
+            (λ x. meaning.child_held x.0 → meaning.items_held x.1 → meaning.items_held items) };
+
+    /// A walk over the members of an object.
+    fn members(object: Self::Object) -> Self::Members
+        ensures are { (ss : Shapes) → meaning.object object ss → meaning.members result ss }
+        ensures size { meaning.members_size result ≤ meaning.object_size object }
+        ensures held { meaning.members_held result → meaning.object_held object };
+
+    /// How many members are left.
+    fn members_left(members: &Self::Members) -> usize
+        ensures { (ss : Shapes) → meaning.members members.now ss → result ≡ count ss };
+
+    /// A second walk over the members that are left.
+    fn again(members: &Self::Members) -> Self::Members
+        ensures { (ss : Shapes) → meaning.members members.now ss → meaning.members result ss };
+
+    /// The first member, its key and its value, and the others.
+    fn split_member(members: Self::Members) -> Option<(Self::Leaf, (Self::Child, Self::Members))>
+        requires { (ss : Shapes) × meaning.members members ss }
+        ensures split { (ss : Shapes) → meaning.members members ss
+            → MatchOption result (ss ≡ no_shapes)
+            (λ x. AreSplit (λ key. Self.Leaf.code x.0 ≡ (STRING_TAG, key)) meaning.child
+            meaning.members x.1 ss) }
+        ensures size { IfSome result (λ x. meaning.child_size x.1.0 + meaning.members_size x.1.1
+            < meaning.members_size members) }
+        ensures held { MatchOption result (meaning.members_held members)
+            (λ x. meaning.child_held x.1.0 → meaning.members_held x.1.1
+            → meaning.members_held members) };
+}

@@ -1,0 +1,132 @@
+//! Lists and maps of values that are stored as they are.
+
+ghost use Rattle.std.specs.Prelude.{◌≡◌, ◌↔◌, ℕ, List, IsTrue, IsSome, ⊤};
+ghost use Rattle.jsonb_codec.specs.Code.{code_of};
+ghost use Rattle.jsonb_codec.specs.Stored.{stored_meaning, stored_laws};
+ghost use Rattle.jsonb_codec.specs.Stored.{part_code, code_of_some};
+
+use super::code::{Code, Payload};
+use super::source::{Level, Source};
+use crate::parts::Part;
+use std::collections::{BTreeMap, btree_map};
+
+/// What is stored as it is, if it has an entry, and then holds what its type says.
+pub trait Stored {
+    ghost stored: { Self → Type 0 };
+
+    ghost code: { Self → ℕ × List ℕ };
+
+    ghost held: { Self → Type 0 };
+
+    /// Whether it has an entry.
+    fn is_stored(&self) -> bool
+        ensures { IsTrue result ↔ stored self.now };
+
+    /// With what it is stored.
+    fn code<'s>(&'s self) -> Code<'s>
+        requires { stored self.now }
+        ensures code { code_of result ≡ code self.now }
+        ensures held { held self.now };
+}
+
+type Kind<'s, 'k, T> = Level<Code<'s>, &'s [T], &'s BTreeMap<&'k str, T>>;
+
+type Members<'s, 'k, T> = btree_map::Iter<'s, &'k str, T>;
+
+type Member<'s, 'k, T> = (Code<'s>, (&'s T, Members<'s, 'k, T>));
+
+/// Arrays are lists of such values, and objects are maps of them.
+impl<'s, 'k, T: Stored> Source for &'s BTreeMap<&'k str, T> {
+    type Leaf = Code<'s>;
+
+    type Child = &'s T;
+
+    type Items = &'s [T];
+
+    type Object = &'s BTreeMap<&'k str, T>;
+
+    type Members = Members<'s, 'k, T>;
+
+    ghost meaning = { stored_meaning T.stored T.code T.held };
+
+    ghost laws = { stored_laws T.stored T.code T.held };
+
+    #[inline(always)]
+    fn level(child: &'s T) -> Kind<'s, 'k, T> {
+        Level::Leaf(child.code())
+    }
+
+    #[inline(always)]
+    fn guess(_: &'s T) -> Option<usize> {
+        None
+    }
+
+    #[inline(always)]
+    fn count(items: &'s [T]) -> usize {
+        items.len()
+    }
+
+    #[inline(always)]
+    fn split_item(items: &'s [T]) -> Option<(&'s T, &'s [T])> {
+        match items {
+            [first, rest @ ..] => Some((first, rest)),
+            [] => None,
+        }
+    }
+
+    #[inline(always)]
+    fn members(object: &'s BTreeMap<&'k str, T>) -> Members<'s, 'k, T> {
+        object.iter()
+    }
+
+    #[inline(always)]
+    fn members_left(members: &Members<'s, 'k, T>) -> usize {
+        members.len()
+    }
+
+    #[inline(always)]
+    fn again(members: &Members<'s, 'k, T>) -> Members<'s, 'k, T> {
+        let Ok(members) = members.clone() else {
+            unreachable!();
+        };
+        members
+    }
+
+    #[inline(always)]
+    fn split_member(mut members: Members<'s, 'k, T>) -> Option<Member<'s, 'k, T>> {
+        let (key, first) = members.next()?;
+        Some((Code::of_text(*key), (first, members)))
+    }
+}
+
+/// A part of a document is stored as it stands there.
+#[inline(always)]
+pub fn part_code<'a>(part: Part<'a>) -> Code<'a>
+    ensures { code_of result ≡ part_code part.entry }
+{
+    Code {
+        type_code: part.tag,
+        payload: Payload::Bytes(part.payload),
+    }
+}
+
+impl<'a> Stored for Option<Part<'a>> {
+    ghost stored = { IsSome };
+
+    ghost code = { code_of_some };
+
+    ghost held = { λ part. ⊤ };
+
+    #[inline(always)]
+    fn is_stored(&self) -> bool {
+        self.is_some()
+    }
+
+    #[inline(always)]
+    fn code<'s>(&'s self) -> Code<'s> {
+        let Some(part) = self else {
+            unreachable!();
+        };
+        part_code(*part)
+    }
+}
