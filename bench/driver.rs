@@ -397,16 +397,25 @@ fn build(
     report(name, what, 5 * length, six - once, five);
 }
 
-// Containers inside one another, each the first of two children: so many levels of arrays, or of
-// objects.
-fn chain(levels: usize, objects: bool) -> Value<'static> {
+// Containers inside one another, so many levels of them, each beside a second child.
+#[derive(Clone, Copy)]
+enum Chain {
+    FirstInArrays,
+    FirstInObjects,
+    LastInArrays,
+    BesideEmpty,
+}
+
+fn chain(levels: usize, kind: Chain) -> Value<'static> {
     let one = || Value::Number(Number::UInt64(1));
-    (0..levels).fold(one(), |inner, _| match objects {
-        false => Value::Array(vec![inner, one()]),
-        true => Value::Object(BTreeMap::from([
+    (0..levels).fold(one(), |inner, _| match kind {
+        Chain::FirstInArrays => Value::Array(vec![inner, one()]),
+        Chain::FirstInObjects => Value::Object(BTreeMap::from([
             ("a".to_string(), inner),
             ("b".to_string(), one()),
         ])),
+        Chain::LastInArrays => Value::Array(vec![one(), inner]),
+        Chain::BesideEmpty => Value::Array(vec![inner, Value::Array(vec![])]),
     })
 }
 
@@ -422,8 +431,14 @@ fn halves(levels: usize) -> Value<'static> {
 fn nested() {
     let mut shapes: Vec<(String, Value)> = Vec::new();
     for levels in [100, 1_000, 10_000] {
-        shapes.push((format!("arrays {levels}"), chain(levels, false)));
-        shapes.push((format!("objects {levels}"), chain(levels, true)));
+        for (name, kind) in [
+            ("arrays", Chain::FirstInArrays),
+            ("objects", Chain::FirstInObjects),
+            ("last", Chain::LastInArrays),
+            ("beside", Chain::BesideEmpty),
+        ] {
+            shapes.push((format!("{name} {levels}"), chain(levels, kind)));
+        }
     }
     shapes.push(("halves 17".to_string(), halves(17)));
     for (name, value) in shapes {

@@ -75,9 +75,14 @@ def tables(found):
     builders = [[name, cell(found[f"{shape} array"]), cell(found[f"{shape} object"])]
                 for name, shape in [("numbers", "numbers"),
                                     ("objects of four strings", "objects")]]
-    nested = [[levels, cell(found[f"{levels} encode"]), cell(found[f"{levels} canon"])]
-              for levels in ["arrays 100", "arrays 1000", "arrays 10000", "objects 100",
-                             "objects 1000", "objects 10000", "halves 17"]]
+    nested = [[f"{name}{levels}", cell(found[f"{row}{levels} encode"]),
+               cell(found[f"{row}{levels} canon"])]
+              for name, row, depths in [("`[[..],1]`, ", "arrays ", [100, 1000, 10000]),
+                                        ('`{"a":..,"b":1}`, ', "objects ", [100, 1000, 10000]),
+                                        ("`[1,[..]]`, ", "last ", [100, 1000, 10000]),
+                                        ("`[[..],[]]`, ", "beside ", [100, 1000, 10000]),
+                                        ("a binary tree, ", "halves ", [17])]
+              for levels in depths]
     texts = [["parse, beside `from_str`", cell(found["text parse"])],
              ["parse, beside `from_str` and the crate's encoder", cell(found["text document"])],
              ["`to_string` of a view, beside `to_string`", cell(found["objects print"])],
@@ -89,7 +94,7 @@ def tables(found):
         table(["look-up of the", "first", "middle", "last"], look_ups),
         table(["sort of 100,000", "views (`RawJsonb`)", "keys checked once (`SortKey`)"], sorts),
         table(["100,000 documents put together", "array", "object"], builders),
-        table(["containers in one another", "encoder", "canonical form"], nested),
+        table(["containers in one another, levels", "encoder", "canonical form"], nested),
         table(["texts, beside serde_json", ""], texts),
         table(["a column of 100,000 rows", ""], column),
     ])

@@ -24,8 +24,8 @@ returns-clause-means c =
     (λ owned. IsArrayOf c.args.self (owned_bytes owned)) (AreHeld c.args.self)
     (returns-clause-ok c)
     (on_ok_weaker made.result
-        (λ h. rw (← c.self.view_is) (items_held _ (rw c.deref.ensures.value at h)))
-        made.ensures.held))
+    (λ h. rw (← c.self.view_is) (items_held _ (rw c.deref.ensures.value at h)))
+    made.ensures.held))
 
 pub returns-clause-memory : goal.returns-clause-memory
 returns-clause-memory c =
