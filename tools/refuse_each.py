@@ -108,8 +108,6 @@ LINES = {
         ("to_string 80000000", "ok 5b5d"),
         ("to_pretty_string 2000000000000000", "ok 6e756c6c"),
         ("display 01020304", "ok 01020304"),
-        (f"document {OBJECT}", "same object 2 depth 2 children 2"),
-        ("document 01020304", "error NoDocument"),
         (f"document_item_type {OBJECT}", "ok object 2"),
         (f"document_within {OBJECT} 1", "false"),
         ("document_value_of 20000000200000024000", "ok 200000002000000100"),

@@ -3,9 +3,7 @@
 use crate::line::words_of;
 use crate::lookup::Keys;
 use crate::refusal::Refusal;
-use crate::{
-    agreement, builders, documents, items, lookup, order, payloads, single, texts, walks, words,
-};
+use crate::{builders, documents, items, lookup, order, payloads, single, texts, walks, words};
 use std::alloc::Global;
 
 /// What a line is answered: a name of a command, and as many words as it takes.
@@ -49,7 +47,6 @@ fn answer_one(alloc: Global, name: &[u8], word: &[u8]) -> Result<String, Refusal
 // The commands that ask a document.
 fn answer_of_document(alloc: Global, name: &[u8], word: &[u8]) -> Result<String, Refusal> {
     match name {
-        b"document" => agreement::document(alloc, word),
         b"document_item_type" => single::item_type(alloc, word),
         b"document_value_of" => single::value_of(alloc, word),
         b"document_is_canonical" => single::is_canonical(alloc, word),

@@ -2,7 +2,6 @@
 //! bytes, and is answered by one line on standard output.
 #![tactic(auto)]
 
-mod agreement;
 mod builders;
 mod command;
 mod documents;
