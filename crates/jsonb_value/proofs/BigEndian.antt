@@ -1,5 +1,5 @@
--- Whole numbers as bytes, the highest first: a number read back from its bytes, and bytes written
--- again of their number.
+-- Integers as big-endian bytes: a number decoded from its bytes, and bytes encoded from their
+-- number.
 use Rattle.std.proofs.Common.{◌≡◌, ◌<◌, ◌≤◌, ◌+◌, ◌*◌, ◌/◌, ◌^◌, ℕ, ℤ, zero, suc, List, [], ◌∷◌}
 use Rattle.std.proofs.Common.{◌++◌, length, take, get_or, refl, sym, ap, ap₂, subst, ◌∙◌, arith}
 use Rattle.std.proofs.Common.{append-nil}
@@ -16,11 +16,11 @@ use Rattle.byteorder.specs.Numbers.{big_from-cons, big_from-lt}
 use Rattle.jsonb_value.specs.Payload.{IsUnsigned, IsSigned}
 use Rattle.jsonb_value.specs.NumCode.{signed_bytes}
 
--- each is a byte
+-- every element is a byte
 abbrev pub AreBytes : List ℕ → Type 0
 AreBytes bs = (i : ℕ) → get_or bs i 0 < 256
 
--- the parts of bytes are bytes
+-- equal lists have the same property
 pub AreBytes-equal : (bs cs : List ℕ) → bs ≡ cs → AreBytes bs → AreBytes cs
 AreBytes-equal bs cs e h = subst (λ xs. AreBytes xs) e h
 
@@ -40,7 +40,7 @@ AreBytes-bytes_high_first (suc zero) n zero = mod-lt n (omega arith)
 AreBytes-bytes_high_first (suc (suc k)) n zero = grind (arith, mod-lt)
 AreBytes-bytes_high_first (suc k) n (suc i) = AreBytes-bytes_high_first k n i
 
--- so many bytes with one number are the same
+-- two byte strings of one length with the same number are equal
 big_number-same : (bs cs : List ℕ) → AreBytes bs → AreBytes cs → length bs ≡ length cs
     → big_number (length bs) bs ≡ big_number (length bs) cs → bs ≡ cs
 big_number-same [] [] h k n e = refl
@@ -59,7 +59,7 @@ big_number-same (b ∷ bs) (c ∷ cs) h k n e =
     ap₂ (λ (x : ℕ) (xs : List ℕ). x ∷ xs) first
     (big_number-same bs cs (λ i. h (suc i)) (λ i. k (suc i)) (omega arith) rest)
 
--- a width's number of bytes is read as `byteorder` reads it
+-- `from_be_bytes` agrees with the number that `byteorder` reads
 pub from_be_bytes-number : (w : Width) (bs : List ℕ)
     → from_be_bytes w bs ≡ big_number (byte_len w) bs
 from_be_bytes-number w bs = grind arith
@@ -70,7 +70,7 @@ pow-byte_len w = grind arith
 pub length-to_be_bytes : (w : Width) (n : ℕ) → length (to_be_bytes w n) ≡ byte_len w
 length-to_be_bytes w n = grind arith
 
--- a number read back
+-- decoding an encoded number gives the number
 from_be_bytes-to_be_bytes : (w : Width) (n : ℕ) → n < 2 ^ bits w
     → from_be_bytes w (to_be_bytes w n) ≡ n
 from_be_bytes-to_be_bytes w n small = grind (arith, from_be_bytes-number, append-nil, pow-byte_len)
@@ -78,7 +78,7 @@ from_be_bytes-to_be_bytes w n small = grind (arith, from_be_bytes-number, append
 from_be_bytes-small : (w : Width) (bs : List ℕ) → AreBytes bs → from_be_bytes w bs < 2 ^ bits w
 from_be_bytes-small w bs h = grind (arith, pow-byte_len, from_be_bytes-number)
 
--- bytes written again
+-- encoding a decoded number gives its bytes
 to_be_bytes-from_be_bytes : (w : Width) (bs : List ℕ) → length bs ≡ byte_len w → AreBytes bs
     → to_be_bytes w (from_be_bytes w bs) ≡ bs
 to_be_bytes-from_be_bytes w bs n h =
@@ -92,13 +92,13 @@ to_be_bytes-from_be_bytes w bs n h =
       AreBytes-bytes_high_first,
     )
 
--- the first bytes are those of the number that is read of them, which is cast to its bits and back
+-- the first bytes encode the signed number that is read from them, cast to its bits and back
 pub IsSigned-read : (w : Width) (bs : List ℕ) (v : ℤ) → SFits w v → byte_len w ≤ length bs
     → v ≡ cast_signed w (big_number (byte_len w) bs)
     → IsSigned w (take (byte_len w) bs) (to_z w (of_z w v))
 IsSigned-read w bs v fits room e = grind (arith, to_z-of_z, from_be_bytes-number)
 
--- a signed number read back, and its bytes written again
+-- the bytes of a signed number decode to it
 pub IsSigned-signed_bytes : (w : Width) (v : ℤ) → FitsSigned w v → IsSigned w (signed_bytes w v) v
 IsSigned-signed_bytes w v fits =
     grind (arith, length-to_be_bytes, from_be_bytes-to_be_bytes, to_z-of_z)
@@ -112,7 +112,7 @@ pub IsSigned-fits : (w : Width) (bs : List ℕ) (v : ℤ) → AreBytes bs → Is
     → FitsSigned w v
 IsSigned-fits w bs v h is = grind (arith, sfits_to_z, from_be_bytes-small)
 
--- the same of an unsigned one
+-- the bytes of an unsigned number decode to it
 pub IsUnsigned-to_be_bytes : (w : Width) (n : ℕ) → n < 2 ^ bits w → IsUnsigned w (to_be_bytes w n) n
 IsUnsigned-to_be_bytes w n small = grind (arith, length-to_be_bytes, from_be_bytes-to_be_bytes)
 

@@ -1,4 +1,4 @@
--- What the payload of a number can begin with, and that it means one number at most.
+-- Which bytes a number's payload can begin with, and that a payload means at most one number.
 use Rattle.std.proofs.Common.{◌≡◌, ◌⊎◌, ◌+◌, ◌-◌, ◌≤◌, ℕ, ℤ, List, [], ◌∷◌, ◌++◌, length, take}
 use Rattle.std.proofs.Common.{drop, get_or, cond, eqb, sym, ap, ◌∙◌, inl, inr, arith}
 use Rattle.std.proofs.Common.{Option, Ok, IfSome, IfNone, ok_or}
@@ -66,7 +66,7 @@ decimal128_at-value : (rest : List ℕ) (scale : ℕ) (value : ℤ)
 decimal128_at-value rest scale value (inl h) = grind (arith, common_steps)
 decimal128_at-value rest scale value (inr h) = grind (arith, common_steps)
 
--- a payload means what its tag and its length say
+-- a payload means what its tag and its length determine
 NumCode-value : (p : List ℕ) (x : Number) → NumCode p x → number_at p ≡ x
 NumCode-value p (Int64 v) (rest, (e, h)) = grind (arith, IsSignedNumber-value)
 NumCode-value p (UInt64 n) (inl (e, z)) = ap number_at e ∙ ap UInt64 (sym z)
@@ -80,7 +80,7 @@ NumCode-value p (Decimal128 d) (rest, (e, h)) =
 pub NumCode-unique : (p : List ℕ) (x y : Number) → NumCode p x → NumCode p y → x ≡ y
 NumCode-unique p x y h k = sym (NumCode-value p x h) ∙ NumCode-value p y k
 
--- behind 64 stands a signed number, and behind 80 an unsigned one
+-- after the tag 64 follows a signed number, after 80 an unsigned one
 pub signed_behind : (t : ℕ) (rest : List ℕ) (x : Number) → t ≡ 64 → NumCode (t ∷ rest) x → (v : ℤ)
     × IsSignedNumber rest v
 signed_behind t rest x e h = grind arith
@@ -89,7 +89,7 @@ pub unsigned_behind : (t : ℕ) (rest : List ℕ) (x : Number) → t ≡ 80 → 
     → (n : ℕ) × IsUnsignedNumber rest n
 unsigned_behind t rest x e h = grind arith
 
--- the last byte apart, and the last two
+-- the last byte split off, or the last two
 pub split_last : (n : ℕ) (xs : List ℕ) → length xs ≡ n + 1 → xs ≡ take n xs ++ get_or xs n 0 ∷ []
 split_last n xs e = grind (arith, common_steps)
 
@@ -113,17 +113,17 @@ NumCode-first t rest x h = grind arith
 pub IfNone-from : {A : Type 0} (o : Option A) (P : Type 0) → P → IfNone o P
 IfNone-from o P h = grind arith
 
--- A reader that finds only what is meant, and misses nothing, finds exactly what is meant.
+-- A decoder that returns only what the payload means, and never misses it, returns exactly that.
 pub only_meant : (p : List ℕ) (o : Option Number) (e : Error) → IfSome o (λ x. NumCode p x)
     → IfNone o ((x : Number) → NumCode p x → ⊥) → (x : Number) → NumCode p x → ok_or o e ≡ Ok x
 only_meant p o e found none x h = grind (arith, NumCode-unique)
 
--- as a pattern [tag, rest @ ..] takes it apart
+-- a list split as by the pattern [tag, rest @ ..]
 pub split_first : (xs : List ℕ) → 1 ≤ length xs
     → xs ≡ get_or xs 0 0 ∷ take (length xs - 1) (drop 1 xs)
 split_first xs h = grind (arith, common_steps)
 
--- the bytes that are written of a signed number
+-- the bytes that are written for a signed number
 pub written_bytes : (w : Width) (v : ℤ) (rest bytes : List ℕ) → SFits w v
     → bytes ≡ signed_bytes w (to_z w (of_z w v)) ++ rest → bytes ≡ signed_bytes w v ++ rest
 written_bytes w v rest bytes fits e =

@@ -1,4 +1,4 @@
--- The digits of a decimal are those of its magnitude, cut in two or with zeros in front.
+-- The digits of a decimal are those of its magnitude, split in two or padded with zeros.
 use Rattle.std.proofs.Common.{◌≡◌, ℕ, zero, suc, ◌+◌, ◌-◌, ◌/◌, ◌%◌, ◌^◌, ◌<◌, ◌≤◌, List, [], ◌∷◌}
 use Rattle.std.proofs.Common.{◌++◌, length, take, drop, refl, sym, ap, ◌∙◌, inl, inr, arith}
 use Rattle.std.proofs.Common.{append_assoc, append-nil, length-append, decimal, codes}
@@ -15,7 +15,7 @@ length-last_digits (suc s) m = grind (arith, length-append, length-last_digits s
 some_digit : (m : ℕ) → m < 10 ^ 64 → 0 < length (decimal m)
 some_digit m small = grind (arith, cases_lt, decimal_digit, decimal_step_wide, length-append)
 
--- where there are more digits than the scale counts
+-- if there are more digits than the scale
 digits_in_two : (s m : ℕ) → m < 10 ^ 64 → s < length (decimal m)
     → decimal m ≡ decimal (front_of s m) ++ last_digits s m
 digits_in_two zero m small long = sym (append-nil (decimal m))
@@ -65,7 +65,7 @@ record IsBehindZeros (s m : ℕ) : Type 0 where
   front : front_of s m ≡ 0
   digits : repeat (s - length (decimal m)) (codes "0") ++ decimal m ≡ last_digits s m
 
--- where there are no more digits than the scale counts
+-- if there are no more digits than the scale
 behind_zeros : (s m : ℕ) → m < 10 ^ 64 → length (decimal m) ≤ s → IsBehindZeros s m
 behind_zeros zero m small short = grind (arith, some_digit)
 behind_zeros (suc s) m small short =

@@ -1,5 +1,4 @@
--- A string's content in runs: what stands before the first byte that is escaped, and what follows
--- it.
+-- The content of a string in runs: the bytes before the first escaped one, and the bytes after it.
 use Rattle.std.proofs.Common.{◌≡◌, ℕ, suc, ◌+◌, ◌<◌, ◌≤◌, true, false, List, [], ◌∷◌, ◌++◌, Some}
 use Rattle.std.proofs.Common.{None, length, take, drop, get_or, flat_map, refl, sym, ap, ◌∙◌, inl}
 use Rattle.std.proofs.Common.{inr, arith, add-one, ap₂, nat_lt, take-append-drop, position}
@@ -24,7 +23,7 @@ plain_front (x ∷ xs) plain =
     let first : is_escaped x ≡ false = plain 0 (omega arith) in
     rw first (ap (λ (l : List ℕ). x ∷ l) (plain_front xs (λ k below. plain (suc k) (omega arith))))
 
--- where the first escaped byte stands
+-- the position of the first escaped byte
 pub record IsRun (s : List ℕ) (at : ℕ) : Type 0 where
   pub within : at < length s
   pub ascii : get_or s at 0 < 128

@@ -1,4 +1,4 @@
--- The payload of an extension value means one value at most.
+-- The payload of an extension value means at most one value.
 use Rattle.std.proofs.Common.{◌≡◌, ◌≢◌, ◌≤◌, ◌⊎◌, ◌+◌, ℕ, ℤ, pos, List, [], ◌∷◌, ◌++◌, length, take}
 use Rattle.std.proofs.Common.{drop, cond, eqb, refl, sym, ap, ◌∙◌, inl, inr, arith}
 use Rattle.std.proofs.Common.{length-append, get_or, ◌-◌}
@@ -95,7 +95,7 @@ ExtCode-value p (opaque tag bytes) (known, e) = grind (arith, extension_at-opaqu
 pub ExtCode-unique : (p : List ℕ) (e f : Extension) → ExtCode p e → ExtCode p f → e ≡ f
 ExtCode-unique p e f h k = sym (ExtCode-value p e h) ∙ ExtCode-value p f k
 
--- what stands behind each tag
+-- what follows each tag
 pub date_behind : (t : ℕ) (rest : List ℕ) (e : Extension) → t ≡ 16 → ExtCode (t ∷ rest) e
     → (d : Date) × IsSigned w32 rest d.value
 date_behind t rest e q h = grind arith
@@ -112,7 +112,7 @@ pub interval_behind : (t : ℕ) (rest : List ℕ) (e : Extension) → t ≡ 64 �
     → (d : Interval) × IsInterval rest d
 interval_behind t rest e q h = grind arith
 
--- as &xs[k..] is read
+-- the range &xs[k..]
 pub whole_rest : (k : ℕ) (xs : List ℕ) → take (length xs - k) (drop k xs) ≡ drop k xs
 whole_rest k xs = grind (arith, common_steps)
 
@@ -159,7 +159,7 @@ IsInterval-from bytes m d u n h k j = record {
   micros = j;
 }
 
--- what a payload of another tag can be
+-- a payload with any other tag means no extension value
 pub no_other : (t : ℕ) (rest : List ℕ) → t ≢ 0 → t ≢ 16 → t ≢ 32 → t ≢ 48 → t ≢ 64
     → (IsOpaqueTag t → ⊥) → (e : Extension) → ExtCode (t ∷ rest) e → ⊥
 no_other t rest a b c d f none e h = grind arith

@@ -9,7 +9,7 @@ use Rattle.std.specs.Cmp.{IsTotalOrder, int_cmp_total}
 use Rattle.jsonb_value.specs.Fraction.{Fraction, fraction_cmp}
 use Rattle.jsonb_value.proofs.Scaling.{*ℤ-pos-pos, int_cmp-scaled}
 
--- R tells three values apart as three whole numbers are told apart
+-- R orders three values as it orders three integers
 pub record Placed {K : Type 0} (R : K → K → Ordering) (x y z : K) : Type 0 where
   pub first : ℤ
   pub second : ℤ
@@ -62,7 +62,7 @@ placed_fractions x y z =
 pub fraction_cmp_total : IsTotalOrder fraction_cmp
 fraction_cmp_total = grind (arith, common_steps, total_by_places, placed_fractions)
 
--- a smaller scale is raised to the greater one
+-- the smaller scale is raised to the greater one
 pub aligned : (x y : Fraction) → x.scale ≤ y.scale
     → int_cmp (x.value *ℤ pos (10 ^ (y.scale - x.scale))) y.value ≡ fraction_cmp x y
 aligned x y h =
@@ -74,7 +74,7 @@ aligned x y h =
     (*ℤ-pos-pos x.value (10 ^ (y.scale - x.scale)) (10 ^ x.scale) ∙ ap
     (λ n. x.value *ℤ pos n) raised)
 
--- the same, where the comparison was made the other way round
+-- as `aligned`, with the comparison made the other way round
 pub aligned_back : (x y : Fraction) → y.scale ≤ x.scale
     → ordering_reverse (int_cmp (y.value *ℤ pos (10 ^ (x.scale - y.scale))) x.value)
     ≡ fraction_cmp x y

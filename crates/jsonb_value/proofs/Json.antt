@@ -15,3 +15,4 @@ pub mod TextSteps
 pub mod ValueSteps
 pub mod Documents
 pub mod Examples
+pub mod Scanned

@@ -1,4 +1,4 @@
--- The kinds decide where they differ, and which zero a tree holds decides nothing.
+-- Trees of different kinds compare by kind, and signed and unsigned zeros compare alike.
 use Rattle.std.proofs.Common.{arith}
 use Rattle.std.specs.Prelude.{◌≡◌, ◌≢◌, refl}
 use Rattle.std.specs.declared.cmp.Ordering.TheVariants.{Equal}

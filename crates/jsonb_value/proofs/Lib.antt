@@ -22,3 +22,5 @@ pub mod PayloadDecision
 mod PayloadLengths
 pub mod Output
 pub mod NormTexts
+pub mod ScanLaws
+pub mod DepthLaws

@@ -25,7 +25,7 @@ abbrev meant_bytes : Meaning → List ℕ
 meant_bytes (document x) = []
 meant_bytes (other_bytes b) = b
 
--- first whether there is a tree, then the tree, then the bytes
+-- compares first by whether there is a tree, then by the tree, then by the bytes
 abbrev by_parts : Meaning → Meaning → Ordering
 by_parts = then_cmp (on is_bytes bool_cmp)
     (then_cmp (on meant_tree (option_cmp tree_cmp)) (on meant_bytes (slice_cmp nat_cmp)))

@@ -1,4 +1,4 @@
--- Members put in one after another, beside a map that is made of all at once.
+-- Inserting members one by one gives the same object as building a map from all of them.
 use Rattle.std.proofs.Common.{arith}
 use Rattle.std.proofs.Common.{◌≡◌, List, [], ◌∷◌, ◌++◌, Bool, true, false, cond, Option, None}
 use Rattle.std.proofs.Common.{Some, String, Global, refl, sym, ap, subst, ◌∙◌}
@@ -25,7 +25,7 @@ use Rattle.std.proofs.lemmas.Map.Entries.{lookup_head, lookup_tail, none_past_he
 abbrev Held : Type 0
 Held = List (String Global × Value)
 
--- one more behind those that were put in
+-- appending one more member inserts it last
 pub with_members-push : (es ms : Held) (k : String Global) (v : Value)
     → with_members es (ms ++ (k, v) ∷ []) ≡ insert_entry string_cmp (with_members es ms) k v
 with_members-push es [] k v = refl
@@ -86,9 +86,9 @@ sorted_with_all es [] h = h
 sorted_with_all es (m ∷ ms) h =
     sorted_with_all (insert_entry string_cmp es m.0 m.1) ms (sorted_with es m.0 m.1 h)
 
--- ---- what stands at a key
+-- ---- the value at a key
 
--- what a map of these entries has at a key
+-- the value of a map with these entries at a key
 abbrev pub at : List (String Global × Value) → String Global → Option Value
 at es q = lookup (is_at (string_cmp q)) es
 
@@ -100,14 +100,14 @@ at-own : (e : String Global × Value) (es : List (String Global × Value))
     → at (e ∷ es) e.0 ≡ Some e.1
 at-own e es = at-head e es e.0 (tied_itself string_cmp_total e.0)
 
--- a key below the first is none of them
+-- a key below the first is not among them
 at-below : (e : String Global × Value) (es : List (String Global × Value)) (q : String Global)
     → IsStrictlySortedBy string_cmp (keys_of (e ∷ es)) → string_cmp q e.0 ≡ Less
     → at (e ∷ es) q ≡ None
 at-below e es q sorted below = lookup-none (is_at (string_cmp q)) (e ∷ es)
     (none_below_head string_cmp_total q e es sorted below)
 
--- and so is the first key behind itself
+-- the first key does not occur again after itself
 at-again : (e : String Global × Value) (es : List (String Global × Value)) (q : String Global)
     → IsStrictlySortedBy string_cmp (keys_of (e ∷ es)) → is_eq (string_cmp q e.0) ≡ true
     → at es q ≡ None
@@ -119,7 +119,7 @@ at-again e es q sorted same =
 is_none : (v : Value) (P : Type 0) → Some v ≡ None → P
 is_none v P e = cc
 
--- two lists of ascending keys with the same values at all keys
+-- two lists of ascending keys with the same value at each key
 module _ (e n : String Global × Value) (es ns : List (String Global × Value))
     (ascend : IsStrictlySortedBy string_cmp (keys_of (e ∷ es)))
     (ascends : IsStrictlySortedBy string_cmp (keys_of (n ∷ ns)))
@@ -205,7 +205,7 @@ at_with_all f es (m ∷ ms) h q =
 
 -- ---- the map
 
--- a map that is made of all at once has what these become with each of the others put in
+-- a map built from all entries equals the one with the others inserted one by one
 pub made_at_once : (es ms all : Held) (n : BTreeMap (String Global) Value)
     → IsStrictlySortedBy string_cmp (keys_of es) → all ≡ es ++ ms
     → IsFromIterResult string_cmp all n → pairs_view n.entries ≡ pairs_view (with_members es ms)

@@ -1,4 +1,4 @@
--- Texts do not tell a tree from its normal form.
+-- A tree and its normal form have the same text.
 use Rattle.std.proofs.Common.{arith}
 use Rattle.std.proofs.Common.{◌≡◌, refl}
 use Rattle.jsonb_value.specs.declared.number.Number.{Number}

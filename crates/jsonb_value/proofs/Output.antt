@@ -1,4 +1,5 @@
--- A payload that means a number or an extension value is the written one exactly if it is as long.
+-- A payload that means a number or an extension value is the written one exactly if it has the same
+-- length.
 use Rattle.std.proofs.Common.{◌⊎◌, ◌≡◌, ℕ, ℤ, zero, suc, pos, negsuc, List, [], ◌∷◌, ◌++◌}
 use Rattle.std.proofs.Common.{length, inl, inr, sym, ap₂, ◌∙◌, arith}
 use Rattle.std.proofs.Common.{length-append}
@@ -24,12 +25,12 @@ use Rattle.jsonb_value.proofs.PayloadDecision.{IsOldZoned-length}
 same_width : (w x : Width) → byte_len w ≡ byte_len x → w ≡ x
 same_width w x e = grind arith
 
--- what holds at one of the widths holds at the one of that length
+-- what holds at one of the widths holds at the width of that length
 at_width : (Is : Width → Type 0) (n : ℕ) → ((w : Width) → Is w → n ≡ byte_len w)
     → (w : Width) → n ≡ byte_len w → Is w8 ⊎ (Is w16 ⊎ (Is w32 ⊎ Is w64)) → Is w
 at_width Is n len w e h = grind (arith, same_width)
 
--- bytes of a width are the number's bytes of that width
+-- bytes that decode to a number, in the width they are written in, are the number's bytes
 signed_as_written : (w : Width) (bs : List ℕ) (v : ℤ) → AreBytes bs → IsSignedNumber bs v
     → length bs ≡ length (signed_bytes w v) → signed_bytes w v ≡ bs
 signed_as_written w bs v h is long = signed_bytes-IsSigned w bs v h
@@ -73,7 +74,7 @@ decimal_written : (w : Width) (bs : List ℕ) (v : ℤ) (s : ℕ) → AreBytes b
 decimal_written w bs v s h (front, (e, is)) =
     rw (signed_bytes-IsSigned w front v (AreBytes-front front (s ∷ []) (rw e at h)) is) (sym e)
 
--- what is as long as the written payload is the written one
+-- a payload as long as the written one is the written one
 pub number_payload-NumCode : (p : List ℕ) (x : Number) → AreBytes p → NumCode p x
     → length p ≡ length (number_payload x) → number_payload x ≡ p
 number_payload-NumCode p (Int64 v) h (rest, (e, is)) long = signed_payload p rest v e h is long

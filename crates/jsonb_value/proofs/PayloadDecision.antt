@@ -1,4 +1,4 @@
--- Each payload means a number or means none, and the same of extension values.
+-- Whether a payload means a number is decidable; likewise for extension values.
 use Rattle.std.proofs.Common.{◌≡◌, ◌≤◌, ◌+◌, ◌-◌, ◌⊎◌, ℕ, List, [], ◌∷◌, length, take}
 use Rattle.std.proofs.Common.{drop, inl, inr, refl, ap, arith}
 use Rattle.std.proofs.lemmas.Bool.{cases_eq, cases_lt}
@@ -23,19 +23,19 @@ use Rattle.jsonb_value.proofs.ExtCodes.{date_behind, timestamp_behind, zoned_beh
 use Rattle.jsonb_value.proofs.ExtCodes.{interval_behind, no_other, IsZoned-from, IsOldZoned-from}
 use Rattle.jsonb_value.proofs.ExtCodes.{IsInterval-from}
 
--- It holds, or it is refuted.
+-- The statement or its negation holds.
 abbrev pub Decided : Type 0 → Type 0
 Decided P = P ⊎ (P → ⊥)
 
--- where another fact holds exactly with it
+-- an equivalent statement
 pub decided_by : {P Q : Type 0} → (P → Q) → (Q → P) → Decided P → Decided Q
 decided_by onward back h = grind arith
 
--- one of two facts
+-- a disjunction
 either : {P Q : Type 0} → Decided P → Decided Q → Decided (P ⊎ Q)
 either h q = grind arith
 
--- The length decides what number the bytes behind a tag mean.
+-- The length determines which number the bytes after a tag mean.
 decide_whole : (n : ℕ) → Decided (IsWholeLength n)
 decide_whole n = grind (arith, either, cases_eq)
 
@@ -70,7 +70,7 @@ decide_number [] = inr none
     none : ((x : Number) × NumCode [] x) → ⊥
     none found = grind arith
 
--- the same of an extension value
+-- whether bytes mean a date
 decide_date : (rest : List ℕ) → Decided ((d : Date) × IsSigned w32 rest d.value)
 decide_date rest = decided_by
     (λ n. (record { value = _ }, record { len = n; value = refl })) (λ found. found.1.len)
@@ -90,7 +90,7 @@ IsOldZoned-length rest t h = grind (arith, common_steps)
 IsInterval-length : (rest : List ℕ) (i : Interval) → IsInterval rest i → length rest ≡ 16
 IsInterval-length rest i h = grind (arith, common_steps)
 
--- the number in the bytes from one place up to another
+-- the number in a range of bytes
 signed_within : (w : Width) (k : ℕ) (rest : List ℕ) → k + byte_len w ≤ length rest
     → let part = take (byte_len w) (take (length rest - k) (drop k rest)) in
     IsSigned w part (cast_signed w (from_be_bytes w part))

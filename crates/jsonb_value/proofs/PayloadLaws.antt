@@ -1,4 +1,5 @@
--- A written payload means what was written, and what a payload of bytes means is within its type.
+-- A written payload means what was written, and what a payload of bytes means is in the range of
+-- its type.
 use Rattle.std.proofs.Common.{◌≡◌, ◌≤◌, ◌<◌, ◌^◌, ◌*ℤ◌, ℕ, ℤ, zero, suc, pos, negsuc, List, []}
 use Rattle.std.proofs.Common.{◌∷◌, ◌++◌, Bool, true, false, if◌then◌else◌, refl, inl}
 use Rattle.std.proofs.Common.{inr, arith, le_trans}
@@ -24,7 +25,7 @@ use Rattle.jsonb_value.proofs.BigEndian.{AreBytes, AreBytes-equal, AreBytes-fron
 use Rattle.jsonb_value.proofs.BigEndian.{IsSigned-signed_bytes, IsSigned-fits}
 use Rattle.jsonb_value.proofs.BigEndian.{IsUnsigned-to_be_bytes, IsUnsigned-small}
 
--- a choice by what was tested
+-- a property of both branches holds for the conditional
 pub by_test : {A : Type 0} (P : A → Type 0) (b : Bool) (x y : A) → (b ≡ true → P x)
     → (b ≡ false → P y) → P (if b then x else y)
 by_test P b x y passed failed = grind arith
@@ -38,7 +39,7 @@ IsSignedNumber-shortest v fits = grind (arith, by_test, IsSigned-signed_bytes, f
 IsUnsignedNumber-shortest : (n : ℕ) → n < 2 ^ 64 → IsUnsignedNumber (shortest_unsigned n) n
 IsUnsignedNumber-shortest n small = grind (arith, by_test, IsUnsigned-to_be_bytes, ltb-true)
 
--- what is written of a number means it, a signed zero as the unsigned one
+-- the payload written for a number means it, with a signed zero made unsigned
 pub NumCode-number_payload : (x : Number) → IsNumber x → NumCode (number_payload x) (norm_number x)
 NumCode-number_payload (Int64 (pos zero)) h = inl (refl, refl)
 NumCode-number_payload (Int64 (pos (suc n))) h = grind (arith, IsSignedNumber-shortest)
@@ -53,7 +54,7 @@ NumCode-number_payload (Decimal128 d) h =
 pub number_payload-norm_number : (x : Number) → number_payload (norm_number x) ≡ number_payload x
 number_payload-norm_number x = grind arith
 
--- what is written of an extension value means it
+-- the payload written for an extension value means it
 pub ExtCode-extension_payload : (e : Extension) → IsExtension e → ExtCode (extension_payload e) e
 ExtCode-extension_payload (binary bytes) h = refl
 ExtCode-extension_payload (date d) h = grind (arith, IsSigned-signed_bytes)
@@ -88,7 +89,7 @@ ExtCode-extension_payload (interval i) h = (
 )
 ExtCode-extension_payload (opaque tag bytes) h = (h.0, refl)
 
--- Of what bytes mean each number is within its type:
+-- a signed number in at most 64 bits fits 64 bits
 signed_within : (w : Width) (bs : List ℕ) (v : ℤ) → hbits w ≤ 63 → AreBytes bs → IsSigned w bs v
     → FitsSigned w64 v
 signed_within w bs v narrow h is = wider (IsSigned-fits w bs v h is)
@@ -123,7 +124,7 @@ IsOldDecimal-within bs v s h (front, (p, (e, is))) =
 pub behind_tag : (p rest : List ℕ) (tag : ℕ) → p ≡ tag ∷ rest → AreBytes p → AreBytes rest
 behind_tag p rest tag e h = λ i. AreBytes-equal p (tag ∷ rest) e h (suc i)
 
--- a number,
+-- a number's payload means a number in the range of its type
 pub IsNumber-NumCode : (p : List ℕ) (x : Number) → AreBytes p → NumCode p x → IsNumber x
 IsNumber-NumCode p (Int64 v) h (rest, (e, is)) =
     IsNumber-signed rest v (behind_tag p rest 64 e h) is
@@ -143,7 +144,7 @@ mag-neg_ℤ m = grind arith
 hours_within : (hours : ℤ) → FitsSigned w8 hours → FitsSigned w32 (hours *ℤ pos 3600)
 hours_within hours f = grind (arith, mag-neg_ℤ)
 
--- and an extension value.
+-- an extension value's payload means fields in the range of their types
 pub IsExtension-ExtCode : (p : List ℕ) (e : Extension) → AreBytes p → ExtCode p e → IsExtension e
 IsExtension-ExtCode p (binary bytes) h c = tt
 IsExtension-ExtCode p (date d) h (rest, (e, is)) = grind (arith, IsSigned-fits, behind_tag)

@@ -1,4 +1,4 @@
--- A payload of a known first byte means a number by its length alone.
+-- Whether a payload with a known first byte means a number depends only on its length.
 use Rattle.std.proofs.Common.{◌≡◌, ◌≤◌, ◌↔◌, ◌⊎◌, IsTrue, ℕ, zero, suc, ℤ, List, []}
 use Rattle.std.proofs.Common.{◌∷◌, length, take, inl, inr, refl, sym, arith}
 use Rattle.std.proofs.lemmas.List.{length-take-le}
@@ -14,7 +14,7 @@ use Rattle.jsonb_value.proofs.Codes.{signed_behind, unsigned_behind, IsDecimal-f
 use Rattle.jsonb_value.proofs.Codes.{IsOldDecimal-from}
 use Rattle.std.proofs.lemmas.Grind.{common_steps}
 
--- what bytes of a length mean, and the lengths of what means something
+-- bytes of these lengths mean a number, and bytes that mean a number have these lengths
 signed_of_length : (bs : List ℕ) → IsWholeLength (length bs) → (v : ℤ) × IsSignedNumber bs v
 signed_of_length bs (inl n) = (_, inl record { len = n; value = refl })
 signed_of_length bs (inr (inl n)) = (_, inr (inl record { len = n; value = refl }))
@@ -77,11 +77,11 @@ pub NumCode-zero : (tag n : ℕ) → tag ≡ 0 → (rest : List ℕ) → length 
 NumCode-zero tag n e [] len = (λ none. (UInt64 0, inl (cc, refl)), λ found. sym len)
 NumCode-zero tag n e (y ∷ ys) len = grind arith
 
--- a test of one of two facts that hold together is a test of the other
+-- equivalence is transitive
 pub tested : {P Q R : Type 0} → (P ↔ Q) → (Q ↔ R) → P ↔ R
 tested f g = (λ p. g.0 (f.0 p), λ r. f.1 (g.1 r))
 
--- the lengths of whole numbers are the powers of two up to 8
+-- the lengths of integers are the powers of two up to 8
 pub is_power_of_two-whole : (n : ℕ) → n ≤ 8 → IsTrue (is_power_of_two n) ↔ IsWholeLength n
 unfolding lib.Count.ones
 is_power_of_two-whole zero le = grind arith

@@ -1,4 +1,4 @@
--- Runs of bytes that are not escaped, seen a vector at a time through the mask of those that are.
+-- Runs of unescaped bytes, tested a vector at a time by the mask of escaped bytes.
 use Rattle.std.proofs.Common.{◌≡◌, ℕ, ◌+◌, ◌<◌, ◌≤◌, ◌%◌, ◌^◌, Bool, true, not, cond, eqb}
 use Rattle.std.proofs.Common.{ltb, ◌||◌, ◌==◌, List, [], ◌∷◌, map, length, drop, replicate, bit_or}
 use Rattle.std.proofs.Common.{refl, sym, ap, ◌∙◌, inl, inr, get_or, ◌-◌, arith}
@@ -51,7 +51,7 @@ mask_of_escaped v n long few =
 on_true : (b : Bool) (P : Type 0) → (b ≡ true → P) → OnTrue b P
 on_true b P f = grind arith
 
--- an empty mask says that no byte under it is escaped
+-- an empty mask means that none of its bytes is escaped
 pub none_escaped : (bytes : List ℕ) (i n mask : ℕ) → i + n ≤ length bytes
     → mask ≡ mask_l (map is_escaped (chunk i n bytes))
     → OnTrue (mask == 0) (NoneEscaped bytes i (i + n))
@@ -70,7 +70,7 @@ get_or-ends_back : (n : ℕ) (bytes : List ℕ) (k : ℕ) → n ≤ length bytes
 get_or-ends_back n bytes k within below =
     grind (arith, get_or-append_right, length-take-le, get_or-chunk)
 
--- each byte is among those at the front or those at the end
+-- each byte is among the first n or the last n
 none_from_ends : (bytes : List ℕ) (n : ℕ) → n ≤ length bytes → length bytes ≤ n + n
     → NoneEscaped (ends n bytes) 0 (n + n) → NoneEscaped bytes 0 (length bytes)
 none_from_ends bytes n within covers none k from upto = elim (cases_lt k n) [
@@ -83,7 +83,7 @@ none_from_ends bytes n within covers none k from upto = elim (cases_lt k n) [
       ∙ none (n + j) (omega arith) (omega arith)
 ]
 
--- an empty mask of both ends says that no byte is escaped
+-- an empty mask of both ends means that no byte is escaped
 pub none_escaped_at_ends : (bytes : List ℕ) (n mask : ℕ) → n ≤ length bytes → length bytes ≤ n + n
     → mask ≡ mask_l (map is_escaped (ends n bytes))
     → OnTrue (mask == 0) (NoneEscaped bytes 0 (length bytes))
@@ -120,7 +120,7 @@ run_through bytes i n within none =
     (eq-eqb _ _ (same_run c ∙ leading_from_mask_l is_escaped c none))
     ∙ ap (λ k. k + prefix_len is_plain (drop (i + n) bytes)) (length-chunk i n bytes within)
 
--- a run of all lanes has no bit in its mask
+-- a run that covers all lanes has an empty mask
 whole_run : (xs : List ℕ) → prefix_len (λ x. not (is_escaped x)) xs ≡ length xs
     → mask_l (map is_escaped xs) ≡ 0
 whole_run [] e = refl

@@ -1,4 +1,4 @@
--- Multiplying by ten step by step, within the range of 128 bits and past it.
+-- Multiplying by ten step by step, inside the range of 128 bits and beyond it.
 use Rattle.std.proofs.Common.{◌≡◌, ℕ, suc, ◌+◌, ◌-◌, ◌*◌, ◌^◌, ◌<◌, ◌≤◌, sym, ap, ◌∙◌}
 use Rattle.std.proofs.Common.{arith}
 use Rattle.std.proofs.Math.Nat.{pow-succ', le-mul_of_pos_right, one-le-pow}
@@ -12,7 +12,7 @@ use Rattle.std.specs.Ordering.{int_cmp}
 use Rattle.std.specs.Cmp.{int_cmp_is}
 use Rattle.jsonb_value.proofs.Scaling.{*ℤ-pos-pos}
 
--- while a step is left, the power has a factor of ten to give
+-- with a step left, the power has a factor of ten
 power_left : (steps step : ℕ) → step < steps → 10 ^ (steps - step) ≡ 10 * 10 ^ (steps - (step + 1))
 power_left steps step h =
     let e : steps - step ≡ suc (steps - (step + 1)) = omega arith in
@@ -49,7 +49,7 @@ outside_below v outside = by_le (λ small. outside (record { sfits = rw mag-neg_
     by_le : ¬ (suc v * 10 - 1 < 2 ^ 127) → 2 ^ 127 < suc v * 10
     by_le h = omega arith
 
--- a number whose tenfold does not fit is past each number that fits, on the side of its sign
+-- a number whose tenfold does not fit is beyond every number that fits, on the side of its sign
 past : (v other : ℤ) (n : ℕ) → 0 < n → ¬ (FitsSigned w128 (v *ℤ pos 10)) → FitsSigned w128 other
     → int_cmp (v *ℤ pos (10 * n)) other ≡ int_cmp v (pos 0)
 past (pos v) other n p outside inside =

@@ -1,4 +1,4 @@
--- Texts that are computed.
+-- Texts of examples, by computation.
 use Rattle.std.proofs.Common.{◌≡◌, [], ◌∷◌, ◌++◌, codes, pos, negsuc, refl}
 use Rattle.std.specs.Fmt.{digits}
 use Rattle.jsonb_value.specs.declared.number.Number.TheVariants.{UInt64, Decimal64}
@@ -31,7 +31,7 @@ pub pretty-two_pairs : pretty two_pairs
 unfolding digits
 pretty-two_pairs = refl
 
--- a container inside another stands two spaces further in
+-- a nested container is indented by two more spaces
 pub pretty-nested : pretty
     (array (tree (array (tree (number (Decimal64 record { scale = 2; value = negsuc 4 })) no_trees))
     (tree (text []) no_trees)))

@@ -1,5 +1,5 @@
--- A tree written as a list of tokens, whose order as a list is the order of the trees. Lists of a
--- total order are totally ordered, so one induction over pairs of trees does for all three laws.
+-- A tree as a list of tokens, such that the order of the lists is the order of the trees. The order
+-- of lists over a total order is total, so one induction over pairs of trees proves all three laws.
 use Rattle.std.specs.Prelude.{ℕ, pos, Bool, false, List, [], ◌∷◌}
 use Rattle.std.specs.declared.cmp.Ordering.{Ordering}
 use Rattle.std.specs.Ordering.{nat_cmp, bool_cmp, on, then_cmp}
@@ -14,7 +14,7 @@ use Rattle.jsonb_value.proofs.ExtensionLaws.{extension_cmp_total}
 use Rattle.jsonb_value.specs.Tree.{Extension, binary, Tree, Trees, Pairs, null, array, object, text}
 use Rattle.jsonb_value.specs.Tree.{number, boolean, extension, no_trees, tree, no_pairs, pair}
 
--- a rank, and what a leaf holds
+-- a rank, and the content of a leaf
 pub record Token : Type 0 where
   pub rank : ℕ
   pub truth : Bool
@@ -22,12 +22,12 @@ pub record Token : Type 0 where
   pub bytes : List ℕ
   pub extension : Extension
 
--- a token that holds nothing
+-- a token without content
 abbrev pub mark : ℕ → Token
 mark rank =
     record { rank = rank; truth = false; number = Int64 (pos 0); bytes = []; extension = binary [] }
 
--- below every first token of a tree
+-- less than the first token of every tree
 abbrev pub closing : Token
 closing = mark 0
 
@@ -45,7 +45,7 @@ token_cmp_total =
     (then_total (on_total (λ t. t.number) number_cmp_total)
     (then_total (on_texts (λ t. t.bytes)) (on_total (λ t. t.extension) extension_cmp_total))))
 
--- the tokens of a tree, and then the rest
+-- the tokens of a tree, followed by the rest
 abbrev mutual
   pub tokens : Tree → List Token → List Token
   tokens (extension e) rest = record (mark 1) { extension = e } ∷ rest

@@ -24,7 +24,7 @@ pub then_assoc : (o p q : Ordering)
     → ordering_then (ordering_then o p) q ≡ ordering_then o (ordering_then p q)
 then_assoc o p q = grind arith
 
--- a list that is at its end stands below one that goes on
+-- a list that ends is less than one that continues
 closing_below : (y : Tree) (r s : List Token) → tokens_cmp (closing ∷ r) (tokens y s) ≡ Less
 closing_below null r s = refl
 closing_below _ r s = refl
@@ -33,7 +33,7 @@ closing_above : (x : Tree) (r s : List Token) → tokens_cmp (tokens x r) (closi
 closing_above null r s = refl
 closing_above _ r s = refl
 
--- the order of the tokens is that of the trees, and then of what follows
+-- the token lists compare as the trees, then as the rest
 mutual
   tokens_in_order : (x y : Tree) (r s : List Token)
       → tokens_cmp (tokens x r) (tokens y s) ≡ ordering_then (tree_cmp x y) (tokens_cmp r s)

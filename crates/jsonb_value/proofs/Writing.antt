@@ -1,4 +1,4 @@
--- Several writes to a formatter make one.
+-- Consecutive writes to a formatter are one write of the concatenation.
 use Rattle.std.proofs.Common.{arith}
 use Rattle.std.proofs.Common.{◌≡◌, ℕ, List, ◌++◌}
 use Rattle.std.proofs.Output.{has_written_styled_append, has_written_styled_of_eq}
@@ -27,12 +27,12 @@ module _ {W : Type 0} (took : W → List ℕ → W → Type 0) where
   joins_five f g h i j k a b c d e all p q r s t is =
       grind (arith, joins_three, has_written_styled_append)
 
-  -- what is written whatever the options are, is written without options too
+  -- what is written under any formatting options is also written without options
   pub WritesOnOk-from_styled : (f g : Formatter W) (r : Result (Unit {0}) Error) (bs : List ℕ)
       → WritesStyledOnOk took f r bs g → WritesOnOk took f r bs g
   WritesOnOk-from_styled f g r bs writes plain ok = grind arith
 
--- in a string, what is written stands behind what was there
+-- writing to a string appends
 pub string_bytes-written : {A : Type 0} (f g : Formatter (String A)) (bs : List ℕ)
     → HasWrittenStyled (λ s xs t. string_bytes t ≡ string_bytes s ++ xs) f bs g
     → string_bytes (formatter_writer g) ≡ string_bytes (formatter_writer f) ++ bs

@@ -1,4 +1,4 @@
--- The tree that a `JsonAst` stands for, and where keys ascend all through a tree.
+-- The tree that a `JsonAst` means, and ascending keys throughout a tree.
 use Rattle.std.specs.Prelude.{ℕ, List, [], ◌∷◌, map, ⊤}
 use Rattle.std.specs.declared.alloc.Global.{Global}
 use Rattle.std.specs.declared.borrow.CowStr.{CowStr}
@@ -8,12 +8,12 @@ use Rattle.jsonb_value.specs.Value.{cow_bytes, trees_of}
 use Rattle.jsonb_value.specs.declared.ast.JsonAst.{JsonAst, fold-JsonAst}
 use Rattle.jsonb_value.specs.declared.ast.JsonAst.TheOpen.{JsonAst-F}
 
--- the place of a key is no part of the tree
+-- The pairs as pairs of a tree, without the positions of their keys.
 abbrev pub ast_pairs_of : List (CowStr Global × Tree × ℕ) → Pairs
 ast_pairs_of [] = no_pairs
 ast_pairs_of (p ∷ ps) = pair (cow_bytes p.0) p.1 (ast_pairs_of ps)
 
--- one level, with each value inside already seen as its tree
+-- The tree of one level, whose inner values are trees already.
 abbrev pub ast_step : JsonAst-F Tree → Tree
 ast_step JsonAst-F.Null = null
 ast_step (JsonAst-F.Bool b) = boolean b
@@ -22,12 +22,15 @@ ast_step (JsonAst-F.Number x) = number x
 ast_step (JsonAst-F.Array v) = array (trees_of v.items)
 ast_step (JsonAst-F.Object v) = object (ast_pairs_of v.items)
 
+-- The tree of a `JsonAst`.
 abbrev pub ast_tree : JsonAst → Tree
 ast_tree = fold-JsonAst Tree ast_step
 
+-- The trees of a list of values.
 abbrev pub asts_view : List JsonAst → Trees
 asts_view vs = trees_of (map ast_tree vs)
 
+-- The pairs of an object as pairs of a tree.
 abbrev pub ast_pairs_view : List (CowStr Global × JsonAst × ℕ) → Pairs
 ast_pairs_view ms = ast_pairs_of (map (λ m. (m.0, ast_tree m.1, m.2)) ms)
 
@@ -42,11 +45,12 @@ abbrev mutual
   AscendEverywhere (array ts) = AllAscend ts
   AscendEverywhere (object ps) = Ascend ps × PairsAscend ps
 
+  -- In every object of these trees the keys ascend strictly by their bytes.
   pub AllAscend : Trees → Type 0
   AllAscend no_trees = ⊤
   AllAscend (tree t ts) = AscendEverywhere t × AllAscend ts
 
-  -- The same of every object in the values of the pairs.
+  -- In every object in the values of these pairs the keys ascend strictly by their bytes.
   pub PairsAscend : Pairs → Type 0
   PairsAscend no_pairs = ⊤
   PairsAscend (pair k t ps) = AscendEverywhere t × PairsAscend ps

@@ -1,4 +1,4 @@
--- How the reasons of a refusal are called.
+-- The names of the errors.
 use Rattle.std.specs.Prelude.{ℕ, List, codes}
 use Rattle.jsonb_value.specs.declared.error.Error.{Error}
 use Rattle.jsonb_value.specs.declared.error.Error.TheVariants.{
@@ -14,7 +14,7 @@ use Rattle.jsonb_value.specs.declared.error.Error.TheVariants.{
   OutOfMemory,
 }
 
--- the bytes of a variant's name
+-- the bytes of a variant's name.
 abbrev pub name_of : Error → List ℕ
 name_of InvalidEOF = codes "InvalidEOF"
 name_of InvalidJsonb = codes "InvalidJsonb"

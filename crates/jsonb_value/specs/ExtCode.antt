@@ -1,4 +1,4 @@
--- What the payload of an extension value means, and the one payload that is written for it.
+-- What the payload of an extension value means, and the payload that is written for it.
 use Rattle.std.specs.Prelude.{◌≡◌, ◌⊎◌, ◌*ℤ◌, ◌%◌, ℕ, ℤ, pos, List, [], ◌∷◌, ◌++◌}
 use Rattle.std.specs.Int.{w8, w32, w64}
 use Rattle.jsonb_value.specs.declared.extension.TimestampTz.{TimestampTz}
@@ -12,14 +12,15 @@ use Rattle.jsonb_value.specs.Opaque.{IsOpaqueTag}
 use Rattle.jsonb_value.specs.Tree.{Extension, binary, date, timestamp, timestamp_tz, interval}
 use Rattle.jsonb_value.specs.Tree.{opaque}
 
--- what an opaque value shows
+-- The tag of an opaque value.
 abbrev pub opaque_tag : Opaque → ℕ
 opaque_tag o = o.tag
 
+-- The bytes of an opaque value, without its tag.
 abbrev pub opaque_bytes : Opaque → List ℕ
 opaque_bytes o = o.bytes.now
 
--- an extension value without where its bytes lie
+-- An extension value as part of a tree.
 abbrev pub extension_of : ExtensionValue → Extension
 extension_of (values.Binary bytes) = binary bytes.now
 extension_of (values.Date d) = date d
@@ -28,7 +29,7 @@ extension_of (values.TimestampTz t) = timestamp_tz t
 extension_of (values.Interval i) = interval i
 extension_of (values.Opaque o) = opaque (opaque_tag o) (opaque_bytes o)
 
--- a value, then the offset in seconds
+-- The bytes are a timestamp of 8 bytes and its time zone's offset in seconds, of 4 bytes.
 pub record IsZoned (bytes : List ℕ) (t : TimestampTz) : Type 0 where
   pub value_bytes : List ℕ
   pub offset_bytes : List ℕ
@@ -36,7 +37,8 @@ pub record IsZoned (bytes : List ℕ) (t : TimestampTz) : Type 0 where
   pub value : IsSigned w64 value_bytes t.value
   pub offset : IsSigned w32 offset_bytes t.offset
 
--- the older form: the offset in hours
+-- The bytes are a timestamp of 8 bytes and its time zone's offset in hours, of 1 byte (the older
+-- form).
 pub record IsOldZoned (bytes : List ℕ) (t : TimestampTz) : Type 0 where
   pub value_bytes : List ℕ
   pub hour_bytes : List ℕ
@@ -46,6 +48,7 @@ pub record IsOldZoned (bytes : List ℕ) (t : TimestampTz) : Type 0 where
   pub hour : IsSigned w8 hour_bytes hours
   pub offset : t.offset ≡ hours *ℤ pos 3600
 
+-- The bytes are months of 4 bytes, days of 4 bytes and microseconds of 8 bytes.
 pub record IsInterval (bytes : List ℕ) (i : Interval) : Type 0 where
   pub month_bytes : List ℕ
   pub day_bytes : List ℕ
@@ -64,12 +67,12 @@ ExtCode p (timestamp_tz t) = Tagged 48 p (λ rest. IsZoned rest t ⊎ IsOldZoned
 ExtCode p (interval i) = Tagged 64 p (λ rest. IsInterval rest i)
 ExtCode p (opaque tag bytes) = IsOpaqueTag tag × (p ≡ tag ∷ bytes)
 
--- The first byte is one that an extension value can have.
+-- The first byte is a tag of an extension value.
 abbrev pub HasKnownTag : List ℕ → Type 0
 HasKnownTag [] = ⊥
 HasKnownTag (tag ∷ rest) = tag % 16 ≡ 0
 
--- the payload that is written
+-- The payload that is written for an extension value.
 abbrev pub extension_payload : Extension → List ℕ
 extension_payload (binary bytes) = 0 ∷ bytes
 extension_payload (date d) = 16 ∷ signed_bytes w32 d.value

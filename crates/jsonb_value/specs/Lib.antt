@@ -1,7 +1,9 @@
 pub mod ErrorName
+pub mod ParseErrorName
 pub mod Payload
 pub mod Opaque
 pub mod Tree
+pub mod Depth
 pub mod NumCode
 pub mod ExtCode
 pub mod Value
@@ -15,4 +17,5 @@ pub mod TreeOrder
 pub mod Meaning
 pub mod Json
 pub mod Text
+pub mod TextDepth
 pub mod Reader

@@ -1,4 +1,4 @@
--- What a byte string means, and the order of what is meant.
+-- What a byte string means, and the order of meanings.
 use Rattle.std.specs.Prelude.{ℕ, List}
 use Rattle.std.specs.declared.cmp.Ordering.{Ordering}
 use Rattle.std.specs.declared.cmp.Ordering.TheVariants.{Less, Greater}
@@ -7,12 +7,13 @@ use Rattle.std.specs.Cmp.Lexicographic.{slice_cmp}
 use Rattle.jsonb_value.specs.Tree.{Tree}
 use Rattle.jsonb_value.specs.TreeOrder.{tree_cmp}
 
--- the tree of a document, or bytes that are no document
+-- The tree of a document, or bytes that are not a document.
 pub data Meaning : Type 0 where
   document : Tree → Meaning
   other_bytes : List ℕ → Meaning
 
--- Every document is below all other bytes, and those are compared as bytes.
+-- Documents compare as trees, other bytes compare as bytes, and every document is less than all
+-- other bytes.
 abbrev pub meaning_cmp : Meaning → Meaning → Ordering
 meaning_cmp (document t) (document u) = tree_cmp t u
 meaning_cmp (document t) (other_bytes b) = Less

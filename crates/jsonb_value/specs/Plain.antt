@@ -1,10 +1,9 @@
--- Which trees hold no extension value.
+-- Trees without extension values.
 use Rattle.std.specs.Prelude.{⊤}
 use Rattle.jsonb_value.specs.Tree.{Tree, null, boolean, number, text, extension, array, object}
 use Rattle.jsonb_value.specs.Tree.{Trees, no_trees, tree, Pairs, no_pairs, pair}
 
--- There is none in the tree: their texts are those of strings, so a text that is read again gives
--- none.
+-- The tree has no extension value, which would be printed as a string and parsed back as one.
 abbrev mutual
   pub IsPlain : Tree → Type 0
   IsPlain null = ⊤
@@ -15,10 +14,12 @@ abbrev mutual
   IsPlain (array ts) = ArePlain ts
   IsPlain (object ps) = PairsPlain ps
 
+  -- None of the trees has an extension value.
   pub ArePlain : Trees → Type 0
   ArePlain no_trees = ⊤
   ArePlain (tree t ts) = IsPlain t × ArePlain ts
 
+  -- No value of the pairs has an extension value.
   pub PairsPlain : Pairs → Type 0
   PairsPlain no_pairs = ⊤
   PairsPlain (pair k t ps) = IsPlain t × PairsPlain ps

@@ -1,5 +1,5 @@
--- Reading a text from its front, in the steps of the parser's own functions. What `parse_value`
--- ensures speaks of none of it.
+-- Reading a text from its start, in the steps of the parser's own functions. No public contract
+-- cites these definitions.
 pub mod Reading
 pub mod Gives
 pub mod Digits

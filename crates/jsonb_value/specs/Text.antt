@@ -1,4 +1,4 @@
--- The text of numbers, strings, extension values and whole trees, as bytes.
+-- The texts of numbers, strings, extension values and whole trees, as bytes.
 use Rattle.std.specs.Prelude.{take, length, ◌-◌, ◌≡◌, ◌<◌, ◌≤◌, get_or, ℕ, zero, suc, ◌*◌, ◌+◌, ◌/◌}
 use Rattle.std.specs.Prelude.{◌%◌, ℤ, Bool, true, false, ◌||◌, ◌==◌, nat_lt, if◌then◌else◌, List}
 use Rattle.std.specs.Prelude.{[], ◌∷◌, ◌++◌, codes, replicate, flat_map, decimal, unsigned_abs}
@@ -12,53 +12,55 @@ use Rattle.jsonb_value.specs.Tree.{Extension, binary, date, timestamp, timestamp
 use Rattle.jsonb_value.specs.Tree.{opaque, Tree, null, boolean, number, text, extension, array}
 use Rattle.jsonb_value.specs.Tree.{object, Trees, no_trees, tree, Pairs, no_pairs, pair}
 
--- a number without so many of its last digits
+-- The number without its last `scale` decimal digits.
 abbrev pub front_of : ℕ → ℕ → ℕ
 front_of zero m = m
 front_of (suc scale) m = front_of scale (m / 10)
 
--- so many last digits, with zeros where the number has fewer
+-- The last `scale` decimal digits of a number, padded with zeros.
 abbrev pub last_digits : ℕ → ℕ → List ℕ
 last_digits zero m = []
 last_digits (suc scale) m = last_digits scale (m / 10) ++ (48 + m % 10) ∷ []
 
--- a magnitude with a point before so many of its last digits
+-- A magnitude with a point before its last `scale` digits.
 abbrev pub point_text : ℕ → ℕ → List ℕ
 point_text scale m = decimal (front_of scale m) ++ (codes "." ++ last_digits scale m)
 
--- a value of this scale: without a point where the scale is 0, and with `-` exactly where it is
--- negative
+-- The text of a decimal: without a point if the scale is 0, and with `-` exactly if the value is
+-- negative.
 abbrev pub decimal_text : ℕ → ℤ → List ℕ
 decimal_text zero value = signed_decimal value
 decimal_text (suc s) value =
     sign_text (is_negative value) ++ point_text (suc s) (unsigned_abs value)
 
+-- The text of a number.
 abbrev pub number_text : Number → List ℕ
 number_text (Int64 value) = signed_decimal value
 number_text (UInt64 value) = decimal value
 number_text (Decimal64 d) = decimal_text d.scale d.value
 number_text (Decimal128 d) = decimal_text d.scale d.value
 
--- two lower-case hexadecimal digits
+-- A byte as two lower-case hexadecimal digits.
 abbrev pub hex_byte : ℕ → List ℕ
 hex_byte b = digit_glyph false (b / 16) ∷ digit_glyph false (b % 16) ∷ []
 
+-- Bytes in lower-case hexadecimal.
 abbrev pub hex_text : List ℕ → List ℕ
 hex_text bytes = flat_map hex_byte bytes
 
--- `"`, `\` and the bytes below 0x20
+-- The byte is escaped in a string: `"`, `\` or a byte below 0x20.
 abbrev pub is_escaped : ℕ → Bool
 is_escaped b = b == 34 || b == 92 || nat_lt b 32
 
--- no byte from one place up to another is escaped
+-- No byte at a position from `from` up to, but not including, `upto` is escaped.
 abbrev pub NoneEscaped : List ℕ → ℕ → ℕ → Type 0
 NoneEscaped bytes from upto = (k : ℕ) → from ≤ k → k < upto → is_escaped (get_or bytes k 0) ≡ false
 
--- so many bytes at the front, and so many at the end
+-- The first n bytes, followed by the last n bytes.
 abbrev pub ends : ℕ → List ℕ → List ℕ
 ends n bytes = take n bytes ++ chunk (length bytes - n) n bytes
 
--- a backslash and the byte itself, or its letter, or `u00` and two digits
+-- The escape of a byte: a backslash and the byte itself, its letter, or `u00` and two digits.
 abbrev pub escape : ℕ → List ℕ
 escape b =
     if b == 34 || b == 92 then codes "\\" ++ b ∷ []
@@ -69,16 +71,19 @@ escape b =
     else if b == 13 then codes "\\r"
     else codes "\\u00" ++ hex_byte b
 
--- a byte as it stands between the quotes
+-- The text of a byte inside a string.
 abbrev pub byte_text : ℕ → List ℕ
 byte_text b = if is_escaped b then escape b else b ∷ []
 
+-- The content between quotes.
 abbrev pub quoted_text : List ℕ → List ℕ
 quoted_text content = codes "\"" ++ (content ++ codes "\"")
 
+-- The text of a string: its bytes, escaped where needed, between quotes.
 abbrev pub string_text : List ℕ → List ℕ
 string_text bytes = quoted_text (flat_map byte_text bytes)
 
+-- The text of an extension value, without quotes.
 abbrev pub extension_text : Extension → List ℕ
 extension_text (binary bytes) = hex_text bytes
 extension_text (date d) = signed_decimal d.value
@@ -88,28 +93,31 @@ extension_text (interval i) = signed_decimal i.months
     ++ (codes " " ++ (signed_decimal i.days ++ (codes " " ++ signed_decimal i.micros)))
 extension_text (opaque tag bytes) = hex_text (tag ∷ bytes)
 
--- How a tree is laid out: with no white space, or on lines, inside so many containers.
+-- The layout of a tree: on one line without white space, or on several lines, nested in this many
+-- containers.
 pub data Layout : Type 0 where
   in_one_line : Layout
   on_lines : ℕ → Layout
 
--- the layout of what a container holds
+-- The layout of a container's content.
 abbrev pub inside : Layout → Layout
 inside in_one_line = in_one_line
 inside (on_lines depth) = on_lines (suc depth)
 
--- what stands before an item, and before a closing bracket: a new line with two spaces for each
--- container round it
+-- What precedes an item or a closing bracket: nothing, or a line feed and two spaces for each
+-- enclosing container.
 abbrev pub line_start : Layout → List ℕ
 line_start in_one_line = []
 line_start (on_lines depth) = 10 ∷ replicate (2 * depth) 32
 
+-- What separates a key from its value: a colon, followed by a space if the layout is on several
+-- lines.
 abbrev pub colon : Layout → List ℕ
 colon in_one_line = codes ":"
 colon (on_lines depth) = codes ": "
 
 abbrev mutual
-  -- the text of a tree in a layout
+  -- The text of a tree in a layout.
   pub laid_out : Layout → Tree → List ℕ
   laid_out l null = codes "null"
   laid_out l (boolean true) = codes "true"
@@ -130,20 +138,21 @@ abbrev mutual
       ++ (colon l
       ++ (laid_out (inside l) t ++ (more_pairs (inside l) ps ++ (line_start l ++ codes "}"))))))
 
-  -- the items behind the first
+  -- The text of an array's items after the first.
   pub more_items : Layout → Trees → List ℕ
   more_items l no_trees = []
   more_items l (tree t ts) = codes "," ++ (line_start l ++ (laid_out l t ++ more_items l ts))
 
+  -- The text of an object's pairs after the first.
   pub more_pairs : Layout → Pairs → List ℕ
   more_pairs l no_pairs = []
   more_pairs l (pair k t ps) = codes ","
       ++ (line_start l ++ (string_text k ++ (colon l ++ (laid_out l t ++ more_pairs l ps))))
 
--- the compact text: no white space
+-- The compact text, without white space.
 abbrev pub compact : Tree → List ℕ
 compact t = laid_out in_one_line t
 
--- the pretty text: each item of a container on a line of its own
+-- The pretty text, with each item of a container on its own line.
 abbrev pub pretty : Tree → List ℕ
 pretty t = laid_out (on_lines 0) t

@@ -1,4 +1,4 @@
--- What a document means.
+-- The meaning of a document.
 use Rattle.std.specs.Prelude.{◌≡◌, ℕ, suc, List, Bool, Option, None, Some, IfSome, ⊤}
 use Rattle.std.specs.Ordering.{nat_cmp}
 use Rattle.std.specs.Cmp.Lexicographic.{slice_cmp}
@@ -9,7 +9,7 @@ use Rattle.jsonb_value.specs.declared.extension.Timestamp.{Timestamp}
 use Rattle.jsonb_value.specs.declared.extension.TimestampTz.{TimestampTz}
 use Rattle.jsonb_value.specs.declared.extension.Interval.{Interval}
 
--- An extension value, without where its bytes lie.
+-- An extension value.
 pub data Extension : Type 0 where
   binary : List ℕ → Extension
   date : Date → Extension
@@ -18,7 +18,7 @@ pub data Extension : Type 0 where
   interval : Interval → Extension
   opaque : ℕ → List ℕ → Extension
 
--- What a document means: a number keeps its kind, a text is its bytes.
+-- The meaning of a document: a number keeps its kind, and a text is its bytes.
 mutual
   pub data Tree : Type 0 where
     null : Tree
@@ -37,18 +37,17 @@ mutual
     no_pairs : Pairs
     pair : List ℕ → Tree → Pairs → Pairs
 
--- how many items a list has
+-- The number of items in a list.
 abbrev pub count : Trees → ℕ
 count no_trees = 0
 count (tree t ts) = suc (count ts)
 
--- how many pairs
+-- The number of pairs in a list.
 abbrev pub pair_count : Pairs → ℕ
 pair_count no_pairs = 0
 pair_count (pair k t ps) = suc (pair_count ps)
 
--- The keys ascend strictly by their bytes, and the first is above the key before, where there is
--- one.
+-- The keys ascend strictly by their bytes, and the first is greater than `before`, if there is one.
 abbrev pub Ascends : Option (List ℕ) → Pairs → Type 0
 Ascends before no_pairs = ⊤
 Ascends before (pair k t ps) =

@@ -8,7 +8,7 @@ use Rattle.jsonb_value.specs.Order.{number_cmp, extension_cmp}
 use Rattle.jsonb_value.specs.Tree.{Tree, null, boolean, number, text, extension, array, object}
 use Rattle.jsonb_value.specs.Tree.{Trees, no_trees, tree, Pairs, no_pairs, pair}
 
--- the kinds, falling
+-- The rank of a tree's kind; a kind of higher rank compares greater.
 abbrev pub rank_of : Tree → ℕ
 rank_of null = 7
 rank_of (array ts) = 6
@@ -19,7 +19,7 @@ rank_of (boolean b) = 2
 rank_of (extension e) = 1
 
 abbrev mutual
-  -- by kind, and within a kind by what it holds
+  -- Compares two trees by kind, and trees of one kind by content.
   pub tree_cmp : Tree → Tree → Ordering
   tree_cmp null null = Equal
   tree_cmp (array ts) (array us) = trees_cmp ts us
@@ -30,15 +30,16 @@ abbrev mutual
   tree_cmp (extension d) (extension e) = extension_cmp d e
   tree_cmp t u = nat_cmp (rank_of t) (rank_of u)
 
-  -- lexicographic: the first items that differ decide, and a list is above each that it begins with
+  -- Compares two lists lexicographically: the first items that differ decide, and a list is greater
+  -- than its proper prefixes.
   pub trees_cmp : Trees → Trees → Ordering
   trees_cmp no_trees no_trees = Equal
   trees_cmp no_trees (tree u us) = Less
   trees_cmp (tree t ts) no_trees = Greater
   trees_cmp (tree t ts) (tree u us) = ordering_then (tree_cmp t u) (trees_cmp ts us)
 
-  -- lexicographic too, where of two pairs first the keys decide, by their bytes, and then the
-  -- values
+  -- Compares two lists of pairs lexicographically; a pair compares by the bytes of its key, then by
+  -- its value.
   pub pairs_cmp : Pairs → Pairs → Ordering
   pairs_cmp no_pairs no_pairs = Equal
   pairs_cmp no_pairs (pair l u qs) = Less

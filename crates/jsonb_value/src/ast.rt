@@ -1,4 +1,4 @@
-//! A value as a parser leaves it, its objects as lists of pairs.
+//! A parsed value whose objects are lists of pairs.
 
 ghost use Rattle.std.specs.Prelude.{◌≡◌, ◌↔◌, IfSome, IsTrue, option_map};
 ghost use Rattle.std.specs.Ordering.{nat_cmp};
@@ -9,8 +9,8 @@ use crate::number::Number;
 use std::borrow::CowStr;
 use std::cmp::Ordering;
 
-/// A value whose objects are lists of pairs in any order. The third member of a pair is the place
-/// where its key stood in a text: no document holds it.
+/// A JSON value whose objects are lists of pairs in any order. The third field of a pair is the
+/// position of its key in a text; a document does not store it.
 #[derive(Debug, Drop)]
 pub enum JsonAst<'a> {
     /// JSON's null.
@@ -19,19 +19,19 @@ pub enum JsonAst<'a> {
     Bool(bool),
     /// A string of UTF-8, owned or borrowed.
     String(CowStr<'a>),
-    /// A whole number of 64 bits, or a decimal of 64 or 128 bits.
+    /// An integer of 64 bits, or a decimal of 64 or 128 bits.
     Number(Number),
     /// The items of an array, in order.
     Array(Vec<JsonAst<'a>>),
-    /// The pairs of an object: a key, its value, and the key's place in a text.
+    /// The pairs of an object: a key, its value, and the position of the key in a text.
     Object(Vec<(CowStr<'a>, JsonAst<'a>, usize)>),
 }
 
 impl<'a> JsonAst<'a> {
     ghost use Rattle.jsonb_value.specs.Ast.{ast_tree, AscendEverywhere};
 
-    /// Whether the keys of every object in the value ascend strictly by their bytes. Those of an
-    /// object of one pair or of none do.
+    /// Whether the keys of every object in the value ascend strictly by their bytes. An object with
+    /// at most one pair always qualifies.
     #[cycle(ascending)]
     pub fn has_ascending_keys(&self) -> bool
         ensures { IsTrue result ↔ AscendEverywhere (ast_tree self.now) }
@@ -59,7 +59,7 @@ fn all_ascend(items: &Vec<JsonAst<'_>>) -> bool
     true
 }
 
-// Whether the keys ascend, and those inside each value too.
+// Whether the keys ascend, in these pairs and in every object inside their values.
 #[cycle(ascending)]
 fn pairs_ascend(pairs: &Vec<(CowStr<'_>, JsonAst<'_>, usize)>) -> bool
     ensures { IsTrue result
@@ -75,7 +75,7 @@ fn pairs_ascend(pairs: &Vec<(CowStr<'_>, JsonAst<'_>, usize)>) -> bool
     true
 }
 
-// Whether the key is above the one before, where there is one.
+// Whether `key` is greater than `before`; true if there is no `before`.
 fn is_above(before: Option<&str>, key: &str) -> bool
     ensures { IsTrue result
         ↔ IfSome (option_map (λ b. b.now) before.entry) (λ b. slice_cmp nat_cmp b key.now ≡ Less) }

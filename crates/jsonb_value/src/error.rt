@@ -1,4 +1,4 @@
-//! Why a call is refused.
+//! The error type of this layer.
 
 ghost use Rattle.std.specs.Prelude.{◌≡◌};
 ghost use Rattle.jsonb_value.specs.declared.error.Error.TheVariants.{OutOfMemory};
@@ -6,43 +6,43 @@ ghost use Rattle.jsonb_value.specs.ErrorName.{name_of};
 
 use std::alloc::{AllocError, AllocFailed};
 
-/// Why a call is refused. Which variant a call can answer stands with the call.
+/// Why a call was refused. Each function documents which variants it can return.
 #[derive(Clone, Copy, Debug, PartialEq, Eq, thiserror::Error)]
 pub enum Error {
-    /// The bytes end before a header or an entry word does.
+    /// The bytes end inside a header or an entry word.
     #[error("InvalidEOF")]
     InvalidEOF,
-    /// The bytes are no document, or a value is past a limit of the format.
+    /// The bytes are not a document, or a value exceeds a limit of the format.
     #[error("InvalidJsonb")]
     InvalidJsonb,
-    /// A header that is not allowed where it stands.
+    /// A header of a kind that is not allowed at its position.
     #[error("InvalidJsonbHeader")]
     InvalidJsonbHeader,
-    /// An entry word that is not allowed where it stands.
+    /// An entry word of a type that is not allowed at its position.
     #[error("InvalidJsonbJEntry")]
     InvalidJsonbJEntry,
-    /// A payload of no number, or an extension payload of another length.
+    /// A number's payload is invalid, or an extension payload has the wrong length for its tag.
     #[error("InvalidJsonbNumber")]
     InvalidJsonbNumber,
-    /// A payload of no extension value.
+    /// An extension payload is empty or has an unknown tag.
     #[error("InvalidJsonbExtension")]
     InvalidJsonbExtension,
     /// A string or key that is not UTF-8.
     #[error("InvalidUtf8")]
     InvalidUtf8,
-    /// A key that an object has already.
+    /// A key that the object already has.
     #[error("ObjectDuplicateKey")]
     ObjectDuplicateKey,
-    /// A text that is no JSON.
+    /// A text that is not accepted JSON.
     #[error("InvalidJson")]
     InvalidJson,
-    /// A growth was refused.
+    /// An allocation failed.
     #[error("OutOfMemory")]
     OutOfMemory,
 }
 
 impl Error {
-    /// The variant's name, as `Display` writes it too.
+    /// The variant's name, which `Display` also writes.
     pub fn name(&self) -> &'static str
         ensures { result.now ≡ name_of self.now }
     {

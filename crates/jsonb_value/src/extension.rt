@@ -1,4 +1,4 @@
-//! Values that JSON has no form of its own for, and their payloads.
+//! Values that JSON has no syntax for, and their payloads.
 
 ghost use Rattle.std.specs.Prelude.{◌≡◌, ◌≤◌, ◌<◌, ◌^◌, ◌∷◌, ◌++◌, ◌⊎◌, Err, IfSome, IfNone, IfOk};
 ghost use Rattle.std.specs.Prelude.{IfErr, OnOk, OnErr, length, take, IsOk, vec_len, vec_capacity};
@@ -18,30 +18,29 @@ use crate::opaque::Opaque;
 use crate::payload::{append, append_opaque};
 use byteorder::{BigEndian, ByteOrder};
 
-// An entry has room for the tag and this many bytes.
+// An entry holds a payload length below 2^28: a tag and at most this many bytes.
 const MAX_DATA: usize = 0x0FFFFFFE;
 
-/// A date, as the number that is stored for it. The format does not say what the number counts.
+/// A date, as the number stored for it. The format does not define what the number counts.
 #[derive(Clone, Copy, Debug, PartialEq, Eq)]
 pub struct Date {
     pub value: i32,
 }
 
-/// A timestamp, as the number that is stored for it. The format gives it neither a unit nor a
-/// beginning.
+/// A timestamp, as the number stored for it. The format defines neither its unit nor its epoch.
 #[derive(Clone, Copy, Debug, PartialEq, Eq)]
 pub struct Timestamp {
     pub value: i64,
 }
 
-/// A timestamp, as in `Timestamp`, and the offset of its time zone in seconds.
+/// A timestamp, as in `Timestamp`, with the offset of its time zone in seconds.
 #[derive(Clone, Copy, Debug, PartialEq, Eq)]
 pub struct TimestampTz {
     pub offset: i32,
     pub value: i64,
 }
 
-/// An interval: months, days and micros, each a number of its own.
+/// An interval of months, days and microseconds, each stored as a separate number.
 #[derive(Clone, Copy, Debug, PartialEq, Eq)]
 pub struct Interval {
     pub months: i32,
@@ -61,8 +60,9 @@ pub enum ExtensionValue<'a> {
 }
 
 impl<'a> ExtensionValue<'a> {
-    /// The extension value that a payload means. `InvalidJsonbNumber` for a known first byte with
-    /// another length, `InvalidJsonbExtension` for another first byte and for no bytes.
+    /// Decodes a payload. `InvalidJsonbNumber` if the first byte is a known tag and the length is
+    /// wrong for it, `InvalidJsonbExtension` if the payload is empty or its first byte is not a
+    /// known tag.
     pub fn decode(bytes: &'a [u8]) -> Result<ExtensionValue<'a>, Error>
         ensures ok { IfOk result (λ x. ExtCode bytes.now (extension_of x)) }
         ensures none { OnErr result ((e : Extension) → ExtCode bytes.now e → ⊥) }
@@ -77,8 +77,9 @@ impl<'a> ExtensionValue<'a> {
         }
     }
 
-    /// Appends the written payload, and answers its length. `InvalidJsonb` where binary or opaque
-    /// data are too long for an entry. After a refusal the bytes of `buf` are as before.
+    /// Appends the payload and returns its length in bytes. `InvalidJsonb` if binary or opaque data
+    /// exceed 0x0FFFFFFE bytes, the most that an entry can hold; `OutOfMemory` if the buffer cannot
+    /// grow. After an error the bytes of `buf` are unchanged.
     pub fn compact_encode(&self, buf: &mut Vec<u8>) -> Result<usize, Error>
         ensures len { IfOk result (λ n. n ≡ length (extension_payload (extension_of self.now))) }
         ensures appended { OnOk result
@@ -106,7 +107,7 @@ impl<'a> ExtensionValue<'a> {
         }
     }
 
-    /// How many bytes the written payload has.
+    /// The length in bytes of the payload that `compact_encode` appends.
     pub fn compact_len(&self) -> usize
         ensures { result ≡ length (extension_payload (extension_of self.now)) }
     {
@@ -121,7 +122,7 @@ impl<'a> ExtensionValue<'a> {
     }
 }
 
-// The extension value of a payload that begins with this tag.
+// Decodes `rest` as the payload of the tag.
 fn opaque_extension<'a>(tag: u8, rest: &'a [u8]) -> Result<ExtensionValue<'a>, Error>
     ensures ok { IfOk result (λ x. ExtCode (tag ∷ rest.now) (extension_of x)) }
     ensures none { OnErr result ((e : Extension) → ExtCode (tag ∷ rest.now) e → ⊥) }
@@ -211,7 +212,7 @@ fn interval_of(bytes: &[u8]) -> Option<Interval>
     })
 }
 
-// Bytes behind a tag. An entry has room for the tag and 0x0FFFFFFE bytes.
+// Appends a tag and its bytes, if an entry can hold them.
 fn append_data(buf: &mut Vec<u8>, tag: u8, bytes: &[u8]) -> Result<usize, Error>
     ensures len { IfOk result (λ n. n ≡ length (tag ∷ bytes.now)) }
     ensures appended { OnOk result (buf.new.items ≡ buf.old.items ++ tag ∷ bytes.now) }

@@ -1,4 +1,4 @@
-//! Numbers, each kept with its kind, and their payloads.
+//! Numbers with their kinds, and their payloads.
 
 ghost use Rattle.std.specs.Prelude.{◌≡◌, ◌↔◌, ◌≤◌, ◌∷◌, ◌++◌, ℕ, ℤ, List, IsTrue, IfSome, IfNone};
 ghost use Rattle.std.specs.Prelude.{IfOk, IfErr, OnOk, OnErr, length, take, IsOk, vec_len};
@@ -15,14 +15,14 @@ use crate::error::Error;
 use crate::payload::append;
 use byteorder::{BigEndian, ByteOrder};
 
-/// A decimal of 64 bits: `value` over ten to the power of `scale`.
+/// A decimal of 64 bits, equal to `value` / 10^`scale`.
 #[derive(Clone, Copy, Debug, PartialEq, Eq)]
 pub struct Decimal64 {
     pub scale: u8,
     pub value: i64,
 }
 
-/// A decimal of 128 bits: `value` over ten to the power of `scale`.
+/// A decimal of 128 bits, equal to `value` / 10^`scale`.
 #[derive(Clone, Copy, Debug, PartialEq, Eq)]
 pub struct Decimal128 {
     pub scale: u8,
@@ -39,8 +39,9 @@ pub enum Number {
 }
 
 impl Number {
-    /// The number that a payload means: zero, a whole number of 1, 2, 4 or 8 bytes, or a decimal
-    /// in its written or its old form. `InvalidJsonbNumber` for every other byte string.
+    /// Decodes a payload: zero, an integer of 1, 2, 4 or 8 bytes, or a decimal in its written form
+    /// or in the older form with a precision byte. `InvalidJsonbNumber` for every other byte
+    /// string.
     #[inline(always)]
     pub fn decode(bytes: &[u8]) -> Result<Number, Error>
         ensures ok { IfOk result (λ x. NumCode bytes.now x) }
@@ -64,8 +65,8 @@ impl Number {
         }
     }
 
-    /// Appends the written payload, the shortest for a whole number, and answers its length. Only
-    /// memory can be refused, and then the bytes of `buf` are as before.
+    /// Appends the payload, the shortest one for an integer, and returns its length in bytes.
+    /// `OutOfMemory` is the only error; the bytes of `buf` are then unchanged.
     #[inline(always)]
     pub fn compact_encode(&self, buf: &mut Vec<u8>) -> Result<usize, Error>
         ensures len { IfOk result (λ n. n ≡ length (number_payload self.now)) }
@@ -84,7 +85,7 @@ impl Number {
         }
     }
 
-    /// How many bytes the written payload has, at most 19.
+    /// The length in bytes of the payload that `compact_encode` appends, at most 19.
     #[inline(always)]
     pub fn compact_len(&self) -> usize
         ensures len { result ≡ length (number_payload self.now) }
@@ -99,7 +100,7 @@ impl Number {
     }
 }
 
-// Whether so many bytes behind this tag are a number.
+// Whether this tag and `count` further bytes are the payload of a number.
 #[inline(always)]
 fn has_tag(tag: u8, count: usize) -> bool
     ensures { (rest : List ℕ) → length rest ≡ count
@@ -113,8 +114,7 @@ fn has_tag(tag: u8, count: usize) -> bool
     }
 }
 
-// Whether so many bytes are a whole number. There is no branch for each length, since which comes
-// next is not foreseen.
+// Whether an integer payload can have this length. No branch per length: it would be mispredicted.
 #[inline(always)]
 fn is_whole_length(length: usize) -> bool
     ensures { IsTrue result ↔ IsWholeLength length }
@@ -122,7 +122,7 @@ fn is_whole_length(length: usize) -> bool
     length <= 8 && length.is_power_of_two()
 }
 
-// Whether so many bytes are a decimal.
+// Whether a decimal's value and scale can have this length.
 #[inline(always)]
 fn is_decimal_length(length: usize) -> bool
     ensures { IsTrue result ↔ IsDecimalLength length }
@@ -130,7 +130,7 @@ fn is_decimal_length(length: usize) -> bool
     matches!(length, 9 | 17 | 18)
 }
 
-// The number of a payload that begins with this tag.
+// Decodes `rest` as the payload of the tag.
 #[inline(always)]
 fn number_of_tag(tag: u8, rest: &[u8]) -> Option<Number>
     ensures found { IfSome result (λ x. NumCode (tag ∷ rest.now) x) }

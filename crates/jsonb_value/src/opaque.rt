@@ -1,10 +1,10 @@
-//! Extension values of newer kinds, carried unchanged.
+//! Extension values of unknown kinds, carried unchanged.
 
 ghost use Rattle.std.specs.Prelude.{◌≡◌, ◌↔◌, IfSome, IsSome};
 ghost use Rattle.jsonb_value.specs.Opaque.{IsOpaqueTag};
 
-/// A value of a newer kind: a tag of 0x50, 0x60 and so on to 0xF0, and bytes that are carried
-/// unchanged.
+/// An extension value of a kind that this layer does not know: a tag that is a multiple of 0x10
+/// from 0x50 to 0xF0, and bytes that are carried unchanged.
 #[derive(Clone, Copy, Debug, PartialEq, Eq)]
 pub struct Opaque<'a> {
     tag: u8,
@@ -15,7 +15,8 @@ pub struct Opaque<'a> {
 impl<'a> Opaque<'a> {
     ghost use Rattle.jsonb_value.specs.ExtCode.{opaque_tag, opaque_bytes};
 
-    /// A value of this tag and these bytes. `None` for any other tag.
+    /// A value with this tag and these bytes. `None` unless the tag is a multiple of 0x10 from 0x50
+    /// to 0xF0.
     pub fn new(tag: u8, bytes: &'a [u8]) -> Option<Opaque<'a>>
         ensures exact { IsSome result ↔ IsOpaqueTag tag }
         ensures tag { IfSome result (λ o. opaque_tag o ≡ tag) }
@@ -27,7 +28,7 @@ impl<'a> Opaque<'a> {
         Some(Opaque { tag, bytes })
     }
 
-    /// The tag, one of the eleven.
+    /// The tag: a multiple of 0x10 from 0x50 to 0xF0.
     pub fn tag(&self) -> u8
         ensures tag { result ≡ opaque_tag self.now }
         ensures fact { IsOpaqueTag result }
@@ -35,7 +36,7 @@ impl<'a> Opaque<'a> {
         self.tag
     }
 
-    /// The bytes behind the tag.
+    /// The bytes after the tag.
     pub fn bytes(&self) -> &'a [u8]
         ensures { result.now ≡ opaque_bytes self.now }
     {

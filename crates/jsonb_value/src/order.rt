@@ -1,5 +1,5 @@
-//! The order of numbers and of extension values by what they mean, and the laws of the order of
-//! documents that stands on it.
+//! The order of numbers and of extension values by value, and laws of the document order, which
+//! builds on it.
 
 ghost use Rattle.std.specs.Prelude.{◌≡◌, ◌≢◌, ◌^◌, ◌*ℤ◌, pos};
 ghost use Rattle.std.specs.Cmp.{IsTotalOrder};
@@ -16,8 +16,8 @@ use crate::number::{Decimal128, Number};
 use std::cmp::Ordering;
 
 impl Number {
-    /// How the exact values of two numbers compare, whatever their kinds and scales. It is total,
-    /// and `Equal` also for numbers that `==` tells apart, as `Int64(5)` and `UInt64(5)`.
+    /// Compares the exact values of two numbers, whatever their kinds and scales. The order is
+    /// total. It can be `Equal` where `==` is false, as for `Int64(5)` and `UInt64(5)`.
     #[inline(always)]
     pub fn cmp_value(&self, other: &Number) -> Ordering
         ensures { result ≡ number_cmp self.now other.now }
@@ -29,7 +29,7 @@ impl Number {
         }
     }
 
-    // The same value as the kind that holds each.
+    // The same value as a decimal of 128 bits, which can represent every kind.
     #[inline(always)]
     fn widen(&self) -> Decimal128
         ensures { fraction_of (Number.Decimal128 result) ≡ fraction_of self.now }
@@ -52,7 +52,7 @@ impl Number {
     }
 }
 
-// How the values of two decimals compare.
+// Compares two decimals by value.
 #[inline(never)]
 fn cmp_decimals(left: Decimal128, right: Decimal128) -> Ordering
     ensures { result ≡ number_cmp (Number.Decimal128 left) (Number.Decimal128 right) }
@@ -64,8 +64,8 @@ fn cmp_decimals(left: Decimal128, right: Decimal128) -> Ordering
     }
 }
 
-// How the value, multiplied by ten `steps` times, compares with the other. A product too large for
-// the type lies beyond all that the type holds, on the side of its sign.
+// Compares `value` * 10^`steps` with `other`. A product that overflows is beyond every value of the
+// type, on the side of its sign.
 fn cmp_by_scale(value: i128, steps: u8, other: i128) -> Ordering
     ensures { result ≡ int_cmp (value *ℤ pos (10 ^ steps)) other }
 {
@@ -80,9 +80,9 @@ fn cmp_by_scale(value: i128, steps: u8, other: i128) -> Ordering
 }
 
 impl ExtensionValue<'_> {
-    /// First by kind, rising in the order of the variants, and then by what the values hold:
-    /// bytes; a date; a timestamp; a timestamp and then its offset; months, days and micros; a
-    /// tag and then its bytes. Byte strings compare lexicographically.
+    /// Compares first by kind, in the order of the variants, then by content: bytes; a date; a
+    /// timestamp; a timestamp, then its offset; months, then days, then micros; a tag, then its
+    /// bytes. Byte strings compare lexicographically.
     pub fn cmp_value(&self, other: &ExtensionValue<'_>) -> Ordering
         ensures { result ≡ extension_cmp (extension_of self.now) (extension_of other.now) }
     {
@@ -107,7 +107,7 @@ impl ExtensionValue<'_> {
         }
     }
 
-    // Where the kind stands among the six.
+    // The position of the kind among the six, from 0.
     fn kind(&self) -> u8
         ensures { result ≡ kind_of (extension_of self.now) }
     {
@@ -128,19 +128,20 @@ fn cmp_intervals(left: Interval, right: Interval) -> Ordering
     (left.months, left.days, left.micros).cmp(&(right.months, right.days, right.micros))
 }
 
-/// The order of numbers by value is total: asked the other way round it answers the reverse, it is
-/// transitive, and numbers that are `Equal` compare alike with every other.
+/// The order of numbers by value is total: swapping the arguments reverses the result, it is
+/// transitive, and two numbers that compare `Equal` compare alike with every other.
 pub fn order_of_numbers()
     ensures { IsTotalOrder number_cmp }
 {}
 
-/// So is the order of extension values.
+/// The order of extension values is total: swapping the arguments reverses the result, it is
+/// transitive, and two values that compare `Equal` compare alike with every other.
 pub fn order_of_extension_values()
     ensures { IsTotalOrder extension_cmp }
 {}
 
-/// So is the order of trees. Each tree is `Equal` to itself, kinds decide where they differ, and
-/// a signed and an unsigned zero count as the same.
+/// The order of trees is total. Each tree is `Equal` to itself, trees of different kinds compare by
+/// kind, and a signed zero equals an unsigned one.
 pub fn order_of_trees()
     ensures total { IsTotalOrder tree_cmp }
     ensures itself { (t : Tree) → tree_cmp t t ≡ Ordering.Equal }
@@ -150,7 +151,8 @@ pub fn order_of_trees()
     ensures zeros_right { (t u : Tree) → tree_cmp t (norm u) ≡ tree_cmp t u }
 {}
 
-/// So is the order of what byte strings mean: a tree, or bytes that are no document.
+/// The order of byte strings by meaning is total. A byte string means the tree of a document, or
+/// itself if it is not a document.
 pub fn order_of_meanings()
     ensures { IsTotalOrder meaning_cmp }
 {}

@@ -1,4 +1,4 @@
-//! Texts of JSON, read.
+//! A recursive-descent parser for JSON texts.
 
 ghost use Rattle.std.specs.Prelude.{◌≡◌, ◌⊎◌, ℕ, ◌<◌, ◌≤◌, [], ◌∷◌, ◌++◌, List, Err, chars, length};
 ghost use Rattle.std.specs.Prelude.{string_bytes, string_cmp, IfOk, IfErr, IsOkAnd};
@@ -28,7 +28,7 @@ use std::alloc::Global;
 use std::collections::BTreeMap;
 use string::read_string;
 
-// What the first character of a value tells.
+// The kind of a value, known from its first character.
 #[derive(Clone, Copy)]
 enum Kind {
     Null,
@@ -54,7 +54,7 @@ fn kind_of(first: char) -> Kind
     }
 }
 
-// What follows the rest of a word.
+// Reads the rest of `null`, `true` or `false`; returns the text after it.
 fn read_word<'a>(text: &'a str, word: &[char]) -> Result<&'a str, Error>
     ensures { (t : Tree)
         → Gives (λ rest. (t, chars rest.now)) result (read_word word.now t (chars text.now)) }
@@ -62,8 +62,8 @@ fn read_word<'a>(text: &'a str, word: &[char]) -> Result<&'a str, Error>
     after_all(text, word).ok_or(Error::InvalidJson)
 }
 
-// A string as a value, behind the quote that opens it. What this and the other small steps take of
-// the stack is not held while values inside are read.
+// Reads a string as a value; its opening quote has been read. A function of its own, as are the
+// other small steps, so that its stack frame is released before nested values are read.
 #[inline(never)]
 fn read_quotes<'a>(alloc: Global, text: &'a str) -> Result<(Value<'a>, &'a str), Error>
     ensures { (n : ℕ) → length (chars text.now) < n
@@ -74,7 +74,7 @@ fn read_quotes<'a>(alloc: Global, text: &'a str) -> Result<(Value<'a>, &'a str),
     Ok((Value::String(content), rest))
 }
 
-// A number as a value.
+// Reads a number as a value.
 #[inline(never)]
 fn read_numeral<'a>(text: &'a str) -> Result<(Value<'a>, &'a str), Error>
     ensures { (n c : ℕ) (s : List ℕ) → chars text.now ≡ c ∷ s
@@ -87,7 +87,7 @@ fn read_numeral<'a>(text: &'a str) -> Result<(Value<'a>, &'a str), Error>
     }
 }
 
-// A value between white space.
+// Reads a value with white space around it.
 fn read_element<'a>(alloc: Global, text: &'a str) -> Result<(Value<'a>, &'a str), Error>
     ensures { (n : ℕ) → length (chars text.now) < n
         → Gives (λ found. (tree_of found.0, chars found.1.now)) result
@@ -97,7 +97,7 @@ fn read_element<'a>(alloc: Global, text: &'a str) -> Result<(Value<'a>, &'a str)
     Ok((value, skip_blank(rest)))
 }
 
-// A value at the front of the text.
+// Reads a value at the start of the text.
 #[cycle(reading)]
 fn read_value<'a>(alloc: Global, text: &'a str) -> Result<(Value<'a>, &'a str), Error>
     ensures { (n : ℕ) → length (chars text.now) < n
@@ -118,7 +118,7 @@ fn read_value<'a>(alloc: Global, text: &'a str) -> Result<(Value<'a>, &'a str), 
     }
 }
 
-// The items of an array, behind the bracket that opens it.
+// Reads an array; its opening bracket has been read.
 #[cycle(reading)]
 #[inline(never)]
 fn read_array<'a>(alloc: Global, text: &'a str) -> Result<(Value<'a>, &'a str), Error>
@@ -146,7 +146,7 @@ fn read_array<'a>(alloc: Global, text: &'a str) -> Result<(Value<'a>, &'a str), 
     }
 }
 
-// An item between white space, put behind the others, and what follows it.
+// Reads an item with white space around it and appends it; returns the text after it.
 #[cycle(reading)]
 #[inline(always)]
 fn read_item<'a>(alloc: Global, items: &mut Vec<Value<'a>>, text: &'a str) -> Result<&'a str, Error>
@@ -158,8 +158,8 @@ fn read_item<'a>(alloc: Global, items: &mut Vec<Value<'a>>, text: &'a str) -> Re
     push_item(items, read_value(alloc, skip_blank(text)))
 }
 
-// Puts the item that was found behind the others. What this takes of the stack is not held while
-// values inside are read, and the item is moved once.
+// Appends the item that was read. A function of its own, so that its stack frame is released before
+// nested values are read, and the item is moved only once.
 #[inline(never)]
 fn push_item<'a>(
     items: &mut Vec<Value<'a>>,
@@ -175,7 +175,7 @@ fn push_item<'a>(
     Ok(skip_blank(rest))
 }
 
-// The members of an object, behind the brace that opens it. Of equal keys the last value is kept.
+// Reads an object; its opening brace has been read. Of equal keys the last value is kept.
 #[cycle(reading)]
 #[inline(never)]
 fn read_object<'a>(alloc: Global, text: &'a str) -> Result<(Value<'a>, &'a str), Error>
@@ -203,7 +203,7 @@ fn read_object<'a>(alloc: Global, text: &'a str) -> Result<(Value<'a>, &'a str),
     }
 }
 
-// The object of the members, and what follows it.
+// Builds the object from its members; returns it with the text after it.
 #[inline(never)]
 fn close_object<'a>(
     alloc: Global,
@@ -217,7 +217,8 @@ fn close_object<'a>(
     Ok((Value::Object(members.take_object(alloc)?), rest))
 }
 
-// A key between white space, and what follows the colon behind it.
+// Reads a key with white space around it and the colon; returns the key and the text after the
+// colon.
 #[inline(never)]
 fn read_key<'a>(alloc: Global, text: &'a str) -> Result<(String, &'a str), Error>
     ensures ok { IfOk result (λ found. KeyIsRead (chars text.now) (string_bytes found.0)
@@ -236,7 +237,7 @@ fn read_key<'a>(alloc: Global, text: &'a str) -> Result<(String, &'a str), Error
     Ok((key, behind))
 }
 
-// A key between white space and its value, put in, and what follows them.
+// Reads a key and its value and inserts them; returns the text after them.
 #[cycle(reading)]
 #[inline(always)]
 fn read_member<'a>(
@@ -254,7 +255,7 @@ fn read_member<'a>(
     insert_member(members, key, read_value(alloc, skip_blank(behind)))
 }
 
-// Puts the value that was found under the key.
+// Inserts the value that was read under its key.
 #[inline(never)]
 fn insert_member<'a>(
     members: &mut Members<'a>,
@@ -271,20 +272,21 @@ fn insert_member<'a>(
     Ok(skip_blank(rest))
 }
 
-/// The value of a whole text. Strings without escapes are borrowed from the text.
+/// Parses a whole text. Strings without escapes are borrowed from the text.
 ///
-/// The grammar is that of JSON without exponents, and every number has its kind from its value and
-/// from the count of digits behind its point: whole numbers are `UInt64` (`-0` too), `Int64`, or
-/// `Decimal128` of scale 0 within 128 bits; numbers with 1 to 255 digits behind the point are
-/// `Decimal64` or `Decimal128` of that scale. Of equal keys the last value is kept. Every other
-/// text is `InvalidJson`, so are larger numbers, lone surrogates and a byte order mark.
+/// The grammar is JSON without exponents. The kind of a number follows from its value and its
+/// number of fraction digits: an integer is `UInt64` (`-0` too), `Int64`, or `Decimal128` of scale
+/// 0 within 128 bits; a number with 1 to 255 fraction digits is `Decimal64` or `Decimal128` of that
+/// scale. Of equal keys in an object the last value is kept. `InvalidJson` for every other text,
+/// among them numbers out of range, lone surrogates and a byte order mark; `OutOfMemory` if an
+/// allocation fails.
 pub fn parse_value<'a>(alloc: Global, text: &'a str) -> Result<Value<'a>, Error>
-    // What is read is what the text means.
+    // An accepted text means the returned value.
     ensures ok { IfOk result (λ value. Json (chars text.now) (tree_of value)) }
-    // What is refused means nothing.
+    // A text refused as `InvalidJson` means no value.
     ensures invalid { result ≡ Err Error.InvalidJson → (t : Tree) → Json (chars text.now) t → ⊥ }
     ensures errors { IfErr result (λ e. (e ≡ Error.InvalidJson) ⊎ (e ≡ Error.OutOfMemory)) }
-    // No text means two trees.
+    // No text means two different values.
     ensures one { (t u : Tree) → Json (chars text.now) t → Json (chars text.now) u → t ≡ u }
 {
     let (value, rest) = read_element(alloc, text)?;

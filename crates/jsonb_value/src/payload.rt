@@ -1,11 +1,12 @@
-//! Payloads, appended whole or not at all.
+//! Appending payloads, whole or not at all.
 
 ghost use Rattle.std.specs.Prelude.{◌≡◌, ◌≤◌, ◌<◌, ◌+◌, ◌^◌, ◌∷◌, ◌++◌, length, IfOk, IfErr, OnOk};
 ghost use Rattle.std.specs.Prelude.{OnErr, IsOk, vec_len, vec_capacity};
 
 use crate::error::Error;
 
-/// Appends a payload, all of it or nothing, and answers its length.
+/// Appends a payload and returns its length in bytes. `OutOfMemory` is the only error; the bytes of
+/// `buf` are then unchanged.
 #[inline(always)]
 pub fn append(buf: &mut Vec<u8>, payload: &[u8]) -> Result<usize, Error>
     ensures len { IfOk result (λ n. n ≡ length payload.now) }
@@ -19,8 +20,8 @@ pub fn append(buf: &mut Vec<u8>, payload: &[u8]) -> Result<usize, Error>
     Ok(payload.len())
 }
 
-/// Appends a tag and the bytes behind it in one growth, all of it or nothing, and answers the
-/// payload's length.
+/// Appends a tag and the bytes after it with a single growth of the buffer, and returns their
+/// length in bytes. `OutOfMemory` is the only error; the bytes of `buf` are then unchanged.
 pub fn append_opaque(buf: &mut Vec<u8>, tag: u8, bytes: &[u8]) -> Result<usize, Error>
     requires { length bytes.now < 2 ^ 63 }
     ensures len { IfOk result (λ n. n ≡ length (tag ∷ bytes.now)) }

@@ -1,4 +1,4 @@
-//! Runs of bytes that stand for themselves in a string of JSON, tested several at a time.
+//! Runs of bytes that a JSON string holds unescaped, tested several at a time.
 
 ghost use Rattle.std.specs.Prelude.{◌≡◌, ◌+◌, ◌≤◌, length, map};
 ghost use Rattle.std.specs.Bool.{OnTrue};
@@ -10,14 +10,14 @@ ghost use Rattle.jsonb_value.specs.Text.{is_escaped, ends, NoneEscaped};
 use std::simd::Simd;
 use std::simd::prelude::*;
 
-// Whether the byte stands for itself.
+// Whether the byte is written unescaped.
 fn is_plain(byte: u8) -> bool
     ensures { result ≡ is_plain byte }
 {
     byte >= 0x20 && byte != b'"' && byte != b'\\'
 }
 
-// The lanes that hold an escaped byte, a bit for each.
+// The lanes with a byte that must be escaped, one bit for each lane.
 #[inline(always)]
 fn escape_lanes<const N: usize>(lanes: Simd<u8, N>) -> u64
     requires { N ≤ 64 }
@@ -29,7 +29,7 @@ fn escape_lanes<const N: usize>(lanes: Simd<u8, N>) -> u64
     escaped.to_bitmask()
 }
 
-// Whether the N bytes at this place stand for themselves.
+// Whether the N bytes at `at` are all unescaped.
 #[inline(always)]
 fn is_plain_at<const N: usize>(bytes: &[u8], at: usize) -> bool
     requires few { N ≤ 64 }
@@ -77,7 +77,7 @@ fn ends_of_four(bytes: &[u8]) -> u8x8
     front.shuffle(back, [0, 1, 2, 3, 4, 5, 6, 7])
 }
 
-/// Whether all bytes stand for themselves. Vectors that overlap cover the bytes.
+/// Whether all bytes are unescaped. Overlapping vectors cover every length.
 #[inline(always)]
 pub fn is_all_plain(bytes: &[u8]) -> bool
     ensures { OnTrue result (NoneEscaped bytes.now 0 (length bytes.now)) }
@@ -102,7 +102,7 @@ fn plain_len_by_one(bytes: &[u8]) -> usize
     bytes.iter().take_while(|byte| is_plain(**byte)).count()
 }
 
-/// How many bytes at the front stand for themselves.
+/// The length of the longest prefix of unescaped bytes.
 #[inline(always)]
 pub fn plain_len(bytes: &[u8]) -> usize
     ensures { result ≡ prefix_len is_plain bytes.now }

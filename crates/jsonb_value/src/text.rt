@@ -14,8 +14,8 @@ use crate::runs::{is_all_plain, plain_len};
 use itoa::{Buffer, Integer};
 use std::fmt;
 
-/// Writes a number: a whole one in decimal, a decimal with as many digits behind the point as its
-/// scale says, and `-` exactly where the value is negative. Width and fill are passed over.
+/// Writes a number: an integer in decimal, a decimal with as many fraction digits as its scale, and
+/// `-` exactly if the value is negative. Width and fill are ignored.
 pub fn write_number<W: fmt::Write>(number: &Number, f: &mut fmt::Formatter<W>) -> fmt::Result
     ensures { WritesStyledOnOk W.write_str_gives f.old result (number_text number.now) f.new }
 {
@@ -27,8 +27,8 @@ pub fn write_number<W: fmt::Write>(number: &Number, f: &mut fmt::Formatter<W>) -
     }
 }
 
-/// Writes a string between quotes. `"`, `\` and the bytes below 0x20 are escaped, and all else
-/// stands as it is. Width and fill are passed over.
+/// Writes a string between quotes. `"`, `\` and the bytes below 0x20 are escaped; everything else
+/// is copied. Width and fill are ignored.
 #[tactic(auto, using(crate::proofs::Writing::joins))]
 pub fn write_string<W: fmt::Write>(text: &str, f: &mut fmt::Formatter<W>) -> fmt::Result
     ensures { WritesStyledOnOk W.write_str_gives f.old result (string_text text.now) f.new }
@@ -38,9 +38,9 @@ pub fn write_string<W: fmt::Write>(text: &str, f: &mut fmt::Formatter<W>) -> fmt
     f.write_str("\"")
 }
 
-/// Writes an extension value: bytes in lower-case hexadecimal, the others as whole numbers with
-/// single spaces between. In a document's text it stands between quotes, which are not written
-/// here. Width and fill are passed over.
+/// Writes an extension value without quotes: bytes in lower-case hexadecimal, other kinds as
+/// integers separated by single spaces. In the text of a document it is quoted, as a string is.
+/// Width and fill are ignored.
 #[tactic(auto, using(crate::proofs::Writing::joins))]
 pub fn extension_text<W: fmt::Write>(
     value: &ExtensionValue,
@@ -62,7 +62,7 @@ pub fn extension_text<W: fmt::Write>(
     }
 }
 
-/// The text that `extension_text` writes.
+/// Writes the text of `extension_text`.
 impl fmt::Display for ExtensionValue<'_> {
     ghost output = { λ value. Some (extension_text (extension_of value)) };
 
@@ -92,7 +92,7 @@ fn write_decimal<W: fmt::Write>(value: i128, scale: u8, f: &mut fmt::Formatter<W
     write_fraction(value.unsigned_abs(), usize::from(scale), f)
 }
 
-// The magnitude of a decimal, with a point before its last digits.
+// Writes the magnitude of a decimal, with a point before its last `scale` digits.
 fn write_fraction<W: fmt::Write>(
     magnitude: u128,
     scale: usize,
@@ -166,7 +166,7 @@ fn hex_digit(digit: u8) -> char
     })
 }
 
-// A string without its quotes.
+// Writes a string without its quotes.
 #[inline(always)]
 fn write_content<W: fmt::Write>(text: &str, f: &mut fmt::Formatter<W>) -> fmt::Result
     ensures { WritesStyledOnOk W.write_str_gives f.old result (flat_map byte_text text.now) f.new }
@@ -178,7 +178,7 @@ fn write_content<W: fmt::Write>(text: &str, f: &mut fmt::Formatter<W>) -> fmt::R
     }
 }
 
-// What needs no escape is written in runs.
+// Writes unescaped bytes in runs, and each escape on its own.
 #[inline(never)]
 fn write_runs<W: fmt::Write>(text: &str, f: &mut fmt::Formatter<W>) -> fmt::Result
     ensures { WritesStyledOnOk W.write_str_gives f.old result (flat_map byte_text text.now) f.new }

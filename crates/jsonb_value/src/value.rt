@@ -1,4 +1,4 @@
-//! A document's value, which owns or borrows its parts.
+//! The value of a document, which owns or borrows its parts.
 
 use crate::extension::{Date, Interval, Timestamp, TimestampTz};
 use crate::number::Number;
@@ -6,12 +6,12 @@ use crate::opaque::Opaque;
 use std::borrow::CowStr;
 use std::collections::BTreeMap;
 
-/// An object's pairs, in the order of their keys.
+/// The pairs of an object, in the byte order of their keys.
 pub type Object<'a> = BTreeMap<String, Value<'a>>;
 
-/// A JSON value, or an extension value, in memory: what a document means, and what an encoder
-/// writes. It owns its arrays, its objects and their keys. Its strings are owned or borrowed;
-/// binary data and the bytes of opaque values are borrowed from where they were read.
+/// A JSON value or extension value in memory: what a document is decoded to and encoded from. It
+/// owns its arrays, its objects and their keys. Strings are owned or borrowed; binary data and
+/// opaque bytes are borrowed from the input.
 #[derive(Debug, Drop)]
 pub enum Value<'a> {
     /// JSON's null.
@@ -20,22 +20,22 @@ pub enum Value<'a> {
     Bool(bool),
     /// A string of UTF-8, owned or borrowed.
     String(CowStr<'a>),
-    /// A whole number of 64 bits, or a decimal of 64 or 128 bits.
+    /// An integer of 64 bits, or a decimal of 64 or 128 bits.
     Number(Number),
     /// Binary data: any bytes.
     Binary(&'a [u8]),
     /// A date.
     Date(Date),
-    /// A point in time without a time zone.
+    /// A timestamp without a time zone.
     Timestamp(Timestamp),
-    /// A point in time with an offset from UTC.
+    /// A timestamp with the offset of its time zone.
     TimestampTz(TimestampTz),
-    /// A span of time in months, days and micros.
+    /// An interval of months, days and microseconds.
     Interval(Interval),
-    /// An extension value whose tag only newer writers know, carried unchanged.
+    /// An extension value of an unknown kind, carried unchanged.
     Opaque(Opaque<'a>),
     /// The items of an array, in order.
     Array(Vec<Value<'a>>),
-    /// The pairs of an object, in the order of their keys' bytes.
+    /// The pairs of an object, in the byte order of their keys.
     Object(BTreeMap<String, Value<'a>>),
 }

@@ -14,7 +14,7 @@ front_digits-le (c ∷ s) = grind (arith, front_digits-le s)
 length-chars-le : (bytes : List ℕ) → IsUtf8 bytes → length (chars bytes) ≤ length bytes
 length-chars-le bytes utf8 = grind (arith, length-le-encodes, encodes-chars)
 
--- one more digit is within the text
+-- one more digit is still inside the text
 pub digit_fits : (text s : List ℕ) (count c : ℕ) (after : List ℕ) → IsUtf8 text
     → count + length (front_digits s) ≡ length (front_digits (chars text)) → s ≡ c ∷ after
     → is_ascii_digit c ≡ true → count + 1 ≤ length text

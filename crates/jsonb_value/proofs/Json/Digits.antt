@@ -1,4 +1,4 @@
--- Digits at the front of a text.
+-- Leading digits of a text.
 use Rattle.std.proofs.Common.{arith}
 use Rattle.std.proofs.Common.{◌≡◌, ℕ, Bool, true, refl, ap, List, [], ◌∷◌, ◌++◌}
 use Rattle.std.specs.Prelude.{◌&&◌, not, ◌==◌}
@@ -15,7 +15,7 @@ pub all_digits-front : (s : List ℕ) → all_digits (front_digits s) ≡ true
 all_digits-front [] = refl
 all_digits-front (c ∷ s) = grind (arith, all_digits-front s)
 
--- neither a digit nor a point stands at the front
+-- the characters begin with neither a digit nor a point
 abbrev pub stops : List ℕ → Bool
 stops [] = true
 stops (c ∷ s) = not (is_ascii_digit c) && not (c == point)

@@ -1,4 +1,4 @@
--- From the element at the front to the whole text.
+-- From the element at the start to the whole text.
 use Rattle.std.proofs.Common.{arith}
 use Rattle.std.proofs.Common.{◌≡◌, ℕ, suc, sym, ap, subst, ◌∙◌, List, [], ◌∷◌, length, Option, Some}
 use Rattle.std.proofs.Common.{None, Result, Ok, Err}
@@ -24,7 +24,7 @@ read_whole s t rest e none = grind (arith, document-found)
 pub nothing_read : (s : List ℕ) (t : Tree) → read_document s ≡ None → Json s t → ⊥
 nothing_read s t none json = no_error (sym none ∙ document-again s t json)
 
--- what an error says
+-- what `InvalidJson` means for the whole text
 pub refused : {X : Type 0} (s : List ℕ) (r : Result X Error) (e : Error) → IsErrAnd r (λ y. y ≡ e)
     → Fails e (whole s) → r ≡ Err InvalidJson → (t : Tree) → Json s t → ⊥
 refused s (Ok x) e is fails invalid t json = absurd is
@@ -33,7 +33,7 @@ refused s (Err y) e is fails invalid t json =
     let none : whole s ≡ None = subst (λ z. Fails z (whole s)) (sym is ∙ same) fails in
     nothing_read s t (ap (λ o. o >>= λ x. if_last x.0 x.1) none) json
 
--- something is left behind the value
+-- characters are left after the value
 pub left_over : (s : List ℕ) (t : Tree) (rest : List ℕ) (c : ℕ) (more : List ℕ)
     → whole s ≡ Some (t, rest) → rest ≡ c ∷ more → (u : Tree) → Json s u → ⊥
 left_over s t rest c more e some u json =

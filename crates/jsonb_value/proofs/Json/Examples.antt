@@ -1,4 +1,4 @@
--- Texts with the trees that they mean, and texts that mean none, computed.
+-- Texts with the trees that they mean, and texts that mean none, by computation.
 use Rattle.std.proofs.Common.{◌≡◌, ℕ, refl, List, [], ◌∷◌, Some, None, true}
 use Rattle.std.specs.Prelude.{⊤, pos, codes}
 use Rattle.jsonb_value.specs.declared.number.Number.TheVariants.{UInt64, Decimal64, Decimal128}

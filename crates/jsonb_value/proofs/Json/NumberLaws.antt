@@ -1,4 +1,4 @@
--- What is read as a number is spelled so, and what is spelled as a number is read.
+-- What is read as a number is spelled that way, and what is spelled as a number is read.
 use Rattle.std.proofs.Common.{arith}
 use Rattle.std.proofs.Common.{◌≡◌, ℕ, Bool, true, false, inl, inr, Some, sym, ap, ◌∙◌, List}
 use Rattle.std.proofs.Common.{[], ◌∷◌, ◌++◌, length, append_assoc, eqb-true}
@@ -46,7 +46,7 @@ fraction-found (c ∷ s) ds rest e = elim (bool_cases (c == point)) [
       (ap all_digits (sym parts.0), parts.1 ∙ ap (λ t. fraction_text t ++ rest) parts.0)
 ]
 
--- a number at the front of the text
+-- a number at the start of the text
 pub record IsNumberFront (s : List ℕ) (x : Number) (rest : List ℕ) : Type 0 where
   pub numeral : Numeral
   pub is_meant : numeral_meaning numeral ≡ Some x
@@ -81,7 +81,7 @@ number-found s x rest e =
     number_from s whole.0 fraction.0 rest whole.1 x (whole-found _ whole.0 whole.1 is_whole)
     (f.0, f.1 ∙ ap (λ t. fraction_text fraction.0 ++ t) same.1) (is_number ∙ ap Some same.0))))
 
--- ---- and back
+-- ---- the converse
 
 pub digit_is_no : (c k : ℕ) → is_ascii_digit c ≡ true → is_ascii_digit k ≡ false → (c == k) ≡ false
 digit_is_no c k digit none = grind (arith, eqb-true)

@@ -49,7 +49,7 @@ decimal_large : (scale : ℕ) (v : ℤ) → is_within 127 v ≡ false → (t : B
     → decimal_number scale v ≡ None
 decimal_large scale v e t is = grind (arith, within_narrow, wide_large)
 
--- past 128 bits there is no number
+-- beyond 128 bits there is no number
 number_large : (scale : ℕ) (v : ℤ) → is_within 127 v ≡ false → number_of scale v ≡ None
 number_large scale v e = grind (arith, whole_large, decimal_large)
 
@@ -69,7 +69,7 @@ counted_none n o h e = grind arith
 counted_some : (n m : ℕ) (o : Option ℕ) → Counts n o → o ≡ Some m → n ≡ m
 counted_some n m o h e = grind arith
 
--- what the steps of the code have found
+-- the results of the code's steps
 pub record HasParts (s s3 : List ℕ) (b : Bool) (digits : Digits) : Type 0 where
   pub s1 : List ℕ
   pub s2 : List ℕ
@@ -95,7 +95,7 @@ number_too_large s s3 b digits parts none =
     parts.is_whole parts.is_fraction
     (number_large (length parts.fraction) _ (within_large b _ large))
 
--- the number of the parts, by its value
+-- the number computed from the parts
 number_by_value : (s s3 : List ℕ) (b : Bool) (digits : Digits) (m : ℕ) → HasParts s s3 b digits
     → digits.value ≡ Some m
     → read_number s ≡ (number_of digits.count (signed_number b m) >>= λ n. Some (n, s3))

@@ -1,4 +1,4 @@
--- What is printed of a number means a number of the same worth, which is written in no more bytes.
+-- The printed text of a number means a number of the same value, whose payload is no longer.
 use Rattle.std.proofs.lemmas.Grind.{common_steps}
 use Rattle.std.proofs.Common.{◌≡◌, ℕ, ℤ, zero, suc, pos, negsuc, ◌+◌, ◌/◌, ◌%◌, ◌<◌, ◌≤◌, ◌^◌}
 use Rattle.std.proofs.Common.{Bool, true, false, inl, inr, Some, refl, ap, ◌∙◌}
@@ -96,7 +96,7 @@ magnitude-printed scale m h =
 
 -- ---- numerals
 
--- what is spelled of a value with so many digits behind the point, and of a number
+-- the numeral that is printed for a value with this many fraction digits, and for a number
 abbrev negative : ℤ → Bool
 negative (pos m) = false
 negative (negsuc m) = true
@@ -134,7 +134,7 @@ fraction_meaning scale z fits =
       length-last_digits,
     )
 
--- ---- how long the payloads are
+-- ---- the lengths of payloads
 
 abbrev most : ℕ → List ℕ → Type 0
 most k bs = length bs ≤ k
@@ -142,7 +142,7 @@ most k bs = length bs ≤ k
 shortest_unsigned-8 : (n : ℕ) → most 8 (shortest_unsigned n)
 shortest_unsigned-8 n = grind (arith, by_test, length-to_be_bytes)
 
--- without a sign a value takes no more bytes than with one
+-- an unsigned payload is no longer than the signed one of the same value
 unsigned_shorter : (n : ℕ) → length (shortest_unsigned n) ≤ length (shortest_signed (pos n))
 unsigned_shorter n = grind (arith, nat_tests, length-to_be_bytes)
 
@@ -164,7 +164,8 @@ length-decimal w v s = grind (arith, length-to_be_bytes, length-append)
 
 -- ---- numbers
 
--- The printed number means this one, of the same worth, within its type and no longer.
+-- The printed number means a number of the same value, within its type and with a payload no
+-- longer.
 pub record RereadNumber (x : Number) : Type 0 where
   pub number : Number
   pub is_meant : numeral_meaning (printed_number x) ≡ Some number
@@ -276,6 +277,6 @@ decimal_spelled : (scale : ℕ) (v : ℤ)
 decimal_spelled scale v =
     grind (arith, common_steps, append-nil, not_negative, fraction_text-some, length-last_digits)
 
--- What is printed is what is spelled.
+-- The printed text is the text of the numeral.
 pub number_spelled : (x : Number) → number_text x ≡ numeral_text (printed_number x)
 number_spelled x = grind (arith, common_steps, decimal_spelled)

@@ -1,4 +1,4 @@
--- What is printed of a text is spelled by pieces that mean it.
+-- The printed form of a string is the spelling of pieces that mean it.
 use Rattle.std.proofs.lemmas.Grind.{common_steps}
 use Rattle.std.proofs.Common.{◌≡◌, ℕ, ◌/◌, ◌%◌, ◌<◌, ◌≤◌, Bool, true, false, cond, inl}
 use Rattle.std.proofs.Common.{inr, Some, refl, sym, ap, subst, ◌∙◌, List, [], ◌∷◌, ◌++◌, arith}
@@ -60,8 +60,8 @@ Spells-character c is = record {
 
 -- ---- pieces
 
--- quote and backslash behind a backslash, five letters for control characters, `u00` and two digits
--- for the others
+-- quote and backslash after a backslash, five control characters by a letter, the others by `u00`
+-- and two digits
 abbrev pub printed_piece : ℕ → Piece
 printed_piece c =
     cond ((c == quote) || (c == backslash)) (escape c)
@@ -74,7 +74,7 @@ printed_piece c =
 abbrev pub printed_text : List ℕ → List Piece
 printed_text bytes = map printed_piece (chars bytes)
 
--- what is printed of a character below 128, and what its piece means
+-- the printed text of a character below 128, and what its piece means
 record Printed (c : ℕ) : Type 0 where
   text : byte_text c ≡ piece_text (printed_piece c)
   ascii : c < 128 → all_ascii (piece_text (printed_piece c)) ≡ true
@@ -94,7 +94,7 @@ short_unit c h = grind (arith, hex, lt-leb)
 at : (d c : ℕ) → (c == d) ≡ true → Printed d → Printed c
 at d c e h = grind (arith, eqb-true)
 
--- seven that have an escape of their own
+-- the seven characters with an escape of their own
 printed_34 : Printed 34
 printed_34 = grind arith
 
@@ -125,11 +125,11 @@ record NoLetter (c : ℕ) : Type 0 where
   f : (c == 12) ≡ false
   r : (c == 13) ≡ false
 
--- the other control characters,
+-- the other control characters
 printed_control : (c : ℕ) → NoLetter c → nat_lt c 32 ≡ true → Printed c
 printed_control c o e = grind (arith, common_steps, ltb-true, hex_ascii, short_unit)
 
--- and all other characters
+-- all other characters
 printed_plain : (c : ℕ) → NoLetter c → nat_lt c 32 ≡ false → Printed c
 printed_plain c o e = grind (arith, le-leb, ltb-false, lt-ltb)
 
@@ -152,7 +152,7 @@ printed c =
 
 -- ---- the bytes of a character
 
--- those of a character past ASCII are none that are escaped
+-- no byte of a character beyond ASCII is escaped
 wide_plain : (c : ℕ) → 128 ≤ c → flat_map byte_text (encode_utf8 c) ≡ encode_utf8 c
 wide_plain c wide = plain_front (encode_utf8 c) (λ k below.
     elim (cases_Bool (is_escaped (get_or (encode_utf8 c) k 0))) [
@@ -192,7 +192,7 @@ characters_spelled (c ∷ cs) e =
     rw (flat_map-append byte_text (encode_utf8 c) (encode_utf8_all cs))
     (Spells-append (character_spelled c parts.0) (characters_spelled cs parts.1))
 
--- The content that is printed is spelled by the pieces,
+-- The printed content is the spelling of the pieces.
 pub content_spelled : (bytes : List ℕ) → IsUtf8 bytes
     → Spells (flat_map byte_text bytes) (pieces_text (printed_text bytes))
 content_spelled bytes utf8 =
@@ -203,7 +203,7 @@ pieces_mean : (cs : List ℕ) → pieces_meaning (map printed_piece cs) ≡ Some
 pieces_mean [] = refl
 pieces_mean (c ∷ cs) = grind (arith, common_steps, printed, pieces_mean cs)
 
--- and these mean the text.
+-- The pieces mean the string.
 pub text_meaning : (bytes : List ℕ) → IsUtf8 bytes
     → pieces_meaning (printed_text bytes) ≡ Some bytes
 text_meaning bytes utf8 =

@@ -1,5 +1,5 @@
--- What is printed of a tree without extension values is spelled by a syntax that means the same
--- tree.
+-- The printed text of a tree without extension values is the spelling of a syntax that means the
+-- same tree.
 use Rattle.std.proofs.Common.{◌≡◌, ℕ, zero, suc, ◌*◌, Bool, true, false, None, Option, Some}
 use Rattle.std.proofs.Common.{refl, sym, ap, ◌∙◌, List, [], ◌∷◌, ◌++◌, arith, append_assoc}
 use Rattle.std.proofs.Common.{append-nil}
@@ -38,14 +38,14 @@ use Rattle.jsonb_value.proofs.Json.PrintedText.{all_ascii, printed_text, content
 use Rattle.jsonb_value.proofs.Json.PrintedText.{text_meaning}
 use Rattle.jsonb_value.proofs.Json.Same.{IsSame, AreSame, PairsSame, tree_cmp-IsSame}
 
--- ---- the syntax that is printed
+-- ---- the syntax of the printed text
 
--- white space behind a colon
+-- white space after a colon
 abbrev gap : Layout → List ℕ
 gap in_one_line = []
 gap (on_lines depth) = 32 ∷ []
 
--- white space behind an item: none, but behind the last that before the closing bracket
+-- white space after an item: none, except before the closing bracket
 abbrev behind : Layout → Trees → List ℕ
 behind l no_trees = line_start l
 behind l (tree t ts) = []
@@ -54,7 +54,7 @@ abbrev pair_behind : Layout → Pairs → List ℕ
 pair_behind l no_pairs = line_start l
 pair_behind l (pair k t ps) = []
 
--- an item with what the rest of its array has before it, and a pair
+-- an item with its white space, given the items after it; likewise a pair
 abbrev item_in : Layout → Syntax → Trees → Element
 item_in l x ts = element (line_start (inside l)) x (behind l ts)
 
@@ -76,7 +76,7 @@ abbrev mutual
   printed l (object (pair k t ps)) =
       members (pair_in l k (printed (inside l) t) ps) (printed_members l ps)
 
-  -- the items behind the first, in a container of that layout
+  -- the items after the first, in a container of this layout
   printed_items : Layout → Trees → Items
   printed_items l no_trees = no_item
   printed_items l (tree t ts) =
@@ -122,14 +122,14 @@ colon-inside : (l : Layout) → Spells (colon l) (58 ∷ gap (inside l))
 colon-inside in_one_line = Spells-ascii (58 ∷ []) refl
 colon-inside (on_lines depth) = Spells-ascii (58 ∷ 32 ∷ []) refl
 
--- ---- what is printed is what is spelled
+-- ---- the printed text is the spelled text
 
--- one ASCII character before the rest
+-- one ASCII character before other text
 behind_one : {c : ℕ} {b x : List ℕ} → all_ascii (c ∷ []) ≡ true → Spells b x
     → Spells (c ∷ b) (c ∷ x)
 behind_one {c} e h = Spells-append (Spells-ascii (c ∷ []) e) h
 
--- a text between its quotes, and what follows it
+-- a quoted string followed by other text
 string_spelled : {b x : List ℕ} (s : List ℕ) → IsUtf8 s → Spells b x
     → Spells (bytes.string_text s ++ b) (string_text (printed_text s) ++ x)
 string_spelled s utf8 more =
@@ -203,7 +203,7 @@ mutual
       (Spells-append (tree_spelled (inside l) t ok.1.0 plain.0)
       (pairs_spelled l ps ok.1.1 plain.1)))))))
 
--- ---- keys that ascend are put in one behind another
+-- ---- inserting ascending keys one by one appends them
 
 below : (b k : List ℕ) (es : Entries) (t : Tree) (ms : Entries)
     → Ascends (Some b) (pairs (es ++ (k, t) ∷ ms)) → slice_cmp nat_cmp b k ≡ Less
@@ -226,7 +226,7 @@ inserted-ascending (m ∷ ms) front h =
     rw (insert-last None front m.0 m.1 ms h)
     (inserted-ascending ms (front ++ m ∷ []) (rw append_assoc h) ∙ append_assoc front (m ∷ []) ms)
 
--- ---- what it means
+-- ---- the meaning of the printed text
 
 record ReadsTree (l : Layout) (t : Tree) : Type 0 where
   tree_is : Tree
@@ -247,7 +247,7 @@ record ReadsPairs (l : Layout) (ps : Pairs) : Type 0 where
   are_pairs : ArePairs (pairs own)
   ascends : (before : Option (List ℕ)) → Ascends before ps → Ascends before (pairs own)
 
--- the items that are not none, and the members
+-- a nonempty list of items, and of members
 items_mean : (x : Element) (xs : Items) (own : List Tree)
     → items_meaning (next_item x xs) ≡ Some own → meaning (items x xs) ≡ Some (array (trees_of own))
 items_mean x xs own e = grind arith
@@ -343,8 +343,8 @@ mutual
         ascends = λ before h. (h.0, others.ascends (Some k) h.1);
       }
 
--- The text means the same tree but for kinds of numbers, and the tree is Equal to the one that was
--- printed.
+-- The text means the same tree up to the kinds of numbers, and that tree compares Equal to the
+-- printed one.
 pub record RereadTree (text_is : List ℕ) (t : Tree) : Type 0 where
   pub tree_is : Tree
   pub is_tree : IsTree tree_is

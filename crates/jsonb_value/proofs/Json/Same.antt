@@ -1,4 +1,4 @@
--- Trees that differ at most in the kinds of numbers of one worth are Equal in the order.
+-- Trees that differ only in the kinds of numbers of equal value compare Equal.
 use Rattle.std.proofs.Common.{arith}
 use Rattle.std.proofs.Common.{◌≡◌, ◌≤◌, Bool, List, ℕ, length, refl, ap, ◌∙◌}
 use Rattle.std.specs.Prelude.{⊤}
@@ -16,12 +16,12 @@ use Rattle.jsonb_value.specs.TreeOrder.{tree_cmp, trees_cmp, pairs_cmp}
 use Rattle.jsonb_value.proofs.NumberLaws.{number_cmp_total}
 use Rattle.jsonb_value.proofs.KindLaws.{tree_cmp-itself}
 
--- Numbers of one worth, of which the first is written in no more bytes.
+-- Two numbers of equal value, where the first has no longer payload.
 pub record SameNumber (x y : Number) : Type 0 where
   pub worth : fraction_of x ≡ fraction_of y
   pub shorter : length (number_payload x) ≤ length (number_payload y)
 
--- Trees of one shape with such numbers, and otherwise the same.
+-- Trees that are equal except for numbers related by `SameNumber`.
 abbrev mutual
   pub IsSame : Tree → Tree → Type 0
   IsSame null null = ⊤

@@ -1,4 +1,4 @@
--- What is read is taken from the front.
+-- Reading consumes characters from the start.
 use Rattle.std.proofs.Common.{◌≡◌, ℕ, ◌<◌, ◌≤◌, Some, ap, List, ◌∷◌, length, arith, length-append}
 use Rattle.jsonb_value.specs.Tree.{Tree}
 use Rattle.jsonb_value.specs.Json.Characters.{quote}

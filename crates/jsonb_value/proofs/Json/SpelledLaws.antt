@@ -1,4 +1,4 @@
--- What is spelled as a value is read.
+-- What is spelled as a value is read as that value.
 use Rattle.std.proofs.Common.{◌≡◌, ℕ, zero, suc, ◌<◌, ◌≤◌, Bool, true, false, ◌⊎◌, Option}
 use Rattle.std.proofs.Common.{Some, None, refl, sym, ap, ◌∙◌, List, [], ◌∷◌, ◌++◌, length}
 use Rattle.std.proofs.Common.{append_assoc, append-nil, eqb-true, arith, length-append}
@@ -34,7 +34,7 @@ use Rattle.jsonb_value.proofs.Json.Digits.{stops}
 use Rattle.jsonb_value.proofs.Json.NumberLaws.{number-again, first_of_whole}
 use Rattle.jsonb_value.proofs.Json.TextLaws.{text-again}
 
--- ---- what may stand behind a value
+-- ---- what may follow a value
 
 -- nothing, a comma or a closing bracket
 abbrev pub follows : List ℕ → Bool
@@ -44,12 +44,12 @@ follows (c ∷ s) = (c == comma) || ((c == close_bracket) || (c == close_brace))
 or_cases : (a b : Bool) → (a || b) ≡ true → (a ≡ true) ⊎ (b ≡ true)
 or_cases a b e = grind arith
 
--- a test that agrees on the three
+-- a test that has the same result for the three characters
 follow_test : (p : ℕ → Bool) (v : Bool) (c : ℕ) (s : List ℕ) → p comma ≡ v → p close_bracket ≡ v
     → p close_brace ≡ v → follows (c ∷ s) ≡ true → p c ≡ v
 follow_test p v c s first second third e = grind (arith, or_cases, eqb-true)
 
--- a test that agrees on all white space
+-- a test that has the same result for all white space
 blank_test : (p : ℕ → Bool) (v : Bool) (c : ℕ) → p 32 ≡ v → p 9 ≡ v → p 10 ≡ v → p 13 ≡ v
     → is_blank c ≡ true → p c ≡ v
 blank_test p v c first second third fourth e = grind (arith, or_cases, eqb-true)
@@ -76,7 +76,7 @@ abbrev begins_value : List ℕ → Bool
 begins_value [] = false
 begins_value (c ∷ s) = not (is_blank c) && not (c == close_bracket)
 
--- with a character of a number
+-- the characters begin with a character of a number
 abbrev BeginsNumber : List ℕ → Type 0
 BeginsNumber [] = ⊥
 BeginsNumber (c ∷ s) = kind_of c ≡ number_kind
@@ -101,7 +101,7 @@ skip-begins : (s rest : List ℕ) → begins_value s ≡ true
     → (skip_blank (s ++ rest) ≡ s ++ rest) × (expect close_bracket (s ++ rest) ≡ None)
 skip-begins s rest e = grind arith
 
--- an element does not begin with the closing bracket
+-- an item does not begin with the closing bracket
 no_bracket : (x : Element) (t : Tree) (rest : List ℕ) → element_meaning x ≡ Some t
     → expect close_bracket (skip_blank (element_text x ++ rest)) ≡ None
 no_bracket (element before x after) t rest e =
@@ -139,7 +139,7 @@ truth_value : (b : Bool) (m : ℕ) (rest : List ℕ)
 unfolding read_value
 truth_value b m rest = grind arith
 
--- a container with white space alone
+-- an array or object with only white space in it
 empty_array_value : (blank : List ℕ) (m : ℕ) (rest : List ℕ) → all_blank blank ≡ true
     → read_value (suc m) (syntax_text (empty_array blank) ++ rest) ≡ Some (array no_trees, rest)
 unfolding read_value
@@ -175,7 +175,7 @@ element_positive (element before x after) t rest e = grind (arith, value_begins,
 pub member_positive : (m : Member) (rest : List ℕ) → length rest < length (member_text m ++ rest)
 member_positive (member before pieces after x) rest = grind (arith, length-append)
 
--- Each part is read, where so many turns are enough.
+-- Each part is read, if the bound on the number of steps is large enough.
 abbrev ElementAgain : Element → ℕ → Type 0
 ElementAgain x m = (t : Tree) (rest : List ℕ) → element_meaning x ≡ Some t → follows rest ≡ true
     → length (element_text x ++ rest) < m
@@ -198,7 +198,7 @@ MembersAgain xs m = (own front : Entries) (n : ℕ) (rest : List ℕ) → member
     → after_member (read_members (read_value m) n) front (members_text xs ++ rest)
     ≡ Some (object (pairs (insert_all front own)), rest)
 
--- an item and those behind it
+-- an item and the items after it
 items_step : (x : Element) (xs : Items) (m : ℕ) → ElementAgain x m → ItemsAgain xs m
     → (own front : List Tree) (n : ℕ) (rest : List ℕ) → items_meaning (next_item x xs) ≡ Some own
     → length ((element_text x ++ items_text xs) ++ rest) < m
@@ -221,7 +221,7 @@ items_step x xs m first others own front n rest e h k =
       append_assoc front (t ∷ []) ts,
     )))
 
--- a member and those behind it
+-- a member and the members after it
 members_step : (x : Member) (xs : Members) (m : ℕ) → MemberAgain x m → MembersAgain xs m
     → (own front : Entries) (n : ℕ) (rest : List ℕ) → members_meaning (next_member x xs) ≡ Some own
     → length ((member_text x ++ members_text xs) ++ rest) < m

@@ -1,4 +1,4 @@
--- What a reading that succeeded says of its steps.
+-- What a successful read implies about its steps.
 use Rattle.std.proofs.Common.{arith}
 use Rattle.std.proofs.Common.{◌≡◌, Bool, true, false, cond, ◌⊎◌, Option, Some, None}
 use Rattle.std.proofs.Common.{ap}
@@ -22,7 +22,7 @@ and_true a b e = grind arith
 pub and_both : (a b : Bool) → a ≡ true → b ≡ true → (a && b) ≡ true
 and_both a b e h = grind arith
 
--- the parts of a step that succeeded, handed on under names
+-- the parts of a successful step, passed on by name
 pub bind_then : {A B C : Type 0} (r : Option A) (f : A → Option B) (y : B) → (r >>= f) ≡ Some y
     → ((x : A) → r ≡ Some x → f x ≡ Some y → C) → C
 bind_then r f y e go = grind arith

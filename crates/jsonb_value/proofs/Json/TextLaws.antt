@@ -1,4 +1,4 @@
--- What is read as a string is spelled so, and what is spelled as a string is read.
+-- What is read as a string is spelled that way, and what is spelled as a string is read.
 use Rattle.std.proofs.Common.{◌≡◌, ℕ, zero, suc, ◌<◌, true, false, inl, inr, Option, Some, None}
 use Rattle.std.proofs.Common.{refl, sym, ap, ◌∙◌, List, [], ◌∷◌, ◌++◌, length, append_assoc}
 use Rattle.std.proofs.Common.{append-nil, eqb-true, arith, length-append}
@@ -14,7 +14,7 @@ use Rattle.jsonb_value.proofs.Json.Tests.{bind_then, some_pair, some_same, cond_
 use Rattle.jsonb_value.proofs.Json.Tests.{and_true, no_error, chosen, by_true}
 use Rattle.jsonb_value.proofs.Json.Tests.{bound}
 
--- four hexadecimal digits at the front
+-- four hexadecimal digits at the start
 pub record IsUnitFront (s : List ℕ) (value : ℕ) (rest : List ℕ) : Type 0 where
   pub digits : Unit4
   pub is_worth : unit_value digits ≡ Some value
@@ -49,7 +49,7 @@ second-found (b ∷ u ∷ s) value rest e =
           (λ x. backslash ∷ x ∷ s) (eqb-true u letter_u marks.1) ∙ low.is_spelled,
     )
 
--- a piece at the front
+-- a piece at the start
 pub record IsPieceFront (s : List ℕ) (character : ℕ) (rest : List ℕ) : Type 0 where
   pub piece : Piece
   pub is_meant : piece_meaning piece ≡ Some character
@@ -126,7 +126,7 @@ piece-found (x ∷ s) c rest e = elim (chosen (x == backslash) _ _ _ e) [
       }
 ]
 
--- pieces and the closing quote at the front, whose bytes come after others
+-- pieces and the closing quote at the start; the pieces' bytes are appended to `front`
 pub record IsTextFront (front s bytes rest : List ℕ) : Type 0 where
   pub pieces : List Piece
   pub own : List ℕ
@@ -165,9 +165,9 @@ text-found (suc n) front (x ∷ s) bytes rest e = elim (chosen (x == quote) _ _ 
       })
 ]
 
--- ---- and back
+-- ---- the converse
 
--- a character that passes a test is none that fails it
+-- a character for which f has a result differs from one for which it has none
 pub passes_no : {A : Type 0} (f : ℕ → Option A) (c k : ℕ) (y : A) → f c ≡ Some y → f k ≡ None
     → (c == k) ≡ false
 passes_no f c k y is none = grind (arith, eqb-true)
@@ -185,7 +185,7 @@ one_unit u c e = grind arith
 high_first : (h l c : ℕ) → pair_character h l ≡ Some c → is_high h ≡ true
 high_first h l c e = grind arith
 
--- a piece with a character does not begin with the quote, and is read
+-- a piece that means a character does not begin with the quote, and is read
 pub record IsRead (s : List ℕ) (c : ℕ) (rest : List ℕ) : Type 0 where
   pub first : ℕ
   pub others : List ℕ

@@ -48,7 +48,7 @@ pub text_fails : (m : ℕ) (front s after : List ℕ) (c : ℕ) → length s < m
 unfolding read_text
 text_fails m front s after c h e other none = grind (arith, no_quote)
 
--- reading goes on behind a piece
+-- reading continues after a piece
 pub record GoesOn (m : ℕ) (front s new rest : List ℕ) : Type 0 where
   pub turns : ℕ
   pub enough : length rest < turns
@@ -68,7 +68,7 @@ goes_on_by (suc m) front s after c x rest h e other is =
       same = ap (read_text (suc m) front) e ∙ by_false _ _ _ _ other (bound _ _ _ _ first refl);
     }
 
--- one piece more
+-- one more piece
 goes_on_past : (m : ℕ) (front s middle rest after : List ℕ) (c x : ℕ) (last : List ℕ)
     → GoesOn m front s middle rest → rest ≡ c ∷ after → (c == quote) ≡ false
     → read_piece rest ≡ Some (x, last)
@@ -89,7 +89,7 @@ read_piece-plain c s e = grind arith
 plain_is_no_quote : (c : ℕ) → is_plain c ≡ true → (c == quote) ≡ false
 plain_is_no_quote c e = grind arith
 
--- so many characters more that stand for themselves
+-- more unescaped characters
 goes_on_past_all : (ps : List ℕ) (m : ℕ) (front s middle rest last : List ℕ)
     → GoesOn m front s middle rest → rest ≡ ps ++ last → list_all is_plain ps ≡ true
     → GoesOn m front s (middle ++ encode_utf8_all ps) last
@@ -110,7 +110,7 @@ goes_on_past_all (p ∷ ps) m front s middle rest last g e all =
           (append_assoc middle (encode_utf8 p) (encode_utf8_all ps));
     }
 
--- behind plain characters, by their bytes
+-- more unescaped characters, given by their bytes
 pub goes_on_past_plain : (m : ℕ) (front s middle rest last ps bytes : List ℕ)
     → GoesOn m front s middle rest → rest ≡ ps ++ last → list_all is_plain ps ≡ true
     → encode_utf8_all ps ≡ bytes
@@ -122,14 +122,14 @@ pub goes_on_as : (m : ℕ) (front s new rest own : List ℕ) → GoesOn m front 
     → GoesOn m front s own rest
 goes_on_as m front s new rest own g e = grind arith
 
--- from the quote that opens a string to the end of its plain characters
+-- from the opening quote of a string to the end of its leading unescaped characters
 pub goes_on_from_start : (n : ℕ) (s last ps bytes : List ℕ) → length s < n → s ≡ ps ++ last
     → list_all is_plain ps ≡ true → encode_utf8_all ps ≡ bytes → GoesOn n [] s bytes last
 goes_on_from_start n s last ps bytes h e all same =
     goes_on_past_plain n [] s [] s last ps bytes
     (record { turns = n; enough = h; same = refl }) e all same
 
--- ---- plain bytes are plain characters
+-- ---- unescaped bytes are unescaped characters
 
 large_is_plain : (c : ℕ) → 128 ≤ c → is_plain c ≡ true
 large_is_plain c h = grind (arith, le-leb, no_test)
@@ -152,7 +152,7 @@ pub plain-chars : (bytes : List ℕ) → IsUtf8 bytes → list_all is_plain byte
     → list_all is_plain (chars bytes) ≡ true
 plain-chars bytes utf8 e = grind (arith, plain-characters, encodes-chars)
 
--- ---- where the plain characters at the front end
+-- ---- where the leading unescaped characters end
 
 plain_boundary : (bytes : List ℕ) → IsCharBoundary bytes (prefix_len is_plain bytes)
 plain_boundary bytes =
@@ -180,7 +180,7 @@ plain_take (b ∷ bytes) (suc n) h = elim (bool_cases (is_plain b)) [
 pub cut_boundary : (bytes : List ℕ) (n : ℕ) → n ≡ prefix_len is_plain bytes → IsCharBoundary bytes n
 cut_boundary bytes n e = grind (arith, plain_boundary)
 
--- the bytes up to there
+-- the bytes before that position
 pub record PlainFront (bytes front rest : List ℕ) : Type 0 where
   pub is_plain_all : list_all is_plain (chars front) ≡ true
   pub is_whole : chars bytes ≡ chars front ++ chars rest
@@ -202,7 +202,7 @@ plain_front bytes front rest n utf8 e is_front is_rest =
       is_encoded = encodes-chars front front_utf8;
     }
 
--- what follows the plain characters behind a piece is shorter
+-- the text after the unescaped characters that follow a piece is shorter
 pub plain_shorter : (s after ps last : List ℕ) (x : ℕ) → Some (x, after) ≡ read_piece s
     → after ≡ ps ++ last → length last < length s
 plain_shorter s after ps last x is e =

@@ -1,4 +1,4 @@
--- What is read as a value is spelled so.
+-- What is read as a value is spelled that way.
 use Rattle.std.proofs.Common.{arith}
 use Rattle.std.proofs.Common.{◌≡◌, ℕ, zero, suc, true, false, inl, inr, Option, Some, None, refl}
 use Rattle.std.proofs.Common.{List, [], ◌∷◌, ◌++◌, length, append_assoc}
@@ -57,7 +57,7 @@ skip-split (c ∷ s) = elim (bool_cases (is_blank c)) [
   | inr other ↦ record { blank = []; is_blank = refl; is_spelled = rw other refl }
 ]
 
--- a value at the front of the text, an element, and a member
+-- a value at the start of the text; likewise an element and a member
 pub record IsValueFront (s : List ℕ) (t : Tree) (rest : List ℕ) : Type 0 where
   pub syntax : Syntax
   pub is_meant : meaning syntax ≡ Some t
@@ -73,8 +73,7 @@ pub record IsMemberFront (s : List ℕ) (e : List ℕ × Tree) (rest : List ℕ)
   pub is_meant : member_meaning syntax ≡ Some e
   pub is_spelled : s ≡ member_text syntax ++ rest
 
--- items at the front, behind those before them, with the bracket that closes the array, and the
--- same of members
+-- items at the start, which follow earlier ones, and the closing bracket; likewise members
 pub record IsItemsFront (front : List Tree) (s : List ℕ) (t : Tree) (rest : List ℕ) : Type 0 where
   pub syntax : Items
   pub own : List Tree
@@ -89,7 +88,7 @@ pub record IsMembersFront (front : Entries) (s : List ℕ) (t : Tree) (rest : Li
   pub is_joined : object (pairs (insert_all front own)) ≡ t
   pub is_spelled : s ≡ members_text syntax ++ rest
 
--- a container that is not empty, of what would stand behind a comma
+-- a nonempty container, from what would follow a comma
 array_from : (x : Items) (own : List Tree) (s rest : List ℕ) → items_meaning x ≡ Some own
     → comma ∷ s ≡ items_text x ++ rest → IsValueFront (open_bracket ∷ s) (array (trees_of own)) rest
 array_from no_item own s rest e is = grind arith
@@ -103,7 +102,7 @@ object_from no_member own s rest e is = grind arith
 object_from (next_member x xs) own s rest e is =
     record { syntax = members x xs; is_meant = grind arith; is_spelled = grind arith }
 
--- what the reader finds is there
+-- what the reader returns is spelled at the start of the text
 abbrev pub IsSound : Reader Tree → Type 0
 IsSound value =
     (s : List ℕ) (t : Tree) (rest : List ℕ) → value s ≡ Some (t, rest) → IsValueFront s t rest
@@ -247,7 +246,7 @@ module _ (value : Reader Tree) (sound : IsSound value) where
       rw found.is_joined at
       (object_from found.syntax found.own s rest found.is_meant found.is_spelled)
 
--- the character of a kind
+-- the first character of a value of each kind
 abbrev kind_character : Kind → ℕ → Type 0
 kind_character null_kind c = c ≡ 110
 kind_character true_kind c = c ≡ 116

@@ -35,7 +35,7 @@ view-Bool b = search (rules, the_lemmas)
 pub view-Array : (v : Vec Value Global) → tree_of (Array v) ≡ array (trees_of (map tree_of v.items))
 view-Array v = search (rules, the_lemmas)
 
--- a key by its bytes, and the tree of its value
+-- a member as the bytes of its key and the tree of its value
 abbrev pub entry_of : String Global × Value → List ℕ × Tree
 entry_of e = (string_bytes e.0, tree_of e.1)
 
@@ -43,12 +43,12 @@ pairs_seen : (es : List (String Global × Value)) → pairs_view es ≡ pairs (m
 pairs_seen [] = refl
 pairs_seen (e ∷ es) = grind (arith, pairs_seen es)
 
--- an error that is handed on
+-- an error that is passed on
 pub fails_on : {Y Y' : Type 0} (e : Error) (read : Option Y) (other : Option Y')
     → (read ≡ None → other ≡ None) → Fails e read → Fails e other
 fails_on e read other handed g = grind arith
 
--- a value of the kind that its first character tells
+-- a value of the kind that its first character determines
 pub of_kind : (P : Option (Tree × List ℕ) → Type 0) (s rest : List ℕ) (c : ℕ) (k : Kind)
     → s ≡ c ∷ rest → k ≡ kind_of c
     → ((turns : ℕ) → length rest < turns → P (read_kind (read_value turns) turns k c rest))
@@ -68,7 +68,7 @@ pub value_ends : (n : ℕ) (s : List ℕ) → s ≡ [] → read_value n s ≡ No
 unfolding read_value
 value_ends n s e = grind arith
 
--- ---- what the code's containers hold
+-- ---- the content of the code's containers
 
 map-push : (vs : List Value) (v : Value)
     → map tree_of (vs ++ v ∷ []) ≡ map tree_of vs ++ tree_of v ∷ []
@@ -97,7 +97,7 @@ members_grown es new k v e = ap (map entry_of) e ∙ map-insert_entry es k v
 
 -- ---- arrays
 
--- reading an array goes on behind these items
+-- reading an array continues after these items
 pub record ItemsGoOn (n : ℕ) (s : List ℕ) (front : List Tree) (rest : List ℕ) : Type 0 where
   pub turns : ℕ
   pub enough : length rest < turns
@@ -117,7 +117,7 @@ pub items_fail : (n turns : ℕ) (front : List Tree) (s : List ℕ)
 unfolding read_items
 items_fail n turns front s e = grind arith
 
--- the turn that reads an item
+-- the step that reads an item
 pub record ItemRead (n : ℕ) (s : List ℕ) (front : List Tree) (after : List ℕ) : Type 0 where
   pub turns : ℕ
   pub enough : length after ≤ turns
@@ -164,7 +164,7 @@ pub item_then_comma : (n : ℕ) (s : List ℕ) (front : List Tree) (after rest :
     → ItemRead n s front after → after ≡ c ∷ rest → c ≡ comma → ItemsGoOn n s front rest
 item_then_comma n s front after rest c r e is = grind arith
 
--- ---- objects, in the same way
+-- ---- objects, likewise
 
 pub record MembersGoOn (n : ℕ) (s : List ℕ) (front : Entries) (rest : List ℕ) : Type 0 where
   pub turns : ℕ
@@ -180,7 +180,7 @@ object_begins n s front h e empty = record {
       (λ f. read_members (read_value n) n f s) empty;
 }
 
--- a member at the front
+-- a member at the start
 abbrev pub member_found : List ℕ → Tree → List ℕ → Option ((List ℕ × Tree) × List ℕ)
 member_found key t rest = Some ((key, t), rest)
 
@@ -196,7 +196,8 @@ pub record MemberRead (n : ℕ) (s : List ℕ) (front : Entries) (after : List �
   pub same : read_object (read_value n) n s
       ≡ after_member (read_members (read_value n) turns) front after
 
--- the bounds of the turns differ: the key's is above its text, as is each other
+-- the bounds on the steps differ: the bound for the key exceeds the length of its text, as do the
+-- others
 member_turn : (n turns : ℕ) (s : List ℕ) (old new : List (String Global × Value))
     (rest after : List ℕ) → length rest < turns
     → read_object (read_value n) n s ≡ read_members (read_value n) turns (map entry_of old) rest
@@ -231,7 +232,7 @@ pub member_then_comma : (n : ℕ) (s : List ℕ) (front : Entries) (after rest :
     → MemberRead n s front after → after ≡ c ∷ rest → c ≡ comma → MembersGoOn n s front rest
 member_then_comma n s front after rest c r e is = grind arith
 
--- ---- elements, and what the code's containers hold
+-- ---- elements, and the content of the code's containers
 
 pub element_reads : (n : ℕ) (s inside : List ℕ) (t : Tree) (r rest : List ℕ) → inside ≡ skip_blank s
     → read_value n inside ≡ Some (t, r) → rest ≡ skip_blank r
@@ -250,7 +251,7 @@ pub passed_on : {X Y Y' : Type 0} (view : X → Y') (r : Result X Error) (e : Er
     → (read ≡ None → other ≡ None) → Fails e read → Gives view r other
 passed_on view r e read other is handed g = grind (arith, fails_on)
 
--- the item and the mark behind it are taken from the front
+-- reading an item and the mark after it consumes characters
 pub item_shorter : (old new : List Value) (rest after : List ℕ) (c : ℕ) (last : List ℕ)
     → ItemIsRead old new rest after → after ≡ c ∷ last → length last < length rest
 item_shorter old new rest after c last is e =
@@ -260,7 +261,7 @@ item_shorter old new rest after c last is e =
 
 -- ---- members
 
--- behind the quote that opens a key
+-- after the opening quote of a key
 pub opened_shorter : (s inside opened : List ℕ) → inside ≡ skip_blank s
     → Some opened ≡ expect quote inside → length opened < length s
 opened_shorter s inside opened e is =
@@ -279,7 +280,7 @@ pub member_no_colon : (n k : ℕ) (s opened key after inside : List ℕ)
     → inside ≡ skip_blank after → None ≡ expect colon inside → read_member (read_value n) k s ≡ None
 member_no_colon n k s opened key after inside opens is e none = grind arith
 
--- what follows the colon
+-- the text after the colon
 pub behind_shorter : (opened : List ℕ) (key after inside behind : List ℕ)
     → ((n : ℕ) → length opened < n → read_text n [] opened ≡ Some (key, after))
     → inside ≡ skip_blank after → Some behind ≡ expect colon inside → length behind < length opened
@@ -304,7 +305,7 @@ key_shorter s key behind k =
           (sym k.is_behind),
     )
 
--- the value behind a key
+-- no value follows a key
 member_no_value : (n turns : ℕ) (s key behind : List ℕ) → KeyIsRead s key behind
     → length s ≤ turns → read_element (read_value n) behind ≡ None
     → read_member (read_value n) turns s ≡ None
@@ -320,7 +321,7 @@ member_reads n turns s key behind t rest k enough is =
     let shorter = opened_shorter s (skip_blank s) k.opened refl (sym k.is_opened) in
     rw (k.is_opened, k.is_key turns (omega arith), k.is_behind, is) refl
 
--- the member and the mark behind it are taken from the front
+-- reading a member and the mark after it consumes characters
 pub member_then_shorter : (old new : List (String Global × Value)) (rest after : List ℕ) (c : ℕ)
     (last : List ℕ) → MemberIsRead old new rest after → after ≡ c ∷ last
     → length last < length rest
@@ -346,13 +347,13 @@ pub members_stop : {X : Type 0} (n : ℕ) (s rest : List ℕ) (view : X → Tree
     → Gives view r (read_object (read_value n) n s)
 members_stop n s rest view r e {front} g is fails = grind (arith, stop_by)
 
--- ---- what a container holds after one more part
+-- ---- the content of a container after one more part
 
 pub err_is : {X : Type 0} (r : Result X Error) (e : Error) (P : Error → Type 0)
     → IsErrAnd r (λ y. y ≡ e) → P e → IfErr r P
 err_is r e P is p = grind arith
 
--- what was found at the front of these characters, as a value and what follows
+-- what is read at the start of these characters, as a value and the text after it
 abbrev pub Finds : Result (Value × Bor (List ℕ)) Error → List ℕ → Type 0
 Finds found s =
     (n : ℕ) → length s < n → Gives (λ f. (tree_of f.0, chars f.1.now)) found (read_value n s)
@@ -364,7 +365,7 @@ pub item_is_read : (found : Result (Value × Bor (List ℕ)) Error) (old new : L
 item_is_read found old new s inside rest skipped finds is =
     grind (arith, element_reads, skipped_shorter)
 
--- the error of what was found, or want of memory behind it
+-- the error of the read, or a failed allocation after it
 fails_behind : {Y : Type 0} (found : Result (Value × Bor (List ℕ)) Error) (s : List ℕ) (n : ℕ)
     (other : Option Y) (e : Error) → length s < n → Finds found s
     → (read_value n s ≡ None → other ≡ None) → (e ≡ OutOfMemory) ⊎ (found ≡ Err e) → Fails e other
@@ -407,7 +408,7 @@ member_fails found s key behind inside e read skipped finds why n turns h k =
     (λ none. member_no_value n turns s key behind read k
     (element_fails n behind inside skipped none)) why
 
--- the object of the members that were put in
+-- the object of the inserted members
 pub object_closes : (n : ℕ) (s after rest : List ℕ) (c : ℕ) (es : List (String Global × Value))
     (r : Result (Value × Bor (List ℕ)) Error) → MemberRead n s (map entry_of es) after
     → after ≡ c ∷ rest → c ≡ close_brace

@@ -1,7 +1,7 @@
--- Steps that may each have no result.
+-- Chaining steps that may have no result.
 use Rattle.std.specs.Prelude.{Option, Some, None}
 
--- the second step on the result of the first; none, where the first has none
+-- The second step applied to the result of the first; no result if the first has none.
 infixl 10 ◌>>=◌
 abbrev pub ◌>>=◌ : {A B : Type 0} → Option A → (A → Option B) → Option B
 (Some x) >>= f = f x

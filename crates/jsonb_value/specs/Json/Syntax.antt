@@ -1,4 +1,5 @@
--- A text as it is spelled, white space and all: what it spells, and the tree that it means.
+-- The syntax of a text with its white space, the characters that it spells, and the tree that it
+-- means.
 use Rattle.std.specs.Prelude.{◌≡◌, ℕ, Bool, true, false, cond, ◌&&◌, List, [], ◌∷◌, ◌++◌, Option}
 use Rattle.std.specs.Prelude.{Some, None, option_map, codes}
 use Rattle.std.specs.Ordering.{nat_cmp}
@@ -14,7 +15,7 @@ use Rattle.jsonb_value.specs.Json.Numeral.{Numeral, numeral_text, numeral_meanin
 use Rattle.jsonb_value.specs.Json.Piece.{Piece, pieces_text, pieces_meaning}
 
 mutual
-  -- A value as it is spelled.
+  -- The syntax of a value.
   pub data Syntax : Type 0 where
     nothing : Syntax
     truth : Bool → Syntax
@@ -25,34 +26,34 @@ mutual
     empty_object : (blank : List ℕ) → Syntax
     members : Member → Members → Syntax
 
-  -- A value between white space.
+  -- A value with the white space before and after it.
   pub data Element : Type 0 where
     element : (before : List ℕ) → Syntax → (after : List ℕ) → Element
 
-  -- What follows an item: the closing bracket, or a comma and the next.
+  -- The rest of an array after an item: its closing bracket, or a comma and the next item.
   pub data Items : Type 0 where
     no_item : Items
     next_item : Element → Items → Items
 
-  -- A key between white space, and behind a colon its value.
+  -- A key with the white space before and after it, a colon and its value.
   pub data Member : Type 0 where
     member : (before : List ℕ) → List Piece → (after : List ℕ) → Element → Member
 
-  -- What follows a member: the closing brace, or a comma and the next.
+  -- The rest of an object after a member: its closing brace, or a comma and the next member.
   pub data Members : Type 0 where
     no_member : Members
     next_member : Member → Members → Members
 
--- the pieces between quotes
+-- The characters of a string: its pieces between quotes.
 abbrev pub string_text : List Piece → List ℕ
 string_text pieces = quote ∷ (pieces_text pieces ++ quote ∷ [])
 
--- `true` and `false`
+-- The characters of a truth value.
 abbrev pub truth_text : Bool → List ℕ
 truth_text true = codes "true"
 truth_text false = codes "false"
 
--- what is spelled
+-- The characters that a syntax spells.
 abbrev mutual
   pub syntax_text : Syntax → List ℕ
   syntax_text nothing = codes "null"
@@ -64,41 +65,45 @@ abbrev mutual
   syntax_text (empty_object blank) = open_brace ∷ (blank ++ close_brace ∷ [])
   syntax_text (members m ms) = open_brace ∷ (member_text m ++ members_text ms)
 
+  -- The characters of a value with its white space.
   pub element_text : Element → List ℕ
   element_text (element before x after) = before ++ (syntax_text x ++ after)
 
+  -- The characters of the rest of an array.
   pub items_text : Items → List ℕ
   items_text no_item = close_bracket ∷ []
   items_text (next_item x xs) = comma ∷ (element_text x ++ items_text xs)
 
+  -- The characters of a member.
   pub member_text : Member → List ℕ
   member_text (member before key after x) =
       before ++ (string_text key ++ (after ++ colon ∷ element_text x))
 
+  -- The characters of the rest of an object.
   pub members_text : Members → List ℕ
   members_text no_member = close_brace ∷ []
   members_text (next_member m ms) = comma ∷ (member_text m ++ members_text ms)
 
--- an object's pairs, by the bytes of their keys
+-- An object's keys with their values.
 abbrev pub Entries : Type 0
 Entries = List (List ℕ × Tree)
 
--- the same as a part of a tree
+-- The entries as pairs of a tree.
 abbrev pub pairs : Entries → Pairs
 pairs [] = no_pairs
 pairs (e ∷ es) = pair e.0 e.1 (pairs es)
 
--- The entries with these put in, one after another: each at its key's place in the order of bytes,
--- instead of an equal key's.
+-- The entries after inserting others one by one: each at its key's position in byte order,
+-- replacing an equal key.
 abbrev pub insert_all : Entries → Entries → Entries
 insert_all es [] = es
 insert_all es (m ∷ ms) = insert_all (insert_entry (slice_cmp nat_cmp) es m.0 m.1) ms
 
--- the same, if what stands before and after is white space
+-- The result, if the characters before and after it are white space.
 abbrev pub between : {A : Type 0} → List ℕ → List ℕ → Option A → Option A
 between before after x = cond (all_blank before && all_blank after) x None
 
--- the tree, where what is spelled means one
+-- The tree that a syntax means, if it means one.
 abbrev mutual
   pub meaning : Syntax → Option Tree
   meaning nothing = Some null
@@ -112,24 +117,28 @@ abbrev mutual
   meaning (members m ms) = member_meaning m >>= λ e. members_meaning ms
       >>= λ es. Some (object (pairs (insert_all [] (e ∷ es))))
 
+  -- The tree of a value with its white space.
   pub element_meaning : Element → Option Tree
   element_meaning (element before x after) = between before after (meaning x)
 
+  -- The trees of the rest of an array.
   pub items_meaning : Items → Option (List Tree)
   items_meaning no_item = Some []
   items_meaning (next_item x xs) =
       element_meaning x >>= λ t. items_meaning xs >>= λ ts. Some (t ∷ ts)
 
+  -- The key and the tree of a member.
   pub member_meaning : Member → Option (List ℕ × Tree)
   member_meaning (member before key after x) =
       between before after (pieces_meaning key) >>= λ k. element_meaning x >>= λ t. Some (k, t)
 
+  -- The entries of the rest of an object.
   pub members_meaning : Members → Option Entries
   members_meaning no_member = Some []
   members_meaning (next_member m ms) =
       member_meaning m >>= λ e. members_meaning ms >>= λ es. Some (e ∷ es)
 
--- The characters are a text of JSON that means the tree.
+-- The characters are a JSON text that means the tree.
 pub record Json (characters : List ℕ) (t : Tree) : Type 0 where
   pub syntax : Element
   pub is_spelled : characters ≡ element_text syntax

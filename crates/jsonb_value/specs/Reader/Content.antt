@@ -1,4 +1,4 @@
--- What a container holds after one more part of it was read.
+-- The content of an array or object after one more part of it was read.
 use Rattle.std.specs.Prelude.{◌≡◌, ℕ, ◌<◌, ◌≤◌, List, [], ◌∷◌, ◌++◌, length, Some, String}
 use Rattle.std.specs.Prelude.{string_bytes, string_cmp}
 use Rattle.std.specs.declared.alloc.Global.{Global}
@@ -10,13 +10,13 @@ use Rattle.jsonb_value.specs.Json.Characters.{quote, colon}
 use Rattle.jsonb_value.specs.Reader.Reading.{read_element, read_member, read_value, read_text}
 use Rattle.jsonb_value.specs.Reader.Reading.{expect, skip_blank}
 
--- One item at the front of the characters was put behind the others.
+-- One item at the start of the characters was read and appended.
 pub record ItemIsRead (old new : List Value) (s rest : List ℕ) : Type 0 where
   pub item : Value
   pub pushed : new ≡ old ++ item ∷ []
   pub reads : (n : ℕ) → length s < n → read_element (read_value n) s ≡ Some (tree_of item, rest)
 
--- A key between white space and the colon behind it stand at the front of the characters.
+-- A key with white space around it and its colon are at the start of the characters.
 pub record KeyIsRead (s key behind : List ℕ) : Type 0 where
   pub opened : List ℕ
   pub after : List ℕ
@@ -24,18 +24,18 @@ pub record KeyIsRead (s key behind : List ℕ) : Type 0 where
   pub is_key : (turns : ℕ) → length opened < turns → read_text turns [] opened ≡ Some (key, after)
   pub is_behind : expect colon (skip_blank after) ≡ Some behind
 
--- These members with others put in, one after another: each at its key's place in the order of
--- bytes, instead of an equal key's.
+-- The members after inserting others one by one: each at its key's position in byte order,
+-- replacing an equal key.
 abbrev pub with_members : List (String Global × Value) → List (String Global × Value)
     → List (String Global × Value)
 with_members es [] = es
 with_members es (m ∷ ms) = with_members (insert_entry string_cmp es m.0 m.1) ms
 
--- The members of the object that is read, in the order of their keys.
+-- The members read so far, in the order of their keys.
 abbrev pub members_held : Members → List (String Global × Value)
 members_held ms = with_members ms.few.entries ms.others.items
 
--- One member at the front of the characters was put in.
+-- One member at the start of the characters was read and inserted.
 pub record MemberIsRead (old new : List (String Global × Value)) (s rest : List ℕ) : Type 0 where
   pub key : String Global
   pub value : Value

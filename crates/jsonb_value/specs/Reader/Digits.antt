@@ -1,13 +1,13 @@
--- Numbers that may be too large for 128 bits.
+-- Numbers that may exceed 128 bits.
 use Rattle.std.specs.Prelude.{◌≡◌, ℕ, ◌<◌, ◌^◌, Option, SomeIff, length, List}
 use Rattle.std.specs.Str.Parse.{digits_value_after}
 use Rattle.jsonb_value.specs.declared.parser.number.Digits.{Digits}
 
--- the number, unless it is too large
+-- `counted` is the number n, or nothing if n exceeds 128 bits.
 abbrev pub Counts : ℕ → Option ℕ → Type 0
 Counts n counted = SomeIff counted (n < 2 ^ 128) n
 
--- these digits, behind those of n
+-- `digits` has the count of these digits and the number that they form after the digits of n.
 pub record AreDigits (n : ℕ) (ds : List ℕ) (digits : Digits) : Type 0 where
   pub count : digits.count ≡ length ds
   pub value : Counts (digits_value_after 10 n ds) digits.value

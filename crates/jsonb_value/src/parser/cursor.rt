@@ -1,10 +1,10 @@
-//! Steps over the characters at the front of a text.
+//! Steps over the characters at the start of a text.
 
 ghost use Rattle.std.specs.Prelude.{◌≡◌, [], ◌∷◌, chars, option_map, MatchOption};
 ghost use Rattle.jsonb_value.specs.Json.Characters.{is_blank};
 ghost use Rattle.jsonb_value.specs.Reader.Reading.{skip_blank, expect, expect_all};
 
-/// The first character, and what follows it.
+/// The first character, and the text after it.
 #[inline(always)]
 pub fn split_first(text: &str) -> Option<(char, &str)>
     ensures { MatchOption result (chars text.now ≡ [])
@@ -15,7 +15,7 @@ pub fn split_first(text: &str) -> Option<(char, &str)>
     Some((first, characters.as_str()))
 }
 
-/// What follows the character, where it stands first.
+/// The text after `expected`, if it is the first character.
 #[inline(always)]
 pub fn after_char(text: &str, expected: char) -> Option<&str>
     ensures { option_map (λ rest. chars rest.now) result ≡ expect expected (chars text.now) }
@@ -26,7 +26,7 @@ pub fn after_char(text: &str, expected: char) -> Option<&str>
     }
 }
 
-/// What follows these characters, where they stand first.
+/// The text after these characters, if it begins with them.
 pub fn after_all<'a>(text: &'a str, expected: &[char]) -> Option<&'a str>
     ensures { option_map
         (λ rest. chars rest.now) result ≡ expect_all expected.now (chars text.now) }
@@ -38,7 +38,7 @@ pub fn after_all<'a>(text: &'a str, expected: &[char]) -> Option<&'a str>
     Some(rest)
 }
 
-// One test tells most characters that are no white space.
+// Whether the character is JSON white space. The first comparison rules out most characters.
 #[inline(always)]
 fn is_blank(character: char) -> bool
     ensures { result ≡ is_blank character }
@@ -46,7 +46,7 @@ fn is_blank(character: char) -> bool
     character <= ' ' && matches!(character, ' ' | '\t' | '\n' | '\r')
 }
 
-/// What follows the white space at the front.
+/// The text after its leading white space.
 #[inline(always)]
 pub fn skip_blank(text: &str) -> &str
     ensures { chars result.now ≡ skip_blank (chars text.now) }

@@ -1,4 +1,4 @@
-//! The members of an object while it is read.
+//! The members of an object while it is being read.
 
 ghost use Rattle.std.specs.Prelude.{◌≡◌, ◌++◌, [], string_cmp, IfOk, IfErr, OnOk};
 ghost use Rattle.std.specs.BTreeMap.{insert_entry, IsFromIterResult};
@@ -11,12 +11,11 @@ use std::alloc::Global;
 use std::collections::BTreeMap;
 use std::mem::replace;
 
-// So many pairs stand in one leaf of a map.
+// The number of pairs in one leaf of a map.
 const LEAF_PAIRS: usize = 15;
 
-/// Members in the order of their keys while one leaf of a map holds them. Those behind are a list,
-/// in the order in which they were read, since to make a map of all at once costs less than to put
-/// each into its place.
+/// The members read so far. The first are in a map, as long as they fit one leaf; later ones are in
+/// a list in the order read, because building a map from a list costs less than single insertions.
 #[derive(Drop)]
 pub struct Members<'a> {
     few: Object<'a>,
@@ -34,7 +33,7 @@ impl<'a> Members<'a> {
         }
     }
 
-    /// Puts the value under the key. Of equal keys the last value is kept.
+    /// Inserts the value under the key. Of equal keys the last value is kept.
     pub fn insert(&mut self, key: String, value: Value<'a>) -> Result<(), Error>
         ensures ok { OnOk result (members_held self.new
             ≡ insert_entry string_cmp (members_held self.old) key value.entry) }
@@ -48,7 +47,7 @@ impl<'a> Members<'a> {
         Ok(())
     }
 
-    /// Takes the object of all members out, and leaves none.
+    /// Takes out the object of all members, leaving none.
     pub fn take_object(&mut self, alloc: Global) -> Result<Object<'a>, Error>
         ensures ok { IfOk result
             (λ object. pairs_view object.entries ≡ pairs_view (members_held self.old)) }
@@ -63,7 +62,7 @@ impl<'a> Members<'a> {
     }
 }
 
-// The members of a map and others behind them.
+// The members of a map, followed by others.
 fn join<'a>(
     alloc: Global,
     few: Object<'a>,
@@ -78,7 +77,7 @@ fn join<'a>(
     Ok(all)
 }
 
-// A map of these pairs. Of equal keys the last value is kept.
+// Builds a map of these pairs. Of equal keys the last value is kept.
 fn object_of<'a>(alloc: Global, pairs: Vec<(String, Value<'a>)>) -> Result<Object<'a>, Error>
     ensures ok { IfOk result (IsFromIterResult string_cmp pairs.entry.items) }
     ensures memory { IfErr result (λ e. e ≡ Error.OutOfMemory) }

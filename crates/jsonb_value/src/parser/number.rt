@@ -1,4 +1,4 @@
-//! Reading a number.
+//! The parser of numbers.
 
 ghost use Rattle.std.specs.Prelude.{◌≡◌, ℕ, ◌+◌, ◌*◌, List, Some, None, chars, option_map};
 ghost use Rattle.std.specs.Prelude.{MatchOption, SomeIff, IsTrue};
@@ -14,17 +14,18 @@ ghost use Rattle.jsonb_value.specs.Reader.Digits.{Counts, AreDigits};
 use crate::number::{Decimal64, Decimal128, Number};
 use crate::parser::cursor::{after_char, split_first};
 
-// Below this a number with one more digit fits in 64 bits.
+// A number below this still fits 64 bits after one more digit.
 const SHORT: u128 = 1 << 60;
 
-/// Digits, and the number that they make with those before them, unless it is past 128 bits.
+/// Digits that were read: their count, and the number that they form with the digits before them,
+/// `None` if it exceeds 128 bits.
 #[derive(Clone, Copy)]
 pub struct Digits {
     pub count: usize,
     pub value: Option<u128>,
 }
 
-// Whether a minus stands first, and what follows it.
+// Whether the text begins with a minus, and the text after it.
 #[inline(always)]
 fn read_sign(text: &str) -> (bool, &str)
     ensures { (result.0, chars result.1.now) ≡ read_sign (chars text.now) }
@@ -35,7 +36,7 @@ fn read_sign(text: &str) -> (bool, &str)
     }
 }
 
-// The number with one more digit. Short numbers need one word.
+// The number with one more digit appended. Short numbers are computed in 64 bits.
 #[inline(always)]
 fn with_digit(value: Option<u128>, digit: char) -> Option<u128>
     requires { IsTrue (is_ascii_digit digit) }
@@ -49,7 +50,8 @@ fn with_digit(value: Option<u128>, digit: char) -> Option<u128>
     value.checked_mul(10)?.checked_add(u128::from(digit))
 }
 
-// The digits at the front, behind those of `start`, and what follows them.
+// Reads the digits at the start of the text, which continue the number `start`; returns the text
+// after them.
 #[inline(always)]
 fn read_digits(start: Option<u128>, text: &str) -> (Digits, &str)
     ensures digits { (n : ℕ) → Counts n start
@@ -72,7 +74,8 @@ fn read_digits(start: Option<u128>, text: &str) -> (Digits, &str)
     (digits, rest)
 }
 
-// `0`, or digits that begin with another: their number, unless it is too large, and what follows.
+// Reads `0`, or digits that begin with another digit: their number, `None` if it exceeds 128 bits,
+// and the text after them.
 #[inline(always)]
 fn read_whole(text: &str) -> Option<(Option<u128>, &str)>
     ensures { MatchOption result (read_whole (chars text.now) ≡ None)
@@ -91,7 +94,8 @@ fn read_whole(text: &str) -> Option<(Option<u128>, &str)>
     Some((digits.value, rest))
 }
 
-// The digits after a point, where one stands, behind those of `whole`.
+// Reads a point and its digits, if the text begins with a point. The digits continue the number
+// `whole`.
 #[inline(always)]
 fn read_fraction(whole: Option<u128>, text: &str) -> Option<(Digits, &str)>
     ensures { (n : ℕ) → Counts n whole
@@ -113,7 +117,7 @@ fn read_fraction(whole: Option<u128>, text: &str) -> Option<(Digits, &str)>
     Some((digits, rest))
 }
 
-// The number of so many digits behind the point, if the value without the point is in range.
+// The number with `scale` fraction digits and this value without the point, if it is in range.
 fn number_of(scale: usize, value: i128) -> Option<Number>
     ensures { result ≡ number_of scale value }
 {
@@ -145,7 +149,7 @@ fn decimal_number(scale: u8, value: i128) -> Number
     }
 }
 
-// The magnitude with its sign, where it lies within the type.
+// The magnitude with its sign, if the type can hold it.
 fn signed(is_negative: bool, magnitude: u128) -> Option<i128>
     ensures { SomeIff result (IsTrue (is_within 127 (signed_number is_negative magnitude)))
         (signed_number is_negative magnitude) }
@@ -157,7 +161,7 @@ fn signed(is_negative: bool, magnitude: u128) -> Option<i128>
     }
 }
 
-/// The number at the front of the text, and what follows it.
+/// Reads the number at the start of the text; returns the text after it.
 pub fn read_number(text: &str) -> Option<(Number, &str)>
     ensures { option_map
         (λ found. (found.0, chars found.1.now)) result ≡ read_number (chars text.now) }

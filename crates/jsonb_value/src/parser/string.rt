@@ -1,4 +1,4 @@
-//! Reading a string, behind the quote that opens it.
+//! The parser of strings; the opening quote has been read.
 
 ghost use Rattle.std.specs.Prelude.{◌≡◌, ℕ, ◌<◌, ◌++◌, true, [], Some, None, chars, length};
 ghost use Rattle.std.specs.Prelude.{option_map, string_bytes, encode_utf8_all, IfSome};
@@ -16,7 +16,7 @@ use crate::runs::plain_len;
 use std::alloc::Global;
 use std::borrow::CowStr;
 
-// Four hexadecimal digits, and what follows them.
+// Reads four hexadecimal digits; returns the text after them.
 fn read_unit(text: &str) -> Option<(u32, &str)>
     ensures value { option_map
         (λ found. (found.0, chars found.1.now)) result ≡ read_unit (chars text.now) }
@@ -29,7 +29,7 @@ fn read_unit(text: &str) -> Option<(u32, &str)>
     Some((unit_value(first, second, third, fourth)?, text))
 }
 
-// The number that four hexadecimal digits spell.
+// The number of four hexadecimal digits.
 fn unit_value(first: char, second: char, third: char, fourth: char) -> Option<u32>
     ensures value { result ≡ unit_value (unit4 first second third fourth) }
     ensures short { IfSome result (λ value. value < 65536) }
@@ -42,7 +42,7 @@ fn unit_value(first: char, second: char, third: char, fourth: char) -> Option<u3
     )
 }
 
-// A further `\u` with its digits.
+// Reads `\u` and four hexadecimal digits, as the second half of a surrogate pair.
 fn read_second(text: &str) -> Option<(u32, &str)>
     ensures value { option_map
         (λ found. (found.0, chars found.1.now)) result ≡ read_second (chars text.now) }
@@ -57,7 +57,7 @@ fn read_second(text: &str) -> Option<(u32, &str)>
     }
 }
 
-// The character that the unit is, where it is no surrogate.
+// The character of a unit that is not a surrogate.
 fn unit_character(unit: u32) -> Option<char>
     requires { unit < 65536 }
     ensures { result ≡ unit_character unit }
@@ -78,7 +78,7 @@ fn pair_character(high: u32, low: u32) -> Option<char>
     }
 }
 
-// The character that begins with this unit.
+// Reads the rest of the character whose first unit this is.
 fn read_character(unit: u32, text: &str) -> Option<(char, &str)>
     requires { unit < 65536 }
     ensures { option_map
@@ -106,7 +106,7 @@ fn escape_value(letter: char) -> Option<char>
     }
 }
 
-// What follows a backslash.
+// Reads an escape after its backslash.
 fn read_escape(text: &str) -> Option<(char, &str)>
     ensures { option_map
         (λ found. (found.0, chars found.1.now)) result ≡ read_escape (chars text.now) }
@@ -120,7 +120,7 @@ fn read_escape(text: &str) -> Option<(char, &str)>
     }
 }
 
-// One character, as it stands or escaped.
+// Reads one character, escaped or not.
 fn read_piece(text: &str) -> Option<(char, &str)>
     ensures { option_map
         (λ found. (found.0, chars found.1.now)) result ≡ read_piece (chars text.now) }
@@ -133,7 +133,7 @@ fn read_piece(text: &str) -> Option<(char, &str)>
     }
 }
 
-// The characters at the front that stand for themselves, and what follows them.
+// Splits off the longest prefix of unescaped characters.
 #[inline(always)]
 fn split_plain(text: &str) -> (&str, &str)
     ensures plain { list_all is_plain (chars result.0.now) ≡ true }
@@ -143,7 +143,8 @@ fn split_plain(text: &str) -> (&str, &str)
     text.split_at(plain_len(text.as_bytes()))
 }
 
-// The string that begins with `front`, up to the quote that closes it, and what follows.
+// Reads the rest of a string up to its closing quote and appends it to `front`; returns the text
+// after the quote.
 #[inline(never)]
 fn read_escapes<'a>(alloc: Global, front: &str, text: &'a str) -> Result<(String, &'a str), Error>
     ensures { (n : ℕ) → length (chars text.now) < n
@@ -169,7 +170,8 @@ fn read_escapes<'a>(alloc: Global, front: &str, text: &'a str) -> Result<(String
     }
 }
 
-/// The string up to the quote that closes it, borrowed where it has no escape, and what follows.
+/// Reads a string up to its closing quote; returns the text after the quote. A string without
+/// escapes is borrowed from the text.
 #[inline(always)]
 pub fn read_string<'a>(alloc: Global, text: &'a str) -> Result<(CowStr<'a>, &'a str), Error>
     ensures { (n : ℕ) → length (chars text.now) < n

@@ -3,7 +3,7 @@ use Rattle.jsonb_value.specs.Tree.{Ascends}
 use Rattle.jsonb_value.specs.Ast.{asts_view, ast_pairs_view, AllAscend, PairsAscend}
 use Rattle.jsonb_value.proofs.ast.+ascending.Given as goal
 
--- The whole ascends exactly if what is left does.
+-- All items ascend exactly if the remaining ones do.
 abbrev pub invariant-all_ascend-loop-item : goal.invariant-all_ascend-loop-item
 invariant-all_ascend-loop-item l =
     let all = asts_view l.items.items in
@@ -13,7 +13,7 @@ invariant-all_ascend-loop-item l =
       back : AllAscend left → AllAscend all;
     }
 
--- The same, behind the key before.
+-- All pairs ascend exactly if the remaining ones do, after the previous key.
 abbrev pub invariant-pairs_ascend-loop-key : goal.invariant-pairs_ascend-loop-key
 invariant-pairs_ascend-loop-key l =
     let all = ast_pairs_view l.pairs.items in

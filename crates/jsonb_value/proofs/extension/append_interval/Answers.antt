@@ -6,7 +6,7 @@ use borrow.Rule.Slice.PartMut.{post_of}
 use Rattle.jsonb_value.proofs.Codes.{written_bytes}
 use Rattle.jsonb_value.proofs.extension.append_interval.Goals as goal
 
--- what stands behind the tag once the months are written, and then the days
+-- the bytes after the tag once the months and the days are written
 abbrev with_days : List ℕ → List ℕ → List ℕ
 with_days months days =
     take 4 (months ++ []) ++ (days ++ post_of {X = ℕ} 5 12 (64 ∷ (months ++ [])))

@@ -1,4 +1,4 @@
--- What is left to multiply by makes the whole product.
+-- The product so far times the remaining powers of ten is the whole product.
 use Rattle.std.proofs.Common.{◌≡◌, ◌^◌, pos, ◌*ℤ◌, ◌-◌}
 use Rattle.jsonb_value.proofs.order.cmp_by_scale.Given as goal
 

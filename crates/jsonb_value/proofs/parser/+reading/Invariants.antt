@@ -1,4 +1,4 @@
--- Each call goes to a shorter text, or to a lower function on the same text.
+-- Each call receives a shorter text, or is a lower function on the same text.
 use Rattle.std.proofs.Common.{ℕ, ◌+◌, ◌*◌, ◌<◌, ◌≤◌, chars, length}
 use Rattle.std.specs.Prelude.{map}
 use denote.Text.{Utf8}

@@ -6,7 +6,7 @@ use Rattle.jsonb_value.specs.Reader.Reading.{front_digits, after_digits}
 use Rattle.jsonb_value.specs.Reader.Digits.{Counts}
 use Rattle.jsonb_value.proofs.parser.number.read_digits.Given as goal
 
--- what is left adds up to the whole
+-- the digits so far and the remaining ones are the whole
 abbrev pub invariant-digits : goal.invariant-digits
 invariant-digits l =
     shadow (Utf8 l.rest)

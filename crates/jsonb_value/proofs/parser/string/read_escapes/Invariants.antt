@@ -5,7 +5,7 @@ use denote.Shadow.{shadow}
 use Rattle.jsonb_value.proofs.Json.TextSteps.{GoesOn}
 use Rattle.jsonb_value.proofs.parser.string.read_escapes.Given as goal
 
--- reading goes on behind what is read so far
+-- reading continues after the characters read so far
 abbrev pub invariant-pieces : goal.invariant-pieces
 invariant-pieces l =
     shadow (Utf8 l.rest)

@@ -1,0 +1,48 @@
+//! The strings that JSON texts spell.
+
+ghost use Rattle.std.specs.Prelude.{◌≡◌, ◌⊎◌, ℕ, IfErr, IfNone, IfOk, IfSome, List, chars};
+ghost use Rattle.jsonb_value.specs.Json.Syntax.{Json};
+ghost use Rattle.jsonb_value.specs.Tree.{text};
+ghost use Rattle.jsonb_value.specs.Value.{cow_bytes, tree_of};
+
+use crate::error::Error;
+use crate::parser::parse_value;
+use crate::value::Value;
+use std::alloc::Global;
+use std::borrow::CowStr;
+
+/// The string that a JSON text spells, as a program takes a key or a name. It is borrowed from the
+/// text if it has no escapes. `InvalidJson` if the text is not JSON, or spells something else;
+/// `OutOfMemory`. Like `parse_value` it needs stack for each level of the text.
+pub fn parse_string<'a>(alloc: Global, json: &'a str) -> Result<CowStr<'a>, Error>
+    ensures ok { IfOk result (λ string. Json (chars json.now) (text (cow_bytes string))) }
+    ensures invalid { IfErr result (λ e. e ≡ Error.InvalidJson
+        → (string : List ℕ) → Json (chars json.now) (text string) → ⊥) }
+    ensures only { IfErr result (λ e. (e ≡ Error.InvalidJson) ⊎ (e ≡ Error.OutOfMemory)) }
+{
+    match parse_value(alloc, json) {
+        Ok(value) => string_of(value).ok_or(Error::InvalidJson),
+        Err(error) => Err(error),
+    }
+}
+
+// The string that a value is.
+fn string_of<'a>(value: Value<'a>) -> Option<CowStr<'a>>
+    ensures some { IfSome result (λ string. tree_of value.entry ≡ text (cow_bytes string)) }
+    ensures none { IfNone result ((string : List ℕ) → tree_of value.entry ≡ text string → ⊥) }
+{
+    match value {
+        Value::String(string) => Some(string),
+        Value::Null
+        | Value::Bool(_)
+        | Value::Number(_)
+        | Value::Binary(_)
+        | Value::Date(_)
+        | Value::Timestamp(_)
+        | Value::TimestampTz(_)
+        | Value::Interval(_)
+        | Value::Opaque(_)
+        | Value::Array(_)
+        | Value::Object(_) => None,
+    }
+}

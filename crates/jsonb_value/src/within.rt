@@ -1,0 +1,79 @@
+//! Texts of JSON, read within a depth.
+
+ghost use Rattle.std.specs.Prelude.{◌≡◌, ◌↔◌, ◌⊎◌, ◌<◌, ◌≤◌, Err, IfOk, IfErr, List, chars};
+ghost use Rattle.jsonb_value.specs.declared.within.ParseError.TheVariants.{Refused};
+ghost use Rattle.jsonb_value.specs.Depth.{depth as tree_depth};
+ghost use Rattle.jsonb_value.specs.Tree.{Tree};
+ghost use Rattle.jsonb_value.specs.Value.{tree_of};
+ghost use Rattle.jsonb_value.specs.Json.Syntax.{Json};
+ghost use Rattle.jsonb_value.specs.TextDepth.{text_depth, HasItsDepth};
+ghost use Rattle.jsonb_value.specs.ParseErrorName.{parse_error_name};
+
+use crate::error::Error;
+use crate::parser::parse_value;
+use crate::text_depth::is_text_within;
+use crate::value::Value;
+use std::alloc::Global;
+
+/// Why a text is not read within a depth.
+#[derive(Clone, Copy, Debug, PartialEq, Eq, thiserror::Error)]
+pub enum ParseError {
+    /// The text nests deeper than the caller allows.
+    #[error("TooDeep")]
+    TooDeep,
+    /// The text is refused at any depth.
+    #[error("{0}")]
+    Refused(Error),
+}
+
+impl ParseError {
+    /// `TooDeep`, or the name of the other refusal, as `Display` writes it too.
+    pub fn name(&self) -> &'static str
+        ensures { result.now ≡ parse_error_name self.now }
+    {
+        match self {
+            ParseError::TooDeep => "TooDeep",
+            ParseError::Refused(error) => error.name(),
+        }
+    }
+}
+
+impl From<Error> for ParseError {
+    ghost from_gives = { λ error refusal. refusal ≡ Refused error };
+
+    fn from(error: Error) -> ParseError {
+        Self::Refused(error)
+    }
+}
+
+/// The value of a whole text that nests at most that deep, as `parse_value` reads it. Use this for
+/// texts from strangers: the stack that reading takes grows with the depth of the text.
+///
+/// `TooDeep` exactly where more brackets than `depth` are open at once, those in strings not
+/// counted. This is found before the text is read, so it comes before any other refusal. Of a text
+/// that is read it is the depth of its value, or of a deeper value that an equal key replaces: a
+/// scalar has depth 0, an array or object 1 where it is empty, and otherwise one more than its
+/// deepest child. `Refused` has the errors of `parse_value`: `InvalidJson` and `OutOfMemory`.
+pub fn parse_value_within<'a>(
+    alloc: Global,
+    text: &'a str,
+    depth: usize,
+) -> Result<Value<'a>, ParseError>
+    // What is read is what the text means.
+    ensures ok { IfOk result (λ value. Json (chars text.now) (tree_of value)) }
+    // The depth is exact, and that of a text of JSON is that of what it spells.
+    ensures deep { (result ≡ Err ParseError.TooDeep) ↔ (depth < text_depth text.now) }
+    ensures nests { HasItsDepth text.now }
+    ensures within { IfOk result (λ value. tree_depth (tree_of value) ≤ depth) }
+    // What is refused at any depth means nothing.
+    ensures invalid { result ≡ Err (ParseError.Refused Error.InvalidJson)
+        → (t : Tree) → Json (chars text.now) t → ⊥ }
+    ensures errors { IfErr result (λ e. (e ≡ ParseError.TooDeep)
+        ⊎ ((e ≡ ParseError.Refused Error.InvalidJson)
+        ⊎ (e ≡ ParseError.Refused Error.OutOfMemory))) }
+{
+    if !is_text_within(text.as_bytes(), depth) {
+        return Err(ParseError::TooDeep);
+    }
+    Ok(parse_value(alloc, text)?)
+}
