@@ -8,13 +8,13 @@ pub length-Appended : {old new : Vec ℕ Global} {bytes : List ℕ} → AppendsB
     → length new.items ≡ length old.items + length bytes
 length-Appended {old} {new} {bytes} h = ap length h.items ∙ length-append old.items bytes
 
--- What was appended is left out of what is to be appended.
+-- What was appended is no longer among what is to be appended.
 pub append-Appended : {old new : Vec ℕ Global} {bytes : List ℕ} (more : List ℕ)
     → AppendsBytes old new bytes → new.items ++ more ≡ old.items ++ (bytes ++ more)
 append-Appended {old} {new} {bytes} more h =
     rw h.items (append_assoc old.items bytes more)
 
--- Of all the bytes to be appended these are left, and there is room for them.
+-- Of all the bytes to be appended these are left, and the buffer has the capacity for them.
 pub record Underway (old now : Vec ℕ Global) (all left : List ℕ) : Type 0 where
   pub room : HasRoom now left
   pub written : now.items ++ left ≡ old.items ++ all

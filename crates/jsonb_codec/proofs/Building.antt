@@ -1,4 +1,4 @@
--- A list built from its front: what was put in it, and the others that follow.
+-- Building a list from its front: the part that was built, and the rest.
 use Rattle.std.proofs.Common.{◌≡◌, ℕ, List, [], ◌∷◌, ◌++◌, Option, Some, None, Result, Ok, Err}
 use Rattle.std.proofs.Common.{IfOk, refl, sym, ap, subst, ◌∙◌}
 use Rattle.std.specs.Prelude.{String, map, string_bytes, string_cmp}
@@ -19,7 +19,7 @@ use Rattle.jsonb_codec.specs.Doc.{Doc, IsDocument}
 use Rattle.jsonb_codec.specs.Parts.{IsPayloadOf}
 use Rattle.jsonb_codec.proofs.Unique.{same_tree}
 
--- these trees, and then others
+-- these trees, followed by others
 abbrev pub trees_and : List Tree → Trees → Trees
 trees_and [] ts = ts
 trees_and (u ∷ us) ts = tree u (trees_and us ts)
@@ -33,7 +33,7 @@ pub trees_and-append : (us : List Tree) (u : Tree) (ts : Trees)
 trees_and-append [] u ts = refl
 trees_and-append (v ∷ us) u ts = ap (tree v) (trees_and-append us u ts)
 
--- these pairs, and then others
+-- these pairs, followed by others
 abbrev pub pairs_and : List (String Global × Tree) → Pairs → Pairs
 pairs_and [] qs = qs
 pairs_and (p ∷ ps) qs = pair (string_bytes p.0) p.1 (pairs_and ps qs)
@@ -47,7 +47,7 @@ pub pairs_and-append : (ps : List (String Global × Tree)) (p : String Global ×
 pairs_and-append [] p qs = refl
 pairs_and-append (o ∷ ps) p qs = ap (pair (string_bytes o.0) o.1) (pairs_and-append ps p qs)
 
--- a key is above every key in front of it
+-- a key is greater than every key before it
 below : (b k : List ℕ) (es : List (String Global × Tree)) (t : Tree) (qs : Pairs)
     → Ascends (Some b) (pairs_and es (pair k t qs)) → slice_cmp nat_cmp b k ≡ Less
 below b k [] t qs h = h.0
@@ -57,7 +57,7 @@ below b k (e ∷ es) t qs h =
 above : (b k : List ℕ) → slice_cmp nat_cmp b k ≡ Less → slice_cmp nat_cmp k b ≡ Greater
 above b k h = nat_list_cmp_total.antisymm k b ∙ ap ordering_reverse h
 
--- so it is put behind them
+-- inserting a key greater than all others appends it
 pub insert_entry-append : (before : Option (List ℕ)) (es : List (String Global × Value))
     (k : String Global) (v : Value) (t : Tree) (qs : Pairs)
     → Ascends before (pairs_and (map (λ m. (m.0, tree_of m.1)) es) (pair (string_bytes k) t qs))
@@ -79,18 +79,18 @@ pairs_of-map : (es : List (String Global × Value))
 pairs_of-map [] = refl
 pairs_of-map (e ∷ es) = ap (pair (string_bytes e.0) (tree_of e.1)) (pairs_of-map es)
 
--- one more value behind those so far
+-- one more value was appended
 pub trees_and-push : (vs : List Value) (v : Value) {ws : List Value} {ts us others : Trees}
     {first : Tree} → ts ≡ trees_and (map tree_of vs) us → us ≡ tree first others → tree_of v ≡ first
     → ws ≡ vs ++ (v ∷ []) → ts ≡ trees_and (map tree_of ws) others
 trees_and-push vs v {others = others} whole are same more =
     cc (trees_and-append (map tree_of vs) (tree_of v) others, map-append tree_of vs (v ∷ []))
 
--- what a map's pairs show
+-- the pairs of a map, with the trees of their values
 abbrev pub seen : List (String Global × Value) → List (String Global × Tree)
 seen ms = map (λ m. (m.0, tree_of m.1)) ms
 
--- one more pair behind those so far
+-- one more pair was appended
 pub pairs_and-behind : (vs : List (String Global × Value)) (k : String Global) (v : Value)
     {ws : List (String Global × Value)} {ps us others : Pairs} {key : List ℕ} {value : Tree}
     → ps ≡ pairs_and (seen vs) us → us ≡ pair key value others → string_bytes k ≡ key
@@ -101,7 +101,7 @@ pairs_and-behind vs k v {others = others} whole are is same more =
       map-append {B = String Global × Tree} (λ m. (m.0, tree_of m.1)) vs ((k, v) ∷ []),
     )
 
--- the same where it was put into a map, behind the keys that it is above
+-- one more pair was inserted into a map, after all others
 pub pairs_and-push : (vs : List (String Global × Value)) (k : String Global) (v : Value)
     {ws : List (String Global × Value)} {ps us others : Pairs} {key : List ℕ} {value : Tree}
     → Ascend ps
@@ -112,7 +112,7 @@ pairs_and-push vs k v {ps = ps} {others = others} ascend whole are is same more 
     let last = insert_entry-append None vs k v (tree_of v) others (subst Ascend front ascend) in
     pairs_and-behind vs k v whole are is same (more ∙ last)
 
--- what was read is the tree of the document
+-- the decoded value is the tree of the document
 pub the_tree : (a b : List ℕ) (r : Result Value Error) → a ≡ b → IsDocument b
     → IfOk r (λ v. (t : Tree) → Doc a t → tree_of v ≡ t) → IfOk r (λ v. Doc b (tree_of v))
 the_tree a b (Ok v) is (t, h) same =

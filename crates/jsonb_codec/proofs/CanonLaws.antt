@@ -1,4 +1,4 @@
--- The canonical document means the tree with its zeros made one.
+-- The canonical document means the tree with signed zeros made unsigned.
 use Rattle.std.proofs.Common.{arith, ◌≡◌, ◌↔◌, ℕ, suc, List, ◌++◌, Option, Some, None, refl, sym}
 use Rattle.std.proofs.Common.{ap, ap₂, subst, ◌∙◌}
 use Rattle.std.proofs.lemmas.Bool.{cases_eq}
@@ -34,7 +34,7 @@ pub Ascends-norm_pairs : (before : Option (List ℕ)) (ps : Pairs) → Ascends b
 Ascends-norm_pairs before no_pairs a = tt
 Ascends-norm_pairs before (pair k t ps) a = (a.0, Ascends-norm_pairs (Some k) ps a.1)
 
--- the canonical parts, as a document has them
+-- the canonical parts satisfy the definition of documents
 Keys-canonical : (ps : Pairs) → ArePairs ps → PairsFit ps
     → Keys (norm_pairs ps) (key_entries ps) (key_payloads ps)
 Keys-canonical no_pairs h f = record { no_entries = refl; no_payloads = refl }
@@ -96,7 +96,7 @@ pub Doc-canon : (t : Tree) → IsTree t → Fits t → Doc (canon t) (norm t)
 Doc-canon t h f =
     grind (arith, Payload-canonical, canon-container, canon-scalar, cases_eq, type_of-norm)
 
--- the normal form is written as the tree itself
+-- the normal form is written like the tree itself
 key_entries-norm_pairs : (ps : Pairs) → key_entries (norm_pairs ps) ≡ key_entries ps
 key_entries-norm_pairs no_pairs = refl
 key_entries-norm_pairs (pair k t ps) = rw (key_entries-norm_pairs ps)

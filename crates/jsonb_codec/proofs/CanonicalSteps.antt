@@ -1,4 +1,4 @@
--- Whether parts are as they are written: payloads, children one by one, and whole documents.
+-- Whether parts are as they would be written: payloads, children one by one, and whole documents.
 use Rattle.std.proofs.Common.{◌≡◌, ◌↔◌, ◌<◌, ◌+◌, ◌^◌, ℕ, List, ◌++◌, length, false, inl, inr, sym}
 use Rattle.std.proofs.Common.{ap₂, subst, ◌∙◌, arith, IsTrue, nat_eq}
 use Rattle.std.proofs.lemmas.Bool.{eqb-true, eq-eqb, cases_eq}
@@ -23,11 +23,11 @@ use Rattle.jsonb_codec.proofs.CanonLaws.{Doc-canon}
 use Rattle.jsonb_codec.proofs.Rewriting.{canonical_twice}
 use Rattle.jsonb_codec.proofs.WellFormed.{IsTree-Doc}
 
--- a test of two lengths, where one is another's
+-- a comparison of two lengths, one of which is known by another name
 length_test : (a b n : ℕ) (P : Type 0) → b ≡ n → ((a ≡ n) ↔ P) → IsTrue (nat_eq a b) ↔ P
 length_test a b n P e same = grind (arith, eq-eqb, eqb-true)
 
--- a number or an extension value is exactly if it is as long
+-- a number or an extension value is as written exactly if its length is
 pub written_number : (p : List ℕ) (x : Number) (n : ℕ) → AreBytes p → n ≡ length (number_payload x)
     → NumCode p x → IsTrue (nat_eq (length p) n) ↔ IsWritten (number x) p
 written_number p x n bytes long h = grind (arith, length_test, number_payload-NumCode)
@@ -37,7 +37,7 @@ pub written_extension : (p : List ℕ) (x : Extension) (n : ℕ) → AreBytes p
     ↔ IsWritten (extension x) p
 written_extension p x n bytes long h = grind (arith, extension_payload-ExtCode, length_test)
 
--- Children are exactly if the first and the others are.
+-- Children are as written exactly if the first and the others are.
 module _ {ts : Trees} {ty : ℕ} {payload e2 p2 e p : List ℕ} (f : FirstChild ts ty payload e2 p2)
     (es : e ≡ word (ty + length payload) ++ e2) (ps : p ≡ payload ++ p2)
     (short : length payload < 2 ^ 28) where
@@ -52,7 +52,7 @@ none_written ts e p none h =
     let ended = subst (λ us. Children us e p) none h in
     subst (λ us. AreWritten us e p) (sym none) (tt, (sym ended.no_entries, sym ended.no_payloads))
 
--- A container is exactly if its children are.
+-- A container is as written exactly if its children are.
 pub written_container : (t : Tree) (header : ℕ) (e p b : List ℕ) → (o : Opened t header e p)
     → b ≡ word header ++ (e ++ p) → AreWritten o.children e p ↔ IsWritten t b
 written_container t header e p b o parts = (
@@ -63,7 +63,7 @@ written_container t header e p b o parts = (
       (o.fit.1 fit, same_parts (entries_of o.children) e (payloads_of o.children) p len inside),
 )
 
--- A document is canonical exactly if its one part is.
+-- A document is canonical exactly if its single part is as written.
 same_document : (ty : ℕ) (p q : List ℕ) → document_of ty p ≡ document_of ty q → p ≡ q
 same_document ty p q e =
     elim (cases_eq ty 1342177280) [
@@ -102,6 +102,6 @@ pub canonical_document : (b : List ℕ) → IsCanonical b → IsDocument b
 canonical_document b (t, (ok, (fits, w))) =
     (norm t, subst (λ x. Doc x (norm t)) w (Doc-canon t ok fits))
 
--- a test that answers no, where the fact does not hold
+-- a test that returns false for a statement that does not hold
 pub refused : {P : Type 0} → (P → ⊥) → IsTrue false ↔ P
 refused never = (λ yes. cc, λ p. absurd (never p))

@@ -1,5 +1,5 @@
 -- An array or object: a header, the entry words of its children, and their payloads. An object's
--- keys are children too, before its values.
+-- children are its keys, then its values.
 use Rattle.std.proofs.Common.{◌≡◌, ◌⊎◌, ℕ, ◌+◌, ◌*◌, ◌^◌, ◌<◌, List, ◌++◌, length, inl, inr, refl}
 use Rattle.std.proofs.Common.{ap, subst, ◌∙◌, arith, length-append, append_assoc}
 use Rattle.jsonb_value.specs.Tree.{Tree, array, object, Trees, no_trees, Pairs, no_pairs, pair}
@@ -9,7 +9,7 @@ use Rattle.jsonb_codec.specs.Doc.{type_of, PairsBody, Keys, Values, Children, Pa
 use Rattle.jsonb_codec.proofs.Words.{length-word-append}
 use Rattle.jsonb_codec.proofs.Entries.{keys_and, values_of, Values-children}
 
--- the keys before other children stand where they do in the object
+-- keys followed by other children are children
 pub Children-keys_and : (ps : Pairs) (us : Trees) (ke kp e p : List ℕ) → Keys ps ke kp
     → Children us e p → Children (keys_and ps us) (ke ++ e) (kp ++ p)
 Children-keys_and no_pairs us ke kp e p k h = rw (k.no_entries, k.no_payloads) h
@@ -37,7 +37,7 @@ members (array ts) = ts
 members (object ps) = keys_and ps (values_of ps)
 members t = no_trees
 
--- what a header tells of it
+-- the kind in its header
 abbrev pub kind_of : Tree → ℕ
 kind_of (array ts) = 2147483648
 kind_of t = 1073741824
@@ -51,7 +51,7 @@ pub two_kinds : (t : Tree) → (kind_of t ≡ 2147483648) ⊎ (kind_of t ≡ 107
 two_kinds (array ts) = inl refl
 two_kinds t = inr refl
 
--- how many children it has
+-- the number of its children
 pub count-members : (t : Tree) → type_of t ≡ 1342177280
     → ((kind_of t ≡ 2147483648) × (count (members t) ≡ count_of t))
     ⊎ ((kind_of t ≡ 1073741824) × (count (members t) ≡ 2 * count_of t))

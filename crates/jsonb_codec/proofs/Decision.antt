@@ -1,4 +1,4 @@
--- Each byte string is a document or is none.
+-- Whether a byte string is a document is decidable.
 use Rattle.std.proofs.Common.{◌≡◌, ◌≢◌, ◌⊎◌, ◌↔◌, ◌≤◌, ◌<◌, ◌+◌, ◌-◌, ◌*◌, ◌/◌, ◌%◌, ◌^◌, ℕ, zero}
 use Rattle.std.proofs.Common.{suc, List, [], ◌∷◌, ◌++◌, Bool, Option, Some, None, length, take}
 use Rattle.std.proofs.Common.{drop, true, false, inl, inr, refl, sym, ap, subst, ◌∙◌, arith}
@@ -19,10 +19,11 @@ use Rattle.jsonb_value.proofs.PayloadDecision.{Decided, decided_by, decide_numbe
 use Rattle.jsonb_codec.specs.Word.{word}
 use Rattle.jsonb_codec.specs.Doc.{One, IsDocument}
 use Rattle.jsonb_codec.specs.Depth.{IsDocumentWithin}
-use Rattle.jsonb_codec.specs.Parts.{IsSomePayload, AreSomeChildren, HasPayload, HasScalar}
+use Rattle.jsonb_codec.specs.Parts.{IsSomePayload, AreSomeChildren, IsSomeObject, HasPayload}
+use Rattle.jsonb_codec.specs.Parts.{HasScalar}
 use Rattle.jsonb_codec.specs.Parts.{HasChildren, HasArray, HasObject, HasKeys, IsAbove}
 use Rattle.jsonb_codec.proofs.Words.{length-word, word-value}
-use Rattle.jsonb_codec.proofs.DepthLaws.{Payload-depth, Children-depth}
+use Rattle.jsonb_codec.proofs.DepthLaws.{Payload-depth, Children-depth, Object-depth}
 use Rattle.jsonb_codec.proofs.Entries.{IsType, IsType-type_of}
 use Rattle.jsonb_codec.proofs.Containers.{container, header_small}
 use Rattle.jsonb_codec.proofs.Scalars.{HasPayload-empty, HasPayload-text, HasPayload-number}
@@ -94,7 +95,7 @@ decide_word e =
         ap (from_be_bytes w32) front ∙ word-value w.word_is w.small in
         (ap word value ∙ sym front, omega (arith, value, w.small))
 
--- it is an entry word, and a header
+-- the tag of an entry word or of a header
 abbrev tag_at : ℕ → ℕ → ℕ
 tag_at bound k = k / bound * bound
 
@@ -116,7 +117,7 @@ header_at {e} w = record {
   small = omega (arith, w.small);
 }
 
--- What has children, keys, a container or a scalar begins with a word, where it is not empty.
+-- Nonempty children, keys, containers and scalars begin with a word.
 entry_front : {ty : ℕ} {M : List ℕ → Type 0} {O : List ℕ → List ℕ → Type 0} {e p : List ℕ}
     → IsType ty → One ty M O e p → WordFirst e
 entry_front is h = record {
@@ -183,11 +184,11 @@ decide_scalar_payload limit ty p f =
       ]
     ]
 
--- Payloads are decided, as deep as that.
+-- Payloads of at most this depth are decidable.
 abbrev DecidesPayloads : ℕ → Type 0
 DecidesPayloads limit = (ty : ℕ) (q : List ℕ) → Decided (HasPayload limit ty q)
 
--- children behind a word, and where none begins
+-- children that begin with a word, and children that do not
 decide_children : (limit : ℕ) → DecidesPayloads limit → (m : ℕ) (e p : List ℕ) → length e < m
     → Decided (HasChildren limit e p)
 decide_children limit payloads zero e p hm = absurd (omega arith)
@@ -209,7 +210,7 @@ decide_above : (before : Option (List ℕ)) (key : List ℕ) → Decided (IsAbov
 decide_above None key = inl tt
 decide_above (Some b) key = decide_less (slice_cmp nat_cmp b key)
 
--- Somewhere behind these payloads the keys end.
+-- The keys end somewhere in these payloads.
 abbrev KeysEnd : Option (List ℕ) → List ℕ → List ℕ → Type 0
 KeysEnd before e p = (q : List ℕ) × HasKeys before e p q
 
@@ -317,7 +318,7 @@ decide_payload (suc m) ty q =
     subst DecidesPayloads (omega arith) (decide_payload m) in
     decide_type (suc m) ty q (decide_container (suc m) (omega arith) payloads q)
 
--- what stands behind the header of a scalar
+-- what follows the header of a scalar
 decide_entry : (n : ℕ) (rest : List ℕ) → n < 2 ^ 29
     → Decided (HasScalar (word (536870912 + n) ++ rest))
 decide_entry n rest few =
@@ -355,7 +356,7 @@ decide_scalar b =
       | inr none ↦ inr (λ s. none (scalar_front b s))
     ]
 
--- whether bytes are a document that nests at most so deep, and whether they are a document
+-- whether bytes are a document of at most this depth, and whether they are a document
 decide_within : (limit : ℕ) (b : List ℕ) → Decided (IsDocumentWithin limit b)
 decide_within limit b = decided_iff (document_iff limit b)
     (decide_either (decide_scalar b) (decide_payload limit 1342177280 b))
@@ -363,7 +364,7 @@ decide_within limit b = decided_iff (document_iff limit b)
 pub decide : (b : List ℕ) → Decided (IsDocument b)
 decide b = decided_iff (document_within_length b) (decide_within (length b) b)
 
--- ---- what is known of bytes, as data again
+-- ---- data from the truncated statement
 
 pub known : {P : Type 0} → Decided P → ∥ P ∥₁ → P
 known (inl p) some = p
@@ -384,3 +385,13 @@ known_children e p =
     known (decided_by (λ h. (h.0, h.1.1))
     (λ (ts, h). (ts, (omega (arith, Children-depth ts e p h), h)))
     (decide_children limit (decide_payload limit) (suc (length e)) e p (omega arith)))
+
+pub known_object : (n : ℕ) (body : List ℕ) → ∥ IsSomeObject n body ∥₁ → IsSomeObject n body
+known_object n body =
+    let limit = length body in
+    known (decided_by (λ h. (h.0, h.1.1))
+    (λ (ps, h). (ps, (omega (arith, Object-depth n body ps h), h)))
+    (elim (decide_le (suc n) (2 ^ 29)) [
+      | inl few ↦ decide_object limit (decide_payload limit) n body few
+      | inr many ↦ inr (λ (ps, (v, (c, (a, b)))). many b.few)
+    ]))

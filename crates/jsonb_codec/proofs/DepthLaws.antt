@@ -1,17 +1,17 @@
--- How deep a document can nest and how much it can hold, by its length.
+-- Bounds on the depth and the size of a document by its length.
 use Rattle.std.proofs.Common.{◌≡◌, ℕ, ◌+◌, ◌*◌, ◌≤◌, List, length, inl, inr, ap, arith}
 use Rattle.std.proofs.Common.{length-append}
 use Rattle.jsonb_value.specs.Tree.{Tree, array, object, Trees, no_trees, tree, Pairs, no_pairs}
 use Rattle.jsonb_value.specs.Tree.{pair, pair_count}
 use Rattle.jsonb_codec.specs.Doc.{type_of, Children, Values, Payload, Doc}
 use Rattle.jsonb_codec.specs.Depth.{depth, depths, pair_depths, size, sizes, pair_sizes}
+use Rattle.jsonb_codec.specs.Parts.{IsObject}
 use Rattle.jsonb_codec.proofs.Words.{length-word-append}
 use Rattle.jsonb_codec.proofs.Entries.{length-One, length-One-payloads, length-Keys}
 use Rattle.jsonb_codec.proofs.Containers.{array_container, object_container, length-Container}
 
 mutual
-  -- A child has an entry word of its own, four bytes beside its payload; a whole array or object
-  -- has none.
+  -- A child has an entry word of four bytes beside its payload; a whole array or object has none.
   Payload-bounds : (t : Tree) (p : List ℕ) → Payload t p → (8 * depth t ≤ length p + 4)
       × (4 * size t ≤ length p + 4) × (type_of t ≡ 1342177280 → 4 * size t ≤ length p)
   Payload-bounds (array ts) p h = omega (
@@ -42,7 +42,7 @@ mutual
     Children-bounds ts _ _ h.others,
   )
 
-  -- A key has an entry word too, which stands elsewhere.
+  -- A key has an entry word too, which is elsewhere.
   Values-bounds : (ps : Pairs) (e p : List ℕ) → Values ps e p
       → (8 * pair_depths ps ≤ length e + length p)
       × (4 * pair_sizes ps ≤ 4 * pair_count ps + (length e + length p))
@@ -62,8 +62,17 @@ pub Children-depth : (ts : Trees) (e p : List ℕ) → Children ts e p
     → 8 * depths ts ≤ length e + length p
 Children-depth ts e p h = (Children-bounds ts e p h).0
 
--- The depth of what a document means is at most an eighth of its bytes and four more, its size at
--- most a quarter of the bytes.
+pub Object-depth : (n : ℕ) (body : List ℕ) (ps : Pairs) → IsObject n body ps
+    → 8 * pair_depths ps ≤ length body
+Object-depth n body ps (c, (a, b)) = omega (
+  arith,
+  ap length b.parts,
+  length-append {A = ℕ},
+  Values-bounds ps _ _ b.values,
+)
+
+-- The depth is at most an eighth of the number of bytes plus 4, the size at most a quarter of the
+-- number of bytes.
 Doc-bounds : (b : List ℕ) (t : Tree) → Doc b t → (8 * depth t ≤ length b + 4)
     × (4 * size t ≤ length b)
 Doc-bounds b t (inl h) = omega (

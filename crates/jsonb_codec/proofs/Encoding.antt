@@ -1,4 +1,4 @@
--- What the writer says of each shape that a level is written as, said of the tree with that shape.
+-- What the writer ensures for each shape of a level, for the tree with that shape.
 use Rattle.std.proofs.Common.{◌≡◌, ◌⊎◌, ◌↔◌, ◌++◌, ℕ, List, length, Result, Ok, Err, IfOk}
 use Rattle.std.proofs.Common.{IfErr, OnOk, OnErr, IsOk, inl, inr, refl, ap, rules}
 use Rattle.jsonb_value.specs.declared.error.Error.{Error}
@@ -32,7 +32,7 @@ module _ (Is : Shape → Type 0) (t : Tree) (is : Is (shape_of t)) where
       ((Fits-shape_of t).0 fits, rw (document-shape_of t) at is_new)
   appended (Err e) new old ok = tt
 
-  -- Where the tree does not fit, nothing is appended and no memory is asked for.
+  -- If the tree does not fit, nothing is appended or allocated.
   pub past : {A : Type 0} (r : Result A Error)
       → (r ≡ Err InvalidJsonb) ↔ ((s : Shape) → Is s → Fits s → ⊥) → OnOk r (tree.Fits t)
       → (r ≡ Err OutOfMemory → tree.Fits t)

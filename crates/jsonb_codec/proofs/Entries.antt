@@ -1,4 +1,4 @@
--- How an entry word and the payloads fix each other.
+-- Entry words and their payloads determine each other.
 use Rattle.std.proofs.Common.{◌≡◌, ℕ, ◌+◌, ◌*◌, ◌%◌, ◌^◌, ◌<◌, ◌≤◌, List, ◌++◌, length, refl, sym}
 use Rattle.std.proofs.Common.{ap, ◌∙◌, arith, length-append}
 use Rattle.jsonb_value.specs.Tree.{Tree, text, Trees, no_trees, tree, Pairs, no_pairs, pair, count}
@@ -7,7 +7,7 @@ use Rattle.jsonb_codec.specs.Word.{word}
 use Rattle.jsonb_codec.specs.Doc.{type_of, IsKey, NoMore, One, Children, Keys, Values, Payload}
 use Rattle.jsonb_codec.proofs.Words.{length-word-append, same_words}
 
--- the tag of a word of which the lower 28 bits are a length
+-- the tag of a word whose lower 28 bits are a length
 pub record IsType (t : ℕ) : Type 0 where
   pub high : t % 2 ^ 28 ≡ 0
   pub room : t + 2 ^ 28 ≤ 2 ^ 32
@@ -15,12 +15,12 @@ pub record IsType (t : ℕ) : Type 0 where
 pub IsType-type_of : (t : Tree) → IsType (type_of t)
 IsType-type_of t = grind arith
 
--- a type and a length are told apart in their sum
+-- the sum of a type and a length determines both
 pub same_entry : {t u m n : ℕ} → IsType t → IsType u → m < 2 ^ 28 → n < 2 ^ 28 → t + m ≡ u + n
     → (t ≡ u) × (m ≡ n)
 same_entry ht hu hm hn e = omega (arith, ht.high, hu.high)
 
--- what two readings of the same entry words share
+-- what two readings of the same entry words have in common
 pub record SameFront (t u m n : ℕ) (es fs : List ℕ) : Type 0 where
   pub type : t ≡ u
   pub len : m ≡ n
@@ -35,7 +35,7 @@ same_front ht hu h k =
     let entry = same_entry ht hu h.short k.short parts.0 in
     record { type = entry.0; len = entry.1; other_entries = parts.1 }
 
--- an entry word takes four bytes, and a payload is in front of the others
+-- an entry word takes four bytes, and its payload precedes the others
 pub length-One : {t : ℕ} {M : List ℕ → Type 0} {O : List ℕ → List ℕ → Type 0} {e p : List ℕ}
     → (h : One t M O e p) → length e ≡ 4 + length h.other_entries
 length-One h = grind (arith, length-word-append)
@@ -59,12 +59,12 @@ one_more q es ps short means others = record {
   others = others;
 }
 
--- so none begins where the words end
+-- no entry begins where the words end
 pub not_ended : {t : ℕ} {M : List ℕ → Type 0} {O : List ℕ → List ℕ → Type 0} {e p q : List ℕ}
     → NoMore e p → One t M O e q → ⊥
 not_ended h k = omega (arith, ap length h.no_entries, length-One k)
 
--- Keys are children too, as texts, and so are values.
+-- Keys are children whose trees are texts, and values are children.
 abbrev pub keys_and : Pairs → Trees → Trees
 keys_and no_pairs us = us
 keys_and (pair k t ps) us = tree (text k) (keys_and ps us)

@@ -1,4 +1,4 @@
--- What one key more says about the bytes behind it, and how keys and values make the pairs of an
+-- How one more key constrains the bytes after it, and how keys and values form the pairs of an
 -- object.
 use Rattle.std.proofs.Common.{◌≡◌, ◌↔◌, Bool, IsTrue, ℕ, ◌*◌, ◌^◌, ◌<◌, ◌≤◌, List, [], ◌++◌, Option}
 use Rattle.std.proofs.Common.{Some, None, length, take, drop, refl, sym, ap, subst, ◌∙◌, arith}
@@ -16,7 +16,7 @@ use Rattle.jsonb_codec.proofs.Entries.{values_of, Keys-children, Values-children
 use Rattle.jsonb_codec.proofs.Steps.{Read, front_one, not_at_end, cut}
 use Rattle.jsonb_codec.proofs.Unique.{length_payloads}
 
--- the key in front, as the entry tells it, and the keys behind it
+-- the first key, as its entry word determines it, and the keys after it
 pub record KeyFirst (before : Option (List ℕ)) (ty n : ℕ) (rest p q : List ℕ) : Type 0 where
   pub is_text : ty ≡ 268435456
   pub fits : n ≤ length p
@@ -78,7 +78,7 @@ keys_iff {ty} {n} {rest} {e} read before p q = (back, onward)
 pub keys_none : {before : Option (List ℕ)} {e p : List ℕ} → e ≡ [] → HasKeys before e p p
 keys_none none = (no_pairs, (tt, ([], (refl, record { no_entries = none; no_payloads = refl }))))
 
--- keys end in one place
+-- keys end in only one place
 pub keys_once : {before : Option (List ℕ)} {e p q r : List ℕ} → HasKeys before e p q
     → HasKeys before e p r → q ≡ r
 keys_once {e = e} (ps, (a, (front, (parts, h)))) (qs, (b, (other, (again, k)))) =
@@ -124,13 +124,13 @@ object_room n body ps (c, (a, b)) = omega (
   length-append {A = ℕ},
 )
 
--- The parts of pairs: they ascend, the keys stand in front of q, and the values are q.
+-- The pairs ascend, their keys are followed by q, and q is their values.
 pub record IsPairs (ke ve p q : List ℕ) (ps : Pairs) : Type 0 where
   pub ascend : Ascend ps
   pub keys : KeysThen ps ke p q
   pub values : Values ps ve q
 
--- an object is its keys and its values, where the words are told apart by their count
+-- an object is its keys and its values, whose entry words are separated by their count
 module _ {n : ℕ} {body ke behind ve p : List ℕ} (front : ke ≡ take (4 * n) body)
     (back : behind ≡ drop (4 * n) body) (next : ve ≡ take (4 * n) behind)
     (last : p ≡ drop (4 * n) behind) (long : length ke ≡ 4 * n) (longer : length ve ≡ 4 * n) where
@@ -197,7 +197,7 @@ module _ {n : ℕ} {body ke behind ve p : List ℕ} (front : ke ≡ take (4 * n)
         ),
       )
 
-  -- what a walk over the keys answers decides the object, once its values are children
+  -- the result of a walk over the keys decides the object, once its values are children
   pub object_iff : (d : ℕ) → n < 2 ^ 29 → (q : List ℕ) (ascend : Bool)
       → (IsTrue ascend → HasKeys None ke p q) → ((r : List ℕ) → HasKeys None ke p r → IsTrue ascend)
       → HasChildren d ve q → IsTrue ascend ↔ HasObject d n body

@@ -1,4 +1,4 @@
--- How long the canonical parts are.
+-- The lengths of the canonical parts.
 use Rattle.std.proofs.Common.{◌≡◌, ℕ, suc, ◌+◌, ◌*◌, List, [], ◌∷◌, ◌++◌, length, String, Global}
 use Rattle.std.proofs.Common.{refl, ap, arith, length-append, eqb, false, inl, inr}
 use Rattle.std.proofs.lemmas.Bool.Decides.{eqb_tells}

@@ -1,4 +1,4 @@
--- What was taken of keys and values is the first pair.
+-- The first key and the first value form the first pair.
 use Rattle.std.proofs.Common.{◌≡◌, ◌+◌, ◌*◌, ◌^◌, ◌<◌, ◌≤◌, ℕ, List, Some, length, take, drop, refl}
 use Rattle.std.proofs.Common.{sym, ap, subst, ◌∙◌, arith, length-append, length-drop}
 use Rattle.jsonb_value.specs.Tree.{Tree, text, Trees, no_trees, Pairs, no_pairs, pair, Ascends}
@@ -31,7 +31,7 @@ Ascends-none : (k : List ℕ) (ps : Pairs) → Ascends (Some k) ps → Ascend ps
 Ascends-none k no_pairs h = tt
 Ascends-none k (pair l t ps) h = (tt, h.1)
 
--- a key and a value that were taken are those of the first pair
+-- a key and a value that were split off are those of the first pair
 pub first_pair : (ps : Pairs) (ke0 kp0 ve0 vp0 : List ℕ) → ArePairsOf ps ke0 kp0 ve0 vp0
     → {kty vty : ℕ} {k ke kp v ve vp : List ℕ}
     → ((ts : Trees) → Children ts ke0 kp0 → FirstChild ts kty k ke kp)
@@ -78,7 +78,7 @@ no_keys (pair l t ps) none = cc
 
 -- ---- their bytes in an object
 
--- the keys behind one whose entry was read
+-- the keys after one whose entry word was read
 pub keys_behind : {ty n : ℕ} {rest e : List ℕ} → Read (2 ^ 28) ty n rest e
     → (ps : Pairs) (p : List ℕ) → Keys ps e p
     → (others : Pairs) × ((q : List ℕ) × (Keys others rest q × (length p ≡ n + length q)))

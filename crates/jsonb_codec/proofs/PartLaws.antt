@@ -1,12 +1,14 @@
--- What the parts of a document are written as.
+-- The shapes that the parts of a document are written as.
 use Rattle.std.proofs.Common.{◌≡◌, ◌*◌, ◌≤◌, ℕ, List, [], length, refl, sym, ap, subst, ◌∙◌, arith}
 use Rattle.jsonb_value.specs.Tree.{Tree, Trees, Pairs}
 use Rattle.jsonb_codec.specs.declared.parts.Children as declared
 use Rattle.jsonb_codec.specs.declared.parts.Part.{Part}
 use Rattle.jsonb_codec.specs.declared.parts.Members.{Members}
+use Rattle.jsonb_codec.specs.declared.parts.Object.{Object}
 use Rattle.jsonb_codec.specs.Contents.{Means, AreChildren, AreMembers, FirstMember}
 use Rattle.jsonb_codec.specs.Doc.{type_of}
-use Rattle.jsonb_codec.specs.PartSource.{PartIs, ItemsAre, MembersAre}
+use Rattle.jsonb_codec.specs.Parts.{IsObject}
+use Rattle.jsonb_codec.specs.PartSource.{PartIs, ItemsAre, ObjectIs, MembersAre}
 use Rattle.jsonb_codec.specs.Rewriting.{FirstChild}
 use Rattle.jsonb_codec.specs.Shape.{Shapes, count}
 use Rattle.jsonb_codec.specs.Source.{AreSplit}
@@ -15,7 +17,7 @@ use Rattle.jsonb_codec.proofs.Containers.{count-values_of}
 use Rattle.jsonb_codec.proofs.Entries.{values_of, length-Children}
 use Rattle.jsonb_codec.proofs.PairLaws.{children_of_values}
 use Rattle.jsonb_codec.proofs.TreeShapes.{count-items_shapes, count-pairs_shapes}
-use Rattle.jsonb_codec.proofs.Unique.{Children-unique, pairs_unique, same_tree}
+use Rattle.jsonb_codec.proofs.Unique.{Children-unique, object_unique, pairs_unique, same_tree}
 
 -- A type leaves room for a length.
 pub small_type : (t : Tree) {ty : ℕ} → type_of t ≡ ty → ty ≤ 1879048192
@@ -25,10 +27,14 @@ pub items_are : (ts : Trees) (x : declared.Children) → AreChildren ts x
     → ItemsAre x (items_shapes ts)
 items_are ts x h = ((ts, h), λ us k. ap items_shapes (Children-unique _ _ h k))
 
+pub object_is : (ps : Pairs) (x : Object) → IsObject x.count x.body.now ps
+    → ObjectIs x (pairs_shapes ps)
+object_is ps x h = ((ps, h), λ qs k. ap pairs_shapes (object_unique _ _ ps qs h k))
+
 pub members_are : (ps : Pairs) (x : Members) → AreMembers ps x → MembersAre x (pairs_shapes ps)
 members_are ps x h = ((ps, h), λ qs k. ap pairs_shapes (pairs_unique ps qs _ _ _ _ h k))
 
--- There are as many as entry words.
+-- There are as many items as entry words.
 pub items_count : (x : declared.Children) (ss : Shapes) → ItemsAre x ss
     → length x.entries.now ≡ 4 * count ss
 items_count x ss h =
@@ -38,6 +44,17 @@ items_count x ss h =
       count-items_shapes ts,
       ap count (h.1 ts h.0.1),
     )
+
+pub object_count : (x : Object) (ss : Shapes) → ObjectIs x ss → x.count ≡ count ss
+object_count x ss h =
+    let ps = h.0.0 in omega (arith, h.0.1.0, count-pairs_shapes ps, ap count (h.1 ps h.0.1))
+
+-- Its members are written as the object is.
+pub object_members : (x : Object) (ms : Members)
+    → ((ps : Pairs) → IsObject x.count x.body.now ps → AreMembers ps ms)
+    → (ss : Shapes) → ObjectIs x ss → MembersAre ms ss
+object_members x ms are ss h =
+    let (ps, k) = h.0 in subst (MembersAre ms) (sym (h.1 ps k)) (members_are ps ms (are ps k))
 
 pub members_count : (x : Members) (ss : Shapes) → MembersAre x ss
     → length x.values.entries.now ≡ 4 * count ss

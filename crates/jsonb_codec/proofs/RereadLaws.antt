@@ -1,4 +1,4 @@
--- A tree that is read again from its text fits where the tree that was printed does.
+-- A tree that is parsed from a printed text fits if the printed tree does.
 use Rattle.std.proofs.Common.{◌≡◌, ◌≤◌, ℕ, suc, Bool, length, chars, refl, ap, ◌∙◌, arith}
 use Rattle.std.proofs.Common.{length-append}
 use Rattle.jsonb_value.specs.Plain.{IsPlain}
@@ -35,7 +35,7 @@ key_payloads-PairsSame (pair l u qs) (pair k t ps) s =
     omega (arith, ap length s.0, key_payloads-PairsSame qs ps s.1.1, length-append {A = ℕ})
 key_payloads-PairsSame qs ps s = absurd s
 
--- it is written in no more bytes
+-- its payload is no longer
 mutual
   shorter : (u t : Tree) → IsSame u t → length (payload_of u) ≤ length (payload_of t)
   shorter (number x) (number y) s = s.shorter
@@ -98,7 +98,7 @@ Fits-IsSame u t s h = record {
       omega (arith, shorter u t s, h.short (λ e. other (type_of-IsSame u t s ∙ e)));
 }
 
--- The text of a tree without extension values means a tree again that fits and is Equal to it.
+-- The text of a tree without extension values means a tree that fits and compares Equal to it.
 pub reread_text : (l : Layout) (t : Tree) → IsTree t → IsPlain t → Fits t
     → MeansAgain (chars (laid_out l t)) t
 reread_text l t ok plain fits =

@@ -1,5 +1,4 @@
--- The children of a container, whether it is an array or an object, and how it is written as they
--- are.
+-- The children of a container, array or object, and how the container is written from them.
 use Rattle.std.proofs.Common.{◌≡◌, ◌↔◌, ◌<◌, ◌≤◌, ◌+◌, ◌*◌, ◌^◌, ℕ, List, ◌++◌, length, take, drop}
 use Rattle.std.proofs.Common.{refl, sym, ap, subst, ◌∙◌, arith, length-append, append_assoc}
 use Rattle.jsonb_value.specs.Tree.{Tree, array, object, Trees, no_trees, tree, Pairs, no_pairs}
@@ -27,7 +26,7 @@ use Rattle.jsonb_codec.proofs.Containers.{members, kind_of, count_of, count-memb
 use Rattle.jsonb_codec.proofs.Containers.{header_small}
 use Rattle.jsonb_codec.proofs.Steps.{Read, kind_is}
 
--- An object's keys and values are written as the object is,
+-- An object's keys and values as children are written as in the object.
 entries_of-values_of : (ps : Pairs) → entries_of (values_of ps) ≡ value_entries ps
 entries_of-values_of no_pairs = refl
 entries_of-values_of (pair k t ps) = rw (entries_of-values_of ps)
@@ -59,7 +58,7 @@ members_written (object ps) is = simp (
 )
 members_written t is = absurd (grind arith)
 
--- and fit exactly if the object does
+-- an object's keys and values as children fit exactly if the object does
 AllFit-keys_and : (ps : Pairs) (us : Trees) → PairsFit ps → AllFit us → AllFit (keys_and ps us)
 AllFit-keys_and no_pairs us f h = h
 AllFit-keys_and (pair k t ps) us f h = ((tt, f.0.0), AllFit-keys_and ps us f.1 h)
@@ -86,7 +85,7 @@ members_fit (object ps) is few = (
 )
 members_fit t is few = absurd (grind arith)
 
--- A container whose header was read, by the m words behind it and the payloads behind those.
+-- A container whose header was read, given the m entry words after it and their payloads.
 module _ {tag n : ℕ} {rest b : List ℕ} (read : Read (2 ^ 29) tag n rest b) (m : ℕ)
     (one : tag ≡ 2147483648 → m ≡ n) (two : tag ≡ 1073741824 → m ≡ 2 * n) where
   record Cut (t : Tree) : Type 0 where
@@ -138,7 +137,7 @@ module _ {tag n : ℕ} {rest b : List ℕ} (read : Read (2 ^ 29) tag n rest b) (
         back_of (4 * m) k.entries k.payloads rest k.body k.len,
       ) k.parts_are
 
--- ---- what was written, beside the bytes that were read
+-- ---- the written document and its source
 
 mutual
   FitsInside-norm : (t : Tree) → FitsInside t → FitsInside (norm t)
@@ -158,7 +157,7 @@ mutual
     PairsFit-norm_pairs ps h.1,
   )
 
--- The normal form of a tree that fits does.
+-- The normal form of a tree that fits also fits.
 pub Fits-norm : (t : Tree) → Fits t → Fits (norm t)
 Fits-norm t h = record {
   inside = FitsInside-norm t h.inside;
@@ -169,7 +168,7 @@ meant : (b : List ℕ) (t u : Tree) → b ≡ canon t → IsTree t → Fits t �
 meant b t u e ok fit h =
     Doc-unique b (norm t) u (subst (λ x. Doc x (norm t)) (sym e) (Doc-canon t ok fit)) h
 
--- The canonical document is the source exactly where that was canonical,
+-- The canonical document equals the source exactly if the source is canonical.
 pub canonical_same : (b : List ℕ) (t : Tree) → IsTree t → Doc b t → Fits t → (canon t ≡ b)
     ↔ IsCanonical b
 canonical_same b t ok h fit = (
@@ -178,14 +177,14 @@ canonical_same b t ok h fit = (
       ap canon (sym (meant b u t (sym e) good fits h)) ∙ canon-norm u ∙ e,
 )
 
--- means a tree that is written as it is itself,
+-- The canonical document means a tree whose canonical document is the same.
 pub canonical_twice : (b : List ℕ) (t : Tree) → b ≡ canon t → IsTree t → Fits t → (u : Tree)
     → Doc b u → Fits u × (canon u ≡ b)
 canonical_twice b t e ok fit u h =
     let same = meant b t u e ok fit h in
     (subst Fits same (Fits-norm t fit), ap canon (sym same) ∙ canon-norm t ∙ sym e)
 
--- and one that is Equal to its source's.
+-- The canonical document compares Equal to its source.
 pub canonical_equal : (b : List ℕ) (t : Tree) → b ≡ canon t → IsTree t → Fits t → (u : Tree)
     → Doc b u → tree_cmp u t ≡ Equal
 canonical_equal b t e ok fit u h =

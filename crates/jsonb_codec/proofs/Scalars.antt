@@ -1,4 +1,4 @@
--- What the payload of each type can be.
+-- The possible payloads of each type.
 use Rattle.std.proofs.Common.{◌⊎◌, inl, inr, IfErr, ◌≡◌, ◌↔◌, ◌&&◌, ℕ, List, [], Bool, true, false}
 use Rattle.std.proofs.Common.{IsTrue, Result, Ok, Err, IsErrAnd, OnErr, eqb, length, ◌∷◌, refl, sym}
 use Rattle.std.proofs.Common.{subst, ◌∙◌, arith}
@@ -73,7 +73,7 @@ pub not_empty : (b : Bool) (p : List ℕ) → b ≡ eqb (length p) 0 → b ≡ f
 not_empty b [] e never z = let both = sym never ∙ e in cc
 not_empty b (x ∷ p) e never z = omega arith
 
--- an error that `?` hands on
+-- an error that `?` passes on
 pub raised : {A : Type 0} (faults : FaultTable) (P : Type 0) (r : Result A Error) (e : Error)
     → IsErrAnd r (λ x. x ≡ e) → IsFault faults e → ¬ P → Tells faults r P
 raised faults P (Ok x) e h fault never = absurd h

@@ -1,4 +1,4 @@
--- Shapes, written front to back: the children of a container one after another.
+-- Writing shapes front to back: the children of a container one after another.
 use Rattle.std.proofs.Common.{◌≡◌, ◌<◌, ◌+◌, ◌^◌, ℕ, List, [], ◌++◌, length, refl, ap, subst, ◌∙◌}
 use Rattle.std.proofs.Common.{arith, length-append, append_assoc, le_trans}
 use Rattle.std.specs.Global.{Vec}
@@ -20,7 +20,7 @@ use Rattle.jsonb_codec.proofs.Appending.{length-Appended}
 use Rattle.jsonb_codec.proofs.Standing.{Stands-Appended, Stands-more}
 use Rattle.jsonb_codec.proofs.Shapes.{First, first_fits, first_body}
 
--- What is written of the children, and those that are left.
+-- The children that were written, and those that are left.
 pub record Going {W : Type 0} (Are : W → Shapes → Type 0) (Bytes : Shapes → List ℕ) (start : W)
     (old now : Vec ℕ) (rest : W) : Type 0 where
   pub all : Shapes
@@ -52,7 +52,7 @@ module _ {C W : Type 0} {IsKey : List ℕ → Type 0} {IsChild : C → Shape →
   pub going_few : AreFew f.others
   going_few = record { fit = going_fit.1.1; few = omega (arith, w.few.few, ap count f.made) }
 
-  -- What the child takes of the length that is left.
+  -- the child's part of the length that is left
   pub going_takes : {size : ℕ} → size + length f.key ≡ body w.left → TakesLeft Are x.1 f.child size
   going_takes size = record {
     fits = going_fit.1.0;
@@ -62,7 +62,7 @@ module _ {C W : Type 0} {IsKey : List ℕ → Type 0} {IsChild : C → Shape →
     both = omega (arith, size, first_body f);
   }
 
-  -- Each child is written by bytes of its own.
+  -- Each child is written as bytes of its own.
   module _ (One : List ℕ → Shape → List ℕ) (law : (k : List ℕ) (s : Shape) (us : Shapes)
       → Bytes (shape k s us) ≡ One k s ++ Bytes us) where
     pub going_underway : Underway old now (Bytes w.all) (One f.key f.child ++ Bytes f.others)
@@ -92,7 +92,7 @@ going_end {Bytes = Bytes} {start} {old} {now} w one empty none ss are =
     subst (λ us. AppendsBytes old now (Bytes us)) (one start w.all ss w.are_all are)
     (underway_end (subst (Underway old now (Bytes w.all)) (ap Bytes none ∙ empty) w.underway))
 
--- A leaf is written as it is, and what is none has a container's type.
+-- A leaf is written unchanged, and a level that is not a leaf has a container's type.
 pub is_leaf : {L C I O M : Type 0} (code : L → ℕ × List ℕ) (m : Meaning C I O M) {v : Level L I O}
     {x : L} (s : Shape) → v ≡ levels.Leaf x → Is code m v s
     → (type_of s ≡ (code x).0) × (payload s ≡ (code x).1)
@@ -107,7 +107,7 @@ is_container code m (levels.Leaf x) s other is = absurd (other x refl)
 is_container code m (levels.Array x) s other (ss, (e, h)) = ap type_of e
 is_container code m (levels.Object x) s other (ss, (e, h)) = ap type_of e
 
--- The entry word of the first child stands before those of the others.
+-- The entry word of the first child precedes those of the others.
 pub standing_first : {C W : Type 0} {IsKey : List ℕ → Type 0} {IsChild : C → Shape → Type 0}
     {Are : W → Shapes → Type 0} {x : C × W} {ss : Shapes} (f : First IsKey IsChild Are x ss)
     (at : ℕ) (bytes : List ℕ) → Stands at (entries ss) bytes
@@ -115,7 +115,7 @@ pub standing_first : {C W : Type 0} {IsKey : List ℕ → Type 0} {IsChild : C �
 standing_first f at bytes stands =
     subst (λ (us : Shapes). Stands at (entries us) bytes) f.made stands
 
--- What is appended behind what was appended is appended with it.
+-- Appending twice appends the concatenation.
 Appends-both : {a b c : Vec ℕ} {x y : List ℕ} → AppendsBytes a b x → AppendsBytes b c y
     → AppendsBytes a c (x ++ y)
 Appends-both {a} {b} {c} {x} {y} h k = record {

@@ -1,4 +1,4 @@
--- Laws of shapes: how long they are written, and how children are gone through one after another.
+-- Laws of shapes: their lengths, and visiting children one after another.
 use Rattle.std.proofs.Common.{◌≡◌, ◌↔◌, ◌<◌, ◌≤◌, ◌+◌, ◌*◌, ◌^◌, ℕ, List}
 use Rattle.std.proofs.Common.{length, Option, Some, None, IfNone, refl, sym, ap, subst, ◌∙◌, arith}
 use Rattle.std.proofs.Common.{length-append}
@@ -11,7 +11,7 @@ use Rattle.jsonb_codec.specs.Source.{Meaning, Laws, Is, AreSplit}
 use Rattle.jsonb_codec.specs.Writing.{TakesLeft}
 use Rattle.jsonb_codec.proofs.Words.{length-word-append}
 
--- what follows from what is known where there is no value
+-- a consequence of what is known if there is no value
 pub IfNone_then : {A P Q : Type 0} (r : Option A) → IfNone r P → (P → Q) → IfNone r Q
 IfNone_then None h f = f h
 IfNone_then (Some x) h f = tt
@@ -54,7 +54,7 @@ key_payloads_short (shape k s ss) h =
 pub children_short : (ss : Shapes) → AllFit ss → count ss < 2 ^ 29 → body ss < 2 ^ 58
 children_short ss h few = omega (arith, payloads_short ss h, key_payloads_short ss h)
 
--- ---- what a level is written as is one
+-- ---- a level has only one shape
 
 pub Is-one : {L C I O M : Type 0} (code : L → ℕ × List ℕ) {m : Meaning C I O M} → Laws m
     → (x : Level L I O) (s u : Shape) → Is code m x s → Is code m x u → s ≡ u
@@ -66,7 +66,7 @@ Is-one code laws (levels.Object x) s u (ss, (e, h)) (us, (f, k)) =
 
 -- ---- documents
 
--- A leaf's document has two words before the payload.
+-- A leaf's document has two words before its payload.
 pub leaf_document : (type : ℕ) (p : List ℕ) → length (document (leaf type p)) ≡ 8 + length p
 leaf_document type p = omega (arith, length-word-append)
 
@@ -76,9 +76,9 @@ array_short ss f = omega (arith, length-array ss, children_short ss f.1 f.0)
 pub object_short : (ss : Shapes) → Fits (object ss) → length (payload (object ss)) < 2 ^ 60
 object_short ss f = omega (arith, length-object ss, children_short ss f.1 f.0)
 
--- ---- what a child takes of a length
+-- ---- a child's part of a total length
 
--- What is known of one shape of the child is known of each.
+-- What is known for one shape of the child is known for each.
 pub takes_of_each : {L C I O M W : Type 0} (code : L → ℕ × List ℕ) {m : Meaning C I O M} → Laws m
     → (x : Level L I O) {Are : W → Shapes → Type 0} {b : W} {left : ℕ}
     → ((s : Shape) × (Is code m x s × TakesLeft Are b s left)) → (t : Shape) → Is code m x t
@@ -86,7 +86,7 @@ pub takes_of_each : {L C I O M W : Type 0} (code : L → ℕ × List ℕ) {m : M
 takes_of_each code laws x {Are} {b} {left} (s, (h, takes)) t k =
     subst (λ u. TakesLeft Are b u left) (Is-one code laws x s t h k) takes
 
--- If no others are behind it, a child takes all.
+-- A child without later siblings takes the whole length.
 pub takes_all : {W : Type 0} {Are : W → Shapes → Type 0} {b : W} {s : Shape} {left : ℕ}
     → (h : TakesLeft Are b s left) → count h.others ≡ 0 → left ≡ length (payload s)
 takes_all h none = omega (arith, h.both, ap body (none_left h.others none)) where
@@ -94,7 +94,7 @@ takes_all h none = omega (arith, h.both, ap body (none_left h.others none)) wher
   none_left no_shapes e = refl
   none_left (shape k s ss) e = absurd (omega arith)
 
--- ---- children, gone through one after another
+-- ---- visiting children one after another
 
 -- A first child with its key, and the others.
 pub record First {C W : Type 0} (IsKey : List ℕ → Type 0) (IsChild : C → Shape → Type 0)
@@ -137,7 +137,7 @@ module _ {C W : Type 0} {IsKey : List ℕ → Type 0} {IsChild : C → Shape →
       let fits = subst AllFit f.made h in
       (fits.0.0, (record { inside = fits.0.1.0; short = fits.0.1.1 }, fits.1))
 
--- What is measured of children, and those that are left.
+-- The children that were measured, and those that are left.
 pub record Measured {W : Type 0} (Are : W → Shapes → Type 0) (size_of : W → ℕ) (Held : W → Type 0)
     (children : W) (start end : ℕ) (left : W) : Type 0 where
   pub all : Shapes

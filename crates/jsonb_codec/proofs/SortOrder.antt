@@ -28,7 +28,7 @@ unfolding IsStrictlySortedBy
 Ascend-pairs_view [] h = tt
 Ascend-pairs_view ((k, v) ∷ ms) h = (tt, Ascends-pairs_view k ms h)
 
--- ---- a map made of pairs whose keys ascend
+-- ---- a map built from pairs with ascending keys
 
 above_all : (k l : String Global) (ms : List (String Global × Value)) → string_cmp k l ≡ Less
     → Ascends (Some (string_bytes l)) (pairs_view ms)
@@ -50,7 +50,7 @@ unfolding IsStrictlySortedBy
 sorted_keys [] h = tt
 sorted_keys ((k, v) ∷ ms) h = sorted_behind k ms h.1
 
--- so a map made of pairs whose keys ascend has these pairs
+-- a map built from pairs with ascending keys has these pairs
 pub from_ascending : (es : List (String Global × Value)) (n : BTreeMap (String Global) Value)
     → Ascend (pairs_view es) → IsFromIterResult string_cmp es n
     → pairs_view n.entries ≡ pairs_view es

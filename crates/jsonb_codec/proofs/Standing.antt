@@ -1,4 +1,4 @@
--- Words that stand in bytes, and what is read there.
+-- Words at an index of a byte string, and reading them.
 use Rattle.std.proofs.Common.{◌≡◌, ℕ, ◌+◌, ◌^◌, ◌<◌, ◌≤◌, List, ◌++◌, Vec, Global, Ok}
 use Rattle.std.proofs.Common.{length, rules, take, drop, ap, ◌∙◌, arith, length-append}
 use Rattle.std.proofs.Common.{append_assoc}
@@ -8,12 +8,12 @@ use Rattle.jsonb_codec.specs.Word.{word, word_at}
 use Rattle.jsonb_codec.specs.Room.{AppendsBytes, Stands}
 use Rattle.jsonb_codec.proofs.Words.{length-word, length-word-append, word-value}
 
--- what was appended stands from the old end on
+-- appended words are at the old end
 pub Stands-Appended : {old new : Vec ℕ Global} {words : List ℕ} → AppendsBytes old new words
     → Stands (length old.items) words new.items
 Stands-Appended {old} h = grind (arith, append-nil)
 
--- and still does when more is appended
+-- words stay at their index when more is appended
 pub Stands-more : {old new : Vec ℕ Global} {bytes : List ℕ} (at : ℕ) (words : List ℕ)
     → Stands at words old.items → AppendsBytes old new bytes → Stands at words new.items
 Stands-more {bytes = bytes} at words s h = record {
@@ -23,7 +23,7 @@ Stands-more {bytes = bytes} at words s h = record {
   is_at = s.is_at;
 }
 
--- the words behind the first one
+-- the words after the first one
 pub Stands-next : (at k : ℕ) (others bytes : List ℕ) → Stands at (word k ++ others) bytes
     → Stands (at + 4) others bytes
 Stands-next at k others bytes s = record {
@@ -43,7 +43,7 @@ Stands-first at words others bytes s = record {
   is_at = s.is_at;
 }
 
--- A word is inside,
+-- A word is inside the bytes.
 Stands-within : (at k : ℕ) (bytes : List ℕ) → Stands at (word k) bytes → at + 4 ≤ length bytes
 Stands-within at k bytes s = omega (
   arith,
@@ -52,7 +52,7 @@ Stands-within at k bytes s = omega (
   s.is_at,
 )
 
--- and is what is read there.
+-- Reading at the index gives the word.
 Stands-read : (at k : ℕ) (bytes : List ℕ) → k < 2 ^ 32 → Stands at (word k) bytes
     → from_be_bytes w32 (take 4 (drop at bytes)) ≡ k
 Stands-read at k bytes small s = ap (from_be_bytes w32)

@@ -1,4 +1,4 @@
--- What one word more says about the bytes behind it.
+-- How one more word constrains the bytes after it.
 use Rattle.std.proofs.Common.{◌≡◌, ◌≢◌, ◌↔◌, ◌⊎◌, inl, inr, ℕ, ◌+◌, ◌-◌, ◌*◌, ◌%◌, ◌^◌, ◌<◌, ◌≤◌}
 use Rattle.std.proofs.Common.{List, [], ◌∷◌, ◌++◌, length, take, drop, refl, sym, ap, subst, ◌∙◌}
 use Rattle.std.proofs.Common.{arith, length-append}
@@ -21,14 +21,14 @@ use Rattle.jsonb_codec.proofs.Containers.{length-Container}
 use Rattle.jsonb_codec.proofs.DepthLaws.{Doc-depth}
 use Rattle.jsonb_codec.proofs.Lengths.{document_of-scalar}
 
--- The word at the front, as it was read: a tag, and a number below the bound.
+-- The first word, as it was read: a tag, and a number below the bound.
 pub record Read (bound tag n : ℕ) (rest bytes : List ℕ) : Type 0 where
   pub found : bytes ≡ word (tag + n) ++ rest
   pub high : tag % bound ≡ 0
   pub number : n < bound
   pub small : tag + n < 2 ^ 32
 
--- as a reading promises it
+-- the form in which a reading function ensures it
 pub reading : {bound ty n : ℕ} {rest bytes : List ℕ}
     → record {
       found : bytes ≡ word (ty + n) ++ rest;
@@ -47,7 +47,7 @@ length-Read read = ap length read.found ∙ length-word-append _ _
 pub read_type : {ty n : ℕ} {rest e : List ℕ} → Read (2 ^ 28) ty n rest e → IsType ty
 read_type read = record { high = read.high; room = omega (arith, read.high, read.small) }
 
--- what a reading fixes of the entry and the payload in front
+-- what a reading determines about the first entry and payload
 pub record Front (u ty n : ℕ) (Means : List ℕ → Type 0) (Others : List ℕ → List ℕ → Type 0)
     (rest p : List ℕ) : Type 0 where
   pub type : u ≡ ty
@@ -92,7 +92,7 @@ pub not_at_end : {bound tag n : ℕ} {rest e p : List ℕ} → Read bound tag n 
 not_at_end read h = omega (arith, ap length h.no_entries, length-Read read)
 
 module _ {ty n : ℕ} {rest e : List ℕ} (read : Read (2 ^ 28) ty n rest e) where
-  -- the first of children, by a cut of the payloads
+  -- the first of children, given a split of the payloads
   pub first_child : (p : List ℕ) {front back : List ℕ} → front ≡ take n p → back ≡ drop n p
       → (ts : Trees) → Children ts e p → FirstChild ts ty front rest back
   first_child p is_front is_back no_trees h = absurd (not_at_end read h)
@@ -110,7 +110,7 @@ module _ {ty n : ℕ} {rest e : List ℕ} (read : Read (2 ^ 28) ty n rest e) whe
   first_fits no_trees p h = absurd (not_at_end read h)
   first_fits (tree t ts) p h = (front_one read (IsType-type_of t) h).fits
 
-  -- Children are one whose payload the entry tells, and the others.
+  -- Children are a first one, whose payload length is in its entry word, and the others.
   pub children_iff : (d : ℕ) (p : List ℕ)
       → ((n ≤ length p) × (HasPayload d ty (take n p) × HasChildren d rest (drop n p)))
       ↔ HasChildren d e p
@@ -140,12 +140,12 @@ no_words (x ∷ e) short whole = absurd (omega arith)
 pub children_none : {d : ℕ} {e p : List ℕ} → e ≡ [] → p ≡ [] → HasChildren d e p
 children_none h k = (no_trees, (omega arith, record { no_entries = h; no_payloads = k }))
 
--- a cut of bytes
+-- a split of bytes
 pub cut : (n : ℕ) {body front back : List ℕ} → front ≡ take n body → back ≡ drop n body
     → body ≡ front ++ back
 cut n {body} f b = rw (f, b, take-append-drop n body)
 
--- an array is its children, where the entry words are told from the payloads by their count
+-- an array is its children, whose entry words and payloads are separated by their count
 module _ {n : ℕ} {body e p : List ℕ} (front : e ≡ take (4 * n) body) (back : p ≡ drop (4 * n) body)
     (long : length e ≡ 4 * n) where
   pub array_children : (ts : Trees) → IsArray n body ts → Children ts e p
@@ -183,7 +183,7 @@ array_room n body ts (c, b) = omega (
   ap length b.parts ∙ length-append b.entries b.payloads,
 )
 
--- nothing that nests is so shallow
+-- no container has depth 0
 pub container_too_deep : (b : List ℕ) → HasPayload 0 1342177280 b → ⊥
 container_too_deep b (t, (w, h)) = deep t h.0 w
   where
@@ -192,7 +192,8 @@ container_too_deep b (t, (w, h)) = deep t h.0 w
     deep (object ps) q w = omega arith
     deep t q w = grind arith
 
--- The header of a container, as it was read, fixes which of the two it is of, and its count.
+-- The header of a container, as it was read, determines whether it is an array or object, and its
+-- count.
 module _ {tag n : ℕ} {rest b : List ℕ} (read : Read (2 ^ 29) tag n rest b) where
   pub kind_is : (t : Tree) → IsPayloadOf 1342177280 b t → tag ≡ kind_of t
   kind_is t (q, h) =
@@ -246,7 +247,7 @@ module _ {tag n : ℕ} {rest b : List ℕ} (read : Read (2 ^ 29) tag n rest b) w
   no_scalar other t h =
       other (same_header {m = 0} refl (omega arith) (omega arith) h.parts).0
 
-  -- the header of a document tells which it is of
+  -- the header of a document determines whether it is a scalar
   pub document_scalar : tag ≡ 536870912 → (t : Tree) → Doc b t → (type_of t ≢ 1342177280)
       × Scalar t (word (536870912 + n) ++ rest)
   document_scalar is t (inl (q, h)) = (q, subst (Scalar t) (cc (read.found)) h)
@@ -259,13 +260,13 @@ module _ {tag n : ℕ} {rest b : List ℕ} (read : Read (2 ^ 29) tag n rest b) w
 pub container_room : (t : Tree) (b : List ℕ) → IsPayloadOf 1342177280 b t → 4 ≤ length b
 container_room t b (q, h) = omega (arith, length-Container (container t b q h))
 
--- only arrays and objects nest
+-- only arrays and objects have a depth above 0
 pub depth-scalar : (t : Tree) → type_of t ≢ 1342177280 → depth t ≡ 0
 depth-scalar (array ts) q = absurd (q refl)
 depth-scalar (object ps) q = absurd (q refl)
 depth-scalar t q = refl
 
--- what stands behind the header of a scalar
+-- what follows the header of a scalar
 module _ (n : ℕ) (rest : List ℕ) (few : n < 2 ^ 29) where
   pub scalar_words : (t : Tree) → (h : Scalar t (word (536870912 + n) ++ rest))
       → (536870912 ≡ 536870912 + n) × (word (type_of t + length h.payload) ++ h.payload ≡ rest)
@@ -313,7 +314,7 @@ module _ (n : ℕ) (rest : List ℕ) (few : n < 2 ^ 29) where
           ),
     )
 
--- a document is a scalar behind its header, or a whole array or object
+-- a document is a scalar after its header, or an array or object
 pub document_iff : (d : ℕ) (b : List ℕ) → (HasScalar b ⊎ HasPayload d 1342177280 b)
     ↔ IsDocumentWithin d b
 document_iff d b = (onward, back)
@@ -330,11 +331,11 @@ pub document_room : (t : Tree) (b : List ℕ) → Doc b t → 4 ≤ length b
 document_room t b (inl (q, h)) = omega (arith, ap length h.parts, length-word-append)
 document_room t b (inr h) = container_room t b h
 
--- no document nests as deep as it has bytes
+-- the depth of a document is less than its number of bytes
 pub document_within_length : (b : List ℕ) → IsDocumentWithin (length b) b ↔ IsDocument b
 document_within_length b = grind (arith, Doc-depth)
 
--- and a scalar's entry word is that of its payload
+-- a scalar's document, from its entry word and its payload
 pub scalar_document_of : {tag n ty k : ℕ} {rest b p : List ℕ} → tag ≡ 536870912
     → n ≡ 0 → ty ≢ 1342177280 → k ≡ length p → Read (2 ^ 29) tag n rest b
     → Read (2 ^ 28) ty k p rest → document_of ty p ≡ b

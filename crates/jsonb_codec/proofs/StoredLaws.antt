@@ -1,4 +1,4 @@
--- The shapes of lists of values that are stored as they are: as many as are in the list.
+-- The shapes of lists of values that are stored unchanged: as many as the list has elements.
 use Rattle.std.proofs.Common.{◌≡◌, ℕ, suc, List, [], ◌∷◌, length, refl, sym, ap, ◌∙◌}
 use Rattle.jsonb_codec.specs.Shape.{Shapes, count}
 use Rattle.jsonb_codec.specs.Stored.{shapes_by, AreStored}

@@ -1,4 +1,4 @@
--- The shapes of a tree are written as the tree is, and fit where it does.
+-- The shape of a tree is written as the tree is, and fits exactly if the tree does.
 use Rattle.std.proofs.Common.{◌≡◌, ◌↔◌, true, false, suc, refl, ap, rules, arith}
 use Rattle.jsonb_value.specs.Tree as trees
 use Rattle.jsonb_value.specs.Tree.{Tree, null, boolean, number, text, extension, array, object}
@@ -102,7 +102,7 @@ mutual
         λ h. ((h.0.0, (one.1 h.0.1.0, h.0.1.1)), others.1 h.1),
       )
 
--- A container's length has no limit, since it has no entry.
+-- The length of a top-level container is not limited, since it has no entry word.
 pub Fits-shape_of : (t : Tree) → Fits (shape_of t) ↔ tree.Fits t
 Fits-shape_of (array ts) =
     let inside = FitsInside-shape_of (array ts) in (

@@ -1,12 +1,13 @@
--- A document means one tree, and none properly begins another.
-use Rattle.std.proofs.Common.{◌≡◌, ℕ, List, [], ◌++◌, true, false, length, inl, inr, refl, sym, ap}
+-- A document means only one tree, and none is a proper prefix of another.
+use Rattle.std.proofs.Common.{◌≡◌, ℕ, ◌+◌, List, [], ◌++◌, true, false, length, inl, inr, refl, sym, ap}
 use Rattle.std.proofs.Common.{ap₂, subst, ◌∙◌, arith, append-nil}
 use Rattle.jsonb_value.specs.Tree.{Tree, null, boolean, number, text, extension, array, object}
 use Rattle.jsonb_value.specs.Tree.{Trees, no_trees, tree, Pairs, no_pairs, pair, pair_count}
 use Rattle.jsonb_value.proofs.Codes.{NumCode-unique}
 use Rattle.jsonb_value.proofs.ExtCodes.{ExtCode-unique}
-use Rattle.jsonb_codec.specs.Doc.{type_of, Children, Payload, Scalar, Doc}
-use Rattle.jsonb_codec.specs.Parts.{ArePairsOf}
+use Rattle.jsonb_codec.specs.Word.{word}
+use Rattle.jsonb_codec.specs.Doc.{type_of, Children, Keys, Values, PairsBody, Payload, Scalar, Doc}
+use Rattle.jsonb_codec.specs.Parts.{IsObject, ArePairsOf}
 use Rattle.jsonb_codec.proofs.Words.{same_parts, same_beginning, words_begin}
 use Rattle.jsonb_codec.proofs.Entries.{same_entry, IsType-type_of, same_front, length-One-payloads}
 use Rattle.jsonb_codec.proofs.Entries.{length-Children, length-Keys, not_ended, keys_and, values_of}
@@ -14,7 +15,7 @@ use Rattle.jsonb_codec.proofs.Entries.{Keys-children, Values-children}
 use Rattle.jsonb_codec.proofs.Containers.{count-members, members, kind_of, count_of, two_kinds}
 use Rattle.jsonb_codec.proofs.Containers.{container, header_small}
 
--- The children that the same entry words and payloads mean are the same, and nothing is left over.
+-- Children with the same entry words and payloads are the same, and no bytes are left over.
 abbrev SameTrees : Trees → Trees → Type 0
 SameTrees ts us =
     (e p q c : List ℕ) → Children ts e p → Children us e q → q ≡ p ++ c → (ts ≡ us) × (c ≡ [])
@@ -45,7 +46,7 @@ same_members (pair k t ps) (pair l u qs) us vs n others =
     (same_members ps qs us vs (omega arith) others)
 same_members ps qs us vs n others = absurd (omega arith)
 
--- Keys and values make the pairs of an object.
+-- Keys and values form the pairs of an object.
 same_keys : (ps qs : Pairs) (us vs : Trees) → pair_count ps ≡ pair_count qs
     → keys_and ps us ≡ keys_and qs vs → (us ≡ vs) × (values_of ps ≡ values_of qs → ps ≡ qs)
 same_keys no_pairs no_pairs us vs n e = (e, λ same. refl)
@@ -54,7 +55,7 @@ same_keys (pair k t ps) (pair l u qs) us vs n e =
     (more.0, λ same. let others = more.1 (cc) in cc)
 same_keys ps qs us vs n e = absurd (omega arith)
 
--- A container's header tells how many children it has.
+-- A container's header determines the number of its children.
 same_container : (t u : Tree) → type_of t ≡ 1342177280 → type_of u ≡ 1342177280
     → (kind_of t ≡ kind_of u → count_of t ≡ count_of u → SameTrees (members t) (members u))
     → (b d c : List ℕ) → Payload t b → Payload u d → d ≡ b ++ c → (t ≡ u) × (c ≡ [])
@@ -115,11 +116,11 @@ mutual
   same_values no_pairs (pair l u qs) = λ e p q c h k. absurd (not_ended h k)
   same_values (pair k t ps) no_pairs = λ e p q c h k. absurd (not_ended k h)
 
--- The same bytes are the same children,
+-- The same bytes mean the same children.
 pub Children-unique : {ts us : Trees} (e p : List ℕ) → Children ts e p → Children us e p → ts ≡ us
 Children-unique {ts} {us} e p h k = (same_trees ts us e p p [] h k (sym (append-nil p))).0
 
--- and the same pairs.
+-- The same bytes mean the same pairs.
 pub pairs_unique : (ps qs : Pairs) (ke kp ve vp : List ℕ) → ArePairsOf ps ke kp ve vp
     → ArePairsOf qs ke kp ve vp → ps ≡ qs
 pairs_unique ps qs ke kp ve vp h k =
@@ -131,7 +132,24 @@ pairs_unique ps qs ke kp ve vp h k =
     (subst (λ R. R ve vp) (Values-children qs) k.1.1) in
     (same_keys ps qs no_trees no_trees many keys).1 values
 
--- the entry words of children fix how long their payloads are together
+-- The same count and bytes are the same object: they are one payload after its header.
+pub object_unique : (n : ℕ) (body : List ℕ) (ps qs : Pairs) → IsObject n body ps
+    → IsObject n body qs → ps ≡ qs
+object_unique n body ps qs h k =
+    let same = same_tree (object ps) (object qs) refl (word (1073741824 + n) ++ body)
+    (whole ps h) (whole qs k) in cc
+  where
+    whole : (rs : Pairs) → IsObject n body rs → Payload (object rs) (word (1073741824 + n) ++ body)
+    whole rs (c, (a, b)) = (
+      a,
+      record {
+        rest = body;
+        parts = rw c refl;
+        behind = subst (λ m. PairsBody m (Keys rs) (Values rs) body) (sym c) b;
+      },
+    )
+
+-- the entry words of children determine the total length of their payloads
 pub length_payloads : (ts us : Trees) (e p q : List ℕ) → Children ts e p → Children us e q
     → length p ≡ length q
 length_payloads no_trees no_trees e p q h k = cc
@@ -162,8 +180,8 @@ same_members_of (object ps) (object qs) is iu k n =
     same_members ps qs _ _ n (same_trees (values_of ps) (values_of qs))
 same_members_of t u is iu k n = absurd (grind arith)
 
--- Where one document begins another, they mean one tree, and nothing follows. A container begins
--- with a header that no scalar has.
+-- If one document is a prefix of another, they mean one tree, and nothing follows. No scalar begins
+-- with the header of a container.
 pub Doc-agree : (t u : Tree) (b d c : List ℕ) → Doc b t → Doc d u → d ≡ b ++ c → (t ≡ u) × (c ≡ [])
 Doc-agree t u b d c (inl h) (inl k) e = same_scalar t u b d c h.1 k.1 e
 Doc-agree t u b d c (inr h) (inr k) e = grind (arith, same_container, same_members_of)

@@ -1,4 +1,4 @@
--- How many shapes values have.
+-- The number of shapes of a list of values.
 use Rattle.std.proofs.Common.{◌≡◌, ◌<◌, ℕ, ap, sym, ◌∙◌, arith}
 use Rattle.jsonb_value.specs.Tree as trees
 use Rattle.jsonb_value.specs.Tree.{Trees, Pairs, pair_count}

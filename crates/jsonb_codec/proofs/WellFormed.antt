@@ -1,5 +1,5 @@
--- What bytes mean is a tree that a program's value can have: numbers within their types, texts of
--- UTF-8, keys that ascend.
+-- Bytes mean a tree that a `Value` can have: numbers in the range of their types, texts in UTF-8,
+-- ascending keys.
 use Rattle.std.proofs.Common.{◌≡◌, ℕ, ◌+◌, List, ◌++◌, length, inl, inr}
 use Rattle.jsonb_value.specs.Tree.{Tree, number, text, extension, array, object, Trees, no_trees}
 use Rattle.jsonb_value.specs.Tree.{tree, Pairs, no_pairs, pair}
@@ -57,7 +57,7 @@ mutual
         ),
       )
 
--- The tree of a document.
+-- The tree of a document is such a tree.
 pub IsTree-Doc : (b : List ℕ) (t : Tree) → AreBytes b → Doc b t → IsTree t
 IsTree-Doc b t bytes (inl (q, h)) =
     let entry = (parts_are_bytes (word 536870912) _ h.parts bytes).1 in

@@ -22,7 +22,7 @@ pub word-value : (k : ℕ) → k < 2 ^ 32 → from_be_bytes w32 (word k) ≡ k
 unfolding word
 word-value k h = from_be_bytes-to_be_bytes_4 k h
 
--- two lists whose fronts are equally long
+-- two concatenations whose first parts have equal lengths
 pub same_parts : (a b x y : List ℕ) → length a ≡ length b → a ++ x ≡ b ++ y → (a ≡ b) × (x ≡ y)
 same_parts [] [] x y n e = (refl, e)
 same_parts (p ∷ a) (q ∷ b) x y n e =
@@ -30,12 +30,12 @@ same_parts (p ∷ a) (q ∷ b) x y n e =
     (cc, rest.1)
 same_parts a b x y n e = absurd (omega arith)
 
--- and where one begins the other
+-- the same if one concatenation is a prefix of the other
 pub same_beginning : {a k y b d : List ℕ} (x c : List ℕ) → length a ≡ length k → b ≡ a ++ x
     → d ≡ k ++ y → d ≡ b ++ c → (a ≡ k) × (y ≡ x ++ c)
 same_beginning {a} {k} {y} x c n h g e = grind (arith, append_assoc, same_parts)
 
--- a word and what follows it are read in one way
+-- bytes can be read as a word and a rest in only one way
 same_word : (k l : ℕ) → k < 2 ^ 32 → l < 2 ^ 32 → word k ≡ word l → k ≡ l
 same_word k l hk hl e =
     sym (word-value k hk) ∙ ap (from_be_bytes w32) e ∙ word-value l hl
@@ -66,7 +66,7 @@ split_four (a ∷ (b ∷ (c ∷ (d ∷ xs)))) h =
     rw (n, take-length)
 split_four xs h = absurd (omega arith)
 
--- the word at the front, as it is read, and what follows it
+-- the first word, as it is read, and what follows it
 pub word_at_front : (xs : List ℕ) (n : ℕ) → 4 ≤ length xs → ((i : ℕ) → get_or xs i 0 < 256)
     → n ≡ big_number 4 xs → xs ≡ word n ++ take (length xs - 4) (drop 4 xs)
 unfolding word
@@ -88,7 +88,7 @@ unfolding word
 slice_cmp-less k l x y small_k small_l lt =
     grind (arith, from_be_bytes-to_be_bytes_4, slice_cmp-digits)
 
--- two lists whose first words differ stand as these words do
+-- two lists whose first words differ compare as these words
 pub slice_cmp-words : (k l : ℕ) (x y : List ℕ) → k < 2 ^ 32 → l < 2 ^ 32 → k ≢ l
     → (IsTrue (nat_lt k l) ↔ (slice_cmp nat_cmp (word k ++ x) (word l ++ y) ≡ Less))
 slice_cmp-words k l x y small_k small_l ne = (

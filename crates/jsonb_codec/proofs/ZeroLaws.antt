@@ -1,5 +1,5 @@
--- A document without a zero byte is long: every count and every length in it has three lower bytes
--- that are not zero.
+-- A document without a zero byte is long: in every count and every length in it the lower three
+-- bytes are nonzero.
 use Rattle.std.proofs.Common.{◌≡◌, ◌≢◌, ◌≤◌, ◌<◌, ◌*◌, ◌%◌, ◌^◌, ℕ, suc, List, [], ◌∷◌, ◌++◌}
 use Rattle.std.proofs.Common.{length, inl, inr, refl, ap, subst, arith, length-append}
 use Rattle.std.proofs.lemmas.List.Elements.{All-nil, All-cons, All-head, All-tail, All-append}
@@ -14,7 +14,7 @@ use Rattle.jsonb_codec.proofs.Containers.{members, count_of, two_kinds, count-me
 use Rattle.jsonb_codec.proofs.Containers.{array_container, object_container, container}
 use Rattle.jsonb_codec.proofs.Containers.{length-Container}
 
--- none of the bytes is zero
+-- no byte is zero
 abbrev pub NoZero : List ℕ → Type 0
 NoZero bs = All (λ b. b ≢ 0) bs
 
@@ -28,23 +28,23 @@ NoZero-append (x ∷ xs) ys h =
 NoZero-parts : {bs : List ℕ} (xs ys : List ℕ) → bs ≡ xs ++ ys → NoZero bs → NoZero xs × NoZero ys
 NoZero-parts xs ys e h = NoZero-append xs ys (subst NoZero e h)
 
--- what the lower three bytes of such a word are at least
+-- a lower bound on the lower three bytes of such a word
 word_least : (k : ℕ) → NoZero (word k) → 65793 ≤ k % 2 ^ 24
 unfolding word
 word_least k h = grind arith
 
--- long enough for the length of a payload, or the count of the children, in such a word
+-- at least as long as the payload length, or the count, in such a word
 abbrev Long : List ℕ → Type 0
 Long q = 65793 ≤ length q
 
--- a first payload is long, and the entry words behind its own are without a zero byte too
+-- the first payload is long, and the entry words after its own have no zero byte either
 one_least : {ty : ℕ} {M : List ℕ → Type 0} {O : List ℕ → List ℕ → Type 0} {e p : List ℕ}
     → IsType ty → NoZero e → (h : One ty M O e p) → Long h.payload × NoZero h.other_entries
 one_least is zero_free h =
     let parts = NoZero-parts _ h.other_entries h.entries_are zero_free in
     (omega (arith, word_least _ parts.0, is.high, h.short), parts.1)
 
--- so is each payload,
+-- Each payload is long.
 items_long : (ts : Trees) (e p : List ℕ) → NoZero e → (h : Children ts e p)
     → All Long (items_in ts e p h)
 items_long no_trees e p zero_free h = All-nil Long
@@ -65,7 +65,7 @@ values_long (pair k t ps) e p zero_free h =
     let first = one_least (IsType-type_of t) zero_free h in
     All-cons Long h.payload _ first.0 (values_long ps _ _ first.1 h.others)
 
--- and there are as many as the header counts.
+-- There are as many payloads as the header counts.
 length-items : (ts : Trees) (e p : List ℕ) (h : Children ts e p)
     → length (items_in ts e p h) ≡ count ts
 length-items no_trees e p h = refl
@@ -91,7 +91,7 @@ header_least {t} zero_free f =
       (NoZero-parts f.entries f.payloads f.body parts.1).0,
     )
 
--- A document without a zero byte has more than that many bytes.
+-- A document without a zero byte has more than this many bytes.
 pub Doc-least : (b : List ℕ) (t : Tree) → Doc b t → NoZero b → 4294967296 < length b
 Doc-least b t (inr h) zero_free =
     let f = container t b h.0 h.1 in
@@ -106,7 +106,7 @@ Doc-least b t (inr h) zero_free =
 Doc-least b t (inl h) zero_free =
     absurd (omega (arith, word_least 536870912 (NoZero-parts _ _ h.1.parts zero_free).0))
 
--- It holds many payloads, each of them long.
+-- There are many payloads, each of them long.
 abbrev pub AreLong : List (List ℕ) → Type 0
 AreLong ps = (65793 ≤ length ps) × All (λ p. 65793 ≤ length p) ps
 

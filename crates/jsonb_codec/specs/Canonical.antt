@@ -1,4 +1,4 @@
--- Which bytes are a canonical document.
+-- The canonical documents among all byte strings.
 use Rattle.std.specs.Prelude.{◌≡◌, ℕ, List}
 use Rattle.jsonb_value.specs.Tree.{Tree, Trees}
 use Rattle.jsonb_value.specs.WellFormed.{IsTree}
@@ -9,11 +9,11 @@ use Rattle.jsonb_codec.specs.Canon.{Fits}
 abbrev pub IsCanonical : List ℕ → Type 0
 IsCanonical b = (t : Tree) × (IsTree t × (Fits t × (canon t ≡ b)))
 
--- The payload is the one that is written for the tree,
+-- The payload is the one that is written for the tree.
 abbrev pub IsWritten : Tree → List ℕ → Type 0
 IsWritten t p = FitsInside t × (payload_of t ≡ p)
 
--- and the entry words and payloads those for children.
+-- The entry words and payloads are those that are written for these children.
 abbrev pub AreWritten : Trees → List ℕ → List ℕ → Type 0
 AreWritten ts entries payloads =
     AllFit ts × ((entries_of ts ≡ entries) × (payloads_of ts ≡ payloads))

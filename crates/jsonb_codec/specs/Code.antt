@@ -1,4 +1,4 @@
--- With what values are stored.
+-- The stored form of values: the type of an entry, and its payload.
 use Rattle.std.specs.Prelude.{ℕ, List, [], true, false}
 use Rattle.jsonb_value.specs.NumCode.{number_payload}
 use Rattle.jsonb_value.specs.ExtCode.{extension_of, extension_payload}
@@ -11,17 +11,17 @@ use Rattle.jsonb_codec.specs.declared.constants.TheConstants.{NULL_TAG, FALSE_TA
 use Rattle.jsonb_codec.specs.declared.constants.TheConstants.{STRING_TAG, NUMBER_TAG}
 use Rattle.jsonb_codec.specs.declared.constants.TheConstants.{EXTENSION_TAG}
 
--- the bytes of a payload
+-- The bytes of a payload.
 abbrev pub payload_bytes : Payload → List ℕ
 payload_bytes (payloads.Bytes bytes) = bytes.now
 payload_bytes (payloads.Number x) = number_payload x
 payload_bytes (payloads.Extension value) = extension_payload (extension_of value)
 
--- the type of the entry, and the payload
+-- The type and the payload of an entry.
 abbrev pub code_of : Code → ℕ × List ℕ
 code_of code = (code.type_code, payload_bytes code.payload)
 
--- the same of a scalar
+-- The type and the payload with which a scalar is stored.
 abbrev pub scalar_code : Scalar → ℕ × List ℕ
 scalar_code scalars.Null = (NULL_TAG, [])
 scalar_code (scalars.Bool false) = (FALSE_TAG, [])

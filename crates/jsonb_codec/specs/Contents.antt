@@ -7,7 +7,7 @@ use Rattle.jsonb_codec.specs.declared.parts.Members.{Members}
 use Rattle.jsonb_codec.specs.declared.parts.Contents.{Contents}
 use Rattle.jsonb_codec.specs.declared.parts.Contents.TheVariants as contents
 use Rattle.jsonb_codec.specs.Doc.{Children}
-use Rattle.jsonb_codec.specs.Parts.{IsPayloadOf, ArePairsOf}
+use Rattle.jsonb_codec.specs.Parts.{IsPayloadOf, IsObject, ArePairsOf}
 
 -- The part means the tree.
 abbrev pub Means : Part → Tree → Type 0
@@ -26,16 +26,16 @@ AreMembers ps members =
 -- The contents are those of the tree.
 abbrev pub AreContents : Contents → Tree → Type 0
 AreContents (contents.Array items) t = (ts : Trees) × ((t ≡ array ts) × AreChildren ts items)
-AreContents (contents.Object members) t = (ps : Pairs) × ((t ≡ object ps) × AreMembers ps members)
+AreContents (contents.Object it) t =
+    (ps : Pairs) × ((t ≡ object ps) × IsObject it.count it.body.now ps)
 
--- Their entry words and payloads take fewer than so many bytes: of an object those of its values.
+-- Their entry words and payloads take fewer than so many bytes.
 abbrev pub AreInside : ℕ → Contents → Type 0
 AreInside n (contents.Array items) = length items.entries.now + length items.payloads.now < n
-AreInside n (contents.Object members) =
-    length members.values.entries.now + length members.values.payloads.now < n
+AreInside n (contents.Object it) = length it.body.now < n
 
--- The first of these pairs has that key, and its value that type and payload; the others are those
--- members.
+-- The first of these pairs has this key, and a value with this type and payload; the others are
+-- these members.
 pub record FirstMember (ps : Pairs) (key : List ℕ) (type : ℕ) (payload : List ℕ)
     (behind : Members) : Type 0 where
   pub value : Tree

@@ -1,4 +1,4 @@
--- Which bytes mean which tree.
+-- Which byte strings mean which tree: the definition of documents.
 use Rattle.std.specs.Prelude.{◌≡◌, ◌≢◌, ◌⊎◌, ℕ, ◌+◌, ◌<◌, ◌^◌, List, [], ◌++◌, length, true, false}
 use Rattle.std.specs.Str.{IsUtf8}
 use Rattle.jsonb_value.specs.Tree.{Tree, null, boolean, number, text, extension, array, object}
@@ -14,7 +14,7 @@ use Rattle.jsonb_codec.specs.declared.constants.TheConstants.{TRUE_TAG, CONTAINE
 use Rattle.jsonb_codec.specs.declared.constants.TheConstants.{EXTENSION_TAG}
 use Rattle.jsonb_codec.specs.Word.{word}
 
--- the type of the entry of a tree
+-- The type of a tree's entry.
 abbrev pub type_of : Tree → ℕ
 type_of null = NULL_TAG
 type_of (boolean false) = FALSE_TAG
@@ -25,12 +25,12 @@ type_of (extension e) = EXTENSION_TAG
 type_of (array ts) = CONTAINER_TAG
 type_of (object ps) = CONTAINER_TAG
 
--- Entry words, and the payloads that stand elsewhere in the same order: here none of them,
+-- There are no entry words and no payloads.
 pub record NoMore (entries payloads : List ℕ) : Type 0 where
   pub no_entries : entries ≡ []
   pub no_payloads : payloads ≡ []
 
--- and here one in front of the others.
+-- There are an entry word and a payload of this type and meaning, followed by others.
 pub record One (type : ℕ) (Means : List ℕ → Type 0) (Others : List ℕ → List ℕ → Type 0)
     (entries payloads : List ℕ) : Type 0 where
   pub payload : List ℕ
@@ -42,7 +42,7 @@ pub record One (type : ℕ) (Means : List ℕ → Type 0) (Others : List ℕ →
   pub means : Means payload
   pub others : Others other_entries other_payloads
 
--- n entry words, and the n payloads behind them
+-- The bytes are n entry words followed by their n payloads.
 pub record Body (n : ℕ) (Items : List ℕ → List ℕ → Type 0) (bytes : List ℕ) : Type 0 where
   pub few : n < 2 ^ 29
   pub entries : List ℕ
@@ -50,7 +50,8 @@ pub record Body (n : ℕ) (Items : List ℕ → List ℕ → Type 0) (bytes : Li
   pub parts : bytes ≡ entries ++ payloads
   pub items : Items entries payloads
 
--- the words of n keys, those of n values, the keys, the payloads of the values
+-- The bytes are the entry words of n keys, those of n values, the keys, and the payloads of the
+-- values.
 pub record PairsBody (n : ℕ) (Keys Values : List ℕ → List ℕ → Type 0)
     (bytes : List ℕ) : Type 0 where
   pub few : n < 2 ^ 29
@@ -62,21 +63,23 @@ pub record PairsBody (n : ℕ) (Keys Values : List ℕ → List ℕ → Type 0)
   pub keys : Keys key_entries key_payloads
   pub values : Values value_entries value_payloads
 
--- bytes behind a header word
+-- The bytes are this header word, followed by bytes with this property.
 pub record BehindHeader (header : ℕ) (Behind : List ℕ → Type 0) (bytes : List ℕ) : Type 0 where
   pub rest : List ℕ
   pub parts : bytes ≡ word header ++ rest
   pub behind : Behind rest
 
+-- The payload is the key, in UTF-8.
 abbrev pub IsKey : List ℕ → List ℕ → Type 0
 IsKey k p = (p ≡ k) × IsUtf8 k
 
+-- The entry words and the payloads are those of the keys of these pairs.
 abbrev pub Keys : Pairs → List ℕ → List ℕ → Type 0
 Keys no_pairs = NoMore
 Keys (pair k t ps) = One STRING_TAG (IsKey k) (Keys ps)
 
 abbrev mutual
-  -- The payload of an entry means the tree.
+  -- The payload means the tree.
   pub Payload : Tree → List ℕ → Type 0
   Payload null = λ p. p ≡ []
   Payload (boolean b) = λ p. p ≡ []
@@ -88,27 +91,27 @@ abbrev mutual
       × BehindHeader (OBJECT_CONTAINER_TAG + pair_count ps)
       (PairsBody (pair_count ps) (Keys ps) (Values ps)) p
 
-  -- The entry words and the payloads of an array's children.
+  -- The entry words and the payloads are those of an array's items.
   pub Children : Trees → List ℕ → List ℕ → Type 0
   Children no_trees = NoMore
   Children (tree t ts) = One (type_of t) (Payload t) (Children ts)
 
-  -- The same of an object's values.
+  -- The entry words and the payloads are those of an object's values.
   pub Values : Pairs → List ℕ → List ℕ → Type 0
   Values no_pairs = NoMore
   Values (pair k t ps) = One (type_of t) (Payload t) (Values ps)
 
--- A scalar behind its header: one entry word, and its payload.
+-- The bytes are a scalar's header, one entry word, and its payload.
 pub record Scalar (t : Tree) (bytes : List ℕ) : Type 0 where
   pub payload : List ℕ
   pub parts : bytes ≡ word SCALAR_CONTAINER_TAG ++ (word (type_of t + length payload) ++ payload)
   pub short : length payload < 2 ^ 28
   pub means : Payload t payload
 
--- The bytes are a document of the tree: a scalar behind its header, or a whole array or object.
+-- The bytes are a document of the tree: a scalar after its header, or an array or object.
 abbrev pub Doc : List ℕ → Tree → Type 0
 Doc b t = ((type_of t ≢ CONTAINER_TAG) × Scalar t b) ⊎ ((type_of t ≡ CONTAINER_TAG) × Payload t b)
 
--- The bytes are a document.
+-- The bytes are a document of some tree.
 abbrev pub IsDocument : List ℕ → Type 0
 IsDocument b = (t : Tree) × Doc b t

@@ -1,4 +1,4 @@
--- Which errors the readers name the faults of bytes that are no document.
+-- The errors that report that bytes are not a document.
 use Rattle.std.specs.Prelude.{⊤}
 use Rattle.jsonb_value.specs.declared.error.Error.{Error}
 use Rattle.jsonb_value.specs.declared.error.Error.TheVariants.{InvalidEOF, InvalidJsonb}
@@ -9,7 +9,7 @@ use Rattle.jsonb_value.specs.declared.error.Error.TheVariants.{InvalidJsonbExten
 use Rattle.jsonb_value.specs.declared.error.Error.TheVariants.{ObjectDuplicateKey, InvalidJson}
 use Rattle.jsonb_value.specs.declared.error.Error.TheVariants.{OutOfMemory}
 
--- by the decoder,
+-- The decoder can report this error for bytes that are not a document.
 abbrev pub IsDecoderFault : Error → Type 0
 IsDecoderFault InvalidEOF = ⊤
 IsDecoderFault InvalidJsonb = ⊤
@@ -22,7 +22,8 @@ IsDecoderFault ObjectDuplicateKey = ⊥
 IsDecoderFault InvalidJson = ⊥
 IsDecoderFault OutOfMemory = ⊥
 
--- and by the reader of trees, which has no names of its own for headers and entry words
+-- The reader of trees can report this error for bytes that are not a document; it has no errors of
+-- its own for headers and entry words.
 abbrev pub IsTreeFault : Error → Type 0
 IsTreeFault InvalidEOF = ⊤
 IsTreeFault InvalidJsonb = ⊤

@@ -1,4 +1,4 @@
--- What a text that was printed means when it is read again.
+-- What a printed text means when it is parsed.
 use Rattle.std.specs.Prelude.{◌≡◌, ℕ, List}
 use Rattle.std.specs.declared.cmp.Ordering.TheVariants.{Equal}
 use Rattle.jsonb_value.specs.Tree.{Tree}
@@ -7,8 +7,7 @@ use Rattle.jsonb_value.specs.WellFormed.{IsTree}
 use Rattle.jsonb_value.specs.Json.Syntax.{Json}
 use Rattle.jsonb_codec.specs.Canon.{Fits}
 
--- The characters are a text of JSON, and mean some tree that fits and is Equal to this one in the
--- order.
+-- The characters are a JSON text whose tree fits the format and compares Equal to t.
 pub record MeansAgain (characters : List ℕ) (t : Tree) : Type 0 where
   pub again : Tree
   pub is_tree : IsTree again

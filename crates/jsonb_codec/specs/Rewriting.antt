@@ -1,4 +1,4 @@
--- The parts of a document, taken one by one to be written anew.
+-- Visiting the parts of a document one by one to write them again.
 use Rattle.std.specs.Prelude.{◌≡◌, ◌↔◌, ℕ, List, ◌++◌}
 use Rattle.jsonb_value.specs.Tree.{Tree, Trees, tree}
 use Rattle.jsonb_codec.specs.Word.{word}
@@ -6,8 +6,8 @@ use Rattle.jsonb_codec.specs.Doc.{Children}
 use Rattle.jsonb_codec.specs.Parts.{IsPayloadOf}
 use Rattle.jsonb_codec.specs.Canon.{payload_of, entries_of, payloads_of, FitsInside, AllFit}
 
--- The first of these children has that type and payload, and the others stand in what is left of
--- the entry words and payloads.
+-- The first of these children has this type and payload, and the others have the remaining entry
+-- words and payloads.
 pub record FirstChild (ts : Trees) (type : ℕ) (payload entries payloads : List ℕ) : Type 0 where
   pub first : Tree
   pub others : Trees
@@ -15,8 +15,8 @@ pub record FirstChild (ts : Trees) (type : ℕ) (payload entries payloads : List
   pub is : IsPayloadOf type payload first
   pub behind : Children others entries payloads
 
--- A container is written as that header and these children are; an object's keys are children too,
--- texts before its values.
+-- A container is written as this header and these children; those of an object are its keys, as
+-- texts, and then its values.
 pub record Opened (t : Tree) (header : ℕ) (entries payloads : List ℕ) : Type 0 where
   pub children : Trees
   pub are : Children children entries payloads

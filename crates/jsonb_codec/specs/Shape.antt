@@ -1,4 +1,4 @@
--- What is written, whatever it stands for: payloads with the type of their entry, and containers.
+-- What is written for any source: leaves with a type and a payload, and containers.
 use Rattle.std.specs.Prelude.{◌<◌, ◌^◌, ◌+◌, ℕ, suc, List, [], ◌++◌, length, ⊤}
 use Rattle.jsonb_codec.specs.declared.constants.TheConstants.{ARRAY_CONTAINER_TAG}
 use Rattle.jsonb_codec.specs.declared.constants.TheConstants.{OBJECT_CONTAINER_TAG}
@@ -12,75 +12,79 @@ mutual
     array : Shapes → Shape
     object : Shapes → Shape
 
-  -- children, each with its key: an array's items have empty ones
+  -- Children with their keys; the keys of an array's items are empty.
   pub data Shapes : Type 0 where
     no_shapes : Shapes
     shape : List ℕ → Shape → Shapes → Shapes
 
--- how many there are
+-- The number of children.
 abbrev pub count : Shapes → ℕ
 count no_shapes = 0
 count (shape k s ss) = suc (count ss)
 
--- the type of the entry
+-- The type of the entry.
 abbrev pub type_of : Shape → ℕ
 type_of (leaf type p) = type
 type_of (array ss) = CONTAINER_TAG
 type_of (object ss) = CONTAINER_TAG
 
--- the entry words of keys, and the keys
+-- The entry words of keys.
 abbrev pub key_entries : Shapes → List ℕ
 key_entries no_shapes = []
 key_entries (shape k s ss) = word (STRING_TAG + length k) ++ key_entries ss
 
+-- The payloads of keys.
 abbrev pub key_payloads : Shapes → List ℕ
 key_payloads no_shapes = []
 key_payloads (shape k s ss) = k ++ key_payloads ss
 
 abbrev mutual
-  -- the payload
+  -- The payload of a shape.
   pub payload : Shape → List ℕ
   payload (leaf type p) = p
   payload (array ss) = word (ARRAY_CONTAINER_TAG + count ss) ++ (entries ss ++ payloads ss)
   payload (object ss) = word (OBJECT_CONTAINER_TAG + count ss)
       ++ (key_entries ss ++ (entries ss ++ (key_payloads ss ++ payloads ss)))
 
+  -- The entry words of children.
   pub entries : Shapes → List ℕ
   entries no_shapes = []
   entries (shape k s ss) = word (type_of s + length (payload s)) ++ entries ss
 
+  -- The payloads of children.
   pub payloads : Shapes → List ℕ
   payloads no_shapes = []
   payloads (shape k s ss) = payload s ++ payloads ss
 
--- how long the keys and the payloads of children are
+-- The total length of the keys and the payloads of children.
 abbrev pub body : Shapes → ℕ
 body ss = length (key_payloads ss) + length (payloads ss)
 
--- the document: a container's payload, or a leaf behind a scalar's header
+-- The document of a shape: a container's payload, or a leaf after a scalar's header.
 abbrev pub document : Shape → List ℕ
 document (leaf type p) = word SCALAR_CONTAINER_TAG ++ (word (type + length p) ++ p)
 document (array ss) = payload (array ss)
 document (object ss) = payload (object ss)
 
 abbrev mutual
-  -- No count, no key and no payload inside is past its limit.
+  -- No count, no key and no payload inside the shape exceeds its limit.
   pub FitsInside : Shape → Type 0
   FitsInside (leaf type p) = ⊤
   FitsInside (array ss) = (count ss < 2 ^ 29) × AllFit ss
   FitsInside (object ss) = (count ss < 2 ^ 29) × AllFit ss
 
+  -- No count, no key and no payload in these children exceeds its limit.
   pub AllFit : Shapes → Type 0
   AllFit no_shapes = ⊤
   AllFit (shape k s ss) =
       ((length k < 2 ^ 28) × (FitsInside s × (length (payload s) < 2 ^ 28))) × AllFit ss
 
--- the same of a payload that has an entry
+-- The shape can be written as a child: it and its payload fit.
 pub record FitsEntry (s : Shape) : Type 0 where
   pub inside : FitsInside s
   pub short : length (payload s) < 2 ^ 28
 
--- the same of a document
+-- The shape can be written as a document.
 abbrev pub Fits : Shape → Type 0
 Fits (leaf type p) = length p < 2 ^ 28
 Fits (array ss) = FitsInside (array ss)

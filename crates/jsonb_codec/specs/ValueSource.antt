@@ -1,4 +1,4 @@
--- What the containers of values are written as: the shapes of their trees.
+-- What values are written as: the shapes of their trees.
 use Rattle.std.specs.Prelude.{◌≡◌, ◌-◌, List, String}
 use Rattle.std.specs.Borrow.{Bor}
 use Rattle.std.specs.BTreeMap.{BTreeMap}
@@ -17,6 +17,7 @@ use Rattle.jsonb_codec.specs.Shape.{key_payloads}
 use Rattle.jsonb_codec.specs.TreeShape.{shape_of, items_shapes, pairs_shapes, bare}
 use Rattle.std.proofs.Common.{sym, ap, ◌∙◌}
 
+-- The meaning of values as a source of the writer.
 abbrev pub value_meaning : Meaning (Bor Value) (Bor (List Value))
     (Bor (BTreeMap (String Global) Value))
     (List (String Global × Value))
@@ -43,7 +44,8 @@ value_laws = record {
   bare_items = λ x ss h. ap key_payloads (sym h) ∙ bare (items_view x.now);
 }
 
--- Of lists of pairs it is to be said that keys ascend.
+-- The meaning of values whose objects are lists of pairs, whose invariants hold only if keys
+-- ascend.
 abbrev pub ast_meaning : Meaning (Bor JsonAst) (Bor (List JsonAst)) Pairs Pairs
 ast_meaning = record {
   child = λ v s. shape_of (ast_tree v.now) ≡ s;

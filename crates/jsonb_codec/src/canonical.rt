@@ -1,4 +1,4 @@
-//! Which byte strings are canonical documents, and the canonical form of every document.
+//! Recognizing canonical documents, and the canonical form of every document.
 
 mod rewrite;
 
@@ -16,9 +16,9 @@ use crate::parts::{Children, Part};
 use jsonb_value::{ExtensionValue, Number};
 pub use rewrite::{append_canonical, append_canonical_document};
 
-/// Whether the bytes are the one document that is written for some tree: a document in which each
-/// whole number stands in the fewest bytes, zero as the one byte 0, and no decimal and no point in
-/// time in its old form.
+/// Whether the bytes are a canonical document, that is, the one that the encoder writes for its
+/// value: each integer in the fewest bytes, zero as the single byte 0, and no decimal and no
+/// timestamp with a time zone in an older form.
 pub fn is_canonical(bytes: &[u8]) -> bool
     ensures { IsTrue result ↔ IsCanonical bytes.now }
 {
@@ -28,15 +28,16 @@ pub fn is_canonical(bytes: &[u8]) -> bool
     }
 }
 
-/// Whether the bytes are the one document that is written for their tree, as `is_canonical` tells.
-/// They are not checked again.
+/// Whether a checked document is canonical, that is, the one that the encoder writes for its value:
+/// each integer in the fewest bytes, zero as the single byte 0, and no decimal and no timestamp
+/// with a time zone in an older form.
 pub fn is_canonical_document(document: DocumentBytes<'_>) -> bool
     ensures { IsTrue result ↔ IsCanonical (bytes_of document.entry) }
 {
     is_written_document(document.as_bytes())
 }
 
-// The same of bytes that are known to be a document.
+// Whether bytes that are known to be a document are canonical.
 fn is_written_document(bytes: &[u8]) -> bool
     requires { IsDocument bytes.now }
     ensures { IsTrue result ↔ IsCanonical bytes.now }
@@ -44,7 +45,7 @@ fn is_written_document(bytes: &[u8]) -> bool
     is_written(DocumentBytes::new_unchecked(bytes).part())
 }
 
-// Whether each payload is as it is written.
+// Whether all payloads in the part are those that are written.
 #[cycle(written)]
 fn is_written(part: Part<'_>) -> bool
     ensures { (t : Tree) → Means part.entry t
@@ -58,7 +59,7 @@ fn is_written(part: Part<'_>) -> bool
     }
 }
 
-// Only the form that is written is as long as that form.
+// Among the payloads of a number only the written one has its length.
 fn is_written_number(payload: &[u8], value: Number) -> bool
     ensures { Payload (number value) payload.now
         → IsTrue result ↔ IsWritten (number value) payload.now }
@@ -73,7 +74,8 @@ fn is_written_extension(payload: &[u8], value: ExtensionValue) -> bool
     payload.len() == value.compact_len()
 }
 
-// The children of a container, an object's keys and then its values.
+// Whether all payloads are those that are written, in the children of a container: an array's
+// items, or an object's keys and then its values.
 #[cycle(written)]
 fn are_written(children: Children<'_>) -> bool
     ensures { (ts : Trees) → AreChildren ts children.entry

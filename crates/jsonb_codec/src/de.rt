@@ -1,4 +1,5 @@
-//! Documents read into values: the check, and then a build that only memory can refuse.
+//! Decoding documents into values: the bytes are checked first, then built without any error but
+//! `OutOfMemory`.
 
 ghost use Rattle.std.specs.Prelude.{◌≡◌, ◌≢◌, ◌⊎◌, ◌++◌, ◌∷◌, [], string_cmp, IfOk, IfErr, OnOk};
 ghost use Rattle.std.specs.Prelude.{OnErr};
@@ -21,14 +22,14 @@ use std::alloc::Global;
 use std::borrow::CowStr;
 use std::collections::BTreeMap;
 
-// So many pairs stand in one leaf of a map.
+// The number of pairs in one leaf of a map.
 const LEAF_PAIRS: usize = 15;
 
-/// The value of a document. Its strings and extension data are borrowed from the bytes.
+/// Decodes a document. Strings and extension data in the value are borrowed from the bytes.
 ///
-/// Where the bytes are no document, the error names the first fault of them, and no memory was
-/// asked for: `InvalidEOF`, `InvalidJsonb`, `InvalidJsonbNumber`, `InvalidJsonbExtension` or
-/// `InvalidUtf8`. `OutOfMemory` comes only where they are a document.
+/// If the bytes are not a document, the error names their first fault and nothing was allocated:
+/// `InvalidEOF`, `InvalidJsonb`, `InvalidJsonbNumber`, `InvalidJsonbExtension` or `InvalidUtf8`.
+/// `OutOfMemory` occurs only for a document.
 pub fn value_of<'a>(alloc: Global, bytes: &'a [u8]) -> Result<Value<'a>, Error>
     ensures ok { IfOk result (λ v. Doc bytes.now (tree_of v)) }
     ensures one_tree { IfOk result (λ v. (t : Tree) → Doc bytes.now t → tree_of v ≡ t) }
@@ -39,7 +40,7 @@ pub fn value_of<'a>(alloc: Global, bytes: &'a [u8]) -> Result<Value<'a>, Error>
     read(alloc, FaultTable::Tree, bytes)
 }
 
-/// Reads the document that its bytes are, and then holds no bytes.
+/// Decodes the document that its bytes are, once; after that it has no bytes left.
 #[derive(Drop)]
 pub struct Decoder<'a> {
     bytes: &'a [u8],
@@ -48,19 +49,20 @@ pub struct Decoder<'a> {
 impl<'a> Decoder<'a> {
     ghost use Rattle.jsonb_codec.specs.Decoder.{input_of};
 
-    /// A decoder that holds these bytes.
+    /// A decoder over these bytes.
     pub fn new(buf: &'a [u8]) -> Decoder<'a>
         ensures { input_of result ≡ buf.now }
     {
         Decoder { bytes: buf }
     }
 
-    /// The value of the document that is held, and after it no bytes are held. After a refusal the
-    /// decoder is as before.
+    /// Decodes the bytes, after which the decoder has none left. After an error the decoder is
+    /// unchanged. Strings and extension data in the value are borrowed from the bytes.
     ///
-    /// Where the bytes are no document, the error names the first fault of them, and no memory was
-    /// asked for: one of those that `value_of` gives, `InvalidJsonbHeader` or
-    /// `InvalidJsonbJEntry`. `OutOfMemory` comes only where they are a document.
+    /// If the bytes are not a document, the error names their first fault and nothing was
+    /// allocated: `InvalidEOF`, `InvalidJsonb`, `InvalidJsonbHeader`, `InvalidJsonbJEntry`,
+    /// `InvalidJsonbNumber`, `InvalidJsonbExtension` or `InvalidUtf8`. `OutOfMemory` occurs only
+    /// for a document.
     pub fn decode(&mut self, alloc: Global) -> Result<Value<'a>, Error>
         ensures ok { IfOk result (λ v. Doc (input_of self.old) (tree_of v)) }
         ensures one_tree { IfOk result
@@ -79,7 +81,7 @@ impl<'a> Decoder<'a> {
     }
 }
 
-// The value of a document, or the first fault by that table.
+// Decodes a document, or returns the first fault as this table names it.
 fn read<'a>(alloc: Global, faults: FaultTable, bytes: &'a [u8]) -> Result<Value<'a>, Error>
     ensures ok { IfOk result (λ v. Doc bytes.now (tree_of v)) }
     ensures one_tree { IfOk result (λ v. (t : Tree) → Doc bytes.now t → tree_of v ≡ t) }
@@ -90,7 +92,8 @@ fn read<'a>(alloc: Global, faults: FaultTable, bytes: &'a [u8]) -> Result<Value<
     value_of_document(alloc, check(faults, bytes.len(), bytes)?)
 }
 
-/// The value of a document that was checked. Only memory can be refused.
+/// Decodes a checked document. Strings and extension data in the value are borrowed from the bytes.
+/// `OutOfMemory` is the only error.
 pub fn value_of_document<'a>(alloc: Global, document: DocumentBytes<'a>) -> Result<Value<'a>, Error>
     ensures ok { IfOk result (λ v. (t : Tree) → Doc (bytes_of document.entry) t → tree_of v ≡ t) }
     ensures memory { IfErr result (λ e. e ≡ Error.OutOfMemory) }
@@ -103,8 +106,8 @@ pub fn value_of_document<'a>(alloc: Global, document: DocumentBytes<'a>) -> Resu
     }
 }
 
-// Pushes the value of a part. Each kind is pushed where it is made, since a value is large to
-// move.
+// Appends the value of a part. Scalars and containers are pushed separately, since moving a value
+// is costly.
 #[cycle(value)]
 #[inline(always)]
 fn push_part<'a>(alloc: Global, items: &mut Vec<Value<'a>>, part: Part<'a>) -> Result<(), Error>
@@ -120,7 +123,7 @@ fn push_part<'a>(alloc: Global, items: &mut Vec<Value<'a>>, part: Part<'a>) -> R
     Ok(())
 }
 
-// Puts the value of a part under the key.
+// Inserts the value of a part under the key.
 #[cycle(value)]
 #[inline(always)]
 fn insert_part<'a>(
@@ -142,7 +145,7 @@ fn insert_part<'a>(
     insert_member(members, key, value)
 }
 
-// Pushes the key and the value of a part.
+// Appends the key with the value of a part.
 #[cycle(value)]
 #[inline(always)]
 fn push_pair<'a>(
@@ -165,8 +168,8 @@ fn push_pair<'a>(
     Ok(())
 }
 
-// Puts the value under the key. What that takes of the stack is not held while values inside are
-// built.
+// Inserts the value under the key. A function of its own, so that its stack frame is released
+// before nested values are built.
 #[inline(never)]
 fn insert_member<'a>(members: &mut Object<'a>, key: String, value: Value<'a>) -> Result<(), Error>
     ensures ok { OnOk result
@@ -177,7 +180,7 @@ fn insert_member<'a>(members: &mut Object<'a>, key: String, value: Value<'a>) ->
     Ok(())
 }
 
-// The value of a whole array or object.
+// Builds an array or object.
 #[cycle(value)]
 fn build_container<'a>(alloc: Global, part: Part<'a>) -> Result<Value<'a>, Error>
     requires { part.tag ≡ CONTAINER_TAG }
@@ -186,11 +189,11 @@ fn build_container<'a>(alloc: Global, part: Part<'a>) -> Result<Value<'a>, Error
 {
     match part.contents() {
         Contents::Array(items) => Ok(Value::Array(build_items(alloc, items)?)),
-        Contents::Object(members) => Ok(Value::Object(build_members(alloc, members)?)),
+        Contents::Object(object) => Ok(Value::Object(build_members(alloc, object.members())?)),
     }
 }
 
-// The items of an array.
+// Builds the items of an array.
 #[cycle(value)]
 fn build_items<'a>(alloc: Global, items: Children<'a>) -> Result<Vec<Value<'a>>, Error>
     ensures ok { IfOk result (λ v. (ts : Trees) → AreChildren ts items.entry
@@ -206,7 +209,8 @@ fn build_items<'a>(alloc: Global, items: Children<'a>) -> Result<Vec<Value<'a>>,
     Ok(built)
 }
 
-// The members of an object. Their keys ascend, so each is put behind those before it.
+// Builds the members of an object. A single leaf is filled by insertions, each at its end because
+// the keys ascend.
 #[cycle(value)]
 fn build_members<'a>(alloc: Global, members: Members<'a>) -> Result<Object<'a>, Error>
     ensures ok { IfOk result (λ m. (ps : Pairs) → AreMembers ps members.entry
@@ -226,7 +230,8 @@ fn build_members<'a>(alloc: Global, members: Members<'a>) -> Result<Object<'a>, 
     Ok(built)
 }
 
-// The same of more members than one leaf of a map holds: the map is made of all at once.
+// Builds more members than one leaf of a map holds: from a list, which costs less than single
+// insertions.
 #[cycle(value)]
 #[inline(never)]
 fn build_many<'a>(alloc: Global, members: Members<'a>) -> Result<Object<'a>, Error>
@@ -244,7 +249,7 @@ fn build_many<'a>(alloc: Global, members: Members<'a>) -> Result<Object<'a>, Err
     Ok(built.into_iter().collect(alloc)?)
 }
 
-// The value of a payload that is no container.
+// Builds the value of a scalar.
 #[inline(always)]
 fn build_scalar<'a>(part: Part<'a>) -> Value<'a>
     requires { part.tag ≢ CONTAINER_TAG }

@@ -1,4 +1,4 @@
-//! Which byte strings are documents, and the first fault of those that are none.
+//! Checking whether bytes are a document, and finding the first fault if they are not.
 
 ghost use Rattle.std.specs.Prelude.{◌≡◌, ◌≢◌, ◌+◌, ◌*◌, ◌/◌, ◌%◌, ◌<◌, ◌≤◌, ◌^◌, ◌↔◌, ◌++◌, [], ℕ};
 ghost use Rattle.std.specs.Prelude.{List, length, take, drop, IsTrue, None, IfOk, IfErr, IfSome};
@@ -24,17 +24,16 @@ use crate::word::{Tagged, split_entry, split_header, split_word};
 use jsonb_value::{Error, ExtensionValue, Number};
 use std::cmp::Ordering;
 
-/// The laws of documents: each means one tree, and none properly begins another.
+/// Laws of documents: each means exactly one tree, and none is a proper prefix of another.
 pub fn document_laws()
     ensures one_tree { (b : List ℕ) (t u : Tree) → Doc b t → Doc b u → t ≡ u }
     ensures prefix_free { (a c : List ℕ) → IsDocument a → IsDocument (a ++ c) → c ≡ [] }
 {}
 
-/// Whether the bytes are a document. Where they are, they mean one tree, whose size and depth the
-/// number of bytes bounds, no proper beginning of them is a document, and none that is longer
-/// begins with them. Where none of them is zero, they hold at least 65,793 payloads, each of at
-/// least 65,793 bytes, so there are more than 4,294,967,296 of them: no text of usual length is a
-/// document.
+/// Whether the bytes are a document. A document means exactly one tree, whose size and depth are
+/// bounded by the number of bytes; no proper prefix and no proper extension of it is a document. A
+/// document without a zero byte has at least 65,793 payloads of at least 65,793 bytes each, hence
+/// more than 4,294,967,296 bytes, so no text of usual length is a document.
 #[inline(always)]
 pub fn is_document(bytes: &[u8]) -> bool
     ensures exact { IsTrue result ↔ IsDocument bytes.now }
@@ -52,12 +51,12 @@ pub fn is_document(bytes: &[u8]) -> bool
         → All (λ p. 65793 ≤ length p) (payloads_in bytes.now t d) }
     ensures no_zero { IsTrue result → All (λ b. b ≢ 0) bytes.now → 4294967296 < length bytes.now }
 {
-    // No document nests as deep as it has bytes.
+    // The depth of a document is less than its number of bytes.
     is_document_within(bytes, bytes.len())
 }
 
-/// Whether the bytes are a document that nests at most that deep: a scalar has depth 0, an array
-/// or object 1 where it is empty, and otherwise one more than its deepest child.
+/// Whether the bytes are a document of at most this depth: a scalar has depth 0, an empty array or
+/// object 1, any other array or object one more than its deepest child.
 #[inline(always)]
 pub fn is_document_within(bytes: &[u8], depth: usize) -> bool
     ensures { IsTrue result ↔ IsDocumentWithin depth bytes.now }
@@ -85,7 +84,7 @@ pub fn document_text(bytes: &[u8]) -> Option<&str>
     }
 }
 
-/// Which error a fault is: the two readers name some faults differently.
+/// How faults are named as errors: the two readers name some of them differently.
 #[derive(Clone, Copy)]
 pub enum FaultTable {
     Tree,
@@ -93,7 +92,7 @@ pub enum FaultTable {
 }
 
 impl FaultTable {
-    // Fewer than four bytes for the header of the whole.
+    // The whole document has fewer than four bytes for its header.
     fn short_header(self) -> Error
         ensures { IsFault self result }
     {
@@ -103,14 +102,14 @@ impl FaultTable {
         }
     }
 
-    // The same of a container inside.
+    // A nested container has fewer than four bytes for its header.
     fn short_inner_header(self) -> Error
         ensures { IsFault self result }
     {
         Error::InvalidEOF
     }
 
-    // A header that is not allowed where it stands.
+    // A header of a kind that is not allowed at its position.
     fn header_kind(self) -> Error
         ensures { IsFault self result }
     {
@@ -127,7 +126,7 @@ impl FaultTable {
         Error::InvalidEOF
     }
 
-    // An entry word that is not allowed where it stands.
+    // An entry word of a type that is not allowed at its position.
     fn entry(self) -> Error
         ensures { IsFault self result }
     {
@@ -137,8 +136,8 @@ impl FaultTable {
         }
     }
 
-    // A payload that runs past the end of its container. An entry of no type, or a null or truth
-    // value with a length, is a fault of the entry.
+    // A payload that runs past the end of its container. For an unknown type, and for a null or
+    // truth value with a length, it is a fault of the entry word.
     fn bounds(self, tag: u32) -> Error
         ensures { IsFault self result }
     {
@@ -152,14 +151,14 @@ impl FaultTable {
         }
     }
 
-    // Keys that are no strings or do not ascend strictly.
+    // Keys that are not strings or do not ascend strictly.
     fn keys(self) -> Error
         ensures { IsFault self result }
     {
         Error::InvalidJsonb
     }
 
-    // Bytes behind the last payload.
+    // Bytes after the last payload.
     fn excess(self) -> Error
         ensures { IsFault self result }
     {
@@ -167,7 +166,7 @@ impl FaultTable {
     }
 }
 
-/// The bytes of a document. Only a check makes them, so nothing that is asked of them checks again.
+/// The bytes of a document. They were checked on construction and are not checked again.
 #[derive(Clone, Copy, Debug)]
 pub struct DocumentBytes<'a> {
     bytes: &'a [u8],
@@ -183,19 +182,19 @@ impl<'a> DocumentBytes<'a> {
     ghost use Rattle.jsonb_codec.specs.Doc.{Doc, IsDocument};
     ghost use Rattle.jsonb_codec.specs.DocumentBytes.{bytes_of};
 
-    /// The bytes as those of a document. `None` where they are none.
+    /// Checks the bytes. `None` if they are not a document.
     #[inline(always)]
     pub fn new(bytes: &'a [u8]) -> Option<Self>
         ensures exact { IsSome result ↔ IsDocument bytes.entry.now }
         ensures bytes { IfSome result (λ d. bytes_of d ≡ bytes.entry.now) }
     {
-        // No document nests as deep as it has bytes.
+        // The depth of a document is less than its number of bytes.
         DocumentBytes::within(bytes, bytes.len())
     }
 
-    /// The bytes as those of a document that nests at most that deep: a scalar has depth 0, an
-    /// array or object 1 where it is empty, and otherwise one more than its deepest child. `None`
-    /// where they are none. What nests deeper is not looked into.
+    /// Checks the bytes and their depth: a scalar has depth 0, an empty array or object 1, any
+    /// other array or object one more than its deepest child. `None` if they are not a document of
+    /// at most this depth. Levels beyond it are not examined.
     #[inline(always)]
     pub fn within(bytes: &'a [u8], depth: usize) -> Option<Self>
         ensures exact { IsSome result ↔ IsDocumentWithin depth bytes.entry.now }
@@ -204,7 +203,7 @@ impl<'a> DocumentBytes<'a> {
         check(FaultTable::Tree, depth, bytes).ok()
     }
 
-    /// The bytes, of which the caller knows that they are a document: nothing is checked again.
+    /// Wraps bytes that the caller knows to be a document, without checking them.
     #[inline(always)]
     pub fn new_unchecked(bytes: &'a [u8]) -> Self
         requires { IsDocument bytes.now }
@@ -213,7 +212,7 @@ impl<'a> DocumentBytes<'a> {
         Self { bytes }
     }
 
-    /// An array or object inside another is a document by itself.
+    /// A nested array or object as a document of its own.
     #[inline(always)]
     pub fn of_container(part: Part<'a>) -> Self
         requires { part.tag ≡ CONTAINER_TAG }
@@ -224,7 +223,7 @@ impl<'a> DocumentBytes<'a> {
         }
     }
 
-    /// The bytes.
+    /// The bytes of the document.
     #[inline(always)]
     pub fn as_bytes(self) -> &'a [u8]
         ensures { result.now ≡ bytes_of self.entry }
@@ -232,7 +231,8 @@ impl<'a> DocumentBytes<'a> {
         self.bytes
     }
 
-    /// The one part that the document is: a scalar's entry, or the whole array or object.
+    /// The single part that the document consists of: a scalar's entry, or the whole array or
+    /// object.
     #[inline(always)]
     pub fn part(self) -> Part<'a>
         ensures means { (t : Tree) → Doc (bytes_of self.entry) t → Means result t }
@@ -258,8 +258,9 @@ impl<'a> DocumentBytes<'a> {
     }
 }
 
-/// Goes through the bytes once. They are known from then on, or the answer is the first fault by
-/// that table. A container more than `depth` deep is a fault, and is not looked into.
+/// Checks the bytes once; returns the document or its first fault as this table names it. A
+/// container nested more than `depth` deep is a fault, reported as `InvalidJsonb`, and is not
+/// examined.
 #[inline(always)]
 pub fn check<'a>(
     faults: FaultTable,
@@ -290,7 +291,7 @@ fn find_fault(faults: FaultTable, depth: usize, bytes: &[u8]) -> Result<(), Erro
     }
 }
 
-// What stands behind the header of a scalar: one entry, and its payload.
+// Checks what follows the header of a scalar: one entry word and its payload.
 #[inline(always)]
 fn check_scalar(faults: FaultTable, count: usize, body: &[u8]) -> Result<(), Error>
     requires { count < 2 ^ 29 }
@@ -313,7 +314,7 @@ fn check_scalar(faults: FaultTable, count: usize, body: &[u8]) -> Result<(), Err
     Ok(())
 }
 
-// A whole array or object.
+// Checks an array or object with its header.
 #[cycle(container)]
 fn check_container(faults: FaultTable, depth: usize, bytes: &[u8]) -> Result<(), Error>
     ensures { Tells faults result (HasPayload depth CONTAINER_TAG bytes.now) }
@@ -331,7 +332,7 @@ fn check_container(faults: FaultTable, depth: usize, bytes: &[u8]) -> Result<(),
     }
 }
 
-// The entry words and payloads of an array of that many items.
+// Checks the entry words and payloads of an array of `count` items.
 #[cycle(container)]
 fn check_array(faults: FaultTable, depth: usize, count: usize, body: &[u8]) -> Result<(), Error>
     requires { count < 2 ^ 29 }
@@ -344,7 +345,7 @@ fn check_array(faults: FaultTable, depth: usize, count: usize, body: &[u8]) -> R
     check_children(faults, depth, entries, payloads)
 }
 
-// The entry words and payloads of an object of that many pairs.
+// Checks the entry words and payloads of an object of `count` pairs.
 #[cycle(container)]
 fn check_object(faults: FaultTable, depth: usize, count: usize, body: &[u8]) -> Result<(), Error>
     requires { count < 2 ^ 29 }
@@ -364,7 +365,7 @@ fn check_object(faults: FaultTable, depth: usize, count: usize, body: &[u8]) -> 
     }
 }
 
-// An array's items or an object's values, the last parts of their container.
+// Checks an array's items or an object's values, which end their container.
 #[cycle(container)]
 fn check_children(
     faults: FaultTable,
@@ -390,15 +391,16 @@ fn check_children(
     }
 }
 
-// What was seen of an object's keys.
+// What checking an object's keys found.
 #[derive(Clone, Copy)]
 struct Keys<'a> {
-    // They are strings, and ascend strictly.
+    // The keys are strings and ascend strictly.
     ascend: bool,
     behind: &'a [u8],
 }
 
-// An object's keys. Their order is a fault only after the values' own faults, so it is answered.
+// Checks an object's keys. Bad key order is reported only if no value is faulty, so it is part of
+// the result and not an error.
 #[cycle(container)]
 fn check_keys<'a>(
     faults: FaultTable,
@@ -434,7 +436,7 @@ fn check_keys<'a>(
     })
 }
 
-// Whether a child can be the key that follows that one.
+// Whether a child with this type and payload can be the key after `before`.
 #[inline(always)]
 fn is_key_after(before: Option<&[u8]>, tag: u32, key: &[u8]) -> bool
     ensures { IsTrue result ↔ IsKeyAfter (option_map (λ b. b.now) before.entry) tag key.now }
@@ -446,7 +448,7 @@ fn is_key_after(before: Option<&[u8]>, tag: u32, key: &[u8]) -> bool
     ascends && tag == STRING_TAG
 }
 
-// Whether the bytes are below those. Mostly the first words tell.
+// Whether `left` is less than `right`. Usually their first words decide.
 #[inline(always)]
 fn is_below(left: &[u8], right: &[u8]) -> bool
     ensures { IsTrue result ↔ (slice_cmp nat_cmp left.now right.now ≡ Ordering.Less) }
@@ -457,7 +459,7 @@ fn is_below(left: &[u8], right: &[u8]) -> bool
     }
 }
 
-// The payload of an entry, and what stands behind it.
+// The payload of an entry, and the bytes after it.
 #[inline(always)]
 fn split_payload<'a>(
     faults: FaultTable,
@@ -477,7 +479,7 @@ fn split_payload<'a>(
     Ok(payloads.split_at(number))
 }
 
-// The payload of a key, which is hardly ever anything but a string.
+// Checks the payload of a key, which is almost always a string.
 #[cycle(container)]
 #[inline(always)]
 fn check_key(faults: FaultTable, depth: usize, tag: u32, payload: &[u8]) -> Result<(), Error>
@@ -490,7 +492,7 @@ fn check_key(faults: FaultTable, depth: usize, tag: u32, payload: &[u8]) -> Resu
     }
 }
 
-// The payload of an entry that stands for a key and is none.
+// Checks the payload of an entry in a key's position that is not a string.
 #[cycle(container)]
 #[cold]
 #[inline(never)]
@@ -500,7 +502,7 @@ fn check_no_key(faults: FaultTable, depth: usize, tag: u32, payload: &[u8]) -> R
     check_payload(faults, depth, tag, payload)
 }
 
-// The payload of an entry of this type.
+// Checks the payload of an entry of this type.
 #[cycle(container)]
 #[inline(always)]
 fn check_payload(faults: FaultTable, depth: usize, tag: u32, payload: &[u8]) -> Result<(), Error>
@@ -513,7 +515,7 @@ fn check_payload(faults: FaultTable, depth: usize, tag: u32, payload: &[u8]) -> 
     }
 }
 
-// The payload of an entry of this type, which is no container.
+// Checks the payload of an entry of this type, which is not a container.
 #[inline(always)]
 fn check_scalar_payload(faults: FaultTable, tag: u32, payload: &[u8]) -> Result<(), Error>
     requires { tag ≢ CONTAINER_TAG }
@@ -532,7 +534,7 @@ fn check_scalar_payload(faults: FaultTable, tag: u32, payload: &[u8]) -> Result<
     }
 }
 
-// The payload of a string. Most are ASCII, which is sooner told.
+// Checks the payload of a string. Most are ASCII, which is cheaper to check.
 #[inline(always)]
 fn check_text(faults: FaultTable, payload: &[u8]) -> Result<(), Error>
     ensures { Tells faults result (IsUtf8 payload.now) }
@@ -544,7 +546,7 @@ fn check_text(faults: FaultTable, payload: &[u8]) -> Result<(), Error>
     }
 }
 
-// The payload of a string that is not ASCII.
+// Checks the payload of a string that is not ASCII.
 #[inline(never)]
 fn check_utf8(faults: FaultTable, payload: &[u8]) -> Result<(), Error>
     ensures { Tells faults result (IsUtf8 payload.now) }

@@ -1,4 +1,4 @@
-//! Entry words, taken apart and put together.
+//! Decoding and encoding entry words.
 
 ghost use Rattle.std.specs.Prelude.{◌≡◌, ◌≤◌, ◌+◌, ◌%◌, ◌^◌, bit_and, bit_or};
 ghost use Rattle.std.specs.Ordering.{as_partial_cmp};
@@ -13,8 +13,8 @@ use crate::constants::{
 };
 use std::cmp::Ordering;
 
-/// The entry of a child: its type, and the length of its payload in bytes. Entries are ordered by
-/// type, then by length.
+/// An entry word: the type of a child, and the length of its payload in bytes. Entries are ordered
+/// by type, then by length.
 #[derive(Clone, Copy, Debug, PartialEq, Eq)]
 pub struct JEntry {
     pub type_code: u32,
@@ -24,14 +24,14 @@ pub struct JEntry {
 impl JEntry {
     ghost use Rattle.jsonb_codec.specs.JEntry.{jentry_of};
 
-    /// The entry in a word: type and length stand behind their masks, the top bit is passed over.
+    /// Decodes a word: its type and length are extracted by their masks, its top bit is ignored.
     #[inline(always)]
     pub fn decode_jentry(encoded: u32) -> JEntry
         ensures value { result ≡ jentry_of encoded }
         ensures type_code { result.type_code ≡ bit_and encoded JENTRY_TYPE_MASK }
         ensures length { result.length ≡ bit_and encoded JENTRY_OFF_LEN_MASK }
 
-        // Encoded again it is the word without its top bit.
+        // Encoding it again gives the word without its top bit.
         ensures again { bit_or result.type_code result.length ≡ encoded % 2 ^ 31 }
     {
         JEntry {
@@ -40,14 +40,14 @@ impl JEntry {
         }
     }
 
-    /// The word of this entry.
+    /// Encodes this entry as a word.
     pub fn encoded(&self) -> u32
         ensures { result ≡ bit_or self.now.type_code self.now.length }
     {
         self.type_code | self.length
     }
 
-    /// The entry of null.
+    /// An entry for null.
     pub fn make_null_jentry() -> JEntry
         ensures type_code { result.type_code ≡ NULL_TAG }
         ensures length { result.length ≡ 0 }
@@ -58,7 +58,7 @@ impl JEntry {
         }
     }
 
-    /// The entry of true.
+    /// An entry for true.
     pub fn make_true_jentry() -> JEntry
         ensures type_code { result.type_code ≡ TRUE_TAG }
         ensures length { result.length ≡ 0 }
@@ -69,7 +69,7 @@ impl JEntry {
         }
     }
 
-    /// The entry of false.
+    /// An entry for false.
     pub fn make_false_jentry() -> JEntry
         ensures type_code { result.type_code ≡ FALSE_TAG }
         ensures length { result.length ≡ 0 }
@@ -80,7 +80,7 @@ impl JEntry {
         }
     }
 
-    /// The entry of a string of this many bytes.
+    /// An entry for a string of this many bytes.
     pub fn make_string_jentry(length: usize) -> JEntry
         requires { length ≤ JENTRY_OFF_LEN_MASK }
         ensures type_code { result.type_code ≡ STRING_TAG }
@@ -92,7 +92,7 @@ impl JEntry {
         }
     }
 
-    /// The entry of a number whose payload has this many bytes.
+    /// An entry for a number whose payload has this many bytes.
     pub fn make_number_jentry(length: usize) -> JEntry
         requires { length ≤ JENTRY_OFF_LEN_MASK }
         ensures type_code { result.type_code ≡ NUMBER_TAG }
@@ -104,7 +104,7 @@ impl JEntry {
         }
     }
 
-    /// The entry of an array or object of this many bytes, its header included.
+    /// An entry for a nested array or object of this many bytes, its header included.
     pub fn make_container_jentry(length: usize) -> JEntry
         requires { length ≤ JENTRY_OFF_LEN_MASK }
         ensures type_code { result.type_code ≡ CONTAINER_TAG }
@@ -116,7 +116,7 @@ impl JEntry {
         }
     }
 
-    /// The entry of an extension value whose payload has this many bytes.
+    /// An entry for an extension value whose payload has this many bytes.
     pub fn make_extension_jentry(length: usize) -> JEntry
         requires { length ≤ JENTRY_OFF_LEN_MASK }
         ensures type_code { result.type_code ≡ EXTENSION_TAG }
@@ -150,7 +150,7 @@ impl Ord for JEntry {
 
     ghost matches_eq = { Prim.search (comparing, rules) };
 
-    /// The order of entries: by type, then by length.
+    /// Compares entries by type, then by length.
     fn cmp(&self, other: &Self) -> Ordering {
         self.type_code
             .cmp(&other.type_code)

@@ -1,4 +1,4 @@
-//! The binary form of JSON documents.
+//! The binary format of JSON documents: checking, decoding, encoding and the canonical form.
 #![tactic(auto)]
 
 mod canonical;
@@ -10,7 +10,7 @@ pub mod parts;
 mod reread;
 mod ser;
 mod word;
-mod writer;
+pub mod writer;
 
 pub use canonical::{
     append_canonical, append_canonical_document, is_canonical, is_canonical_document,
@@ -21,7 +21,3 @@ pub use jentry::JEntry;
 pub use reread::printed_text_laws;
 pub use ser::{Encoder, JsonAstEncoder};
 pub use word::{decode_header, read_header, read_jentry, read_word};
-pub use writer::append::append_document;
-pub use writer::code::{Code, Payload};
-pub use writer::source::Level;
-pub use writer::stored::{Stored, part_code};

@@ -1,10 +1,11 @@
-//! The parts of a document, one after another where they stand. Each keeps what it is, so that
-//! nothing is tested again.
+//! The parts of a checked document, one after another. Each part carries the proof of its check, so
+//! nothing is checked again.
 
 ghost use Rattle.std.specs.Prelude.{◌≡◌, ◌*◌, ◌<◌, ◌^◌, ℕ, List, length};
 ghost use Rattle.jsonb_value.specs.Tree.{Pairs};
 ghost use Rattle.jsonb_codec.specs.Doc.{Keys};
 ghost use Rattle.jsonb_codec.specs.Parts.{IsSomePayload, AreSomeChildren, AreSomeMembers};
+ghost use Rattle.jsonb_codec.specs.Parts.{IsSomeObject};
 
 use crate::constants::{
     ARRAY_CONTAINER_TAG, CONTAINER_TAG, EXTENSION_TAG, NUMBER_TAG, OBJECT_CONTAINER_TAG, STRING_TAG,
@@ -12,7 +13,7 @@ use crate::constants::{
 use crate::word::{split_entry, split_header};
 use jsonb_value::{ExtensionValue, Number};
 
-/// An entry's type, and its payload.
+/// The type of an entry, and its payload.
 #[derive(Clone, Copy, Debug)]
 pub struct Part<'a> {
     pub tag: u32,
@@ -21,7 +22,7 @@ pub struct Part<'a> {
 }
 
 /// Entry words and their payloads: those of an array's items, of an object's keys or of its values,
-/// or what is left of them.
+/// or a suffix of these.
 #[derive(Clone, Copy, Debug)]
 pub struct Children<'a> {
     pub entries: &'a [u8],
@@ -29,14 +30,23 @@ pub struct Children<'a> {
     ghost fact: { ∥ AreSomeChildren entries.now payloads.now ∥₁ },
 }
 
-/// The first child, and those behind it.
+/// The first child, and the children after it.
 #[derive(Clone, Copy, Debug)]
 pub struct Child<'a> {
     pub part: Part<'a>,
     pub behind: Children<'a>,
 }
 
-/// The members of an object: their keys, which ascend, and as many values.
+/// An object: how many members it has, and the bytes after its header. Where its values begin is not
+/// known yet.
+#[derive(Clone, Copy, Debug)]
+pub struct Object<'a> {
+    pub count: usize,
+    pub body: &'a [u8],
+    ghost fact: { ∥ IsSomeObject count body.now ∥₁ },
+}
+
+/// The members of an object: their ascending keys, and as many values.
 #[derive(Clone, Copy, Debug)]
 pub struct Members<'a> {
     pub keys: Children<'a>,
@@ -45,7 +55,7 @@ pub struct Members<'a> {
         values.entries.now values.payloads.now ∥₁ },
 }
 
-/// A key with its value, and the members behind it.
+/// A key with its value, and the members after it.
 #[derive(Clone, Copy, Debug)]
 pub struct Member<'a> {
     pub key: &'a str,
@@ -53,14 +63,15 @@ pub struct Member<'a> {
     pub behind: Members<'a>,
 }
 
-/// What an array or object holds.
+/// The content of an array or object.
 #[derive(Clone, Copy, Debug)]
 pub enum Contents<'a> {
     Array(Children<'a>),
-    Object(Members<'a>),
+    Object(Object<'a>),
 }
 
-/// The header word of an array or object, and its children: an object's keys, and then its values.
+/// The header word of an array or object, and its children; those of an object are its keys, then
+/// its values.
 #[derive(Clone, Copy, Debug)]
 pub struct Container<'a> {
     pub header: u32,
@@ -109,7 +120,7 @@ impl<'a> Part<'a> {
         value
     }
 
-    /// What the array or object holds.
+    /// The content of the array or object.
     #[inline(always)]
     pub fn contents(self) -> Contents<'a>
         requires { self.tag ≡ CONTAINER_TAG }
@@ -123,7 +134,10 @@ impl<'a> Part<'a> {
             let (entries, payloads) = header.rest.split_at(4 * header.number);
             Contents::Array(Children { entries, payloads })
         } else {
-            Contents::Object(Members::of_object(header.number, header.rest))
+            Contents::Object(Object {
+                count: header.number,
+                body: header.rest,
+            })
         }
     }
 
@@ -150,7 +164,7 @@ impl<'a> Part<'a> {
     }
 }
 
-// How many entry words stand behind a header. An object's keys have theirs before its values'.
+// The number of entry words after a header: an object has one for each key and one for each value.
 fn entry_words(tag: u32, count: usize) -> usize
     requires { count < 2 ^ 29 }
     ensures array { tag ≡ ARRAY_CONTAINER_TAG → result ≡ count }
@@ -171,7 +185,7 @@ impl<'a> Children<'a> {
     ghost use Rattle.jsonb_codec.specs.Contents.{AreChildren};
     ghost use Rattle.jsonb_codec.specs.Rewriting.{FirstChild};
 
-    /// The first child, and those behind it.
+    /// The first child, and the children after it. `None` if there is none.
     #[inline(always)]
     pub fn split_first(self) -> Option<Child<'a>>
         ensures first { IfSome result (λ c. (ts : Trees) → AreChildren ts self.entry
@@ -206,22 +220,22 @@ impl<'a> Children<'a> {
     }
 }
 
-impl<'a> Members<'a> {
-    ghost use Rattle.std.specs.Prelude.{◌≡◌, ◌+◌, ◌≤◌, length, IfSome, IfNone};
-    ghost use Rattle.jsonb_value.specs.Tree.{Pairs, no_pairs};
-    ghost use Rattle.jsonb_codec.specs.Contents.{AreMembers, FirstMember};
+impl<'a> Object<'a> {
+    ghost use Rattle.std.specs.Prelude.{◌≡◌, ◌+◌, ◌≤◌, length};
+    ghost use Rattle.jsonb_value.specs.Tree.{Pairs};
+    ghost use Rattle.jsonb_codec.specs.Contents.{AreMembers};
     ghost use Rattle.jsonb_codec.specs.Parts.{IsObject};
 
-    // Those of an object of that many, which stand behind its header.
+    /// The members. The lengths of all keys are added up, so this takes a step for each member.
     #[inline(always)]
-    fn of_object(count: usize, body: &'a [u8]) -> Self
-        requires { (ps : Pairs) × IsObject count body.now ps }
-        ensures members { (ps : Pairs) → IsObject count body.entry.now ps → AreMembers ps result }
+    pub fn members(self) -> Members<'a>
+        ensures members { (ps : Pairs) → IsObject self.entry.count self.entry.body.now ps
+            → AreMembers ps result }
         ensures inside { length result.values.entries.now + length result.values.payloads.now
-            ≤ length body.entry.now }
+            ≤ length self.entry.body.now }
     {
-        let (key_entries, behind) = body.split_at(4 * count);
-        let (value_entries, payloads) = behind.split_at(4 * count);
+        let (key_entries, behind) = self.body.split_at(4 * self.count);
+        let (value_entries, payloads) = behind.split_at(4 * self.count);
         let (keys, values) = payloads.split_at(keys_len(key_entries));
         Members {
             keys: Children {
@@ -234,8 +248,14 @@ impl<'a> Members<'a> {
             },
         }
     }
+}
 
-    /// The first member, and those behind it.
+impl<'a> Members<'a> {
+    ghost use Rattle.std.specs.Prelude.{◌≡◌, ◌+◌, ◌≤◌, length, IfSome, IfNone};
+    ghost use Rattle.jsonb_value.specs.Tree.{Pairs, no_pairs};
+    ghost use Rattle.jsonb_codec.specs.Contents.{AreMembers, FirstMember};
+
+    /// The first member, and the members after it. `None` if there is none.
     #[inline(always)]
     pub fn split_first(self) -> Option<Member<'a>>
         ensures first { IfSome result (λ m. (ps : Pairs) → AreMembers ps self.entry
@@ -265,7 +285,7 @@ impl<'a> Members<'a> {
     }
 }
 
-// How many bytes the keys of these entries take.
+// The total length of the keys with these entry words, in bytes.
 #[inline(always)]
 fn keys_len(entries: &[u8]) -> usize
     requires { length entries.now < 2 ^ 32 }

@@ -1,4 +1,4 @@
-//! What the texts of trees mean when they are read again.
+//! What the texts of trees mean when they are parsed.
 
 ghost use Rattle.std.specs.Prelude.{chars};
 ghost use Rattle.jsonb_value.specs.Plain.{IsPlain};
@@ -8,8 +8,9 @@ ghost use Rattle.jsonb_value.specs.WellFormed.{IsTree};
 ghost use Rattle.jsonb_codec.specs.Canon.{Fits};
 ghost use Rattle.jsonb_codec.specs.Reread.{MeansAgain};
 
-/// Printed text is read back: where a tree fits and holds no extension value, its compact text is
-/// a text of JSON and means a tree that fits and is `Equal` to it, and so does its pretty text.
+/// Printed texts can be parsed: if a tree fits the format and has no extension value, its compact
+/// text is a JSON text whose tree fits the format and compares `Equal` to it; the same holds for
+/// its pretty text.
 pub fn printed_text_laws()
     ensures compact { (t : Tree) → IsTree t → IsPlain t → Fits t
         → MeansAgain (chars (compact t)) t }

@@ -1,4 +1,4 @@
-//! Values, written as documents.
+//! Encoding values as documents.
 
 pub mod ast;
 pub mod value;
@@ -19,7 +19,7 @@ use ast::ast_level;
 use jsonb_value::{Error, JsonAst, Value};
 use value::value_level;
 
-/// Appends values to a buffer, each as its canonical document.
+/// Encodes values, appending the canonical document of each to a buffer.
 #[derive(Drop)]
 pub struct Encoder<'a> {
     buf: &'a mut Vec<u8>,
@@ -36,8 +36,8 @@ impl<'a> Encoder<'a> {
         Encoder { buf }
     }
 
-    /// The length of the value's canonical document in bytes. `InvalidJsonb` where a payload, a
-    /// key or a count is past its limit.
+    /// The length of the value's canonical document in bytes. `InvalidJsonb` if a payload or a key
+    /// is longer than 268,435,455 bytes, or a count exceeds 536,870,911.
     pub fn measure(value: &Value<'_>) -> Result<usize, Error>
         ensures len { IfOk result (λ m. m ≡ length (canon (tree_of value.now))) }
         ensures fits { IsOk result ↔ Fits (tree_of value.now) }
@@ -47,9 +47,10 @@ impl<'a> Encoder<'a> {
         measure_document::<&Value>(value_level(value))
     }
 
-    /// Appends the value's canonical document in one growth. `InvalidJsonb` where a payload, a key
-    /// or a count is past its limit, before memory is asked for, and else only `OutOfMemory`.
-    /// After a refusal the bytes of the buffer are as before.
+    /// Appends the value's canonical document with a single growth of the buffer. `InvalidJsonb`,
+    /// before any allocation, if a payload or a key is longer than 268,435,455 bytes, or a count
+    /// exceeds 536,870,911; `OutOfMemory` if the buffer cannot grow. After an error the bytes of
+    /// the buffer are unchanged.
     pub fn encode(&mut self, value: &Value<'_>) -> Result<(), Error>
         ensures same_buffer { (buffer self.new).ghost_name ≡ (buffer self.old).ghost_name }
         ensures appended { OnOk result
@@ -57,7 +58,7 @@ impl<'a> Encoder<'a> {
             ++ canon (tree_of value.now)) }
         ensures err { OnErr result ((buffer self.new).now.items ≡ (buffer self.old).now.items) }
 
-        // Which refusal comes: memory is asked for only where the value fits.
+        // Which error is returned: an allocation is attempted only if the value fits.
         ensures fits { OnOk result (Fits (tree_of value.now)) }
         ensures past { (result ≡ Err Error.InvalidJsonb) ↔ (Fits (tree_of value.now) → ⊥) }
         ensures memory { result ≡ Err Error.OutOfMemory → Fits (tree_of value.now) }
@@ -67,8 +68,8 @@ impl<'a> Encoder<'a> {
             ≤ vec_capacity (buffer self.old).now
             → IsOk result }
 
-        // The canonical document of a tree that fits means the tree with its zeros made one, and
-        // no other tree shares it.
+        // The canonical document of a tree that fits means the tree with signed zeros made
+        // unsigned; trees that differ in more than that have different canonical documents.
         ensures tree { OnOk result (IsTree (tree_of value.now)) }
         ensures means { (t : Tree) → IsTree t → Fits t → Doc (canon t) (norm t) }
         ensures told_apart { (t u : Tree) → IsTree t → IsTree u → Fits t → Fits u
@@ -78,7 +79,8 @@ impl<'a> Encoder<'a> {
     }
 }
 
-/// Appends values whose objects are lists of pairs, each as its canonical document.
+/// Encodes values whose objects are lists of pairs, appending the canonical document of each to a
+/// buffer.
 #[derive(Drop)]
 pub struct JsonAstEncoder<'a> {
     buf: &'a mut Vec<u8>,
@@ -95,8 +97,9 @@ impl<'a> JsonAstEncoder<'a> {
         JsonAstEncoder { buf }
     }
 
-    /// The length of the value's canonical document in bytes. Its keys must ascend
-    /// (`has_ascending_keys`). `InvalidJsonb` where a payload, a key or a count is past its limit.
+    /// The length of the value's canonical document in bytes. The keys of every object must ascend
+    /// (`has_ascending_keys`). `InvalidJsonb` if a payload or a key is longer than 268,435,455
+    /// bytes, or a count exceeds 536,870,911.
     pub fn measure(value: &JsonAst<'_>) -> Result<usize, Error>
         requires { AscendEverywhere (ast_tree value.now) }
         ensures len { IfOk result (λ m. m ≡ length (canon (ast_tree value.now))) }
@@ -107,10 +110,11 @@ impl<'a> JsonAstEncoder<'a> {
         measure_document::<&JsonAst>(ast_level(value))
     }
 
-    /// Appends the value's canonical document in one growth. Its keys must ascend
-    /// (`has_ascending_keys`). `InvalidJsonb` where a payload, a key or a count is past its limit,
-    /// before memory is asked for, and else only `OutOfMemory`. After a refusal the bytes of the
-    /// buffer are as before.
+    /// Appends the value's canonical document with a single growth of the buffer. The keys of every
+    /// object must ascend (`has_ascending_keys`). `InvalidJsonb`, before any allocation, if a
+    /// payload or a key is longer than 268,435,455 bytes, or a count exceeds 536,870,911;
+    /// `OutOfMemory` if the buffer cannot grow. After an error the bytes of the buffer are
+    /// unchanged.
     pub fn encode(&mut self, value: &JsonAst<'_>) -> Result<(), Error>
         requires { AscendEverywhere (ast_tree value.now) }
         ensures same_buffer { (ast_buffer self.new).ghost_name ≡ (ast_buffer self.old).ghost_name }
@@ -120,7 +124,7 @@ impl<'a> JsonAstEncoder<'a> {
         ensures err { OnErr result
             ((ast_buffer self.new).now.items ≡ (ast_buffer self.old).now.items) }
 
-        // Which refusal comes: memory is asked for only where the value fits.
+        // Which error is returned: an allocation is attempted only if the value fits.
         ensures fits { OnOk result (Fits (ast_tree value.now)) }
         ensures past { (result ≡ Err Error.InvalidJsonb) ↔ (Fits (ast_tree value.now) → ⊥) }
         ensures memory { result ≡ Err Error.OutOfMemory → Fits (ast_tree value.now) }
@@ -130,8 +134,8 @@ impl<'a> JsonAstEncoder<'a> {
             ≤ vec_capacity (ast_buffer self.old).now
             → IsOk result }
 
-        // The canonical document of a tree that fits means the tree with its zeros made one, and
-        // no other tree shares it.
+        // The canonical document of a tree that fits means the tree with signed zeros made
+        // unsigned; trees that differ in more than that have different canonical documents.
         ensures tree { OnOk result (IsTree (ast_tree value.now)) }
         ensures means { (t : Tree) → IsTree t → Fits t → Doc (canon t) (norm t) }
         ensures told_apart { (t u : Tree) → IsTree t → IsTree u → Fits t → Fits u

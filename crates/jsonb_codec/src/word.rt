@@ -1,4 +1,4 @@
-//! Words of 32 bits in bytes, read with a test of the bounds.
+//! Words of 32 bits, read from and written to bytes.
 
 ghost use Rattle.std.specs.Prelude.{◌≡◌, ◌+◌, ◌<◌, ◌%◌, ◌^◌, ◌++◌, length, IfSome, IfNone};
 ghost use Rattle.jsonb_codec.specs.Word.{word, word_at, header_of, header_at};
@@ -12,20 +12,20 @@ use crate::jentry::JEntry;
 use byteorder::{BigEndian, ByteOrder};
 use jsonb_value::Error;
 
-/// The big endian word whose first byte stands at the index. `InvalidEOF` where four bytes are not
-/// there.
+/// The big-endian word of four bytes at `index`. `InvalidEOF` if the bytes end before the word
+/// does.
 #[inline]
 pub fn read_word(bytes: &[u8], index: usize) -> Result<u32, Error>
     ensures { result ≡ word_at bytes.now index }
 {
-    // The last place is found without the index, so that a loop tests each word once.
+    // The last valid index does not depend on `index`, so a loop tests each word only once.
     if bytes.len() < 4 || bytes.len() - 4 < index {
         return Err(Error::InvalidEOF);
     }
     Ok(BigEndian::read_u32(&bytes[index..]))
 }
 
-/// The bytes of a word.
+/// The bytes of a word, most significant first.
 #[tactic(auto, unfolding(crate::specs::Word::word))]
 #[inline(always)]
 pub fn word_bytes(number: u32) -> [u8; 4]
@@ -36,9 +36,8 @@ pub fn word_bytes(number: u32) -> [u8; 4]
     bytes
 }
 
-/// The header whose first byte stands at the index: its kind, under the type mask, and its count.
-/// `InvalidEOF` where four bytes are not there, `InvalidJsonb` where the word names none of the
-/// three kinds.
+/// The header at `index`: its kind (an array, object or scalar tag) and its count. `InvalidEOF` if
+/// the bytes end before the word does, `InvalidJsonb` if it is of none of the three kinds.
 #[inline]
 pub fn read_header(bytes: &[u8], index: usize) -> Result<(u32, usize), Error>
     ensures { result ≡ header_at bytes.now index }
@@ -46,8 +45,8 @@ pub fn read_header(bytes: &[u8], index: usize) -> Result<(u32, usize), Error>
     decode_header(read_word(bytes, index)?)
 }
 
-/// The header that a word is: its kind, under the type mask, and its count. `InvalidJsonb` where
-/// the word names none of the three kinds.
+/// Decodes a header word: its kind (an array, object or scalar tag) and its count. `InvalidJsonb`
+/// if it is of none of the three kinds.
 #[inline]
 pub fn decode_header(header: u32) -> Result<(u32, usize), Error>
     ensures { result ≡ header_of header }
@@ -62,7 +61,7 @@ pub fn decode_header(header: u32) -> Result<(u32, usize), Error>
     }
 }
 
-/// The entry whose first byte stands at the index. `InvalidEOF` where four bytes are not there.
+/// The entry word at `index`. `InvalidEOF` if the bytes end before the word does.
 #[inline(always)]
 pub fn read_jentry(bytes: &[u8], index: usize) -> Result<JEntry, Error>
     ensures { result ≡ jentry_at bytes.now index }
@@ -70,7 +69,7 @@ pub fn read_jentry(bytes: &[u8], index: usize) -> Result<JEntry, Error>
     Ok(JEntry::decode_jentry(read_word(bytes, index)?))
 }
 
-/// A word that is a tag plus a number, and what follows it.
+/// A word that is the sum of a tag and a number, and the bytes after it.
 #[derive(Clone, Copy)]
 pub struct Tagged<'a> {
     pub tag: u32,
@@ -78,7 +77,8 @@ pub struct Tagged<'a> {
     pub rest: &'a [u8],
 }
 
-/// The word at the front, and what follows it.
+/// The word at the start of the bytes, and the bytes after it. `None` if there are fewer than four
+/// bytes.
 #[inline(always)]
 pub fn split_word(bytes: &[u8]) -> Option<(u32, &[u8])>
     ensures found { IfSome result (λ x. bytes.now ≡ word x.0 ++ x.1.now) }
@@ -91,7 +91,8 @@ pub fn split_word(bytes: &[u8]) -> Option<(u32, &[u8])>
     Some((BigEndian::read_u32(bytes), &bytes[4..]))
 }
 
-/// The entry word at the front: its type, and the length of its payload.
+/// The entry word at the start of the bytes: its type and the length of its payload. `None` if
+/// there are fewer than four bytes.
 #[inline(always)]
 pub fn split_entry(entries: &[u8]) -> Option<Tagged>
     ensures found { IfSome result
@@ -110,7 +111,8 @@ pub fn split_entry(entries: &[u8]) -> Option<Tagged>
     })
 }
 
-/// The header at the front: its kind, and the count of the children.
+/// The header at the start of the bytes: its kind and its count of children. `None` if there are
+/// fewer than four bytes.
 #[inline(always)]
 pub fn split_header(bytes: &[u8]) -> Option<Tagged>
     ensures found { IfSome result (λ x. bytes.now ≡ word (x.tag + x.number) ++ x.rest.now) }

@@ -1,7 +1,13 @@
-//! The writer: what is written of values, lists of pairs, parts of documents and items.
+//! Writing a document out of what is stored: a scalar, or an array or object of entries. The encoders
+//! and the canonical form write by it, and so do the builders of the crate above.
 
-pub mod append;
-pub mod code;
-pub mod measure;
-pub mod source;
-pub mod stored;
+pub(crate) mod append;
+pub(crate) mod code;
+pub(crate) mod measure;
+pub(crate) mod source;
+pub(crate) mod stored;
+
+pub use append::append_document;
+pub use code::{Code, Payload};
+pub use source::Level;
+pub use stored::{Stored, part_code};

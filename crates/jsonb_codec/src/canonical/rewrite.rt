@@ -1,4 +1,4 @@
-//! The canonical document of what a document means, written while the document is read.
+//! Writing the canonical form of a document while reading the document.
 
 ghost use Rattle.std.specs.Prelude.{◌≡◌, ◌≤◌, ◌+◌, ◌++◌, ◌↔◌, ◌⊎◌, length, vec_capacity};
 ghost use Rattle.std.specs.Prelude.{Err, IsOk, IfErr, OnOk, OnErr};
@@ -15,16 +15,16 @@ ghost use Rattle.jsonb_codec.specs.TreeShape.{shape_of};
 
 use crate::constants::{CONTAINER_TAG, EXTENSION_TAG, NUMBER_TAG};
 use crate::document::DocumentBytes;
-use crate::parts::{Child, Children, Contents, Member, Members, Part};
+use crate::parts::{Child, Children, Contents, Member, Members, Object, Part};
 use crate::writer::append::append_document;
 use crate::writer::code::{Code, Payload};
 use crate::writer::source::{Level, Source};
 use jsonb_value::Error;
 
-/// Appends the canonical document of the tree that the bytes mean, in one growth and without a
-/// tree built. `InvalidJsonb` where the bytes are no document, and where a payload of their tree
-/// is past its limit once it is written, before memory is asked for; else only `OutOfMemory`.
-/// After a refusal the bytes of the buffer are as before.
+/// Appends the canonical document of the value that the bytes mean, with a single growth of the
+/// buffer and without building a tree. `InvalidJsonb`, before any allocation, if the bytes are not
+/// a document, or a payload in an older form exceeds 268,435,455 bytes in its newer form;
+/// `OutOfMemory` if the buffer cannot grow. After an error the bytes of the buffer are unchanged.
 pub fn append_canonical(buf: &mut Vec<u8>, bytes: &[u8]) -> Result<(), Error>
     ensures document { OnOk result (IsDocument bytes.now) }
     ensures appended { OnOk result ((t : Tree) → Doc bytes.now t
@@ -32,7 +32,7 @@ pub fn append_canonical(buf: &mut Vec<u8>, bytes: &[u8]) -> Result<(), Error>
     ensures tree { OnOk result ((t : Tree) → Doc bytes.now t → IsTree t) }
     ensures err { OnErr result (buf.new.items ≡ buf.old.items) }
 
-    // Which refusal comes: memory is asked for only where the tree fits.
+    // Which error is returned: an allocation is attempted only if the canonical document exists.
     ensures past { (result ≡ Err Error.InvalidJsonb)
         ↔ ((t : Tree) → Doc bytes.now t → Fits t → ⊥) }
     ensures memory { result ≡ Err Error.OutOfMemory → (t : Tree) × (Doc bytes.now t × Fits t) }
@@ -46,8 +46,10 @@ pub fn append_canonical(buf: &mut Vec<u8>, bytes: &[u8]) -> Result<(), Error>
     append_canonical_document(buf, document)
 }
 
-/// The same of a document that was checked: `InvalidJsonb` comes only where a payload of its tree
-/// is past its limit once it is written.
+/// Appends the canonical document of a checked document's value, with a single growth of the buffer
+/// and without building a tree. `InvalidJsonb`, before any allocation, if a payload in an older
+/// form exceeds 268,435,455 bytes in its newer form; `OutOfMemory` if the buffer cannot grow. After
+/// an error the bytes of the buffer are unchanged.
 pub fn append_canonical_document(
     buf: &mut Vec<u8>,
     document: DocumentBytes<'_>,
@@ -66,9 +68,9 @@ pub fn append_canonical_document(
     append_document::<Part>(buf, part_level(document.part()))
 }
 
-type PartLevel<'a> = Level<Code<'a>, Children<'a>, Members<'a>>;
+type PartLevel<'a> = Level<Code<'a>, Children<'a>, Object<'a>>;
 
-// A number or an extension value is read, and is written in its shortest form.
+// Numbers and extension values are decoded and written in their shortest form.
 #[inline(always)]
 fn part_level<'a>(part: Part<'a>) -> PartLevel<'a>
     ensures is { (t : Tree) → Means part.entry t → Is code_of part_meaning result (shape_of t) }
@@ -80,7 +82,7 @@ fn part_level<'a>(part: Part<'a>) -> PartLevel<'a>
         EXTENSION_TAG => Payload::Extension(part.extension()),
         CONTAINER_TAG => match part.contents() {
             Contents::Array(items) => return Level::Array(items),
-            Contents::Object(members) => return Level::Object(members),
+            Contents::Object(object) => return Level::Object(object),
         },
         _ => Payload::Bytes(part.payload),
     };
@@ -94,7 +96,7 @@ impl<'a> Source for Part<'a> {
 
     type Items = Children<'a>;
 
-    type Object = Members<'a>;
+    type Object = Object<'a>;
 
     type Members = Members<'a>;
 
@@ -107,7 +109,7 @@ impl<'a> Source for Part<'a> {
         part_level(child)
     }
 
-    // About as long as it stands there.
+    // The canonical payload is about as long as the present one.
     #[inline(always)]
     fn guess(child: Part<'a>) -> Option<usize> {
         Some(child.payload.len())
@@ -125,8 +127,13 @@ impl<'a> Source for Part<'a> {
     }
 
     #[inline(always)]
-    fn members(object: Members<'a>) -> Members<'a> {
-        object
+    fn object_count(object: Object<'a>) -> usize {
+        object.count
+    }
+
+    #[inline(always)]
+    fn members(object: Object<'a>) -> Members<'a> {
+        object.members()
     }
 
     #[inline(always)]

@@ -1,4 +1,4 @@
-//! Values whose objects are lists of pairs, one level at a time.
+//! Values whose objects are lists of pairs, as a source of the writer.
 
 ghost use Rattle.std.specs.Prelude.{◌<◌};
 ghost use Rattle.jsonb_value.specs.Ast.{ast_tree, AscendEverywhere};
@@ -14,7 +14,7 @@ use crate::writer::source::{Level, Source};
 use jsonb_value::JsonAst;
 use std::borrow::CowStr;
 
-/// The members of an object that a walk has left.
+/// The members of an object that were not visited yet.
 #[derive(Clone, Copy)]
 pub struct Pairs<'s, 'a> {
     pub left: &'s [(CowStr<'a>, JsonAst<'a>, usize)],
@@ -22,9 +22,10 @@ pub struct Pairs<'s, 'a> {
 
 type Member<'s, 'a> = (Scalar<'s>, (&'s JsonAst<'a>, Pairs<'s, 'a>));
 
+/// The top level of a value, as the writer visits it.
 pub type AstLevel<'s, 'a> = Level<Scalar<'s>, &'s [JsonAst<'a>], Pairs<'s, 'a>>;
 
-/// One level of a value.
+/// The top level of a value.
 #[inline(always)]
 pub fn ast_level<'s, 'a>(value: &'s JsonAst<'a>) -> AstLevel<'s, 'a>
     ensures is { Is scalar_code ast_meaning result (shape_of (ast_tree value.now)) }
@@ -80,6 +81,11 @@ impl<'s, 'a> Source for &'s JsonAst<'a> {
             [first, rest @ ..] => Some((first, rest)),
             [] => None,
         }
+    }
+
+    #[inline(always)]
+    fn object_count(object: Pairs<'s, 'a>) -> usize {
+        object.left.len()
     }
 
     #[inline(always)]

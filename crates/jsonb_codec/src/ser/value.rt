@@ -1,4 +1,4 @@
-//! Values, one level at a time.
+//! Values as a source of the writer.
 
 ghost use Rattle.std.specs.Prelude.{◌<◌};
 ghost use Rattle.jsonb_value.specs.Value.{tree_of};
@@ -18,9 +18,10 @@ type Members<'s, 'a> = btree_map::Iter<'s, String, Value<'a>>;
 
 type Member<'s, 'a> = (Scalar<'s>, (&'s Value<'a>, Members<'s, 'a>));
 
+/// The top level of a value, as the writer visits it.
 pub type ValueLevel<'s, 'a> = Level<Scalar<'s>, &'s [Value<'a>], &'s Object<'a>>;
 
-/// One level of a value.
+/// The top level of a value.
 #[inline(always)]
 pub fn value_level<'s, 'a>(value: &'s Value<'a>) -> ValueLevel<'s, 'a>
     ensures is { Is scalar_code value_meaning result (shape_of (tree_of value.now)) }
@@ -84,6 +85,11 @@ impl<'s, 'a> Source for &'s Value<'a> {
     }
 
     #[inline(always)]
+    fn object_count(object: &'s Object<'a>) -> usize {
+        object.len()
+    }
+
+    #[inline(always)]
     fn members(object: &'s Object<'a>) -> Members<'s, 'a> {
         object.iter()
     }
@@ -101,7 +107,7 @@ impl<'s, 'a> Source for &'s Value<'a> {
         members
     }
 
-    // Where the walk has ended is cheaper to see by its length than by a look for a next leaf.
+    // Comparing the length detects the end more cheaply than searching for the next leaf.
     #[tactic(auto, using(crate::proofs::ValueShapes::size_positive))]
     #[inline(always)]
     fn split_member(mut members: Members<'s, 'a>) -> Option<Member<'s, 'a>> {

@@ -1,8 +1,9 @@
-//! Documents, written front to back into a buffer with room for all of it.
+//! Writing a document front to back into a buffer with enough capacity for all of it.
 //!
-//! An entry word comes before what it stands for, so a payload's length is to be known when its
-//! entry is written, and is read back from there when the payload is. The length of a container
-//! child is found from that of the container round it, and not measured again whole.
+//! An entry word precedes its payload, so a payload's length must be known when its entry word is
+//! written; it is read back from there when the payload is written. The length of a nested
+//! container is derived from that of the enclosing container, to avoid measuring it again
+//! completely.
 
 ghost use Rattle.std.specs.Prelude.{◌≡◌, ◌<◌, ◌≤◌, ◌+◌, ◌++◌, ◌^◌, ◌⊎◌, ◌↔◌, ℕ, length};
 ghost use Rattle.std.specs.Prelude.{vec_capacity};
@@ -25,13 +26,12 @@ use crate::constants::{
 use crate::word::{read_word, word_bytes};
 use jsonb_value::Error;
 
-// In so many levels each container child is measured at once: a document that is wide and not deep
-// gains nothing by limits.
+// The top levels are measured without limits: limits do not help wide, shallow documents.
 const PLAIN_LEVELS: usize = 4;
 
-/// Appends the document in one growth. `InvalidJsonb` where the value does not fit, before memory
-/// is asked for, and else only `OutOfMemory`. After a refusal the bytes of the buffer are as
-/// before.
+/// Appends the document with a single growth of the buffer. `InvalidJsonb`, before any allocation,
+/// if the value does not fit the format; `OutOfMemory` if the buffer cannot grow. After an error
+/// the bytes of the buffer are unchanged.
 pub fn append_document<S: Source>(
     buf: &mut Vec<u8>,
     level: Level<S::Leaf, S::Items, S::Object>,
@@ -63,7 +63,7 @@ pub fn append_document<S: Source>(
     Ok(())
 }
 
-/// Appends the bytes as they are.
+/// Appends these bytes. The buffer must have the capacity.
 #[inline(always)]
 pub fn append_bytes(out: &mut Vec<u8>, bytes: &[u8])
     requires { HasRoom out.old bytes.now }
@@ -74,7 +74,7 @@ pub fn append_bytes(out: &mut Vec<u8>, bytes: &[u8])
     };
 }
 
-/// Appends one word.
+/// Appends one word. The buffer must have the capacity.
 #[tactic(auto, unfolding(crate::specs::Word::word))]
 #[inline(always)]
 pub fn append_word(out: &mut Vec<u8>, number: u32)
@@ -84,7 +84,7 @@ pub fn append_word(out: &mut Vec<u8>, number: u32)
     append_bytes(out, &word_bytes(number));
 }
 
-// The length in a container's entry word that was written at the index.
+// The length in the container's entry word that was written at index `entry`.
 #[inline(always)]
 fn entry_size(out: &Vec<u8>, entry: usize) -> usize
     requires { (n : ℕ) × ((n < 2 ^ 28) × Stands entry (word (CONTAINER_TAG + n)) out.now.items) }
@@ -97,7 +97,7 @@ fn entry_size(out: &Vec<u8>, entry: usize) -> usize
     (word & JENTRY_OFF_LEN_MASK) as usize
 }
 
-// The payload of an array, which has that length.
+// Appends the payload of an array, which has `size` bytes.
 #[cycle(append)]
 fn append_array<S: Source>(out: &mut Vec<u8>, items: S::Items, size: usize, plain_levels: usize)
     requires { (ss : Shapes) × (S.meaning.items items ss
@@ -112,7 +112,7 @@ fn append_array<S: Source>(out: &mut Vec<u8>, items: S::Items, size: usize, plai
     append_items::<S>(out, items, words, plain_levels.saturating_sub(1));
 }
 
-// The payload of an object, which has that length.
+// Appends the payload of an object, which has `size` bytes.
 #[cycle(append)]
 fn append_object<S: Source>(out: &mut Vec<u8>, object: S::Object, size: usize, plain_levels: usize)
     requires { (ss : Shapes) × (S.meaning.object object ss
@@ -123,19 +123,14 @@ fn append_object<S: Source>(out: &mut Vec<u8>, object: S::Object, size: usize, p
     let members = S::members(object);
     let count = S::members_left(&members);
     append_word(out, OBJECT_CONTAINER_TAG + count as u32);
-    append_key_entries::<S>(out, members);
+    append_key_entries::<S>(out, S::again(&members));
     let words = out.len();
-    append_value_entries::<S>(out, S::members(object), size - 4 - 8 * count, plain_levels);
-    append_keys::<S>(out, S::members(object));
-    append_values::<S>(
-        out,
-        S::members(object),
-        words,
-        plain_levels.saturating_sub(1),
-    );
+    append_value_entries::<S>(out, S::again(&members), size - 4 - 8 * count, plain_levels);
+    append_keys::<S>(out, S::again(&members));
+    append_values::<S>(out, members, words, plain_levels.saturating_sub(1));
 }
 
-// The entry words of items, whose payloads have that length in all.
+// Appends the entry words of items, whose payloads have `size` bytes in total.
 #[inline(always)]
 fn append_item_entries<S: Source>(
     out: &mut Vec<u8>,
@@ -162,7 +157,8 @@ fn append_item_entries<S: Source>(
     }
 }
 
-// The entry words of values, which take with their keys that length in all.
+// Appends the entry words of values, whose payloads have `size` bytes in total, together with their
+// keys.
 #[inline(always)]
 fn append_value_entries<S: Source>(
     out: &mut Vec<u8>,
@@ -190,7 +186,7 @@ fn append_value_entries<S: Source>(
     }
 }
 
-// The entry word of a leaf. The length of its payload.
+// Appends the entry word of a leaf; returns its payload length.
 #[inline(always)]
 fn append_leaf_entry<L: Leaf>(out: &mut Vec<u8>, leaf: L) -> usize
     requires short { length (L.code leaf).1 < 2 ^ 28 }
@@ -204,7 +200,7 @@ fn append_leaf_entry<L: Leaf>(out: &mut Vec<u8>, leaf: L) -> usize
     size
 }
 
-// The entry word of a container, whose payload has that length, which is answered.
+// Appends a container's entry word; returns its payload length.
 #[inline(always)]
 fn append_container_entry(out: &mut Vec<u8>, size: usize) -> usize
     requires short { size < 2 ^ 28 }
@@ -216,7 +212,7 @@ fn append_container_entry(out: &mut Vec<u8>, size: usize) -> usize
     size
 }
 
-// The entry words of keys.
+// Appends the entry words of keys.
 #[inline(always)]
 fn append_key_entries<S: Source>(out: &mut Vec<u8>, members: S::Members)
     requires { (ss : Shapes) × (S.meaning.members members ss
@@ -231,7 +227,7 @@ fn append_key_entries<S: Source>(out: &mut Vec<u8>, members: S::Members)
     }
 }
 
-// The keys.
+// Appends the keys.
 #[inline(always)]
 fn append_keys<S: Source>(out: &mut Vec<u8>, members: S::Members)
     requires { (ss : Shapes) × (S.meaning.members members ss
@@ -246,7 +242,7 @@ fn append_keys<S: Source>(out: &mut Vec<u8>, members: S::Members)
     }
 }
 
-// The payloads of items, whose entry words stand from the index on.
+// Appends the payloads of items, whose entry words are at index `words`.
 #[cycle(append)]
 #[inline(always)]
 fn append_items<S: Source>(out: &mut Vec<u8>, items: S::Items, words: usize, plain_levels: usize)
@@ -264,7 +260,7 @@ fn append_items<S: Source>(out: &mut Vec<u8>, items: S::Items, words: usize, pla
     }
 }
 
-// The payloads of values, whose entry words stand from the index on.
+// Appends the payloads of values, whose entry words are at index `words`.
 #[cycle(append)]
 #[inline(always)]
 fn append_values<S: Source>(
@@ -287,7 +283,7 @@ fn append_values<S: Source>(
     }
 }
 
-// The payload of a child, whose entry word stands at the index.
+// Appends the payload of a child, whose entry word is at index `entry`.
 #[cycle(append)]
 #[inline(always)]
 fn append_child<S: Source>(out: &mut Vec<u8>, child: S::Child, entry: usize, plain_levels: usize)

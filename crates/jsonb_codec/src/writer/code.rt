@@ -1,4 +1,4 @@
-//! With what values are stored: the type of an entry, and its payload.
+//! The stored form of values: the type of an entry, and its payload.
 
 ghost use Rattle.std.specs.Prelude.{◌≡◌, ◌≤◌, ◌<◌, ◌^◌, [], length};
 ghost use Rattle.std.specs.Str.{IsUtf8};
@@ -12,7 +12,7 @@ use super::source::Leaf;
 use crate::constants::{EXTENSION_TAG, FALSE_TAG, NULL_TAG, NUMBER_TAG, STRING_TAG, TRUE_TAG};
 use jsonb_value::{ExtensionValue, Number};
 
-/// A payload: bytes that stand somewhere, or a value that is yet to be written.
+/// A payload: bytes that exist already, or a value to be encoded.
 #[derive(Clone, Copy)]
 pub enum Payload<'a> {
     Bytes(&'a [u8]),
@@ -20,7 +20,7 @@ pub enum Payload<'a> {
     Extension(ExtensionValue<'a>),
 }
 
-/// With what a value is stored: the type of its entry, and its payload.
+/// The stored form of a value: the type of its entry, and its payload.
 #[derive(Clone, Copy)]
 pub struct Code<'a> {
     pub type_code: u32,
@@ -31,7 +31,7 @@ pub struct Code<'a> {
 impl<'a> Code<'a> {
     ghost use Rattle.jsonb_codec.specs.Code.{code_of};
 
-    /// What has a type alone.
+    /// An entry that has only a type, and no payload.
     #[inline(always)]
     pub fn of_type(type_code: u32) -> Code<'a>
         requires { type_code ≤ 0x70000000 }
@@ -41,7 +41,7 @@ impl<'a> Code<'a> {
         Code { type_code, payload }
     }
 
-    /// A text, or a key. What a program holds is within its type: a text is UTF-8,
+    /// The stored entry of a text or a key. Every `&str` is UTF-8.
     #[inline(always)]
     pub fn of_text(text: &'a str) -> Code<'a>
         ensures code { code_of result ≡ (STRING_TAG, text.now) }
@@ -97,7 +97,7 @@ pub enum Scalar<'a> {
 impl<'a> Scalar<'a> {
     ghost use Rattle.jsonb_codec.specs.Code.{scalar_code};
 
-    /// A text, or a key. What a program holds is within its type: a text is UTF-8,
+    /// A text or a key. Every `&str` is UTF-8.
     #[inline(always)]
     pub fn text(text: &'a str) -> Self
         ensures code { scalar_code result ≡ (STRING_TAG, text.now) }
@@ -106,7 +106,7 @@ impl<'a> Scalar<'a> {
         Scalar::Text(text)
     }
 
-    /// a number within its width,
+    /// A number; its value fits its type.
     #[inline(always)]
     pub fn number(number: &'a Number) -> Self
         ensures code { scalar_code result ≡ (NUMBER_TAG, number_payload number.now) }
@@ -116,7 +116,7 @@ impl<'a> Scalar<'a> {
         Scalar::Number(number)
     }
 
-    /// and so are the fields of an extension value.
+    /// An extension value; its fields fit their types.
     #[inline(always)]
     pub fn extension(value: ExtensionValue<'a>) -> Self
         ensures code { scalar_code result
@@ -132,7 +132,7 @@ fn within_width(number: Number)
     ensures { IsNumber number }
 {}
 
-// Appends a number's payload.
+// Appends a number's payload. The buffer must have the capacity.
 #[inline(always)]
 fn append_number(out: &mut Vec<u8>, number: Number)
     requires { HasRoom out.old (number_payload number) }
@@ -143,7 +143,7 @@ fn append_number(out: &mut Vec<u8>, number: Number)
     };
 }
 
-// Appends an extension value's payload.
+// Appends an extension value's payload. The buffer must have the capacity.
 fn append_extension(out: &mut Vec<u8>, value: ExtensionValue<'_>)
     requires fits { length (extension_payload (extension_of value)) < 2 ^ 28 }
     requires room { HasRoom out.old (extension_payload (extension_of value)) }

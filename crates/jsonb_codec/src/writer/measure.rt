@@ -1,9 +1,10 @@
 //! How many bytes are written.
 //!
-//! A measure goes on from a start, and ends before a container that begins past a limit. A
-//! container child and all behind it are measured in turn, up to limits that grow, and the one that
-//! ends first tells the other by what is left. So at each level the work is at most a fixed
-//! multiple of all children but the largest, and a document takes time n log n.
+//! A measure continues from a start, and ends before a container whose children would begin past a
+//! limit. An object's members are located only within the limit, since that may take a step for each
+//! of them. A container child and its later siblings are measured in turn, up to limits that grow;
+//! the length of whichever ends second is what remains of the whole. So at each level the work is at
+//! most a fixed multiple of all children but the largest, and a document takes time n log n.
 
 ghost use Rattle.std.specs.Prelude.{◌≡◌, ◌≤◌, ◌<◌, ◌+◌, ◌^◌, length, IfSome, IfNone, OnSome};
 ghost use Rattle.std.specs.Prelude.{IfOk, IfErr, OnOk, OnErr};
@@ -16,17 +17,17 @@ ghost use Rattle.jsonb_codec.specs.Writing.{TakesLeft};
 use super::source::{Leaf, Level, Source};
 use jsonb_value::Error;
 
-/// The longest payload that an entry can have.
+/// The greatest length of a payload that an entry word can hold.
 pub const MAX_PAYLOAD: usize = 0x0FFFFFFF;
 
 const MAX_COUNT: usize = 0x1FFFFFFF;
 
-// What fits is shorter.
+// Greater than the length of anything that fits.
 const NO_LIMIT: usize = 1 << 60;
 
 const FIRST_LIMIT: usize = 32;
 
-/// The length of the document. `InvalidJsonb` where the value does not fit.
+/// The length of the document in bytes. `InvalidJsonb` if the value does not fit the format.
 #[inline(always)]
 pub fn measure_document<S: Source>(
     level: Level<S::Leaf, S::Items, S::Object>,
@@ -46,7 +47,7 @@ pub fn measure_document<S: Source>(
     end.ok_or(Error::InvalidJsonb)
 }
 
-// Where a payload of that length ends, or none if no entry can have it.
+// The end of a payload of this length, `None` if no entry word can hold the length.
 #[inline(always)]
 fn entry_end(start: usize, size: usize) -> Option<usize>
     requires { start ≤ 2 ^ 61 }
@@ -59,7 +60,7 @@ fn entry_end(start: usize, size: usize) -> Option<usize>
     Some(start + size)
 }
 
-// Where the payload of a child ends, or none where it does not fit, or ends past the limit.
+// The end of the payload of a child, `None` if it does not fit or ends beyond the limit `most`.
 #[cycle(measure)]
 #[inline(always)]
 fn measure_child<S: Source>(
@@ -99,7 +100,11 @@ fn measure_array<S: Source>(items: S::Items, start: usize, most: usize) -> Optio
     if count > MAX_COUNT {
         return None;
     }
-    measure_items::<S>(items, start + 4 + 4 * count, most)
+    let first = start + 4 + 4 * count;
+    if first > most {
+        return None;
+    }
+    measure_items::<S>(items, first, most)
 }
 
 #[cycle(measure)]
@@ -113,19 +118,23 @@ fn measure_object<S: Source>(object: S::Object, start: usize, most: usize) -> Op
     ensures none { IfNone result ((ss : Shapes) → S.meaning.object object ss
         → FitsInside (shapes.object ss) → most < start + length (payload (shapes.object ss))) }
 {
-    let members = S::members(object);
-    let count = S::members_left(&members);
+    let count = S::object_count(object);
     if count > MAX_COUNT {
         return None;
     }
-    measure_members::<S>(members, start + 4 + 8 * count, most)
+    let first = start + 4 + 8 * count;
+    if first > most {
+        return None;
+    }
+    measure_members::<S>(S::members(object), first, most)
 }
 
-// Where the payloads of items end.
+// The end of the payloads of items, `None` if they do not fit or end beyond the limit `most`.
 #[cycle(measure)]
 #[inline(always)]
 fn measure_items<S: Source>(items: S::Items, start: usize, most: usize) -> Option<usize>
     requires are { (ss : Shapes) × (S.meaning.items items ss × (count ss < 2 ^ 29)) }
+    requires start { start ≤ most }
     requires most { most ≤ 2 ^ 60 }
     ensures some { IfSome result (λ end. (ss : Shapes) → S.meaning.items items ss
         → AllFit ss × (end ≡ start + body ss)) }
@@ -133,9 +142,6 @@ fn measure_items<S: Source>(items: S::Items, start: usize, most: usize) -> Optio
     ensures none { IfNone result ((ss : Shapes) → S.meaning.items items ss → AllFit ss
         → most < start + body ss) }
 {
-    if start > most {
-        return None;
-    }
     let mut end = start;
     let mut left = items;
     while let Some((item, others)) = S::split_item(left) {
@@ -145,11 +151,13 @@ fn measure_items<S: Source>(items: S::Items, start: usize, most: usize) -> Optio
     Some(end)
 }
 
-// Where the keys and payloads of members end.
+// The end of the keys and the payloads of members, `None` if they do not fit or end beyond the
+// limit `most`.
 #[cycle(measure)]
 #[inline(always)]
 fn measure_members<S: Source>(members: S::Members, start: usize, most: usize) -> Option<usize>
     requires are { (ss : Shapes) × (S.meaning.members members ss × (count ss < 2 ^ 29)) }
+    requires start { start ≤ most }
     requires most { most ≤ 2 ^ 60 }
     ensures some { IfSome result (λ end. (ss : Shapes) → S.meaning.members members ss
         → AllFit ss × (end ≡ start + body ss)) }
@@ -157,9 +165,6 @@ fn measure_members<S: Source>(members: S::Members, start: usize, most: usize) ->
     ensures none { IfNone result ((ss : Shapes) → S.meaning.members members ss → AllFit ss
         → most < start + body ss) }
 {
-    if start > most {
-        return None;
-    }
     let mut end = start;
     let mut left = members;
     while let Some((key, (value, others))) = S::split_member(left) {
@@ -170,8 +175,9 @@ fn measure_members<S: Source>(members: S::Members, start: usize, most: usize) ->
     Some(end)
 }
 
-/// The length of a container's payload that is an item. `left` is what it takes with those behind
-/// it. In so many levels from here on it is measured at once.
+/// The payload length of a container that is an array's item. `left`: the total size of this item
+/// and its later siblings. `plain_levels`: the number of levels from here that are measured without
+/// limits.
 #[inline(always)]
 pub fn item_size<S: Source>(
     item: S::Child,
@@ -191,7 +197,9 @@ pub fn item_size<S: Source>(
     item_size_by_limits::<S>(container, behind, left, limit)
 }
 
-/// The same of a member's value; those behind it take their keys, too.
+/// The payload length of a container that is an object's value. `left`: the total size of this
+/// value, its later siblings and their keys. `plain_levels`: the number of levels from here that
+/// are measured without limits.
 #[inline(always)]
 pub fn value_size<S: Source>(
     value: S::Child,
@@ -211,7 +219,8 @@ pub fn value_size<S: Source>(
     value_size_by_limits::<S>(container, S::again(behind), left, limit)
 }
 
-// By a guess the shorter of the two is measured at once, and so is a child of the topmost levels.
+// The first limit: with a guess, the smaller of the child and its later siblings, which is then
+// measured at once; without a guess no limit in the top levels, and a small one below them.
 fn first_limit(guess: Option<usize>, left: usize, plain_levels: usize) -> usize
     ensures { 0 < result }
 {
@@ -222,7 +231,7 @@ fn first_limit(guess: Option<usize>, left: usize, plain_levels: usize) -> usize
     }
 }
 
-// The length of a child's payload, by limits that grow.
+// The payload length of a container, by measuring it and its later siblings up to growing limits.
 #[inline(never)]
 fn item_size_by_limits<S: Source>(
     item: Level<S::Leaf, S::Items, S::Object>,
@@ -273,7 +282,7 @@ fn value_size_by_limits<S: Source>(
     child_size::<S>(value)
 }
 
-// The length of a child's payload.
+// The payload length of a child, measured completely.
 #[inline(always)]
 fn child_size<S: Source>(child: Level<S::Leaf, S::Items, S::Object>) -> usize
     requires { (s : Shape) × (Is S.Leaf.code S.meaning child s × FitsEntry s) }

@@ -1,4 +1,4 @@
-//! What the writer asks of what it writes: one level at a time.
+//! The interface between the writer and what it writes, one level at a time.
 
 ghost use Rattle.std.specs.Prelude.{◌≡◌, ◌<◌, ◌≤◌, ◌+◌, ◌^◌, ℕ, List, [], length, IfSome};
 ghost use Rattle.std.specs.Prelude.{MatchOption};
@@ -7,27 +7,27 @@ ghost use Rattle.jsonb_codec.specs.Room.{HasRoom, AppendsBytes};
 ghost use Rattle.jsonb_codec.specs.Shape.{Shape, Shapes, no_shapes, count};
 ghost use Rattle.jsonb_codec.specs.Source.{Meaning, Laws, Is, AreSplit, level_size, LevelHeld};
 
-/// What is written as it is.
+/// A scalar with a type and a payload.
 pub trait Leaf: Copy {
     ghost code: { Self → ℕ × List ℕ };
 
-    /// The type of its entry.
+    /// The type of the entry.
     fn type_code(self) -> u32
         ensures value { result ≡ (code self).0 }
         ensures small { result ≤ 0x70000000 };
 
-    /// How many bytes its payload has.
+    /// The length of the payload in bytes.
     fn len(self) -> usize
         ensures { result ≡ length (code self).1 };
 
-    /// Appends its payload.
+    /// Appends the payload. The buffer must have the capacity.
     fn append_to(self, out: &mut Vec<u8>)
         requires short { length (code self).1 < 2 ^ 28 }
         requires room { HasRoom out.old (code self).1 }
         ensures { AppendsBytes out.old out.new (code self).1 };
 }
 
-/// A value's kind, and what stands one level below it.
+/// The kind of a value, and its content one level down.
 #[derive(Clone, Copy)]
 pub enum Level<L, I, O> {
     Leaf(L),
@@ -35,7 +35,7 @@ pub enum Level<L, I, O> {
     Object(O),
 }
 
-/// Values of one type, each of which shows one level of itself.
+/// Values of one type, which the writer visits level by level.
 pub trait Source {
     type Leaf: Leaf;
 
@@ -51,22 +51,22 @@ pub trait Source {
 
     ghost laws: { Laws meaning };
 
-    /// One level of a child.
+    /// The top level of a child.
     fn level(child: Self::Child) -> Level<Self::Leaf, Self::Items, Self::Object>
         requires { (s : Shape) × meaning.child child s }
         ensures is { (s : Shape) → meaning.child child s → Is Self.Leaf.code meaning result s }
         ensures size { level_size meaning result ≤ meaning.child_size child }
         ensures held { LevelHeld meaning result → meaning.child_held child };
 
-    /// About how long a child is written, where that is known at once. It is a guess, by which the
-    /// writer chooses what to measure first.
+    /// The approximate length of a child's payload, if it is known without measuring. Only a hint,
+    /// by which the writer chooses what to measure first.
     fn guess(child: Self::Child) -> Option<usize>;
 
-    /// How many items there are.
+    /// The number of items.
     fn count(items: Self::Items) -> usize
         ensures { (ss : Shapes) → meaning.items items ss → result ≡ count ss };
 
-    /// The first item, and the others.
+    /// The first item, and the items after it. `None` if there is none.
     fn split_item(items: Self::Items) -> Option<(Self::Child, Self::Items)>
         requires { (ss : Shapes) × meaning.items items ss }
         ensures split { (ss : Shapes) → meaning.items items ss → MatchOption result (ss ≡ no_shapes)
@@ -76,21 +76,27 @@ pub trait Source {
         ensures held { MatchOption result (meaning.items_held items)
             (λ x. meaning.child_held x.0 → meaning.items_held x.1 → meaning.items_held items) };
 
-    /// A walk over the members of an object.
+    /// How many members an object has, which is known at once: a walk over them may take a step for
+    /// each of them to begin.
+    fn object_count(object: Self::Object) -> usize
+        ensures { (ss : Shapes) → meaning.object object ss → result ≡ count ss };
+
+    /// An iteration over the members of an object.
     fn members(object: Self::Object) -> Self::Members
         ensures are { (ss : Shapes) → meaning.object object ss → meaning.members result ss }
         ensures size { meaning.members_size result ≤ meaning.object_size object }
         ensures held { meaning.members_held result → meaning.object_held object };
 
-    /// How many members are left.
+    /// The number of members left.
     fn members_left(members: &Self::Members) -> usize
         ensures { (ss : Shapes) → meaning.members members.now ss → result ≡ count ss };
 
-    /// A second walk over the members that are left.
+    /// A second iteration over the members left.
     fn again(members: &Self::Members) -> Self::Members
         ensures { (ss : Shapes) → meaning.members members.now ss → meaning.members result ss };
 
-    /// The first member, its key and its value, and the others.
+    /// The key and the value of the first member, and the members after it. `None` if there is
+    /// none.
     fn split_member(members: Self::Members) -> Option<(Self::Leaf, (Self::Child, Self::Members))>
         requires { (ss : Shapes) × meaning.members members ss }
         ensures split { (ss : Shapes) → meaning.members members ss

@@ -1,4 +1,4 @@
-//! Lists and maps of values that are stored as they are.
+//! Lists and maps of values that are stored unchanged.
 
 ghost use Rattle.std.specs.Prelude.{◌≡◌, ◌↔◌, ℕ, List, IsTrue, IsSome, ⊤};
 ghost use Rattle.jsonb_codec.specs.Code.{code_of};
@@ -10,7 +10,8 @@ use super::source::{Level, Source};
 use crate::parts::Part;
 use std::collections::{BTreeMap, btree_map};
 
-/// What is stored as it is, if it has an entry, and then holds what its type says.
+/// A value that is stored unchanged if it has an entry, and whose entry then satisfies the
+/// invariants of its type.
 pub trait Stored {
     ghost stored: { Self → Type 0 };
 
@@ -18,11 +19,11 @@ pub trait Stored {
 
     ghost held: { Self → Type 0 };
 
-    /// Whether it has an entry.
+    /// Whether the value has an entry.
     fn is_stored(&self) -> bool
         ensures { IsTrue result ↔ stored self.now };
 
-    /// With what it is stored.
+    /// The entry of the value: type and payload.
     fn code<'s>(&'s self) -> Code<'s>
         requires { stored self.now }
         ensures code { code_of result ≡ code self.now }
@@ -35,7 +36,7 @@ type Members<'s, 'k, T> = btree_map::Iter<'s, &'k str, T>;
 
 type Member<'s, 'k, T> = (Code<'s>, (&'s T, Members<'s, 'k, T>));
 
-/// Arrays are lists of such values, and objects are maps of them.
+/// Slices of stored values are written as arrays, and maps of them as objects.
 impl<'s, 'k, T: Stored> Source for &'s BTreeMap<&'k str, T> {
     type Leaf = Code<'s>;
 
@@ -75,6 +76,11 @@ impl<'s, 'k, T: Stored> Source for &'s BTreeMap<&'k str, T> {
     }
 
     #[inline(always)]
+    fn object_count(object: &'s BTreeMap<&'k str, T>) -> usize {
+        object.len()
+    }
+
+    #[inline(always)]
     fn members(object: &'s BTreeMap<&'k str, T>) -> Members<'s, 'k, T> {
         object.iter()
     }
@@ -99,7 +105,7 @@ impl<'s, 'k, T: Stored> Source for &'s BTreeMap<&'k str, T> {
     }
 }
 
-/// A part of a document is stored as it stands there.
+/// A part of a document is stored unchanged.
 #[inline(always)]
 pub fn part_code<'a>(part: Part<'a>) -> Code<'a>
     ensures { code_of result ≡ part_code part.entry }

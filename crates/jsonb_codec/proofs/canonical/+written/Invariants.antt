@@ -10,7 +10,7 @@ decreases-is_written l = 4 * length l.part.payload.now + 3
 abbrev pub decreases-are_written : goal.decreases-are_written
 decreases-are_written l = 4 * length l.children.payloads.now + 6
 
--- What is left is as it is written exactly if the whole is.
+-- All children are as written exactly if the remaining ones are.
 abbrev pub invariant-are_written-loop-child : goal.invariant-are_written-loop-child
 invariant-are_written-loop-child l = record {
   same : (ts : Trees) → AreChildren ts l.fn.children

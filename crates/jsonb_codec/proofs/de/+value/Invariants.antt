@@ -26,7 +26,7 @@ decreases-build_members l = 4 * length l.members.values.payloads.now + 5
 abbrev pub decreases-build_many : goal.decreases-build_many
 decreases-build_many l = 4 * length l.members.values.payloads.now + 4
 
--- The items so far, and those that are left, are the items of the whole.
+-- The items built so far and those that are left are all items.
 abbrev pub invariant-build_items-loop-child : goal.invariant-build_items-loop-child
 invariant-build_items-loop-child l = record {
   left : (ts : Trees) → AreChildren ts l.fn.items → (others : Trees)
@@ -37,7 +37,7 @@ invariant-build_items-loop-child l = record {
 abbrev pub decreases-build_items-loop-child : goal.decreases-build_items-loop-child
 decreases-build_items-loop-child l = length l.left.entries.now
 
--- The members so far, and those that are left, are the members of the whole.
+-- The members built so far and those that are left are all members.
 abbrev pub invariant-build_members-loop-member : goal.invariant-build_members-loop-member
 invariant-build_members-loop-member l = record {
   left : (ps : Pairs) → AreMembers ps l.fn.members → (others : Pairs)

@@ -27,7 +27,7 @@ decreases-check_children l = 4 * (length l.entries.now + length l.payloads.now) 
 abbrev pub decreases-check_keys : goal.decreases-check_keys
 decreases-check_keys l = 4 * (length l.entries.now + length l.payloads.now) + 7
 
--- What is left can be children exactly if the whole can.
+-- The whole can be children exactly if the rest can.
 abbrev pub invariant-check_children-loop-entry : goal.invariant-check_children-loop-entry
 invariant-check_children-loop-entry l = record {
   same : HasChildren l.depth l.entries_left l.payloads_left
@@ -40,7 +40,8 @@ invariant-check_children-loop-entry l = record {
 abbrev pub decreases-check_children-loop-entry : goal.decreases-check_children-loop-entry
 decreases-check_children-loop-entry l = length l.entries_left
 
--- What is left can be keys exactly if the whole can, as long as the children were keys in order.
+-- As long as the children so far were ascending keys, the whole can be keys exactly if the rest
+-- can.
 abbrev pub invariant-check_keys-loop-entry : goal.invariant-check_keys-loop-entry
 invariant-check_keys-loop-entry l = record {
   onward : (q : List ℕ) → HasKeys None l.entries l.payloads q → IsTrue l.ascend

@@ -3,7 +3,7 @@ use Rattle.jsonb_value.specs.Tree.{Pairs}
 use Rattle.jsonb_codec.specs.Doc.{Keys}
 use Rattle.jsonb_codec.proofs.parts.keys_len.Given as goal
 
--- The keys so far and those that are left are as long as the whole.
+-- The length of the keys so far plus that of the keys left is the whole length.
 abbrev pub invariant-loop-entry : goal.invariant-loop-entry
 invariant-loop-entry l =
     (4 * l.total + 2 ^ 28 * length l.left ≤ 2 ^ 28 * length l.entries)

@@ -3,7 +3,7 @@ use Rattle.std.proofs.lemmas.Result.{on_ok_weaker}
 use Rattle.jsonb_codec.proofs.WellFormed.{IsTree-Doc}
 use Rattle.jsonb_codec.proofs.canonical.rewrite.append_canonical.Goals as goal
 
--- What is said of the checked document is said of the bytes that it was made of.
+-- What holds of the checked document holds of its bytes.
 
 pub returns-clause-appended : goal.returns-clause-appended
 returns-clause-appended c =

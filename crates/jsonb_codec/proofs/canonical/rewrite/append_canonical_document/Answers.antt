@@ -9,7 +9,7 @@ use Rattle.jsonb_codec.proofs.Shapes.{Is-one}
 use Rattle.jsonb_codec.proofs.TreeShapes.{document-shape_of, Fits-shape_of}
 use Rattle.jsonb_codec.proofs.canonical.rewrite.append_canonical_document.Goals as goal
 
--- What is said of the part's shape is said of the tree that the document means.
+-- What holds of the part's shape holds of the tree that the document means.
 
 pub append_document-requires : goal.append_document-requires
 append_document-requires c =

@@ -1,6 +1,6 @@
 use Rattle.std.proofs.Common.{ap}
 use Rattle.jsonb_codec.proofs.Decision.{known_part}
-use Rattle.jsonb_codec.proofs.PartLaws.{items_are, members_are, small_type}
+use Rattle.jsonb_codec.proofs.PartLaws.{items_are, object_is, small_type}
 use Rattle.jsonb_codec.specs.TreeShape.{shape_of, items_shapes, pairs_shapes}
 use Rattle.jsonb_codec.proofs.canonical.rewrite.part_level.Goals as goal
 
@@ -12,7 +12,7 @@ returns-in-Array-clause-is c t h =
 pub returns-in-Object-clause-is : goal.returns-in-Object-clause-is
 returns-in-Object-clause-is c t h =
     let (ps, (is, are)) = c.in-Object.ensures.contents t h in
-    (pairs_shapes ps, (ap shape_of is, members_are ps c.in-Object.members are))
+    (pairs_shapes ps, (ap shape_of is, object_is ps c.in-Object.object are))
 
 pub invariant_of-result : goal.invariant_of-result
 invariant_of-result c =

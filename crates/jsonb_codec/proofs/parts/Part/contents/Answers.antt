@@ -29,16 +29,16 @@ invariant_of-result c =
     let cut = c.split_at.ensures in
     record { fact = merely (x.0, array_children cut.front cut.back cut.front_len x.0 x.1.1) }
 
-pub of_object-requires : goal.of_object-requires
-of_object-requires c =
+pub invariant_of-result-else-header : goal.invariant_of-result-else-header
+invariant_of-result-else-header c =
     let (t, k) = known_part _ _ c.args.self.fact in
     let x = object_in (reading c.in-Some.ensures) c.if-header.false t (k.0 ∙ c.requires, k.1) in
-    (x.0, x.1.1)
+    record { fact = merely (x.0, x.1.1) }
 
 pub returns-else-header-clause-contents : goal.returns-else-header-clause-contents
 returns-else-header-clause-contents c t k =
     let x = object_in (reading c.in-Some.ensures) c.if-header.false t (k.0 ∙ c.requires, k.1) in
-    (x.0, (x.1.0, c.of_object.ensures.members x.0 x.1.1))
+    (x.0, (x.1.0, x.1.1))
 
 pub returns-then-header-clause-inside : goal.returns-then-header-clause-inside
 returns-then-header-clause-inside c =
@@ -46,4 +46,4 @@ returns-then-header-clause-inside c =
 
 pub returns-else-header-clause-inside : goal.returns-else-header-clause-inside
 returns-else-header-clause-inside c =
-    omega (arith, length-Read (reading c.in-Some.ensures), c.of_object.ensures.inside)
+    omega (arith, length-Read (reading c.in-Some.ensures))

@@ -54,11 +54,11 @@ append_object-append_value_entries-requires g t c =
     let header = rw count at c.append_word.ensures in
     let keys = c.append_key_entries in
     let room = object_entries_room c.args.out.now c.append_word.new.out keys.new.out ss can.room
-    header (keys.ensures ss are) in
+    header (keys.ensures ss (c.again.ensures ss are)) in
     let few : AreFew ss = record { fit = can.fits.1; few = can.fits.0 } in (
       ss,
       (
-        c.members.ensures.are ss h,
+        c.again-2.ensures ss are,
         (record { few = few; room = room }, omega (arith, can.len, length-object ss, count)),
       ),
     )
@@ -69,23 +69,22 @@ append_object-append_values-requires g t c κs within =
     let are = c.members-members.ensures.are ss h in
     let header = rw (c.members_left-count.ensures ss are) at c.append_word.ensures in
     let keys = c.append_key_entries in
-    let words = c.append_value_entries.ensures ss (c.members.ensures.are ss h) in
-    let key_bytes = c.append_keys.ensures ss (c.members-2.ensures.are ss h) in
+    let words = c.append_value_entries.ensures ss (c.again-2.ensures ss are) in
+    let key_bytes = c.append_keys.ensures ss (c.again-3.ensures ss are) in
     let room = object_payloads_room c.args.out.now c.append_word.new.out keys.new.out ss can.room
-    header (keys.ensures ss are) c.append_value_entries.new.out c.append_keys.new.out words
+    header (keys.ensures ss (c.again.ensures ss are)) c.append_value_entries.new.out c.append_keys.new.out words
     key_bytes in
     let stands = object_words c.args.out.now c.append_word.new.out keys.new.out ss can.room header
-    (keys.ensures ss are) c.append_value_entries.new.out c.append_keys.new.out words key_bytes in
+    (keys.ensures ss (c.again.ensures ss are)) c.append_value_entries.new.out c.append_keys.new.out words key_bytes in
     let few : AreFew ss = record { fit = can.fits.1; few = can.fits.0 } in
     let words_stand = rw (← keys.new.out.ok.0, ← c.len-words.ensures) at stands in
     let can : CanGoOn c.append_keys.new.out ss (payloads ss) = record { few = few; room = room } in
     let v = within.1.1 in
-    let v' = v.1.1 in
-    let are_values = c.members-3.ensures.are ss h in (
-      omega (arith, c.members-3.ensures.size),
+    let v' = v.1.1 in (
+      omega (arith, c.members-members.ensures.size),
       (
         within.0,
-        (within.1.0, (v.0, (v.1.0, (v'.0, (v'.1, (ss, (are_values, (can, words_stand)))))))),
+        (within.1.0, (v.0, (v.1.0, (v'.0, (v'.1, (ss, (are, (can, words_stand)))))))),
       ),
     )
 
@@ -95,10 +94,10 @@ append_object-returns g t c ss h =
     object_written c.args.out.now c.append_word.new.out c.append_key_entries.new.out
     c.append_value_entries.new.out c.append_keys.new.out c.append_values.new.out ss
     (rw (c.members_left-count.ensures ss are) at c.append_word.ensures)
-    (c.append_key_entries.ensures ss are)
-    (c.append_value_entries.ensures ss (c.members.ensures.are ss h))
-    (c.append_keys.ensures ss (c.members-2.ensures.are ss h))
-    (c.append_values.ensures ss (c.members-3.ensures.are ss h))
+    (c.append_key_entries.ensures ss (c.again.ensures ss are))
+    (c.append_value_entries.ensures ss (c.again-2.ensures ss are))
+    (c.append_keys.ensures ss (c.again-3.ensures ss are))
+    (c.append_values.ensures ss are)
 
 pub append_items-loop-item-init : goal.append_items-loop-item-init
 append_items-loop-item-init g t c =

@@ -4,7 +4,7 @@ use Rattle.jsonb_codec.specs.Room.{Stands}
 use Rattle.jsonb_codec.proofs.ShapeWriting.{Going}
 use Rattle.jsonb_codec.proofs.writer.append.+append.Given as goal
 
--- What stands in a container is less than the container.
+-- The content of a container is smaller than the container.
 abbrev pub decreases-append_array : goal.decreases-append_array
 decreases-append_array g l = 3 * g.S.Source.meaning.items_size l.items + 2
 
@@ -20,7 +20,7 @@ decreases-append_items g l = 3 * g.S.Source.meaning.items_size l.items + 1
 abbrev pub decreases-append_values : goal.decreases-append_values
 decreases-append_values g l = 3 * g.S.Source.meaning.members_size l.members + 1
 
--- The words of the children that are left stand where they were written.
+-- The words of the children that are left are where they were written.
 abbrev pub invariant-append_items-loop-item : goal.invariant-append_items-loop-item
 invariant-append_items-loop-item g l =
     let m = g.S.Source.meaning in record {

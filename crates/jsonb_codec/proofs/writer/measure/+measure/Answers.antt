@@ -18,11 +18,17 @@ measure_array-returns-clause-none g t c =
     let bare = ap length (g.S.Source.laws.bare_items c.args.items ss h) in
     omega (arith, past ss h fit.1, length-array ss, c.count-count.ensures ss h, bare))
 
+pub measure_array-returns-then-first-most-clause-none :
+    goal.measure_array-returns-then-first-most-clause-none
+measure_array-returns-then-first-most-clause-none g t c ss h fit =
+    let bare = ap length (g.S.Source.laws.bare_items c.args.items ss h) in
+    omega (arith, c.if-first-most.true, length-array ss, c.count-count.ensures ss h, bare)
+
 pub measure_object-returns-clause-some : goal.measure_object-returns-clause-some
 measure_object-returns-clause-some g t c =
     IfSome_then c.measure_members.result c.measure_members.ensures.some (λ n f ss h.
-    let members = c.members-members.ensures.are ss h in
-    let count = c.members_left-count.ensures ss members in
+    let members = c.members.ensures.are ss h in
+    let count = c.object_count-count.ensures ss h in
     let (fit, long) = f ss members in (
       (omega (arith, c.if-count-gt-MAX_COUNT.false, count), fit),
       omega (arith, long, length-object ss, count),
@@ -31,9 +37,14 @@ measure_object-returns-clause-some g t c =
 pub measure_object-returns-clause-none : goal.measure_object-returns-clause-none
 measure_object-returns-clause-none g t c =
     IfNone_then c.measure_members.result c.measure_members.ensures.none (λ past ss h fit.
-    let members = c.members-members.ensures.are ss h in
-    let count = c.members_left-count.ensures ss members in
+    let members = c.members.ensures.are ss h in
+    let count = c.object_count-count.ensures ss h in
     omega (arith, past ss members fit.1, length-object ss, count))
+
+pub measure_object-returns-then-first-most-clause-none :
+    goal.measure_object-returns-then-first-most-clause-none
+measure_object-returns-then-first-most-clause-none g t c ss h fit =
+    omega (arith, c.if-first-most.true, length-object ss, c.object_count-count.ensures ss h)
 
 pub measure_items-returns-clause-some : goal.measure_items-returns-clause-some
 measure_items-returns-clause-some g t c =

@@ -3,8 +3,8 @@ use Rattle.jsonb_codec.specs.Source.{level_size}
 use Rattle.jsonb_codec.proofs.Shapes.{Measured}
 use Rattle.jsonb_codec.proofs.writer.measure.+measure.Given as goal
 
--- A child is larger than what stands in it. A container is as large as its children, so the factor
--- leaves room for the calls between them.
+-- A child is larger than its content. A container is as large as its children, so the factor leaves
+-- room for the calls between them.
 abbrev pub decreases-measure_child : goal.decreases-measure_child
 decreases-measure_child g l = 3 * level_size g.S.Source.meaning l.child + 2
 

@@ -2,7 +2,7 @@ use Rattle.std.proofs.Common.{arith}
 use Rattle.jsonb_codec.proofs.Shapes.{takes_of_each}
 use Rattle.jsonb_codec.proofs.writer.measure.item_size_by_limits.Goals as goal
 
--- What the item takes is what the others leave.
+-- The item's length is the total minus that of the others.
 pub returns-in-Some-measure_items : goal.returns-in-Some-measure_items
 returns-in-Some-measure_items g c t is =
     let known = c.requires.takes in

@@ -2,7 +2,7 @@ use Rattle.std.proofs.Common.{arith}
 use Rattle.jsonb_codec.proofs.Shapes.{takes_of_each}
 use Rattle.jsonb_codec.proofs.writer.measure.value_size_by_limits.Goals as goal
 
--- What the value takes is what the others with their keys leave.
+-- The value's length is the total minus that of the others and their keys.
 pub returns-in-Some-measure_members : goal.returns-in-Some-measure_members
 returns-in-Some-measure_members g c t is =
     let known = c.requires.takes in
