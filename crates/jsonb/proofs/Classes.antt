@@ -1,4 +1,4 @@
--- Equal items have one count, and are both listed or both not.
+-- Items of one class have one count, and are either all listed or all not.
 use Rattle.std.proofs.Common.{◌≡◌, ℕ, List, [], ◌∷◌, ◌++◌, Bool, true, false, refl}
 use Rattle.std.proofs.Common.{cond, arith, ◌∙◌}
 use Rattle.std.specs.Prelude.{is_some, unwrap_or}
@@ -29,7 +29,7 @@ equal_same x y (e ∷ es) same =
 abbrev count_in : List (JsonbItem × ℕ) → ItemView → ℕ
 count_in counts x = unwrap_or (count_at counts x) 0
 
--- a count that was set, told by what a builder shows that it was
+-- a count that was set, in terms of the builder's contents
 pub shown_count_of_set : (tally : Tally) (old new : List (JsonbItem × ℕ)) (x : ItemView) (n : ℕ)
     → old ≡ tally.counts → SetsCount old new x n
     → (f : ℕ → ℕ) → n ≡ f (count_in old x) → (item : JsonbItem)
@@ -45,7 +45,7 @@ shown_count_of_set tally old new x n shows sets f is item =
     case true same = cc (sets item, same, is, lookup_same x (item_view item) old same)
     case false other = cc (sets item, other)
 
--- and after an item was listed with its first count
+-- the same after an item was listed with its first count
 pub lists_new : (list : List ItemView) (old new : List (JsonbItem × ℕ)) (x : ItemView) (n : ℕ)
     → Lists list old → SetsCount old new x n
     → Lists (list ++ x ∷ []) new

@@ -1,4 +1,4 @@
--- The bytes that an item was given mean what it holds.
+-- The bytes that an item was made from mean its value.
 use Rattle.std.proofs.Common.{◌≡◌, ℕ, List, Option, Some, None, refl, sym, ap, subst, Bor}
 use Rattle.std.specs.Option.{option_copied}
 use Rattle.jsonb_value.specs.NumCode.{NumCode}
@@ -26,7 +26,7 @@ pub ExtCode-given : (item : ExtensionItem) (bytes : List ℕ) → extension_sour
 ExtCode-given item bytes = given_holds (λ p. ExtCode p (extension_of_item item)) item.payload bytes
     (λ b e. ExtCode-extension_in b.now (extension_of_item item) (item.means b e))
 
--- So what an item holds is as its type has it.
+-- The contents of an item are consistent.
 pub IsHeld-number_given : (item : NumberItem) (bytes : Bor (List ℕ)) → item.payload ≡ Some bytes
     → IsHeld (number (number_source item) (number_of_item item))
 IsHeld-number_given item bytes e =

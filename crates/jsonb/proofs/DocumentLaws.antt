@@ -34,7 +34,7 @@ pub tree_in-is : (b : List ℕ) (t : Tree) → Doc b t → tree_in b ≡ t
 unfolding tree_in
 tree_in-is b t doc = found_is b t doc (decide b)
 
--- a document that holds these bytes means their tree,
+-- a document with these bytes means their tree
 pub tree_of_bytes : (b : List ℕ) (d : Document) → document_bytes d ≡ b → Doc b (document_tree d)
 tree_of_bytes b d is =
     subst (λ x. Doc x (document_tree d)) is (known_Doc (document_bytes d) d.bytes.fact)
@@ -45,12 +45,12 @@ document_tree-is b t None doc h = tt
 document_tree-is b t (Some d) doc h =
     tree_in-is (document_bytes d) t (rw h doc)
 
--- and so do the bytes
+-- the bytes mean the document's tree
 pub document_meaning : (b : List ℕ) (d : Document) → document_bytes d ≡ b
     → document (document_tree d) ≡ meaning_of b
 document_meaning b d is = sym (meaning_of-document b (document_tree d) (tree_of_bytes b d is))
 
--- where none was found there is none
+-- the empty option of documents
 abbrev pub nothing : Option Document
 nothing = None
 

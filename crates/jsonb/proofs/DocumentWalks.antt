@@ -1,4 +1,4 @@
--- What the iterators give on a document.
+-- The results of the iterators on a document.
 use Rattle.std.proofs.Common.{◌≡◌, ℕ, List, Option, Some, None, option_map, Result, Ok, map}
 use Rattle.std.proofs.Common.{◌∷◌, refl, inl, inr}
 use Rattle.std.specs.Map as maps
@@ -20,7 +20,7 @@ use Rattle.jsonb.proofs.KindLaws.{header_of_tree, header_at-Doc}
 use Rattle.jsonb.proofs.StandingLaws.{value_trees, both_are, ArrayHolds, array_holds, ObjectHolds}
 use Rattle.jsonb.proofs.StandingLaws.{object_holds, shown_items, shown_keys, shown_members}
 
--- a container's payload is the document
+-- a container's payload is the whole document
 pub array_payload : (b : List ℕ) (ts : Trees) → Doc b (array ts) → Payload (array ts) b
 array_payload b ts (inl (other, h)) = absurd (other refl)
 array_payload b ts (inr (is, h)) = h
@@ -29,14 +29,14 @@ pub object_payload : (b : List ℕ) (ps : Pairs) → Doc b (object ps) → Paylo
 object_payload b ps (inl (other, h)) = absurd (other refl)
 object_payload b ps (inr (is, h)) = h
 
--- how many children a header under a tag counts
+-- the count in the header, for each kind
 pub count_under-Doc : (b : List ℕ) (t : Tree) (tag : ℕ) → Doc b t
     → count_under b tag ≡ Ok (count_if tag (header_of_tree t))
 unfolding count_under
 count_under-Doc b t tag doc = rw (header_at-Doc b t doc)
 
--- An iterator over the items of an array, or over what an object holds, gives what is shown, and
--- there is none for any other tree.
+-- The iterator of a container has the results that `Shows` describes, and for any other tree there
+-- is none.
 abbrev WalksTrees : (Trees → List (Result ItemView Error) → Type 0) → Tree
     → Result (Option (Walk ItemView)) Error → Type 0
 WalksTrees Shows (array ts) r = WalksOver (count ts) (Shows ts) r

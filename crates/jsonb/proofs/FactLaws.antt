@@ -1,4 +1,4 @@
--- The entries of a document can be read, and mean the trees of what it holds.
+-- The entries of a document can be read, and mean the trees of its children.
 use Rattle.std.proofs.Common.{◌≡◌, ℕ, zero, suc, ◌+◌, List, [], ◌∷◌, length, map, Option, Some}
 use Rattle.std.proofs.Common.{None, option_map, Result, Ok, Err, refl, sym, ap, ap₂, ◌∙◌, arith}
 use Rattle.std.specs.Map.{keys_of, values_of}
@@ -18,12 +18,12 @@ use Rattle.jsonb.specs.Item.{Entry, item_of, entry_at}
 use Rattle.jsonb.specs.Building.{AreTexts, key_codes}
 use Rattle.jsonb.specs.Standing.{AreCodesOf, ArePairsOf}
 use Rattle.jsonb.specs.Walk.{entries_from, item_entries, array_entries, member_entries}
-use Rattle.jsonb.specs.Walk.{object_entries, count_if, length_at}
+use Rattle.jsonb.specs.Walk.{object_entries, key_entries, count_if, count_under, length_at}
 use Rattle.jsonb.specs.Facts.{view_tree, item_tree, entry_tree, entry_of_part, AreParts}
-use Rattle.jsonb.specs.Facts.{AreMembers, rest_trees, rest_pairs}
+use Rattle.jsonb.specs.Facts.{AreKeys, AreMembers, key_read, rest_trees, rest_pairs}
 use Rattle.jsonb_value.specs.Value.{trees_of}
 use Rattle.jsonb.specs.Node.{node_tree, array_of, pairs_of, object_of, tree_list, pair_list}
-use Rattle.jsonb.specs.Node.{items_of, members_of}
+use Rattle.jsonb.specs.Node.{items_of, members_of, first_key_of}
 use Rattle.jsonb.proofs.ItemLaws.{found_item}
 use Rattle.jsonb.proofs.DocumentLaws.{tree_in-is}
 use Rattle.jsonb.proofs.KindLaws.{header_of_tree}
@@ -36,7 +36,7 @@ length-ahead : (r : Result Entry Error) (rest : List (Result Entry Error)) (n : 
 length-ahead (Ok entry) rest n others h = ap suc (others h.1)
 length-ahead (Err e) rest n others h = absurd h
 
--- as many as are left can be read
+-- every remaining entry can be read
 pub length-AreParts : (bytes : List ℕ) (left place start : ℕ)
     → AreParts (entries_from bytes left place start)
     → left ≡ length (entries_from bytes left place start)
@@ -59,7 +59,7 @@ entry_tree-is type payload t h =
     ap (λ k. item_tree (item_of k payload)) (sym h.0) ∙ ap item_tree f.1.0
     ∙ view_tree-is f.0 t f.1.1.0
 
--- The entries of an array mean its trees,
+-- The entries of an array mean the trees of its items.
 abbrev Entries : Type 0
 Entries = List (Result Entry Error)
 
@@ -87,7 +87,7 @@ finds_items b t doc = refl
 pub array_entries-Doc : (b : List ℕ) (t : Tree) → Doc b t → FindsItems t (array_entries b)
 array_entries-Doc b t doc = rw (count_under-Doc b t 2147483648 doc) (finds_items b t doc)
 
--- and those of keys and values an object's pairs.
+-- The entries of keys and values mean the pairs of an object.
 means_pairs : (ms : List (List ℕ × Entry)) (ps : Pairs) → ArePairsOf (keys_of ms) (values_of ms) ps
     → AreTexts (keys_of ms)
     → AreMembers (map Ok (key_codes (keys_of ms)), map Ok (values_of ms))
@@ -120,7 +120,36 @@ finds_members b t doc = refl
 pub object_entries-Doc : (b : List ℕ) (t : Tree) → Doc b t → FindsMembers t (object_entries b)
 object_entries-Doc b t doc = rw (count_under-Doc b t 1073741824 doc) (finds_members b t doc)
 
--- a value that is made of a part has the tree of its entry
+-- The first of a document's keys is read alone.
+abbrev pub first_read : Entries → Option (List ℕ)
+first_read [] = None
+first_read (x ∷ xs) = Some (key_read x)
+
+first_is : (ms : List (List ℕ × Entry)) (ps : Pairs) → ArePairsOf (keys_of ms) (values_of ms) ps
+    → Some (first_read (map Ok (key_codes (keys_of ms)))) ≡ first_key_of (object ps)
+first_is [] ps h = ap (λ us. first_key_of (object us)) (sym h)
+first_is (m ∷ ms) no_pairs h = absurd h
+first_is (m ∷ ms) (pair k t ps) h = ap (λ x. Some (Some x)) h.0
+
+abbrev pub FindsFirstKey : List ℕ → Tree → Result (Option ℕ) Error → Type 0
+FindsFirstKey b t (Ok (Some n)) = (AreParts (key_entries b n) × AreKeys (key_entries b n))
+    × (Some (first_read (key_entries b n)) ≡ first_key_of t)
+FindsFirstKey b t (Ok None) = None ≡ first_key_of t
+FindsFirstKey b t (Err e) = ⊥
+
+finds_first_key : (b : List ℕ) (t : Tree) → Doc b t
+    → FindsFirstKey b t (Ok (count_if 1073741824 (header_of_tree t)))
+finds_first_key b (object ps) doc =
+    let holds = object_holds b ps (object_payload b ps doc) in
+    let mean = means_pairs holds.members ps holds.stand.mean holds.texts in
+    rw holds.keys (mean.0.0, first_is holds.members ps holds.stand.mean)
+finds_first_key b t doc = refl
+
+pub first_key-Doc : (b : List ℕ) (t : Tree) → Doc b t
+    → FindsFirstKey b t (count_under b 1073741824)
+first_key-Doc b t doc = rw (count_under-Doc b t 1073741824 doc) (finds_first_key b t doc)
+
+-- a value decoded from a part has the tree of the part's entry
 pub entry_tree-node : (part : Part) (node : Node)
     → ((t : Tree) → parts.Means part t → node_tree node ≡ t)
     → entry_tree (entry_of_part part) ≡ node_tree node
@@ -135,7 +164,7 @@ length-rest_pairs [] xs same = refl
 length-rest_pairs (k ∷ ks) [] same = absurd (omega arith)
 length-rest_pairs (k ∷ ks) (x ∷ xs) same = ap suc (length-rest_pairs ks xs (omega arith))
 
--- An array is that of its items, and an object that of its pairs.
+-- An array is rebuilt from its items, and an object from its pairs.
 trees_of-tree_list : (ts : Trees) → trees_of (tree_list ts) ≡ ts
 trees_of-tree_list no_trees = refl
 trees_of-tree_list (tree t ts) = cc (trees_of-tree_list ts)

@@ -1,4 +1,4 @@
--- Pairs put in one after the other, in the order of their keys.
+-- Inserting pairs one by one, in the order of their keys.
 use Rattle.std.proofs.Common.{◌≡◌, ℕ, List, [], ◌∷◌, ◌++◌, map, Bor, Bool, false, ◌||◌}
 use Rattle.std.proofs.Common.{refl, sym, ap, ◌∙◌}
 use Rattle.std.proofs.Math.Bool.{or_assoc, or_comm, or_self_left, or-false}
@@ -35,7 +35,7 @@ bytes_equiv =
           ∙ laws.congr x y z (is_eq-slice_cmp x y ∙ same) ∙ is_eq-slice_cmp y z;
     }
 
--- the entries with one more, where the keys are seen by f and the values by g
+-- inserting commutes with mapping the keys by f and the values by g
 pub map-insert_entry : {K J X Y : Type 0} (cmp : J → J → Ordering) (f : K → J) (g : X → Y)
     (es : List (K × X)) (k : K) (v : X)
     → map (λ e. (f e.0, g e.1)) (insert_entry (λ a b. cmp (f a) (f b)) es k v)
@@ -53,7 +53,7 @@ map-insert_entry {K} {J} {X} {Y} cmp f g (e ∷ es) k v =
       | Greater ↦ ap (λ es. (f e.0, g e.1) ∷ es) (map-insert_entry cmp f g es k v)
     ]
 
--- the keys that are there after one more pair,
+-- the keys after inserting one pair
 keys-step : {A : Type 0} (o : Ordering) (e : List ℕ × A) (es : List (List ℕ × A)) (j k : List ℕ)
     (x : A) → slice_cmp nat_cmp j e.0 ≡ o
     → has_key (with_pair es j x) k ≡ bytes_eq k j || has_key es k
@@ -70,7 +70,7 @@ has_key-with_pair [] j k x = refl
 has_key-with_pair (e ∷ es) j k x =
     keys-step (slice_cmp nat_cmp j e.0) e es j k x refl (has_key-with_pair es j k x)
 
--- and after several
+-- the keys after inserting several pairs
 has_key-with_pairs : {A : Type 0} (ps xs : List (List ℕ × A)) (k : List ℕ)
     → has_key (with_pairs ps xs) k ≡ has_key xs k || has_key ps k
 has_key-with_pairs ps [] k = refl
@@ -92,7 +92,7 @@ keys_of-raw_pairs : (ps : List (List ℕ × List ℕ)) → keys_of (raw_pairs ps
 keys_of-raw_pairs [] = refl
 keys_of-raw_pairs (p ∷ ps) = ap (λ ks. p.0 ∷ ks) (keys_of-raw_pairs ps)
 
--- what inputs have been put together so far
+-- the inputs that were inserted so far
 module _ (builder : List (List ℕ × ItemView)) (xs : List (Bor (List ℕ) × RawJsonb))
     (built : builder ≡ raw_pairs (in_order (map input_pair xs))) where
   pub key_there : (k : List ℕ) → has_key builder k ≡ has_key (map input_pair xs) k

@@ -29,7 +29,7 @@ abbrev Found : Tree → List ℕ → Type 0
 Found t p =
     (x : ItemView) × ((item_of (type_of t) p ≡ Ok x) × (Means x t × HasCode x (type_of t) p))
 
--- the payload of a tree is one of which there is an item
+-- there is an item for every payload of a tree
 pub found_item : (t : Tree) (p : List ℕ) → Payload t p → Found t p
 unfolding item_of
 found_item trees.null p h = (null, (refl, (refl, (refl, h))))
@@ -71,7 +71,7 @@ pub IsItemOf-Payload : (t : Tree) (p : List ℕ) → length p < 2 ^ 28 → Paylo
 IsItemOf-Payload t p short h =
     let f = found_item t p h in (f.0, (f.1.0, is_item_of t p short h))
 
--- a scalar's item is stored as its document again
+-- a scalar's item is stored as the scalar's document
 stored_again : (t : Tree) (p : List ℕ) → type_of t ≢ 1342177280 → length p < 2 ^ 28
     → (h : Payload t p)
     → (item_document (found_item t p h).0 ≡ scalar_bytes (type_of t) p)
@@ -84,7 +84,7 @@ stored_again (trees.array ts) p other short h = absurd (other refl)
 stored_again (trees.object ps) p other short h = absurd (other refl)
 stored_again t p other short h = (refl, short)
 
--- an entry that stands in bytes, and the item of it
+-- an entry inside a byte string, and its item
 pub entry_at-entry : (bytes : List ℕ) (i j : ℕ) (c : Entry) → IsTag c.type
     → length c.payload < 2 ^ 28 → At bytes i (word (c.type + length c.payload))
     → At bytes j c.payload → entry_at bytes i j ≡ Ok c
@@ -100,7 +100,7 @@ entry_at-Scalar b t h =
     entry_at-entry b 4 8 record { type = type_of t; payload = h.payload } (IsTag-type_of t) h.short
     (At-left b 4 _ h.payload (At-entry b t h)) (At-payload b t h)
 
--- what is the item of a document is stored as that document
+-- the item of a document is stored as that document
 abbrev pub IsOwnItem : Tree → List ℕ → ItemView → Type 0
 IsOwnItem t b x = IsItemIn t b x × ((item_document x ≡ b) × CanBeStored x)
 
@@ -126,7 +126,7 @@ item_in-Doc b t (inr (is, h)) =
     (λ ts. refl) (λ ps. refl) in
     (raw b, (rw (header_at-Doc b t (inr (is, h))) whole, (inr (is, refl), (refl, tt))))
 
--- what is told of the item that is shown is told of the item
+-- a property of the item's contents holds for the item
 pub shown_ok : (r : Result JsonbItem Error) (x : ItemView) (P : ItemView → Type 0)
     → result_view r ≡ Ok x → P x → IsOkAnd r (λ item. P (item_view item))
 shown_ok (Ok item) x P e h = let same : item_view item ≡ x = cc in rw same h

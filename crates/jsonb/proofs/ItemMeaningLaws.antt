@@ -1,4 +1,4 @@
--- What `meaning_of` answers, and the items that mean a tree.
+-- The values of `meaning_of`, and the items that mean a tree.
 use Rattle.std.proofs.Common.{◌≡◌, ℕ, List, inl, inr, refl}
 use Rattle.jsonb_value.specs.Tree.{Tree}
 use Rattle.jsonb_value.specs.Tree as trees
@@ -27,23 +27,23 @@ meaning_or_bytes-other : (b : List ℕ) → (IsDocument b → ⊥) → (d : Deci
 meaning_or_bytes-other b none (inl found) = absurd (none found)
 meaning_or_bytes-other b none (inr other) = refl
 
--- A document means its tree,
+-- A document means its tree.
 pub meaning_of-document : (b : List ℕ) (t : Tree) → Doc b t → meaning_of b ≡ document t
 unfolding meaning_of
 meaning_of-document b t doc = meaning_or_bytes-document b t doc (decide b)
 
--- and bytes that are no document mean themselves.
+-- Bytes that are not a document mean themselves.
 pub meaning_of-other : (b : List ℕ) → (IsDocument b → ⊥) → meaning_of b ≡ other_bytes b
 unfolding meaning_of
 meaning_of-other b none = meaning_or_bytes-other b none (decide b)
 
--- An item that means a tree has it as its meaning.
+-- The meaning of an item that means a tree is that tree.
 pub view_meaning-document : (x : ItemView) (t : Tree) → Means x t → view_meaning x ≡ document t
 view_meaning-document (raw b) t doc = meaning_of-document b t doc
 view_meaning-document (owned b) t doc = meaning_of-document b t doc
 view_meaning-document x t e = cc
 
--- An item that holds no bytes means the tree that it holds.
+-- An item without bytes means the tree of its value.
 pub value_meaning : (x : JsonbItem) → ((r : RawJsonb) → x ≡ items.Raw r → ⊥)
     → ((o : OwnedJsonb) → x ≡ items.Owned o → ⊥) → (t : Tree) × (item_meaning x ≡ document t)
 value_meaning items.Null r o = (trees.null, refl)

@@ -1,4 +1,4 @@
--- Where the payloads of an object's keys end, by their entry words alone.
+-- The end of the payloads of an object's keys, computed from their entry words alone.
 use Rattle.std.proofs.Common.{◌≡◌, ℕ, zero, suc, ◌+◌, ◌-◌, ◌*◌, ◌^◌, ◌<◌, ◌≤◌, List, ◌++◌}
 use Rattle.std.proofs.Common.{drop, take, length, Ok, Err, sym, ap, subst, ◌∙◌, inl}
 use Rattle.std.proofs.Common.{inr, arith, length-drop}
@@ -17,7 +17,7 @@ use Rattle.jsonb.specs.Walk.{payloads_end}
 use Rattle.jsonb.proofs.Places.{At, At-right, word_at-within}
 use Rattle.jsonb.proofs.PartLaws.{word_cut}
 
--- behind an entry that can be read the end is that of the others
+-- after an entry that can be read, the end is that of the rest
 payloads_end-first : (bytes : List ℕ) (left place end : ℕ) (entry : JEntry)
     → jentry_at bytes place ≡ Ok entry
     → payloads_end bytes (suc left) place end
@@ -27,7 +27,7 @@ payloads_end-first bytes left place end entry e = rw e
 word_there : (xs : List ℕ) (i : ℕ) → i + 4 ≤ length xs → (k : ℕ) × (word_at xs i ≡ Ok k)
 word_there xs i long = (from_be_bytes w32 (take 4 (drop i xs)), word_at-inside xs i long)
 
--- so there is none where the words do not all stand there
+-- there is no end if some of the words are missing
 pub payloads_end-short : (bytes : List ℕ) (left place end : ℕ) → place ≤ length bytes
     → length bytes < place + 4 * left → payloads_end bytes left place end ≡ Err InvalidEOF
 payloads_end-short bytes zero place end inside short = absurd (omega arith)
@@ -39,7 +39,7 @@ payloads_end-short bytes (suc left) place end inside short =
       | inr cut ↦ rw (word_cut bytes place cut.1)
     ]
 
--- what is left of the words, and where the payloads end by them
+-- the remaining words, and the end of the payloads computed from them
 pub record EndsBy (bytes : List ℕ) (count : ℕ) (words : List ℕ) (end : ℕ) : Type 0 where
   left : ℕ
   long : length words ≡ 4 * left
@@ -48,7 +48,7 @@ pub record EndsBy (bytes : List ℕ) (count : ℕ) (words : List ℕ) (end : ℕ
   same : payloads_end bytes left (4 + 4 * (count - left)) end
       ≡ payloads_end bytes count 4 (4 + 8 * count)
 
--- all the words, which end by the place behind them
+-- all the words, whose payloads begin after them
 pub ends_by-all : (bytes : List ℕ) (count : ℕ) (words : List ℕ) → 4 + 4 * count ≤ length bytes
     → words ≡ slice_range bytes 4 (4 + 4 * count) → length words ≡ 4 * count
     → EndsBy bytes count words (4 + 8 * count)
@@ -109,7 +109,7 @@ some_entry words entry e = elim (leb_tells 4 (length words)) [
   | inr few ↦ let cut = ap jentry_in (word_cut words 0 few.1) in cc
 ]
 
--- its length has 28 bits
+-- the length has 28 bits
 pub short_entry : (words : List ℕ) (entry : JEntry) → jentry_at words 0 ≡ Ok entry
     → entry.length < 2 ^ 28
 short_entry words entry e =

@@ -1,4 +1,4 @@
--- The kind that a document shows is that of its tree.
+-- The kind read from a document is that of its tree.
 use Rattle.std.proofs.Common.{◌≡◌, ◌≢◌, ℕ, ◌+◌, List, ◌++◌, true, false, length, Ok, refl}
 use Rattle.std.proofs.Common.{ap, ◌∙◌, inl, inr, arith}
 use Rattle.jsonb_value.specs.Tree.{Tree, boolean, array, object}
@@ -25,7 +25,7 @@ container_cases P (boolean true) is of_array of_object = absurd (omega arith)
 container_cases P (boolean false) is of_array of_object = absurd (omega arith)
 container_cases P t is of_array of_object = absurd (omega arith)
 
--- what the words of a document say
+-- the header and the entry word of a document
 pub header_at-Scalar : (b : List ℕ) (t : Tree) → Scalar t b → header_at b 0 ≡ Ok (536870912, 0)
 header_at-Scalar b t h = header_at-At b 536870912 (omega arith)
     (At-whole b (word 536870912) _ h.parts) ∙ header_of-scalar

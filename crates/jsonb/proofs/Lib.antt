@@ -9,6 +9,7 @@ pub mod StandingLaws
 pub mod DocumentWalks
 pub mod ContentLaws
 pub mod PartLaws
+pub mod ParseLaws
 pub mod LookupLaws
 pub mod KeyEnds
 pub mod ResultLaws

@@ -21,7 +21,7 @@ bracketed-items : (l : Layout) (ts : Trees)
 bracketed-items l no_trees = refl
 bracketed-items l (tree t ts) = rw (more_lines-items (inside l) ts)
 
--- a pair before what follows it
+-- a pair followed by other text
 pair-before : (l : Layout) (k : List ℕ) (t : Tree) (rest : List ℕ)
     → pair_text l k t ++ rest ≡ string_text k ++ (colon l ++ (laid_out l t ++ rest))
 pair-before l k t rest = simp append_assoc
@@ -54,7 +54,7 @@ indent (suc n) =
     twice : (n : ℕ) → suc (suc (2 * n)) ≡ 2 * suc n
     twice n = omega arith
 
--- A container's lines, written one after the other: the first,
+-- The first line of a container is written.
 lines_begin : (l : Layout) (front end line : List ℕ) (lines : List (List ℕ))
     → (front ++ (line_start (inside l) ++ line))
     ++ (more_lines (inside l) lines ++ (line_start l ++ end))
@@ -78,13 +78,13 @@ pairs_begin l ps k t others are =
     lines_begin l (codes "{") (codes "}") (pair_text (inside l) k t) (pair_lines (inside l) others)
     ∙ bracketed-pairs l (pair k t others) ∙ ap (λ x. laid_out l (object x)) (sym are)
 
--- and another.
+-- A further line is written.
 pub lines_next : (i : Layout) (done end all line : List ℕ) (lines : List (List ℕ))
     → done ++ (more_lines i (line ∷ lines) ++ end) ≡ all
     → (done ++ (codes "," ++ (line_start i ++ line))) ++ (more_lines i lines ++ end) ≡ all
 lines_next i done end all line lines whole = simp append_assoc (simp append_assoc at whole)
 
--- What is left of an array or object holds less, and nests no deeper.
+-- What is left of an array or object has a smaller size and no greater depth.
 pub record IsLess (small large shallow deep : ℕ) : Type 0 where
   pub less : small ≤ large
   pub no_deeper : shallow ≤ deep

@@ -1,5 +1,5 @@
--- What a look-up finds on a document.
-use Rattle.std.proofs.Common.{◌≡◌, ℕ, zero, suc, ◌+◌, ◌*◌, ◌<◌, ◌^◌, Bool, true, false}
+-- The result of a look-up on a document.
+use Rattle.std.proofs.Common.{◌≡◌, ℕ, zero, suc, ◌+◌, ◌*◌, ◌<◌, ◌≤◌, ◌^◌, Bool, true, false}
 use Rattle.std.proofs.Common.{eqb, List, [], ◌∷◌, length, slice_get, Option, Some, None, option_map}
 use Rattle.std.proofs.Common.{◌==◌, ◌&&◌, if◌then◌else◌, Result, Ok, Err, IfErr}
 use Rattle.std.proofs.Common.{IsOk, IsOkAnd, refl, sym, ap, subst, ◌∙◌, arith}
@@ -12,7 +12,7 @@ use Rattle.jsonb_value.specs.declared.error.Error.{Error}
 use Rattle.jsonb_value.specs.declared.error.Error.TheVariants.{InvalidJsonbNumber}
 use Rattle.jsonb_value.specs.declared.error.Error.TheVariants.{InvalidJsonbExtension}
 use Rattle.jsonb_value.specs.declared.number.Number.{Number}
-use Rattle.jsonb_value.specs.Tree.{Tree, Extension}
+use Rattle.jsonb_value.specs.Tree.{Tree, Extension, null, boolean, number, text, extension, array}
 use Rattle.jsonb_value.specs.Tree.{object, Pairs, no_pairs, pair, pair_count}
 use Rattle.jsonb_codec.specs.JEntry.{jentry_at}
 use Rattle.jsonb_codec.specs.Doc.{Payload, Doc}
@@ -26,12 +26,13 @@ use Rattle.jsonb.specs.Standing.{IsFoundIn}
 use Rattle.jsonb.specs.Walk.{count_under}
 use Rattle.jsonb.specs.Parts.{length_in, part_length, length_before, part_start}
 use Rattle.jsonb.specs.Parts.{key_of_size, value_entry, IsPassedAt, PassedBefore, IsAccepted}
-use Rattle.jsonb.specs.Parts.{IsUnreadable, key_unread, value_unread}
+use Rattle.jsonb.specs.Parts.{IsUnreadable, key_unread, value_unread, IsNoneFound, IsValueFound}
 use Rattle.jsonb.specs.Lookup.{IsPassed, NoneAccepted, IsFirstAccepted, LooksUp}
 use Rattle.jsonb.specs.Lookup.{LooksUpBytes, no_header, other_header, unread, all_passed}
 use Rattle.jsonb.specs.Lookup.{one_accepted, LooksUpPairs}
 use Rattle.jsonb.specs.Lookup.{value_view, find_pair}
-use Rattle.jsonb.specs.Lookup.{find, AnswersBy, IsItemFound, IsRefusal}
+use Rattle.jsonb.specs.Lookup.{find, find_index, values_up_to, words_read, pairs_in, AnswersBy}
+use Rattle.jsonb.specs.Lookup.{IsItemFound, IsRefusal}
 use Rattle.jsonb.proofs.Places.{At-left, At, part_at-At}
 use Rattle.jsonb.proofs.PartLaws.{key_of_other_length, key_told}
 use Rattle.jsonb.proofs.StandingLaws.{value_trees, pair_keys, both_are, length-ArePairsOf}
@@ -42,13 +43,13 @@ use Rattle.jsonb.proofs.DocumentWalks.{object_payload, count_under-Doc}
 use Rattle.std.proofs.lemmas.Map.Entries.{length-keys_of}
 use Rattle.jsonb_codec.specs.Parts.{IsPayloadOf}
 
--- entries that stand among the n keys' and n values' from a part on
+-- entries at their positions among the n keys' and n values', from number i
 record StandAt (bytes : List ℕ) (n i : ℕ) (cs : List Entry) : Type 0 where
   are : AreEntries cs
   entries : At bytes (4 + 4 * i) (code_entries cs)
   payloads : At bytes (part_start bytes n i) (code_payloads cs)
 
--- one of them, by its number
+-- one entry at its position, by its number
 record Part (bytes : List ℕ) (n i : ℕ) (c : Entry) : Type 0 where
   entry : entry_at bytes (4 + 4 * i) (part_start bytes n i) ≡ Ok c
   jentry : jentry_at bytes (4 + 4 * i)
@@ -57,7 +58,7 @@ record Part (bytes : List ℕ) (n i : ℕ) (c : Entry) : Type 0 where
   long : part_length bytes i ≡ length c.payload
   short : length c.payload < 2 ^ 28
 
--- the first, and where the others stand
+-- the first entry, and the positions of the others
 first_part : (bytes : List ℕ) (n i : ℕ) (c : Entry) (cs : List Entry) → StandAt bytes n i (c ∷ cs)
     → Part bytes n i c × StandAt bytes n (suc i) cs
 unfolding part_length
@@ -93,7 +94,7 @@ part_of bytes n i (suc m) part (d ∷ cs) c at e is =
     part_of bytes n (suc i) m part cs c (first_part bytes n i d cs at).1 (omega arith) is
 
 module _ (size : ℕ) (bytes : List ℕ) (n i : ℕ) (c : Entry) (part : Part bytes n i c) where
-  -- the key that it is, where it has the size
+  -- the key with this number, if it has the size
   asked : (test : Bool) → eqb (length c.payload) size ≡ test
       → key_of_size size bytes n i ≡ Ok (if test then Some c.payload else None)
   asked true e = key_told size bytes n i _ _ (sym part.jentry) (eqb-true (length c.payload) size e)
@@ -116,7 +117,7 @@ module _ (size : ℕ) (bytes : List ℕ) (n i : ℕ) (c : Entry) (part : Part by
   key_read : IsOk (key_of_size size bytes n i)
   key_read = rw (asked (eqb (length c.payload) size) refl)
 
--- what is told of the keys by their numbers is told of the pairs
+-- statements about keys by number, as statements about the pairs
 module _ (answers : List ℕ → Bool → Type 0) (size : ℕ) where
   none_accepted : (ps : Pairs)
       → ((m : ℕ) (k : List ℕ) → slice_get (pair_keys ps) m ≡ Some k → IsPassed answers size k)
@@ -143,7 +144,7 @@ module _ (answers : List ℕ → Bool → Type 0) (size : ℕ) where
       (λ j x less. passes (suc j) x (omega arith)) in
       (v, d, ((passes 0 k (omega arith) refl, first), there, means))
 
--- how long the keys and the values are
+-- the total lengths of the keys and of the values
 length_before-entries : (bytes : List ℕ) (n i j : ℕ) (cs : List Entry) → StandAt bytes n i cs
     → j ≡ i + length cs
     → length_before bytes j ≡ length_before bytes i + length (code_payloads cs)
@@ -157,7 +158,7 @@ length_before-entries bytes n i j (c ∷ cs) at end =
     let long = part.long in
     omega arith
 
--- where the parts of an object stand, by their numbers
+-- the entries of an object at their positions, by number
 record Numbered (bytes : List ℕ) (ps : Pairs) : Type 0 where
   members : List (List ℕ × Entry)
   stand : HasMembers bytes ps members
@@ -201,11 +202,11 @@ numbered bytes ps h =
       counted = counted;
     }
 
--- A header that cannot be read is not that of a document.
+-- A document's header can be read.
 pub count-Doc : (b : List ℕ) (t : Tree) (e : Error) → Doc b t → Err e ≡ count_under b 1073741824 → ⊥
 count-Doc b t e h same = let found = count_under-Doc b t 1073741824 h in cc
 
--- What is answered on the bytes of a document is what is found there.
+-- The result on the bytes of a document is what is found in the document.
 module _ (answers : List ℕ → Bool → Type 0) (size : ℕ) (b : List ℕ) where
   none_found : (r : Result (Option ItemView) Error) (reads : ℕ)
       → count_under b 1073741824 ≡ Ok None → LooksUpBytes answers size b r reads
@@ -217,7 +218,7 @@ module _ (answers : List ℕ → Bool → Type 0) (size : ℕ) (b : List ℕ) wh
   none_found r reads found (one_accepted n index entry told key there is cost) = cc
 
   module _ (ps : Pairs) (at : Numbered b ps) where
-    -- the parts by their numbers
+    -- the entries by number
     key_part : (m : ℕ) (k : List ℕ) → slice_get (pair_keys ps) m ≡ Some k
         → Part b (pair_count ps) m record { type = 268435456; payload = k }
     key_part m k is = part_of b (pair_count ps) 0 m m _ _ at.keys (omega arith)
@@ -226,6 +227,45 @@ module _ (answers : List ℕ → Bool → Type 0) (size : ℕ) (b : List ℕ) wh
     value_part : (m : ℕ) (c : Entry) → slice_get (values_of at.members) m ≡ Some c
         → Part b (pair_count ps) (pair_count ps + m) c
     value_part m c = part_of b (pair_count ps) (pair_count ps) m _ _ c at.values refl
+
+    -- the value of the accepted key, by its entry
+    record ValueAt (index : ℕ) (entry : Entry) : Type 0 where
+      value : Tree
+      first : IsFirstAccepted answers size ps index value
+      stands : slice_get (values_of at.members) index ≡ Some entry
+      means : IsPayloadOf entry.type entry.payload value
+      short : length entry.payload < 2 ^ 28
+
+    value_at : (index : ℕ) (entry : Entry) → IsAccepted answers size b (pair_count ps) index
+        → value_entry b (pair_count ps) index ≡ Ok entry → ValueAt index entry
+    value_at index entry key there =
+        let named = slice_get-get_or (pair_keys ps) index []
+        (omega (arith, key.among, length-pair_keys ps)) in
+        let (fits, given) = accepted size b _ index _ (key_part index _ named) key.key key.there in
+        let (v, c, (first, stands, means)) = first_accepted answers size (values_of at.members) ps
+        index _ at.mean named fits (rw given at key.accepted) (λ j x less at_j.
+        passed size b _ j _ (key_part j x at_j) answers (key.earlier j less)) in
+        let part = value_part index c stands in
+        let read = part.entry in
+        let this : entry ≡ c = cc in
+        rw this record {
+          value = v;
+          first = first;
+          stands = stands;
+          means = means;
+          short = part.short;
+        }
+
+    all_passed_over : PassedBefore answers size b (pair_count ps) (pair_count ps)
+        → NoneAccepted answers size ps
+    all_passed_over before = none_accepted answers size ps (λ m k there.
+        passed size b _ m _ (key_part m k there) answers
+        (before m (omega (
+          arith,
+          slice_get_within (pair_keys ps) m k there,
+          length-pair_keys
+              ps,
+        ))))
 
     never_unread : (e : Error) → IsUnreadable answers size b (pair_count ps) e → ⊥
     never_unread e (key_unread index among before refused) =
@@ -250,39 +290,21 @@ module _ (answers : List ℕ → Bool → Type 0) (size : ℕ) (b : List ℕ) wh
     pairs_found r reads found (all_passed n told none is cost) =
         let same : n ≡ pair_count ps = cc in
         let before = subst (λ k. PassedBefore answers size b k k) same none in
-        rw is record {
-          none = none_accepted answers size ps (λ m k there.
-              passed size b _ m _ (key_part m k there) answers
-              (before m (omega (
-                arith,
-                slice_get_within (pair_keys ps) m k there,
-                length-pair_keys
-                    ps,
-              ))));
-          cost = omega arith;
-        }
+        rw is record { none = all_passed_over before; cost = omega arith }
     pairs_found r reads found (one_accepted n index entry told key there is cost) =
         let same : n ≡ pair_count ps = cc in
         let key = subst (λ n. IsAccepted answers size b n index) same key in
         let there = subst (λ n. value_entry b n index ≡ Ok entry) same there in
-        let named = slice_get-get_or (pair_keys ps) index []
-        (omega (arith, key.among, length-pair_keys ps)) in
-        let (fits, given) = accepted size b _ index _ (key_part index _ named) key.key key.there in
-        let (v, c, (first, stands, means)) = first_accepted answers size (values_of at.members) ps
-        index _ at.mean named fits (rw given at key.accepted) (λ j x less at_j.
-        passed size b _ j _ (key_part j x at_j) answers (key.earlier j less)) in
-        let part = value_part index c stands in
-        let (x, (item, shown)) = entry_item-tree c v means part.short in
-        let read = part.entry in
-        let this : entry ≡ c = cc in
-        rw (is, this, item) record {
+        let f = value_at index entry key there in
+        let (x, (item, shown)) = entry_item-tree entry f.value f.means f.short in
+        rw (is, item) record {
           index = index;
-          value = v;
-          first = first;
+          value = f.value;
+          first = f.first;
           item = shown;
           members = at.members;
           stand = at.stand;
-          entry = rw (stands, item);
+          entry = rw (f.stands, item);
           cost = omega arith;
         }
 
@@ -301,7 +323,7 @@ module _ (answers : List ℕ → Bool → Type 0) (size : ℕ) (b : List ℕ) wh
   LooksUp-bytes t (Ok found) reads doc = tree_found t (Ok (option_map item_view found)) reads doc
   LooksUp-bytes t (Err e) reads doc = tree_found t (Err e) reads doc
 
--- why there is no item
+-- the errors of an entry's payload
 if_refused : (b : Bool) (x y : Result ItemView Error) → IfErr x IsRefusal → IfErr y IsRefusal
     → IfErr (if b then x else y) IsRefusal
 if_refused true x y h k = h
@@ -326,7 +348,7 @@ item_refused type p = search (if_refused, number_refused, extension_refused) dep
 pub item_of-refused : (type : ℕ) (p : List ℕ) (e : Error) → Err e ≡ item_of type p → IsRefusal e
 item_of-refused type p e same = rw (← same) at (item_refused type p)
 
--- what is found where the answers are those of one test, and the entry that stands there
+-- what is found if the closure computes one predicate, and its entry
 module _ (answers : List ℕ → Bool → Type 0) (accepts : List ℕ → Bool) (size : ℕ)
     (by : AnswersBy accepts answers size) where
   passed_by_test : (key k : List ℕ) → key ≡ k → IsPassed answers size k
@@ -356,12 +378,76 @@ module _ (answers : List ℕ → Bool → Type 0) (accepts : List ℕ → Bool) 
   find_pair-first (pair k t ps) (suc i) v h =
       rw (passed_by_test k k refl h.0) (find_pair-first ps i v h.1)
 
+  find_index-none : (ps : Pairs) → NoneAccepted answers size ps
+      → find_index accepts size ps ≡ None
+  find_index-none no_pairs none = refl
+  find_index-none (pair k t ps) none =
+      rw (passed_by_test k k refl none.0, find_index-none ps none.1)
+
+  find_index-first : (ps : Pairs) (i : ℕ) (v : Tree) → IsFirstAccepted answers size ps i v
+      → find_index accepts size ps ≡ Some i
+  find_index-first no_pairs i v h = absurd h
+  find_index-first (pair k t ps) zero v h = rw (accepted_by_test k k refl h.0 h.1.0)
+  find_index-first (pair k t ps) (suc i) v h =
+      rw (passed_by_test k k refl h.0, find_index-first ps i v h.1)
+
+  -- A look-up in a document, by the entries that it reads: what its tree has at the key, and how
+  -- many words are read.
+  module _ (b : List ℕ) (n : ℕ) where
+    pub value_by_entry : (t : Tree) (entry : Entry) (reads : ℕ) → Doc b t
+        → Ok (Some n) ≡ count_under b 1073741824 → IsValueFound answers size b n entry reads
+        → (v : Tree) × ((find accepts size t ≡ Some v) × (IsPayloadOf entry.type entry.payload v
+        × (reads + 1 ≡ words_read accepts size t)))
+    value_by_entry (object ps) entry reads doc counted h =
+        let known = count_under-Doc b (object ps) 1073741824 doc in
+        let same : n ≡ pair_count ps = cc in
+        let at = numbered b ps (object_payload b ps doc) in
+        let f = value_at answers size b ps at h.pair entry (rw same at h.key) (rw same at h.there) in (
+          f.value,
+          (
+            find_pair-first ps h.pair f.value f.first,
+            (f.means, rw (find_index-first ps h.pair f.value f.first) (omega (arith, h.cost))),
+          ),
+        )
+    value_by_entry t entry reads doc counted h =
+        absurd (let known = count_under-Doc b t 1073741824 doc in cc)
+
+    pub none_by_entries : (t : Tree) (reads : ℕ) → Doc b t
+        → Ok (Some n) ≡ count_under b 1073741824 → IsNoneFound answers size b n reads
+        → (find accepts size t ≡ None) × (reads + 1 ≡ words_read accepts size t)
+    none_by_entries (object ps) reads doc counted h =
+        let known = count_under-Doc b (object ps) 1073741824 doc in
+        let same : n ≡ pair_count ps = cc in
+        let at = numbered b ps (object_payload b ps doc) in
+        let none = all_passed_over answers size b ps at
+        (subst (λ k. PassedBefore answers size b k k) same h.none) in
+        (find_pair-none ps none, rw (find_index-none ps none) (omega (arith, h.cost)))
+    none_by_entries t reads doc counted h =
+        absurd (let known = count_under-Doc b t 1073741824 doc in cc)
+
+    pub always_read : (t : Tree) (e : Error) → Doc b t → Ok (Some n) ≡ count_under b 1073741824
+        → IsUnreadable answers size b n e → ⊥
+    always_read (object ps) e doc counted h =
+        let known = count_under-Doc b (object ps) 1073741824 doc in
+        let same : n ≡ pair_count ps = cc in
+        never_unread answers size b ps (numbered b ps (object_payload b ps doc)) e (rw same at h)
+    always_read t e doc counted h =
+        absurd (let known = count_under-Doc b t 1073741824 doc in cc)
+
   pub item_found : (b : List ℕ) (t : Tree) (o : Option ItemView) (reads : ℕ)
       → LooksUp answers size b t o reads → IsItemFound (find accepts size t) o
   item_found b (object ps) None reads h = rw (find_pair-none ps h.none) tt
   item_found b (object ps) (Some x) reads h =
       rw (find_pair-first ps h.index h.value h.first) h.item
   item_found b t o reads h = rw h.0 tt
+
+  pub words_found : (b : List ℕ) (t : Tree) (o : Option ItemView) (reads : ℕ)
+      → LooksUp answers size b t o reads → reads ≡ words_read accepts size t
+  words_found b (object ps) None reads h =
+      rw (find_index-none ps h.none) (omega (arith, h.cost))
+  words_found b (object ps) (Some x) reads h =
+      rw (find_index-first ps h.index h.value h.first) (omega (arith, h.cost))
+  words_found b t o reads h = h.1
 
   pub find_entry-none : (ms : List (List ℕ × Entry)) (ps : Pairs)
       → ArePairsOf (keys_of ms) (values_of ms) ps → NoneAccepted answers size ps
@@ -391,7 +477,39 @@ module _ (answers : List ℕ → Bool → Type 0) (accepts : List ℕ → Bool) 
       (h.members, (h.stand, rw first h.entry))
   found_standing b t o reads doc h = h.0
 
--- The same of a call's result.
+-- In a document that is no object nothing is found, after the header's word.
+pub none_by_header : (accepts : List ℕ → Bool) (size : ℕ) (b : List ℕ) (t : Tree) → Doc b t
+    → Ok None ≡ count_under b 1073741824
+    → (find accepts size t ≡ None) × (1 ≡ words_read accepts size t)
+none_by_header accepts size b (object ps) doc counted =
+    absurd (let known = count_under-Doc b (object ps) 1073741824 doc in cc)
+none_by_header accepts size b t doc counted = (refl, refl)
+
+-- At most two words for each pair are read, and the header.
+values_within : (accepts : List ℕ → Bool) (size : ℕ) (ps : Pairs)
+    → values_up_to (find_index accepts size ps) ≤ pair_count ps
+values_within accepts size no_pairs = omega arith
+values_within accepts size (pair k t ps) =
+    at_test ((length k == size) && accepts k) (find_index accepts size ps)
+    (values_within accepts size ps)
+  where
+    at_test : (b : Bool) (index : Option ℕ) → values_up_to index ≤ pair_count ps
+        → values_up_to (if b then Some 0 else option_map suc index) ≤ suc (pair_count ps)
+    at_test true index h = omega arith
+    at_test false (Some i) h = omega (arith, h)
+    at_test false None h = omega arith
+
+pub words_read-within : (accepts : List ℕ → Bool) (size : ℕ) (t : Tree)
+    → words_read accepts size t ≤ 2 * pairs_in t + 1
+words_read-within accepts size (object ps) = omega (arith, values_within accepts size ps)
+words_read-within accepts size null = omega arith
+words_read-within accepts size (boolean v) = omega arith
+words_read-within accepts size (number v) = omega arith
+words_read-within accepts size (text v) = omega arith
+words_read-within accepts size (extension v) = omega arith
+words_read-within accepts size (array ts) = omega arith
+
+-- A weaker property of a successful result.
 pub IsOkAnd-weaker : {A E : Type 0} (r : Result A E) (P Q : A → Type 0) → ((x : A) → P x → Q x)
     → IsOkAnd r P → IsOkAnd r Q
 IsOkAnd-weaker (Ok x) P Q weaker h = weaker x h

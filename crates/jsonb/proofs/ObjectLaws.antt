@@ -1,4 +1,4 @@
--- Keys of maps, and what maps hold.
+-- The keys and the contents of maps.
 use Rattle.std.proofs.Common.{◌≡◌, ℕ, zero, suc, ◌<◌, List, [], ◌∷◌, length, Bor, Bool}
 use Rattle.std.proofs.Common.{true, false, cond, refl, arith, Option, Some, ◌||◌, slice_index_or}
 use Rattle.std.proofs.lemmas.Map.Text.{is_eq-slice_cmp}
@@ -17,7 +17,7 @@ use Rattle.jsonb.specs.Children.{pairs_by, key_bytes}
 use Rattle.jsonb.specs.Building.{AreTexts, AreKeys, has_key, with_pair}
 use Rattle.jsonb.proofs.InputLaws.{map-insert_entry}
 
--- Whether a key is there, and the pairs with one more, by the keys' bytes.
+-- Whether a map has a key, and inserting a pair, by the bytes of the keys.
 abbrev pub key_test : List ℕ → Bor (List ℕ) → Bool
 key_test key = is_at (λ k. slice_cmp nat_cmp key k.now)
 
@@ -41,7 +41,7 @@ module _ {A : Type 0} (view : A → ItemView) where
       ≡ with_pair (pairs_by view es) key.now (view x)
   with_pair-entries = map-insert_entry (slice_cmp nat_cmp) (λ k. k.now) view
 
--- A map's keys ascend,
+-- The keys of a map ascend.
 above-keys : {A : Type 0} (k : Bor (List ℕ)) (es : List (Bor (List ℕ) × A))
     → AllByRecursion (λ y. key_cmp k y ≡ Less) (keys_of es)
     → AllByRecursion (λ y. slice_cmp nat_cmp k.now y ≡ Less) (key_bytes es)
@@ -55,7 +55,7 @@ unfolding IsStrictlySortedBy
 ascend-keys [] h = tt
 ascend-keys (e ∷ es) h = (above-keys e.0 es h.0, ascend-keys es h.1)
 
--- and are texts, as what is held in it has them.
+-- The keys of a map are UTF-8.
 module _ {A : Type 0} (held : A → Type 0) where
   texts-held : (es : List (Bor (List ℕ) × A))
       → AllByRecursion (λ e. IsUtf8 e.0.now × held e.1) es → AreTexts (key_bytes es)

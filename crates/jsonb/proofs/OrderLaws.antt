@@ -1,4 +1,4 @@
--- The order of bytes by what they mean.
+-- The order of byte strings by meaning.
 use Rattle.std.proofs.Common.{◌≡◌, ℕ, List, Some, Ok, ap₂, ◌∙◌}
 use Rattle.std.specs.declared.cmp.Ordering.{Ordering}
 use Rattle.std.specs.declared.cmp.Ordering.TheVariants.{Equal}
@@ -23,24 +23,24 @@ use Rattle.jsonb.proofs.ItemMeaningLaws.{meaning_of-document, view_meaning-docum
 pub bytes_total : IsTotalOrder (on meaning_of meaning_cmp)
 bytes_total = on_total meaning_of meaning_cmp_total
 
--- Documents compare as their trees,
+-- Documents compare as their trees.
 pub bytes_cmp-trees : (l r : List ℕ) (t u : Tree) → Doc l t → Doc r u
     → meaning_cmp (meaning_of l) (meaning_of r) ≡ tree_cmp t u
 bytes_cmp-trees l r t u h k =
     ap₂ meaning_cmp (meaning_of-document l t h) (meaning_of-document r u k)
 
--- those of one tree are equal,
+-- Documents of one tree are equal.
 pub bytes_cmp-one_tree : (l r : List ℕ) (t : Tree) → Doc l t → Doc r t
     → meaning_cmp (meaning_of l) (meaning_of r) ≡ Equal
 bytes_cmp-one_tree l r t h k = bytes_cmp-trees l r t t h k ∙ tree_cmp-itself t
 
--- and so are the items that mean it.
+-- Items that mean one tree are equal.
 pub items_cmp-one_tree : (x y : ItemView) (t : Tree) → Means x t → Means y t
     → meaning_cmp (view_meaning x) (view_meaning y) ≡ Equal
 items_cmp-one_tree x y t h k =
     ap₂ meaning_cmp (view_meaning-document x t h) (view_meaning-document y t k) ∙ tree_cmp-itself t
 
--- What the kinds tell of two trees is so,
+-- If the kinds determine an order, the trees have that order.
 tree_cmp-kinds : (t u : Tree) (o : Ordering) → rank_order (kind_of_tree t) (kind_of_tree u) ≡ Some o
     → tree_cmp t u ≡ o
 tree_cmp-kinds null null o e = cc
@@ -52,7 +52,7 @@ tree_cmp-kinds (boolean a) (boolean b) o e = cc
 tree_cmp-kinds (extension d) (extension f) o e = cc
 tree_cmp-kinds t u o e = cc
 
--- and so of two documents.
+-- If the kinds determine an order, the documents have that order.
 pub bytes_cmp-kinds : (l r : List ℕ) (k m : JsonbItemType) (o : Ordering) → IsDocument l
     → IsDocument r → kind l ≡ Ok k → kind r ≡ Ok m → rank_order k m ≡ Some o
     → meaning_cmp (meaning_of l) (meaning_of r) ≡ o
@@ -64,7 +64,7 @@ bytes_cmp-kinds l r k m o h g left right e =
     bytes_cmp-trees l r h.0 g.0 h.1 g.1
     ∙ tree_cmp-kinds h.0 g.0 o (cc (same_left, same_right, e))
 
--- A tree and its norm compare alike with all bytes.
+-- A tree and its normal form compare alike with everything.
 tied_left : (m n k : Meaning) → meaning_cmp m n ≡ Equal → meaning_cmp m k ≡ meaning_cmp n k
 tied_left m n k e = meaning_cmp_total.congr m n k e
 

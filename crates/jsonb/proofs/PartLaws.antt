@@ -1,4 +1,4 @@
--- Where the parts of an object stand.
+-- The positions of an object's entries and payloads.
 use Rattle.std.proofs.Common.{◌≡◌, ℕ, zero, suc, ◌+◌, ◌-◌, ◌*◌, ◌^◌, ◌<◌, ◌≤◌, ◌≢◌, List}
 use Rattle.std.proofs.Common.{length, Some, None, Result, Ok, Err}
 use Rattle.std.proofs.Common.{arith, add-zero, add-suc, ne_eqb}
@@ -14,7 +14,7 @@ use Rattle.jsonb.specs.Item.{entry_at, part_at}
 use Rattle.jsonb.specs.Parts.{length_in, part_length, length_before, part_start, HasParts}
 use Rattle.jsonb.specs.Parts.{key_of_size, value_entry}
 
--- later parts begin later
+-- later payloads begin later
 length_before-add : (bytes : List ℕ) (part more : ℕ)
     → length_before bytes part ≤ length_before bytes (part + more)
 length_before-add bytes part zero = rw add-zero (omega arith)
@@ -28,7 +28,7 @@ length_before-le bytes part later h =
     let e : part + (later - part) ≡ later = omega arith in
     rw e at (length_before-add bytes part (later - part))
 
--- each entry that is counted is there, with its payload
+-- each counted entry is present, with its payload
 pub part_fits : (bytes : List ℕ) (n part : ℕ) → HasParts bytes n → part < 2 * n
     → (part_start bytes n part + part_length bytes part ≤ length bytes)
     × (4 + 4 * part + 4 ≤ length bytes)
@@ -45,7 +45,7 @@ part_length-bound : (bytes : List ℕ) (part : ℕ) → part_length bytes part �
 unfolding part_length
 part_length-bound bytes part = length_in-bound (word_at bytes (4 + 4 * part))
 
--- no part begins far in
+-- a bound on the offset of a payload
 pub before_bound : (bytes : List ℕ) (part : ℕ) → length_before bytes part ≤ 2 ^ 28 * part
 before_bound bytes zero = omega arith
 before_bound bytes (suc part) =
@@ -53,7 +53,7 @@ before_bound bytes (suc part) =
     let one = part_length-bound bytes part in
     omega arith
 
--- What is asked about a key, by its entry and where it begins.
+-- The key with this number, given its entry word and its offset.
 module _ (size : ℕ) (bytes : List ℕ) (n pair : ℕ) where
   pub key_cut : (e : Error) → Err e ≡ jentry_at bytes (4 + 4 * pair)
       → key_of_size size bytes n pair ≡ Err e
@@ -77,7 +77,7 @@ module _ (size : ℕ) (bytes : List ℕ) (n pair : ℕ) where
 pub word_cut : (bytes : List ℕ) (i : ℕ) → length bytes < i + 4 → word_at bytes i ≡ Err InvalidEOF
 word_cut bytes i short = rw (lt-leb (i + 4) (length bytes) short)
 
--- the entry of a value, by its word and where it begins
+-- the value's entry, given its entry word and its offset
 module _ (bytes : List ℕ) (n pair : ℕ) where
   pub value_cut : length bytes < 4 + 4 * (n + pair) + 4 → value_entry bytes n pair ≡ Err InvalidEOF
   unfolding entry_at

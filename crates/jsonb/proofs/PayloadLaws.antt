@@ -1,4 +1,4 @@
--- What payloads mean as functions of their bytes, told by the relations.
+-- The meanings of payloads as functions agree with the relations.
 use Rattle.std.proofs.Common.{◌≡◌, ℕ, List, Some, None, inl, inr, refl, ap, Bor, Err}
 use Rattle.jsonb_value.specs.declared.error.Error.TheVariants.{InvalidJsonbNumber}
 use Rattle.jsonb_value.specs.declared.number.Number.{Number}
@@ -11,7 +11,7 @@ use Rattle.jsonb_value.proofs.PayloadDecision.{Decided, decide_number, decide_ex
 use Rattle.jsonb.specs.Payloads.{witness_of, number_in, extension_in, extension_error}
 use Rattle.jsonb.specs.Item.{number_item, extension_item}
 
--- what was found is what there is, where there is one thing at most
+-- if there is at most one element, the one that was found is it
 found-some : {A : Type 0} (P : A → Type 0) (d : Decided ((x : A) × P x)) (x : A)
     → ((y : A) → P y → y ≡ x) → P x → witness_of P d ≡ Some x
 found-some P (inl h) x unique k = ap Some (unique h.0 h.1)
@@ -53,7 +53,7 @@ pub ExtCode-extension_in : (p : List ℕ) (e : Extension) → extension_in p ≡
 unfolding extension_in
 ExtCode-extension_in p e h = found-holds (ExtCode p) (decide_extension p) e h
 
--- what an item of given bytes keeps
+-- the bytes kept by an item made from bytes
 pub number_in-given : (bytes : Bor (List ℕ)) (x : Number) → NumCode bytes.now x
     → (given : Bor (List ℕ)) → Some bytes ≡ Some given → number_in given.now ≡ Some x
 number_in-given bytes x h given e =
@@ -64,7 +64,7 @@ pub extension_in-given : (bytes : Bor (List ℕ)) (x : Extension) → ExtCode by
 extension_in-given bytes x h given e =
     let same : bytes ≡ given = cc in rw same at (extension_in-ExtCode bytes.now x h)
 
--- no item of bytes that mean none
+-- bytes that mean no number have no item
 pub number_item-none : (p : List ℕ) → ((x : Number) → NumCode p x → ⊥)
     → Err InvalidJsonbNumber ≡ number_item p
 number_item-none p nothing = cc (number_in-none p nothing)

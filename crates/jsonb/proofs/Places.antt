@@ -1,4 +1,4 @@
--- Where words and payloads stand in bytes.
+-- Words and payloads at offsets in byte strings.
 use Rattle.std.proofs.Common.{◌≡◌, ℕ, ◌+◌, ◌-◌, ◌%◌, ◌^◌, ◌<◌, ◌≤◌, List, [], ◌++◌, length, take}
 use Rattle.std.proofs.Common.{drop, Ok, refl, sym, ap, ◌∙◌, arith, length-append, append_assoc}
 use Rattle.std.proofs.Common.{append-nil, le-leb}
@@ -10,7 +10,7 @@ use Rattle.jsonb_codec.specs.Word.{word, word_at, header_of, header_at}
 use Rattle.jsonb_codec.specs.JEntry.{jentry_at}
 use Rattle.jsonb.specs.Item.{part_at}
 
--- bytes stand in others, from a place on
+-- the bytes have xs at offset i
 pub record At (bytes : List ℕ) (i : ℕ) (xs : List ℕ) : Type 0 where
   pub front : List ℕ
   pub rest : List ℕ
@@ -57,7 +57,7 @@ within-At bytes i xs h = omega (
   h.place,
 )
 
--- the bytes that stand there
+-- reading the bytes at an offset
 pub part_at-At : (bytes : List ℕ) (i n : ℕ) (xs : List ℕ) → n ≡ length xs → At bytes i xs
     → part_at bytes i n ≡ Ok xs
 unfolding part_at
@@ -66,7 +66,7 @@ part_at-At bytes i n xs e h =
     let test = le-leb (i + n) (length bytes) (omega arith) in
     rw test (cc (e, take-At bytes i xs h))
 
--- a word of bytes that stand in others
+-- a word inside the bytes at an offset
 pub word_at-within : (bytes : List ℕ) (i : ℕ) (xs : List ℕ) → At bytes i xs → 4 ≤ length xs
     → word_at bytes i ≡ word_at xs 0
 word_at-within bytes i xs h long =
@@ -87,14 +87,14 @@ pub At-behind_word : (bytes : List ℕ) (i j k : ℕ) (xs : List ℕ) → j ≡ 
 At-behind_word bytes i j k xs e h =
     At-right bytes i j (word k) xs (cc (e, length-word k)) h
 
--- a word that stands there
+-- a word at an offset
 pub word_at-At : (bytes : List ℕ) (i k : ℕ) → k < 2 ^ 32 → At bytes i (word k)
     → word_at bytes i ≡ Ok k
 unfolding word
 word_at-At bytes i k small h = word_at-within bytes i (word k) h (omega (arith, length-word k))
     ∙ ap Ok (from_be_bytes-to_be_bytes_4 k small)
 
--- a header that stands there
+-- a header at offset 0
 pub header_at-At : (bytes : List ℕ) (k : ℕ) → k < 2 ^ 32 → At bytes 0 (word k)
     → header_at bytes 0 ≡ header_of k
 header_at-At bytes k small h = cc (word_at-At bytes 0 k small h)
@@ -119,7 +119,7 @@ pub record IsTag (type : ℕ) : Type 0 where
   pub step : type % 2 ^ 28 ≡ 0
   pub room : type + 2 ^ 28 ≤ 2 ^ 31
 
--- an entry word that stands there
+-- an entry word at an offset
 pub jentry_at-At : (bytes : List ℕ) (i type n : ℕ) → IsTag type → n < 2 ^ 28
     → At bytes i (word (type + n)) → jentry_at bytes i ≡ Ok record { type_code = type; length = n }
 jentry_at-At bytes i type n tag short h =

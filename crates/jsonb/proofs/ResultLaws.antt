@@ -1,4 +1,4 @@
--- What is built of documents is a document.
+-- What is built from documents is a document.
 use Rattle.std.proofs.Common.{◌≡◌, ℕ, suc, ◌+◌, ◌<◌, ◌^◌, List, [], ◌∷◌, ◌++◌, length, map, refl}
 use Rattle.std.proofs.Common.{sym, ap, ap₂, ◌∙◌, inl, inr}
 use Rattle.jsonb_value.specs.Tree.{Tree, Trees, no_trees, tree, array, count}
@@ -81,7 +81,7 @@ AreCodesOf-documents (b ∷ bs) no_trees h = absurd h
 AreCodesOf-documents (b ∷ bs) (tree t ts) h =
     (IsCodeOf-document_code b t h.0, AreCodesOf-documents bs ts h.1)
 
--- what was built is the array of the entries that the items have
+-- what was built is the array of the items' entries
 pub array_of-IsArrayOf : (xs : List ItemView) (bytes : List ℕ) → IsArrayOf xs bytes
     → bytes ≡ array_of (codes_of xs)
 array_of-IsArrayOf xs bytes h =
@@ -139,7 +139,7 @@ AreWritten-canonical (b ∷ bs) (tree t ts) h short =
       );
     }
 
--- And of canonical documents the canonical one.
+-- What is built from canonical documents is canonical.
 pub canon-documents : (bs : List (List ℕ)) (bytes : List ℕ) → IsArrayOf (map raw bs) bytes
     → (ts : Trees) → AreCanonical bs ts → Fits (array ts) × (bytes ≡ canon (array ts))
 canon-documents bs bytes h ts are =
@@ -153,7 +153,7 @@ canon-documents bs bytes h ts are =
           (ap₂ (λ ys zs. ys ++ zs) w.entries w.payloads),
     )
 
--- what is built of inputs
+-- what is built from inputs
 pub IsArrayOfInputs-IsArrayOf : (bs : List (List ℕ)) (xs : List ItemView) (bytes : List ℕ)
     → xs ≡ map raw bs → IsArrayOf xs bytes → IsArrayOfInputs bs bytes
 IsArrayOfInputs-IsArrayOf bs xs bytes same h =

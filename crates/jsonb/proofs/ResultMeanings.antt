@@ -1,4 +1,4 @@
--- What is built means what its items mean, but for zeros.
+-- What is built means what its items mean, up to signed zeros.
 use Rattle.std.proofs.Common.{◌≡◌, ℕ, List, [], ◌∷◌, Some, None, true, false, refl, sym}
 use Rattle.std.proofs.Common.{ap, ◌∙◌}
 use Rattle.std.specs.Map.{keys_of, values_of}
@@ -31,11 +31,11 @@ norm_number-norm_number (UInt64 n) = refl
 norm_number-norm_number (Decimal64 d) = refl
 norm_number-norm_number (Decimal128 d) = refl
 
--- the entry means the tree, but for a zero
+-- the entry means the tree, up to signed zeros
 abbrev MeansUpToZeros : Entry → Tree → Type 0
 MeansUpToZeros c t = (u : Tree) × (IsCodeOf c u × (norm u ≡ norm t))
 
--- What an item is stored with means what it means.
+-- The entry of an item means what the item means.
 code_meaning : (x : ItemView) → IsStored x → IsHeld x → (t : Tree) → Means x t
     → MeansUpToZeros (code_of x) t
 code_meaning null stored held t h = (trees.null, ((refl, refl), cc h))
@@ -70,7 +70,7 @@ codes_meaning (x ∷ xs) storable held (tree t ts) h =
       ((here.1.0, more.1.0), cc (here.1.1, more.1.1)),
     )
 
--- So does what is built of items,
+-- The array built from items means what they mean, up to signed zeros.
 pub IsArrayUpToZeros-IsArrayOf : (xs : List ItemView) (bytes : List ℕ) → IsArrayOf xs bytes
     → AreHeld xs → (ts : Trees) → AllMean xs ts → IsArrayUpToZeros ts bytes
 IsArrayUpToZeros-IsArrayOf xs bytes h held ts mean =
@@ -98,7 +98,7 @@ pairs_meaning (q ∷ qs) storable held (pair k t ps) h =
       ),
     )
 
--- and of items at keys.
+-- The object built from items at keys means what they mean, up to signed zeros.
 pub IsObjectUpToZeros-IsObjectOf : (qs : List (List ℕ × ItemView)) (bytes : List ℕ)
     → IsObjectOf qs bytes → AreKeys (keys_of qs) → AreHeld (values_of qs) → (ps : Pairs)
     → AllMeanAt qs ps → IsObjectUpToZeros ps bytes

@@ -1,4 +1,4 @@
--- What is built of documents at keys is a document.
+-- What is built from documents at keys is a document.
 use Rattle.std.proofs.Common.{◌≡◌, ℕ, ◌<◌, ◌^◌, List, [], ◌∷◌, ◌++◌, length, Some, Result}
 use Rattle.std.proofs.Common.{arith, Ok, Err, IfOk, OnOk, refl, ap, inr}
 use Rattle.std.specs.Map.{keys_of, values_of}
@@ -53,7 +53,7 @@ AreCodesOf-keys : (ps : Pairs) → AreTexts (pair_keys ps)
 AreCodesOf-keys no_pairs texts = refl
 AreCodesOf-keys (pair k t ps) texts = ((refl, (refl, texts.0)), AreCodesOf-keys ps texts.1)
 
--- the object of keys that ascend, and of entries that mean trees
+-- an object with ascending keys and entries that mean trees
 pub Doc-object_of : (ks : List (List ℕ)) (cs : List Entry) (ps : Pairs) → ArePairsOf ks cs ps
     → AreKeys ks → AreShort (key_codes ks) → AreShort cs → length cs < 2 ^ 29
     → Doc (object_of ks cs) (object ps)
@@ -136,7 +136,7 @@ AreWritten-canonical (q ∷ qs) (pair k t ps) h short_keys short =
       );
     }
 
--- And of canonical documents the canonical one.
+-- What is built from canonical documents is canonical.
 canon-pairs : (qs : List (List ℕ × List ℕ)) (bytes : List ℕ) → IsObjectOf (raw_pairs qs) bytes
     → (ps : Pairs) → ArePairsCanonical qs ps → Fits (object ps) × (bytes ≡ canon (object ps))
 canon-pairs qs bytes h ps are =
@@ -149,7 +149,7 @@ canon-pairs qs bytes h ps are =
       cc,
     )
 
--- what is built of inputs
+-- what is built from inputs
 pub IsObjectOfInputs-IsObjectOf : (inputs : List (List ℕ × List ℕ))
     (pairs : List (List ℕ × ItemView)) (bytes : List ℕ) → pairs ≡ raw_pairs (in_order inputs)
     → IsDistinct bytes_eq (keys_of inputs)
@@ -164,7 +164,7 @@ IsObjectOfInputs-IsObjectOf inputs pairs bytes same distinct h keys =
       canonical = canon-pairs (in_order inputs) bytes object;
     }
 
--- two facts about what is answered
+-- two facts about a result
 pub both_ok : {A E : Type 0} (r : Result A E) (P : A → Type 0) (Q : Type 0) → IfOk r P → OnOk r Q
     → IfOk r (λ x. P x × Q)
 both_ok (Ok x) P Q p q = (p, q)

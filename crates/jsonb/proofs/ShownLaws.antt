@@ -1,4 +1,4 @@
--- What is stored as it is is written as the entries of the items that it stands for.
+-- Stored values are written as the entries of the items that they represent.
 use Rattle.std.proofs.Common.{◌≡◌, ℕ, suc, List, [], ◌∷◌, ◌++◌, length, map, Bor, refl}
 use Rattle.std.proofs.Common.{ap, ap₂, arith}
 use Rattle.std.proofs.lemmas.Map.Text.{is_eq-slice_cmp}
@@ -26,11 +26,11 @@ use Rattle.jsonb.proofs.StorageLaws.{AreCodes-codes_of, codes_of-AreCodes, lengt
 use Rattle.jsonb.proofs.StorageLaws.{AreStorable-FitArray}
 use Rattle.jsonb.proofs.ObjectLaws.{key_test, key_cmp, is_some-cond}
 
--- the entries of a list, by the codes of what stands in it
+-- the entries of a list of values, given their codes
 abbrev entries_by : {A : Type 0} → (A → ℕ × List ℕ) → List A → List Entry
 entries_by code xs = map (λ x. record { type = (code x).0; payload = (code x).1 }) xs
 
--- Children are written as entries, and fit exactly if these are short.
+-- Children are written as entries, and fit exactly if the entries are short.
 record AreWritten (ss : Shapes) (keys values : List Entry) : Type 0 where
   counted : count ss ≡ length values
   key_words : key_entries ss ≡ code_entries keys
@@ -68,7 +68,7 @@ no_keys_short [] = tt
 no_keys_short (x ∷ xs) = (omega arith, no_keys_short xs)
 
 module _ {T : Type 0} (stored : T → Type 0) (code : T → ℕ × List ℕ) where
-  -- Short entries of a list are those of items that can be stored,
+  -- if the entries of a list are short, the items can be stored
   to_items : (xs : List T) (items : List ItemView) → AreShown stored code xs items
       → AllByRecursion stored xs → AreShort (entries_by code xs)
       → AreStorable items × (entries_by code xs ≡ codes_of items)
@@ -81,7 +81,7 @@ module _ {T : Type 0} (stored : T → Type 0) (code : T → ℕ × List ℕ) whe
         ap₂ (λ (c : ℕ × List ℕ) cs. record { type = c.0; payload = c.1 } ∷ cs) here same,
       )
 
-  -- and the other way round.
+  -- if the items can be stored, the entries of the list are short
   of_items : (xs : List T) (items : List ItemView) → AreShown stored code xs items
       → AreStorable items → AllByRecursion stored xs × AreShort (entries_by code xs)
   of_items [] items h storable = (tt, tt)
@@ -91,7 +91,7 @@ module _ {T : Type 0} (stored : T → Type 0) (code : T → ℕ × List ℕ) whe
       let here = h.0.0.1 storable.0.0 in
       ((here, more.0), (rw (h.0.1 here) storable.0.1, more.1))
 
-  -- An array fits exactly if one can be made of the items, and is then the one of them.
+  -- an array fits exactly if one can be built from the items, and is then that array
   module _ (xs : List T) (items : List ItemView) (h : AreShown stored code xs items) where
     pub array_made : AllByRecursion stored xs → Fits (shapes.array (shapes_by (λ x. []) code xs))
         → IsArrayOf items (payload (shapes.array (shapes_by (λ x. []) code xs)))
@@ -128,7 +128,7 @@ module _ {T : Type 0} (stored : T → Type 0) (code : T → ℕ × List ℕ) whe
       let (keys, values) = at_keys es ps h.1 in
       (ap₂ (λ k ks. k ∷ ks) h.0.0 keys, (h.0.1, values))
 
--- So it is with objects.
+-- An object fits exactly if one can be built from the items at keys, and is then that object.
 module _ {T : Type 0} (stored : T → Type 0) (code : T → ℕ × List ℕ)
     (es : List (Bor (List ℕ) × T)) (ps : ItemPairs) (h : AreShownAt stored code es ps) where
   pub object_made : AllByRecursion (λ e. stored e.1) es
@@ -161,7 +161,7 @@ module _ {T : Type 0} (stored : T → Type 0) (code : T → ℕ × List ℕ)
       let same = (to_items (λ e. stored e.1) (λ e. code e.1) es _ values all short).1 in
       (all, (rw (w.counted, same, ← codes) fit.few, w.fit (rw keys fit.short_keys) short))
 
--- Items stand for what they show.
+-- Items represent their own contents.
 pub items_shown : (xs : List JsonbItem)
     → AreShown (λ x. IsStored (item_view x)) (λ x. stored_code (item_view x)) xs (map item_view xs)
 items_shown [] = refl
@@ -189,7 +189,7 @@ pub keys_shown : {A : Type 0} (view : A → ItemView) (es : List (Bor (List ℕ)
 keys_shown view [] = refl
 keys_shown view (e ∷ es) = ap (λ ks. e.0.now ∷ ks) (keys_shown view es)
 
--- Lists grow at their ends, and maps at a key.
+-- Appending to related lists, and inserting into related maps.
 pub shown_push : {A B : Type 0} (R : A → B → Type 0) (xs : List A) (ys : List B)
     → Pairwise R xs ys → (x : A) (y : B) → R x y → Pairwise R (xs ++ x ∷ []) (ys ++ y ∷ [])
 shown_push R [] ys h x y r = rw h (r, refl)

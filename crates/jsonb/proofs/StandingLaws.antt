@@ -1,5 +1,5 @@
--- The entries that stand in an array or an object: there are some, the bytes determine them, and
--- what is read of them.
+-- The entries in the document of an array or object: they exist, the bytes determine them, and they
+-- are what is read.
 use Rattle.std.proofs.Common.{◌≡◌, ℕ, suc, ◌+◌, ◌*◌, ◌<◌, ◌^◌, Bool, List, [], ◌∷◌, ◌++◌, length}
 use Rattle.std.proofs.Common.{map, Some, option_map, Result, Ok, refl, sym, ap, ap₂, subst}
 use Rattle.std.proofs.Common.{◌∙◌, arith, length-append}
@@ -65,7 +65,7 @@ pub length-ArePairsOf : (ks : List (List ℕ)) (cs : List Entry) (ps : Pairs) �
 length-ArePairsOf ks cs ps h =
     length-AreCodesOf cs (value_trees ps) (both_are ks cs ps h).1 ∙ count-value_trees ps
 
--- an entry that can be told from its word
+-- an entry that is determined by its word
 pub record IsEntry (c : Entry) : Type 0 where
   pub tag : IsTag c.type
   pub short : length c.payload < 2 ^ 28
@@ -92,7 +92,7 @@ AreEntries-keys [] short = tt
 AreEntries-keys (k ∷ ks) short =
     (record { tag = IsTag-type_of (text k); short = short.0 }, AreEntries-keys ks short.1)
 
--- the first of the entries that stand in bytes, and where the others stand
+-- the first of the entries at an offset, and the position of the others
 pub record FirstEntry (bytes : List ℕ) (i j : ℕ) (c : Entry) (cs : List Entry) : Type 0 where
   pub jentry : jentry_at bytes i ≡ Ok record { type_code = c.type; length = length c.payload }
   pub entry : entry_at bytes i j ≡ Ok c
@@ -112,7 +112,7 @@ first_entry bytes i j c cs is a b =
       other_payloads = At-right bytes j (j + length c.payload) c.payload (code_payloads cs) refl b;
     }
 
--- what is read where entries stand
+-- what is read at the position of entries
 entries_from-entries : (bytes : List ℕ) (i j : ℕ) (cs : List Entry) → AreEntries cs
     → At bytes i (code_entries cs) → At bytes j (code_payloads cs)
     → entries_from bytes (length cs) i j ≡ map Ok cs
@@ -141,7 +141,7 @@ entry_item-tree c t h short =
     let (x, (item, is)) = IsItemOf-Payload t c.payload short h.1 in
     (x, (rw h.0 at item, is))
 
--- the items of entries that mean trees,
+-- the items of entries that mean trees
 pub shown_items : (cs : List Entry) (ts : Trees) → AreCodesOf cs ts → AreShort cs
     → (items_in (map Ok cs) ≡ map entry_item cs) × ShowsTrees ts (map entry_item cs)
 shown_items [] ts h short = (refl, rw h)
@@ -151,14 +151,14 @@ shown_items (c ∷ cs) (tree t ts) h short =
     let more = shown_items cs ts h.1 short.1 in
     rw item (cc more.0, (is, more.1))
 
--- those of keys,
+-- the items of keys
 pub shown_keys : (ps : Pairs) → AreTexts (pair_keys ps)
     → items_in (map Ok (key_codes (pair_keys ps))) ≡ key_views ps
 shown_keys no_pairs texts = refl
 shown_keys (pair k t ps) texts =
     rw (item_of-text k texts.0) (cc (shown_keys ps texts.1))
 
--- and those of members
+-- the items of members
 pub shown_members : (ms : List (List ℕ × Entry)) (ps : Pairs)
     → ArePairsOf (keys_of ms) (values_of ms) ps → AreTexts (keys_of ms) → AreShort (values_of ms)
     → (pairs_in (map Ok (key_codes (keys_of ms))) (map Ok (values_of ms)) ≡ map member_item ms)
@@ -245,7 +245,7 @@ from_pairs (pair k t ps) ke kp ve vp h v =
       payloads_are = (cc);
     }
 
--- the members of an object, whose keys are texts
+-- the members of an object, whose keys are UTF-8
 object_members : (b : List ℕ) (ps : Pairs) → Payload (object ps) b
     → (ms : List (List ℕ × Entry)) × (HasMembers b ps ms × AreTexts (keys_of ms))
 object_members b ps h =
@@ -270,7 +270,7 @@ pub HasMembers-Payload : (b : List ℕ) (ps : Pairs) → Payload (object ps) b
     → (ms : List (List ℕ × Entry)) × HasMembers b ps ms
 HasMembers-Payload b ps h = let (ms, (stand, texts)) = object_members b ps h in (ms, stand)
 
--- where the entries of an array stand
+-- the positions of an array's entries
 pub record ItemsAt (b : List ℕ) (cs : List Entry) : Type 0 where
   pub header : header_at b 0 ≡ Ok (2147483648, length cs)
   pub entries_at : At b 4 (code_entries cs)
@@ -290,7 +290,7 @@ items_at b cs few written =
           At-right b 4 (4 + 4 * length cs) (code_entries cs) (code_payloads cs) (omega arith) whole;
     }
 
--- where the members of an object stand
+-- the positions of an object's members
 pub record MembersAt (b : List ℕ) (ms : List (List ℕ × Entry)) : Type 0 where
   pub header : header_at b 0 ≡ Ok (1073741824, length ms)
   pub key_entries_at : At b 4 (code_entries (key_codes (keys_of ms)))
@@ -334,7 +334,7 @@ members_at b ms few written =
       payloads_at = At-right b (4 + 8 * length ms) (4 + 8 * length ms + length kp) kp vp refl third;
     }
 
--- what is read where the members of an object stand
+-- what is read at the positions of an object's members
 record MembersRead (b : List ℕ) (ms : List (List ℕ × Entry)) : Type 0 where
   keys : key_entries b (length ms) ≡ map Ok (key_codes (keys_of ms))
   values : value_entries b (length ms) ≡ Ok (map Ok (values_of ms))
@@ -359,7 +359,7 @@ members_read b ps ms h =
           at.entries_at at.payloads_at));
     }
 
--- what is read of an array, and of an object
+-- what is read from an array, and from an object
 pub record ArrayHolds (b : List ℕ) (ts : Trees) : Type 0 where
   pub entries : List Entry
   pub stand : HasItems b ts entries
@@ -441,7 +441,7 @@ HasMembers-one b ps qs ms ns h k =
     (cc (payloads-key_codes (keys_of ms), codes, payloads-key_codes (keys_of ns)))
     (read_one _ _ _ refl values)
 
--- So what is found in a document is one item.
+-- What is found in a document is a single item.
 pub IsFoundIn-one : (accepts : List ℕ → Bool) (size : ℕ) (b : List ℕ) (t u : Tree) (x y : ItemView)
     → IsFoundIn accepts size b t (Some x) → IsFoundIn accepts size b u (Some y) → x ≡ y
 IsFoundIn-one accepts size b (object ps) (object qs) x y (ms, (h, found)) (ns, (k, also)) =

@@ -20,7 +20,7 @@ use Rattle.jsonb.specs.Building.{FitArray}
 use Rattle.jsonb.proofs.KindLaws.{container_cases, header_at-Scalar, header_of_tree, header_at-Doc}
 use Rattle.jsonb.proofs.ItemLaws.{entry_at-Scalar}
 
--- a scalar's document is stored with its entry, an array or object whole
+-- a scalar's document is stored with its own entry, an array or object whole
 pub document_code-Scalar : (b : List ℕ) (t : Tree) (h : Scalar t b)
     → document_code b ≡ record { type = type_of t; payload = h.payload }
 unfolding scalar_entry
@@ -46,7 +46,7 @@ same_payload type n p q e =
     (same_parts (word (type + length p)) (word n) p q
     (length-word (type + length p) ∙ sym (length-word n)) behind.1).1
 
--- The one part that a document is has its code.
+-- The single part of a document has the document's code.
 pub document_code-part : (b : List ℕ) (t : Tree) (type : ℕ) (p : List ℕ) → Doc b t
     → IsPayloadOf type p t → document_of type p ≡ b
     → record { type = type; payload = p } ≡ document_code b
@@ -58,7 +58,7 @@ document_code-part b t type p (inr (whole, h)) (is, means) parts =
     let container = sym is ∙ whole in
     rw (document_code-container b t whole h) (same_code _ _ container (rw container at parts))
 
--- A document is stored with its code,
+-- A document is stored with its code.
 IsDocumentCode-document_code : (b : List ℕ) (t : Tree) → Doc b t
     → IsDocumentCode t b (document_code b).type (document_code b).payload
 IsDocumentCode-document_code b t (inl (other, h)) =
@@ -66,7 +66,7 @@ IsDocumentCode-document_code b t (inl (other, h)) =
 IsDocumentCode-document_code b t (inr (is, h)) =
     rw (document_code-container b t is h) (inr (is, (refl, refl)))
 
--- and with no other.
+-- A document is stored with no other code.
 document_code-IsDocumentCode : (b : List ℕ) (t : Tree) (c : Entry) → Doc b t
     → IsDocumentCode t b c.type c.payload → c ≡ document_code b
 document_code-IsDocumentCode b t c (inl (other, h)) (inl (q, k)) =
@@ -77,7 +77,7 @@ document_code-IsDocumentCode b t c (inr (is, h)) (inl (q, k)) = absurd (q is)
 document_code-IsDocumentCode b t c (inr (is, h)) (inr (q, k)) =
     rw (document_code-container b t is h) (same_code _ _ k.0 k.1)
 
--- So it is with items.
+-- An item is stored with its code.
 pub HasCode-code_of : (x : ItemView) → IsStored x → HasCode x (code_of x).type (code_of x).payload
 HasCode-code_of (boolean false) h = (refl, refl)
 HasCode-code_of (boolean true) h = (refl, refl)
@@ -97,7 +97,7 @@ code_of-HasCode (raw b) c h = document_code-IsDocumentCode b h.0 c h.1.0 h.1.1
 code_of-HasCode (owned b) c h = document_code-IsDocumentCode b h.0 c h.1.0 h.1.1
 code_of-HasCode x c h = same_code _ _ h.0 h.1
 
--- and with lists of them
+-- items are stored with their codes
 pub AreCodes-codes_of : (xs : List ItemView) → AreStorable xs → AreCodes xs (codes_of xs)
     × AreShort (codes_of xs)
 AreCodes-codes_of [] h = (refl, tt)
@@ -124,7 +124,7 @@ length-code_entries (c ∷ cs) =
     let more = length-code_entries cs in
     omega (arith, length-word-append (c.type + length c.payload) (code_entries cs))
 
--- Items of which an array can be made can be stored.
+-- If an array can be built from items, they can be stored.
 pub AreStorable-FitArray : (xs : List ItemView) → FitArray xs → AreStorable xs
     × (length xs < 2 ^ 29)
 AreStorable-FitArray xs fit =

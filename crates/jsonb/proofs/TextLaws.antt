@@ -1,4 +1,4 @@
--- What the bytes of a document, and other bytes, print as.
+-- The texts of documents and of other bytes.
 use Rattle.std.proofs.Common.{◌≡◌, ℕ, List, [], ◌∷◌, codes, length, Result, Ok, Err, refl}
 use Rattle.std.proofs.Common.{arith, String, string_bytes, ◌++◌}
 use Rattle.std.specs.declared.fmt.Formatter.{Formatter}
@@ -40,7 +40,7 @@ pub other_text-some : (b : List ℕ) → (length b ≡ 0 → ⊥) → other_text
 other_text-some [] some = absurd (some refl)
 other_text-some (x ∷ xs) some = refl
 
--- what a formatter over an empty string has written is all that the string holds that a call gives
+-- what was written to a formatter over an empty string is the whole returned string
 pub string_written : (empty : String Global) (f g : Formatter (String Global)) (bs : List ℕ)
     (answer : Result (Unit {0}) fmt.Error) (r : Result (String Global) Error)
     → (IsOk answer → HasWrittenStyled (λ s xs t. string_bytes t ≡ string_bytes s ++ xs) f bs g)
@@ -62,7 +62,7 @@ pub reads_again : (r : Result (String Global) Error) (a : List ℕ) (t : Tree)
 reads_again (Ok text) a t h again = rw h again
 reads_again (Err e) a t h again = tt
 
--- a text that is no document
+-- a text that is not a document
 pub other_text-short : (b : List ℕ) → IsUtf8 b → (b ≡ [] → ⊥) → other_text b ≡ b
 other_text-short [] utf8 some = absurd (some refl)
 other_text-short (x ∷ xs) utf8 some = lossy_chars-utf8 (x ∷ xs) utf8

@@ -1,4 +1,4 @@
--- The test of UTF-8 by the length of its longest valid front.
+-- Testing UTF-8 by the length of the longest valid prefix.
 use Rattle.std.proofs.Common.{◌≡◌, ℕ, List, length, true, false, arith, eq-eqb}
 use Rattle.std.proofs.lemmas.Str.{utf8_valid_len-IsUtf8, utf8_valid_len-IsValidUpTo}
 use Rattle.std.proofs.lemmas.Bool.Decides.{nat_tests}

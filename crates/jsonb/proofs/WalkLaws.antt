@@ -15,7 +15,7 @@ use Rattle.jsonb.specs.Walk.{count_under, key_entries, value_entries, item_walk}
 use Rattle.jsonb.specs.Walk.{array_walk, keys_walk, values_of, values_walk, pair_walk, pairs_of}
 use Rattle.jsonb.specs.Walk.{pairs_walk}
 
--- one more, and nothing behind an error
+-- one more result, and nothing after an error
 abbrev pub ahead : {A : Type 0} → Result A Error → List (Result A Error) → List (Result A Error)
 ahead r rest = r ∷ (if is_ok r then rest else [])
 
@@ -24,14 +24,14 @@ length-ahead : {A : Type 0} (r : Result A Error) (rest : List (Result A Error)) 
 length-ahead (Ok x) rest n few = omega arith
 length-ahead (Err e) rest n few = omega arith
 
--- the first of the entries from a place on, and those behind it
+-- the first of the entries from an offset, and the entries after it
 pub entries_from-first : (bytes : List ℕ) (left place start : ℕ) (entry : Entry)
     → entry_at bytes place start ≡ Ok entry
     → entries_from bytes (suc left) place start ≡ Ok entry
     ∷ entries_from bytes left (place + 4) (start + length entry.payload)
 entries_from-first bytes left place start entry e = rw e
 
--- the entries of values, where the payloads of their keys have an end
+-- the entries of values, if the end of the keys' payloads is known
 pub value_entries-end : (bytes : List ℕ) (n start : ℕ)
     → payloads_end bytes n 4 (4 + 8 * n) ≡ Ok start
     → value_entries bytes n ≡ Ok (entries_from bytes n (4 + 4 * n) start)
@@ -54,7 +54,7 @@ ErrsLast-until_error [] = tt
 ErrsLast-until_error (Ok x ∷ xs) = ErrsLast-until_error xs
 ErrsLast-until_error (Err e ∷ xs) = refl
 
--- no more items than entries
+-- there are at most as many items as entries
 bounded_items : (bytes : List ℕ) (n place start : ℕ)
     → IsBounded (item_walk n (entries_from bytes n place start))
 bounded_items bytes n place start =
@@ -64,7 +64,7 @@ bounded_items bytes n place start =
     let all = length-map entries item_read in
     record { few = omega arith; last = ErrsLast-until_error (map item_read entries) }
 
--- and no more pairs than keys
+-- there are at most as many pairs as keys
 bounded_pairs : (bytes : List ℕ) (n : ℕ) (values : List (Result Entry Error))
     → IsBounded (pair_walk n (key_entries bytes n) values)
 bounded_pairs bytes n values =
@@ -75,7 +75,7 @@ bounded_pairs bytes n values =
     let all = length-map (zip keys values) pair_read in
     record { few = omega arith; last = ErrsLast-until_error (map pair_read (zip keys values)) }
 
--- the iterators that there are give no more than the header counts
+-- the iterators have at most as many results as the header counts
 abbrev AreBounded : {A : Type 0} → Result (Option (Walk A)) Error → Type 0
 AreBounded r = IfOk r (λ o. IfSome o IsBounded)
 

@@ -1,4 +1,4 @@
--- Arrays and objects put together of items.
+-- Building arrays and objects from items.
 use Rattle.std.specs.Prelude.{◌≡◌, ◌<◌, ◌^◌, ◌+◌, ⊤, ℕ, Bool, List, [], ◌∷◌, ◌++◌, length, map}
 use Rattle.std.specs.List.{list_any}
 use Rattle.std.specs.Map.{keys_of, values_of}
@@ -14,43 +14,44 @@ use Rattle.jsonb.specs.ItemView.{ItemView}
 use Rattle.jsonb.specs.Item.{Entry}
 use Rattle.jsonb.specs.Code.{HasCode}
 
--- The items are stored with these entries, in this order.
+-- The entries are those with which the items are stored, in order.
 abbrev pub AreCodes : List ItemView → List Entry → Type 0
 AreCodes [] codes = codes ≡ []
 AreCodes (x ∷ xs) [] = ⊥
 AreCodes (x ∷ xs) (c ∷ cs) = HasCode x c.type c.payload × AreCodes xs cs
 
--- No payload is past its limit.
+-- No payload exceeds its limit of 2 ^ 28 - 1 bytes.
 abbrev pub AreShort : List Entry → Type 0
 AreShort [] = ⊤
 AreShort (c ∷ cs) = (length c.payload < 2 ^ 28) × AreShort cs
 
--- the entry words, and the payloads behind them
+-- The words of these entries.
 abbrev pub code_entries : List Entry → List ℕ
 code_entries [] = []
 code_entries (c ∷ cs) = word (c.type + length c.payload) ++ code_entries cs
 
+-- The payloads of these entries.
 abbrev pub code_payloads : List Entry → List ℕ
 code_payloads [] = []
 code_payloads (c ∷ cs) = c.payload ++ code_payloads cs
 
--- the array of these entries
+-- The array with these entries.
 abbrev pub array_of : List Entry → List ℕ
 array_of codes =
     word (ARRAY_CONTAINER_TAG + length codes) ++ (code_entries codes ++ code_payloads codes)
 
--- the entries of keys
+-- The entries of these keys.
 abbrev pub key_codes : List (List ℕ) → List Entry
 key_codes keys = map (λ k. record { type = STRING_TAG; payload = k }) keys
 
--- the object of these keys, with these entries of their values
+-- The object with these keys and these entries of their values.
 abbrev pub object_of : List (List ℕ) → List Entry → List ℕ
 object_of keys codes =
     word (OBJECT_CONTAINER_TAG + length codes)
     ++ (code_entries (key_codes keys)
     ++ (code_entries codes ++ (code_payloads (key_codes keys) ++ code_payloads codes)))
 
--- Each item has an entry, and no payload and no count is past its limit.
+-- Each item has an entry, and no payload and not the count exceeds its limit.
 pub record FitArray (xs : List ItemView) : Type 0 where
   pub codes : List Entry
   pub are : AreCodes xs codes
@@ -62,23 +63,24 @@ pub record IsArrayOf (xs : List ItemView) (bytes : List ℕ) : Type 0 where
   pub fit : FitArray xs
   pub written : bytes ≡ array_of fit.codes
 
--- a pair of that key is there
+-- The pairs have one with this key.
 abbrev pub has_key : {A : Type 0} → List (List ℕ × A) → List ℕ → Bool
 has_key pairs key = list_any (bytes_eq key) (keys_of pairs)
 
--- the pairs with one more, in the place that its key's bytes give it
+-- The pairs after inserting one at its key's position in byte order.
 abbrev pub with_pair : {A : Type 0} → List (List ℕ × A) → List ℕ → A → List (List ℕ × A)
 with_pair pairs key x = insert_entry (slice_cmp nat_cmp) pairs key x
 
--- these pairs put in one after the other, and pairs in the order of their keys
+-- The pairs after inserting others one by one.
 abbrev pub with_pairs : {A : Type 0} → List (List ℕ × A) → List (List ℕ × A) → List (List ℕ × A)
 with_pairs pairs [] = pairs
 with_pairs pairs (x ∷ xs) = with_pairs (with_pair pairs x.0 x.1) xs
 
+-- The pairs in ascending byte order of their keys.
 abbrev pub in_order : {A : Type 0} → List (List ℕ × A) → List (List ℕ × A)
 in_order xs = with_pairs [] xs
 
--- Each value has an entry, and no key, no payload and no count is past its limit.
+-- Each value has an entry, and no key, no payload and not the count exceeds its limit.
 pub record FitObject (pairs : List (List ℕ × ItemView)) : Type 0 where
   pub codes : List Entry
   pub are : AreCodes (values_of pairs) codes
@@ -91,12 +93,12 @@ pub record IsObjectOf (pairs : List (List ℕ × ItemView)) (bytes : List ℕ) :
   pub fit : FitObject pairs
   pub written : bytes ≡ object_of (keys_of pairs) fit.codes
 
--- Each key is UTF-8,
+-- Each key is UTF-8.
 abbrev pub AreTexts : List (List ℕ) → Type 0
 AreTexts [] = ⊤
 AreTexts (k ∷ ks) = IsUtf8 k × AreTexts ks
 
--- and its bytes are above those of the key before.
+-- The keys are UTF-8 and ascend strictly by their bytes.
 pub record AreKeys (keys : List (List ℕ)) : Type 0 where
   pub texts : AreTexts keys
   pub ascend : IsStrictlySortedBy (slice_cmp nat_cmp) keys

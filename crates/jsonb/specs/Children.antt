@@ -1,4 +1,4 @@
--- What is stored in a container that is built, and the items that it stands for.
+-- The children of a container that is built, and the items that they represent.
 use Rattle.std.specs.Prelude.{◌≡◌, ◌↔◌, ℕ, List, [], ◌∷◌, map}
 use Rattle.std.specs.Borrow.{Bor}
 use Rattle.jsonb.specs.declared.raw.RawJsonb.{RawJsonb}
@@ -6,37 +6,37 @@ use Rattle.jsonb.specs.Raw.{raw_bytes}
 use Rattle.jsonb.specs.ItemView.{ItemView, raw}
 use Rattle.jsonb.specs.Storage.{IsStored, stored_code}
 
--- a document given by its bytes, as an item
+-- A document given by its bytes, as an item.
 abbrev pub raw_view : RawJsonb → ItemView
 raw_view x = raw (raw_bytes x)
 
--- items at keys
+-- Items at keys.
 abbrev pub ItemPairs : Type 0
 ItemPairs = List (List ℕ × ItemView)
 
--- the pairs of a map, each with its key's bytes
+-- The pairs of a map as items at keys.
 abbrev pub pairs_by : {A : Type 0} → (A → ItemView) → List (Bor (List ℕ) × A) → ItemPairs
 pairs_by view es = map (λ e. (e.0.now, view e.1)) es
 
--- the keys' bytes
+-- The keys of a map, as bytes.
 abbrev pub key_bytes : {A : Type 0} → List (Bor (List ℕ) × A) → List (List ℕ)
 key_bytes es = map (λ e. e.0.now) es
 
--- Each of a list stands for its counterpart in another.
+-- Two lists of equal length are related element by element.
 abbrev pub Pairwise : {A B : Type 0} → (A → B → Type 0) → List A → List B → Type 0
 Pairwise R [] ys = ys ≡ []
 Pairwise R (x ∷ xs) [] = ⊥
 Pairwise R (x ∷ xs) (y ∷ ys) = R x y × Pairwise R xs ys
 
 module _ {T : Type 0} (stored : T → Type 0) (code : T → ℕ × List ℕ) where
-  -- It has an entry exactly if the item has one, and the same.
+  -- The value has an entry exactly if the item has one, and it is the same entry.
   abbrev pub IsShown : T → ItemView → Type 0
   IsShown x item = (stored x ↔ IsStored item) × (stored x → code x ≡ stored_code item)
 
   abbrev pub AreShown : List T → List ItemView → Type 0
   AreShown = Pairwise IsShown
 
-  -- The same at keys.
+  -- The keys are equal, and the values have the same entry.
   abbrev pub IsShownAt : Bor (List ℕ) × T → List ℕ × ItemView → Type 0
   IsShownAt e pair = (e.0.now ≡ pair.0) × IsShown e.1 pair.1
 

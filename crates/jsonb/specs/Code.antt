@@ -1,4 +1,4 @@
--- What items mean, and with what they are stored.
+-- What items mean, and the entries with which they are stored.
 use Rattle.std.specs.Prelude.{◌≡◌, ◌≢◌, ◌⊎◌, ◌+◌, ◌<◌, ◌^◌, ℕ, List, [], ◌++◌, length, true, false}
 use Rattle.std.specs.Prelude.{Option, unwrap_or, ⊤}
 use Rattle.jsonb_value.specs.declared.number.Number.{Number}
@@ -14,7 +14,7 @@ use Rattle.jsonb_codec.specs.Word.{word}
 use Rattle.jsonb_codec.specs.Doc.{Doc, type_of}
 use Rattle.jsonb.specs.ItemView.{ItemView, null, boolean, number, text, extension, raw, owned}
 
--- The item means the tree. A borrowed or owned document means the tree of its bytes.
+-- The item means the tree; bytes mean the tree of the document that they are.
 abbrev pub Means : ItemView → Tree → Type 0
 Means null t = t ≡ trees.null
 Means (boolean b) t = t ≡ trees.boolean b
@@ -24,25 +24,26 @@ Means (extension given e) t = t ≡ trees.extension e
 Means (raw b) t = Doc b t
 Means (owned b) t = Doc b t
 
--- a scalar's document, of its entry's type and its payload
+-- The document of a scalar, given the type and the payload of its entry.
 abbrev pub scalar_bytes : ℕ → List ℕ → List ℕ
 scalar_bytes type payload = word SCALAR_CONTAINER_TAG ++ (word (type + length payload) ++ payload)
 
--- The document b of the tree t is stored with this type and payload: a scalar with its entry, an
--- array or object whole.
+-- The document b of the tree t is stored with this type and payload: a scalar with its own entry,
+-- an array or object whole.
 abbrev pub IsDocumentCode : Tree → List ℕ → ℕ → List ℕ → Type 0
 IsDocumentCode t b type payload =
     ((type_of t ≢ CONTAINER_TAG) × ((type ≡ type_of t) × (b ≡ scalar_bytes type payload)))
     ⊎ ((type_of t ≡ CONTAINER_TAG) × ((type ≡ CONTAINER_TAG) × (payload ≡ b)))
 
--- the payload of a number or an extension value: as it was given, else as it is written
+-- The payload of a number: the given bytes, or the encoded number if there are none.
 abbrev pub number_bytes : Option (List ℕ) → Number → List ℕ
 number_bytes given x = unwrap_or given (number_payload x)
 
+-- The payload of an extension value: the given bytes, or the encoded value if there are none.
 abbrev pub extension_bytes : Option (List ℕ) → Extension → List ℕ
 extension_bytes given e = unwrap_or given (extension_payload e)
 
--- The item's entry has this type and payload. Bytes of no document have none.
+-- The item is stored with this type and payload; bytes that are not a document have none.
 abbrev pub HasCode : ItemView → ℕ → List ℕ → Type 0
 HasCode null type payload = (type ≡ NULL_TAG) × (payload ≡ [])
 HasCode (boolean false) type payload = (type ≡ FALSE_TAG) × (payload ≡ [])
@@ -54,7 +55,7 @@ HasCode (extension given e) type payload =
 HasCode (raw b) type payload = (t : Tree) × (Doc b t × IsDocumentCode t b type payload)
 HasCode (owned b) type payload = (t : Tree) × (Doc b t × IsDocumentCode t b type payload)
 
--- the bytes that an item becomes by itself: its own, or the scalar document of its code
+-- The bytes of an item on its own: those that it holds, or the document of its scalar.
 abbrev pub item_document : ItemView → List ℕ
 item_document null = scalar_bytes NULL_TAG []
 item_document (boolean false) = scalar_bytes FALSE_TAG []
@@ -65,7 +66,7 @@ item_document (extension given e) = scalar_bytes EXTENSION_TAG (extension_bytes 
 item_document (raw b) = b
 item_document (owned b) = b
 
--- The payload that has to be written is not past its limit.
+-- A scalar's payload does not exceed its limit.
 abbrev pub CanBeStored : ItemView → Type 0
 CanBeStored null = ⊤
 CanBeStored (boolean b) = ⊤

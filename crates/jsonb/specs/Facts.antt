@@ -11,7 +11,7 @@ use Rattle.jsonb.specs.Document.{tree_in}
 use Rattle.jsonb.specs.Item.{Entry, item_of}
 use Rattle.jsonb.specs.ItemView.{ItemView, null, boolean, number, text, extension, raw, owned}
 
--- the tree of an item: a document's is that of its bytes
+-- The tree of an item, where bytes mean the tree of the document that they are.
 abbrev pub view_tree : ItemView → Tree
 view_tree null = trees.null
 view_tree (boolean b) = trees.boolean b
@@ -21,48 +21,51 @@ view_tree (extension given e) = trees.extension e
 view_tree (raw b) = tree_in b
 view_tree (owned b) = tree_in b
 
+-- The tree of an item that was read; null for an error.
 abbrev pub item_tree : Result ItemView Error → Tree
 item_tree (Ok x) = view_tree x
 item_tree (Err e) = trees.null
 
--- the tree of an entry
+-- The tree of an entry.
 unfoldable pub entry_tree : Entry → Tree
 entry_tree entry = item_tree (item_of entry.type entry.payload)
 
--- and of what was read as one
+-- The tree of an entry that was read; null for an error.
 abbrev pub tree_read : Result Entry Error → Tree
 tree_read (Ok entry) = entry_tree entry
 tree_read (Err e) = trees.null
 
--- the bytes of a key's entry
+-- The bytes of a key's entry that was read; none for an error.
 abbrev pub key_read : Result Entry Error → List ℕ
 key_read (Ok entry) = entry.payload
 key_read (Err e) = []
 
--- the entry that a part is
+-- The entry of a part.
 abbrev pub entry_of_part : Part → Entry
 entry_of_part part = record { type = part.tag; payload = part.payload.now }
 
--- The entries can be read, and mean trees;
+-- All entries were read without an error, and each means a tree.
 abbrev pub AreParts : List (Result Entry Error) → Type 0
 AreParts [] = ⊤
 AreParts (Ok entry ∷ others) = IsSomePayload entry.type entry.payload × AreParts others
 AreParts (Err e ∷ others) = ⊥
 
--- they are strings.
+-- All entries were read without an error and are strings.
 abbrev pub AreKeys : List (Result Entry Error) → Type 0
 AreKeys [] = ⊤
 AreKeys (Ok entry ∷ others) = (entry.type ≡ STRING_TAG) × AreKeys others
 AreKeys (Err e ∷ others) = ⊥
 
--- So are the entries of as many keys and values.
+-- All entries of keys and of values were read without an error, the keys are strings, each value
+-- means a tree, and there are as many values as keys.
 abbrev pub AreMembers : List (Result Entry Error) × List (Result Entry Error) → Type 0
 AreMembers left =
     (AreParts left.0 × AreKeys left.0) × (AreParts left.1 × (length left.0 ≡ length left.1))
 
--- the trees of what is left of an array's entries, and the pairs of an object's keys and values
+-- The trees of the remaining entries of an array.
 abbrev pub rest_trees : List (Result Entry Error) → List Tree
 rest_trees = map tree_read
 
+-- The remaining pairs of an object, from the entries of its keys and values.
 abbrev pub rest_pairs : List (Result Entry Error) × List (Result Entry Error) → List (List ℕ × Tree)
 rest_pairs left = zip (map key_read left.0) (map tree_read left.1)

@@ -1,4 +1,4 @@
--- The item of an entry and its bytes, and the item of bytes.
+-- The item of an entry, and the item of a byte string.
 use Rattle.std.specs.Prelude.{ℕ, ◌+◌, ◌==◌, nat_le, if◌then◌else◌, List, length, take, drop, true}
 use Rattle.std.specs.Prelude.{false, Option, Some, None, Result, Ok, Err}
 use Rattle.jsonb_value.specs.declared.error.Error.{Error}
@@ -16,27 +16,29 @@ use Rattle.jsonb.specs.Steps.{◌>>=◌}
 use Rattle.jsonb.specs.Payloads.{is_text, number_in, extension_in, extension_error}
 use Rattle.jsonb.specs.ItemView.{ItemView, null, boolean, number, text, extension, raw}
 
--- bytes as a string, which must be UTF-8,
+-- The item of a string's payload, which must be UTF-8.
 abbrev pub text_item : List ℕ → Result ItemView Error
 text_item p = if is_text p then Ok (text p) else Err InvalidUtf8
 
--- as a number,
+-- The item of a number's payload, given the number that it means.
 abbrev pub item_of_number : List ℕ → Option Number → Result ItemView Error
 item_of_number p (Some x) = Ok (number (Some p) x)
 item_of_number p None = Err InvalidJsonbNumber
 
+-- The item of a number's payload.
 abbrev pub number_item : List ℕ → Result ItemView Error
 number_item p = item_of_number p (number_in p)
 
--- as an extension value
+-- The item of an extension payload, given the value that it means.
 abbrev pub item_of_extension : List ℕ → Option Extension → Result ItemView Error
 item_of_extension p (Some e) = Ok (extension (Some p) e)
 item_of_extension p None = Err (extension_error p)
 
+-- The item of an extension payload.
 abbrev pub extension_item : List ℕ → Result ItemView Error
 extension_item p = item_of_extension p (extension_in p)
 
--- the item of an entry of this type and of its bytes; a container's are not looked into
+-- The item of an entry with this type and payload; a container's bytes are not examined.
 unfoldable pub item_of : ℕ → List ℕ → Result ItemView Error
 item_of type p =
     if type == NULL_TAG then Ok null
@@ -48,34 +50,35 @@ item_of type p =
     else if type == CONTAINER_TAG then Ok (raw p)
     else Err InvalidJsonb
 
--- that many bytes from a place on
+-- The n bytes from `start`, or `InvalidJsonb` if they run past the end.
 unfoldable pub part_at : List ℕ → ℕ → ℕ → Result (List ℕ) Error
 part_at bytes start n =
     if nat_le (start + n) (length bytes) then Ok (take n (drop start bytes)) else Err InvalidJsonb
 
--- an entry: its type, and the bytes of its payload
+-- An entry: its type, and the bytes of its payload.
 pub record Entry : Type 0 where
   pub type : ℕ
   pub payload : List ℕ
 
--- the entry at a place, whose payload begins at another
+-- The entry whose word is at `place` and whose payload begins at `start`.
 unfoldable pub entry_at : List ℕ → ℕ → ℕ → Result Entry Error
 entry_at bytes place start = do
   jentry ← jentry_at bytes place
   payload ← part_at bytes start jentry.length
   Ok (record { type = jentry.type_code; payload = payload })
 
--- the item under a scalar's header, which is no container
+-- The item of the entry under a scalar's header, which must not be a container.
 unfoldable pub scalar_item : Entry → Result ItemView Error
 scalar_item entry =
     if entry.type == CONTAINER_TAG then Err InvalidJsonb else item_of entry.type entry.payload
 
--- the item under a header: an array or object is all the bytes, not looked into
+-- The item under a header: all bytes of an array or object, unexamined, or the item of a scalar's
+-- entry.
 abbrev pub item_under : ℕ × ℕ → List ℕ → Result ItemView Error
 item_under header bytes =
     if header.0 == SCALAR_CONTAINER_TAG then (entry_at bytes 4 8 >>= scalar_item)
     else Ok (raw bytes)
 
--- the item that bytes hold
+-- The item that a byte string holds.
 unfoldable pub item_in : List ℕ → Result ItemView Error
 item_in bytes = header_at bytes 0 >>= λ header. item_under header bytes

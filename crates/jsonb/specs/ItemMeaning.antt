@@ -1,4 +1,4 @@
--- What bytes and items mean.
+-- The meaning of byte strings and items.
 use Rattle.std.specs.Prelude.{ℕ, List}
 use Rattle.std.proofs.Common.{inl, inr}
 use Rattle.jsonb_value.specs.Tree as trees
@@ -14,16 +14,16 @@ use Rattle.jsonb.specs.Raw.{raw_bytes}
 use Rattle.jsonb.specs.ItemView.{ItemView, item_view, null, boolean, number, text, extension, raw}
 use Rattle.jsonb.specs.ItemView.{owned}
 
--- the tree that was found, or else the bytes
+-- The tree of a document, or the bytes themselves.
 abbrev pub meaning_or_bytes : (b : List ℕ) → Decided (IsDocument b) → Meaning
 meaning_or_bytes b (inl found) = document found.0
 meaning_or_bytes b (inr none) = other_bytes b
 
--- what bytes mean: the tree of a document, and of all others the bytes themselves
+-- The meaning of a byte string: the tree of a document; other bytes mean themselves.
 unfoldable pub meaning_of : List ℕ → Meaning
 meaning_of b = meaning_or_bytes b (decide b)
 
--- what an item means by what it shows: a value by itself, a borrowed or owned document by its bytes
+-- The meaning of an item: its value, or the meaning of its bytes.
 abbrev pub view_meaning : ItemView → Meaning
 view_meaning null = document trees.null
 view_meaning (boolean b) = document (trees.boolean b)
@@ -33,12 +33,14 @@ view_meaning (extension given e) = document (trees.extension e)
 view_meaning (raw b) = meaning_of b
 view_meaning (owned b) = meaning_of b
 
--- what the three types of values mean
+-- The meaning of borrowed bytes.
 abbrev pub raw_meaning : RawJsonb → Meaning
 raw_meaning value = meaning_of (raw_bytes value)
 
+-- The meaning of owned bytes.
 abbrev pub owned_meaning : OwnedJsonb → Meaning
 owned_meaning value = meaning_of (owned_bytes value)
 
+-- The meaning of a `JsonbItem`.
 abbrev pub item_meaning : JsonbItem → Meaning
 item_meaning item = view_meaning (item_view item)

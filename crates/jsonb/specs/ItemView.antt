@@ -1,4 +1,4 @@
--- What an item shows, without where its bytes lie.
+-- The contents of an item, regardless of where its bytes are stored.
 use Rattle.std.specs.Prelude.{ℕ, List, Bool, Option, Result, Ok, Err}
 use Rattle.std.specs.Borrow.{Bor}
 use Rattle.jsonb_value.specs.declared.error.Error.{Error}
@@ -12,7 +12,8 @@ use Rattle.jsonb.specs.ItemValues.{extension_of_item}
 use Rattle.jsonb.specs.Raw.{raw_bytes}
 use Rattle.jsonb.specs.Owned.{owned_bytes}
 
--- A number or an extension value shows its bytes as they were given, if they were, and its value.
+-- An item; a number or an extension value has its value and, if it was made from bytes, these
+-- bytes.
 pub data ItemView : Type 0 where
   null : ItemView
   boolean : Bool → ItemView
@@ -22,7 +23,7 @@ pub data ItemView : Type 0 where
   raw : List ℕ → ItemView
   owned : List ℕ → ItemView
 
--- what an item shows
+-- The contents of a `JsonbItem`.
 abbrev pub item_view : JsonbItem → ItemView
 item_view items.Null = null
 item_view (items.Boolean b) = boolean b
@@ -32,12 +33,12 @@ item_view (items.Extension item) = extension (extension_source item) (extension_
 item_view (items.Raw r) = raw (raw_bytes r)
 item_view (items.Owned o) = owned (owned_bytes o)
 
--- the same of what a call answers
+-- The contents of an item in the result of a call.
 abbrev pub result_view : Result JsonbItem Error → Result ItemView Error
 result_view (Ok item) = Ok (item_view item)
 result_view (Err e) = Err e
 
--- the same of a key and an item
+-- A key and the contents of an item in the result of a call.
 abbrev pub pair_view : Result (Bor (List ℕ) × JsonbItem) Error → Result (List ℕ × ItemView) Error
 pair_view (Ok pair) = Ok (pair.0.now, item_view pair.1)
 pair_view (Err e) = Err e

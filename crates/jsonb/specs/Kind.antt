@@ -1,4 +1,4 @@
--- Kinds of values, and the kind that bytes show by their first two words.
+-- The kinds of values, and the kind read from the first two words of a byte string.
 use Rattle.std.specs.Prelude.{ℕ, ◌==◌, if◌then◌else◌, List, Option, Some, None, Result, Ok, Err}
 use Rattle.std.specs.Ordering.{nat_cmp}
 use Rattle.std.specs.declared.cmp.Ordering.{Ordering}
@@ -17,7 +17,7 @@ use Rattle.jsonb.specs.declared.item_type.JsonbItemType.{JsonbItemType}
 use Rattle.jsonb.specs.declared.item_type.JsonbItemType.TheVariants as kinds
 use Rattle.jsonb.specs.Steps.{◌>>=◌}
 
--- the kind of a scalar whose entry has this type
+-- The kind of a scalar whose entry has this type.
 abbrev pub kind_of_type : ℕ → Result JsonbItemType Error
 kind_of_type type =
     if type == NULL_TAG then Ok kinds.Null
@@ -28,18 +28,18 @@ kind_of_type type =
     else if type == EXTENSION_TAG then Ok kinds.Extension
     else Err InvalidJsonb
 
--- the kind under a header: a container's count, or the type of a scalar's entry
+-- The kind under a header: an array or object with its count, or the kind of a scalar's entry.
 abbrev pub kind_under : ℕ × ℕ → List ℕ → Result JsonbItemType Error
 kind_under header bytes =
     if header.0 == ARRAY_CONTAINER_TAG then Ok (kinds.Array header.1)
     else if header.0 == OBJECT_CONTAINER_TAG then Ok (kinds.Object header.1)
     else (jentry_at bytes 4 >>= λ entry. kind_of_type entry.type_code)
 
--- the kind that bytes show, whatever stands behind their first two words
+-- The kind read from the first two words, whatever follows them.
 unfoldable pub kind : List ℕ → Result JsonbItemType Error
 kind bytes = header_at bytes 0 >>= λ header. kind_under header bytes
 
--- the kind of a tree
+-- The kind of a tree.
 abbrev pub kind_of_tree : Tree → JsonbItemType
 kind_of_tree null = kinds.Null
 kind_of_tree (boolean b) = kinds.Boolean
@@ -49,7 +49,7 @@ kind_of_tree (extension e) = kinds.Extension
 kind_of_tree (array ts) = kinds.Array (count ts)
 kind_of_tree (object ps) = kinds.Object (pair_count ps)
 
--- the places of the kinds, rising
+-- The rank of a kind; a value of higher rank is greater.
 abbrev pub kind_rank : JsonbItemType → ℕ
 kind_rank kinds.Extension = 0
 kind_rank kinds.Boolean = 1
@@ -59,7 +59,8 @@ kind_rank (kinds.Object n) = 4
 kind_rank (kinds.Array n) = 5
 kind_rank kinds.Null = 6
 
--- what the kinds alone tell of the order of two values: all, where they differ or both are null
+-- The order of two values as far as their kinds determine it: if the kinds differ, or both are
+-- null.
 abbrev pub rank_order : JsonbItemType → JsonbItemType → Option Ordering
 rank_order kinds.Null kinds.Null = Some Equal
 rank_order x y =

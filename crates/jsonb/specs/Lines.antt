@@ -1,34 +1,35 @@
--- The text of a container by its lines.
+-- The text of a container, line by line.
 use Rattle.std.specs.Prelude.{◌+◌, ◌<◌, ◌^◌, ℕ, ⊤, List, [], ◌∷◌, ◌++◌, codes}
 use Rattle.jsonb_value.specs.Tree.{Tree, Trees, no_trees, tree, Pairs, no_pairs, pair}
 use Rattle.jsonb_value.specs.Text.{Layout, in_one_line, on_lines, inside, line_start, colon}
 use Rattle.jsonb_value.specs.Text.{laid_out, string_text}
 
--- the lines behind the first
+-- The text of the lines after the first.
 abbrev pub more_lines : Layout → List (List ℕ) → List ℕ
 more_lines l [] = []
 more_lines l (line ∷ lines) = codes "," ++ (line_start l ++ (line ++ more_lines l lines))
 
--- lines between brackets
+-- The text of lines between brackets.
 abbrev pub bracket_text : Layout → List ℕ → List ℕ → List (List ℕ) → List ℕ
 bracket_text l front end [] = front ++ end
 bracket_text l front end (line ∷ lines) = front
     ++ (line_start (inside l) ++ (line ++ (more_lines (inside l) lines ++ (line_start l ++ end))))
 
--- the text of a pair
+-- The text of a pair.
 abbrev pub pair_text : Layout → List ℕ → Tree → List ℕ
 pair_text l k t = string_text k ++ (colon l ++ laid_out l t)
 
--- the lines of an array's items, and of an object's pairs
+-- The lines of an array's items.
 abbrev pub item_lines : Layout → Trees → List (List ℕ)
 item_lines l no_trees = []
 item_lines l (tree t ts) = laid_out l t ∷ item_lines l ts
 
+-- The lines of an object's pairs.
 abbrev pub pair_lines : Layout → Pairs → List (List ℕ)
 pair_lines l no_pairs = []
 pair_lines l (pair k t ps) = pair_text l k t ∷ pair_lines l ps
 
--- The indentation of so many more containers can be counted.
+-- The indentation inside n more containers fits 64 bits.
 abbrev pub HasRoom : Layout → ℕ → Type 0
 HasRoom in_one_line n = ⊤
 HasRoom (on_lines depth) n = depth + n < 2 ^ 64

@@ -1,5 +1,5 @@
--- What a look-up by a key's name finds. `answers key b` says that b is a possible answer for the
--- key; the size is the name's length.
+-- The result of looking up a key by name. `answers key b` means that the closure can return b for
+-- the key; `size` is the name's length.
 use Rattle.std.specs.Prelude.{◌≡◌, ℕ, zero, suc, ◌+◌, ◌==◌, ◌&&◌, if◌then◌else◌, Bool, true, false}
 use Rattle.std.specs.Prelude.{List, length, slice_get, Option, Some, None, option_map, Result, Ok}
 use Rattle.std.specs.Prelude.{Err, ⊤}
@@ -20,7 +20,7 @@ use Rattle.jsonb.specs.Standing.{HasMembers, entry_item}
 use Rattle.jsonb.specs.Walk.{count_under}
 use Rattle.jsonb.specs.DocumentWalk.{IsItemOf}
 
--- The key is passed over: it has another length, or is not accepted.
+-- The key is passed over: it has another length, or the closure rejects it.
 abbrev pub IsPassed : (List ℕ → Bool → Type 0) → ℕ → List ℕ → Type 0
 IsPassed answers size key = length key ≡ size → answers key false
 
@@ -37,8 +37,8 @@ IsFirstAccepted answers size (pair k t ps) zero value =
 IsFirstAccepted answers size (pair k t ps) (suc index) value =
     IsPassed answers size k × IsFirstAccepted answers size ps index value
 
--- The item is that of the first accepted pair's entry, as it stands in the bytes. Read were the
--- header, each key's entry, and the values' entries up to the wanted one.
+-- The item is that of the entry of the first accepted pair in b. The words read are the header,
+-- each key's entry, and the values' entries up to the one found.
 pub record IsFound (answers : List ℕ → Bool → Type 0) (size : ℕ) (b : List ℕ) (ps : Pairs)
     (x : ItemView) (reads : ℕ) : Type 0 where
   pub index : ℕ
@@ -50,53 +50,78 @@ pub record IsFound (answers : List ℕ → Bool → Type 0) (size : ℕ) (b : Li
   pub entry : option_map entry_item (slice_get (values_of members) index) ≡ Some (Ok x)
   pub cost : reads ≡ pair_count ps + index + 2
 
--- Nothing is found. Read were the header and each key's entry.
+-- No key is accepted. The words read are the header and each key's entry.
 pub record IsNotFound (answers : List ℕ → Bool → Type 0) (size : ℕ) (ps : Pairs)
     (reads : ℕ) : Type 0 where
   pub none : NoneAccepted answers size ps
   pub cost : reads ≡ pair_count ps + 1
 
+-- What is found among these pairs in the document b, and the number of words read.
 abbrev pub LooksUpPairs : (List ℕ → Bool → Type 0) → ℕ → List ℕ → Pairs → Option ItemView → ℕ
     → Type 0
 LooksUpPairs answers size b ps (Some x) reads = IsFound answers size b ps x reads
 LooksUpPairs answers size b ps None reads = IsNotFound answers size ps reads
 
--- What is found in the document b of the tree, after so many reads: in anything but pairs nothing,
--- after the header's.
+-- What is found in the document b of the tree, and the number of words read; in any tree but an
+-- object nothing is found, and only the header is read.
 abbrev pub LooksUp : (List ℕ → Bool → Type 0) → ℕ → List ℕ → Tree → Option ItemView → ℕ → Type 0
 LooksUp answers size b (object ps) found reads = LooksUpPairs answers size b ps found reads
 LooksUp answers size b t found reads = (found ≡ None) × (reads ≡ 1)
 
--- the same, after any number of reads
+-- What is found in the document b of the tree, with any number of words read.
 abbrev pub LooksUpIn : (List ℕ → Bool → Type 0) → ℕ → List ℕ → Tree → Option ItemView → Type 0
 LooksUpIn answers size b t found = (reads : ℕ) × LooksUp answers size b t found reads
 
--- the value of the first key that has the size and is accepted
+-- The value of the first pair whose key has the size and is accepted.
 abbrev pub find_pair : (List ℕ → Bool) → ℕ → Pairs → Option Tree
 find_pair accepts size no_pairs = None
 find_pair accepts size (pair k t ps) =
     if (length k == size) && accepts k then Some t else find_pair accepts size ps
 
+-- The value at the first accepted key of an object; in any other tree nothing is found.
 abbrev pub find : (List ℕ → Bool) → ℕ → Tree → Option Tree
 find accepts size (object ps) = find_pair accepts size ps
 find accepts size t = None
 
--- The answers for keys of the size are those of one test.
+-- the index of that pair
+abbrev pub find_index : (List ℕ → Bool) → ℕ → Pairs → Option ℕ
+find_index accepts size no_pairs = None
+find_index accepts size (pair k t ps) =
+    if (length k == size) && accepts k then Some 0 else option_map suc (find_index accepts size ps)
+
+-- how many values there are up to the one at an index, none where nothing is found
+abbrev pub values_up_to : Option ℕ → ℕ
+values_up_to None = 0
+values_up_to (Some index) = suc index
+
+-- how many words a look-up reads: the header, and of an object each key's entry and the values'
+-- entries up to the wanted one
+abbrev pub words_read : (List ℕ → Bool) → ℕ → Tree → ℕ
+words_read accepts size (object ps) =
+    1 + pair_count ps + values_up_to (find_index accepts size ps)
+words_read accepts size t = 1
+
+-- how many pairs an object has; anything else has none
+abbrev pub pairs_in : Tree → ℕ
+pairs_in (object ps) = pair_count ps
+pairs_in t = 0
+
+-- For keys of this size the closure returns what the predicate does.
 abbrev pub AnswersBy : (List ℕ → Bool) → (List ℕ → Bool → Type 0) → ℕ → Type 0
 AnswersBy accepts answers size =
     (key : List ℕ) (b : Bool) → length key ≡ size → answers key b → b ≡ accepts key
 
--- The item is that of the value, where there is one.
+-- The item is that of the tree, and there is one exactly if there is a tree.
 abbrev pub IsItemFound : Option Tree → Option ItemView → Type 0
 IsItemFound (Some t) (Some x) = IsItemOf t x
 IsItemFound (Some t) None = ⊥
 IsItemFound None (Some x) = ⊥
 IsItemFound None None = ⊤
 
--- What a look-up answers on any bytes, after so many reads: the header's error, nothing under a
--- header of another kind, the first error of a key or of the accepted key's value, nothing where
--- all keys are passed over, or what the accepted value's entry is: its item, or the error of its
--- payload.
+-- The result of a look-up on any bytes, with the number of words read: the header's error; nothing
+-- under a header of another kind; the first error of a key, or that of the accepted key's value;
+-- nothing if all keys are passed over; or the item of the accepted value's entry or the error of
+-- its payload.
 pub data LooksUpBytes (answers : List ℕ → Bool → Type 0) (size : ℕ) (b : List ℕ)
     (r : Result (Option ItemView) Error) (reads : ℕ) : Type 0 where
   no_header : (e : Error) → count_under b OBJECT_CONTAINER_TAG ≡ Err e → r ≡ Err e
@@ -113,25 +138,26 @@ pub data LooksUpBytes (answers : List ℕ → Bool → Type 0) (size : ℕ) (b :
       → r ≡ (entry_item entry >>= λ x. Ok (Some x)) → reads ≡ n + pair + 2
       → LooksUpBytes answers size b r reads
 
--- the same, after any number of reads
+-- The result of a look-up on any bytes, with any number of words read.
 abbrev pub LooksUpInBytes : (List ℕ → Bool → Type 0) → ℕ → List ℕ → Result (Option ItemView) Error
     → Type 0
 LooksUpInBytes answers size b r = (reads : ℕ) × LooksUpBytes answers size b r reads
 
--- what a look-up's answer shows
+-- The contents of the item in a look-up's result.
 abbrev pub value_view : Result (Option JsonbItem) Error → Result (Option ItemView) Error
 value_view (Ok item) = Ok (option_map item_view item)
 value_view (Err e) = Err e
 
--- the count in a header, where there is one
+-- The count in a header that was read; 0 for an error.
 abbrev pub count_or_zero : Result (ℕ × ℕ) Error → ℕ
 count_or_zero (Ok header) = header.1
 count_or_zero (Err e) = 0
 
+-- The count in the header of the bytes; 0 if it cannot be read.
 unfoldable pub header_count : List ℕ → ℕ
 header_count bytes = count_or_zero (header_at bytes 0)
 
--- why a look-up can be refused
+-- A look-up can return this error.
 abbrev pub IsRefusal : Error → Type 0
 IsRefusal InvalidEOF = ⊤
 IsRefusal InvalidJsonb = ⊤

@@ -1,4 +1,4 @@
--- What the payloads of strings, numbers and extension values mean, as functions of their bytes.
+-- The meanings of payloads of strings, numbers and extension values, as functions of their bytes.
 use Rattle.std.specs.Prelude.{ℕ, ◌==◌, ◌%◌, if◌then◌else◌, Bool, false, List, [], ◌∷◌, length}
 use Rattle.std.specs.Prelude.{Option, Some, None}
 use Rattle.std.proofs.Common.{inl, inr}
@@ -12,28 +12,28 @@ use Rattle.jsonb_value.specs.NumCode.{NumCode}
 use Rattle.jsonb_value.specs.ExtCode.{ExtCode}
 use Rattle.jsonb_value.proofs.PayloadDecision.{Decided, decide_number, decide_extension}
 
--- the bytes are UTF-8
+-- The bytes are UTF-8.
 abbrev pub is_text : List ℕ → Bool
 is_text bytes = utf8_valid_len bytes == length bytes
 
--- what was found, if anything was
+-- The element that a decision found, if it found one.
 abbrev pub witness_of : {A : Type 0} (P : A → Type 0) → Decided ((x : A) × P x) → Option A
 witness_of P (inl h) = Some h.0
 witness_of P (inr none) = None
 
--- the number that a payload means
+-- The number that a payload means.
 unfoldable pub number_in : List ℕ → Option Number
 number_in p = witness_of (NumCode p) (decide_number p)
 
--- the extension value that a payload means
+-- The extension value that a payload means.
 unfoldable pub extension_in : List ℕ → Option Extension
 extension_in p = witness_of (ExtCode p) (decide_extension p)
 
--- the first byte is one that an extension value can have
+-- The first byte is a tag of an extension value.
 abbrev pub has_known_tag : List ℕ → Bool
 has_known_tag [] = false
 has_known_tag (tag ∷ rest) = tag % 16 == 0
 
--- why a payload means no extension value
+-- The error for a payload that means no extension value.
 abbrev pub extension_error : List ℕ → Error
 extension_error p = if has_known_tag p then InvalidJsonbNumber else InvalidJsonbExtension

@@ -1,7 +1,7 @@
--- What a `RawJsonb` shows.
+-- The contents of a `RawJsonb`.
 use Rattle.std.specs.Prelude.{ℕ, List}
 use Rattle.jsonb.specs.declared.raw.RawJsonb.{RawJsonb}
 
--- its bytes
+-- The bytes of a `RawJsonb`.
 abbrev pub raw_bytes : RawJsonb → List ℕ
 raw_bytes raw = raw.bytes.now

@@ -1,4 +1,4 @@
--- What is built, by the trees of what it is built of.
+-- The trees of built documents, given the trees of their parts.
 use Rattle.std.specs.Prelude.{◌≡◌, List, [], ◌∷◌, ℕ, Option, Some, map}
 use Rattle.std.specs.Iterator.{Drains, YieldsThen}
 use Rattle.std.specs.Borrow.{Bor}
@@ -17,73 +17,76 @@ use Rattle.jsonb.specs.ItemView.{ItemView, raw}
 use Rattle.jsonb.specs.Code.{Means}
 use Rattle.jsonb.specs.Building.{IsArrayOf, in_order, FitObject, IsObjectOf}
 
--- The items mean these trees, in this order.
+-- The items mean these trees, in order.
 abbrev pub AllMean : List ItemView → Trees → Type 0
 AllMean [] ts = ts ≡ no_trees
 AllMean (x ∷ xs) no_trees = ⊥
 AllMean (x ∷ xs) (tree t ts) = Means x t × AllMean xs ts
 
--- The same of pairs: the keys are theirs, and the items mean their trees.
+-- The items at keys mean these pairs, in order.
 abbrev pub AllMeanAt : List (List ℕ × ItemView) → Pairs → Type 0
 AllMeanAt [] ps = ps ≡ no_pairs
 AllMeanAt (x ∷ xs) no_pairs = ⊥
 AllMeanAt (x ∷ xs) (pair k t ps) = (x.0 ≡ k) × (Means x.1 t × AllMeanAt xs ps)
 
--- The byte strings are documents of these trees,
+-- The byte strings are documents of these trees.
 abbrev pub AreDocuments : List (List ℕ) → Trees → Type 0
 AreDocuments [] ts = ts ≡ no_trees
 AreDocuments (b ∷ bs) no_trees = ⊥
 AreDocuments (b ∷ bs) (tree t ts) = Doc b t × AreDocuments bs ts
 
--- or the canonical ones.
+-- The byte strings are the canonical documents of these trees.
 abbrev pub AreCanonical : List (List ℕ) → Trees → Type 0
 AreCanonical [] ts = ts ≡ no_trees
 AreCanonical (b ∷ bs) no_trees = ⊥
 AreCanonical (b ∷ bs) (tree t ts) = (IsTree t × (Fits t × (canon t ≡ b))) × AreCanonical bs ts
 
--- The bytes are a document of the array of the trees, but for zeros, which may have been made one.
+-- The bytes are a document of the array of the trees, except that signed zeros may have become
+-- unsigned.
 pub record IsArrayUpToZeros (ts : Trees) (bytes : List ℕ) : Type 0 where
   pub stored : Trees
   pub document : Doc bytes (trees.array stored)
   pub same : norms stored ≡ norms ts
 
--- The same of an object of pairs.
+-- The bytes are a document of the object of the pairs, except that signed zeros may have become
+-- unsigned.
 pub record IsObjectUpToZeros (ps : Pairs) (bytes : List ℕ) : Type 0 where
   pub stored : Pairs
   pub document : Doc bytes (trees.object stored)
   pub same : norm_pairs stored ≡ norm_pairs ps
 
--- The bytes are the array of these inputs: of documents a document of the array of their trees, of
--- canonical ones the canonical one.
+-- The bytes are the array of these inputs; if the inputs are documents, it is a document of the
+-- array of their trees, and if they are canonical, it is canonical.
 pub record IsArrayOfInputs (inputs : List (List ℕ)) (bytes : List ℕ) : Type 0 where
   pub array : IsArrayOf (map raw inputs) bytes
   pub document : (ts : Trees) → AreDocuments inputs ts → Doc bytes (trees.array ts)
   pub canonical : (ts : Trees) → AreCanonical inputs ts → Fits (trees.array ts)
       × (bytes ≡ canon (trees.array ts))
 
--- The keys are those of these pairs, and the byte strings documents of their trees,
+-- The keys are those of these pairs, and the byte strings are documents of their trees.
 abbrev pub ArePairDocuments : List (List ℕ × List ℕ) → Pairs → Type 0
 ArePairDocuments [] ps = ps ≡ no_pairs
 ArePairDocuments (x ∷ xs) no_pairs = ⊥
 ArePairDocuments (x ∷ xs) (pair k t ps) = (x.0 ≡ k) × (Doc x.1 t × ArePairDocuments xs ps)
 
--- or the canonical ones.
+-- The keys are those of these pairs, and the byte strings are the canonical documents of their
+-- trees.
 abbrev pub ArePairsCanonical : List (List ℕ × List ℕ) → Pairs → Type 0
 ArePairsCanonical [] ps = ps ≡ no_pairs
 ArePairsCanonical (x ∷ xs) no_pairs = ⊥
 ArePairsCanonical (x ∷ xs) (pair k t ps) =
     (x.0 ≡ k) × ((IsTree t × (Fits t × (canon t ≡ x.1))) × ArePairsCanonical xs ps)
 
--- byte strings at keys, as the items of them
+-- Byte strings at keys, as items.
 abbrev pub raw_pairs : List (List ℕ × List ℕ) → List (List ℕ × ItemView)
 raw_pairs xs = map (λ x. (x.0, raw x.1)) xs
 
--- a key and bytes that are given
+-- A key and an input, as byte strings.
 abbrev pub input_pair : Bor (List ℕ) × RawJsonb → List ℕ × List ℕ
 input_pair x = (x.0.now, raw_bytes x.1)
 
--- The bytes are the object of these inputs, no two of which have one key: of documents a document
--- of the object of their trees, of canonical ones the canonical one.
+-- The bytes are the object of these inputs, whose keys are distinct; if the inputs are documents,
+-- it is a document of the object of their trees, and if they are canonical, it is canonical.
 pub record IsObjectOfInputs (inputs : List (List ℕ × List ℕ)) (bytes : List ℕ) : Type 0 where
   pub distinct : IsDistinct bytes_eq (keys_of inputs)
   pub object : IsObjectOf (raw_pairs (in_order inputs)) bytes
@@ -91,18 +94,19 @@ pub record IsObjectOfInputs (inputs : List (List ℕ × List ℕ)) (bytes : List
   pub canonical : (ps : Pairs) → ArePairsCanonical (in_order inputs) ps → Fits (trees.object ps)
       × (bytes ≡ canon (trees.object ps))
 
--- No two of these inputs have one key, and of them no object can be made.
+-- The keys of these inputs are distinct, and no object can be built from them.
 pub record MakeNoObject (inputs : List (List ℕ × List ℕ)) : Type 0 where
   pub distinct : IsDistinct bytes_eq (keys_of inputs)
   pub none : FitObject (raw_pairs (in_order inputs)) → ⊥
 
--- The iterator that was made of a value gave some items up to its end, of which this holds.
+-- The iterator made from the source yielded a list up to its end, and the list has this property.
 abbrev pub TakesAll : {C S A : Type 0} → (C → S → Type 0) → (S → Option A → S → Type 0) → C
     → (List A → Type 0) → Type 0
 TakesAll {C} {S} {A} makes steps source P =
     (it : S) × ((xs : List A) × (makes source it × (Drains steps it xs × P xs)))
 
--- It gave some items and then one more, of which this holds.
+-- The iterator made from the source yielded a list and one more element, and both have this
+-- property.
 abbrev pub TakesUpTo : {C S A : Type 0} → (C → S → Type 0) → (S → Option A → S → Type 0) → C
     → (List A → A → Type 0) → Type 0
 TakesUpTo {C} {S} {A} makes steps source P = (it : S)

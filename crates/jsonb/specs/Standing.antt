@@ -1,4 +1,4 @@
--- The entries that stand in an array or an object, and their items.
+-- The entries in the document of an array or an object, and their items.
 use Rattle.std.specs.Prelude.{◌≡◌, ◌<◌, ◌^◌, ◌==◌, ◌&&◌, ℕ, Bool, List, [], ◌∷◌, length, Option}
 use Rattle.std.specs.Prelude.{None, option_map, Result, Ok}
 use Rattle.std.specs.Map.{keys_of, values_of, lookup}
@@ -10,7 +10,7 @@ use Rattle.jsonb.specs.ItemView.{ItemView}
 use Rattle.jsonb.specs.Item.{Entry, item_of}
 use Rattle.jsonb.specs.Building.{AreShort, array_of, key_codes, object_of}
 
--- The entries mean these trees, in order: each has its tree's type, and a payload that means the
+-- The entries mean these trees, in order: each has its tree's type and a payload that means the
 -- tree.
 abbrev pub AreCodesOf : List Entry → Trees → Type 0
 AreCodesOf [] ts = ts ≡ no_trees
@@ -41,20 +41,20 @@ pub record HasMembers (b : List ℕ) (ps : Pairs) (members : List (List ℕ × E
   pub few : length members < 2 ^ 29
   pub written : b ≡ object_of (keys_of members) (values_of members)
 
--- the item of an entry, by its type and its payload as they stand
+-- The item of an entry.
 abbrev pub entry_item : Entry → Result ItemView Error
 entry_item entry = item_of entry.type entry.payload
 
--- a key with the item of its entry
+-- A key with the item of its value's entry.
 abbrev pub member_item : List ℕ × Entry → Result (List ℕ × ItemView) Error
 member_item member = entry_item member.1 >>= λ x. Ok (member.0, x)
 
--- the entry at the first key that has the size and is accepted
+-- The entry at the first key that has the size and is accepted.
 abbrev pub find_entry : (List ℕ → Bool) → ℕ → List (List ℕ × Entry) → Option Entry
 find_entry accepts size members = lookup (λ key. (length key == size) && accepts key) members
 
--- What is found in a document of the tree is the item of the entry that stands at that key, where
--- there is one.
+-- What is found in the document b of the tree is the item of the entry at the first accepted key;
+-- nothing if there is none.
 abbrev pub IsFoundIn : (List ℕ → Bool) → ℕ → List ℕ → Tree → Option ItemView → Type 0
 IsFoundIn accepts size b (object ps) found =
     (members : List (List ℕ × Entry))

@@ -1,4 +1,4 @@
--- The entry that is written for an item, as a function of what the item shows.
+-- The entry that is written for an item, as a function of the item's contents.
 use Rattle.std.specs.Prelude.{◌==◌, ◌<◌, ◌^◌, if◌then◌else◌, ⊤, ℕ, List, [], ◌∷◌, length, map, true}
 use Rattle.std.specs.Prelude.{false, Option, Some, None, unwrap_or, Result, Ok, Err}
 use Rattle.std.specs.Result.{result_ok}
@@ -17,20 +17,21 @@ use Rattle.jsonb.specs.ItemView.{ItemView, null, boolean, number, text, extensio
 use Rattle.jsonb.specs.Item.{Entry, entry_at}
 use Rattle.jsonb.specs.Code.{number_bytes, extension_bytes}
 
--- the entry under a scalar's header; none under another header, and where it is cut
+-- The entry under a scalar's header; none under any other header, or if it is cut off.
 abbrev pub entry_under : Result (ℕ × ℕ) Error → List ℕ → Option Entry
 entry_under (Ok header) b =
     if header.0 == SCALAR_CONTAINER_TAG then result_ok (entry_at b 4 8) else None
 entry_under (Err e) b = None
 
+-- The entry of a scalar's document; none for any other bytes.
 unfoldable pub scalar_entry : List ℕ → Option Entry
 scalar_entry b = entry_under (header_at b 0) b
 
--- the entry with which a document is stored: a scalar's own, an array or object whole
+-- The entry with which a document is stored: a scalar's own, or an array or object whole.
 abbrev pub document_code : List ℕ → Entry
 document_code b = unwrap_or (scalar_entry b) (record { type = CONTAINER_TAG; payload = b })
 
--- the entry with which an item is stored that has one
+-- The entry with which an item is stored, if it has one.
 abbrev pub code_of : ItemView → Entry
 code_of null = record { type = NULL_TAG; payload = [] }
 code_of (boolean false) = record { type = FALSE_TAG; payload = [] }
@@ -41,14 +42,15 @@ code_of (extension given e) = record { type = EXTENSION_TAG; payload = extension
 code_of (raw b) = document_code b
 code_of (owned b) = document_code b
 
--- the same type and payload as a pair
+-- The type and the payload of an entry, as a pair.
 abbrev pub pair_of : Entry → ℕ × List ℕ
 pair_of entry = (entry.type, entry.payload)
 
+-- The type and the payload with which an item is stored.
 abbrev pub stored_code : ItemView → ℕ × List ℕ
 stored_code x = pair_of (code_of x)
 
--- The item has an entry: bytes must be a document.
+-- The item has an entry: its bytes, if it holds bytes, are a document.
 abbrev pub IsStored : ItemView → Type 0
 IsStored null = ⊤
 IsStored (boolean b) = ⊤
@@ -58,19 +60,21 @@ IsStored (extension given e) = ⊤
 IsStored (raw b) = IsDocument b
 IsStored (owned b) = IsDocument b
 
--- And its payload is not past the limit.
+-- The item has an entry, and its payload does not exceed the limit.
 abbrev pub IsStorable : ItemView → Type 0
 IsStorable x = IsStored x × (length (code_of x).payload < 2 ^ 28)
 
+-- Each item satisfies `IsStorable`.
 abbrev pub AreStorable : List ItemView → Type 0
 AreStorable [] = ⊤
 AreStorable (x ∷ xs) = IsStorable x × AreStorable xs
 
+-- The entries with which these items are stored.
 abbrev pub codes_of : List ItemView → List Entry
 codes_of xs = map code_of xs
 
--- What an item holds is as its type has it: a number within its width, a text of UTF-8, bytes that
--- were given those of the value.
+-- The contents of an item are consistent: a number is in the range of its type, a text is UTF-8,
+-- and given bytes encode the value.
 abbrev pub IsHeld : ItemView → Type 0
 IsHeld null = ⊤
 IsHeld (boolean b) = ⊤
@@ -82,6 +86,7 @@ IsHeld (extension (Some p) e) = ExtCode p e
 IsHeld (raw b) = ⊤
 IsHeld (owned b) = ⊤
 
+-- Each item satisfies `IsHeld`.
 abbrev pub AreHeld : List ItemView → Type 0
 AreHeld [] = ⊤
 AreHeld (x ∷ xs) = IsHeld x × AreHeld xs

@@ -2,7 +2,7 @@
 use Rattle.std.specs.Prelude.{ℕ, List, []}
 use Rattle.jsonb.specs.ItemView.{ItemView, null, boolean, number, text, extension, raw, owned}
 
--- the bytes that an item holds as a document
+-- The bytes of an item that holds bytes; none for any other item.
 abbrev pub bytes_in : ItemView → List ℕ
 bytes_in null = []
 bytes_in (boolean b) = []

@@ -1,4 +1,4 @@
--- What calls on an item answer, by what the item shows.
+-- The results of calls on an item, given its contents.
 use Rattle.std.specs.Prelude.{ℕ, List, Option, Some, None, Result, Ok}
 use Rattle.jsonb_value.specs.declared.error.Error.{Error}
 use Rattle.jsonb.specs.declared.item_type.JsonbItemType.{JsonbItemType}
@@ -6,7 +6,7 @@ use Rattle.jsonb.specs.declared.item_type.JsonbItemType.TheVariants as kinds
 use Rattle.jsonb.specs.Kind.{kind}
 use Rattle.jsonb.specs.ItemView.{ItemView, null, boolean, number, text, extension, raw, owned}
 
--- the kind: of documents that of their bytes
+-- The kind of an item; that of its bytes if it holds bytes.
 abbrev pub kind_of_view : ItemView → Result JsonbItemType Error
 kind_of_view null = Ok kinds.Null
 kind_of_view (boolean b) = Ok kinds.Boolean
@@ -16,7 +16,7 @@ kind_of_view (extension given e) = Ok kinds.Extension
 kind_of_view (raw b) = kind b
 kind_of_view (owned b) = kind b
 
--- the bytes of a borrowed document
+-- The bytes of a borrowed document.
 abbrev pub raw_in : ItemView → Option (List ℕ)
 raw_in null = None
 raw_in (boolean b) = None
@@ -26,7 +26,7 @@ raw_in (extension given e) = None
 raw_in (raw b) = Some b
 raw_in (owned b) = None
 
--- the text of a string
+-- The text of a string.
 abbrev pub text_in : ItemView → Option (List ℕ)
 text_in null = None
 text_in (boolean b) = None

@@ -1,4 +1,4 @@
-//! Arrays and objects, put together of items.
+//! Building arrays and objects from items.
 
 mod distinct;
 mod write;
@@ -30,7 +30,7 @@ use std::collections::BTreeMap;
 use std::marker::Model;
 use write::{array_document, object_document};
 
-/// Items that become an array.
+/// Collects items and builds an array from them.
 #[derive(Drop)]
 pub struct ArrayBuilder<'a> {
     items: Vec<JsonbItem<'a>>,
@@ -43,7 +43,7 @@ impl<'a> Model for ArrayBuilder<'a> {
 }
 
 impl<'a> ArrayBuilder<'a> {
-    /// A builder of no items. No memory is asked for.
+    /// A builder without items. It allocates nothing.
     pub fn new(alloc: Global) -> Self
         ensures { result ≡ [] }
     {
@@ -52,7 +52,7 @@ impl<'a> ArrayBuilder<'a> {
         }
     }
 
-    /// A builder of no items, with room for so many. Only memory can be refused.
+    /// A builder without items, with room for `capacity` of them. `OutOfMemory` is the only error.
     pub fn with_capacity(alloc: Global, capacity: usize) -> Result<Self, Error>
         ensures ok { IfOk result (λ builder. builder ≡ []) }
         ensures memory { IfErr result (λ e. e ≡ Error.OutOfMemory) }
@@ -62,8 +62,8 @@ impl<'a> ArrayBuilder<'a> {
         })
     }
 
-    /// Puts an item behind the others. Only memory can be refused: then the builder is as before,
-    /// and the item is dropped.
+    /// Appends an item. `OutOfMemory` is the only error; the builder is then unchanged, and the
+    /// item is dropped.
     pub fn push_jsonb_item(&mut self, item: JsonbItem<'a>) -> Result<(), Error>
         ensures pushed { OnOk result (self.new ≡ self.old ++ item_view item.entry ∷ []) }
         ensures err { OnErr result (self.new ≡ self.old) }
@@ -73,7 +73,8 @@ impl<'a> ArrayBuilder<'a> {
         Ok(())
     }
 
-    /// Puts these bytes behind the others, as `push_jsonb_item` does the item of them.
+    /// Appends a document by its bytes, as `push_jsonb_item` appends `JsonbItem::Raw`. The bytes
+    /// are checked by `build`. `OutOfMemory` is the only error; the builder is then unchanged.
     pub fn push_raw_jsonb(&mut self, raw: RawJsonb<'a>) -> Result<(), Error>
         ensures pushed { OnOk result (self.new ≡ self.old ++ items.raw (raw_bytes raw.entry) ∷ []) }
         ensures err { OnErr result (self.new ≡ self.old) }
@@ -82,7 +83,9 @@ impl<'a> ArrayBuilder<'a> {
         self.push_jsonb_item(JsonbItem::Raw(raw))
     }
 
-    /// Puts these bytes behind the others, as `push_jsonb_item` does the item of them.
+    /// Appends a document by its bytes, as `push_jsonb_item` appends `JsonbItem::Owned`. The bytes
+    /// are checked by `build`. `OutOfMemory` is the only error; the builder is then unchanged, and
+    /// the bytes are dropped.
     pub fn push_owned_jsonb(&mut self, owned: OwnedJsonb) -> Result<(), Error>
         ensures pushed { OnOk result (self.new ≡ self.old ++ items.owned (owned_bytes owned) ∷ []) }
         ensures err { OnErr result (self.new ≡ self.old) }
@@ -91,11 +94,11 @@ impl<'a> ArrayBuilder<'a> {
         self.push_jsonb_item(JsonbItem::Owned(owned))
     }
 
-    /// The array of the items, in the order that they came. A scalar, also the document of one,
-    /// stands in it as its entry and payload, and an array or object whole. `InvalidJsonb` where
-    /// bytes that were given are no document, a payload has more than 268,435,455 bytes or there
-    /// are more than 536,870,911 items, before memory is asked for; else only memory can be
-    /// refused.
+    /// The array of the items, in the order of their insertion. A scalar is stored as its entry and
+    /// payload, even if it was given as a document; an array or object is stored whole.
+    /// `InvalidJsonb`, before any allocation, if given bytes are not a document, a payload exceeds
+    /// 268,435,455 bytes, or there are more than 536,870,911 items; `OutOfMemory` if an allocation
+    /// fails.
     pub fn build(self) -> Result<OwnedJsonb, Error>
         ensures ok { IfOk result (λ owned. IsArrayOf self.entry (owned_bytes owned)) }
         ensures means { IfOk result (λ owned. (ts : Trees) → AllMean self.entry ts
@@ -108,7 +111,7 @@ impl<'a> ArrayBuilder<'a> {
     }
 }
 
-/// Pairs of keys and items that become an object.
+/// Collects pairs of keys and items and builds an object from them.
 #[derive(Drop)]
 pub struct ObjectBuilder<'a> {
     pairs: BTreeMap<&'a str, JsonbItem<'a>>,
@@ -122,7 +125,7 @@ impl<'a> Model for ObjectBuilder<'a> {
 }
 
 impl<'a> ObjectBuilder<'a> {
-    /// A builder of no pairs. No memory is asked for.
+    /// A builder without pairs. It allocates nothing.
     pub fn new(alloc: Global) -> Self
         ensures { result ≡ [] }
     {
@@ -132,16 +135,16 @@ impl<'a> ObjectBuilder<'a> {
         }
     }
 
-    /// Whether a pair of this key is there.
+    /// Whether the builder has a pair with this key.
     pub fn contains_key(&self, key: &str) -> bool
         ensures { result ≡ has_key self.now key.now }
     {
         self.pairs.contains_key(key)
     }
 
-    /// Puts a pair in the place that its key's bytes give it. `ObjectDuplicateKey` where the key
-    /// is there; else only memory can be refused. After a refusal the builder is as before, and
-    /// the item is dropped.
+    /// Inserts a pair; pairs are ordered by the bytes of their keys. `ObjectDuplicateKey` if the
+    /// key is present, `OutOfMemory` if an allocation fails. After an error the builder is
+    /// unchanged, and the item is dropped.
     pub fn push_jsonb_item(&mut self, key: &'a str, item: JsonbItem<'a>) -> Result<(), Error>
         ensures pushed { OnOk result
             (self.new ≡ with_pair self.old key.entry.now (item_view item.entry)) }
@@ -158,7 +161,9 @@ impl<'a> ObjectBuilder<'a> {
         Ok(())
     }
 
-    /// Puts these bytes at a key, as `push_jsonb_item` does the item of them.
+    /// Inserts a document by its bytes, as `push_jsonb_item` inserts `JsonbItem::Raw`. The bytes
+    /// are checked by `build`. `ObjectDuplicateKey` if the key is present, `OutOfMemory` if an
+    /// allocation fails; after an error the builder is unchanged.
     pub fn push_raw_jsonb(&mut self, key: &'a str, raw: RawJsonb<'a>) -> Result<(), Error>
         ensures pushed { OnOk result
             (self.new ≡ with_pair self.old key.entry.now (items.raw (raw_bytes raw.entry))) }
@@ -171,7 +176,9 @@ impl<'a> ObjectBuilder<'a> {
         self.push_jsonb_item(key, JsonbItem::Raw(raw))
     }
 
-    /// Puts these bytes at a key, as `push_jsonb_item` does the item of them.
+    /// Inserts a document by its bytes, as `push_jsonb_item` inserts `JsonbItem::Owned`. The bytes
+    /// are checked by `build`. `ObjectDuplicateKey` if the key is present, `OutOfMemory` if an
+    /// allocation fails; after an error the builder is unchanged, and the bytes are dropped.
     pub fn push_owned_jsonb(&mut self, key: &'a str, owned: OwnedJsonb) -> Result<(), Error>
         ensures pushed { OnOk result
             (self.new ≡ with_pair self.old key.entry.now (items.owned (owned_bytes owned))) }
@@ -184,11 +191,11 @@ impl<'a> ObjectBuilder<'a> {
         self.push_jsonb_item(key, JsonbItem::Owned(owned))
     }
 
-    /// The object of the pairs, keys ascending by their bytes. A scalar, also the document of one,
-    /// stands in it as its entry and payload, and an array or object whole. `InvalidJsonb` where
-    /// bytes that were given are no document, a key or a payload has more than 268,435,455 bytes
-    /// or there are more than 536,870,911 pairs, before memory is asked for; else only memory can
-    /// be refused.
+    /// The object of the pairs, in ascending byte order of their keys. A scalar is stored as its
+    /// entry and payload, even if it was given as a document; an array or object is stored whole.
+    /// `InvalidJsonb`, before any allocation, if given bytes are not a document, a key or a payload
+    /// exceeds 268,435,455 bytes, or there are more than 536,870,911 pairs; `OutOfMemory` if an
+    /// allocation fails.
     pub fn build(self) -> Result<OwnedJsonb, Error>
         ensures ok { IfOk result (λ owned. IsObjectOf self.entry (owned_bytes owned)) }
         ensures keys { OnOk result (AreKeys (keys_of self.entry)) }
@@ -203,10 +210,10 @@ impl<'a> ObjectBuilder<'a> {
 }
 
 impl OwnedJsonb {
-    /// The array of these documents, in the order that they come: a scalar stands in it as its
-    /// entry and payload, and an array or object whole. `InvalidJsonb` where an input is no
-    /// document, a payload has more than 268,435,455 bytes or there are more than 536,870,911
-    /// inputs; else only memory can be refused. The iterator must end.
+    /// The array of these documents, in the order of the iterator, which must end. A scalar is
+    /// stored as its entry and payload, an array or object whole. `InvalidJsonb` if an input is not
+    /// a document, a payload exceeds 268,435,455 bytes, or there are more than 536,870,911 inputs;
+    /// `OutOfMemory` if an allocation fails.
     pub fn build_array<'a, I: IntoIterator<Item = RawJsonb<'a>>>(
         alloc: Global,
         inputs: I,
@@ -229,11 +236,11 @@ impl OwnedJsonb {
         array_document(alloc, &documents)
     }
 
-    /// The object of these documents at their keys, keys ascending by their bytes: a scalar stands
-    /// in it as its entry and payload, and an array or object whole. `ObjectDuplicateKey` at the
-    /// first key that came before; else `InvalidJsonb` where an input is no document, a key or a
-    /// payload has more than 268,435,455 bytes or there are more than 536,870,911 inputs; else
-    /// only memory can be refused. The iterator must end.
+    /// The object of these documents at their keys, in ascending byte order of the keys. The
+    /// iterator must end. A scalar is stored as its entry and payload, an array or object whole.
+    /// `ObjectDuplicateKey` at the first key that occurred before; otherwise `InvalidJsonb` if an
+    /// input is not a document, a key or a payload exceeds 268,435,455 bytes, or there are more
+    /// than 536,870,911 inputs; `OutOfMemory` if an allocation fails.
     pub fn build_object<'a, I: IntoIterator<Item = (&'a str, RawJsonb<'a>)>>(
         alloc: Global,
         inputs: I,

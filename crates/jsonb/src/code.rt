@@ -1,4 +1,4 @@
-//! With what items are stored: the type of an entry, and its payload.
+//! The stored form of items: the type and the payload of an entry.
 
 ghost use Rattle.std.specs.Prelude.{◌≡◌, IsSome};
 ghost use Rattle.jsonb_codec.specs.Code.{code_of};
@@ -11,11 +11,12 @@ ghost use Rattle.jsonb.specs.Children.{IsShown, raw_view};
 
 use crate::item::{JsonbItem, text_of};
 use crate::raw::RawJsonb;
+use jsonb_codec::DocumentBytes;
 use jsonb_codec::constants::{EXTENSION_TAG, FALSE_TAG, NULL_TAG, NUMBER_TAG, TRUE_TAG};
 use jsonb_codec::parts::Part;
-use jsonb_codec::{Code, DocumentBytes, Stored, part_code};
+use jsonb_codec::writer::{Code, Stored, part_code};
 
-/// Items are stored as they were given, if bytes that were given are a document.
+/// Items are stored as given; bytes must be a document.
 impl<'a> Stored for JsonbItem<'a> {
     ghost stored = { λ item. IsStored (item_view item) };
 
@@ -48,7 +49,7 @@ impl<'a> Stored for JsonbItem<'a> {
     }
 }
 
-// With what a document is stored: a scalar with its entry, an array or object whole.
+// The entry of a document: a scalar's own entry, or an array or object whole.
 #[inline(always)]
 fn document_code(bytes: &[u8]) -> Code<'_>
     requires { IsDocument bytes.now }
@@ -57,7 +58,7 @@ fn document_code(bytes: &[u8]) -> Code<'_>
     part_code(DocumentBytes::new_unchecked(bytes).part())
 }
 
-/// The one part that a document is. None of bytes that are no document.
+/// The single part that a document consists of. `None` if the bytes are not a document.
 #[inline(always)]
 pub fn document_part<'a>(raw: RawJsonb<'a>) -> Option<Part<'a>>
     ensures { IsShown IsSome code_of_some result (raw_view raw.entry) }

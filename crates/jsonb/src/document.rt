@@ -1,13 +1,16 @@
-//! Documents that were checked once: nothing that is asked of them checks again.
+//! Documents that were checked once and are not checked again by any later call.
 
-use crate::entries::Cursor;
+use crate::entries::{Cursor, count_under};
 use crate::item_type::JsonbItemType;
+use crate::lookup::{MAX_READS, count_pairs, find_value};
 use crate::nodes::{Items, Members};
 use crate::owned::OwnedJsonb;
 use crate::raw::RawJsonb;
+use crate::reads::Reads;
 use crate::text::{Layout, document_text, write_document};
 use jsonb_codec::constants::{
-    CONTAINER_TAG, EXTENSION_TAG, FALSE_TAG, NULL_TAG, NUMBER_TAG, STRING_TAG, TRUE_TAG,
+    CONTAINER_TAG, EXTENSION_TAG, FALSE_TAG, NULL_TAG, NUMBER_TAG, OBJECT_CONTAINER_TAG,
+    STRING_TAG, TRUE_TAG,
 };
 use jsonb_codec::parts::Part;
 use jsonb_codec::{
@@ -17,8 +20,8 @@ use jsonb_value::{Error, ExtensionValue, Number, Value};
 use std::alloc::Global;
 use std::fmt;
 
-/// The bytes of a document, where they stand. They were checked when it was made, so no call on it
-/// answers an error because of them, and none checks them again.
+/// The borrowed bytes of a document. They were checked on construction, so no method fails because
+/// of them or checks them again.
 #[derive(Clone, Copy, Debug)]
 pub struct Document<'a> {
     bytes: DocumentBytes<'a>,
@@ -35,7 +38,7 @@ pub enum Node<'a> {
     Container(Document<'a>),
 }
 
-/// What an array or object holds.
+/// The content of an array or object.
 #[derive(Drop)]
 pub enum Contents<'a> {
     Array(Items<'a>),
@@ -43,7 +46,8 @@ pub enum Contents<'a> {
 }
 
 impl<'a> Document<'a> {
-    ghost use Rattle.std.specs.Prelude.{◌≡◌, ◌↔◌, ◌⊎◌, ◌<◌, ◌^◌, length, nat_eq, None, Some, Err};
+    ghost use Rattle.std.specs.Prelude.{◌≡◌, ◌↔◌, ◌⊎◌, ◌<◌, ◌≤◌, ◌+◌, ◌*◌, ◌^◌, length, nat_eq};
+    ghost use Rattle.std.specs.Prelude.{None, Some, Err};
     ghost use Rattle.std.specs.Prelude.{IfOk, IfErr, IfSome, IsSome, IsTrue, MatchOption};
     ghost use Rattle.std.specs.Prelude.{option_map, string_bytes};
     ghost use Rattle.std.specs.Cmp.Lexicographic.{pointwise};
@@ -60,13 +64,14 @@ impl<'a> Document<'a> {
     ghost use Rattle.jsonb.specs.Document.{document_bytes, document_tree};
     ghost use Rattle.jsonb.specs.Kind.{kind_of_tree};
     ghost use Rattle.jsonb.specs.Facts.{rest_trees, rest_pairs};
-    ghost use Rattle.jsonb.specs.Lookup.{find_pair};
-    ghost use Rattle.jsonb.specs.Node.{node_tree, value_of_key, items_of, item_at_index};
-    ghost use Rattle.jsonb.specs.Node.{members_of, IsContainer, HoldsNoScalar};
+    ghost use Rattle.jsonb.specs.Lookup.{find_pair, pairs_in};
+    ghost use Rattle.jsonb.specs.Node.{node_tree, value_of_key, words_for_key, items_of};
+    ghost use Rattle.jsonb.specs.Node.{item_at_index, members_of, first_key_of, IsContainer};
+    ghost use Rattle.jsonb.specs.Node.{HoldsNoScalar};
     ghost use Rattle.jsonb.specs.Owned.{owned_bytes};
     ghost use Rattle.jsonb.specs.Raw.{raw_bytes};
 
-    /// The bytes as a document. `None` where they are none.
+    /// Checks the bytes. `None` if they are not a document.
     pub fn new(bytes: &'a [u8]) -> Option<Self>
         ensures exact { IsSome result ↔ IsDocument bytes.entry.now }
         ensures bytes { IfSome result (λ d. document_bytes d ≡ bytes.entry.now) }
@@ -77,9 +82,9 @@ impl<'a> Document<'a> {
         }
     }
 
-    /// The bytes as a document that nests at most that deep: a scalar has depth 0, an array or
-    /// object 1 where it is empty, and otherwise one more than its deepest child. `None` where they
-    /// are none. What nests deeper is not looked into.
+    /// Checks the bytes and their depth: a scalar has depth 0, an empty array or object 1, any
+    /// other array or object one more than its deepest child. `None` if they are not a document of
+    /// at most this depth. Levels beyond it are not examined.
     pub fn within(bytes: &'a [u8], depth: usize) -> Option<Self>
         ensures exact { IsSome result ↔ IsDocumentWithin depth bytes.entry.now }
         ensures bytes { IfSome result (λ d. document_bytes d ≡ bytes.entry.now) }
@@ -90,8 +95,8 @@ impl<'a> Document<'a> {
         }
     }
 
-    /// The bytes, of which the caller knows that they are a document: nothing is checked again.
-    /// This is for a caller that keeps checked bytes, as a column of documents does.
+    /// Wraps bytes that the caller knows to be a document, without checking them. For callers that
+    /// keep checked bytes, as a column of documents does.
     pub fn new_unchecked(bytes: &'a [u8]) -> Self
         requires { IsDocument bytes.now }
         ensures { document_bytes result ≡ bytes.entry.now }
@@ -101,7 +106,7 @@ impl<'a> Document<'a> {
         }
     }
 
-    // An array or object inside another is a document by itself.
+    // An array or object inside another one is a document itself.
     fn of_container(part: Part<'a>) -> Self
         requires { part.tag ≡ CONTAINER_TAG }
         ensures { (t : Tree) → Means part.entry t → document_tree result ≡ t }
@@ -111,7 +116,7 @@ impl<'a> Document<'a> {
         }
     }
 
-    /// The bytes.
+    /// The bytes of the document.
     pub fn as_bytes(&self) -> &'a [u8]
         ensures bytes { result.now ≡ document_bytes self.now }
         ensures document { Doc result.now (document_tree self.now) }
@@ -119,7 +124,7 @@ impl<'a> Document<'a> {
         self.bytes.as_bytes()
     }
 
-    /// The bytes as a view of any bytes.
+    /// The same bytes as a `RawJsonb`.
     pub fn as_raw(&self) -> RawJsonb<'a>
         ensures bytes { raw_bytes result ≡ document_bytes self.now }
         ensures document { Doc (raw_bytes result) (document_tree self.now) }
@@ -127,7 +132,7 @@ impl<'a> Document<'a> {
         RawJsonb::new(self.as_bytes())
     }
 
-    /// The kind; an array or object has its count.
+    /// The kind; an array or object with its count of items or pairs.
     pub fn kind(&self) -> JsonbItemType
         ensures { result ≡ kind_of_tree (document_tree self.now) }
     {
@@ -137,7 +142,7 @@ impl<'a> Document<'a> {
         kind
     }
 
-    // The one part that the document is.
+    // The single part that the document consists of.
     #[inline(always)]
     pub(crate) fn part(&self) -> Part<'a>
         ensures means { Means result (document_tree self.now) }
@@ -146,14 +151,15 @@ impl<'a> Document<'a> {
         self.bytes.part()
     }
 
-    /// The value that the document is.
+    /// The document as a value.
     pub fn value(&self) -> Node<'a>
-        ensures { node_tree result ≡ document_tree self.now }
+        ensures tree { node_tree result ≡ document_tree self.now }
+        ensures container { HoldsNoScalar result }
     {
         self.node()
     }
 
-    // The same, where a container is known to be one.
+    // The document as a value; a `Container` holds an array or object, never a scalar.
     #[inline(always)]
     pub(crate) fn node(&self) -> Node<'a>
         ensures tree { node_tree result ≡ document_tree self.now }
@@ -163,7 +169,7 @@ impl<'a> Document<'a> {
         Node::of_part(self.part())
     }
 
-    // What an array or object holds.
+    // The content of an array or object.
     #[inline(always)]
     pub(crate) fn contents(&self) -> Contents<'a>
         requires { IsContainer (document_tree self.now) }
@@ -178,7 +184,7 @@ impl<'a> Document<'a> {
         }
     }
 
-    /// The items of an array, in order. `None` for all but arrays.
+    /// The items of an array, in order. `None` if the document is not an array.
     pub fn items(&self) -> Option<Items<'a>>
         ensures { option_map rest_trees result ≡ items_of (document_tree self.now) }
     {
@@ -189,7 +195,8 @@ impl<'a> Document<'a> {
         }
     }
 
-    /// The members of an object, in the order of their keys. `None` for all but objects.
+    /// The members of an object, in the order of their keys. `None` if the document is not an
+    /// object.
     pub fn members(&self) -> Option<Members<'a>>
         ensures { option_map rest_pairs result ≡ members_of (document_tree self.now) }
     {
@@ -200,15 +207,32 @@ impl<'a> Document<'a> {
         }
     }
 
-    /// The item of an array at an index. `None` where there are no more than so many items, and for
-    /// all but arrays.
+    // The first key of an object, or `None` in it where the object is empty. It is read without the
+    // lengths of the other keys. `None` for all but objects.
+    pub(crate) fn first_key(&self) -> Option<Option<&'a str>>
+        ensures { option_map (option_map (λ key. key.now)) result
+            ≡ first_key_of (document_tree self.now) }
+    {
+        let bytes = self.as_bytes();
+        match count_under(bytes, OBJECT_CONTAINER_TAG) {
+            Ok(Some(count)) => match Cursor::over_keys(bytes, count).next_part() {
+                Some(key) => Some(Some(key.text())),
+                None => Some(None),
+            },
+            Ok(None) => None,
+            Err(_) => unreachable!(),
+        }
+    }
+
+    /// The item of an array at an index, counted from 0. `None` if the index is not below the
+    /// number of items, or the document is not an array.
     pub fn index(&self, index: usize) -> Option<Node<'a>>
         ensures { option_map node_tree result ≡ item_at_index index (document_tree self.now) }
     {
         self.items()?.item_at(index)
     }
 
-    /// The value of a key: `None` where there is no such key, and for all but objects.
+    /// The value of a key. `None` if there is no such key, or the document is not an object.
     pub fn get(&self, name: &str) -> Option<Node<'a>>
         ensures { option_map node_tree result ≡ value_of_key name.now (document_tree self.now) }
     {
@@ -218,14 +242,54 @@ impl<'a> Document<'a> {
         }
         match whole.contents() {
             parts::Contents::Array(_) => None,
-            parts::Contents::Object(members) => match Document::find_member(members, name) {
+            parts::Contents::Object(object) => match Document::find_member(object.members(), name) {
                 Some(part) => Some(Node::of_part(part)),
                 None => None,
             },
         }
     }
 
-    /// The text, with no white space. Only memory can be refused.
+    /// The value of a key, as `get` returns it. Each word of the document that is read is counted:
+    /// the header, each key's entry, and the values' entries up to the wanted one, so at most
+    /// 2n + 1 words among n pairs. The count must be at most `MAX_READS` before.
+    pub fn get_counted(&self, name: &str, reads: &mut Reads) -> Option<Node<'a>>
+        requires { reads.old ≤ MAX_READS }
+        ensures value { option_map node_tree result
+            ≡ value_of_key name.now (document_tree self.now) }
+        ensures cost { reads.new ≡ reads.old + words_for_key name.now (document_tree self.now) }
+        ensures bound { reads.new ≤ reads.old + (2 * pairs_in (document_tree self.now) + 1) }
+    {
+        let part = self.find_counted(name, reads)?;
+        Some(Node::of_part(part))
+    }
+
+    // The same, as the part that the value is.
+    fn find_counted(&self, name: &str, reads: &mut Reads) -> Option<Part<'a>>
+        requires { reads.old ≤ MAX_READS }
+        ensures found { MatchOption result (value_of_key name.now (document_tree self.now) ≡ None)
+            (λ part. (t : Tree)
+            × ((value_of_key name.now (document_tree self.now) ≡ Some t) × Means part t)) }
+        ensures cost { reads.new ≡ reads.old + words_for_key name.now (document_tree self.now) }
+        ensures bound { reads.new ≤ reads.old + (2 * pairs_in (document_tree self.now) + 1) }
+    {
+        let bytes = self.as_bytes();
+        let count = match count_pairs(bytes, reads) {
+            Ok(Some(count)) => count,
+            Ok(None) => return None,
+            Err(_) => unreachable!(),
+        };
+        let is_name = |name: &[u8], key: &[u8]| name == key;
+        match find_value(bytes, count, name, &is_name, reads) {
+            Ok(Some(value)) => Some(Part {
+                tag: value.type_code,
+                payload: value.payload,
+            }),
+            Ok(None) => None,
+            Err(_) => unreachable!(),
+        }
+    }
+
+    /// The compact text, without white space. `OutOfMemory` is the only error.
     pub fn to_string(&self, alloc: Global) -> Result<String, Error>
         ensures text { IfOk result (λ text. string_bytes text ≡ compact (document_tree self.now)) }
         ensures memory { IfErr result (λ e. e ≡ Error.OutOfMemory) }
@@ -233,8 +297,8 @@ impl<'a> Document<'a> {
         document_text(alloc, *self, Layout::InOneLine)
     }
 
-    /// The text with each item or pair on a line of its own, indented by two spaces for each
-    /// container round it. Only memory can be refused.
+    /// The text with each item or pair on its own line, indented by two spaces for each enclosing
+    /// container. `OutOfMemory` is the only error.
     pub fn to_pretty_string(&self, alloc: Global) -> Result<String, Error>
         ensures text { IfOk result (λ text. string_bytes text ≡ pretty (document_tree self.now)) }
         ensures memory { IfErr result (λ e. e ≡ Error.OutOfMemory) }
@@ -242,8 +306,8 @@ impl<'a> Document<'a> {
         document_text(alloc, *self, Layout::OnLines(0))
     }
 
-    /// The value. Its strings and extension data are borrowed from the bytes. Only memory can be
-    /// refused.
+    /// Decodes the document. Strings and extension data in the value are borrowed from the bytes.
+    /// `OutOfMemory` is the only error.
     pub fn to_value(&self, alloc: Global) -> Result<Value<'a>, Error>
         ensures ok { IfOk result (λ value. tree_of value ≡ document_tree self.now) }
         ensures memory { IfErr result (λ e. e ≡ Error.OutOfMemory) }
@@ -251,15 +315,16 @@ impl<'a> Document<'a> {
         value_of_document(alloc, self.bytes)
     }
 
-    /// Whether the bytes are the one document that is written for their tree.
+    /// Whether the bytes are canonical: those that the encoder writes for the document's value.
     pub fn is_canonical(&self) -> bool
         ensures { IsTrue result ↔ IsCanonical (document_bytes self.now) }
     {
         is_canonical_document(self.bytes)
     }
 
-    /// The canonical document of the tree. `InvalidJsonb` where an old payload is past its limit in
-    /// its newer form, before memory is asked for; else only `OutOfMemory`.
+    /// The canonical document of the value. `InvalidJsonb`, before any allocation, if a payload in
+    /// an older form exceeds 268,435,455 bytes in its newer form; `OutOfMemory` if an allocation
+    /// fails.
     pub fn to_canonical(&self, alloc: Global) -> Result<OwnedJsonb, Error>
         ensures ok { IfOk result (λ owned. owned_bytes owned ≡ canon (document_tree self.now)) }
         ensures past { (result ≡ Err Error.InvalidJsonb)
@@ -297,7 +362,18 @@ impl<'a> Node<'a> {
     ghost use Rattle.jsonb.specs.Kind.{kind_of_tree};
     ghost use Rattle.jsonb.specs.Node.{node_tree, HoldsNoScalar};
 
-    // The kind; an array or object has its count.
+    // The same value, where a container is known to be one: not a scalar's document.
+    pub(crate) fn opened(self) -> Node<'a>
+        ensures tree { node_tree result ≡ node_tree self.entry }
+        ensures container { HoldsNoScalar result }
+    {
+        match self {
+            Node::Container(document) => document.node(),
+            scalar => scalar,
+        }
+    }
+
+    // The kind; an array or object with its count of items or pairs.
     pub(crate) fn kind(&self) -> JsonbItemType
         ensures { result ≡ kind_of_tree (node_tree self.now) }
     {
@@ -311,7 +387,7 @@ impl<'a> Node<'a> {
         }
     }
 
-    /// The value of a part.
+    /// The value that a part holds.
     #[inline(always)]
     pub(crate) fn of_part(part: Part<'a>) -> Node<'a>
         ensures means { (t : Tree) → Means part.entry t → node_tree result ≡ t }
@@ -329,7 +405,7 @@ impl<'a> Node<'a> {
     }
 }
 
-/// The text, with no white space. Width and fill are passed over.
+/// Writes the compact text, without white space. Width and fill are ignored.
 impl fmt::Display for Document<'_> {
     ghost use Rattle.std.specs.Prelude.{Some};
     ghost use Rattle.jsonb_value.specs.Text.{compact};

@@ -1,4 +1,4 @@
-//! Entry words and their payloads, at the places where they stand.
+//! Reading entry words and their payloads from the bytes.
 
 ghost use Rattle.std.specs.Prelude.{◌≡◌, ◌≤◌, ◌<◌, ◌+◌, ◌*◌, ◌^◌, List, [], length, Result, Ok};
 ghost use Rattle.std.specs.Prelude.{IfOk, IfSome};
@@ -25,8 +25,8 @@ pub struct Entry<'a> {
     pub payload: &'a [u8],
 }
 
-/// Entries that stand one behind the other, and their payloads: where the first entry word stands,
-/// and where its payload begins.
+/// Consecutive entry words and their payloads: the offset of the first entry word, and the offset
+/// of its payload, in bytes.
 #[derive(Clone, Copy)]
 pub struct Entries<'a> {
     pub bytes: &'a [u8],
@@ -35,7 +35,7 @@ pub struct Entries<'a> {
 }
 
 impl<'a> Entries<'a> {
-    /// The first entry. `InvalidEOF` where its word is cut, `InvalidJsonb` where its payload runs
+    /// The first entry. `InvalidEOF` if its word is cut off, `InvalidJsonb` if its payload runs
     /// past the end.
     #[tactic(auto, unfolding(crate::specs::Item::entry_at, crate::specs::Item::part_at))]
     pub fn first(&self) -> Result<Entry<'a>, Error>
@@ -56,7 +56,8 @@ impl<'a> Entries<'a> {
     }
 }
 
-/// How many children a container of this kind has: `None` for bytes of another kind.
+/// The number of children of a container of this kind, `None` if the header is of another kind.
+/// `InvalidEOF` if the header is cut off, `InvalidJsonb` if it is of no kind.
 #[tactic(auto, unfolding(crate::specs::Walk::count_under))]
 pub fn count_under(bytes: &[u8], tag: u32) -> Result<Option<usize>, Error>
     ensures value { result ≡ count_under bytes.now tag }
@@ -71,7 +72,8 @@ pub fn count_under(bytes: &[u8], tag: u32) -> Result<Option<usize>, Error>
     }
 }
 
-// Where the payloads of an object's keys end. `InvalidEOF` where the entry of a key is cut.
+// The offset at which the payloads of an object's keys end. `InvalidEOF` if the entry word of a key
+// is cut off.
 #[inline(always)]
 fn keys_end(bytes: &[u8], count: usize) -> Result<usize, Error>
     requires count { count < 2 ^ 29 }
@@ -79,7 +81,7 @@ fn keys_end(bytes: &[u8], count: usize) -> Result<usize, Error>
     ensures value { result ≡ payloads_end bytes.now count 4 (4 + 8 * count) }
     ensures near { IfOk result (λ end. end ≤ 4 + 8 * count + 2 ^ 32 * count) }
 {
-    // All words are known to be there at once, so that the loop has one end and not two.
+    // All words are checked to be present at once, so that the loop has a single exit.
     let Some(mut words) = bytes.get(4..4 + 4 * count) else {
         return Err(Error::InvalidEOF);
     };
@@ -91,8 +93,9 @@ fn keys_end(bytes: &[u8], count: usize) -> Result<usize, Error>
     Ok(end)
 }
 
-/// A place among entries and their payloads, from which they are read one by one up to the first
-/// error: where the next entry word stands, where its payload begins, and how many are left.
+/// A position among entry words and their payloads, from which entries are read one by one up to
+/// the first error: the offset of the next entry word, the offset of its payload, and the number of
+/// entries left.
 #[derive(Drop)]
 pub struct Cursor<'a> {
     bytes: &'a [u8],
@@ -111,7 +114,7 @@ impl<'a> Model for Cursor<'a> {
 }
 
 impl<'a> Cursor<'a> {
-    // At the first of that many entries.
+    // A cursor at the first of `left` entries.
     #[inline(always)]
     fn new(bytes: &'a [u8], place: usize, start: usize, left: usize) -> Self
         requires few { left < 2 ^ 29 }
@@ -127,7 +130,7 @@ impl<'a> Cursor<'a> {
         }
     }
 
-    /// The entries of an array of that many items.
+    /// The entries of an array of `count` items.
     #[inline(always)]
     pub fn over_items(bytes: &'a [u8], count: usize) -> Self
         requires { count < 2 ^ 29 }
@@ -136,7 +139,7 @@ impl<'a> Cursor<'a> {
         Cursor::new(bytes, 4, 4 + 4 * count, count)
     }
 
-    /// The entries of the keys of an object of that many.
+    /// The entries of the keys of an object of `count` pairs.
     #[inline(always)]
     pub fn over_keys(bytes: &'a [u8], count: usize) -> Self
         requires { count < 2 ^ 29 }
@@ -145,8 +148,8 @@ impl<'a> Cursor<'a> {
         Cursor::new(bytes, 4, 4 + 8 * count, count)
     }
 
-    /// The entries of the values of an object of that many keys. `InvalidEOF` where the entry of a
-    /// key is cut.
+    /// The entries of the values of an object of `count` pairs. `InvalidEOF` if the entry word of a
+    /// key is cut off.
     #[inline(always)]
     pub fn over_values(bytes: &'a [u8], count: usize) -> Result<Self, Error>
         requires count { count < 2 ^ 29 }
@@ -157,7 +160,8 @@ impl<'a> Cursor<'a> {
         Ok(Cursor::new(bytes, 4 + 4 * count, start, count))
     }
 
-    /// The entries of an array: `None` of bytes of another kind.
+    /// The entries of an array, `None` if the header is of another kind. `InvalidEOF` if the header
+    /// is cut off, `InvalidJsonb` if it is of no kind.
     pub fn over_array(bytes: &'a [u8]) -> Result<Option<Self>, Error>
         ensures { result ≡ array_entries bytes.entry.now }
     {
@@ -167,7 +171,9 @@ impl<'a> Cursor<'a> {
         Ok(Some(Cursor::over_items(bytes, count)))
     }
 
-    /// The entries of an object's keys, and those of its values: `None` of bytes of another kind.
+    /// The entries of an object's keys and of its values, `None` if the header is of another kind.
+    /// `InvalidEOF` if the header or the entry word of a key is cut off, `InvalidJsonb` if the
+    /// header is of no kind.
     pub fn over_object(bytes: &'a [u8]) -> Result<Option<(Self, Self)>, Error>
         ensures { result ≡ object_entries bytes.entry.now }
     {
@@ -178,8 +184,8 @@ impl<'a> Cursor<'a> {
         Ok(Some((Cursor::over_keys(bytes, count), values)))
     }
 
-    /// The next entry. `InvalidEOF` where its word is cut, `InvalidJsonb` where its payload runs
-    /// past the end; after an error there is none.
+    /// The next entry. `InvalidEOF` if its word is cut off, `InvalidJsonb` if its payload runs past
+    /// the end; after an error there is no next entry.
     #[inline(always)]
     pub fn next(&mut self) -> Option<Result<Entry<'a>, Error>>
         ensures steps { YieldsFirstBy entry_view (λ it. it) self.old result self.new }
@@ -206,14 +212,14 @@ impl<'a> Cursor<'a> {
         }
     }
 
-    /// Ends the walk: no entry is left.
+    /// Ends the iteration: no entry is left.
     pub fn end(&mut self)
         ensures { self.new ≡ [] }
     {
         self.left = 0;
     }
 
-    /// The next entry of a document, as the part that it is.
+    /// The next entry of a document, as a part.
     #[inline(always)]
     pub fn next_part(&mut self) -> Option<Part<'a>>
         requires { AreParts self.old }
@@ -231,7 +237,7 @@ impl<'a> Cursor<'a> {
         }
     }
 
-    /// How many entries of a document are left.
+    /// The number of entries left in a document.
     pub fn len(&self) -> usize
         requires { AreParts self.now }
         ensures { result ≡ length self.now }

@@ -1,14 +1,15 @@
-//! Extension values as items hold them: as the bytes that were given, or by value.
+//! Extension values in items: as given payload bytes, or by value.
 
 ghost use Rattle.std.specs.Prelude.{◌≡◌, Some};
 ghost use Rattle.std.specs.Option.{ForSome};
 ghost use Rattle.jsonb_value.specs.ExtCode.{extension_of};
 ghost use Rattle.jsonb.specs.Payloads.{extension_in};
 
-use jsonb_codec::Payload;
+use jsonb_codec::writer::Payload;
 use jsonb_value::{Error, ExtensionValue};
 
-/// An extension value, by value or as its payload's bytes. These are kept as they were given.
+/// An extension value, held by value or as the bytes of its payload. Given bytes are stored
+/// unchanged.
 #[derive(Clone, Copy, Debug)]
 pub struct ExtensionItem<'a> {
     value: ExtensionValue<'a>,
@@ -27,9 +28,9 @@ impl<'a> ExtensionItem<'a> {
     ghost use Rattle.jsonb_codec.specs.Code.{payload_bytes};
     ghost use Rattle.jsonb.specs.Code.{extension_bytes};
 
-    /// The extension value that these bytes mean as a payload, held as these bytes. Else
-    /// `InvalidJsonbNumber` for a known first byte, `InvalidJsonbExtension` for another first
-    /// byte and for no bytes.
+    /// The extension value of these payload bytes, which are kept. `InvalidJsonbNumber` if the
+    /// first byte is a known tag and the length is wrong for it, `InvalidJsonbExtension` if the
+    /// payload is empty or its first byte is not a known tag.
     pub fn from_bytes(bytes: &'a [u8]) -> Result<ExtensionItem<'a>, Error>
         ensures ok { IfOk result (λ item. ExtCode bytes.entry.now (extension_of_item item)) }
         ensures source { IfOk result (λ item. extension_source item ≡ Some bytes.entry.now) }
@@ -43,7 +44,7 @@ impl<'a> ExtensionItem<'a> {
         })
     }
 
-    /// This extension value, by value.
+    /// An item that holds this extension value by value.
     pub fn from_value(value: ExtensionValue<'a>) -> ExtensionItem<'a>
         ensures value { extension_of_item result ≡ extension_of value.entry }
         ensures source { extension_source result ≡ None }
@@ -61,7 +62,7 @@ impl<'a> ExtensionItem<'a> {
         self.value
     }
 
-    /// The payload to store: the bytes as they were given, else those that are written.
+    /// The payload to store: the given bytes, or the encoded value if there are none.
     pub(crate) fn payload(&self) -> Payload<'a>
         ensures bytes { payload_bytes result
             ≡ extension_bytes (extension_source self.now) (extension_of_item self.now) }

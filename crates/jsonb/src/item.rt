@@ -1,4 +1,4 @@
-//! Values as they are handed out and stored: scalars, and documents by their bytes.
+//! Single values: scalars, and documents by their bytes.
 
 ghost use Rattle.std.specs.Prelude.{◌≡◌, ◌≢◌, ◌↔◌, ◌⊎◌, None, Some, Ok, Err, option_map, IfOk};
 ghost use Rattle.std.specs.Prelude.{IfErr, IsOkAnd, IsSome, OnOk};
@@ -30,8 +30,8 @@ use std::alloc::Global;
 use std::borrow::CowStr;
 use std::str;
 
-/// A value: a scalar, or a document by its bytes, borrowed or owned. A scalar's document too may
-/// be held by its bytes.
+/// A value: a scalar, or a document by its bytes, borrowed or owned. The document of a scalar may
+/// be held by its bytes too.
 #[derive(Debug, Drop)]
 pub enum JsonbItem<'a> {
     Null,
@@ -44,16 +44,19 @@ pub enum JsonbItem<'a> {
 }
 
 impl<'a> JsonbItem<'a> {
-    /// The item that these bytes hold: an array or object, told by the header alone, is all the
-    /// bytes as `Raw`; a scalar is the item of its one entry, and what follows its payload is not
-    /// looked at. `InvalidEOF` where the header or the entry is cut; `InvalidJsonb` for a header
-    /// or an entry of no kind, for a payload past the end, and for a container's entry under a
-    /// scalar's header; `InvalidUtf8`, `InvalidJsonbNumber` and `InvalidJsonbExtension` by what
-    /// the payload is.
+    /// The item that these bytes hold. An array or object is recognized by its header and becomes
+    /// `Raw` with all the bytes, unchecked. A scalar becomes the item of its one entry; bytes after
+    /// its payload are ignored.
+    ///
+    /// `InvalidEOF` if the header or the entry word is cut off; `InvalidJsonb` for a header or an
+    /// entry of no kind, for a payload that runs past the end, and for a container's entry under a
+    /// scalar's header; `InvalidUtf8`, `InvalidJsonbNumber` or `InvalidJsonbExtension` if the
+    /// payload is invalid for its type.
     pub fn from_raw_jsonb(raw: RawJsonb<'a>) -> Result<JsonbItem<'a>, Error>
         ensures item { result_view result ≡ item_in (raw_bytes raw.entry) }
 
-        // Of a document it is the item of its tree, with no error, and stored as these bytes again.
+        // For a document it succeeds; the item means the document's value and is stored as these
+        // bytes.
         ensures document { (t : Tree) → Doc (raw_bytes raw.entry) t
             → IsOkAnd result (λ item. IsItemIn t (raw_bytes raw.entry) (item_view item)) }
         ensures again { (t : Tree) → Doc (raw_bytes raw.entry) t
@@ -63,8 +66,9 @@ impl<'a> JsonbItem<'a> {
         item_of_bytes(raw)
     }
 
-    /// The kind: by the variant, for `Raw` and `Owned` that of their bytes, with
-    /// `RawJsonb::jsonb_item_type`'s refusals.
+    /// The kind, from the variant or, for `Raw` and `Owned`, from their bytes. Errors occur only
+    /// for these two: `InvalidEOF` if the header or the entry word is cut off, `InvalidJsonb` for a
+    /// header or an entry of no kind, and for a container's entry under a scalar's header.
     pub fn jsonb_item_type(&self) -> Result<JsonbItemType, Error>
         ensures { result ≡ kind_of_view (item_view self.now) }
     {
@@ -89,7 +93,7 @@ impl<'a> JsonbItem<'a> {
         }
     }
 
-    /// Whether this is `Null`.
+    /// `Some(())` for `Null`. `None` for every other variant.
     pub fn as_null(&self) -> Option<()>
         ensures { IsSome result ↔ (item_view self.now ≡ null) }
     {
@@ -99,8 +103,8 @@ impl<'a> JsonbItem<'a> {
         }
     }
 
-    /// The text of a `String`: borrowed where the item borrows it, else a copy. `None` for every
-    /// other variant. Only memory can be refused.
+    /// The text of a `String`: borrowed if the item borrows it, otherwise a copy. `None` for every
+    /// other variant. `OutOfMemory` is the only error.
     pub fn as_str(&self, alloc: Global) -> Result<Option<CowStr<'a>>, Error>
         ensures ok { IfOk result
             (λ text. option_map cow_bytes text ≡ text_in (item_view self.now)) }
@@ -112,8 +116,8 @@ impl<'a> JsonbItem<'a> {
         }
     }
 
-    /// The same item: owned bytes and texts are copied, borrowed ones borrowed again. Only memory
-    /// can be refused.
+    /// A copy of the item: owned bytes and texts are copied, borrowed ones are borrowed again.
+    /// `OutOfMemory` is the only error.
     pub fn clone(&self, alloc: Global) -> Result<JsonbItem<'a>, Error>
         ensures ok { IfOk result (λ item. item_view item ≡ item_view self.now) }
         ensures memory { IfErr result (λ e. e ≡ Error.OutOfMemory) }
@@ -130,7 +134,7 @@ impl<'a> JsonbItem<'a> {
     }
 }
 
-/// The text, whoever owns it.
+/// The text, borrowed or owned.
 pub fn text_of<'t>(text: &'t CowStr<'_>) -> &'t str
     ensures { result.now ≡ cow_bytes text.now }
 {
@@ -140,7 +144,7 @@ pub fn text_of<'t>(text: &'t CowStr<'_>) -> &'t str
     }
 }
 
-// The same text, borrowed again or copied.
+// A copy of the text: a borrowed text is borrowed again, an owned one is copied.
 fn clone_text<'a>(text: &CowStr<'a>, alloc: Global) -> Result<CowStr<'a>, Error>
     ensures ok { IfOk result (λ copy. cow_bytes copy ≡ cow_bytes text.now) }
     ensures memory { IfErr result (λ e. e ≡ Error.OutOfMemory) }
@@ -151,9 +155,9 @@ fn clone_text<'a>(text: &CowStr<'a>, alloc: Global) -> Result<CowStr<'a>, Error>
     }
 }
 
-/// The item of an entry: null and truth values by the type alone, a container's bytes not looked
-/// into. `InvalidUtf8`, `InvalidJsonbNumber` and `InvalidJsonbExtension` by what the payload is,
-/// `InvalidJsonb` for a type of no meaning.
+/// The item of an entry. For null and truth values only the type matters; a container's bytes are
+/// not examined. `InvalidUtf8`, `InvalidJsonbNumber` or `InvalidJsonbExtension` if the payload is
+/// invalid for its type, `InvalidJsonb` for an unknown type.
 #[tactic(auto, unfolding(crate::specs::Item::item_of))]
 pub fn item_of_entry<'a>(entry: Entry<'a>) -> Result<JsonbItem<'a>, Error>
     ensures { result_view result ≡ item_of entry.entry.type_code entry.entry.payload.now }
@@ -170,7 +174,8 @@ pub fn item_of_entry<'a>(entry: Entry<'a>) -> Result<JsonbItem<'a>, Error>
     }
 }
 
-// The same under a scalar's header, where no container can stand.
+// The item of the entry under a scalar's header. `InvalidJsonb` for a container's entry, otherwise
+// as `item_of_entry`.
 #[tactic(auto, unfolding(crate::specs::Item::scalar_item))]
 fn scalar_item<'a>(entry: Entry<'a>) -> Result<JsonbItem<'a>, Error>
     ensures { result_view result ≡ scalar_item (entry_of entry.entry) }
@@ -203,7 +208,7 @@ fn extension_item<'a>(bytes: &'a [u8]) -> Result<JsonbItem<'a>, Error>
     Ok(JsonbItem::Extension(ExtensionItem::from_bytes(bytes)?))
 }
 
-// The item that bytes hold.
+// The item that these bytes hold, as `JsonbItem::from_raw_jsonb` documents.
 #[tactic(auto, unfolding(crate::specs::Item::item_in))]
 fn item_of_bytes<'a>(raw: RawJsonb<'a>) -> Result<JsonbItem<'a>, Error>
     ensures { result_view result ≡ item_in (raw_bytes raw.entry) }

@@ -11,8 +11,8 @@ use jsonb_codec::{read_header, read_jentry};
 use jsonb_value::Error;
 use std::cmp::Ordering;
 
-/// The kind of a value, of an array with the count of its items, of an object with that of its
-/// pairs. `==` compares kind and count.
+/// The kind of a value; for an array with the number of its items, for an object with the number of
+/// its pairs. `==` compares kind and count.
 #[derive(Clone, Copy, Debug, PartialEq, Eq)]
 pub enum JsonbItemType {
     Null,
@@ -25,9 +25,9 @@ pub enum JsonbItemType {
 }
 
 impl JsonbItemType {
-    /// What the kinds alone say of the order of two values. The greatest is null, then arrays,
-    /// objects, strings, numbers, truth values and extension values. Null and null are `Equal`;
-    /// `None` for any other kind with itself, whatever the counts.
+    /// The order of two values, as far as their kinds determine it. Kinds in ascending order are
+    /// extension value, truth value, number, string, object, array and null. Null and null are
+    /// `Equal`; two values of any other single kind give `None`, whatever their counts.
     pub fn rank_cmp(&self, other: &Self) -> Option<Ordering>
         ensures { result ≡ rank_order self.now other.now }
     {
@@ -40,7 +40,7 @@ impl JsonbItemType {
         }
     }
 
-    // The kind's place, rising.
+    // The rank of the kind in ascending order, from 0.
     fn rank(&self) -> u8
         ensures { result ≡ kind_rank self.now }
     {
@@ -55,7 +55,8 @@ impl JsonbItemType {
         }
     }
 
-    // The kind of a scalar whose entry has this type.
+    // The kind of a scalar whose entry has this type. `InvalidJsonb` for a container and for an
+    // unknown type.
     fn of_entry(type_code: u32) -> Result<JsonbItemType, Error>
         ensures { result ≡ kind_of_type type_code }
     {
@@ -70,7 +71,8 @@ impl JsonbItemType {
     }
 }
 
-/// The kind that bytes show by their first two words.
+/// The kind, read from the first two words. `InvalidEOF` if a word is cut off, `InvalidJsonb` for a
+/// header or an entry of no kind, and for a container's entry under a scalar's header.
 #[tactic(auto, unfolding(crate::specs::Kind::kind))]
 pub fn kind_of(bytes: &[u8]) -> Result<JsonbItemType, Error>
     ensures { result ≡ kind bytes.now }

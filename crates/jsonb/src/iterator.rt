@@ -1,4 +1,4 @@
-//! What a container holds, one after the other, where it stands.
+//! Iterators over the children of an array or object, read from the bytes one by one.
 
 ghost use Rattle.std.specs.Prelude.{◌≡◌, ℕ, List, [], length, IfOk, IfErr, IfSome};
 ghost use Rattle.std.specs.Iterator.{YieldsFirstBy, MakesProgress, item_count};
@@ -21,14 +21,14 @@ use jsonb_value::Error;
 use std::marker::Model;
 use std::str;
 
-// The item of what was read as an entry.
+// The item of an entry, or the error with which the entry was read.
 fn item_read<'a>(entry: Result<Entry<'a>, Error>) -> Result<JsonbItem<'a>, Error>
     ensures { result_view result ≡ item_read (entry_view entry.entry) }
 {
     item_of_entry(entry?)
 }
 
-// The items of entries, up to the first error, and how many the header counts.
+// The items of entries up to the first error, with the header's count.
 #[derive(Drop)]
 struct Items<'a> {
     entries: Cursor<'a>,
@@ -42,7 +42,7 @@ impl<'a> Model for Items<'a> {
 }
 
 impl<'a> Items<'a> {
-    // The next item. After an error there is none.
+    // The next item. After an error there is no next item.
     fn next(&mut self) -> Option<Result<JsonbItem<'a>, Error>>
         ensures steps { YieldsFirstBy result_view (λ it. it.rest) self.old result self.new }
         ensures goes { MakesProgress
@@ -67,7 +67,10 @@ impl<'a> Items<'a> {
     }
 }
 
-/// The items of an array, in order.
+/// The items of an array, in order. On bytes that are not a document an item can be an error, after
+/// which the iteration ends: `InvalidEOF` if its entry word is cut off, `InvalidJsonb` if its
+/// payload runs past the end or its type is unknown, and `InvalidUtf8`, `InvalidJsonbNumber` or
+/// `InvalidJsonbExtension` if its payload is invalid.
 #[derive(Drop)]
 pub struct ArrayIterator<'a> {
     items: Items<'a>,
@@ -80,25 +83,26 @@ impl<'a> Model for ArrayIterator<'a> {
 }
 
 impl<'a> ArrayIterator<'a> {
-    /// Over the array in these bytes: `None` for a scalar or an object by the header. `InvalidEOF`
-    /// where the header is cut, `InvalidJsonb` where it names no kind.
+    /// An iterator over the array in these bytes, `None` for the header of a scalar or an object.
+    /// `InvalidEOF` if the header is cut off, `InvalidJsonb` if it is of no kind.
     pub fn new(raw: RawJsonb<'a>) -> Result<Option<Self>, Error>
         ensures walk { result ≡ array_walk (raw_bytes raw.entry) }
 
-        // At most as many are given as the header counts, and an error only as the last.
+        // It yields at most as many items as the header counts, and an error only as the last.
         ensures bounded { IfOk result (λ o. IfSome o IsBounded) }
 
-        // On a document its items and no error; `None` for any other tree.
+        // For an array's document it yields the items and no error; for any other document it is
+        // `None`.
         ensures document { (t : Tree) → Doc (raw_bytes raw.entry) t → WalksArray t result }
 
-        // They are those of the entries that stand there, type and payload.
+        // The items have the types and payloads of the document's entries.
         ensures entries { (t : Tree) → Doc (raw_bytes raw.entry) t
             → WalksItems (raw_bytes raw.entry) t result }
     {
         ArrayIterator::over(raw)
     }
 
-    // The iterator, if there is one.
+    // The iterator, if the header is that of an array.
     fn over(raw: RawJsonb<'a>) -> Result<Option<Self>, Error>
         ensures { result ≡ array_walk (raw_bytes raw.entry) }
     {
@@ -112,7 +116,7 @@ impl<'a> ArrayIterator<'a> {
         }))
     }
 
-    /// The header's count, whatever was taken so far.
+    /// The count in the header, however many items were taken.
     pub fn len(&self) -> usize
         ensures { result ≡ self.now.count }
     {
@@ -138,7 +142,10 @@ impl<'a> Iterator for ArrayIterator<'a> {
     }
 }
 
-/// The keys of an object, in order, each as the item of its entry.
+/// The keys of an object, in stored order, each as the item of its entry. On bytes that are not a
+/// document an item can be an error, after which the iteration ends: `InvalidEOF` if its entry word
+/// is cut off, `InvalidJsonb` if its payload runs past the end or its type is unknown, and
+/// `InvalidUtf8`, `InvalidJsonbNumber` or `InvalidJsonbExtension` if its payload is invalid.
 #[derive(Drop)]
 pub struct ObjectKeyIterator<'a> {
     keys: Items<'a>,
@@ -151,21 +158,22 @@ impl<'a> Model for ObjectKeyIterator<'a> {
 }
 
 impl<'a> ObjectKeyIterator<'a> {
-    /// Over the keys of the object in these bytes: `None` for a scalar or an array by the header.
-    /// `InvalidEOF` where the header is cut, `InvalidJsonb` where it names no kind.
+    /// An iterator over the keys of the object in these bytes, `None` for the header of a scalar or
+    /// an array. `InvalidEOF` if the header is cut off, `InvalidJsonb` if it is of no kind.
     pub fn new(raw: RawJsonb<'a>) -> Result<Option<Self>, Error>
         ensures walk { result ≡ keys_walk (raw_bytes raw.entry) }
 
-        // At most as many are given as the header counts, and an error only as the last.
+        // It yields at most as many keys as the header counts, and an error only as the last.
         ensures bounded { IfOk result (λ o. IfSome o IsBounded) }
 
-        // On a document its keys and no error; `None` for any other tree.
+        // For an object's document it yields the keys and no error; for any other document it is
+        // `None`.
         ensures document { (t : Tree) → Doc (raw_bytes raw.entry) t → WalksKeys t result }
     {
         ObjectKeyIterator::over(raw)
     }
 
-    // The iterator, if there is one.
+    // The iterator, if the header is that of an object.
     fn over(raw: RawJsonb<'a>) -> Result<Option<Self>, Error>
         ensures { result ≡ keys_walk (raw_bytes raw.entry) }
     {
@@ -179,7 +187,7 @@ impl<'a> ObjectKeyIterator<'a> {
         }))
     }
 
-    /// The header's count, whatever was taken so far.
+    /// The count in the header, however many keys were taken.
     pub fn len(&self) -> usize
         ensures { result ≡ self.now.count }
     {
@@ -205,7 +213,10 @@ impl<'a> Iterator for ObjectKeyIterator<'a> {
     }
 }
 
-/// The values of an object, in the order of their keys.
+/// The values of an object, in the order of their keys. On bytes that are not a document an item
+/// can be an error, after which the iteration ends: `InvalidEOF` if its entry word is cut off,
+/// `InvalidJsonb` if its payload runs past the end or its type is unknown, and `InvalidUtf8`,
+/// `InvalidJsonbNumber` or `InvalidJsonbExtension` if its payload is invalid.
 #[derive(Drop)]
 pub struct ObjectValueIterator<'a> {
     values: Items<'a>,
@@ -218,26 +229,27 @@ impl<'a> Model for ObjectValueIterator<'a> {
 }
 
 impl<'a> ObjectValueIterator<'a> {
-    /// Over the values of the object in these bytes: `None` for a scalar or an array by the
-    /// header. `InvalidEOF` where the header or the entry of a key is cut, `InvalidJsonb` where
-    /// the header names no kind.
+    /// An iterator over the values of the object in these bytes, `None` for the header of a scalar
+    /// or an array. `InvalidEOF` if the header or the entry word of a key is cut off,
+    /// `InvalidJsonb` if the header is of no kind.
     pub fn new(raw: RawJsonb<'a>) -> Result<Option<Self>, Error>
         ensures walk { result ≡ values_walk (raw_bytes raw.entry) }
 
-        // At most as many are given as the header counts, and an error only as the last.
+        // It yields at most as many values as the header counts, and an error only as the last.
         ensures bounded { IfOk result (λ o. IfSome o IsBounded) }
 
-        // On a document its values and no error; `None` for any other tree.
+        // For an object's document it yields the values and no error; for any other document it is
+        // `None`.
         ensures document { (t : Tree) → Doc (raw_bytes raw.entry) t → WalksValues t result }
 
-        // They are those of the entries that stand there, type and payload.
+        // The values have the types and payloads of the document's entries.
         ensures entries { (t : Tree) → Doc (raw_bytes raw.entry) t
             → WalksValueItems (raw_bytes raw.entry) t result }
     {
         ObjectValueIterator::over(raw)
     }
 
-    // The iterator, if there is one.
+    // The iterator, if the header is that of an object.
     fn over(raw: RawJsonb<'a>) -> Result<Option<Self>, Error>
         ensures { result ≡ values_walk (raw_bytes raw.entry) }
     {
@@ -251,7 +263,7 @@ impl<'a> ObjectValueIterator<'a> {
         }))
     }
 
-    /// The header's count, whatever was taken so far.
+    /// The count in the header, however many values were taken.
     pub fn len(&self) -> usize
         ensures { result ≡ self.now.count }
     {
@@ -277,7 +289,8 @@ impl<'a> Iterator for ObjectValueIterator<'a> {
     }
 }
 
-// The key of what was read as an entry, which must be a string of UTF-8.
+// The key of an entry. `InvalidJsonb` if the entry is not a string, `InvalidUtf8` if its payload is
+// not UTF-8.
 #[tactic(auto, using(crate::proofs::Utf8::is_text_yes, crate::proofs::Utf8::is_text_no))]
 fn key_of_entry<'a>(entry: Entry<'a>) -> Result<&'a str, Error>
     ensures ok { IfOk result (λ key. key_of (entry_of entry.entry) ≡ Ok key.now) }
@@ -292,7 +305,7 @@ fn key_of_entry<'a>(entry: Entry<'a>) -> Result<&'a str, Error>
     }
 }
 
-// The key of what was read as one entry, and then the item of another.
+// The key of one entry and the item of another, or the first error of the two.
 fn pair_read<'a>(
     key: Result<Entry<'a>, Error>,
     value: Result<Entry<'a>, Error>,
@@ -302,7 +315,11 @@ fn pair_read<'a>(
     Ok((key_of_entry(key?)?, item_read(value)?))
 }
 
-/// The pairs of an object, in order: each key with its value's item.
+/// The pairs of an object, in stored order: each key with the item of its value. On bytes that are
+/// not a document a pair can be an error, after which the iteration ends: `InvalidEOF` if an entry
+/// word is cut off, `InvalidJsonb` if a payload runs past the end, a key is not a string or a
+/// value's type is unknown, and `InvalidUtf8`, `InvalidJsonbNumber` or `InvalidJsonbExtension` if a
+/// payload is invalid.
 #[derive(Drop)]
 pub struct ObjectIterator<'a> {
     keys: Cursor<'a>,
@@ -317,26 +334,28 @@ impl<'a> Model for ObjectIterator<'a> {
 }
 
 impl<'a> ObjectIterator<'a> {
-    /// Over the pairs of the object in these bytes: `None` for a scalar or an array by the header.
-    /// `InvalidEOF` where the header or the entry of a key is cut, `InvalidJsonb` where the header
-    /// names no kind.
+    /// An iterator over the pairs of the object in these bytes, `None` for the header of a scalar
+    /// or an array. `InvalidEOF` if the header or the entry word of a key is cut off,
+    /// `InvalidJsonb` if the header is of no kind.
     pub fn new(raw: RawJsonb<'a>) -> Result<Option<Self>, Error>
         ensures walk { result ≡ pairs_walk (raw_bytes raw.entry) }
 
-        // At most as many are given as the header counts, and an error only as the last.
+        // It yields at most as many pairs as the header counts, and an error only as the last.
         ensures bounded { IfOk result (λ o. IfSome o IsBounded) }
 
-        // On a document its pairs and no error; `None` for any other tree.
+        // For an object's document it yields the pairs and no error; for any other document it is
+        // `None`.
         ensures document { (t : Tree) → Doc (raw_bytes raw.entry) t → WalksPairs t result }
 
-        // They are those of the entries that stand there, type and payload.
+        // The keys and values have the payloads, and the values the types, of the document's
+        // entries.
         ensures entries { (t : Tree) → Doc (raw_bytes raw.entry) t
             → WalksMembers (raw_bytes raw.entry) t result }
     {
         ObjectIterator::over(raw)
     }
 
-    // The iterator, if there is one.
+    // The iterator, if the header is that of an object.
     fn over(raw: RawJsonb<'a>) -> Result<Option<Self>, Error>
         ensures { result ≡ pairs_walk (raw_bytes raw.entry) }
     {
@@ -352,7 +371,7 @@ impl<'a> ObjectIterator<'a> {
         }))
     }
 
-    /// The header's count, whatever was taken so far.
+    /// The count in the header, however many pairs were taken.
     pub fn len(&self) -> usize
         ensures { result ≡ self.now.count }
     {
@@ -375,7 +394,7 @@ impl<'a> Iterator for ObjectIterator<'a> {
         ensures ended { IfSome result (λ item. IfErr item (λ _. self.new.rest ≡ [])) }
     {
         let key = self.keys.next()?;
-        // There are as many values as keys, so the walk ends with either.
+        // There are as many values as keys, so both end together.
         let Some(value) = self.values.next() else {
             self.keys.end();
             return None;

@@ -1,4 +1,5 @@
-//! Binary JSON documents, read in place: their kinds, items and iterators.
+//! Binary JSON documents, read from their bytes without decoding: kinds, items, look-ups,
+//! iterators, texts and order; and builders of new documents.
 #![tactic(auto)]
 
 mod builder;
@@ -26,14 +27,16 @@ pub use item::JsonbItem;
 pub use item_type::JsonbItemType;
 pub use iterator::{ArrayIterator, ObjectIterator, ObjectKeyIterator, ObjectValueIterator};
 pub use jsonb_codec::{
-    Decoder, DocumentBytes, Encoder, JEntry, JsonAstEncoder, append_canonical, constants,
-    decode_header, document_laws, document_text, is_canonical, is_document, is_document_within,
-    parts, printed_text_laws, read_header, read_jentry, read_word, value_of,
+    Decoder, DocumentBytes, Encoder, JEntry, JsonAstEncoder, append_canonical,
+    append_canonical_document, constants, decode_header, document_laws, document_text,
+    is_canonical, is_canonical_document, is_document, is_document_within, parts, printed_text_laws,
+    read_header, read_jentry, read_word, value_of, value_of_document, writer,
 };
 pub use jsonb_value::{
     Date, Decimal64, Decimal128, Error, ExtensionValue, Interval, JsonAst, Number, Object, Opaque,
-    Timestamp, TimestampTz, Value, extension_text, order_of_extension_values, order_of_meanings,
-    order_of_numbers, order_of_trees, parse_value, write_number, write_string,
+    ParseError, Timestamp, TimestampTz, Value, extension_text, is_text_within,
+    order_of_extension_values, order_of_meanings, order_of_numbers, order_of_trees, parse_string,
+    parse_value, parse_value_within, write_number, write_string,
 };
 pub use lookup::MAX_READS;
 pub use nodes::{Items, Members};

@@ -1,4 +1,4 @@
-//! The value of a key, found in place with a counted number of reads.
+//! Looking up the value of a key in the bytes, with a counted number of word reads.
 
 ghost use Rattle.std.specs.Prelude.{◌≡◌, ◌+◌, ◌-◌, ◌*◌, ◌<◌, ◌≤◌, ◌↔◌, ◌^◌, length, Ok, Err, IfOk};
 ghost use Rattle.std.specs.Prelude.{IfErr, IfSome, IfNone, IsOk, IsErr, OnOk};
@@ -18,10 +18,11 @@ use jsonb_codec::constants::OBJECT_CONTAINER_TAG;
 use jsonb_codec::{JEntry, decode_header};
 use jsonb_value::Error;
 
-/// The greatest tally with which a look-up may begin.
+/// The greatest tally at which a look-up may begin.
 pub const MAX_READS: u64 = 9_223_372_036_854_775_807;
 
-/// How many pairs there are: `None` where the header is that of an array or a scalar.
+/// The number of pairs, `None` if the header is that of an array or a scalar. `InvalidEOF` if the
+/// header is cut off, `InvalidJsonb` if it is of no kind.
 #[tactic(auto, unfolding(crate::specs::Walk::count_under, crate::specs::Lookup::header_count))]
 pub fn count_pairs(bytes: &[u8], reads: &mut Reads) -> Result<Option<usize>, Error>
     requires { reads.old < 2 ^ 63 }
@@ -38,7 +39,7 @@ pub fn count_pairs(bytes: &[u8], reads: &mut Reads) -> Result<Option<usize>, Err
     }
 }
 
-// The entry of this number: those of the keys, and behind them those of the values.
+// The entry word with this number: first those of the keys, then those of the values.
 #[inline(always)]
 #[tactic(auto, unfolding(crate::specs::Parts::part_length))]
 fn read_entry(bytes: &[u8], number: usize, reads: &mut Reads) -> Result<JEntry, Error>
@@ -55,7 +56,7 @@ fn read_entry(bytes: &[u8], number: usize, reads: &mut Reads) -> Result<JEntry, 
     Ok(JEntry::decode_jentry(reads.word(bytes, 4 + 4 * number)?))
 }
 
-// That many bytes from a place on. `InvalidJsonb` where they run past the end.
+// A range of `size` bytes from `start`. `InvalidJsonb` if it runs past the end.
 #[inline(always)]
 #[tactic(auto, unfolding(crate::specs::Item::part_at))]
 fn payload(bytes: &[u8], start: usize, size: usize) -> Result<&[u8], Error>
@@ -73,14 +74,14 @@ fn payload(bytes: &[u8], start: usize, size: usize) -> Result<&[u8], Error>
     Ok(&bytes[start..end])
 }
 
-// A pair whose key was accepted, and where that key ends.
+// A pair whose key was accepted, and the offset at which that key ends.
 #[derive(Drop)]
 struct Accepted {
     pair: usize,
     end: usize,
 }
 
-// Asks about the keys of the name's length, in order, until one is accepted.
+// Calls `eq_func` on the keys of the name's length, in order, until it accepts one.
 #[tactic(auto, using(crate::proofs::PartLaws::before_bound, crate::proofs::PartLaws::part_fits))]
 fn matching_key<F: Fn(&[u8], &[u8]) -> bool>(
     bytes: &[u8],
@@ -126,7 +127,7 @@ fn matching_key<F: Fn(&[u8], &[u8]) -> bool>(
     Ok(None)
 }
 
-// Where the payload of an entry begins, by the entries from another one on.
+// The offset of the payload of entry `to`, computed from the entries after `from`.
 #[tactic(auto, using(crate::proofs::PartLaws::before_bound, crate::proofs::PartLaws::part_fits))]
 fn skip_parts(
     bytes: &[u8],
@@ -155,7 +156,9 @@ fn skip_parts(
     Ok(place)
 }
 
-/// The entry of the value of the first key that is accepted, among so many pairs.
+/// The entry of the value of the first accepted key among `count` pairs, `None` if no key is
+/// accepted. `InvalidEOF` if an entry word that is read is cut off, `InvalidJsonb` if a key of the
+/// name's length or the value runs past the end.
 #[tactic(auto, using(crate::proofs::PartLaws::before_bound, crate::proofs::PartLaws::part_fits))]
 pub fn find_value<'a, F: Fn(&[u8], &[u8]) -> bool>(
     bytes: &'a [u8],

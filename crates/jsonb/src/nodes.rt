@@ -1,4 +1,4 @@
-//! What a document's arrays and objects hold, one after the other.
+//! The children of a document's arrays and objects, one by one.
 
 ghost use Rattle.std.specs.Prelude.{◌≡◌, List, length, Result, IfSome, slice_get, option_map};
 ghost use Rattle.std.specs.Iterator.{YieldsFirstBy, MakesProgress, item_count};
@@ -11,7 +11,7 @@ use crate::document::Node;
 use crate::entries::Cursor;
 use std::marker::Model;
 
-/// The items of an array, in order, each as its value. There is no error.
+/// The items of an array, in order, as values. The bytes were checked, so there is no error.
 #[derive(Drop)]
 pub struct Items<'a> {
     entries: Cursor<'a>,
@@ -34,14 +34,15 @@ impl<'a> Items<'a> {
         Items { entries }
     }
 
-    /// How many items are left.
+    /// The number of items left.
     pub fn len(&self) -> usize
         ensures { result ≡ length (rest_trees self.now) }
     {
         self.entries.len()
     }
 
-    // The item at an index of what is left. `None` where there are no more than so many.
+    // The item at an index among those left, counted from 0. `None` if the index is not below their
+    // number.
     pub(crate) fn item_at(self, index: usize) -> Option<Node<'a>>
         ensures { option_map node_tree result ≡ slice_get (rest_trees self.entry) index }
     {
@@ -73,7 +74,8 @@ impl<'a> Iterator for Items<'a> {
     }
 }
 
-/// The members of an object, in order: each key with its value. There is no error.
+/// The members of an object, in the order of their keys: each key with its value. The bytes were
+/// checked, so there is no error.
 #[derive(Drop)]
 pub struct Members<'a> {
     keys: Cursor<'a>,
@@ -89,7 +91,7 @@ impl<'a> Model for Members<'a> {
 }
 
 impl<'a> Members<'a> {
-    /// The members of the entries of these keys and values.
+    /// The members with these entries of keys and values.
     pub(crate) fn new(keys: Cursor<'a>, values: Cursor<'a>) -> Self
         requires { AreMembers (keys, values) }
         ensures { result ≡ (keys.entry, values.entry) }
@@ -97,7 +99,7 @@ impl<'a> Members<'a> {
         Members { keys, values }
     }
 
-    /// How many members are left.
+    /// The number of members left.
     pub fn len(&self) -> usize
         ensures { result ≡ length (rest_pairs self.now) }
     {

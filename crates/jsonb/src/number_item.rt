@@ -1,13 +1,13 @@
-//! Numbers as items hold them: as the bytes that were given, or by value.
+//! Numbers in items: as given payload bytes, or by value.
 
 ghost use Rattle.std.specs.Prelude.{◌≡◌, Some};
 ghost use Rattle.std.specs.Option.{ForSome};
 ghost use Rattle.jsonb.specs.Payloads.{number_in};
 
-use jsonb_codec::Payload;
+use jsonb_codec::writer::Payload;
 use jsonb_value::{Error, Number};
 
-/// A number, by value or as its payload's bytes. These are kept as they were given.
+/// A number, held by value or as the bytes of its payload. Given bytes are stored unchanged.
 #[derive(Clone, Copy, Debug)]
 pub struct NumberItem<'a> {
     number: Number,
@@ -25,8 +25,8 @@ impl<'a> NumberItem<'a> {
     ghost use Rattle.jsonb_codec.specs.Code.{payload_bytes};
     ghost use Rattle.jsonb.specs.Code.{number_bytes};
 
-    /// The number that these bytes mean as a payload, held as these bytes. `InvalidJsonbNumber`
-    /// where they mean none.
+    /// The number of these payload bytes, which are kept. `InvalidJsonbNumber` if they are not the
+    /// payload of a number.
     pub fn from_bytes(bytes: &'a [u8]) -> Result<NumberItem<'a>, Error>
         ensures ok { IfOk result (λ item. NumCode bytes.entry.now (number_of_item item)) }
         ensures source { IfOk result (λ item. number_source item ≡ Some bytes.entry.now) }
@@ -40,7 +40,7 @@ impl<'a> NumberItem<'a> {
         })
     }
 
-    /// This number, by value.
+    /// An item that holds this number by value.
     pub fn from_number(number: Number) -> NumberItem<'a>
         ensures number { number_of_item result ≡ number }
         ensures source { number_source result ≡ None }
@@ -58,7 +58,7 @@ impl<'a> NumberItem<'a> {
         self.number
     }
 
-    /// The payload to store: the bytes as they were given, else those that are written.
+    /// The payload to store: the given bytes, or the encoded number if there are none.
     pub(crate) fn payload(&self) -> Payload<'a>
         ensures bytes { payload_bytes result
             ≡ number_bytes (number_source self.now) (number_of_item self.now) }

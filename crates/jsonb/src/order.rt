@@ -1,4 +1,4 @@
-//! The order of values by what they mean: of all bytes, and of items. No comparison takes memory.
+//! The order of byte strings and of items by their meaning. No comparison allocates.
 
 ghost use Rattle.std.specs.Prelude.{◌≡◌, ℕ, List, Some, Ok, IfSome, MatchOption};
 ghost use Rattle.std.specs.Cmp.{IsTotalOrder};
@@ -20,6 +20,7 @@ mod document;
 mod documents;
 mod item;
 mod key;
+mod node;
 mod owned;
 mod raw;
 
@@ -31,18 +32,18 @@ use documents::cmp_nodes;
 use jsonb_codec::document_text;
 use std::cmp::Ordering;
 
-/// What bytes and items mean: a document its tree, all other bytes themselves, and an item the
-/// tree that it holds, or what its bytes mean.
+/// The meaning of bytes and of items: a document means its tree, other bytes mean themselves, and
+/// an item means the tree of its value or, if it holds bytes, their meaning.
 pub fn meaning_laws()
     ensures document { (b : List ℕ) (t : Tree) → Doc b t → meaning_of b ≡ document t }
     ensures other { (b : List ℕ) → (IsDocument b → ⊥) → meaning_of b ≡ other_bytes b }
     ensures item { (x : ItemView) (t : Tree) → Means x t → view_meaning x ≡ document t }
 {}
 
-/// The order of all bytes by what they mean is total. Two documents compare as their trees, so
-/// that documents of one tree are `Equal`, whatever their bytes, and so are items that mean one
-/// tree. Where `rank_cmp` tells of the kinds of two documents, it tells of the documents. A tree
-/// and its norm, which has a signed zero turned into an unsigned one, compare alike.
+/// The order of byte strings by meaning is total. Two documents compare as their trees, so
+/// documents and items that mean one tree are `Equal` whatever their bytes. Where `rank_cmp` orders
+/// the kinds of two documents, it orders the documents. A tree and its normal form, in which signed
+/// zeros are made unsigned, compare alike.
 pub fn order_of_bytes()
     ensures total { IsTotalOrder (on meaning_of meaning_cmp) }
     ensures trees { (l r : List ℕ) (t u : Tree) → Doc l t → Doc r u
@@ -60,18 +61,18 @@ pub fn order_of_bytes()
         → meaning_cmp (meaning_of l) (meaning_of m) ≡ meaning_cmp (meaning_of l) (meaning_of r) }
 {}
 
-/// The order of all bytes by what they mean.
+/// Compares two byte strings by their meaning.
 pub fn cmp_bytes(left: &[u8], right: &[u8]) -> Ordering
     ensures { result ≡ meaning_cmp (meaning_of left.now) (meaning_of right.now) }
 {
-    // Strings are compared most, and are told from all else by two words.
+    // Strings are compared most often, and two words suffice to recognize them.
     if let (Some(left), Some(right)) = (document_text(left), document_text(right)) {
         return left.cmp(right);
     }
     SortKey::new(left).cmp(&SortKey::new(right))
 }
 
-/// The order of two items by what they mean.
+/// Compares two items by their meaning.
 pub fn cmp_meanings(left: &JsonbItem<'_>, right: &JsonbItem<'_>) -> Ordering
     ensures { result ≡ meaning_cmp (item_meaning left.now) (item_meaning right.now) }
 {
@@ -97,7 +98,7 @@ fn bytes_of<'i>(item: &'i JsonbItem<'_>) -> Option<&'i [u8]>
     }
 }
 
-// The value of an item: itself, or what its bytes hold. `None` where they are no document.
+// The value of an item: its own, or that of its bytes. `None` if these are not a document.
 fn node_of<'i>(item: &'i JsonbItem<'_>) -> Option<Node<'i>>
     ensures means { MatchOption result
         (item_meaning item.now ≡ other_bytes (bytes_in (item_view item.now)))
@@ -115,7 +116,7 @@ fn node_of<'i>(item: &'i JsonbItem<'_>) -> Option<Node<'i>>
     }
 }
 
-// The value of a document. `None` where the bytes are none.
+// The value of a document. `None` if the bytes are not a document.
 fn node_in(bytes: &[u8]) -> Option<Node<'_>>
     ensures means { MatchOption result (meaning_of bytes.now ≡ other_bytes bytes.now)
         (λ node. meaning_of bytes.now ≡ document (node_tree node)) }

@@ -10,27 +10,30 @@ use crate::document::Document;
 use crate::item::JsonbItem;
 use crate::raw::RawJsonb;
 use crate::text::write_view;
-use jsonb_codec::{Code, Encoder, Level, Stored, append_document};
-use jsonb_value::{Error, parse_value};
+use jsonb_codec::Encoder;
+use jsonb_codec::writer::{Code, Level, Stored, append_document};
+use jsonb_value::{Error, ParseError, is_text_within, parse_value};
 use std::alloc::Global;
 use std::collections::BTreeMap;
 use std::fmt;
 
-/// The bytes of a document, owned. Any bytes can be given: a call tells what it answers where
-/// they are no document.
+/// The bytes of a document, owned. Construction does not check them; each method documents its
+/// result for bytes that are not a document.
 #[derive(Debug, Drop)]
 pub struct OwnedJsonb {
     bytes: Vec<u8>,
 }
 
 impl OwnedJsonb {
-    ghost use Rattle.std.specs.Prelude.{◌≡◌, ◌↔◌, ◌⊎◌, chars, length, Err, IfOk, IfErr, IfSome};
-    ghost use Rattle.std.specs.Prelude.{IsSome, OnOk, IsTrue};
+    ghost use Rattle.std.specs.Prelude.{◌≡◌, ◌↔◌, ◌⊎◌, ◌<◌, chars, length, Err, IfOk, IfErr};
+    ghost use Rattle.std.specs.Prelude.{IfSome, IsSome, OnOk, IsTrue};
     ghost use Rattle.jsonb_value.specs.Json.Syntax.{Json};
     ghost use Rattle.jsonb_value.specs.Norm.{norm};
     ghost use Rattle.jsonb_value.specs.Text.{compact, pretty};
+    ghost use Rattle.jsonb_value.specs.TextDepth.{text_depth, HasItsDepth};
     ghost use Rattle.jsonb_value.specs.Tree.{Tree};
     ghost use Rattle.jsonb_codec.specs.Canon.{canon, Fits};
+    ghost use Rattle.jsonb_codec.specs.Depth.{IsDocumentWithin};
     ghost use Rattle.jsonb_codec.specs.Doc.{Doc, IsDocument};
     ghost use Rattle.jsonb.specs.Code.{item_document, CanBeStored};
     ghost use Rattle.jsonb.specs.Document.{document_bytes};
@@ -39,14 +42,14 @@ impl OwnedJsonb {
     ghost use Rattle.jsonb.specs.ItemView.{item_view};
     ghost use Rattle.jsonb.specs.Texts.{display_text, pretty_display_text};
 
-    /// These bytes.
+    /// Takes these bytes, unchecked.
     pub fn new(bytes: Vec<u8>) -> Self
         ensures { owned_bytes result ≡ bytes.items }
     {
         Self { bytes }
     }
 
-    /// A copy of these bytes. Only memory can be refused.
+    /// A copy of these bytes, unchecked. `OutOfMemory` is the only error.
     pub fn from_bytes(alloc: Global, bytes: &[u8]) -> Result<OwnedJsonb, Error>
         ensures ok { IfOk result (λ owned. owned_bytes owned ≡ bytes.now) }
         ensures memory { IfErr result (λ e. e ≡ Error.OutOfMemory) }
@@ -54,10 +57,10 @@ impl OwnedJsonb {
         Ok(OwnedJsonb::new(Vec::from_slice(alloc, bytes)?))
     }
 
-    /// The bytes of the item: those of `Raw` copied and those of `Owned` as they are, both without
-    /// a look at them; of every other item its scalar document, a number's or extension value's
-    /// bytes as they were given. `InvalidJsonb` where that document's payload is past
-    /// 268,435,455 bytes, before memory is asked for; else only memory can be refused.
+    /// The bytes of the item: those of `Raw` copied and those of `Owned` moved, both unchecked; for
+    /// every other item the document of the scalar, in which a number or extension value given as
+    /// bytes keeps these bytes. `InvalidJsonb`, before any allocation, if the scalar's payload
+    /// exceeds 268,435,455 bytes; `OutOfMemory` if an allocation fails.
     pub fn from_item(alloc: Global, item: JsonbItem) -> Result<OwnedJsonb, Error>
         ensures ok { IfOk result
             (λ owned. owned_bytes owned ≡ item_document (item_view item.entry)) }
@@ -74,21 +77,21 @@ impl OwnedJsonb {
         }
     }
 
-    /// A view of the bytes.
+    /// The bytes, borrowed as a `RawJsonb`.
     pub fn as_raw(&self) -> RawJsonb<'_>
         ensures { raw_bytes result ≡ owned_bytes self.now }
     {
         RawJsonb::new(self.as_bytes())
     }
 
-    /// The bytes.
+    /// The bytes, borrowed.
     pub fn as_bytes(&self) -> &[u8]
         ensures { result.now ≡ owned_bytes self.now }
     {
         self.bytes.as_slice()
     }
 
-    /// The bytes as a document, checked once. `None` where they are none.
+    /// The bytes as a checked document. `None` if they are not a document.
     pub fn as_document(&self) -> Option<Document<'_>>
         ensures exact { IsSome result ↔ IsDocument (owned_bytes self.now) }
         ensures bytes { IfSome result (λ d. document_bytes d ≡ owned_bytes self.now) }
@@ -96,7 +99,16 @@ impl OwnedJsonb {
         Document::new(self.as_bytes())
     }
 
-    /// The bytes, no longer as a document.
+    /// The bytes as a document that nests at most that deep, as `Document::within` takes them.
+    /// `None` where they are none.
+    pub fn as_document_within(&self, depth: usize) -> Option<Document<'_>>
+        ensures exact { IsSome result ↔ IsDocumentWithin depth (owned_bytes self.now) }
+        ensures bytes { IfSome result (λ d. document_bytes d ≡ owned_bytes self.now) }
+    {
+        Document::within(self.as_bytes(), depth)
+    }
+
+    /// The owned bytes.
     pub fn to_vec(self) -> Vec<u8>
         ensures { result.items ≡ owned_bytes self }
     {
@@ -104,21 +116,21 @@ impl OwnedJsonb {
         bytes
     }
 
-    /// How many bytes there are.
+    /// The number of bytes.
     pub fn len(&self) -> usize
         ensures { result ≡ length (owned_bytes self.now) }
     {
         self.as_bytes().len()
     }
 
-    /// Whether there is no byte.
+    /// Whether there are no bytes.
     pub fn is_empty(&self) -> bool
         ensures { IsTrue result ↔ (length (owned_bytes self.now) ≡ 0) }
     {
         self.as_bytes().is_empty()
     }
 
-    /// A copy of the bytes. Only memory can be refused.
+    /// A copy of the bytes. `OutOfMemory` is the only error.
     pub fn clone(&self, alloc: Global) -> Result<OwnedJsonb, Error>
         ensures ok { IfOk result (λ owned. owned_bytes owned ≡ owned_bytes self.now) }
         ensures memory { IfErr result (λ e. e ≡ Error.OutOfMemory) }
@@ -126,16 +138,17 @@ impl OwnedJsonb {
         OwnedJsonb::from_bytes(alloc, self.as_bytes())
     }
 
-    /// The canonical document of the value of a JSON text. `InvalidJson` where the text is none
-    /// that `parse_value` reads, `InvalidJsonb` where a payload, a key or a count of its value is
-    /// past its limit; else only memory can be refused.
+    /// Parses a JSON text into the canonical document of its value. `InvalidJson` if the text is
+    /// not accepted by `parse_value`, `InvalidJsonb` if a payload, a key or a count of its value
+    /// exceeds its limit, `OutOfMemory` if an allocation fails.
     pub fn parse(alloc: Global, text: &str) -> Result<OwnedJsonb, Error>
         ensures ok { IfOk result (λ owned. (t : Tree)
             × (Json (chars text.now) t × (owned_bytes owned ≡ canon t))) }
         ensures fits { OnOk result ((t : Tree) → Json (chars text.now) t → Fits t) }
         ensures one { (t u : Tree) → Json (chars text.now) t → Json (chars text.now) u → t ≡ u }
 
-        // The document means the text's tree with its zeros made one, and prints as that tree.
+        // The document means the text's value with signed zeros made unsigned, and prints as that
+        // value.
         ensures means { IfOk result (λ owned. (t : Tree) → Json (chars text.now) t
             → Doc (owned_bytes owned) (norm t)) }
         ensures prints { IfOk result (λ owned. (t : Tree) → Json (chars text.now) t
@@ -154,6 +167,46 @@ impl OwnedJsonb {
         Encoder::new(&mut bytes).encode(&value)?;
         Ok(OwnedJsonb::new(bytes))
     }
+
+    /// The canonical document of a JSON text that nests at most that deep. Use this for texts from
+    /// strangers: the stack that reading takes grows with the depth of the text.
+    ///
+    /// `TooDeep` exactly where more brackets than `depth` are open at once, those in strings not
+    /// counted. This is found before the text is read, so it comes before any other refusal. Every
+    /// other text is answered as by `parse`: by its document, which is within the depth, or by
+    /// `Refused` with the error of `parse`.
+    pub fn parse_within(alloc: Global, text: &str, depth: usize) -> Result<OwnedJsonb, ParseError>
+        ensures ok { IfOk result (λ owned. (t : Tree)
+            × (Json (chars text.now) t × (owned_bytes owned ≡ canon t))) }
+        ensures fits { OnOk result ((t : Tree) → Json (chars text.now) t → Fits t) }
+
+        // The depth is exact, and that of a text of JSON is that of what it spells.
+        ensures deep { (result ≡ Err ParseError.TooDeep) ↔ (depth < text_depth text.now) }
+        ensures nests { HasItsDepth text.now }
+        ensures within { IfOk result (λ owned. IsDocumentWithin depth (owned_bytes owned)) }
+
+        // The document means the text's value with signed zeros made unsigned, and prints as that
+        // value.
+        ensures means { IfOk result (λ owned. (t : Tree) → Json (chars text.now) t
+            → Doc (owned_bytes owned) (norm t)) }
+        ensures prints { IfOk result (λ owned. (t : Tree) → Json (chars text.now) t
+            → display_text (owned_bytes owned) ≡ compact t) }
+        ensures prints_pretty { IfOk result (λ owned. (t : Tree) → Json (chars text.now) t
+            → pretty_display_text (owned_bytes owned) ≡ pretty t) }
+        ensures invalid { result ≡ Err (ParseError.Refused Error.InvalidJson)
+            → (t : Tree) → Json (chars text.now) t → ⊥ }
+        ensures past { result ≡ Err (ParseError.Refused Error.InvalidJsonb)
+            → (t : Tree) × (Json (chars text.now) t × (Fits t → ⊥)) }
+        ensures errors { IfErr result (λ e. (e ≡ ParseError.TooDeep)
+            ⊎ ((e ≡ ParseError.Refused Error.InvalidJson)
+            ⊎ ((e ≡ ParseError.Refused Error.InvalidJsonb)
+            ⊎ (e ≡ ParseError.Refused Error.OutOfMemory)))) }
+    {
+        if !is_text_within(text.as_bytes(), depth) {
+            return Err(ParseError::TooDeep);
+        }
+        Ok(OwnedJsonb::parse(alloc, text)?)
+    }
 }
 
 impl From<Vec<u8>> for OwnedJsonb {
@@ -167,7 +220,8 @@ impl From<Vec<u8>> for OwnedJsonb {
     }
 }
 
-/// The text that `to_string` of the bytes gives, without memory. Width and fill are passed over.
+/// Writes the text that `RawJsonb::to_string` returns for the bytes, without allocating. Width and
+/// fill are ignored.
 impl fmt::Display for OwnedJsonb {
     ghost output = { λ owned. Some (display_text (owned_bytes owned)) };
 
@@ -178,7 +232,7 @@ impl fmt::Display for OwnedJsonb {
     }
 }
 
-// The scalar document of an entry.
+// The document of a scalar with this entry.
 fn of_scalar(alloc: Global, code: Code) -> Result<OwnedJsonb, Error>
     ensures ok { IfOk result (λ owned. owned_bytes owned
         ≡ scalar_bytes (code_of code.entry).0 (code_of code.entry).1) }

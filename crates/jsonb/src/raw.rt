@@ -1,4 +1,4 @@
-//! Documents whose bytes stand somewhere else.
+//! Documents by their borrowed bytes.
 
 use crate::document::Document;
 use crate::item::{JsonbItem, item_of_entry};
@@ -13,8 +13,8 @@ use std::alloc::Global;
 use std::cmp::Ordering;
 use std::fmt;
 
-/// Bytes that are read as a document where they stand. Any bytes can be given: a call tells what
-/// it answers where they are no document.
+/// Borrowed bytes that are read as a document in place. Construction does not check them; each
+/// method documents its result for bytes that are not a document.
 #[derive(Clone, Copy, Debug)]
 pub struct RawJsonb<'a> {
     bytes: &'a [u8],
@@ -50,7 +50,7 @@ impl<'a> RawJsonb<'a> {
     ghost use Rattle.jsonb.specs.Standing.{IsFoundIn};
     ghost use Rattle.jsonb.specs.Texts.{other_text, display_text, pretty_display_text};
 
-    /// A view of these bytes.
+    /// Borrows these bytes, unchecked.
     pub fn new(bytes: &'a [u8]) -> Self
         ensures { raw_bytes result ≡ bytes.entry.now }
     {
@@ -64,21 +64,21 @@ impl<'a> RawJsonb<'a> {
         self.bytes
     }
 
-    /// How many bytes there are.
+    /// The number of bytes.
     pub fn len(&self) -> usize
         ensures { result ≡ length (raw_bytes self.now) }
     {
         self.as_bytes().len()
     }
 
-    /// Whether there is no byte.
+    /// Whether there are no bytes.
     pub fn is_empty(&self) -> bool
         ensures { IsTrue result ↔ (length (raw_bytes self.now) ≡ 0) }
     {
         self.as_bytes().is_empty()
     }
 
-    /// A copy of the bytes. Only memory can be refused.
+    /// A copy of the bytes, unchecked. `OutOfMemory` is the only error.
     pub fn to_owned(&self, alloc: Global) -> Result<OwnedJsonb, Error>
         ensures ok { IfOk result (λ owned. owned_bytes owned ≡ raw_bytes self.now) }
         ensures memory { IfErr result (λ e. e ≡ Error.OutOfMemory) }
@@ -86,12 +86,11 @@ impl<'a> RawJsonb<'a> {
         OwnedJsonb::from_bytes(alloc, self.as_bytes())
     }
 
-    /// The value of the document, as `value_of` reads it. Its strings and extension data are
-    /// borrowed from the bytes.
+    /// Decodes the document. Strings and extension data in the value are borrowed from the bytes.
     ///
-    /// Where the bytes are no document, the error names the first fault of them, and no memory was
-    /// asked for: `InvalidEOF`, `InvalidJsonb`, `InvalidJsonbNumber`, `InvalidJsonbExtension` or
-    /// `InvalidUtf8`. `OutOfMemory` comes only where they are a document.
+    /// If the bytes are not a document, the error names their first fault and nothing was
+    /// allocated: `InvalidEOF`, `InvalidJsonb`, `InvalidJsonbNumber`, `InvalidJsonbExtension` or
+    /// `InvalidUtf8`. `OutOfMemory` occurs only for a document.
     pub fn to_value(&self, alloc: Global) -> Result<Value<'a>, Error>
         ensures ok { IfOk result (λ v. Doc (raw_bytes self.now) (tree_of v)) }
         ensures one_tree { IfOk result
@@ -111,15 +110,15 @@ impl<'a> RawJsonb<'a> {
         jsonb_codec::is_document(self.as_bytes())
     }
 
-    /// Whether the bytes are a document that nests at most that deep: a scalar has depth 0, an
-    /// array or object 1 where it is empty, and otherwise one more than its deepest child.
+    /// Whether the bytes are a document of at most this depth: a scalar has depth 0, an empty array
+    /// or object 1, any other array or object one more than its deepest child.
     pub fn is_document_within(&self, depth: usize) -> bool
         ensures { IsTrue result ↔ IsDocumentWithin depth (raw_bytes self.now) }
     {
         jsonb_codec::is_document_within(self.as_bytes(), depth)
     }
 
-    /// The bytes as a document, checked once. `None` where they are none.
+    /// The bytes as a checked document. `None` if they are not a document.
     pub fn as_document(&self) -> Option<Document<'a>>
         ensures exact { IsSome result ↔ IsDocument (raw_bytes self.now) }
         ensures bytes { IfSome result (λ d. document_bytes d ≡ raw_bytes self.now) }
@@ -129,21 +128,34 @@ impl<'a> RawJsonb<'a> {
         Document::new(self.as_bytes())
     }
 
-    /// The kind, from the header alone, or for a scalar from its entry; an array or object has
-    /// its count. `InvalidEOF` where one of these words is cut, `InvalidJsonb` for a header or an
-    /// entry of no kind, and for a container's entry under a scalar's header.
+    /// The bytes as a document that nests at most that deep, as `Document::within` takes them.
+    /// `None` where they are none. The calls of a view that read, compare or print a document take
+    /// stack for its depth: for bytes from strangers make them of this document.
+    pub fn as_document_within(&self, depth: usize) -> Option<Document<'a>>
+        ensures exact { IsSome result ↔ IsDocumentWithin depth (raw_bytes self.now) }
+        ensures bytes { IfSome result (λ d. document_bytes d ≡ raw_bytes self.now) }
+        ensures tree { (t : Tree) → Doc (raw_bytes self.now) t
+            → IfSome result (λ d. document_tree d ≡ t) }
+    {
+        Document::within(self.as_bytes(), depth)
+    }
+
+    /// The kind, read from the header or, for a scalar, from its entry; an array or object with its
+    /// count. Nothing else is checked. `InvalidEOF` if one of these words is cut off,
+    /// `InvalidJsonb` for a header or an entry of no kind, and for a container's entry under a
+    /// scalar's header.
     pub fn jsonb_item_type(&self) -> Result<JsonbItemType, Error>
         ensures kind { result ≡ kind (raw_bytes self.now) }
 
-        // The kind of a document is that of its tree.
+        // The kind of a document is that of its value.
         ensures document { (t : Tree) → Doc (raw_bytes self.now) t
             → result ≡ Ok (kind_of_tree t) }
     {
         kind_of(self.as_bytes())
     }
 
-    /// The order of the values of two documents, as `cmp` gives it: `None` where either side is
-    /// no document.
+    /// Compares the values of two documents, with the result of `cmp`. `None` if either side is not
+    /// a document.
     pub fn try_cmp(&self, other: &RawJsonb<'_>) -> Option<Ordering>
         ensures none { (result ≡ None) ↔ ((IsDocument (raw_bytes self.now) → ⊥)
             ⊎ (IsDocument (raw_bytes other.now) → ⊥)) }
@@ -156,16 +168,17 @@ impl<'a> RawJsonb<'a> {
     }
 
     /// The value of the first key, in stored order, that has the name's length in bytes and for
-    /// which `eq_func(name, key)` is true. `None` for a scalar, an array and `{}`, and where no key
-    /// is accepted. Keys of other lengths are not shown to the closure.
+    /// which `eq_func(name, key)` is true; `eq_func` is called only for keys of that length. `None`
+    /// for a scalar, an array and `{}`, and if no key is accepted.
     ///
-    /// Each word of the document is read by the tally: the header, each key's entry, and the
-    /// values' entries up to the wanted one. The tally must be at most `MAX_READS`.
+    /// `reads` is raised by one for each word that is read: the header, each key's entry, and, if a
+    /// key is accepted, the values' entries up to that of its value. It must be at most `MAX_READS`
+    /// before the call.
     ///
-    /// `InvalidEOF` where the header or an entry that is read is cut, `InvalidJsonb` for a header
-    /// of no kind, and where a key of the name's length or the value runs past the end;
-    /// `InvalidUtf8`, `InvalidJsonbNumber`, `InvalidJsonbExtension` and `InvalidJsonb` by what the
-    /// value's entry and payload are.
+    /// `InvalidEOF` if the header or an entry word that is read is cut off; `InvalidJsonb` for a
+    /// header of no kind, if a key of the name's length or the value runs past the end, and for a
+    /// value of an unknown type; `InvalidUtf8`, `InvalidJsonbNumber` or `InvalidJsonbExtension` if
+    /// the value's payload is invalid.
     pub fn get_object_value_by_key_name_counted<F: Fn(&[u8], &[u8]) -> bool + Drop>(
         &self,
         name: &str,
@@ -179,11 +192,11 @@ impl<'a> RawJsonb<'a> {
             × (reads.new ≤ reads.old + (2 * header_count (raw_bytes self.now) + 1)) }
         ensures refused { IfErr result IsRefusal }
 
-        // On any bytes, by the closure's own contract: which answer, and which error.
+        // On any bytes: the result or the error, given the results of the closure.
         ensures bytes { LooksUpBytes (λ key b. FnReturnsAtPair F.Fn eq_func name.now key b)
             (length name.now) (raw_bytes self.now) (value_view result) (reads.new - reads.old) }
 
-        // On a document an answer, by the trees and the entries that stand there.
+        // On a document: the result, given the document's members and entries.
         ensures document { (t : Tree) → Doc (raw_bytes self.now) t
             → IsOkAnd result
             (λ found. LooksUp (λ key b. FnReturnsAtPair F.Fn eq_func name.now key b)
@@ -201,14 +214,14 @@ impl<'a> RawJsonb<'a> {
     }
 
     /// The value of the first key, in stored order, that has the name's length in bytes and for
-    /// which `eq_func(name, key)` is true. `None` for a scalar, an array and `{}`, and where no key
-    /// is accepted. Keys of other lengths are not shown to the closure. Among n pairs at most
+    /// which `eq_func(name, key)` is true; `eq_func` is called only for keys of that length. `None`
+    /// for a scalar, an array and `{}`, and if no key is accepted. For an object of n pairs at most
     /// 2n + 1 words are read.
     ///
-    /// `InvalidEOF` where the header or an entry that is read is cut, `InvalidJsonb` for a header
-    /// of no kind, and where a key of the name's length or the value runs past the end;
-    /// `InvalidUtf8`, `InvalidJsonbNumber`, `InvalidJsonbExtension` and `InvalidJsonb` by what the
-    /// value's entry and payload are.
+    /// `InvalidEOF` if the header or an entry word that is read is cut off; `InvalidJsonb` for a
+    /// header of no kind, if a key of the name's length or the value runs past the end, and for a
+    /// value of an unknown type; `InvalidUtf8`, `InvalidJsonbNumber` or `InvalidJsonbExtension` if
+    /// the value's payload is invalid.
     pub fn get_object_value_by_key_name<F: Fn(&[u8], &[u8]) -> bool + Drop>(
         &self,
         name: &str,
@@ -218,17 +231,18 @@ impl<'a> RawJsonb<'a> {
             → F.pre eq_func a b }
         ensures refused { IfErr result IsRefusal }
 
-        // On any bytes, by the closure's own contract: which answer, and which error.
+        // On any bytes: the result or the error, given the results of the closure.
         ensures bytes { LooksUpInBytes (λ key b. FnReturnsAtPair F.Fn eq_func name.now key b)
             (length name.now) (raw_bytes self.now) (value_view result) }
 
-        // On a document an answer, by the trees and the entries that stand there;
+        // On a document: the result, given the document's members and entries.
         ensures document { (t : Tree) → Doc (raw_bytes self.now) t
             → IsOkAnd result
             (λ found. LooksUpIn (λ key b. FnReturnsAtPair F.Fn eq_func name.now key b)
             (length name.now) (raw_bytes self.now) t (option_map item_view found)) }
 
-        // where the closure answers by one test, an item of what that test finds,
+        // If the closure computes one predicate: an item of the value that this predicate finds in
+        // a document.
         ensures found { (accepts : List ℕ → Bool)
             → AnswersBy accepts
             (λ key b. FnReturnsAtPair F.Fn eq_func name.now key b) (length name.now)
@@ -236,7 +250,8 @@ impl<'a> RawJsonb<'a> {
             → IsOkAnd result
             (λ found. IsItemFound (find accepts (length name.now) t) (option_map item_view found)) }
 
-        // and the item of the entry that stands there.
+        // If the closure computes one predicate: the item of the entry that this predicate finds in
+        // a document.
         ensures entry { (accepts : List ℕ → Bool)
             → AnswersBy accepts
             (λ key b. FnReturnsAtPair F.Fn eq_func name.now key b) (length name.now)
@@ -248,11 +263,13 @@ impl<'a> RawJsonb<'a> {
         self.get_object_value_by_key_name_counted(name, eq_func, &mut reads)
     }
 
-    /// The text of the bytes: of a document its compact text, of no bytes `null`, of all others
-    /// their own text, in which U+FFFD stands for what is no UTF-8. Only memory can be refused.
+    /// The text of the bytes: the compact text of a document, `null` for no bytes, and for all
+    /// other bytes their own text, with U+FFFD in place of invalid UTF-8. `OutOfMemory` is the only
+    /// error.
     ///
-    /// The text of a document without extension values is read back by `parse` as an equal
-    /// document. A text without a zero byte of at most 4,294,967,296 bytes comes back unchanged.
+    /// `parse` reads the text of a document without extension values back as an equal document. A
+    /// nonempty UTF-8 text of at most 4,294,967,296 bytes without a zero byte is returned
+    /// unchanged, since it is not a document.
     pub fn to_string(&self, alloc: Global) -> Result<String, Error>
         ensures display { IfOk result
             (λ text. string_bytes text ≡ display_text (raw_bytes self.now)) }
@@ -267,17 +284,17 @@ impl<'a> RawJsonb<'a> {
             → IfOk result (λ text. string_bytes text ≡ raw_bytes self.now) }
         ensures memory { IfErr result (λ e. e ≡ Error.OutOfMemory) }
     {
-        // The text is about as long as the bytes.
+        // The text is usually about as long as the bytes.
         let text = String::with_capacity(alloc, self.len())?;
         let mut f = fmt::Formatter::new(text);
         let answer = write_view(self.as_bytes(), &mut f);
         text_of_document(answer, f)
     }
 
-    /// The text of a document with each item or pair on a line of its own, indented by two spaces
-    /// for each container round it; `null` of bytes that are no document. Only memory can be
-    /// refused. The text of a document without extension values is read back by `parse` as an
-    /// equal document.
+    /// The text of a document with each item or pair on its own line, indented by two spaces for
+    /// each enclosing container; `null` for bytes that are not a document. `OutOfMemory` is the
+    /// only error. `parse` reads the text of a document without extension values back as an equal
+    /// document.
     pub fn to_pretty_string(&self, alloc: Global) -> Result<String, Error>
         ensures display { IfOk result
             (λ text. string_bytes text ≡ pretty_display_text (raw_bytes self.now)) }
@@ -294,34 +311,35 @@ impl<'a> RawJsonb<'a> {
         text_of_document(answer, f)
     }
 
-    /// Whether the bytes are the one document that is written for some tree.
+    /// Whether the bytes are canonical: those that the encoder writes for some value.
     pub fn is_canonical(&self) -> bool
         ensures { IsTrue result ↔ IsCanonical (raw_bytes self.now) }
     {
         jsonb_codec::is_canonical(self.as_bytes())
     }
 
-    /// The canonical document of the tree that the bytes mean: whole numbers in the fewest bytes,
-    /// zero as the one byte 0, decimals and points in time in their newer forms. It is `Equal` to
-    /// its source, the same bytes exactly where these are canonical already, and canonical
-    /// itself. Every decimal keeps its kind and its scale.
+    /// The canonical document of the value that the bytes mean: integers in the fewest bytes, zero
+    /// as the single byte 0, decimals and timestamps with a time zone in their newer forms. It is
+    /// canonical itself, compares `Equal` to its source, and is the same bytes exactly if the
+    /// source is canonical. Every decimal keeps its kind and its scale.
     ///
-    /// `InvalidJsonb` where the bytes are no document, and where their tree has no canonical one
-    /// since an old payload is past its limit in its newer form; else only `OutOfMemory`. All is
-    /// measured first, and written into one growth with no tree built.
+    /// `InvalidJsonb`, before any allocation, if the bytes are not a document, or a payload in an
+    /// older form exceeds 268,435,455 bytes in its newer form; `OutOfMemory` if an allocation
+    /// fails. Everything is measured first and written with a single growth of the buffer; no tree
+    /// is built.
     pub fn to_canonical(&self, alloc: Global) -> Result<OwnedJsonb, Error>
         ensures ok { IfOk result (λ owned. (t : Tree) × (Doc (raw_bytes self.now) t
             × (Fits t × (owned_bytes owned ≡ canon t)))) }
 
-        // Which refusal comes: memory is asked for only where the tree fits.
+        // Which error is returned: an allocation is attempted only if the canonical document
+        // exists.
         ensures past { (result ≡ Err Error.InvalidJsonb)
             ↔ ((t : Tree) → Doc (raw_bytes self.now) t → Fits t → ⊥) }
         ensures memory { result ≡ Err Error.OutOfMemory
             → (t : Tree) × (Doc (raw_bytes self.now) t × Fits t) }
         ensures only { IfErr result (λ e. (e ≡ Error.InvalidJsonb) ⊎ (e ≡ Error.OutOfMemory)) }
 
-        // What the result is beside its source, and that bringing it to canonical form again
-        // leaves it as it is.
+        // How the result relates to its source; its own canonical form is itself.
         ensures same { IfOk result (λ owned. (owned_bytes owned ≡ raw_bytes self.now)
             ↔ IsCanonical (raw_bytes self.now)) }
         ensures canonical { IfOk result (λ owned. IsCanonical (owned_bytes owned)) }

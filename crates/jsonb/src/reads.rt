@@ -1,4 +1,4 @@
-//! Words of a document, counted as they are read.
+//! Counting the words that are read from a document.
 
 ghost use Rattle.std.specs.Prelude.{◌≡◌, ℕ, ◌+◌, ◌<◌, ◌^◌, OnOk, OnErr};
 ghost use Rattle.jsonb_codec.specs.Word.{word_at};
@@ -22,23 +22,23 @@ impl Model for Reads {
 }
 
 impl Reads {
-    /// No word yet.
+    /// A tally of 0.
     pub fn new() -> Self
         ensures { result ≡ 0 }
     {
         Reads { count: 0 }
     }
 
-    /// How many words were read.
+    /// The number of words that were read.
     pub fn count(&self) -> u64
         ensures { result ≡ self.now }
     {
         self.count
     }
 
-    /// The big endian word whose first byte stands at the index, and the tally raised by one.
-    /// `InvalidEOF` where four bytes are not there: the tally stays. The tally must be below the
-    /// greatest `u64`.
+    /// The big-endian word of four bytes at `index`; the tally is raised by one. `InvalidEOF` if
+    /// the bytes end before the word does; the tally is then unchanged. The tally must be below
+    /// `u64::MAX` before the call.
     #[inline(always)]
     pub fn word(&mut self, bytes: &[u8], index: usize) -> Result<u32, Error>
         requires { self.old < u64.MAX }

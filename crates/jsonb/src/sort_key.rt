@@ -4,15 +4,16 @@ ghost use Rattle.jsonb_codec.specs.Doc.{IsDocument};
 
 use crate::document::Document;
 
-/// Bytes that were checked and are no document.
+/// Bytes that were checked and are not a document.
 #[derive(Clone, Copy, Debug)]
 pub struct OtherBytes<'a> {
     bytes: &'a [u8],
     ghost fact: { IsDocument bytes.now → ⊥ },
 }
 
-/// Any bytes, with what one check has told of them. A key is ordered as a `RawJsonb` of its bytes
-/// is, and no comparison checks again: a column that may hold foreign bytes is sorted by keys.
+/// Any bytes, with the result of checking them once. A key is ordered as the `RawJsonb` of its
+/// bytes, but no comparison checks them again. Use it to sort a column that may hold bytes that are
+/// not documents.
 #[derive(Clone, Copy, Debug)]
 pub enum SortKey<'a> {
     Document(Document<'a>),
@@ -24,7 +25,7 @@ impl<'a> OtherBytes<'a> {
     ghost use Rattle.jsonb_codec.specs.Doc.{IsDocument};
     ghost use Rattle.jsonb.specs.SortKey.{other_key_bytes};
 
-    /// The bytes.
+    /// The bytes of the key.
     pub fn as_bytes(&self) -> &'a [u8]
         ensures bytes { result.now ≡ other_key_bytes self.now }
         ensures other { IsDocument result.now → ⊥ }
@@ -38,7 +39,7 @@ impl<'a> SortKey<'a> {
     ghost use Rattle.jsonb.specs.ItemMeaning.{meaning_of};
     ghost use Rattle.jsonb.specs.SortKey.{key_bytes, key_meaning};
 
-    /// The key of these bytes.
+    /// Checks the bytes and returns their key.
     pub fn new(bytes: &'a [u8]) -> Self
         ensures bytes { key_bytes result ≡ bytes.now }
         ensures meaning { key_meaning result ≡ meaning_of bytes.now }
@@ -49,7 +50,7 @@ impl<'a> SortKey<'a> {
         }
     }
 
-    /// The bytes.
+    /// The bytes of the key.
     pub fn as_bytes(&self) -> &'a [u8]
         ensures bytes { result.now ≡ key_bytes self.now }
         ensures meaning { key_meaning self.now ≡ meaning_of result.now }

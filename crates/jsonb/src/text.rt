@@ -1,4 +1,4 @@
-//! The texts of documents, written from their bytes in place.
+//! Writing the texts of documents directly from their bytes.
 
 ghost use Rattle.std.specs.Prelude.{◌≡◌, ◌++◌, ◌^◌, ◌<◌, ℕ, string_bytes, IsOk, IfOk, IfErr, OnOk};
 ghost use Rattle.std.specs.Fmt.{WritesStyledOnOk, formatter_writer};
@@ -24,14 +24,15 @@ use jsonb_value::{Error, ExtensionValue, extension_text, write_number, write_str
 use std::alloc::Global;
 use std::fmt;
 
-/// The laws of texts: they do not tell a tree from its normal form, in which the two zeros of whole
-/// numbers are one.
+/// Laws of texts: a tree and its normal form, in which signed zeros are made unsigned, have the
+/// same texts.
 pub fn text_laws()
     ensures compact { (t : Tree) → compact (norm t) ≡ compact t }
     ensures pretty { (t : Tree) → pretty (norm t) ≡ pretty t }
 {}
 
-/// What a `String` was given. It refuses only for want of memory.
+/// The text that was written. Writing to a `String` fails only for lack of memory, so a failed
+/// write is `OutOfMemory`.
 pub fn text_of_document(answer: fmt::Result, f: fmt::Formatter<String>) -> Result<String, Error>
     ensures ok { OnOk result (IsOk answer) }
     ensures text { IfOk result (λ text. text ≡ formatter_writer f) }
@@ -43,7 +44,8 @@ pub fn text_of_document(answer: fmt::Result, f: fmt::Formatter<String>) -> Resul
     }
 }
 
-/// How a tree is laid out: with no white space, or on lines, inside so many containers.
+/// The layout of a text: on one line without white space, or on several lines, nested in this many
+/// containers.
 #[derive(Clone, Copy)]
 pub enum Layout {
     InOneLine,
@@ -51,7 +53,7 @@ pub enum Layout {
 }
 
 impl Layout {
-    // The layout of what a container holds.
+    // The layout of a container's content.
     fn inside(self) -> Layout
         requires { HasRoom (layout_of self) 1 }
         ensures { layout_of result ≡ inside (layout_of self) }
@@ -62,7 +64,7 @@ impl Layout {
         }
     }
 
-    // What stands before an item, and before a closing bracket.
+    // Writes what precedes an item or a closing bracket.
     fn start_line<W: fmt::Write>(self, f: &mut fmt::Formatter<W>) -> fmt::Result
         ensures { WritesStyledOnOk W.write_str_gives f.old result
             (line_start (layout_of self)) f.new }
@@ -76,7 +78,7 @@ impl Layout {
         }
     }
 
-    // What stands between a key and its value.
+    // The separator between a key and its value.
     fn colon(self) -> &'static str
         ensures { result.now ≡ colon (layout_of self) }
     {
@@ -87,7 +89,7 @@ impl Layout {
     }
 }
 
-/// The text of any bytes.
+/// Writes the text of any bytes.
 pub fn write_view<W: fmt::Write>(bytes: &[u8], f: &mut fmt::Formatter<W>) -> fmt::Result
     ensures text { WritesStyledOnOk W.write_str_gives f.old result (display_text bytes.now) f.new }
     ensures tree { (t : Tree) → Doc bytes.now t → IsTree t }
@@ -99,7 +101,7 @@ pub fn write_view<W: fmt::Write>(bytes: &[u8], f: &mut fmt::Formatter<W>) -> fmt
     }
 }
 
-/// The pretty text of a document, and `null` of all other bytes.
+/// Writes the pretty text of a document, and `null` for all other bytes.
 pub fn write_pretty<W: fmt::Write>(bytes: &[u8], f: &mut fmt::Formatter<W>) -> fmt::Result
     ensures text { WritesStyledOnOk W.write_str_gives f.old result
         (pretty_display_text bytes.now) f.new }
@@ -111,7 +113,7 @@ pub fn write_pretty<W: fmt::Write>(bytes: &[u8], f: &mut fmt::Formatter<W>) -> f
     }
 }
 
-// Bytes as text, one character at a time.
+// Writes the bytes as text, one character at a time, with U+FFFD in place of invalid UTF-8.
 fn write_lossy<W: fmt::Write>(bytes: &[u8], f: &mut fmt::Formatter<W>) -> fmt::Result
     ensures { WritesStyledOnOk W.write_str_gives f.old result (lossy_text bytes.now) f.new }
 {
@@ -121,21 +123,21 @@ fn write_lossy<W: fmt::Write>(bytes: &[u8], f: &mut fmt::Formatter<W>) -> fmt::R
     Ok(())
 }
 
-/// The text of a document, laid out that way. Only memory can be refused.
+/// The text of a document in this layout. `OutOfMemory` is the only error.
 pub fn document_text(alloc: Global, document: Document, layout: Layout) -> Result<String, Error>
     requires room { (n : ℕ) → n < 2 ^ 64 → HasRoom (layout_of layout) n }
     ensures text { IfOk result (λ text. string_bytes text
         ≡ laid_out (layout_of layout) (document_tree document.entry)) }
     ensures memory { IfErr result (λ e. e ≡ Error.OutOfMemory) }
 {
-    // The text is about as long as the bytes.
+    // The text is usually about as long as the bytes.
     let text = String::with_capacity(alloc, document.as_bytes().len())?;
     let mut f = fmt::Formatter::new(text);
     let answer = write_document(document, layout, &mut f);
     text_of_document(answer, f)
 }
 
-/// Writes the text of a document.
+/// Writes the text of a document in this layout.
 pub fn write_document<W: fmt::Write>(
     document: Document,
     layout: Layout,
@@ -148,7 +150,7 @@ pub fn write_document<W: fmt::Write>(
     write_node(document.node(), layout, f)
 }
 
-// The text of a value.
+// Writes the text of a value.
 #[cycle(text)]
 #[inline(always)]
 fn write_node<W: fmt::Write>(
@@ -213,7 +215,7 @@ fn write_items<W: fmt::Write>(
     f.write_str("]")
 }
 
-// An item that stands in an array.
+// Writes an item of an array.
 #[cycle(text)]
 #[inline(always)]
 fn write_line<W: fmt::Write>(
@@ -255,7 +257,7 @@ fn write_members<W: fmt::Write>(
     f.write_str("}")
 }
 
-// A pair that stands in an object.
+// Writes a pair of an object.
 #[cycle(text)]
 #[inline(always)]
 fn write_member<W: fmt::Write>(

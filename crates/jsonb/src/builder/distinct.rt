@@ -1,4 +1,4 @@
-//! An array of distinct items, and how often each came.
+//! Building an array of distinct items, with a count for each.
 
 ghost use Rattle.std.specs.Prelude.{◌≡◌, ◌≢◌, ◌⊎◌, ◌↔◌, ◌+◌, ◌<◌, [], true, false, map, is_some};
 ghost use Rattle.std.specs.Prelude.{Err, IsSome, IsOk, IfOk, IfErr, OnOk, OnErr};
@@ -22,8 +22,9 @@ use std::alloc::Global;
 use std::collections::BTreeMap;
 use std::marker::Model;
 
-/// Items that become an array of those that are distinct. Two items are equal where they mean the
-/// same. The first of equal items is kept in a list, with a count of how often it came.
+/// Collects items and builds an array of the distinct ones. Two items are equal if they mean the
+/// same value, or are the same bytes that are not a document. The first of equal items is kept in a
+/// list, and a count is kept for them.
 #[derive(Drop)]
 pub struct ArrayDistinctBuilder<'a> {
     list: Vec<JsonbItem<'a>>,
@@ -39,7 +40,8 @@ impl<'a> Model for ArrayDistinctBuilder<'a> {
 }
 
 impl<'a> ArrayDistinctBuilder<'a> {
-    /// A builder of no items, with room in its list for so many. Only memory can be refused.
+    /// A builder without items, with room for `capacity` of them in its list. `OutOfMemory` is the
+    /// only error.
     pub fn new(alloc: Global, capacity: usize) -> Result<Self, Error>
         ensures list { IfOk result (λ builder. builder.list ≡ []) }
         ensures counts { IfOk result
@@ -52,9 +54,9 @@ impl<'a> ArrayDistinctBuilder<'a> {
         })
     }
 
-    /// Counts an item, and puts it behind the others of the list unless the list has an equal one.
-    /// `InvalidJsonb` where its count is the greatest `usize`; else only memory can be refused.
-    /// After a refusal the builder is as before, and the item is dropped.
+    /// Raises an item's count by one, and appends the item to the list unless the list has an equal
+    /// one. `InvalidJsonb` if the count is `usize::MAX`, `OutOfMemory` if an allocation fails.
+    /// After an error the builder is unchanged, and the item is dropped.
     #[tactic(auto, using(crate::proofs::Classes::lookup_same, crate::proofs::Classes::equal_same))]
     pub fn push_jsonb_item(&mut self, item: JsonbItem<'a>) -> Result<(), Error>
         ensures list { OnOk result
@@ -80,7 +82,9 @@ impl<'a> ArrayDistinctBuilder<'a> {
         }
     }
 
-    /// Counts these bytes, as `push_jsonb_item` does the item of them.
+    /// Raises the count of a document given by its bytes, as `push_jsonb_item` does for
+    /// `JsonbItem::Raw`. `InvalidJsonb` if the count is `usize::MAX`, `OutOfMemory` if an
+    /// allocation fails; after an error the builder is unchanged.
     pub fn push_raw_jsonb(&mut self, raw: RawJsonb<'a>) -> Result<(), Error>
         ensures list { OnOk result
             (self.new.list ≡ list_with self.old.list (items.raw (raw_bytes raw.entry))) }
@@ -96,8 +100,8 @@ impl<'a> ArrayDistinctBuilder<'a> {
         self.push_jsonb_item(JsonbItem::Raw(raw))
     }
 
-    /// Takes one off the count of an item's equal. `None` where there is none, or its count is 0.
-    /// The list stays as it is. No memory is asked for.
+    /// Lowers the count of an item's equals by one. `None` if their count is 0 or there are none.
+    /// The list is unchanged. It allocates nothing.
     #[tactic(auto, using(crate::proofs::Classes::lookup_same, crate::proofs::Classes::equal_same))]
     pub fn pop_jsonb_item(&mut self, item: JsonbItem<'a>) -> Option<()>
         ensures exact { IsSome result ↔ (count_of self.old (item_view item.entry) ≢ 0) }
@@ -107,12 +111,14 @@ impl<'a> ArrayDistinctBuilder<'a> {
         let count = count_in(&self.counts, &item)?.checked_sub(1)?;
         match set_count(&mut self.counts, item, count) {
             Ok(()) => Some(()),
-            // The item's equal is there, so no memory was asked for.
+            // The map has an equal key already, so `insert` allocates nothing.
             Err(_) => unreachable!(),
         }
     }
 
-    /// Takes one off the count of these bytes, as `pop_jsonb_item` does of the item of them.
+    /// Lowers the count of a document given by its bytes, as `pop_jsonb_item` does for
+    /// `JsonbItem::Raw`. `None` if the count is 0 or there is none. The list is unchanged. It
+    /// allocates nothing.
     pub fn pop_raw_jsonb(&mut self, raw: RawJsonb<'a>) -> Option<()>
         ensures exact { IsSome result
             ↔ (count_of self.old (items.raw (raw_bytes raw.entry)) ≢ 0) }
@@ -122,7 +128,10 @@ impl<'a> ArrayDistinctBuilder<'a> {
         self.pop_jsonb_item(JsonbItem::Raw(raw))
     }
 
-    /// The array of the list's items, whatever their counts, as `ArrayBuilder::build` makes it.
+    /// The array of the list's items, in order of first insertion and whatever their counts. A
+    /// scalar is stored as its entry and payload, an array or object whole. `InvalidJsonb`, before
+    /// any allocation, if given bytes are not a document, a payload exceeds 268,435,455 bytes, or
+    /// there are more than 536,870,911 items; `OutOfMemory` if an allocation fails.
     pub fn build(self) -> Result<OwnedJsonb, Error>
         ensures ok { IfOk result (λ owned. IsArrayOf self.entry.list (owned_bytes owned)) }
         ensures means { IfOk result (λ owned. (ts : Trees) → AllMean self.entry.list ts
@@ -135,14 +144,15 @@ impl<'a> ArrayDistinctBuilder<'a> {
     }
 }
 
-// How often the item's equals came, where one did.
+// The count of the item's equals, if they have one.
 fn count_in<'a>(counts: &BTreeMap<JsonbItem<'a>, usize>, item: &JsonbItem<'a>) -> Option<usize>
     ensures { result ≡ count_at counts.now.entries (item_view item.now) }
 {
     counts.get(item).copied()
 }
 
-// Sets the count of the item and its equals. Only memory can be refused, and only where none came.
+// Sets the count of the item's equals. `OutOfMemory` is the only error, and only possible if they
+// had no count.
 fn set_count<'a>(
     counts: &mut BTreeMap<JsonbItem<'a>, usize>,
     item: JsonbItem<'a>,

@@ -1,4 +1,5 @@
-//! Arrays and objects of what is stored as it is, measured first and written into one growth.
+//! Writing arrays and objects of stored values: everything is measured first, then written with a
+//! single growth of the buffer.
 
 ghost use Rattle.std.specs.Prelude.{◌≡◌, ◌↔◌, ◌⊎◌, List, Err, IsTrue, IfOk, IfErr, OnOk};
 ghost use Rattle.std.specs.Cmp.Lexicographic.{slice_cmp};
@@ -12,13 +13,13 @@ ghost use Rattle.jsonb.specs.Building.{FitArray, IsArrayOf, FitObject, IsObjectO
 ghost use Rattle.jsonb.specs.Children.{AreShown, AreShownAt, ItemPairs, key_bytes};
 
 use crate::owned::OwnedJsonb;
-use jsonb_codec::{Level, Stored, append_document};
+use jsonb_codec::writer::{Level, Stored, append_document};
 use jsonb_value::Error;
 use std::alloc::Global;
 use std::collections::BTreeMap;
 
-/// The array of these values' entries. `InvalidJsonb` where a value has none, or a payload or the
-/// count is past its limit, before memory is asked for.
+/// The array of these values' entries. `InvalidJsonb`, before any allocation, if a value has no
+/// entry, or a payload or the count exceeds its limit; `OutOfMemory` if an allocation fails.
 pub fn array_document<T: Stored>(alloc: Global, values: &[T]) -> Result<OwnedJsonb, Error>
     ensures ok { IfOk result (λ owned. (xs : List ItemView)
         → AreShown T.stored T.code values.now xs → IsArrayOf xs (owned_bytes owned)) }
@@ -37,8 +38,9 @@ pub fn array_document<T: Stored>(alloc: Global, values: &[T]) -> Result<OwnedJso
     Ok(OwnedJsonb::new(bytes))
 }
 
-/// The object of these keys and of these values' entries. `InvalidJsonb` where a value has none, or
-/// a key, a payload or the count is past its limit, before memory is asked for.
+/// The object of these keys and the values' entries. `InvalidJsonb`, before any allocation, if a
+/// value has no entry, or a key, a payload or the count exceeds its limit; `OutOfMemory` if an
+/// allocation fails.
 pub fn object_document<T: Stored>(
     alloc: Global,
     pairs: &BTreeMap<&str, T>,
@@ -61,7 +63,7 @@ pub fn object_document<T: Stored>(
     Ok(OwnedJsonb::new(bytes))
 }
 
-// Whether each of them has an entry.
+// Whether every value has an entry.
 fn are_stored<T: Stored>(values: &[T]) -> bool
     ensures { IsTrue result ↔ AllByRecursion T.stored values.now }
 {

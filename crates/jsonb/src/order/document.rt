@@ -47,7 +47,7 @@ impl Ord for Document<'_> {
 
     ghost matches_eq = { Prim.search (comparing, rules) };
 
-    /// The order of the trees.
+    /// Compares the values of the two documents.
     fn cmp(&self, other: &Self) -> Ordering {
         cmp_documents(*self, *other)
     }

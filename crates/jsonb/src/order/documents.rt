@@ -1,4 +1,5 @@
-//! The order of documents: one walk over both in step, node by node where they stand.
+//! Comparing documents: one walk over both at the same time, value by value, directly on their
+//! bytes.
 
 ghost use Rattle.std.specs.Prelude.{◌≡◌, unwrap_or};
 ghost use Rattle.jsonb_value.specs.TreeOrder.{tree_cmp};
@@ -12,12 +13,15 @@ use crate::nodes::{Items, Members};
 use jsonb_codec::constants::{CONTAINER_TAG, NUMBER_TAG, STRING_TAG};
 use std::cmp::Ordering;
 
-/// The order of two documents.
+// In so many bytes the lengths of all keys are added up about as fast as two keys are compared.
+const SHORT: usize = 1024;
+
+/// Compares two documents by their values.
 pub fn cmp_documents(left: Document<'_>, right: Document<'_>) -> Ordering
     ensures { result ≡ tree_cmp (document_tree left.entry) (document_tree right.entry) }
 {
     let (left_part, right_part) = (left.part(), right.part());
-    // What is compared most is told by the tags, before a node is made of each part.
+    // The most common kinds are recognized by their tags, before the parts are decoded.
     match (left_part.tag, right_part.tag) {
         (NUMBER_TAG, NUMBER_TAG) => left_part.number().cmp_value(&right_part.number()),
         (STRING_TAG, STRING_TAG) => left_part.text().cmp(right_part.text()),
@@ -26,7 +30,7 @@ pub fn cmp_documents(left: Document<'_>, right: Document<'_>) -> Ordering
     }
 }
 
-/// The order of two values.
+/// Compares two values.
 #[inline(always)]
 #[cycle(documents)]
 pub fn cmp_nodes(left: Node<'_>, right: Node<'_>) -> Ordering
@@ -44,7 +48,7 @@ pub fn cmp_nodes(left: Node<'_>, right: Node<'_>) -> Ordering
     }
 }
 
-// The order of two values of unlike kinds, or of null and null.
+// Compares two values of different kinds, or null with null.
 fn cmp_kinds(left: Node<'_>, right: Node<'_>) -> Ordering
     ensures { result ≡ unwrap_or (rank_order (kind_of_tree (node_tree left.entry))
         (kind_of_tree (node_tree right.entry))) Ordering.Equal }
@@ -54,13 +58,34 @@ fn cmp_kinds(left: Node<'_>, right: Node<'_>) -> Ordering
         .unwrap_or(Ordering::Equal)
 }
 
-// The order of two arrays or objects: an array is above each object.
+// The order of two objects as far as their first keys tell it, which takes no step for each key;
+// `Equal` where they do not.
+#[inline(always)]
+fn cmp_first_keys(left: Document<'_>, right: Document<'_>) -> Ordering
+    ensures { (result ≡ Ordering.Equal → ⊥)
+        → tree_cmp (document_tree left.entry) (document_tree right.entry) ≡ result }
+{
+    match (left.first_key(), right.first_key()) {
+        (Some(Some(left)), Some(Some(right))) => left.cmp(right),
+        (Some(Some(_)), Some(None)) => Ordering::Greater,
+        (Some(None), Some(Some(_))) => Ordering::Less,
+        _ => Ordering::Equal,
+    }
+}
+
+// Compares two arrays or objects: an array is greater than an object.
 #[cycle(documents)]
 fn cmp_containers(left: Document<'_>, right: Document<'_>) -> Ordering
     requires left { IsContainer (document_tree left) }
     requires right { IsContainer (document_tree right) }
     ensures { result ≡ tree_cmp (document_tree left.entry) (document_tree right.entry) }
 {
+    if left.as_bytes().len().max(right.as_bytes().len()) > SHORT {
+        let first_keys = cmp_first_keys(left, right);
+        if first_keys.is_ne() {
+            return first_keys;
+        }
+    }
     match (left.contents(), right.contents()) {
         (Contents::Array(left), Contents::Array(right)) => cmp_items(left, right),
         (Contents::Array(_), Contents::Object(_)) => Ordering::Greater,
@@ -69,7 +94,7 @@ fn cmp_containers(left: Document<'_>, right: Document<'_>) -> Ordering
     }
 }
 
-// The order of the items of two arrays: item by item, and then the shorter is less.
+// Compares the items of two arrays one by one; if all are equal, the shorter array is less.
 #[inline(always)]
 #[cycle(documents)]
 fn cmp_items(mut left: Items<'_>, mut right: Items<'_>) -> Ordering
@@ -91,8 +116,8 @@ fn cmp_items(mut left: Items<'_>, mut right: Items<'_>) -> Ordering
     }
 }
 
-// The order of the members of two objects: key and then value, one by one, and then the one with
-// fewer members is less.
+// Compares the members of two objects one by one, the key before the value; if all are equal, the
+// object with fewer members is less.
 #[inline(always)]
 #[cycle(documents)]
 fn cmp_members(mut left: Members<'_>, mut right: Members<'_>) -> Ordering

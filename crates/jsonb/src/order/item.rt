@@ -47,7 +47,8 @@ impl Ord for JsonbItem<'_> {
 
     ghost matches_eq = { Prim.search (comparing, rules) };
 
-    /// The order of items by what they mean: a document counts as its value, however it is held.
+    /// Compares two items by their meaning: a document counts as its value, in whatever form it is
+    /// held.
     fn cmp(&self, other: &Self) -> Ordering {
         cmp_meanings(self, other)
     }

@@ -1,4 +1,4 @@
-//! The order of bytes that were checked once is that of what they mean.
+//! The order of checked bytes is that of their meaning.
 
 ghost use Rattle.std.specs.Cmp.{on_total, eq_by_cmp_equiv, partial_equiv_from_equiv};
 ghost use Rattle.std.specs.Cmp.{partial_order_from_total};
@@ -46,7 +46,8 @@ impl Ord for SortKey<'_> {
 
     ghost matches_eq = { Prim.search (comparing, rules) };
 
-    /// The order of the bytes by what they mean, as of `RawJsonb`.
+    /// Compares the bytes by their meaning, as `RawJsonb` does: documents are less than all other
+    /// bytes, which compare as bytes.
     fn cmp(&self, other: &Self) -> Ordering {
         match (self, other) {
             (SortKey::Document(left), SortKey::Document(right)) => left.cmp(right),

@@ -1,4 +1,4 @@
-//! The order of owned documents and of all other owned bytes.
+//! The order of owned bytes, documents or not.
 
 ghost use Rattle.std.specs.Cmp.{on_total, eq_by_cmp_equiv, partial_equiv_from_equiv};
 ghost use Rattle.std.specs.Cmp.{partial_order_from_total};
@@ -46,7 +46,8 @@ impl Ord for OwnedJsonb {
 
     ghost matches_eq = { Prim.search (comparing, rules) };
 
-    /// The order of the bytes by what they mean, as of `RawJsonb`.
+    /// Compares the bytes by their meaning, as `RawJsonb` does: documents are less than all other
+    /// bytes, which compare as bytes.
     fn cmp(&self, other: &Self) -> Ordering {
         self.as_raw().cmp(&other.as_raw())
     }

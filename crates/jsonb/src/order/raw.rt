@@ -1,4 +1,4 @@
-//! The order of borrowed documents and of all other bytes.
+//! The order of borrowed bytes, documents or not.
 
 ghost use Rattle.std.specs.Cmp.{on_total, eq_by_cmp_equiv, partial_equiv_from_equiv};
 ghost use Rattle.std.specs.Cmp.{partial_order_from_total};
@@ -47,8 +47,8 @@ impl Ord for RawJsonb<'_> {
 
     ghost matches_eq = { Prim.search (comparing, rules) };
 
-    /// The order of all bytes by what they mean. Documents stand below all other bytes, and these
-    /// compare as bytes.
+    /// Compares the bytes by their meaning: documents compare by their values and are less than all
+    /// other bytes, which compare as bytes.
     fn cmp(&self, other: &Self) -> Ordering {
         cmp_bytes(self.as_bytes(), other.as_bytes())
     }

@@ -3,7 +3,7 @@ use Rattle.std.specs.Fmt.{IsFlush, HasWrittenStyled}
 use Rattle.jsonb.specs.Texts.{lossy_text}
 use Rattle.jsonb.proofs.text.write_lossy.Given as goal
 
--- what is written, and what the characters that are left are written as
+-- what is written so far, followed by the remaining characters
 abbrev pub invariant-chars : goal.invariant-chars
 invariant-chars g l =
     (done : List ℕ)

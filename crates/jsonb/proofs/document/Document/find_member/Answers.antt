@@ -9,7 +9,7 @@ use Rattle.jsonb_value.specs.Tree.{Tree, Pairs, pair}
 use Rattle.jsonb.specs.Lookup.{find_pair}
 use Rattle.jsonb.proofs.document.Document.find_member.Goals as goal
 
--- A key is the name exactly where the test of its bytes passes, and then it is as long.
+-- A key equals the name exactly if the test of its bytes passes, and then the lengths agree.
 test_passes : (name k : List ℕ) → true ≡ pointwise nat_eq name k
     → true ≡ (length k == length name) && pointwise nat_eq name k
 test_passes name k e =
@@ -20,7 +20,7 @@ test_fails : (name k : List ℕ) → false ≡ pointwise nat_eq name k
     → false ≡ (length k == length name) && pointwise nat_eq name k
 test_fails name k e = rw (← e, and-false)
 
--- A pair is passed over, or is the one.
+-- A pair is passed over, or it has the name as its key.
 module _ (name k : List ℕ) (t : Tree) (ps qs : Pairs) (are : ps ≡ pair k t qs) where
   passed : false ≡ pointwise nat_eq name k
       → find_pair (pointwise nat_eq name) (length name) ps

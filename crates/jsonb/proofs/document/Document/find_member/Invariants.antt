@@ -1,4 +1,4 @@
--- What is left has the value that the whole has.
+-- The value in the remaining members is the value in all members.
 use Rattle.std.proofs.Common.{◌≡◌, length, nat_eq}
 use Rattle.std.specs.Cmp.Lexicographic.{pointwise}
 use Rattle.jsonb_value.specs.Tree.{Pairs}

@@ -9,7 +9,7 @@ use Rattle.jsonb.specs.Document.{document_tree}
 use Rattle.jsonb.proofs.DocumentLaws.{tree_of_bytes}
 use Rattle.jsonb.proofs.document.Document.to_canonical.Goals as goal
 
--- a refusal that is handed on says the same of the one tree of the bytes
+-- an error that is passed on says the same of the one tree of the bytes
 handed_on : {A B : Type 0} (r : Result A Error) (s : Result B Error) (e : Error) (b : List ℕ)
     (t : Tree) → r ≡ Err e → s ≡ Err e → Doc b t
     → (s ≡ Err InvalidJsonb) ↔ ((u : Tree) → Doc b u → Fits u → ⊥)

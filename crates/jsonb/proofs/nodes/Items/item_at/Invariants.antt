@@ -1,4 +1,4 @@
--- What is left begins with the item after as many as were passed over.
+-- The remaining items begin with the one after those passed over.
 use Rattle.std.proofs.Common.{◌≡◌, ◌-◌, ◌≤◌, slice_get}
 use Rattle.jsonb.specs.Facts.{AreParts, rest_trees}
 use Rattle.jsonb.proofs.nodes.Items.item_at.Given as goal

@@ -1,4 +1,4 @@
--- Each call goes to values that hold less, and what is left of two walks decides as the whole does.
+-- Each call receives smaller values, and the remaining parts of two walks compare as the wholes do.
 use Rattle.std.proofs.Common.{◌≡◌, ◌+◌, ◌*◌, ◌≤◌, length}
 use Rattle.jsonb_value.specs.Value.{trees_of}
 use Rattle.jsonb_value.specs.TreeOrder.{trees_cmp, pairs_cmp}

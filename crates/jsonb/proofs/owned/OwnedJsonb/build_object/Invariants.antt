@@ -9,7 +9,7 @@ use Rattle.jsonb.specs.Children.{AreShownAt}
 use Rattle.jsonb.specs.Results.{input_pair, raw_pairs}
 use Rattle.jsonb.proofs.owned.OwnedJsonb.build_object.Given as goal
 
--- The inputs so far are put together, and no two of them have one key.
+-- The inputs so far were inserted, and their keys are distinct.
 abbrev pub invariant-loop-key : goal.invariant-loop-key
 invariant-loop-key g l = record {
   shown : AreShownAt IsSome code_of_some l.pairs.entries

@@ -50,7 +50,7 @@ pub returns-in_err-item_of_entry-clause-refused : goal.returns-in_err-item_of_en
 returns-in_err-item_of_entry-clause-refused g c =
     let refused = item_of-refused _ _ _ c.in_err-item_of_entry.ensures in search rules
 
--- and so on a document
+-- on a document
 pub returns-in_err-count-clause-document : goal.returns-in_err-count-clause-document
 returns-in_err-count-clause-document g c =
     λ t h. LooksUp-bytes _ _ _ t _ _ h (returns-in_err-count-clause-bytes g c)

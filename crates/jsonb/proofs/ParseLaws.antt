@@ -1,0 +1,40 @@
+-- A document is as deep as the tree of its text.
+use Rattle.std.proofs.Common.{◌≡◌, ℕ, suc, ◌≤◌, refl, ap, List, chars, arith}
+use Rattle.jsonb_value.specs.Depth.{depth, depths, pair_depths}
+use Rattle.jsonb_value.specs.Norm.{norm, norms, norm_pairs}
+use Rattle.jsonb_value.specs.Tree as trees
+use Rattle.jsonb_value.specs.Tree.{Tree, null, boolean, number, extension, array, object}
+use Rattle.jsonb_value.specs.Tree.{Trees, no_trees, tree, Pairs, no_pairs, pair}
+use Rattle.jsonb_value.specs.Json.Syntax.{Json}
+use Rattle.jsonb_value.specs.TextDepth.{text_depth, HasItsDepth}
+use Rattle.jsonb_value.proofs.DepthLaws.{tree_within}
+use Rattle.jsonb_codec.specs.Depth.{IsDocumentWithin}
+use Rattle.jsonb_codec.specs.Doc.{Doc}
+
+mutual
+  norm-depth : (t : Tree) → depth (norm t) ≡ depth t
+  norm-depth null = refl
+  norm-depth (boolean b) = refl
+  norm-depth (number x) = refl
+  norm-depth (trees.text s) = refl
+  norm-depth (extension e) = refl
+  norm-depth (array ts) = ap suc (norms-depth ts)
+  norm-depth (object ps) = ap suc (norm_pairs-depth ps)
+
+  norms-depth : (ts : Trees) → depths (norms ts) ≡ depths ts
+  norms-depth no_trees = refl
+  norms-depth (tree t ts) =
+      let first = norm-depth t in let others = norms-depth ts in omega arith
+
+  norm_pairs-depth : (ps : Pairs) → pair_depths (norm_pairs ps) ≡ pair_depths ps
+  norm_pairs-depth no_pairs = refl
+  norm_pairs-depth (pair k t ps) =
+      let first = norm-depth t in let others = norm_pairs-depth ps in omega arith
+
+pub document_within : (text bytes : List ℕ) (t : Tree) (limit : ℕ) → HasItsDepth text
+    → Json (chars text) t → Doc bytes (norm t) → text_depth text ≤ limit
+    → IsDocumentWithin limit bytes
+document_within text bytes t limit nests json doc within =
+    let most = tree_within text t limit nests json within in
+    let same = norm-depth t in
+    (norm t, (omega arith, doc))
