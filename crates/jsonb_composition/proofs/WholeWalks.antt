@@ -1,4 +1,4 @@
--- What was given when an iterator has ended, and that it gives no error.
+-- What an iterator has yielded when it ends, and that it yields no error.
 use Rattle.std.proofs.Common.{◌≡◌, ℕ, zero, suc, List, [], ◌∷◌, ◌++◌, length, Option, Some, Result}
 use Rattle.std.proofs.Common.{Ok, ◌∙◌}
 use Rattle.std.proofs.Common.{Err, refl, sym, ap, subst, append-nil, append_assoc, map, ◌<◌}
@@ -15,7 +15,7 @@ use Rattle.jsonb.specs.DocumentWalk.{ShowsTrees, key_views, ShowsValues, ShowsPa
 use Rattle.jsonb.specs.DocumentWalk.{WalksKeys, WalksValues, WalksPairs}
 use Rattle.jsonb_composition.specs.Question.{walk_of}
 
--- so many answers, and no error
+-- there are n results, and none is an error
 abbrev AreOk : {A : Type 0} → ℕ → List (Result A Error) → Type 0
 AreOk zero xs = xs ≡ []
 AreOk (suc n) [] = ⊥
@@ -38,21 +38,21 @@ AreOk-error (suc n) [] behind e h = h
 AreOk-error (suc n) (Ok x ∷ given) behind e h = AreOk-error n given behind e h
 AreOk-error (suc n) (Err x ∷ given) behind e h = h
 
--- what is said of an answer holds where there is none
+-- a statement about a success holds for an error
 pub no_answer : {A E : Type 0} (P : A → Type 0) (r : Result A E) → IsErr r → IfOk r P
 no_answer P (Err e) h = tt
 no_answer P (Ok x) h = let never : ⊥ = cc in absurd never
 
--- what is said of an error holds where there is none
+-- a statement about an error holds for every error
 pub if_error : {A E : Type 0} (P : E → Type 0) (r : Result A E) → IsErrAnd r P → IfErr r P
 if_error P (Err e) h = h
 if_error P (Ok x) h = tt
 
--- one was given, and so many less are left
+-- one element was yielded, so fewer are left
 pub one_less : {A : Type 0} {x : A} {xs ys : List A} → xs ≡ x ∷ ys → length ys < length xs
 one_less given = let shorter = ap length given in omega arith
 
--- one more was taken of what there is to give
+-- one more element was taken
 pub one_taken : {A B : Type 0} (view : B → A) (items after : List B) (x : B) (xs ys : List A)
     {all : List A} → map view items ++ xs ≡ all → xs ≡ view x ∷ ys → after ≡ items ++ x ∷ []
     → map view after ++ ys ≡ all
@@ -63,7 +63,7 @@ one_taken view items after x xs ys so_far given pushed =
     append_assoc (map view items) (view x ∷ []) ys in
     cc
 
--- the calls that gave so much, and the one behind them
+-- one more call after those that yielded these elements
 pub Yields-more : {S A : Type 0} (steps : S → Option A → S → Type 0) (s t u : S) (xs : List A)
     (x : A) → Yields steps s xs t → steps t (Some x) u → Yields steps s (xs ++ x ∷ []) u
 Yields-more steps s t u [] x so_far step =
@@ -71,8 +71,8 @@ Yields-more steps s t u [] x so_far step =
 Yields-more steps s t u (y ∷ xs) x so_far step =
     (so_far.0, so_far.1, Yields-more steps so_far.0 t u xs x so_far.2 step)
 
--- what was taken of an iterator that has ended is all that it had to give, by whatever is said of
--- it
+-- when an iterator has ended, the elements taken from it are all its elements, for any description
+-- of it
 pub whole_walk : {A : Type 0} (Walks More : Result (Option (Walk A)) Error → Type 0)
     → ((w : Walk A) → Walks (Ok (Some w)) → HoldsAll w)
     → {o : Option (Walk A)} {walk started : Walk A} {given rest : List (Result A Error)}
@@ -85,7 +85,7 @@ whole_walk Walks More holds {walk = walk} {given = given} walks more is begun so
     let same : walk ≡ walk_of given = λ i. record { count = long i; rest = all i } in
     subst (λ w. More (Ok (Some w))) same (rw is at more)
 
--- none of what it has to give is an error
+-- none of the remaining results is an error
 pub no_error : {A : Type 0} (Walks : Result (Option (Walk A)) Error → Type 0)
     → ((w : Walk A) → Walks (Ok (Some w)) → HoldsAll w)
     → {o : Option (Walk A)} {walk started : Walk A} (given : List (Result A Error))
@@ -119,7 +119,7 @@ AreOk-keys : (ps : Pairs) → AreOk (pair_count ps) (key_views ps)
 AreOk-keys no_pairs = refl
 AreOk-keys (pair k t ps) = AreOk-keys ps
 
--- Each of the four counts what it has to give, none of which is an error.
+-- Each of the four iterators counts its results, none of which is an error.
 pub WalksArray-all : (t : Tree) (w : Walk ItemView) → WalksArray t (Ok (Some w)) → HoldsAll w
 WalksArray-all (array ts) w h = rw h.0 (AreOk-trees ts w.rest h.1)
 WalksArray-all t w h = cc

@@ -1,9 +1,10 @@
-//! Values that are encoded and then asked about in place: by the contracts of the calls alone.
+//! Encoding a value and querying the document, using only the contracts of the public calls.
 
 ghost use Rattle.std.specs.Prelude.{◌≡◌, ◌⊎◌, nat_eq, length, option_map, Err, IfOk, IfErr};
-ghost use Rattle.std.specs.Prelude.{IsOkAnd};
+ghost use Rattle.std.specs.Prelude.{IsOkAnd, string_bytes};
 ghost use Rattle.std.specs.Cmp.Lexicographic.{pointwise};
 ghost use Rattle.jsonb_value.specs.Norm.{norm};
+ghost use Rattle.jsonb_value.specs.Text.{compact};
 ghost use Rattle.jsonb_value.specs.Tree.{Tree};
 ghost use Rattle.jsonb_value.specs.Value.{tree_of};
 ghost use Rattle.jsonb_codec.specs.Canon.{canon, Fits};
@@ -11,25 +12,32 @@ ghost use Rattle.jsonb_codec.specs.Doc.{Doc};
 ghost use Rattle.jsonb.specs.Raw.{raw_bytes};
 ghost use Rattle.jsonb_composition.specs.Question.{AnswersOf};
 ghost use Rattle.jsonb.specs.Lookup.{find, IsItemFound};
+ghost use Rattle.jsonb.specs.Node.{value_of_key, words_for_key};
 ghost use Rattle.jsonb.specs.Standing.{IsFoundIn};
 ghost use Rattle.jsonb.specs.ItemView.{item_view};
 
 use crate::walks::{array_items, object_keys, object_pairs, object_values};
-use jsonb::{Encoder, Error, JsonbItem, JsonbItemType, RawJsonb, Value};
+use jsonb::{Encoder, Error, JsonbItem, JsonbItemType, RawJsonb, Reads, Value, meaning_laws};
 use std::alloc::Global;
 use std::cmp::Ordering;
 
-/// What a document answers in place.
+/// The results of the calls on a document.
 #[derive(Drop)]
 pub struct Asked<'a> {
-    /// Its kind, with the count of a container.
+    /// The kind; a container's with its count.
     pub kind: JsonbItemType,
-    /// Its compact text.
+    /// The compact text.
     pub text: String,
-    /// Its pretty text.
+    /// The pretty text.
     pub pretty: String,
-    /// Its order beside the other document, where that is one.
-    pub order: Option<Ordering>,
+    /// What `Display` prints.
+    pub display: String,
+    /// The item that the bytes hold.
+    pub item: JsonbItem<'a>,
+    /// Its order beside the other bytes.
+    pub order: Ordering,
+    /// The order relative to the other document, if that is one.
+    pub document_order: Option<Ordering>,
     /// The items of an array, in order.
     pub items: Option<Vec<JsonbItem<'a>>>,
     /// The keys of an object, in order.
@@ -38,13 +46,17 @@ pub struct Asked<'a> {
     pub values: Option<Vec<JsonbItem<'a>>>,
     /// The keys of an object with their values, in order.
     pub pairs: Option<Vec<(&'a str, JsonbItem<'a>)>>,
-    /// The value of the key that is the name.
+    /// The value whose key equals the name.
     pub found: Option<JsonbItem<'a>>,
+    /// The same by the counted look-up.
+    pub counted: Option<JsonbItem<'a>>,
+    /// How many words that look-up read.
+    pub reads: u64,
 }
 
-/// Encodes a value into the buffer, in place of what it held, and asks the document that stands
-/// there: every answer is that of the value's tree with its zeros made one. `InvalidJsonb` where
-/// the value does not fit; else only memory can be refused.
+/// Encodes a value into the buffer, replacing its content, and queries the document: every result
+/// is that of the value's tree with signed zeros made unsigned. `InvalidJsonb` if the value does
+/// not fit the format, `OutOfMemory` if an allocation fails.
 pub fn encode_and_ask<'a>(
     alloc: Global,
     value: &Value,
@@ -63,8 +75,8 @@ pub fn encode_and_ask<'a>(
     ask(alloc, RawJsonb::new(bytes.as_slice()), name, other)
 }
 
-/// Asks a document, by one call of each kind, a name and another document: every answer is that of
-/// its tree, and only memory can be refused.
+/// Queries a document with one call of each kind, a name and another document: every result is that
+/// of its tree, and `OutOfMemory` is the only error.
 pub fn ask<'a>(
     alloc: Global,
     raw: RawJsonb<'a>,
@@ -76,20 +88,58 @@ pub fn ask<'a>(
     ensures memory { (t : Tree) → Doc (raw_bytes raw.entry) t
         → IfErr result (λ e. e ≡ Error.OutOfMemory) }
 {
+    meaning_laws();
+    let (counted, reads) = find_counted(raw, name)?;
     Ok(Asked {
         kind: raw.jsonb_item_type()?,
         text: raw.to_string(alloc)?,
         pretty: raw.to_pretty_string(alloc)?,
-        order: raw.try_cmp(&other),
+        display: display(alloc, raw)?,
+        item: JsonbItem::from_raw_jsonb(raw)?,
+        order: raw.cmp(&other),
+        document_order: raw.try_cmp(&other),
         items: array_items(alloc, raw)?,
         keys: object_keys(alloc, raw)?,
         values: object_values(alloc, raw)?,
         pairs: object_pairs(alloc, raw)?,
         found: find_by_name(raw, name)?,
+        counted,
+        reads,
     })
 }
 
-// The value of the key that is the name.
+// What `Display` prints.
+fn display(alloc: Global, raw: RawJsonb) -> Result<String, Error>
+    ensures text { (t : Tree) → Doc (raw_bytes raw.entry) t
+        → IfOk result (λ text. string_bytes text ≡ compact t) }
+    ensures memory { IfErr result (λ e. e ≡ Error.OutOfMemory) }
+{
+    meaning_laws();
+    let owned = raw.to_owned(alloc)?;
+    Ok(format!(in alloc; "{owned}")?)
+}
+
+// The value of the key that is the name, by the counted look-up, and how many words it read.
+fn find_counted<'a>(raw: RawJsonb<'a>, name: &str) -> Result<(Option<JsonbItem<'a>>, u64), Error>
+    ensures value { (t : Tree) → Doc (raw_bytes raw.entry) t
+        → IsOkAnd result (λ found. IsItemFound (value_of_key name.now t)
+        (option_map item_view found.0)) }
+    ensures entry { (t : Tree) → Doc (raw_bytes raw.entry) t
+        → IsOkAnd result (λ found. IsFoundIn (pointwise nat_eq name.now) (length name.now)
+        (raw_bytes raw.entry) t (option_map item_view found.0)) }
+    ensures words { (t : Tree) → Doc (raw_bytes raw.entry) t
+        → IsOkAnd result (λ found. found.1 ≡ words_for_key name.now t) }
+{
+    let mut reads = Reads::new();
+    let found = raw.get_object_value_by_key_name_counted(
+        name,
+        |name, key| name == key,
+        &mut reads,
+    )?;
+    Ok((found, reads.count()))
+}
+
+// The value whose key equals the name.
 fn find_by_name<'a>(raw: RawJsonb<'a>, name: &str) -> Result<Option<JsonbItem<'a>>, Error>
     ensures value { (t : Tree) → Doc (raw_bytes raw.entry) t
         → IsOkAnd result

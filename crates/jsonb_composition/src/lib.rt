@@ -1,5 +1,5 @@
-//! How the layers of `jsonb` compose: what a document answers in place, and a value that is encoded
-//! and then asked, by the contracts of the public calls alone.
+//! How the layers of `jsonb` compose: querying a document in place, and encoding a value and
+//! querying the document, using only the contracts of the public calls.
 #![tactic(auto)]
 
 mod composition;

@@ -1,4 +1,4 @@
-//! Whole walks, by the contracts of the iterators alone.
+//! Complete iterations, using only the contracts of the iterators.
 
 ghost use Rattle.std.specs.Prelude.{◌≡◌, IfOk, IfErr, option_map};
 ghost use Rattle.jsonb_value.specs.Tree.{Tree};
@@ -15,7 +15,8 @@ use jsonb::{
 };
 use std::alloc::Global;
 
-/// The items of an array, in order. `None` of a document of another kind.
+/// The items of an array, in order. `None` for a document of another kind. On a document
+/// `OutOfMemory` is the only error.
 pub fn array_items<'a>(
     alloc: Global,
     raw: RawJsonb<'a>,
@@ -38,7 +39,8 @@ pub fn array_items<'a>(
     Ok(Some(items))
 }
 
-/// The keys of an object, in order. `None` of a document of another kind.
+/// The keys of an object, in order. `None` for a document of another kind. On a document
+/// `OutOfMemory` is the only error.
 pub fn object_keys<'a>(
     alloc: Global,
     raw: RawJsonb<'a>,
@@ -58,7 +60,8 @@ pub fn object_keys<'a>(
     Ok(Some(keys))
 }
 
-/// The values of an object, in the order of their keys. `None` of a document of another kind.
+/// The values of an object, in the order of their keys. `None` for a document of another kind. On a
+/// document `OutOfMemory` is the only error.
 pub fn object_values<'a>(
     alloc: Global,
     raw: RawJsonb<'a>,
@@ -81,7 +84,8 @@ pub fn object_values<'a>(
     Ok(Some(values))
 }
 
-/// The keys of an object with their values, in order. `None` of a document of another kind.
+/// The keys of an object with their values, in order. `None` for a document of another kind. On a
+/// document `OutOfMemory` is the only error.
 pub fn object_pairs<'a>(
     alloc: Global,
     raw: RawJsonb<'a>,

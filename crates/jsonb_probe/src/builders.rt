@@ -1,11 +1,11 @@
-//! Arrays and objects, put together of bytes.
+//! Building arrays and objects from bytes.
 
 use crate::line::{decode_hex, key_of, ok_hex};
 use crate::refusal::Refusal;
 use jsonb::{ArrayDistinctBuilder, OwnedJsonb, RawJsonb};
 use std::alloc::Global;
 
-/// The array of some documents.
+/// Replies with the array of these documents.
 pub fn array_of(alloc: Global, words: &[&[u8]]) -> Result<String, Refusal> {
     let mut inputs = Vec::new(alloc);
     for word in words {
@@ -22,7 +22,7 @@ struct Pair {
     value: Vec<u8>,
 }
 
-/// The object of some keys and documents.
+/// Replies with the object of these keys and documents.
 pub fn object_of(alloc: Global, words: &[&[u8]]) -> Result<String, Refusal> {
     let pairs = pairs_in(alloc, words)?;
     let mut inputs = Vec::new(alloc);
@@ -49,7 +49,7 @@ fn pairs_in(alloc: Global, words: &[&[u8]]) -> Result<Vec<Pair>, Refusal> {
     Ok(pairs)
 }
 
-// What stands before the first `=`, and behind it.
+// The bytes before the first `=`, and those after it.
 fn split_pair(word: &[u8]) -> Result<(&[u8], &[u8]), Refusal> {
     let Some(place) = word.iter().position(|byte| *byte == b'=') else {
         return Err(Refusal::BadCommand);
@@ -57,14 +57,15 @@ fn split_pair(word: &[u8]) -> Result<(&[u8], &[u8]), Refusal> {
     Ok((&word[..place], &word[place + 1..]))
 }
 
-// A push or a pop of bytes.
+// Pushing or popping bytes.
 #[derive(Drop)]
 enum Step {
     Push(Vec<u8>),
     Pop(Vec<u8>),
 }
 
-/// The array of distinct items after some pushes and pops, behind what each pop answered.
+/// Replies with the results of the pops, and then the array of distinct items after all pushes and
+/// pops.
 pub fn distinct(alloc: Global, words: &[&[u8]]) -> Result<String, Refusal> {
     let steps = steps_in(alloc, words)?;
     let mut builder = ArrayDistinctBuilder::new(alloc, 0)?;

@@ -1,12 +1,14 @@
-//! Which command a line is.
+//! The grammar of commands.
 
 use crate::line::words_of;
 use crate::lookup::Keys;
 use crate::refusal::Refusal;
-use crate::{builders, documents, items, lookup, order, payloads, single, texts, walks, words};
+use crate::{
+    builders, comparable, documents, items, lookup, order, payloads, single, texts, walks, words,
+};
 use std::alloc::Global;
 
-/// What a line is answered: a name of a command, and as many words as it takes.
+/// The reply to a line: the name of a command, and the words that are its arguments.
 pub fn answer(alloc: Global, line: &[u8]) -> Result<String, Refusal> {
     let words = words_of(alloc, line)?;
     match words.as_slice() {
@@ -17,7 +19,7 @@ pub fn answer(alloc: Global, line: &[u8]) -> Result<String, Refusal> {
     }
 }
 
-// Whether the command of this name takes any number of words.
+// Whether the command with this name takes any number of words.
 fn takes_many(name: &[u8]) -> bool {
     matches!(name, b"array_of" | b"object_of" | b"distinct")
 }
@@ -40,11 +42,12 @@ fn answer_one(alloc: Global, name: &[u8], word: &[u8]) -> Result<String, Refusal
         b"display" => texts::display(alloc, word),
         b"number" => payloads::number(alloc, word),
         b"extension" => payloads::extension(alloc, word),
+        b"key" => comparable::key(alloc, word),
         _ => answer_of_document(alloc, name, word),
     }
 }
 
-// The commands that ask a document.
+// The commands on a checked document.
 fn answer_of_document(alloc: Global, name: &[u8], word: &[u8]) -> Result<String, Refusal> {
     match name {
         b"document_item_type" => single::item_type(alloc, word),
@@ -74,6 +77,7 @@ fn answer_two(alloc: Global, name: &[u8], left: &[u8], right: &[u8]) -> Result<S
         b"header" => words::header(alloc, left, right),
         b"jentry" => words::jentry(alloc, left, right),
         b"word" => words::word(alloc, left, right),
+        b"key_within" => comparable::key_within(alloc, left, right),
         _ => Err(Refusal::BadCommand),
     }
 }

@@ -5,26 +5,26 @@ use crate::refusal::Refusal;
 use jsonb::{Decoder, Encoder, RawJsonb, Value};
 use std::alloc::Global;
 
-/// Whether the bytes are a document.
+/// Replies whether the bytes are a document.
 pub fn is_document(alloc: Global, word: &[u8]) -> Result<String, Refusal> {
     let bytes = decode_hex(alloc, word)?;
     truth(alloc, RawJsonb::new(&bytes).is_document())
 }
 
-/// Whether the bytes are a document of at most that depth.
+/// Replies whether the bytes are a document of at most this depth.
 pub fn within(alloc: Global, word: &[u8], depth: &[u8]) -> Result<String, Refusal> {
     let depth = number_in(depth)?;
     let bytes = decode_hex(alloc, word)?;
     truth(alloc, RawJsonb::new(&bytes).is_document_within(depth))
 }
 
-/// The value that the tree reader gives, encoded again.
+/// Replies with the value of the tree reader, encoded again.
 pub fn value_of(alloc: Global, word: &[u8]) -> Result<String, Refusal> {
     let bytes = decode_hex(alloc, word)?;
     value_hex(alloc, &jsonb::value_of(alloc, &bytes)?)
 }
 
-/// The value that the decoder gives, encoded again.
+/// Replies with the value of the decoder, encoded again.
 pub fn decoder(alloc: Global, word: &[u8]) -> Result<String, Refusal> {
     let bytes = decode_hex(alloc, word)?;
     value_hex(alloc, &Decoder::new(&bytes).decode(alloc)?)
@@ -37,13 +37,13 @@ pub fn value_hex(alloc: Global, value: &Value<'_>) -> Result<String, Refusal> {
     ok_hex(alloc, &bytes)
 }
 
-/// Whether the bytes are a canonical document.
+/// Replies whether the bytes are a canonical document.
 pub fn is_canonical(alloc: Global, word: &[u8]) -> Result<String, Refusal> {
     let bytes = decode_hex(alloc, word)?;
     truth(alloc, RawJsonb::new(&bytes).is_canonical())
 }
 
-/// The canonical document of the tree that the bytes mean.
+/// Replies with the canonical document of the value that the bytes mean.
 pub fn to_canonical(alloc: Global, word: &[u8]) -> Result<String, Refusal> {
     let bytes = decode_hex(alloc, word)?;
     let document = RawJsonb::new(&bytes).to_canonical(alloc)?;

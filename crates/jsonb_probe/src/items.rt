@@ -5,14 +5,14 @@ use crate::refusal::Refusal;
 use jsonb::{JsonbItem, JsonbItemType, OwnedJsonb, RawJsonb};
 use std::alloc::Global;
 
-/// The kind that the bytes show.
+/// Replies with the kind read from the bytes.
 pub fn item_type(alloc: Global, word: &[u8]) -> Result<String, Refusal> {
     let bytes = decode_hex(alloc, word)?;
     let kind = kind_text(alloc, RawJsonb::new(&bytes).jsonb_item_type()?)?;
     Ok(format!(in alloc; "ok {kind}")?)
 }
 
-/// A kind, and the count of an array or object.
+/// A kind, with the count of an array or object.
 pub fn kind_text(alloc: Global, kind: JsonbItemType) -> Result<String, Refusal> {
     match kind {
         JsonbItemType::Null => plain_word(alloc, "null"),
@@ -25,7 +25,7 @@ pub fn kind_text(alloc: Global, kind: JsonbItemType) -> Result<String, Refusal> 
     }
 }
 
-/// The item that the bytes hold.
+/// Replies with the item that the bytes hold.
 pub fn item(alloc: Global, word: &[u8]) -> Result<String, Refusal> {
     let bytes = decode_hex(alloc, word)?;
     let item = JsonbItem::from_raw_jsonb(RawJsonb::new(&bytes))?;
@@ -33,7 +33,7 @@ pub fn item(alloc: Global, word: &[u8]) -> Result<String, Refusal> {
     Ok(format!(in alloc; "ok {text}")?)
 }
 
-/// An item's variant, and the bytes that it becomes.
+/// The variant of an item, and its bytes as a document.
 pub fn item_text(alloc: Global, item: JsonbItem<'_>) -> Result<String, Refusal> {
     let variant = variant_of(&item);
     let owned = OwnedJsonb::from_item(alloc, item)?;

@@ -1,4 +1,4 @@
-//! The words of a line, and the answers that commands share.
+//! The words of a line, and the replies that commands share.
 
 use crate::refusal::Refusal;
 use jsonb::Error;
@@ -23,7 +23,7 @@ pub fn key_of(bytes: &[u8]) -> Result<&str, Refusal> {
     }
 }
 
-/// The number that a word of at most 19 decimal digits writes.
+/// The number of a word of at most 19 decimal digits.
 pub fn number_in(word: &[u8]) -> Result<usize, Refusal> {
     if word.len() > 19 || !word.iter().all(|byte| byte.is_ascii_digit()) {
         return Err(Refusal::BadCommand);

@@ -1,4 +1,4 @@
-//! The look-up of a key, with its count of reads.
+//! Looking up a key, with the number of words read.
 
 use crate::items::item_text;
 use crate::line::{decode_hex, key_of};
@@ -6,12 +6,12 @@ use crate::refusal::Refusal;
 use jsonb::{RawJsonb, Reads};
 use std::alloc::Global;
 
-/// When a key is the wanted one.
+/// Which keys match the wanted one.
 #[derive(Clone, Copy)]
 pub enum Keys {
-    /// Where it has the same bytes.
+    /// The keys with the same bytes.
     Exact,
-    /// Where it has, but for the case of ASCII letters.
+    /// The keys that are equal up to the case of ASCII letters.
     AnyCase,
 }
 
@@ -24,7 +24,7 @@ impl Keys {
     }
 }
 
-/// How many words were read, and the value that was found.
+/// Replies with the number of words read, and the value that was found.
 pub fn lookup(alloc: Global, keys: Keys, document: &[u8], key: &[u8]) -> Result<String, Refusal> {
     let bytes = decode_hex(alloc, document)?;
     let key = decode_hex(alloc, key)?;

@@ -1,9 +1,10 @@
-//! Asks the library, a line at a time: each line of standard input names a call and gives it its
-//! bytes, and is answered by one line on standard output.
+//! Calls the library line by line: each line of standard input names a call and its bytes, and is
+//! answered by one line on standard output.
 #![tactic(auto)]
 
 mod builders;
 mod command;
+mod comparable;
 mod documents;
 mod items;
 mod line;

@@ -1,4 +1,4 @@
-//! Comparisons: of bytes, items, kinds and payloads.
+//! Comparing bytes, items, kinds and payloads.
 
 use crate::line::{decode_hex, plain_word};
 use crate::refusal::Refusal;
@@ -6,7 +6,7 @@ use jsonb::{ExtensionValue, JsonbItem, Number, RawJsonb};
 use std::alloc::Global;
 use std::cmp::Ordering;
 
-/// The order of all bytes, and whether they are the same by `==`.
+/// Replies with the order of two byte strings, and whether `==` holds.
 pub fn cmp(alloc: Global, left: &[u8], right: &[u8]) -> Result<String, Refusal> {
     let left = decode_hex(alloc, left)?;
     let right = decode_hex(alloc, right)?;
@@ -14,14 +14,14 @@ pub fn cmp(alloc: Global, left: &[u8], right: &[u8]) -> Result<String, Refusal> 
     order_text(alloc, left.cmp(&right), left == right)
 }
 
-/// An order, and whether two things are the same by `==`.
+/// An order, and whether `==` holds.
 pub fn order_text(alloc: Global, order: Ordering, is_same: bool) -> Result<String, Refusal> {
     let order = order_word(order);
     let sameness = if is_same { "same" } else { "different" };
     Ok(format!(in alloc; "{order} {sameness}")?)
 }
 
-/// The order of two documents.
+/// Replies with the order of two documents.
 pub fn try_cmp(alloc: Global, left: &[u8], right: &[u8]) -> Result<String, Refusal> {
     let left = decode_hex(alloc, left)?;
     let right = decode_hex(alloc, right)?;
@@ -29,7 +29,7 @@ pub fn try_cmp(alloc: Global, left: &[u8], right: &[u8]) -> Result<String, Refus
     plain_word(alloc, order.map_or("none", order_word))
 }
 
-/// The order of two items.
+/// Replies with the order of two items.
 pub fn item_cmp(alloc: Global, left: &[u8], right: &[u8]) -> Result<String, Refusal> {
     let left = decode_hex(alloc, left)?;
     let right = decode_hex(alloc, right)?;
@@ -38,7 +38,7 @@ pub fn item_cmp(alloc: Global, left: &[u8], right: &[u8]) -> Result<String, Refu
     plain_word(alloc, order_word(left.cmp(&right)))
 }
 
-/// What the kinds alone say of the order.
+/// Replies with the order as far as the kinds determine it.
 pub fn rank(alloc: Global, left: &[u8], right: &[u8]) -> Result<String, Refusal> {
     let left = decode_hex(alloc, left)?;
     let right = decode_hex(alloc, right)?;
@@ -47,7 +47,7 @@ pub fn rank(alloc: Global, left: &[u8], right: &[u8]) -> Result<String, Refusal>
     plain_word(alloc, left.rank_cmp(&right).map_or("none", order_word))
 }
 
-/// The order of two numbers by value.
+/// Replies with the order of two numbers by value.
 pub fn cmp_number(alloc: Global, left: &[u8], right: &[u8]) -> Result<String, Refusal> {
     let left = decode_hex(alloc, left)?;
     let right = decode_hex(alloc, right)?;
@@ -56,7 +56,7 @@ pub fn cmp_number(alloc: Global, left: &[u8], right: &[u8]) -> Result<String, Re
     plain_word(alloc, order_word(left.cmp_value(&right)))
 }
 
-/// The order of two extension values.
+/// Replies with the order of two extension values.
 pub fn cmp_extension(alloc: Global, left: &[u8], right: &[u8]) -> Result<String, Refusal> {
     let left = decode_hex(alloc, left)?;
     let right = decode_hex(alloc, right)?;

@@ -5,7 +5,7 @@ use crate::refusal::Refusal;
 use jsonb::{ExtensionValue, Number};
 use std::alloc::Global;
 
-/// The number that the payload means, and the payload that is written for it.
+/// Replies with the number that the payload means, and the payload that is written for it.
 pub fn number(alloc: Global, word: &[u8]) -> Result<String, Refusal> {
     let number = Number::decode(&decode_hex(alloc, word)?)?;
     let mut payload = Vec::new(alloc);
@@ -29,7 +29,8 @@ pub fn number(alloc: Global, word: &[u8]) -> Result<String, Refusal> {
     }?)
 }
 
-/// The text of the extension value that the payload means, and the payload that is written for it.
+/// Replies with the text of the extension value that the payload means, and the payload that is
+/// written for it.
 pub fn extension(alloc: Global, word: &[u8]) -> Result<String, Refusal> {
     let bytes = decode_hex(alloc, word)?;
     let value = ExtensionValue::decode(&bytes)?;

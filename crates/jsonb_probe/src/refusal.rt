@@ -1,24 +1,24 @@
-//! Why a line is answered by `error`.
+//! Why the reply to a line is an error.
 
 use hex::FromHexError;
 use jsonb::Error;
 use std::alloc::{AllocError, AllocFailed};
 
-/// Why a line is answered by `error` and a name.
+/// Why the reply to a line is `error` and a name.
 #[derive(Clone, Copy)]
 pub enum Refusal {
-    /// The line is of no command's form.
+    /// The line does not have the form of a command.
     BadCommand,
-    /// A word is no hexadecimal.
+    /// A word is not hexadecimal.
     BadHex,
-    /// The bytes of which a document is asked for are none.
+    /// The bytes for a command on a checked document are not one.
     NoDocument,
-    /// The library refused.
+    /// A call of the library returned this error.
     Call(Error),
 }
 
 impl Refusal {
-    /// The word behind `error`.
+    /// The word after `error`.
     pub fn name(&self) -> &'static str {
         match self {
             Refusal::BadCommand => "BadCommand",

@@ -1,4 +1,4 @@
-//! Walks over the children of an array or object, to their end and one step beyond.
+//! Iterating over the children of an array or object, to the end and one step beyond.
 
 use crate::items::item_text;
 use crate::line::{decode_hex, plain_word};
@@ -9,7 +9,7 @@ use jsonb::{
 };
 use std::alloc::Global;
 
-/// The items of an array.
+/// Replies with the items of an array.
 pub fn array(alloc: Global, word: &[u8]) -> Result<String, Refusal> {
     let bytes = decode_hex(alloc, word)?;
     let Some(mut items) = ArrayIterator::new(RawJsonb::new(&bytes))? else {
@@ -22,7 +22,7 @@ pub fn array(alloc: Global, word: &[u8]) -> Result<String, Refusal> {
     tail(alloc, &text, items.len(), items.next().is_some())
 }
 
-/// The keys of an object.
+/// Replies with the keys of an object.
 pub fn keys(alloc: Global, word: &[u8]) -> Result<String, Refusal> {
     let bytes = decode_hex(alloc, word)?;
     let Some(mut keys) = ObjectKeyIterator::new(RawJsonb::new(&bytes))? else {
@@ -35,7 +35,7 @@ pub fn keys(alloc: Global, word: &[u8]) -> Result<String, Refusal> {
     tail(alloc, &text, keys.len(), keys.next().is_some())
 }
 
-/// The values of an object.
+/// Replies with the values of an object.
 pub fn values(alloc: Global, word: &[u8]) -> Result<String, Refusal> {
     let bytes = decode_hex(alloc, word)?;
     let Some(mut values) = ObjectValueIterator::new(RawJsonb::new(&bytes))? else {
@@ -48,7 +48,7 @@ pub fn values(alloc: Global, word: &[u8]) -> Result<String, Refusal> {
     tail(alloc, &text, values.len(), values.next().is_some())
 }
 
-/// The pairs of an object.
+/// Replies with the pairs of an object.
 pub fn pairs(alloc: Global, word: &[u8]) -> Result<String, Refusal> {
     let bytes = decode_hex(alloc, word)?;
     let Some(mut pairs) = ObjectIterator::new(RawJsonb::new(&bytes))? else {
@@ -61,12 +61,12 @@ pub fn pairs(alloc: Global, word: &[u8]) -> Result<String, Refusal> {
     tail(alloc, &text, pairs.len(), pairs.next().is_some())
 }
 
-// How many children there are.
+// The number of children.
 fn head(alloc: Global, len: usize) -> Result<String, Refusal> {
     Ok(format!(in alloc; "len {len}")?)
 }
 
-// What a walk gave: an item, or why it ended.
+// Appends what an iterator yielded: an item, or the error that ended it.
 fn push_item(
     alloc: Global,
     text: &mut String,
@@ -78,7 +78,7 @@ fn push_item(
     }
 }
 
-// What a walk gave: a key with its value, or why it ended.
+// Appends what an iterator yielded: a key with its value, or the error that ended it.
 fn push_pair(
     alloc: Global,
     text: &mut String,
@@ -107,7 +107,7 @@ fn push_part(text: &mut String, part: &str) -> Result<(), Refusal> {
     Ok(())
 }
 
-// The length behind the end, and whether the walk goes on from there.
+// Appends the length after the end, and whether the iterator yields again after it.
 fn tail(alloc: Global, text: &str, len: usize, again: bool) -> Result<String, Refusal> {
     let again = if again { " again" } else { "" };
     Ok(format!(in alloc; "{text} | end {len}{again}")?)

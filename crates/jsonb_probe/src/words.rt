@@ -1,11 +1,11 @@
-//! Single words of bytes, at any place.
+//! Single words of bytes, at any index.
 
 use crate::line::{decode_hex, number_in};
 use crate::refusal::Refusal;
 use jsonb::{Reads, read_header, read_jentry};
 use std::alloc::Global;
 
-/// The header at a place.
+/// Replies with the header at an index.
 pub fn header(alloc: Global, word: &[u8], index: &[u8]) -> Result<String, Refusal> {
     let index = number_in(index)?;
     let bytes = decode_hex(alloc, word)?;
@@ -13,7 +13,7 @@ pub fn header(alloc: Global, word: &[u8], index: &[u8]) -> Result<String, Refusa
     Ok(format!(in alloc; "ok {kind:08x} {count}")?)
 }
 
-/// The entry at a place, and the word that it is written as.
+/// Replies with the entry at an index, and the word that it is encoded as.
 pub fn jentry(alloc: Global, word: &[u8], index: &[u8]) -> Result<String, Refusal> {
     let index = number_in(index)?;
     let bytes = decode_hex(alloc, word)?;
@@ -22,7 +22,7 @@ pub fn jentry(alloc: Global, word: &[u8], index: &[u8]) -> Result<String, Refusa
     Ok(format!(in alloc; "ok {kind:08x} {length} {encoded:08x}")?)
 }
 
-/// The word at a place, and the count of reads behind it.
+/// Replies with the word at an index, and the number of words read.
 pub fn word(alloc: Global, word: &[u8], index: &[u8]) -> Result<String, Refusal> {
     let index = number_in(index)?;
     let bytes = decode_hex(alloc, word)?;

@@ -1,4 +1,4 @@
-// What the builders build of items that are given by value, and of documents too long for an entry.
+// The results of building from items given by value, and from documents too long for an entry.
 use jsonb::{
     ArrayBuilder, ArrayDistinctBuilder, Decimal64, Error, JsonbItem, Number, NumberItem,
     OwnedJsonb, RawJsonb,
@@ -8,19 +8,20 @@ use std::borrow::CowStr;
 use std::str;
 use std::test::Fail;
 
-// How long the text of the largest rows is.
+// The length of the text in the largest rows.
 const MEBIBYTES_16: usize = 16_777_216;
 
-// The document of the number 5, and the array of it.
+// The document of the number 5.
 const FIVE: &[u8] = &[0x20, 0, 0, 0, 0x20, 0, 0, 2, 0x50, 5];
 
+// The document of the array [5].
 const ARRAY_OF_FIVE: &[u8] = &[0x80, 0, 0, 1, 0x20, 0, 0, 2, 0x50, 5];
 
 fn by_value<'a>(number: Number) -> JsonbItem<'a> {
     JsonbItem::Number(NumberItem::from_number(number))
 }
 
-// What an array builder builds of one item.
+// The array of one item.
 fn array_of(alloc: Global, item: JsonbItem) -> Result<OwnedJsonb, Error> {
     let mut builder = ArrayBuilder::new(alloc);
     builder.push_jsonb_item(item)?;
@@ -55,7 +56,7 @@ fn five_twice(alloc: Global) -> Result<ArrayDistinctBuilder<'static>, Error> {
     Ok(builder)
 }
 
-// Whether the number is found by one pop in each of two forms, and by no third.
+// Whether the number is popped twice, in two forms, and not a third time.
 fn is_popped_twice(builder: &mut ArrayDistinctBuilder) -> bool {
     let first = builder.pop_jsonb_item(by_value(Number::Int64(5)));
     let second = builder.pop_raw_jsonb(RawJsonb::new(FIVE));
@@ -71,7 +72,7 @@ fn the_first_of_equal_items(rt: HostRuntime) -> Result<(), Fail> {
     Ok(())
 }
 
-// The array that borrows one text so many times.
+// The array that borrows one text `count` times.
 fn borrowings(alloc: Global, text: &str, count: usize) -> Result<OwnedJsonb, Error> {
     let mut builder = ArrayBuilder::new(alloc);
     for _ in 0..count {
@@ -80,7 +81,7 @@ fn borrowings(alloc: Global, text: &str, count: usize) -> Result<OwnedJsonb, Err
     builder.build()
 }
 
-// How long the array is that holds such an array.
+// The length of the array that holds this array.
 fn outer_length(alloc: Global, array: OwnedJsonb) -> Result<usize, Error> {
     let outer = OwnedJsonb::build_array(alloc, [array.as_raw()])?;
     Ok(outer.len())

@@ -1,4 +1,4 @@
-// The constants of the format, and the entries that are made.
+// The constants of the format, and making entries.
 use jsonb_codec::{JEntry, constants};
 use std::process::Abort;
 use std::test::Fail;
@@ -50,7 +50,7 @@ fn constants_are_those_of_the_format(rt: HostRuntime) -> Result<(), Fail> {
     Ok(())
 }
 
-// The word of an entry, and the entry in it.
+// Asserts that the entry is encoded as this word, and decoded from it.
 fn assert_entry(rt: &impl Abort, made: JEntry, word: u32) {
     assert_eq!(rt; made.encoded(), word);
     assert!(rt; JEntry::decode_jentry(word) == made);

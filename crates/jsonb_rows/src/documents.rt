@@ -1,4 +1,4 @@
-// Known documents, and what the tests share.
+// Known documents, and functions that the tests share.
 ghost use Rattle.std.specs.Prelude.{◌≡◌, Err, IfOk};
 ghost use Rattle.jsonb_value.specs.Value.{tree_of};
 ghost use Rattle.jsonb_codec.specs.Canon.{canon, Fits};
@@ -9,7 +9,7 @@ use std::alloc::Global;
 use std::fmt;
 use std::test::Fail;
 
-/// Documents that both readers take.
+/// Documents that both readers accept.
 pub const DOCUMENTS: &[&str] = &[
     "800000023000000040000000",
     "8000000330000000200000025000000e500a400000011000000110000001 6b76",
@@ -58,7 +58,7 @@ pub const DOCUMENTS: &[&str] = &[
     "40000001 10000000 00000000",
 ];
 
-/// The bytes of a hexadecimal text, in which spaces are passed over.
+/// The bytes of a hexadecimal text, in which spaces are ignored.
 pub fn bytes_of(alloc: Global, text: &str) -> Result<Vec<u8>, Fail> {
     let mut digits = String::new(alloc);
     for digit in text.chars() {
@@ -69,7 +69,8 @@ pub fn bytes_of(alloc: Global, text: &str) -> Result<Vec<u8>, Fail> {
     Ok(hex::decode(alloc, digits.as_str())?)
 }
 
-/// The canonical document of a value: what a caller knows of its buffer once the encoder is gone.
+/// The canonical document of a value, with what a caller knows of its buffer once the encoder is
+/// dropped.
 pub fn encoded(alloc: Global, value: &Value) -> Result<Vec<u8>, Error>
     ensures ok { IfOk result (λ bytes. bytes.items ≡ canon (tree_of value.now)) }
     ensures past { (Fits (tree_of value.now) → ⊥) → result ≡ Err Error.InvalidJsonb }
@@ -79,17 +80,17 @@ pub fn encoded(alloc: Global, value: &Value) -> Result<Vec<u8>, Error>
     Ok(bytes)
 }
 
-/// What the tree reader makes of the bytes, encoded again.
+/// The value of the tree reader, encoded again.
 pub fn read_as_tree(alloc: Global, bytes: &[u8]) -> Result<Vec<u8>, Error> {
     encoded(alloc, &value_of(alloc, bytes)?)
 }
 
-/// What the decoder makes of the bytes, encoded again.
+/// The value of the decoder, encoded again.
 pub fn decode_again(alloc: Global, bytes: &[u8]) -> Result<Vec<u8>, Error> {
     encoded(alloc, &Decoder::new(bytes).decode(alloc)?)
 }
 
-/// So many arrays inside one another, the innermost empty.
+/// `levels` nested arrays, the innermost empty.
 pub fn nested(alloc: Global, levels: u32) -> Result<Vec<u8>, Fail> {
     let mut bytes = Vec::new(alloc);
     for level in 1..levels {
@@ -101,7 +102,7 @@ pub fn nested(alloc: Global, levels: u32) -> Result<Vec<u8>, Fail> {
     Ok(bytes)
 }
 
-/// A writer that takes so many bytes, and refuses a piece that is too long for what is left.
+/// A writer that accepts `room` bytes, and refuses a piece that is longer than what is left.
 #[derive(Drop)]
 pub struct Narrow {
     pub text: String,

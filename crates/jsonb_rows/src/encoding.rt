@@ -1,5 +1,5 @@
-// Encodings at the limits of the format, one behind another, and of lists of pairs.
-use jsonb::{Encoder, Error, JsonAst, JsonAstEncoder, Value};
+// Encodings at the limits of the format, several in one buffer, and of lists of pairs.
+use jsonb::{Encoder, Error, JsonAst, JsonAstEncoder, Value, parse_value};
 use std::alloc::{AllocError, Global};
 use std::borrow::CowStr;
 use std::str;
@@ -7,7 +7,7 @@ use std::test::Fail;
 
 const MEBIBYTES_16: usize = 16_777_216;
 
-// An array that borrows one text so many times.
+// An array that borrows one text `count` times.
 fn borrowings<'a>(alloc: Global, text: &'a str, count: usize) -> Result<Value<'a>, Error> {
     let mut items = Vec::new(alloc);
     for _ in 0..count {
@@ -16,7 +16,7 @@ fn borrowings<'a>(alloc: Global, text: &'a str, count: usize) -> Result<Value<'a
     Ok(Value::Array(items))
 }
 
-// The length of the document of that many of the bytes as binary data.
+// The length of the document of the first `count` bytes as binary data.
 fn binary_length(bytes: &[u8], count: usize) -> Option<Result<usize, Error>> {
     let binary = Value::Binary(bytes.get(..count)?);
     Some(Encoder::measure(&binary))
@@ -25,7 +25,7 @@ fn binary_length(bytes: &[u8], count: usize) -> Option<Result<usize, Error>> {
 #[test]
 fn limit_of_binary_data(rt: HostRuntime) -> Result<(), Fail> {
     let letters = vec![in rt.alloc(); b'a'; 268_435_455]?;
-    // Behind the tag of a binary value one byte less has room than a payload holds.
+    // The tag of a binary value leaves room for one byte less than a payload can have.
     let refusal = Some(Err(Error::InvalidJsonb));
     assert!(rt; binary_length(&letters, 268_435_455) == refusal);
     assert!(rt; binary_length(&letters, 268_435_454) == Some(Ok(268_435_463)));
@@ -44,7 +44,7 @@ fn limit_of_an_outer_array(rt: HostRuntime) -> Result<(), Fail> {
     Ok(())
 }
 
-// An array that holds the array that borrows one text so many times.
+// An array with an array that borrows one text `count` times.
 fn nested<'a>(alloc: Global, text: &'a str, count: usize) -> Result<Value<'a>, Error> {
     let inner = borrowings(alloc, text, count)?;
     Ok(Value::Array(vec![in alloc; inner]?))
@@ -67,7 +67,7 @@ fn limit_of_an_inner_array(rt: HostRuntime) -> Result<(), Fail> {
     Ok(())
 }
 
-// Null, and behind it true, behind a byte that was there.
+// A byte that was in the buffer, followed by null and true.
 const NULL_AND_TRUE: &[u8] = b"\xaa\x20\0\0\0\0\0\0\0\x20\0\0\0\x40\0\0\0";
 
 #[test]
@@ -89,7 +89,7 @@ fn pairs_of<'a>(alloc: Global, first: &'a str, second: &'a str) -> Result<JsonAs
     Ok(JsonAst::Object(Vec::from_array(alloc, pairs)?))
 }
 
-// Whether the keys of such an object ascend, and those of an array that holds it.
+// Whether the keys of the object of two pairs ascend, and those of an array that holds it.
 fn ascending(alloc: Global, first: &str, second: &str) -> Result<(bool, bool), AllocError> {
     let value = pairs_of(alloc, first, second)?;
     let alone = value.has_ascending_keys();
@@ -116,5 +116,12 @@ fn pairs_in_lists(rt: HostRuntime) -> Result<(), Fail> {
     let mut buf = Vec::new(rt.alloc());
     JsonAstEncoder::new(&mut buf).encode(&value)?;
     assert!(rt; buf.as_slice() == TWO_PAIRS);
+    Ok(())
+}
+
+#[test]
+fn a_small_tree_is_measured(rt: HostRuntime) -> Result<(), Fail> {
+    let value = parse_value(rt.alloc(), "[false,10,{\"k\":\"v\"}]")?;
+    assert!(rt; Encoder::measure(&value) == Ok(32));
     Ok(())
 }

@@ -1,8 +1,8 @@
-// Names of errors.
+// The names of errors.
 use jsonb::Error;
 use std::test::Fail;
 
-// Errors, and their names.
+// Errors with their names.
 const NAMES: &[(Error, &str)] = &[
     (Error::InvalidEOF, "InvalidEOF"),
     (Error::InvalidJsonb, "InvalidJsonb"),

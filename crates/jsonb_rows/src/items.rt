@@ -1,4 +1,4 @@
-// Items that are given by value, their copies, and what is seen of an item.
+// Items given by value, their copies, and the views of an item.
 use jsonb::{
     Error, ExtensionItem, ExtensionValue, JsonbItem, JsonbItemType, Number, NumberItem, OwnedJsonb,
     RawJsonb,
@@ -11,7 +11,7 @@ use std::test::Fail;
 // The object {"a":1}.
 const OBJECT: &[u8] = b"\x40\0\0\x01\x10\0\0\x01\x20\0\0\x02a\x50\x01";
 
-// Ends a test in which an item, a copy of it or its document is stored as other bytes.
+// Asserts that an item, a copy of it and its document are stored as these bytes.
 fn assert_stored(
     rt: &impl Abort,
     alloc: Global,

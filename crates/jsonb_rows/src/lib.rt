@@ -1,10 +1,11 @@
-//! The tests of the library that are no lines of a program: what is left where memory is refused,
-//! and which calls take none; laws over pairs and triples of documents; limits of the format;
-//! writers that refuse; closures; and what is borrowed. The lines stand in `tests/lines`.
+//! The tests of the library that are not lines of a program: what remains after a failed
+//! allocation, and which calls allocate nothing; laws over pairs and triples of documents; limits
+//! of the format; writers that fail; closures; and what is borrowed. The tests by lines are in
+//! `tests/lines`.
 //!
-//! The proof of a test grows faster than its body, by each call that can fail and each value that
-//! is let go: a table is one constant, and a function that is given a row, or makes one value,
-//! holds what the rows share.
+//! Proving a test costs more than in proportion to its body, for each call that can fail and each
+//! value that is dropped. So a table is one constant, and a function that takes a row, or builds
+//! one value, has what the rows share.
 #![tactic(auto)]
 
 #[cfg(test)]

@@ -1,4 +1,4 @@
-//! The plain look-up beside the counted one, and a closure that accepts all keys.
+//! The plain look-up compared with the counted one, and a closure that accepts all keys.
 
 ghost use Rattle.std.specs.Prelude.{length, option_map, IsOkAnd, nat_eq};
 ghost use Rattle.std.specs.Cmp.Lexicographic.{pointwise};
@@ -15,10 +15,10 @@ use std::test::Fail;
 const OBJECT: &[u8] = b"\x40\0\0\x02\x10\0\0\x02\x10\0\0\x02\x20\0\0\x02\x50\0\0\x0a\
     aaab\x50\x01\x80\0\0\x01\x20\0\0\x02\x50\x02";
 
-// Its keys, and names that it does not have.
+// The keys of `OBJECT`, and names that it does not have.
 const NAMES: &[&str] = &["aa", "ab", "zz", "a", ""];
 
-// A plain find, as its caller knows it.
+// A plain find, with what its caller knows.
 fn find_by_name<'a>(raw: RawJsonb<'a>, name: &str) -> Result<Option<JsonbItem<'a>>, Error>
     ensures { (t : Tree) → Doc (raw_bytes raw.entry) t
         → IsOkAnd result
@@ -28,7 +28,7 @@ fn find_by_name<'a>(raw: RawJsonb<'a>, name: &str) -> Result<Option<JsonbItem<'a
     raw.get_object_value_by_key_name(name, |wanted, key| wanted == key)
 }
 
-// Whether it answers as the counted look-up does.
+// Whether it has the result of the counted look-up.
 fn is_found_alike(raw: RawJsonb, name: &str) -> bool {
     let mut reads = Reads::new();
     let counted = raw.get_object_value_by_key_name_counted(
@@ -66,7 +66,7 @@ fn changed_bytes(rt: HostRuntime) -> Result<(), Fail> {
     Ok(())
 }
 
-// The first value whose key has the length of the name: the closure accepts all it is asked about.
+// The first value whose key has the length of the name: the closure accepts every key.
 fn first_of_length<'a>(raw: RawJsonb<'a>, name: &str) -> Result<Option<JsonbItem<'a>>, Error> {
     raw.get_object_value_by_key_name(name, |_, _| true)
 }

@@ -1,6 +1,6 @@
-// What each call that takes memory leaves behind where a request is refused. A test ends in the
-// right answer, or hands on the error once it has seen what the refusal left: tools/refuse_each.py
-// runs it with each of its requests refused in turn.
+// What each allocating call leaves after a failed allocation. A test ends with the right result, or
+// passes on the error once it has examined what the failure left; tools/refuse_each.py runs it with
+// each of its allocations failing in turn.
 use crate::documents::{decode_again, encoded, read_as_tree};
 use jsonb::{
     ArrayBuilder, ArrayDistinctBuilder, Date, Decimal64, Decoder, Encoder, Error, ExtensionValue,
@@ -23,15 +23,16 @@ const PRETTY: &str = "[\n  false,\n  10,\n  {\n    \"k\": \"v\"\n  }\n]";
 const DOCUMENT: &[u8] = b"\x80\0\0\x03\x30\0\0\0\x20\0\0\x02\x50\0\0\x0e\x50\x0a\
     \x40\0\0\x01\x10\0\0\x01\x10\0\0\x01kv";
 
-// The object in that array.
+// The object {"k":"v"}.
 const PAIR: &[u8] = b"\x40\0\0\x01\x10\0\0\x01\x10\0\0\x01kv";
 
-// The number 5, and the string "x".
+// The document of the number 5.
 const FIVE: &[u8] = b"\x20\0\0\0\x20\0\0\x02\x50\x05";
 
+// The document of the string "x".
 const X: &[u8] = b"\x20\0\0\0\x10\0\0\x01x";
 
-// The array of both.
+// The array [5,"x"].
 const FIVE_AND_X: &[u8] = b"\x80\0\0\x02\x20\0\0\x02\x10\0\0\x01\x50\x05x";
 
 // Zero in its older form.
@@ -39,7 +40,7 @@ const OLD_ZERO: &[u8] = b"\x20\0\0\0\x20\0\0\x02\x40\0";
 
 const ZERO: &[u8] = b"\x20\0\0\0\x20\0\0\x01\0";
 
-// Ends a test by the error of a call that was made again since.
+// Ends a test with the error of a call that was repeated since.
 fn hand_on(refusal: Option<Error>) -> Result<(), Error> {
     match refusal {
         Some(error) => Err(error),
@@ -59,7 +60,7 @@ fn documents_are_decoded(rt: HostRuntime) -> Result<(), Fail> {
     Ok(())
 }
 
-// What a decoder that was refused answers when it is asked again.
+// The result of a decoder that is called again after an error.
 fn decoded_again(alloc: Global, decoder: Decoder) -> Result<Vec<u8>, Error> {
     let mut decoder = decoder;
     encoded(alloc, &decoder.decode(alloc)?)
@@ -100,7 +101,7 @@ fn texts_are_written(rt: HostRuntime) -> Result<(), Fail> {
     Ok(())
 }
 
-// A refused growth of the string is a write that is refused in mid-text.
+// A failed growth of the string is a write that fails in the middle of the text.
 #[test]
 fn display_hands_on_a_refused_write(rt: HostRuntime) -> Result<(), Fail> {
     let owned = OwnedJsonb::from_bytes(rt.alloc(), DOCUMENT)?;
@@ -132,7 +133,7 @@ fn owned_document(alloc: Global) -> Result<JsonbItem<'static>, Error> {
     Ok(JsonbItem::Owned(OwnedJsonb::from_bytes(alloc, DOCUMENT)?))
 }
 
-// Ends a test in which an item's copy, or its document, is another.
+// Asserts that an item's copy equals it, and that its document has these bytes.
 fn assert_item(rt: &impl Abort, alloc: Global, item: JsonbItem, bytes: &[u8]) -> Result<(), Error> {
     assert!(rt; item.clone(alloc)? == item);
     assert!(rt; OwnedJsonb::from_item(alloc, item)?.as_bytes() == bytes);
@@ -189,7 +190,9 @@ fn a_document_is_asked(rt: HostRuntime) -> Result<(), Fail> {
     let mut bytes = Vec::new(rt.alloc());
     let asked = encode_and_ask(rt.alloc(), &value, "k", RawJsonb::new(FIVE), &mut bytes)?;
     assert!(rt; asked.text.as_str() == TEXT && asked.pretty.as_str() == PRETTY);
-    assert!(rt; asked.order == Some(Ordering::Greater));
+    assert!(rt;
+        asked.document_order == Some(Ordering::Greater) && asked.order == Ordering::Greater
+    );
     assert!(rt; asked.items.map(|items| items.len()) == Some(3));
     assert!(rt; asked.keys.is_none() && asked.values.is_none());
     assert!(rt; asked.pairs.is_none() && asked.found.is_none());
@@ -232,7 +235,7 @@ impl Piece {
     }
 }
 
-// Ends a test in which a refusal leaves the buffer another, or other bytes than these are appended.
+// Asserts that a failure leaves the buffer unchanged, and that otherwise these bytes are appended.
 fn assert_appended(
     rt: &impl Abort,
     alloc: Global,
@@ -276,7 +279,7 @@ fn an_encoder_leaves_its_buffer(rt: HostRuntime) -> Result<(), Fail> {
     Ok(assert_appended(&rt, rt.alloc(), Piece::Value(value), DOCUMENT)?)
 }
 
-// The same array as a parser leaves it.
+// The array of the text as a parsed list of pairs.
 fn ast(alloc: Global) -> Result<JsonAst<'static>, Error> {
     let text = JsonAst::String(CowStr::Borrowed("v"));
     let pairs = vec![in alloc; (CowStr::Borrowed("k"), text, 0)]?;
@@ -296,7 +299,7 @@ fn a_canonical_form_leaves_its_buffer(rt: HostRuntime) -> Result<(), Fail> {
     Ok(assert_appended(&rt, rt.alloc(), Piece::OldDocument(OLD_ZERO), ZERO)?)
 }
 
-// How the string "x" is given to a builder.
+// The form in which the string "x" is given to a builder.
 #[derive(Clone, Copy)]
 enum As {
     Item,
@@ -312,7 +315,7 @@ fn push_to_array(alloc: Global, builder: &mut ArrayBuilder, x: As) -> Result<(),
     }
 }
 
-// Ends a test in which a refused push leaves a builder, whose list was full, another.
+// Asserts that a failed push leaves a builder unchanged whose list was full.
 fn assert_array(rt: &impl Abort, alloc: Global, x: As) -> Result<(), Error> {
     let mut builder = ArrayBuilder::with_capacity(alloc, 1)?;
     builder.push_raw_jsonb(RawJsonb::new(FIVE))?;
@@ -339,7 +342,7 @@ fn an_array_builder_is_as_before_a_document(rt: HostRuntime) -> Result<(), Fail>
     Ok(assert_array(&rt, rt.alloc(), As::Owned)?)
 }
 
-// More pairs than have room at one place of a map.
+// More pairs than fit one leaf of a map.
 const KEYS: &[&str] = &[
     "a", "b", "c", "d", "e", "f", "g", "h", "i", "j", "k", "l", "m", "n", "o", "p",
 ];
@@ -361,7 +364,7 @@ fn push_to_object<'a>(
     }
 }
 
-// Ends a test in which a refused push leaves a builder another.
+// Asserts that a failed push leaves a builder unchanged.
 fn assert_object(rt: &impl Abort, alloc: Global, x: As) -> Result<(), Error> {
     let mut builder = ObjectBuilder::new(alloc);
     let mut refusal = None;
@@ -399,7 +402,7 @@ fn push_to_set(alloc: Global, builder: &mut ArrayDistinctBuilder, x: As) -> Resu
     }
 }
 
-// Ends a test in which a refused push leaves a builder another, or the next one is not taken.
+// Asserts that a failed push leaves a builder unchanged, and that the next one succeeds.
 fn assert_set(rt: &impl Abort, alloc: Global, x: As) -> Result<(), Error> {
     let mut builder = ArrayDistinctBuilder::new(alloc, 1)?;
     builder.push_raw_jsonb(RawJsonb::new(FIVE))?;
@@ -425,27 +428,28 @@ fn a_distinct_builder_takes_a_second_push_of_bytes(rt: HostRuntime) -> Result<()
     Ok(assert_set(&rt, rt.alloc(), As::Raw)?)
 }
 
-// No document, and a document with a byte behind it.
+// Bytes that are not a document.
 const OTHER: &[u8] = &[1, 2, 3, 4];
 
+// A document followed by another byte.
 const TOO_LONG: &[u8] = b"\x20\0\0\0\x20\0\0\x01\0\xff";
 
-// Why an array of these bytes is refused.
+// The error of building an array of these bytes.
 fn array_refusal(alloc: Global, bytes: &[u8]) -> Result<Option<Error>, Error> {
     let mut builder = ArrayBuilder::with_capacity(alloc, 1)?;
     builder.push_raw_jsonb(RawJsonb::new(bytes))?;
     Ok(builder.build().err())
 }
 
-// Why an object of these bytes is refused.
+// The error of building an object of these bytes.
 fn object_refusal(alloc: Global, bytes: &[u8]) -> Result<Option<Error>, Error> {
     let mut builder = ObjectBuilder::new(alloc);
     builder.push_owned_jsonb("k", OwnedJsonb::from_bytes(alloc, bytes)?)?;
     Ok(builder.build().err())
 }
 
-// A value past a limit of the format is refused as such before memory is asked for: were it asked
-// for, a run in which it is refused would end in another error.
+// A value beyond a limit of the format is refused before any allocation: otherwise a run with that
+// allocation failing would end in another error.
 #[test]
 fn limits_come_before_memory(rt: HostRuntime) -> Result<(), Fail> {
     let refusal = Some(Error::InvalidJsonb);
@@ -457,7 +461,8 @@ fn limits_come_before_memory(rt: HostRuntime) -> Result<(), Fail> {
     Ok(())
 }
 
-// These two differ by one encoding, whose requests are counted so: there is one at most.
+// These two tests differ by one encoding, so that its allocations are counted: there is at most
+// one.
 #[test]
 fn counted_without_an_encoding(rt: HostRuntime) -> Result<(), Fail> {
     parse_value(rt.alloc(), TEXT)?;

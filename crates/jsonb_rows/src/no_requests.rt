@@ -1,4 +1,4 @@
-// Calls that take no memory: tools/refuse_each.py sees that these tests make no request for any.
+// Calls that allocate nothing: tools/refuse_each.py checks that these tests make no allocation.
 use jsonb::{
     ArrayIterator, Encoder, Error, ExtensionItem, JsonbItem, JsonbItemType, Number, NumberItem,
     ObjectIterator, ObjectKeyIterator, ObjectValueIterator, RawJsonb, Reads, Value, is_canonical,
@@ -20,7 +20,7 @@ fn is_number(item: &JsonbItem, value: u64) -> bool {
     matches!(item, JsonbItem::Number(number) if number.as_number() == Number::UInt64(value))
 }
 
-// Whether an item borrows a text.
+// Whether an item borrows this text.
 fn is_string(item: &JsonbItem, content: &str) -> bool {
     matches!(item, JsonbItem::String(CowStr::Borrowed(text)) if *text == content)
 }

@@ -1,4 +1,4 @@
-// Worked answers of the order, on documents and on other bytes.
+// Worked results of the order, on documents and on other bytes.
 use crate::documents::bytes_of;
 use jsonb::{
     Decimal64, ExtensionItem, ExtensionValue, JsonbItem, Number, NumberItem, OwnedJsonb, RawJsonb,
@@ -7,10 +7,10 @@ use std::alloc::Global;
 use std::borrow::CowStr;
 use std::test::Fail;
 
-// The first place of bytes that are no document.
+// The first rank of bytes that are not a document.
 const NO_DOCUMENT: usize = 50;
 
-// Bytes, each with its place among them: those of one place are equal.
+// Byte strings, each with its rank: those of one rank are equal.
 const ROWS: &[(usize, &str)] = &[
     // Extension values: Binary, Date, Timestamp, TimestampTz twice, Interval.
     (0, "20000000 60000001 00"),
@@ -22,7 +22,7 @@ const ROWS: &[(usize, &str)] = &[
     (5, "20000000 60000011 40 00000001 00000000 0000000000000000"),
     (6, "20000000 30000000"),
     (7, "20000000 40000000"),
-    // Numbers: -1, below 0 by little, 0 twice, above 0 by little, 1, 5 three times, the greatest.
+    // Numbers: -1, slightly below 0, 0 twice, slightly above 0, 1, 5 three times, the greatest.
     (8, "20000000 20000002 40ff"),
     (
         9,
@@ -79,7 +79,7 @@ const ROWS: &[(usize, &str)] = &[
     (40, "80000001 50000009 80000001 20000001 00"),
     (41, "80000001 00000000"),
     (42, "20000000 00000000"),
-    // No documents, by their bytes.
+    // Bytes that are not a document, by their bytes.
     (50, ""),
     (51, "00"),
     (52, "00000000"),
@@ -92,7 +92,7 @@ const ROWS: &[(usize, &str)] = &[
     (59, "9fffffff"),
 ];
 
-// The bytes of the table, with their places.
+// The byte strings of the table, with their ranks.
 fn rows(alloc: Global) -> Result<Vec<(usize, OwnedJsonb)>, Fail> {
     let mut values = Vec::new(alloc);
     for &(place, text) in ROWS {
@@ -101,7 +101,7 @@ fn rows(alloc: Global) -> Result<Vec<(usize, OwnedJsonb)>, Fail> {
     Ok(values)
 }
 
-// Whether documents are in the order of their places.
+// Whether owned bytes compare as their ranks.
 fn are_in_order(left: &(usize, OwnedJsonb), right: &(usize, OwnedJsonb)) -> bool {
     let order = left.0.cmp(&right.0);
     left.1.cmp(&right.1) == order
@@ -120,7 +120,7 @@ fn by_places(rt: HostRuntime) -> Result<(), Fail> {
     Ok(())
 }
 
-// The same of views of them, and of documents alone by the order that tells these.
+// Whether borrowed bytes compare as their ranks, and documents do so by `try_cmp` too.
 fn are_views_in_order(left: &(usize, OwnedJsonb), right: &(usize, OwnedJsonb)) -> bool {
     let order = left.0.cmp(&right.0);
     let are_documents = left.0 < NO_DOCUMENT && right.0 < NO_DOCUMENT;
@@ -147,7 +147,7 @@ fn views_by_places(rt: HostRuntime) -> Result<(), Fail> {
     Ok(())
 }
 
-// The same of an item that holds all bytes and one that was read.
+// Whether an item that holds all bytes and one that was read compare as their ranks.
 fn are_items_in_order(left: &(usize, OwnedJsonb), right: &(usize, OwnedJsonb)) -> bool {
     let order = left.0.cmp(&right.0);
     let whole = JsonbItem::Raw(left.1.as_raw());
@@ -173,8 +173,7 @@ fn items_by_places(rt: HostRuntime) -> Result<(), Fail> {
     Ok(())
 }
 
-// Each pair is the same from both sides, and what is not above another is not above what that is
-// not above.
+// Each pair compares consistently from both sides, and the order is transitive.
 #[test]
 fn triples(rt: HostRuntime) -> Result<(), Fail> {
     let values = rows(rt.alloc())?;
@@ -193,8 +192,8 @@ fn triples(rt: HostRuntime) -> Result<(), Fail> {
 // The document of the number 5.
 const FIVE: &[u8] = b"\x20\0\0\0\x20\0\0\x02\x50\x05";
 
-// Whether an item equals another, and stands below null and strings and above what is less than
-// numbers.
+// Whether an item equals another, is less than null and strings, and is greater than what is less
+// than numbers.
 fn is_number_like(item: &JsonbItem, other: &JsonbItem) -> bool {
     let bytes = ExtensionItem::from_value(ExtensionValue::Binary(b"bytes"));
     item == other

@@ -1,10 +1,10 @@
-// Texts with line feeds, and what a value that is read keeps of its text.
+// Texts with line feeds, and what a parsed value borrows from its text.
 use crate::documents::bytes_of;
 use jsonb::{Error, Number, OwnedJsonb, Value, parse_value};
 use std::borrow::CowStr;
 use std::test::Fail;
 
-// Texts, and the documents that are made of them.
+// Texts, and the documents that they are parsed into.
 const TEXTS: &[(&str, &str)] = &[
     (" \t\n\rfalse\r\n\t ", "20000000 30000000"),
     ("{ \n}", "40000000"),
@@ -29,7 +29,7 @@ fn no_string_has_a_line_feed(rt: HostRuntime) {
     assert!(rt; matches!(parse_value(rt.alloc(), "\"\n\""), Err(Error::InvalidJson)));
 }
 
-// Texts, and how the values that they mean are shown.
+// Texts, and the `Debug` output of the values that they mean.
 const DEBUG_TEXTS: &[(&str, &str)] = &[
     (" [null,[ true ]] ", "Array([Null, Array([Bool(true)])])"),
     ("{\"a\":1,\"a\":2}", "Object({\"a\": Number(UInt64(2))})"),

@@ -1,5 +1,5 @@
-// The walk over pairs beside its older form, which reads all key entries first and keeps them in a
-// queue.
+// The iteration over pairs compared with its older form, which reads all key entries first and
+// keeps them in a queue.
 use jsonb::{
     Error, ExtensionItem, JEntry, JsonbItem, NumberItem, ObjectIterator, RawJsonb, read_header,
     read_jentry,
@@ -14,14 +14,14 @@ use std::collections::VecDeque;
 use std::str;
 use std::test::Fail;
 
-// How often each walk is asked: past the end of both pairs.
+// The number of calls of each iterator: beyond the end of both pairs.
 const ASKED: usize = 5;
 
 // The object {"aa":1,"ab":[2]}.
 const TWO_PAIRS: &[u8] = b"\x40\0\0\x02\x10\0\0\x02\x10\0\0\x02\x20\0\0\x02\x50\0\0\x0a\
     aaab\x50\x01\x80\0\0\x01\x20\0\0\x02\x50\x02";
 
-// The walk, and where it stands.
+// The older iterator, with its position.
 #[derive(Drop)]
 struct QueuedPairs<'a> {
     bytes: &'a [u8],
@@ -40,7 +40,7 @@ fn text_of(bytes: &[u8]) -> Result<&str, Error> {
     str::from_utf8(bytes).map_err(|_| Error::InvalidUtf8)
 }
 
-// What an entry's type makes of its payload.
+// The item of an entry's type and payload.
 fn item_of<'a>(type_code: u32, payload: &'a [u8]) -> Result<JsonbItem<'a>, Error> {
     Ok(match type_code {
         NULL_TAG => JsonbItem::Null,
@@ -106,7 +106,7 @@ impl<'a> QueuedPairs<'a> {
     }
 }
 
-// Whether both walks over the bytes give the same.
+// Whether both iterators yield the same over the bytes.
 fn are_walked_alike(alloc: Global, bytes: &[u8]) -> bool {
     match (
         queued_pairs(alloc, bytes),

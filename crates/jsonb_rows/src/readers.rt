@@ -1,11 +1,11 @@
-// A decoder that is asked again, pairs by their keys, and what old payloads mean.
+// A decoder that is called again, pairs by their keys, and the values of older payloads.
 use jsonb_codec::{Decoder, value_of};
 use jsonb_value::{Decimal128, Error, Number, TimestampTz, Value};
 use std::alloc::Global;
 use std::borrow::CowStr;
 use std::test::Fail;
 
-// What a decoder refuses when it is asked twice.
+// The errors of a decoder that is called twice.
 fn asked_twice(alloc: Global, bytes: &[u8]) -> (Option<Error>, Option<Error>) {
     let mut decoder = Decoder::new(bytes);
     (decoder.decode(alloc).err(), decoder.decode(alloc).err())
@@ -34,7 +34,7 @@ fn pairs_are_read_by_their_keys(rt: HostRuntime) -> Result<(), Fail> {
     Ok(())
 }
 
-// Both zeros and a decimal in its older form, and the numbers that they are.
+// Both zeros and a decimal in its older form, and the numbers that they mean.
 const NUMBERS: &[(&[u8], Number)] = &[
     (b"\x20\0\0\0\x20\0\0\x02\x40\0", Number::Int64(0)),
     (b"\x20\0\0\0\x20\0\0\x01\0", Number::UInt64(0)),
@@ -56,7 +56,7 @@ fn old_numbers_keep_their_kind(rt: HostRuntime) -> Result<(), Fail> {
     Ok(())
 }
 
-// A point in time in its older form, eight hours from the zero of time zones.
+// A timestamp in its older form, with an offset of eight hours.
 const TIME: &[u8] = b"\x20\0\0\0\x60\0\0\x0a\x30\x00\x06\x40\xd6\xb7\x23\x80\x00\x08";
 
 #[test]

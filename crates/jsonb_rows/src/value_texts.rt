@@ -1,5 +1,4 @@
-// Texts of numbers, strings and extension values before a writer that refuses, and under width and
-// fill.
+// Texts of numbers, strings and extension values with a writer that fails, and with width and fill.
 use crate::documents::Narrow;
 use jsonb::{
     Decimal64, ExtensionValue, Interval, Number, Opaque, extension_text, write_number, write_string,
@@ -13,7 +12,7 @@ fn with_room(alloc: Global, room: usize) -> fmt::Formatter<Narrow> {
     fmt::Formatter::new(Narrow { text, room })
 }
 
-// Whether a writer that had so much room took the whole text, or else some beginning of it.
+// Whether a writer with this much room accepted the whole text, or otherwise some prefix of it.
 fn is_taken(f: fmt::Formatter<Narrow>, answer: fmt::Result, room: usize, text: &str) -> bool {
     let beginning = f.into_inner().text;
     answer.is_ok() == (room >= text.len())

@@ -1,4 +1,4 @@
-//! Puts documents together, without reading them into values.
+//! Builds documents from documents, without decoding them.
 
 ghost use Rattle.std.specs.Prelude.{◌≡◌, ◌⊎◌, codes, IfOk, IfErr};
 ghost use Rattle.jsonb_value.specs.Tree.{Tree, tree, no_trees, pair, no_pairs};
@@ -9,7 +9,8 @@ ghost use Rattle.jsonb.specs.Owned.{owned_bytes};
 use jsonb::{ArrayBuilder, Error, ObjectBuilder, OwnedJsonb, RawJsonb};
 use std::alloc::Global;
 
-/// The array of two documents.
+/// The array of two documents. `InvalidJsonb` if one of them is not a document, or exceeds a limit;
+/// `OutOfMemory` if an allocation fails.
 pub fn array_of_two(alloc: Global, first: &[u8], second: &[u8]) -> Result<OwnedJsonb, Error>
     ensures { (t u : Tree) → Doc first.entry.now t → Doc second.entry.now u
         → IfOk result (λ array. IsArrayUpToZeros (tree t (tree u no_trees)) (owned_bytes array)) }
@@ -20,7 +21,8 @@ pub fn array_of_two(alloc: Global, first: &[u8], second: &[u8]) -> Result<OwnedJ
     builder.build()
 }
 
-/// The object of two documents, at the keys `id` and `body`.
+/// The object of two documents, at the keys `id` and `body`. `InvalidJsonb` if one of them is not a
+/// document, or exceeds a limit; `OutOfMemory` if an allocation fails.
 pub fn row_of(alloc: Global, id: &[u8], body: &[u8]) -> Result<OwnedJsonb, Error>
     ensures ok { (t u : Tree) → Doc id.entry.now t → Doc body.entry.now u
         → IfOk result (λ row. IsObjectUpToZeros

@@ -1,4 +1,4 @@
-//! Compares two documents by what they mean.
+//! Compares two documents by value.
 
 ghost use Rattle.std.specs.Prelude.{◌≡◌, ◌↔◌, IsTrue};
 ghost use Rattle.jsonb_value.specs.Tree.{Tree};
@@ -8,7 +8,7 @@ ghost use Rattle.jsonb_codec.specs.Doc.{Doc};
 use jsonb::RawJsonb;
 use std::cmp::Ordering;
 
-/// Whether two documents are of one value: 5 and 5.0 are, stored in whatever bytes.
+/// Whether two documents have equal values: 5 and 5.0 are equal, however they are stored.
 pub fn is_same_value(left: &[u8], right: &[u8]) -> bool
     ensures { (t u : Tree) → Doc left.now t → Doc right.now u
         → IsTrue result ↔ (tree_cmp t u ≡ Ordering.Equal) }

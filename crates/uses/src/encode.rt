@@ -1,4 +1,4 @@
-//! Stores a value that the program made.
+//! Encodes a value that the program built.
 
 ghost use Rattle.std.specs.Prelude.{◌≡◌, IfOk};
 ghost use Rattle.jsonb_value.specs.declared.number.Number.TheVariants.{Int64};
@@ -8,7 +8,7 @@ ghost use Rattle.jsonb_codec.specs.Canon.{canon};
 use jsonb::{Encoder, Error, Number, Value};
 use std::alloc::Global;
 
-/// The document of the point `[x,y]`.
+/// The document of the point `[x,y]`. `OutOfMemory` if an allocation fails.
 pub fn point(alloc: Global, x: i64, y: i64) -> Result<Vec<u8>, Error>
     ensures { IfOk result (λ bytes. bytes.items
         ≡ canon (array (tree (number (Int64 x)) (tree (number (Int64 y)) no_trees)))) }

@@ -1,5 +1,5 @@
-//! Small callers of `jsonb`, one for each main use, and what each of them gets by the contracts of
-//! the library alone.
+//! Small callers of `jsonb`, one for each main use, and what each obtains from the contracts of the
+//! library alone.
 #![tactic(auto)]
 
 mod build;

@@ -1,4 +1,4 @@
-//! Finds the value of a key where the bytes stand.
+//! Finds the value of a key in the bytes.
 
 ghost use Rattle.std.specs.Prelude.{codes, option_map, IsOkAnd};
 ghost use Rattle.jsonb_value.specs.Tree.{Tree};
@@ -10,7 +10,7 @@ ghost use Rattle.jsonb.specs.ItemView.{item_view};
 
 use jsonb::{Error, JsonbItem, RawJsonb};
 
-/// The value of the key `name`, borrowed from the document.
+/// The value of the key `name`, borrowed from the document. On a document there is no error.
 pub fn name_of(row: RawJsonb<'_>) -> Result<Option<JsonbItem<'_>>, Error>
     ensures { (t : Tree) → Doc (raw_bytes row.entry) t
         → IsOkAnd result (λ item. IsItemFound (value_of_key (codes "name") t)

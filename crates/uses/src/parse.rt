@@ -8,7 +8,8 @@ ghost use Rattle.jsonb_codec.specs.Canon.{canon};
 use jsonb::{Error, OwnedJsonb};
 use std::alloc::Global;
 
-/// The bytes to store for a JSON text: the canonical document of what it says.
+/// The canonical document of a JSON text. `InvalidJson` if the text is not accepted JSON,
+/// `InvalidJsonb` if its value exceeds a limit, `OutOfMemory` if an allocation fails.
 pub fn document_of(alloc: Global, text: &str) -> Result<Vec<u8>, Error>
     ensures { IfOk result (λ bytes. (t : Tree) × (Json (chars text.now) t
         × (bytes.items ≡ canon t))) }

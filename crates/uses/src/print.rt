@@ -8,7 +8,8 @@ ghost use Rattle.jsonb_codec.specs.Doc.{Doc};
 use jsonb::{Error, RawJsonb};
 use std::alloc::Global;
 
-/// The text of a document, an item or a pair on each line. `InvalidJsonb` where the bytes are none.
+/// The text of a document, with an item or a pair on each line. `InvalidJsonb` if the bytes are not
+/// a document, `OutOfMemory` if an allocation fails.
 pub fn pretty_text(alloc: Global, bytes: &[u8]) -> Result<String, Error>
     ensures { (t : Tree) → Doc bytes.now t
         → IfOk result (λ text. string_bytes text ≡ pretty t) }

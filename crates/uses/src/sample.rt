@@ -1,4 +1,4 @@
-//! The sample of README.
+//! The sample of the README.
 
 ghost use Rattle.std.specs.Prelude.{◌≡◌, ◌⊎◌, ◌≤◌, length, vec_len, IfOk, IfErr};
 

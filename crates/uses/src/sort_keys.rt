@@ -1,4 +1,4 @@
-//! Sorts a column of bytes, each checked once.
+//! Sorts a column of byte strings, each checked once.
 
 ghost use Rattle.std.specs.Prelude.{◌≡◌, map, IfOk};
 ghost use Rattle.std.specs.List.Sorted.{IsPermutation, IsSorted};
@@ -9,7 +9,8 @@ ghost use Rattle.jsonb.specs.SortKey.{key_bytes, key_meaning};
 use jsonb::{Error, SortKey};
 use std::alloc::Global;
 
-/// The keys of a column in their order: documents by what they mean, and all other bytes behind.
+/// The sorted keys of a column: documents by value, and all other bytes after them. `OutOfMemory`
+/// if an allocation fails.
 pub fn column_order<'a>(alloc: Global, column: &[&'a [u8]]) -> Result<Vec<SortKey<'a>>, Error>
     ensures sorted { IfOk result (λ keys. IsSorted (on key_meaning meaning_cmp) keys.items) }
     ensures all { IfOk result (λ keys. IsPermutation (map (λ b. b.now) column.now)

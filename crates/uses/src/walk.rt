@@ -1,4 +1,4 @@
-//! Walks over an array.
+//! Iterates over an array.
 
 ghost use Rattle.std.specs.Prelude.{IsOkAnd, IsSomeAnd};
 ghost use Rattle.jsonb_value.specs.Tree.{Tree, Trees, array, tree};
@@ -9,7 +9,8 @@ ghost use Rattle.jsonb.specs.DocumentWalk.{IsItemOf};
 
 use jsonb::{ArrayIterator, Error, JsonbItem, RawJsonb};
 
-/// The first item of an array, borrowed from its bytes. `None` of all else.
+/// The first item of an array, borrowed from its bytes. `None` for an empty array and for any other
+/// document.
 pub fn first_item(raw: RawJsonb<'_>) -> Result<Option<JsonbItem<'_>>, Error>
     ensures { (t : Tree) (ts : Trees) → Doc (raw_bytes raw.entry) (array (tree t ts))
         → IsOkAnd result (λ first. IsSomeAnd first (λ item. IsItemOf t (item_view item))) }

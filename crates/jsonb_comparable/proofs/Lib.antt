@@ -1,0 +1,12 @@
+pub mod Comparing
+pub mod Sinks
+pub mod DigitLaws
+pub mod NumberLaws
+pub mod EscapedLaws
+pub mod ExtensionLaws
+pub mod TreeLaws
+pub mod PowerLaws
+pub mod SplitLaws
+pub mod WalkLaws
+pub mod SourceLaws
+pub mod KeyLaws

@@ -1,0 +1,9 @@
+pub mod Sink
+pub mod Sinks
+pub mod Escaped
+pub mod NumberKey
+pub mod SplitDigits
+pub mod ExtensionKey
+pub mod TreeKey
+pub mod Within
+pub mod ComparableKey

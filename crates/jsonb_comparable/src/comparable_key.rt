@@ -1,0 +1,140 @@
+//! Keys that own their bytes.
+
+ghost use Rattle.std.specs.Prelude.{Some, nat_eq, refl};
+ghost use Rattle.std.specs.Cmp.{on_equiv, on_per, on_po, on_total, partial_equiv_from_equiv};
+ghost use Rattle.std.specs.Cmp.Lexicographic.{nat_list_cmp_total, nat_list_eq_equiv, pointwise};
+ghost use Rattle.std.specs.Cmp.Lexicographic.{slice_cmp, texts_po, texts_ties};
+ghost use Rattle.std.specs.Cmp.Rules.{hashing};
+ghost use Rattle.std.specs.Hash as fed;
+ghost use Rattle.std.specs.Ordering.{nat_cmp};
+ghost use Rattle.std.proofs.Common.{rules};
+ghost use Rattle.jsonb_comparable.specs.ComparableKey.{comparable_bytes};
+
+use crate::key::append_source_key;
+use crate::source::Source;
+use jsonb::{Document, Error, RawJsonb};
+use std::alloc::Global;
+use std::cmp::Ordering;
+use std::hash::{Hash, Hasher};
+
+/// The key of a document, or of any bytes, which owns its bytes. Keys are equal, and ordered, as
+/// what they were made of.
+#[derive(Debug, Drop)]
+pub struct ComparableKey {
+    bytes: Vec<u8>,
+}
+
+impl ComparableKey {
+    ghost use Rattle.std.specs.Prelude.{◌≡◌, IfErr, IfOk};
+    ghost use Rattle.jsonb.specs.Document.{document_tree};
+    ghost use Rattle.jsonb.specs.ItemMeaning.{raw_meaning};
+    ghost use Rattle.jsonb.specs.Raw.{raw_bytes};
+    ghost use Rattle.jsonb_comparable.specs.ComparableKey.{comparable_bytes, source_meaning};
+    ghost use Rattle.jsonb_comparable.specs.TreeKey.{meaning_key, tree_key};
+    ghost use Rattle.jsonb_comparable.specs.Within.{meaning_within};
+
+    /// The key of a document, as `append_key` appends it. `OutOfMemory` is the only error.
+    #[tactic(auto, unfolding(crate::specs::TreeKey::meaning_key))]
+    pub fn of_document(alloc: Global, document: Document<'_>) -> Result<Self, Error>
+        ensures ok { IfOk result
+            (λ key. comparable_bytes key ≡ tree_key (document_tree document.entry)) }
+        ensures memory { IfErr result (λ e. e ≡ Error.OutOfMemory) }
+    {
+        Self::of_source(alloc, Source::Document(document))
+    }
+
+    /// The key of any bytes, as `append_key_of` appends it. `OutOfMemory` is the only error.
+    pub fn key_of(alloc: Global, raw: RawJsonb<'_>) -> Result<Self, Error>
+        ensures ok { IfOk result
+            (λ key. comparable_bytes key ≡ meaning_key (raw_meaning raw.entry)) }
+        ensures memory { IfErr result (λ e. e ≡ Error.OutOfMemory) }
+    {
+        Self::of_source(alloc, Source::new(raw))
+    }
+
+    /// The key of bytes from a stranger, as `append_key_within` appends it. `OutOfMemory` is the
+    /// only error.
+    pub fn within(alloc: Global, raw: RawJsonb<'_>, depth: usize) -> Result<Self, Error>
+        ensures ok { IfOk result (λ key. comparable_bytes key
+            ≡ meaning_key (meaning_within depth (raw_bytes raw.entry))) }
+        ensures memory { IfErr result (λ e. e ≡ Error.OutOfMemory) }
+    {
+        Self::of_source(alloc, Source::within(raw, depth))
+    }
+
+    // The key of bytes that were checked.
+    fn of_source(alloc: Global, source: Source<'_>) -> Result<Self, Error>
+        ensures ok { IfOk result
+            (λ key. comparable_bytes key ≡ meaning_key (source_meaning source.entry)) }
+        ensures memory { IfErr result (λ e. e ≡ Error.OutOfMemory) }
+    {
+        let mut bytes = Vec::new(alloc);
+        append_source_key(source, &mut bytes)?;
+        Ok(ComparableKey { bytes })
+    }
+
+    /// The bytes.
+    pub fn as_bytes(&self) -> &[u8]
+        ensures { result.now ≡ comparable_bytes self.now }
+    {
+        self.bytes.as_slice()
+    }
+
+    /// The bytes, by themselves.
+    pub fn into_bytes(self) -> Vec<u8>
+        ensures { result.items ≡ comparable_bytes self }
+    {
+        let ComparableKey { bytes } = self;
+        bytes
+    }
+}
+
+impl PartialEq for ComparableKey {
+    ghost eq = { λ x y. pointwise nat_eq (comparable_bytes x) (comparable_bytes y) };
+
+    ghost laws = { on_per comparable_bytes (partial_equiv_from_equiv nat_list_eq_equiv) };
+
+    fn eq(&self, other: &Self) -> bool {
+        self.as_bytes() == other.as_bytes()
+    }
+}
+
+impl Eq for ComparableKey {
+    ghost laws = { on_equiv comparable_bytes nat_list_eq_equiv };
+}
+
+impl PartialOrd for ComparableKey {
+    ghost partial_cmp = { λ x y. Some
+        (slice_cmp nat_cmp (comparable_bytes x) (comparable_bytes y)) };
+
+    ghost laws = { on_po comparable_bytes texts_po };
+
+    fn partial_cmp(&self, other: &Self) -> Option<Ordering> {
+        Some(self.cmp(other))
+    }
+}
+
+impl Ord for ComparableKey {
+    ghost cmp = { λ x y. slice_cmp nat_cmp (comparable_bytes x) (comparable_bytes y) };
+
+    ghost total = { on_total comparable_bytes nat_list_cmp_total };
+
+    ghost matches_partial_cmp = { λ x y. refl };
+
+    ghost matches_eq = { λ x y. texts_ties (comparable_bytes x) (comparable_bytes y) };
+
+    /// The order of the bytes.
+    fn cmp(&self, other: &Self) -> Ordering {
+        self.as_bytes().cmp(other.as_bytes())
+    }
+}
+
+impl Hash for ComparableKey {
+    ghost hash_input = { λ key. fed.slice fed.u8 (comparable_bytes key) };
+
+    ghost respects_eq = { Prim.search (hashing, rules) };
+
+    fn hash<H: Hasher>(&self, state: &mut H) {
+        self.as_bytes().hash(state);
+    }
+}

@@ -1,0 +1,113 @@
+//! The keys of documents and of any bytes, appended to a buffer, and their lengths.
+
+ghost use Rattle.std.specs.Prelude.{◌≡◌, ◌≤◌, ◌+◌, ◌++◌, OnOk, OnErr, IfErr, IsOk, length};
+ghost use Rattle.std.specs.Prelude.{vec_capacity};
+ghost use Rattle.jsonb.specs.Document.{document_tree};
+ghost use Rattle.jsonb.specs.ItemMeaning.{raw_meaning};
+ghost use Rattle.jsonb.specs.Raw.{raw_bytes};
+ghost use Rattle.jsonb_comparable.specs.ComparableKey.{source_meaning};
+ghost use Rattle.jsonb_comparable.specs.Sink.{length_64};
+ghost use Rattle.jsonb_comparable.specs.TreeKey.{tree_key, meaning_key};
+ghost use Rattle.jsonb_comparable.specs.Within.{meaning_within};
+
+use crate::sink::KeyLength;
+use crate::source::Source;
+use crate::walk::append_source;
+use jsonb::{Document, Error, RawJsonb};
+
+/// The length of a source's key, or `usize::MAX` where it is longer.
+pub fn len_of_source(source: Source<'_>) -> usize
+    ensures { result ≡ length_64 (meaning_key (source_meaning source.entry)) }
+{
+    let mut length = KeyLength { len: 0 };
+    append_source(source, &mut length);
+    length.len
+}
+
+/// Appends the key of a source, for which memory is requested once.
+pub fn append_source_key(source: Source<'_>, buffer: &mut Vec<u8>) -> Result<(), Error>
+    ensures appended { OnOk result
+        (buffer.new.items ≡ buffer.old.items ++ meaning_key (source_meaning source.entry)) }
+    ensures err { OnErr result (buffer.new.items ≡ buffer.old.items) }
+    ensures memory { IfErr result (λ e. e ≡ Error.OutOfMemory) }
+    ensures room { length buffer.old.items + length (meaning_key (source_meaning source.entry))
+        ≤ vec_capacity buffer.old → IsOk result }
+{
+    buffer.try_reserve(len_of_source(source))?;
+    append_source(source, buffer);
+    Ok(())
+}
+
+/// The length of a document's key in bytes, without memory. It is `usize::MAX` where the key is
+/// longer, which no memory holds.
+#[tactic(auto, unfolding(crate::specs::TreeKey::meaning_key))]
+pub fn key_len(document: Document<'_>) -> usize
+    ensures { result ≡ length_64 (tree_key (document_tree document.entry)) }
+{
+    len_of_source(Source::Document(document))
+}
+
+/// The length of the key of any bytes, as `append_key_of` appends it, without memory. It is
+/// `usize::MAX` where the key is longer, which no memory holds.
+pub fn key_len_of(raw: RawJsonb<'_>) -> usize
+    ensures { result ≡ length_64 (meaning_key (raw_meaning raw.entry)) }
+{
+    len_of_source(Source::new(raw))
+}
+
+/// The length of the key of bytes from a stranger, as `append_key_within` appends it, without
+/// memory. It is `usize::MAX` where the key is longer, which no memory holds.
+pub fn key_len_within(raw: RawJsonb<'_>, depth: usize) -> usize
+    ensures { result ≡ length_64 (meaning_key (meaning_within depth (raw_bytes raw.entry))) }
+{
+    len_of_source(Source::within(raw, depth))
+}
+
+/// Appends the key of a document: a byte string that compares with other keys as the document does
+/// with theirs. Memory is requested once, for the exact length, and not at all where the buffer has
+/// room. `OutOfMemory` is the only error, and after it the buffer's bytes are as before.
+#[tactic(auto, unfolding(crate::specs::TreeKey::meaning_key))]
+pub fn append_key(document: Document<'_>, buffer: &mut Vec<u8>) -> Result<(), Error>
+    ensures appended { OnOk result
+        (buffer.new.items ≡ buffer.old.items ++ tree_key (document_tree document.entry)) }
+    ensures err { OnErr result (buffer.new.items ≡ buffer.old.items) }
+    ensures memory { IfErr result (λ e. e ≡ Error.OutOfMemory) }
+    ensures room { length buffer.old.items + length (tree_key (document_tree document.entry))
+        ≤ vec_capacity buffer.old → IsOk result }
+{
+    append_source_key(Source::Document(document), buffer)
+}
+
+/// Appends the key of any bytes. Bytes that are no document have a key above those of all
+/// documents, and are ordered among themselves as bytes. Memory is requested once, for the exact
+/// length, and not at all where the buffer has room. `OutOfMemory` is the only error, and after it
+/// the buffer's bytes are as before. The walk takes stack for each level of a document; for bytes
+/// from a stranger there is `append_key_within`.
+pub fn append_key_of(raw: RawJsonb<'_>, buffer: &mut Vec<u8>) -> Result<(), Error>
+    ensures appended { OnOk result
+        (buffer.new.items ≡ buffer.old.items ++ meaning_key (raw_meaning raw.entry)) }
+    ensures err { OnErr result (buffer.new.items ≡ buffer.old.items) }
+    ensures memory { IfErr result (λ e. e ≡ Error.OutOfMemory) }
+    ensures room { length buffer.old.items + length (meaning_key (raw_meaning raw.entry))
+        ≤ vec_capacity buffer.old → IsOk result }
+{
+    append_source_key(Source::new(raw), buffer)
+}
+
+/// Appends the key of bytes from a stranger: a document that nests at most that deep has its own
+/// key, and all other bytes, a deeper document too, have the key of bytes that are no document.
+/// What nests deeper is not looked into, and takes no stack. A scalar has depth 0, an array or
+/// object 1 where it is empty, and otherwise one more than its deepest child. Memory is requested
+/// once, for the exact length, and not at all where the buffer has room. `OutOfMemory` is the only
+/// error, and after it the buffer's bytes are as before.
+pub fn append_key_within(raw: RawJsonb<'_>, depth: usize, buffer: &mut Vec<u8>) -> Result<(), Error>
+    ensures appended { OnOk result (buffer.new.items
+        ≡ buffer.old.items ++ meaning_key (meaning_within depth (raw_bytes raw.entry))) }
+    ensures err { OnErr result (buffer.new.items ≡ buffer.old.items) }
+    ensures memory { IfErr result (λ e. e ≡ Error.OutOfMemory) }
+    ensures room { length buffer.old.items
+        + length (meaning_key (meaning_within depth (raw_bytes raw.entry)))
+        ≤ vec_capacity buffer.old → IsOk result }
+{
+    append_source_key(Source::within(raw, depth), buffer)
+}

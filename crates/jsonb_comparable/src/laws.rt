@@ -1,0 +1,86 @@
+//! The laws of keys.
+
+ghost use Rattle.std.specs.Prelude.{◌≡◌, ◌↔◌, ◌++◌, ◌∷◌, [], ◌+◌, ℕ, List, length, take};
+ghost use Rattle.std.specs.Cmp.Lexicographic.{slice_cmp};
+ghost use Rattle.std.specs.List.{flat_map};
+ghost use Rattle.std.specs.Ordering.{nat_cmp, ordering_then};
+ghost use Rattle.jsonb_value.proofs.BigEndian.{AreBytes};
+ghost use Rattle.jsonb_value.specs.Meaning.{meaning_cmp};
+ghost use Rattle.jsonb_value.specs.Tree.{Tree};
+ghost use Rattle.jsonb_value.specs.TreeOrder.{tree_cmp};
+ghost use Rattle.jsonb_value.specs.WellFormed.{IsTree, AreTrees};
+ghost use Rattle.jsonb_value.specs.Value.{trees_of};
+ghost use Rattle.jsonb_codec.specs.Doc.{Doc};
+ghost use Rattle.jsonb.specs.ItemMeaning.{meaning_of};
+ghost use Rattle.jsonb.specs.Node.{array_of, object_of};
+ghost use Rattle.jsonb_comparable.specs.TreeKey.{tree_key, meaning_key, text_key, member_key};
+ghost use Rattle.jsonb_comparable.specs.Within.{meaning_within};
+
+use std::cmp::Ordering;
+
+/// The laws of the keys of documents. `documents` says that they are laws of the trees of all
+/// documents.
+///
+/// - `order`: keys compare as the documents do, and `equal`: they are the same exactly where the
+///   documents are equal.
+/// - `followed`: what follows a key counts only where the documents are equal. So `no_beginning`:
+///   no key properly begins another; and `lists`: the keys of a list of documents, one after the
+///   other, compare as the lists.
+/// - `cut`: a beginning of a key is a lower bound: where it is above another key, its document is
+///   above the other. `cut_both`: where beginnings of one length differ, they decide.
+/// - `array`, `object`: the keys of items and members are parts of the key of the whole.
+pub fn key_laws()
+    ensures order { (t u : Tree) → IsTree t → IsTree u
+        → slice_cmp nat_cmp (tree_key t) (tree_key u) ≡ tree_cmp t u }
+    ensures equal { (t u : Tree) → IsTree t → IsTree u
+        → (tree_key t ≡ tree_key u) ↔ (tree_cmp t u ≡ Ordering.Equal) }
+    ensures followed { (t u : Tree) → IsTree t → IsTree u → (x y : List ℕ)
+        → slice_cmp nat_cmp (tree_key t ++ x) (tree_key u ++ y)
+        ≡ ordering_then (tree_cmp t u) (slice_cmp nat_cmp x y) }
+    ensures no_beginning { (t u : Tree) → IsTree t → IsTree u → (x y : List ℕ)
+        → tree_key t ++ x ≡ tree_key u ++ y → (tree_cmp t u ≡ Ordering.Equal) × (x ≡ y) }
+    ensures lists { (ts us : List Tree) → AreTrees (trees_of ts) → AreTrees (trees_of us)
+        → slice_cmp nat_cmp (flat_map tree_key ts) (flat_map tree_key us)
+        ≡ slice_cmp tree_cmp ts us }
+    ensures cut { (t u : Tree) → IsTree t → IsTree u → (n : ℕ)
+        → slice_cmp nat_cmp (take n (tree_key t)) (tree_key u) ≡ Ordering.Greater
+        → tree_cmp t u ≡ Ordering.Greater }
+    ensures cut_both { (t u : Tree) → IsTree t → IsTree u → (n : ℕ)
+        → slice_cmp nat_cmp (take n (tree_key t)) (take n (tree_key u)) ≡ Ordering.Less
+        → tree_cmp t u ≡ Ordering.Less }
+    ensures array { (ts : List Tree) → tree_key (array_of ts)
+        ≡ 192 ∷ (flat_map tree_key ts ++ (0 ∷ [])) }
+    ensures object { (ps : List (List ℕ × Tree)) → tree_key (object_of ps)
+        ≡ 176 ∷ (flat_map member_key ps ++ (0 ∷ [])) }
+    ensures documents { (b : List ℕ) (t : Tree) → AreBytes b → Doc b t → IsTree t }
+{}
+
+/// The same laws of the keys of any bytes: documents are below all other bytes, and those compare
+/// as bytes.
+pub fn key_laws_of_bytes()
+    ensures order { (l r : List ℕ) → AreBytes l → AreBytes r
+        → slice_cmp nat_cmp (meaning_key (meaning_of l)) (meaning_key (meaning_of r))
+        ≡ meaning_cmp (meaning_of l) (meaning_of r) }
+    ensures equal { (l r : List ℕ) → AreBytes l → AreBytes r
+        → (meaning_key (meaning_of l) ≡ meaning_key (meaning_of r))
+        ↔ (meaning_cmp (meaning_of l) (meaning_of r) ≡ Ordering.Equal) }
+    ensures followed { (l r : List ℕ) → AreBytes l → AreBytes r → (x y : List ℕ)
+        → slice_cmp nat_cmp (meaning_key (meaning_of l) ++ x) (meaning_key (meaning_of r) ++ y)
+        ≡ ordering_then (meaning_cmp (meaning_of l) (meaning_of r)) (slice_cmp nat_cmp x y) }
+{}
+
+/// The same laws of the keys within a depth: documents that nest at most that deep are below all
+/// other bytes, and those compare as bytes.
+pub fn key_laws_within()
+    ensures order { (d : ℕ) (l r : List ℕ) → AreBytes l → AreBytes r
+        → slice_cmp nat_cmp (meaning_key (meaning_within d l)) (meaning_key (meaning_within d r))
+        ≡ meaning_cmp (meaning_within d l) (meaning_within d r) }
+    ensures equal { (d : ℕ) (l r : List ℕ) → AreBytes l → AreBytes r
+        → (meaning_key (meaning_within d l) ≡ meaning_key (meaning_within d r))
+        ↔ (meaning_cmp (meaning_within d l) (meaning_within d r) ≡ Ordering.Equal) }
+    ensures followed { (d : ℕ) (l r : List ℕ) → AreBytes l → AreBytes r → (x y : List ℕ)
+        → slice_cmp nat_cmp (meaning_key (meaning_within d l) ++ x)
+        (meaning_key (meaning_within d r) ++ y)
+        ≡ ordering_then (meaning_cmp (meaning_within d l) (meaning_within d r))
+        (slice_cmp nat_cmp x y) }
+{}

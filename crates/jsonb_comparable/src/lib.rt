@@ -1,0 +1,19 @@
+//! Comparable keys: for each document a byte string, so that the order of the byte strings is the
+//! order of the documents. A store that sorts byte strings sorts documents by their keys.
+#![tactic(auto)]
+
+mod comparable_key;
+mod escape;
+mod extension;
+mod key;
+mod laws;
+mod number;
+mod sink;
+mod source;
+#[cfg(test)]
+mod tests;
+mod walk;
+
+pub use comparable_key::ComparableKey;
+pub use key::{append_key, append_key_of, append_key_within, key_len, key_len_of, key_len_within};
+pub use laws::{key_laws, key_laws_of_bytes, key_laws_within};

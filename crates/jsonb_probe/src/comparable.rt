@@ -1,0 +1,22 @@
+//! Comparable keys.
+
+use crate::line::{decode_hex, number_in, ok_hex};
+use crate::refusal::Refusal;
+use jsonb::RawJsonb;
+use jsonb_comparable::ComparableKey;
+use std::alloc::Global;
+
+/// The key of the bytes.
+pub fn key(alloc: Global, word: &[u8]) -> Result<String, Refusal> {
+    let bytes = decode_hex(alloc, word)?;
+    let key = ComparableKey::key_of(alloc, RawJsonb::new(&bytes))?;
+    ok_hex(alloc, key.as_bytes())
+}
+
+/// The key of the bytes within that depth.
+pub fn key_within(alloc: Global, word: &[u8], depth: &[u8]) -> Result<String, Refusal> {
+    let depth = number_in(depth)?;
+    let bytes = decode_hex(alloc, word)?;
+    let key = ComparableKey::within(alloc, RawJsonb::new(&bytes), depth)?;
+    ok_hex(alloc, key.as_bytes())
+}
