@@ -1,13 +1,13 @@
--- Bytes are cut at their first mark, as a space or a line feed, in one way.
+-- Bytes can be split at their first mark, such as a space or a line feed, in only one way.
 use Rattle.std.proofs.Common.{◌≡◌, ◌≢◌, ◌⊎◌, inl, inr, ℕ, List, [], ◌∷◌, ◌++◌, refl}
 use Rattle.std.proofs.lemmas.List.Elements.{All-head, All-tail}
 use Rattle.std.specs.Prelude.{All}
 
--- no mark
+-- the bytes have no mark
 abbrev pub IsBefore : ℕ → List ℕ → Type 0
 IsBefore mark bytes = All (λ b. b ≢ mark) bytes
 
--- nothing, or a mark and what follows it
+-- the bytes are empty, or a mark and what follows it
 abbrev pub StartsAt : ℕ → List ℕ → Type 0
 StartsAt mark bytes = (bytes ≡ []) ⊎ ((rest : List ℕ) × (bytes ≡ mark ∷ rest))
 
@@ -28,13 +28,13 @@ one_cut mark (a ∷ others) (b ∷ bs) xs ys one_a one_b from_xs from_ys same =
     (All-tail (λ c. c ≢ mark) b bs one_b) from_xs from_ys tails in
     let words : others ≡ bs = rest.0 in (cc, rest.1)
 
--- bytes with a mark are not before it
+-- bytes with a mark are not without one
 pub not_before : (mark : ℕ) (bytes more : List ℕ) → IsBefore mark (bytes ++ mark ∷ more) → ⊥
 not_before mark [] more one = All-head (λ c. c ≢ mark) mark more one refl
 not_before mark (b ∷ bytes) more one =
     not_before mark bytes more (All-tail (λ c. c ≢ mark) b (bytes ++ mark ∷ more) one)
 
--- a cut at a mark that is there
+-- a split at a mark is unique
 pub one_cut_at : (mark : ℕ) (a b xs ys : List ℕ) → IsBefore mark a → IsBefore mark b
     → a ++ mark ∷ xs ≡ b ++ mark ∷ ys → (a ≡ b) × (xs ≡ ys)
 one_cut_at mark a b xs ys one_a one_b same =

@@ -1,4 +1,4 @@
--- An input has one output, where a line has one reply.
+-- An input has only one output if each line has only one reply.
 use Rattle.std.proofs.Common.{◌≡◌, inl, inr, ℕ, List, refl}
 use Rattle.std.proofs.lemmas.List.Elements.{All-head, All-tail}
 use Rattle.std.specs.Prelude.{All}
@@ -8,7 +8,7 @@ use Rattle.answer_lines.proofs.Replies.{one_lines}
 abbrev IsGiven : List ℕ → Type 0
 IsGiven reply = IsRefused reply → ⊥
 
--- In each state a line has one reply, and one state follows, where memory is not refused.
+-- In each state a line has only one reply and only one next state, unless memory is lacking.
 abbrev pub HasOneReply : {S : Type 0} → Rule S → Type 0
 HasOneReply {S} rule = (state x y : S) (line a b : List ℕ) → rule state line a x
     → rule state line b y → IsGiven a → IsGiven b → (a ≡ b) × (x ≡ y)

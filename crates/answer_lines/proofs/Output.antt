@@ -1,4 +1,4 @@
--- What several writes append, one after the other.
+-- What several writes append, one after another.
 use Rattle.std.proofs.Common.{◌≡◌, ℕ, List, [], ◌++◌, take, drop, refl, ap, append_assoc}
 use Rattle.std.proofs.lemmas.List.{append-nil, take-append-drop}
 use Rattle.std.specs.Prelude.{Option, Some, None}
@@ -32,7 +32,7 @@ all_but_more {rest = rest} n so_far more is = rw is (record {
   appends = appends_both _ _ _ _ _ so_far.appends more;
 })
 
--- ---- a beginning of what was to be appended
+-- ---- a prefix of what was to be appended
 
 pub prefix_of_all : {old new : Known} {bytes : List ℕ} → Appends old new bytes
     → AppendsPrefix old new bytes
@@ -56,9 +56,9 @@ prefix_after_all xs first start = record {
   appends = appends_both _ _ _ _ _ first start.appends;
 }
 
--- ---- bytes that wait behind those that were appended
+-- ---- bytes that are buffered after those that were appended
 
--- what waits was appended, and then more
+-- the buffered bytes were appended, and then more
 pub all_but_none : {old new : Known} (mid : Known) {rest : List ℕ}
     (xs ys : List ℕ) → rest ≡ [] → Appends old mid xs → Appends mid new ys
     → AppendsAllBut rest old new (xs ++ ys)

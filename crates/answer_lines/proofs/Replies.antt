@@ -1,4 +1,4 @@
--- Replies to lines in parts.
+-- Replies to lines that are read in parts.
 use Rattle.std.proofs.Common.{◌≡◌, ◌≢◌, ℕ, ◌==◌, Bool, true, false, List, [], ◌∷◌, ◌++◌, refl, sym}
 use Rattle.std.proofs.Common.{◌∙◌, append_assoc, arith, inr, length}
 use Rattle.std.proofs.lemmas.Bool.Decides.{nat_tests}
@@ -70,7 +70,7 @@ lines_of (b ∷ bytes) =
     let (lines, are) = lines_of bytes in
     lines_step b bytes (b == 10) are.whole are.rest refl are.parts are.whole_lines are.rest_line
 
--- ---- and these are their only ones
+-- ---- the lines of bytes are unique
 
 one_ended : (xs ys : List (List ℕ)) (r s : List ℕ) → All IsLine xs → All IsLine ys → IsLine r
     → IsLine s → line_bytes xs ++ r ≡ line_bytes ys ++ s → (xs ≡ ys) × (r ≡ s)
@@ -96,9 +96,9 @@ one_lines bytes xs ys first second =
     (sym first.parts ∙ second.parts) in
     cc
 
--- ---- replies: each line has one, if only that there was no memory
+-- ---- every line has a reply, if only that memory is lacking
 
--- These bytes are a reply to the line, with its line feed.
+-- The bytes are a reply to the line, with its line feed.
 pub record IsReplyTo {S : Type 0} (rule : Rule S) (state next : S) (line bytes : List ℕ) : Type 0
   where
     pub reply : List ℕ
@@ -128,7 +128,7 @@ module _ {S : Type 0} {rule : Rule S} where
         },
       )
 
-  -- whole lines, and then other bytes
+  -- whole lines, followed by other bytes
   replies_after : {state mid end : S} {lines replies : List (List ℕ)} {rest output : List ℕ}
       → All IsLine lines → Session rule state lines replies mid
       → Replies rule mid end rest output
@@ -148,7 +148,7 @@ module _ {S : Type 0} {rule : Rule S} where
     bytes = rw (ended-append, ← later.bytes);
   }
 
-  -- a last line with no line feed
+  -- a last line without a line feed
   replies_last : {state next : S} (line : List ℕ) {bytes : List ℕ} → line ≢ [] → IsLine line
       → IsReplyTo rule state next line bytes → Replies rule state next line bytes
   replies_last [] some one is = absurd (some refl)
@@ -160,7 +160,7 @@ module _ {S : Type 0} {rule : Rule S} where
     bytes = is.bytes_are;
   }
 
-  -- ---- what was appended, of a last line
+  -- ---- what was appended for a last line
 
   pub last_none : {state : S} (rest : List ℕ) {known : Known} → length rest ≡ 0
       → AppendsReplies rule state state rest known known
@@ -194,7 +194,7 @@ module _ {S : Type 0} {rule : Rule S} where
     appends = start.appends;
   }
 
-  -- ---- what was appended, after some whole lines
+  -- ---- what was appended after some whole lines
 
   pub replies_after_whole : {state next end : S} {input start : List ℕ}
       {old mid new : Known} → AppendsWhole rule state next input start [] old mid
@@ -232,7 +232,7 @@ module _ {S : Type 0} {rule : Rule S} where
         appends = appends_nothing _;
       }
 
-  -- a fault within what answers whole lines
+  -- a fault while whole lines are answered
   pub beginning_within : {state next : S} {input start left output : List ℕ} (later : List ℕ)
       {old new : Known}
       → AppendsWhole rule state next input start left (Some []) (Some output)

@@ -1,4 +1,4 @@
--- What a run has done with its reader's bytes, where those are known.
+-- The progress of a run over its reader's bytes, where these are known.
 use Rattle.std.proofs.Common.{◌≡◌, ◌<◌, ℕ, List, [], ◌∷◌, ◌++◌, length, take, refl, ap}
 use Rattle.std.proofs.Common.{append_assoc}
 use Rattle.std.proofs.lemmas.List.{append-nil}
@@ -14,7 +14,7 @@ use Rattle.answer_lines.proofs.Output.{all_but_waits, all_but_faults}
 use Rattle.answer_lines.proofs.Replies.{no_feed, no_line, ended-append, Session-append, IsReplyTo}
 use Rattle.answer_lines.proofs.Replies.{beginning_after_whole, beginning_of_none, beginning_within}
 
--- The replies to some whole lines of the input, of which all but those that wait were appended.
+-- The replies to some whole lines of the input, all appended but those that are buffered.
 pub record Collects {S : Type 0} (rule : Rule S) (state next : S)
     (input start left waiting : List ℕ) (old new : Known) : Type 0 where
   pub output : List ℕ
@@ -22,14 +22,14 @@ pub record Collects {S : Type 0} (rule : Rule S) (state next : S)
   pub all_but : AppendsAllBut waiting old new output
 
 module _ {S : Type 0} {rule : Rule S} where
-  -- what answered a line gave a reply to it
+  -- the text of a reply is a reply to the line
   pub reply_in : {state next : S} {line bytes : List ℕ} (text line' : List ℕ)
       → (reply : List ℕ) × (IsReply rule state line' reply next × (text ≡ reply ++ 10 ∷ []))
       → line ≡ line' → bytes ≡ text → IsReplyTo rule state next line bytes
   reply_in text line' (reply, (by, bytes)) same is =
       rw (same, is) (record { reply = reply; is = by; bytes_are = bytes })
 
-  -- ---- bytes that follow a begun line
+  -- ---- bytes that follow a line that was begun
 
   -- nothing yet
   pub whole_begins : {state : S} {start left : List ℕ} {known : Known} → IsLine start
@@ -62,7 +62,7 @@ module _ {S : Type 0} {rule : Rule S} where
         appends = rw ended-append (appends_both _ _ _ _ _ so_far.appends then.appends);
       }
 
-  -- the begun line ended, and was answered
+  -- the line that was begun has ended, and was answered
   whole_line : {state last next : S} {input start behind bytes : List ℕ} (end : List ℕ)
       {old mid new : Known}
       → AppendsWhole rule state last input start (end ++ 10 ∷ behind) old mid → IsLine end
@@ -80,13 +80,13 @@ module _ {S : Type 0} {rule : Rule S} where
         appends = rw (← is.bytes_are) then;
       })
 
-  -- ---- a chunk, where replies wait
+  -- ---- a chunk, with buffered replies
 
   pub collects_none : {state : S} {start left : List ℕ} {known : Known} → IsLine start
       → Collects rule state state (start ++ left) start left [] known known
   collects_none one = record { output = []; whole = whole_begins one; all_but = all_but_begins }
 
-  -- the begun line ends, and its reply is added
+  -- the line that was begun ends, and its reply is added
   pub collects_line : {state last next : S} {input start left waiting behind waiting' : List ℕ}
       {old mid new : Known} (end bytes : List ℕ)
       → Collects rule state last input start left waiting old mid
@@ -99,7 +99,7 @@ module _ {S : Type 0} {rule : Rule S} where
     all_but = all_but_waits bytes so_far.all_but then;
   }
 
-  -- or a fault is within what waits and the reply
+  -- a fault while the buffered bytes and the reply are written
   pub collects_fault : {state last next : S} {start left waiting : List ℕ}
       {old mid new : Known} (begun chunk end behind bytes : List ℕ)
       → Collects rule state last (begun ++ chunk) start left waiting old mid
@@ -111,7 +111,7 @@ module _ {S : Type 0} {rule : Rule S} where
       (whole_line {behind = behind} end (rw cut at so_far.whole) one is refl)
       (all_but_faults bytes so_far.all_but then))
 
-  -- only a beginning of what waited was appended
+  -- only a prefix of the buffered bytes was appended
   pub collects_stops : {state next : S} {start left waiting : List ℕ}
       {old mid new : Known} (begun chunk : List ℕ)
       → Collects rule state next (begun ++ chunk) start left waiting old mid
@@ -122,7 +122,7 @@ module _ {S : Type 0} {rule : Rule S} where
       (all_but_faults {new = new} [] so_far.all_but (rw append-nil then)) in
       rw (← append_assoc) (beginning_within later so_far.whole prefix)
 
-  -- ---- all of a run, where the input may be unknown
+  -- ---- a whole run, whose input may be unknown
 
   -- a chunk was read and answered
   pub run_chunk : (state : S) {last next : S} (input before after : Known) (start chunk : List ℕ)
@@ -136,7 +136,7 @@ module _ {S : Type 0} {rule : Rule S} where
   run_chunk state (Some input) (Some before) (Some after) start chunk old so_far read then =
       whole_joined chunk after so_far read then
 
-  -- what follows from the whole lines where a chunk was read, and the bytes behind it are known
+  -- what follows from the whole lines if a chunk was read, and the bytes after it are known
   pub after_read : {Follows : List ℕ → Type 0} {state last : S} (input before after : Known)
       {start : List ℕ} (chunk : List ℕ) {old mid : Known}
       → IsPrompt rule state last input before start old mid → Consumes before after chunk
@@ -149,7 +149,7 @@ module _ {S : Type 0} {rule : Rule S} where
   after_read (Some i) (Some before) (Some left) chunk so_far read then =
       then i left refl (rw read at so_far)
 
-  -- at the end of the input the begun line is the last
+  -- at the end of the input, the line that was begun is the last
   pub at_end : {Follows : List ℕ → Type 0} {state last : S} (input before after : Known)
       {start : List ℕ} {old mid : Known} (count : ℕ) (buffer : List ℕ)
       → IsPrompt rule state last input before start old mid
@@ -167,7 +167,7 @@ module _ {S : Type 0} (rule : Rule S) where
   run_begins state None known = tt
   run_begins state (Some input) known = whole_begins no_line
 
-  -- the reader's fault took no bytes
+  -- a fault of the reader consumed no bytes
   pub run_kept : (state next : S) (input before after : Known) (start : List ℕ)
       (old new : Known) → IsPrompt rule state next input before start old new
       → Keeps before after → IsPrompt rule state next input after start old new
@@ -185,7 +185,7 @@ module _ {S : Type 0} (rule : Rule S) where
   run_prompt state next (Some input) None start old new so_far = tt
   run_prompt state next (Some input) (Some left) start old new so_far = (start, so_far)
 
-  -- a fault with nothing more written
+  -- a fault without anything more written
   pub run_stops : (state next : S) (input left : Known) (start : List ℕ)
       (old new : Known) → IsPrompt rule state next input left start old new
       → IfSome input (λ i. AppendsBeginning rule state i old new)
@@ -194,7 +194,7 @@ module _ {S : Type 0} (rule : Rule S) where
   run_stops state next (Some input) (Some left) start old new so_far =
       beginning_after_whole so_far beginning_of_none
 
--- ---- what a call's clauses say
+-- ---- the form of a call's clauses
 
 pub on_err : {T E : Type 0} (r : Result T E) (P : Type 0) → P → OnErr r P
 on_err (Ok x) P p = tt

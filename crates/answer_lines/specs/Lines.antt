@@ -1,16 +1,16 @@
 -- Bytes as lines.
 use Rattle.std.specs.Prelude.{◌≡◌, ◌≢◌, ℕ, List, [], ◌∷◌, ◌++◌, All}
 
--- lines, each with the line feed that ends it
+-- Lines, each followed by its line feed.
 abbrev pub line_bytes : List (List ℕ) → List ℕ
 line_bytes [] = []
 line_bytes (line ∷ lines) = line ++ 10 ∷ line_bytes lines
 
--- no line feed
+-- The bytes have no line feed.
 abbrev pub IsLine : List ℕ → Type 0
 IsLine bytes = All (λ b. b ≢ 10) bytes
 
--- what follows the last line feed is one more line where it is not empty
+-- The bytes after the last line feed as a line; none if they are empty.
 abbrev pub last_line : List ℕ → List (List ℕ)
 last_line [] = []
 last_line (b ∷ rest) = (b ∷ rest) ∷ []

@@ -1,4 +1,4 @@
-//! What answers a line.
+//! Answering a line.
 
 ghost use Rattle.std.specs.Prelude.{◌≡◌, ◌∷◌, ◌++◌, [], ℕ, List, IfOk};
 ghost use Rattle.std.specs.String.{string_bytes};
@@ -6,13 +6,14 @@ ghost use Rattle.answer_lines.specs.Session.{IsReply};
 
 use std::alloc::{AllocError, Global};
 
-/// What answers lines, one after another, and may change by each.
+/// A program that replies to lines, one after another, and may change its state with each.
 pub trait LineAnswerer {
-    // Which reply a line may have, by what answers it, and what that is from then on.
+    // Allowed replies in a state, and the next state.
     ghost rule: { Self → List ℕ → List ℕ → Self → Type 0 };
 
-    /// The reply to a line, with its line feed. Where the answer wants memory that is refused, the
-    /// reply is `error OutOfMemory`. An error comes only where there is no room for the reply.
+    /// The reply to a line, with its line feed. If the answer needs memory that cannot be
+    /// allocated, the reply is `error OutOfMemory`. The only error is that the reply itself cannot
+    /// be allocated.
     fn answer(&mut self, alloc: Global, line: &[u8]) -> Result<String, AllocError>
         ensures reply { IfOk result (λ text. (reply : List ℕ)
             × (IsReply rule self.old line.now reply self.new

@@ -1,5 +1,5 @@
-//! Programs that answer line by line: the loop over any reader and any writer, proved once for
-//! whatever answers a line.
+//! Programs that reply line by line: the loop over any reader and any writer, proved once for all
+//! programs.
 #![tactic(auto)]
 
 mod answerer;

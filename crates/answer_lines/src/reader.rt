@@ -1,4 +1,4 @@
-//! What lines are read from.
+//! The source of lines.
 
 ghost use Rattle.std.specs.Prelude.{ℕ, List, Option, ⊤};
 ghost use Rattle.std.specs.Io.{ReadsAtMost};
@@ -6,13 +6,13 @@ ghost use Rattle.std.specs.Io.KnownBytes.{ReadConsumes};
 
 use std::io::{self, Read, Write};
 
-/// A reader of lines. It is shown the writer of their answers at each request, and may demand what
-/// that holds by then.
+/// A reader of lines. At each read it has access to the writer of the replies, and may require what
+/// was written by then.
 pub trait LineReader<W: Write> {
-    // The bytes that requests will give from here on, where they are known.
+    // The bytes that are still to be read, if they are known.
     ghost remaining: { Self → Option (List ℕ) };
 
-    // Whether the reader may be asked while the writer holds these bytes.
+    // Whether the reader may be called while the writer holds these bytes.
     ghost may_ask: { Self → Option (List ℕ) → Type 0 };
 
     /// Reads once, as `Read::read` does.
@@ -23,7 +23,7 @@ pub trait LineReader<W: Write> {
             result buffer.new };
 }
 
-/// Each reader reads lines, and demands nothing.
+/// Every reader is a reader of lines without a requirement.
 impl<R: Read, W: Write> LineReader<W> for R {
     ghost remaining = { R.remaining };
 

@@ -1,4 +1,4 @@
-//! Lines in, answers out, over any reader and any writer.
+//! The loop from lines to replies, over any reader and any writer.
 
 ghost use Rattle.std.specs.Prelude.{◌≡◌, ℕ, [], ◌∷◌, ◌++◌, List, Option, OnOk, OnErr, IfOk};
 ghost use Rattle.std.specs.Prelude.{IfSome, IsErrOf, IsOkUnless, string_bytes};
@@ -18,11 +18,11 @@ use std::io::Write;
 /// Why a run ended early.
 #[derive(Clone, Copy, Debug, PartialEq, Eq)]
 pub enum RunError {
-    /// The reader failed, or never met the end of its input.
+    /// The reader failed, or never reached the end of its input.
     Read,
-    /// The writer failed, or took no byte.
+    /// The writer failed, or accepted no byte.
     Write,
-    /// The room for a line or for a reply was refused.
+    /// The allocation of a line or of a reply failed.
     Memory,
 }
 
@@ -34,7 +34,7 @@ impl From<AllocError> for RunError {
     }
 }
 
-// What answers a line that was begun and ends so, with its line feed.
+// The reply to a line, given its beginning and its end, with its line feed.
 fn reply_to<A: LineAnswerer>(
     alloc: Global,
     answerer: &mut A,
@@ -50,8 +50,8 @@ fn reply_to<A: LineAnswerer>(
     Ok(answerer.answer(alloc, start)?)
 }
 
-// Goes on with a line that was begun: answers each line that ends in the chunk, and keeps what
-// follows. All answers are written together.
+// Continues a line that was begun: replies to each line that ends in the chunk, and keeps the rest.
+// All replies are written together.
 fn answer_chunk<A: LineAnswerer, W: Write>(
     alloc: Global,
     answerer: &mut A,
@@ -84,7 +84,7 @@ fn answer_chunk<A: LineAnswerer, W: Write>(
     Ok(())
 }
 
-// Answers the last line, if it has no line feed.
+// Replies to the last line, if it has no line feed.
 fn answer_rest<A: LineAnswerer, W: Write>(
     alloc: Global,
     answerer: &mut A,
@@ -104,22 +104,22 @@ fn answer_rest<A: LineAnswerer, W: Write>(
     write_bytes(writer, reply_to(alloc, answerer, start, &[])?.as_bytes())
 }
 
-/// Answers each line of the reader's bytes to the writer by one line. A line is what stands before
-/// a line feed, and what follows the last one where it is not empty. All whole lines that were read
-/// are answered before the reader is asked again, which the reader may demand. After `Ok` all input
-/// was read, and its answers were written, in order and nothing else.
+/// Writes one reply line for each line of the reader. A line ends at a line feed; what follows the
+/// last line feed is a line unless it is empty. All whole lines that were read are answered before
+/// the next read, which the reader may require. After `Ok` the input was read to its end, and
+/// exactly its replies were written, in order.
 ///
-/// Where an answer is refused memory, `error OutOfMemory` stands in its place and the run goes on.
-/// After an error what was written is a beginning of such answers. `Read`: the reader failed, or
-/// was asked 18,446,744,073,709,551,615 times and met no end of input. `Write`: the writer failed,
-/// or took no byte. `Memory`: the room for a line or for a reply was refused.
+/// If an answer runs out of memory, its reply is `error OutOfMemory`, and the run continues. After
+/// an error, a prefix of the replies was written. `Read`: the reader failed, or was called
+/// 18,446,744,073,709,551,615 times without reaching the end of the input. `Write`: the writer
+/// failed, or accepted no byte. `Memory`: the allocation of a line or of a reply failed.
 pub fn answer_lines<A: LineAnswerer, R: LineReader<W>, W: Write>(
     alloc: Global,
     answerer: &mut A,
     reader: &mut R,
     writer: &mut W,
 ) -> Result<(), RunError>
-    // At each request all whole lines that the reader gave are answered.
+    // At each read all whole lines that the reader returned are answered.
     requires { (a : A) (r : R) (start : List ℕ) (now : Option (List ℕ)) → IsPrompt A.rule
         answerer.old a (R.remaining reader.old) (R.remaining r) start (W.contents writer.old) now
         → R.may_ask r now }
@@ -131,7 +131,7 @@ pub fn answer_lines<A: LineAnswerer, R: LineReader<W>, W: Write>(
         AppendsBeginning A.rule answerer.old input
         (W.contents writer.old) (W.contents writer.new))) }
 
-    // After the reader's fault exactly the whole lines that it gave are answered.
+    // After a fault of the reader, exactly the whole lines that it returned are answered.
     ensures prompt { IsErrOf result RunError.Read → IfSome (R.remaining reader.old) (λ input.
         IfSome (R.remaining reader.new) (λ left. (start : List ℕ) × AppendsWhole A.rule
         answerer.old answerer.new input start left

@@ -1,8 +1,8 @@
-//! Bytes, split at a separator.
+//! Splitting bytes at a separator.
 
 ghost use Rattle.std.specs.Prelude.{◌≡◌, ◌≢◌, ◌∷◌, ◌++◌, All, IfSome, IfNone};
 
-/// What stands before the first separator and what follows it, where there is a separator.
+/// The bytes before the first separator, and those after it. `None` if there is no separator.
 pub fn split_once(bytes: &[u8], separator: u8) -> Option<(&[u8], &[u8])>
     ensures before { IfSome result (λ parts. All (λ b. b ≢ separator) parts.0.now) }
     ensures parts { IfSome result (λ parts.

@@ -7,10 +7,11 @@ ghost use Rattle.answer_lines.specs.Output.{AppendsPrefix, AppendsAllBut};
 use crate::run::RunError;
 use std::io::Write;
 
-// At most so many bytes wait, so that a long reply is not held twice.
+// At most this many bytes are buffered, so that a long reply is not stored twice.
 const MOST_WAITING: usize = 1 << 16;
 
-/// Writes all the bytes. A writer that takes none is at fault, and so is one that errs.
+/// Writes all the bytes. `Write` if the writer fails, or accepts no byte; a prefix of the bytes is
+/// then written.
 pub fn write_bytes<W: Write>(writer: &mut W, bytes: &[u8]) -> Result<(), RunError>
     ensures ok { OnOk result (Appends (W.contents writer.old) (W.contents writer.new) bytes.now) }
     ensures err { OnErr result (AppendsPrefix
@@ -27,8 +28,9 @@ pub fn write_bytes<W: Write>(writer: &mut W, bytes: &[u8]) -> Result<(), RunErro
     Ok(())
 }
 
-/// Writes the bytes, or has them wait behind others that do. Where too many would wait, or there is
-/// no memory for more, all are written.
+/// Buffers the bytes after those in `waiting`. If the buffer would exceed its limit, or cannot
+/// grow, everything is written instead. `Write` if the writer fails, or accepts no byte; a prefix
+/// of the buffered bytes followed by these is then written.
 pub fn write_later<W: Write>(
     writer: &mut W,
     waiting: &mut Vec<u8>,

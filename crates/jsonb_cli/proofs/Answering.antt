@@ -1,4 +1,4 @@
--- What the commands answer.
+-- The outcomes of the commands.
 use Rattle.std.proofs.Common.{◌≡◌, ◌⊎◌, ◌∷◌, ◌++◌, [], ℕ, List, map, append_assoc}
 use Rattle.std.proofs.Common.{sym, Option, Some, None, Result, Ok, Err, refl, inl, inr, ap}
 use Rattle.std.proofs.Common.{chars}
@@ -38,27 +38,27 @@ use Rattle.jsonb_cli.specs.Answers.{IsHexOf}
 abbrev pub said_of : Error → List ℕ
 said_of e = error_line (name_of e)
 
--- A call fails in one way, which an answer tells, or since memory was refused.
+-- A call fails with one error, which the answer reports, or for lack of memory.
 pub failed : {IsAnswered : Type 0} {e wrong : Error} → (e ≡ wrong) ⊎ (e ≡ OutOfMemory)
     → (e ≡ wrong → IsAnswered) → IsAnswered ⊎ session.IsRefused (said_of e)
 failed (inl is) answered = inl (answered is)
 failed (inr is) answered = inr (ap said_of is)
 
--- an outcome that is this line, or that memory was refused
+-- an outcome that is this line, or lack of memory
 pub come_out : {IsAnswered : Type 0} {line : List ℕ} (r : Result Answer Refusal)
     → OnOk r (outcome_line r ≡ line) → IfErr r (λ refusal. refusal ≡ Call OutOfMemory)
     → (outcome_line r ≡ line → IsAnswered) → IsAnswered ⊎ session.IsRefused (outcome_line r)
 come_out (Ok answer) ok refused answered = inl (answered ok)
 come_out (Err refusal) ok refused answered = inr (rw refused)
 
--- a text of a document's tree is one of the tree that the bytes mean
+-- a text of the document's tree is one of the tree that the bytes mean
 pub text_of_tree : (r : Result (String Global) Error) (line : Tree → List ℕ) (bytes : List ℕ)
     (t : Tree) → Doc bytes t → IfOk r (λ text. string_bytes text ≡ line t)
     → IfOk r (λ text. (u : Tree) × (Doc bytes u × (string_bytes text ≡ line u)))
 text_of_tree (Ok text) line bytes t means is = (t, (means, is))
 text_of_tree (Err e) line bytes t means is = tt
 
--- the name that a key spells
+-- the name that a key means
 pub key_named : {json key slice : List ℕ} (name : CowStr Global) → json ≡ key → IsUtf8 key
     → slice ≡ cow_str_bytes name → Json (chars json) (trees.text (cow_bytes name))
     → IsName slice key
@@ -80,7 +80,7 @@ Each-append : {A B : Type 0} {R : A → B → Type 0} {xs xs' : List A} {ys ys' 
 Each-append each.none later = later
 Each-append (each.more r rs) later = each.more r (Each-append rs later)
 
--- the words that were read, the bytes that they spell, and what the builder holds of them
+-- the words that were read, the bytes that they encode, and the items of the builder
 pub record IsRead (words rest : List (List ℕ)) (held : List ItemView) : Type 0 where
   pub inputs : List (List ℕ)
   pub before : List (List ℕ)
@@ -117,7 +117,7 @@ pub all_read : {words : List (List ℕ)} {held : List ItemView} (read : IsRead w
     → Each IsHexOf read.inputs words
 all_read read = rw (read.parts, append-nil) read.hex
 
--- what a line is answered, with its line feed
+-- the answer to a line, with its line feed
 pub replied : {E : Type 0} (r : Result (String Global) E) (state : Commands) (line outcome : List ℕ)
     → IsLineReply line outcome → IfOk r (λ text. string_bytes text ≡ outcome ++ 10 ∷ [])
     → IfOk r (λ text. (reply : List ℕ)

@@ -1,4 +1,4 @@
--- Which form a line has: the word before its first space names the command.
+-- The form of a line: the word before its first space is the command's name.
 use Rattle.std.proofs.Common.{◌≡◌, ◌≢◌, inr, ℕ, ◌==◌, Bool, true, false, not, List, [], ◌∷◌, ◌++◌}
 use Rattle.std.proofs.Common.{refl, sym, ap, ◌∙◌, take, arith}
 use Rattle.std.proofs.lemmas.List.Sums.{AllPass-from_list_all}
@@ -15,7 +15,7 @@ use Rattle.answer_lines.proofs.Cuts.{one_cut, one_cut_at}
 use Rattle.jsonb_cli.proofs.Split.{StartsAtSpace, one_spaced, after_space-starts, spaced-starts}
 use Rattle.jsonb_cli.proofs.Split.{words_from-words}
 
--- the name of the command, and what follows it
+-- the name of the command, and its arguments
 abbrev pub name_of : Form → List ℕ
 name_of (enc text) = codes "enc"
 name_of (dec word) = codes "dec"
@@ -41,7 +41,7 @@ word_of_test bytes passes k d below =
     let test = AllPass-from_list_all (λ b. not (b == 32)) bytes passes k d below in
     grind (arith, nat_tests)
 
--- these are cut at the first space
+-- the first space separates the name from the arguments
 form_parts : (form : Form) → IsWord (name_of form) × (StartsAtSpace (given_to form)
     × (line_of form ≡ name_of form ++ given_to form))
 form_parts (arr words) = (word_of_test (codes "arr") refl, (spaced-starts words, refl))
@@ -56,7 +56,7 @@ named line name given word from parts form of =
     one_cut 32 name (name_of form) given (given_to form) word cut.0 from cut.1.0
     (sym parts ∙ of.is ∙ cut.1.1)
 
--- the form of `arr` and what follows it
+-- the form of `arr` with its arguments
 pub arr_form : (line name : List ℕ) (rest : Option (Bor (List ℕ))) → name ≡ codes "arr"
     → line ≡ name ++ after_space rest → IsOfForm (arr (words_from rest)) line
 arr_form line name rest is parts = record {
@@ -64,7 +64,7 @@ arr_form line name rest is parts = record {
   words = (words_from-words rest).0;
 }
 
--- ---- a line has one form
+-- ---- a line has only one form
 
 names_apart : (a b : List ℕ) → pointwise nat_eq a b ≡ false → a ≢ b
 names_apart a b test same = let passes : pointwise nat_eq a b
@@ -90,7 +90,7 @@ one_form line f g of also =
     let is = named line (name_of f) (given_to f) cut.0 cut.1.0 (of.is ∙ cut.1.1) g also in
     same_form f g of.words also.words is.0 is.1
 
--- ---- lines of no form
+-- ---- lines without a form
 
 -- another name
 pub no_form : (line name : List ℕ) (rest : Option (Bor (List ℕ))) → IsWord name
@@ -99,7 +99,7 @@ pub no_form : (line name : List ℕ) (rest : Option (Bor (List ℕ))) → IsWord
 no_form line name rest word parts other form of =
     other form (named line name (after_space rest) word (after_space-starts rest) parts form of).0
 
--- a name alone
+-- a name without arguments
 only_arr_alone : (name : List ℕ) → name ≢ codes "arr" → (form : Form) → name ≡ name_of form
     → [] ≡ given_to form → ⊥
 only_arr_alone name n_arr (arr words) is none = n_arr is
@@ -112,7 +112,7 @@ no_form_alone line name rest none word parts n_arr form of =
     let is = named line name (after_space rest) word (after_space-starts rest) parts form of in
     only_arr_alone name n_arr form is.0 (rw none at is.1)
 
--- `get` and `cmp` without their words
+-- `get` and `cmp` without their arguments
 pub no_get : (words : List ℕ) → ((word key : List ℕ) → words ≡ word ++ 32 ∷ key → ⊥) → (form : Form)
     → IsOfForm form (codes "get " ++ words) → ⊥
 no_get words none (get word key) of = let is = of.is in none word key cc
@@ -126,7 +126,7 @@ no_cmp words none (cmp left right) of = let is = of.is in none left right of.wor
 no_cmp words none form of =
     names_apart (codes "cmp") (take 3 (line_of form)) refl (ap (λ bytes. take 3 bytes) of.is)
 
--- ---- what the code's tests say
+-- ---- what the code's tests imply
 
 -- a test that failed
 pub differs : (name given word : List ℕ) (same : Bool) → given ≡ word
@@ -135,7 +135,7 @@ differs name given word same is tested fails equal =
     let passes : same ≡ true =
     (slice_eq-Decides Decides-eqb name given same tested).1 (equal ∙ sym is) in cc
 
--- and one that passed
+-- a test that succeeded
 pub equals : (name given word : List ℕ) (same : Bool) → given ≡ word
     → same ≡ pointwise nat_eq name given → same ≡ true → name ≡ word
 equals name given word same is tested passes =

@@ -1,4 +1,4 @@
--- No line has two answers.
+-- The answer to a line is unique.
 use Rattle.std.proofs.Common.{◌≡◌, ℕ, List, [], ◌∷◌, ◌++◌, length, map, refl, sym, ap₂, subst, ◌∙◌}
 use Rattle.std.proofs.Common.{chars, Some}
 use Rattle.std.specs.Prelude.{nat_eq, codes, ⊤}
@@ -44,13 +44,14 @@ use Rattle.jsonb_cli.proofs.Forms.{one_form}
 
 -- ---- answers are chosen in steps
 
--- The answer is this line where nothing is P, and else what is P says which answers there are.
+-- The answer is this line if nothing satisfies P; otherwise what satisfies P determines the
+-- answers.
 data Choice {A : Type 0} (P : A → Type 0) (line : List ℕ) (Then : A → List ℕ → Type 0)
     (answer : List ℕ) : Type 0 where
   refused : ((x : A) → P x → ⊥) → answer ≡ line → Choice P line Then answer
   chosen : {x : A} → P x → Then x answer → Choice P line Then answer
 
--- at most one is P
+-- at most one element satisfies P
 abbrev IsUnique : {A : Type 0} → (A → Type 0) → Type 0
 IsUnique {A} P = (x y : A) → P x → P y → x ≡ y
 
@@ -72,7 +73,7 @@ one_by choices one a b first second = one a b (choices a first) (choices b secon
 
 -- ---- each command
 
--- a word spells one byte string
+-- a word encodes only one byte string
 one_hex : (word : List ℕ) → IsUnique (λ bytes. IsHexOf bytes word)
 one_hex word a b first second = let same = sym first ∙ second in cc
 
@@ -91,7 +92,7 @@ enc_choices (too_large t utf8 means past is) =
 enc_choices (encoded t utf8 means fits is) =
     chosen {x = tt} utf8 (chosen means (chosen {x = tt} fits is))
 
--- the answers that a tree of the word's bytes decides
+-- the answers that the tree of the word's bytes determines
 abbrev OfTree : (List ℕ → Tree → Type 0) → (Tree → List ℕ) → List ℕ → List ℕ → Type 0
 OfTree Means line = OfBytes
     (λ bytes. Choice (Means bytes) (said_of InvalidJsonb) (λ t answer. answer ≡ line t))
@@ -127,12 +128,12 @@ type_choices : {word a : List ℕ} → IsTypeAnswer word a
 type_choices (bad_hex cannot is) = refused cannot is
 type_choices (told bytes hex is) = chosen hex is
 
--- a text spells one name
+-- a text means only one name
 one_name : (key : List ℕ) → IsUnique (λ name. IsName name key)
 one_name key a b first second = let same : trees.text a
     ≡ trees.text b = one_meaning (chars key) (trees.text a) (trees.text b) first.1 second.1 in cc
 
--- the item that stands at the value of the name
+-- the item of the entry at the value of the name
 abbrev StandsAt : List ℕ → List ℕ → Tree → ItemView → Type 0
 StandsAt name bytes t x = (u : Tree) × ((value_of_key name t ≡ Some u)
     × IsFoundIn (pointwise nat_eq name) (length name) bytes t (Some x))
@@ -171,7 +172,7 @@ cmp_choices (bad_left cannot is) = refused (λ both hex. cannot both.0 hex.0) is
 cmp_choices (bad_right cannot is) = refused (λ both hex. cannot both.1 hex.1) is
 cmp_choices (told x y hex again is) = chosen {x = (x, y)} (hex, again) is
 
--- words spell one list of byte strings
+-- words encode only one list of byte strings
 one_inputs : (words : List (List ℕ)) → IsUnique (λ inputs. Each IsHexOf inputs words)
 one_inputs words xs ys each.none each.none = refl
 one_inputs words xs ys (each.more {x = x} {y = word} first others)
@@ -179,7 +180,7 @@ one_inputs words xs ys (each.more {x = x} {y = word} first others)
     let same = one_hex word x y first second in
     let behind = one_inputs _ _ _ others rest in cc
 
--- and one that spells none is not among them
+-- a word that encodes nothing is not among them
 no_bad_hex : (xs before after : List (List ℕ)) (word : List ℕ)
     → ((bytes : List ℕ) → IsHexOf bytes word → ⊥) → Each IsHexOf xs (before ++ word ∷ after) → ⊥
 no_bad_hex xs [] after word cannot (each.more first others) = cannot _ first

@@ -1,4 +1,4 @@
--- Bytes, split at spaces.
+-- Splitting bytes at spaces.
 use Rattle.std.proofs.Common.{◌≡◌, ◌≢◌, inl, inr, ℕ, ◌==◌, Bool, true, false, cond, List, []}
 use Rattle.std.proofs.Common.{◌∷◌, ◌++◌, refl, sym, ◌∙◌, arith}
 use Rattle.std.proofs.lemmas.Bool.Decides.{nat_tests}
@@ -19,7 +19,7 @@ no_space b = b ≢ 32
 no_test : (word : List ℕ) → IsWord word → All (λ b. (b == 32) ≡ false) word
 no_test word one k d below = let other = one k d below in grind (arith, nat_tests)
 
--- the first word, and those behind the space
+-- the first word, and the words after the space
 pub words_from-first : (whole : Option (Bor (List ℕ))) (bytes : Bor (List ℕ)) (word : List ℕ)
     (rest : Option (Bor (List ℕ))) → whole ≡ Some bytes
     → IsWord word → bytes.now ≡ word ++ after_space rest → words_from whole ≡ word ∷ words_from rest
@@ -30,7 +30,7 @@ words_from-first whole bytes word (Some rest) some one is =
 
 -- ---- all words
 
--- the words that these bytes are, each behind a space
+-- the bytes are these words, each preceded by a space
 abbrev pub AreWordsOf : List ℕ → List (List ℕ) → Type 0
 AreWordsOf bytes parts = All IsWord parts × (words_behind_spaces parts ≡ bytes)
 
@@ -59,7 +59,7 @@ pub words_from-words : (rest : Option (Bor (List ℕ)))
 words_from-words None = (All-nil IsWord, refl)
 words_from-words (Some rest) = words-slice_split rest.now
 
--- ---- words, told by what they are put together to
+-- ---- the concatenation determines the words
 
 abbrev pub StartsAtSpace : List ℕ → Type 0
 StartsAtSpace = StartsAt 32
@@ -79,7 +79,7 @@ pub one_word_alone : (bytes word : List ℕ) (rest : Option (Bor (List ℕ))) �
 one_word_alone bytes word rest none one is first more two =
     not_before 32 first more (rw (sym (rw (none, append-nil) at is) ∙ two) at one)
 
--- and two words are not three
+-- two words are not three
 pub three_words : (bytes left right word : List ℕ) (rest : Option (Bor (List ℕ)))
     (more : Bor (List ℕ)) → rest ≡ Some more → IsWord left
     → bytes ≡ left ++ 32 ∷ right → right ≡ word ++ after_space rest → (l r : List ℕ) → IsWord l
@@ -88,7 +88,7 @@ three_words bytes left right word rest more some one_left parts right_is l r one
     let cut = one_cut_at 32 left l right r one_left one_l (sym parts ∙ two) in
     not_before 32 word more.now (rw (sym cut.1 ∙ rw some at right_is) at one_r)
 
--- words are told by what they are put together to
+-- the concatenation determines the words
 pub one_spaced : (xs ys : List (List ℕ)) → All IsWord xs → All IsWord ys
     → words_behind_spaces xs ≡ words_behind_spaces ys → xs ≡ ys
 one_spaced [] [] words others same = refl

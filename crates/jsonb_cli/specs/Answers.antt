@@ -1,4 +1,4 @@
--- Which line answers a line.
+-- The answers to lines.
 use Rattle.std.specs.Prelude.{◌≡◌, ◌⊎◌, ◌++◌, ◌∷◌, ℕ, List, length, map, nat_eq, codes}
 use Rattle.std.specs.Prelude.{chars, Option, Some, None, Result, Ok, Err}
 use Rattle.std.specs.Cmp.Lexicographic.{pointwise}
@@ -36,15 +36,15 @@ use Rattle.jsonb_cli.specs.Commands.{Form, enc, dec, pretty, item_type, get, cmp
 use Rattle.jsonb_cli.specs.Commands.{IsOfForm}
 use Rattle.jsonb_cli.specs.declared.run.Commands.{Commands}
 
--- the answer to a line of no form
+-- The answer to a line that does not have the form of a command.
 abbrev pub IsBadCommand : List ℕ → Type 0
 IsBadCommand answer = answer ≡ error_line (codes "BadCommand")
 
--- the word is hexadecimal of either case, two digits for each byte
+-- The word is hexadecimal of either case, two digits for each byte.
 abbrev pub IsHexOf : List ℕ → List ℕ → Type 0
 IsHexOf bytes word = decode_of word ≡ Ok bytes
 
--- The answer to `enc`: the canonical document of the tree that the text means, or why there is
+-- The answer to `enc` is the canonical document of the tree that the text means, or why there is
 -- none.
 pub data IsEncAnswer (text answer : List ℕ) : Type 0 where
   not_text : (IsUtf8 text → ⊥) → answer ≡ error_line (name_of InvalidUtf8) → IsEncAnswer text answer
@@ -55,7 +55,7 @@ pub data IsEncAnswer (text answer : List ℕ) : Type 0 where
   encoded : (t : Tree) → IsUtf8 text → Json (chars text) t → Fits t
       → answer ≡ ok_line (encode_lower (canonical t)) → IsEncAnswer text answer
 
--- The answer to `dec`: the compact text of the tree that the document means, or why there is none.
+-- The answer to `dec` is the compact text of the document, or why there is none.
 pub data IsDecAnswer (word answer : List ℕ) : Type 0 where
   bad_hex : ((bytes : List ℕ) → IsHexOf bytes word → ⊥) → answer ≡ error_line (codes "BadHex")
       → IsDecAnswer word answer
@@ -64,7 +64,7 @@ pub data IsDecAnswer (word answer : List ℕ) : Type 0 where
   printed : (bytes : List ℕ) (t : Tree) → IsHexOf bytes word → Doc bytes t
       → answer ≡ ok_line (compact t) → IsDecAnswer word answer
 
--- The answer to `pretty`: the pretty text in hexadecimal.
+-- The answer to `pretty` is the pretty text of the document in hexadecimal, or why there is none.
 pub data IsPrettyAnswer (word answer : List ℕ) : Type 0 where
   bad_hex : ((bytes : List ℕ) → IsHexOf bytes word → ⊥) → answer ≡ error_line (codes "BadHex")
       → IsPrettyAnswer word answer
@@ -73,7 +73,7 @@ pub data IsPrettyAnswer (word answer : List ℕ) : Type 0 where
   printed : (bytes : List ℕ) (t : Tree) → IsHexOf bytes word → Doc bytes t
       → answer ≡ ok_line (encode_lower (pretty_text t)) → IsPrettyAnswer word answer
 
--- the words for a kind
+-- The words for a kind.
 abbrev pub kind_words : JsonbItemType → List ℕ
 kind_words Null = codes "null"
 kind_words Boolean = codes "boolean"
@@ -83,27 +83,28 @@ kind_words Extension = codes "extension"
 kind_words (Array count) = codes "array" ++ 32 ∷ decimal count
 kind_words (Object count) = codes "object" ++ 32 ∷ decimal count
 
+-- The line of a kind, or of the error of reading it.
 abbrev pub kind_line : Result JsonbItemType Error → List ℕ
 kind_line (Ok k) = ok_line (kind_words k)
 kind_line (Err e) = error_line (name_of e)
 
--- The answer to `type`: the kind that the bytes show, or why they show none.
+-- The answer to `type` is the kind read from the bytes, or why there is none.
 pub data IsTypeAnswer (word answer : List ℕ) : Type 0 where
   bad_hex : ((bytes : List ℕ) → IsHexOf bytes word → ⊥) → answer ≡ error_line (codes "BadHex")
       → IsTypeAnswer word answer
   told : (bytes : List ℕ) → IsHexOf bytes word → answer ≡ kind_line (kind bytes)
       → IsTypeAnswer word answer
 
--- The text of the key spells this name.
+-- The JSON text of the key means this name.
 abbrev pub IsName : List ℕ → List ℕ → Type 0
 IsName name key = IsUtf8 key × Json (chars key) (trees.text name)
 
--- the value of the first key that is the name
+-- The value of the first key that equals the name.
 abbrev pub value_of_key : List ℕ → Tree → Option Tree
 value_of_key name t = find (pointwise nat_eq name) (length name) t
 
--- The answer to `get`: the value of the key as a document of its own, with the type and payload of
--- the entry that stands there, or why there is none.
+-- The answer to `get` is the value of the key as a document of its own, with the type and payload
+-- of its entry, or why there is none.
 pub data IsGetAnswer (word key answer : List ℕ) : Type 0 where
   bad_hex : ((bytes : List ℕ) → IsHexOf bytes word → ⊥) → answer ≡ error_line (codes "BadHex")
       → IsGetAnswer word key answer
@@ -123,13 +124,13 @@ pub data IsGetAnswer (word key answer : List ℕ) : Type 0 where
       → IsFoundIn (pointwise nat_eq name) (length name) bytes t (Some x)
       → answer ≡ ok_line (encode_lower (item_document x)) → IsGetAnswer word key answer
 
--- the words for an order
+-- The words for an order.
 abbrev pub order_words : Ordering → List ℕ
 order_words Less = codes "less"
 order_words Equal = codes "equal"
 order_words Greater = codes "greater"
 
--- The answer to `cmp`: the order of what the bytes mean.
+-- The answer to `cmp` is the order of the two byte strings by meaning, or why there is none.
 pub data IsCmpAnswer (left right answer : List ℕ) : Type 0 where
   bad_left : ((bytes : List ℕ) → IsHexOf bytes left → ⊥) → answer ≡ error_line (codes "BadHex")
       → IsCmpAnswer left right answer
@@ -139,7 +140,7 @@ pub data IsCmpAnswer (left right answer : List ℕ) : Type 0 where
       → answer ≡ ok_line (order_words (meaning_cmp (meaning_of x) (meaning_of y)))
       → IsCmpAnswer left right answer
 
--- The answer to `arr`: the array of the documents, in order, or why there is none.
+-- The answer to `arr` is the array of the documents, in order, or why there is none.
 pub data IsArrAnswer (words : List (List ℕ)) (answer : List ℕ) : Type 0 where
   bad_hex : (before after : List (List ℕ)) (word : List ℕ) → words ≡ before ++ word ∷ after
       → ((bytes : List ℕ) → IsHexOf bytes word → ⊥)
@@ -151,7 +152,7 @@ pub data IsArrAnswer (words : List (List ℕ)) (answer : List ℕ) : Type 0 wher
       → IsArrayOf (map owned inputs) bytes → answer ≡ ok_line (encode_lower bytes)
       → IsArrAnswer words answer
 
--- The answer to `canon`: the canonical document of the tree, or why there is none.
+-- The answer to `canon` is the canonical document of the tree, or why there is none.
 pub data IsCanonAnswer (word answer : List ℕ) : Type 0 where
   bad_hex : ((bytes : List ℕ) → IsHexOf bytes word → ⊥) → answer ≡ error_line (codes "BadHex")
       → IsCanonAnswer word answer
@@ -160,7 +161,7 @@ pub data IsCanonAnswer (word answer : List ℕ) : Type 0 where
   written : (bytes : List ℕ) (t : Tree) → IsHexOf bytes word → Doc bytes t → Fits t
       → answer ≡ ok_line (encode_lower (canonical t)) → IsCanonAnswer word answer
 
--- the answer to a command
+-- The answer to a command.
 abbrev pub IsFormAnswer : Form → List ℕ → Type 0
 IsFormAnswer (enc text) = IsEncAnswer text
 IsFormAnswer (dec word) = IsDecAnswer word
@@ -171,23 +172,24 @@ IsFormAnswer (cmp left right) = IsCmpAnswer left right
 IsFormAnswer (arr words) = IsArrAnswer words
 IsFormAnswer (canon word) = IsCanonAnswer word
 
--- The answer to a line is that of its command, and of a line of no form `error BadCommand`.
+-- The answer to a line is that of its command, or `error BadCommand` if it does not have the form
+-- of one.
 pub data IsAnswer (line answer : List ℕ) : Type 0 where
   of_form : (form : Form) → IsOfForm form line → IsFormAnswer form answer → IsAnswer line answer
   of_none : ((form : Form) → IsOfForm form line → ⊥) → IsBadCommand answer → IsAnswer line answer
 
--- an answer, or in its place that the command was refused memory
+-- The reply is an answer, or reports that there was not enough memory.
 abbrev pub IsReply : {A : Type 0} → (A → List ℕ → Type 0) → A → List ℕ → Type 0
 IsReply Answers asked reply = Answers asked reply ⊎ IsRefused reply
 
--- what a line may be answered by
+-- The possible replies to a line.
 abbrev pub IsLineReply : List ℕ → List ℕ → Type 0
 IsLineReply = IsReply IsAnswer
 
--- what answers lines, which keeps nothing of them
+-- The state of the program, which is empty.
 abbrev pub commands : Commands
 commands = record {}
 
--- The answer to a line. What answers lines stays the same.
+-- The answer to a line, whatever the state.
 abbrev pub line_rule : Commands → List ℕ → List ℕ → Commands → Type 0
 line_rule state line answer next = IsAnswer line answer

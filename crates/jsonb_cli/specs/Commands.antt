@@ -1,8 +1,8 @@
--- The lines that name a command.
+-- The grammar of commands.
 use Rattle.std.specs.Prelude.{◌≡◌, ℕ, List, ◌∷◌, ◌++◌, All, codes, ⊤}
 use Rattle.jsonb_cli.specs.Words.{IsWord, words_behind_spaces}
 
--- A command with the text or the words that it is given.
+-- A command with its arguments: a text, or words.
 pub data Form : Type 0 where
   enc : (text : List ℕ) → Form
   dec : (word : List ℕ) → Form
@@ -13,7 +13,7 @@ pub data Form : Type 0 where
   arr : (words : List (List ℕ)) → Form
   canon : (word : List ℕ) → Form
 
--- the line of a command
+-- The line of a command.
 abbrev pub line_of : Form → List ℕ
 line_of (enc text) = codes "enc " ++ text
 line_of (dec word) = codes "dec " ++ word
@@ -24,7 +24,7 @@ line_of (cmp left right) = codes "cmp " ++ (left ++ 32 ∷ right)
 line_of (arr words) = codes "arr" ++ words_behind_spaces words
 line_of (canon word) = codes "canon " ++ word
 
--- a word that another follows has no space
+-- Words that are followed by another argument, and those of `arr`, have no space.
 abbrev pub HasWords : Form → Type 0
 HasWords (enc text) = ⊤
 HasWords (dec word) = ⊤
@@ -35,7 +35,7 @@ HasWords (cmp left right) = IsWord left × IsWord right
 HasWords (arr words) = All IsWord words
 HasWords (canon word) = ⊤
 
--- The line is of this form.
+-- The line has this form.
 pub record IsOfForm (form : Form) (line : List ℕ) : Type 0 where
   pub is : line ≡ line_of form
   pub words : HasWords form

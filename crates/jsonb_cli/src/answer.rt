@@ -1,4 +1,4 @@
-//! What a command answers, and the line that says it.
+//! The outcome of a command, and its line.
 
 ghost use Rattle.std.specs.Prelude.{◌≡◌, ◌∷◌, ◌++◌, [], IfOk};
 ghost use Rattle.std.specs.String.{string_bytes};
@@ -8,12 +8,12 @@ ghost use Rattle.jsonb_cli.specs.AnswerLine.{refusal_name, outcome_line};
 use jsonb_value::Error;
 use std::alloc::{AllocError, Global};
 
-/// What a command answers behind `ok`.
+/// The outcome of a command that succeeds, which follows `ok` in its line.
 #[derive(Drop)]
 pub enum Answer {
-    /// Bytes, shown in lower-case hexadecimal.
+    /// Bytes, written in lower-case hexadecimal.
     Hex(Vec<u8>),
-    /// A text as it stands.
+    /// A text, written unchanged.
     Text(String),
     /// A fixed word.
     Word(&'static str),
@@ -21,14 +21,14 @@ pub enum Answer {
     Counted(&'static str, usize),
 }
 
-/// Why a line is answered by `error`.
+/// Why the reply to a line is an error.
 #[derive(Clone, Copy, Debug, PartialEq, Eq)]
 pub enum Refusal {
-    /// The line is of no command's form.
+    /// The line does not have the form of a command.
     BadCommand,
-    /// A word is no hexadecimal.
+    /// A word is not hexadecimal.
     BadHex,
-    /// The library refused.
+    /// A call of the library returned this error.
     Call(Error),
 }
 
@@ -41,7 +41,7 @@ impl From<Error> for Refusal {
 }
 
 impl Refusal {
-    /// The word behind `error`.
+    /// The word after `error` in the line.
     pub fn name(&self) -> &'static str
         ensures { result.now ≡ refusal_name self.now }
     {

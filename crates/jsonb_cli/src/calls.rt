@@ -1,16 +1,14 @@
-//! What the commands ask of the library.
+//! The calls of the library that the commands make.
 
-ghost use Rattle.std.specs.Prelude.{◌≡◌, ◌⊎◌, ◌++◌, ◌∷◌, [], ℕ, List, nat_eq, length, chars};
-ghost use Rattle.std.specs.Prelude.{option_map, IfOk, IfErr, IfSome, IfNone, OnOk, IsOkAnd};
+ghost use Rattle.std.specs.Prelude.{◌≡◌, ◌⊎◌, ◌++◌, ◌∷◌, [], ℕ, List, nat_eq, length};
+ghost use Rattle.std.specs.Prelude.{option_map, IfOk, IfErr, OnOk, IsOkAnd};
 ghost use Rattle.std.specs.Prelude.{IsErrOf};
 ghost use Rattle.std.specs.String.{string_bytes};
 ghost use Rattle.std.specs.Cmp.Lexicographic.{pointwise};
 ghost use Rattle.hex.specs.Hex.{encode_lower};
 ghost use Rattle.jsonb_value.specs.declared.error.Error.TheVariants.{OutOfMemory};
-ghost use Rattle.jsonb_value.specs.Json.Syntax.{Json};
 ghost use Rattle.jsonb_value.specs.Text.{compact, pretty};
-ghost use Rattle.jsonb_value.specs.Tree.{Tree, text};
-ghost use Rattle.jsonb_value.specs.Value.{cow_bytes, tree_of};
+ghost use Rattle.jsonb_value.specs.Tree.{Tree};
 ghost use Rattle.jsonb_codec.specs.Doc.{Doc, IsDocument};
 ghost use Rattle.jsonb.specs.Code.{item_document, CanBeStored};
 ghost use Rattle.jsonb.specs.Document.{document_bytes};
@@ -26,15 +24,13 @@ use crate::answer::{Answer, Refusal};
 use crate::command::decode_word;
 use crate::words::Words;
 use jsonb::{
-    ArrayBuilder, Document, Error, JsonbItem, JsonbItemType, OwnedJsonb, RawJsonb, Value,
-    parse_value,
+    ArrayBuilder, Document, Error, JsonbItem, JsonbItemType, OwnedJsonb, RawJsonb, parse_string,
 };
 use std::alloc::Global;
-use std::borrow::CowStr;
 use std::cmp::Ordering;
 use std::str;
 
-/// The canonical document of a JSON text.
+/// Executes `enc`: the canonical document of a JSON text.
 pub fn answer_enc(alloc: Global, text: &[u8]) -> Result<Answer, Refusal>
     ensures { IsReply IsEncAnswer text.now (outcome_line result) }
 {
@@ -47,7 +43,7 @@ pub fn answer_enc(alloc: Global, text: &[u8]) -> Result<Answer, Refusal>
     }
 }
 
-/// The compact text of a document.
+/// Executes `dec`: the compact text of a document.
 pub fn answer_dec(alloc: Global, word: &[u8]) -> Result<Answer, Refusal>
     ensures { IsReply IsDecAnswer word.now (outcome_line result) }
 {
@@ -58,7 +54,7 @@ pub fn answer_dec(alloc: Global, word: &[u8]) -> Result<Answer, Refusal>
     }
 }
 
-/// The pretty text of a document, in hexadecimal since it has lines.
+/// Executes `pretty`: the pretty text of a document, in hexadecimal since it has several lines.
 pub fn answer_pretty(alloc: Global, word: &[u8]) -> Result<Answer, Refusal>
     ensures { IsReply IsPrettyAnswer word.now (outcome_line result) }
 {
@@ -69,7 +65,7 @@ pub fn answer_pretty(alloc: Global, word: &[u8]) -> Result<Answer, Refusal>
     }
 }
 
-// The document that the bytes are. `InvalidJsonb` where they are none.
+// The document that the bytes are. `InvalidJsonb` if they are not one.
 fn document_in(bytes: &[u8]) -> Result<Document<'_>, Error>
     ensures ok { IfOk result (λ document. document_bytes document ≡ bytes.now) }
     ensures document { OnOk result (IsDocument bytes.now) }
@@ -78,7 +74,7 @@ fn document_in(bytes: &[u8]) -> Result<Document<'_>, Error>
     Document::new(bytes).ok_or(Error::InvalidJsonb)
 }
 
-// The compact text of the tree that the bytes mean.
+// The compact text of the document that the bytes are.
 fn document_text(alloc: Global, bytes: &[u8]) -> Result<String, Error>
     ensures ok { IfOk result
         (λ text. (t : Tree) × (Doc bytes.now t × (string_bytes text ≡ compact t))) }
@@ -88,7 +84,7 @@ fn document_text(alloc: Global, bytes: &[u8]) -> Result<String, Error>
     document_in(bytes)?.to_string(alloc)
 }
 
-// The pretty text of the tree that the bytes mean.
+// The pretty text of the document that the bytes are.
 fn pretty_document_text(alloc: Global, bytes: &[u8]) -> Result<String, Error>
     ensures ok { IfOk result
         (λ text. (t : Tree) × (Doc bytes.now t × (string_bytes text ≡ pretty t))) }
@@ -98,7 +94,7 @@ fn pretty_document_text(alloc: Global, bytes: &[u8]) -> Result<String, Error>
     document_in(bytes)?.to_pretty_string(alloc)
 }
 
-/// The order of two byte strings.
+/// Executes `cmp`: the order of two byte strings by their meaning.
 pub fn answer_cmp(alloc: Global, left: &[u8], right: &[u8]) -> Result<Answer, Refusal>
     ensures { IsReply (IsCmpAnswer left.now) right.now (outcome_line result) }
 {
@@ -119,7 +115,7 @@ fn order_word(order: Ordering) -> &'static str
     }
 }
 
-/// The array of some documents.
+/// Executes `arr`: the array of these documents.
 pub fn answer_arr(alloc: Global, words: Words) -> Result<Answer, Refusal>
     ensures { IsReply IsArrAnswer words.entry (outcome_line result) }
 {
@@ -135,7 +131,7 @@ pub fn answer_arr(alloc: Global, words: Words) -> Result<Answer, Refusal>
     }
 }
 
-// Puts the bytes of a hexadecimal word behind the others.
+// Appends the bytes of a hexadecimal word to the array.
 fn push_document(alloc: Global, builder: &mut ArrayBuilder, word: &[u8]) -> Result<(), Refusal>
     ensures ok { OnOk result ((bytes : List ℕ) × (IsHexOf bytes word.now
         × (builder.new ≡ builder.old ++ owned bytes ∷ []))) }
@@ -150,7 +146,7 @@ fn push_document(alloc: Global, builder: &mut ArrayBuilder, word: &[u8]) -> Resu
     Ok(())
 }
 
-/// The canonical document of a document's tree.
+/// Executes `canon`: the canonical document of a document's value.
 pub fn answer_canon(alloc: Global, word: &[u8]) -> Result<Answer, Refusal>
     ensures { IsReply IsCanonAnswer word.now (outcome_line result) }
 {
@@ -161,7 +157,7 @@ pub fn answer_canon(alloc: Global, word: &[u8]) -> Result<Answer, Refusal>
     }
 }
 
-/// The kind that some bytes show.
+/// Executes `type`: the kind read from the first two words of the bytes.
 pub fn answer_type(alloc: Global, word: &[u8]) -> Result<Answer, Refusal>
     ensures { IsReply IsTypeAnswer word.now (outcome_line result) }
 {
@@ -187,7 +183,7 @@ fn kind_answer(kind: JsonbItemType) -> Answer
     }
 }
 
-/// The value of a key, as a document of its own.
+/// Executes `get`: the value of a key, as a document of its own.
 pub fn answer_get(alloc: Global, word: &[u8], key: &[u8]) -> Result<Answer, Refusal>
     ensures { IsReply (IsGetAnswer word.now) key.now (outcome_line result) }
 {
@@ -195,7 +191,7 @@ pub fn answer_get(alloc: Global, word: &[u8], key: &[u8]) -> Result<Answer, Refu
     let Ok(json) = str::from_utf8(key) else {
         return Err(Refusal::Call(Error::InvalidUtf8));
     };
-    let name = match parse_name(alloc, json) {
+    let name = match parse_string(alloc, json) {
         Ok(name) => name,
         Err(error) => return Err(Refusal::Call(error)),
     };
@@ -206,7 +202,7 @@ pub fn answer_get(alloc: Global, word: &[u8], key: &[u8]) -> Result<Answer, Refu
     }
 }
 
-// The bytes that an item becomes.
+// The outcome with the document of an item.
 fn item_answer(alloc: Global, item: JsonbItem) -> Result<Answer, Refusal>
     ensures ok { OnOk result
         (outcome_line result ≡ ok_line (encode_lower (item_document (item_view item.entry)))) }
@@ -219,41 +215,7 @@ fn item_answer(alloc: Global, item: JsonbItem) -> Result<Answer, Refusal>
     }
 }
 
-// The name that a JSON text spells.
-fn parse_name<'a>(alloc: Global, json: &'a str) -> Result<CowStr<'a>, Error>
-    ensures ok { IfOk result (λ name. Json (chars json.now) (text (cow_bytes name))) }
-    ensures none { IfErr result (λ e. e ≡ Error.InvalidJson
-        → (name : List ℕ) → Json (chars json.now) (text name) → ⊥) }
-    ensures only { IfErr result (λ e. (e ≡ Error.InvalidJson) ⊎ (e ≡ Error.OutOfMemory)) }
-{
-    match parse_value(alloc, json) {
-        Ok(value) => string_of(value).ok_or(Error::InvalidJson),
-        Err(error) => Err(error),
-    }
-}
-
-// The text of a string.
-fn string_of<'a>(value: Value<'a>) -> Option<CowStr<'a>>
-    ensures some { IfSome result (λ name. tree_of value.entry ≡ text (cow_bytes name)) }
-    ensures none { IfNone result ((name : List ℕ) → tree_of value.entry ≡ text name → ⊥) }
-{
-    match value {
-        Value::String(name) => Some(name),
-        Value::Null
-        | Value::Bool(_)
-        | Value::Number(_)
-        | Value::Binary(_)
-        | Value::Date(_)
-        | Value::Timestamp(_)
-        | Value::TimestampTz(_)
-        | Value::Interval(_)
-        | Value::Opaque(_)
-        | Value::Array(_)
-        | Value::Object(_) => None,
-    }
-}
-
-// The value of the key of this name. `InvalidJsonb` where the bytes are no document.
+// The value of the key with this name. `InvalidJsonb` if the bytes are not a document.
 fn value_of_name<'a>(bytes: &'a [u8], name: &str) -> Result<Option<JsonbItem<'a>>, Error>
     ensures found { (t : Tree) → Doc bytes.now t
         → IsOkAnd result (λ item. IsItemFound (find (pointwise nat_eq name.now) (length name.now) t)

@@ -1,4 +1,4 @@
-//! The commands: which line is one, and what each answers.
+//! The grammar of commands, and executing them.
 
 ghost use Rattle.std.specs.Prelude.{◌≡◌, ◌⊎◌, ◌++◌, ℕ, List, codes, IfSome, IfNone, IfOk, IfErr};
 ghost use Rattle.std.specs.Prelude.{IsErrOf};
@@ -18,7 +18,7 @@ use hex::FromHexError;
 use jsonb::Error;
 use std::alloc::Global;
 
-/// A line of a command, cut into the text or the words that the command is given.
+/// A command with its arguments: a text, or words.
 #[derive(Drop)]
 pub enum Command<'a> {
     Enc(&'a [u8]),
@@ -32,7 +32,7 @@ pub enum Command<'a> {
 }
 
 impl<'a> Command<'a> {
-    /// The command of a line; `None` where the line is of no command's form.
+    /// The command of a line, `None` if the line does not have the form of a command.
     pub fn parse(line: &'a [u8]) -> Option<Command<'a>>
         ensures some { IfSome result (λ command. IsOfForm (form_of command) line.now) }
         ensures none { IfNone result ((form : Form) → IsOfForm form line.now → ⊥) }
@@ -62,7 +62,7 @@ impl<'a> Command<'a> {
     }
 }
 
-// `get` is given a word, and a text behind the space that ends it.
+// `get` has a word, a space and a text as its arguments.
 fn parse_get(words: &[u8]) -> Option<Command<'_>>
     ensures some { IfSome result (λ command.
         IsOfForm (form_of command) (codes "get " ++ words.now)) }
@@ -76,7 +76,7 @@ fn parse_get(words: &[u8]) -> Option<Command<'_>>
     })
 }
 
-// `cmp` is given two words.
+// `cmp` has two words as its arguments.
 fn parse_cmp(words: &[u8]) -> Option<Command<'_>>
     ensures some { IfSome result (λ command.
         IsOfForm (form_of command) (codes "cmp " ++ words.now)) }
@@ -92,7 +92,7 @@ fn parse_cmp(words: &[u8]) -> Option<Command<'_>>
 }
 
 impl Command<'_> {
-    /// What the command answers. Want of memory in its own calls is an answer too.
+    /// Executes the command. Running out of memory is an outcome too.
     pub fn answer(self, alloc: Global) -> Result<Answer, Refusal>
         ensures { IsReply IsFormAnswer (form_of self.entry) (outcome_line result) }
     {
@@ -109,10 +109,10 @@ impl Command<'_> {
     }
 }
 
-/// What a line is answered: what its command answers, or that it is none.
+/// The outcome of a line: that of its command, or `BadCommand` if it has none.
 pub fn answer(alloc: Global, line: &[u8]) -> Result<Answer, Refusal>
     ensures reply { IsLineReply line.now (outcome_line result) }
-    // No line has two answers.
+    // The answer to a line is unique.
     ensures one { (a b : List ℕ) → IsAnswer line.now a → IsAnswer line.now b → a ≡ b }
 {
     match Command::parse(line) {
@@ -121,7 +121,8 @@ pub fn answer(alloc: Global, line: &[u8]) -> Result<Answer, Refusal>
     }
 }
 
-/// The bytes of a hexadecimal word of either case; of an empty word none.
+/// The bytes of a hexadecimal word of either case; none for an empty word. `BadHex` if the word is
+/// not hexadecimal, `OutOfMemory` if an allocation fails.
 pub fn decode_word(alloc: Global, word: &[u8]) -> Result<Vec<u8>, Refusal>
     ensures ok { IfOk result (λ bytes. IsHexOf bytes.items word.now) }
     ensures bad { IsErrOf result Refusal.BadHex → (bytes : List ℕ) → IsHexOf bytes word.now → ⊥ }

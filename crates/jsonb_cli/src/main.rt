@@ -1,4 +1,4 @@
-//! Answers lines of commands on binary JSON documents, from standard input to standard output.
+//! Answers lines with commands on binary JSON documents, from standard input to standard output.
 #![tactic(auto)]
 
 mod answer;
@@ -16,8 +16,8 @@ fn main(rt: HostRuntime) -> ExitCode {
     match run::run(rt.alloc(), &mut rt.reader(), &mut io::writer(&rt)) {
         Ok(()) => ExitCode::SUCCESS,
         Err(error) => {
-            // Where standard error takes no line either, the status alone tells of the fault.
-            let _ = eprintln!(rt; "{}", run::fault_line(error));
+            // If standard error accepts no line either, only the exit status reports the fault.
+            let _ = eprintln!(rt; "{}", error.line());
             ExitCode::FAILURE
         }
     }

@@ -1,30 +1,55 @@
-//! Lines in, answers out, over any reader and any writer.
+//! The loop from lines to answers, over any reader and any writer.
 
 ghost use Rattle.std.specs.Prelude.{◌≡◌, ℕ, List, OnOk, OnErr, IfSome, IsErrOf};
 ghost use Rattle.std.specs.Io.KnownBytes.{IsAtEnd};
 ghost use Rattle.answer_lines.specs.Session.{AreAnswers, AppendsReplies, AppendsBeginning};
 ghost use Rattle.answer_lines.specs.Session.{AppendsWhole};
 ghost use Rattle.jsonb_cli.specs.Answers.{line_rule, commands};
-ghost use Rattle.jsonb_cli.specs.Fault.{fault_line};
+ghost use Rattle.jsonb_cli.specs.Fault.{error_of, fault_line};
 
 use crate::answer::line_text;
 use crate::command;
-use answer_lines::{LineAnswerer, RunError, answer_lines};
+use answer_lines::{LineAnswerer, answer_lines};
 use std::alloc::{AllocError, Global};
 use std::io::{Read, Write};
 
-/// The line that tells of a fault on standard error.
-pub fn fault_line(error: RunError) -> &'static str
-    ensures { result.now ≡ fault_line error }
-{
-    match error {
-        RunError::Read => "jsonb_cli: read failed",
-        RunError::Write => "jsonb_cli: write failed",
-        RunError::Memory => "jsonb_cli: out of memory",
+/// Why a run ended early.
+#[derive(Clone, Copy, Debug, PartialEq, Eq)]
+pub enum RunError {
+    /// The reader failed, or never reached the end of its input.
+    Read,
+    /// The writer failed, or accepted no byte.
+    Write,
+    /// Memory for a line or for an answer was refused.
+    Memory,
+}
+
+impl RunError {
+    /// The line that the program writes to standard error before it exits with a failure.
+    pub fn line(&self) -> &'static str
+        ensures { result.now ≡ fault_line self.now }
+    {
+        match self {
+            RunError::Read => "jsonb_cli: read failed",
+            RunError::Write => "jsonb_cli: write failed",
+            RunError::Memory => "jsonb_cli: out of memory",
+        }
     }
 }
 
-/// What answers each line by its command, and keeps nothing of it.
+impl From<answer_lines::RunError> for RunError {
+    ghost from_gives = { λ error result. result ≡ error_of error };
+
+    fn from(error: answer_lines::RunError) -> RunError {
+        match error {
+            answer_lines::RunError::Read => RunError::Read,
+            answer_lines::RunError::Write => RunError::Write,
+            answer_lines::RunError::Memory => RunError::Memory,
+        }
+    }
+}
+
+/// Answers each line by its command, without any state.
 #[derive(Drop)]
 pub struct Commands;
 
@@ -36,15 +61,15 @@ impl LineAnswerer for Commands {
     }
 }
 
-/// Answers each line of the reader's bytes to the writer by one line. A line is what stands before
-/// a line feed, and what follows the last one where it is not empty. All whole lines that were read
-/// are answered before the reader is asked again. After `Ok` all input was read, and its answers
-/// were written, in order and nothing else.
+/// Writes one answer line for each line of the reader. A line ends at a line feed; what follows the
+/// last line feed is a line unless it is empty. All whole lines that were read are answered before
+/// the next read. After `Ok` the input was read to its end, and exactly its answers were written,
+/// in order.
 ///
-/// Where a command is refused memory, its answer is `error OutOfMemory` and the run goes on. After
-/// an error what was written is a beginning of such answers. `Read`: the reader failed, or was
-/// asked 18,446,744,073,709,551,615 times and met no end of input. `Write`: the writer failed, or
-/// took no byte. `Memory`: the room for a line or for an answer was refused.
+/// If a command runs out of memory, its answer is `error OutOfMemory`, and the run continues. After
+/// an error, a prefix of the answers was written. `Read`: the reader failed, or was called
+/// 18,446,744,073,709,551,615 times without reaching the end of the input. `Write`: the writer
+/// failed, or accepted no byte. `Memory`: the allocation of a line or of an answer failed.
 pub fn run<R: Read, W: Write>(alloc: Global, reader: &mut R, writer: &mut W) -> Result<(), RunError>
     ensures done { OnOk result (IfSome (R.remaining reader.old) (λ input. AppendsReplies
         line_rule commands commands input (W.contents writer.old) (W.contents writer.new))) }
@@ -52,14 +77,14 @@ pub fn run<R: Read, W: Write>(alloc: Global, reader: &mut R, writer: &mut W) -> 
     ensures beginning { OnErr result (IfSome (R.remaining reader.old) (λ input. AppendsBeginning
         line_rule commands input (W.contents writer.old) (W.contents writer.new))) }
 
-    // After the reader's fault exactly the whole lines that it gave are answered.
+    // After a fault of the reader, exactly the whole lines that it returned are answered.
     ensures prompt { IsErrOf result RunError.Read → IfSome (R.remaining reader.old) (λ input.
         IfSome (R.remaining reader.new) (λ left. (start : List ℕ) × AppendsWhole line_rule
         commands commands input start left (W.contents writer.old) (W.contents writer.new))) }
 
-    // Where no reply is `error OutOfMemory`, an input has one output.
+    // If no answer is `error OutOfMemory`, the output is determined by the input.
     ensures one_output { (input a b : List ℕ) → AreAnswers line_rule commands input a
         → AreAnswers line_rule commands input b → a ≡ b }
 {
-    answer_lines(alloc, &mut Commands, reader, writer)
+    Ok(answer_lines(alloc, &mut Commands, reader, writer)?)
 }

@@ -1,14 +1,13 @@
-//! Lines and their answers, and runs that meet a fault. The readers and writers take no memory.
+//! Lines with their answers, and runs with a fault. The readers and writers allocate nothing.
 
-use crate::run::{fault_line, run};
-use answer_lines::RunError;
+use crate::run::{RunError, run};
 use std::alloc::AllocError;
 use std::cell::Cell;
 use std::io::{ErrorKind, Read, Write};
 use std::test::Fail;
 use std::{io, str};
 
-// Known lines of each command, and their answers.
+// Known lines for each command, with their answers.
 const LINES: &str = "\
 enc [false,true]\n\
 enc {\"b\":1.50,\"a\":-7}\n\
@@ -169,8 +168,8 @@ fn answers_each_line(rt: HostRuntime) -> Result<(), Fail> {
     Ok(())
 }
 
-// The text that was written into a room of which so many bytes are left. Want of memory is handed
-// on: a run with a refused request may answer so.
+// The text that was written to a buffer with `left` bytes left. Lack of memory is passed on, since
+// a test may be run with failing allocations.
 fn written(room: &[u8], left: usize) -> Result<&str, Fail> {
     let count = room.len().saturating_sub(left);
     let text = str::from_utf8(room.get(..count).ok_or("more than there is room")?)?;
@@ -187,7 +186,7 @@ fn writes_nothing_for_no_input(rt: HostRuntime) -> Result<(), Fail> {
     Ok(())
 }
 
-/// Gives some bytes, and no more until each line that it gave is answered.
+/// Returns some bytes, and no more until each line among them is answered.
 #[derive(Drop)]
 struct WaitingReader<'a> {
     bytes: &'a [u8],
@@ -210,7 +209,7 @@ impl Read for WaitingReader<'_> {
     }
 }
 
-/// Takes all bytes, and tells how many lines they ended.
+/// Accepts all bytes, and counts the lines that they end.
 #[derive(Drop)]
 struct CountingWriter<'a> {
     replies: &'a Cell<usize>,
@@ -246,7 +245,7 @@ fn answers_before_it_reads_on(rt: HostRuntime) -> Result<(), Fail> {
     Ok(())
 }
 
-/// Gives what comes before its fault, fails once, and would then give what comes behind.
+/// Returns the bytes before its fault, fails once, and would then return those after it.
 #[derive(Drop)]
 struct FaultyReader<'a> {
     before: &'a [u8],
@@ -290,7 +289,7 @@ fn ends_at_a_fault_of_its_reader(rt: HostRuntime) -> Result<(), Fail> {
     Ok(())
 }
 
-/// Takes the bytes that it has room for, fails once, and would then take the next ones.
+/// Accepts the bytes that it has room for, fails once, and would then accept more.
 #[derive(Drop)]
 struct FaultyWriter<'a> {
     room: &'a mut [u8],
@@ -338,7 +337,7 @@ fn ends_at_a_fault_of_its_writer(rt: HostRuntime) -> Result<(), Fail> {
         let mut reader = b"enc [false,true]\narr\n".as_slice();
         let outcome = with_memory(run(rt.alloc(), &mut reader, &mut writer))?;
         let said = str::from_utf8(&bytes)?.trim_end();
-        // Where the command was refused memory, its answer is another.
+        // If the command ran out of memory, its answer is a different one.
         if said == "error" {
             return Err(AllocError.into());
         }
@@ -348,7 +347,7 @@ fn ends_at_a_fault_of_its_writer(rt: HostRuntime) -> Result<(), Fail> {
     Ok(())
 }
 
-// Hands on want of memory, which a run with a refused request may meet, and gives any other
+// Passes on lack of memory, which a run with failing allocations may meet, and returns any other
 // outcome.
 fn with_memory(outcome: Result<(), RunError>) -> Result<Result<(), RunError>, RunError> {
     match outcome {
@@ -358,8 +357,8 @@ fn with_memory(outcome: Result<(), RunError>) -> Result<Result<(), RunError>, Ru
 }
 
 #[test]
-fn tells_faults(rt: HostRuntime) {
-    assert_eq!(rt; fault_line(RunError::Read), "jsonb_cli: read failed");
-    assert_eq!(rt; fault_line(RunError::Write), "jsonb_cli: write failed");
-    assert_eq!(rt; fault_line(RunError::Memory), "jsonb_cli: out of memory");
+fn reports_faults(rt: HostRuntime) {
+    assert_eq!(rt; RunError::Read.line(), "jsonb_cli: read failed");
+    assert_eq!(rt; RunError::Write.line(), "jsonb_cli: write failed");
+    assert_eq!(rt; RunError::Memory.line(), "jsonb_cli: out of memory");
 }

@@ -7,7 +7,7 @@ ghost use Rattle.jsonb_cli.specs.Words.{IsWord, after_space, words_from};
 use answer_lines::split_once;
 use std::marker::Model;
 
-/// What stands before the first space, and what follows it, where there is a space.
+/// The bytes before the first space, and those after it if there is a space.
 pub fn split_word(bytes: &[u8]) -> (&[u8], Option<&[u8]>)
     ensures word { IsWord result.0.now }
     ensures parts { bytes.now ≡ result.0.now ++ after_space result.1 }
@@ -18,7 +18,7 @@ pub fn split_word(bytes: &[u8]) -> (&[u8], Option<&[u8]>)
     }
 }
 
-/// The words that are left: the parts of some bytes between single spaces, or none.
+/// The remaining words: the parts of some bytes between single spaces, or none.
 #[derive(Drop)]
 pub struct Words<'a> {
     rest: Option<&'a [u8]>,
@@ -31,7 +31,7 @@ impl<'a> Model for Words<'a> {
 }
 
 impl<'a> Words<'a> {
-    /// The words of some bytes, or none where there are no bytes to split.
+    /// The words of some bytes, or none if there are no bytes to split.
     pub fn new(rest: Option<&'a [u8]>) -> Self
         ensures { result ≡ words_from rest.entry }
     {

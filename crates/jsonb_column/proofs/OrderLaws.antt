@@ -1,4 +1,4 @@
--- Sorted rows are parted by each key: those below it, those equal to it, those above.
+-- A key divides sorted rows into those less than it, those equal to it, and those greater.
 use Rattle.std.proofs.Common.{◌≡◌, ◌≢◌, ℕ, zero, suc, ◌+◌, ◌≤◌, ◌<◌, ◌&&◌, List, [], ◌∷◌, length}
 use Rattle.std.proofs.Common.{take, drop, Bool, true, false, not, refl, arith, ap}
 use Rattle.std.specs.Prelude.{slice_index_or, filter, IsSorted}
@@ -43,7 +43,7 @@ module _ {X K : Type 0} (R : K → K → Ordering) (o : IsTotalOrder R) (value :
   pub parted-le : IsPartitionedBy (λ x. is_le (R (value x) k)) xs
   parted-le i j d le low = le-lower _ _ (searchable_from_sorted o value xs k sorted i j d le low)
 
--- whether a row is in a range, by its order beside the ends
+-- whether a row is in a range, given its order relative to the bounds
 pub below : (r s : Ordering) → r ≡ Less → not (is_lt r) && not (is_gt s) ≡ false
 below Less s e = refl
 below Equal s e = let never : ⊥ = cc in absurd never
@@ -64,7 +64,7 @@ between Greater Less low high = refl
 between Greater Equal low high = refl
 between r Greater low high = absurd (high refl)
 
--- Exactly the elements from a place on, so many, pass the test.
+-- Exactly the n elements from an index pass the test.
 pub filter-between : {X : Type 0} (p : X → Bool) (xs : List X) (from n : ℕ)
     → ((i : ℕ) (d : X) → i < from → p (slice_index_or xs i d) ≡ false)
     → ((i : ℕ) (d : X) → from ≤ i → i < from + n → p (slice_index_or xs i d) ≡ true)

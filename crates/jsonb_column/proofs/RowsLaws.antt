@@ -1,4 +1,4 @@
--- Rows stay as they are where bytes are appended, and the last is what was appended.
+-- Rows are unchanged when bytes are appended, and the last row is what was appended.
 use Rattle.std.proofs.Common.{◌≡◌, ℕ, ◌<◌, List, [], ◌∷◌, ◌++◌, take, drop, length, refl, sym, ap}
 use Rattle.std.proofs.Common.{ap₂, subst, ◌∙◌, arith}
 use Rattle.std.specs.Prelude.{All, slice_index_or}
@@ -57,7 +57,7 @@ FillBytes-pushed b c places p all means start size =
           (λ (x y : List ℕ). x ++ y) all.whole (append-nil c);
     }
 
--- A document behind the bytes, with its place behind the places, is one more row.
+-- A document appended to the bytes, with its position, is one more row.
 pub pushed : (b c new_bytes : List ℕ) (places new_places : List Place) (p : Place)
     → FillBytes b places → IsDocument c → new_bytes ≡ b ++ c → new_places ≡ places ++ p ∷ []
     → p.start ≡ length b → p.size ≡ length c → FillBytes new_bytes new_places

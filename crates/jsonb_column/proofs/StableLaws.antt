@@ -1,4 +1,5 @@
--- What is sorted stably is so too by the part of it that has its key.
+-- If a list is sorted stably by a part of each element, the list of these parts is sorted stably
+-- too.
 use Rattle.std.proofs.Common.{◌≡◌, ◌⊎◌, inl, inr, ◌&&◌, Bool, true, false, not, cond, List, [], ◌∷◌}
 use Rattle.std.proofs.Common.{map, refl, sym, ap, ap₂, ◌∙◌}
 use Rattle.std.specs.Prelude.{filter}
@@ -39,7 +40,7 @@ tied Greater Equal turned e = let never : ⊥ = cc in absurd never
 tied Greater Greater turned e = let never : ⊥ = cc in absurd never
 
 module _ {B K : Type 0} (R : K → K → Ordering) (o : IsTotalOrder R) (key : B → K) where
-  -- whether two have equal keys
+  -- whether two elements have equal keys
   abbrev pub tie : B → B → Bool
   tie = ties (λ x y. is_lt (R (key x) (key y)))
 
@@ -49,7 +50,7 @@ module _ {B K : Type 0} (R : K → K → Ordering) (o : IsTotalOrder R) (key : B
   pub Equal-tie : (x y : B) → R (key x) (key y) ≡ Equal → tie x y ≡ true
   Equal-tie x y e = rw (e, tied_back o (key x) (key y) e) refl
 
-  -- equal ones tie with the same
+  -- elements with equal keys tie with the same elements
   alike : (x y : B) → tie x y ≡ true → (z : B) → tie x z ≡ tie y z
   alike x y e z =
       let same = tie-Equal x y e in

@@ -1,4 +1,4 @@
--- Stored rows are read back as one list of rows.
+-- Bytes in stored form determine the rows.
 use Rattle.std.proofs.Common.{◌≡◌, ℕ, ◌+◌, ◌<◌, ◌^◌, List, [], ◌∷◌, ◌++◌, length, take, drop, refl}
 use Rattle.std.proofs.Common.{◌⊎◌, inl, inr, sym, ap, ap₂, subst, ◌∙◌, arith, append_assoc}
 use Rattle.std.proofs.Common.{Result, Ok, Err}
@@ -28,7 +28,7 @@ pub storage-push : (rows : List (List ℕ)) (row : List ℕ)
 storage-push rows row =
     storage-append rows (row ∷ []) ∙ ap (λ b. storage rows ++ b) (append-nil (row_bytes row))
 
--- The rows up to an index, and the one there.
+-- The rows before an index, and the one at it.
 pub storage-more : (rows : List (List ℕ)) (i : ℕ) (row : List ℕ) → i < length rows
     → row ≡ slice_index_or rows i []
     → storage (take (i + 1) rows) ≡ storage (take i rows) ++ row_bytes row
@@ -36,7 +36,7 @@ storage-more rows i row low is =
     ap storage (take_more rows i [] low ∙ ap (λ r. take i rows ++ r ∷ []) (sym is))
     ∙ storage-push (take i rows) row
 
--- Each row of these is short where all together are.
+-- Each row is short enough if all together are.
 pub IsRow-all : (rows : List (List ℕ)) → All IsDocument rows → length (concat rows) < 2 ^ 64
     → All IsRow rows
 IsRow-all [] all few = All-nil IsRow
@@ -49,7 +49,7 @@ IsRow-all (row ∷ rows) all few =
     (IsRow-all rows (All-tail IsDocument row rows all)
     (omega (arith, length-append row (concat rows))))
 
--- Parts of one length in front of others are the same where the whole is.
+-- Equal concatenations whose first parts have equal lengths have equal parts.
 same_parts : (a b x y : List ℕ) → length a ≡ length b → a ++ x ≡ b ++ y → (a ≡ b) × (x ≡ y)
 same_parts a b x y size same = (
   sym (take-append_seam a x) ∙ ap₂ (λ (n : ℕ) (s : List ℕ). take n s) size same
@@ -58,7 +58,7 @@ same_parts a b x y size same = (
       ∙ drop-append_seam b y,
 )
 
--- A row in front of other bytes is told from them by its length.
+-- A stored row followed by other bytes is determined by its length.
 same_row : (f r x y : List ℕ) → length f < 2 ^ 64 → length r < 2 ^ 64
     → row_bytes f ++ x ≡ row_bytes r ++ y → (f ≡ r) × (x ≡ y)
 same_row f r x y few short same =
@@ -70,7 +70,7 @@ same_row f r x y few short same =
     ∙ ap (from_be_bytes w64) be ∙ from_be_bytes-to_be_bytes_8 (length r) short in
     same_parts f r x y size behind
 
--- So rows that are read in front of the rest are the first of all that are stored there.
+-- Rows that were read before the rest are the first of all the stored rows.
 pub record GoesOn (front rows : List (List ℕ)) (rest : List ℕ) : Type 0 where
   pub more : List (List ℕ)
   pub rows_are : rows ≡ front ++ more
@@ -106,7 +106,7 @@ storage-front (f ∷ front) (r ∷ rows) rest first all same =
       rest_is = on.rest_is;
     }
 
--- Of the bytes these rows are read, and the rest is left.
+-- These rows were read from the bytes, and the rest is left.
 pub record IsRead (bytes : List ℕ) (rows : List (List ℕ)) (rest : List ℕ) : Type 0 where
   pub each : All IsRow rows
   pub parts : bytes ≡ storage rows ++ rest
@@ -138,7 +138,7 @@ IsRead-first bytes rest front rows read some all =
     begun [] each is = absurd (omega (arith, ap length is))
     begun (r ∷ more) each is = (r, (All-head IsRow r more each, (storage more, is)))
 
--- Nothing is stored where the rest begins with no row, nor where it begins with one that is no
+-- The bytes are not in stored form if the rest begins with no whole row, or with one that is not a
 -- document.
 pub IsRead-cut : (bytes rest : List ℕ) (front rows : List (List ℕ)) → IsRead bytes front rest
     → 0 < length rest → AreStored rows bytes
@@ -205,9 +205,9 @@ IsRead-HasFaultyRow bytes rest row behind rows read is short fault =
       no_document = fault;
     }
 
--- ---- what bytes store
+-- ---- the rows that bytes store
 
--- they store one list of rows
+-- there is at most one list of rows
 pub one_stored : (bytes : List ℕ) (rows others : List (List ℕ)) → AreStored rows bytes
     → AreStored others bytes → rows ≡ others
 one_stored bytes rows others first second =
@@ -218,7 +218,7 @@ one_stored bytes rows others first second =
           first.written ∙ sym (append-nil (storage rows));
     } refl second
 
--- or none
+-- bytes with stored rows are not cut off
 pub not_cut : (bytes : List ℕ) (rows : List (List ℕ)) → AreStored rows bytes → IsCut bytes → ⊥
 not_cut bytes rows all cut =
     IsRead-cut bytes cut.rest cut.rows rows record { each = cut.each; parts = cut.parts } cut.some
@@ -231,7 +231,7 @@ not_faulty bytes rows all faulty =
     (IsRead-document bytes (row_bytes faulty.row ++ faulty.behind) faulty.row faulty.behind
     faulty.rows rows record { each = faulty.each; parts = faulty.parts } refl faulty.short all)
 
--- and then for one reason
+-- bytes without stored rows are so for only one reason
 apart : (xs ys : List (List ℕ)) (rest row behind : List ℕ) → All IsRow xs → All IsRow ys
     → ((r b : List ℕ) → length r < 2 ^ 64 → rest ≡ row_bytes r ++ b → ⊥) → length row < 2 ^ 64
     → (IsDocument row → ⊥) → storage xs ++ rest ≡ storage ys ++ (row_bytes row ++ behind) → ⊥
@@ -258,7 +258,7 @@ cut_or_faulty bytes cut faulty =
     apart cut.rows faulty.rows cut.rest faulty.row faulty.behind cut.each faulty.each cut.no_row
     faulty.short faulty.no_document (sym cut.parts ∙ faulty.parts)
 
--- So a call that refuses a row tells why.
+-- A call that refuses a row reports the reason.
 pub told_cut : {T : Type 0} (bytes : List ℕ) (r : Result T Error) (e : Error)
     → IsErrAnd r (λ x. x ≡ e) → (e ≡ InvalidJsonb) ⊎ (e ≡ OutOfMemory)
     → (e ≡ InvalidJsonb → HasFaultyRow bytes) → IsCut bytes

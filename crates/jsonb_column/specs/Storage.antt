@@ -1,28 +1,28 @@
--- Rows as they are stored.
+-- The stored form of rows.
 use Rattle.std.specs.Prelude.{◌≡◌, ◌<◌, ◌^◌, ℕ, List, [], ◌∷◌, ◌++◌, All, length}
 use Rattle.std.specs.Int.{w64, to_be_bytes}
 use Rattle.jsonb_codec.specs.Doc.{IsDocument}
 
--- the length of a row in eight bytes, the most significant first, and the row
+-- A row in stored form: its length as a big-endian integer of eight bytes, then its bytes.
 abbrev pub row_bytes : List ℕ → List ℕ
 row_bytes row = to_be_bytes w64 (length row) ++ row
 
--- the rows, one behind another
+-- All rows in stored form.
 abbrev pub storage : List (List ℕ) → List ℕ
 storage [] = []
 storage (row ∷ rows) = row_bytes row ++ storage rows
 
--- The row is a document, and its length has room in the eight bytes.
+-- The row is a document, and its length fits eight bytes.
 pub record IsRow (row : List ℕ) : Type 0 where
   pub document : IsDocument row
   pub short : length row < 2 ^ 64
 
--- The bytes are these rows as they are stored.
+-- The bytes are these rows in stored form.
 pub record AreStored (rows : List (List ℕ)) (bytes : List ℕ) : Type 0 where
   pub each : All IsRow rows
   pub written : bytes ≡ storage rows
 
--- Behind stored rows there are bytes that begin with no whole row.
+-- After stored rows there are bytes that do not begin with a whole row.
 pub record IsCut (bytes : List ℕ) : Type 0 where
   pub rows : List (List ℕ)
   pub rest : List ℕ
@@ -31,7 +31,7 @@ pub record IsCut (bytes : List ℕ) : Type 0 where
   pub some : 0 < length rest
   pub no_row : (row behind : List ℕ) → length row < 2 ^ 64 → rest ≡ row_bytes row ++ behind → ⊥
 
--- Behind stored rows there is one that is no document.
+-- After stored rows there is one that is not a document.
 pub record HasFaultyRow (bytes : List ℕ) : Type 0 where
   pub rows : List (List ℕ)
   pub row : List ℕ

@@ -1,4 +1,4 @@
-//! Documents one behind another in one buffer.
+//! A column of documents in one buffer.
 
 ghost use Rattle.std.specs.Prelude.{◌≡◌, ◌+◌, ◌<◌, ◌≤◌, ◌∷◌, ◌++◌, ◌⊎◌, [], ℕ, List, All, Err};
 ghost use Rattle.std.specs.Prelude.{IfOk, IfErr, IsErrAnd, OnOk, OnErr, chars, filter, length, map};
@@ -15,20 +15,21 @@ ghost use Rattle.jsonb_column.specs.Storage.{AreStored, HasFaultyRow, IsCut, IsR
 ghost use Rattle.jsonb_column.specs.Rows.{row_in, rows_in, IsWithin, AreRows, FillBytes};
 
 use crate::place::Place;
-use crate::select::{has_member, item_of};
+use crate::select::has_member;
 use crate::storage::{append_row, split_row};
 use jsonb::{Document, Encoder, Error, MAX_READS, Reads, is_document, parse_value};
 use std::alloc::Global;
 use std::marker::Model;
 
-/// Documents, one behind another in one buffer. Each is known to be one: no call checks it again.
+/// A column of documents, stored consecutively in one buffer. Each was checked when it was added,
+/// and no call checks it again.
 #[derive(Drop)]
 pub struct Column {
     bytes: Vec<u8>,
     places: Vec<Place>,
 }
 
-// The rows as a contract sees them: the bytes of each document, which have one tree.
+// In contracts a column is the list of its rows: the bytes of each document.
 impl Model for Column {
     ghost Value = { List (List ℕ) };
 
@@ -38,7 +39,7 @@ impl Model for Column {
 }
 
 impl Column {
-    /// No rows.
+    /// A column without rows.
     pub fn new(alloc: Global) -> Self
         ensures { result ≡ [] }
     {
@@ -48,7 +49,7 @@ impl Column {
         }
     }
 
-    /// How many rows there are. Each is a document.
+    /// The number of rows. Each row is a document.
     pub fn len(&self) -> usize
         ensures len { result ≡ length self.now }
         ensures each { All IsRow self.now }
@@ -56,8 +57,8 @@ impl Column {
         self.places.len()
     }
 
-    /// Puts a document behind the others, as its bytes stand. `InvalidJsonb`: the bytes are no
-    /// document. After a refusal the rows are as before.
+    /// Appends a document as a row; its bytes are copied unchanged. `InvalidJsonb` if the bytes are
+    /// not a document, `OutOfMemory` if an allocation fails. After an error the rows are unchanged.
     pub fn push(&mut self, bytes: &[u8]) -> Result<(), Error>
         ensures pushed { OnOk result (self.new ≡ self.old ++ bytes.now ∷ []) }
         ensures document { OnOk result (IsDocument bytes.now) }
@@ -78,9 +79,10 @@ impl Column {
         Ok(())
     }
 
-    /// Puts the canonical document of a JSON text's tree behind the others. `InvalidJson`: no JSON
-    /// text, or a number that no document holds. `InvalidJsonb`: a payload, a key or a count is
-    /// past its limit. After a refusal the rows are as before.
+    /// Parses a JSON text and appends the canonical document of its value as a row. `InvalidJson`
+    /// if the text is not JSON or has a number that no document holds, `InvalidJsonb` if a payload,
+    /// a key or a count exceeds its limit, `OutOfMemory` if an allocation fails. After an error the
+    /// rows are unchanged.
     pub fn push_json(&mut self, alloc: Global, text: &str) -> Result<(), Error>
         ensures pushed { OnOk result ((t : Tree)
             × (Json (chars text.now) t
@@ -102,7 +104,7 @@ impl Column {
         Ok(())
     }
 
-    /// The row at this index. `None` where there are no more than so many rows.
+    /// The row at an index, counted from 0. `None` if the index is not below the number of rows.
     pub fn row(&self, index: usize) -> Option<Document<'_>>
         ensures { option_map document_bytes result ≡ slice_get self.now index }
     {
@@ -113,7 +115,7 @@ impl Column {
         }
     }
 
-    // The same, where there is one.
+    // The row at an index below the number of rows.
     fn row_within(&self, index: usize) -> Document<'_>
         requires { index < length self.now }
         ensures { document_bytes result ≡ slice_index_or self.now index [] }
@@ -121,7 +123,7 @@ impl Column {
         document_at(&self.bytes, self.places[index])
     }
 
-    /// The rows, in order.
+    /// An iterator over the rows, in order.
     pub fn iter(&self) -> Rows<'_>
         ensures { result ≡ self.now }
     {
@@ -131,7 +133,7 @@ impl Column {
         }
     }
 
-    /// How many bytes the documents have.
+    /// The total number of bytes in the rows.
     pub fn size(&self) -> usize
         ensures size { result ≡ length (concat self.now) }
         ensures bound { length (concat self.now) ≤ MAX_READS }
@@ -139,9 +141,10 @@ impl Column {
         self.bytes.len()
     }
 
-    /// The objects that have a member of this name that is equal to the value, in order. Of each
-    /// row at most two words for each of its pairs are read, and one more, all by the tally. That
-    /// and `size` must be at most `MAX_READS` together. Only memory can be refused.
+    /// The rows that are objects with a member of this name whose value equals `value`, in order.
+    /// `reads` is raised by one for each word that is read: at most two words for each pair of a
+    /// row and one more for the row. Before the call, `reads` and `size` together must be at most
+    /// `MAX_READS`. `OutOfMemory` is the only error.
     pub fn select(
         &self,
         alloc: Global,
@@ -156,7 +159,7 @@ impl Column {
             × (reads.new ≤ reads.old + most_reads self.now) }
         ensures memory { IfErr result (λ e. e ≡ Error.OutOfMemory) }
     {
-        let value = item_of(value);
+        let value = value.value();
         let mut rows = Vec::new(alloc);
         for index in 0..self.len() {
             let row = self.row_within(index);
@@ -167,8 +170,8 @@ impl Column {
         Ok(rows)
     }
 
-    /// Appends the rows as they are stored: each behind its length in eight bytes, the most
-    /// significant first. Only memory can be refused, and the bytes are then as before.
+    /// Appends the rows in stored form: each preceded by its length as a big-endian integer of
+    /// eight bytes. `OutOfMemory` is the only error; the bytes of `buf` are then unchanged.
     pub fn write_to(&self, buf: &mut Vec<u8>) -> Result<(), Error>
         ensures written { OnOk result (buf.new.items ≡ buf.old.items ++ storage self.now) }
         ensures storage { AreStored self.now (storage self.now) }
@@ -185,9 +188,10 @@ impl Column {
         Ok(())
     }
 
-    /// The rows that these bytes store, each checked once. `InvalidEOF`: behind stored rows a
-    /// length or a row is cut. `InvalidJsonb`: behind stored rows there is one that is no document.
-    /// Where the bytes store rows only memory can be refused.
+    /// Reads rows in stored form: each preceded by its length as a big-endian integer of eight
+    /// bytes. Each row is checked once. `InvalidEOF` if, after valid rows, a length or a row is cut
+    /// off; `InvalidJsonb` if, after valid rows, a row is not a document; `OutOfMemory` if an
+    /// allocation fails. Bytes in stored form fail only with `OutOfMemory`.
     pub fn read_from(alloc: Global, bytes: &[u8]) -> Result<Column, Error>
         ensures storage { IfOk result (λ column. AreStored column bytes.now) }
         ensures same { (rows : List (List ℕ)) → AreStored rows bytes.now
@@ -214,7 +218,7 @@ impl Column {
     }
 }
 
-// The document that stands there.
+// The document at this position.
 fn document_at(bytes: &[u8], place: Place) -> Document<'_>
     requires within { IsWithin bytes.now place }
     requires document { IsDocument (row_in bytes.now place) }
@@ -223,7 +227,7 @@ fn document_at(bytes: &[u8], place: Place) -> Document<'_>
     Document::new_unchecked(&bytes[place.start..place.start + place.size])
 }
 
-/// The rows of a column that are left, in order.
+/// The rows of a column that were not visited yet, in order.
 #[derive(Drop)]
 pub struct Rows<'c> {
     bytes: &'c [u8],

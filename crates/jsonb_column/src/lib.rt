@@ -1,5 +1,5 @@
-//! Columns of JSON documents: kept in one buffer, sorted by what they mean, searched in place, and
-//! stored as bytes.
+//! Columns of JSON documents: stored in one buffer, sorted by value, searched in place, and written
+//! to and read from bytes.
 #![tactic(auto)]
 
 mod column;

@@ -1,6 +1,6 @@
-//! Where a row stands.
+//! The position of a row.
 
-/// A row's first byte in the buffer, and how many bytes it has.
+/// The offset of a row in the buffer, and its length, in bytes.
 #[derive(Clone, Copy, Debug)]
 pub struct Place {
     pub start: usize,

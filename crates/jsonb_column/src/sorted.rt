@@ -1,4 +1,4 @@
-//! Rows in the order of what they mean.
+//! The rows of a column sorted by value.
 
 ghost use Rattle.std.specs.Prelude.{◌≡◌, ◌≢◌, ◌≤◌, ◌<◌, ℕ, map, length, filter, IfOk, IfErr};
 ghost use Rattle.std.specs.Prelude.{IsPermutation, IsSorted};
@@ -12,7 +12,7 @@ use jsonb::{Document, Error, order_of_trees};
 use std::alloc::Global;
 use std::cmp::Ordering;
 
-/// The rows of a column, in the order of their trees.
+/// The rows of a column, sorted by their values.
 #[derive(Drop)]
 pub struct Sorted<'c> {
     rows: Vec<Document<'c>>,
@@ -22,7 +22,7 @@ pub struct Sorted<'c> {
 impl<'c> Sorted<'c> {
     ghost use Rattle.jsonb_column.specs.SortOrder.{sorted_rows, row_order, is_between, is_equal};
 
-    /// The rows of the column, sorted: equal ones stay in their order. Only memory can be refused.
+    /// Sorts the rows of the column; equal rows keep their order. `OutOfMemory` is the only error.
     pub fn new(alloc: Global, column: &'c Column) -> Result<Self, Error>
         ensures rows { IfOk result
             (λ s. IsPermutation column.now (map document_bytes (sorted_rows s))) }
@@ -38,14 +38,15 @@ impl<'c> Sorted<'c> {
         Ok(Sorted { rows })
     }
 
-    /// The rows, in order.
+    /// The rows in ascending order.
     pub fn rows(&self) -> &[Document<'c>]
         ensures { result.now ≡ sorted_rows self.now }
     {
         self.rows.as_slice()
     }
 
-    /// How many rows are below the key: the place of the first that is not.
+    /// The number of rows that are less than the key, which is the index of the first row that is
+    /// not.
     pub fn lower(&self, key: Document<'_>) -> usize
         ensures bound { result ≤ length (sorted_rows self.now) }
         ensures below { (i : ℕ) (d : Document) → i < result
@@ -57,7 +58,8 @@ impl<'c> Sorted<'c> {
         self.rows.partition_point(|row| row.cmp(&key).is_lt())
     }
 
-    /// How many rows are not above the key: the place of the first that is.
+    /// The number of rows that are at most the key, which is the index of the first row that is
+    /// greater.
     pub fn upper(&self, key: Document<'_>) -> usize
         ensures bound { result ≤ length (sorted_rows self.now) }
         ensures others { (i : ℕ) (d : Document) → i < result
@@ -69,7 +71,8 @@ impl<'c> Sorted<'c> {
         self.rows.partition_point(|row| row.cmp(&key).is_le())
     }
 
-    /// The rows from `low` to `high`, with those equal to either; none where `low` is above `high`.
+    /// The rows from `low` to `high`, including those equal to either. Empty if `low` is greater
+    /// than `high`.
     pub fn range(&self, low: Document<'_>, high: Document<'_>) -> &[Document<'c>]
         ensures { result.now ≡ filter
             (is_between (document_tree low.entry) (document_tree high.entry))
@@ -80,7 +83,7 @@ impl<'c> Sorted<'c> {
         &self.rows[from..to]
     }
 
-    /// The rows that are equal to the key.
+    /// The rows equal to the key.
     pub fn equal(&self, key: Document<'_>) -> &[Document<'c>]
         ensures { result.now ≡ filter (is_equal (document_tree key.entry)) (sorted_rows self.now) }
     {

@@ -1,4 +1,4 @@
-//! A row as it is stored.
+//! The stored form of a row.
 
 ghost use Rattle.std.specs.Prelude.{◌≡◌, ◌<◌, ◌^◌, ◌++◌, ◌⊎◌, ℕ, List, length, IfOk, IfErr, OnErr};
 ghost use Rattle.std.specs.Prelude.{OnOk};
@@ -7,7 +7,8 @@ ghost use Rattle.jsonb_column.specs.Storage.{row_bytes};
 use byteorder::{BigEndian, ByteOrder};
 use jsonb::Error;
 
-/// Appends a row as it is stored. After a refusal the bytes may end in a part of it.
+/// Appends a row in stored form: its length as a big-endian integer of eight bytes, then its bytes.
+/// `OutOfMemory` is the only error; a part of the row may then be appended.
 pub fn append_row(buf: &mut Vec<u8>, row: &[u8]) -> Result<(), Error>
     ensures ok { OnOk result (buf.new.items ≡ buf.old.items ++ row_bytes row.now) }
     ensures beginning { OnErr result ((part : List ℕ) × (buf.new.items ≡ buf.old.items ++ part)) }
@@ -18,8 +19,8 @@ pub fn append_row(buf: &mut Vec<u8>, row: &[u8]) -> Result<(), Error>
     Ok(())
 }
 
-/// The first row of some bytes, and what is behind it. `InvalidEOF` where they begin with no whole
-/// row.
+/// The first row of bytes in stored form, and the bytes after it. `InvalidEOF` if the bytes do not
+/// begin with a whole row.
 pub fn split_row(bytes: &[u8]) -> Result<(&[u8], &[u8]), Error>
     ensures ok { IfOk result (λ parts. bytes.now ≡ row_bytes parts.0.now ++ parts.1.now) }
     ensures short { IfOk result (λ parts. length parts.0.now < 2 ^ 64) }

@@ -1,3 +1,4 @@
 pub mod Replies
+pub mod LineLaws
 pub mod OneOrder
 pub mod OneAnswer

@@ -1,11 +1,13 @@
--- A command on some rows has one answer, and leaves one list of rows.
-use Rattle.std.proofs.Common.{◌≡◌, ◌⊎◌, inl, inr, ℕ, List, [], ◌∷◌, ◌++◌, ◌&&◌, Bool, not, map}
+-- A command on some rows has only one reply, and leaves only one list of rows.
+use Rattle.std.proofs.Common.{◌≡◌, ◌⊎◌, inl, inr, ℕ, ◌≤◌, length, arith, List, [], ◌∷◌, ◌++◌}
+use Rattle.std.proofs.Common.{◌&&◌, Bool, not, map}
 use Rattle.std.proofs.Common.{refl, sym, ap, ap₂, subst, ◌∙◌, chars, Result, Ok, Err}
 use Rattle.std.specs.Prelude.{filter}
 use Rattle.std.specs.Ordering.{is_lt, is_gt}
 use Rattle.jsonb_value.specs.declared.error.Error.{Error}
 use Rattle.jsonb_value.specs.declared.error.Error.TheVariants.{InvalidEOF, InvalidJson}
 use Rattle.jsonb_value.specs.declared.error.Error.TheVariants.{InvalidJsonb, OutOfMemory}
+use Rattle.jsonb_value.specs.Tree as trees
 use Rattle.jsonb_value.specs.Tree.{Tree}
 use Rattle.jsonb_value.specs.TreeOrder.{tree_cmp}
 use Rattle.jsonb_value.proofs.Json.SpelledLaws.{one_meaning}
@@ -22,55 +24,96 @@ use Rattle.answer_lines.specs.Session.{AreAnswers, IsRefused}
 use Rattle.answer_lines.proofs.OneOutput as session
 use Rattle.jsonb_column_cli.specs.declared.answer.Refusal.{Refusal}
 use Rattle.jsonb_column_cli.specs.declared.answer.Refusal.TheVariants.{BadCommand, BadHex, NoRow}
-use Rattle.jsonb_column_cli.specs.declared.answer.Refusal.TheVariants.{Call}
+use Rattle.jsonb_column_cli.specs.declared.answer.Refusal.TheVariants.{Call, TooDeep}
 use Rattle.jsonb_column_cli.specs.Commands.{Form, add, count, row, sort, find, range, save, load}
-use Rattle.jsonb_column_cli.specs.Commands.{unknown, form_in}
-use Rattle.jsonb_column_cli.specs.Answers.{Rows, AnswersLine, IsAnswer, IsGiven, IsHexOf, IsIndex}
+use Rattle.jsonb_column_cli.specs.Commands.{unknown, form_in, Name, name_word, name_json}
+use Rattle.jsonb_column_cli.specs.Answers.{Rows, AnswersLine, IsAnswer, IsGiven, IsHexOf}
 use Rattle.jsonb_column_cli.specs.Answers.{IsLineOutcome, IsOrderOf, IsOutcome, IsRefusal}
 use Rattle.jsonb_column_cli.specs.Answers.{RefusesBytes, RefusesText, reply_line, rows_line}
+use Rattle.jsonb_column_cli.specs.Answers.{IsName, RefusesName, IsIndexNumeral, index_in}
 use Rattle.jsonb_column_cli.proofs.OneOrder.{one_order}
 
--- ---- a text gives one document, or is refused for one reason
+-- ---- a text has one document, or is refused for one reason
 
 one_given : (text a b : List ℕ) → IsGiven text a → IsGiven text b → a ≡ b
-one_given text a b (t, (means, (fits, is))) (u, (also, (fit, then))) =
+one_given text a b (low, (t, (means, (fits, is)))) (within, (u, (also, (fit, then)))) =
     is ∙ ap canon (one_meaning (chars text) t u means also) ∙ sym then
 
-not_refused : (text bytes : List ℕ) (e : Error) → IsGiven text bytes → RefusesText text e → ⊥
-not_refused text bytes InvalidJson (t, (means, (fits, is))) none = none t means
-not_refused text bytes InvalidJsonb (t, (means, (fits, is))) (u, (also, past)) =
-    past (subst Fits (one_meaning (chars text) t u means also) fits)
-not_refused text bytes e given refuses = absurd refuses
+not_refused : (text bytes : List ℕ) (r : Refusal) → IsGiven text bytes → RefusesText text r → ⊥
+not_refused text bytes TooDeep (low, given) deep = omega arith
+not_refused text bytes (Call InvalidJson) (low, (t, (means, (fits, is)))) none = none.1 t means
+not_refused text bytes (Call InvalidJsonb) (low, (t, (means, (fits, is))))
+    (also, (u, (same, past))) =
+    past (subst Fits (one_meaning (chars text) t u means same) fits)
+not_refused text bytes r given refuses = absurd refuses
 
-one_error : (text : List ℕ) (e g : Error) → RefusesText text e → RefusesText text g → e ≡ g
-one_error text InvalidJson InvalidJson first second = refl
-one_error text InvalidJson InvalidJsonb none (t, (means, past)) = absurd (none t means)
-one_error text InvalidJsonb InvalidJson (t, (means, past)) none = absurd (none t means)
-one_error text InvalidJsonb InvalidJsonb first second = refl
-one_error text InvalidJson g first second = absurd second
-one_error text InvalidJsonb g first second = absurd second
-one_error text e g first second = absurd first
+one_error : (text : List ℕ) (r s : Refusal) → RefusesText text r → RefusesText text s → r ≡ s
+one_error text TooDeep TooDeep first second = refl
+one_error text TooDeep (Call InvalidJson) deep (low, none) = absurd (omega arith)
+one_error text TooDeep (Call InvalidJsonb) deep (low, past) = absurd (omega arith)
+one_error text (Call InvalidJson) TooDeep (low, none) deep = absurd (omega arith)
+one_error text (Call InvalidJson) (Call InvalidJson) first second = refl
+one_error text (Call InvalidJson) (Call InvalidJsonb) none (low, (t, (means, past))) =
+    absurd (none.1 t means)
+one_error text (Call InvalidJsonb) TooDeep (low, past) deep = absurd (omega arith)
+one_error text (Call InvalidJsonb) (Call InvalidJson) (low, (t, (means, past))) none =
+    absurd (none.1 t means)
+one_error text (Call InvalidJsonb) (Call InvalidJsonb) first second = refl
+one_error text TooDeep s first second = absurd second
+one_error text (Call InvalidJson) s first second = absurd second
+one_error text (Call InvalidJsonb) s first second = absurd second
+one_error text r s first second = absurd first
 
--- the second of two texts is refused where the first is not
-abbrev RefusesTexts : List ℕ → List ℕ → Error → Type 0
-RefusesTexts low high e =
-    RefusesText low e ⊎ (((bytes : List ℕ) × IsGiven low bytes) × RefusesText high e)
+-- the second of two texts is refused if the first is not
+abbrev RefusesTexts : List ℕ → List ℕ → Refusal → Type 0
+RefusesTexts low high r =
+    RefusesText low r ⊎ (((bytes : List ℕ) × IsGiven low bytes) × RefusesText high r)
 
-not_both : (low high a b : List ℕ) (e : Error) → IsGiven low a → IsGiven high b
-    → RefusesTexts low high e → ⊥
-not_both low high a b e first second (inl h) = not_refused low a e first h
-not_both low high a b e first second (inr h) = not_refused high b e second h.1
+not_both : (low high a b : List ℕ) (r : Refusal) → IsGiven low a → IsGiven high b
+    → RefusesTexts low high r → ⊥
+not_both low high a b r first second (inl h) = not_refused low a r first h
+not_both low high a b r first second (inr h) = not_refused high b r second h.1
 
-one_of_both : (low high : List ℕ) (e g : Error) → RefusesTexts low high e
-    → RefusesTexts low high g → e ≡ g
-one_of_both low high e g (inl first) (inl second) = one_error low e g first second
-one_of_both low high e g (inl first) (inr ((bytes, given), second)) =
-    absurd (not_refused low bytes e given first)
-one_of_both low high e g (inr ((bytes, given), first)) (inl second) =
-    absurd (not_refused low bytes g given second)
-one_of_both low high e g (inr first) (inr second) = one_error high e g first.1 second.1
+one_of_both : (low high : List ℕ) (r s : Refusal) → RefusesTexts low high r
+    → RefusesTexts low high s → r ≡ s
+one_of_both low high r s (inl first) (inl second) = one_error low r s first second
+one_of_both low high r s (inl first) (inr ((bytes, given), second)) =
+    absurd (not_refused low bytes r given first)
+one_of_both low high r s (inr ((bytes, given), first)) (inl second) =
+    absurd (not_refused low bytes s given second)
+one_of_both low high r s (inr first) (inr second) = one_error high r s first.1 second.1
 
--- ---- so does a word that stores rows
+-- ---- a name is one, or refused for one reason
+
+one_name : (name : Name) (a b : List ℕ) → IsName name a → IsName name b → a ≡ b
+one_name (name_word word) a b first second = first ∙ sym second
+one_name (name_json json) a b first second =
+    let same = one_meaning (chars json) (trees.text a) (trees.text b) first second in cc
+
+not_unnamed : (name : Name) (own : List ℕ) (r : Refusal) → IsName name own → RefusesName name r → ⊥
+not_unnamed (name_json json) own (Call InvalidJson) named none = none own named
+not_unnamed name own r named why = absurd why
+
+one_name_error : (name : Name) (r s : Refusal) → RefusesName name r → RefusesName name s → r ≡ s
+one_name_error (name_json json) (Call InvalidJson) (Call InvalidJson) first second = refl
+one_name_error (name_json json) (Call InvalidJson) s first second = absurd second
+one_name_error name r s first second = absurd first
+
+-- the value is refused where the name is not
+abbrev RefusesFind : Name → List ℕ → Refusal → Type 0
+RefusesFind name value r =
+    RefusesName name r ⊎ (((own : List ℕ) × IsName name own) × RefusesText value r)
+
+one_of_find : (name : Name) (value : List ℕ) (r s : Refusal) → RefusesFind name value r
+    → RefusesFind name value s → r ≡ s
+one_of_find name value r s (inl first) (inl second) = one_name_error name r s first second
+one_of_find name value r s (inl first) (inr ((own, named), second)) =
+    absurd (not_unnamed name own r named first)
+one_of_find name value r s (inr ((own, named), first)) (inl second) =
+    absurd (not_unnamed name own s named second)
+one_of_find name value r s (inr first) (inr second) = one_error value r s first.1 second.1
+
+-- ---- a word stores one list of rows, or is refused for one reason
 
 one_hex : (a b word : List ℕ) → IsHexOf a word → IsHexOf b word → a ≡ b
 one_hex a b word first second = let same = sym first ∙ second in cc
@@ -98,7 +141,7 @@ one_sorted rows order other first second =
     one_order tree_cmp tree_cmp_total tree_in document_bytes order other first.ordered
     second.ordered (λ b. first.stable b ∙ sym (second.stable b))
 
--- and those from one value to another are told by their bytes
+-- the rows from one value to another are determined by their bytes
 abbrev is_within : Tree → Tree → List ℕ → Bool
 is_within low high bytes =
     not (is_lt (tree_cmp (tree_in bytes) low)) && not (is_gt (tree_cmp (tree_in bytes) high))
@@ -126,11 +169,11 @@ one_reply rows x y (row index) a b first second =
     (first.1.0 ∙ sym second.1.0, first.1.1 ∙ sym second.1.1)
 one_reply rows x y sort a b (order, (sorted, (is, next))) (other, (also, (then, left))) =
     (is ∙ ap rows_line (one_sorted rows order other sorted also) ∙ sym then, next ∙ sym left)
-one_reply rows x y (find name value) a b (doc, (given, (is, next)))
-    (other, (also, (then, left))) = (
+one_reply rows x y (find name value) a b (own, (doc, (named, (given, (is, next)))))
+    (mine, (other, (called, (also, (then, left))))) = (
       is
-          ∙ ap (λ (d : List ℕ). rows_line (filter (has_member name (tree_in d)) rows))
-          (one_given value doc other given also)
+          ∙ ap₂ (λ (n d : List ℕ). rows_line (filter (has_member n (tree_in d)) rows))
+          (one_name name own mine named called) (one_given value doc other given also)
           ∙ sym then,
       next ∙ sym left,
     )
@@ -157,12 +200,14 @@ one_reply rows x y unknown a b first second = absurd first
 abbrev RefusesWord : List ℕ → Error → Type 0
 RefusesWord word e = (bytes : List ℕ) × (IsHexOf bytes word × RefusesBytes bytes e)
 
--- why a command is refused, where memory is not
+-- why a command is refused, except for lack of memory
 abbrev Cause : Rows → Form → Refusal → Type 0
-Cause rows (add text) r = (e : Error) × ((r ≡ Call e) × RefusesText text e)
-Cause rows (row index) r = (r ≡ NoRow) × (IsIndex rows index → ⊥)
-Cause rows (find name value) r = (e : Error) × ((r ≡ Call e) × RefusesText value e)
-Cause rows (range low high) r = (e : Error) × ((r ≡ Call e) × RefusesTexts low high e)
+Cause rows (add text) r = RefusesText text r
+Cause rows (row index) r =
+    ((r ≡ NoRow) × (IsIndexNumeral index × (length rows ≤ index_in index)))
+    ⊎ ((r ≡ BadCommand) × (IsIndexNumeral index → ⊥))
+Cause rows (find name value) r = RefusesFind name value r
+Cause rows (range low high) r = RefusesTexts low high r
 Cause rows (load word) r = ((r ≡ BadHex) × ((bytes : List ℕ) → IsHexOf bytes word → ⊥))
     ⊎ ((e : Error) × ((r ≡ Call e) × RefusesWord word e))
 Cause rows unknown r = r ≡ BadCommand
@@ -171,10 +216,11 @@ Cause rows form r = ⊥
 cause_of : (rows : Rows) (form : Form) (r : Refusal) → IsRefusal rows form r
     → (r ≡ Call OutOfMemory → ⊥) → Cause rows form r
 cause_of rows form (Call OutOfMemory) why given = absurd (given refl)
-cause_of rows (add text) (Call e) why given = (e, (refl, why))
-cause_of rows (row index) NoRow why given = (refl, why)
-cause_of rows (find name value) (Call e) why given = (e, (refl, why))
-cause_of rows (range low high) (Call e) why given = (e, (refl, why))
+cause_of rows (add text) r why given = why
+cause_of rows (row index) NoRow why given = inl (refl, why)
+cause_of rows (row index) BadCommand why given = inr (refl, why)
+cause_of rows (find name value) r why given = why
+cause_of rows (range low high) r why given = why
 cause_of rows (load word) BadHex why given = inl (refl, why)
 cause_of rows (load word) (Call e) why given = inr (e, (refl, why))
 cause_of rows unknown BadCommand why given = refl
@@ -182,13 +228,13 @@ cause_of rows form r why given = absurd why
 
 one_cause : (rows : Rows) (form : Form) (r s : Refusal) → Cause rows form r → Cause rows form s
     → r ≡ s
-one_cause rows (add text) r s (e, (is, why)) (g, (then, also)) =
-    is ∙ ap Call (one_error text e g why also) ∙ sym then
-one_cause rows (row index) r s first second = first.0 ∙ sym second.0
-one_cause rows (find name value) r s (e, (is, why)) (g, (then, also)) =
-    is ∙ ap Call (one_error value e g why also) ∙ sym then
-one_cause rows (range low high) r s (e, (is, why)) (g, (then, also)) =
-    is ∙ ap Call (one_of_both low high e g why also) ∙ sym then
+one_cause rows (add text) r s first second = one_error text r s first second
+one_cause rows (row index) r s (inl first) (inl second) = first.0 ∙ sym second.0
+one_cause rows (row index) r s (inl first) (inr second) = absurd (second.1 first.1.0)
+one_cause rows (row index) r s (inr first) (inl second) = absurd (first.1 second.1.0)
+one_cause rows (row index) r s (inr first) (inr second) = first.0 ∙ sym second.0
+one_cause rows (find name value) r s first second = one_of_find name value r s first second
+one_cause rows (range low high) r s first second = one_of_both low high r s first second
 one_cause rows (load word) r s (inl first) (inl second) = first.0 ∙ sym second.0
 one_cause rows (load word) r s (inl first) (inr (e, (is, (bytes, (hex, why))))) =
     absurd (first.1 bytes hex)
@@ -205,13 +251,18 @@ one_cause rows form r s first second = absurd first
 
 answered_or_refused : (rows x : Rows) (form : Form) (a : List ℕ) (r : Refusal)
     → IsAnswer rows form a x → Cause rows form r → ⊥
-answered_or_refused rows x (add text) a r (doc, (given, others)) (e, (is, why)) =
-    not_refused text doc e given why
-answered_or_refused rows x (row index) a r answer cause = cause.1 answer.0
-answered_or_refused rows x (find name value) a r (doc, (given, others)) (e, (is, why)) =
-    not_refused value doc e given why
+answered_or_refused rows x (add text) a r (doc, (given, others)) why =
+    not_refused text doc r given why
+answered_or_refused rows x (row index) a r ((numeral, low), others) (inl (is, (also, past))) =
+    omega arith
+answered_or_refused rows x (row index) a r ((numeral, low), others) (inr (is, none)) = none numeral
+answered_or_refused rows x (find name value) a r (own, (doc, (named, (given, others)))) (inl why) =
+    not_unnamed name own r named why
+answered_or_refused rows x (find name value) a r (own, (doc, (named, (given, others))))
+    (inr (first, why)) = not_refused value doc r given why
 answered_or_refused rows x (range low high) a r (from, (to, (order, (given, (limit, others)))))
-    (e, (is, why)) = not_both low high from to e given limit why
+    why =
+    not_both low high from to r given limit why
 answered_or_refused rows x (load word) a r (bytes, (hex, others)) (inl bad) = bad.1 bytes hex
 answered_or_refused rows x (load word) a r (bytes, (hex, (storage, same)))
     (inr (e, (is, (more, (again, why))))) =

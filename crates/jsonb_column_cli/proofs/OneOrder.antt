@@ -1,4 +1,4 @@
--- What is sorted, with equal elements as they stand in one list, stands in one order.
+-- The stable order of a list is unique.
 use Rattle.std.proofs.Common.{◌≡◌, ℕ, suc, ◌≤◌, ◌<◌, Bool, true, false, cond, List, [], ◌∷◌}
 use Rattle.std.proofs.Common.{length, map, refl, sym, ap, ap₂, subst, ◌∙◌, arith}
 use Rattle.std.specs.Prelude.{filter, slice_index_or, IsSorted}
@@ -17,7 +17,7 @@ level Less Greater turned le ge = let never : ⊥ = cc in absurd never
 level Equal s turned le ge = refl
 level Greater s turned le ge = let never : ⊥ = cc in absurd never
 
--- what passes a test first stands somewhere
+-- the first element that passes a test has an index
 first_at : {B : Type 0} (p : B → Bool) (ys : List B) (x : B) (rest : List B)
     → filter p ys ≡ x ∷ rest
     → (i : ℕ) × ((i < length ys) × (slice_index_or ys i x ≡ x))
@@ -40,7 +40,7 @@ module _ {B K : Type 0} (R : K → K → Ordering) (o : IsTotalOrder R) (key : B
   abbrev equals : B → B → Bool
   equals = tie R o key
 
-  -- no element is above one behind it
+  -- no element is greater than a later one
   abbrev Rises : List B → Type 0
   Rises xs = (i j : ℕ) (d : B) → i ≤ j → j < length xs
       → is_le (R (key (slice_index_or xs i d)) (key (slice_index_or xs j d))) ≡ true

@@ -1,5 +1,6 @@
--- What the answers of rows say, and why a text is refused.
-use Rattle.std.proofs.Common.{◌≡◌, ◌⊎◌, inl, inr, ℕ, ◌+◌, ◌<◌, List, [], ◌∷◌, ◌++◌, length, map}
+-- The contents of replies with rows, and why a text is refused.
+use Rattle.std.proofs.Common.{◌≡◌, ◌↔◌, ◌⊎◌, inl, inr, ℕ, ◌+◌, ◌<◌, List, [], ◌∷◌, ◌++◌, length}
+use Rattle.std.proofs.Common.{chars, arith, map}
 use Rattle.std.proofs.Common.{take, refl, sym, ap, subst, ◌∙◌, append_assoc, Result, Ok, Err}
 use Rattle.std.specs.Prelude.{IfErr, IfOk, IfSome, IsErrAnd, OnOk, Option, None, Some}
 use Rattle.std.specs.Prelude.{slice_index_or}
@@ -9,15 +10,25 @@ use Rattle.std.specs.declared.string.String.{String}
 use Rattle.std.proofs.lemmas.List.{append-nil, map-append, take_more}
 use Rattle.jsonb_value.specs.declared.error.Error.{Error}
 use Rattle.jsonb_value.specs.declared.error.Error.TheVariants.{OutOfMemory}
+use Rattle.jsonb_value.specs.declared.error.Error.TheVariants.{InvalidJson, InvalidJsonb}
+use Rattle.jsonb_value.specs.declared.within.ParseError.{ParseError}
+use Rattle.jsonb_value.specs.declared.within.ParseError.TheVariants as deep
+use Rattle.jsonb_value.specs.Json.Syntax.{Json}
 use Rattle.jsonb_value.specs.Text.{compact}
+use Rattle.jsonb_value.specs.TextDepth.{text_depth}
+use Rattle.jsonb_value.specs.Tree as trees
+use Rattle.jsonb_value.specs.Tree.{Tree}
+use Rattle.jsonb_codec.specs.Canon.{canon, Fits}
 use Rattle.jsonb.specs.declared.document.Document.{Document}
 use Rattle.jsonb.specs.Document.{document_bytes, tree_in}
 use Rattle.answer_lines.specs.Session.{IsReply}
 use Rattle.jsonb_column_cli.specs.declared.answer.Refusal.{Refusal}
 use Rattle.jsonb_column_cli.specs.declared.answer.Refusal.TheVariants.{Call}
-use Rattle.jsonb_column_cli.specs.Commands.{Form}
+use Rattle.jsonb_column_cli.specs.declared.answer.TheConstants.{MAX_DEPTH}
+use Rattle.jsonb_column_cli.specs.Commands.{Form, add, find, name_word, name_json}
 use Rattle.jsonb_column_cli.specs.Answers.{Rows, spoken, rows_line, reply_of, IsAnswer, IsOutcome}
 use Rattle.jsonb_column_cli.specs.Answers.{IsRefusal, IsLineOutcome, AnswersLine, reply_line}
+use Rattle.jsonb_column_cli.specs.Answers.{IsGiven, IsShallow, refusal_of}
 
 spoken-append : (xs ys : Rows) → spoken (xs ++ ys) ≡ spoken xs ++ spoken ys
 spoken-append [] ys = refl
@@ -25,7 +36,7 @@ spoken-append (x ∷ xs) ys =
     ap (λ b. 32 ∷ (compact (tree_in x) ++ b)) (spoken-append xs ys) ∙ ap
     (λ b. 32 ∷ b) (sym (append_assoc (compact (tree_in x)) (spoken xs) (spoken ys)))
 
--- one row more
+-- one more row
 pub rows_line-more : (rows : List Document) (i : ℕ) (row : Document) → i < length rows
     → row ≡ slice_index_or rows i row
     → rows_line (map document_bytes (take (i + 1) rows))
@@ -48,19 +59,56 @@ pub reply_of_err : (P : Result (List ℕ) Refusal → Type 0) (r : Result (Strin
 reply_of_err P (Ok reply) refusal is p = absurd is
 reply_of_err P (Err x) refusal is p = subst (λ y. P (Err y)) (sym is) p
 
--- an error that is one of two, or that memory was refused
+-- an error that is one of two, or lack of memory
 pub call_errors : (P : Error → Type 0) {a b : Error} (e : Error)
     → (e ≡ a) ⊎ ((e ≡ b) ⊎ (e ≡ OutOfMemory)) → (e ≡ a → P a) → (e ≡ b → P b) → P OutOfMemory → P e
 call_errors P e (inl is) first second memory = subst P (sym is) (first is)
 call_errors P e (inr (inl is)) first second memory = subst P (sym is) (second is)
 call_errors P e (inr (inr is)) first second memory = subst P (sym is) memory
 
+-- a text that is not refused as too deep is shallow
+shallow : (P : Type 0) (text : List ℕ) → P ↔ (MAX_DEPTH < text_depth text) → (P → ⊥)
+    → IsShallow text
+shallow P text exact none =
+    grind (arith, λ (h : MAX_DEPTH < text_depth text). none (exact.1 h))
+
+-- what the library's reader refused
+pub text_refused : {A : Type 0} (text : List ℕ) (r : Result A ParseError) (e : ParseError)
+    → r ≡ Err e → (r ≡ Err deep.TooDeep) ↔ (MAX_DEPTH < text_depth text)
+    → (r ≡ Err (deep.Refused InvalidJson) → (t : Tree) → Json (chars text) t → ⊥)
+    → (r ≡ Err (deep.Refused InvalidJsonb) → (t : Tree) × (Json (chars text) t × (Fits t → ⊥)))
+    → (e ≡ deep.TooDeep) ⊎ ((e ≡ deep.Refused InvalidJson)
+    ⊎ ((e ≡ deep.Refused InvalidJsonb) ⊎ (e ≡ deep.Refused OutOfMemory)))
+    → IsRefusal [] (add text) (refusal_of e)
+text_refused text r e was exact invalid past (inl is) =
+    subst (λ (x : ParseError). IsRefusal [] (add text) (refusal_of x)) (sym is)
+    (exact.0 (was ∙ ap Err is))
+text_refused text r e was exact invalid past (inr (inl is)) =
+    let none : r ≡ Err deep.TooDeep → ⊥ = λ too. cc in
+    subst (λ (x : ParseError). IsRefusal [] (add text) (refusal_of x)) (sym is)
+    (shallow (r ≡ Err deep.TooDeep) text exact none, invalid (was ∙ ap Err is))
+text_refused text r e was exact invalid past (inr (inr (inl is))) =
+    let none : r ≡ Err deep.TooDeep → ⊥ = λ too. cc in
+    subst (λ (x : ParseError). IsRefusal [] (add text) (refusal_of x)) (sym is)
+    (shallow (r ≡ Err deep.TooDeep) text exact none, past (was ∙ ap Err is))
+text_refused text r e was exact invalid past (inr (inr (inr is))) =
+    subst (λ (x : ParseError). IsRefusal [] (add text) (refusal_of x)) (sym is) tt
+
+-- and what it read
+pub text_given : {A : Type 0} (text bytes : List ℕ) (r : Result A ParseError) (a : A) → r ≡ Ok a
+    → (r ≡ Err deep.TooDeep) ↔ (MAX_DEPTH < text_depth text)
+    → ((t : Tree) × (Json (chars text) t × (bytes ≡ canon t)))
+    → ((t : Tree) → Json (chars text) t → Fits t) → IsGiven text bytes
+text_given text bytes r a was exact (t, (json, is)) fits =
+    let none : r ≡ Err deep.TooDeep → ⊥ = λ too. cc in
+    (shallow (r ≡ Err deep.TooDeep) text exact none, (t, (json, (fits t json, is))))
+
 pub if_err : {A : Type 0} (P : Refusal → Type 0) (r : Result A Refusal) (refusal : Refusal)
     → IsErrAnd r (λ x. x ≡ refusal) → P refusal → IfErr r P
 if_err P (Ok a) refusal is p = absurd is
 if_err P (Err x) refusal is p = subst P (sym is) p
 
--- the outcome of a command that shows rows
+-- the outcome of a command that replies with rows
 pub shows : (rows shown : Rows) (form : Form) (r : Result (String Global) Refusal)
     → IfOk r (λ line. string_bytes line ≡ rows_line shown) → IfErr r (λ x. x ≡ Call OutOfMemory)
     → ((reply : List ℕ) → reply ≡ rows_line shown → IsAnswer rows form reply rows)
@@ -71,7 +119,7 @@ shows rows shown form (Err x) ok memory answers =
 
 -- ---- a line, and a run
 
--- what a line is answered, with its line feed
+-- the reply to a line, with its line feed
 pub replied : {E : Type 0} (r : Result (String Global) E) (rows next : Rows) (line : List ℕ)
     (outcome : Result (List ℕ) Refusal) → IsLineOutcome rows line outcome next
     → IfOk r (λ text. string_bytes text ≡ reply_line outcome ++ 10 ∷ [])
@@ -81,7 +129,7 @@ replied (Ok text) rows next line outcome means is =
     (reply_line outcome, (inl record { outcome = outcome; is_outcome = means; text = refl }, is))
 replied (Err e) rows next line outcome means is = tt
 
--- the rows that are there at the end
+-- the rows at the end
 pub some_rows : {T E : Type 0} (r : Result T E) (known : Option (List ℕ))
     (P : List ℕ → Rows → Type 0) (rows : Rows) → OnOk r (IfSome known (λ input. P input rows))
     → OnOk r (IfSome known (λ input. (end : Rows) × P input end))
@@ -97,3 +145,28 @@ pub some_start : (known left : Option (List ℕ)) (P : List ℕ → List ℕ →
 some_start None left P rows h = tt
 some_start (Some input) None P rows h = tt
 some_start (Some input) (Some l) P rows h = (h.0, (rows, h.1))
+
+-- ---- a name that a JSON string spells
+
+pub name_spelled : (rows next : Rows) (json name value : List ℕ) (o : Result (List ℕ) Refusal)
+    → Json (chars json) (trees.text name) → IsOutcome rows (find (name_word name) value) o next
+    → IsOutcome rows (find (name_json json) value) o next
+name_spelled rows next json name value (Ok reply) spelled (own, (bytes, (is, others))) =
+    let again = subst (λ (n : List ℕ). Json (chars json) (trees.text n)) (sym is) spelled in
+    (own, (bytes, (again, others)))
+name_spelled rows next json name value (Err (Call OutOfMemory)) spelled h = h
+name_spelled rows next json name value (Err r) spelled (inl none, same) = absurd none
+name_spelled rows next json name value (Err r) spelled (inr (first, why), same) =
+    (inr ((name, spelled), why), same)
+
+-- the name is refused
+pub name_refused : (rows : Rows) (json value : List ℕ) (e : Error)
+    → (e ≡ InvalidJson → (name : List ℕ) → Json (chars json) (trees.text name) → ⊥)
+    → (e ≡ InvalidJson) ⊎ (e ≡ OutOfMemory)
+    → IsOutcome rows (find (name_json json) value) (Err (Call e)) rows
+name_refused rows json value e none (inl is) =
+    subst (λ (x : Error). IsOutcome rows (find (name_json json) value) (Err (Call x)) rows)
+    (sym is) (inl (none is), refl)
+name_refused rows json value e none (inr is) =
+    subst (λ (x : Error). IsOutcome rows (find (name_json json) value) (Err (Call x)) rows)
+    (sym is) (tt, refl)

@@ -1,6 +1,8 @@
-//! What the commands answer, and what they make of the rows.
+//! The replies to commands, and the changes that commands make to the rows.
 
-ghost use Rattle.std.specs.Prelude.{◌≡◌, ◌∷◌, ◌++◌, [], map, IfErr, IfOk};
+ghost use Rattle.std.specs.Prelude.{◌≡◌, ◌↔◌, ◌⊎◌, ◌∷◌, ◌++◌, ℕ, List, [], map};
+ghost use Rattle.std.specs.Prelude.{IfErr, IfOk, IsTrue};
+ghost use Rattle.std.specs.Str.Parse.{AllDigits, IsNumeral, without_leading_plus};
 ghost use Rattle.std.specs.String.{string_bytes};
 ghost use Rattle.jsonb_value.specs.declared.error.Error.TheVariants.{OutOfMemory};
 ghost use Rattle.jsonb_codec.specs.Doc.{IsDocument};
@@ -9,23 +11,31 @@ ghost use Rattle.jsonb.specs.Owned.{owned_bytes};
 ghost use Rattle.jsonb_column_cli.specs.declared.answer.Refusal.TheVariants.{Call};
 ghost use Rattle.jsonb_column_cli.specs.Commands.{add, count, row, sort, find, range, save, load};
 ghost use Rattle.jsonb_column_cli.specs.Answers.{IsGiven, IsOutcome, IsRefusal, refusal_name};
+ghost use Rattle.jsonb_column_cli.specs.Answers.{refusal_of};
+ghost use Rattle.jsonb_column_cli.specs.Commands.{name_word, name_json};
+ghost use Rattle.jsonb_column_cli.specs.Grammar.{name_view};
 ghost use Rattle.jsonb_column_cli.specs.Answers.{reply_line, rows_line, reply_of};
 
 use hex::FromHexError;
-use jsonb::{Document, Error, OwnedJsonb, Reads};
+use jsonb::{Document, Error, OwnedJsonb, ParseError, Reads, is_text_within, parse_string};
 use jsonb_column::{Column, Sorted};
 use std::alloc::{AllocError, Global};
 
-/// Why a line is answered by `error`.
+/// How deep the text of a line may nest. Reading it takes about 2 KB of stack for each level.
+pub const MAX_DEPTH: usize = 1024;
+
+/// Why the reply to a line is an error.
 #[derive(Clone, Copy, Debug, PartialEq, Eq)]
 pub enum Refusal {
-    /// The line names no command.
+    /// The line names no command, or its index is no number.
     BadCommand,
-    /// A word is no hexadecimal.
+    /// A text nests deeper than `MAX_DEPTH`.
+    TooDeep,
+    /// A word is not hexadecimal.
     BadHex,
-    /// There is no row of that index.
+    /// There is no row with this index.
     NoRow,
-    /// The library refused.
+    /// A call of the library returned this error.
     Call(Error),
 }
 
@@ -34,6 +44,17 @@ impl From<Error> for Refusal {
 
     fn from(error: Error) -> Refusal {
         Refusal::Call(error)
+    }
+}
+
+impl From<ParseError> for Refusal {
+    ghost from_gives = { λ error refusal. refusal ≡ refusal_of error };
+
+    fn from(error: ParseError) -> Refusal {
+        match error {
+            ParseError::TooDeep => Refusal::TooDeep,
+            ParseError::Refused(error) => Refusal::Call(error),
+        }
     }
 }
 
@@ -46,12 +67,13 @@ impl From<AllocError> for Refusal {
 }
 
 impl Refusal {
-    /// The word behind `error`.
+    /// The word after `error` in the reply.
     pub fn name(&self) -> &'static str
         ensures { result.now ≡ refusal_name self.now }
     {
         match self {
             Refusal::BadCommand => "BadCommand",
+            Refusal::TooDeep => "TooDeep",
             Refusal::BadHex => "BadHex",
             Refusal::NoRow => "NoRow",
             Refusal::Call(error) => error.name(),
@@ -59,7 +81,7 @@ impl Refusal {
     }
 }
 
-/// The line of an outcome, with its line feed.
+/// The reply line of an outcome, with its line feed.
 pub fn line_text(alloc: Global, outcome: Result<String, Refusal>) -> Result<String, AllocError>
     ensures { IfOk result (λ line. string_bytes line ≡ reply_line (reply_of outcome) ++ 10 ∷ []) }
 {
@@ -75,7 +97,7 @@ pub fn line_text(alloc: Global, outcome: Result<String, Refusal>) -> Result<Stri
     }
 }
 
-// The texts of the rows, each behind a space.
+// A reply with the texts of the rows, each preceded by a space.
 fn answer_rows(alloc: Global, rows: &[Document<'_>]) -> Result<String, Refusal>
     ensures ok { IfOk result (λ line. string_bytes line ≡ rows_line (map document_bytes rows.now)) }
     ensures memory { IfErr result (λ refusal. refusal ≡ Call OutOfMemory) }
@@ -89,26 +111,29 @@ fn answer_rows(alloc: Global, rows: &[Document<'_>]) -> Result<String, Refusal>
     Ok(line)
 }
 
-// The canonical document of a JSON text's tree.
+// Parses a JSON text into the canonical document of its value.
 fn parse_document(alloc: Global, text: &str) -> Result<OwnedJsonb, Refusal>
     ensures meaning { IfOk result (λ document. IsGiven text.now (owned_bytes document)) }
     ensures document { IfOk result (λ document. IsDocument (owned_bytes document)) }
     ensures refused { IfErr result (λ refusal. IsRefusal [] (add text.now) refusal) }
 {
-    Ok(OwnedJsonb::parse(alloc, text)?)
+    Ok(OwnedJsonb::parse_within(alloc, text, MAX_DEPTH)?)
 }
 
-/// A row more.
+/// Adds a row with the value of a JSON text.
 pub fn answer_add(alloc: Global, column: &mut Column, text: &str) -> Result<String, Refusal>
     ensures { IsOutcome column.old (add text.now) (reply_of result) column.new }
 {
-    // The answer has its room before the rows change.
+    // The reply is allocated before the rows change.
     let reply = String::from_str(alloc, "ok")?;
+    if !is_text_within(text.as_bytes(), MAX_DEPTH) {
+        return Err(Refusal::TooDeep);
+    }
     column.push_json(alloc, text)?;
     Ok(reply)
 }
 
-/// How many rows there are.
+/// Replies with the number of rows.
 pub fn answer_count(alloc: Global, column: &Column) -> Result<String, Refusal>
     ensures { IsOutcome column.now count (reply_of result) column.now }
 {
@@ -116,11 +141,37 @@ pub fn answer_count(alloc: Global, column: &Column) -> Result<String, Refusal>
     Ok(format!(in alloc; "ok {count}")?)
 }
 
-/// One row.
+// Whether these are decimal digits, after a plus or nothing.
+fn is_numeral(index: &str) -> bool
+    ensures { IsTrue result ↔ IsNumeral 10 (without_leading_plus index.now) }
+{
+    let digits = match index.as_bytes() {
+        [b'+', digits @ ..] => digits,
+        digits => digits,
+    };
+    !digits.is_empty() && are_digits(digits)
+}
+
+// Whether each of these bytes is a decimal digit.
+fn are_digits(digits: &[u8]) -> bool
+    ensures { IsTrue result ↔ AllDigits 10 digits.now }
+{
+    for &digit in digits {
+        if !matches!(digit, b'0'..=b'9') {
+            return false;
+        }
+    }
+    true
+}
+
+/// Replies with the text of one row.
 pub fn answer_row(alloc: Global, column: &Column, index: &str) -> Result<String, Refusal>
     ensures { IsOutcome column.now (row index.now) (reply_of result) column.now }
 {
-    // A column has no more rows than a `usize` can count: a greater number is no index.
+    if !is_numeral(index) {
+        return Err(Refusal::BadCommand);
+    }
+    // A number that does not fit `usize` is greater than every index.
     let _ = column.len();
     let Ok(index) = index.parse::<usize>() else {
         return Err(Refusal::NoRow);
@@ -131,7 +182,7 @@ pub fn answer_row(alloc: Global, column: &Column, index: &str) -> Result<String,
     answer_rows(alloc, &[row])
 }
 
-/// All rows in order.
+/// Replies with the texts of all rows, sorted by value.
 pub fn answer_sort(alloc: Global, column: &Column) -> Result<String, Refusal>
     ensures { IsOutcome column.now sort (reply_of result) column.now }
 {
@@ -139,14 +190,38 @@ pub fn answer_sort(alloc: Global, column: &Column) -> Result<String, Refusal>
     answer_rows(alloc, sorted.rows())
 }
 
-/// The rows that have a member of that name and value.
+/// A member's name as a line has it.
+#[derive(Clone, Copy, Debug)]
+pub enum Name<'a> {
+    /// The name itself.
+    Word(&'a str),
+    /// A JSON string that spells the name.
+    Json(&'a str),
+}
+
+/// Replies with the texts of the rows that have a member with this name and value.
 pub fn answer_find(
     alloc: Global,
     column: &Column,
-    name: &str,
+    name: Name<'_>,
     value: &str,
 ) -> Result<String, Refusal>
-    ensures { IsOutcome column.now (find name.now value.now) (reply_of result) column.now }
+    ensures { IsOutcome column.now (find (name_view name.entry) value.now) (reply_of result)
+        column.now }
+{
+    match name {
+        Name::Word(word) => answer_select(alloc, column, word, value),
+        Name::Json(json) => {
+            let name = parse_string(alloc, json)?;
+            answer_select(alloc, column, &name, value)
+        }
+    }
+}
+
+// The rows that have a member of this name and of the text's value.
+fn answer_select(alloc: Global, column: &Column, name: &str, value: &str) -> Result<String, Refusal>
+    ensures { IsOutcome column.now (find (name_word name.now) value.now) (reply_of result)
+        column.now }
 {
     let value = parse_document(alloc, value)?;
     let value = Document::new_unchecked(value.as_bytes());
@@ -155,7 +230,7 @@ pub fn answer_find(
     answer_rows(alloc, &rows)
 }
 
-/// The rows from one value to another, in order.
+/// Replies with the texts of the rows from one value to another, sorted.
 pub fn answer_range(
     alloc: Global,
     column: &Column,
@@ -172,7 +247,7 @@ pub fn answer_range(
     answer_rows(alloc, sorted.range(low, high))
 }
 
-/// The rows as they are stored, in hexadecimal.
+/// Replies with the rows in stored form, in hexadecimal.
 pub fn answer_save(alloc: Global, column: &Column) -> Result<String, Refusal>
     ensures { IsOutcome column.now save (reply_of result) column.now }
 {
@@ -182,11 +257,11 @@ pub fn answer_save(alloc: Global, column: &Column) -> Result<String, Refusal>
     Ok(format!(in alloc; "ok {word}")?)
 }
 
-/// The rows that are stored in a word, in place of those that were there.
+/// Replaces the rows by those that a hexadecimal word has in stored form.
 pub fn answer_load(alloc: Global, column: &mut Column, word: &str) -> Result<String, Refusal>
     ensures { IsOutcome column.old (load word.now) (reply_of result) column.new }
 {
-    // The answer has its room before the rows change.
+    // The reply is allocated before the rows change.
     let reply = String::from_str(alloc, "ok")?;
     let bytes = match hex::decode(alloc, word.as_bytes()) {
         Ok(bytes) => bytes,

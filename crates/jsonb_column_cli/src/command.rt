@@ -1,12 +1,14 @@
-//! The commands: which line is one.
+//! The grammar of commands.
 
-ghost use Rattle.std.specs.Prelude.{◌≡◌};
+ghost use Rattle.std.specs.Prelude.{◌≡◌, ◌+◌, ◌<◌, ◌≤◌, false, take, drop, length, slice_index};
 ghost use Rattle.std.specs.List.{before_first, after_first};
 ghost use Rattle.jsonb_column_cli.specs.Answers.{IsLineOutcome, reply_of};
-ghost use Rattle.jsonb_column_cli.specs.Commands.{is_space, form_in};
+ghost use Rattle.jsonb_column_cli.specs.Commands.{is_space, form_in, find_in, name_len};
+ghost use Rattle.jsonb_column_cli.specs.Commands.{open_after, escaped_after};
+ghost use Rattle.jsonb_column_cli.specs.Grammar.{form_of};
 
 use crate::answer::{
-    Refusal, answer_add, answer_count, answer_find, answer_load, answer_range, answer_row,
+    Name, Refusal, answer_add, answer_count, answer_find, answer_load, answer_range, answer_row,
     answer_save, answer_sort,
 };
 use jsonb::Error;
@@ -14,21 +16,21 @@ use jsonb_column::Column;
 use std::alloc::Global;
 use std::str;
 
-/// A line of a command, with what it is given.
+/// A command with its arguments.
 #[derive(Clone, Copy, Debug)]
 pub enum Command<'a> {
     Add(&'a str),
     Count,
     Row(&'a str),
     Sort,
-    Find { name: &'a str, value: &'a str },
+    Find { name: Name<'a>, value: &'a str },
     Range { low: &'a str, high: &'a str },
     Save,
     Load(&'a str),
     Unknown,
 }
 
-// What stands before the first space, and what follows it.
+// The text before the first space, and the text after it.
 fn split_space(text: &str) -> (&str, &str)
     ensures before { result.0.now ≡ before_first is_space text.now }
     ensures behind { result.1.now ≡ after_first is_space text.now }
@@ -36,9 +38,76 @@ fn split_space(text: &str) -> (&str, &str)
     text.split_once(' ').unwrap_or((text, ""))
 }
 
+// What `find` is given: a name, which is a JSON string where it begins with a quote, and a text.
+fn parse_find(given: &str) -> Command<'_>
+    ensures { form_of result ≡ find_in given.now }
+{
+    let (name, value) = match given.as_bytes() {
+        [b'"', ..] => {
+            let (json, value) = split_name(given);
+            (Name::Json(json), value)
+        }
+        _ => {
+            let (word, value) = split_space(given);
+            (Name::Word(word), value)
+        }
+    };
+    Command::Find { name, value }
+}
+
+// What is before the first space outside JSON strings, and what follows it.
+fn split_name(text: &str) -> (&str, &str)
+    ensures name { result.0.now ≡ take (name_len false false text.now) text.now }
+    ensures value { result.1.now ≡ drop (name_len false false text.now + 1) text.now }
+{
+    let end = name_len(text);
+    if end == text.len() {
+        return (text, "");
+    }
+    (&text[..end], &text[end + 1..])
+}
+
+// How many bytes are before the first space outside JSON strings.
+fn name_len(text: &str) -> usize
+    ensures len { result ≡ name_len false false text.now }
+    ensures within { result ≤ length text.now }
+    ensures space { result < length text.now → slice_index text.now result ≡ 32 }
+{
+    let mut len = 0;
+    let mut is_open = false;
+    let mut is_escaped = false;
+    for &byte in text.as_bytes() {
+        if byte == b' ' && !is_open {
+            return len;
+        }
+        let was_open = is_open;
+        is_open = is_open_after(was_open, is_escaped, byte);
+        is_escaped = is_escaped_after(was_open, is_escaped, byte);
+        len += 1;
+    }
+    len
+}
+
+// Whether a JSON string is open after this byte.
+fn is_open_after(is_open: bool, is_escaped: bool, byte: u8) -> bool
+    ensures { result ≡ open_after is_open is_escaped byte }
+{
+    if byte == b'"' && !is_escaped {
+        !is_open
+    } else {
+        is_open
+    }
+}
+
+// Whether the next byte is escaped.
+fn is_escaped_after(is_open: bool, is_escaped: bool, byte: u8) -> bool
+    ensures { result ≡ escaped_after is_open is_escaped byte }
+{
+    is_open && !is_escaped && byte == b'\\'
+}
+
 impl<'a> Command<'a> {
     ghost use Rattle.jsonb_column_cli.specs.Answers.{IsOutcome, reply_of};
-    ghost use Rattle.jsonb_column_cli.specs.Grammar.{form_of};
 
     /// The command of a line.
     pub fn parse(line: &'a str) -> Command<'a>
@@ -54,8 +123,7 @@ impl<'a> Command<'a> {
         } else if command == "sort" {
             Command::Sort
         } else if command == "find" {
-            let (name, value) = split_space(given);
-            Command::Find { name, value }
+            parse_find(given)
         } else if command == "range" {
             let (low, high) = split_space(given);
             Command::Range { low, high }
@@ -68,7 +136,7 @@ impl<'a> Command<'a> {
         }
     }
 
-    /// What the command answers. It changes the rows where it adds one or loads others.
+    /// Executes the command and returns its reply. Only `Add` and `Load` change the rows.
     pub fn answer(self, alloc: Global, column: &mut Column) -> Result<String, Refusal>
         ensures { IsOutcome column.old (form_of self.entry) (reply_of result) column.new }
     {
@@ -86,7 +154,7 @@ impl<'a> Command<'a> {
     }
 }
 
-/// What a line is answered: what its command answers, or that it is no text.
+/// The reply to a line: that of its command, or `InvalidUtf8` if the line is not UTF-8.
 pub fn answer(alloc: Global, column: &mut Column, line: &[u8]) -> Result<String, Refusal>
     ensures { IsLineOutcome column.old line.now (reply_of result) column.new }
 {

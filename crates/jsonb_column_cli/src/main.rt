@@ -2,19 +2,52 @@
 #![tactic(auto)]
 
 mod answer;
+mod arguments;
 mod command;
 mod run;
 
-use std::io;
+use answer_lines::RunError;
+use arguments::{Request, USAGE, request_of};
 use std::process::ExitCode;
+use std::{env, io};
+
+// The status of a command line that is refused.
+const USAGE_STATUS: u8 = 2;
 
 fn main(rt: HostRuntime) -> ExitCode {
-    match run::run(rt.alloc(), &mut rt.reader(), &mut io::writer(&rt)) {
-        Ok(()) => ExitCode::SUCCESS,
-        Err(error) => {
-            // Where standard error takes no line either, the status alone tells of the fault.
-            let _ = eprintln!(rt; "{}", run::fault_line(error));
-            ExitCode::FAILURE
+    match requested(&rt) {
+        Ok(Request::Run) => {
+            match run::run(rt.alloc(), &mut rt.reader(), &mut io::writer(&rt)) {
+                Ok(()) => ExitCode::SUCCESS,
+                Err(error) => report(&rt, error),
+            }
         }
+        Ok(Request::Help) => match print!(rt; "{USAGE}") {
+            Ok(()) => ExitCode::SUCCESS,
+            Err(_) => report(&rt, RunError::Write),
+        },
+        Ok(Request::Unknown) => {
+            let _ = eprintln!(rt; "jsonb_column_cli: unknown argument; try --help");
+            ExitCode::from(USAGE_STATUS)
+        }
+        Err(error) => report(&rt, error),
     }
+}
+
+// What the arguments ask for. One that is not UTF-8 is unknown.
+fn requested(rt: &HostRuntime) -> Result<Request, RunError> {
+    match env::args(rt) {
+        Ok(mut arguments) => {
+            let _program = arguments.next();
+            Ok(request_of(arguments.next(), arguments.next()))
+        }
+        Err(error) if error.kind() == io::ErrorKind::OutOfMemory => Err(RunError::Memory),
+        Err(_) => Ok(Request::Unknown),
+    }
+}
+
+// If standard error fails too, only the status reports the fault.
+fn report(rt: &HostRuntime, error: RunError) -> ExitCode {
+    let _ = eprintln!(rt; "{}", run::fault_line(error));
+    ExitCode::FAILURE
 }

@@ -1,4 +1,4 @@
-//! Lines in, replies out, over any reader and any writer.
+//! The loop from lines to replies, over any reader and any writer.
 
 ghost use Rattle.std.specs.Prelude.{◌≡◌, [], List, ℕ, OnOk, OnErr, IfSome, IsErrOf};
 ghost use Rattle.std.specs.Io.KnownBytes.{IsAtEnd};
@@ -15,7 +15,7 @@ use std::alloc::{AllocError, Global};
 use std::io::{Read, Write};
 use std::marker::Model;
 
-/// The line that tells of a fault on standard error.
+/// The line that reports a fault on standard error.
 pub fn fault_line(error: RunError) -> &'static str
     ensures { result.now ≡ fault_line error }
 {
@@ -26,13 +26,13 @@ pub fn fault_line(error: RunError) -> &'static str
     }
 }
 
-/// What answers each line by its command, on the rows that the line before has left.
+/// Replies to each line by its command, on the rows that the previous lines left.
 #[derive(Drop)]
 pub struct Commands {
     column: Column,
 }
 
-// What answers lines is told by its rows.
+// In contracts it is the list of its rows.
 impl Model for Commands {
     ghost Value = { List (List ℕ) };
 
@@ -40,7 +40,7 @@ impl Model for Commands {
 }
 
 impl Commands {
-    // On no rows.
+    // Commands on a column without rows.
     fn new(alloc: Global) -> Self
         ensures { result ≡ [] }
     {
@@ -59,15 +59,16 @@ impl LineAnswerer for Commands {
     }
 }
 
-/// Answers each line of the reader's bytes to the writer by one line, on a column that begins with
-/// no rows. A line is what stands before a line feed, and what follows the last one where it is not
-/// empty. All whole lines that were read are answered before the reader is asked again. After `Ok`
-/// all input was read, and its answers were written, in order and nothing else.
+/// Writes one reply line for each line of the reader, working on a column that is empty at first. A
+/// line ends at a line feed; what follows the last line feed is a line unless it is empty. All
+/// whole lines that were read are answered before the next read. After `Ok` the input was read to
+/// its end, and exactly its replies were written, in order.
 ///
-/// Where a command is refused memory, its answer is `error OutOfMemory`, the rows stay, and the run
-/// goes on. After an error what was written is a beginning of such answers. `Read`: the reader
-/// failed, or was asked 18,446,744,073,709,551,615 times and met no end of input. `Write`: the
-/// writer failed, or took no byte. `Memory`: the room for a line or for a reply was refused.
+/// If a command runs out of memory, its reply is `error OutOfMemory`, the rows are unchanged, and
+/// the run continues. After an error, a prefix of the replies was written. `Read`: the reader
+/// failed, or was called 18,446,744,073,709,551,615 times without reaching the end of the input.
+/// `Write`: the writer failed, or accepted no byte. `Memory`: the allocation of a line or of a
+/// reply failed.
 pub fn run<R: Read, W: Write>(alloc: Global, reader: &mut R, writer: &mut W) -> Result<(), RunError>
     ensures done { OnOk result (IfSome (R.remaining reader.old) (λ input. (rows : Rows)
         × AppendsReplies AnswersLine [] rows input
@@ -76,13 +77,13 @@ pub fn run<R: Read, W: Write>(alloc: Global, reader: &mut R, writer: &mut W) -> 
     ensures beginning { OnErr result (IfSome (R.remaining reader.old) (λ input.
         AppendsBeginning AnswersLine [] input (W.contents writer.old) (W.contents writer.new))) }
 
-    // After the reader's fault exactly the whole lines that it gave are answered.
+    // After a fault of the reader, exactly the whole lines that it returned are answered.
     ensures prompt { IsErrOf result RunError.Read → IfSome (R.remaining reader.old) (λ input.
         IfSome (R.remaining reader.new) (λ left. (start : List ℕ) × ((rows : Rows)
         × AppendsWhole AnswersLine [] rows input start left
         (W.contents writer.old) (W.contents writer.new)))) }
 
-    // Where no reply is `error OutOfMemory`, an input has one output.
+    // If no reply is `error OutOfMemory`, the output is determined by the input.
     ensures one_output { (input a b : List ℕ) → AreAnswers AnswersLine [] input a
         → AreAnswers AnswersLine [] input b → a ≡ b }
 {

@@ -14,13 +14,13 @@ returns-in-Err c =
     let same : c.in-Ok.json.now ≡ c.args.key.now = search rules in
     failed c.in-Err.ensures.only
     (λ is. no_name _ c.in_ok-bytes.ensures.ok c.in-Ok.ensures.cases.1
-    (λ name named. c.in-Err.ensures.none is name (rw same named.1)) (ap said_of is))
+    (λ name named. c.in-Err.ensures.invalid is name (rw same named.1)) (ap said_of is))
 
 pub returns-in-Ok-Some : goal.returns-in-Ok-Some
 returns-in-Ok-Some c =
-    let named = key_named c.in-Ok-parse_name.name (search rules) c.in-Ok.ensures.cases.1
+    let named = key_named c.in-Ok-parse_string.name (search rules) c.in-Ok.ensures.cases.1
     c.deref-2.ensures.value
-    c.in-Ok-parse_name.ensures.ok in
+    c.in-Ok-parse_string.ensures.ok in
     let (t, means) = c.in-Ok-Some.ensures.some in
     let (u, (is, item)) =
     item_found (rw c.in-Ok-Some.field-0-is at (c.in-Ok-Some.ensures.found t means)) in
@@ -33,18 +33,18 @@ returns-in-Ok-Some c =
 
 pub returns-in-Ok-None : goal.returns-in-Ok-None
 returns-in-Ok-None c =
-    let named = key_named c.in-Ok-parse_name.name (search rules) c.in-Ok.ensures.cases.1
+    let named = key_named c.in-Ok-parse_string.name (search rules) c.in-Ok.ensures.cases.1
     c.deref-2.ensures.value
-    c.in-Ok-parse_name.ensures.ok in
+    c.in-Ok-parse_string.ensures.ok in
     let (t, means) = c.in-Ok-None.ensures.some in
     inl (none _ _ t c.in_ok-bytes.ensures.ok named (rw c.deref.ensures.value at means)
     (nothing_found (rw c.in-Ok-None.field-0-is at (c.in-Ok-None.ensures.found t means))) refl)
 
 pub returns : goal.returns
 returns c =
-    let named = key_named c.in-Ok-parse_name.name (search rules) c.in-Ok.ensures.cases.1
+    let named = key_named c.in-Ok-parse_string.name (search rules) c.in-Ok.ensures.cases.1
     c.deref-2.ensures.value
-    c.in-Ok-parse_name.ensures.ok in
+    c.in-Ok-parse_string.ensures.ok in
     let (is, not) = c.in-Err-value_of_name.ensures.none in
     inl (no_document _ _ c.in_ok-bytes.ensures.ok named (rw c.deref.ensures.value at not)
     (ap said_of is))

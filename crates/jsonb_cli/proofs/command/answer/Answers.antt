@@ -4,7 +4,7 @@ use Rattle.jsonb_cli.specs.Answers.{IsAnswer, of_form, IsFormAnswer, IsReply}
 use Rattle.jsonb_cli.proofs.OneAnswer.{one_answer}
 use Rattle.jsonb_cli.proofs.command.answer.Goals as goal
 
--- the reply to a command is one to its line
+-- a reply to a command is a reply to its line
 reply_of_form : (form : Form) (line reply : List ℕ) → IsOfForm form line
     → IsReply IsFormAnswer form reply → IsReply IsAnswer line reply
 reply_of_form form line reply of (inl answer) = inl (of_form form of answer)

@@ -1,6 +1,6 @@
-use Rattle.std.proofs.Common.{ap, Err}
+use Rattle.std.proofs.Common.{rules, ap, Err}
 use Rattle.jsonb_column_cli.specs.declared.answer.Refusal.TheVariants.{Call}
-use Rattle.jsonb_column_cli.specs.Answers.{IsOutcome}
+use Rattle.jsonb_column_cli.specs.Answers.{IsOutcome, IsShallow}
 use Rattle.jsonb_column_cli.specs.Commands.{add}
 use Rattle.jsonb_column_cli.proofs.Replies.{reply_of_err, call_errors}
 use Rattle.jsonb_column_cli.proofs.answer.answer_add.Goals as goal
@@ -8,6 +8,7 @@ use Rattle.jsonb_column_cli.proofs.answer.answer_add.Goals as goal
 pub returns-in_err-push_json : goal.returns-in_err-push_json
 returns-in_err-push_json c =
     let e = c.in_err-push_json.field-0.0 in
+    let low : IsShallow c.args.text.now = search rules in
     reply_of_err (λ outcome. IsOutcome c.args.column.now
     (add c.args.text.now) outcome c.push_json.new.self) c.from_residual-in_err-push_json.result
     (Call e)
@@ -15,6 +16,6 @@ returns-in_err-push_json c =
     (call_errors
     (λ e. IsOutcome c.args.column.now (add c.args.text.now)
     (Err (Call e)) c.push_json.new.self) e c.in_err-push_json.ensures.only
-    (λ is. (c.in_err-push_json.ensures.invalid (ap Err is), c.in_err-push_json.ensures.kept))
-    (λ is. (c.in_err-push_json.ensures.past (ap Err is), c.in_err-push_json.ensures.kept))
+    (λ is. ((low, c.in_err-push_json.ensures.invalid (ap Err is)), c.in_err-push_json.ensures.kept))
+    (λ is. ((low, c.in_err-push_json.ensures.past (ap Err is)), c.in_err-push_json.ensures.kept))
     (tt, c.in_err-push_json.ensures.kept))

@@ -1,15 +1,26 @@
-use Rattle.std.proofs.Common.{[], ap, Err}
-use Rattle.jsonb_column_cli.specs.declared.answer.Refusal.TheVariants.{Call}
-use Rattle.jsonb_column_cli.specs.Answers.{IsRefusal}
+use Rattle.std.proofs.Common.{[], refl, Err, Ok}
+use Rattle.jsonb.specs.Owned.{owned_bytes}
+use Rattle.jsonb_column_cli.specs.Answers.{IsRefusal, refusal_of}
 use Rattle.jsonb_column_cli.specs.Commands.{add}
-use Rattle.jsonb_column_cli.proofs.Replies.{if_err, call_errors}
+use Rattle.jsonb_column_cli.proofs.Replies.{if_err, text_refused, text_given}
 use Rattle.jsonb_column_cli.proofs.answer.parse_document.Goals as goal
 
-pub returns-in_err-parse-clause-refused : goal.returns-in_err-parse-clause-refused
-returns-in_err-parse-clause-refused c =
-    let e = c.in_err-parse.field-0.0 in
-    if_err (IsRefusal [] (add c.args.text.now)) c.from_residual.result
-    (Call e) c.from_residual.ensures.1
-    (call_errors (λ e. IsRefusal [] (add c.args.text.now) (Call e)) e c.in_err-parse.ensures.errors
-    (λ is. c.in_err-parse.ensures.invalid (ap Err is))
-    (λ is. c.in_err-parse.ensures.past (ap Err is)) tt)
+pub returns-in_err-parse_within-clause-refused : goal.returns-in_err-parse_within-clause-refused
+returns-in_err-parse_within-clause-refused c =
+    let e = c.in_err-parse_within.field-0.0 in
+    let text = c.args.text.now in
+    let known = c.in_err-parse_within.ensures in
+    if_err (IsRefusal [] (add text)) c.from_residual.result (refusal_of e)
+    c.from_residual.ensures.1
+    (text_refused text (Err e) e refl known.deep known.invalid known.past known.errors)
+
+pub returns-clause-meaning : goal.returns-clause-meaning
+returns-clause-meaning c =
+    let owned = c.in_ok-parse_within.field-0 in
+    let known = c.in_ok-parse_within.ensures in
+    text_given c.args.text.now (owned_bytes owned) (Ok owned) owned refl known.deep known.ok
+    known.fits
+
+pub returns-clause-document : goal.returns-clause-document
+returns-clause-document c =
+    let within = c.in_ok-parse_within.ensures.within in (within.0, within.1.1)

@@ -5,7 +5,7 @@ use Rattle.jsonb_column.proofs.StorageLaws.{IsRead-IsCut, IsRead-HasFaultyRow, c
 use Rattle.jsonb_column.proofs.StorageLaws.{not_cut, not_faulty, told_cut, told_memory}
 use Rattle.jsonb_column.proofs.column.Column.read_from.Goals as goal
 
--- where the next row is cut
+-- if the next row is cut off
 pub returns-in_err-row-clause-memory : goal.returns-in_err-row-clause-memory
 returns-in_err-row-clause-memory c rows all =
     let some : 0 < length c.loop-rest.rest.now = search rules in
@@ -25,7 +25,7 @@ returns-in_err-row-clause-told_invalid c = λ faulty.
     (IsRead-IsCut c.args.bytes.now c.loop-rest.rest.now c.loop-rest.column c.loop-rest.invariant
     some c.in_err-row.ensures.cut) faulty)
 
--- where it is no document
+-- if the next row is not a document
 pub returns-in_err-push-clause-memory : goal.returns-in_err-push-clause-memory
 returns-in_err-push-clause-memory c =
     told_memory c.args.bytes.now c.from_residual-in_err-push.result c.in_err-push.field-0.0

@@ -1,4 +1,4 @@
--- Some rows are read, and the rest of the bytes is left.
+-- Some rows were read, and the rest of the bytes is left.
 use Rattle.std.proofs.Common.{length}
 use Rattle.jsonb_column.proofs.StorageLaws.{IsRead}
 use Rattle.jsonb_column.proofs.column.Column.read_from.Given as goal

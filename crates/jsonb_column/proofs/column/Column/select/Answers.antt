@@ -39,7 +39,9 @@ loop-index-preserved c =
     let read = ap row_reads c.row_within-row.ensures in
     let wanted = has_member c.args.name.now (document_tree c.args.value) in
     let answer : c.has_member.result ≡ wanted (document_bytes c.row_within-row.result) =
-    c.has_member.ensures.member (document_tree c.args.value) c.loop-index.invariant.value in
+    c.has_member.ensures.member
+    ∙ ap (λ u. has_member c.args.name.now u (document_bytes c.row_within-row.result))
+    c.loop-index.invariant.value in
     record {
       value = c.loop-index.invariant.value;
       found = elim c.if-has_member.branch [

@@ -1,4 +1,4 @@
--- The rows so far are written behind what was there.
+-- The rows so far were appended to the buffer.
 use Rattle.std.proofs.Common.{◌≡◌, ◌++◌, take}
 use Rattle.jsonb_column.specs.Storage.{storage}
 use Rattle.jsonb_column.proofs.column.Column.write_to.Given as goal

@@ -1,0 +1,10 @@
+-- What the program's arguments ask for.
+use Rattle.std.specs.Prelude.{if◌then◌else◌, ℕ, List, Option, Some, None, codes, bytes_eq}
+use Rattle.jsonb_column_cli.specs.declared.arguments.Request.{Request}
+use Rattle.jsonb_column_cli.specs.declared.arguments.Request.TheVariants.{Run, Help, Unknown}
+
+-- by the first two arguments: without one it runs, and `--help` alone prints the usage
+abbrev pub request_in : (first second : Option (List ℕ)) → Request
+request_in None second = Run
+request_in (Some word) None = if bytes_eq word (codes "--help") then Help else Unknown
+request_in (Some word) (Some other) = Unknown
