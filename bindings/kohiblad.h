@@ -1,38 +1,48 @@
-/* Kohiblad, for C and C++: JSON values as binary documents, asked, compared, sorted and printed
- * where they stand. docs/C.md says what is proved of each call, and what a caller owes.
+/* Kohiblad, for C and C++: JSON values as binary documents, searched, compared, sorted and printed
+ * in place. docs/C.md says what is proved of each call, and what a caller owes.
  *
  *     uint8_t row[256];
  *     size_t length;
  *     uint32_t status = kohiblad_parse(text, text_size, 64, row, sizeof row, &length);
  *
  * BYTES go in as a pointer and a length. Any bytes may be given: no call reads outside them, and
- * each says what it answers where they are no document. Bytes that were checked once, by
- * kohiblad_check, need no check again: no other call changes them.
+ * each says what it returns if they are no document. But a call may recurse as deep as the bytes
+ * nest, and needs stack for that (see STACK): check untrusted bytes with kohiblad_check first,
+ * which takes a limit. Checked bytes need no further check: no call writes to its input.
  *
  * RESULTS that are bytes are written as snprintf writes: `out` has room for `room` bytes, and
- * `*length` is told how many bytes the result has, also where they do not fit. Then the status is
- * KOHIBLAD_NO_ROOM and `out` is untouched, and the call can be made again with more room; `room` 0
- * asks for the length alone. With every other status but KOHIBLAD_OK, `out` is untouched and
- * `*length` is 0. Texts are UTF-8 and end without a zero byte.
+ * `*length` is set to the number of bytes that the result has, also if they do not fit. Then the
+ * status is KOHIBLAD_NO_ROOM and `out` is untouched, and the call can be repeated with more room;
+ * `room` 0 gives the length alone. With every other status but KOHIBLAD_OK, `out` is untouched and
+ * `*length` is 0. Texts are UTF-8, without a zero byte at the end.
  *
  * OWNERSHIP: everything belongs to the caller. No call keeps a pointer, and none hands memory out.
- * `out`, `order` and `length` must lie apart from what goes in and from each other.
+ * What a call writes must lie apart from its input, and from all else that it writes. If it does
+ * not, the functions below return KOHIBLAD_OVERLAP and write nothing, `*length` neither.
  *
- * MEMORY: calls that say so take memory by malloc, and free it before they return. Where malloc
- * refuses, the status is KOHIBLAD_OUT_OF_MEMORY. All other calls take none.
+ * MEMORY: calls that say so allocate by malloc and realloc, and free all of it before they return.
+ * If an allocation fails, the status is KOHIBLAD_OUT_OF_MEMORY. All other calls allocate nothing.
+ * Beside malloc, realloc and free the library needs memcpy, memmove and memset, and nothing else.
  *
- * THREADS: there is no state. Any call may run in any thread, beside any other, also over the same
- * bytes, as long as nobody writes them. Calls are not for signal handlers.
+ * THREADS: the library is reentrant: it has no state. Any call may run in any thread, beside any
+ * other, also over the same bytes, as long as nobody writes them. Do not call it in a signal
+ * handler.
  *
  * STACK: calls recurse as deep as a document or a text nests. KOHIBLAD_LEVEL_STACK bytes for each
  * level of a document, KOHIBLAD_TEXT_LEVEL_STACK for each of a text, and KOHIBLAD_CALL_STACK beside
  * them are enough: 64 levels need 48 KB, of texts 136 KB; 1,000 levels 633 KB, of texts 2 MB. So
- * pass foreign bytes through kohiblad_check, and foreign texts through the depth of kohiblad_parse.
- * kind, get, find, part, array_item and object_member look into no child, and do not recurse.
+ * pass untrusted bytes through kohiblad_check, and limit untrusted texts by the depth of
+ * kohiblad_parse. kohiblad_key and each call whose name ends in _within look no deeper than their
+ * depth: to them a document that nests deeper is no document. kind, get, find, part, begin, next,
+ * array_item, object_member, and the calls on scalars do not recurse.
  *
- * NULL is allowed for bytes, texts, ends, out and order whose length is 0, since macros at the end
- * of this file guard it. A caller that passes the macros by, through a function pointer or from
- * another language, must pass some other pointer there. `length` is never null. */
+ * NULL is allowed for bytes, texts, ends, out and order whose length is 0, and for `key` of
+ * kohiblad_next. A `length` and a cursor are never null.
+ *
+ * OTHER LANGUAGES: the functions below are inline. They replace null and refuse overlaps, and then
+ * call the library's export of the same name. A caller that loads the library by itself calls the
+ * exports, with the same arguments: it must pass pointers that are not null, and keep what is
+ * written apart. kohiblad_cffi.h declares the exports alone. */
 #ifndef KOHIBLAD_H
 #define KOHIBLAD_H
 
@@ -48,11 +58,16 @@
 #define KOHIBLAD_TEXT_LEVEL_STACK 2048
 #define KOHIBLAD_CALL_STACK 8192
 
+/* How the functions of this header are named to the assembler: an inline function must not have its
+ * export's name, and an export is declared here by another. */
+#define KOHIBLAD_INLINE(name) __asm__(name "_inline")
+#define KOHIBLAD_EXPORT(name) __asm__(name)
+
 #ifdef __cplusplus
 extern "C" {
 #endif
 
-/* What a call answers. */
+/* What a call returns. */
 enum kohiblad_status {
     KOHIBLAD_OK = 0,
     KOHIBLAD_INVALID_EOF = 1,             /* the bytes are cut, or rows end outside them */
@@ -67,10 +82,13 @@ enum kohiblad_status {
     KOHIBLAD_OUT_OF_MEMORY = 10,
     KOHIBLAD_NO_ROOM = 11,
     KOHIBLAD_NONE = 12,                   /* no such item, member or key */
-    KOHIBLAD_TOO_DEEP = 13
+    KOHIBLAD_TOO_DEEP = 13,
+    KOHIBLAD_OTHER_KIND = 14,             /* the value is of another kind */
+    KOHIBLAD_PAST_RANGE = 15,             /* the number is no whole one of 64 bits */
+    KOHIBLAD_OVERLAP = 16                 /* what a call writes overlaps something else */
 };
 
-/* The kinds of values, as kohiblad_kind tells them. */
+/* The kinds of values, as kohiblad_kind returns them. */
 enum kohiblad_kind_number {
     KOHIBLAD_NULL = 0,
     KOHIBLAD_BOOLEAN = 1,
@@ -81,7 +99,7 @@ enum kohiblad_kind_number {
     KOHIBLAD_OBJECT = 6
 };
 
-/* The types of entries, as kohiblad_part and kohiblad_find tell them. */
+/* The types of entries, as kohiblad_part and kohiblad_find return them. */
 enum kohiblad_type {
     KOHIBLAD_TYPE_NULL = 0x00000000,      /* no payload */
     KOHIBLAD_TYPE_STRING = 0x10000000,    /* the payload is the text */
@@ -92,7 +110,16 @@ enum kohiblad_type {
     KOHIBLAD_TYPE_EXTENSION = 0x60000000
 };
 
-struct kohiblad_kind {
+/* The tags of extension values. */
+enum kohiblad_extension_tag {
+    KOHIBLAD_BINARY = 0x00,
+    KOHIBLAD_DATE = 0x10,
+    KOHIBLAD_TIMESTAMP = 0x20,
+    KOHIBLAD_TIMESTAMP_TZ = 0x30,
+    KOHIBLAD_INTERVAL = 0x40
+};
+
+struct kohiblad_value_kind {
     uint32_t status;
     uint32_t kind;  /* enum kohiblad_kind_number */
     uint64_t count; /* of an array its items, of an object its pairs, else 0 */
@@ -101,104 +128,363 @@ struct kohiblad_kind {
 struct kohiblad_place {
     uint32_t status;
     uint32_t type;   /* enum kohiblad_type */
-    uint64_t offset; /* of the payload, from the front of the bytes */
+    uint64_t offset; /* of the payload, from the start of the bytes */
     uint64_t length; /* of the payload */
 };
 
-/* The version of the library, as KOHIBLAD_VERSION is that of the header. */
-uint32_t kohiblad_version(void);
+/* How far a walk has come: the index of the next child, and where it is. */
+struct kohiblad_cursor {
+    uint64_t index;
+    uint64_t key;
+    uint64_t value;
+};
+
+struct kohiblad_decimal {
+    uint32_t status;
+    uint32_t scale; /* how many digits come after the point */
+    int64_t high;   /* the number without its point is high * 2^64 + low */
+    uint64_t low;
+};
+
+struct kohiblad_integer {
+    uint32_t status;
+    int64_t value;
+};
+
+struct kohiblad_truth {
+    uint32_t status;
+    uint32_t value; /* 0 or 1 */
+};
+
+/* An extension value: fields that its tag has not are 0. Data is in the bytes, at an offset from
+ * their front: of a binary value, and of those of newer kinds, tags 0x50, 0x60 to 0xF0. */
+struct kohiblad_extension_value {
+    uint32_t status;
+    uint32_t tag;    /* the payload's first byte: enum kohiblad_extension_tag, or a newer one */
+    int64_t value;   /* of a date and a timestamp; of an interval its micros */
+    int32_t months;  /* of an interval */
+    int32_t days;    /* of an interval */
+    int32_t seconds; /* of a timestamp with a zone: the zone's offset */
+    uint64_t offset; /* of the data */
+    uint64_t length; /* of the data */
+};
+
+/* The version of the library. KOHIBLAD_VERSION is that of the header. */
+static inline uint32_t kohiblad_version(void) KOHIBLAD_INLINE("kohiblad_version");
 
 /* The name of a status, "Unknown" of other numbers; at most 21 bytes. */
-uint32_t kohiblad_status_name(uint32_t status, uint8_t *out, size_t room, size_t *length);
+static inline uint32_t kohiblad_status_name(uint32_t status, uint8_t *out, size_t room,
+    size_t *length) KOHIBLAD_INLINE("kohiblad_status_name");
 
-/* Whether the bytes are a document that nests at most so deep: a scalar has depth 0, an array or
- * object 1 where it is empty, else one more than its deepest child. Looks no deeper. */
-bool kohiblad_check(const uint8_t *bytes, size_t size, size_t depth);
+/* Whether the bytes are a document of at most this depth: a scalar has depth 0, an array or object
+ * 1 if it is empty, else one more than its deepest child. Looks no deeper. */
+static inline bool kohiblad_check(const uint8_t *bytes, size_t size, size_t depth)
+    KOHIBLAD_INLINE("kohiblad_check");
 
 /* Whether the bytes are a document, however deep. */
-bool kohiblad_is_document(const uint8_t *bytes, size_t size);
+static inline bool kohiblad_is_document(const uint8_t *bytes, size_t size)
+    KOHIBLAD_INLINE("kohiblad_is_document");
 
-/* The order of any two byte strings by what they mean: -1, 0 or 1. Documents stand below all other
- * bytes, and those are ordered as bytes. 5 and 5.0 are equal. The order is total. */
-int32_t kohiblad_compare(const uint8_t *left, size_t left_size,
-                         const uint8_t *right, size_t right_size);
+/* The order of any two byte strings by what they mean: -1, 0 or 1. Documents are less than all
+ * other bytes, and those are ordered as bytes. 5 and 5.0 are equal. The order is total. */
+static inline int32_t kohiblad_compare(const uint8_t *left, size_t left_size,
+    const uint8_t *right, size_t right_size) KOHIBLAD_INLINE("kohiblad_compare");
+
+/* The same, but a document that nests deeper than the depth counts as no document. Looks no
+ * deeper. */
+static inline int32_t kohiblad_compare_within(const uint8_t *left, size_t left_size,
+    const uint8_t *right, size_t right_size, size_t depth)
+    KOHIBLAD_INLINE("kohiblad_compare_within");
 
 /* The kind, by the first two words. INVALID_EOF, INVALID_JSONB: these words show none. */
-struct kohiblad_kind kohiblad_kind(const uint8_t *bytes, size_t size);
+static inline struct kohiblad_value_kind kohiblad_kind(const uint8_t *bytes, size_t size)
+    KOHIBLAD_INLINE("kohiblad_kind");
 
-/* The value of a key, as a document of its own. NONE: there is no such key, or no object.
- * INVALID_UTF8: the name is none. Other bytes than documents give an answer or an error's
- * status. */
-uint32_t kohiblad_get(const uint8_t *bytes, size_t size, const uint8_t *name, size_t name_size,
-                      uint8_t *out, size_t room, size_t *length);
+/* The value of a key, as a document of its own. NONE: there is no such key, or the value is no
+ * object. INVALID_UTF8: the name is not UTF-8. Bytes that are no document give some value, NONE or
+ * an error's status. */
+static inline uint32_t kohiblad_get(const uint8_t *bytes, size_t size, const uint8_t *name,
+    size_t name_size, uint8_t *out, size_t room, size_t *length) KOHIBLAD_INLINE("kohiblad_get");
 
-/* The same, told by where the value stands, with nothing copied. */
-struct kohiblad_place kohiblad_find(const uint8_t *bytes, size_t size,
-                                    const uint8_t *name, size_t name_size);
+/* The place of a key's value, with nothing copied. NONE, INVALID_UTF8: as kohiblad_get. */
+static inline struct kohiblad_place kohiblad_find(const uint8_t *bytes, size_t size,
+    const uint8_t *name, size_t name_size) KOHIBLAD_INLINE("kohiblad_find");
 
-/* Where a part stands: of an array of n the items, 0 to n - 1; of an object of n pairs the keys, 0
- * to n - 1, and the values, n to 2n - 1. NONE: there is no such part. Costs a word for each part
- * before. */
-struct kohiblad_place kohiblad_part(const uint8_t *bytes, size_t size, size_t number);
+/* The place of a part: of an array of n the items, 0 to n - 1; of an object of n pairs the keys, 0
+ * to n - 1, and the values, n to 2n - 1. NONE: there is no such part. Reads one word for each
+ * earlier part. */
+static inline struct kohiblad_place kohiblad_part(const uint8_t *bytes, size_t size,
+    size_t number) KOHIBLAD_INLINE("kohiblad_part");
 
-/* An item of an array, as a document of its own. NONE: no such item, or no array. */
-uint32_t kohiblad_array_item(const uint8_t *bytes, size_t size, size_t index,
-                             uint8_t *out, size_t room, size_t *length);
+/* Begins a walk over the children of an array or object: all of them cost as much as the last one's
+ * kohiblad_part alone. NONE: neither an array nor an object. INVALID_EOF, INVALID_JSONB: as of
+ * kohiblad_part. With every status but OK the cursor is as it was. */
+static inline uint32_t kohiblad_begin(const uint8_t *bytes, size_t size,
+    struct kohiblad_cursor *cursor) KOHIBLAD_INLINE("kohiblad_begin");
+
+/* Where the next child is, as kohiblad_part answers it: of an array the item at the cursor's index
+ * i, part i; of an object of n pairs the key, part i, and the value, part n + i. Then the cursor is
+ * moved. NONE: there are no more. With an error's status the cursor stays as it is. `*value` and
+ * `*key` have the same status, but an item's key has NONE. Any cursor may be given, also one that
+ * no call made: what is answered with OK lies inside the bytes. */
+static inline uint32_t kohiblad_next(const uint8_t *bytes, size_t size,
+    struct kohiblad_cursor *cursor, struct kohiblad_place *key, struct kohiblad_place *value)
+    KOHIBLAD_INLINE("kohiblad_next");
+
+/* An item of an array, as a document of its own. NONE: there is no such item, or no array. */
+static inline uint32_t kohiblad_array_item(const uint8_t *bytes, size_t size, size_t index,
+    uint8_t *out, size_t room, size_t *length) KOHIBLAD_INLINE("kohiblad_array_item");
 
 /* A key of an object, in ascending order, as its text, and its value as a document of its own. Both
- * are written or, with NO_ROOM, neither. NONE: no such pair, or no object. */
-uint32_t kohiblad_object_member(const uint8_t *bytes, size_t size, size_t index,
-                                uint8_t *key, size_t key_room, size_t *key_length,
-                                uint8_t *out, size_t room, size_t *length);
+ * are written or, with NO_ROOM, neither. NONE: there is no such pair, or no object. */
+static inline uint32_t kohiblad_object_member(const uint8_t *bytes, size_t size, size_t index,
+    uint8_t *key, size_t key_room, size_t *key_length, uint8_t *out, size_t room, size_t *length)
+    KOHIBLAD_INLINE("kohiblad_object_member");
 
-/* The JSON text, with no white space: of bytes that are no document their own text, and "null" of
- * no bytes. Takes memory. */
-uint32_t kohiblad_to_string(const uint8_t *bytes, size_t size,
-                            uint8_t *out, size_t room, size_t *length);
+/* SCALARS: what a document is, where it is of that kind; kohiblad_get and kohiblad_array_item give
+ * documents of values. OTHER_KIND: kohiblad_kind answers another kind. INVALID_JSONB: the bytes are
+ * no document, though they begin as one of that kind. Other statuses are those of kohiblad_kind. */
 
-/* The JSON text on lines, indented by two spaces; "null" of bytes that are no document. Takes
+/* A number: its digits as a whole number of 128 bits in two halves, and its scale. 1.50 is 150 with
+ * scale 2. */
+static inline struct kohiblad_decimal kohiblad_number(const uint8_t *bytes, size_t size)
+    KOHIBLAD_INLINE("kohiblad_number");
+
+/* A number that is whole and of 64 bits. PAST_RANGE: it is larger, or has digits after its point,
+ * also where these are zeros. */
+static inline struct kohiblad_integer kohiblad_int64(const uint8_t *bytes, size_t size)
+    KOHIBLAD_INLINE("kohiblad_int64");
+
+/* The place of a text: its bytes, with neither quotes nor escapes. */
+static inline struct kohiblad_place kohiblad_text(const uint8_t *bytes, size_t size)
+    KOHIBLAD_INLINE("kohiblad_text");
+
+/* A truth value. */
+static inline struct kohiblad_truth kohiblad_boolean(const uint8_t *bytes, size_t size)
+    KOHIBLAD_INLINE("kohiblad_boolean");
+
+/* An extension value, by its tag and fields. */
+static inline struct kohiblad_extension_value kohiblad_extension(const uint8_t *bytes,
+    size_t size) KOHIBLAD_INLINE("kohiblad_extension");
+
+/* DOCUMENTS OF SCALARS. */
+
+/* Null. */
+static inline uint32_t kohiblad_of_null(uint8_t *out, size_t room, size_t *length)
+    KOHIBLAD_INLINE("kohiblad_of_null");
+
+/* A truth value: false of 0, true of all others. */
+static inline uint32_t kohiblad_of_boolean(uint32_t value, uint8_t *out, size_t room,
+    size_t *length) KOHIBLAD_INLINE("kohiblad_of_boolean");
+
+/* A text, of its bytes. INVALID_UTF8; INVALID_JSONB: it has 2^28 bytes or more. */
+static inline uint32_t kohiblad_of_text(const uint8_t *text, size_t size, uint8_t *out,
+    size_t room, size_t *length) KOHIBLAD_INLINE("kohiblad_of_text");
+
+/* A whole number: the same bytes as kohiblad_parse makes of its digits. Takes memory. */
+static inline uint32_t kohiblad_of_int64(int64_t value, uint8_t *out, size_t room, size_t *length)
+    KOHIBLAD_INLINE("kohiblad_of_int64");
+
+/* The number high * 2^64 + low with `scale` of its digits after the point: 150 with scale 2 is
+ * 1.50. The same bytes as kohiblad_parse makes of it. INVALID_JSONB: the scale is past 255. Takes
  * memory. */
-uint32_t kohiblad_to_pretty(const uint8_t *bytes, size_t size,
-                            uint8_t *out, size_t room, size_t *length);
+static inline uint32_t kohiblad_of_decimal(int64_t high, uint64_t low, uint32_t scale,
+    uint8_t *out, size_t room, size_t *length) KOHIBLAD_INLINE("kohiblad_of_decimal");
 
-/* The canonical document of a JSON text. TOO_DEEP: more than so many of its brackets are open at
- * once, and it was not read; INVALID_UTF8; INVALID_JSON; INVALID_JSONB: past a limit of the format.
- * Takes memory. The result has less than 4 times the text's bytes and 8 more. */
-uint32_t kohiblad_parse(const uint8_t *text, size_t size, size_t depth,
-                        uint8_t *out, size_t room, size_t *length);
+/* An extension value, by its tag and fields as kohiblad_extension returns them; `data` are the
+ * bytes at its offset. What the tag does not have must be 0, and its data empty.
+ * INVALID_JSONB_EXTENSION: there is no such value, also where a date has more than 32 bits;
+ * INVALID_JSONB: the data have 2^28 - 1 bytes or more. Takes memory. */
+static inline uint32_t kohiblad_of_extension(uint32_t tag, int64_t value, int32_t months,
+    int32_t days, int32_t seconds, const uint8_t *data, size_t size, uint8_t *out, size_t room,
+    size_t *length) KOHIBLAD_INLINE("kohiblad_of_extension");
 
-/* ROWS stand one behind another in `bytes`; `ends` has where each ends, and the first begins at 0.
- * So the ends of a column of Arrow are its offsets without the first. INVALID_EOF: an end goes
- * back, or past the bytes. */
+/* The JSON text, with no white space: for bytes that are no document these bytes as text, and
+ * "null" for no bytes. Takes memory. */
+static inline uint32_t kohiblad_to_string(const uint8_t *bytes, size_t size, uint8_t *out,
+    size_t room, size_t *length) KOHIBLAD_INLINE("kohiblad_to_string");
 
-/* The array of the documents in these rows. INVALID_JSONB: a row is no document, or past a limit.
- * Takes memory. */
-uint32_t kohiblad_build_array(const uint8_t *bytes, size_t size, const size_t *ends, size_t rows,
-                              uint8_t *out, size_t room, size_t *length);
+/* The same, but a document that nests deeper than the depth counts as no document: its text is that
+ * of its bytes. Looks no deeper. Takes memory. */
+static inline uint32_t kohiblad_to_string_within(const uint8_t *bytes, size_t size, size_t depth,
+    uint8_t *out, size_t room, size_t *length) KOHIBLAD_INLINE("kohiblad_to_string_within");
+
+/* The JSON text on lines, indented by two spaces; "null" for bytes that are no document. Takes
+ * memory. */
+static inline uint32_t kohiblad_to_pretty(const uint8_t *bytes, size_t size, uint8_t *out,
+    size_t room, size_t *length) KOHIBLAD_INLINE("kohiblad_to_pretty");
+
+/* The same, but a document that nests deeper than the depth counts as no document: its text is
+ * "null". Looks no deeper. Takes memory. */
+static inline uint32_t kohiblad_to_pretty_within(const uint8_t *bytes, size_t size, size_t depth,
+    uint8_t *out, size_t room, size_t *length) KOHIBLAD_INLINE("kohiblad_to_pretty_within");
+
+/* The canonical document of a JSON text. TOO_DEEP: more than `depth` of its brackets are open at
+ * once, and it was not read; INVALID_UTF8: the text is not UTF-8; INVALID_JSON: it is no JSON, or
+ * has a number with an exponent or too many digits; INVALID_JSONB: a limit of the format is passed.
+ * Takes memory. The result is shorter than 4 times the text plus 8 bytes. */
+static inline uint32_t kohiblad_parse(const uint8_t *text, size_t size, size_t depth,
+    uint8_t *out, size_t room, size_t *length) KOHIBLAD_INLINE("kohiblad_parse");
+
+/* ROWS follow one another in `bytes` without gaps; `ends` has the offset where each ends, and the
+ * first begins at 0. The offsets of an Arrow column have 32 or 64 bits and begin with a 0: leave
+ * that 0 out, and widen those of 32 bits to size_t. INVALID_EOF: an end is less than the one before
+ * it, or past the bytes. */
+
+/* The array of the documents in these rows. INVALID_JSONB: a row is no document, or a limit of the
+ * format is passed. Takes memory. */
+static inline uint32_t kohiblad_build_array(const uint8_t *bytes, size_t size, const size_t *ends,
+    size_t rows, uint8_t *out, size_t room, size_t *length) KOHIBLAD_INLINE("kohiblad_build_array");
+
+/* The same, but a document that nests deeper than the depth counts as no document. INVALID_EOF
+ * comes first, then INVALID_JSONB for such a row, before anything is built. Looks no deeper. Takes
+ * memory. */
+static inline uint32_t kohiblad_build_array_within(const uint8_t *bytes, size_t size,
+    const size_t *ends, size_t rows, size_t depth, uint8_t *out, size_t room, size_t *length)
+    KOHIBLAD_INLINE("kohiblad_build_array_within");
 
 /* The object of these rows: a key's text, then its document, and so on; keys in any order.
- * INVALID_EOF also where the last key has no document; INVALID_UTF8: a key is none;
- * OBJECT_DUPLICATE_KEY: a key comes twice; INVALID_JSONB: a document is none, or past a limit.
+ * INVALID_EOF also if the last key has no document; INVALID_UTF8: a key is not UTF-8;
+ * OBJECT_DUPLICATE_KEY: a key comes twice; INVALID_JSONB: a value is no document, or a limit of the
+ * format is passed. Takes memory. */
+static inline uint32_t kohiblad_build_object(const uint8_t *bytes, size_t size,
+    const size_t *ends, size_t rows, uint8_t *out, size_t room, size_t *length)
+    KOHIBLAD_INLINE("kohiblad_build_object");
+
+/* The same, but a document that nests deeper than the depth counts as no document. INVALID_EOF
+ * comes first, then INVALID_JSONB for a value that is no such document, before the keys are looked
+ * at. Looks no deeper. Takes memory. */
+static inline uint32_t kohiblad_build_object_within(const uint8_t *bytes, size_t size,
+    const size_t *ends, size_t rows, size_t depth, uint8_t *out, size_t room, size_t *length)
+    KOHIBLAD_INLINE("kohiblad_build_object_within");
+
+/* Whether the bytes are a canonical document: each value in the one form that is written today. */
+static inline bool kohiblad_is_canonical(const uint8_t *bytes, size_t size)
+    KOHIBLAD_INLINE("kohiblad_is_canonical");
+
+/* Whether they are one and nest at most that deep. Looks no deeper. */
+static inline bool kohiblad_is_canonical_within(const uint8_t *bytes, size_t size, size_t depth)
+    KOHIBLAD_INLINE("kohiblad_is_canonical_within");
+
+/* The canonical document of the same value; it compares equal to the bytes. INVALID_JSONB: they are
+ * no document, or its canonical form is past a limit of the format. Takes memory. */
+static inline uint32_t kohiblad_to_canonical(const uint8_t *bytes, size_t size, uint8_t *out,
+    size_t room, size_t *length) KOHIBLAD_INLINE("kohiblad_to_canonical");
+
+/* The same, but a document that nests deeper than the depth counts as no document. Looks no deeper.
  * Takes memory. */
-uint32_t kohiblad_build_object(const uint8_t *bytes, size_t size, const size_t *ends, size_t rows,
-                               uint8_t *out, size_t room, size_t *length);
+static inline uint32_t kohiblad_to_canonical_within(const uint8_t *bytes, size_t size,
+    size_t depth, uint8_t *out, size_t room, size_t *length)
+    KOHIBLAD_INLINE("kohiblad_to_canonical_within");
 
-/* Whether the bytes are a document as it is written today. */
-bool kohiblad_is_canonical(const uint8_t *bytes, size_t size);
+/* The comparable key of any bytes, for an engine that sorts byte strings. The order of two keys by
+ * memcmp, and then the shorter first, is that of kohiblad_compare_within at the same depth; keys
+ * are equal exactly where it returns 0, and no key begins another. It looks no deeper than the
+ * depth. Takes memory. */
+static inline uint32_t kohiblad_key(const uint8_t *bytes, size_t size, size_t depth, uint8_t *out,
+    size_t room, size_t *length) KOHIBLAD_INLINE("kohiblad_key");
 
-/* The same document as it is written today; it compares equal. INVALID_JSONB: no document, or past
- * a limit in its newer form. Takes memory. */
-uint32_t kohiblad_to_canonical(const uint8_t *bytes, size_t size,
-                               uint8_t *out, size_t room, size_t *length);
+/* The numbers of the rows, from 0, sorted by kohiblad_compare; equal rows keep their order. They
+ * are written to the start of `order`, which has room for `room` numbers. NO_ROOM: there are more
+ * rows. With every status but OK `order` is untouched. Each row is checked once. Takes memory. */
+static inline uint32_t kohiblad_sort(const uint8_t *bytes, size_t size, const size_t *ends,
+    size_t rows, size_t *order, size_t room) KOHIBLAD_INLINE("kohiblad_sort");
 
-/* The numbers of the rows, in the order of kohiblad_compare, equal rows in the order that they
- * stand in. They are written to the front of `order`, which has room for `room` numbers. NO_ROOM:
- * for fewer than there are rows; then, and where another status is answered, `order` is untouched.
- * Each row is checked once. Takes memory. */
-uint32_t kohiblad_sort(const uint8_t *bytes, size_t size, const size_t *ends, size_t rows,
-                       size_t *order, size_t room);
+/* The same in the order of kohiblad_compare_within: a document that nests deeper than the depth
+ * counts as no document. Looks no deeper. Takes memory. */
+static inline uint32_t kohiblad_sort_within(const uint8_t *bytes, size_t size, const size_t *ends,
+    size_t rows, size_t depth, size_t *order, size_t room) KOHIBLAD_INLINE("kohiblad_sort_within");
 
-/* Guards: null becomes a pointer to some byte, or number, which is never touched. */
+/* The exports of the library. */
+uint32_t kohiblad_export_version(void) KOHIBLAD_EXPORT("kohiblad_version");
+uint32_t kohiblad_export_status_name(uint32_t status, uint8_t *out, size_t room, size_t *length)
+    KOHIBLAD_EXPORT("kohiblad_status_name");
+bool kohiblad_export_check(const uint8_t *bytes, size_t size, size_t depth)
+    KOHIBLAD_EXPORT("kohiblad_check");
+bool kohiblad_export_is_document(const uint8_t *bytes, size_t size)
+    KOHIBLAD_EXPORT("kohiblad_is_document");
+int32_t kohiblad_export_compare(const uint8_t *left, size_t left_size, const uint8_t *right,
+    size_t right_size) KOHIBLAD_EXPORT("kohiblad_compare");
+int32_t kohiblad_export_compare_within(const uint8_t *left, size_t left_size,
+    const uint8_t *right, size_t right_size, size_t depth)
+    KOHIBLAD_EXPORT("kohiblad_compare_within");
+struct kohiblad_value_kind kohiblad_export_kind(const uint8_t *bytes, size_t size)
+    KOHIBLAD_EXPORT("kohiblad_kind");
+uint32_t kohiblad_export_get(const uint8_t *bytes, size_t size, const uint8_t *name,
+    size_t name_size, uint8_t *out, size_t room, size_t *length) KOHIBLAD_EXPORT("kohiblad_get");
+struct kohiblad_place kohiblad_export_find(const uint8_t *bytes, size_t size, const uint8_t *name,
+    size_t name_size) KOHIBLAD_EXPORT("kohiblad_find");
+struct kohiblad_place kohiblad_export_part(const uint8_t *bytes, size_t size, size_t number)
+    KOHIBLAD_EXPORT("kohiblad_part");
+uint32_t kohiblad_export_begin(const uint8_t *bytes, size_t size, struct kohiblad_cursor *cursor)
+    KOHIBLAD_EXPORT("kohiblad_begin");
+uint32_t kohiblad_export_next(const uint8_t *bytes, size_t size, struct kohiblad_cursor *cursor,
+    struct kohiblad_place *key, struct kohiblad_place *value) KOHIBLAD_EXPORT("kohiblad_next");
+uint32_t kohiblad_export_array_item(const uint8_t *bytes, size_t size, size_t index, uint8_t *out,
+    size_t room, size_t *length) KOHIBLAD_EXPORT("kohiblad_array_item");
+uint32_t kohiblad_export_object_member(const uint8_t *bytes, size_t size, size_t index,
+    uint8_t *key, size_t key_room, size_t *key_length, uint8_t *out, size_t room, size_t *length)
+    KOHIBLAD_EXPORT("kohiblad_object_member");
+struct kohiblad_decimal kohiblad_export_number(const uint8_t *bytes, size_t size)
+    KOHIBLAD_EXPORT("kohiblad_number");
+struct kohiblad_integer kohiblad_export_int64(const uint8_t *bytes, size_t size)
+    KOHIBLAD_EXPORT("kohiblad_int64");
+struct kohiblad_place kohiblad_export_text(const uint8_t *bytes, size_t size)
+    KOHIBLAD_EXPORT("kohiblad_text");
+struct kohiblad_truth kohiblad_export_boolean(const uint8_t *bytes, size_t size)
+    KOHIBLAD_EXPORT("kohiblad_boolean");
+struct kohiblad_extension_value kohiblad_export_extension(const uint8_t *bytes, size_t size)
+    KOHIBLAD_EXPORT("kohiblad_extension");
+uint32_t kohiblad_export_of_null(uint8_t *out, size_t room, size_t *length)
+    KOHIBLAD_EXPORT("kohiblad_of_null");
+uint32_t kohiblad_export_of_boolean(uint32_t value, uint8_t *out, size_t room, size_t *length)
+    KOHIBLAD_EXPORT("kohiblad_of_boolean");
+uint32_t kohiblad_export_of_text(const uint8_t *text, size_t size, uint8_t *out, size_t room,
+    size_t *length) KOHIBLAD_EXPORT("kohiblad_of_text");
+uint32_t kohiblad_export_of_int64(int64_t value, uint8_t *out, size_t room, size_t *length)
+    KOHIBLAD_EXPORT("kohiblad_of_int64");
+uint32_t kohiblad_export_of_decimal(int64_t high, uint64_t low, uint32_t scale, uint8_t *out,
+    size_t room, size_t *length) KOHIBLAD_EXPORT("kohiblad_of_decimal");
+uint32_t kohiblad_export_of_extension(uint32_t tag, int64_t value, int32_t months, int32_t days,
+    int32_t seconds, const uint8_t *data, size_t size, uint8_t *out, size_t room, size_t *length)
+    KOHIBLAD_EXPORT("kohiblad_of_extension");
+uint32_t kohiblad_export_to_string(const uint8_t *bytes, size_t size, uint8_t *out, size_t room,
+    size_t *length) KOHIBLAD_EXPORT("kohiblad_to_string");
+uint32_t kohiblad_export_to_string_within(const uint8_t *bytes, size_t size, size_t depth,
+    uint8_t *out, size_t room, size_t *length) KOHIBLAD_EXPORT("kohiblad_to_string_within");
+uint32_t kohiblad_export_to_pretty(const uint8_t *bytes, size_t size, uint8_t *out, size_t room,
+    size_t *length) KOHIBLAD_EXPORT("kohiblad_to_pretty");
+uint32_t kohiblad_export_to_pretty_within(const uint8_t *bytes, size_t size, size_t depth,
+    uint8_t *out, size_t room, size_t *length) KOHIBLAD_EXPORT("kohiblad_to_pretty_within");
+uint32_t kohiblad_export_parse(const uint8_t *text, size_t size, size_t depth, uint8_t *out,
+    size_t room, size_t *length) KOHIBLAD_EXPORT("kohiblad_parse");
+uint32_t kohiblad_export_build_array(const uint8_t *bytes, size_t size, const size_t *ends,
+    size_t rows, uint8_t *out, size_t room, size_t *length) KOHIBLAD_EXPORT("kohiblad_build_array");
+uint32_t kohiblad_export_build_array_within(const uint8_t *bytes, size_t size,
+    const size_t *ends, size_t rows, size_t depth, uint8_t *out, size_t room, size_t *length)
+    KOHIBLAD_EXPORT("kohiblad_build_array_within");
+uint32_t kohiblad_export_build_object(const uint8_t *bytes, size_t size, const size_t *ends,
+    size_t rows, uint8_t *out, size_t room, size_t *length)
+    KOHIBLAD_EXPORT("kohiblad_build_object");
+uint32_t kohiblad_export_build_object_within(const uint8_t *bytes, size_t size,
+    const size_t *ends, size_t rows, size_t depth, uint8_t *out, size_t room, size_t *length)
+    KOHIBLAD_EXPORT("kohiblad_build_object_within");
+bool kohiblad_export_is_canonical(const uint8_t *bytes, size_t size)
+    KOHIBLAD_EXPORT("kohiblad_is_canonical");
+bool kohiblad_export_is_canonical_within(const uint8_t *bytes, size_t size, size_t depth)
+    KOHIBLAD_EXPORT("kohiblad_is_canonical_within");
+uint32_t kohiblad_export_to_canonical(const uint8_t *bytes, size_t size, uint8_t *out,
+    size_t room, size_t *length) KOHIBLAD_EXPORT("kohiblad_to_canonical");
+uint32_t kohiblad_export_to_canonical_within(const uint8_t *bytes, size_t size, size_t depth,
+    uint8_t *out, size_t room, size_t *length) KOHIBLAD_EXPORT("kohiblad_to_canonical_within");
+uint32_t kohiblad_export_key(const uint8_t *bytes, size_t size, size_t depth, uint8_t *out,
+    size_t room, size_t *length) KOHIBLAD_EXPORT("kohiblad_key");
+uint32_t kohiblad_export_sort(const uint8_t *bytes, size_t size, const size_t *ends, size_t rows,
+    size_t *order, size_t room) KOHIBLAD_EXPORT("kohiblad_sort");
+uint32_t kohiblad_export_sort_within(const uint8_t *bytes, size_t size, const size_t *ends,
+    size_t rows, size_t depth, size_t *order, size_t room) KOHIBLAD_EXPORT("kohiblad_sort_within");
+
+/* Null with length 0 becomes a pointer to something that is never read or written. */
 static inline const uint8_t *kohiblad_in(const uint8_t *bytes) {
     static const uint8_t none = 0;
     return bytes ? bytes : &none;
@@ -207,53 +493,293 @@ static inline uint8_t *kohiblad_out(uint8_t *out) {
     static uint8_t none;
     return out ? out : &none;
 }
-static inline const size_t *kohiblad_ends(const size_t *ends) {
+static inline const size_t *kohiblad_ends_in(const size_t *ends) {
     static const size_t none = 0;
     return ends ? ends : &none;
 }
-static inline size_t *kohiblad_order(size_t *order) {
+static inline size_t *kohiblad_order_out(size_t *order) {
     static size_t none;
     return order ? order : &none;
+}
+
+/* Whether two blocks have a byte in common. */
+static inline bool kohiblad_meet(const void *left, size_t left_size,
+                                 const void *right, size_t right_size) {
+    uintptr_t l = (uintptr_t)left, r = (uintptr_t)right;
+    return l < r ? r - l < left_size && right_size > 0 : l - r < right_size && left_size > 0;
+}
+
+/* Whether a room and its length lie apart from each other, */
+static inline bool kohiblad_is_room(const uint8_t *out, size_t room, const size_t *length) {
+    return !kohiblad_meet(out, room, length, sizeof *length);
+}
+
+/* and from what goes in. */
+static inline bool kohiblad_is_apart(const uint8_t *out, size_t room, const size_t *length,
+                                     const void *in, size_t size) {
+    return !kohiblad_meet(out, room, in, size) && !kohiblad_meet(length, sizeof *length, in, size);
+}
+
+static inline uint32_t kohiblad_version(void) {
+    return kohiblad_export_version();
+}
+static inline uint32_t kohiblad_status_name(uint32_t status, uint8_t *out, size_t room,
+    size_t *length) {
+    if (!kohiblad_is_room(out, room, length))
+        return KOHIBLAD_OVERLAP;
+    return kohiblad_export_status_name(status, kohiblad_out(out), room, length);
+}
+static inline bool kohiblad_check(const uint8_t *bytes, size_t size, size_t depth) {
+    return kohiblad_export_check(kohiblad_in(bytes), size, depth);
+}
+static inline bool kohiblad_is_document(const uint8_t *bytes, size_t size) {
+    return kohiblad_export_is_document(kohiblad_in(bytes), size);
+}
+static inline int32_t kohiblad_compare(const uint8_t *left, size_t left_size,
+    const uint8_t *right, size_t right_size) {
+    return kohiblad_export_compare(kohiblad_in(left), left_size, kohiblad_in(right), right_size);
+}
+static inline int32_t kohiblad_compare_within(const uint8_t *left, size_t left_size,
+    const uint8_t *right, size_t right_size, size_t depth) {
+    return kohiblad_export_compare_within(kohiblad_in(left), left_size, kohiblad_in(right),
+        right_size, depth);
+}
+static inline struct kohiblad_value_kind kohiblad_kind(const uint8_t *bytes, size_t size) {
+    return kohiblad_export_kind(kohiblad_in(bytes), size);
+}
+static inline uint32_t kohiblad_get(const uint8_t *bytes, size_t size, const uint8_t *name,
+    size_t name_size, uint8_t *out, size_t room, size_t *length) {
+    if (!kohiblad_is_room(out, room, length)
+        || !kohiblad_is_apart(out, room, length, bytes, size)
+        || !kohiblad_is_apart(out, room, length, name, name_size))
+        return KOHIBLAD_OVERLAP;
+    return kohiblad_export_get(kohiblad_in(bytes), size, kohiblad_in(name), name_size,
+        kohiblad_out(out), room, length);
+}
+static inline struct kohiblad_place kohiblad_find(const uint8_t *bytes, size_t size,
+    const uint8_t *name, size_t name_size) {
+    return kohiblad_export_find(kohiblad_in(bytes), size, kohiblad_in(name), name_size);
+}
+static inline struct kohiblad_place kohiblad_part(const uint8_t *bytes, size_t size,
+    size_t number) {
+    return kohiblad_export_part(kohiblad_in(bytes), size, number);
+}
+static inline uint32_t kohiblad_begin(const uint8_t *bytes, size_t size,
+    struct kohiblad_cursor *cursor) {
+    if (kohiblad_meet(cursor, sizeof *cursor, bytes, size)) return KOHIBLAD_OVERLAP;
+    return kohiblad_export_begin(kohiblad_in(bytes), size, cursor);
+}
+static inline uint32_t kohiblad_next(const uint8_t *bytes, size_t size,
+    struct kohiblad_cursor *cursor, struct kohiblad_place *key, struct kohiblad_place *value) {
+    struct kohiblad_place unused;
+    if (!key) key = &unused;
+    if (kohiblad_meet(cursor, sizeof *cursor, bytes, size)
+        || kohiblad_meet(key, sizeof *key, bytes, size)
+        || kohiblad_meet(value, sizeof *value, bytes, size)
+        || kohiblad_meet(key, sizeof *key, value, sizeof *value)
+        || kohiblad_meet(cursor, sizeof *cursor, key, sizeof *key)
+        || kohiblad_meet(cursor, sizeof *cursor, value, sizeof *value))
+        return KOHIBLAD_OVERLAP;
+    return kohiblad_export_next(kohiblad_in(bytes), size, cursor, key, value);
+}
+static inline uint32_t kohiblad_array_item(const uint8_t *bytes, size_t size, size_t index,
+    uint8_t *out, size_t room, size_t *length) {
+    if (!kohiblad_is_room(out, room, length)
+        || !kohiblad_is_apart(out, room, length, bytes, size))
+        return KOHIBLAD_OVERLAP;
+    return kohiblad_export_array_item(kohiblad_in(bytes), size, index, kohiblad_out(out), room,
+        length);
+}
+static inline uint32_t kohiblad_object_member(const uint8_t *bytes, size_t size, size_t index,
+    uint8_t *key, size_t key_room, size_t *key_length, uint8_t *out, size_t room, size_t *length) {
+    if (!kohiblad_is_room(key, key_room, key_length)
+        || !kohiblad_is_apart(key, key_room, key_length, bytes, size)
+        || !kohiblad_is_room(out, room, length)
+        || !kohiblad_is_apart(out, room, length, bytes, size)
+        || !kohiblad_is_apart(key, key_room, key_length, out, room)
+        || !kohiblad_is_apart(key, key_room, key_length, length, sizeof *length)
+        || kohiblad_meet(out, room, key_length, sizeof *key_length))
+        return KOHIBLAD_OVERLAP;
+    return kohiblad_export_object_member(kohiblad_in(bytes), size, index, kohiblad_out(key),
+        key_room, key_length, kohiblad_out(out), room, length);
+}
+static inline struct kohiblad_decimal kohiblad_number(const uint8_t *bytes, size_t size) {
+    return kohiblad_export_number(kohiblad_in(bytes), size);
+}
+static inline struct kohiblad_integer kohiblad_int64(const uint8_t *bytes, size_t size) {
+    return kohiblad_export_int64(kohiblad_in(bytes), size);
+}
+static inline struct kohiblad_place kohiblad_text(const uint8_t *bytes, size_t size) {
+    return kohiblad_export_text(kohiblad_in(bytes), size);
+}
+static inline struct kohiblad_truth kohiblad_boolean(const uint8_t *bytes, size_t size) {
+    return kohiblad_export_boolean(kohiblad_in(bytes), size);
+}
+static inline struct kohiblad_extension_value kohiblad_extension(const uint8_t *bytes,
+    size_t size) {
+    return kohiblad_export_extension(kohiblad_in(bytes), size);
+}
+static inline uint32_t kohiblad_of_null(uint8_t *out, size_t room, size_t *length) {
+    if (!kohiblad_is_room(out, room, length))
+        return KOHIBLAD_OVERLAP;
+    return kohiblad_export_of_null(kohiblad_out(out), room, length);
+}
+static inline uint32_t kohiblad_of_boolean(uint32_t value, uint8_t *out, size_t room,
+    size_t *length) {
+    if (!kohiblad_is_room(out, room, length))
+        return KOHIBLAD_OVERLAP;
+    return kohiblad_export_of_boolean(value, kohiblad_out(out), room, length);
+}
+static inline uint32_t kohiblad_of_text(const uint8_t *text, size_t size, uint8_t *out,
+    size_t room, size_t *length) {
+    if (!kohiblad_is_room(out, room, length)
+        || !kohiblad_is_apart(out, room, length, text, size))
+        return KOHIBLAD_OVERLAP;
+    return kohiblad_export_of_text(kohiblad_in(text), size, kohiblad_out(out), room, length);
+}
+static inline uint32_t kohiblad_of_int64(int64_t value, uint8_t *out, size_t room, size_t *length) {
+    if (!kohiblad_is_room(out, room, length))
+        return KOHIBLAD_OVERLAP;
+    return kohiblad_export_of_int64(value, kohiblad_out(out), room, length);
+}
+static inline uint32_t kohiblad_of_decimal(int64_t high, uint64_t low, uint32_t scale,
+    uint8_t *out, size_t room, size_t *length) {
+    if (!kohiblad_is_room(out, room, length))
+        return KOHIBLAD_OVERLAP;
+    return kohiblad_export_of_decimal(high, low, scale, kohiblad_out(out), room, length);
+}
+static inline uint32_t kohiblad_of_extension(uint32_t tag, int64_t value, int32_t months,
+    int32_t days, int32_t seconds, const uint8_t *data, size_t size, uint8_t *out, size_t room,
+    size_t *length) {
+    if (!kohiblad_is_room(out, room, length)
+        || !kohiblad_is_apart(out, room, length, data, size))
+        return KOHIBLAD_OVERLAP;
+    return kohiblad_export_of_extension(tag, value, months, days, seconds, kohiblad_in(data), size,
+        kohiblad_out(out), room, length);
+}
+static inline uint32_t kohiblad_to_string(const uint8_t *bytes, size_t size, uint8_t *out,
+    size_t room, size_t *length) {
+    if (!kohiblad_is_room(out, room, length)
+        || !kohiblad_is_apart(out, room, length, bytes, size))
+        return KOHIBLAD_OVERLAP;
+    return kohiblad_export_to_string(kohiblad_in(bytes), size, kohiblad_out(out), room, length);
+}
+static inline uint32_t kohiblad_to_string_within(const uint8_t *bytes, size_t size,
+    size_t depth, uint8_t *out, size_t room, size_t *length) {
+    if (!kohiblad_is_room(out, room, length)
+        || !kohiblad_is_apart(out, room, length, bytes, size))
+        return KOHIBLAD_OVERLAP;
+    return kohiblad_export_to_string_within(kohiblad_in(bytes), size, depth, kohiblad_out(out),
+        room, length);
+}
+static inline uint32_t kohiblad_to_pretty(const uint8_t *bytes, size_t size, uint8_t *out,
+    size_t room, size_t *length) {
+    if (!kohiblad_is_room(out, room, length)
+        || !kohiblad_is_apart(out, room, length, bytes, size))
+        return KOHIBLAD_OVERLAP;
+    return kohiblad_export_to_pretty(kohiblad_in(bytes), size, kohiblad_out(out), room, length);
+}
+static inline uint32_t kohiblad_to_pretty_within(const uint8_t *bytes, size_t size,
+    size_t depth, uint8_t *out, size_t room, size_t *length) {
+    if (!kohiblad_is_room(out, room, length)
+        || !kohiblad_is_apart(out, room, length, bytes, size))
+        return KOHIBLAD_OVERLAP;
+    return kohiblad_export_to_pretty_within(kohiblad_in(bytes), size, depth, kohiblad_out(out),
+        room, length);
+}
+static inline uint32_t kohiblad_parse(const uint8_t *text, size_t size, size_t depth,
+    uint8_t *out, size_t room, size_t *length) {
+    if (!kohiblad_is_room(out, room, length)
+        || !kohiblad_is_apart(out, room, length, text, size))
+        return KOHIBLAD_OVERLAP;
+    return kohiblad_export_parse(kohiblad_in(text), size, depth, kohiblad_out(out), room, length);
+}
+static inline uint32_t kohiblad_build_array(const uint8_t *bytes, size_t size, const size_t *ends,
+    size_t rows, uint8_t *out, size_t room, size_t *length) {
+    if (!kohiblad_is_room(out, room, length)
+        || !kohiblad_is_apart(out, room, length, bytes, size)
+        || !kohiblad_is_apart(out, room, length, ends, rows * sizeof *ends))
+        return KOHIBLAD_OVERLAP;
+    return kohiblad_export_build_array(kohiblad_in(bytes), size, kohiblad_ends_in(ends), rows,
+        kohiblad_out(out), room, length);
+}
+static inline uint32_t kohiblad_build_array_within(const uint8_t *bytes, size_t size,
+    const size_t *ends, size_t rows, size_t depth, uint8_t *out, size_t room, size_t *length) {
+    if (!kohiblad_is_room(out, room, length)
+        || !kohiblad_is_apart(out, room, length, bytes, size)
+        || !kohiblad_is_apart(out, room, length, ends, rows * sizeof *ends))
+        return KOHIBLAD_OVERLAP;
+    return kohiblad_export_build_array_within(kohiblad_in(bytes), size, kohiblad_ends_in(ends),
+        rows, depth, kohiblad_out(out), room, length);
+}
+static inline uint32_t kohiblad_build_object(const uint8_t *bytes, size_t size,
+    const size_t *ends, size_t rows, uint8_t *out, size_t room, size_t *length) {
+    if (!kohiblad_is_room(out, room, length)
+        || !kohiblad_is_apart(out, room, length, bytes, size)
+        || !kohiblad_is_apart(out, room, length, ends, rows * sizeof *ends))
+        return KOHIBLAD_OVERLAP;
+    return kohiblad_export_build_object(kohiblad_in(bytes), size, kohiblad_ends_in(ends), rows,
+        kohiblad_out(out), room, length);
+}
+static inline uint32_t kohiblad_build_object_within(const uint8_t *bytes, size_t size,
+    const size_t *ends, size_t rows, size_t depth, uint8_t *out, size_t room, size_t *length) {
+    if (!kohiblad_is_room(out, room, length)
+        || !kohiblad_is_apart(out, room, length, bytes, size)
+        || !kohiblad_is_apart(out, room, length, ends, rows * sizeof *ends))
+        return KOHIBLAD_OVERLAP;
+    return kohiblad_export_build_object_within(kohiblad_in(bytes), size, kohiblad_ends_in(ends),
+        rows, depth, kohiblad_out(out), room, length);
+}
+static inline bool kohiblad_is_canonical(const uint8_t *bytes, size_t size) {
+    return kohiblad_export_is_canonical(kohiblad_in(bytes), size);
+}
+static inline bool kohiblad_is_canonical_within(const uint8_t *bytes, size_t size, size_t depth) {
+    return kohiblad_export_is_canonical_within(kohiblad_in(bytes), size, depth);
+}
+static inline uint32_t kohiblad_to_canonical(const uint8_t *bytes, size_t size, uint8_t *out,
+    size_t room, size_t *length) {
+    if (!kohiblad_is_room(out, room, length)
+        || !kohiblad_is_apart(out, room, length, bytes, size))
+        return KOHIBLAD_OVERLAP;
+    return kohiblad_export_to_canonical(kohiblad_in(bytes), size, kohiblad_out(out), room, length);
+}
+static inline uint32_t kohiblad_to_canonical_within(const uint8_t *bytes, size_t size,
+    size_t depth, uint8_t *out, size_t room, size_t *length) {
+    if (!kohiblad_is_room(out, room, length)
+        || !kohiblad_is_apart(out, room, length, bytes, size))
+        return KOHIBLAD_OVERLAP;
+    return kohiblad_export_to_canonical_within(kohiblad_in(bytes), size, depth, kohiblad_out(out),
+        room, length);
+}
+static inline uint32_t kohiblad_key(const uint8_t *bytes, size_t size, size_t depth, uint8_t *out,
+    size_t room, size_t *length) {
+    if (!kohiblad_is_room(out, room, length)
+        || !kohiblad_is_apart(out, room, length, bytes, size))
+        return KOHIBLAD_OVERLAP;
+    return kohiblad_export_key(kohiblad_in(bytes), size, depth, kohiblad_out(out), room, length);
+}
+static inline uint32_t kohiblad_sort(const uint8_t *bytes, size_t size, const size_t *ends,
+    size_t rows, size_t *order, size_t room) {
+    if (kohiblad_meet(order, room * sizeof *order, bytes, size)
+        || kohiblad_meet(order, room * sizeof *order, ends, rows * sizeof *ends))
+        return KOHIBLAD_OVERLAP;
+    return kohiblad_export_sort(kohiblad_in(bytes), size, kohiblad_ends_in(ends), rows,
+        kohiblad_order_out(order), room);
+}
+static inline uint32_t kohiblad_sort_within(const uint8_t *bytes, size_t size, const size_t *ends,
+    size_t rows, size_t depth, size_t *order, size_t room) {
+    if (kohiblad_meet(order, room * sizeof *order, bytes, size)
+        || kohiblad_meet(order, room * sizeof *order, ends, rows * sizeof *ends))
+        return KOHIBLAD_OVERLAP;
+    return kohiblad_export_sort_within(kohiblad_in(bytes), size, kohiblad_ends_in(ends), rows,
+        depth, kohiblad_order_out(order), room);
 }
 
 #ifdef __cplusplus
 }
 #endif
 
-#define kohiblad_status_name(status, out, room, length) \
-    kohiblad_status_name(status, kohiblad_out(out), room, length)
-#define kohiblad_check(bytes, size, depth) kohiblad_check(kohiblad_in(bytes), size, depth)
-#define kohiblad_is_document(bytes, size) kohiblad_is_document(kohiblad_in(bytes), size)
-#define kohiblad_compare(left, left_size, right, right_size) \
-    kohiblad_compare(kohiblad_in(left), left_size, kohiblad_in(right), right_size)
-#define kohiblad_kind(bytes, size) kohiblad_kind(kohiblad_in(bytes), size)
-#define kohiblad_get(bytes, size, name, name_size, out, room, length) \
-    kohiblad_get(kohiblad_in(bytes), size, kohiblad_in(name), name_size, \
-                 kohiblad_out(out), room, length)
-#define kohiblad_find(bytes, size, name, name_size) \
-    kohiblad_find(kohiblad_in(bytes), size, kohiblad_in(name), name_size)
-#define kohiblad_part(bytes, size, number) kohiblad_part(kohiblad_in(bytes), size, number)
-#define kohiblad_array_item(bytes, size, index, out, room, length) \
-    kohiblad_array_item(kohiblad_in(bytes), size, index, kohiblad_out(out), room, length)
-#define kohiblad_object_member(bytes, size, index, key, key_room, key_length, out, room, length) \
-    kohiblad_object_member(kohiblad_in(bytes), size, index, kohiblad_out(key), key_room, \
-                           key_length, kohiblad_out(out), room, length)
-#define kohiblad_to_string(bytes, size, out, room, length) \
-    kohiblad_to_string(kohiblad_in(bytes), size, kohiblad_out(out), room, length)
-#define kohiblad_to_pretty(bytes, size, out, room, length) \
-    kohiblad_to_pretty(kohiblad_in(bytes), size, kohiblad_out(out), room, length)
-#define kohiblad_parse(text, size, depth, out, room, length) \
-    kohiblad_parse(kohiblad_in(text), size, depth, kohiblad_out(out), room, length)
-#define kohiblad_build_array(bytes, size, ends, rows, out, room, length) \
-    kohiblad_build_array(kohiblad_in(bytes), size, kohiblad_ends(ends), rows, \
-                         kohiblad_out(out), room, length)
-#define kohiblad_build_object(bytes, size, ends, rows, out, room, length) \
-    kohiblad_build_object(kohiblad_in(bytes), size, kohiblad_ends(ends), rows, \
-                          kohiblad_out(out), room, length)
-#define kohiblad_is_canonical(bytes, size) kohiblad_is_canonical(kohiblad_in(bytes), size)
-#define kohiblad_to_canonical(bytes, size, out, room, length) \
-    kohiblad_to_canonical(kohiblad_in(bytes), size, kohiblad_out(out), room, length)
-#define kohiblad_sort(bytes, size, ends, rows, order, room) \
-    kohiblad_sort(kohiblad_in(bytes), size, kohiblad_ends(ends), rows, kohiblad_order(order), room)
+#undef KOHIBLAD_INLINE
+#undef KOHIBLAD_EXPORT
 
 #endif

@@ -1,21 +1,20 @@
 #!/usr/bin/env bash
-# Builds the library for C, and tests it: libkohiblad.a by `rt lib`, over proofs that are kept or,
-# from a clean tree, made first; then a shared library beside it.
+# Builds the library for C, and tests it: the archive by `rt lib`, over proofs that are kept or,
+# from a clean tree, made first; then the libraries that tools/install makes of it, in a directory
+# that is removed at the end.
 #
 #     tools/c_library.sh
 #
-# It holds the header against the exports, and runs the worked examples in C and Python and the
-# tests of tests/c_library: null pointers; any bytes, with a page of no access behind and before
-# each block, under the sanitizers and under valgrind; each request for memory refused in turn; the
-# depths that the header names; std::sort; known answers, and the lines of tests/lines, asked from
-# Python. A test whose tool is missing is passed over, and the package that brings the tool is
-# named. The libraries are left in crates/kohiblad/out. The status is 1 where something differs or
-# is refused.
+# It compares the header with the exports, and runs tools/install_test.sh and the tests of
+# tests/c_library: null pointers; any bytes, with an inaccessible page after and before each block,
+# under the sanitizers and under valgrind; each allocation failing in turn; the depths that the
+# header names; std::sort; known answers, and the lines of tests/lines, called from Python. A test
+# whose tool is missing is skipped, and the package that has the tool is named. The status is 1 if
+# something differs or is refused.
 set -euo pipefail
 cd "$(dirname "$0")/.."
-out=$PWD/crates/kohiblad/out
-kit=$(dirname "$(rt doc)")
 work=$(mktemp -d)
+library=$work/prefix/lib/libkohiblad
 trap 'rm -rf "$work"' EXIT
 cc=${CC:-cc}
 passed_over=0
@@ -25,41 +24,42 @@ note() { printf '== %s\n' "$*"; }
 # Whether there is such a tool; else it names the package that brings it.
 has() {
     command -v "$1" > "$work/found" && return
-    note "passed over: there is no $1, which the package $2 brings"
+    note "skipped: there is no $1, which the package $2 has"
     passed_over=$((passed_over + 1))
     return 1
 }
 
-# Compiles a test $1 with the options behind it.
+# Compiles a test $1 with the options after it.
 build() {
     local name=$1
     shift
     "$cc" -std=c99 -O1 -g -Wall -Wextra -Wpedantic -Werror -Wno-unused-function -Ibindings \
-        "tests/c_library/$name.c" "$@" "$out/libkohiblad.a" "$kit/c/liblibc_c.a" -o "$work/$name"
+        "tests/c_library/$name.c" "$@" "$library.a" -o "$work/$name"
 }
 
 has "$cc" gcc || exit 1
 note 'the libraries'
 (cd crates/kohiblad && rt lib) | tail -n 1
-"$cc" -shared -o "$out/libkohiblad.so" -Wl,--whole-archive "$out/libkohiblad.a" \
-    -Wl,--no-whole-archive "$kit/c/liblibc_c.a"
 tools/c_header
+tools/install --archive crates/kohiblad/out/libkohiblad.a "$work/prefix" > "$work/installed"
 
-note 'the exports of the archive'
-if has nm binutils; then
-    nm "$out/libkohiblad.a" | sed -n 's/^[0-9a-f]* T \(kohiblad_.*\)/\1/p' | sort > "$work/exported"
-    sed -n 's/^[a-z].* \(kohiblad_[a-z_]*\)(.*/\1/p' bindings/kohiblad.h | sort > "$work/declared"
-    diff "$work/declared" "$work/exported"
-    wc -l < "$work/exported"
+note 'the header, with all warnings'
+for language in c99 c++17; do
+    for compiler in gcc clang g++ clang++; do
+        case $language$compiler in c99*++ | c++17gcc | c++17clang) continue ;; esac
+        has $compiler $compiler || continue
+        printf '#include "kohiblad.h"\nint main() { return 0; }\n' > "$work/header.c"
+        "$compiler" -x "$([ $language = c99 ] && echo c || echo c++)" -std=$language -Wall -Wextra \
+            -Wpedantic -Wconversion -Wshadow -Wno-strict-prototypes -Werror -Ibindings \
+            -c "$work/header.c" -o "$work/header.o"
+    done
+done
+if has python3 python3 && python3 -c 'import cffi' 2> "$work/errors"; then
+    python3 -c 'import cffi; cffi.FFI().cdef(open("bindings/kohiblad_cffi.h").read())'
 fi
 
-note 'the examples'
-"$cc" -std=c99 -Wall -Wextra -Wpedantic -Werror -Ibindings bindings/examples/rows.c \
-    "$out/libkohiblad.a" "$kit/c/liblibc_c.a" -o "$work/rows"
-"$work/rows" | diff bindings/examples/rows.out -
-if has python3 python3; then
-    python3 bindings/examples/rows.py "$out/libkohiblad.so" | diff bindings/examples/rows.out -
-fi
+note 'the library, installed'
+tools/install_test.sh crates/kohiblad/out/libkohiblad.a
 
 note 'null pointers'
 build null
@@ -75,7 +75,7 @@ note 'any bytes, under the sanitizers'
 if build fuzz -fsanitize=address,undefined -fno-sanitize-recover=all 2> "$work/errors"; then
     "$work/fuzz" 100000
 else
-    note "passed over: $cc has no sanitizers, which the package libasan brings"
+    note "skipped: $cc has no sanitizers, which the package libasan has"
     passed_over=$((passed_over + 1))
 fi
 
@@ -89,7 +89,7 @@ note 'each request for memory refused'
 build refuse -Wl,--wrap=malloc,--wrap=realloc
 "$work/refuse"
 
-# What the header tells of the stack.
+# What the header says of the stack.
 stack_of() { sed -n "s/^#define KOHIBLAD_$1_STACK //p" bindings/kohiblad.h; }
 document_level=$(stack_of LEVEL)
 text_level=$(stack_of TEXT_LEVEL)
@@ -98,8 +98,8 @@ note "levels on a stack: $document_level bytes for each of a document, $text_lev
 build depths -pthread
 for kilobytes in 64 256 1024; do
     for shape in a o; do
-        for call in check is_document is_canonical compare to_string to_pretty to_canonical \
-            build_array parse; do
+        for call in check is_document is_canonical compare compare_within sort_within to_string \
+            to_pretty to_canonical build_array parse; do
             level=$document_level
             [ $call = parse ] && level=$text_level
             levels=$(((kilobytes * 1024 - call_stack) / level))
@@ -113,15 +113,18 @@ for kilobytes in 64 256 1024; do
     done
 done
 
+note '100,000 levels on 256 KB, in the calls that look no deeper than their limit'
+for shape in a o; do "$work/depths" bounded 256 100000 $shape; done
+
 note 'std::sort'
 if has "${CXX:-c++}" g++; then
     "${CXX:-c++}" -std=c++17 -O1 -Wall -Wextra -Wpedantic -Werror -Ibindings \
-        tests/c_library/sort.cc "$out/libkohiblad.a" "$kit/c/liblibc_c.a" -o "$work/sort"
+        tests/c_library/sort.cc "$library.a" -o "$work/sort"
     "$work/sort"
 fi
 
 note 'known answers, from Python'
 if has python3 python3; then
-    python3 tests/c_library/border.py "$out/libkohiblad.so" tests/lines
+    python3 tests/c_library/border.py "$library.so" tests/lines
 fi
-note "all passed, $passed_over passed over"
+note "all passed, $passed_over skipped"

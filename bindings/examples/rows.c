@@ -1,4 +1,4 @@
-/* Stores JSON texts as rows one behind another, sorts them, looks a key up and prints. */
+/* Stores JSON texts as rows in one buffer, sorts them, looks a key up and prints. */
 #include "kohiblad.h"
 
 #include <stdio.h>

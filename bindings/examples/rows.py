@@ -1,4 +1,4 @@
-"""Stores JSON texts as rows one behind another, sorts them, looks a key up and prints.
+"""Stores JSON texts as rows in one buffer, sorts them, looks a key up and prints.
 
     python3 rows.py libkohiblad.so
 """
@@ -11,8 +11,8 @@ library.kohiblad_status_name.argtypes = [ctypes.c_uint32, ctypes.c_char_p, ctype
                                          ctypes.POINTER(ctypes.c_size_t)]
 
 
-def ask(name, *given):
-    """The status of a call, and its bytes: asked again where they did not fit."""
+def call(name, *given):
+    """The status of a call, and its bytes: called again with more room if they did not fit."""
     arguments = []
     for it in given:
         sized = isinstance(it, bytes)
@@ -27,19 +27,19 @@ def ask(name, *given):
         room = length.value
 
 
-def asked(name, *given):
+def bytes_of(name, *given):
     """The bytes of a call that must succeed."""
-    status, answer = ask(name, *given)
+    status, result = call(name, *given)
     if status != OK:
         out, length = ctypes.create_string_buffer(32), ctypes.c_size_t()
         library.kohiblad_status_name(status, out, 32, ctypes.byref(length))
         sys.exit(f"{name}: {out.raw[:length.value].decode()}")
-    return answer
+    return result
 
 
 texts = ['{"id": 3, "price": 2.50}', '{"id": 1, "price": null}', "[1, 2]",
          '{"id": 2, "price": 2.5}', '"a note"']
-rows = [asked("kohiblad_parse", text.encode(), DEPTH) for text in texts]
+rows = [bytes_of("kohiblad_parse", text.encode(), DEPTH) for text in texts]
 column, ends = b"".join(rows), (ctypes.c_size_t * len(rows))()
 for i in range(len(rows)):
     ends[i] = len(rows[i]) + (ends[i - 1] if i else 0)
@@ -48,7 +48,7 @@ count = ctypes.c_size_t(len(rows))
 status = library.kohiblad_sort(column, ctypes.c_size_t(len(column)), ends, count, order, count)
 assert status == OK
 for row in (rows[i] for i in order):
-    status, price = ask("kohiblad_get", row, b"price")
+    status, price = call("kohiblad_get", row, b"price")
     assert status in (OK, NONE)
-    costs = "  costs " + asked("kohiblad_to_string", price).decode() if status == OK else ""
-    print(asked("kohiblad_to_string", row).decode() + costs)
+    costs = "  costs " + bytes_of("kohiblad_to_string", price).decode() if status == OK else ""
+    print(bytes_of("kohiblad_to_string", row).decode() + costs)

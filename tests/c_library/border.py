@@ -21,9 +21,22 @@ class Place(ctypes.Structure):
                 ("offset", ctypes.c_uint64), ("length", ctypes.c_uint64)]
 
 
+class Decimal(ctypes.Structure):
+    _fields_ = [("status", ctypes.c_uint32), ("scale", ctypes.c_uint32),
+                ("high", ctypes.c_int64), ("low", ctypes.c_uint64)]
+
+
+class Extension(ctypes.Structure):
+    _fields_ = [("status", ctypes.c_uint32), ("tag", ctypes.c_uint32), ("value", ctypes.c_int64),
+                ("months", ctypes.c_int32), ("days", ctypes.c_int32), ("seconds", ctypes.c_int32),
+                ("offset", ctypes.c_uint64), ("length", ctypes.c_uint64)]
+
+
 for predicate in ("check", "is_document", "is_canonical"):
     getattr(LIBRARY, "kohiblad_" + predicate).restype = ctypes.c_bool
 LIBRARY.kohiblad_kind.restype = Kind
+LIBRARY.kohiblad_number.restype = Decimal
+LIBRARY.kohiblad_extension.restype = Extension
 LIBRARY.kohiblad_find.restype = LIBRARY.kohiblad_part.restype = Place
 
 
@@ -95,8 +108,24 @@ def known_answers():
     assert tell("version") == 6000
     names = ("Ok InvalidEOF InvalidJsonb InvalidJsonbHeader InvalidJsonbJEntry InvalidJsonbNumber "
              "InvalidJsonbExtension InvalidUtf8 ObjectDuplicateKey InvalidJson OutOfMemory NoRoom "
-             "None TooDeep Unknown").split()
-    assert [name_of(status) for status in range(15)] == names
+             "None TooDeep OtherKind PastRange Overlap Unknown").split()
+    assert [name_of(status) for status in range(18)] == names
+    for document, answer in (
+            ("2000000060000005 10fffffffe", (0, 0x10, -2, 0, 0, 0, 0, 0)),
+            ("2000000060000009 200000000000000007", (0, 0x20, 7, 0, 0, 0, 0, 0)),
+            ("200000006000000d 300000000000000007fffff1f0", (0, 0x30, 7, 0, 0, -3600, 0, 0)),
+            ("200000006000000a 300000000000000007ff", (0, 0x30, 7, 0, 0, -3600, 0, 0)),
+            ("2000000060000011 4000000001ffffffff0000000000000003", (0, 0x40, 3, 1, -1, 0, 0, 0)),
+            ("2000000060000003 00abcd", (0, 0, 0, 0, 0, 0, 9, 2)),
+            ("2000000060000002 50ff", (0, 0x50, 0, 0, 0, 0, 9, 1))):
+        fields = tell("extension", bytes.fromhex(document))
+        assert tuple(getattr(fields, name) for name, _ in Extension._fields_) == answer, document
+    for document, answer in (
+            ("200000002000000a 70ffffffffffffff6a02", (0, 2, -1, 2**64 - 150)),
+            ("2000000020000012 700000000000000001000000000000000500", (0, 0, 1, 5)),
+            ("2000000020000002 40ff", (0, 0, -1, 2**64 - 1))):
+        number = tell("number", bytes.fromhex(document))
+        assert (number.status, number.scale, number.high, number.low) == answer, document
     assert ask("parse", b'[false,10,{"k":"v"}]', 2) == (0, array)
     assert ask("parse", b'[false,10,{"k":"v"}]', 1) == (TOO_DEEP, b"")
     assert ask("parse", b'["[[[","\\"[["]', 1)[0] == 0

@@ -23,7 +23,41 @@ static void *work(void *unused) {
         status = !kohiblad_is_canonical(in, in_size);
     else if (!strcmp(name, "compare"))
         status = (uint32_t)kohiblad_compare(in, in_size, in, in_size);
-    else if (!strcmp(name, "to_string"))
+    else if (!strcmp(name, "compare_within"))
+        status = (uint32_t)kohiblad_compare_within(in, in_size, in, in_size, levels);
+    else if (!strcmp(name, "sort_within"))
+        status = kohiblad_sort_within(in, in_size, &in_size, 1, levels, &length, 1);
+    else if (!strcmp(name, "bounded")) {
+        /* Each call that looks no deeper than 64 levels, or into no child. */
+        struct kohiblad_cursor cursor;
+        struct kohiblad_place value;
+        status = kohiblad_check(in, in_size, 64);
+        status |= (uint32_t)kohiblad_compare_within(in, in_size, in, in_size, 64);
+        status |= kohiblad_sort_within(in, in_size, &in_size, 1, 64, &length, 1);
+        status |= kohiblad_key(in, in_size, 64, NULL, 0, &length) != KOHIBLAD_NO_ROOM;
+        status |= kohiblad_is_canonical_within(in, in_size, 64);
+        status |= kohiblad_to_string_within(in, in_size, 64, NULL, 0, &length) != KOHIBLAD_NO_ROOM;
+        status |= kohiblad_to_pretty_within(in, in_size, 64, NULL, 0, &length) != KOHIBLAD_NO_ROOM;
+        status |= length != 4;
+        status |= kohiblad_to_canonical_within(in, in_size, 64, out, room, &length)
+            != KOHIBLAD_INVALID_JSONB;
+        status |= kohiblad_build_array_within(in, in_size, &in_size, 1, 64, out, room, &length)
+            != KOHIBLAD_INVALID_JSONB;
+        size_t pair[2] = { 0, in_size };
+        status |= kohiblad_build_object_within(in, in_size, pair, 2, 64, out, room, &length)
+            != KOHIBLAD_INVALID_JSONB;
+        status |= kohiblad_kind(in, in_size).status;
+        status |= kohiblad_part(in, in_size, 0).status;
+        status |= kohiblad_begin(in, in_size, &cursor);
+        status |= kohiblad_next(in, in_size, &cursor, NULL, &value);
+        status |= kohiblad_number(in, in_size).status != KOHIBLAD_OTHER_KIND;
+        status |= kohiblad_int64(in, in_size).status != KOHIBLAD_OTHER_KIND;
+        status |= kohiblad_text(in, in_size).status != KOHIBLAD_OTHER_KIND;
+        status |= kohiblad_boolean(in, in_size).status != KOHIBLAD_OTHER_KIND;
+        (void)kohiblad_find(in, in_size, in, 1);
+        (void)kohiblad_get(in, in_size, in, 1, out, room, &length);
+        (void)kohiblad_array_item(in, in_size, 0, out, room, &length);
+    } else if (!strcmp(name, "to_string"))
         status = kohiblad_to_string(in, in_size, out, room, &length);
     else if (!strcmp(name, "to_pretty"))
         status = kohiblad_to_pretty(in, in_size, out, 0, &length);

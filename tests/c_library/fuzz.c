@@ -38,6 +38,346 @@ enum { TEXTS = sizeof texts / sizeof *texts, ROOM = 512, DEPTH = 5 };
         drop(out##_before); \
     } while (0)
 
+/* What the format says of a word: a header's count, an entry's type and length. */
+static bool word_at(struct block b, size_t at, uint32_t *word) {
+    if (b.size < 4 || b.size - 4 < at) return false;
+    *word = (uint32_t)b.at[at] << 24 | (uint32_t)b.at[at + 1] << 16 | (uint32_t)b.at[at + 2] << 8
+        | b.at[at + 3];
+    return true;
+}
+
+/* Each child beside kohiblad_part, and the places by the format's words. */
+static long walk(struct block b) {
+    struct kohiblad_cursor cursor = { 7, 7, 7 }, before;
+    struct kohiblad_place key, value, part;
+    struct kohiblad_value_kind kind = kohiblad_kind(b.at, b.size);
+    uint32_t status = kohiblad_begin(b.at, b.size, &cursor);
+    bool is_object = kind.kind == KOHIBLAD_OBJECT;
+    if (kind.status == KOHIBLAD_OK && kind.kind < KOHIBLAD_ARRAY) assert(status == KOHIBLAD_NONE);
+    if (status != KOHIBLAD_OK) {
+        assert(cursor.index == 7 && cursor.key == 7 && cursor.value == 7);
+        return 0;
+    }
+    assert(kind.kind == KOHIBLAD_ARRAY || is_object);
+    uint64_t key_start = 4 + 8 * kind.count, start = 4 + 4 * kind.count;
+    uint32_t word;
+    if (is_object) {
+        start = key_start;
+        for (uint64_t i = 0; i < kind.count; i++) {
+            assert(word_at(b, 4 + 4 * i, &word));
+            start += word & 0x0FFFFFFF;
+        }
+    }
+    for (uint64_t i = 0;; i++) {
+        before = cursor;
+        assert(cursor.index == i && cursor.value == start);
+        assert(!is_object || cursor.key == key_start);
+        status = kohiblad_next(b.at, b.size, &cursor, &key, &value);
+        assert(status == value.status);
+        if (i == kind.count) assert(status == KOHIBLAD_NONE);
+        if (status == KOHIBLAD_NONE) assert(i == kind.count && key.status == KOHIBLAD_NONE);
+        if (status != KOHIBLAD_OK) {
+            assert(!memcmp(&cursor, &before, sizeof cursor));
+            if (status == KOHIBLAD_NONE) return (long)i;
+            part = kohiblad_part(b.at, b.size, i + (is_object ? kind.count : 0));
+            assert(part.status == status
+                   || (is_object && kohiblad_part(b.at, b.size, i).status == status));
+            return 0;
+        }
+        part = kohiblad_part(b.at, b.size, i + (is_object ? kind.count : 0));
+        assert(!memcmp(&part, &value, sizeof part));
+        assert(word_at(b, 4 + 4 * (i + (is_object ? kind.count : 0)), &word));
+        assert(value.type == (word & 0x70000000) && value.length == (word & 0x0FFFFFFF));
+        assert(value.offset == start);
+        if (is_object) {
+            part = kohiblad_part(b.at, b.size, i);
+            assert(!memcmp(&part, &key, sizeof part));
+            key_start += key.length;
+        } else {
+            assert(key.status == KOHIBLAD_NONE);
+        }
+        start += value.length;
+    }
+}
+
+/* A cursor that nobody made: what is answered lies inside. */
+static void walk_anywhere(struct block b) {
+    uint64_t numbers[3];
+    for (int i = 0; i < 3; i++) {
+        uint32_t shape = below(4);
+        numbers[i] = shape == 0 ? below(9) : shape == 1 ? below((uint32_t)b.size + 9)
+            : shape == 2 ? ~(uint64_t)below(40) : (uint64_t)below(UINT32_MAX) << below(32);
+    }
+    struct kohiblad_cursor cursor = { numbers[0], numbers[1], numbers[2] };
+    struct kohiblad_place key, value;
+    uint32_t status = kohiblad_next(b.at, b.size, &cursor, &key, &value);
+    assert(status == value.status);
+    if (status == KOHIBLAD_OK) {
+        assert(value.offset <= b.size && value.length <= b.size - value.offset);
+        assert(value.offset == numbers[2] && cursor.index == numbers[0] + 1);
+        if (key.status == KOHIBLAD_OK)
+            assert(key.offset <= b.size && key.length <= b.size - key.offset);
+    } else {
+        assert(cursor.index == numbers[0] && cursor.key == numbers[1]);
+        assert(cursor.value == numbers[2]);
+    }
+}
+
+__extension__ typedef __int128 wide;
+
+/* The number of a text, by its digits. */
+static wide digits_of(const uint8_t *text, size_t size, uint32_t *scale) {
+    bool negative = text[0] == '-', point = false;
+    wide value = 0;
+    *scale = 0;
+    for (size_t i = negative; i < size; i++) {
+        if (text[i] == '.') { point = true; continue; }
+        assert(text[i] >= '0' && text[i] <= '9');
+        /* The least number has no positive form. */
+        value = value * 10 - (text[i] - '0');
+        *scale += point;
+    }
+    return negative ? value : -value;
+}
+
+/* A scalar is read as its text tells it. */
+static long read_scalar(struct block b, bool is, struct kohiblad_value_kind kind) {
+    struct kohiblad_decimal number = kohiblad_number(b.at, b.size);
+    struct kohiblad_integer integer = kohiblad_int64(b.at, b.size);
+    struct kohiblad_place text = kohiblad_text(b.at, b.size);
+    struct kohiblad_truth truth = kohiblad_boolean(b.at, b.size);
+    struct kohiblad_extension_value extension = kohiblad_extension(b.at, b.size);
+    uint32_t wanted[] = { KOHIBLAD_NUMBER, KOHIBLAD_NUMBER, KOHIBLAD_STRING, KOHIBLAD_BOOLEAN,
+                          KOHIBLAD_EXTENSION };
+    uint32_t statuses[] = { number.status, integer.status, text.status, truth.status,
+                            extension.status };
+    for (int i = 0; i < 5; i++) {
+        if (kind.status) assert(statuses[i] == kind.status);
+        else if (kind.kind != wanted[i]) assert(statuses[i] == KOHIBLAD_OTHER_KIND);
+        else if (!is) assert(statuses[i] == KOHIBLAD_INVALID_JSONB);
+        else assert(!statuses[i] || (i == 1 && statuses[i] == KOHIBLAD_PAST_RANGE));
+    }
+    uint8_t shown[400];
+    size_t size;
+    if (!extension.status) {
+        assert(b.size > 8 && extension.tag == b.at[8]);
+        bool has_data = extension.tag == KOHIBLAD_BINARY || extension.tag > KOHIBLAD_INTERVAL;
+        assert(extension.length == (has_data ? b.size - 9 : 0));
+        assert(extension.offset == (has_data ? 9 : 0));
+        uint64_t first = 0;
+        for (size_t i = 9; i < b.size && i < 17; i++) first = first << 8 | b.at[i];
+        if (extension.tag == KOHIBLAD_DATE) assert((uint32_t)extension.value == first);
+        if (extension.tag == KOHIBLAD_TIMESTAMP || extension.tag == KOHIBLAD_TIMESTAMP_TZ)
+            assert((uint64_t)extension.value == first);
+        if (extension.tag == KOHIBLAD_INTERVAL)
+            assert((uint32_t)extension.months == first >> 32
+                   && (uint32_t)extension.days == (uint32_t)first);
+    }
+    if (!is || kind.kind >= KOHIBLAD_ARRAY || kind.kind == KOHIBLAD_EXTENSION) return 0;
+    assert(kohiblad_to_string(b.at, b.size, shown, sizeof shown, &size) == KOHIBLAD_OK);
+    if (!number.status) {
+        uint32_t scale;
+        wide value = digits_of(shown, size, &scale);
+        assert(number.scale == scale);
+        assert((wide)number.high * ((wide)1 << 64) + (wide)number.low == value);
+        bool fits = scale == 0 && value >= INT64_MIN && value <= INT64_MAX;
+        assert((integer.status == KOHIBLAD_OK) == fits);
+        if (fits) assert(integer.value == value);
+    }
+    if (!truth.status) assert(truth.value == (size == 4) && shown[0] == (truth.value ? 't' : 'f'));
+    if (!text.status) {
+        assert(text.type == KOHIBLAD_TYPE_STRING && text.offset == 8);
+        assert(text.length == b.size - 8);
+    }
+    return !number.status;
+}
+
+/* A document made of a scalar is read back as that scalar, and is what its text gives. */
+static void make_scalar(void) {
+    uint8_t made[64], parsed[64], shown[400];
+    size_t size, parsed_size, shown_size;
+    struct kohiblad_decimal number;
+    int64_t high = below(3) ? (int64_t)below(3) - 1
+        : (int64_t)((uint64_t)below(UINT32_MAX) << 32 | below(UINT32_MAX));
+    uint64_t low = below(3) ? below(300) : (uint64_t)below(UINT32_MAX) << below(33);
+    uint32_t scale = below(3) ? below(4) : below(300);
+    uint32_t status = kohiblad_of_decimal(high, low, scale, made, sizeof made, &size);
+    assert(status == (scale > 255 ? KOHIBLAD_INVALID_JSONB : KOHIBLAD_OK));
+    if (!status) {
+        number = kohiblad_number(made, size);
+        assert(!number.status && number.high == high && number.low == low && number.scale == scale);
+        assert(kohiblad_is_canonical(made, size));
+        assert(!kohiblad_to_string(made, size, shown, sizeof shown, &shown_size));
+        assert(!kohiblad_parse(shown, shown_size, 0, parsed, sizeof parsed, &parsed_size));
+        assert(size == parsed_size && !memcmp(made, parsed, size));
+    }
+    assert(!kohiblad_of_int64((int64_t)low, made, sizeof made, &size));
+    assert(kohiblad_int64(made, size).value == (int64_t)low);
+    assert(!kohiblad_to_string(made, size, shown, sizeof shown, &shown_size));
+    assert(!kohiblad_parse(shown, shown_size, 0, parsed, sizeof parsed, &parsed_size));
+    assert(size == parsed_size && !memcmp(made, parsed, size));
+    struct block text = make(below(9));
+    for (size_t i = 0; i < text.size; i++)
+        text.at[i] = (uint8_t)(below(4) ? below(128) : below(256));
+    status = kohiblad_of_text(text.at, text.size, made, sizeof made, &size);
+    if (status == KOHIBLAD_OK) {
+        struct kohiblad_place place = kohiblad_text(made, size);
+        assert(!place.status && place.length == text.size && size == 8 + text.size);
+        assert(!text.size || !memcmp(made + place.offset, text.at, text.size));
+        assert(kohiblad_is_canonical(made, size));
+    } else {
+        bool ascii = true;
+        for (size_t i = 0; i < text.size; i++) ascii = ascii && text.at[i] < 128;
+        assert(status == KOHIBLAD_INVALID_UTF8 && !ascii);
+    }
+    drop(text);
+    assert(!kohiblad_of_boolean(low != 0, made, sizeof made, &size) && size == 8);
+    assert(kohiblad_boolean(made, size).value == (low != 0));
+    assert(!kohiblad_of_null(made, sizeof made, &size) && size == 8);
+    assert(kohiblad_kind(made, size).kind == KOHIBLAD_NULL);
+    assert(kohiblad_of_null(made, 7, &size) == KOHIBLAD_NO_ROOM && size == 8);
+}
+
+/* The key, for which there is room once its length is known. */
+static uint8_t *key_of(const uint8_t *bytes, size_t size, size_t depth, size_t *length) {
+    assert(kohiblad_key(bytes, size, depth, NULL, 0, length) == KOHIBLAD_NO_ROOM);
+    uint8_t *key = malloc(*length);
+    assert(key && kohiblad_key(bytes, size, depth, key, *length, length) == KOHIBLAD_OK);
+    return key;
+}
+
+/* The order of two keys by their bytes, and then the shorter first. */
+static int32_t order_of_keys(const uint8_t *left, size_t left_size, const uint8_t *right,
+                             size_t right_size, size_t depth) {
+    size_t m, n;
+    uint8_t *l = key_of(left, left_size, depth, &m), *r = key_of(right, right_size, depth, &n);
+    int order = memcmp(l, r, m < n ? m : n);
+    free(l);
+    free(r);
+    if (order == 0) return (m > n) - (m < n);
+    return order < 0 ? -1 : 1;
+}
+
+/* The order where documents that nest deeper count as none. */
+static int32_t model_within(const uint8_t *left, size_t left_size, const uint8_t *right,
+                            size_t right_size, size_t depth) {
+    bool is_left = kohiblad_check(left, left_size, depth);
+    bool is_right = kohiblad_check(right, right_size, depth);
+    if (is_left && is_right) return kohiblad_compare(left, left_size, right, right_size);
+    if (is_left != is_right) return is_left ? -1 : 1;
+    size_t size = left_size < right_size ? left_size : right_size;
+    int order = size ? memcmp(left, right, size) : 0;
+    if (order == 0) order = left_size < right_size ? -1 : left_size > right_size;
+    return order < 0 ? -1 : order > 0;
+}
+
+/* An extension value's document, made of its fields: the canonical one; of wrong ones none. */
+static void make_extension(struct block b) {
+    struct kohiblad_extension_value e = kohiblad_extension(b.at, b.size);
+    uint8_t made[ROOM], wanted[ROOM];
+    size_t length, needed;
+    if (e.status == KOHIBLAD_OK) {
+        assert(kohiblad_of_extension(e.tag, e.value, e.months, e.days, e.seconds, b.at + e.offset,
+                                     e.length, made, sizeof made, &length) == KOHIBLAD_OK);
+        assert(!kohiblad_to_canonical(b.at, b.size, wanted, sizeof wanted, &needed));
+        assert(length == needed && !memcmp(made, wanted, needed));
+    }
+    uint32_t tag = below(3) ? 16 * below(17) : below(300);
+    int64_t value = below(2) ? (int64_t)((uint64_t)below(UINT32_MAX) << below(33)) : 0;
+    int32_t months = (int32_t)below(2), days = -(int32_t)below(2), seconds = (int32_t)below(2);
+    size_t size = below(2) ? below((uint32_t)b.size + 1) : 0;
+    bool has_data = tag == KOHIBLAD_BINARY || tag > KOHIBLAD_INTERVAL;
+    bool has_value = tag >= KOHIBLAD_DATE && tag <= KOHIBLAD_INTERVAL;
+    bool is = tag < 256 && tag % 16 == 0 && (has_data || !size) && (has_value || !value)
+        && (tag == KOHIBLAD_INTERVAL || !(months || days))
+        && (tag == KOHIBLAD_TIMESTAMP_TZ || !seconds)
+        && (tag != KOHIBLAD_DATE || (value >= INT32_MIN && value <= INT32_MAX));
+    uint32_t status = kohiblad_of_extension(tag, value, months, days, seconds, b.at, size, made,
+                                            sizeof made, &length);
+    assert(status == (is ? KOHIBLAD_OK : KOHIBLAD_INVALID_JSONB_EXTENSION));
+    if (!is) return;
+    e = kohiblad_extension(made, length);
+    assert(!e.status && e.tag == tag && e.value == value && e.months == months && e.days == days);
+    assert(e.seconds == seconds && e.length == size && e.offset == (has_data ? 9 : 0));
+    assert(size == 0 || !memcmp(made + e.offset, b.at, size));
+}
+
+/* Two results of calls whose results are bytes. */
+static void same(struct block left, uint32_t left_status, size_t left_length, struct block right,
+                 uint32_t right_status, size_t right_length) {
+    assert(left_status == right_status && left_length == right_length);
+    if (left_status == KOHIBLAD_OK) assert(!memcmp(left.at, right.at, left_length));
+}
+
+/* The text of bytes that are no document: one that no document begins with stays such. */
+static void is_text_of(struct block b, const uint8_t *text, size_t length) {
+    size_t plain = 0;
+    while (plain < b.size && b.at[plain] < 0x80) plain++;
+    if (b.size == 0) assert(length == 4 && !memcmp(text, "null", 4));
+    else assert(length >= b.size && !memcmp(text, b.at, plain));
+    if (plain == b.size && b.size > 0) assert(length == b.size);
+}
+
+/* Texts and canonical forms within a depth. */
+static void answer_within(struct block b, bool shallow, size_t depth, struct block out) {
+    struct block other = make(out.size);
+    uint32_t status, wanted;
+    size_t length, needed;
+    ANSWER(status, out, length,
+           kohiblad_to_canonical_within(b.at, b.size, depth, out.at, out.size, &length));
+    ANSWER(wanted, other, needed,
+           kohiblad_to_canonical(b.at, b.size, other.at, other.size, &needed));
+    if (shallow) same(out, status, length, other, wanted, needed);
+    else assert(status == KOHIBLAD_INVALID_JSONB);
+    ANSWER(status, out, length,
+           kohiblad_to_pretty_within(b.at, b.size, depth, out.at, out.size, &length));
+    ANSWER(wanted, other, needed,
+           kohiblad_to_pretty(b.at, b.size, other.at, other.size, &needed));
+    if (shallow) same(out, status, length, other, wanted, needed);
+    else assert(length == 4 && (status != KOHIBLAD_OK || !memcmp(out.at, "null", 4)));
+    ANSWER(status, out, length,
+           kohiblad_to_string_within(b.at, b.size, depth, out.at, out.size, &length));
+    ANSWER(wanted, other, needed,
+           kohiblad_to_string(b.at, b.size, other.at, other.size, &needed));
+    if (shallow || !kohiblad_is_document(b.at, b.size))
+        same(out, status, length, other, wanted, needed);
+    else if (status == KOHIBLAD_OK)
+        is_text_of(b, out.at, length);
+    drop(other);
+}
+
+/* Two rows built within a depth: as without one, after the test of each row. */
+static void build_within(struct block rows, const size_t *ends, size_t depth, bool good,
+                         struct block out) {
+    struct block other = make(out.size);
+    uint32_t status, wanted;
+    size_t length, needed;
+    bool ascend = good || (ends[0] <= ends[1] && ends[1] <= rows.size);
+    bool shallow = false, is_last = false;
+    if (ascend) {
+        is_last = kohiblad_check(rows.at + ends[0], ends[1] - ends[0], depth);
+        shallow = is_last && kohiblad_check(rows.at, ends[0], depth);
+    }
+    ANSWER(status, out, length,
+           kohiblad_build_array_within(rows.at, rows.size, ends, 2, depth, out.at, out.size,
+                                       &length));
+    ANSWER(wanted, other, needed,
+           kohiblad_build_array(rows.at, rows.size, ends, 2, other.at, other.size, &needed));
+    if (shallow || !ascend) same(out, status, length, other, wanted, needed);
+    else assert(status == KOHIBLAD_INVALID_JSONB);
+    ANSWER(status, out, length,
+           kohiblad_build_object_within(rows.at, rows.size, ends, 2, depth, out.at, out.size,
+                                        &length));
+    ANSWER(wanted, other, needed,
+           kohiblad_build_object(rows.at, rows.size, ends, 2, other.at, other.size, &needed));
+    if (is_last || !ascend) same(out, status, length, other, wanted, needed);
+    else assert(status == KOHIBLAD_INVALID_JSONB);
+    /* Pairs have an even number of rows. */
+    assert(kohiblad_build_object_within(rows.at, rows.size, ends, 1, depth, NULL, 0, &length)
+           == KOHIBLAD_INVALID_EOF);
+    drop(other);
+}
+
 int main(int argc, char **argv) {
     long rounds = argc > 1 ? atol(argv[1]) : 20000;
     static uint8_t docs[TEXTS][ROOM];
@@ -55,7 +395,7 @@ int main(int argc, char **argv) {
         }
         drop(t);
     }
-    long documents = 0, found = 0, built = 0, sorted = 0;
+    long documents = 0, found = 0, built = 0, sorted = 0, children = 0, numbers_read = 0;
     for (long round = 0; round < rounds; round++) {
         uint32_t from = below(count);
         size_t size = below(3) ? sizes[from] : below((uint32_t)sizes[from] + 1);
@@ -75,8 +415,17 @@ int main(int argc, char **argv) {
         int32_t order = kohiblad_compare(b.at, b.size, docs[other], sizes[other]);
         assert(order == -kohiblad_compare(docs[other], sizes[other], b.at, b.size));
         assert(is || order > 0);
-        struct kohiblad_kind kind = kohiblad_kind(b.at, b.size);
+        struct kohiblad_value_kind kind = kohiblad_kind(b.at, b.size);
         assert(!is || (kind.status == KOHIBLAD_OK && kind.kind <= KOHIBLAD_OBJECT));
+        children += walk(b);
+        walk_anywhere(b);
+        make_scalar();
+        make_extension(b);
+        numbers_read += read_scalar(b, is, kind);
+        size_t depth = below(5);
+        int32_t within = kohiblad_compare_within(b.at, b.size, docs[other], sizes[other], depth);
+        assert(within == model_within(b.at, b.size, docs[other], sizes[other], depth));
+        assert(within == order_of_keys(b.at, b.size, docs[other], sizes[other], depth));
 
         /* Parts: copied and told are the same. */
         struct block out = make(below(64)), key = make(below(8)), name = copy_of("a", below(2));
@@ -134,6 +483,12 @@ int main(int argc, char **argv) {
         if (is) assert(status == KOHIBLAD_OK || status == KOHIBLAD_NO_ROOM);
         else assert(status == KOHIBLAD_INVALID_JSONB);
 
+        /* The same within a depth: as the call without one, or as of no document. */
+        bool shallow = kohiblad_check(b.at, b.size, depth);
+        assert(kohiblad_is_canonical_within(b.at, b.size, depth)
+               == (shallow && kohiblad_is_canonical(b.at, b.size)));
+        answer_within(b, shallow, depth, out);
+
         /* Rows: the bytes once more behind a document, with ends that may be wrong. */
         struct block rows = make(b.size + sizes[other]), ends = make(3 * sizeof(size_t));
         struct block numbers = make(3 * sizeof(size_t));
@@ -160,6 +515,16 @@ int main(int argc, char **argv) {
                 order = kohiblad_compare(rows.at + ls, stops[l] - ls, rows.at + rs, stops[r] - rs);
                 assert(order < 0 || (order == 0 && l < r));
             }
+            size_t order_within[3];
+            assert(!kohiblad_sort_within(rows.at, rows.size, where, 3, depth, order_within, 3));
+            for (int i = 0; i < 2; i++) {
+                size_t l = order_within[i], r = order_within[i + 1];
+                size_t ls = l ? stops[l - 1] : 0, rs = r ? stops[r - 1] : 0;
+                order = model_within(rows.at + ls, stops[l] - ls, rows.at + rs, stops[r] - rs,
+                                     depth);
+                assert(order < 0 || (order == 0 && l < r));
+            }
+            assert(order_within[0] + order_within[1] + order_within[2] == 3);
         } else {
             assert(order_of[0] == 7 && order_of[1] == 7 && order_of[2] == 7);
         }
@@ -170,6 +535,7 @@ int main(int argc, char **argv) {
             built++;
             assert(kohiblad_is_document(out.at, length));
         }
+        build_within(rows, where, depth, good, out);
         size_t pairs = 2 + below(2);
         ANSWER(status, out, length,
                kohiblad_build_object(rows.at, rows.size, where, pairs, out.at, out.size, &length));
@@ -178,8 +544,8 @@ int main(int argc, char **argv) {
         drop(numbers); drop(ends); drop(rows); drop(back); drop(text);
         drop(name); drop(key); drop(out); drop(b);
     }
-    assert(documents && found && built && sorted);
-    printf("%ld rounds: %ld documents, %ld values found, %ld built, %ld sorted\n", rounds,
-           documents, found, built, sorted);
+    assert(documents && found && built && sorted && children && numbers_read);
+    printf("%ld rounds: %ld documents, %ld values found, %ld built, %ld sorted, %ld children, "
+           "%ld numbers\n", rounds, documents, found, built, sorted, children, numbers_read);
     return 0;
 }

@@ -1,4 +1,4 @@
-/* Null pointers with length 0, which the header's macros guard. */
+/* Null pointers with length 0, which the header's functions guard, and blocks that overlap. */
 #include "kohiblad.h"
 
 #include <assert.h>
@@ -25,10 +25,61 @@ int main(void) {
     assert(kohiblad_to_pretty(NULL, 0, NULL, 0, &length) == KOHIBLAD_NO_ROOM && length == 4);
     assert(kohiblad_parse(NULL, 0, 9, NULL, 0, &length) == KOHIBLAD_INVALID_JSON && length == 0);
     assert(kohiblad_to_canonical(NULL, 0, NULL, 0, &length) == KOHIBLAD_INVALID_JSONB);
+    assert(kohiblad_key(NULL, 0, 64, NULL, 0, &length) == KOHIBLAD_NO_ROOM && length == 2);
     assert(kohiblad_build_array(NULL, 0, NULL, 0, NULL, 0, &length) == KOHIBLAD_NO_ROOM);
     assert(kohiblad_build_object(NULL, 0, NULL, 0, NULL, 0, &length) == KOHIBLAD_NO_ROOM);
     assert(length == 4);
     assert(kohiblad_sort(NULL, 0, NULL, 0, NULL, 0) == KOHIBLAD_OK);
+    struct kohiblad_cursor cursor = { 0, 0, 0 };
+    struct kohiblad_place value;
+    assert(kohiblad_begin(NULL, 0, &cursor) == KOHIBLAD_INVALID_EOF);
+    assert(kohiblad_next(NULL, 0, &cursor, NULL, &value) == KOHIBLAD_INVALID_EOF);
+    assert(kohiblad_compare_within(NULL, 0, NULL, 0, 0) == 0);
+    assert(kohiblad_sort_within(NULL, 0, NULL, 0, 0, NULL, 0) == KOHIBLAD_OK);
+    assert(kohiblad_of_extension(KOHIBLAD_BINARY, 0, 0, 0, 0, NULL, 0, NULL, 0, &length)
+           == KOHIBLAD_NO_ROOM);
+    assert(length == 9);
+    assert(!kohiblad_is_canonical_within(NULL, 0, 9));
+    assert(kohiblad_to_string_within(NULL, 0, 9, NULL, 0, &length) == KOHIBLAD_NO_ROOM);
+    assert(length == 4);
+    assert(kohiblad_to_pretty_within(NULL, 0, 9, NULL, 0, &length) == KOHIBLAD_NO_ROOM);
+    assert(length == 4);
+    assert(kohiblad_to_canonical_within(NULL, 0, 9, NULL, 0, &length) == KOHIBLAD_INVALID_JSONB);
+    assert(kohiblad_build_array_within(NULL, 0, NULL, 0, 0, NULL, 0, &length)
+           == KOHIBLAD_NO_ROOM);
+    assert(kohiblad_build_object_within(NULL, 0, NULL, 0, 0, NULL, 0, &length)
+           == KOHIBLAD_NO_ROOM);
+    assert(length == 4);
+    assert(kohiblad_number(NULL, 0).status == KOHIBLAD_INVALID_EOF);
+    assert(kohiblad_int64(NULL, 0).status == KOHIBLAD_INVALID_EOF);
+    assert(kohiblad_text(NULL, 0).status == KOHIBLAD_INVALID_EOF);
+    assert(kohiblad_boolean(NULL, 0).status == KOHIBLAD_INVALID_EOF);
+
+    /* What overlaps is refused, and nothing is written. */
+    uint8_t block[64] = { 0x20 };
+    size_t numbers[4] = { 8, 8, 8, 8 };
+    length = 9;
+    assert(kohiblad_to_string(block, 8, block, 64, &length) == KOHIBLAD_OVERLAP);
+    assert(kohiblad_to_string(block, 8, block + 7, 57, &length) == KOHIBLAD_OVERLAP);
+    assert(length == 9 && block[0] == 0x20 && block[8] == 0);
+    assert(kohiblad_to_string(block, 8, block + 8, 56, &length) == KOHIBLAD_OK && length == 4);
+    length = 9;
+    assert(kohiblad_to_string_within(block, 8, 0, block, 64, &length) == KOHIBLAD_OVERLAP);
+    assert(kohiblad_to_pretty_within(block, 8, 0, block + 7, 57, &length) == KOHIBLAD_OVERLAP);
+    assert(kohiblad_of_extension(KOHIBLAD_BINARY, 0, 0, 0, 0, block, 8, block + 7, 57, &length)
+           == KOHIBLAD_OVERLAP);
+    assert(kohiblad_to_canonical_within(block, 8, 0, block, 64, &length) == KOHIBLAD_OVERLAP);
+    assert(kohiblad_build_array_within(block, 8, numbers, 1, 0, block, 64, &length)
+           == KOHIBLAD_OVERLAP);
+    assert(kohiblad_build_object_within(block, 8, numbers, 1, 0, (uint8_t *)numbers, 8, &length)
+           == KOHIBLAD_OVERLAP);
+    assert(length == 9 && block[0] == 0x20 && numbers[0] == 8);
+    assert(kohiblad_sort(block, 8, numbers, 1, numbers, 4) == KOHIBLAD_OVERLAP);
+    assert(kohiblad_sort(block, 8, numbers, 1, numbers + 1, 3) == KOHIBLAD_OK && numbers[1] == 0);
+    assert(kohiblad_object_member(block, 8, 0, block + 8, 8, &length, block + 12, 8, numbers)
+           == KOHIBLAD_OVERLAP);
+    assert(kohiblad_object_member(block, 8, 0, block + 8, 8, &length, block + 16, 8, &length)
+           == KOHIBLAD_OVERLAP);
     puts("null pointers with length 0: ok");
     return 0;
 }

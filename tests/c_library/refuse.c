@@ -26,11 +26,14 @@ void *__wrap_realloc(void *block, size_t size) {
 
 static const char text[] = "{\"a\":1,\"b\":[true,\"\\u00e9\"],"
                            "\"c\":{\"d\":\"e\",\"f\":-12.5,\"g\":[[],{}]}}";
-enum { ROOM = 1024, CALLS = 15 };
+enum { ROOM = 1024, CALLS = 23 };
 static uint8_t document[ROOM], pairs[ROOM];
 static size_t size, stops[4], pairs_size, order[4];
 
+static bool takes_memory(int which) { return which < 7 || (which > 13 && which < 21); }
+
 static uint32_t call(int which, uint8_t *out, size_t *length) {
+    size_t key_length;
     switch (which) {
     case 0: return kohiblad_parse((const uint8_t *)text, sizeof text - 1, 8, out, ROOM, length);
     case 1: return kohiblad_to_string(document, size, out, ROOM, length);
@@ -40,13 +43,24 @@ static uint32_t call(int which, uint8_t *out, size_t *length) {
     case 5: return kohiblad_build_object(pairs, pairs_size, stops, 4, out, ROOM, length);
     case 6: return kohiblad_sort(pairs, pairs_size, stops, 4, order, 4);
     case 7: return kohiblad_get(document, size, (const uint8_t *)"c", 1, out, ROOM, length);
-    case 8: return kohiblad_object_member(document, size, 1, out, ROOM / 2, length,
+    case 8: return kohiblad_object_member(document, size, 1, out, ROOM / 2, &key_length,
                                           out + ROOM / 2, ROOM / 2, length);
     case 9: return kohiblad_find(document, size, (const uint8_t *)"b", 1).status;
     case 10: return kohiblad_part(document, size, 4).status;
     case 11: return kohiblad_is_document(document, size) ? KOHIBLAD_OK : KOHIBLAD_INVALID_JSONB;
     case 12: return kohiblad_check(document, size, 8) ? KOHIBLAD_OK : KOHIBLAD_INVALID_JSONB;
     case 13: return (uint32_t)kohiblad_compare(document, size, document, size);
+    case 14: return kohiblad_key(document, size, 8, out, ROOM, length);
+    case 15: return kohiblad_to_string_within(document, size, 8, out, ROOM, length);
+    case 16: return kohiblad_to_pretty_within(document, size, 8, out, ROOM, length);
+    case 17: return kohiblad_to_canonical_within(document, size, 8, out, ROOM, length);
+    case 18: return kohiblad_build_array_within(pairs + 1, size, &size, 1, 8, out, ROOM, length);
+    case 19: return kohiblad_build_object_within(pairs, pairs_size, stops, 4, 8, out, ROOM, length);
+    case 20:
+        return kohiblad_of_extension(KOHIBLAD_DATE, 19000, 0, 0, 0, NULL, 0, out, ROOM, length);
+    case 21:
+        return kohiblad_is_canonical_within(document, size, 8) ? KOHIBLAD_OK
+                                                               : KOHIBLAD_INVALID_JSONB;
     default: return kohiblad_is_canonical(document, size) ? KOHIBLAD_OK : KOHIBLAD_INVALID_JSONB;
     }
 }
@@ -75,11 +89,11 @@ int main(void) {
             runs++;
             if (!refused) {
                 assert(status == KOHIBLAD_OK);
-                assert(which < 7 ? nth > 0 : nth == 0);
+                assert(takes_memory(which) ? nth > 0 : nth == 0);
                 printf("call %d: %ld requests\n", which, nth);
                 break;
             }
-            assert(which < 7 && status == KOHIBLAD_OUT_OF_MEMORY);
+            assert(takes_memory(which) && status == KOHIBLAD_OUT_OF_MEMORY);
             assert(!memcmp(out, clean, ROOM) && !memcmp(order, clean, sizeof order));
             assert(which == 6 || length == 0);
         }

@@ -1,4 +1,4 @@
--- Where the value that a look-up finds stands in a document.
+-- The position in a document of the value that a look-up finds.
 use Rattle.std.proofs.Common.{◌≡◌, ℕ, ◌+◌, ◌-◌, ◌*◌, Bool, true, false, is_some, List, length}
 use Rattle.std.proofs.Common.{slice_get, Option, None, Some, option_map, Result, Ok, Err, IsOkAnd}
 use Rattle.std.proofs.Common.{refl, sym, ap, ap₂, subst, ◌∙◌, inl, inr, arith}
@@ -100,7 +100,7 @@ module _ (answers : List ℕ → Bool → Type 0) (name : List ℕ)
   some_in (extension y) x reads nth header place doc h read at there = absurd (never_some x h.0)
   some_in (array ts) x reads nth header place doc h read at there = absurd (never_some x h.0)
 
--- What is found in the document, by what the call answered.
+-- What is found in the document, given the result of the call.
 abbrev pub IsLookUp : (List ℕ → Bool → Type 0) → ℕ → List ℕ → Tree → Result (Option JsonbItem) Error
     → ℕ → Type 0
 IsLookUp answers size b t r reads =
@@ -165,7 +165,7 @@ module _ (answers : List ℕ → Bool → Type 0) (name given bytes viewed : Lis
       (subst (λ (b : List ℕ). header_at b 0 ≡ Ok header) (sym same) read) at
       (subst (λ (b : List ℕ). place ≡ part_place b (2 * header.1) nth) (sym same) there))
 
--- where the header cannot be read, there is no document
+-- if the header cannot be read, the bytes are not a document
 pub no_header_read : (bytes : List ℕ) (t : Tree) (e : Error) → Doc bytes t
     → header_at bytes 0 ≡ Err e → ⊥
 unfolding count_under

@@ -1,8 +1,11 @@
-pub mod Depths
+pub mod BoundedMeanings
 pub mod FoundPlaces
 pub mod Lookups
+pub mod NumberLengths
 pub mod Objects
 pub mod Orders
 pub mod PlaceLaws
 pub mod Readings
 pub mod Scalars
+pub mod ScalarValues
+pub mod Walks

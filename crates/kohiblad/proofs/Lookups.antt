@@ -1,4 +1,4 @@
--- What a look-up finds, where its answers are told otherwise.
+-- The result of a look-up, with the closure's results in another form.
 use Rattle.std.proofs.Common.{◌≡◌, ℕ, ◌-◌, ◌*◌, ◌^◌, ◌<◌, Bool, true, false, ◌==◌, ◌||◌}
 use Rattle.std.proofs.Common.{if◌then◌else◌, is_some, List, length, Option, None, Some, IfSome}
 use Rattle.std.proofs.Common.{Result, Ok, Err, IsOkAnd, refl, ap, ap₂, subst, sym, ◌∙◌, arith}
@@ -61,7 +61,7 @@ module _ (answers others : List ℕ → Bool → Type 0)
   LooksUpBytes-weaker r reads (one_accepted n pair entry count key there is cost) =
       one_accepted n pair entry count (accepted n pair key) there is cost
 
--- where the header cannot be read, nothing is found
+-- if the header cannot be read, nothing is found
 pub no_value_place : (name bytes : List ℕ) (e : Error) → header_at bytes 0 ≡ Err e
     → IsPlaceFound name bytes (Err e)
 unfolding count_under
@@ -95,7 +95,7 @@ pub counted : (bytes : List ℕ) (header : ℕ × ℕ) → header_at bytes 0 ≡
 unfolding lookup.header_count
 counted bytes header is = ap lookup.count_or_zero is
 
--- what is found, by what the call answered
+-- what is found, given the result of the call
 module _ (answers : List ℕ → Bool → Type 0) (name given bytes viewed : List ℕ)
     (named : given ≡ name) (same : viewed ≡ bytes)
     (imply : (key : List ℕ) (b : Bool) → answers key b → b ≡ is_name given key)

@@ -1,4 +1,4 @@
--- Pairs of rows that are put together to an object.
+-- Building an object from pairs of rows.
 use Rattle.std.proofs.Common.{◌≡◌, ℕ, Bool, true, false, ◌||◌, List, [], ◌∷◌, ◌++◌, map, Bor}
 use Rattle.std.proofs.Common.{IsTrue, refl, sym, ap, ap₂, subst, ◌∙◌, append_assoc, ◌↔◌, Result}
 use Rattle.std.proofs.Common.{Ok, Err}
@@ -16,7 +16,7 @@ use Rattle.jsonb.specs.Building.{AreTexts, has_key, with_pair, in_order}
 use Rattle.jsonb.specs.Results.{raw_pairs, input_pair}
 use Rattle.jsonb.proofs.InputLaws.{key_there, one_more, still_distinct}
 
--- the pairs that were put in, and those that are left
+-- the pairs that were inserted, and those that are left
 pub record PairsSoFar (all left : List (List ℕ × List ℕ))
     (builder : List (List ℕ × ItemView)) : Type 0 where
   pub done : List (Bor (List ℕ) × RawJsonb)
@@ -29,7 +29,7 @@ pub no_pair : (all : List (List ℕ × List ℕ)) → PairsSoFar all all []
 unfolding IsDistinct
 no_pair all = record { done = []; parts = refl; built = refl; distinct = tt; texts = tt }
 
--- what was accepted was no key that is there
+-- a key that was accepted was not present
 pub not_there : {A : Type 0} (r : Result A Error) (x : A) (there : Bool) → r ≡ Ok x
     → (r ≡ Err ObjectDuplicateKey) ↔ IsTrue there → there ≡ false
 not_there r x false accepted refused = refl
@@ -48,7 +48,7 @@ keys-append : (xs : List (List ℕ × List ℕ)) (ys : List (List ℕ × List �
     → keys_of (xs ++ ys) ≡ keys_of xs ++ keys_of ys
 keys-append xs ys = map-append (λ p. p.0) xs ys
 
--- Of a list in which a key comes again no two are distinct.
+-- A list in which a key occurs again is not distinct.
 at_middle : (P : List ℕ → Type 0) (xs ys : List (List ℕ)) (y : List ℕ)
     → AllByRecursion P (xs ++ y ∷ ys) → P y
 at_middle P [] ys y h = h.0
@@ -112,7 +112,7 @@ module _ (all left behind : List (List ℕ × List ℕ)) (builder : List (List �
   pub no_text : (IsUtf8 pair.0 → ⊥) → AreTexts (keys_of all) → ⊥
   no_text other texts = other (AreTexts-middle _ _ pair.0 (subst AreTexts key_parts texts))
 
-  -- A key that is there already comes twice.
+  -- A key that is present already occurs twice.
   pub not_distinct : (key : List ℕ) → key ≡ pair.0 → IsTrue (has_key builder key)
       → IsDistinct bytes_eq (keys_of all) → ⊥
   not_distinct key key_is there distinct =
@@ -122,7 +122,7 @@ module _ (all left behind : List (List ℕ × List ℕ)) (builder : List (List �
       (list_any (bytes_eq k) (keys_of (map input_pair so_far.done)))) key_is known)
       (subst (IsDistinct bytes_eq) key_parts distinct)
 
--- all pairs are put in
+-- all pairs are inserted
 pub all_put : (all left : List (List ℕ × List ℕ)) (builder : List (List ℕ × ItemView))
     (so_far : PairsSoFar all left builder) → left ≡ [] → map input_pair so_far.done ≡ all
 all_put all left builder so_far ended = sym

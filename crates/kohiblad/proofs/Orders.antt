@@ -1,4 +1,4 @@
--- Keys in order, and the order of rows by their numbers.
+-- Sorted keys, and the order of rows by their numbers.
 use Rattle.std.proofs.Common.{◌≡◌, ℕ, zero, suc, ◌+◌, ◌≤◌, ◌<◌, List, [], ◌∷◌, ◌++◌, length, map}
 use Rattle.std.proofs.Common.{take, drop, slice_index_or, slice_set, refl, sym, ap, ap₂, subst, ◌∙◌}
 use Rattle.std.proofs.Common.{arith, append_assoc, add-one, length-append}
@@ -12,29 +12,29 @@ use Rattle.std.specs.List.Sorted.{IsPermutation, IsSorted}
 use Rattle.std.specs.Ordering.{nat_cmp, ordering_then, is_lt}
 use Rattle.std.specs.declared.cmp.Ordering.{Ordering}
 use Rattle.jsonb_value.specs.Meaning.{Meaning, meaning_cmp}
-use Rattle.jsonb.specs.declared.sort_key.SortKey.{SortKey}
-use Rattle.jsonb.specs.ItemMeaning.{meaning_of}
-use Rattle.jsonb.specs.SortKey.{key_meaning}
+use Rattle.kohiblad.specs.declared.bounded_key.BoundedKey.{BoundedKey}
+use Rattle.kohiblad.specs.BoundedMeaning.{key_meaning}
 use Rattle.kohiblad.specs.Rows.{rows_from}
 use Rattle.kohiblad.specs.SortOrder.{row_cmp, IsOrderOf}
 
-abbrev pub numbers_of : List (SortKey × ℕ) → List ℕ
+abbrev pub numbers_of : List (BoundedKey × ℕ) → List ℕ
 numbers_of keys = map (λ key. key.1) keys
 
--- The key means what the row of its number does.
-abbrev pub IsKeyOf : List (List ℕ) → SortKey × ℕ → Type 0
-IsKeyOf rows key = key_meaning key.0 ≡ meaning_of (slice_index_or rows key.1 [])
+-- The key means what the row with its number means.
+abbrev pub IsKeyOf : (List ℕ → Meaning) → List (List ℕ) → BoundedKey × ℕ → Type 0
+IsKeyOf means rows key = key_meaning key.0 ≡ means (slice_index_or rows key.1 [])
 
 -- the order of keys, and of equal ones by their numbers
-abbrev pub key_cmp : SortKey × ℕ → SortKey × ℕ → Ordering
+abbrev pub key_cmp : BoundedKey × ℕ → BoundedKey × ℕ → Ordering
 key_cmp x y = ordering_then (meaning_cmp (key_meaning x.0) (key_meaning y.0)) (nat_cmp x.1 y.1)
 
 -- the keys of the first rows, and the rows that are left
-pub record KeysSoFar (rows left : List (List ℕ)) (keys : List (SortKey × ℕ)) : Type 0 where
+pub record KeysSoFar (means : List ℕ → Meaning) (rows left : List (List ℕ))
+    (keys : List (BoundedKey × ℕ)) : Type 0 where
   pub numbers : numbers_of keys ≡ range_with_len 0 (length keys)
   pub behind : drop (length keys) rows ≡ left
   pub count : length keys + length left ≡ length rows
-  pub keys_of_rows : All (IsKeyOf rows) keys
+  pub keys_of_rows : All (IsKeyOf means rows) keys
 
 range_with_len-push : (a n : ℕ) → range_with_len a (suc n) ≡ range_with_len a n ++ (a + n) ∷ []
 range_with_len-push a zero = let here : a ≡ a + 0 = omega arith in ap (λ (k : ℕ). k ∷ []) here
@@ -43,11 +43,12 @@ range_with_len-push a (suc n) =
     ap (λ (ks : List ℕ). a ∷ ks)
     (range_with_len-push (a + 1) n ∙ ap (λ (k : ℕ). range_with_len (a + 1) n ++ k ∷ []) next)
 
-pub one_more_key : (rows left behind : List (List ℕ)) (row : List ℕ) (keys : List (SortKey × ℕ))
-    (key : SortKey) → KeysSoFar rows left keys → left ≡ row ∷ behind
-    → key_meaning key ≡ meaning_of row
-    → KeysSoFar rows behind (keys ++ (key, length keys) ∷ [])
-one_more_key rows left behind row keys key so_far cut means =
+pub one_more_key : (means : List ℕ → Meaning) (rows left behind : List (List ℕ)) (row : List ℕ)
+    (keys : List (BoundedKey × ℕ))
+    (key : BoundedKey) → KeysSoFar means rows left keys → left ≡ row ∷ behind
+    → key_meaning key ≡ means row
+    → KeysSoFar means rows behind (keys ++ (key, length keys) ∷ [])
+one_more_key means rows left behind row keys key so_far cut is =
     let n = length keys in
     let count = so_far.count in
     let left_count : length left ≡ suc (length behind) = ap length cut in
@@ -63,7 +64,7 @@ one_more_key rows left behind row keys key so_far cut means =
     let this : 0 + length keys ≡ length keys = omega arith in
     record {
       numbers =
-          map-append (λ (key : SortKey × ℕ). key.1) keys ((key, length keys) ∷ [])
+          map-append (λ (key : BoundedKey × ℕ). key.1) keys ((key, length keys) ∷ [])
           ∙ ap (λ (ks : List ℕ). ks ++ length keys ∷ []) so_far.numbers
           ∙ ap (λ (k : ℕ). range_with_len 0 (length keys) ++ k ∷ []) (sym this)
           ∙ sym (range_with_len-push 0 (length keys))
@@ -71,39 +72,43 @@ one_more_key rows left behind row keys key so_far cut means =
       behind = ap (λ (k : ℕ). drop k rows) one ∙ rest;
       count = omega arith;
       keys_of_rows =
-          All-append (IsKeyOf rows) keys ((key, length keys) ∷ []) so_far.keys_of_rows
-          (All-cons (IsKeyOf rows) (key, length keys) [] (means ∙ ap meaning_of (sym here))
-          (All-nil (IsKeyOf rows)));
+          All-append (IsKeyOf means rows) keys ((key, length keys) ∷ []) so_far.keys_of_rows
+          (All-cons (IsKeyOf means rows) (key, length keys) [] (is ∙ ap means (sym here))
+          (All-nil (IsKeyOf means rows)));
     }
 
-ordered_at : (rows : List (List ℕ)) (keys : List (SortKey × ℕ)) (d : SortKey × ℕ)
-    → All (IsKeyOf rows) keys → IsSorted key_cmp keys → IsSorted (row_cmp rows) (numbers_of keys)
-ordered_at rows keys d are sorted = λ k e low high.
+ordered_at : (means : List ℕ → Meaning) (rows : List (List ℕ)) (keys : List (BoundedKey × ℕ))
+    (d : BoundedKey × ℕ)
+    → All (IsKeyOf means rows) keys → IsSorted key_cmp keys → IsSorted (row_cmp means rows)
+    (numbers_of keys)
+ordered_at means rows keys d are sorted = λ k e low high.
     let long : length (numbers_of keys) ≡ length keys =
-    length-map keys (λ (key : SortKey × ℕ). key.1) in
-    let x : SortKey × ℕ = slice_index_or keys (k + 1) d in
-    let y : SortKey × ℕ = slice_index_or keys k d in
-    let first = get_or-map (λ (key : SortKey × ℕ). key.1) keys k d e (omega arith) in
-    let second = get_or-map (λ (key : SortKey × ℕ). key.1) keys (k + 1) d e (omega arith) in
-    let first_means = All-get_or (IsKeyOf rows) keys k d (omega arith) are in
-    let second_means = All-get_or (IsKeyOf rows) keys (k + 1) d (omega arith) are in
+    length-map keys (λ (key : BoundedKey × ℕ). key.1) in
+    let x : BoundedKey × ℕ = slice_index_or keys (k + 1) d in
+    let y : BoundedKey × ℕ = slice_index_or keys k d in
+    let first = get_or-map (λ (key : BoundedKey × ℕ). key.1) keys k d e (omega arith) in
+    let second = get_or-map (λ (key : BoundedKey × ℕ). key.1) keys (k + 1) d e (omega arith) in
+    let first_means = All-get_or (IsKeyOf means rows) keys k d (omega arith) are in
+    let second_means = All-get_or (IsKeyOf means rows) keys (k + 1) d (omega arith) are in
     ap is_lt (
-    ap₂ (row_cmp rows) second first
+    ap₂ (row_cmp means rows) second first
     ∙ ap₂ (λ (m n : Meaning). ordering_then (meaning_cmp m n) (nat_cmp x.1 y.1)) (sym second_means)
     (sym first_means)
     )
     ∙ sorted k d low (omega arith)
 
-ordered : (rows : List (List ℕ)) (keys : List (SortKey × ℕ)) → All (IsKeyOf rows) keys
-    → IsSorted key_cmp keys → IsSorted (row_cmp rows) (numbers_of keys)
-ordered rows [] are sorted = λ k e low high. absurd (omega arith)
-ordered rows (key ∷ keys) are sorted = ordered_at rows (key ∷ keys) key are sorted
+ordered : (means : List ℕ → Meaning) (rows : List (List ℕ)) (keys : List (BoundedKey × ℕ))
+    → All (IsKeyOf means rows) keys
+    → IsSorted key_cmp keys → IsSorted (row_cmp means rows) (numbers_of keys)
+ordered means rows [] are sorted = λ k e low high. absurd (omega arith)
+ordered means rows (key ∷ keys) are sorted = ordered_at means rows (key ∷ keys) key are sorted
 
--- keys in order give the order of the rows
-pub order_of_keys : (rows left : List (List ℕ)) (before after : List (SortKey × ℕ)) → left ≡ []
-    → KeysSoFar rows left before → IsPermutation before after → IsSorted key_cmp after
-    → IsOrderOf rows (numbers_of after)
-order_of_keys rows left before after ended all moved sorted =
+-- sorted keys give the order of the rows
+pub order_of_keys : (means : List ℕ → Meaning) (rows left : List (List ℕ))
+    (before after : List (BoundedKey × ℕ)) → left ≡ []
+    → KeysSoFar means rows left before → IsPermutation before after → IsSorted key_cmp after
+    → IsOrderOf means rows (numbers_of after)
+order_of_keys means rows left before after ended all moved sorted =
     let none : length left ≡ 0 = ap length ended in
     let count = all.count in
     let long : length before ≡ length rows = omega arith in
@@ -111,15 +116,16 @@ order_of_keys rows left before after ended all moved sorted =
     record {
       each_once = subst
           (λ (ks : List ℕ). IsPermutation ks (numbers_of after)) numbers
-          (IsPermutation-map (λ (key : SortKey × ℕ). key.1) before after moved);
-      ascend = ordered rows after
-          (All-permutation (IsKeyOf rows) before after moved all.keys_of_rows) sorted;
+          (IsPermutation-map (λ (key : BoundedKey × ℕ). key.1) before after moved);
+      ascend = ordered means rows after
+          (All-permutation (IsKeyOf means rows) before after moved all.keys_of_rows) sorted;
     }
 
 -- the order of rows has as many numbers
-pub length-IsOrderOf : (rows : List (List ℕ)) (numbers : List ℕ) → IsOrderOf rows numbers
+pub length-IsOrderOf : (means : List ℕ → Meaning) (rows : List (List ℕ)) (numbers : List ℕ)
+    → IsOrderOf means rows numbers
     → length numbers ≡ length rows
-length-IsOrderOf rows numbers h =
+length-IsOrderOf means rows numbers h =
     length_permutation _ _ h.each_once ∙ length-range_with_len 0 (length rows)
 
 pub length-rows_from : (bytes : List ℕ) (start : ℕ) (ends : List ℕ)
@@ -127,8 +133,9 @@ pub length-rows_from : (bytes : List ℕ) (start : ℕ) (ends : List ℕ)
 length-rows_from bytes start [] = refl
 length-rows_from bytes start (end ∷ ends) = ap suc (length-rows_from bytes end ends)
 
--- one more number is put in its place
-pub one_more_number : (keys : List (SortKey × ℕ)) (old order : List ℕ) (n : ℕ) (d : SortKey × ℕ)
+-- one more number is written at its position
+pub one_more_number : (keys : List (BoundedKey × ℕ)) (old order : List ℕ) (n : ℕ)
+    (d : BoundedKey × ℕ)
     → n < length keys → length keys ≤ length old → order ≡ numbers_of (take n keys) ++ drop n old
     → slice_set order n (slice_index_or keys n d).1 ≡ numbers_of (take (n + 1) keys)
     ++ drop (n + 1) old
@@ -136,12 +143,12 @@ one_more_number keys old order n d inside fits so_far =
     let front = numbers_of (take n keys) in
     let number : ℕ = (slice_index_or keys n d).1 in
     let long : length (numbers_of (take n keys)) ≡ n = length-map (take n keys)
-    (λ (key : SortKey × ℕ). key.1) ∙ length-take-le n keys (omega arith) in
+    (λ (key : BoundedKey × ℕ). key.1) ∙ length-take-le n keys (omega arith) in
     let cut = drop_more old n 0 (omega arith) in
     let parts = so_far ∙ ap (λ (xs : List ℕ). front ++ xs) cut in
     let more = ap (λ (k : ℕ). numbers_of (take k keys)) (add-one n)
     ∙ ap numbers_of (take-suc keys n d inside) ∙ map-append
-    (λ (key : SortKey × ℕ). key.1) (take n keys) (slice_index_or keys n d ∷ []) in
+    (λ (key : BoundedKey × ℕ). key.1) (take n keys) (slice_index_or keys n d ∷ []) in
     ap₂ (λ (xs : List ℕ) (k : ℕ). slice_set xs k number) parts (sym long)
     ∙ set-append_seam front (slice_index_or old n 0) (drop (n + 1) old) number
     ∙ sym (append_assoc front (number ∷ []) (drop (n + 1) old))

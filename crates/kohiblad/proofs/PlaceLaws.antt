@@ -1,4 +1,4 @@
--- Where the parts of an array or an object stand.
+-- The positions of the parts of an array or object.
 use Rattle.std.proofs.Common.{◌≡◌, ℕ, zero, suc, ◌+◌, ◌*◌, ◌<◌, ◌≤◌, ◌^◌, ◌⊎◌, true, false, List}
 use Rattle.std.proofs.Common.{[], ◌∷◌, ◌++◌, length, slice_get, slice_index_or, Option, None, Some}
 use Rattle.std.proofs.Common.{option_map, Result, Ok, Err, refl, sym, ap, ap₂, subst, ◌∙◌, inl, inr}
@@ -39,7 +39,7 @@ place_behind-cut bytes (suc nth) index start e some cut =
     ap (λ (r : Result JEntry Error). r
     >>= (λ (entry : JEntry). place_behind bytes nth (index + 4) (start + entry.length))) cut
 
--- the place of an entry that stands there
+-- the position of an entry in the bytes
 abbrev pub StandsAt : List ℕ → Result Place Error → Entry → Type 0
 StandsAt bytes found entry =
     (place : Place) × ((found ≡ Ok place) × (entry_there bytes place ≡ entry))
@@ -205,7 +205,7 @@ behind_keys [] ds k i c e there = let same : k ≡ i = omega arith in ap (slice_
 behind_keys (x ∷ cs) ds zero i c e there = absurd (omega arith)
 behind_keys (x ∷ cs) ds (suc k) i c e there = behind_keys cs ds k i c (omega arith) there
 
--- where the entries of an object stand
+-- the positions of an object's entries
 record AllAt (b : List ℕ) (ms : List (List ℕ × Entry)) : Type 0 where
   header : header_at b 0 ≡ Ok (1073741824, length ms)
   entries_at : At b 4 (code_entries (all_entries ms))
@@ -269,7 +269,7 @@ module _ (b : List ℕ) (ms : List (List ℕ × Entry)) (is : AreEntries (all_en
       let test = le-leb (length ms) index past in
       (None, (rw test refl, sym absent))
 
--- where a value's entry stands
+-- the position of a value's entry
 pub value_standing : (b : List ℕ) (ps : Pairs) (ms : List (List ℕ × Entry)) → HasMembers b ps ms
     → (index : ℕ) (c : Entry) → slice_get (values_of ms) index ≡ Some c
     → StandsAt b (place_behind b (length ms + index) 4 (4 + 4 * (2 * length ms))) c

@@ -1,4 +1,4 @@
--- What C is answered of a text.
+-- The results of parsing a text, as C receives them.
 use Rattle.std.proofs.Common.{◌≡◌, ◌⊎◌, ℕ, List, Result, Err, chars, inl, inr, ap, subst, ◌∙◌}
 use Rattle.jsonb_value.specs.declared.error.Error.{Error}
 use Rattle.jsonb_value.specs.declared.error.Error.TheVariants.{InvalidJson, InvalidJsonb}
@@ -9,7 +9,7 @@ use Rattle.jsonb_codec.specs.Canon.{Fits}
 use Rattle.kohiblad.specs.Status.{code, IsRefused}
 use Rattle.kohiblad.specs.Output.{IsRead}
 
--- a text that is not read is refused by one of three names
+-- a text that is not read is refused with one of three statuses
 pub read_refused : {A : Type 0} (text before after : List ℕ) (told status : ℕ) (r : Result A Error)
     (e : Error) → r ≡ Err e
     → (r ≡ Err InvalidJson → (t : Tree) → Json (chars text) t → ⊥)

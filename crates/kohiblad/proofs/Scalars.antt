@@ -1,4 +1,4 @@
--- How scalar documents are written.
+-- The bytes of scalar documents.
 use Rattle.std.proofs.Common.{◌≡◌, ℕ, ◌+◌, List, ◌++◌, length, drop, sym, ap, ap₂, ◌∙◌}
 use Rattle.std.proofs.Common.{append_assoc, arith}
 use Rattle.std.specs.Int.{w32, to_be_bytes}

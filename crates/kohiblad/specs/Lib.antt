@@ -3,6 +3,8 @@ pub mod Results
 pub mod Places
 pub mod Rows
 pub mod SortOrder
-pub mod TextDepth
 pub mod KindAnswer
 pub mod Output
+pub mod Children
+pub mod BoundedMeaning
+pub mod Scalars

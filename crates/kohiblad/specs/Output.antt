@@ -1,21 +1,22 @@
--- What is written of texts and of documents, as C is answered.
+-- The results of printing, parsing and bringing to canonical form, as C receives them.
 use Rattle.std.specs.Prelude.{◌<◌, ◌≤◌, ◌⊎◌, ℕ, List, chars}
 use Rattle.std.specs.Str.{IsUtf8}
 use Rattle.jsonb_value.specs.declared.error.Error.TheVariants as errors
 use Rattle.jsonb_value.specs.Tree.{Tree}
 use Rattle.jsonb_value.specs.Json.Syntax.{Json}
 use Rattle.jsonb_codec.specs.Canon.{canon, Fits}
+use Rattle.jsonb_codec.specs.Depth.{IsDocumentWithin}
 use Rattle.jsonb_codec.specs.Doc.{Doc}
 use Rattle.kohiblad.specs.Status.{code, too_deep, IsHandedOver, IsRefused}
-use Rattle.kohiblad.specs.TextDepth.{text_depth}
+use Rattle.jsonb_value.specs.TextDepth.{text_depth}
 
--- The text is handed over, or memory is refused.
+-- The text is handed over, or there is not enough memory.
 abbrev pub IsWritten : List ℕ → List ℕ → List ℕ → ℕ → ℕ → Type 0
 IsWritten text before after told status = IsHandedOver text before after told status
     ⊎ IsRefused (code errors.OutOfMemory) before after told status
 
 -- The canonical document of the tree that the bytes mean is handed over; or there is none; or there
--- is one, and memory is refused.
+-- is one, but not enough memory.
 abbrev pub IsRewritten : List ℕ → List ℕ → List ℕ → ℕ → ℕ → Type 0
 IsRewritten bytes before after told status =
     ((t : Tree) × (Doc bytes t × (Fits t × IsHandedOver (canon t) before after told status)))
@@ -24,8 +25,16 @@ IsRewritten bytes before after told status =
     ⊎ (((t : Tree) × (Doc bytes t × Fits t))
     × IsRefused (code errors.OutOfMemory) before after told status))
 
--- The canonical document of a text's tree is handed over; or the text is no JSON; or its tree has
--- no canonical document; or memory is refused.
+-- Bytes that are no document of at most this depth are refused, and a document is rewritten as
+-- `IsRewritten` says.
+abbrev pub IsRewrittenWithin : ℕ → List ℕ → List ℕ → List ℕ → ℕ → ℕ → Type 0
+IsRewrittenWithin depth bytes before after told status =
+    ((IsDocumentWithin depth bytes → ⊥)
+    × IsRefused (code errors.InvalidJsonb) before after told status)
+    ⊎ (IsDocumentWithin depth bytes × IsRewritten bytes before after told status)
+
+-- The canonical document of the text's tree is handed over; or the text is not JSON; or its tree
+-- has no canonical document; or there is not enough memory.
 abbrev pub IsRead : List ℕ → List ℕ → List ℕ → ℕ → ℕ → Type 0
 IsRead text before after told status =
     ((t : Tree)
@@ -36,13 +45,13 @@ IsRead text before after told status =
     × IsRefused (code errors.InvalidJsonb) before after told status)
     ⊎ IsRefused (code errors.OutOfMemory) before after told status)
 
--- The same of any bytes as a text: what is no UTF-8 is refused,
+-- The text is refused if it is not UTF-8, and otherwise read as `IsRead` says.
 abbrev pub IsReadAsText : List ℕ → List ℕ → List ℕ → ℕ → ℕ → Type 0
 IsReadAsText text before after told status =
     ((IsUtf8 text → ⊥) × IsRefused (code errors.InvalidUtf8) before after told status)
     ⊎ (IsUtf8 text × IsRead text before after told status)
 
--- and before that a text that nests deeper.
+-- The text is refused if it nests deeper than `depth`, and otherwise read as `IsReadAsText` says.
 abbrev pub IsReadWithin : ℕ → List ℕ → List ℕ → List ℕ → ℕ → ℕ → Type 0
 IsReadWithin depth text before after told status =
     ((depth < text_depth text) × IsRefused too_deep before after told status)

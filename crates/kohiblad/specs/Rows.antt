@@ -1,22 +1,23 @@
--- Rows of bytes that stand one behind another, by where each ends.
+-- Consecutive rows of bytes, given by their ends.
 use Rattle.std.specs.Prelude.{ℕ, ◌-◌, ◌&&◌, nat_le, Bool, true, List, [], ◌∷◌, take, drop}
 
--- whether no end goes back, and none past so many bytes, the first row beginning at a place
+-- No end is below the previous one or above `size`; the first row begins at `start`.
 abbrev pub are_ends : ℕ → ℕ → List ℕ → Bool
 are_ends size start [] = true
 are_ends size start (end ∷ ends) = nat_le start end && (nat_le end size && are_ends size end ends)
 
--- the rows, the first beginning at a place, and each where the one before ends
+-- The rows with these ends; the first begins at `start`, and each other at the end of the previous
+-- one.
 abbrev pub rows_from : List ℕ → ℕ → List ℕ → List (List ℕ)
 rows_from bytes start [] = []
 rows_from bytes start (end ∷ ends) =
     take (end - start) (drop start bytes) ∷ rows_from bytes end ends
 
--- the rows of the bytes
+-- The rows with these ends, from the start of the bytes.
 abbrev pub rows : List ℕ → List ℕ → List (List ℕ)
 rows bytes ends = rows_from bytes 0 ends
 
--- rows in pairs: a key, then its document, and so on
+-- The rows as pairs: a key, then its document, and so on.
 abbrev pub pairs_in : List (List ℕ) → List (List ℕ × List ℕ)
 pairs_in [] = []
 pairs_in (key ∷ []) = []

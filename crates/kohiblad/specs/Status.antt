@@ -1,4 +1,4 @@
--- What C is answered: statuses, and bytes that are handed out.
+-- Statuses, and bytes copied into the caller's buffer, as C receives them.
 use Rattle.std.specs.Prelude.{◌≡◌, ◌==◌, ◌<◌, ◌≤◌, ◌⊎◌, if◌then◌else◌, ℕ, ℤ, pos, negsuc, List}
 use Rattle.std.specs.Prelude.{length, ◌++◌, drop, codes}
 use Rattle.std.specs.declared.cmp.Ordering.{Ordering}
@@ -7,13 +7,13 @@ use Rattle.jsonb_value.specs.declared.error.Error.{Error}
 use Rattle.jsonb_value.specs.declared.error.Error.TheVariants as errors
 use Rattle.jsonb_value.specs.ErrorName.{name_of}
 
--- an order as C has it
+-- An order as the integer -1, 0 or 1.
 abbrev pub sign : Ordering → ℤ
 sign Less = negsuc 0
 sign Equal = pos 0
 sign Greater = pos 1
 
--- the number of an error, which is its status
+-- The status of an error.
 abbrev pub code : Error → ℕ
 code errors.InvalidEOF = 1
 code errors.InvalidJsonb = 2
@@ -26,17 +26,29 @@ code errors.ObjectDuplicateKey = 8
 code errors.InvalidJson = 9
 code errors.OutOfMemory = 10
 
--- the statuses that are no error's
+-- The status of a buffer that is too small for the result.
 abbrev pub no_room : ℕ
 no_room = 11
 
+-- The status of a value that does not exist.
 abbrev pub none : ℕ
 none = 12
 
+-- The status of a text that nests too deep.
 abbrev pub too_deep : ℕ
 too_deep = 13
 
--- the name of a status
+abbrev pub other_kind : ℕ
+other_kind = 14
+
+abbrev pub past_range : ℕ
+past_range = 15
+
+-- only the header answers it
+abbrev pub overlap : ℕ
+overlap = 16
+
+-- The name of a status.
 abbrev pub status_name : ℕ → List ℕ
 status_name status =
     if status == 0 then codes "Ok"
@@ -53,21 +65,24 @@ status_name status =
     else if status == no_room then codes "NoRoom"
     else if status == none then codes "None"
     else if status == too_deep then codes "TooDeep"
+    else if status == other_kind then codes "OtherKind"
+    else if status == past_range then codes "PastRange"
+    else if status == overlap then codes "Overlap"
     else codes "Unknown"
 
--- The answer was copied to the front of the room, and the rest is as it was.
+-- The result was copied to the start of the buffer, and the rest is unchanged.
 abbrev pub IsCopied : List ℕ → List ℕ → List ℕ → Type 0
 IsCopied answer before after =
     (length answer ≤ length before) × (after ≡ answer ++ drop (length answer) before)
 
--- The whole answer was copied; or else the room is too small and as it was. Either way its length
--- is told.
+-- The whole result was copied, or the buffer is too small and unchanged; in any case its length is
+-- stored.
 abbrev pub IsHandedOver : List ℕ → List ℕ → List ℕ → ℕ → ℕ → Type 0
 IsHandedOver answer before after told status =
     (told ≡ length answer)
     × (((status ≡ 0) × IsCopied answer before after)
     ⊎ ((status ≡ no_room) × ((length before < length answer) × (after ≡ before))))
 
--- Nothing is answered but this status: the room is as it was, and the length told is 0.
+-- Only this status is returned: the buffer is unchanged, and the length is 0.
 abbrev pub IsRefused : ℕ → List ℕ → List ℕ → ℕ → ℕ → Type 0
 IsRefused reason before after told status = (status ≡ reason) × ((told ≡ 0) × (after ≡ before))

@@ -1,4 +1,4 @@
-//! What C is answered: statuses, and bytes that are handed out.
+//! Results as C receives them: statuses, and bytes copied into the caller's buffer.
 
 ghost use Rattle.std.specs.Prelude.{◌≡◌, ◌+◌, ◌<◌, ◌^◌, length};
 ghost use Rattle.jsonb.specs.Code.{scalar_bytes};
@@ -7,19 +7,27 @@ ghost use Rattle.kohiblad.specs.Status.{code, status_name, IsHandedOver, IsRefus
 use jsonb::Error;
 use jsonb_codec::constants::SCALAR_CONTAINER_TAG;
 
-/// The version: millions, thousands and ones.
+/// The version number: a million per major, a thousand per minor and one per patch version.
 const VERSION: u32 = 6000;
 
-/// The statuses that are no error's.
+/// The status of success.
 pub const OK: u32 = 0;
 
+/// The status of a buffer that is too small for the result.
 pub const NO_ROOM: u32 = 11;
 
+/// The status of a value that does not exist.
 pub const NONE: u32 = 12;
 
+/// The status of a text that nests too deep.
 pub const TOO_DEEP: u32 = 13;
 
-/// The version of the library.
+pub const OTHER_KIND: u32 = 14;
+
+pub const PAST_RANGE: u32 = 15;
+
+/// The version number of the library: a million per major, a thousand per minor and one per patch
+/// version.
 #[unsafe(no_mangle)]
 pub extern "C" fn kohiblad_version() -> u32
     ensures { result ≡ 6000 }
@@ -27,7 +35,8 @@ pub extern "C" fn kohiblad_version() -> u32
     VERSION
 }
 
-/// The name of a status, `Unknown` of other numbers.
+/// Copies the name of a status, or `Unknown` for other numbers, to `out`, and its length in bytes
+/// to `length`. `NO_ROOM` if `out` is shorter; it is then unchanged, and `length` is still set.
 #[unsafe(no_mangle)]
 pub extern "C" fn kohiblad_status_name(status: u32, out: &mut [u8], length: &mut usize) -> u32
     ensures { IsHandedOver (status_name status) out.old out.new length.new result }
@@ -47,12 +56,15 @@ pub extern "C" fn kohiblad_status_name(status: u32, out: &mut [u8], length: &mut
         11 => "NoRoom",
         12 => "None",
         13 => "TooDeep",
+        14 => "OtherKind",
+        15 => "PastRange",
+        16 => "Overlap",
         _ => "Unknown",
     };
     hand_over(name.as_bytes(), out, length)
 }
 
-/// The number of an error, which is its status.
+/// The status of an error, from 1 to 10.
 pub fn code(error: Error) -> u32
     ensures { result ≡ code error }
 {
@@ -70,7 +82,8 @@ pub fn code(error: Error) -> u32
     }
 }
 
-/// Copies the answer, where there is room, and tells its length.
+/// Copies the result to the start of `out` if it fits, and stores its length in bytes. `OK`, or
+/// `NO_ROOM` if `out` is shorter than the result, and then unchanged.
 pub fn hand_over(answer: &[u8], out: &mut [u8], told: &mut usize) -> u32
     ensures { IsHandedOver answer.now out.old out.new told.new result }
 {
@@ -82,7 +95,7 @@ pub fn hand_over(answer: &[u8], out: &mut [u8], told: &mut usize) -> u32
     OK
 }
 
-/// Answers a status and no bytes.
+/// Returns this status, with the length 0 and no bytes.
 pub fn refuse(status: u32, out: &mut [u8], told: &mut usize) -> u32
     ensures { IsRefused status out.old out.new told.new result }
 {
@@ -90,7 +103,9 @@ pub fn refuse(status: u32, out: &mut [u8], told: &mut usize) -> u32
     status
 }
 
-/// Hands over the scalar document of a payload, written where it is to stand.
+/// Writes the document of a scalar with this payload to the start of `out` if it fits, and stores
+/// its length in bytes. `OK`, or `NO_ROOM` if `out` is shorter than the document, and then
+/// unchanged.
 pub fn hand_over_scalar(type_code: u32, payload: &[u8], out: &mut [u8], told: &mut usize) -> u32
     requires { type_code + length payload.now < 2 ^ 31 }
     ensures { IsHandedOver (scalar_bytes type_code payload.now) out.old out.new told.new result }

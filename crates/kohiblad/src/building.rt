@@ -1,23 +1,30 @@
-//! Arrays and objects, put together of documents that stand one behind another.
+//! Building arrays and objects from documents in consecutive rows.
 
-ghost use Rattle.std.specs.Prelude.{◌≡◌, ◌⊎◌, Err, map, IfOk, IfErr};
+ghost use Rattle.std.specs.Prelude.{◌≡◌, ◌⊎◌, ◌↔◌, Err, map, IfOk, IfErr, IsTrue};
 ghost use Rattle.std.specs.List.{IsDistinct};
-ghost use Rattle.std.specs.Map.{keys_of};
+ghost use Rattle.std.specs.Map.{keys_of, values_of};
 ghost use Rattle.std.specs.Str.{bytes_eq};
 ghost use Rattle.jsonb.specs.Building.{FitArray, AreTexts};
 ghost use Rattle.jsonb.specs.Results.{IsArrayOfInputs, IsObjectOfInputs, MakeNoObject};
 ghost use Rattle.jsonb.specs.Owned.{owned_bytes};
 ghost use Rattle.jsonb.specs.ItemView.{raw};
-ghost use Rattle.kohiblad.specs.Results.{IsArrayOfRows, IsObjectOfRows};
+ghost use Rattle.kohiblad.specs.Results.{IsArrayOfRows, IsObjectOfRows, AreWithin};
+ghost use Rattle.kohiblad.specs.Results.{IsArrayOfRowsWithin, IsObjectOfRowsWithin};
+ghost use Rattle.kohiblad.specs.Results.{IsArrayBuilt, IsObjectBuilt};
 ghost use Rattle.kohiblad.specs.Rows.{pairs_in};
 
 use crate::answer::{code, hand_over, refuse};
 use crate::rows::Rows;
-use jsonb::{ArrayBuilder, Error, ObjectBuilder, OwnedJsonb, RawJsonb};
+use jsonb::{ArrayBuilder, Error, ObjectBuilder, OwnedJsonb, RawJsonb, is_document_within};
 use std::alloc::Global;
 use std::str;
 
-/// The array of the documents that stand one behind another.
+/// Builds the array of the documents in the rows. Row k ends at `ends[k]` and begins at the end of
+/// the previous row, the first at 0. The array is copied to `out` and its length in bytes to
+/// `length`. `InvalidEOF` if an end is below the previous one or beyond the bytes; `InvalidJsonb`
+/// if a row is not a document, or a limit of the format is exceeded; `OutOfMemory`; `NO_ROOM` if
+/// `out` is shorter than the array. If the status is not `OK`, `out` is unchanged; `length` is then
+/// 0, except for `NO_ROOM`.
 #[unsafe(no_mangle)]
 pub extern "C" fn kohiblad_build_array(
     alloc: Global,
@@ -31,13 +38,62 @@ pub extern "C" fn kohiblad_build_array(
     let Ok(rows) = Rows::new(bytes, ends) else {
         return refuse(code(Error::InvalidEOF), out, length);
     };
+    write_array(alloc, rows, out, length)
+}
+
+/// The same, where a document that nests deeper than the depth counts as no document:
+/// `InvalidJsonb` if there is such a row, before anything is built. Levels beyond the depth are not
+/// examined.
+#[unsafe(no_mangle)]
+pub extern "C" fn kohiblad_build_array_within(
+    alloc: Global,
+    bytes: &[u8],
+    ends: &[usize],
+    depth: usize,
+    out: &mut [u8],
+    length: &mut usize,
+) -> u32
+    ensures { IsArrayOfRowsWithin depth bytes.now ends.now out.old out.new length.new result }
+{
+    let Ok(documents) = Rows::new(bytes, ends) else {
+        return refuse(code(Error::InvalidEOF), out, length);
+    };
+    if !are_within(documents.again(), depth) {
+        return refuse(code(Error::InvalidJsonb), out, length);
+    }
+    write_array(alloc, documents, out, length)
+}
+
+// Builds the array of these rows and copies it out.
+fn write_array(alloc: Global, rows: Rows, out: &mut [u8], length: &mut usize) -> u32
+    ensures { IsArrayBuilt rows.entry out.old out.new length.new result }
+{
     match array_of(alloc, rows) {
         Ok(owned) => hand_over(owned.as_bytes(), out, length),
         Err(error) => refuse(code(error), out, length),
     }
 }
 
-/// The object of keys and documents that stand one behind another: a key, then its document.
+// Whether each row is a document of at most this depth.
+fn are_within(rows: Rows, depth: usize) -> bool
+    ensures { IsTrue result ↔ AreWithin depth rows.entry }
+{
+    let mut left = rows;
+    while let Some(document) = left.next() {
+        if !is_document_within(document, depth) {
+            return false;
+        }
+    }
+    true
+}
+
+/// Builds the object of the pairs in the rows: a key, then its document, and so on. Row k ends at
+/// `ends[k]` and begins at the end of the previous row, the first at 0. The object is copied to
+/// `out` and its length in bytes to `length`. `InvalidEOF` if an end is below the previous one or
+/// beyond the bytes, or the number of rows is odd; `InvalidUtf8` if a key is not UTF-8;
+/// `ObjectDuplicateKey` if a key occurs twice; `InvalidJsonb` if a document is not one, or a limit
+/// of the format is exceeded; `OutOfMemory`; `NO_ROOM` if `out` is shorter than the object. If the
+/// status is not `OK`, `out` is unchanged; `length` is then 0, except for `NO_ROOM`.
 #[unsafe(no_mangle)]
 pub extern "C" fn kohiblad_build_object(
     alloc: Global,
@@ -52,13 +108,57 @@ pub extern "C" fn kohiblad_build_object(
         Ok(rows) if ends.len() % 2 == 0 => rows,
         _ => return refuse(code(Error::InvalidEOF), out, length),
     };
+    write_object(alloc, rows, out, length)
+}
+
+/// The same, where a document that nests deeper than the depth counts as no document:
+/// `InvalidJsonb` if there is such a row, before the keys are looked at. Levels beyond the depth
+/// are not examined.
+#[unsafe(no_mangle)]
+pub extern "C" fn kohiblad_build_object_within(
+    alloc: Global,
+    bytes: &[u8],
+    ends: &[usize],
+    depth: usize,
+    out: &mut [u8],
+    length: &mut usize,
+) -> u32
+    ensures { IsObjectOfRowsWithin depth bytes.now ends.now out.old out.new length.new result }
+{
+    let pairs = match Rows::new(bytes, ends) {
+        Ok(pairs) if ends.len() % 2 == 0 => pairs,
+        _ => return refuse(code(Error::InvalidEOF), out, length),
+    };
+    if !are_pairs_within(pairs.again(), depth) {
+        return refuse(code(Error::InvalidJsonb), out, length);
+    }
+    write_object(alloc, pairs, out, length)
+}
+
+// Builds the object of these rows and copies it out.
+fn write_object(alloc: Global, rows: Rows, out: &mut [u8], length: &mut usize) -> u32
+    ensures { IsObjectBuilt (pairs_in rows.entry) out.old out.new length.new result }
+{
     match object_of(alloc, rows) {
         Ok(owned) => hand_over(owned.as_bytes(), out, length),
         Err(error) => refuse(code(error), out, length),
     }
 }
 
-// The array of these rows.
+// Whether the document of each pair is one of at most this depth.
+fn are_pairs_within(rows: Rows, depth: usize) -> bool
+    ensures { IsTrue result ↔ AreWithin depth (values_of (pairs_in rows.entry)) }
+{
+    let mut left = rows;
+    while let Some((_, document)) = left.next_pair() {
+        if !is_document_within(document, depth) {
+            return false;
+        }
+    }
+    true
+}
+
+// Builds the array of these rows.
 fn array_of(alloc: Global, rows: Rows) -> Result<OwnedJsonb, Error>
     ensures ok { IfOk result (λ owned. IsArrayOfInputs rows.entry (owned_bytes owned)) }
     ensures past { result ≡ Err Error.InvalidJsonb → FitArray (map raw rows.entry) → ⊥ }
@@ -72,7 +172,7 @@ fn array_of(alloc: Global, rows: Rows) -> Result<OwnedJsonb, Error>
     builder.build()
 }
 
-// The object of these rows, a key and then its document.
+// Builds the object of these rows: a key, then its document, and so on.
 fn object_of(alloc: Global, rows: Rows) -> Result<OwnedJsonb, Error>
     ensures ok { IfOk result (λ owned. AreTexts (keys_of (pairs_in rows.entry))
         × IsObjectOfInputs (pairs_in rows.entry) (owned_bytes owned)) }

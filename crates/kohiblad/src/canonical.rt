@@ -1,14 +1,15 @@
-//! Old data brought to canonical form.
+//! The canonical form of documents.
 
 ghost use Rattle.std.specs.Prelude.{◌↔◌, IsTrue};
 ghost use Rattle.jsonb_codec.specs.Canonical.{IsCanonical};
-ghost use Rattle.kohiblad.specs.Output.{IsRewritten};
+ghost use Rattle.jsonb_codec.specs.Depth.{IsDocumentWithin};
+ghost use Rattle.kohiblad.specs.Output.{IsRewritten, IsRewrittenWithin};
 
 use crate::answer::{code, hand_over, refuse};
-use jsonb::{RawJsonb, is_canonical};
+use jsonb::{Document, Error, RawJsonb, is_canonical, is_document_within};
 use std::alloc::Global;
 
-/// Whether the bytes are the one document that is written for some tree.
+/// Whether the bytes are canonical: those that the encoder writes for some value.
 #[unsafe(no_mangle)]
 pub extern "C" fn kohiblad_is_canonical(bytes: &[u8]) -> bool
     ensures { IsTrue result ↔ IsCanonical bytes.now }
@@ -16,7 +17,23 @@ pub extern "C" fn kohiblad_is_canonical(bytes: &[u8]) -> bool
     is_canonical(bytes)
 }
 
-/// The canonical document of the tree that the bytes mean.
+/// Whether the bytes are canonical and a document of at most this depth. Levels beyond it are not
+/// examined.
+#[unsafe(no_mangle)]
+pub extern "C" fn kohiblad_is_canonical_within(bytes: &[u8], depth: usize) -> bool
+    ensures { IsTrue result ↔ (IsDocumentWithin depth bytes.now × IsCanonical bytes.now) }
+{
+    match Document::within(bytes, depth) {
+        Some(document) => document.is_canonical(),
+        None => false,
+    }
+}
+
+/// Copies the canonical document of the value that the bytes mean to `out`, and its length in bytes
+/// to `length`. `InvalidJsonb` if the bytes are not a document, or a payload in an older form
+/// exceeds its limit in its newer form; `OutOfMemory`; `NO_ROOM` if `out` is shorter than the
+/// document. If the status is not `OK`, `out` is unchanged; `length` is then 0, except for
+/// `NO_ROOM`.
 #[unsafe(no_mangle)]
 pub extern "C" fn kohiblad_to_canonical(
     alloc: Global,
@@ -30,4 +47,22 @@ pub extern "C" fn kohiblad_to_canonical(
         Ok(owned) => hand_over(owned.as_bytes(), out, length),
         Err(error) => refuse(code(error), out, length),
     }
+}
+
+/// The same, where a document that nests deeper than the depth counts as no document. Levels beyond
+/// it are not examined.
+#[unsafe(no_mangle)]
+pub extern "C" fn kohiblad_to_canonical_within(
+    alloc: Global,
+    bytes: &[u8],
+    depth: usize,
+    out: &mut [u8],
+    length: &mut usize,
+) -> u32
+    ensures { IsRewrittenWithin depth bytes.now out.old out.new length.new result }
+{
+    if !is_document_within(bytes, depth) {
+        return refuse(code(Error::InvalidJsonb), out, length);
+    }
+    kohiblad_to_canonical(alloc, bytes, out, length)
 }

@@ -1,4 +1,4 @@
-//! What bytes are: whether they are a document, of which kind, and which of two is the greater.
+//! Checking bytes, their kind, and comparing them.
 
 ghost use Rattle.std.specs.Prelude.{◌≡◌, ◌↔◌, Ok, IsTrue};
 ghost use Rattle.jsonb_value.specs.Meaning.{meaning_cmp};
@@ -7,14 +7,17 @@ ghost use Rattle.jsonb_codec.specs.Depth.{IsDocumentWithin};
 ghost use Rattle.jsonb_codec.specs.Doc.{Doc, IsDocument};
 ghost use Rattle.jsonb.specs.Kind.{kind, kind_of_tree};
 ghost use Rattle.jsonb.specs.ItemMeaning.{meaning_of};
+ghost use Rattle.jsonb_comparable.specs.Within.{meaning_within};
 ghost use Rattle.kohiblad.specs.Status.{sign};
 ghost use Rattle.kohiblad.specs.KindAnswer.{kind_answer};
 
 use crate::answer::{OK, code};
+use crate::bounded_key::BoundedKey;
 use jsonb::{JsonbItemType, RawJsonb, is_document, is_document_within};
 use std::cmp::Ordering;
 
-/// Whether the bytes are a document that nests at most that deep.
+/// Whether the bytes are a document of at most this depth: a scalar has depth 0, an empty array or
+/// object 1, any other array or object one more than its deepest child.
 #[unsafe(no_mangle)]
 pub extern "C" fn kohiblad_check(bytes: &[u8], depth: usize) -> bool
     ensures { IsTrue result ↔ IsDocumentWithin depth bytes.now }
@@ -30,19 +33,38 @@ pub extern "C" fn kohiblad_is_document(bytes: &[u8]) -> bool
     is_document(bytes)
 }
 
-/// The order of all bytes by what they mean: -1, 0 or 1.
+/// Compares byte strings by their meaning, with the result -1, 0 or 1: documents compare by their
+/// values and are less than all other bytes, which compare as bytes.
 #[unsafe(no_mangle)]
 pub extern "C" fn kohiblad_compare(left: &[u8], right: &[u8]) -> i32
     ensures { result ≡ sign (meaning_cmp (meaning_of left.now) (meaning_of right.now)) }
 {
-    match RawJsonb::new(left).cmp(&RawJsonb::new(right)) {
+    sign(RawJsonb::new(left).cmp(&RawJsonb::new(right)))
+}
+
+/// The same, where a document that nests deeper than the depth counts as no document.
+#[unsafe(no_mangle)]
+pub extern "C" fn kohiblad_compare_within(left: &[u8], right: &[u8], depth: usize) -> i32
+    ensures { result ≡ sign (meaning_cmp (meaning_within depth left.now)
+        (meaning_within depth right.now)) }
+{
+    let left = BoundedKey::new(left, Some(depth));
+    let right = BoundedKey::new(right, Some(depth));
+    sign(left.cmp(&right))
+}
+
+// An order as C has it.
+fn sign(order: Ordering) -> i32
+    ensures { result ≡ sign order }
+{
+    match order {
         Ordering::Less => -1,
         Ordering::Equal => 0,
         Ordering::Greater => 1,
     }
 }
 
-/// The kind of a value, and of an array or object how many it holds.
+/// The kind of a value, with the number of an array's items or an object's pairs.
 #[repr(C)]
 #[derive(Clone, Copy)]
 pub struct KohibladKind {
@@ -51,7 +73,8 @@ pub struct KohibladKind {
     pub count: u64,
 }
 
-/// The kind that the bytes show by their first two words.
+/// The kind, read from the first two words; nothing else is checked. `InvalidEOF` if one of these
+/// words is cut off, `InvalidJsonb` if they are of no kind; kind and count are then 0.
 #[unsafe(no_mangle)]
 pub extern "C" fn kohiblad_kind(bytes: &[u8]) -> KohibladKind
     ensures kind { result ≡ kind_answer (kind bytes.now) }

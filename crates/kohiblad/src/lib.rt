@@ -1,14 +1,18 @@
-//! The functions that C calls, each over one of the library's. Bytes go in by pointer and length;
-//! results go out as with `snprintf`: a status, the bytes where there is room, and their length
-//! also where there is none.
+//! The functions for callers in C, each a thin layer over one of the library's. Bytes are passed by
+//! pointer and length. Results are returned as by `snprintf`: a status, the bytes if the caller's
+//! buffer has room for them, and in any case their length.
 #![tactic(auto)]
 
 mod answer;
+mod bounded_key;
 mod building;
 mod canonical;
-mod depth;
+mod children;
 mod documents;
+mod key;
 mod places;
 mod rows;
+mod scalar_documents;
 mod sort;
 mod texts;
+mod values;

@@ -1,4 +1,4 @@
-//! Where the parts of an array or an object stand, and documents of them.
+//! The positions of the parts of an array or object, and copying parts out as documents.
 
 ghost use Rattle.std.specs.Prelude.{◌≡◌, ◌+◌, ◌≤◌, ◌<◌, ◌^◌, length, Option, Result, Err, IfOk};
 ghost use Rattle.jsonb_value.specs.declared.error.Error.{Error};
@@ -18,7 +18,7 @@ use jsonb::{Error, RawJsonb, Reads, read_header, read_jentry};
 use jsonb_codec::constants::{ARRAY_CONTAINER_TAG, CONTAINER_TAG, OBJECT_CONTAINER_TAG};
 use std::str;
 
-/// The type of an entry, and where its payload stands in the bytes.
+/// The type of an entry, and the offset and length of its payload in bytes.
 #[derive(Clone, Copy)]
 pub struct Place {
     pub type_code: u32,
@@ -26,7 +26,7 @@ pub struct Place {
     pub length: usize,
 }
 
-/// The type of an entry, and where its payload stands in the bytes, as C is told.
+/// The type of an entry, and the offset and length of its payload in bytes, as C receives them.
 #[repr(C)]
 #[derive(Clone, Copy)]
 pub struct KohibladPlace {
@@ -36,8 +36,10 @@ pub struct KohibladPlace {
     pub length: u64,
 }
 
-/// Where a part of an array or object stands, by its number: the items of an array, and of an
-/// object the keys and behind them the values.
+/// The position of a part of an array or object, by number: the items of an array from 0; for an
+/// object of n pairs the keys from 0 and the values from n. `NONE` if there is no such part;
+/// `InvalidEOF` if the header or an entry word that is read is cut off; `InvalidJsonb` if the
+/// header is of no kind, or the payload runs past the end. Type, offset and length are then 0.
 #[unsafe(no_mangle)]
 pub extern "C" fn kohiblad_part(bytes: &[u8], number: usize) -> KohibladPlace
     ensures value { result ≡ place_answer (place_in bytes.now number) }
@@ -47,7 +49,9 @@ pub extern "C" fn kohiblad_part(bytes: &[u8], number: usize) -> KohibladPlace
     place_answer(place_in(bytes, number))
 }
 
-/// Where the value of a key stands.
+/// The position of the value of a key. `NONE` if the object has no such key, or the bytes are not
+/// an object; `InvalidUtf8` if the name is not UTF-8. For bytes that are not a document, the error
+/// of looking up the key in them. Type, offset and length are then 0.
 #[unsafe(no_mangle)]
 pub extern "C" fn kohiblad_find(bytes: &[u8], name: &[u8]) -> KohibladPlace
     ensures utf8 { (IsUtf8 name.now → ⊥) → result ≡ place_answer (Err Error.InvalidUtf8) }
@@ -60,7 +64,11 @@ pub extern "C" fn kohiblad_find(bytes: &[u8], name: &[u8]) -> KohibladPlace
     place_answer(place_of_key(bytes, name))
 }
 
-/// The value of a key, as a document of its own.
+/// Copies the value of a key to `out`, as a document of its own, and its length in bytes to
+/// `length`. `NONE` if the object has no such key, or the bytes are not an object; `InvalidUtf8` if
+/// the name is not UTF-8; for bytes that are not a document, the error of looking up the key in
+/// them; `NO_ROOM` if `out` is shorter than the document. If the status is not `OK`, `out` is
+/// unchanged; `length` is then 0, except for `NO_ROOM`.
 #[unsafe(no_mangle)]
 pub extern "C" fn kohiblad_get(bytes: &[u8], name: &[u8], out: &mut [u8], length: &mut usize) -> u32
     ensures utf8 { (IsUtf8 name.now → ⊥)
@@ -76,7 +84,12 @@ pub extern "C" fn kohiblad_get(bytes: &[u8], name: &[u8], out: &mut [u8], length
     hand_over_item(bytes, place_of_key(bytes, name), out, length)
 }
 
-/// An item of an array, as a document of its own.
+/// Copies the item of an array at an index, counted from 0, to `out`, as a document of its own, and
+/// its length in bytes to `length`. `NONE` if the index is not below the number of items, or the
+/// bytes are not an array; `InvalidEOF` if the header or an entry word that is read is cut off;
+/// `InvalidJsonb` if the header is of no kind, or the item runs past the end; `NO_ROOM` if `out` is
+/// shorter than the document. If the status is not `OK`, `out` is unchanged; `length` is then 0,
+/// except for `NO_ROOM`.
 #[unsafe(no_mangle)]
 pub extern "C" fn kohiblad_array_item(
     bytes: &[u8],
@@ -92,7 +105,12 @@ pub extern "C" fn kohiblad_array_item(
     hand_over_item(bytes, item_place(bytes, index), out, length)
 }
 
-/// A key of an object and its value, as a document of its own.
+/// Copies the key of an object's pair at an index, counted from 0, to `key`, and its value to
+/// `out`, as a document of its own, and their lengths in bytes to `key_length` and `length`. `NONE`
+/// if the index is not below the number of pairs, or the bytes are not an object; `InvalidEOF` if
+/// the header or an entry word that is read is cut off; `InvalidJsonb` if the header is of no kind,
+/// or the key or value runs past the end; `NO_ROOM` if `key` or `out` is too short. If the status
+/// is not `OK`, `key` and `out` are unchanged; both lengths are then 0, except for `NO_ROOM`.
 #[unsafe(no_mangle)]
 pub extern "C" fn kohiblad_object_member(
     bytes: &[u8],
@@ -134,7 +152,7 @@ pub extern "C" fn kohiblad_object_member(
     }
 }
 
-// The places of a key of an object and of its value. `None` where there are none.
+// The positions of an object's key and its value. `None` if there are none.
 fn member_places(bytes: &[u8], index: usize) -> Result<Option<(Place, Place)>, Error>
     ensures value { result ≡ member_places bytes.now index }
     ensures document { (t : Tree) → Doc bytes.now t
@@ -151,7 +169,7 @@ fn member_places(bytes: &[u8], index: usize) -> Result<Option<(Place, Place)>, E
     }
 }
 
-// The place of an item of an array. `None` where there is none.
+// The position of an item of an array. `None` if there is none.
 fn item_place(bytes: &[u8], index: usize) -> Result<Option<Place>, Error>
     ensures value { result ≡ item_place bytes.now index }
     ensures document { (t : Tree) → Doc bytes.now t
@@ -164,7 +182,7 @@ fn item_place(bytes: &[u8], index: usize) -> Result<Option<Place>, Error>
     }
 }
 
-// The place of the value of a key. `None` where there is none.
+// The position of the value of a key. `None` if there is none.
 fn place_of_key(bytes: &[u8], name: &[u8]) -> Result<Option<Place>, Error>
     ensures utf8 { (IsUtf8 name.now → ⊥) → result ≡ Err Error.InvalidUtf8 }
     ensures place { IsUtf8 name.now → IsPlaceFound name.now bytes.now result }
@@ -183,12 +201,12 @@ fn place_of_key(bytes: &[u8], name: &[u8]) -> Result<Option<Place>, Error>
     if !is_there {
         return Ok(None);
     }
-    // Words are read without a gap, and the value's entry last.
+    // The words are read in consecutive order, the value's entry last.
     let number = reads.count().saturating_sub(2) as usize;
     Ok(Some(part_place(bytes, 2 * count, number)?))
 }
 
-// Hands over the document of a place, where one was found.
+// Copies out the document at this position, if one was found.
 fn hand_over_item(
     bytes: &[u8],
     found: Result<Option<Place>, Error>,
@@ -205,7 +223,7 @@ fn hand_over_item(
     }
 }
 
-// Hands over the document of a place.
+// Copies out the document at this position.
 fn hand_over_place(bytes: &[u8], place: Place, out: &mut [u8], told: &mut usize) -> u32
     requires { IsPlaceIn bytes.now place }
     ensures { IsHandedOver (entry_document (entry_there bytes.now place))
@@ -219,8 +237,8 @@ fn hand_over_place(bytes: &[u8], place: Place, out: &mut [u8], told: &mut usize)
     }
 }
 
-// What C is told of a place.
-fn place_answer(found: Result<Option<Place>, Error>) -> KohibladPlace
+/// What C is told of a place.
+pub fn place_answer(found: Result<Option<Place>, Error>) -> KohibladPlace
     ensures { result ≡ place_answer found }
 {
     match found {
@@ -235,8 +253,8 @@ fn place_answer(found: Result<Option<Place>, Error>) -> KohibladPlace
     }
 }
 
-// A status, and no place.
-fn no_place(status: u32) -> KohibladPlace
+/// A status, and no place.
+pub fn no_place(status: u32) -> KohibladPlace
     ensures { result ≡ record { status = status; type_code = 0; offset = 0; length = 0 } }
 {
     KohibladPlace {
@@ -247,7 +265,7 @@ fn no_place(status: u32) -> KohibladPlace
     }
 }
 
-// The place of a part of an array or object by its number. `None` where there is none.
+// The position of a part of an array or object, by number. `None` if there is none.
 fn place_in(bytes: &[u8], number: usize) -> Result<Option<Place>, Error>
     ensures value { result ≡ place_in bytes.now number }
     ensures inside { IsInside bytes.now result }
@@ -263,7 +281,7 @@ fn place_in(bytes: &[u8], number: usize) -> Result<Option<Place>, Error>
     Ok(Some(part_place(bytes, entries, number)?))
 }
 
-// The place of a part by its number, where there are so many entries.
+// The position of a part by number, given the number of all entries.
 fn part_place(bytes: &[u8], entries: usize, number: usize) -> Result<Place, Error>
     requires entries { entries < 2 ^ 30 }
     requires number { number < 2 ^ 31 }

@@ -1,4 +1,4 @@
-//! Rows of bytes that stand one behind another.
+//! Consecutive rows of bytes.
 
 ghost use Rattle.std.specs.Prelude.{◌≡◌, ◌∷◌, [], ℕ, List, length, IfOk, IfErr, IsTrue};
 ghost use Rattle.std.specs.Prelude.{MatchOption, is_ok};
@@ -7,8 +7,7 @@ ghost use Rattle.kohiblad.specs.Rows.{are_ends, rows_from, rows, pairs_in};
 use jsonb::Error;
 use std::marker::Model;
 
-/// The rows that are left of bytes: the first begins where `start` says, and each other one where
-/// the one before ends.
+/// The remaining rows: the first begins at `start`, and each other at the end of the previous one.
 #[derive(Drop)]
 pub struct Rows<'a> {
     bytes: &'a [u8],
@@ -25,7 +24,8 @@ impl<'a> Model for Rows<'a> {
 }
 
 impl<'a> Rows<'a> {
-    /// The rows that end there. `InvalidEOF` where an end goes back, or past the bytes.
+    /// The rows with these ends, the first of which begins at 0. `InvalidEOF` if an end is below
+    /// the previous one or beyond the bytes.
     pub fn new(bytes: &'a [u8], ends: &'a [usize]) -> Result<Self, Error>
         ensures rows { IfOk result (λ all. all ≡ rows bytes.now ends.now) }
         ensures exact { is_ok result ≡ are_ends (length bytes.now) 0 ends.now }
@@ -42,7 +42,18 @@ impl<'a> Rows<'a> {
         }
     }
 
-    /// The next row.
+    /// The same rows once more, for a second walk.
+    pub fn again(&self) -> Self
+        ensures { result ≡ self.now }
+    {
+        Rows {
+            bytes: self.bytes,
+            start: self.start,
+            ends: self.ends,
+        }
+    }
+
+    /// The next row. `None` if there is none left.
     pub fn next(&mut self) -> Option<&'a [u8]>
         ensures { MatchOption result ((self.old ≡ []) × (self.new ≡ []))
             (λ row. self.old ≡ row.now ∷ self.new) }
@@ -59,7 +70,7 @@ impl<'a> Rows<'a> {
         Some(row)
     }
 
-    /// The next key with the document behind it. `None` where only one row is left.
+    /// The next key and the document after it. `None` if fewer than two rows are left.
     pub fn next_pair(&mut self) -> Option<(&'a [u8], &'a [u8])>
         ensures { MatchOption result (pairs_in self.old ≡ [])
             (λ p. pairs_in self.old ≡ (p.0.now, p.1.now) ∷ pairs_in self.new) }
@@ -70,7 +81,7 @@ impl<'a> Rows<'a> {
     }
 }
 
-// Whether no end goes back, and none past so many bytes.
+// Whether no end is below the previous one or above `size`.
 fn are_ends(size: usize, ends: &[usize]) -> bool
     ensures { result ≡ are_ends size 0 ends.now }
 {

@@ -1,15 +1,22 @@
-//! The order of rows that stand one behind another.
+//! Sorting consecutive rows.
 
 ghost use Rattle.std.specs.Prelude.{◌≡◌, ◌≤◌, ◌++◌, length, drop, map, IfOk, IfErr};
+ghost use Rattle.jsonb.specs.ItemMeaning.{meaning_of};
+ghost use Rattle.jsonb_comparable.specs.Within.{meaning_within};
+ghost use Rattle.kohiblad.specs.BoundedMeaning.{bounded_meaning};
 ghost use Rattle.kohiblad.specs.SortOrder.{IsOrderOf, AreRowsOrdered};
 
 use crate::answer::{NO_ROOM, OK, code};
+use crate::bounded_key::BoundedKey;
 use crate::rows::Rows;
-use jsonb::{Error, SortKey};
+use jsonb::Error;
 use std::alloc::Global;
 
-/// The numbers of the rows in the order of what the rows mean, equal ones in the order that they
-/// stand in. Each row is checked once.
+/// Writes the numbers of the rows, counted from 0, to the start of `order`, sorted by the meaning
+/// of the rows; equal rows keep their order. Row k ends at `ends[k]` and begins at the end of the
+/// previous row, the first at 0. Each row is checked once. `NO_ROOM` if `order` is shorter than
+/// `ends`; `InvalidEOF` if an end is below the previous one or beyond the bytes; `OutOfMemory`. If
+/// the status is not `OK`, `order` is unchanged.
 #[unsafe(no_mangle)]
 pub extern "C" fn kohiblad_sort(
     alloc: Global,
@@ -17,7 +24,36 @@ pub extern "C" fn kohiblad_sort(
     ends: &[usize],
     order: &mut [usize],
 ) -> u32
-    ensures { AreRowsOrdered bytes.now ends.now order.old order.new result }
+    ensures { AreRowsOrdered meaning_of bytes.now ends.now order.old order.new result }
+{
+    sort_rows(alloc, bytes, ends, None, order)
+}
+
+/// The same, where a document that nests deeper counts as no document.
+#[unsafe(no_mangle)]
+pub extern "C" fn kohiblad_sort_within(
+    alloc: Global,
+    bytes: &[u8],
+    ends: &[usize],
+    depth: usize,
+    order: &mut [usize],
+) -> u32
+    ensures { AreRowsOrdered (meaning_within depth)
+        bytes.now ends.now order.old order.new result }
+{
+    sort_rows(alloc, bytes, ends, Some(depth), order)
+}
+
+// The same, where there may be a limit of depth.
+fn sort_rows(
+    alloc: Global,
+    bytes: &[u8],
+    ends: &[usize],
+    limit: Option<usize>,
+    order: &mut [usize],
+) -> u32
+    ensures { AreRowsOrdered (bounded_meaning limit)
+        bytes.now ends.now order.old order.new result }
 {
     if order.len() < ends.len() {
         return NO_ROOM;
@@ -25,7 +61,7 @@ pub extern "C" fn kohiblad_sort(
     let Ok(rows) = Rows::new(bytes, ends) else {
         return code(Error::InvalidEOF);
     };
-    match keys_in_order(alloc, rows) {
+    match keys_in_order(alloc, rows, limit) {
         Ok(keys) => {
             put_numbers(&keys, order);
             OK
@@ -34,23 +70,28 @@ pub extern "C" fn kohiblad_sort(
     }
 }
 
-// The keys of the rows with their numbers, in order.
-fn keys_in_order<'a>(alloc: Global, rows: Rows<'a>) -> Result<Vec<(SortKey<'a>, usize)>, Error>
-    ensures ok { IfOk result (λ keys. IsOrderOf rows.entry (map (λ key. key.1) keys.items)) }
+// The keys of the rows with their numbers, sorted.
+fn keys_in_order<'a>(
+    alloc: Global,
+    rows: Rows<'a>,
+    limit: Option<usize>,
+) -> Result<Vec<(BoundedKey<'a>, usize)>, Error>
+    ensures ok { IfOk result (λ keys. IsOrderOf (bounded_meaning limit)
+        rows.entry (map (λ key. key.1) keys.items)) }
     ensures len { IfOk result (λ keys. length keys.items ≡ length rows.entry) }
     ensures memory { IfErr result (λ e. e ≡ Error.OutOfMemory) }
 {
     let mut left = rows;
     let mut keys = Vec::new(alloc);
     while let Some(row) = left.next() {
-        keys.push((SortKey::new(row), keys.len()))?;
+        keys.push((BoundedKey::new(row, limit), keys.len()))?;
     }
     keys.sort()?;
     Ok(keys)
 }
 
-// Writes the numbers of the keys to the front of the room.
-fn put_numbers(keys: &[(SortKey, usize)], order: &mut [usize])
+// Writes the numbers of the keys to the start of `order`.
+fn put_numbers(keys: &[(BoundedKey, usize)], order: &mut [usize])
     requires { length keys.now ≤ length order.old }
     ensures { order.new ≡ map (λ key. key.1) keys.now ++ drop (length keys.now) order.old }
 {

@@ -1,18 +1,23 @@
-//! The texts of bytes, and documents of texts.
+//! Printing bytes as texts, and parsing texts into documents.
 
 ghost use Rattle.jsonb_value.specs.Text.{compact, pretty};
 ghost use Rattle.jsonb_value.specs.Tree.{Tree};
 ghost use Rattle.jsonb_codec.specs.Doc.{Doc};
 ghost use Rattle.jsonb.specs.Texts.{display_text, pretty_display_text};
+ghost use Rattle.jsonb.specs.Texts.{plain_text, lined_text, other_text};
+ghost use Rattle.jsonb_comparable.specs.Within.{meaning_within};
 ghost use Rattle.kohiblad.specs.Output.{IsWritten, IsRead, IsReadWithin};
 
 use crate::answer::{TOO_DEEP, code, hand_over, refuse};
-use crate::depth::is_text_within;
-use jsonb::{Error, OwnedJsonb, RawJsonb};
+use bstr::ByteSlice;
+use jsonb::{Document, Error, OwnedJsonb, RawJsonb, is_text_within};
 use std::alloc::Global;
 use std::str;
 
-/// The text with no white space: of a document its own, of no bytes `null`, of all others theirs.
+/// Copies the text of the bytes to `out`, and its length in bytes to `length`: the compact text of
+/// a document, `null` for no bytes, and for all other bytes their own text, with U+FFFD in place of
+/// invalid UTF-8. `OutOfMemory`; `NO_ROOM` if `out` is shorter than the text. If the status is not
+/// `OK`, `out` is unchanged; `length` is then 0, except for `NO_ROOM`.
 #[unsafe(no_mangle)]
 pub extern "C" fn kohiblad_to_string(
     alloc: Global,
@@ -30,7 +35,45 @@ pub extern "C" fn kohiblad_to_string(
     }
 }
 
-/// The text of a document with each item or pair on a line of its own, `null` of other bytes.
+/// The same, where a document that nests deeper than the depth counts as no document, and so has
+/// its own bytes as its text. Levels beyond it are not examined.
+#[unsafe(no_mangle)]
+pub extern "C" fn kohiblad_to_string_within(
+    alloc: Global,
+    bytes: &[u8],
+    depth: usize,
+    out: &mut [u8],
+    length: &mut usize,
+) -> u32
+    ensures { IsWritten (plain_text (meaning_within depth bytes.now)) out.old out.new length.new
+        result }
+{
+    let Some(document) = Document::within(bytes, depth) else {
+        return write_other(alloc, bytes, out, length);
+    };
+    match document.to_string(alloc) {
+        Ok(text) => hand_over(text.as_bytes(), out, length),
+        Err(error) => refuse(code(error), out, length),
+    }
+}
+
+// Copies out the text of bytes that count as no document: `null` for no bytes.
+fn write_other(alloc: Global, bytes: &[u8], out: &mut [u8], length: &mut usize) -> u32
+    ensures { IsWritten (other_text bytes.now) out.old out.new length.new result }
+{
+    if bytes.is_empty() {
+        return hand_over(b"null", out, length);
+    }
+    match bytes.to_str_lossy(alloc) {
+        Ok(text) => hand_over(text.as_bytes(), out, length),
+        Err(_) => refuse(code(Error::OutOfMemory), out, length),
+    }
+}
+
+/// Copies the pretty text of the bytes to `out`, and its length in bytes to `length`: that of a
+/// document with each item or pair on its own line, indented by two spaces for each enclosing
+/// container, and `null` for all other bytes. `OutOfMemory`; `NO_ROOM` if `out` is shorter than the
+/// text. If the status is not `OK`, `out` is unchanged; `length` is then 0, except for `NO_ROOM`.
 #[unsafe(no_mangle)]
 pub extern "C" fn kohiblad_to_pretty(
     alloc: Global,
@@ -48,7 +91,34 @@ pub extern "C" fn kohiblad_to_pretty(
     }
 }
 
-/// The canonical document of a JSON text that nests at most that deep.
+/// The same, where a document that nests deeper than the depth counts as no document, and so has
+/// the text `null`. Levels beyond it are not examined.
+#[unsafe(no_mangle)]
+pub extern "C" fn kohiblad_to_pretty_within(
+    alloc: Global,
+    bytes: &[u8],
+    depth: usize,
+    out: &mut [u8],
+    length: &mut usize,
+) -> u32
+    ensures { IsWritten (lined_text (meaning_within depth bytes.now)) out.old out.new length.new
+        result }
+{
+    let Some(document) = Document::within(bytes, depth) else {
+        return hand_over(b"null", out, length);
+    };
+    match document.to_pretty_string(alloc) {
+        Ok(text) => hand_over(text.as_bytes(), out, length),
+        Err(error) => refuse(code(error), out, length),
+    }
+}
+
+/// Parses a JSON text and copies the canonical document of its value to `out`, and its length in
+/// bytes to `length`. `TOO_DEEP` if more than `depth` brackets outside strings are open at once,
+/// tested before anything else; `InvalidUtf8` if the text is not UTF-8; `InvalidJson` if it is not
+/// accepted JSON; `InvalidJsonb` if a limit of the format is exceeded; `OutOfMemory`; `NO_ROOM` if
+/// `out` is shorter than the document. If the status is not `OK`, `out` is unchanged; `length` is
+/// then 0, except for `NO_ROOM`.
 #[unsafe(no_mangle)]
 pub extern "C" fn kohiblad_parse(
     alloc: Global,
@@ -68,7 +138,7 @@ pub extern "C" fn kohiblad_parse(
     read_text(alloc, text, out, length)
 }
 
-// The canonical document of a JSON text.
+// Parses a JSON text and copies out the canonical document of its value.
 fn read_text(alloc: Global, text: &str, out: &mut [u8], length: &mut usize) -> u32
     ensures { IsRead text.now out.old out.new length.new result }
 {

@@ -1,6 +1,7 @@
 use Rattle.std.proofs.Common.{◌≡◌, ◌∷◌, ◌++◌, [], ℕ, length, subst, sym, ◌∙◌, ap, arith}
 use Rattle.std.proofs.lemmas.Grind.{common_steps}
 use Rattle.std.proofs.lemmas.List.{length-map}
+use Rattle.kohiblad.specs.BoundedMeaning.{bounded_meaning}
 use Rattle.kohiblad.proofs.Orders.{KeysSoFar, one_more_key, order_of_keys, numbers_of}
 use Rattle.kohiblad.proofs.Orders.{length-IsOrderOf}
 use Rattle.kohiblad.proofs.sort.keys_in_order.Goals as goal
@@ -9,16 +10,18 @@ pub loop-row-preserved : goal.loop-row-preserved
 loop-row-preserved c =
     let walk = c.loop-row in
     let more =
-    one_more_key c.args.rows walk.left c.next.new.self c.in-Some.row.now walk.keys.items
-    c.new.result walk.invariant c.in-Some.ensures c.new.ensures.meaning in
+    one_more_key (bounded_meaning c.args.limit) c.args.rows walk.left c.next.new.self
+    c.in-Some.row.now walk.keys.items
+    c.new.result walk.invariant c.in-Some.ensures c.new.ensures in
     let number : c.len.result ≡ length walk.keys.items = grind (arith, common_steps) in
     let pushed = c.in_ok-push.ensures.items ∙ ap
     (λ (k : ℕ). walk.keys.items ++ (c.new.result, k) ∷ []) number in
-    subst (KeysSoFar c.args.rows c.next.new.self) (sym pushed) more
+    subst (KeysSoFar (bounded_meaning c.args.limit) c.args.rows c.next.new.self) (sym pushed) more
 
 pub returns-clause-ok : goal.returns-clause-ok
 returns-clause-ok c =
-    order_of_keys c.args.rows c.loop-row.left c.loop-row.keys.items c.sort.new.self.items
+    order_of_keys (bounded_meaning c.args.limit) c.args.rows c.loop-row.left
+    c.loop-row.keys.items c.sort.new.self.items
     c.in_default.ensures.0 c.loop-row.invariant c.sort.ensures.permutation
     c.in_ok-sort.ensures.sorted
 
@@ -26,7 +29,9 @@ pub returns-clause-len : goal.returns-clause-len
 returns-clause-len c =
     let keys = c.sort.new.self.items in
     let order =
-    order_of_keys c.args.rows c.loop-row.left c.loop-row.keys.items c.sort.new.self.items
+    order_of_keys (bounded_meaning c.args.limit) c.args.rows c.loop-row.left
+    c.loop-row.keys.items c.sort.new.self.items
     c.in_default.ensures.0 c.loop-row.invariant c.sort.ensures.permutation
     c.in_ok-sort.ensures.sorted in
-    sym (length-map keys (λ key. key.1)) ∙ length-IsOrderOf c.args.rows (numbers_of keys) order
+    sym (length-map keys (λ key. key.1)) ∙ length-IsOrderOf (bounded_meaning c.args.limit)
+    c.args.rows (numbers_of keys) order

@@ -1,8 +1,9 @@
 use Rattle.std.proofs.Common.{◌++◌, List, ℕ, length, drop, subst, sym, ◌∙◌, ap, ap₂, inl, inr}
 use Rattle.std.proofs.Common.{arith, refl}
+use Rattle.kohiblad.specs.BoundedMeaning.{bounded_meaning}
 use Rattle.kohiblad.specs.SortOrder.{IsOrderOf}
 use Rattle.kohiblad.proofs.Orders.{numbers_of, length-rows_from}
-use Rattle.kohiblad.proofs.sort.kohiblad_sort.Goals as goal
+use Rattle.kohiblad.proofs.sort.sort_rows.Goals as goal
 
 pub put_numbers-requires : goal.put_numbers-requires
 put_numbers-requires c =
@@ -27,7 +28,7 @@ returns-in-Ok-keys_in_order c =
         inl (
           numbers_of keys,
           (
-            subst (λ (rs : List (List ℕ)). IsOrderOf rs
+            subst (λ (rs : List (List ℕ)). IsOrderOf (bounded_meaning c.args.limit) rs
                 (numbers_of keys)) all c.in-Ok-keys_in_order.ensures.ok,
             (after, refl),
           ),

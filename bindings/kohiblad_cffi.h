@@ -1,0 +1,140 @@
+/* The exports, for cffi's cdef: tools/c_header makes this file of kohiblad.h. */
+
+#define KOHIBLAD_VERSION 6000
+
+enum kohiblad_status {
+    KOHIBLAD_OK = 0,
+    KOHIBLAD_INVALID_EOF = 1,
+    KOHIBLAD_INVALID_JSONB = 2,
+    KOHIBLAD_INVALID_JSONB_HEADER = 3,
+    KOHIBLAD_INVALID_JSONB_JENTRY = 4,
+    KOHIBLAD_INVALID_JSONB_NUMBER = 5,
+    KOHIBLAD_INVALID_JSONB_EXTENSION = 6,
+    KOHIBLAD_INVALID_UTF8 = 7,
+    KOHIBLAD_OBJECT_DUPLICATE_KEY = 8,
+    KOHIBLAD_INVALID_JSON = 9,
+    KOHIBLAD_OUT_OF_MEMORY = 10,
+    KOHIBLAD_NO_ROOM = 11,
+    KOHIBLAD_NONE = 12,
+    KOHIBLAD_TOO_DEEP = 13,
+    KOHIBLAD_OTHER_KIND = 14,
+    KOHIBLAD_PAST_RANGE = 15,
+    KOHIBLAD_OVERLAP = 16
+};
+
+enum kohiblad_kind_number {
+    KOHIBLAD_NULL = 0,
+    KOHIBLAD_BOOLEAN = 1,
+    KOHIBLAD_NUMBER = 2,
+    KOHIBLAD_STRING = 3,
+    KOHIBLAD_EXTENSION = 4,
+    KOHIBLAD_ARRAY = 5,
+    KOHIBLAD_OBJECT = 6
+};
+
+enum kohiblad_type {
+    KOHIBLAD_TYPE_NULL = 0x00000000,
+    KOHIBLAD_TYPE_STRING = 0x10000000,
+    KOHIBLAD_TYPE_NUMBER = 0x20000000,
+    KOHIBLAD_TYPE_FALSE = 0x30000000,
+    KOHIBLAD_TYPE_TRUE = 0x40000000,
+    KOHIBLAD_TYPE_CONTAINER = 0x50000000,
+    KOHIBLAD_TYPE_EXTENSION = 0x60000000
+};
+
+enum kohiblad_extension_tag {
+    KOHIBLAD_BINARY = 0x00,
+    KOHIBLAD_DATE = 0x10,
+    KOHIBLAD_TIMESTAMP = 0x20,
+    KOHIBLAD_TIMESTAMP_TZ = 0x30,
+    KOHIBLAD_INTERVAL = 0x40
+};
+
+struct kohiblad_value_kind {
+    uint32_t status;
+    uint32_t kind;
+    uint64_t count;
+};
+
+struct kohiblad_place {
+    uint32_t status;
+    uint32_t type;
+    uint64_t offset;
+    uint64_t length;
+};
+
+struct kohiblad_cursor {
+    uint64_t index;
+    uint64_t key;
+    uint64_t value;
+};
+
+struct kohiblad_decimal {
+    uint32_t status;
+    uint32_t scale;
+    int64_t high;
+    uint64_t low;
+};
+
+struct kohiblad_integer {
+    uint32_t status;
+    int64_t value;
+};
+
+struct kohiblad_truth {
+    uint32_t status;
+    uint32_t value;
+};
+
+struct kohiblad_extension_value {
+    uint32_t status;
+    uint32_t tag;
+    int64_t value;
+    int32_t months;
+    int32_t days;
+    int32_t seconds;
+    uint64_t offset;
+    uint64_t length;
+};
+
+uint32_t kohiblad_version(void);
+uint32_t kohiblad_status_name(uint32_t status, uint8_t *out, size_t room, size_t *length);
+bool kohiblad_check(const uint8_t *bytes, size_t size, size_t depth);
+bool kohiblad_is_document(const uint8_t *bytes, size_t size);
+int32_t kohiblad_compare(const uint8_t *left, size_t left_size, const uint8_t *right, size_t right_size);
+int32_t kohiblad_compare_within(const uint8_t *left, size_t left_size, const uint8_t *right, size_t right_size, size_t depth);
+struct kohiblad_value_kind kohiblad_kind(const uint8_t *bytes, size_t size);
+uint32_t kohiblad_get(const uint8_t *bytes, size_t size, const uint8_t *name, size_t name_size, uint8_t *out, size_t room, size_t *length);
+struct kohiblad_place kohiblad_find(const uint8_t *bytes, size_t size, const uint8_t *name, size_t name_size);
+struct kohiblad_place kohiblad_part(const uint8_t *bytes, size_t size, size_t number);
+uint32_t kohiblad_begin(const uint8_t *bytes, size_t size, struct kohiblad_cursor *cursor);
+uint32_t kohiblad_next(const uint8_t *bytes, size_t size, struct kohiblad_cursor *cursor, struct kohiblad_place *key, struct kohiblad_place *value);
+uint32_t kohiblad_array_item(const uint8_t *bytes, size_t size, size_t index, uint8_t *out, size_t room, size_t *length);
+uint32_t kohiblad_object_member(const uint8_t *bytes, size_t size, size_t index, uint8_t *key, size_t key_room, size_t *key_length, uint8_t *out, size_t room, size_t *length);
+struct kohiblad_decimal kohiblad_number(const uint8_t *bytes, size_t size);
+struct kohiblad_integer kohiblad_int64(const uint8_t *bytes, size_t size);
+struct kohiblad_place kohiblad_text(const uint8_t *bytes, size_t size);
+struct kohiblad_truth kohiblad_boolean(const uint8_t *bytes, size_t size);
+struct kohiblad_extension_value kohiblad_extension(const uint8_t *bytes, size_t size);
+uint32_t kohiblad_of_null(uint8_t *out, size_t room, size_t *length);
+uint32_t kohiblad_of_boolean(uint32_t value, uint8_t *out, size_t room, size_t *length);
+uint32_t kohiblad_of_text(const uint8_t *text, size_t size, uint8_t *out, size_t room, size_t *length);
+uint32_t kohiblad_of_int64(int64_t value, uint8_t *out, size_t room, size_t *length);
+uint32_t kohiblad_of_decimal(int64_t high, uint64_t low, uint32_t scale, uint8_t *out, size_t room, size_t *length);
+uint32_t kohiblad_of_extension(uint32_t tag, int64_t value, int32_t months, int32_t days, int32_t seconds, const uint8_t *data, size_t size, uint8_t *out, size_t room, size_t *length);
+uint32_t kohiblad_to_string(const uint8_t *bytes, size_t size, uint8_t *out, size_t room, size_t *length);
+uint32_t kohiblad_to_string_within(const uint8_t *bytes, size_t size, size_t depth, uint8_t *out, size_t room, size_t *length);
+uint32_t kohiblad_to_pretty(const uint8_t *bytes, size_t size, uint8_t *out, size_t room, size_t *length);
+uint32_t kohiblad_to_pretty_within(const uint8_t *bytes, size_t size, size_t depth, uint8_t *out, size_t room, size_t *length);
+uint32_t kohiblad_parse(const uint8_t *text, size_t size, size_t depth, uint8_t *out, size_t room, size_t *length);
+uint32_t kohiblad_build_array(const uint8_t *bytes, size_t size, const size_t *ends, size_t rows, uint8_t *out, size_t room, size_t *length);
+uint32_t kohiblad_build_array_within(const uint8_t *bytes, size_t size, const size_t *ends, size_t rows, size_t depth, uint8_t *out, size_t room, size_t *length);
+uint32_t kohiblad_build_object(const uint8_t *bytes, size_t size, const size_t *ends, size_t rows, uint8_t *out, size_t room, size_t *length);
+uint32_t kohiblad_build_object_within(const uint8_t *bytes, size_t size, const size_t *ends, size_t rows, size_t depth, uint8_t *out, size_t room, size_t *length);
+bool kohiblad_is_canonical(const uint8_t *bytes, size_t size);
+bool kohiblad_is_canonical_within(const uint8_t *bytes, size_t size, size_t depth);
+uint32_t kohiblad_to_canonical(const uint8_t *bytes, size_t size, uint8_t *out, size_t room, size_t *length);
+uint32_t kohiblad_to_canonical_within(const uint8_t *bytes, size_t size, size_t depth, uint8_t *out, size_t room, size_t *length);
+uint32_t kohiblad_key(const uint8_t *bytes, size_t size, size_t depth, uint8_t *out, size_t room, size_t *length);
+uint32_t kohiblad_sort(const uint8_t *bytes, size_t size, const size_t *ends, size_t rows, size_t *order, size_t room);
+uint32_t kohiblad_sort_within(const uint8_t *bytes, size_t size, const size_t *ends, size_t rows, size_t depth, size_t *order, size_t room);

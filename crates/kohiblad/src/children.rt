@@ -1,0 +1,191 @@
+//! The children of an array or object, one after another in one pass.
+
+ghost use Rattle.std.specs.Prelude.{◌≡◌, ◌<◌, ◌≤◌, ◌^◌, ℕ, suc, length, Ok, Some, IfOk};
+ghost use Rattle.kohiblad.specs.Children.{cursor_at, part_start, child_at, numbered_child};
+ghost use Rattle.kohiblad.specs.Children.{cursor_after, key_answer, value_answer, IsBegun};
+ghost use Rattle.kohiblad.specs.Children.{end_of, CanMove};
+ghost use Rattle.kohiblad.specs.Places.{place_at};
+
+use crate::answer::{NONE, OK, code};
+use crate::places::{KohibladPlace, Place, place_answer};
+use jsonb::{Error, read_header, read_jentry};
+use jsonb_codec::constants::{ARRAY_CONTAINER_TAG, OBJECT_CONTAINER_TAG};
+
+/// How far a walk over the children of an array or object has come: the index of the next child,
+/// and where its payload begins; of an object's member, also where its key begins.
+#[repr(C)]
+#[derive(Clone, Copy)]
+pub struct KohibladCursor {
+    pub index: u64,
+    pub key: u64,
+    pub value: u64,
+}
+
+/// The place of a child's payload; of an object's member, also that of its key.
+#[derive(Clone, Copy)]
+pub struct Child {
+    pub key: Option<Place>,
+    pub value: Place,
+}
+
+/// Puts the cursor before the first child.
+#[unsafe(no_mangle)]
+pub extern "C" fn kohiblad_begin(bytes: &[u8], cursor: &mut KohibladCursor) -> u32
+    ensures { IsBegun (cursor_at bytes.now 0) cursor.old cursor.new result }
+{
+    match first_cursor(bytes) {
+        Ok(Some(first)) => {
+            *cursor = first;
+            OK
+        }
+        Ok(None) => NONE,
+        Err(error) => code(error),
+    }
+}
+
+/// The child at the cursor, which is then moved after it. Any cursor may be given.
+#[unsafe(no_mangle)]
+pub extern "C" fn kohiblad_next(
+    bytes: &[u8],
+    cursor: &mut KohibladCursor,
+    key: &mut KohibladPlace,
+    value: &mut KohibladPlace,
+) -> u32
+    ensures key { key.new ≡ key_answer (child_at bytes.now cursor.old) }
+    ensures value { value.new ≡ value_answer (child_at bytes.now cursor.old) }
+    ensures status { result ≡ value.new.status }
+    ensures moved { cursor.new ≡ cursor_after (child_at bytes.now cursor.old) cursor.old }
+
+    // A cursor before the child of an index answers that child, and moves before the next.
+    ensures child { (index : ℕ) → cursor_at bytes.now index ≡ Ok (Some cursor.old)
+        → child_at bytes.now cursor.old ≡ numbered_child bytes.now index }
+    ensures walk { (index : ℕ) → cursor_at bytes.now index ≡ Ok (Some cursor.old) → result ≡ 0
+        → cursor_at bytes.now (suc index) ≡ Ok (Some cursor.new) }
+{
+    let found = child_at(bytes, *cursor);
+    *cursor = cursor_after(found, *cursor);
+    *key = key_answer(found);
+    *value = value_answer(found);
+    value.status
+}
+
+// The cursor before the first child. `None` of what is neither an array nor an object.
+fn first_cursor(bytes: &[u8]) -> Result<Option<KohibladCursor>, Error>
+    ensures { result ≡ cursor_at bytes.now 0 }
+{
+    match read_header(bytes, 0)? {
+        (ARRAY_CONTAINER_TAG, count) => Ok(Some(KohibladCursor {
+            index: 0,
+            key: 0,
+            value: (4 + 4 * count) as u64,
+        })),
+        (OBJECT_CONTAINER_TAG, count) => {
+            let value = part_start(bytes, 2 * count, count)?;
+            Ok(Some(KohibladCursor {
+                index: 0,
+                key: (4 + 8 * count) as u64,
+                value: value as u64,
+            }))
+        }
+        _ => Ok(None),
+    }
+}
+
+// Where the payload of a part begins, by its number, where there are so many entries.
+fn part_start(bytes: &[u8], entries: usize, number: usize) -> Result<usize, Error>
+    requires entries { entries < 2 ^ 30 }
+    requires number { number < 2 ^ 31 }
+    ensures { result ≡ part_start bytes.now entries number }
+{
+    let mut left = number;
+    let mut index = 4;
+    let mut start = 4 + 4 * entries;
+    while left > 0 {
+        start += read_jentry(bytes, index)?.length as usize;
+        index += 4;
+        left -= 1;
+    }
+    Ok(start)
+}
+
+// The child at the cursor. `None` after the last one.
+fn child_at(bytes: &[u8], cursor: KohibladCursor) -> Result<Option<Child>, Error>
+    ensures value { result ≡ child_at bytes.now cursor }
+    ensures inside { CanMove result cursor }
+{
+    let index = cursor.index as usize;
+    match read_header(bytes, 0)? {
+        (ARRAY_CONTAINER_TAG, count) if index < count => {
+            let value = place_at(bytes, 4 + 4 * index, cursor.value)?;
+            Ok(Some(Child { key: None, value }))
+        }
+        (OBJECT_CONTAINER_TAG, count) if index < count => {
+            let key = place_at(bytes, 4 + 4 * index, cursor.key)?;
+            let value = place_at(bytes, 4 + 4 * (count + index), cursor.value)?;
+            Ok(Some(Child {
+                key: Some(key),
+                value,
+            }))
+        }
+        _ => Ok(None),
+    }
+}
+
+// The place of a payload that begins there, by its entry.
+fn place_at(bytes: &[u8], entry: usize, start: u64) -> Result<Place, Error>
+    requires { entry < 2 ^ 40 }
+    ensures value { result ≡ place_at bytes.now entry start }
+    ensures inside { IfOk result (λ place. end_of place ≤ length bytes.now) }
+{
+    let entry = read_jentry(bytes, entry)?;
+    let start = start as usize;
+    let length = entry.length as usize;
+    if bytes.len() < start || bytes.len() - start < length {
+        return Err(Error::InvalidJsonb);
+    }
+    Ok(Place {
+        type_code: entry.type_code,
+        start,
+        length,
+    })
+}
+
+// The cursor after a child that was found; else the same.
+fn cursor_after(found: Result<Option<Child>, Error>, cursor: KohibladCursor) -> KohibladCursor
+    requires { CanMove found cursor }
+    ensures { result ≡ cursor_after found cursor }
+{
+    match found {
+        Ok(Some(child)) => KohibladCursor {
+            index: cursor.index + 1,
+            key: match child.key {
+                Some(key) => (key.start + key.length) as u64,
+                None => cursor.key,
+            },
+            value: (child.value.start + child.value.length) as u64,
+        },
+        _ => cursor,
+    }
+}
+
+// What C receives for a child's key: for an item, that there is none.
+fn key_answer(found: Result<Option<Child>, Error>) -> KohibladPlace
+    ensures { result ≡ key_answer found }
+{
+    match found {
+        Ok(Some(child)) => place_answer(Ok(child.key)),
+        Ok(None) => place_answer(Ok(None)),
+        Err(error) => place_answer(Err(error)),
+    }
+}
+
+// What C receives for a child's value.
+fn value_answer(found: Result<Option<Child>, Error>) -> KohibladPlace
+    ensures { result ≡ value_answer found }
+{
+    match found {
+        Ok(Some(child)) => place_answer(Ok(Some(child.value))),
+        Ok(None) => place_answer(Ok(None)),
+        Err(error) => place_answer(Err(error)),
+    }
+}

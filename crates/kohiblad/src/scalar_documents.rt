@@ -1,0 +1,272 @@
+//! Documents of scalars.
+
+ghost use Rattle.std.specs.Prelude.{◌≡◌, Some, None, IfSome, IfNone, length};
+ghost use Rattle.std.specs.Str.{IsUtf8};
+ghost use Rattle.jsonb_value.specs.declared.error.Error.{Error};
+ghost use Rattle.jsonb_value.specs.declared.number.Number.{Number};
+ghost use Rattle.jsonb_value.specs.Json.Numeral.{number_of, whole_number, decimal_number};
+ghost use Rattle.jsonb_value.specs.ExtCode.{extension_of};
+ghost use Rattle.jsonb_value.specs.Tree.{null, boolean, number, text, extension, Extension};
+ghost use Rattle.jsonb_value.specs.WellFormed.{IsExtension};
+ghost use Rattle.jsonb_codec.specs.Canon.{canon};
+ghost use Rattle.kohiblad.specs.Output.{IsWritten};
+ghost use Rattle.kohiblad.specs.Scalars.{int64_number, is_true, from_halves, IsShort, data_of};
+ghost use Rattle.kohiblad.specs.Scalars.{extension_answer, IsGivenBy, IsShortExtension};
+ghost use Rattle.kohiblad.specs.Status.{code, IsHandedOver, IsRefused};
+
+use crate::answer::{code, hand_over, hand_over_scalar, refuse};
+use crate::values::fields_of;
+use jsonb::{
+    Date, Decimal64, Decimal128, Error, ExtensionItem, ExtensionValue, Interval, JsonbItem, Number,
+    NumberItem, Opaque, OwnedJsonb, Timestamp, TimestampTz,
+};
+use jsonb_codec::constants::{FALSE_TAG, NULL_TAG, STRING_TAG, TRUE_TAG};
+use jsonb_value::constants::{
+    EXTENSION_BINARY, EXTENSION_DATE, EXTENSION_INTERVAL, EXTENSION_TIMESTAMP,
+    EXTENSION_TIMESTAMP_TZ,
+};
+use std::alloc::Global;
+use std::str;
+
+// A payload is shorter.
+const PAYLOAD_LIMIT: usize = 1 << 28;
+
+/// The document of null.
+#[unsafe(no_mangle)]
+pub extern "C" fn kohiblad_of_null(out: &mut [u8], length: &mut usize) -> u32
+    ensures { IsHandedOver (canon null) out.old out.new length.new result }
+{
+    hand_over_scalar(NULL_TAG, &[], out, length)
+}
+
+/// The document of a truth value, which is false where the value is 0.
+#[unsafe(no_mangle)]
+pub extern "C" fn kohiblad_of_boolean(value: u32, out: &mut [u8], length: &mut usize) -> u32
+    ensures { IsHandedOver (canon (boolean (is_true value))) out.old out.new length.new result }
+{
+    if value == 0 {
+        hand_over_scalar(FALSE_TAG, &[], out, length)
+    } else {
+        hand_over_scalar(TRUE_TAG, &[], out, length)
+    }
+}
+
+/// The document of a text.
+#[unsafe(no_mangle)]
+pub extern "C" fn kohiblad_of_text(bytes: &[u8], out: &mut [u8], length: &mut usize) -> u32
+    ensures utf8 { (IsUtf8 bytes.now → ⊥)
+        → IsRefused (code Error.InvalidUtf8) out.old out.new length.new result }
+    ensures text { IsUtf8 bytes.now → IsShort bytes.now
+        → IsHandedOver (canon (text bytes.now)) out.old out.new length.new result }
+    ensures past { IsUtf8 bytes.now → (IsShort bytes.now → ⊥)
+        → IsRefused (code Error.InvalidJsonb) out.old out.new length.new result }
+{
+    if str::from_utf8(bytes).is_err() {
+        return refuse(code(Error::InvalidUtf8), out, length);
+    }
+    if PAYLOAD_LIMIT <= bytes.len() {
+        return refuse(code(Error::InvalidJsonb), out, length);
+    }
+    hand_over_scalar(STRING_TAG, bytes, out, length)
+}
+
+/// The document of a whole number, as that of its digits.
+#[unsafe(no_mangle)]
+pub extern "C" fn kohiblad_of_int64(
+    alloc: Global,
+    value: i64,
+    out: &mut [u8],
+    length: &mut usize,
+) -> u32
+    ensures { IsWritten (canon (number (int64_number value))) out.old out.new length.new result }
+{
+    match u64::try_from(value) {
+        Ok(value) => write_number(alloc, Number::UInt64(value), out, length),
+        Err(_) => write_number(alloc, Number::Int64(value), out, length),
+    }
+}
+
+/// The document of a number of 128 bits in two halves, with so many digits after the point.
+#[unsafe(no_mangle)]
+pub extern "C" fn kohiblad_of_decimal(
+    alloc: Global,
+    high: i64,
+    low: u64,
+    scale: u32,
+    out: &mut [u8],
+    length: &mut usize,
+) -> u32
+    ensures number { (x : Number) → number_of scale (from_halves high low) ≡ Some x
+        → IsWritten (canon (number x)) out.old out.new length.new result }
+    ensures past { number_of scale (from_halves high low) ≡ None
+        → IsRefused (code Error.InvalidJsonb) out.old out.new length.new result }
+{
+    match number_of(scale, whole_of(high, low)) {
+        Some(number) => write_number(alloc, number, out, length),
+        None => refuse(code(Error::InvalidJsonb), out, length),
+    }
+}
+
+/// The document of an extension value, by its tag, its fields and its data as `kohiblad_extension`
+/// returns them: a field that the tag does not have must be 0, and data it does not have empty.
+/// `InvalidJsonbExtension` if no value has them; `InvalidJsonb` if the data have 2^28 - 1 bytes or
+/// more; `OutOfMemory`; `NO_ROOM` if `out` is shorter than the document.
+#[unsafe(no_mangle)]
+pub extern "C" fn kohiblad_of_extension(
+    alloc: Global,
+    tag: u32,
+    value: i64,
+    months: i32,
+    days: i32,
+    seconds: i32,
+    content: &[u8],
+    out: &mut [u8],
+    length: &mut usize,
+) -> u32
+    ensures value { (e : Extension) → IsGivenBy e tag value months days seconds content.now
+        → IsShortExtension e → IsWritten (canon (extension e)) out.old out.new length.new result }
+    ensures past { (e : Extension) → IsGivenBy e tag value months days seconds content.now
+        → (IsShortExtension e → ⊥)
+        → IsRefused (code Error.InvalidJsonb) out.old out.new length.new result }
+    ensures other { ((e : Extension) → IsGivenBy e tag value months days seconds content.now → ⊥)
+        → IsRefused (code Error.InvalidJsonbExtension) out.old out.new length.new result }
+{
+    match extension_with(tag, value, months, days, seconds, content) {
+        Some(extension) => write_extension(alloc, extension, out, length),
+        None => refuse(code(Error::InvalidJsonbExtension), out, length),
+    }
+}
+
+// The extension value with this tag, these fields and this data.
+fn extension_with<'a>(
+    tag: u32,
+    value: i64,
+    months: i32,
+    days: i32,
+    seconds: i32,
+    content: &'a [u8],
+) -> Option<ExtensionValue<'a>>
+    ensures some { IfSome result
+        (λ x. IsGivenBy (extension_of x) tag value months days seconds content.entry.now) }
+    ensures one { IfSome result (λ x. (e : Extension)
+        → IsGivenBy e tag value months days seconds content.entry.now → e ≡ extension_of x) }
+    ensures none { IfNone result ((e : Extension)
+        → IsGivenBy e tag value months days seconds content.entry.now → ⊥) }
+{
+    let Some(found) = extension_at(tag, value, months, days, seconds, content) else {
+        return None;
+    };
+    let fields = fields_of(found);
+    if fields.value == value
+        && fields.months == months
+        && fields.days == days
+        && fields.seconds == seconds
+        && fields.length == content.len() as u64
+    {
+        Some(found)
+    } else {
+        None
+    }
+}
+
+// The extension value of a tag, by those of the fields that it has.
+fn extension_at<'a>(
+    tag: u32,
+    value: i64,
+    months: i32,
+    days: i32,
+    seconds: i32,
+    content: &'a [u8],
+) -> Option<ExtensionValue<'a>>
+    ensures is { IfSome result (λ x. IsExtension (extension_of x)) }
+    ensures tag { IfSome result (λ x. (extension_answer (extension_of x)).tag ≡ tag) }
+    ensures content { IfSome result (λ x.
+        (extension_answer (extension_of x)).length ≡ length content.entry.now
+        → data_of (extension_of x) ≡ content.entry.now) }
+    ensures one { IfSome result (λ x. (e : Extension)
+        → IsGivenBy e tag value months days seconds content.entry.now → e ≡ extension_of x) }
+    ensures none { IfNone result ((e : Extension)
+        → IsGivenBy e tag value months days seconds content.entry.now → ⊥) }
+{
+    match u8::try_from(tag).ok()? {
+        EXTENSION_BINARY => Some(ExtensionValue::Binary(content)),
+        EXTENSION_DATE => Some(ExtensionValue::Date(Date {
+            value: i32::try_from(value).ok()?,
+        })),
+        EXTENSION_TIMESTAMP => Some(ExtensionValue::Timestamp(Timestamp { value })),
+        EXTENSION_TIMESTAMP_TZ => Some(ExtensionValue::TimestampTz(TimestampTz {
+            offset: seconds,
+            value,
+        })),
+        EXTENSION_INTERVAL => Some(ExtensionValue::Interval(Interval {
+            months,
+            days,
+            micros: value,
+        })),
+        tag => Some(ExtensionValue::Opaque(Opaque::new(tag, content)?)),
+    }
+}
+
+// The document of an extension value.
+fn write_extension(alloc: Global, value: ExtensionValue, out: &mut [u8], length: &mut usize) -> u32
+    ensures value { IsShortExtension (extension_of value.entry)
+        → IsWritten (canon (extension (extension_of value.entry))) out.old out.new length.new
+        result }
+    ensures past { (IsShortExtension (extension_of value.entry) → ⊥)
+        → IsRefused (code Error.InvalidJsonb) out.old out.new length.new result }
+{
+    let item = JsonbItem::Extension(ExtensionItem::from_value(value));
+    match OwnedJsonb::from_item(alloc, item) {
+        Ok(owned) => hand_over(owned.as_bytes(), out, length),
+        Err(error) => refuse(code(error), out, length),
+    }
+}
+
+// The number of two halves.
+fn whole_of(high: i64, low: u64) -> i128
+    ensures { result ≡ from_halves high low }
+{
+    i128::from(high) * (1 << 64) + i128::from(low)
+}
+
+// The number with so many digits after the point.
+fn number_of(scale: u32, value: i128) -> Option<Number>
+    ensures { result ≡ number_of scale value }
+{
+    if scale == 0 {
+        Some(whole_number(value))
+    } else {
+        Some(decimal_number(u8::try_from(scale).ok()?, value))
+    }
+}
+
+fn whole_number(value: i128) -> Number
+    ensures { Some result ≡ whole_number value }
+{
+    if let Ok(value) = u64::try_from(value) {
+        Number::UInt64(value)
+    } else if let Ok(value) = i64::try_from(value) {
+        Number::Int64(value)
+    } else {
+        Number::Decimal128(Decimal128 { scale: 0, value })
+    }
+}
+
+fn decimal_number(scale: u8, value: i128) -> Number
+    ensures { Some result ≡ decimal_number scale value }
+{
+    match i64::try_from(value) {
+        Ok(value) => Number::Decimal64(Decimal64 { scale, value }),
+        Err(_) => Number::Decimal128(Decimal128 { scale, value }),
+    }
+}
+
+// The document of a number.
+fn write_number(alloc: Global, value: Number, out: &mut [u8], length: &mut usize) -> u32
+    ensures { IsWritten (canon (number value)) out.old out.new length.new result }
+{
+    match OwnedJsonb::from_item(alloc, JsonbItem::Number(NumberItem::from_number(value))) {
+        Ok(owned) => hand_over(owned.as_bytes(), out, length),
+        Err(error) => refuse(code(error), out, length),
+    }
+}
