@@ -8,8 +8,8 @@ REFERENCE has source files of the crate `jsonb` 0.5.6 as they were published, ea
 with `--` between the parts and `.txt` at the end: `src--src--raw.rs.txt` is src/raw.rs. OUT becomes
 the project `crate_baseline`. Of each file its items are kept as they are, but for those that need
 what is not among the files: serde, the JSON parser and the texts. What is private becomes public,
-so that a program can call it. In the place of missing modules stand those of bench/baseline, which
-are this project's own: among them the order of numbers and of extension values, so that nothing is
+so that a program can call it. Missing modules are replaced by those of bench/baseline, which are
+this project's own: among them the order of numbers and of extension values, so that nothing is
 learned of the crate by comparing these two orders.
 
 It needs Debian's packages librust-byteorder-dev, librust-serde-json-dev and librust-itoa-dev.
@@ -50,7 +50,7 @@ def items(lines, indent):
 
 
 def head(item):
-    """The first line of an item behind its comments and attributes, without its indent."""
+    """The first line of an item after its comments and attributes, without its indent."""
     lines = (line.strip() for line in item)
     return next((line for line in lines if line and not line.startswith(("//", "#"))), "")
 

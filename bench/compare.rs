@@ -193,16 +193,17 @@ fn distinct(words: &[&str]) -> String {
     let steps: Vec<(bool, Vec<u8>)> =
         words.iter().map(|word| (word.starts_with('+'), from_hex(&word[1..]))).collect();
     let mut builder = ArrayDistinctBuilder::new(0);
-    let mut told = String::new();
+    let mut results = String::new();
     for (is_push, bytes) in &steps {
         if *is_push {
             builder.push_raw_jsonb(RawJsonb::new(bytes));
         } else {
             let popped = builder.pop_raw_jsonb(RawJsonb::new(bytes));
-            told += if popped.is_some() { "some " } else { "none " };
+            results += if popped.is_some() { "some " } else { "none " };
         }
     }
-    told + &builder.build().map_or_else(error_text, |built| format!("ok {}", hex(&built.to_vec())))
+    let built = builder.build();
+    results + &built.map_or_else(error_text, |built| format!("ok {}", hex(&built.to_vec())))
 }
 
 fn number_text(number: Number) -> String {

@@ -36,6 +36,15 @@ extern "C" {
         order: *mut u64,
         room: usize,
     ) -> bool;
+    fn measured_keys(bytes: *const u8, length: usize, ends: *const u64, count: usize) -> usize;
+    fn measured_sort_by_keys(
+        bytes: *const u8,
+        length: usize,
+        ends: *const u64,
+        count: usize,
+        order: *mut u64,
+        room: usize,
+    ) -> bool;
     fn measured_canonical(bytes: *const u8, length: usize) -> usize;
     fn measured_array(
         bytes: *const u8,
@@ -293,35 +302,92 @@ fn sorts() {
             });
             all[0].len()
         };
-        let sort_theirs = || {
-            let mut all: Vec<RawJsonb> = documents.iter().map(|d| RawJsonb::new(d)).collect();
-            all.sort();
-            all[0].len()
-        };
-        let (ours, theirs) = fastest(sort, sort_theirs);
+        let (ours, theirs) = fastest(sort, || sort_theirs(&documents));
         report(name, "sort", size, ours, theirs);
-        let (bytes, ends) = joined(&documents);
-        let mut order = vec![0; ends.len()];
-        let once = || {
-            let done = unsafe {
-                measured_sort(
-                    bytes.as_ptr(),
-                    bytes.len(),
-                    ends.as_ptr(),
-                    ends.len(),
-                    order.as_mut_ptr(),
-                    order.len(),
-                )
-            };
-            assert!(done);
-            1
-        };
-        let (ours, theirs) = fastest(once, sort_theirs);
-        report(name, "sort once", size, ours, theirs);
+        sort_once(name, &documents);
+        sort_by_keys(name, &documents);
     }
 }
 
-// The parts one behind the other, and where each ends.
+fn sort_theirs(documents: &[Vec<u8>]) -> usize {
+    let mut all: Vec<RawJsonb> = documents.iter().map(|d| RawJsonb::new(d)).collect();
+    all.sort();
+    all[0].len()
+}
+
+// Our side checks each document once, and sorts the keys.
+fn sort_once(name: &str, documents: &[Vec<u8>]) {
+    let (bytes, ends) = joined(documents);
+    let mut order = vec![0; ends.len()];
+    let once = || {
+        let done = unsafe {
+            measured_sort(
+                bytes.as_ptr(),
+                bytes.len(),
+                ends.as_ptr(),
+                ends.len(),
+                order.as_mut_ptr(),
+                order.len(),
+            )
+        };
+        assert!(done);
+        1
+    };
+    let (ours, theirs) = fastest(once, || sort_theirs(documents));
+    report(name, "sort once", bytes.len(), ours, theirs);
+}
+
+// Our side makes the comparable key of each document, and sorts the keys as bytes. `made` is the time
+// of the keys alone.
+fn sort_by_keys(name: &str, documents: &[Vec<u8>]) {
+    let (bytes, ends) = joined(documents);
+    let mut order = vec![0; ends.len()];
+    let by_keys = || {
+        let done = unsafe {
+            measured_sort_by_keys(
+                bytes.as_ptr(),
+                bytes.len(),
+                ends.as_ptr(),
+                ends.len(),
+                order.as_mut_ptr(),
+                order.len(),
+            )
+        };
+        assert!(done);
+        1
+    };
+    let (sorted, theirs) = fastest(by_keys, || sort_theirs(documents));
+    report(name, "sort by keys", bytes.len(), sorted, theirs);
+    let keys = || unsafe { measured_keys(bytes.as_ptr(), bytes.len(), ends.as_ptr(), ends.len()) };
+    let (made, _) = fastest(keys, || 0);
+    report(name, "keys made", bytes.len(), made, theirs);
+}
+
+// One object of so many keys, as many small ones that are above it, and as many that are below, in
+// an order in which a sort compares it with each of these. The first keys of all are alike, or each
+// has one of its own.
+fn one_large() {
+    for count in [1_000, 2_000, 4_000] {
+        let shapes: [(&str, fn(char, usize) -> String); 2] = [
+            ("alike", |_, _| "a".to_string()),
+            ("apart", |kind, i| format!("{kind}{i:07}")),
+        ];
+        for (name, key) in shapes {
+            let number = |n: usize| Value::Number(Number::UInt64(n as u64));
+            let small = |kind, i, n| {
+                encoded(&Value::Object(BTreeMap::from([(key(kind, i), number(n))])))
+            };
+            let mut pairs = BTreeMap::from([(key('b', 0), number(count))]);
+            pairs.extend((1..count).map(|k| (format!("z{k:07}"), Value::Null)));
+            let mut documents = vec![encoded(&Value::Object(pairs))];
+            documents.extend((0..count).map(|i| small('c', i, count + 1 + i)));
+            documents.extend((0..count).map(|i| small('a', i, i)));
+            sort_once(&format!("{name} {count}"), &documents);
+        }
+    }
+}
+
+// The parts one after another, and where each ends.
 fn joined(parts: &[impl AsRef<[u8]>]) -> (Vec<u8>, Vec<u64>) {
     let (mut bytes, mut ends) = (Vec::new(), Vec::new());
     for part in parts {
@@ -426,6 +492,17 @@ fn halves(levels: usize) -> Value<'static> {
     }
 }
 
+// An object of 1.5 H² keys, and so many levels H above it, each of them the level below and an
+// array of nulls: three at the lowest level, and three more at each level above.
+fn large_below(levels: usize) -> Value<'static> {
+    let pairs = (0..levels * levels * 3 / 2).map(|k| (format!("{k:07x}"), Value::Null));
+    let object = Value::Object(pairs.collect::<BTreeMap<_, _>>());
+    (1..=levels).fold(object, |below, level| {
+        let nulls = (0..3 * level).map(|_| Value::Null).collect();
+        Value::Array(vec![below, Value::Array(nulls)])
+    })
+}
+
 // The shapes whose lengths are dearest to find: what encoding and the canonical form cost beside
 // the crate's encoder.
 fn nested() {
@@ -441,11 +518,14 @@ fn nested() {
         }
     }
     shapes.push(("halves 17".to_string(), halves(17)));
+    for levels in [200, 400, 800] {
+        shapes.push((format!("large {levels}"), large_below(levels)));
+    }
     for (name, value) in shapes {
         let bytes = encoded(&value);
         let build = || unsafe { measured_encode(bytes.as_ptr(), bytes.len(), 0) };
         let both = || unsafe { measured_encode(bytes.as_ptr(), bytes.len(), 1) };
-        // The build of the value stands in both, so its own time is taken off.
+        // Both include the build of the value, so its own time is subtracted.
         let (with, without) = fastest(both, build);
         let (theirs, canonical) = fastest(
             || encoded(&value).len(),
@@ -509,7 +589,7 @@ fn texts() {
     drop(value);
 }
 
-// What ten times the size costs, up to 100 MB. The build stands in the encoder's time.
+// What ten times the size costs, up to 100 MB. The encoder's time includes the build.
 fn sizes() {
     let mut before = [0.0; 4];
     for count in [13_000, 130_000, 1_300_000] {
@@ -658,10 +738,11 @@ fn column() {
 }
 
 fn main() {
-    let parts: [(&str, fn()); 8] = [
+    let parts: [(&str, fn()); 9] = [
         ("documents", documents),
         ("look_ups", look_ups),
         ("sorts", sorts),
+        ("one_large", one_large),
         ("builders", builders),
         ("nested", nested),
         ("texts", texts),

@@ -4,9 +4,9 @@
     for n in 1 2 3; do bench/run.sh BASELINE; done > bench/results.txt
     bench/tables.py
 
-Each row of bench/results.txt is a share of the Rust crate's time. Of several runs the middle share
-stands in the tables, and the lowest and the highest in brackets. It writes the tables of
-bench/README.md and README.md in place of those that stand there, and bench/speed.svg.
+Each row of bench/results.txt has the speed of both sides, and our share of the Rust crate's time.
+The tables show the median of several runs, and of shares also the lowest and the highest, in
+brackets. It replaces the tables of bench/README.md and README.md, and writes bench/speed.svg.
 """
 import collections
 import math
@@ -16,7 +16,9 @@ import statistics
 
 HERE = pathlib.Path(__file__).resolve().parent
 BEGIN, END = "<!-- bench/tables.py -->\n", "<!-- end -->\n"
-ROW = re.compile(r"^(.+?) +[\d.]+ (?:MB/s|ns), the crate .*: ([\d.]+) of its time(.*)$")
+BEGIN_SPEED = "<!-- bench/tables.py, speed -->\n"
+ROW = re.compile(r"^(.+?) +([\d.]+) (MB/s|ns), the crate +([\d.]+) (?:MB/s|ns): "
+                 r"([\d.]+) of its time(.*)$")
 
 # What README shows: a line of the bench, and what it is called there.
 CHOICE = [
@@ -30,24 +32,49 @@ CHOICE = [
     ("text parse", "read a JSON text (serde_json)"),
 ]
 
+# What bench/README.md shows first, in the same form.
+SPEEDS = [
+    ("objects check", "check a document"),
+    ("objects build", "read it into a value"),
+    ("objects encode", "write a value as a document"),
+    ("middle of 10 scattered", "find a key among 10"),
+    ("middle of 10 scattered (get of a document)", "the same in a checked `Document`"),
+    ("middle of 1000 scattered", "find a key among 1,000"),
+    ("middle of 1000 scattered (get of a document)", "the same in a checked `Document`"),
+    ("numbers sort", "sort 100,000 numbers, not checked before"),
+    ("numbers sort once", "the same, checked once"),
+    ("arrays sort", "sort 100,000 arrays, not checked before"),
+    ("arrays sort once", "the same, checked once"),
+    ("arrays sort by keys", "the same, by comparable keys, which are made first"),
+    ("objects array", "build an array of 100,000 documents"),
+    ("text parse", "read a JSON text (serde_json)"),
+    ("objects print", "print a document (serde_json)"),
+    ("objects text", "the same of a checked `Document`"),
+    ("column load", "read a stored column of 100,000 rows"),
+]
 
-def shares():
-    """The shares of each row, of all runs."""
-    found = collections.defaultdict(list)
+
+def rows():
+    """The rows of all runs: the shares of each, and the speeds of both sides with their unit."""
+    shares, speeds = collections.defaultdict(list), collections.defaultdict(list)
     for line in (HERE / "results.txt").read_text().splitlines():
         if row := ROW.match(line):
-            found[" ".join((row[1] + row[3]).split())].append(float(row[2]))
-    return found
-
-
-def middle(row):
-    return statistics.median(row)
+            name = " ".join((row[1] + row[6]).split())
+            shares[name].append(float(row[5]))
+            speeds[name].append((float(row[2]), float(row[4]), row[3]))
+    return shares, speeds
 
 
 def cell(row):
     if len(row) == 1:
         return f"{row[0]:.2f}"
-    return f"{middle(row):.2f} ({min(row):.2f} to {max(row):.2f})"
+    return f"{statistics.median(row):.2f} ({min(row):.2f} to {max(row):.2f})"
+
+
+def speed(row, side):
+    """The median speed of a side: 0 is this library, 1 the crate."""
+    median = statistics.median(it[side] for it in row)
+    return f"{median:,.{0 if median >= 100 else 1}f} {row[0][2]}"
 
 
 def table(head, lines):
@@ -68,7 +95,8 @@ def tables(found):
                 places = [cell(found[f"{place} of {count} {kind}{call}"])
                           for place in ["first", "middle", "last"]]
                 look_ups.append([f"{int(count):,} {kind}{name}"] + places)
-    sorts = [[name] + [cell(found[f"{shape} {call}"]) for call in ["sort", "sort once"]]
+    sorts = [[name] + [cell(found[f"{shape} {call}"])
+                       for call in ["sort", "sort once", "sort by keys", "keys made"]]
              for name, shape in [("numbers", "numbers"), ("strings", "strings"),
                                  ("objects of 4 keys", "objects"), ("objects of 20", "of 20"),
                                  ("arrays of 50", "arrays")]]
@@ -81,8 +109,9 @@ def tables(found):
                                         ('`{"a":..,"b":1}`, ', "objects ", [100, 1000, 10000]),
                                         ("`[1,[..]]`, ", "last ", [100, 1000, 10000]),
                                         ("`[[..],[]]`, ", "beside ", [100, 1000, 10000]),
-                                        ("a binary tree, ", "halves ", [17])]
-              for levels in depths]
+                                        ("a binary tree, ", "halves ", [17]),
+                                        ("a large object below, ", "large ", [200, 400, 800])]
+              for levels in depths if f"{row}{levels} canon" in found]
     texts = [["parse, beside `from_str`", cell(found["text parse"])],
              ["parse, beside `from_str` and the crate's encoder", cell(found["text document"])],
              ["`to_string` of a view, beside `to_string`", cell(found["objects print"])],
@@ -92,7 +121,8 @@ def tables(found):
     return "\n".join([
         table(["", "numbers", "objects", "an object of 3,000", "1,000 deep"], documents),
         table(["look-up of the", "first", "middle", "last"], look_ups),
-        table(["sort of 100,000", "views (`RawJsonb`)", "keys checked once (`SortKey`)"], sorts),
+        table(["sort of 100,000", "views (`RawJsonb`)", "checked once (`SortKey`)",
+               "by comparable keys", "of which making the keys"], sorts),
         table(["100,000 documents put together", "array", "object"], builders),
         table(["containers in one another, levels", "encoder", "canonical form"], nested),
         table(["texts, beside serde_json", ""], texts),
@@ -100,13 +130,19 @@ def tables(found):
     ])
 
 
-def short_table(found):
-    return table(["", "share of the crate's time"],
-                 [[name, cell(found[row])] for row, name in CHOICE])
+def short_table(found, speeds):
+    return table(["", "speed", "share of the crate's time"],
+                 [[name, speed(speeds[row], 0), cell(found[row])] for row, name in CHOICE])
+
+
+def speed_table(found, speeds):
+    return table(["", "Kohiblad", "the crate", "share of its time"],
+                 [[name, speed(speeds[row], 0), speed(speeds[row], 1), cell(found[row])]
+                  for row, name in SPEEDS])
 
 
 def picture(found):
-    """Bars from 1, the crate's time: to the left what is faster, to the right what is slower."""
+    """Bars from 1, the crate's time: faster calls to the left, slower ones to the right."""
     left, width, high, top = 300, 560, 26, 40
     scale = width / 8  # eight doublings, from 1/32 to 8
     at = lambda share: left + scale * (5 + math.log2(share))
@@ -121,7 +157,7 @@ def picture(found):
         parts.append(f'<path d="M{x:.0f} {top - 8}V{foot}" stroke="{colour}"/>')
         parts.append(f'<text x="{x:.0f}" y="{foot + 18}" text-anchor="middle">{share}</text>')
     for number, (row, name) in enumerate(CHOICE):
-        share, y = middle(found[row]), top + high * number
+        share, y = statistics.median(found[row]), top + high * number
         start, end = sorted([at(1), at(share)])
         colour = "#2b7a4b" if share <= 1 else "#b5542b"
         parts.append(f'<text x="{left - 10}" y="{y + 15}" text-anchor="end">{name}</text>')
@@ -131,16 +167,17 @@ def picture(found):
     return "\n".join(parts) + "\n</svg>\n"
 
 
-def put(path, text):
+def put(path, begin, text):
     page = path.read_text()
-    before, rest = page.split(BEGIN)
-    path.write_text(before + BEGIN + text + END + rest.split(END, 1)[1])
+    before, rest = page.split(begin)
+    path.write_text(before + begin + text + END + rest.split(END, 1)[1])
 
 
 def main():
-    found = shares()
-    put(HERE / "README.md", tables(found))
-    put(HERE.parent / "README.md", short_table(found))
+    found, speeds = rows()
+    put(HERE / "README.md", BEGIN_SPEED, speed_table(found, speeds))
+    put(HERE / "README.md", BEGIN, tables(found))
+    put(HERE.parent / "README.md", BEGIN, short_table(found, speeds))
     (HERE / "speed.svg").write_text(picture(found))
 
 

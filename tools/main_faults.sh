@@ -32,7 +32,8 @@ expect() {
 
 # Runs the program of this name on a line whose answer is known.
 run_faults() {
-    local name=$1 program=$top/crates/$1/out/$1 answer=$3$'\n'
+    local name=$1
+    program=$top/crates/$1/out/$1 answer=$3$'\n'
     local read_failed="$1: read failed"$'\n' write_failed="$1: write failed"$'\n'
     local out_of_memory="$1: out of memory"$'\n'
     if [ ! -x "$program" ]; then
@@ -60,9 +61,6 @@ run_faults() {
     wait $!
     expect 'each answer before the next line' $? 0 '' "$answer$answer"
     exec 4<&-
-
-    "$program" --help a b < "$work/line" > "$work/output" 2> "$work/errors"
-    expect 'arguments are passed over' $? 0 '' "$answer"
 
     "$program" < /dev/null > "$work/output" 2> "$work/errors"
     expect 'no input' $? 0 '' ''
@@ -99,5 +97,24 @@ run_faults() {
 }
 
 run_faults jsonb_cli 'enc [false,true]' 'ok 800000023000000040000000'
+"$program" --help a b < "$work/line" > "$work/output" 2> "$work/errors"
+expect 'arguments are ignored' $? 0 '' "$answer"
+
 run_faults jsonb_column_cli 'find a 1' 'ok'
+usage=$("$program" --help < "$work/line" 2> "$work/errors")$'\n'
+expect 'help ends well' $? 0 '' ''
+"$program" --help > "$work/output" 2> "$work/errors" < "$work/line"
+expect 'help answers no line' $? 0 '' "$usage"
+case $usage in
+    'usage: jsonb_column_cli '*) ;;
+    *) echo 'help without a usage: FAILED' && failed=1 ;;
+esac
+"$program" --help > /dev/full 2> "$work/errors"
+expect 'help with output full' $? 1 $'jsonb_column_cli: write failed\n' ''
+unknown=$'jsonb_column_cli: unknown argument; try --help\n'
+for arguments in '-h' '--help a' 'a' '--help --help'; do
+    # shellcheck disable=SC2086  # the words are arguments
+    "$program" $arguments < "$work/line" > "$work/output" 2> "$work/errors"
+    expect "arguments: $arguments" $? 2 "$unknown" ''
+done
 exit $failed

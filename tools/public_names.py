@@ -1,4 +1,4 @@
-"""What the library exports, for the scripts that hold the pages against the code."""
+"""What the library exports, for the scripts that compare the pages with the code."""
 import os
 import re
 
@@ -10,12 +10,27 @@ def text_of(path):
         return file.read()
 
 
-def exported():
-    """What the roots of the libraries above `jsonb_codec` export, by the library that it comes from."""
-    names = {}
-    for crate in ("jsonb", "jsonb_composition", "jsonb_column"):
-        root = text_of(f"{TOP}/crates/{crate}/src/lib.rt")
-        for source, listed in re.findall(r"^pub use (\w+)(?:::\w+)*::(\{[^}]*\}|\w+);", root, re.M):
-            library = source if source.startswith("jsonb_") else crate
-            names.setdefault(library, set()).update(re.findall(r"\w+", listed))
+def root_names(crate):
+    """What a library's root exports: pairs of the module or library it comes from, and the name."""
+    root = text_of(f"{TOP}/crates/{crate}/src/lib.rt")
+    names = [(crate, name) for name in re.findall(r"^pub mod (\w+);", root, re.M)]
+    for source, listed in re.findall(r"^pub use (\w+)(?:::\w+)*::(\{[^}]*\}|\w+);", root, re.M):
+        names += [(source, name) for name in re.findall(r"\w+", listed)]
     return names
+
+
+def exported():
+    """What the libraries above `jsonb_codec` export at their roots, by the library it is of."""
+    names = {}
+    for crate in ("jsonb", "jsonb_composition", "jsonb_column", "jsonb_comparable"):
+        for source, name in root_names(crate):
+            library = source if source.startswith("jsonb_") else crate
+            names.setdefault(library, set()).add(name)
+    return names
+
+
+def not_exported():
+    """Public names of the two lower libraries that `jsonb` does not export."""
+    top = {name for _, name in root_names("jsonb")}
+    return [f"{crate}::{name}" for crate in ("jsonb_value", "jsonb_codec")
+            for _, name in root_names(crate) if name not in top]

@@ -1,26 +1,26 @@
 #!/usr/bin/env python3
 """Runs the tests of every crate that has some, and the programs jsonb_cli, jsonb_column_cli and
-jsonb_probe, with their first request for memory refused, then their second, and so on up to a
-run that meets no refusal.
+jsonb_probe, with their first allocation failing, then their second, and so on up to a run without a
+failure.
 
     tools/refuse_each.py [CRATE ..]
 
-It takes the programs that `rt ci` leaves in crates/*/out, of all such crates where none is named,
-and a C compiler (CC, or cc) for tools/refuse_request.c.
+It takes the programs that `rt ci` leaves in crates/*/out, of all such crates if none is named, and
+a C compiler (CC, or cc) for tools/refuse_request.c.
 
-A run of a test passes where the test does, and, once a request was refused, where the test hands on
-want of memory as its error: a failed assertion is a wrong answer. The run behind the last refusal
-must pass. The tests of a module `no_requests` must make no request at all. A run of a program
-passes where each line of output is the right answer or ends in `error OutOfMemory`; once a request
-was refused, also where it ends by saying so and has written the first of such lines.
+A run of a test passes if the test does, and, once an allocation failed, if the test returns that as
+its error: a failed assertion is a wrong result. The run after the last failure must pass. The tests
+of a module `no_requests` must allocate nothing at all. A run of a program passes if each line of
+output is the right answer or ends in `error OutOfMemory`; once an allocation failed, also if the
+program ends with that message and has written the first of such lines.
 
-A run repeats what comes before the refused request, so all runs of a test with very many requests
-would take hours. Of a test of more than 400 requests 200 are refused, the first and the last among
-them and the others spread evenly, and of one of more than 10,000 requests 20. The tests in
+A run repeats what comes before the failure, so all runs of a test with very many allocations would
+take hours. Of a test of more than 400 allocations 200 fail, the first and the last among them and
+the others spread evenly, and of one of more than 10,000 allocations 20. The tests in
 tools/refusals_passed_over are left out; that file says why.
 
-The last line counts the runs. The status is 1 where a run gave a wrong answer, a series did not
-come to its end, or a test that is named here or in tools/refusals_passed_over is not there.
+The last line counts the runs. The status is 1 if a run gave a wrong result, a series did not come
+to its end, or a test that is named here or in tools/refusals_passed_over is not there.
 """
 import collections
 import concurrent.futures
@@ -69,6 +69,7 @@ LINES = {
         ("row 2", "error NoRow"),
         ("sort", 'ok true {"a":1,"b":"123"}'),
         ('find b "123"', 'ok {"a":1,"b":"123"}'),
+        ('find "b" "123"', 'ok {"a":1,"b":"123"}'),
         ("range false true", "ok true"),
         ("save", f"ok {STORED}"),
         ("load 8", "error BadHex"),
@@ -186,7 +187,7 @@ def program_judge(program, wanted):
 def refused(series, number, work):
     """Runs a program with one request refused, or none for number 0."""
     with tempfile.NamedTemporaryFile(dir=work) as report:
-        asked = {
+        environment = {
             "REFUSE_REQUEST": str(number),
             "REFUSE_REPORT": report.name,
             "LD_PRELOAD": f"{work}/refuse.so",
@@ -196,7 +197,7 @@ def refused(series, number, work):
             input=series.lines,
             capture_output=True,
             timeout=120,
-            env={**os.environ, **asked},
+            env={**os.environ, **environment},
         )
         lines = report.read().split()
     requests = int(lines[-1]) if lines and lines[-1] != b"refused" else None
@@ -253,8 +254,8 @@ def series_of_program(name):
         raise SystemExit(f"crates/{name}/out has no built program: run rt ci first")
 
     def series(on, rows):
-        asked, wanted = ("".join(f"{it}\n" for it in column).encode() for column in zip(*rows))
-        return Series(f"{name} on {on}", [program], asked, program_judge(name, wanted))
+        given, wanted = ("".join(f"{it}\n" for it in column).encode() for column in zip(*rows))
+        return Series(f"{name} on {on}", [program], given, program_judge(name, wanted))
 
     return [series("two lines", lines[:2]), series("lines of each command", lines)]
 

@@ -1,8 +1,8 @@
-/* Loaded into a program by LD_PRELOAD, refuses one of its requests for memory: the one whose
- * number, from 1, the environment gives as REFUSE_REQUEST (none where that is 0 or not there). A
- * request is a call of malloc, calloc or realloc. Into the file that REFUSE_REPORT names it writes
- * a line `refused` when it refuses, and at the program's end a line with the number of requests
- * that were made. So a report with no line `refused` says that the request was not reached. */
+/* Loaded into a program by LD_PRELOAD, makes one of its allocations fail: the one whose number,
+ * from 1, is REFUSE_REQUEST in the environment (none if that is 0 or not set). A request is a call
+ * of malloc, calloc or realloc. Into the file that REFUSE_REPORT names it writes a line `refused`
+ * when one fails, and at the program's end a line with the number of requests. So a report without
+ * a line `refused` says that the request was not reached. */
 #define _GNU_SOURCE
 #include <dlfcn.h>
 #include <errno.h>
@@ -26,7 +26,7 @@ __attribute__((constructor)) static void begin(void) {
     const char *path = getenv("REFUSE_REPORT");
     if (path && (report = open(path, O_WRONLY | O_CREAT | O_TRUNC | O_CLOEXEC, 0600)) < 0)
         _exit(125);
-    /* What was asked for before the program began is not counted. */
+    /* Requests before the program began are not counted. */
     made = 0;
     chosen = number ? strtoul(number, NULL, 10) : 0;
 }
@@ -73,7 +73,7 @@ void *realloc(void *block, size_t size) {
     return is_granted() ? grant(block, size) : NULL;
 }
 
-/* By malloc, as the loader may ask for calloc before it can be looked up. */
+/* By malloc, as the loader may call calloc before it can be looked up. */
 void *calloc(size_t count, size_t size) {
     void *block;
     if (size && count > SIZE_MAX / size) {
