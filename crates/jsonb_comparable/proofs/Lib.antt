@@ -8,5 +8,5 @@ pub mod TreeLaws
 pub mod PowerLaws
 pub mod SplitLaws
 pub mod WalkLaws
-pub mod SourceLaws
+pub mod WithinLaws
 pub mod KeyLaws

@@ -161,7 +161,7 @@ last_digits left high low power h e none zero_low =
     rw e (split_first left high low h ∙ pair_last (high / 100 ^ (left - 1)) _ _
     (let none_left : high % 100 ^ (left - 1) ≡ 0 = rw e at none in omega arith))
 
-pub some_left : (r low : ℕ) → (r ≡ 0 → low ≡ 0 → ⊥) → 0 < r * 100 + low
+some_left : (r low : ℕ) → (r ≡ 0 → low ≡ 0 → ⊥) → 0 < r * 100 + low
 some_left zero zero some = absurd (some refl refl)
 some_left zero (suc low) some = omega arith
 some_left (suc r) low some = omega arith
@@ -190,6 +190,16 @@ pub signed_append : (negative : Bool) (a b : List ℕ)
     → signed negative (a ++ b) ≡ signed negative a ++ signed negative b
 signed_append true a b = map-append (λ x. 255 - x) a b
 signed_append false a b = refl
+
+-- The key of a number that is not 0: the count of its pairs, and then the pairs.
+pub key_parts : (negative : Bool) (pairs zeros high low : ℕ) → high < 100 ^ pairs → low < 100
+    → (0 < pairs → 100 ^ (pairs - 1) ≤ high) → 0 < high * 100 + low → pairs + zeros < 148
+    → signed negative (natural_key ((high * 100 + low) * 100 ^ zeros))
+    ≡ signed negative (count_bytes (pairs + zeros + 1))
+    ++ signed negative (split_pairs pairs high low)
+key_parts negative pairs zeros high low h l least some room =
+    ap (signed negative) (natural_key_split pairs zeros high low h l least some room)
+    ∙ signed_append negative (count_bytes (pairs + zeros + 1)) (split_pairs pairs high low)
 
 -- The key of zero is one byte.
 key_of_pairs_zero : (k : ℕ) → key_of_pairs k 0 ≡ 128 ∷ []

@@ -1,8 +1,8 @@
 -- Proofs of the laws of both sinks.
-use Rattle.std.proofs.Common.{◌≡◌, ◌≤◌, ℕ, ◌+◌, List, ◌++◌, Vec, Global, length, vec_capacity}
-use Rattle.std.proofs.Common.{sym, ap, ◌∙◌, arith, le_trans, length-append}
+use Rattle.std.proofs.Common.{ℕ, List, ◌++◌, Vec, Global}
+use Rattle.std.proofs.Common.{ap, ◌∙◌, arith, le_trans, length-append}
 use Rattle.std.proofs.lemmas.List.{append_assoc}
-use Rattle.std.specs.Prelude.{⊤, min}
+use Rattle.std.specs.Prelude.{⊤}
 use Rattle.jsonb_codec.specs.Room.{HasRoom, AppendsBytes}
 use Rattle.jsonb_codec.proofs.Appending.{length-Appended}
 use Rattle.jsonb_comparable.specs.declared.sink.KeyLength.{KeyLength}

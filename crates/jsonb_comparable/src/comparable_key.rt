@@ -10,8 +10,8 @@ ghost use Rattle.std.specs.Ordering.{nat_cmp};
 ghost use Rattle.std.proofs.Common.{rules};
 ghost use Rattle.jsonb_comparable.specs.ComparableKey.{comparable_bytes};
 
-use crate::key::append_source_key;
-use crate::source::Source;
+use crate::checked_bytes::CheckedBytes;
+use crate::key::append_checked_key;
 use jsonb::{Document, Error, RawJsonb};
 use std::alloc::Global;
 use std::cmp::Ordering;
@@ -29,7 +29,8 @@ impl ComparableKey {
     ghost use Rattle.jsonb.specs.Document.{document_tree};
     ghost use Rattle.jsonb.specs.ItemMeaning.{raw_meaning};
     ghost use Rattle.jsonb.specs.Raw.{raw_bytes};
-    ghost use Rattle.jsonb_comparable.specs.ComparableKey.{comparable_bytes, source_meaning};
+    ghost use Rattle.jsonb_comparable.specs.CheckedBytes.{checked_meaning};
+    ghost use Rattle.jsonb_comparable.specs.ComparableKey.{comparable_bytes};
     ghost use Rattle.jsonb_comparable.specs.TreeKey.{meaning_key, tree_key};
     ghost use Rattle.jsonb_comparable.specs.Within.{meaning_within};
 
@@ -40,7 +41,7 @@ impl ComparableKey {
             (λ key. comparable_bytes key ≡ tree_key (document_tree document.entry)) }
         ensures memory { IfErr result (λ e. e ≡ Error.OutOfMemory) }
     {
-        Self::of_source(alloc, Source::Document(document))
+        Self::of_checked(alloc, CheckedBytes::Document(document))
     }
 
     /// The key of any bytes, as `append_key_of` appends it. `OutOfMemory` is the only error.
@@ -49,7 +50,7 @@ impl ComparableKey {
             (λ key. comparable_bytes key ≡ meaning_key (raw_meaning raw.entry)) }
         ensures memory { IfErr result (λ e. e ≡ Error.OutOfMemory) }
     {
-        Self::of_source(alloc, Source::new(raw))
+        Self::of_checked(alloc, CheckedBytes::new(raw))
     }
 
     /// The key of bytes from a stranger, as `append_key_within` appends it. `OutOfMemory` is the
@@ -59,17 +60,17 @@ impl ComparableKey {
             ≡ meaning_key (meaning_within depth (raw_bytes raw.entry))) }
         ensures memory { IfErr result (λ e. e ≡ Error.OutOfMemory) }
     {
-        Self::of_source(alloc, Source::within(raw, depth))
+        Self::of_checked(alloc, CheckedBytes::within(raw, depth))
     }
 
     // The key of bytes that were checked.
-    fn of_source(alloc: Global, source: Source<'_>) -> Result<Self, Error>
+    fn of_checked(alloc: Global, checked: CheckedBytes<'_>) -> Result<Self, Error>
         ensures ok { IfOk result
-            (λ key. comparable_bytes key ≡ meaning_key (source_meaning source.entry)) }
+            (λ key. comparable_bytes key ≡ meaning_key (checked_meaning checked.entry)) }
         ensures memory { IfErr result (λ e. e ≡ Error.OutOfMemory) }
     {
         let mut bytes = Vec::new(alloc);
-        append_source_key(source, &mut bytes)?;
+        append_checked_key(checked, &mut bytes)?;
         Ok(ComparableKey { bytes })
     }
 

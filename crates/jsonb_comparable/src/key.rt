@@ -5,36 +5,36 @@ ghost use Rattle.std.specs.Prelude.{vec_capacity};
 ghost use Rattle.jsonb.specs.Document.{document_tree};
 ghost use Rattle.jsonb.specs.ItemMeaning.{raw_meaning};
 ghost use Rattle.jsonb.specs.Raw.{raw_bytes};
-ghost use Rattle.jsonb_comparable.specs.ComparableKey.{source_meaning};
+ghost use Rattle.jsonb_comparable.specs.CheckedBytes.{checked_meaning};
 ghost use Rattle.jsonb_comparable.specs.Sink.{length_64};
 ghost use Rattle.jsonb_comparable.specs.TreeKey.{tree_key, meaning_key};
 ghost use Rattle.jsonb_comparable.specs.Within.{meaning_within};
 
+use crate::checked_bytes::CheckedBytes;
 use crate::sink::KeyLength;
-use crate::source::Source;
-use crate::walk::append_source;
+use crate::walk::append_checked;
 use jsonb::{Document, Error, RawJsonb};
 
-/// The length of a source's key, or `usize::MAX` where it is longer.
-pub fn len_of_source(source: Source<'_>) -> usize
-    ensures { result ≡ length_64 (meaning_key (source_meaning source.entry)) }
+/// The length of the key of checked bytes, or `usize::MAX` where it is longer.
+pub fn len_of_checked(checked: CheckedBytes<'_>) -> usize
+    ensures { result ≡ length_64 (meaning_key (checked_meaning checked.entry)) }
 {
     let mut length = KeyLength { len: 0 };
-    append_source(source, &mut length);
+    append_checked(checked, &mut length);
     length.len
 }
 
-/// Appends the key of a source, for which memory is requested once.
-pub fn append_source_key(source: Source<'_>, buffer: &mut Vec<u8>) -> Result<(), Error>
+/// Appends the key of checked bytes, for which memory is requested once.
+pub fn append_checked_key(checked: CheckedBytes<'_>, buffer: &mut Vec<u8>) -> Result<(), Error>
     ensures appended { OnOk result
-        (buffer.new.items ≡ buffer.old.items ++ meaning_key (source_meaning source.entry)) }
+        (buffer.new.items ≡ buffer.old.items ++ meaning_key (checked_meaning checked.entry)) }
     ensures err { OnErr result (buffer.new.items ≡ buffer.old.items) }
     ensures memory { IfErr result (λ e. e ≡ Error.OutOfMemory) }
-    ensures room { length buffer.old.items + length (meaning_key (source_meaning source.entry))
+    ensures room { length buffer.old.items + length (meaning_key (checked_meaning checked.entry))
         ≤ vec_capacity buffer.old → IsOk result }
 {
-    buffer.try_reserve(len_of_source(source))?;
-    append_source(source, buffer);
+    buffer.try_reserve(len_of_checked(checked))?;
+    append_checked(checked, buffer);
     Ok(())
 }
 
@@ -44,7 +44,7 @@ pub fn append_source_key(source: Source<'_>, buffer: &mut Vec<u8>) -> Result<(),
 pub fn key_len(document: Document<'_>) -> usize
     ensures { result ≡ length_64 (tree_key (document_tree document.entry)) }
 {
-    len_of_source(Source::Document(document))
+    len_of_checked(CheckedBytes::Document(document))
 }
 
 /// The length of the key of any bytes, as `append_key_of` appends it, without memory. It is
@@ -52,7 +52,7 @@ pub fn key_len(document: Document<'_>) -> usize
 pub fn key_len_of(raw: RawJsonb<'_>) -> usize
     ensures { result ≡ length_64 (meaning_key (raw_meaning raw.entry)) }
 {
-    len_of_source(Source::new(raw))
+    len_of_checked(CheckedBytes::new(raw))
 }
 
 /// The length of the key of bytes from a stranger, as `append_key_within` appends it, without
@@ -60,7 +60,7 @@ pub fn key_len_of(raw: RawJsonb<'_>) -> usize
 pub fn key_len_within(raw: RawJsonb<'_>, depth: usize) -> usize
     ensures { result ≡ length_64 (meaning_key (meaning_within depth (raw_bytes raw.entry))) }
 {
-    len_of_source(Source::within(raw, depth))
+    len_of_checked(CheckedBytes::within(raw, depth))
 }
 
 /// Appends the key of a document: a byte string that compares with other keys as the document does
@@ -75,7 +75,7 @@ pub fn append_key(document: Document<'_>, buffer: &mut Vec<u8>) -> Result<(), Er
     ensures room { length buffer.old.items + length (tree_key (document_tree document.entry))
         ≤ vec_capacity buffer.old → IsOk result }
 {
-    append_source_key(Source::Document(document), buffer)
+    append_checked_key(CheckedBytes::Document(document), buffer)
 }
 
 /// Appends the key of any bytes. Bytes that are no document have a key above those of all
@@ -91,7 +91,7 @@ pub fn append_key_of(raw: RawJsonb<'_>, buffer: &mut Vec<u8>) -> Result<(), Erro
     ensures room { length buffer.old.items + length (meaning_key (raw_meaning raw.entry))
         ≤ vec_capacity buffer.old → IsOk result }
 {
-    append_source_key(Source::new(raw), buffer)
+    append_checked_key(CheckedBytes::new(raw), buffer)
 }
 
 /// Appends the key of bytes from a stranger: a document that nests at most that deep has its own
@@ -109,5 +109,5 @@ pub fn append_key_within(raw: RawJsonb<'_>, depth: usize, buffer: &mut Vec<u8>) 
         + length (meaning_key (meaning_within depth (raw_bytes raw.entry)))
         ≤ vec_capacity buffer.old → IsOk result }
 {
-    append_source_key(Source::within(raw, depth), buffer)
+    append_checked_key(CheckedBytes::within(raw, depth), buffer)
 }

@@ -2,6 +2,7 @@
 //! order of the documents. A store that sorts byte strings sorts documents by their keys.
 #![tactic(auto)]
 
+mod checked_bytes;
 mod comparable_key;
 mod escape;
 mod extension;
@@ -9,11 +10,11 @@ mod key;
 mod laws;
 mod number;
 mod sink;
-mod source;
 #[cfg(test)]
 mod tests;
 mod walk;
 
+pub use checked_bytes::CheckedBytes;
 pub use comparable_key::ComparableKey;
 pub use key::{append_key, append_key_of, append_key_within, key_len, key_len_of, key_len_within};
 pub use laws::{key_laws, key_laws_of_bytes, key_laws_within};

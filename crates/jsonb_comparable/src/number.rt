@@ -3,7 +3,7 @@
 ghost use Rattle.std.specs.Prelude.{◌≡◌, ◌<◌, ◌≤◌, ◌+◌, ◌-◌, ◌*◌, ◌^◌, ◌∷◌, []};
 ghost use Rattle.jsonb_comparable.specs.NumberKey.{count_bytes, natural_key, decimal_key};
 ghost use Rattle.jsonb_comparable.specs.NumberKey.{number_key};
-ghost use Rattle.jsonb_comparable.specs.SplitDigits.{split_pairs, signed};
+ghost use Rattle.jsonb_comparable.specs.SplitDigits.{digits_value, split_pairs, signed};
 
 use crate::sink::Sink;
 use jsonb::Number;
@@ -97,8 +97,7 @@ struct SplitDigits {
 // A magnitude over 10 ^ scale, times 10 ^ 256.
 fn split_digits(magnitude: u128, scale: u8) -> SplitDigits
     requires { magnitude ≤ 2 ^ 127 }
-    ensures value { magnitude * 10 ^ (256 - scale)
-        ≡ (result.high * 100 + result.low) * 100 ^ result.zeros }
+    ensures value { magnitude * 10 ^ (256 - scale) ≡ digits_value result }
     ensures high { result.high < 100 ^ 19 }
     ensures low { result.low < 100 }
     ensures zeros { result.zeros ≤ 128 }
@@ -134,6 +133,21 @@ fn append_count<S: Sink>(negative: bool, count: usize, sink: &mut S)
     }
 }
 
+// The key of a number that is not 0, by its sign and its split digits.
+fn append_digits<S: Sink>(negative: bool, digits: SplitDigits, sink: &mut S)
+    requires some { 0 < digits.high * 100 + digits.low }
+    requires high { digits.high < 100 ^ 19 }
+    requires low { digits.low < 100 }
+    requires zeros { digits.zeros ≤ 128 }
+    requires room { S.room sink.old (signed negative (natural_key (digits_value digits))) }
+    ensures { S.appends sink.old sink.new (signed negative (natural_key (digits_value digits))) }
+{
+    let SplitDigits { high, low, zeros } = digits;
+    let pairs = count_pairs(high);
+    append_count(negative, pairs + zeros + 1, sink);
+    append_pairs(negative, high, low, pairs, sink);
+}
+
 // The key of a number by its sign and magnitude.
 fn append_magnitude<S: Sink>(negative: bool, magnitude: u128, scale: u8, sink: &mut S)
     requires magnitude { magnitude ≤ 2 ^ 127 }
@@ -142,14 +156,12 @@ fn append_magnitude<S: Sink>(negative: bool, magnitude: u128, scale: u8, sink: &
     ensures { S.appends sink.old sink.new
         (signed negative (natural_key (magnitude * 10 ^ (256 - scale)))) }
 {
-    let SplitDigits { high, low, zeros } = split_digits(magnitude, scale);
-    if high == 0 && low == 0 {
+    let digits = split_digits(magnitude, scale);
+    if digits.high == 0 && digits.low == 0 {
         append_signed(negative, 128, sink);
-        return;
+    } else {
+        append_digits(negative, digits, sink);
     }
-    let pairs = count_pairs(high);
-    append_count(negative, pairs + zeros + 1, sink);
-    append_pairs(negative, high, low, pairs, sink);
 }
 
 // The key of `value` over 10 ^ scale.

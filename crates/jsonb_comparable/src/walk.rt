@@ -6,14 +6,14 @@ ghost use Rattle.jsonb_value.specs.Value.{trees_of};
 ghost use Rattle.jsonb.specs.Document.{document_tree};
 ghost use Rattle.jsonb.specs.Facts.{rest_trees, rest_pairs};
 ghost use Rattle.jsonb.specs.Node.{node_tree, member_tree, pairs_of, HoldsNoScalar, IsContainer};
-ghost use Rattle.jsonb_comparable.specs.ComparableKey.{source_meaning};
+ghost use Rattle.jsonb_comparable.specs.CheckedBytes.{checked_meaning};
 ghost use Rattle.jsonb_comparable.specs.TreeKey.{tree_key, trees_key, pairs_key, meaning_key};
 
+use crate::checked_bytes::CheckedBytes;
 use crate::escape::{append_escaped, append_marked};
 use crate::extension::append_extension;
 use crate::number::append_number;
 use crate::sink::Sink;
-use crate::source::Source;
 use jsonb::{Document, Items, Members, Node};
 
 // The first bytes of keys, which rise with the kind. Those of extension values are below them, and
@@ -37,15 +37,15 @@ const ARRAY_END: u8 = 0;
 
 const OBJECT_END: u8 = 0;
 
-/// Appends the key of a source.
+/// Appends the key of checked bytes.
 #[tactic(auto, unfolding(crate::specs::TreeKey::meaning_key))]
-pub fn append_source<S: Sink>(source: Source<'_>, sink: &mut S)
-    requires { S.room sink.old (meaning_key (source_meaning source)) }
-    ensures { S.appends sink.old sink.new (meaning_key (source_meaning source.entry)) }
+pub fn append_checked<S: Sink>(checked: CheckedBytes<'_>, sink: &mut S)
+    requires { S.room sink.old (meaning_key (checked_meaning checked)) }
+    ensures { S.appends sink.old sink.new (meaning_key (checked_meaning checked.entry)) }
 {
-    match source {
-        Source::Document(document) => append_node(document.value(), sink),
-        Source::Other(bytes) => append_marked(OTHER_BYTES, bytes, sink),
+    match checked {
+        CheckedBytes::Document(document) => append_node(document.value(), sink),
+        CheckedBytes::Other(bytes) => append_marked(OTHER_BYTES, bytes, sink),
     }
 }
 

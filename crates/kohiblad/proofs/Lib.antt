@@ -1,4 +1,3 @@
-pub mod BoundedMeanings
 pub mod FoundPlaces
 pub mod Lookups
 pub mod NumberLengths

@@ -12,25 +12,25 @@ use Rattle.std.specs.List.Sorted.{IsPermutation, IsSorted}
 use Rattle.std.specs.Ordering.{nat_cmp, ordering_then, is_lt}
 use Rattle.std.specs.declared.cmp.Ordering.{Ordering}
 use Rattle.jsonb_value.specs.Meaning.{Meaning, meaning_cmp}
-use Rattle.kohiblad.specs.declared.bounded_key.BoundedKey.{BoundedKey}
-use Rattle.kohiblad.specs.BoundedMeaning.{key_meaning}
+use Rattle.jsonb_comparable.specs.declared.checked_bytes.CheckedBytes.{CheckedBytes}
+use Rattle.jsonb_comparable.specs.CheckedBytes.{checked_meaning}
 use Rattle.kohiblad.specs.Rows.{rows_from}
 use Rattle.kohiblad.specs.SortOrder.{row_cmp, IsOrderOf}
 
-abbrev pub numbers_of : List (BoundedKey × ℕ) → List ℕ
+abbrev pub numbers_of : List (CheckedBytes × ℕ) → List ℕ
 numbers_of keys = map (λ key. key.1) keys
 
 -- The key means what the row with its number means.
-abbrev pub IsKeyOf : (List ℕ → Meaning) → List (List ℕ) → BoundedKey × ℕ → Type 0
-IsKeyOf means rows key = key_meaning key.0 ≡ means (slice_index_or rows key.1 [])
+abbrev pub IsKeyOf : (List ℕ → Meaning) → List (List ℕ) → CheckedBytes × ℕ → Type 0
+IsKeyOf means rows key = checked_meaning key.0 ≡ means (slice_index_or rows key.1 [])
 
 -- the order of keys, and of equal ones by their numbers
-abbrev pub key_cmp : BoundedKey × ℕ → BoundedKey × ℕ → Ordering
-key_cmp x y = ordering_then (meaning_cmp (key_meaning x.0) (key_meaning y.0)) (nat_cmp x.1 y.1)
+abbrev pub key_cmp : CheckedBytes × ℕ → CheckedBytes × ℕ → Ordering
+key_cmp x y = ordering_then (meaning_cmp (checked_meaning x.0) (checked_meaning y.0)) (nat_cmp x.1 y.1)
 
 -- the keys of the first rows, and the rows that are left
 pub record KeysSoFar (means : List ℕ → Meaning) (rows left : List (List ℕ))
-    (keys : List (BoundedKey × ℕ)) : Type 0 where
+    (keys : List (CheckedBytes × ℕ)) : Type 0 where
   pub numbers : numbers_of keys ≡ range_with_len 0 (length keys)
   pub behind : drop (length keys) rows ≡ left
   pub count : length keys + length left ≡ length rows
@@ -44,9 +44,9 @@ range_with_len-push a (suc n) =
     (range_with_len-push (a + 1) n ∙ ap (λ (k : ℕ). range_with_len (a + 1) n ++ k ∷ []) next)
 
 pub one_more_key : (means : List ℕ → Meaning) (rows left behind : List (List ℕ)) (row : List ℕ)
-    (keys : List (BoundedKey × ℕ))
-    (key : BoundedKey) → KeysSoFar means rows left keys → left ≡ row ∷ behind
-    → key_meaning key ≡ means row
+    (keys : List (CheckedBytes × ℕ))
+    (key : CheckedBytes) → KeysSoFar means rows left keys → left ≡ row ∷ behind
+    → checked_meaning key ≡ means row
     → KeysSoFar means rows behind (keys ++ (key, length keys) ∷ [])
 one_more_key means rows left behind row keys key so_far cut is =
     let n = length keys in
@@ -64,7 +64,7 @@ one_more_key means rows left behind row keys key so_far cut is =
     let this : 0 + length keys ≡ length keys = omega arith in
     record {
       numbers =
-          map-append (λ (key : BoundedKey × ℕ). key.1) keys ((key, length keys) ∷ [])
+          map-append (λ (key : CheckedBytes × ℕ). key.1) keys ((key, length keys) ∷ [])
           ∙ ap (λ (ks : List ℕ). ks ++ length keys ∷ []) so_far.numbers
           ∙ ap (λ (k : ℕ). range_with_len 0 (length keys) ++ k ∷ []) (sym this)
           ∙ sym (range_with_len-push 0 (length keys))
@@ -77,17 +77,17 @@ one_more_key means rows left behind row keys key so_far cut is =
           (All-nil (IsKeyOf means rows)));
     }
 
-ordered_at : (means : List ℕ → Meaning) (rows : List (List ℕ)) (keys : List (BoundedKey × ℕ))
-    (d : BoundedKey × ℕ)
+ordered_at : (means : List ℕ → Meaning) (rows : List (List ℕ)) (keys : List (CheckedBytes × ℕ))
+    (d : CheckedBytes × ℕ)
     → All (IsKeyOf means rows) keys → IsSorted key_cmp keys → IsSorted (row_cmp means rows)
     (numbers_of keys)
 ordered_at means rows keys d are sorted = λ k e low high.
     let long : length (numbers_of keys) ≡ length keys =
-    length-map keys (λ (key : BoundedKey × ℕ). key.1) in
-    let x : BoundedKey × ℕ = slice_index_or keys (k + 1) d in
-    let y : BoundedKey × ℕ = slice_index_or keys k d in
-    let first = get_or-map (λ (key : BoundedKey × ℕ). key.1) keys k d e (omega arith) in
-    let second = get_or-map (λ (key : BoundedKey × ℕ). key.1) keys (k + 1) d e (omega arith) in
+    length-map keys (λ (key : CheckedBytes × ℕ). key.1) in
+    let x : CheckedBytes × ℕ = slice_index_or keys (k + 1) d in
+    let y : CheckedBytes × ℕ = slice_index_or keys k d in
+    let first = get_or-map (λ (key : CheckedBytes × ℕ). key.1) keys k d e (omega arith) in
+    let second = get_or-map (λ (key : CheckedBytes × ℕ). key.1) keys (k + 1) d e (omega arith) in
     let first_means = All-get_or (IsKeyOf means rows) keys k d (omega arith) are in
     let second_means = All-get_or (IsKeyOf means rows) keys (k + 1) d (omega arith) are in
     ap is_lt (
@@ -97,7 +97,7 @@ ordered_at means rows keys d are sorted = λ k e low high.
     )
     ∙ sorted k d low (omega arith)
 
-ordered : (means : List ℕ → Meaning) (rows : List (List ℕ)) (keys : List (BoundedKey × ℕ))
+ordered : (means : List ℕ → Meaning) (rows : List (List ℕ)) (keys : List (CheckedBytes × ℕ))
     → All (IsKeyOf means rows) keys
     → IsSorted key_cmp keys → IsSorted (row_cmp means rows) (numbers_of keys)
 ordered means rows [] are sorted = λ k e low high. absurd (omega arith)
@@ -105,7 +105,7 @@ ordered means rows (key ∷ keys) are sorted = ordered_at means rows (key ∷ ke
 
 -- sorted keys give the order of the rows
 pub order_of_keys : (means : List ℕ → Meaning) (rows left : List (List ℕ))
-    (before after : List (BoundedKey × ℕ)) → left ≡ []
+    (before after : List (CheckedBytes × ℕ)) → left ≡ []
     → KeysSoFar means rows left before → IsPermutation before after → IsSorted key_cmp after
     → IsOrderOf means rows (numbers_of after)
 order_of_keys means rows left before after ended all moved sorted =
@@ -116,7 +116,7 @@ order_of_keys means rows left before after ended all moved sorted =
     record {
       each_once = subst
           (λ (ks : List ℕ). IsPermutation ks (numbers_of after)) numbers
-          (IsPermutation-map (λ (key : BoundedKey × ℕ). key.1) before after moved);
+          (IsPermutation-map (λ (key : CheckedBytes × ℕ). key.1) before after moved);
       ascend = ordered means rows after
           (All-permutation (IsKeyOf means rows) before after moved all.keys_of_rows) sorted;
     }
@@ -134,8 +134,8 @@ length-rows_from bytes start [] = refl
 length-rows_from bytes start (end ∷ ends) = ap suc (length-rows_from bytes end ends)
 
 -- one more number is written at its position
-pub one_more_number : (keys : List (BoundedKey × ℕ)) (old order : List ℕ) (n : ℕ)
-    (d : BoundedKey × ℕ)
+pub one_more_number : (keys : List (CheckedBytes × ℕ)) (old order : List ℕ) (n : ℕ)
+    (d : CheckedBytes × ℕ)
     → n < length keys → length keys ≤ length old → order ≡ numbers_of (take n keys) ++ drop n old
     → slice_set order n (slice_index_or keys n d).1 ≡ numbers_of (take (n + 1) keys)
     ++ drop (n + 1) old
@@ -143,12 +143,12 @@ one_more_number keys old order n d inside fits so_far =
     let front = numbers_of (take n keys) in
     let number : ℕ = (slice_index_or keys n d).1 in
     let long : length (numbers_of (take n keys)) ≡ n = length-map (take n keys)
-    (λ (key : BoundedKey × ℕ). key.1) ∙ length-take-le n keys (omega arith) in
+    (λ (key : CheckedBytes × ℕ). key.1) ∙ length-take-le n keys (omega arith) in
     let cut = drop_more old n 0 (omega arith) in
     let parts = so_far ∙ ap (λ (xs : List ℕ). front ++ xs) cut in
     let more = ap (λ (k : ℕ). numbers_of (take k keys)) (add-one n)
     ∙ ap numbers_of (take-suc keys n d inside) ∙ map-append
-    (λ (key : BoundedKey × ℕ). key.1) (take n keys) (slice_index_or keys n d ∷ []) in
+    (λ (key : CheckedBytes × ℕ). key.1) (take n keys) (slice_index_or keys n d ∷ []) in
     ap₂ (λ (xs : List ℕ) (k : ℕ). slice_set xs k number) parts (sym long)
     ∙ set-append_seam front (slice_index_or old n 0) (drop (n + 1) old) number
     ∙ sym (append_assoc front (number ∷ []) (drop (n + 1) old))

@@ -12,8 +12,8 @@ ghost use Rattle.kohiblad.specs.Status.{sign};
 ghost use Rattle.kohiblad.specs.KindAnswer.{kind_answer};
 
 use crate::answer::{OK, code};
-use crate::bounded_key::BoundedKey;
 use jsonb::{JsonbItemType, RawJsonb, is_document, is_document_within};
+use jsonb_comparable::CheckedBytes;
 use std::cmp::Ordering;
 
 /// Whether the bytes are a document of at most this depth: a scalar has depth 0, an empty array or
@@ -48,8 +48,8 @@ pub extern "C" fn kohiblad_compare_within(left: &[u8], right: &[u8], depth: usiz
     ensures { result ≡ sign (meaning_cmp (meaning_within depth left.now)
         (meaning_within depth right.now)) }
 {
-    let left = BoundedKey::new(left, Some(depth));
-    let right = BoundedKey::new(right, Some(depth));
+    let left = CheckedBytes::within(RawJsonb::new(left), depth);
+    let right = CheckedBytes::within(RawJsonb::new(right), depth);
     sign(left.cmp(&right))
 }
 

@@ -4,7 +4,6 @@
 #![tactic(auto)]
 
 mod answer;
-mod bounded_key;
 mod building;
 mod canonical;
 mod children;

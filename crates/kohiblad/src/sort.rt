@@ -2,14 +2,15 @@
 
 ghost use Rattle.std.specs.Prelude.{◌≡◌, ◌≤◌, ◌++◌, length, drop, map, IfOk, IfErr};
 ghost use Rattle.jsonb.specs.ItemMeaning.{meaning_of};
+ghost use Rattle.jsonb_comparable.specs.CheckedBytes.{checked_meaning};
 ghost use Rattle.jsonb_comparable.specs.Within.{meaning_within};
 ghost use Rattle.kohiblad.specs.BoundedMeaning.{bounded_meaning};
 ghost use Rattle.kohiblad.specs.SortOrder.{IsOrderOf, AreRowsOrdered};
 
 use crate::answer::{NO_ROOM, OK, code};
-use crate::bounded_key::BoundedKey;
 use crate::rows::Rows;
-use jsonb::Error;
+use jsonb::{Error, RawJsonb};
+use jsonb_comparable::CheckedBytes;
 use std::alloc::Global;
 
 /// Writes the numbers of the rows, counted from 0, to the start of `order`, sorted by the meaning
@@ -75,7 +76,7 @@ fn keys_in_order<'a>(
     alloc: Global,
     rows: Rows<'a>,
     limit: Option<usize>,
-) -> Result<Vec<(BoundedKey<'a>, usize)>, Error>
+) -> Result<Vec<(CheckedBytes<'a>, usize)>, Error>
     ensures ok { IfOk result (λ keys. IsOrderOf (bounded_meaning limit)
         rows.entry (map (λ key. key.1) keys.items)) }
     ensures len { IfOk result (λ keys. length keys.items ≡ length rows.entry) }
@@ -84,14 +85,25 @@ fn keys_in_order<'a>(
     let mut left = rows;
     let mut keys = Vec::new(alloc);
     while let Some(row) = left.next() {
-        keys.push((BoundedKey::new(row, limit), keys.len()))?;
+        keys.push((check(row, limit), keys.len()))?;
     }
     keys.sort()?;
     Ok(keys)
 }
 
+// Checks bytes, where there may be a limit of depth.
+fn check<'a>(bytes: &'a [u8], limit: Option<usize>) -> CheckedBytes<'a>
+    ensures { checked_meaning result ≡ bounded_meaning limit bytes.now }
+{
+    let raw = RawJsonb::new(bytes);
+    match limit {
+        Some(depth) => CheckedBytes::within(raw, depth),
+        None => CheckedBytes::new(raw),
+    }
+}
+
 // Writes the numbers of the keys to the start of `order`.
-fn put_numbers(keys: &[(BoundedKey, usize)], order: &mut [usize])
+fn put_numbers(keys: &[(CheckedBytes, usize)], order: &mut [usize])
     requires { length keys.now ≤ length order.old }
     ensures { order.new ≡ map (λ key. key.1) keys.now ++ drop (length keys.now) order.old }
 {

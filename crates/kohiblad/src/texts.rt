@@ -10,7 +10,8 @@ ghost use Rattle.kohiblad.specs.Output.{IsWritten, IsRead, IsReadWithin};
 
 use crate::answer::{TOO_DEEP, code, hand_over, refuse};
 use bstr::ByteSlice;
-use jsonb::{Document, Error, OwnedJsonb, RawJsonb, is_text_within};
+use jsonb::{Error, OwnedJsonb, RawJsonb, is_text_within};
+use jsonb_comparable::CheckedBytes;
 use std::alloc::Global;
 use std::str;
 
@@ -48,12 +49,12 @@ pub extern "C" fn kohiblad_to_string_within(
     ensures { IsWritten (plain_text (meaning_within depth bytes.now)) out.old out.new length.new
         result }
 {
-    let Some(document) = Document::within(bytes, depth) else {
-        return write_other(alloc, bytes, out, length);
-    };
-    match document.to_string(alloc) {
-        Ok(text) => hand_over(text.as_bytes(), out, length),
-        Err(error) => refuse(code(error), out, length),
+    match CheckedBytes::within(RawJsonb::new(bytes), depth) {
+        CheckedBytes::Document(document) => match document.to_string(alloc) {
+            Ok(text) => hand_over(text.as_bytes(), out, length),
+            Err(error) => refuse(code(error), out, length),
+        },
+        CheckedBytes::Other(other) => write_other(alloc, other, out, length),
     }
 }
 
@@ -104,12 +105,12 @@ pub extern "C" fn kohiblad_to_pretty_within(
     ensures { IsWritten (lined_text (meaning_within depth bytes.now)) out.old out.new length.new
         result }
 {
-    let Some(document) = Document::within(bytes, depth) else {
-        return hand_over(b"null", out, length);
-    };
-    match document.to_pretty_string(alloc) {
-        Ok(text) => hand_over(text.as_bytes(), out, length),
-        Err(error) => refuse(code(error), out, length),
+    match CheckedBytes::within(RawJsonb::new(bytes), depth) {
+        CheckedBytes::Document(document) => match document.to_pretty_string(alloc) {
+            Ok(text) => hand_over(text.as_bytes(), out, length),
+            Err(error) => refuse(code(error), out, length),
+        },
+        CheckedBytes::Other(_) => hand_over(b"null", out, length),
     }
 }
 

@@ -1,4 +1,4 @@
-use Rattle.std.proofs.Common.{arith, rules, ◌≡◌, ◌+◌, ◌++◌, ◌∷◌, [], get_or, take, drop, suc, refl}
+use Rattle.std.proofs.Common.{arith, rules, ◌+◌, ◌∷◌, [], get_or, take, drop, suc, refl}
 use Rattle.std.proofs.lemmas.Grind.{common_steps}
 use Rattle.jsonb_comparable.specs.Escaped.{escaped}
 use Rattle.jsonb_comparable.proofs.EscapedLaws.{escaped_low, escaped_plain, run_on, escape_on}

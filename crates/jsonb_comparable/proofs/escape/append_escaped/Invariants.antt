@@ -1,4 +1,4 @@
-use Rattle.std.proofs.Common.{◌≡◌, ℕ, ◌<◌, ◌≤◌, ◌^◌, length, get_or}
+use Rattle.std.proofs.Common.{ℕ, ◌<◌, ◌≤◌, ◌^◌, length, get_or}
 use Rattle.jsonb_comparable.specs.Escaped.{escaped}
 use Rattle.jsonb_comparable.proofs.Sinks.{Going}
 use Rattle.jsonb_comparable.proofs.escape.append_escaped.Given as goal

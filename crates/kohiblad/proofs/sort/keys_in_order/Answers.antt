@@ -12,10 +12,10 @@ loop-row-preserved c =
     let more =
     one_more_key (bounded_meaning c.args.limit) c.args.rows walk.left c.next.new.self
     c.in-Some.row.now walk.keys.items
-    c.new.result walk.invariant c.in-Some.ensures c.new.ensures in
+    c.check.result walk.invariant c.in-Some.ensures c.check.ensures in
     let number : c.len.result ≡ length walk.keys.items = grind (arith, common_steps) in
     let pushed = c.in_ok-push.ensures.items ∙ ap
-    (λ (k : ℕ). walk.keys.items ++ (c.new.result, k) ∷ []) number in
+    (λ (k : ℕ). walk.keys.items ++ (c.check.result, k) ∷ []) number in
     subst (KeysSoFar (bounded_meaning c.args.limit) c.args.rows c.next.new.self) (sym pushed) more
 
 pub returns-clause-ok : goal.returns-clause-ok

@@ -1,8 +1,8 @@
 -- What bytes mean within a depth.
 use Rattle.std.proofs.Common.{◌≡◌, ◌≤◌, ℕ, List, refl, inl, inr, arith}
-use Rattle.std.specs.Prelude.{Bool, true, false, cond, nat_le}
+use Rattle.std.specs.Prelude.{true, false, nat_le}
 use Rattle.std.proofs.lemmas.Bool.Decides.{nat_tests}
-use Rattle.jsonb_value.specs.Meaning.{Meaning, document, other_bytes}
+use Rattle.jsonb_value.specs.Meaning.{document, other_bytes}
 use Rattle.jsonb_value.specs.Tree.{Tree}
 use Rattle.jsonb_value.proofs.PayloadDecision.{Decided}
 use Rattle.jsonb_codec.specs.Depth.{depth, IsDocumentWithin}

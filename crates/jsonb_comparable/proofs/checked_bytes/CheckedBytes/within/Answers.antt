@@ -3,8 +3,8 @@ use Rattle.std.specs.Prelude.{true, false}
 use Rattle.jsonb_codec.specs.Depth.{IsDocumentWithin}
 use Rattle.jsonb.specs.Document.{document_bytes}
 use Rattle.jsonb.specs.Raw.{raw_bytes}
-use Rattle.jsonb_comparable.proofs.SourceLaws.{tree_within, bytes_within}
-use Rattle.jsonb_comparable.proofs.source.Source.within.Goals as goal
+use Rattle.jsonb_comparable.proofs.WithinLaws.{tree_within, bytes_within}
+use Rattle.jsonb_comparable.proofs.checked_bytes.CheckedBytes.within.Goals as goal
 
 pub returns-in-Some : goal.returns-in-Some
 returns-in-Some c =
