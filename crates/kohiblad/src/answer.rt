@@ -19,11 +19,13 @@ pub const NO_ROOM: u32 = 11;
 /// The status of a value that does not exist.
 pub const NONE: u32 = 12;
 
-/// The status of a text that nests too deep.
+/// The status of a text that nests deeper than the given depth.
 pub const TOO_DEEP: u32 = 13;
 
+/// The status of a value of another kind.
 pub const OTHER_KIND: u32 = 14;
 
+/// The status of a number that is not a whole number of 64 bits.
 pub const PAST_RANGE: u32 = 15;
 
 /// The version number of the library: a million per major, a thousand per minor and one per patch

@@ -19,12 +19,12 @@ use jsonb::{ArrayBuilder, Error, ObjectBuilder, OwnedJsonb, RawJsonb, is_documen
 use std::alloc::Global;
 use std::str;
 
-/// Builds the array of the documents in the rows. Row k ends at `ends[k]` and begins at the end of
-/// the previous row, the first at 0. The array is copied to `out` and its length in bytes to
-/// `length`. `InvalidEOF` if an end is below the previous one or beyond the bytes; `InvalidJsonb`
-/// if a row is not a document, or a limit of the format is exceeded; `OutOfMemory`; `NO_ROOM` if
-/// `out` is shorter than the array. If the status is not `OK`, `out` is unchanged; `length` is then
-/// 0, except for `NO_ROOM`.
+/// Builds the array of the documents in the rows, and copies it to `out` and its length in bytes to
+/// `length`. Row k ends at `ends[k]` and begins at the end of the previous row, the first at 0.
+/// `InvalidEOF` if an end is below the previous one or beyond the bytes; `InvalidJsonb` if a row is
+/// not a document, or a limit of the format is exceeded; `OutOfMemory` if an allocation fails;
+/// `NO_ROOM` if `out` is shorter than the array. If the status is not `OK`, `out` is unchanged, and
+/// `length` is 0, or for `NO_ROOM` the length of the array.
 #[unsafe(no_mangle)]
 pub extern "C" fn kohiblad_build_array(
     alloc: Global,
@@ -41,9 +41,14 @@ pub extern "C" fn kohiblad_build_array(
     write_array(alloc, rows, out, length)
 }
 
-/// The same, where a document that nests deeper than the depth counts as no document:
-/// `InvalidJsonb` if there is such a row, before anything is built. Levels beyond the depth are not
-/// examined.
+/// Builds the array of the documents in the rows, and copies it to `out` and its length in bytes to
+/// `length`. Row k ends at `ends[k]` and begins at the end of the previous row, the first at 0.
+/// `InvalidEOF` if an end is below the previous one or beyond the bytes; then, before anything is
+/// built, `InvalidJsonb` if a row is not a document of at most this depth. `InvalidJsonb` also if a
+/// limit of the format is exceeded; `OutOfMemory` if an allocation fails; `NO_ROOM` if `out` is
+/// shorter than the array. If the status is not `OK`, `out` is unchanged, and `length` is 0, or for
+/// `NO_ROOM` the length of the array. A scalar has depth 0, an array or object one more than its
+/// deepest child, and at least 1. Deeper levels are not examined.
 #[unsafe(no_mangle)]
 pub extern "C" fn kohiblad_build_array_within(
     alloc: Global,
@@ -87,13 +92,14 @@ fn are_within(rows: Rows, depth: usize) -> bool
     true
 }
 
-/// Builds the object of the pairs in the rows: a key, then its document, and so on. Row k ends at
-/// `ends[k]` and begins at the end of the previous row, the first at 0. The object is copied to
-/// `out` and its length in bytes to `length`. `InvalidEOF` if an end is below the previous one or
-/// beyond the bytes, or the number of rows is odd; `InvalidUtf8` if a key is not UTF-8;
-/// `ObjectDuplicateKey` if a key occurs twice; `InvalidJsonb` if a document is not one, or a limit
-/// of the format is exceeded; `OutOfMemory`; `NO_ROOM` if `out` is shorter than the object. If the
-/// status is not `OK`, `out` is unchanged; `length` is then 0, except for `NO_ROOM`.
+/// Builds the object of the pairs in the rows: a key, then its document, and so on. It is copied to
+/// `out` and its length in bytes to `length`. Row k ends at `ends[k]` and begins at the end of the
+/// previous row, the first at 0. `InvalidEOF` if an end is below the previous one or beyond the
+/// bytes, or the number of rows is odd; `InvalidUtf8` if a key is not UTF-8; `ObjectDuplicateKey`
+/// if a key occurs twice; `InvalidJsonb` if a document is not one, or a limit of the format is
+/// exceeded; `OutOfMemory` if an allocation fails; `NO_ROOM` if `out` is shorter than the object.
+/// If the status is not `OK`, `out` is unchanged, and `length` is 0, or for `NO_ROOM` the length of
+/// the object.
 #[unsafe(no_mangle)]
 pub extern "C" fn kohiblad_build_object(
     alloc: Global,
@@ -111,9 +117,16 @@ pub extern "C" fn kohiblad_build_object(
     write_object(alloc, rows, out, length)
 }
 
-/// The same, where a document that nests deeper than the depth counts as no document:
-/// `InvalidJsonb` if there is such a row, before the keys are looked at. Levels beyond the depth
-/// are not examined.
+/// Builds the object of the pairs in the rows: a key, then its document, and so on. It is copied to
+/// `out` and its length in bytes to `length`. Row k ends at `ends[k]` and begins at the end of the
+/// previous row, the first at 0. `InvalidEOF` if an end is below the previous one or beyond the
+/// bytes, or the number of rows is odd; then, before the keys are looked at, `InvalidJsonb` if a
+/// document is not one of at most this depth. `InvalidUtf8` if a key is not UTF-8;
+/// `ObjectDuplicateKey` if a key occurs twice; `InvalidJsonb` also if a limit of the format is
+/// exceeded; `OutOfMemory` if an allocation fails; `NO_ROOM` if `out` is shorter than the object.
+/// If the status is not `OK`, `out` is unchanged, and `length` is 0, or for `NO_ROOM` the length of
+/// the object. A scalar has depth 0, an array or object one more than its deepest child, and at
+/// least 1. Deeper levels are not examined.
 #[unsafe(no_mangle)]
 pub extern "C" fn kohiblad_build_object_within(
     alloc: Global,

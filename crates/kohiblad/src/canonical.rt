@@ -17,8 +17,9 @@ pub extern "C" fn kohiblad_is_canonical(bytes: &[u8]) -> bool
     is_canonical(bytes)
 }
 
-/// Whether the bytes are canonical and a document of at most this depth. Levels beyond it are not
-/// examined.
+/// Whether the bytes are a document of at most this depth, and canonical: those that the encoder
+/// writes for some value. A scalar has depth 0, an array or object one more than its deepest child,
+/// and at least 1. Deeper levels are not examined.
 #[unsafe(no_mangle)]
 pub extern "C" fn kohiblad_is_canonical_within(bytes: &[u8], depth: usize) -> bool
     ensures { IsTrue result ↔ (IsDocumentWithin depth bytes.now × IsCanonical bytes.now) }
@@ -31,9 +32,9 @@ pub extern "C" fn kohiblad_is_canonical_within(bytes: &[u8], depth: usize) -> bo
 
 /// Copies the canonical document of the value that the bytes mean to `out`, and its length in bytes
 /// to `length`. `InvalidJsonb` if the bytes are not a document, or a payload in an older form
-/// exceeds its limit in its newer form; `OutOfMemory`; `NO_ROOM` if `out` is shorter than the
-/// document. If the status is not `OK`, `out` is unchanged; `length` is then 0, except for
-/// `NO_ROOM`.
+/// exceeds its limit in its newer form; `OutOfMemory` if an allocation fails; `NO_ROOM` if `out` is
+/// shorter than the document. If the status is not `OK`, `out` is unchanged, and `length` is 0, or
+/// for `NO_ROOM` the length of the document.
 #[unsafe(no_mangle)]
 pub extern "C" fn kohiblad_to_canonical(
     alloc: Global,
@@ -49,8 +50,12 @@ pub extern "C" fn kohiblad_to_canonical(
     }
 }
 
-/// The same, where a document that nests deeper than the depth counts as no document. Levels beyond
-/// it are not examined.
+/// Copies the canonical document of the value that the bytes mean to `out`, and its length in bytes
+/// to `length`. `InvalidJsonb` if the bytes are not a document of at most this depth, or a payload
+/// in an older form exceeds its limit in its newer form; `OutOfMemory` if an allocation fails;
+/// `NO_ROOM` if `out` is shorter than the document. If the status is not `OK`, `out` is unchanged,
+/// and `length` is 0, or for `NO_ROOM` the length of the document. A scalar has depth 0, an array
+/// or object one more than its deepest child, and at least 1. Deeper levels are not examined.
 #[unsafe(no_mangle)]
 pub extern "C" fn kohiblad_to_canonical_within(
     alloc: Global,

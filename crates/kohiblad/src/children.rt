@@ -11,8 +11,9 @@ use crate::places::{KohibladPlace, Place, place_answer};
 use jsonb::{Error, read_header, read_jentry};
 use jsonb_codec::constants::{ARRAY_CONTAINER_TAG, OBJECT_CONTAINER_TAG};
 
-/// How far a walk over the children of an array or object has come: the index of the next child,
-/// and where its payload begins; of an object's member, also where its key begins.
+/// The state of a walk over the children of an array or object: the index of the next child, and
+/// the offset at which its payload begins. For an object's member, `key` is the offset of its key;
+/// for an array it is 0.
 #[repr(C)]
 #[derive(Clone, Copy)]
 pub struct KohibladCursor {
@@ -21,14 +22,16 @@ pub struct KohibladCursor {
     pub value: u64,
 }
 
-/// The place of a child's payload; of an object's member, also that of its key.
+/// The position of a child's payload, and for an object's member that of its key.
 #[derive(Clone, Copy)]
 pub struct Child {
     pub key: Option<Place>,
     pub value: Place,
 }
 
-/// Puts the cursor before the first child.
+/// Puts the cursor before the first child of an array or object. `NONE` if the bytes are neither;
+/// `InvalidEOF` if the header or an entry word that is read is cut off; `InvalidJsonb` if the
+/// header is of no kind. If the status is not `OK`, the cursor is unchanged.
 #[unsafe(no_mangle)]
 pub extern "C" fn kohiblad_begin(bytes: &[u8], cursor: &mut KohibladCursor) -> u32
     ensures { IsBegun (cursor_at bytes.now 0) cursor.old cursor.new result }
@@ -43,7 +46,14 @@ pub extern "C" fn kohiblad_begin(bytes: &[u8], cursor: &mut KohibladCursor) -> u
     }
 }
 
-/// The child at the cursor, which is then moved after it. Any cursor may be given.
+/// Stores the position of the child at the cursor in `value`, and that of an object's key in `key`,
+/// and moves the cursor after the child. In a walk from `kohiblad_begin` on, these are the
+/// positions that `kohiblad_part` returns. `NONE` if there are no more children, or the bytes are
+/// neither an array nor an object; `InvalidEOF` if the header or an entry word that is read is cut
+/// off; `InvalidJsonb` if the header is of no kind, or the key or value runs past the end. Both
+/// positions have the status that is returned, except that the key of an array's item has `NONE`; a
+/// position whose status is not `OK` has zeros. If the status that is returned is not `OK`, the
+/// cursor is unchanged. Any cursor may be given: a position with `OK` is inside the bytes.
 #[unsafe(no_mangle)]
 pub extern "C" fn kohiblad_next(
     bytes: &[u8],
@@ -56,7 +66,8 @@ pub extern "C" fn kohiblad_next(
     ensures status { result ≡ value.new.status }
     ensures moved { cursor.new ≡ cursor_after (child_at bytes.now cursor.old) cursor.old }
 
-    // A cursor before the child of an index answers that child, and moves before the next.
+    // At a cursor before the child of an index, that child is returned, and the cursor is then
+    // before the next one.
     ensures child { (index : ℕ) → cursor_at bytes.now index ≡ Ok (Some cursor.old)
         → child_at bytes.now cursor.old ≡ numbered_child bytes.now index }
     ensures walk { (index : ℕ) → cursor_at bytes.now index ≡ Ok (Some cursor.old) → result ≡ 0
@@ -69,7 +80,7 @@ pub extern "C" fn kohiblad_next(
     value.status
 }
 
-// The cursor before the first child. `None` of what is neither an array nor an object.
+// The cursor before the first child. `None` if the bytes are neither an array nor an object.
 fn first_cursor(bytes: &[u8]) -> Result<Option<KohibladCursor>, Error>
     ensures { result ≡ cursor_at bytes.now 0 }
 {
@@ -91,7 +102,7 @@ fn first_cursor(bytes: &[u8]) -> Result<Option<KohibladCursor>, Error>
     }
 }
 
-// Where the payload of a part begins, by its number, where there are so many entries.
+// The offset of a part's payload, by number, given the number of all entries.
 fn part_start(bytes: &[u8], entries: usize, number: usize) -> Result<usize, Error>
     requires entries { entries < 2 ^ 30 }
     requires number { number < 2 ^ 31 }
@@ -131,7 +142,7 @@ fn child_at(bytes: &[u8], cursor: KohibladCursor) -> Result<Option<Child>, Error
     }
 }
 
-// The place of a payload that begins there, by its entry.
+// The position of a payload that begins at `start` and whose entry word is at `entry`.
 fn place_at(bytes: &[u8], entry: usize, start: u64) -> Result<Place, Error>
     requires { entry < 2 ^ 40 }
     ensures value { result ≡ place_at bytes.now entry start }
@@ -150,7 +161,7 @@ fn place_at(bytes: &[u8], entry: usize, start: u64) -> Result<Place, Error>
     })
 }
 
-// The cursor after a child that was found; else the same.
+// The cursor after a child that was found, or the unchanged cursor if none was.
 fn cursor_after(found: Result<Option<Child>, Error>, cursor: KohibladCursor) -> KohibladCursor
     requires { CanMove found cursor }
     ensures { result ≡ cursor_after found cursor }
@@ -168,7 +179,7 @@ fn cursor_after(found: Result<Option<Child>, Error>, cursor: KohibladCursor) -> 
     }
 }
 
-// What C receives for a child's key: for an item, that there is none.
+// The position of a child's key as C receives it: `NONE` for an array's item.
 fn key_answer(found: Result<Option<Child>, Error>) -> KohibladPlace
     ensures { result ≡ key_answer found }
 {
@@ -179,7 +190,7 @@ fn key_answer(found: Result<Option<Child>, Error>) -> KohibladPlace
     }
 }
 
-// What C receives for a child's value.
+// The position of a child's value as C receives it.
 fn value_answer(found: Result<Option<Child>, Error>) -> KohibladPlace
     ensures { result ≡ value_answer found }
 {

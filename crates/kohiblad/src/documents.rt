@@ -16,8 +16,8 @@ use jsonb::{JsonbItemType, RawJsonb, is_document, is_document_within};
 use jsonb_comparable::CheckedBytes;
 use std::cmp::Ordering;
 
-/// Whether the bytes are a document of at most this depth: a scalar has depth 0, an empty array or
-/// object 1, any other array or object one more than its deepest child.
+/// Whether the bytes are a document of at most this depth: a scalar has depth 0, an array or object
+/// one more than its deepest child, and at least 1. Deeper levels are not examined.
 #[unsafe(no_mangle)]
 pub extern "C" fn kohiblad_check(bytes: &[u8], depth: usize) -> bool
     ensures { IsTrue result ↔ IsDocumentWithin depth bytes.now }
@@ -25,7 +25,7 @@ pub extern "C" fn kohiblad_check(bytes: &[u8], depth: usize) -> bool
     is_document_within(bytes, depth)
 }
 
-/// Whether the bytes are a document.
+/// Whether the bytes are a document, however deep it nests.
 #[unsafe(no_mangle)]
 pub extern "C" fn kohiblad_is_document(bytes: &[u8]) -> bool
     ensures { IsTrue result ↔ IsDocument bytes.now }
@@ -42,7 +42,10 @@ pub extern "C" fn kohiblad_compare(left: &[u8], right: &[u8]) -> i32
     sign(RawJsonb::new(left).cmp(&RawJsonb::new(right)))
 }
 
-/// The same, where a document that nests deeper than the depth counts as no document.
+/// Compares byte strings by their meaning, with the result -1, 0 or 1: documents of at most this
+/// depth compare by their values and are less than all other bytes, which compare as bytes. So a
+/// document that nests deeper than `depth` levels counts as no document. A scalar has depth 0, an
+/// array or object one more than its deepest child, and at least 1. Deeper levels are not examined.
 #[unsafe(no_mangle)]
 pub extern "C" fn kohiblad_compare_within(left: &[u8], right: &[u8], depth: usize) -> i32
     ensures { result ≡ sign (meaning_cmp (meaning_within depth left.now)
@@ -64,7 +67,8 @@ fn sign(order: Ordering) -> i32
     }
 }
 
-/// The kind of a value, with the number of an array's items or an object's pairs.
+/// The kind of a value, from 0 for null to 6 for an object, with the number of an array's items or
+/// an object's pairs. The count is 0 for all other kinds.
 #[repr(C)]
 #[derive(Clone, Copy)]
 pub struct KohibladKind {
@@ -73,8 +77,9 @@ pub struct KohibladKind {
     pub count: u64,
 }
 
-/// The kind, read from the first two words; nothing else is checked. `InvalidEOF` if one of these
-/// words is cut off, `InvalidJsonb` if they are of no kind; kind and count are then 0.
+/// The kind of a value, read from the first two words, with the number of an array's items or an
+/// object's pairs; nothing else is checked. `InvalidEOF` if one of these words is cut off,
+/// `InvalidJsonb` if they are of no kind; kind and count are then 0.
 #[unsafe(no_mangle)]
 pub extern "C" fn kohiblad_kind(bytes: &[u8]) -> KohibladKind
     ensures kind { result ≡ kind_answer (kind bytes.now) }

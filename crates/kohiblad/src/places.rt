@@ -27,6 +27,7 @@ pub struct Place {
 }
 
 /// The type of an entry, and the offset and length of its payload in bytes, as C receives them.
+/// They are 0 if the status is not `OK`.
 #[repr(C)]
 #[derive(Clone, Copy)]
 pub struct KohibladPlace {
@@ -39,7 +40,8 @@ pub struct KohibladPlace {
 /// The position of a part of an array or object, by number: the items of an array from 0; for an
 /// object of n pairs the keys from 0 and the values from n. `NONE` if there is no such part;
 /// `InvalidEOF` if the header or an entry word that is read is cut off; `InvalidJsonb` if the
-/// header is of no kind, or the payload runs past the end. Type, offset and length are then 0.
+/// header is of no kind, or the payload runs past the end. If the status is not `OK`, type, offset
+/// and length are 0.
 #[unsafe(no_mangle)]
 pub extern "C" fn kohiblad_part(bytes: &[u8], number: usize) -> KohibladPlace
     ensures value { result ≡ place_answer (place_in bytes.now number) }
@@ -50,8 +52,8 @@ pub extern "C" fn kohiblad_part(bytes: &[u8], number: usize) -> KohibladPlace
 }
 
 /// The position of the value of a key. `NONE` if the object has no such key, or the bytes are not
-/// an object; `InvalidUtf8` if the name is not UTF-8. For bytes that are not a document, the error
-/// of looking up the key in them. Type, offset and length are then 0.
+/// an object; `InvalidUtf8` if the name is not UTF-8; for bytes that are not a document, the error
+/// of looking up the key in them. If the status is not `OK`, type, offset and length are 0.
 #[unsafe(no_mangle)]
 pub extern "C" fn kohiblad_find(bytes: &[u8], name: &[u8]) -> KohibladPlace
     ensures utf8 { (IsUtf8 name.now → ⊥) → result ≡ place_answer (Err Error.InvalidUtf8) }
@@ -68,7 +70,7 @@ pub extern "C" fn kohiblad_find(bytes: &[u8], name: &[u8]) -> KohibladPlace
 /// `length`. `NONE` if the object has no such key, or the bytes are not an object; `InvalidUtf8` if
 /// the name is not UTF-8; for bytes that are not a document, the error of looking up the key in
 /// them; `NO_ROOM` if `out` is shorter than the document. If the status is not `OK`, `out` is
-/// unchanged; `length` is then 0, except for `NO_ROOM`.
+/// unchanged, and `length` is 0, or for `NO_ROOM` the length of the document.
 #[unsafe(no_mangle)]
 pub extern "C" fn kohiblad_get(bytes: &[u8], name: &[u8], out: &mut [u8], length: &mut usize) -> u32
     ensures utf8 { (IsUtf8 name.now → ⊥)
@@ -88,8 +90,8 @@ pub extern "C" fn kohiblad_get(bytes: &[u8], name: &[u8], out: &mut [u8], length
 /// its length in bytes to `length`. `NONE` if the index is not below the number of items, or the
 /// bytes are not an array; `InvalidEOF` if the header or an entry word that is read is cut off;
 /// `InvalidJsonb` if the header is of no kind, or the item runs past the end; `NO_ROOM` if `out` is
-/// shorter than the document. If the status is not `OK`, `out` is unchanged; `length` is then 0,
-/// except for `NO_ROOM`.
+/// shorter than the document. If the status is not `OK`, `out` is unchanged, and `length` is 0, or
+/// for `NO_ROOM` the length of the document.
 #[unsafe(no_mangle)]
 pub extern "C" fn kohiblad_array_item(
     bytes: &[u8],
@@ -110,7 +112,8 @@ pub extern "C" fn kohiblad_array_item(
 /// if the index is not below the number of pairs, or the bytes are not an object; `InvalidEOF` if
 /// the header or an entry word that is read is cut off; `InvalidJsonb` if the header is of no kind,
 /// or the key or value runs past the end; `NO_ROOM` if `key` or `out` is too short. If the status
-/// is not `OK`, `key` and `out` are unchanged; both lengths are then 0, except for `NO_ROOM`.
+/// is not `OK`, `key` and `out` are unchanged, and both lengths are 0, or for `NO_ROOM` the lengths
+/// of the key and the document.
 #[unsafe(no_mangle)]
 pub extern "C" fn kohiblad_object_member(
     bytes: &[u8],
@@ -237,7 +240,8 @@ fn hand_over_place(bytes: &[u8], place: Place, out: &mut [u8], told: &mut usize)
     }
 }
 
-/// What C is told of a place.
+/// The result of a search for a position, as C receives it: `OK` with the type, offset and length;
+/// `NONE` or the status of the error with zeros.
 pub fn place_answer(found: Result<Option<Place>, Error>) -> KohibladPlace
     ensures { result ≡ place_answer found }
 {
@@ -253,7 +257,7 @@ pub fn place_answer(found: Result<Option<Place>, Error>) -> KohibladPlace
     }
 }
 
-/// A status, and no place.
+/// A result with this status, and with type, offset and length 0.
 pub fn no_place(status: u32) -> KohibladPlace
     ensures { result ≡ record { status = status; type_code = 0; offset = 0; length = 0 } }
 {

@@ -28,10 +28,11 @@ use jsonb_value::constants::{
 use std::alloc::Global;
 use std::str;
 
-// A payload is shorter.
+// The first length that the payload of a scalar may not have.
 const PAYLOAD_LIMIT: usize = 1 << 28;
 
-/// The document of null.
+/// Copies the canonical document of null to `out`, and its length in bytes to `length`. `NO_ROOM`
+/// if `out` is shorter than the document; `out` is then unchanged, and `length` is still set.
 #[unsafe(no_mangle)]
 pub extern "C" fn kohiblad_of_null(out: &mut [u8], length: &mut usize) -> u32
     ensures { IsHandedOver (canon null) out.old out.new length.new result }
@@ -39,7 +40,9 @@ pub extern "C" fn kohiblad_of_null(out: &mut [u8], length: &mut usize) -> u32
     hand_over_scalar(NULL_TAG, &[], out, length)
 }
 
-/// The document of a truth value, which is false where the value is 0.
+/// Copies the canonical document of a truth value to `out`, and its length in bytes to `length`.
+/// The value is false if `value` is 0, and true for every other number. `NO_ROOM` if `out` is
+/// shorter than the document; `out` is then unchanged, and `length` is still set.
 #[unsafe(no_mangle)]
 pub extern "C" fn kohiblad_of_boolean(value: u32, out: &mut [u8], length: &mut usize) -> u32
     ensures { IsHandedOver (canon (boolean (is_true value))) out.old out.new length.new result }
@@ -51,7 +54,10 @@ pub extern "C" fn kohiblad_of_boolean(value: u32, out: &mut [u8], length: &mut u
     }
 }
 
-/// The document of a text.
+/// Copies the canonical document of a text, given as its bytes, to `out`, and its length in bytes
+/// to `length`. `InvalidUtf8` if the bytes are not UTF-8; `InvalidJsonb` if there are 2^28 or more;
+/// `NO_ROOM` if `out` is shorter than the document. If the status is not `OK`, `out` is unchanged,
+/// and `length` is 0, or for `NO_ROOM` the length of the document.
 #[unsafe(no_mangle)]
 pub extern "C" fn kohiblad_of_text(bytes: &[u8], out: &mut [u8], length: &mut usize) -> u32
     ensures utf8 { (IsUtf8 bytes.now → ⊥)
@@ -70,7 +76,10 @@ pub extern "C" fn kohiblad_of_text(bytes: &[u8], out: &mut [u8], length: &mut us
     hand_over_scalar(STRING_TAG, bytes, out, length)
 }
 
-/// The document of a whole number, as that of its digits.
+/// Copies the canonical document of a whole number to `out`, and its length in bytes to `length`.
+/// It is the document that `kohiblad_parse` makes of the number's digits. `OutOfMemory` if an
+/// allocation fails; `NO_ROOM` if `out` is shorter than the document. If the status is not `OK`,
+/// `out` is unchanged, and `length` is 0, or for `NO_ROOM` the length of the document.
 #[unsafe(no_mangle)]
 pub extern "C" fn kohiblad_of_int64(
     alloc: Global,
@@ -86,7 +95,12 @@ pub extern "C" fn kohiblad_of_int64(
     }
 }
 
-/// The document of a number of 128 bits in two halves, with so many digits after the point.
+/// Copies the canonical document of the number `high` times 2 to the power of 64, plus `low`, with
+/// `scale` of its digits after the point, to `out`, and its length in bytes to `length`. It is the
+/// document that `kohiblad_parse` makes of the number: 150 with scale 2 is 1.50. `InvalidJsonb` if
+/// the scale is above 255; `OutOfMemory` if an allocation fails; `NO_ROOM` if `out` is shorter than
+/// the document. If the status is not `OK`, `out` is unchanged, and `length` is 0, or for `NO_ROOM`
+/// the length of the document.
 #[unsafe(no_mangle)]
 pub extern "C" fn kohiblad_of_decimal(
     alloc: Global,
@@ -107,10 +121,14 @@ pub extern "C" fn kohiblad_of_decimal(
     }
 }
 
-/// The document of an extension value, by its tag, its fields and its data as `kohiblad_extension`
-/// returns them: a field that the tag does not have must be 0, and data it does not have empty.
-/// `InvalidJsonbExtension` if no value has them; `InvalidJsonb` if the data have 2^28 - 1 bytes or
-/// more; `OutOfMemory`; `NO_ROOM` if `out` is shorter than the document.
+/// Copies the canonical document of an extension value to `out`, and its length in bytes to
+/// `length`. The value is given by its tag and fields as `kohiblad_extension` returns them, and by
+/// its data; fields that the tag does not have must be 0, and the data empty.
+/// `InvalidJsonbExtension` if no extension value has this tag, these fields and this data, so also
+/// if a date does not fit in 32 bits; `InvalidJsonb` if the data have 2^28 - 1 bytes or more;
+/// `OutOfMemory` if an allocation fails; `NO_ROOM` if `out` is shorter than the document. If the
+/// status is not `OK`, `out` is unchanged, and `length` is 0, or for `NO_ROOM` the length of the
+/// document.
 #[unsafe(no_mangle)]
 pub extern "C" fn kohiblad_of_extension(
     alloc: Global,
@@ -137,7 +155,7 @@ pub extern "C" fn kohiblad_of_extension(
     }
 }
 
-// The extension value with this tag, these fields and this data.
+// The extension value with this tag, these fields and this data. `None` if there is none.
 fn extension_with<'a>(
     tag: u32,
     value: i64,
@@ -169,7 +187,8 @@ fn extension_with<'a>(
     }
 }
 
-// The extension value of a tag, by those of the fields that it has.
+// The extension value of a tag, made of the fields that the tag has; others are ignored. `None` if
+// there is none.
 fn extension_at<'a>(
     tag: u32,
     value: i64,
@@ -207,7 +226,7 @@ fn extension_at<'a>(
     }
 }
 
-// The document of an extension value.
+// Copies out the document of an extension value.
 fn write_extension(alloc: Global, value: ExtensionValue, out: &mut [u8], length: &mut usize) -> u32
     ensures value { IsShortExtension (extension_of value.entry)
         → IsWritten (canon (extension (extension_of value.entry))) out.old out.new length.new
@@ -222,14 +241,14 @@ fn write_extension(alloc: Global, value: ExtensionValue, out: &mut [u8], length:
     }
 }
 
-// The number of two halves.
+// The whole number of two halves.
 fn whole_of(high: i64, low: u64) -> i128
     ensures { result ≡ from_halves high low }
 {
     i128::from(high) * (1 << 64) + i128::from(low)
 }
 
-// The number with so many digits after the point.
+// The number with `scale` digits after the point. `None` if the scale is above 255.
 fn number_of(scale: u32, value: i128) -> Option<Number>
     ensures { result ≡ number_of scale value }
 {
@@ -261,7 +280,7 @@ fn decimal_number(scale: u8, value: i128) -> Number
     }
 }
 
-// The document of a number.
+// Copies out the document of a number.
 fn write_number(alloc: Global, value: Number, out: &mut [u8], length: &mut usize) -> u32
     ensures { IsWritten (canon (number value)) out.old out.new length.new result }
 {

@@ -14,10 +14,11 @@ use jsonb_comparable::CheckedBytes;
 use std::alloc::Global;
 
 /// Writes the numbers of the rows, counted from 0, to the start of `order`, sorted by the meaning
-/// of the rows; equal rows keep their order. Row k ends at `ends[k]` and begins at the end of the
-/// previous row, the first at 0. Each row is checked once. `NO_ROOM` if `order` is shorter than
-/// `ends`; `InvalidEOF` if an end is below the previous one or beyond the bytes; `OutOfMemory`. If
-/// the status is not `OK`, `order` is unchanged.
+/// of the rows, as `kohiblad_compare` compares them; equal rows keep their order. Row k ends at
+/// `ends[k]` and begins at the end of the previous row, the first at 0. Each row is checked once.
+/// `NO_ROOM` if `order` is shorter than `ends`; `InvalidEOF` if an end is below the previous one or
+/// beyond the bytes; `OutOfMemory` if an allocation fails. If the status is not `OK`, `order` is
+/// unchanged.
 #[unsafe(no_mangle)]
 pub extern "C" fn kohiblad_sort(
     alloc: Global,
@@ -30,7 +31,14 @@ pub extern "C" fn kohiblad_sort(
     sort_rows(alloc, bytes, ends, None, order)
 }
 
-/// The same, where a document that nests deeper counts as no document.
+/// Writes the numbers of the rows, counted from 0, to the start of `order`, sorted as
+/// `kohiblad_compare_within` compares the rows at this depth; equal rows keep their order. Row k
+/// ends at `ends[k]` and begins at the end of the previous row, the first at 0. A document that
+/// nests deeper than `depth` levels counts as no document, and sorts by its bytes after all
+/// documents. A scalar has depth 0, an array or object one more than its deepest child, and at
+/// least 1. Each row is checked once, and deeper levels are not examined. `NO_ROOM` if `order` is
+/// shorter than `ends`; `InvalidEOF` if an end is below the previous one or beyond the bytes;
+/// `OutOfMemory` if an allocation fails. If the status is not `OK`, `order` is unchanged.
 #[unsafe(no_mangle)]
 pub extern "C" fn kohiblad_sort_within(
     alloc: Global,
@@ -45,7 +53,8 @@ pub extern "C" fn kohiblad_sort_within(
     sort_rows(alloc, bytes, ends, Some(depth), order)
 }
 
-// The same, where there may be a limit of depth.
+// Sorts the rows and writes their numbers. With a limit, a document that nests deeper counts as no
+// document.
 fn sort_rows(
     alloc: Global,
     bytes: &[u8],

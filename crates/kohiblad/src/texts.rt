@@ -17,8 +17,9 @@ use std::str;
 
 /// Copies the text of the bytes to `out`, and its length in bytes to `length`: the compact text of
 /// a document, `null` for no bytes, and for all other bytes their own text, with U+FFFD in place of
-/// invalid UTF-8. `OutOfMemory`; `NO_ROOM` if `out` is shorter than the text. If the status is not
-/// `OK`, `out` is unchanged; `length` is then 0, except for `NO_ROOM`.
+/// invalid UTF-8. `OutOfMemory` if an allocation fails; `NO_ROOM` if `out` is shorter than the
+/// text. If the status is not `OK`, `out` is unchanged, and `length` is 0, or for `NO_ROOM` the
+/// length of the text.
 #[unsafe(no_mangle)]
 pub extern "C" fn kohiblad_to_string(
     alloc: Global,
@@ -36,8 +37,13 @@ pub extern "C" fn kohiblad_to_string(
     }
 }
 
-/// The same, where a document that nests deeper than the depth counts as no document, and so has
-/// its own bytes as its text. Levels beyond it are not examined.
+/// Copies the text of the bytes to `out`, and its length in bytes to `length`: the compact text of
+/// a document, `null` for no bytes, and for all other bytes their own text, with U+FFFD in place of
+/// invalid UTF-8. A document that nests deeper than `depth` levels counts as no document, so its
+/// text is that of its bytes. A scalar has depth 0, an array or object one more than its deepest
+/// child, and at least 1. Deeper levels are not examined. `OutOfMemory` if an allocation fails;
+/// `NO_ROOM` if `out` is shorter than the text. If the status is not `OK`, `out` is unchanged, and
+/// `length` is 0, or for `NO_ROOM` the length of the text.
 #[unsafe(no_mangle)]
 pub extern "C" fn kohiblad_to_string_within(
     alloc: Global,
@@ -73,8 +79,9 @@ fn write_other(alloc: Global, bytes: &[u8], out: &mut [u8], length: &mut usize) 
 
 /// Copies the pretty text of the bytes to `out`, and its length in bytes to `length`: that of a
 /// document with each item or pair on its own line, indented by two spaces for each enclosing
-/// container, and `null` for all other bytes. `OutOfMemory`; `NO_ROOM` if `out` is shorter than the
-/// text. If the status is not `OK`, `out` is unchanged; `length` is then 0, except for `NO_ROOM`.
+/// container, and `null` for all other bytes. `OutOfMemory` if an allocation fails; `NO_ROOM` if
+/// `out` is shorter than the text. If the status is not `OK`, `out` is unchanged, and `length` is
+/// 0, or for `NO_ROOM` the length of the text.
 #[unsafe(no_mangle)]
 pub extern "C" fn kohiblad_to_pretty(
     alloc: Global,
@@ -92,8 +99,13 @@ pub extern "C" fn kohiblad_to_pretty(
     }
 }
 
-/// The same, where a document that nests deeper than the depth counts as no document, and so has
-/// the text `null`. Levels beyond it are not examined.
+/// Copies the pretty text of the bytes to `out`, and its length in bytes to `length`: that of a
+/// document with each item or pair on its own line, indented by two spaces for each enclosing
+/// container, and `null` for all other bytes. A document that nests deeper than `depth` levels
+/// counts as no document, so its text is `null`. A scalar has depth 0, an array or object one more
+/// than its deepest child, and at least 1. Deeper levels are not examined. `OutOfMemory` if an
+/// allocation fails; `NO_ROOM` if `out` is shorter than the text. If the status is not `OK`, `out`
+/// is unchanged, and `length` is 0, or for `NO_ROOM` the length of the text.
 #[unsafe(no_mangle)]
 pub extern "C" fn kohiblad_to_pretty_within(
     alloc: Global,
@@ -117,9 +129,9 @@ pub extern "C" fn kohiblad_to_pretty_within(
 /// Parses a JSON text and copies the canonical document of its value to `out`, and its length in
 /// bytes to `length`. `TOO_DEEP` if more than `depth` brackets outside strings are open at once,
 /// tested before anything else; `InvalidUtf8` if the text is not UTF-8; `InvalidJson` if it is not
-/// accepted JSON; `InvalidJsonb` if a limit of the format is exceeded; `OutOfMemory`; `NO_ROOM` if
-/// `out` is shorter than the document. If the status is not `OK`, `out` is unchanged; `length` is
-/// then 0, except for `NO_ROOM`.
+/// accepted JSON; `InvalidJsonb` if a limit of the format is exceeded; `OutOfMemory` if an
+/// allocation fails; `NO_ROOM` if `out` is shorter than the document. If the status is not `OK`,
+/// `out` is unchanged, and `length` is 0, or for `NO_ROOM` the length of the document.
 #[unsafe(no_mangle)]
 pub extern "C" fn kohiblad_parse(
     alloc: Global,

@@ -24,7 +24,7 @@ use jsonb_value::constants::{
     EXTENSION_TIMESTAMP_TZ,
 };
 
-// The kinds of scalars, as `kohiblad_kind` numbers them.
+// The kinds of scalars, with the numbers that `kohiblad_kind` returns.
 const BOOLEAN: u32 = 1;
 
 const NUMBER: u32 = 2;
@@ -33,7 +33,8 @@ const STRING: u32 = 3;
 
 const EXTENSION: u32 = 4;
 
-/// A number: `high` times 2 to the power of 64, and `low`, over 10 to the power of `scale`.
+/// A number: `high` times 2 to the power of 64, plus `low`, divided by 10 to the power of `scale`.
+/// The three are 0 if the status is not `OK`.
 #[repr(C)]
 #[derive(Clone, Copy)]
 pub struct KohibladDecimal {
@@ -43,7 +44,7 @@ pub struct KohibladDecimal {
     pub low: u64,
 }
 
-/// A whole number of 64 bits.
+/// A whole number of 64 bits, or 0 if the status is not `OK`.
 #[repr(C)]
 #[derive(Clone, Copy)]
 pub struct KohibladInteger {
@@ -51,7 +52,7 @@ pub struct KohibladInteger {
     pub value: i64,
 }
 
-/// A truth value: 0 or 1.
+/// A truth value, 0 or 1, or 0 if the status is not `OK`.
 #[repr(C)]
 #[derive(Clone, Copy)]
 pub struct KohibladTruth {
@@ -59,7 +60,11 @@ pub struct KohibladTruth {
     pub value: u32,
 }
 
-/// An extension value: the first byte of its payload, and by that its fields. All others are 0.
+/// An extension value. `tag` is the first byte of its payload. `value` is the number of a date or a
+/// timestamp, or an interval's microseconds; `months` and `days` are an interval's; `seconds` is
+/// the offset of a timestamp's zone; `offset` and `length` are the position of the data of a binary
+/// value or one with a newer tag. Fields that the tag does not have are 0, and all are 0 if the
+/// status is not `OK`.
 #[repr(C)]
 #[derive(Clone, Copy)]
 pub struct KohibladExtension {
@@ -73,7 +78,11 @@ pub struct KohibladExtension {
     pub length: u64,
 }
 
-/// The number that a document is, with its scale.
+/// The number in the document of a number, as a whole number of 128 bits in two halves and a scale,
+/// the count of its digits after the point. `InvalidEOF` if one of the first two words is cut off;
+/// `InvalidJsonb` if these are of no kind, or the bytes begin like a number but are not a document;
+/// `OTHER_KIND` if they begin like a value of another kind. If the status is not `OK`, the fields
+/// are 0.
 #[unsafe(no_mangle)]
 pub extern "C" fn kohiblad_number(bytes: &[u8]) -> KohibladDecimal
     ensures number { (x : Number) → Doc bytes.now (number x) → IsDecimalOf x result }
@@ -91,7 +100,11 @@ pub extern "C" fn kohiblad_number(bytes: &[u8]) -> KohibladDecimal
     }
 }
 
-/// The number that a document is, where it is a whole number of 64 bits.
+/// The number in the document of a number, if it is a whole number of 64 bits, signed. `PAST_RANGE`
+/// if it does not fit or has digits after its point, even zeros; `InvalidEOF` if one of the first
+/// two words is cut off; `InvalidJsonb` if these are of no kind, or the bytes begin like a number
+/// but are not a document; `OTHER_KIND` if they begin like a value of another kind. If the status
+/// is not `OK`, the value is 0.
 #[unsafe(no_mangle)]
 pub extern "C" fn kohiblad_int64(bytes: &[u8]) -> KohibladInteger
     ensures number { (x : Number) → Doc bytes.now (number x) → result ≡ int64_answer x }
@@ -107,7 +120,10 @@ pub extern "C" fn kohiblad_int64(bytes: &[u8]) -> KohibladInteger
     }
 }
 
-/// Where the text of a document that is a text begins, and how many bytes it has.
+/// The position of the text in the document of a text: its bytes in UTF-8, without quotes and
+/// escapes. `InvalidEOF` if one of the first two words is cut off; `InvalidJsonb` if these are of
+/// no kind, or the bytes begin like a text but are not a document; `OTHER_KIND` if they begin like
+/// a value of another kind. If the status is not `OK`, type, offset and length are 0.
 #[unsafe(no_mangle)]
 pub extern "C" fn kohiblad_text(bytes: &[u8]) -> KohibladPlace
     ensures text { (s : List ℕ) → Doc bytes.now (text s) → result ≡ text_place (length s) }
@@ -125,7 +141,10 @@ pub extern "C" fn kohiblad_text(bytes: &[u8]) -> KohibladPlace
     }
 }
 
-/// The truth value that a document is.
+/// The truth value in the document of a truth value, as 0 or 1. `InvalidEOF` if one of the first
+/// two words is cut off; `InvalidJsonb` if these are of no kind, or the bytes begin like a truth
+/// value but are not a document; `OTHER_KIND` if they begin like a value of another kind. If the
+/// status is not `OK`, the value is 0.
 #[unsafe(no_mangle)]
 pub extern "C" fn kohiblad_boolean(bytes: &[u8]) -> KohibladTruth
     ensures boolean { (b : Bool) → Doc bytes.now (boolean b) → result ≡ truth_of b }
@@ -141,7 +160,10 @@ pub extern "C" fn kohiblad_boolean(bytes: &[u8]) -> KohibladTruth
     }
 }
 
-/// The fields of the extension value that a document is.
+/// The tag and fields of the extension value in the document of one. `InvalidEOF` if one of the
+/// first two words is cut off; `InvalidJsonb` if these are of no kind, or the bytes begin like an
+/// extension value but are not a document; `OTHER_KIND` if they begin like a value of another kind.
+/// If the status is not `OK`, the fields are 0.
 #[unsafe(no_mangle)]
 pub extern "C" fn kohiblad_extension(bytes: &[u8]) -> KohibladExtension
     ensures extension { (e : Extension) → Doc bytes.now (extension e)
@@ -155,7 +177,7 @@ pub extern "C" fn kohiblad_extension(bytes: &[u8]) -> KohibladExtension
     }
 }
 
-// The extension value that a document is.
+// The extension value in the document of one. `None` for all other bytes.
 fn extension_in(bytes: &[u8]) -> Option<ExtensionValue<'_>>
     ensures found { IfSome result (λ x. Doc bytes.now (extension (extension_of x))) }
     ensures none { IfNone result ((e : Extension) → Doc bytes.now (extension e) → ⊥) }
@@ -170,7 +192,8 @@ fn extension_in(bytes: &[u8]) -> Option<ExtensionValue<'_>>
     }
 }
 
-/// The fields of an extension value.
+/// The tag and fields of an extension value. Data are at the offset 9 of its document, after two
+/// words and the tag.
 pub fn fields_of(value: ExtensionValue<'_>) -> KohibladExtension
     ensures { result ≡ extension_answer (extension_of value.entry) }
 {
@@ -204,7 +227,7 @@ pub fn fields_of(value: ExtensionValue<'_>) -> KohibladExtension
     }
 }
 
-// Data after a tag, which is the first byte after two words.
+// The fields of a value that has data. They follow the tag, which follows two words.
 fn data_of(tag: u8, bytes: &[u8]) -> KohibladExtension
     ensures { result ≡ data_answer tag (length bytes.now) }
 {
@@ -216,7 +239,7 @@ fn data_of(tag: u8, bytes: &[u8]) -> KohibladExtension
     }
 }
 
-// A status, and no fields.
+// A result with this status, and with all fields 0.
 fn no_extension(status: u32) -> KohibladExtension
     ensures { result ≡ no_extension status }
 {
@@ -232,7 +255,7 @@ fn no_extension(status: u32) -> KohibladExtension
     }
 }
 
-// The number that a document is.
+// The number in the document of one. `None` for all other bytes.
 fn number_in(bytes: &[u8]) -> Option<Number>
     ensures found { IfSome result (λ x. Doc bytes.now (number x)) }
     ensures none { IfNone result ((x : Number) → Doc bytes.now (number x) → ⊥) }
@@ -247,7 +270,7 @@ fn number_in(bytes: &[u8]) -> Option<Number>
     }
 }
 
-// The truth value that a document is.
+// The truth value in the document of one. `None` for all other bytes.
 fn boolean_in(bytes: &[u8]) -> Option<bool>
     ensures found { IfSome result (λ b. Doc bytes.now (boolean b)) }
     ensures none { IfNone result ((b : Bool) → Doc bytes.now (boolean b) → ⊥) }
@@ -264,7 +287,7 @@ fn boolean_in(bytes: &[u8]) -> Option<bool>
     }
 }
 
-// A truth value as a number.
+// A truth value as C receives it: 0 or 1.
 fn truth_of(value: bool) -> KohibladTruth
     ensures { result ≡ truth_of value }
 {
@@ -281,7 +304,8 @@ fn truth_of(value: bool) -> KohibladTruth
     }
 }
 
-// The entry of a scalar's document. Arrays and objects are not looked into.
+// The entry of a scalar's document. `None` for all other bytes, without examining the children of
+// arrays and objects.
 fn scalar_part(bytes: &[u8]) -> Option<Part<'_>>
     ensures document { IfSome result (λ part. (t : Tree) × Doc bytes.now t) }
     ensures means { IfSome result (λ part. (t : Tree) → Doc bytes.now t → Means part t) }
@@ -293,7 +317,7 @@ fn scalar_part(bytes: &[u8]) -> Option<Part<'_>>
     }
 }
 
-// Why the bytes are no scalar of that kind.
+// The status for bytes that are not the document of a scalar of the wanted kind.
 fn why_none(bytes: &[u8], wanted: u32) -> u32
     ensures { result ≡ why_none wanted (kind_answer (kind bytes.now)) }
 {
@@ -307,7 +331,7 @@ fn why_none(bytes: &[u8], wanted: u32) -> u32
     }
 }
 
-// The value without its point, and how many of its digits come after the point.
+// The number without its point, and the count of its digits after the point.
 fn unscaled(number: Number) -> (i128, u8)
     ensures value { result.0 ≡ coefficient number }
     ensures scale { result.1 ≡ scale number }
@@ -320,7 +344,7 @@ fn unscaled(number: Number) -> (i128, u8)
     }
 }
 
-// The number in two halves, with its scale.
+// The number as C receives it: in two halves, with its scale.
 fn decimal_of(number: Number) -> KohibladDecimal
     ensures { IsDecimalOf number result }
 {
@@ -334,7 +358,7 @@ fn decimal_of(number: Number) -> KohibladDecimal
     }
 }
 
-// The number, where it is a whole one of 64 bits.
+// The number as C receives it, or `PAST_RANGE` if it is not a whole number of 64 bits.
 fn int64_of(number: Number) -> KohibladInteger
     ensures { result ≡ int64_answer number }
 {
