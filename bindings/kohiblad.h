@@ -172,16 +172,17 @@ struct kohiblad_extension_value {
 /* The version of the library. KOHIBLAD_VERSION is that of the header. */
 static inline uint32_t kohiblad_version(void) KOHIBLAD_INLINE("kohiblad_version");
 
-/* The name of a status, "Unknown" of other numbers; at most 21 bytes. */
+/* Copies the name of a status to `out`, "Unknown" for other numbers; at most 21 bytes. NO_ROOM if
+ * `out` has no room for the name. */
 static inline uint32_t kohiblad_status_name(uint32_t status, uint8_t *out, size_t room,
     size_t *length) KOHIBLAD_INLINE("kohiblad_status_name");
 
-/* Whether the bytes are a document of at most this depth: a scalar has depth 0, an array or object
- * 1 if it is empty, else one more than its deepest child. Looks no deeper. */
+/* Whether the bytes are a document of at most this depth. A scalar has depth 0, an array or object
+ * one more than its deepest child, and at least 1. Looks no deeper. */
 static inline bool kohiblad_check(const uint8_t *bytes, size_t size, size_t depth)
     KOHIBLAD_INLINE("kohiblad_check");
 
-/* Whether the bytes are a document, however deep. */
+/* Whether the bytes are a document, however deep it nests. */
 static inline bool kohiblad_is_document(const uint8_t *bytes, size_t size)
     KOHIBLAD_INLINE("kohiblad_is_document");
 
@@ -190,139 +191,180 @@ static inline bool kohiblad_is_document(const uint8_t *bytes, size_t size)
 static inline int32_t kohiblad_compare(const uint8_t *left, size_t left_size,
     const uint8_t *right, size_t right_size) KOHIBLAD_INLINE("kohiblad_compare");
 
-/* The same, but a document that nests deeper than the depth counts as no document. Looks no
- * deeper. */
+/* The order of any two byte strings by what they mean: -1, 0 or 1. Documents of at most this depth
+ * are less than all other bytes, and those are ordered as bytes, also documents that nest deeper.
+ * The order is total. A scalar has depth 0, an array or object one more than its deepest child, and
+ * at least 1. Looks no deeper. */
 static inline int32_t kohiblad_compare_within(const uint8_t *left, size_t left_size,
     const uint8_t *right, size_t right_size, size_t depth)
     KOHIBLAD_INLINE("kohiblad_compare_within");
 
-/* The kind, by the first two words. INVALID_EOF, INVALID_JSONB: these words show none. */
+/* The kind of a value and the number of its children, by the first two words; nothing else is
+ * checked. INVALID_EOF: one of them is cut off; INVALID_JSONB: they are of no kind. Kind and count
+ * are then 0. */
 static inline struct kohiblad_value_kind kohiblad_kind(const uint8_t *bytes, size_t size)
     KOHIBLAD_INLINE("kohiblad_kind");
 
-/* The value of a key, as a document of its own. NONE: there is no such key, or the value is no
- * object. INVALID_UTF8: the name is not UTF-8. Bytes that are no document give some value, NONE or
- * an error's status. */
+/* Copies the value of a key to `out`, as a document of its own. NONE: there is no such key, or the
+ * value is no object. INVALID_UTF8: the name is not UTF-8. Bytes that are no document give some
+ * value, NONE or an error's status. NO_ROOM if `out` has no room for the document. */
 static inline uint32_t kohiblad_get(const uint8_t *bytes, size_t size, const uint8_t *name,
     size_t name_size, uint8_t *out, size_t room, size_t *length) KOHIBLAD_INLINE("kohiblad_get");
 
-/* The place of a key's value, with nothing copied. NONE, INVALID_UTF8: as kohiblad_get. */
+/* The place of a key's value, with nothing copied. NONE: there is no such key, or the value is no
+ * object. INVALID_UTF8: the name is not UTF-8. Bytes that are no document give some place, NONE or
+ * an error's status. With every status but OK, type, offset and length are 0. */
 static inline struct kohiblad_place kohiblad_find(const uint8_t *bytes, size_t size,
     const uint8_t *name, size_t name_size) KOHIBLAD_INLINE("kohiblad_find");
 
 /* The place of a part: of an array of n the items, 0 to n - 1; of an object of n pairs the keys, 0
- * to n - 1, and the values, n to 2n - 1. NONE: there is no such part. Reads one word for each
- * earlier part. */
+ * to n - 1, and the values, n to 2n - 1. NONE: there is no such part. INVALID_EOF: the header or an
+ * entry word that is read is cut off; INVALID_JSONB: the header is of no kind, or the part runs
+ * past the end. Type, offset and length are then 0. Reads one word for each earlier part. */
 static inline struct kohiblad_place kohiblad_part(const uint8_t *bytes, size_t size,
     size_t number) KOHIBLAD_INLINE("kohiblad_part");
 
-/* Begins a walk over the children of an array or object: all of them cost as much as the last one's
- * kohiblad_part alone. NONE: neither an array nor an object. INVALID_EOF, INVALID_JSONB: as of
- * kohiblad_part. With every status but OK the cursor is as it was. */
+/* Puts the cursor before the first child of an array or object. NONE: the bytes are neither.
+ * INVALID_EOF: the header or an entry word that is read is cut off; INVALID_JSONB: the header is of
+ * no kind. With every status but OK the cursor is untouched. A walk over all children costs as much
+ * as kohiblad_part for the last one alone. */
 static inline uint32_t kohiblad_begin(const uint8_t *bytes, size_t size,
     struct kohiblad_cursor *cursor) KOHIBLAD_INLINE("kohiblad_begin");
 
-/* Where the next child is, as kohiblad_part answers it: of an array the item at the cursor's index
- * i, part i; of an object of n pairs the key, part i, and the value, part n + i. Then the cursor is
- * moved. NONE: there are no more. With an error's status the cursor stays as it is. `*value` and
- * `*key` have the same status, but an item's key has NONE. Any cursor may be given, also one that
- * no call made: what is answered with OK lies inside the bytes. */
+/* The place of the child at the cursor, in `*value`, and that of its key, in `*key`; the cursor is
+ * then moved after the child. In a walk from kohiblad_begin on, child i of an array is the part i
+ * that kohiblad_part returns, and of an object of n pairs the key is part i and the value part n +
+ * i. NONE: there are no more, or the bytes are neither an array nor an object. INVALID_EOF: the
+ * header or an entry word that is read is cut off; INVALID_JSONB: the header is of no kind, or a
+ * part runs past the end. With every status but OK the cursor is untouched. `*value` and `*key`
+ * have the same status, but the key of an array's item has NONE; a place without OK has zeros. Any
+ * cursor may be given, also one that no call made: a place with OK is inside the bytes. */
 static inline uint32_t kohiblad_next(const uint8_t *bytes, size_t size,
     struct kohiblad_cursor *cursor, struct kohiblad_place *key, struct kohiblad_place *value)
     KOHIBLAD_INLINE("kohiblad_next");
 
-/* An item of an array, as a document of its own. NONE: there is no such item, or no array. */
+/* Copies the item of an array at an index, from 0, to `out`, as a document of its own. NONE: there
+ * is no such item, or the bytes are no array. INVALID_EOF: the header or an entry word that is read
+ * is cut off; INVALID_JSONB: the header is of no kind, or the item runs past the end. NO_ROOM if
+ * `out` has no room for the document. */
 static inline uint32_t kohiblad_array_item(const uint8_t *bytes, size_t size, size_t index,
     uint8_t *out, size_t room, size_t *length) KOHIBLAD_INLINE("kohiblad_array_item");
 
-/* A key of an object, in ascending order, as its text, and its value as a document of its own. Both
- * are written or, with NO_ROOM, neither. NONE: there is no such pair, or no object. */
+/* Copies the key of an object at an index, from 0 in ascending order of the keys, to `key` as its
+ * text, and its value to `out` as a document of its own. NONE: there is no such pair, or the bytes
+ * are no object. INVALID_EOF: the header or an entry word that is read is cut off; INVALID_JSONB:
+ * the header is of no kind, or the key or the value runs past the end. NO_ROOM: `key` or `out` has
+ * too little room. Both are written or neither; with NO_ROOM both lengths are those that are
+ * needed. */
 static inline uint32_t kohiblad_object_member(const uint8_t *bytes, size_t size, size_t index,
     uint8_t *key, size_t key_room, size_t *key_length, uint8_t *out, size_t room, size_t *length)
     KOHIBLAD_INLINE("kohiblad_object_member");
 
-/* SCALARS: what a document is, where it is of that kind; kohiblad_get and kohiblad_array_item give
- * documents of values. OTHER_KIND: kohiblad_kind answers another kind. INVALID_JSONB: the bytes are
- * no document, though they begin as one of that kind. Other statuses are those of kohiblad_kind. */
+/* SCALARS: the values in documents of scalars. kohiblad_get and kohiblad_array_item give documents
+ * of values. The first two words of a document show its kind, as kohiblad_kind returns it. With
+ * every status but OK, all fields are 0. */
 
 /* A number: its digits as a whole number of 128 bits in two halves, and its scale. 1.50 is 150 with
- * scale 2. */
+ * scale 2. OTHER_KIND: the bytes begin as another kind. INVALID_JSONB: they begin as a number but
+ * are no document, or as no kind; INVALID_EOF: one of the first two words is cut off. */
 static inline struct kohiblad_decimal kohiblad_number(const uint8_t *bytes, size_t size)
     KOHIBLAD_INLINE("kohiblad_number");
 
-/* A number that is whole and of 64 bits. PAST_RANGE: it is larger, or has digits after its point,
- * also where these are zeros. */
+/* A number that is whole and of 64 bits, signed. PAST_RANGE: it is larger, or has digits after its
+ * point, also where these are zeros. OTHER_KIND: the bytes begin as another kind. INVALID_JSONB:
+ * they begin as a number but are no document, or as no kind; INVALID_EOF: one of the first two
+ * words is cut off. */
 static inline struct kohiblad_integer kohiblad_int64(const uint8_t *bytes, size_t size)
     KOHIBLAD_INLINE("kohiblad_int64");
 
-/* The place of a text: its bytes, with neither quotes nor escapes. */
+/* The place of a text: its bytes, with neither quotes nor escapes. OTHER_KIND: the bytes begin as
+ * another kind. INVALID_JSONB: they begin as a text but are no document, or as no kind;
+ * INVALID_EOF: one of the first two words is cut off. */
 static inline struct kohiblad_place kohiblad_text(const uint8_t *bytes, size_t size)
     KOHIBLAD_INLINE("kohiblad_text");
 
-/* A truth value. */
+/* A truth value, 0 or 1. OTHER_KIND: the bytes begin as another kind. INVALID_JSONB: they begin as
+ * a truth value but are no document, or as no kind; INVALID_EOF: one of the first two words is cut
+ * off. */
 static inline struct kohiblad_truth kohiblad_boolean(const uint8_t *bytes, size_t size)
     KOHIBLAD_INLINE("kohiblad_boolean");
 
-/* An extension value, by its tag and fields. */
+/* An extension value, by its tag and fields. OTHER_KIND: the bytes begin as another kind.
+ * INVALID_JSONB: they begin as an extension value but are no document, or as no kind; INVALID_EOF:
+ * one of the first two words is cut off. */
 static inline struct kohiblad_extension_value kohiblad_extension(const uint8_t *bytes,
     size_t size) KOHIBLAD_INLINE("kohiblad_extension");
 
 /* DOCUMENTS OF SCALARS. */
 
-/* Null. */
+/* Copies the document of null to `out`. NO_ROOM if `out` has no room for the document. */
 static inline uint32_t kohiblad_of_null(uint8_t *out, size_t room, size_t *length)
     KOHIBLAD_INLINE("kohiblad_of_null");
 
-/* A truth value: false of 0, true of all others. */
+/* Copies the document of a truth value to `out`: of false for 0, of true for all other numbers.
+ * NO_ROOM if `out` has no room for the document. */
 static inline uint32_t kohiblad_of_boolean(uint32_t value, uint8_t *out, size_t room,
     size_t *length) KOHIBLAD_INLINE("kohiblad_of_boolean");
 
-/* A text, of its bytes. INVALID_UTF8; INVALID_JSONB: it has 2^28 bytes or more. */
+/* Copies the document of a text to `out`. INVALID_UTF8: the bytes are not UTF-8. INVALID_JSONB:
+ * there are 2^28 or more. NO_ROOM if `out` has no room for the document. */
 static inline uint32_t kohiblad_of_text(const uint8_t *text, size_t size, uint8_t *out,
     size_t room, size_t *length) KOHIBLAD_INLINE("kohiblad_of_text");
 
-/* A whole number: the same bytes as kohiblad_parse makes of its digits. Takes memory. */
+/* Copies the document of a whole number to `out`: the same bytes as kohiblad_parse makes of its
+ * digits. NO_ROOM if `out` has no room for the document. OUT_OF_MEMORY if an allocation fails.
+ * Takes memory. */
 static inline uint32_t kohiblad_of_int64(int64_t value, uint8_t *out, size_t room, size_t *length)
     KOHIBLAD_INLINE("kohiblad_of_int64");
 
-/* The number high * 2^64 + low with `scale` of its digits after the point: 150 with scale 2 is
- * 1.50. The same bytes as kohiblad_parse makes of it. INVALID_JSONB: the scale is past 255. Takes
- * memory. */
+/* Copies the document of the number high * 2^64 + low with `scale` of its digits after the point to
+ * `out`: 150 with scale 2 is 1.50. The same bytes as kohiblad_parse makes of the number.
+ * INVALID_JSONB: the scale is past 255. NO_ROOM if `out` has no room for the document.
+ * OUT_OF_MEMORY if an allocation fails. Takes memory. */
 static inline uint32_t kohiblad_of_decimal(int64_t high, uint64_t low, uint32_t scale,
     uint8_t *out, size_t room, size_t *length) KOHIBLAD_INLINE("kohiblad_of_decimal");
 
-/* An extension value, by its tag and fields as kohiblad_extension returns them; `data` are the
- * bytes at its offset. What the tag does not have must be 0, and its data empty.
- * INVALID_JSONB_EXTENSION: there is no such value, also where a date has more than 32 bits;
- * INVALID_JSONB: the data have 2^28 - 1 bytes or more. Takes memory. */
+/* Copies the document of an extension value to `out`, given by its tag and fields as
+ * kohiblad_extension returns them; `data` are the bytes at its offset. What the tag does not have
+ * must be 0, and its data empty. INVALID_JSONB_EXTENSION: there is no such value, also where a date
+ * has more than 32 bits; INVALID_JSONB: the data have 2^28 - 1 bytes or more. NO_ROOM if `out` has
+ * no room for the document. OUT_OF_MEMORY if an allocation fails. Takes memory. */
 static inline uint32_t kohiblad_of_extension(uint32_t tag, int64_t value, int32_t months,
     int32_t days, int32_t seconds, const uint8_t *data, size_t size, uint8_t *out, size_t room,
     size_t *length) KOHIBLAD_INLINE("kohiblad_of_extension");
 
-/* The JSON text, with no white space: for bytes that are no document these bytes as text, and
- * "null" for no bytes. Takes memory. */
+/* Copies the JSON text to `out`, with no white space: for bytes that are no document these bytes as
+ * text, with U+FFFD in place of invalid UTF-8, and "null" for no bytes. NO_ROOM if `out` has no
+ * room for the text. OUT_OF_MEMORY if an allocation fails. Takes memory. */
 static inline uint32_t kohiblad_to_string(const uint8_t *bytes, size_t size, uint8_t *out,
     size_t room, size_t *length) KOHIBLAD_INLINE("kohiblad_to_string");
 
-/* The same, but a document that nests deeper than the depth counts as no document: its text is that
- * of its bytes. Looks no deeper. Takes memory. */
+/* Copies the JSON text to `out`, with no white space: for bytes that are no document of at most
+ * this depth these bytes as text, with U+FFFD in place of invalid UTF-8, and "null" for no bytes. A
+ * scalar has depth 0, an array or object one more than its deepest child, and at least 1. Looks no
+ * deeper. NO_ROOM if `out` has no room for the text. OUT_OF_MEMORY if an allocation fails. Takes
+ * memory. */
 static inline uint32_t kohiblad_to_string_within(const uint8_t *bytes, size_t size, size_t depth,
     uint8_t *out, size_t room, size_t *length) KOHIBLAD_INLINE("kohiblad_to_string_within");
 
-/* The JSON text on lines, indented by two spaces; "null" for bytes that are no document. Takes
+/* Copies the JSON text to `out`, on lines, indented by two spaces; "null" for bytes that are no
+ * document. NO_ROOM if `out` has no room for the text. OUT_OF_MEMORY if an allocation fails. Takes
  * memory. */
 static inline uint32_t kohiblad_to_pretty(const uint8_t *bytes, size_t size, uint8_t *out,
     size_t room, size_t *length) KOHIBLAD_INLINE("kohiblad_to_pretty");
 
-/* The same, but a document that nests deeper than the depth counts as no document: its text is
- * "null". Looks no deeper. Takes memory. */
+/* Copies the JSON text to `out`, on lines, indented by two spaces; "null" for bytes that are no
+ * document of at most this depth. A scalar has depth 0, an array or object one more than its
+ * deepest child, and at least 1. Looks no deeper. NO_ROOM if `out` has no room for the text.
+ * OUT_OF_MEMORY if an allocation fails. Takes memory. */
 static inline uint32_t kohiblad_to_pretty_within(const uint8_t *bytes, size_t size, size_t depth,
     uint8_t *out, size_t room, size_t *length) KOHIBLAD_INLINE("kohiblad_to_pretty_within");
 
-/* The canonical document of a JSON text. TOO_DEEP: more than `depth` of its brackets are open at
- * once, and it was not read; INVALID_UTF8: the text is not UTF-8; INVALID_JSON: it is no JSON, or
- * has a number with an exponent or too many digits; INVALID_JSONB: a limit of the format is passed.
- * Takes memory. The result is shorter than 4 times the text plus 8 bytes. */
+/* Copies the canonical document of a JSON text to `out`. TOO_DEEP: more than `depth` of its
+ * brackets are open at once, and it was not read; INVALID_UTF8: the text is not UTF-8;
+ * INVALID_JSON: it is no JSON, or has a number with an exponent or too many digits; INVALID_JSONB:
+ * a limit of the format is passed. NO_ROOM if `out` has no room for the document. OUT_OF_MEMORY if
+ * an allocation fails. Takes memory. The result is shorter than 4 times the text plus 8 bytes. */
 static inline uint32_t kohiblad_parse(const uint8_t *text, size_t size, size_t depth,
     uint8_t *out, size_t room, size_t *length) KOHIBLAD_INLINE("kohiblad_parse");
 
@@ -331,29 +373,38 @@ static inline uint32_t kohiblad_parse(const uint8_t *text, size_t size, size_t d
  * that 0 out, and widen those of 32 bits to size_t. INVALID_EOF: an end is less than the one before
  * it, or past the bytes. */
 
-/* The array of the documents in these rows. INVALID_JSONB: a row is no document, or a limit of the
- * format is passed. Takes memory. */
+/* Copies the array of the documents in these rows to `out`. INVALID_EOF: an end is less than the
+ * one before it, or past the bytes. INVALID_JSONB: a row is no document, or a limit of the format
+ * is passed. NO_ROOM if `out` has no room for the array. OUT_OF_MEMORY if an allocation fails.
+ * Takes memory. */
 static inline uint32_t kohiblad_build_array(const uint8_t *bytes, size_t size, const size_t *ends,
     size_t rows, uint8_t *out, size_t room, size_t *length) KOHIBLAD_INLINE("kohiblad_build_array");
 
-/* The same, but a document that nests deeper than the depth counts as no document. INVALID_EOF
- * comes first, then INVALID_JSONB for such a row, before anything is built. Looks no deeper. Takes
- * memory. */
+/* Copies the array of the documents in these rows to `out`. INVALID_EOF: an end is less than the
+ * one before it, or past the bytes. INVALID_JSONB: a row is no document of at most this depth,
+ * which is tested before anything is built, or a limit of the format is passed. A scalar has depth
+ * 0, an array or object one more than its deepest child, and at least 1. Looks no deeper. NO_ROOM
+ * if `out` has no room for the array. OUT_OF_MEMORY if an allocation fails. Takes memory. */
 static inline uint32_t kohiblad_build_array_within(const uint8_t *bytes, size_t size,
     const size_t *ends, size_t rows, size_t depth, uint8_t *out, size_t room, size_t *length)
     KOHIBLAD_INLINE("kohiblad_build_array_within");
 
-/* The object of these rows: a key's text, then its document, and so on; keys in any order.
- * INVALID_EOF also if the last key has no document; INVALID_UTF8: a key is not UTF-8;
- * OBJECT_DUPLICATE_KEY: a key comes twice; INVALID_JSONB: a value is no document, or a limit of the
- * format is passed. Takes memory. */
+/* Copies the object of these rows to `out`: a key's text, then its document, and so on; keys in any
+ * order. INVALID_EOF: an end is less than the one before it, or past the bytes, or the last key has
+ * no document. INVALID_UTF8: a key is not UTF-8; OBJECT_DUPLICATE_KEY: a key comes twice;
+ * INVALID_JSONB: a value is no document, or a limit of the format is passed. NO_ROOM if `out` has
+ * no room for the object. OUT_OF_MEMORY if an allocation fails. Takes memory. */
 static inline uint32_t kohiblad_build_object(const uint8_t *bytes, size_t size,
     const size_t *ends, size_t rows, uint8_t *out, size_t room, size_t *length)
     KOHIBLAD_INLINE("kohiblad_build_object");
 
-/* The same, but a document that nests deeper than the depth counts as no document. INVALID_EOF
- * comes first, then INVALID_JSONB for a value that is no such document, before the keys are looked
- * at. Looks no deeper. Takes memory. */
+/* Copies the object of these rows to `out`: a key's text, then its document, and so on; keys in any
+ * order. INVALID_EOF: an end is less than the one before it, or past the bytes, or the last key has
+ * no document. INVALID_JSONB: a value is no document of at most this depth, which is tested before
+ * the keys, or a limit of the format is passed. INVALID_UTF8: a key is not UTF-8;
+ * OBJECT_DUPLICATE_KEY: a key comes twice. A scalar has depth 0, an array or object one more than
+ * its deepest child, and at least 1. Looks no deeper. NO_ROOM if `out` has no room for the object.
+ * OUT_OF_MEMORY if an allocation fails. Takes memory. */
 static inline uint32_t kohiblad_build_object_within(const uint8_t *bytes, size_t size,
     const size_t *ends, size_t rows, size_t depth, uint8_t *out, size_t room, size_t *length)
     KOHIBLAD_INLINE("kohiblad_build_object_within");
@@ -362,36 +413,50 @@ static inline uint32_t kohiblad_build_object_within(const uint8_t *bytes, size_t
 static inline bool kohiblad_is_canonical(const uint8_t *bytes, size_t size)
     KOHIBLAD_INLINE("kohiblad_is_canonical");
 
-/* Whether they are one and nest at most that deep. Looks no deeper. */
+/* Whether the bytes are a canonical document, each value in the one form that is written today, of
+ * at most this depth. A scalar has depth 0, an array or object one more than its deepest child, and
+ * at least 1. Looks no deeper. */
 static inline bool kohiblad_is_canonical_within(const uint8_t *bytes, size_t size, size_t depth)
     KOHIBLAD_INLINE("kohiblad_is_canonical_within");
 
-/* The canonical document of the same value; it compares equal to the bytes. INVALID_JSONB: they are
- * no document, or its canonical form is past a limit of the format. Takes memory. */
+/* Copies the canonical document of the same value to `out`; it compares equal to the bytes.
+ * INVALID_JSONB: they are no document, or its canonical form is past a limit of the format. NO_ROOM
+ * if `out` has no room for the document. OUT_OF_MEMORY if an allocation fails. Takes memory. */
 static inline uint32_t kohiblad_to_canonical(const uint8_t *bytes, size_t size, uint8_t *out,
     size_t room, size_t *length) KOHIBLAD_INLINE("kohiblad_to_canonical");
 
-/* The same, but a document that nests deeper than the depth counts as no document. Looks no deeper.
- * Takes memory. */
+/* Copies the canonical document of the same value to `out`; it compares equal to the bytes.
+ * INVALID_JSONB: they are no document of at most this depth, or its canonical form is past a limit
+ * of the format. A scalar has depth 0, an array or object one more than its deepest child, and at
+ * least 1. Looks no deeper. NO_ROOM if `out` has no room for the document. OUT_OF_MEMORY if an
+ * allocation fails. Takes memory. */
 static inline uint32_t kohiblad_to_canonical_within(const uint8_t *bytes, size_t size,
     size_t depth, uint8_t *out, size_t room, size_t *length)
     KOHIBLAD_INLINE("kohiblad_to_canonical_within");
 
-/* The comparable key of any bytes, for an engine that sorts byte strings. The order of two keys by
- * memcmp, and then the shorter first, is that of kohiblad_compare_within at the same depth; keys
- * are equal exactly where it returns 0, and no key begins another. It looks no deeper than the
- * depth. Takes memory. */
+/* Copies the comparable key of any bytes to `out`, for an engine that sorts byte strings. The order
+ * of two keys by memcmp, and then the shorter first, is that of kohiblad_compare_within at the same
+ * depth; keys are equal exactly where it returns 0, and no key begins another. A scalar has depth
+ * 0, an array or object one more than its deepest child, and at least 1. Looks no deeper. NO_ROOM
+ * if `out` has no room for the key. OUT_OF_MEMORY if an allocation fails. Takes memory. */
 static inline uint32_t kohiblad_key(const uint8_t *bytes, size_t size, size_t depth, uint8_t *out,
     size_t room, size_t *length) KOHIBLAD_INLINE("kohiblad_key");
 
 /* The numbers of the rows, from 0, sorted by kohiblad_compare; equal rows keep their order. They
  * are written to the start of `order`, which has room for `room` numbers. NO_ROOM: there are more
- * rows. With every status but OK `order` is untouched. Each row is checked once. Takes memory. */
+ * rows. INVALID_EOF: an end is less than the one before it, or past the bytes. With every status
+ * but OK `order` is untouched. Each row is checked once. OUT_OF_MEMORY if an allocation fails.
+ * Takes memory. */
 static inline uint32_t kohiblad_sort(const uint8_t *bytes, size_t size, const size_t *ends,
     size_t rows, size_t *order, size_t room) KOHIBLAD_INLINE("kohiblad_sort");
 
-/* The same in the order of kohiblad_compare_within: a document that nests deeper than the depth
- * counts as no document. Looks no deeper. Takes memory. */
+/* The numbers of the rows, from 0, sorted by kohiblad_compare_within at this depth: documents that
+ * nest deeper come after all others, in the order of their bytes; equal rows keep their order. They
+ * are written to the start of `order`, which has room for `room` numbers. NO_ROOM: there are more
+ * rows. INVALID_EOF: an end is less than the one before it, or past the bytes. With every status
+ * but OK `order` is untouched. Each row is checked once. A scalar has depth 0, an array or object
+ * one more than its deepest child, and at least 1. Looks no deeper. OUT_OF_MEMORY if an allocation
+ * fails. Takes memory. */
 static inline uint32_t kohiblad_sort_within(const uint8_t *bytes, size_t size, const size_t *ends,
     size_t rows, size_t depth, size_t *order, size_t room) KOHIBLAD_INLINE("kohiblad_sort_within");
 
