@@ -66,7 +66,7 @@ RefusesText text (Call InvalidJsonb) =
     IsShallow text × ((t : Tree) × (Json (chars text) t × (Fits t → ⊥)))
 RefusesText text refusal = ⊥
 
--- the refusal of a text by the library's reader
+-- The refusal of a text by the library's reader.
 abbrev pub refusal_of : ParseError → Refusal
 refusal_of deep.TooDeep = TooDeep
 refusal_of (deep.Refused e) = Call e
@@ -92,6 +92,7 @@ pub record IsOrderOf (rows : Rows) (order : List Document) : Type 0 where
 abbrev pub index_in : List ℕ → ℕ
 index_in digits = digits_value 10 (without_leading_plus digits)
 
+-- The digits, which may follow a plus sign, are a numeral.
 abbrev pub IsIndexNumeral : List ℕ → Type 0
 IsIndexNumeral digits = IsNumeral 10 (without_leading_plus digits)
 

@@ -3,7 +3,8 @@ use Rattle.std.specs.Prelude.{if◌then◌else◌, ℕ, List, Option, Some, None
 use Rattle.jsonb_column_cli.specs.declared.arguments.Request.{Request}
 use Rattle.jsonb_column_cli.specs.declared.arguments.Request.TheVariants.{Run, Help, Unknown}
 
--- by the first two arguments: without one it runs, and `--help` alone prints the usage
+-- The request in the first two arguments: to run if there is none, to print the usage for `--help`
+-- alone, and otherwise unknown.
 abbrev pub request_in : (first second : Option (List ℕ)) → Request
 request_in None second = Run
 request_in (Some word) None = if bytes_eq word (codes "--help") then Help else Unknown

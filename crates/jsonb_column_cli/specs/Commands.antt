@@ -24,26 +24,27 @@ pub data Form : Type 0 where
 abbrev pub is_space : ℕ → Bool
 is_space b = b == 32
 
+-- The first byte is a quote.
 abbrev pub begins_with_quote : List ℕ → Bool
 begins_with_quote [] = false
 begins_with_quote (b ∷ bytes) = b == 34
 
--- whether a JSON string is open after this byte: a quote that is not escaped opens or closes one
+-- Whether a JSON string is open after this byte: a quote that is not escaped opens or closes one.
 abbrev pub open_after : (is_open is_escaped : Bool) → ℕ → Bool
 open_after is_open is_escaped b =
     if (b == 34) && not is_escaped then not is_open else is_open
 
--- whether the next byte is escaped: it follows a backslash in a string
+-- Whether the next byte is escaped: it is after a backslash in a string.
 abbrev pub escaped_after : (is_open is_escaped : Bool) → ℕ → Bool
 escaped_after is_open is_escaped b = is_open && not is_escaped && (b == 92)
 
--- how many bytes are before the first space outside JSON strings
+-- How many bytes are before the first space outside JSON strings.
 abbrev pub name_len : (is_open is_escaped : Bool) → List ℕ → ℕ
 name_len is_open is_escaped [] = 0
 name_len is_open is_escaped (b ∷ bytes) = if (b == 32) && not is_open then 0
     else suc (name_len (open_after is_open is_escaped b) (escaped_after is_open is_escaped b) bytes)
 
--- what `find` is given: a name, which a quote begins if it is a JSON string, and a text
+-- The name and the text that `find` receives: the name is a JSON string if it begins with a quote.
 abbrev pub find_in : List ℕ → Form
 find_in given = if begins_with_quote given
     then find (name_json (take (name_len false false given) given))

@@ -6,6 +6,7 @@ use Rattle.jsonb_column_cli.specs.Commands.{unknown, Name, name_word, name_json}
 use Rattle.jsonb_column_cli.specs.declared.answer.Name as code
 use Rattle.jsonb_column_cli.specs.declared.answer.Name.TheVariants as names
 
+-- A name of the code as that of the specification.
 abbrev pub name_view : code.Name → Name
 name_view (names.Word word) = name_word word.now
 name_view (names.Json json) = name_json json.now

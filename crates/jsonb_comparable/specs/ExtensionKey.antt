@@ -6,20 +6,20 @@ use Rattle.jsonb_value.specs.Tree.{Extension, binary, date, timestamp, timestamp
 use Rattle.jsonb_value.specs.Tree.{opaque}
 use Rattle.jsonb_comparable.specs.Escaped.{escaped}
 
--- a signed number plus a bias, which makes it unsigned
+-- A signed number plus a bias that makes it unsigned.
 abbrev pub biased : ℕ → ℤ → ℕ
 biased bias (pos n) = bias + n
 biased bias (negsuc n) = bias - suc n
 
--- a signed number of 32 bits, biased by 2 ^ 31, big-endian
+-- A signed number of 32 bits, biased by 2 ^ 31, in big-endian bytes.
 unfoldable pub biased_32 : ℤ → List ℕ
 biased_32 v = to_be_bytes w32 (biased (2 ^ 31) v)
 
--- a signed number of 64 bits, biased by 2 ^ 63, big-endian
+-- A signed number of 64 bits, biased by 2 ^ 63, in big-endian bytes.
 unfoldable pub biased_64 : ℤ → List ℕ
 biased_64 v = to_be_bytes w64 (biased (2 ^ 63) v)
 
--- the fields of a value, in the order in which they are compared
+-- The fields of an extension value, in the order in which they are compared.
 abbrev pub fields_key : Extension → List ℕ
 fields_key (binary bytes) = escaped bytes
 fields_key (date d) = biased_32 d.value

@@ -31,11 +31,11 @@ key_of_pairs (suc k) n = cond (nat_lt n (100 ^ k))
     (key_of_pairs k n)
     (count_bytes (suc k) ++ digit_pairs k n)
 
--- the key of a whole number below 100 ^ 148
+-- The key of a whole number below 100 ^ 148.
 unfoldable pub natural_key : ℕ → List ℕ
 natural_key n = key_of_pairs 148 n
 
--- each byte subtracted from 255, which turns the order round
+-- Each byte subtracted from 255, which reverses the order.
 abbrev pub complemented : List ℕ → List ℕ
 complemented = map (λ b. 255 - b)
 
@@ -48,7 +48,7 @@ integer_key (negsuc n) = complemented (natural_key (suc n))
 unfoldable pub scaled_value : Fraction → ℤ
 scaled_value x = x.value *ℤ pos (10 ^ (256 - x.scale))
 
--- the key of a decimal
+-- The key of a decimal: of its value at the common scale.
 abbrev pub decimal_key : ℤ → ℕ → List ℕ
 decimal_key v s = integer_key (scaled_value (record { value = v; scale = s }))
 

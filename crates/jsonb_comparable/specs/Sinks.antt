@@ -8,7 +8,7 @@ use Rattle.jsonb_codec.proofs.Appending.{length-Appended}
 use Rattle.jsonb_comparable.specs.declared.sink.KeyLength.{KeyLength}
 use Rattle.jsonb_comparable.specs.Sink.{SinkLaws, Counts}
 
--- The laws of a buffer,
+-- The laws of a buffer.
 pub vec_laws : SinkLaws {S = Vec ℕ Global} HasRoom AppendsBytes
 vec_laws =
     record {
@@ -22,11 +22,12 @@ vec_laws =
           };
     }
 
--- and of a count.
+-- A count of one part and then of the other is the count of both.
 counts_on : (old mid new : KeyLength) (a b : List ℕ) → Counts old mid a → Counts mid new b
     → Counts old new (a ++ b)
 counts_on old mid new a b first second = omega (arith, first, second, length-append a b)
 
+-- The laws of a count.
 pub length_laws : SinkLaws {S = KeyLength} (λ length bytes. ⊤) Counts
 length_laws =
     record {

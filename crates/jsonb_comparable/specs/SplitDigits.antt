@@ -4,17 +4,18 @@ use Rattle.std.specs.Prelude.{List, [], ◌∷◌}
 use Rattle.jsonb_comparable.specs.NumberKey.{pair_bytes, complemented}
 use Rattle.jsonb_comparable.specs.declared.number.SplitDigits.{SplitDigits}
 
--- the digit pairs of `high`, of which there are so many, and then of `low`
+-- The digit pairs of a number in two parts: those of `high`, with their number given, and then that
+-- of `low`.
 unfoldable pub split_pairs : ℕ → ℕ → ℕ → List ℕ
 split_pairs zero high low = (2 * low) ∷ []
 split_pairs (suc k) high low = pair_bytes (high / 100 ^ k) (high % 100 ^ k * 100 + low)
     (split_pairs k (high % 100 ^ k) low)
 
--- the number that was split
+-- The number that was split.
 abbrev pub digits_value : SplitDigits → ℕ
 digits_value digits = (digits.high * 100 + digits.low) * 100 ^ digits.zeros
 
--- the bytes, complemented where the number is negative
+-- The bytes of a number, complemented if it is negative.
 abbrev pub signed : Bool → List ℕ → List ℕ
 signed true bytes = complemented bytes
 signed false bytes = bytes

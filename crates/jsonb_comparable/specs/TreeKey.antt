@@ -7,7 +7,7 @@ use Rattle.jsonb_comparable.specs.Escaped.{escaped}
 use Rattle.jsonb_comparable.specs.NumberKey.{number_key}
 use Rattle.jsonb_comparable.specs.ExtensionKey.{extension_key}
 
--- the key of a text
+-- The key of a text.
 abbrev pub text_key : List ℕ → List ℕ
 text_key s = 160 ∷ escaped s
 
@@ -33,7 +33,7 @@ unfoldable mutual
   pairs_key no_pairs = 0 ∷ []
   pairs_key (pair k t ps) = escaped k ++ (tree_key t ++ pairs_key ps)
 
--- the key of a member of an object: its key's escaped bytes and the key of its value
+-- The key of an object's member: the escaped bytes of its key, and the key of its value.
 abbrev pub member_key : List ℕ × Tree → List ℕ
 member_key member = escaped member.0 ++ tree_key member.1
 

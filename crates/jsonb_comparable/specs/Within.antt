@@ -4,11 +4,12 @@ use Rattle.jsonb_value.specs.Meaning.{Meaning, document, other_bytes}
 use Rattle.jsonb_codec.specs.Depth.{depth}
 use Rattle.jsonb.specs.ItemMeaning.{meaning_of}
 
--- a tree that nests at most that deep, or else the bytes
+-- The tree if it has at most this depth, and otherwise the bytes.
 abbrev pub limited : ℕ → List ℕ → Meaning → Meaning
 limited limit b (document t) = cond (nat_le (depth t) limit) (document t) (other_bytes b)
 limited limit b (other_bytes others) = other_bytes b
 
--- the tree of a document that nests at most that deep, and of all others the bytes themselves
+-- What bytes mean when documents may have at most this depth: the tree of such a document, and of
+-- all others the bytes themselves.
 abbrev pub meaning_within : ℕ → List ℕ → Meaning
 meaning_within limit b = limited limit b (meaning_of b)

@@ -14,35 +14,39 @@ use Rattle.kohiblad.specs.declared.places.KohibladPlace.{KohibladPlace}
 use Rattle.kohiblad.specs.Places.{place_at, place_answer, item_under, member_under}
 use Rattle.kohiblad.specs.Status.{code, none}
 
--- where the payload begins that comes so many after the one whose entry and payload begin there
+-- The start of the payload that comes `number` payloads after the one that begins at `start` and
+-- has its entry word at `index`.
 abbrev pub start_after : List ℕ → ℕ → ℕ → ℕ → Result ℕ Error
 start_after bytes zero index start = Ok start
 start_after bytes (suc number) index start =
     jentry_at bytes index >>= λ entry. start_after bytes number (index + 4) (start + entry.length)
 
--- where the payload of a part begins, by its number, where there are so many entries
+-- The start of a part's payload, by number, given the number of all entries.
 abbrev pub part_start : List ℕ → ℕ → ℕ → Result ℕ Error
 part_start bytes entries number = start_after bytes number 4 (4 + 4 * entries)
 
--- the cursor before the child of an index: an array's, whose items are its parts, and an object's,
--- whose values come after its keys
+-- The cursor before the item of an array at an index.
 abbrev pub item_cursor : List ℕ → ℕ → ℕ → Result (Option KohibladCursor) Error
 item_cursor bytes index count = do
   value ← part_start bytes count index
   Ok (Some (record { index = index; key = 0; value = value }))
 
+-- The cursor before the member of an object at an index: its keys come first, and then its values.
 abbrev pub member_cursor : List ℕ → ℕ → ℕ → Result (Option KohibladCursor) Error
 member_cursor bytes index count = do
   key ← part_start bytes (2 * count) index
   value ← part_start bytes (2 * count) (count + index)
   Ok (Some (record { index = index; key = key; value = value }))
 
+-- The cursor before the child at an index, given the header. `None` if the bytes are neither an
+-- array nor an object.
 abbrev pub cursor_under : List ℕ → ℕ → ℕ × ℕ → Result (Option KohibladCursor) Error
 cursor_under bytes index header =
     if header.0 == ARRAY_CONTAINER_TAG then item_cursor bytes index header.1
     else if header.0 == OBJECT_CONTAINER_TAG then member_cursor bytes index header.1
     else Ok None
 
+-- The cursor before the child at an index.
 abbrev pub cursor_at : List ℕ → ℕ → Result (Option KohibladCursor) Error
 cursor_at bytes index = header_at bytes 0 >>= cursor_under bytes index
 
@@ -54,37 +58,44 @@ IsBegun (Ok (Some first)) before after status = (status ≡ 0) × (after ≡ fir
 IsBegun (Ok None) before after status = (status ≡ none) × (after ≡ before)
 IsBegun (Err e) before after status = (status ≡ code e) × (after ≡ before)
 
--- the child of an index, by the places of an array's items or of an object's members
+-- The item of an array as a child: it has no key.
 abbrev pub item_child : Result (Option Place) Error → Result (Option Child) Error
 item_child (Ok (Some value)) = Ok (Some (record { key = None; value = value }))
 item_child (Ok None) = Ok None
 item_child (Err e) = Err e
 
+-- The member of an object as a child: it has a key.
 abbrev pub member_child : Result (Option (Place × Place)) Error → Result (Option Child) Error
 member_child (Ok (Some places)) = Ok (Some (record { key = Some places.0; value = places.1 }))
 member_child (Ok None) = Ok None
 member_child (Err e) = Err e
 
+-- The child at an index, given the header.
 abbrev pub numbered_under : List ℕ → ℕ → ℕ × ℕ → Result (Option Child) Error
 numbered_under bytes index header =
     if header.0 == ARRAY_CONTAINER_TAG then item_child (item_under bytes index header)
     else member_child (member_under bytes index header)
 
+-- The child at an index.
 abbrev pub numbered_child : List ℕ → ℕ → Result (Option Child) Error
 numbered_child bytes index = header_at bytes 0 >>= numbered_under bytes index
 
--- the child at any cursor: by its entry, and by where the cursor says that its payload begins
+-- The item at any cursor: its entry word is found by the index, its payload by the offset in the
+-- cursor.
 abbrev pub item_there : List ℕ → KohibladCursor → Result (Option Child) Error
 item_there bytes cursor = do
   value ← place_at bytes (4 + 4 * cursor.index) cursor.value
   Ok (Some (record { key = None; value = value }))
 
+-- The member at any cursor: its entry words are found by the index, its payloads by the offsets in
+-- the cursor.
 abbrev pub member_there : List ℕ → KohibladCursor → ℕ → Result (Option Child) Error
 member_there bytes cursor count = do
   key ← place_at bytes (4 + 4 * cursor.index) cursor.key
   value ← place_at bytes (4 + 4 * (count + cursor.index)) cursor.value
   Ok (Some (record { key = Some key; value = value }))
 
+-- The child at any cursor, given the header. `None` after the last child.
 abbrev pub child_under : List ℕ → KohibladCursor → ℕ × ℕ → Result (Option Child) Error
 child_under bytes cursor header =
     if header.0 == ARRAY_CONTAINER_TAG
@@ -93,19 +104,20 @@ child_under bytes cursor header =
     then (if nat_le header.1 cursor.index then Ok None else member_there bytes cursor header.1)
     else Ok None
 
+-- The child at any cursor.
 abbrev pub child_at : List ℕ → KohibladCursor → Result (Option Child) Error
 child_at bytes cursor = header_at bytes 0 >>= child_under bytes cursor
 
--- where a place ends
+-- The offset at which a place ends.
 abbrev pub end_of : Place → ℕ
 end_of place = place.start + place.length
 
--- where a key ends, if there is one
+-- The offset at which a key ends, or `before` if there is none.
 abbrev pub key_end : Option Place → ℕ → ℕ
 key_end (Some key) before = end_of key
 key_end None before = before
 
--- the cursor after a child that was found; else it stays
+-- The cursor after a child that was found, or the unchanged cursor if none was.
 abbrev pub cursor_after : Result (Option Child) Error → KohibladCursor → KohibladCursor
 cursor_after (Ok (Some child)) cursor = record {
   index = suc cursor.index;
@@ -121,12 +133,13 @@ CanMove found cursor = IfOk found (λ o. IfSome o (λ child.
     (suc cursor.index < 2 ^ 64)
     × ((key_end child.key 0 < 2 ^ 64) × (end_of child.value < 2 ^ 64))))
 
--- what C receives for a child's key, which an item does not have, and for its value
+-- The position of a child's key as C receives it: `NONE` for an array's item.
 abbrev pub key_answer : Result (Option Child) Error → KohibladPlace
 key_answer (Ok (Some child)) = place_answer (Ok child.key)
 key_answer (Ok None) = place_answer (Ok None)
 key_answer (Err e) = place_answer (Err e)
 
+-- The position of a child's value as C receives it.
 abbrev pub value_answer : Result (Option Child) Error → KohibladPlace
 value_answer (Ok (Some child)) = place_answer (Ok (Some child.value))
 value_answer (Ok None) = place_answer (Ok None)

@@ -19,28 +19,29 @@ use Rattle.kohiblad.specs.declared.values.KohibladInteger.{KohibladInteger}
 use Rattle.kohiblad.specs.declared.values.KohibladTruth.{KohibladTruth}
 use Rattle.kohiblad.specs.Status.{code, other_kind, past_range}
 
--- why bytes are no scalar of a kind, by the kind that they show: they show none, or another, or the
--- wanted one and are no document
+-- The status for bytes that are not the document of a scalar of the wanted kind, by the kind that
+-- they show: none, another one, or the wanted one without being a document.
 abbrev pub why_none : ℕ → KohibladKind → ℕ
 why_none wanted shown =
     if shown.status == 0
     then (if shown.kind == wanted then code errors.InvalidJsonb else other_kind)
     else shown.status
 
--- a number without its point, and how many of its digits come after the point
+-- A number without its point.
 abbrev pub coefficient : Number → ℤ
 coefficient (Int64 v) = v
 coefficient (UInt64 n) = pos n
 coefficient (Decimal64 d) = d.value
 coefficient (Decimal128 d) = d.value
 
+-- The count of a number's digits after the point.
 abbrev pub scale : Number → ℕ
 scale (Int64 v) = 0
 scale (UInt64 n) = 0
 scale (Decimal64 d) = d.scale
 scale (Decimal128 d) = d.scale
 
--- the whole number of two halves
+-- The whole number of two halves.
 abbrev pub from_halves : ℤ → ℕ → ℤ
 from_halves high low = (high *ℤ pos (2 ^ 64)) +ℤ pos low
 
@@ -50,44 +51,49 @@ pub record IsDecimalOf (x : Number) (answer : KohibladDecimal) : Type 0 where
   pub scale : answer.scale ≡ scale x
   pub value : from_halves answer.high answer.low ≡ coefficient x
 
+-- A decimal with this status, and 0 in all fields.
 abbrev pub no_decimal : ℕ → KohibladDecimal
 no_decimal status = record { status = status; scale = 0; high = pos 0; low = 0 }
 
+-- A whole number with this status and the value 0.
 abbrev pub no_integer : ℕ → KohibladInteger
 no_integer status = record { status = status; value = pos 0 }
 
--- a number as a whole one of 64 bits: it has no digits after its point, and is in range
+-- A number as a whole one of 64 bits, or `PAST_RANGE` if it has digits after its point or is out of
+-- range.
 abbrev pub int64_answer : Number → KohibladInteger
 int64_answer x =
     if (scale x == 0) && is_within 63 (coefficient x)
     then record { status = 0; value = coefficient x }
     else no_integer past_range
 
--- where the document of a text has its bytes: after two words
+-- The position of the bytes in the document of a text: after two words.
 abbrev pub text_place : ℕ → KohibladPlace
 text_place n = record { status = 0; type_code = STRING_TAG; offset = 8; length = n }
 
+-- A position with this status, and 0 in all fields.
 abbrev pub no_place : ℕ → KohibladPlace
 no_place status = record { status = status; type_code = 0; offset = 0; length = 0 }
 
--- a truth value as a number
+-- A truth value as C receives it: 0 or 1.
 abbrev pub truth_of : Bool → KohibladTruth
 truth_of true = record { status = 0; value = 1 }
 truth_of false = record { status = 0; value = 0 }
 
+-- A truth value with this status and the value 0.
 abbrev pub no_truth : ℕ → KohibladTruth
 no_truth status = record { status = status; value = 0 }
 
--- the truth value of a number: false of 0
+-- The truth value of a number: false for 0, true for all others.
 abbrev pub is_true : ℕ → Bool
 is_true value = not (value == 0)
 
--- a whole number with the kind that its digits have
+-- A whole number with the kind that its digits have when they are parsed.
 abbrev pub int64_number : ℤ → Number
 int64_number (pos n) = UInt64 n
 int64_number (negsuc n) = Int64 (negsuc n)
 
--- data after the tag, which is the first byte after two words
+-- The answer for a value that has data. They follow the tag, which follows two words.
 abbrev pub data_answer : ℕ → ℕ → KohibladExtension
 data_answer tag n = record {
   status = 0;
@@ -100,6 +106,7 @@ data_answer tag n = record {
   length = n;
 }
 
+-- An extension value with this status, and 0 in all fields.
 abbrev pub no_extension : ℕ → KohibladExtension
 no_extension status = record {
   status = status;
@@ -112,7 +119,7 @@ no_extension status = record {
   length = 0;
 }
 
--- a point in time, with the offset of its zone
+-- The answer for a date or a timestamp, with the offset of its zone.
 abbrev pub time_answer : ℕ → ℤ → ℤ → KohibladExtension
 time_answer tag value seconds = record {
   status = 0;
@@ -125,7 +132,7 @@ time_answer tag value seconds = record {
   length = 0;
 }
 
--- the fields of an extension value, and its tag: the first byte of its payload
+-- The tag of an extension value, the first byte of its payload, and its fields.
 abbrev pub extension_answer : Extension → KohibladExtension
 extension_answer (binary bytes) = data_answer 0 (length bytes)
 extension_answer (date d) = time_answer 16 d.value (pos 0)
@@ -147,7 +154,7 @@ extension_answer (opaque tag bytes) = data_answer tag (length bytes)
 abbrev pub IsShort : List ℕ → Type 0
 IsShort bytes = length bytes < 2 ^ 28
 
--- the bytes of an extension value that has data
+-- The data of an extension value: none unless its tag has some.
 abbrev pub data_of : Extension → List ℕ
 data_of (binary bytes) = bytes
 data_of (opaque tag bytes) = bytes

@@ -38,13 +38,15 @@ none = 12
 abbrev pub too_deep : ℕ
 too_deep = 13
 
+-- The status of a value of another kind.
 abbrev pub other_kind : ℕ
 other_kind = 14
 
+-- The status of a number that is not a whole number of 64 bits.
 abbrev pub past_range : ℕ
 past_range = 15
 
--- only the header answers it
+-- The status of overlapping blocks, which only the functions of the header return.
 abbrev pub overlap : ℕ
 overlap = 16
 
