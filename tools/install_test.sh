@@ -67,11 +67,11 @@ shared=$prefix/lib/libkohiblad.so.$version
 
 note 'the same below DESTDIR'
 given=(--archive "${1:-crates/kohiblad/out/libkohiblad.a}")
-DESTDIR=$work/stage tools/install "${given[@]}" /opt/kohiblad > "$work/staged"
-files_of "$work/stage/opt/kohiblad" | diff "$work/right" -
-sed "s|^prefix=$prefix\$|prefix=/opt/kohiblad|" "$prefix/lib/pkgconfig/kohiblad.pc" |
-    diff "$work/stage/opt/kohiblad/lib/pkgconfig/kohiblad.pc" -
-diff -r --no-dereference -x kohiblad.pc "$prefix" "$work/stage/opt/kohiblad"
+DESTDIR=$work/stage tools/install "${given[@]}" /kohiblad > "$work/staged"
+files_of "$work/stage/kohiblad" | diff "$work/right" -
+sed "s|^prefix=$prefix\$|prefix=/kohiblad|" "$prefix/lib/pkgconfig/kohiblad.pc" |
+    diff "$work/stage/kohiblad/lib/pkgconfig/kohiblad.pc" -
+diff -r --no-dereference -x kohiblad.pc "$prefix" "$work/stage/kohiblad"
 
 note 'the names in the libraries'
 names() { sed "$@" | LC_ALL=C sort; }
@@ -120,7 +120,7 @@ refused 2 'usage: tools/install' tools/install
 refused 2 'must be an absolute path' tools/install some/where
 refused 2 'has a character' tools/install '/some where'
 refused 2 'there is no option --prefix' tools/install --prefix /usr
-refused 2 'one PREFIX is enough' tools/install /usr /opt
+refused 2 'one PREFIX is enough' tools/install /kohiblad /other
 refused 2 '--archive needs a file' tools/install --archive
 refused 1 'there is no archive' tools/install --archive "$work/none.a" "$work/none"
 refused 1 'there is no no_such_tool, which is in the package binutils' \
