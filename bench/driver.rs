@@ -337,8 +337,8 @@ fn sort_once(name: &str, documents: &[Vec<u8>]) {
     report(name, "sort once", bytes.len(), ours, theirs);
 }
 
-// Our side makes the comparable key of each document, and sorts the keys as bytes. `made` is the time
-// of the keys alone.
+// Our side makes the comparable key of each document, and sorts the keys as bytes. `made` is the
+// time of the keys alone.
 fn sort_by_keys(name: &str, documents: &[Vec<u8>]) {
     let (bytes, ends) = joined(documents);
     let mut order = vec![0; ends.len()];
