@@ -132,7 +132,7 @@ struct kohiblad_place {
     uint64_t length; /* of the payload */
 };
 
-/* How far a walk has come: the index of the next child, and where it is. */
+/* The state of a walk: the index of the next child, and the offsets of its key and value. */
 struct kohiblad_cursor {
     uint64_t index;
     uint64_t key;

@@ -19,7 +19,7 @@ pub trait Sink {
         ensures { appends self.old self.new bytes.now };
 }
 
-/// How many bytes were appended, or `usize::MAX` where there were more.
+/// The count of appended bytes, or `usize::MAX` if there were more.
 #[derive(Drop)]
 pub struct KeyLength {
     pub len: usize,
