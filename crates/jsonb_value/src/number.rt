@@ -2,13 +2,14 @@
 
 ghost use Rattle.std.specs.Prelude.{◌≡◌, ◌↔◌, ◌≤◌, ◌∷◌, ◌++◌, ℕ, ℤ, List, IsTrue, IfSome, IfNone};
 ghost use Rattle.std.specs.Prelude.{IfOk, IfErr, OnOk, OnErr, length, take, IsOk, vec_len};
-ghost use Rattle.std.specs.Prelude.{vec_capacity, ◌+◌};
+ghost use Rattle.std.specs.Prelude.{vec_capacity, ◌+◌, Some};
 ghost use Rattle.std.specs.Int.{w64, w128};
 ghost use Rattle.jsonb_value.specs.declared.number.Number.{Number};
 ghost use Rattle.jsonb_value.specs.Payload.{IsSignedNumber, IsUnsignedNumber, IsWholeLength};
 ghost use Rattle.jsonb_value.specs.Payload.{IsDecimalLength};
 ghost use Rattle.jsonb_value.specs.NumCode.{NumCode, number_payload, int_payload, uint_payload};
 ghost use Rattle.jsonb_value.specs.NumCode.{decimal_payload};
+ghost use Rattle.jsonb_value.specs.Json.Numeral.{number_of, whole_number, decimal_number};
 
 use crate::constants::{NUMBER_DECIMAL, NUMBER_INT, NUMBER_UINT, NUMBER_ZERO};
 use crate::error::Error;
@@ -39,6 +40,20 @@ pub enum Number {
 }
 
 impl Number {
+    /// The number with `scale` digits after the point and, without the point, this value. Its kind is
+    /// the one that the digits have in a JSON text. With scale 0 it is `UInt64` if it fits, otherwise
+    /// `Int64` if it fits, otherwise `Decimal128`; with scale 1 to 255 it is `Decimal64` if it fits,
+    /// and otherwise `Decimal128`. `None` if the scale is above 255.
+    pub fn from_scaled(scale: usize, value: i128) -> Option<Number>
+        ensures { result ≡ number_of scale value }
+    {
+        if scale == 0 {
+            Some(whole_number(value))
+        } else {
+            Some(decimal_number(u8::try_from(scale).ok()?, value))
+        }
+    }
+
     /// Decodes a payload: zero, an integer of 1, 2, 4 or 8 bytes, or a decimal in its written form
     /// or in the older form with a precision byte. `InvalidJsonbNumber` for every other byte
     /// string.
@@ -97,6 +112,27 @@ impl Number {
             Number::Decimal64(_) => 10,
             Number::Decimal128(_) => 18,
         }
+    }
+}
+
+fn whole_number(value: i128) -> Number
+    ensures { Some result ≡ whole_number value }
+{
+    if let Ok(value) = u64::try_from(value) {
+        Number::UInt64(value)
+    } else if let Ok(value) = i64::try_from(value) {
+        Number::Int64(value)
+    } else {
+        Number::Decimal128(Decimal128 { scale: 0, value })
+    }
+}
+
+fn decimal_number(scale: u8, value: i128) -> Number
+    ensures { Some result ≡ decimal_number scale value }
+{
+    match i64::try_from(value) {
+        Ok(value) => Number::Decimal64(Decimal64 { scale, value }),
+        Err(_) => Number::Decimal128(Decimal128 { scale, value }),
     }
 }
 

@@ -4,7 +4,7 @@ ghost use Rattle.std.specs.Prelude.{◌≡◌, Some, None, IfSome, IfNone, lengt
 ghost use Rattle.std.specs.Str.{IsUtf8};
 ghost use Rattle.jsonb_value.specs.declared.error.Error.{Error};
 ghost use Rattle.jsonb_value.specs.declared.number.Number.{Number};
-ghost use Rattle.jsonb_value.specs.Json.Numeral.{number_of, whole_number, decimal_number};
+ghost use Rattle.jsonb_value.specs.Json.Numeral.{number_of};
 ghost use Rattle.jsonb_value.specs.ExtCode.{extension_of};
 ghost use Rattle.jsonb_value.specs.Tree.{null, boolean, number, text, extension, Extension};
 ghost use Rattle.jsonb_value.specs.WellFormed.{IsExtension};
@@ -17,8 +17,8 @@ ghost use Rattle.kohiblad.specs.Status.{code, IsHandedOver, IsRefused};
 use crate::answer::{code, hand_over, hand_over_scalar, refuse};
 use crate::values::fields_of;
 use jsonb::{
-    Date, Decimal64, Decimal128, Error, ExtensionItem, ExtensionValue, Interval, JsonbItem, Number,
-    NumberItem, Opaque, OwnedJsonb, Timestamp, TimestampTz,
+    Date, Error, ExtensionItem, ExtensionValue, Interval, JsonbItem, Number, NumberItem, Opaque,
+    OwnedJsonb, Timestamp, TimestampTz,
 };
 use jsonb_codec::constants::{FALSE_TAG, NULL_TAG, STRING_TAG, TRUE_TAG};
 use jsonb_value::constants::{
@@ -115,7 +115,7 @@ pub extern "C" fn kohiblad_of_decimal(
     ensures past { number_of scale (from_halves high low) ≡ None
         → IsRefused (code Error.InvalidJsonb) out.old out.new length.new result }
 {
-    match number_of(scale, whole_of(high, low)) {
+    match Number::from_scaled(scale as usize, whole_of(high, low)) {
         Some(number) => write_number(alloc, number, out, length),
         None => refuse(code(Error::InvalidJsonb), out, length),
     }
@@ -246,38 +246,6 @@ fn whole_of(high: i64, low: u64) -> i128
     ensures { result ≡ from_halves high low }
 {
     i128::from(high) * (1 << 64) + i128::from(low)
-}
-
-// The number with `scale` digits after the point. `None` if the scale is above 255.
-fn number_of(scale: u32, value: i128) -> Option<Number>
-    ensures { result ≡ number_of scale value }
-{
-    if scale == 0 {
-        Some(whole_number(value))
-    } else {
-        Some(decimal_number(u8::try_from(scale).ok()?, value))
-    }
-}
-
-fn whole_number(value: i128) -> Number
-    ensures { Some result ≡ whole_number value }
-{
-    if let Ok(value) = u64::try_from(value) {
-        Number::UInt64(value)
-    } else if let Ok(value) = i64::try_from(value) {
-        Number::Int64(value)
-    } else {
-        Number::Decimal128(Decimal128 { scale: 0, value })
-    }
-}
-
-fn decimal_number(scale: u8, value: i128) -> Number
-    ensures { Some result ≡ decimal_number scale value }
-{
-    match i64::try_from(value) {
-        Ok(value) => Number::Decimal64(Decimal64 { scale, value }),
-        Err(_) => Number::Decimal128(Decimal128 { scale, value }),
-    }
 }
 
 // Copies out the document of a number.

@@ -5,13 +5,12 @@ ghost use Rattle.std.specs.Prelude.{MatchOption, SomeIff, IsTrue};
 ghost use Rattle.std.specs.Char.{digit_value, is_ascii_digit};
 ghost use Rattle.std.specs.Str.Parse.{digits_value};
 ghost use Rattle.jsonb_value.specs.NumCode.{is_within};
-ghost use Rattle.jsonb_value.specs.Json.Numeral.{signed_number, number_of, whole_number};
-ghost use Rattle.jsonb_value.specs.Json.Numeral.{decimal_number};
+ghost use Rattle.jsonb_value.specs.Json.Numeral.{signed_number};
 ghost use Rattle.jsonb_value.specs.Reader.Reading.{read_sign, read_whole, read_fraction};
 ghost use Rattle.jsonb_value.specs.Reader.Reading.{read_number, front_digits, after_digits};
 ghost use Rattle.jsonb_value.specs.Reader.Digits.{Counts, AreDigits};
 
-use crate::number::{Decimal64, Decimal128, Number};
+use crate::number::Number;
 use crate::parser::cursor::{after_char, split_first};
 
 // A number below this still fits 64 bits after one more digit.
@@ -117,38 +116,6 @@ fn read_fraction(whole: Option<u128>, text: &str) -> Option<(Digits, &str)>
     Some((digits, rest))
 }
 
-// The number with `scale` fraction digits and this value without the point, if it is in range.
-fn number_of(scale: usize, value: i128) -> Option<Number>
-    ensures { result ≡ number_of scale value }
-{
-    if scale == 0 {
-        Some(whole_number(value))
-    } else {
-        Some(decimal_number(u8::try_from(scale).ok()?, value))
-    }
-}
-
-fn whole_number(value: i128) -> Number
-    ensures { Some result ≡ whole_number value }
-{
-    if let Ok(value) = u64::try_from(value) {
-        Number::UInt64(value)
-    } else if let Ok(value) = i64::try_from(value) {
-        Number::Int64(value)
-    } else {
-        Number::Decimal128(Decimal128 { scale: 0, value })
-    }
-}
-
-fn decimal_number(scale: u8, value: i128) -> Number
-    ensures { Some result ≡ decimal_number scale value }
-{
-    match i64::try_from(value) {
-        Ok(value) => Number::Decimal64(Decimal64 { scale, value }),
-        Err(_) => Number::Decimal128(Decimal128 { scale, value }),
-    }
-}
-
 // The magnitude with its sign, if the type can hold it.
 fn signed(is_negative: bool, magnitude: u128) -> Option<i128>
     ensures { SomeIff result (IsTrue (is_within 127 (signed_number is_negative magnitude)))
@@ -170,6 +137,6 @@ pub fn read_number(text: &str) -> Option<(Number, &str)>
     let (whole, rest) = read_whole(rest)?;
     let (digits, rest) = read_fraction(whole, rest)?;
     let value = signed(is_negative, digits.value?)?;
-    let number = number_of(digits.count, value)?;
+    let number = Number::from_scaled(digits.count, value)?;
     Some((number, rest))
 }
