@@ -168,8 +168,8 @@ impl OwnedJsonb {
         Ok(OwnedJsonb::new(bytes))
     }
 
-    /// The canonical document of a JSON text that nests at most that deep. Use this for texts from
-    /// strangers: the stack that reading takes grows with the depth of the text.
+    /// The canonical document of a JSON text that nests at most that deep. Use this for
+    /// untrusted texts: the stack that reading takes grows with the depth of the text.
     ///
     /// `TooDeep` exactly where more brackets than `depth` are open at once, those in strings not
     /// counted. This is found before the text is read, so it comes before any other refusal. Every

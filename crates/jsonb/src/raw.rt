@@ -130,7 +130,7 @@ impl<'a> RawJsonb<'a> {
 
     /// The bytes as a document that nests at most that deep, as `Document::within` takes them.
     /// `None` where they are none. The calls of a view that read, compare or print a document take
-    /// stack for its depth: for bytes from strangers make them of this document.
+    /// stack for its depth: for untrusted bytes make them of this document.
     pub fn as_document_within(&self, depth: usize) -> Option<Document<'a>>
         ensures exact { IsSome result ↔ IsDocumentWithin depth (raw_bytes self.now) }
         ensures bytes { IfSome result (λ d. document_bytes d ≡ raw_bytes self.now) }

@@ -53,7 +53,7 @@ impl ComparableKey {
         Self::of_checked(alloc, CheckedBytes::new(raw))
     }
 
-    /// The key of bytes from a stranger, as `append_key_within` appends it. `OutOfMemory` is the
+    /// The key of untrusted bytes, as `append_key_within` appends it. `OutOfMemory` is the
     /// only error.
     pub fn within(alloc: Global, raw: RawJsonb<'_>, depth: usize) -> Result<Self, Error>
         ensures ok { IfOk result (λ key. comparable_bytes key

@@ -55,7 +55,7 @@ pub fn key_len_of(raw: RawJsonb<'_>) -> usize
     len_of_checked(CheckedBytes::new(raw))
 }
 
-/// The length of the key of bytes from a stranger, as `append_key_within` appends it, without
+/// The length of the key of untrusted bytes, as `append_key_within` appends it, without
 /// memory. It is `usize::MAX` where the key is longer, which no memory holds.
 pub fn key_len_within(raw: RawJsonb<'_>, depth: usize) -> usize
     ensures { result ≡ length_64 (meaning_key (meaning_within depth (raw_bytes raw.entry))) }
@@ -81,8 +81,8 @@ pub fn append_key(document: Document<'_>, buffer: &mut Vec<u8>) -> Result<(), Er
 /// Appends the key of any bytes. Bytes that are no document have a key above those of all
 /// documents, and are ordered among themselves as bytes. Memory is requested once, for the exact
 /// length, and not at all where the buffer has room. `OutOfMemory` is the only error, and after it
-/// the buffer's bytes are as before. The walk takes stack for each level of a document; for bytes
-/// from a stranger there is `append_key_within`.
+/// the buffer's bytes are as before. The walk takes stack for each level of a document; for
+/// untrusted bytes there is `append_key_within`.
 pub fn append_key_of(raw: RawJsonb<'_>, buffer: &mut Vec<u8>) -> Result<(), Error>
     ensures appended { OnOk result
         (buffer.new.items ≡ buffer.old.items ++ meaning_key (raw_meaning raw.entry)) }
@@ -94,7 +94,7 @@ pub fn append_key_of(raw: RawJsonb<'_>, buffer: &mut Vec<u8>) -> Result<(), Erro
     append_checked_key(CheckedBytes::new(raw), buffer)
 }
 
-/// Appends the key of bytes from a stranger: a document that nests at most that deep has its own
+/// Appends the key of untrusted bytes: a document that nests at most that deep has its own
 /// key, and all other bytes, a deeper document too, have the key of bytes that are no document.
 /// What nests deeper is not looked into, and takes no stack. A scalar has depth 0, an array or
 /// object 1 where it is empty, and otherwise one more than its deepest child. Memory is requested

@@ -47,7 +47,7 @@ impl From<Error> for ParseError {
 }
 
 /// The value of a whole text that nests at most that deep, as `parse_value` reads it. Use this for
-/// texts from strangers: the stack that reading takes grows with the depth of the text.
+/// untrusted texts: the stack that reading takes grows with the depth of the text.
 ///
 /// `TooDeep` exactly where more brackets than `depth` are open at once, those in strings not
 /// counted. This is found before the text is read, so it comes before any other refusal. Of a text
