@@ -37,8 +37,8 @@ pub struct Child<'a> {
     pub behind: Children<'a>,
 }
 
-/// An object: how many members it has, and the bytes after its header. Where its values begin is not
-/// known yet.
+/// An object: how many members it has, and the bytes after its header. Where its values begin is
+/// not known yet.
 #[derive(Clone, Copy, Debug)]
 pub struct Object<'a> {
     pub count: usize,

@@ -1,5 +1,5 @@
-//! Writing a document out of what is stored: a scalar, or an array or object of entries. The encoders
-//! and the canonical form write by it, and so do the builders of the crate above.
+//! Writing a document out of what is stored: a scalar, or an array or object of entries. The
+//! encoders and the canonical form write by it, and so do the builders of the crate above.
 
 pub(crate) mod append;
 pub(crate) mod code;

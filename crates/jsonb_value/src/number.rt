@@ -40,10 +40,10 @@ pub enum Number {
 }
 
 impl Number {
-    /// The number with `scale` digits after the point and, without the point, this value. Its kind is
-    /// the one that the digits have in a JSON text. With scale 0 it is `UInt64` if it fits, otherwise
-    /// `Int64` if it fits, otherwise `Decimal128`; with scale 1 to 255 it is `Decimal64` if it fits,
-    /// and otherwise `Decimal128`. `None` if the scale is above 255.
+    /// The number with `scale` digits after the point and, without the point, this value. Its kind
+    /// is the one that the digits have in a JSON text. With scale 0 it is `UInt64` if it fits,
+    /// otherwise `Int64` if it fits, otherwise `Decimal128`; with scale 1 to 255 it is `Decimal64`
+    /// if it fits, and otherwise `Decimal128`. `None` if the scale is above 255.
     pub fn from_scaled(scale: usize, value: i128) -> Option<Number>
         ensures { result ≡ number_of scale value }
     {

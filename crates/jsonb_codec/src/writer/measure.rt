@@ -1,10 +1,11 @@
 //! How many bytes are written.
 //!
 //! A measure continues from a start, and ends before a container whose children would begin past a
-//! limit. An object's members are located only within the limit, since that may take a step for each
-//! of them. A container child and its later siblings are measured in turn, up to limits that grow;
-//! the length of whichever ends second is what remains of the whole. So at each level the work is at
-//! most a fixed multiple of all children but the largest, and a document takes time n log n.
+//! limit. An object's members are located only within the limit, since that may take a step for
+//! each of them. A container child and its later siblings are measured in turn, up to limits that
+//! grow; the length of whichever ends second is what remains of the whole. So at each level the
+//! work is at most a fixed multiple of all children but the largest, and a document takes time n
+//! log n.
 
 ghost use Rattle.std.specs.Prelude.{◌≡◌, ◌≤◌, ◌<◌, ◌+◌, ◌^◌, length, IfSome, IfNone, OnSome};
 ghost use Rattle.std.specs.Prelude.{IfOk, IfErr, OnOk, OnErr};
