@@ -1,6 +1,7 @@
 -- The replies to lines, and the rows after them.
 use Rattle.std.specs.Prelude.{◌≡◌, ◌⊎◌, ◌<◌, ◌≤◌, ℕ, List, [], ◌∷◌, ◌++◌, codes, chars, filter}
-use Rattle.std.specs.Prelude.{length, map, slice_index_or, Result, Ok, Err, IsPermutation, IsSorted, ⊤}
+use Rattle.std.specs.Prelude.{length, map, slice_index_or, Result, Ok, Err, ⊤}
+use Rattle.std.specs.Prelude.{IsPermutation, IsSorted}
 use Rattle.std.specs.Fmt.{decimal}
 use Rattle.std.specs.List.Sorted.{IsStable}
 use Rattle.std.specs.Ordering.{on}

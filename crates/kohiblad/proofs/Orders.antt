@@ -26,7 +26,8 @@ IsKeyOf means rows key = checked_meaning key.0 ≡ means (slice_index_or rows ke
 
 -- the order of keys, and of equal ones by their numbers
 abbrev pub key_cmp : CheckedBytes × ℕ → CheckedBytes × ℕ → Ordering
-key_cmp x y = ordering_then (meaning_cmp (checked_meaning x.0) (checked_meaning y.0)) (nat_cmp x.1 y.1)
+key_cmp x y = ordering_then (meaning_cmp (checked_meaning x.0) (checked_meaning y.0))
+    (nat_cmp x.1 y.1)
 
 -- the keys of the first rows, and the rows that are left
 pub record KeysSoFar (means : List ℕ → Meaning) (rows left : List (List ℕ))

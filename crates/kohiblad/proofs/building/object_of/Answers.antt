@@ -7,7 +7,8 @@ use Rattle.jsonb.specs.Results.{input_pair, IsObjectOfInputs}
 use Rattle.jsonb.specs.Owned.{owned_bytes}
 use Rattle.jsonb.proofs.ResultObjects.{both_ok, IsObjectOfInputs-IsObjectOf}
 use Rattle.kohiblad.specs.Rows.{pairs_in}
-use Rattle.kohiblad.proofs.Objects.{PairsSoFar, no_pair, one_more_pair, no_text, not_distinct, not_there}
+use Rattle.kohiblad.proofs.Objects.{PairsSoFar, no_pair, one_more_pair, no_text, not_distinct}
+use Rattle.kohiblad.proofs.Objects.{not_there}
 use Rattle.kohiblad.proofs.Objects.{all_put}
 use Rattle.kohiblad.proofs.building.object_of.Goals as goal
 
