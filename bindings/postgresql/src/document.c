@@ -1,0 +1,258 @@
+#include "document.h"
+
+#include "libpq/pqformat.h"
+#include "mb/pg_wchar.h"
+#include "miscadmin.h"
+#include "port/pg_bswap.h"
+#include "tcop/tcopprot.h"
+#include "utils/builtins.h"
+
+PG_MODULE_MAGIC;
+
+#define MAX_ROOM (MaxAllocSize - VARHDRSZ)
+#define STATUS_NAME_ROOM 21
+
+/* What check_stack_depth leaves below its limit, less a reserve for the server's own calls. */
+#define STACK_LEFT (STACK_DEPTH_SLOP - 64 * 1024)
+
+/* Texts are first parsed within a depth whose stack is always left. */
+#define SHALLOW_DEPTH 64
+#define TEXT_STACK (MAX_DEPTH * KOHIBLAD_TEXT_LEVEL_STACK + KOHIBLAD_CALL_STACK)
+
+static const char *explanation(uint32_t status) {
+    switch (status) {
+        case KOHIBLAD_INVALID_JSON:
+            return "The text is not JSON, or has a number with an exponent or past 128 bits.";
+        case KOHIBLAD_INVALID_JSONB:
+            return "The bytes are no document of at most 1000 levels, or past a limit of the "
+                   "format.";
+        case KOHIBLAD_INVALID_UTF8:
+            return "The bytes are not UTF-8.";
+        case KOHIBLAD_TOO_DEEP:
+            return "At most 1000 arrays and objects may be nested.";
+        case KOHIBLAD_OBJECT_DUPLICATE_KEY:
+            return "A key comes twice.";
+        default:
+            return NULL;
+    }
+}
+
+static int code_of(uint32_t status, int code) {
+    switch (status) {
+        case KOHIBLAD_OUT_OF_MEMORY: return ERRCODE_OUT_OF_MEMORY;
+        case KOHIBLAD_TOO_DEEP: return ERRCODE_PROGRAM_LIMIT_EXCEEDED;
+        default: return code;
+    }
+}
+
+void refuse(uint32_t status, int code) {
+    uint8_t name[STATUS_NAME_ROOM];
+    size_t length;
+    if (kohiblad_status_name(status, name, sizeof name, &length) != KOHIBLAD_OK)
+        elog(ERROR, "kohiblad: status %u", status);
+    const char *detail = explanation(status);
+    ereport(ERROR, (errcode(code_of(status, code)),
+                    errmsg("kohiblad: %.*s", (int)length, (const char *)name),
+                    detail ? errdetail("%s", detail) : 0));
+}
+
+/* Asks the server from as far down as the call will go. */
+static pg_noinline bool has_stack(size_t below) {
+    volatile char *frame = __builtin_alloca(below + 1);
+    frame[0] = 0;
+    return !stack_is_too_deep();
+}
+
+void check_stack_for(size_t bytes) {
+    check_stack_depth();
+    if (bytes > STACK_LEFT && !has_stack(bytes - STACK_LEFT))
+        ereport(ERROR, (errcode(ERRCODE_STATEMENT_TOO_COMPLEX),
+                        errmsg("kohiblad: stack depth limit exceeded"),
+                        errhint("Increase the configuration parameter \"max_stack_depth\".")));
+}
+
+/* The result of a call after `prefix` bytes that the caller fills in, and before a zero byte. */
+static char *write_after(size_t prefix, WriteCall call, Bytes in, size_t guess, int code,
+                         size_t *length) {
+    check_stack_for(DOCUMENT_STACK);
+    size_t room = Min(guess, MAX_ROOM - 1);
+    char *out = palloc(prefix + room + 1);
+    uint32_t status = call(in.at, in.size, MAX_DEPTH, (uint8_t *)out + prefix, room, length);
+    if (status == KOHIBLAD_NO_ROOM) {
+        pfree(out);
+        room = *length;
+        if (room > MAX_ROOM - 1)
+            ereport(ERROR, (errcode(ERRCODE_PROGRAM_LIMIT_EXCEEDED),
+                            errmsg("kohiblad: the result has %zu bytes, more than 1 GB", room)));
+        out = palloc(prefix + room + 1);
+        status = call(in.at, in.size, MAX_DEPTH, (uint8_t *)out + prefix, room, length);
+    }
+    if (status != KOHIBLAD_OK) refuse(status, code);
+    out[prefix + *length] = 0;
+    return out;
+}
+
+struct varlena *write_value(WriteCall call, Bytes in, size_t guess, int code) {
+    size_t length;
+    struct varlena *value = (struct varlena *)write_after(VARHDRSZ, call, in, guess, code, &length);
+    SET_VARSIZE(value, VARHDRSZ + length);
+    return value;
+}
+
+/* A text that the server can hold: it ends texts by a zero byte, which a string here may have. */
+text *text_of_utf8(Bytes utf8) {
+    if (memchr(utf8.at, 0, utf8.size))
+        ereport(ERROR, (errcode(ERRCODE_UNTRANSLATABLE_CHARACTER),
+                        errmsg("kohiblad: \\u0000 cannot be converted to text")));
+    const char *shown = (const char *)utf8.at;
+    if (GetDatabaseEncoding() == PG_UTF8) return cstring_to_text_with_len(shown, utf8.size);
+    char *converted = pg_any_to_server(shown, utf8.size, PG_UTF8);
+    if (converted == shown) return cstring_to_text_with_len(shown, utf8.size);
+    text *result = cstring_to_text(converted);
+    pfree(converted);
+    return result;
+}
+
+static Bytes utf8_of_server(const char *given, size_t size) {
+    char *utf8 = pg_server_to_any(given, size, PG_UTF8);
+    return (Bytes){(const uint8_t *)utf8, utf8 == given ? size : strlen(utf8)};
+}
+
+Bytes utf8_of_text(const text *name) {
+    return utf8_of_server(VARDATA_ANY(name), VARSIZE_ANY_EXHDR(name));
+}
+
+/* Parses within few levels, and only where that is too deep within all, which needs much stack. */
+static uint32_t parse(const uint8_t *given, size_t size, size_t depth, uint8_t *out, size_t room,
+                      size_t *length) {
+    uint32_t status = kohiblad_parse(given, size, SHALLOW_DEPTH, out, room, length);
+    if (status != KOHIBLAD_TOO_DEEP) return status;
+    check_stack_for(TEXT_STACK);
+    return kohiblad_parse(given, size, depth, out, room, length);
+}
+
+static inline uint32_t word_at(const uint8_t *at) {
+    uint32_t word;
+    memcpy(&word, at, sizeof word);
+    return pg_ntoh32(word);
+}
+
+static inline void write_word(uint8_t *at, uint32_t word) {
+    word = pg_hton32(word);
+    memcpy(at, &word, sizeof word);
+}
+
+Part part_of_document(Bytes document) {
+    if (document.size < sizeof(uint32_t)) refuse(KOHIBLAD_INVALID_EOF, ERRCODE_DATA_CORRUPTED);
+    if (word_at(document.at) != SCALAR_HEADER)
+        return (Part){KOHIBLAD_TYPE_CONTAINER, document};
+    if (document.size < SCALAR_PREFIX) refuse(KOHIBLAD_INVALID_EOF, ERRCODE_DATA_CORRUPTED);
+    uint32_t type = word_at(document.at + sizeof(uint32_t)) & ENTRY_TYPE_MASK;
+    return (Part){type, {document.at + SCALAR_PREFIX, document.size - SCALAR_PREFIX}};
+}
+
+Part part_at(Bytes document, struct kohiblad_place place) {
+    return (Part){place.type, {document.at + place.offset, place.length}};
+}
+
+void write_scalar(Part part, uint8_t *out) {
+    write_word(out, SCALAR_HEADER);
+    write_word(out + sizeof(uint32_t), part.type | (uint32_t)part.payload.size);
+    memcpy(out + SCALAR_PREFIX, part.payload.at, part.payload.size);
+}
+
+struct varlena *document_of_part(Part part) {
+    bool is_scalar = part.type != KOHIBLAD_TYPE_CONTAINER;
+    size_t size = part.payload.size + (is_scalar ? SCALAR_PREFIX : 0);
+    struct varlena *value = palloc(VARHDRSZ + size);
+    SET_VARSIZE(value, VARHDRSZ + size);
+    if (is_scalar)
+        write_scalar(part, (uint8_t *)VARDATA(value));
+    else
+        memcpy(VARDATA(value), part.payload.at, size);
+    return value;
+}
+
+bool is_array(Part container) {
+    return kohiblad_kind(container.payload.at, container.payload.size).kind == KOHIBLAD_ARRAY;
+}
+
+/* Texts are seldom longer than twice their documents. */
+static size_t text_guess(Bytes document) {
+    return 2 * document.size + 64;
+}
+
+static text *compact_text(Bytes document) {
+    struct varlena *shown = write_value(kohiblad_to_string_within, document, text_guess(document),
+                                        ERRCODE_DATA_CORRUPTED);
+    if (GetDatabaseEncoding() == PG_UTF8) return shown;
+    text *result = text_of_utf8(bytes_of(shown));
+    pfree(shown);
+    return result;
+}
+
+text *plain_text(Part part) {
+    if (part.type == KOHIBLAD_TYPE_NULL) return NULL;
+    if (part.type == KOHIBLAD_TYPE_STRING) return text_of_utf8(part.payload);
+    if (part.type == KOHIBLAD_TYPE_CONTAINER) return compact_text(part.payload);
+    struct varlena *document = document_of_part(part);
+    text *shown = compact_text(bytes_of(document));
+    pfree(document);
+    if (part.type != KOHIBLAD_TYPE_EXTENSION) return shown;
+    text *unquoted = cstring_to_text_with_len(VARDATA(shown) + 1, VARSIZE(shown) - VARHDRSZ - 2);
+    pfree(shown);
+    return unquoted;
+}
+
+static struct varlena *checked_document(Bytes given) {
+    check_stack_for(DOCUMENT_STACK);
+    if (!kohiblad_check(given.at, given.size, MAX_DEPTH))
+        refuse(KOHIBLAD_INVALID_JSONB, ERRCODE_INVALID_BINARY_REPRESENTATION);
+    return (struct varlena *)cstring_to_text_with_len((const char *)given.at, given.size);
+}
+
+PG_FUNCTION_INFO_V1(pg_kohiblad_in);
+Datum pg_kohiblad_in(PG_FUNCTION_ARGS) {
+    const char *given = PG_GETARG_CSTRING(0);
+    Bytes utf8 = utf8_of_server(given, strlen(given));
+    PG_RETURN_POINTER(write_value(parse, utf8, 4 * utf8.size + SCALAR_PREFIX,
+                                  ERRCODE_INVALID_TEXT_REPRESENTATION));
+}
+
+PG_FUNCTION_INFO_V1(pg_kohiblad_out);
+Datum pg_kohiblad_out(PG_FUNCTION_ARGS) {
+    Bytes document = bytes_of(PG_GETARG_VARLENA_PP(0));
+    size_t length;
+    char *shown = write_after(0, kohiblad_to_string_within, document, text_guess(document),
+                              ERRCODE_DATA_CORRUPTED, &length);
+    if (GetDatabaseEncoding() != PG_UTF8) shown = pg_any_to_server(shown, length, PG_UTF8);
+    PG_RETURN_CSTRING(shown);
+}
+
+PG_FUNCTION_INFO_V1(pg_kohiblad_recv);
+Datum pg_kohiblad_recv(PG_FUNCTION_ARGS) {
+    StringInfo message = (StringInfo)PG_GETARG_POINTER(0);
+    size_t size = message->len - message->cursor;
+    const char *given = pq_getmsgbytes(message, size);
+    PG_RETURN_POINTER(checked_document((Bytes){(const uint8_t *)given, size}));
+}
+
+PG_FUNCTION_INFO_V1(pg_kohiblad_of_bytea);
+Datum pg_kohiblad_of_bytea(PG_FUNCTION_ARGS) {
+    PG_RETURN_POINTER(checked_document(bytes_of(PG_GETARG_VARLENA_PP(0))));
+}
+
+PG_FUNCTION_INFO_V1(pg_kohiblad_pretty);
+Datum pg_kohiblad_pretty(PG_FUNCTION_ARGS) {
+    Bytes document = bytes_of(PG_GETARG_VARLENA_PP(0));
+    struct varlena *shown = write_value(kohiblad_to_pretty_within, document,
+                                        2 * text_guess(document), ERRCODE_DATA_CORRUPTED);
+    PG_RETURN_TEXT_P(text_of_utf8(bytes_of(shown)));
+}
+
+PG_FUNCTION_INFO_V1(pg_kohiblad_canonical);
+Datum pg_kohiblad_canonical(PG_FUNCTION_ARGS) {
+    Bytes document = bytes_of(PG_GETARG_VARLENA_PP(0));
+    PG_RETURN_POINTER(write_value(kohiblad_to_canonical_within, document, document.size,
+                                  ERRCODE_PROGRAM_LIMIT_EXCEEDED));
+}

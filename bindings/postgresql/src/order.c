@@ -1,0 +1,267 @@
+/* The order of documents, for B-trees, sorts and hashes. docs/FORMAT.md says what it is.
+ *
+ * kohiblad_compare checks both of its inputs each time. Stored documents were checked before, so
+ * containers are compared here child by child, by the library's walk, and the library compares only
+ * numbers and extension values. Sorts first compare the beginnings of comparable keys, and hashes
+ * are of comparable keys: docs/COMPARABLE.md. */
+#include "document.h"
+
+#include "common/hashfn.h"
+#include "lib/hyperloglog.h"
+#include "miscadmin.h"
+#include "port/pg_bswap.h"
+#include "utils/sortsupport.h"
+
+#define SMALL_SCALAR 64
+#define KEY_ROOM 512
+
+/* Where the kinds come in the order; false and true are of one kind. */
+enum rank {
+    EXTENSION_RANK,
+    FALSE_RANK,
+    TRUE_RANK,
+    NUMBER_RANK,
+    STRING_RANK,
+    OBJECT_RANK,
+    ARRAY_RANK,
+    NULL_RANK
+};
+
+static int compare_parts(Part left, Part right);
+
+static enum rank rank_of(Part part) {
+    switch (part.type) {
+        case KOHIBLAD_TYPE_NULL: return NULL_RANK;
+        case KOHIBLAD_TYPE_STRING: return STRING_RANK;
+        case KOHIBLAD_TYPE_NUMBER: return NUMBER_RANK;
+        case KOHIBLAD_TYPE_FALSE: return FALSE_RANK;
+        case KOHIBLAD_TYPE_TRUE: return TRUE_RANK;
+        case KOHIBLAD_TYPE_CONTAINER: return is_array(part) ? ARRAY_RANK : OBJECT_RANK;
+        default: return EXTENSION_RANK;
+    }
+}
+
+static int compare_bytes(Bytes left, Bytes right) {
+    int order = memcmp(left.at, right.at, Min(left.size, right.size));
+    if (order != 0) return order;
+    return (left.size > right.size) - (left.size < right.size);
+}
+
+static bool are_same_bytes(Bytes left, Bytes right) {
+    return left.size == right.size && memcmp(left.at, right.at, left.size) == 0;
+}
+
+/* The document of a scalar, in the buffer if it is small. */
+static Bytes scalar_document(Part part, uint8_t *small) {
+    size_t size = SCALAR_PREFIX + part.payload.size;
+    uint8_t *out = size <= SMALL_SCALAR ? small : palloc(size);
+    write_scalar(part, out);
+    return (Bytes){out, size};
+}
+
+static int compare_scalars(Part left, Part right) {
+    uint8_t small_left[SMALL_SCALAR], small_right[SMALL_SCALAR];
+    if (are_same_bytes(left.payload, right.payload)) return 0;
+    Bytes l = scalar_document(left, small_left), r = scalar_document(right, small_right);
+    int order = kohiblad_compare(l.at, l.size, r.at, r.size);
+    if (l.at != small_left) pfree((void *)l.at);
+    if (r.at != small_right) pfree((void *)r.at);
+    return order;
+}
+
+/* Compares two arrays, or two objects: key, value, and the shorter first. */
+static int compare_containers(Bytes left, Bytes right) {
+    struct kohiblad_cursor left_cursor, right_cursor;
+    struct kohiblad_place left_key, right_key, left_value, right_value;
+    uint32_t left_status = kohiblad_begin(left.at, left.size, &left_cursor);
+    uint32_t right_status = kohiblad_begin(right.at, right.size, &right_cursor);
+    for (;;) {
+        CHECK_FOR_INTERRUPTS();
+        if (left_status == KOHIBLAD_OK)
+            left_status = kohiblad_next(left.at, left.size, &left_cursor, &left_key, &left_value);
+        if (right_status == KOHIBLAD_OK)
+            right_status =
+                kohiblad_next(right.at, right.size, &right_cursor, &right_key, &right_value);
+        if (left_status != KOHIBLAD_OK || right_status != KOHIBLAD_OK) break;
+        int order = 0;
+        if (left_key.status == KOHIBLAD_OK)
+            order = compare_bytes(part_at(left, left_key).payload, part_at(right, right_key).payload);
+        if (order == 0) order = compare_parts(part_at(left, left_value), part_at(right, right_value));
+        if (order != 0) return order;
+    }
+    if (left_status != KOHIBLAD_OK && left_status != KOHIBLAD_NONE)
+        refuse(left_status, ERRCODE_DATA_CORRUPTED);
+    if (right_status != KOHIBLAD_OK && right_status != KOHIBLAD_NONE)
+        refuse(right_status, ERRCODE_DATA_CORRUPTED);
+    return (left_status == KOHIBLAD_OK) - (right_status == KOHIBLAD_OK);
+}
+
+static int compare_parts(Part left, Part right) {
+    check_stack_depth();
+    enum rank rank = rank_of(left), right_rank = rank_of(right);
+    if (rank != right_rank) return rank < right_rank ? -1 : 1;
+    switch (rank) {
+        case STRING_RANK: return compare_bytes(left.payload, right.payload);
+        case OBJECT_RANK:
+        case ARRAY_RANK: return compare_containers(left.payload, right.payload);
+        case NUMBER_RANK:
+        case EXTENSION_RANK: return compare_scalars(left, right);
+        default: return 0;
+    }
+}
+
+static int compare_documents(Bytes left, Bytes right) {
+    return compare_parts(part_of_document(left), part_of_document(right));
+}
+
+static int compare_arguments(FunctionCallInfo fcinfo) {
+    struct varlena *left = PG_GETARG_VARLENA_PP(0), *right = PG_GETARG_VARLENA_PP(1);
+    int order = compare_documents(bytes_of(left), bytes_of(right));
+    PG_FREE_IF_COPY(left, 0);
+    PG_FREE_IF_COPY(right, 1);
+    return order;
+}
+
+/* Documents of the same bytes are equal, whatever is in them. */
+static bool are_equal(FunctionCallInfo fcinfo) {
+    struct varlena *left = PG_GETARG_VARLENA_PP(0), *right = PG_GETARG_VARLENA_PP(1);
+    Bytes l = bytes_of(left), r = bytes_of(right);
+    bool equal = are_same_bytes(l, r) || compare_documents(l, r) == 0;
+    PG_FREE_IF_COPY(left, 0);
+    PG_FREE_IF_COPY(right, 1);
+    return equal;
+}
+
+PG_FUNCTION_INFO_V1(pg_kohiblad_cmp);
+Datum pg_kohiblad_cmp(PG_FUNCTION_ARGS) {
+    int order = compare_arguments(fcinfo);
+    PG_RETURN_INT32((order > 0) - (order < 0));
+}
+
+#define COMPARISON(name, condition)      \
+    PG_FUNCTION_INFO_V1(name);           \
+    Datum name(PG_FUNCTION_ARGS) {       \
+        PG_RETURN_BOOL(condition);       \
+    }
+
+COMPARISON(pg_kohiblad_lt, compare_arguments(fcinfo) < 0)
+COMPARISON(pg_kohiblad_le, compare_arguments(fcinfo) <= 0)
+COMPARISON(pg_kohiblad_eq, are_equal(fcinfo))
+COMPARISON(pg_kohiblad_ne, !are_equal(fcinfo))
+COMPARISON(pg_kohiblad_ge, compare_arguments(fcinfo) >= 0)
+COMPARISON(pg_kohiblad_gt, compare_arguments(fcinfo) > 0)
+
+PG_FUNCTION_INFO_V1(pg_kohiblad_key);
+Datum pg_kohiblad_key(PG_FUNCTION_ARGS) {
+    Bytes document = bytes_of(PG_GETARG_VARLENA_PP(0));
+    PG_RETURN_BYTEA_P(write_value(kohiblad_key, document, document.size, ERRCODE_DATA_CORRUPTED));
+}
+
+/* Room for comparable keys, which grows as they need it. */
+typedef struct KeyRoom {
+    uint8_t *at;
+    size_t size;
+    MemoryContext context;
+} KeyRoom;
+
+static Bytes write_key(Bytes document, KeyRoom *room) {
+    check_stack_for(DOCUMENT_STACK);
+    size_t length;
+    uint32_t status =
+        kohiblad_key(document.at, document.size, MAX_DEPTH, room->at, room->size, &length);
+    if (status == KOHIBLAD_NO_ROOM) {
+        room->at = MemoryContextAllocHuge(room->context, length);
+        room->size = length;
+        status = kohiblad_key(document.at, document.size, MAX_DEPTH, room->at, room->size, &length);
+    }
+    if (status != KOHIBLAD_OK) refuse(status, ERRCODE_DATA_CORRUPTED);
+    return (Bytes){room->at, length};
+}
+
+static uint64 hash_of(FunctionCallInfo fcinfo, uint64 seed) {
+    struct varlena *value = PG_GETARG_VARLENA_PP(0);
+    uint8_t small[KEY_ROOM];
+    KeyRoom room = {small, sizeof small, CurrentMemoryContext};
+    Bytes key = write_key(bytes_of(value), &room);
+    uint64 hash = hash_bytes_extended(key.at, key.size, seed);
+    if (room.at != small) pfree(room.at);
+    PG_FREE_IF_COPY(value, 0);
+    return hash;
+}
+
+/* With seed 0 the low half is the hash of 32 bits, as hash operator classes require. */
+PG_FUNCTION_INFO_V1(pg_kohiblad_hash);
+Datum pg_kohiblad_hash(PG_FUNCTION_ARGS) {
+    PG_RETURN_UINT32((uint32)hash_of(fcinfo, 0));
+}
+
+PG_FUNCTION_INFO_V1(pg_kohiblad_hash_extended);
+Datum pg_kohiblad_hash_extended(PG_FUNCTION_ARGS) {
+    PG_RETURN_UINT64(hash_of(fcinfo, PG_GETARG_INT64(1)));
+}
+
+/* A sort: the room for keys, and how many abbreviations differ among the documents so far. */
+typedef struct Sort {
+    KeyRoom room;
+    hyperLogLogState distinct;
+    int64 count;
+    bool is_counting;
+} Sort;
+
+#define FIRST_ESTIMATE 10000  /* documents before the abbreviations are judged */
+#define ENOUGH_DISTINCT 100000 /* after so many they are not judged again */
+#define DOCUMENTS_EACH 2000   /* with more documents for each abbreviation they do not pay */
+
+static int compare_datums(Datum left, Datum right, SortSupport support) {
+    struct varlena *l = PG_DETOAST_DATUM_PACKED(left), *r = PG_DETOAST_DATUM_PACKED(right);
+    int order = compare_documents(bytes_of(l), bytes_of(r));
+    if ((Pointer)l != DatumGetPointer(left)) pfree(l);
+    if ((Pointer)r != DatumGetPointer(right)) pfree(r);
+    return order;
+}
+
+/* The first eight bytes of the key as a number. Where keys are cut so and differ, they decide. A
+ * key that is shorter is filled up with zeros: no key begins another, so none meets a longer one. */
+static Datum abbreviate(Datum original, SortSupport support) {
+    Sort *sort = support->ssup_extra;
+    struct varlena *value = PG_DETOAST_DATUM_PACKED(original);
+    Bytes key = write_key(bytes_of(value), &sort->room);
+    uint64 beginning = 0;
+    memcpy(&beginning, key.at, Min(key.size, sizeof beginning));
+    beginning = pg_ntoh64(beginning);
+    sort->count++;
+    if (sort->is_counting)
+        addHyperLogLog(&sort->distinct,
+                       DatumGetUInt32(hash_uint32((uint32)beginning ^ (uint32)(beginning >> 32))));
+    if ((Pointer)value != DatumGetPointer(original)) pfree(value);
+    return UInt64GetDatum(beginning);
+}
+
+static bool should_abort(int given, SortSupport support) {
+    Sort *sort = support->ssup_extra;
+    if (given < FIRST_ESTIMATE || sort->count < FIRST_ESTIMATE || !sort->is_counting) return false;
+    double distinct = estimateHyperLogLog(&sort->distinct);
+    if (distinct > ENOUGH_DISTINCT) {
+        sort->is_counting = false;
+        return false;
+    }
+    return distinct < (double)sort->count / DOCUMENTS_EACH + 0.5;
+}
+
+PG_FUNCTION_INFO_V1(pg_kohiblad_sortsupport);
+Datum pg_kohiblad_sortsupport(PG_FUNCTION_ARGS) {
+    SortSupport support = (SortSupport)PG_GETARG_POINTER(0);
+    support->comparator = compare_datums;
+    if (!support->abbreviate) PG_RETURN_VOID();
+    MemoryContext caller = MemoryContextSwitchTo(support->ssup_cxt);
+    Sort *sort = palloc(sizeof *sort);
+    *sort = (Sort){.room = {palloc(KEY_ROOM), KEY_ROOM, support->ssup_cxt}, .is_counting = true};
+    initHyperLogLog(&sort->distinct, 10);
+    support->ssup_extra = sort;
+    support->comparator = ssup_datum_unsigned_cmp;
+    support->abbrev_converter = abbreviate;
+    support->abbrev_abort = should_abort;
+    support->abbrev_full_comparator = compare_datums;
+    MemoryContextSwitchTo(caller);
+    PG_RETURN_VOID();
+}
