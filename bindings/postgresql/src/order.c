@@ -71,6 +71,7 @@ static int compare_scalars(Part left, Part right) {
 
 /* Compares two arrays, or two objects: key, value, and the shorter first. */
 static int compare_containers(Bytes left, Bytes right) {
+    check_stack_depth();
     struct kohiblad_cursor left_cursor, right_cursor;
     struct kohiblad_place left_key, right_key, left_value, right_value;
     uint32_t left_status = kohiblad_begin(left.at, left.size, &left_cursor);
@@ -97,7 +98,6 @@ static int compare_containers(Bytes left, Bytes right) {
 }
 
 static int compare_parts(Part left, Part right) {
-    check_stack_depth();
     enum rank rank = rank_of(left), right_rank = rank_of(right);
     if (rank != right_rank) return rank < right_rank ? -1 : 1;
     switch (rank) {
@@ -200,14 +200,17 @@ Datum pg_kohiblad_hash_extended(PG_FUNCTION_ARGS) {
     PG_RETURN_UINT64(hash_of(fcinfo, PG_GETARG_INT64(1)));
 }
 
-/* A sort: the room for keys, and how many abbreviations differ among the documents so far. */
+/* A sort: the room for keys, the key of its first document, and how many abbreviations differ. */
 typedef struct Sort {
     KeyRoom room;
+    Bytes reference;
     hyperLogLogState distinct;
     int64 count;
     bool is_counting;
 } Sort;
 
+#define MAX_COMMON 0x7FFF     /* of the common bytes, what 15 bits can count */
+#define NEXT_BYTES 6          /* the bytes after them that an abbreviation has */
 #define FIRST_ESTIMATE 10000  /* documents before the abbreviations are judged */
 #define ENOUGH_DISTINCT 100000 /* after so many they are not judged again */
 #define DOCUMENTS_EACH 2000   /* with more documents for each abbreviation they do not pay */
@@ -220,21 +223,45 @@ static int compare_datums(Datum left, Datum right, SortSupport support) {
     return order;
 }
 
-/* The first eight bytes of the key as a number. Where keys are cut so and differ, they decide. A
- * key that is shorter is filled up with zeros: no key begins another, so none meets a longer one. */
+/* A number for a key that rises with it, from where the key differs from a reference. Documents of
+ * one table often begin alike, so the first bytes of their keys would decide little.
+ *
+ * Keys below the reference come before those above. Of two below, the one that has more bytes in
+ * common with it is nearer and so greater; of two above, it is less. Where both have as many, the
+ * next bytes decide; these are filled up with zeros, since no key begins another. */
+static uint64 abbreviation(Bytes key, Bytes reference) {
+    size_t limit = Min(key.size, reference.size), common = 0;
+    while (common < limit && key.at[common] == reference.at[common]) common++;
+    bool is_above = common < limit ? key.at[common] > reference.at[common]
+                                   : key.size > reference.size;
+    uint64 next = 0;
+    memcpy((uint8_t *)&next + sizeof next - NEXT_BYTES, key.at + common,
+           Min(key.size - common, NEXT_BYTES));
+    uint64 nearness = is_above ? MAX_COMMON - common : common;
+    return (uint64)is_above << 63 | nearness << (8 * NEXT_BYTES) | pg_ntoh64(next);
+}
+
+static Bytes copy_beginning(Bytes key, size_t limit, MemoryContext context) {
+    size_t size = Min(key.size, limit);
+    uint8_t *copy = MemoryContextAlloc(context, size);
+    memcpy(copy, key.at, size);
+    return (Bytes){copy, size};
+}
+
 static Datum abbreviate(Datum original, SortSupport support) {
     Sort *sort = support->ssup_extra;
     struct varlena *value = PG_DETOAST_DATUM_PACKED(original);
     Bytes key = write_key(bytes_of(value), &sort->room);
-    uint64 beginning = 0;
-    memcpy(&beginning, key.at, Min(key.size, sizeof beginning));
-    beginning = pg_ntoh64(beginning);
+    if (!sort->reference.at)
+        sort->reference = copy_beginning(key, MAX_COMMON, support->ssup_cxt);
+    uint64 abbreviated = abbreviation(key, sort->reference);
     sort->count++;
-    if (sort->is_counting)
-        addHyperLogLog(&sort->distinct,
-                       DatumGetUInt32(hash_uint32((uint32)beginning ^ (uint32)(beginning >> 32))));
+    if (sort->is_counting) {
+        uint32 folded = (uint32)abbreviated ^ (uint32)(abbreviated >> 32);
+        addHyperLogLog(&sort->distinct, DatumGetUInt32(hash_uint32(folded)));
+    }
     if ((Pointer)value != DatumGetPointer(original)) pfree(value);
-    return UInt64GetDatum(beginning);
+    return UInt64GetDatum(abbreviated);
 }
 
 static bool should_abort(int given, SortSupport support) {

@@ -1,0 +1,68 @@
+#!/usr/bin/env bash
+# Times the extension beside jsonb on 100,000 rows, and prints the table of README.md.
+#
+#     bindings/postgresql/bench.sh [ROUNDS]
+#
+# Each time is that of the server, as EXPLAIN ANALYZE or \timing reports it: the median of ROUNDS
+# (5) rounds, in which both types take turns. tests/server.sh has the settings that are needed.
+set -euo pipefail
+folder=$(cd "$(dirname "$0")" && pwd)
+. "$folder/tests/server.sh"
+rounds=${1:-5}
+rows=100000
+open_server shared_buffers=512MB work_mem=256MB maintenance_work_mem=256MB jit=off \
+    max_parallel_workers_per_gather=0 max_parallel_maintenance_workers=0 autovacuum=off >&2
+
+# The milliseconds of a command.
+milliseconds() { psql -At -c '\timing on' -c "$1" | sed -n 's/^Time: \([0-9.]*\) ms.*/\1/p'; }
+
+median() { sort -n | awk '{ all[NR] = $1 } END { printf "%.0f", all[int((NR + 1) / 2)] }'; }
+
+# One line of the table: TABLE and TYPE in the command become those of each type.
+measure() {
+    local name=$1 command=$2 after=${3:-} type round
+    : > "$scratch/jsonb.times"
+    : > "$scratch/kohiblad.times"
+    for ((round = 0; round < rounds; round++)); do
+        for type in jsonb kohiblad; do
+            command_of_type=${command//TYPE/$type}
+            milliseconds "$command_of_type" >> "$scratch/$type.times"
+            [ -z "$after" ] || psql -c "${after//TYPE/$type}"
+        done
+    done
+    echo "| $name | $(median < "$scratch/kohiblad.times") | $(median < "$scratch/jsonb.times") |"
+}
+
+psql << SQL
+CREATE EXTENSION kohiblad;
+CREATE TABLE texts AS
+    SELECT format('{"id": %s, "name": "customer %s", "city": "city %s", "price": %s.%s, '
+                  '"tags": ["new", "t%s"], "seen": %s}',
+                  i, i * 7919 % 100003, i * 31 % 500, i * 17 % 900, 10 + i % 90, i % 13,
+                  CASE WHEN i % 3 = 0 THEN 'null' ELSE 'true' END) AS line
+    FROM generate_series(1, $rows) i ORDER BY md5(i::text);
+CREATE TABLE in_jsonb AS SELECT line::jsonb AS doc FROM texts;
+CREATE TABLE in_kohiblad AS SELECT line::kohiblad AS doc FROM texts;
+VACUUM ANALYZE;
+SQL
+
+sizes=$(psql -At -F ' | ' -c "SELECT (SELECT sum(pg_column_size(doc)) / $rows FROM in_kohiblad),
+                                     (SELECT sum(pg_column_size(doc)) / $rows FROM in_jsonb)")
+echo "| 100,000 rows, ms | kohiblad | jsonb |"
+echo "|---|---|---|"
+measure 'load: texts to documents' \
+    'CREATE TABLE loaded AS SELECT line::TYPE AS doc FROM texts' 'DROP TABLE loaded'
+measure "\`doc ->> 'id'\`" "SELECT sum((doc ->> 'id')::int) FROM in_TYPE"
+measure 'text back: `doc::text`' 'SELECT sum(length(doc::text)) FROM in_TYPE'
+measure "index built on \`doc -> 'name'\`" \
+    "CREATE INDEX built ON in_TYPE ((doc -> 'name'))" 'DROP INDEX built'
+measure 'index built on `doc`' 'CREATE INDEX built ON in_TYPE (doc)' 'DROP INDEX built'
+measure '`ORDER BY doc`' 'SELECT count(*) FROM (SELECT doc FROM in_TYPE ORDER BY doc OFFSET 1) s'
+measure "\`ORDER BY doc -> 'id'\`" \
+    "SELECT count(*) FROM (SELECT doc FROM in_TYPE ORDER BY doc -> 'id' OFFSET 1) s"
+measure "\`ORDER BY doc -> 'name'\`" \
+    "SELECT count(*) FROM (SELECT doc FROM in_TYPE ORDER BY doc -> 'name' OFFSET 1) s"
+measure "\`GROUP BY doc -> 'city'\`" \
+    "SELECT count(*) FROM (SELECT doc -> 'city', count(*) FROM in_TYPE GROUP BY 1) s"
+measure '`SELECT DISTINCT doc`' 'SELECT count(*) FROM (SELECT DISTINCT doc FROM in_TYPE) s'
+echo "| bytes a row | $sizes |"
