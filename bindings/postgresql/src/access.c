@@ -80,13 +80,15 @@ static Datum answer_text(FunctionCallInfo fcinfo, bool is_there, Part part) {
 }
 
 /* The two operators of each way to a child: one returns a document, the other a text. */
-#define OPERATOR(name, answer, find, argument)                        \
-    PG_FUNCTION_INFO_V1(name);                                        \
-    Datum name(PG_FUNCTION_ARGS) {                                    \
-        Bytes document = bytes_of(PG_GETARG_VARLENA_PP(0));           \
-        Part child = {0};                                             \
-        bool is_there = find(document, argument, &child);             \
-        return answer(fcinfo, is_there, child);                       \
+#define OPERATOR(name, answer, find, argument)                \
+    PG_FUNCTION_INFO_V1(name);                                \
+    Datum name(PG_FUNCTION_ARGS) {                            \
+        struct varlena *document = PG_GETARG_VARLENA_PP(0);   \
+        Part child = {0};                                     \
+        bool is_there = find(bytes_of(document), argument, &child); \
+        Datum answered = answer(fcinfo, is_there, child);     \
+        PG_FREE_IF_COPY(document, 0);                         \
+        return answered;                                      \
     }
 
 OPERATOR(pg_kohiblad_member, answer_document, find_member, PG_GETARG_TEXT_PP(1))

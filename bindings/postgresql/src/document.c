@@ -221,10 +221,12 @@ Datum pg_kohiblad_in(PG_FUNCTION_ARGS) {
 
 PG_FUNCTION_INFO_V1(pg_kohiblad_out);
 Datum pg_kohiblad_out(PG_FUNCTION_ARGS) {
-    Bytes document = bytes_of(PG_GETARG_VARLENA_PP(0));
+    struct varlena *value = PG_GETARG_VARLENA_PP(0);
+    Bytes document = bytes_of(value);
     size_t length;
     char *shown = write_after(0, kohiblad_to_string_within, document, text_guess(document),
                               ERRCODE_DATA_CORRUPTED, &length);
+    PG_FREE_IF_COPY(value, 0);
     if (GetDatabaseEncoding() != PG_UTF8) shown = pg_any_to_server(shown, length, PG_UTF8);
     PG_RETURN_CSTRING(shown);
 }

@@ -1,9 +1,9 @@
 /* The order of documents, for B-trees, sorts and hashes. docs/FORMAT.md says what it is.
  *
  * kohiblad_compare checks both of its inputs each time. Stored documents were checked before, so
- * containers are compared here child by child, by the library's walk, and the library compares only
- * numbers and extension values. Sorts first compare the beginnings of comparable keys, and hashes
- * are of comparable keys: docs/COMPARABLE.md. */
+ * containers are compared here child by child, by the library's walk, and kohiblad_compare only
+ * compares numbers and extension values. Sorts first compare parts of comparable keys, and hashes
+ * are those of comparable keys: docs/COMPARABLE.md. */
 #include "document.h"
 
 #include "common/hashfn.h"
@@ -86,8 +86,10 @@ static int compare_containers(Bytes left, Bytes right) {
         if (left_status != KOHIBLAD_OK || right_status != KOHIBLAD_OK) break;
         int order = 0;
         if (left_key.status == KOHIBLAD_OK)
-            order = compare_bytes(part_at(left, left_key).payload, part_at(right, right_key).payload);
-        if (order == 0) order = compare_parts(part_at(left, left_value), part_at(right, right_value));
+            order =
+                compare_bytes(part_at(left, left_key).payload, part_at(right, right_key).payload);
+        if (order == 0)
+            order = compare_parts(part_at(left, left_value), part_at(right, right_value));
         if (order != 0) return order;
     }
     if (left_status != KOHIBLAD_OK && left_status != KOHIBLAD_NONE)
@@ -157,12 +159,17 @@ Datum pg_kohiblad_key(PG_FUNCTION_ARGS) {
     PG_RETURN_BYTEA_P(write_value(kohiblad_key, document, document.size, ERRCODE_DATA_CORRUPTED));
 }
 
-/* Room for comparable keys, which grows as they need it. */
+/* Room for comparable keys, which grows as they need it; at first it is the caller's. */
 typedef struct KeyRoom {
     uint8_t *at;
     size_t size;
     MemoryContext context;
+    bool is_allocated;
 } KeyRoom;
+
+static void free_room(KeyRoom *room) {
+    if (room->is_allocated) pfree(room->at);
+}
 
 static Bytes write_key(Bytes document, KeyRoom *room) {
     check_stack_for(DOCUMENT_STACK);
@@ -170,8 +177,8 @@ static Bytes write_key(Bytes document, KeyRoom *room) {
     uint32_t status =
         kohiblad_key(document.at, document.size, MAX_DEPTH, room->at, room->size, &length);
     if (status == KOHIBLAD_NO_ROOM) {
-        room->at = MemoryContextAllocHuge(room->context, length);
-        room->size = length;
+        free_room(room);
+        *room = (KeyRoom){MemoryContextAllocHuge(room->context, length), length, room->context, true};
         status = kohiblad_key(document.at, document.size, MAX_DEPTH, room->at, room->size, &length);
     }
     if (status != KOHIBLAD_OK) refuse(status, ERRCODE_DATA_CORRUPTED);
@@ -181,10 +188,10 @@ static Bytes write_key(Bytes document, KeyRoom *room) {
 static uint64 hash_of(FunctionCallInfo fcinfo, uint64 seed) {
     struct varlena *value = PG_GETARG_VARLENA_PP(0);
     uint8_t small[KEY_ROOM];
-    KeyRoom room = {small, sizeof small, CurrentMemoryContext};
+    KeyRoom room = {small, sizeof small, CurrentMemoryContext, false};
     Bytes key = write_key(bytes_of(value), &room);
     uint64 hash = hash_bytes_extended(key.at, key.size, seed);
-    if (room.at != small) pfree(room.at);
+    free_room(&room);
     PG_FREE_IF_COPY(value, 0);
     return hash;
 }
@@ -209,11 +216,11 @@ typedef struct Sort {
     bool is_counting;
 } Sort;
 
-#define MAX_COMMON 0x7FFF     /* of the common bytes, what 15 bits can count */
-#define NEXT_BYTES 6          /* the bytes after them that an abbreviation has */
-#define FIRST_ESTIMATE 10000  /* documents before the abbreviations are judged */
+#define MAX_COMMON 0x7FFF      /* of the common bytes, what 15 bits can count */
+#define NEXT_BYTES 6           /* the bytes after them that an abbreviation has */
+#define FIRST_ESTIMATE 10000   /* documents before the abbreviations are judged */
 #define ENOUGH_DISTINCT 100000 /* after so many they are not judged again */
-#define DOCUMENTS_EACH 2000   /* with more documents for each abbreviation they do not pay */
+#define DOCUMENTS_EACH 2000    /* with more documents for each abbreviation they do not pay */
 
 static int compare_datums(Datum left, Datum right, SortSupport support) {
     struct varlena *l = PG_DETOAST_DATUM_PACKED(left), *r = PG_DETOAST_DATUM_PACKED(right);
@@ -282,7 +289,8 @@ Datum pg_kohiblad_sortsupport(PG_FUNCTION_ARGS) {
     if (!support->abbreviate) PG_RETURN_VOID();
     MemoryContext caller = MemoryContextSwitchTo(support->ssup_cxt);
     Sort *sort = palloc(sizeof *sort);
-    *sort = (Sort){.room = {palloc(KEY_ROOM), KEY_ROOM, support->ssup_cxt}, .is_counting = true};
+    *sort = (Sort){.room = {palloc(KEY_ROOM), KEY_ROOM, support->ssup_cxt, true},
+                   .is_counting = true};
     initHyperLogLog(&sort->distinct, 10);
     support->ssup_extra = sort;
     support->comparator = ssup_datum_unsigned_cmp;
