@@ -178,7 +178,9 @@ static Bytes write_key(Bytes document, KeyRoom *room) {
         kohiblad_key(document.at, document.size, MAX_DEPTH, room->at, room->size, &length);
     if (status == KOHIBLAD_NO_ROOM) {
         free_room(room);
-        *room = (KeyRoom){MemoryContextAllocHuge(room->context, length), length, room->context, true};
+        room->at = MemoryContextAllocHuge(room->context, length);
+        room->size = length;
+        room->is_allocated = true;
         status = kohiblad_key(document.at, document.size, MAX_DEPTH, room->at, room->size, &length);
     }
     if (status != KOHIBLAD_OK) refuse(status, ERRCODE_DATA_CORRUPTED);

@@ -24,7 +24,8 @@ FROM (SELECT nested_text(1000)::kohiblad AS d) s;
 SELECT a < b, b > a, kohiblad_hash(a) = kohiblad_hash(b), kohiblad_key(a) < kohiblad_key(b)
 FROM (SELECT nested_text(1000)::kohiblad AS a,
              replace(nested_text(1000), '[]', '[0]')::kohiblad AS b) s;
-SELECT (repeat('{"a":', 999) || '[]' || repeat('}', 999))::kohiblad #> array_fill('a'::text, '{999}');
+SELECT (repeat('{"a":', 999) || '[]' || repeat('}', 999))::kohiblad
+    #> array_fill('a'::text, '{999}');
 -- With less stack only what needs more is refused.
 SET max_stack_depth = '1MB';
 SELECT refusal($$ SELECT nested_text(1000)::kohiblad $$);

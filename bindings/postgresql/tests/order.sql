@@ -26,7 +26,8 @@ RESET enable_hashagg;
 SELECT kohiblad_hash('5') = kohiblad_hash('5.0'), kohiblad_hash('5') = kohiblad_hash('6');
 SELECT kohiblad_hash_extended('[5.0]', 7) = kohiblad_hash_extended('[5]', 7);
 SELECT kohiblad_hash_extended('[5]', 7) = kohiblad_hash_extended('[5]', 8);
-SELECT count(*) FROM ranked WHERE kohiblad_hash(d)::bit(32) <> kohiblad_hash_extended(d, 0)::bit(32);
+SELECT count(*) FROM ranked
+WHERE kohiblad_hash(d)::bit(32) <> kohiblad_hash_extended(d, 0)::bit(32);
 -- NULL.
 SELECT coalesce(d::text, 'none') FROM (VALUES (NULL), ('null'::kohiblad), ('1')) v(d) ORDER BY d;
 SELECT (NULL::kohiblad < '1') IS NULL, kohiblad_cmp(NULL, '1') IS NULL;
@@ -61,7 +62,8 @@ RESET work_mem;
 SELECT bool_and(i = 20001 - place)
 FROM (SELECT i, row_number() OVER (ORDER BY d -> 'id' DESC) AS place FROM rows_of) s;
 SELECT string_agg(i::text, ' ' ORDER BY place)
-FROM (SELECT i, row_number() OVER (ORDER BY d -> 'town', i) AS place FROM rows_of) s WHERE place < 4;
+FROM (SELECT i, row_number() OVER (ORDER BY d -> 'town', i) AS place FROM rows_of) s
+WHERE place < 4;
 SET parallel_setup_cost = 0;
 SET parallel_tuple_cost = 0;
 SET min_parallel_table_scan_size = 0;
@@ -70,7 +72,8 @@ SELECT bool_and(i = place)
 FROM (SELECT i, row_number() OVER () AS place FROM (SELECT i FROM rows_of ORDER BY d) s) t;
 RESET ALL;
 -- Joins.
-CREATE TABLE others AS SELECT i, (i::text || '.0')::kohiblad AS id FROM generate_series(19901, 20100) i;
+CREATE TABLE others AS
+    SELECT i, (i::text || '.0')::kohiblad AS id FROM generate_series(19901, 20100) i;
 ANALYZE others;
 SET enable_nestloop = off;
 SET enable_mergejoin = off;
