@@ -24,12 +24,12 @@ static const char *explanation(uint32_t status) {
         case KOHIBLAD_INVALID_JSON:
             return "The text is not JSON, or has a number with an exponent or past 128 bits.";
         case KOHIBLAD_INVALID_JSONB:
-            return "The bytes are no document of at most 1000 levels, or past a limit of the "
-                   "format.";
+            return "The bytes are no document of at most " CppAsString2(MAX_DEPTH)
+                   " levels, or past a limit of the format.";
         case KOHIBLAD_INVALID_UTF8:
             return "The bytes are not UTF-8.";
         case KOHIBLAD_TOO_DEEP:
-            return "At most 1000 arrays and objects may be nested.";
+            return "At most " CppAsString2(MAX_DEPTH) " arrays and objects may be nested.";
         case KOHIBLAD_OBJECT_DUPLICATE_KEY:
             return "A key comes twice.";
         default:
