@@ -3,8 +3,8 @@
 #
 #     bindings/postgresql/bench.sh [ROUNDS]
 #
-# Each time is that of the server, as EXPLAIN ANALYZE or \timing reports it: the median of ROUNDS
-# (5) rounds, in which both types take turns. tests/server.sh has the settings that are needed.
+# Each time is what \timing of psql reports: the median of ROUNDS (5) rounds, in which both types
+# take turns. tests/server.sh has the settings that are needed.
 set -euo pipefail
 folder=$(cd "$(dirname "$0")" && pwd)
 . "$folder/tests/server.sh"

@@ -5,9 +5,10 @@
 #
 # tests/server.sh has the settings. Each line of tests/NAME.out is the answer that tests/NAME.sql
 # must print there, and counts as a test.
-set -euo pipefail
+set -Eeuo pipefail
 folder=$(cd "$(dirname "$0")" && pwd)
 . "$folder/tests/server.sh"
+trap 'fail "line $LINENO of test.sh"' ERR
 vectors=$folder/../../tests/lines/jsonb_probe/comparable-keys
 tests=0
 
@@ -102,6 +103,7 @@ run_script prepare
 run_script documents
 run_script access
 run_script order
+run_script damaged
 run_copies
 run_refusals
 load_vectors

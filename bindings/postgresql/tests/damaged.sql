@@ -1,0 +1,30 @@
+-- Bytes that were damaged on the disk: each call returns or raises an error, and none breaks down.
+-- The column is made of type bytea, and then only its type is changed.
+CREATE TABLE damaged (d bytea);
+INSERT INTO damaged
+    WITH whole AS (
+        SELECT '{"a":[1,-2.50,"xyz",{"k":null}],"b":true,"c":12345678901234567890}'::kohiblad::bytea
+        AS b)
+    SELECT substring(b FROM 1 FOR n) FROM whole, generate_series(0, length(b)) n
+    UNION SELECT set_bit(b, n, 1 - get_bit(b, n))
+    FROM whole, generate_series(0, 8 * length(b) - 1) n;
+SET allow_system_table_mods = on;
+UPDATE pg_attribute SET atttypid = 'kohiblad'::regtype
+WHERE attrelid = 'damaged'::regclass AND attname = 'd';
+
+-- The rows where a call neither returns nor raises one of these errors.
+CREATE FUNCTION bad_ends(call text) RETURNS bigint LANGUAGE sql AS $$
+    SELECT count(*)
+    FROM damaged, LATERAL (SELECT left(refusal(
+        format('SELECT %s FROM damaged d WHERE d.ctid = %L', call, damaged.ctid)), 5)) r(state)
+    WHERE state NOT IN ('not r', 'XX001', '22P05', '54000')
+$$;
+SELECT count(*) > 500 FROM damaged;
+SELECT bad_ends('d::text'), bad_ends('kohiblad_pretty(d)'), bad_ends('kohiblad_canonical(d)');
+SELECT bad_ends('kohiblad_kind(d)'), bad_ends('kohiblad_length(d)'), bad_ends('kohiblad_key(d)');
+SELECT bad_ends($$ d -> 'a' $$), bad_ends($$ d ->> 'b' $$), bad_ends($$ d #>> '{a,3,k}' $$);
+SELECT bad_ends($$ d -> 'a' -> -1 $$), bad_ends($$ d #> '{}' $$), bad_ends($$ d #>> '{}' $$);
+SELECT bad_ends('(SELECT count(*) FROM kohiblad_each(d))'), bad_ends('kohiblad_hash(d)');
+SELECT bad_ends('kohiblad_agg(d)'), bad_ends('d::bytea');
+SELECT bad_ends('(SELECT sum(kohiblad_cmp(d, e.d)) FROM (SELECT d FROM damaged LIMIT 50) e)');
+DROP TABLE damaged;
