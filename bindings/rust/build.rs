@@ -1,0 +1,39 @@
+//! Finds the archive libkohiblad.a: in the directory `KOHIBLAD_LIB_DIR`, or else where pkg-config
+//! says that the library is installed.
+
+use std::env;
+use std::path::Path;
+use std::process::Command;
+
+const ARCHIVE: &str = "libkohiblad.a";
+const NEEDED: &str = "kohiblad >= 0.6";
+
+fn main() {
+    for variable in ["KOHIBLAD_LIB_DIR", "PKG_CONFIG", "PKG_CONFIG_PATH"] {
+        println!("cargo:rerun-if-env-changed={variable}");
+    }
+    let directory = env::var("KOHIBLAD_LIB_DIR").unwrap_or_else(|_| installed());
+    let archive = Path::new(&directory).join(ARCHIVE);
+    assert!(archive.is_file(), "there is no {}", archive.display());
+    println!("cargo:rerun-if-changed={}", archive.display());
+    println!("cargo:rustc-link-search=native={directory}");
+    println!("cargo:rustc-link-lib=static=kohiblad");
+}
+
+/// The directory that pkg-config returns.
+fn installed() -> String {
+    let program = env::var("PKG_CONFIG").unwrap_or_else(|_| "pkg-config".into());
+    let output = Command::new(&program)
+        .args(["--print-errors", "--variable=libdir", NEEDED])
+        .output()
+        .unwrap_or_else(|error| panic!("{program} cannot run: {error}; or set KOHIBLAD_LIB_DIR"));
+    assert!(
+        output.status.success(),
+        "{}set PKG_CONFIG_PATH or KOHIBLAD_LIB_DIR",
+        String::from_utf8_lossy(&output.stderr)
+    );
+    String::from_utf8(output.stdout)
+        .expect("pkg-config prints UTF-8")
+        .trim()
+        .into()
+}

@@ -1,0 +1,120 @@
+use core::fmt;
+
+/// Why a call was refused. The variants have the names of the library's statuses.
+///
+/// Three statuses are no errors here: `None` is [`Option::None`], after `NoRoom` the call is
+/// repeated with more room, and `Overlap` cannot come, since Rust keeps what is written apart.
+#[derive(Clone, Copy, Debug, PartialEq, Eq, Hash)]
+#[non_exhaustive]
+pub enum Error {
+    /// The bytes are cut.
+    InvalidEOF,
+    /// The bytes are no document, nest too deep, or a limit of the format is passed.
+    InvalidJsonb,
+    /// The header is no document's.
+    InvalidJsonbHeader,
+    /// An entry is no document's.
+    InvalidJsonbJEntry,
+    /// The payload of a number is none.
+    InvalidJsonbNumber,
+    /// There is no such extension value.
+    InvalidJsonbExtension,
+    /// A text is not UTF-8.
+    InvalidUtf8,
+    /// A key comes twice.
+    ObjectDuplicateKey,
+    /// The text is no JSON, or has a number with an exponent or too many digits.
+    InvalidJson,
+    /// An allocation failed.
+    OutOfMemory,
+    /// More brackets of the text are open at once than the depth allows.
+    TooDeep,
+    /// The value is of another kind.
+    OtherKind,
+    /// The number is no whole one of 64 bits.
+    PastRange,
+    /// A status that this version of the crate does not know.
+    Unknown(u32),
+}
+
+impl Error {
+    /// The error of a status. Only a status that is no success may be given.
+    pub(crate) fn of_status(status: u32) -> Self {
+        match status {
+            1 => Error::InvalidEOF,
+            2 => Error::InvalidJsonb,
+            3 => Error::InvalidJsonbHeader,
+            4 => Error::InvalidJsonbJEntry,
+            5 => Error::InvalidJsonbNumber,
+            6 => Error::InvalidJsonbExtension,
+            7 => Error::InvalidUtf8,
+            8 => Error::ObjectDuplicateKey,
+            9 => Error::InvalidJson,
+            10 => Error::OutOfMemory,
+            13 => Error::TooDeep,
+            14 => Error::OtherKind,
+            15 => Error::PastRange,
+            _ => Error::Unknown(status),
+        }
+    }
+
+    /// The library's name of the status.
+    ///
+    /// ```
+    /// let refused = kohiblad::OwnedJsonb::parse("1e5", 64).unwrap_err();
+    /// assert_eq!(refused.name(), "InvalidJson");
+    /// ```
+    pub fn name(&self) -> &'static str {
+        match self {
+            Error::InvalidEOF => "InvalidEOF",
+            Error::InvalidJsonb => "InvalidJsonb",
+            Error::InvalidJsonbHeader => "InvalidJsonbHeader",
+            Error::InvalidJsonbJEntry => "InvalidJsonbJEntry",
+            Error::InvalidJsonbNumber => "InvalidJsonbNumber",
+            Error::InvalidJsonbExtension => "InvalidJsonbExtension",
+            Error::InvalidUtf8 => "InvalidUtf8",
+            Error::ObjectDuplicateKey => "ObjectDuplicateKey",
+            Error::InvalidJson => "InvalidJson",
+            Error::OutOfMemory => "OutOfMemory",
+            Error::TooDeep => "TooDeep",
+            Error::OtherKind => "OtherKind",
+            Error::PastRange => "PastRange",
+            Error::Unknown(_) => "Unknown",
+        }
+    }
+}
+
+impl fmt::Display for Error {
+    fn fmt(&self, f: &mut fmt::Formatter<'_>) -> fmt::Result {
+        f.write_str(self.name())
+    }
+}
+
+#[cfg(feature = "std")]
+impl std::error::Error for Error {}
+
+#[cfg(test)]
+mod tests {
+    use super::Error;
+    use crate::ffi;
+
+    #[test]
+    fn names_are_those_of_the_library() {
+        for status in 1..=20 {
+            let error = Error::of_status(status);
+            if !matches!(error, Error::Unknown(_)) {
+                assert_eq!(error.name(), ffi::status_name(status));
+            }
+        }
+        assert_eq!(ffi::status_name(99), Error::of_status(99).name());
+    }
+
+    #[test]
+    fn only_three_statuses_are_no_errors() {
+        let others: Vec<_> = (1..=16)
+            .filter(|&status| matches!(Error::of_status(status), Error::Unknown(_)))
+            .map(ffi::status_name)
+            .collect();
+        assert_eq!(others, ["NoRoom", "None", "Overlap"]);
+    }
+}

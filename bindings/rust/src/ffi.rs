@@ -1,0 +1,707 @@
+//! The library's exports, and safe functions that call them. All `unsafe` of the crate is here.
+//!
+//! The header kohiblad.h says what an export requires of its caller, which the safe functions keep:
+//!
+//! - a pointer is not null, and has as many bytes as the length after it says, which are readable,
+//!   and writable if the call writes them: pointers and lengths come from slices, from references
+//!   to whole structs, or from a new buffer and its capacity;
+//! - what a call writes overlaps nothing else: it is a new buffer, a local, or an exclusive
+//!   reference;
+//! - nobody writes the input during the call: it is borrowed;
+//! - the stack has room for the depth: each export that recurses takes one, which is at most
+//!   [`MAX_DEPTH`].
+//!
+//! "As above" in a comment names these four.
+
+use alloc::vec::Vec;
+use core::cmp::Ordering;
+
+use crate::{Error, MAX_DEPTH};
+
+const OK: u32 = 0;
+const NO_ROOM: u32 = 11;
+const NONE: u32 = 12;
+
+/// The room that is tried first for a result of unknown length.
+const FIRST_ROOM: usize = 64;
+
+/// What `kohiblad_kind` returns.
+#[repr(C)]
+struct ValueKind {
+    status: u32,
+    kind: u32,
+    count: u64,
+}
+
+/// The type of an entry, and the offset and length of its payload.
+#[repr(C)]
+#[derive(Clone, Copy, Default)]
+struct Place {
+    status: u32,
+    entry_type: u32,
+    offset: u64,
+    length: u64,
+}
+
+/// The state of a walk over children.
+#[repr(C)]
+#[derive(Clone, Copy, Debug, Default)]
+pub(crate) struct Cursor {
+    index: u64,
+    key: u64,
+    value: u64,
+}
+
+#[repr(C)]
+struct Decimal {
+    status: u32,
+    scale: u32,
+    high: i64,
+    low: u64,
+}
+
+#[repr(C)]
+struct Integer {
+    status: u32,
+    value: i64,
+}
+
+#[repr(C)]
+struct Truth {
+    status: u32,
+    value: u32,
+}
+
+#[repr(C)]
+struct Extension {
+    status: u32,
+    tag: u32,
+    value: i64,
+    months: i32,
+    days: i32,
+    seconds: i32,
+    offset: u64,
+    length: u64,
+}
+
+/// An export from bytes to bytes, within a depth.
+type Bounded = unsafe extern "C" fn(*const u8, usize, usize, *mut u8, usize, *mut usize) -> u32;
+
+/// An export that builds a document of rows, within a depth.
+type Building = unsafe extern "C" fn(
+    *const u8,
+    usize,
+    *const usize,
+    usize,
+    usize,
+    *mut u8,
+    usize,
+    *mut usize,
+) -> u32;
+
+extern "C" {
+    fn kohiblad_version() -> u32;
+    #[cfg(test)]
+    fn kohiblad_status_name(status: u32, out: *mut u8, room: usize, length: *mut usize) -> u32;
+    fn kohiblad_check(bytes: *const u8, size: usize, depth: usize) -> bool;
+    fn kohiblad_compare_within(
+        left: *const u8,
+        left_size: usize,
+        right: *const u8,
+        right_size: usize,
+        depth: usize,
+    ) -> i32;
+    fn kohiblad_kind(bytes: *const u8, size: usize) -> ValueKind;
+    fn kohiblad_get(
+        bytes: *const u8,
+        size: usize,
+        name: *const u8,
+        name_size: usize,
+        out: *mut u8,
+        room: usize,
+        length: *mut usize,
+    ) -> u32;
+    fn kohiblad_find(bytes: *const u8, size: usize, name: *const u8, name_size: usize) -> Place;
+    fn kohiblad_begin(bytes: *const u8, size: usize, cursor: *mut Cursor) -> u32;
+    fn kohiblad_next(
+        bytes: *const u8,
+        size: usize,
+        cursor: *mut Cursor,
+        key: *mut Place,
+        value: *mut Place,
+    ) -> u32;
+    fn kohiblad_array_item(
+        bytes: *const u8,
+        size: usize,
+        index: usize,
+        out: *mut u8,
+        room: usize,
+        length: *mut usize,
+    ) -> u32;
+    fn kohiblad_object_member(
+        bytes: *const u8,
+        size: usize,
+        index: usize,
+        key: *mut u8,
+        key_room: usize,
+        key_length: *mut usize,
+        out: *mut u8,
+        room: usize,
+        length: *mut usize,
+    ) -> u32;
+    fn kohiblad_number(bytes: *const u8, size: usize) -> Decimal;
+    fn kohiblad_int64(bytes: *const u8, size: usize) -> Integer;
+    fn kohiblad_text(bytes: *const u8, size: usize) -> Place;
+    fn kohiblad_boolean(bytes: *const u8, size: usize) -> Truth;
+    fn kohiblad_extension(bytes: *const u8, size: usize) -> Extension;
+    fn kohiblad_of_null(out: *mut u8, room: usize, length: *mut usize) -> u32;
+    fn kohiblad_of_boolean(value: u32, out: *mut u8, room: usize, length: *mut usize) -> u32;
+    fn kohiblad_of_text(
+        text: *const u8,
+        size: usize,
+        out: *mut u8,
+        room: usize,
+        length: *mut usize,
+    ) -> u32;
+    fn kohiblad_of_decimal(
+        high: i64,
+        low: u64,
+        scale: u32,
+        out: *mut u8,
+        room: usize,
+        length: *mut usize,
+    ) -> u32;
+    fn kohiblad_of_extension(
+        tag: u32,
+        value: i64,
+        months: i32,
+        days: i32,
+        seconds: i32,
+        data: *const u8,
+        size: usize,
+        out: *mut u8,
+        room: usize,
+        length: *mut usize,
+    ) -> u32;
+    fn kohiblad_to_string_within(
+        bytes: *const u8,
+        size: usize,
+        depth: usize,
+        out: *mut u8,
+        room: usize,
+        length: *mut usize,
+    ) -> u32;
+    fn kohiblad_to_pretty_within(
+        bytes: *const u8,
+        size: usize,
+        depth: usize,
+        out: *mut u8,
+        room: usize,
+        length: *mut usize,
+    ) -> u32;
+    fn kohiblad_parse(
+        text: *const u8,
+        size: usize,
+        depth: usize,
+        out: *mut u8,
+        room: usize,
+        length: *mut usize,
+    ) -> u32;
+    fn kohiblad_build_array_within(
+        bytes: *const u8,
+        size: usize,
+        ends: *const usize,
+        rows: usize,
+        depth: usize,
+        out: *mut u8,
+        room: usize,
+        length: *mut usize,
+    ) -> u32;
+    fn kohiblad_build_object_within(
+        bytes: *const u8,
+        size: usize,
+        ends: *const usize,
+        rows: usize,
+        depth: usize,
+        out: *mut u8,
+        room: usize,
+        length: *mut usize,
+    ) -> u32;
+    fn kohiblad_is_canonical_within(bytes: *const u8, size: usize, depth: usize) -> bool;
+    fn kohiblad_to_canonical_within(
+        bytes: *const u8,
+        size: usize,
+        depth: usize,
+        out: *mut u8,
+        room: usize,
+        length: *mut usize,
+    ) -> u32;
+    fn kohiblad_key(
+        bytes: *const u8,
+        size: usize,
+        depth: usize,
+        out: *mut u8,
+        room: usize,
+        length: *mut usize,
+    ) -> u32;
+    fn kohiblad_sort_within(
+        bytes: *const u8,
+        size: usize,
+        ends: *const usize,
+        rows: usize,
+        depth: usize,
+        order: *mut usize,
+        room: usize,
+    ) -> u32;
+}
+
+/// A child's payload, with the type of its entry.
+#[derive(Clone, Copy)]
+pub(crate) struct Part<'a> {
+    pub(crate) entry_type: u32,
+    pub(crate) payload: &'a [u8],
+}
+
+/// A child, with its key if it is an object's.
+pub(crate) struct Child<'a> {
+    pub(crate) key: Option<&'a [u8]>,
+    pub(crate) value: Part<'a>,
+}
+
+/// Byte strings one after another, and the end of each.
+#[derive(Default)]
+pub(crate) struct Rows {
+    bytes: Vec<u8>,
+    ends: Vec<usize>,
+}
+
+impl Rows {
+    /// Appends a row.
+    ///
+    /// `OutOfMemory`: an allocation failed.
+    pub(crate) fn push(&mut self, row: &[u8]) -> Result<(), Error> {
+        self.bytes
+            .try_reserve(row.len())
+            .map_err(|_| Error::OutOfMemory)?;
+        self.ends.try_reserve(1).map_err(|_| Error::OutOfMemory)?;
+        self.bytes.extend_from_slice(row);
+        self.ends.push(self.bytes.len());
+        Ok(())
+    }
+}
+
+/// A new buffer with room for so many elements.
+fn with_room<T>(room: usize) -> Result<Vec<T>, Error> {
+    let mut out = Vec::new();
+    out.try_reserve_exact(room)
+        .map_err(|_| Error::OutOfMemory)?;
+    Ok(out)
+}
+
+/// A copy of bytes.
+pub(crate) fn copied(bytes: &[u8]) -> Result<Vec<u8>, Error> {
+    let mut out = with_room(bytes.len())?;
+    out.extend_from_slice(bytes);
+    Ok(out)
+}
+
+fn tested(status: u32) -> Result<(), Error> {
+    match status {
+        OK => Ok(()),
+        _ => Err(Error::of_status(status)),
+    }
+}
+
+/// The result of a call, without the status `None`, which is no error.
+fn optional<T>(status: u32, result: impl FnOnce() -> T) -> Result<Option<T>, Error> {
+    match status {
+        NONE => Ok(None),
+        _ => tested(status).map(|()| Some(result())),
+    }
+}
+
+/// The bytes that a call writes, which is repeated once if they do not fit the first room. The
+/// call must write as many bytes to the buffer as it sets the length to, if its status is `OK`.
+fn written(
+    first_room: usize,
+    mut call: impl FnMut(*mut u8, usize, &mut usize) -> u32,
+) -> Result<(u32, Vec<u8>), Error> {
+    let mut out = with_room(first_room)?;
+    let mut length = 0;
+    let mut status = call(out.as_mut_ptr(), out.capacity(), &mut length);
+    if status == NO_ROOM {
+        out = with_room(length)?;
+        status = call(out.as_mut_ptr(), out.capacity(), &mut length);
+    }
+    if status == OK {
+        assert!(
+            length <= out.capacity(),
+            "a result is not longer than its room"
+        );
+        // SAFETY: the call wrote so many bytes, which is what this function requires of it.
+        unsafe { out.set_len(length) };
+        out.shrink_to_fit();
+    }
+    Ok((status, out))
+}
+
+fn all_written(
+    first_room: usize,
+    call: impl FnMut(*mut u8, usize, &mut usize) -> u32,
+) -> Result<Vec<u8>, Error> {
+    let (status, out) = written(first_room, call)?;
+    tested(status)?;
+    Ok(out)
+}
+
+/// What an export makes of bytes within a depth, which is at most [`MAX_DEPTH`].
+fn bounded(
+    export: Bounded,
+    bytes: &[u8],
+    depth: usize,
+    first_room: usize,
+) -> Result<Vec<u8>, Error> {
+    let depth = depth.min(MAX_DEPTH);
+    all_written(first_room, |out, room, length| {
+        // SAFETY: as above; each `Bounded` export requires that alone, and writes `length` bytes.
+        unsafe { export(bytes.as_ptr(), bytes.len(), depth, out, room, length) }
+    })
+}
+
+/// What an export builds of rows, none of which nests so deep that the result passes `MAX_DEPTH`.
+fn built(export: Building, rows: &Rows) -> Result<Vec<u8>, Error> {
+    let (bytes, ends) = (&rows.bytes, &rows.ends);
+    // An entry for each row, and the header.
+    let first_room = bytes.len() + 4 * ends.len() + 4;
+    all_written(first_room, |out, room, length| {
+        // SAFETY: as above; each `Building` export requires that alone, and writes `length` bytes.
+        unsafe {
+            export(
+                bytes.as_ptr(),
+                bytes.len(),
+                ends.as_ptr(),
+                ends.len(),
+                MAX_DEPTH - 1,
+                out,
+                room,
+                length,
+            )
+        }
+    })
+}
+
+/// The bytes at a place that a call returned with `OK`, which is inside the bytes. So both numbers
+/// fit a `usize`.
+fn bytes_at(bytes: &[u8], offset: u64, length: u64) -> &[u8] {
+    &bytes[offset as usize..][..length as usize]
+}
+
+fn part_at<'a>(bytes: &'a [u8], place: &Place) -> Part<'a> {
+    Part {
+        entry_type: place.entry_type,
+        payload: bytes_at(bytes, place.offset, place.length),
+    }
+}
+
+pub(crate) fn version() -> u32 {
+    // SAFETY: the call takes nothing.
+    unsafe { kohiblad_version() }
+}
+
+#[cfg(test)]
+pub(crate) fn status_name(status: u32) -> alloc::string::String {
+    let name = all_written(FIRST_ROOM, |out, room, length| {
+        // SAFETY: as above; the call writes `length` bytes.
+        unsafe { kohiblad_status_name(status, out, room, length) }
+    });
+    alloc::string::String::from_utf8(name.unwrap()).unwrap()
+}
+
+pub(crate) fn check(bytes: &[u8], depth: usize) -> bool {
+    // SAFETY: as above.
+    unsafe { kohiblad_check(bytes.as_ptr(), bytes.len(), depth.min(MAX_DEPTH)) }
+}
+
+pub(crate) fn is_canonical(bytes: &[u8]) -> bool {
+    // SAFETY: as above.
+    unsafe { kohiblad_is_canonical_within(bytes.as_ptr(), bytes.len(), MAX_DEPTH) }
+}
+
+pub(crate) fn compare(left: &[u8], right: &[u8]) -> Ordering {
+    // SAFETY: as above, of both.
+    let sign = unsafe {
+        kohiblad_compare_within(
+            left.as_ptr(),
+            left.len(),
+            right.as_ptr(),
+            right.len(),
+            MAX_DEPTH,
+        )
+    };
+    sign.cmp(&0)
+}
+
+/// The number of the kind, and the count.
+pub(crate) fn kind(bytes: &[u8]) -> Result<(u32, usize), Error> {
+    // SAFETY: as above.
+    let kind = unsafe { kohiblad_kind(bytes.as_ptr(), bytes.len()) };
+    tested(kind.status)?;
+    // A count has 29 bits.
+    Ok((kind.kind, kind.count as usize))
+}
+
+pub(crate) fn get(bytes: &[u8], name: &str) -> Result<Option<Vec<u8>>, Error> {
+    let (status, value) = written(FIRST_ROOM, |out, room, length| {
+        // SAFETY: as above; the call writes `length` bytes.
+        unsafe {
+            kohiblad_get(
+                bytes.as_ptr(),
+                bytes.len(),
+                name.as_ptr(),
+                name.len(),
+                out,
+                room,
+                length,
+            )
+        }
+    })?;
+    optional(status, || value)
+}
+
+pub(crate) fn find<'a>(bytes: &'a [u8], name: &str) -> Result<Option<Part<'a>>, Error> {
+    // SAFETY: as above, of the bytes and the name.
+    let place = unsafe { kohiblad_find(bytes.as_ptr(), bytes.len(), name.as_ptr(), name.len()) };
+    optional(place.status, || part_at(bytes, &place))
+}
+
+/// A cursor before the first child, of which there is none if the bytes are no array or object.
+pub(crate) fn begin(bytes: &[u8]) -> Result<Option<Cursor>, Error> {
+    let mut cursor = Cursor::default();
+    // SAFETY: as above; the cursor is a local.
+    let status = unsafe { kohiblad_begin(bytes.as_ptr(), bytes.len(), &mut cursor) };
+    optional(status, || cursor)
+}
+
+/// The child at the cursor, which is then moved after it.
+pub(crate) fn next<'a>(bytes: &'a [u8], cursor: &mut Cursor) -> Result<Option<Child<'a>>, Error> {
+    let (mut key, mut value) = (Place::default(), Place::default());
+    // SAFETY: as above; the cursor is borrowed exclusively, and both places are locals.
+    let status =
+        unsafe { kohiblad_next(bytes.as_ptr(), bytes.len(), cursor, &mut key, &mut value) };
+    optional(status, || Child {
+        key: (key.status == OK).then(|| bytes_at(bytes, key.offset, key.length)),
+        value: part_at(bytes, &value),
+    })
+}
+
+pub(crate) fn array_item(bytes: &[u8], index: usize) -> Result<Option<Vec<u8>>, Error> {
+    let (status, item) = written(FIRST_ROOM, |out, room, length| {
+        // SAFETY: as above; the call writes `length` bytes.
+        unsafe { kohiblad_array_item(bytes.as_ptr(), bytes.len(), index, out, room, length) }
+    })?;
+    optional(status, || item)
+}
+
+/// A key and the document of its value.
+pub(crate) fn object_member(
+    bytes: &[u8],
+    index: usize,
+) -> Result<Option<(Vec<u8>, Vec<u8>)>, Error> {
+    let (mut key, mut value) = (with_room(FIRST_ROOM)?, with_room(FIRST_ROOM)?);
+    let (mut status, key_length, length) = write_member(bytes, index, &mut key, &mut value);
+    if status == NO_ROOM {
+        (key, value) = (with_room(key_length)?, with_room(length)?);
+        (status, ..) = write_member(bytes, index, &mut key, &mut value);
+    }
+    optional(status, || (key, value))
+}
+
+/// Writes a key and the document of its value to two empty buffers, and returns the lengths of
+/// both, also if they do not fit.
+fn write_member(
+    bytes: &[u8],
+    index: usize,
+    key: &mut Vec<u8>,
+    value: &mut Vec<u8>,
+) -> (u32, usize, usize) {
+    let (mut key_length, mut length) = (0, 0);
+    // SAFETY: as above, of the bytes, both buffers and their lengths.
+    let status = unsafe {
+        kohiblad_object_member(
+            bytes.as_ptr(),
+            bytes.len(),
+            index,
+            key.as_mut_ptr(),
+            key.capacity(),
+            &mut key_length,
+            value.as_mut_ptr(),
+            value.capacity(),
+            &mut length,
+        )
+    };
+    if status == OK {
+        assert!(key_length <= key.capacity() && length <= value.capacity());
+        // SAFETY: the call wrote so many bytes to each.
+        unsafe {
+            key.set_len(key_length);
+            value.set_len(length);
+        }
+    }
+    (status, key_length, length)
+}
+
+/// The digits and the scale.
+pub(crate) fn number(bytes: &[u8]) -> Result<(i128, u32), Error> {
+    // SAFETY: as above.
+    let number = unsafe { kohiblad_number(bytes.as_ptr(), bytes.len()) };
+    tested(number.status)?;
+    let digits = (i128::from(number.high) << 64) | i128::from(number.low);
+    Ok((digits, number.scale))
+}
+
+pub(crate) fn int64(bytes: &[u8]) -> Result<i64, Error> {
+    // SAFETY: as above.
+    let integer = unsafe { kohiblad_int64(bytes.as_ptr(), bytes.len()) };
+    tested(integer.status)?;
+    Ok(integer.value)
+}
+
+pub(crate) fn text(bytes: &[u8]) -> Result<&[u8], Error> {
+    // SAFETY: as above.
+    let place = unsafe { kohiblad_text(bytes.as_ptr(), bytes.len()) };
+    tested(place.status)?;
+    Ok(bytes_at(bytes, place.offset, place.length))
+}
+
+pub(crate) fn boolean(bytes: &[u8]) -> Result<bool, Error> {
+    // SAFETY: as above.
+    let truth = unsafe { kohiblad_boolean(bytes.as_ptr(), bytes.len()) };
+    tested(truth.status)?;
+    Ok(truth.value != 0)
+}
+
+/// An extension value: its tag, and the fields and data that the tag has. Others are 0 and empty.
+#[derive(Default)]
+pub(crate) struct Fields<'a> {
+    pub(crate) tag: u32,
+    pub(crate) value: i64,
+    pub(crate) months: i32,
+    pub(crate) days: i32,
+    pub(crate) seconds: i32,
+    pub(crate) data: &'a [u8],
+}
+
+pub(crate) fn extension(bytes: &[u8]) -> Result<Fields<'_>, Error> {
+    // SAFETY: as above.
+    let extension = unsafe { kohiblad_extension(bytes.as_ptr(), bytes.len()) };
+    tested(extension.status)?;
+    Ok(Fields {
+        tag: extension.tag,
+        value: extension.value,
+        months: extension.months,
+        days: extension.days,
+        seconds: extension.seconds,
+        data: bytes_at(bytes, extension.offset, extension.length),
+    })
+}
+
+pub(crate) fn of_null() -> Result<Vec<u8>, Error> {
+    all_written(FIRST_ROOM, |out, room, length| {
+        // SAFETY: as above; the call writes `length` bytes.
+        unsafe { kohiblad_of_null(out, room, length) }
+    })
+}
+
+pub(crate) fn of_boolean(value: bool) -> Result<Vec<u8>, Error> {
+    all_written(FIRST_ROOM, |out, room, length| {
+        // SAFETY: as above; the call writes `length` bytes.
+        unsafe { kohiblad_of_boolean(u32::from(value), out, room, length) }
+    })
+}
+
+pub(crate) fn of_text(text: &str) -> Result<Vec<u8>, Error> {
+    all_written(FIRST_ROOM, |out, room, length| {
+        // SAFETY: as above; the call writes `length` bytes.
+        unsafe { kohiblad_of_text(text.as_ptr(), text.len(), out, room, length) }
+    })
+}
+
+pub(crate) fn of_decimal(digits: i128, scale: u8) -> Result<Vec<u8>, Error> {
+    // The two halves: the number is high * 2^64 + low.
+    let (high, low) = ((digits >> 64) as i64, digits as u64);
+    all_written(FIRST_ROOM, |out, room, length| {
+        // SAFETY: as above; the call writes `length` bytes.
+        unsafe { kohiblad_of_decimal(high, low, u32::from(scale), out, room, length) }
+    })
+}
+
+pub(crate) fn of_extension(fields: &Fields<'_>) -> Result<Vec<u8>, Error> {
+    all_written(FIRST_ROOM, |out, room, length| {
+        // SAFETY: as above, of the data; the call writes `length` bytes.
+        unsafe {
+            kohiblad_of_extension(
+                fields.tag,
+                fields.value,
+                fields.months,
+                fields.days,
+                fields.seconds,
+                fields.data.as_ptr(),
+                fields.data.len(),
+                out,
+                room,
+                length,
+            )
+        }
+    })
+}
+
+pub(crate) fn parse(text: &[u8], depth: usize) -> Result<Vec<u8>, Error> {
+    // The header: the result is shorter than 4 times the text plus 8 bytes.
+    let room = text.len().saturating_mul(4).saturating_add(8);
+    bounded(kohiblad_parse, text, depth, room)
+}
+
+pub(crate) fn to_string(bytes: &[u8]) -> Result<Vec<u8>, Error> {
+    bounded(kohiblad_to_string_within, bytes, MAX_DEPTH, bytes.len())
+}
+
+pub(crate) fn to_pretty(bytes: &[u8]) -> Result<Vec<u8>, Error> {
+    bounded(kohiblad_to_pretty_within, bytes, MAX_DEPTH, 2 * bytes.len())
+}
+
+pub(crate) fn to_canonical(bytes: &[u8]) -> Result<Vec<u8>, Error> {
+    bounded(kohiblad_to_canonical_within, bytes, MAX_DEPTH, bytes.len())
+}
+
+pub(crate) fn key(bytes: &[u8]) -> Result<Vec<u8>, Error> {
+    bounded(kohiblad_key, bytes, MAX_DEPTH, bytes.len())
+}
+
+pub(crate) fn build_array(rows: &Rows) -> Result<Vec<u8>, Error> {
+    built(kohiblad_build_array_within, rows)
+}
+
+pub(crate) fn build_object(rows: &Rows) -> Result<Vec<u8>, Error> {
+    built(kohiblad_build_object_within, rows)
+}
+
+pub(crate) fn sort(rows: &Rows) -> Result<Vec<usize>, Error> {
+    let count = rows.ends.len();
+    let mut order = with_room(count)?;
+    // SAFETY: as above, of the rows, their ends and the buffer for the order.
+    let status = unsafe {
+        kohiblad_sort_within(
+            rows.bytes.as_ptr(),
+            rows.bytes.len(),
+            rows.ends.as_ptr(),
+            count,
+            MAX_DEPTH,
+            order.as_mut_ptr(),
+            order.capacity(),
+        )
+    };
+    tested(status)?;
+    // SAFETY: the call wrote a number for each row.
+    unsafe { order.set_len(count) };
+    Ok(order)
+}

@@ -1,0 +1,65 @@
+//! JSON values as binary documents, which are searched, compared, sorted and printed in place: safe
+//! Rust over the proved C library Kohiblad. The format is that of the crate `jsonb`.
+//!
+//! ```
+//! use kohiblad::{Node, OwnedJsonb};
+//!
+//! let row = OwnedJsonb::parse(r#"{"name": "Ada", "price": 1.50}"#, 64)?;
+//! let row = row.as_raw();
+//! assert_eq!(row.to_string(), r#"{"name":"Ada","price":1.50}"#);
+//! assert!(matches!(row.find("name"), Some(Node::String("Ada"))));
+//! let price = row.get("price")?.expect("the row has a price");
+//! assert_eq!(price, OwnedJsonb::parse("1.5", 0)?);
+//! # Ok::<(), kohiblad::Error>(())
+//! ```
+//!
+//! [`RawJsonb`] (borrowed) and [`OwnedJsonb`] (owned) are documents, known to be: they are made by
+//! one check, by a parse or by a builder, and nest at most [`MAX_DEPTH`] deep. So their calls return
+//! no error because of the bytes, and need no more stack than that depth takes. Bytes of which
+//! nothing is known are a `&[u8]`: check them by [`RawJsonb::new`], or use the calls of the module
+//! [`bytes`].
+//!
+//! There is no floating point: a document with a double is refused as [`Error::InvalidJsonb`], and a
+//! JSON number with an exponent, as `1e5`, as [`Error::InvalidJson`].
+//!
+//! The feature `std`, which is on, implements `std::error::Error` for [`Error`]. Without it the crate
+//! needs `core` and `alloc` alone.
+
+#![cfg_attr(not(any(feature = "std", test)), no_std)]
+#![deny(missing_docs, unsafe_code, rustdoc::broken_intra_doc_links)]
+
+extern crate alloc;
+
+pub mod bytes;
+mod children;
+mod error;
+#[allow(unsafe_code)]
+mod ffi;
+mod key;
+mod node;
+mod owned;
+mod raw;
+
+pub use children::{Items, Members};
+pub use error::Error;
+pub use key::ComparableKey;
+pub use node::{ExtensionValue, Kind, Node, Number};
+pub use owned::OwnedJsonb;
+pub use raw::RawJsonb;
+
+/// How deep a document or a text may nest. A scalar has depth 0, an array or object one more than
+/// its deepest child, and at least 1.
+///
+/// Calls on documents of this depth need less than 640 KB of stack. A parse needs at most 2 KB for
+/// each level that the text nests; texts of this depth fit a thread of 2 MiB, which is what
+/// `std::thread` gives.
+pub const MAX_DEPTH: usize = 1000;
+
+/// The version of the library: millions, thousands and ones. 6000 is 0.6.0.
+///
+/// ```
+/// assert!(kohiblad::version() >= 6000);
+/// ```
+pub fn version() -> u32 {
+    ffi::version()
+}

@@ -1,0 +1,213 @@
+use alloc::vec::Vec;
+use core::cmp::Ordering;
+use core::fmt;
+use core::hash::{Hash, Hasher};
+use core::str::FromStr;
+
+use crate::{ffi, Error, Node, RawJsonb, MAX_DEPTH};
+
+/// The bytes of a document, owned, which nests at most [`MAX_DEPTH`] deep. [`as_raw`](Self::as_raw)
+/// has the calls that read it. It is equal to, ordered, hashed and printed as [`RawJsonb`].
+///
+/// ```
+/// use kohiblad::OwnedJsonb;
+/// use std::collections::HashSet;
+///
+/// let row: OwnedJsonb = r#"{"id": 5}"#.parse()?;
+/// let rows = HashSet::from([row]);
+/// assert!(rows.contains(&OwnedJsonb::parse(r#"{"id": 5.0}"#, 64)?));
+/// # Ok::<(), kohiblad::Error>(())
+/// ```
+#[derive(Clone)]
+pub struct OwnedJsonb {
+    bytes: Vec<u8>,
+}
+
+impl OwnedJsonb {
+    /// Checks bytes, and keeps them.
+    ///
+    /// `InvalidJsonb`: they are no document, or nest deeper than [`MAX_DEPTH`]. They are then
+    /// dropped; check them by [`RawJsonb::new`] first to keep them.
+    pub fn new(bytes: Vec<u8>) -> Result<Self, Error> {
+        RawJsonb::new(&bytes)?;
+        Ok(Self::of_checked(bytes))
+    }
+
+    /// A document of bytes that were checked, or that the library wrote within a depth.
+    pub(crate) fn of_checked(bytes: Vec<u8>) -> Self {
+        OwnedJsonb { bytes }
+    }
+
+    /// The canonical document of a JSON text.
+    ///
+    /// `TooDeep`: more of its brackets are open at once than the depth or [`MAX_DEPTH`].
+    /// `InvalidUtf8`: it is not UTF-8. `InvalidJson`: it is no JSON, or has a number with an
+    /// exponent or too many digits. `InvalidJsonb`: a limit of the format is passed. `OutOfMemory`:
+    /// an allocation failed.
+    ///
+    /// ```
+    /// use kohiblad::{Error, OwnedJsonb};
+    ///
+    /// assert_eq!(OwnedJsonb::parse("[[0]]", 2)?.to_string(), "[[0]]");
+    /// assert_eq!(OwnedJsonb::parse("[[0]]", 1), Err(Error::TooDeep));
+    /// assert_eq!(OwnedJsonb::parse("1e5", 1), Err(Error::InvalidJson));
+    /// # Ok::<(), kohiblad::Error>(())
+    /// ```
+    pub fn parse(text: impl AsRef<[u8]>, depth: usize) -> Result<Self, Error> {
+        ffi::parse(text.as_ref(), depth).map(Self::of_checked)
+    }
+
+    /// The document of a value: canonical for a scalar, a copy for a document.
+    ///
+    /// `InvalidJsonb`: a text has 2^28 bytes or more, or binary or opaque data 2^28 - 1 or more.
+    /// `InvalidJsonbExtension`: there is no opaque value of that tag. `OutOfMemory`: an allocation
+    /// failed.
+    ///
+    /// ```
+    /// use kohiblad::{ExtensionValue, Node, Number, OwnedJsonb};
+    ///
+    /// assert_eq!(OwnedJsonb::of(Node::Null)?.to_string(), "null");
+    /// assert_eq!(OwnedJsonb::of(-7)?.to_string(), "-7");
+    /// assert_eq!(OwnedJsonb::of("a \"text\"")?.to_string(), r#""a \"text\"""#);
+    /// let price = Number { digits: 150, scale: 2 };
+    /// assert_eq!(OwnedJsonb::of(price)?.to_string(), "1.50");
+    /// let date = ExtensionValue::Date(20_000);
+    /// assert_eq!(OwnedJsonb::of(date)?.as_raw().as_extension()?, date);
+    /// # Ok::<(), kohiblad::Error>(())
+    /// ```
+    pub fn of<'a>(value: impl Into<Node<'a>>) -> Result<Self, Error> {
+        let bytes = match value.into() {
+            Node::Null => ffi::of_null(),
+            Node::Boolean(value) => ffi::of_boolean(value),
+            Node::Number(number) => ffi::of_decimal(number.digits, number.scale),
+            Node::String(text) => ffi::of_text(text),
+            Node::Extension(value) => ffi::of_extension(&value.fields()),
+            Node::Container(document) => ffi::copied(document.as_bytes()),
+        };
+        bytes.map(Self::of_checked)
+    }
+
+    /// The array of documents.
+    ///
+    /// `InvalidJsonb`: a limit of the format is passed, or the array nests deeper than
+    /// [`MAX_DEPTH`]. `OutOfMemory`: an allocation failed.
+    ///
+    /// ```
+    /// use kohiblad::OwnedJsonb;
+    ///
+    /// let items = [OwnedJsonb::of(1)?, OwnedJsonb::of("x")?];
+    /// let array = OwnedJsonb::build_array(items.iter().map(OwnedJsonb::as_raw))?;
+    /// assert_eq!(array.to_string(), r#"[1,"x"]"#);
+    /// # Ok::<(), kohiblad::Error>(())
+    /// ```
+    pub fn build_array<'a>(items: impl IntoIterator<Item = RawJsonb<'a>>) -> Result<Self, Error> {
+        let mut rows = ffi::Rows::default();
+        for item in items {
+            rows.push(item.as_bytes())?;
+        }
+        ffi::build_array(&rows).map(Self::of_checked)
+    }
+
+    /// The object of keys and documents; keys may come in any order.
+    ///
+    /// `ObjectDuplicateKey`: a key comes twice. `InvalidJsonb`: a limit of the format is passed, or
+    /// the object nests deeper than [`MAX_DEPTH`]. `OutOfMemory`: an allocation failed.
+    ///
+    /// ```
+    /// use kohiblad::{Error, OwnedJsonb};
+    ///
+    /// let id = OwnedJsonb::of(7)?;
+    /// let object = OwnedJsonb::build_object([("id", id.as_raw()), ("as", id.as_raw())])?;
+    /// assert_eq!(object.to_string(), r#"{"as":7,"id":7}"#);
+    /// let refused = OwnedJsonb::build_object([("id", id.as_raw()), ("id", id.as_raw())]);
+    /// assert_eq!(refused, Err(Error::ObjectDuplicateKey));
+    /// # Ok::<(), kohiblad::Error>(())
+    /// ```
+    pub fn build_object<'a, K: AsRef<str>>(
+        members: impl IntoIterator<Item = (K, RawJsonb<'a>)>,
+    ) -> Result<Self, Error> {
+        let mut rows = ffi::Rows::default();
+        for (key, value) in members {
+            rows.push(key.as_ref().as_bytes())?;
+            rows.push(value.as_bytes())?;
+        }
+        ffi::build_object(&rows).map(Self::of_checked)
+    }
+
+    /// The document, borrowed.
+    pub fn as_raw(&self) -> RawJsonb<'_> {
+        RawJsonb::of_checked(&self.bytes)
+    }
+
+    /// The bytes of the document.
+    pub fn as_bytes(&self) -> &[u8] {
+        &self.bytes
+    }
+
+    /// The bytes of the document, without a copy.
+    pub fn into_bytes(self) -> Vec<u8> {
+        self.bytes
+    }
+}
+
+impl AsRef<[u8]> for OwnedJsonb {
+    fn as_ref(&self) -> &[u8] {
+        &self.bytes
+    }
+}
+
+/// Parses a text that nests at most [`MAX_DEPTH`] deep.
+impl FromStr for OwnedJsonb {
+    type Err = Error;
+
+    fn from_str(text: &str) -> Result<Self, Error> {
+        Self::parse(text, MAX_DEPTH)
+    }
+}
+
+impl TryFrom<Vec<u8>> for OwnedJsonb {
+    type Error = Error;
+
+    fn try_from(bytes: Vec<u8>) -> Result<Self, Error> {
+        Self::new(bytes)
+    }
+}
+
+impl Ord for OwnedJsonb {
+    fn cmp(&self, other: &Self) -> Ordering {
+        self.as_raw().cmp(&other.as_raw())
+    }
+}
+
+impl PartialOrd for OwnedJsonb {
+    fn partial_cmp(&self, other: &Self) -> Option<Ordering> {
+        Some(self.cmp(other))
+    }
+}
+
+impl PartialEq for OwnedJsonb {
+    fn eq(&self, other: &Self) -> bool {
+        self.as_raw() == other.as_raw()
+    }
+}
+
+impl Eq for OwnedJsonb {}
+
+/// Hashes the key. Panics if an allocation fails.
+impl Hash for OwnedJsonb {
+    fn hash<H: Hasher>(&self, state: &mut H) {
+        self.as_raw().hash(state);
+    }
+}
+
+impl fmt::Display for OwnedJsonb {
+    fn fmt(&self, f: &mut fmt::Formatter<'_>) -> fmt::Result {
+        self.as_raw().fmt(f)
+    }
+}
+
+impl fmt::Debug for OwnedJsonb {
+    fn fmt(&self, f: &mut fmt::Formatter<'_>) -> fmt::Result {
+        write!(f, "OwnedJsonb({self})")
+    }
+}

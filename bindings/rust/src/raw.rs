@@ -1,0 +1,322 @@
+use alloc::string::String;
+use alloc::vec::Vec;
+use core::cmp::Ordering;
+use core::fmt;
+use core::hash::{Hash, Hasher};
+
+use crate::node::text_of;
+use crate::{
+    ffi, ComparableKey, Error, ExtensionValue, Items, Kind, Members, Node, Number, OwnedJsonb,
+    MAX_DEPTH,
+};
+
+/// The result of a call that can only fail for bytes that are no document.
+pub(crate) fn known<T>(result: Result<T, Error>) -> T {
+    result.expect("the bytes were checked")
+}
+
+/// A text that the library wrote, which is UTF-8.
+fn string_of(text: Vec<u8>) -> String {
+    String::from_utf8(text).expect("texts are UTF-8")
+}
+
+/// The bytes of a document, borrowed, which nests at most [`MAX_DEPTH`] deep.
+///
+/// Documents are equal and ordered by their values, of which `5` and `5.0` are one, and equal
+/// documents have one hash. From the least to the greatest: extension values, booleans, numbers,
+/// strings, objects, arrays, null.
+///
+/// `{}` prints the JSON text without white space, `{:#}` on lines.
+///
+/// ```
+/// use kohiblad::{OwnedJsonb, RawJsonb};
+///
+/// let stored = OwnedJsonb::parse(r#"{"b": [1.50, null], "a": "x"}"#, 64)?.into_bytes();
+/// let row = RawJsonb::new(&stored)?;
+/// assert_eq!(row.to_string(), r#"{"a":"x","b":[1.50,null]}"#);
+/// # Ok::<(), kohiblad::Error>(())
+/// ```
+#[derive(Clone, Copy)]
+pub struct RawJsonb<'a> {
+    bytes: &'a [u8],
+}
+
+impl<'a> RawJsonb<'a> {
+    /// Checks bytes.
+    ///
+    /// `InvalidJsonb`: they are no document, or nest deeper than [`MAX_DEPTH`].
+    pub fn new(bytes: &'a [u8]) -> Result<Self, Error> {
+        Self::within(bytes, MAX_DEPTH)
+    }
+
+    /// Checks bytes, and looks no deeper than the depth.
+    ///
+    /// `InvalidJsonb`: they are no document, or nest deeper than the depth or [`MAX_DEPTH`].
+    ///
+    /// ```
+    /// use kohiblad::{Error, OwnedJsonb, RawJsonb};
+    ///
+    /// let nested = OwnedJsonb::parse("[[0]]", 2)?;
+    /// assert!(RawJsonb::within(nested.as_bytes(), 2).is_ok());
+    /// let refused = RawJsonb::within(nested.as_bytes(), 1).unwrap_err();
+    /// assert_eq!(refused, Error::InvalidJsonb);
+    /// # Ok::<(), kohiblad::Error>(())
+    /// ```
+    pub fn within(bytes: &'a [u8], depth: usize) -> Result<Self, Error> {
+        if ffi::check(bytes, depth) {
+            Ok(Self::of_checked(bytes))
+        } else {
+            Err(Error::InvalidJsonb)
+        }
+    }
+
+    /// A document of bytes that were checked, or that the library wrote within a depth.
+    pub(crate) fn of_checked(bytes: &'a [u8]) -> Self {
+        RawJsonb { bytes }
+    }
+
+    /// The bytes of the document.
+    pub fn as_bytes(&self) -> &'a [u8] {
+        self.bytes
+    }
+
+    /// A copy of the document.
+    ///
+    /// `OutOfMemory`: an allocation failed.
+    pub fn to_owned_jsonb(&self) -> Result<OwnedJsonb, Error> {
+        OwnedJsonb::of(Node::Container(*self))
+    }
+
+    /// The kind of the value.
+    ///
+    /// ```
+    /// use kohiblad::{Kind, OwnedJsonb};
+    ///
+    /// let array = OwnedJsonb::parse("[1, 2, 3]", 64)?;
+    /// assert_eq!(array.as_raw().kind(), Kind::Array(3));
+    /// # Ok::<(), kohiblad::Error>(())
+    /// ```
+    pub fn kind(&self) -> Kind {
+        known(Kind::of(self.bytes))
+    }
+
+    /// The value, in place.
+    pub fn node(&self) -> Node<'a> {
+        Node::of_document(*self)
+    }
+
+    /// The value of a key, in place; `None` if there is no such key or the value is no object.
+    pub fn find(&self, name: &str) -> Option<Node<'a>> {
+        known(ffi::find(self.bytes, name)).map(Node::of_part)
+    }
+
+    /// The value of a key, as a document of its own; `None` if there is no such key or the value is
+    /// no object.
+    ///
+    /// `OutOfMemory`: an allocation failed.
+    pub fn get(&self, name: &str) -> Result<Option<OwnedJsonb>, Error> {
+        Ok(ffi::get(self.bytes, name)?.map(OwnedJsonb::of_checked))
+    }
+
+    /// The item of an array at an index, from 0, as a document of its own; `None` if there is no
+    /// such item or the value is no array. For all items take [`items`](Self::items).
+    ///
+    /// `OutOfMemory`: an allocation failed.
+    ///
+    /// ```
+    /// let array = kohiblad::OwnedJsonb::parse(r#"[true, "x"]"#, 64)?;
+    /// let item = array.as_raw().array_item(1)?.expect("there are two items");
+    /// assert_eq!(item.as_raw().as_str()?, "x");
+    /// # Ok::<(), kohiblad::Error>(())
+    /// ```
+    pub fn array_item(&self, index: usize) -> Result<Option<OwnedJsonb>, Error> {
+        Ok(ffi::array_item(self.bytes, index)?.map(OwnedJsonb::of_checked))
+    }
+
+    /// The key of an object at an index, from 0 in ascending order of the keys, and its value as a
+    /// document of its own; `None` if there is no such pair or the value is no object. For all
+    /// members take [`members`](Self::members).
+    ///
+    /// `OutOfMemory`: an allocation failed.
+    ///
+    /// ```
+    /// let object = kohiblad::OwnedJsonb::parse(r#"{"b": 2, "a": 1}"#, 64)?;
+    /// let (key, value) = object.as_raw().object_member(0)?.expect("there are two members");
+    /// assert_eq!((key.as_str(), value.as_raw().as_i64()?), ("a", 1));
+    /// # Ok::<(), kohiblad::Error>(())
+    /// ```
+    pub fn object_member(&self, index: usize) -> Result<Option<(String, OwnedJsonb)>, Error> {
+        let member = ffi::object_member(self.bytes, index)?;
+        Ok(member.map(|(key, value)| (string_of(key), OwnedJsonb::of_checked(value))))
+    }
+
+    /// The items of an array, in place, in one pass; `None` of all but arrays.
+    ///
+    /// ```
+    /// use kohiblad::{Node, OwnedJsonb};
+    ///
+    /// let array = OwnedJsonb::parse("[1, 20, 300]", 64)?;
+    /// let items = array.as_raw().items().expect("it is an array");
+    /// let sum: i128 = items.map(|item| match item {
+    ///     Node::Number(number) => number.digits,
+    ///     other => panic!("no number: {other:?}"),
+    /// }).sum();
+    /// assert_eq!(sum, 321);
+    /// # Ok::<(), kohiblad::Error>(())
+    /// ```
+    pub fn items(&self) -> Option<Items<'a>> {
+        match self.kind() {
+            Kind::Array(count) => Some(Items::of(*self, count)),
+            _ => None,
+        }
+    }
+
+    /// The members of an object, in place, in one pass; `None` of all but objects.
+    ///
+    /// ```
+    /// let object = kohiblad::OwnedJsonb::parse(r#"{"b": 2, "a": 1}"#, 64)?;
+    /// let members = object.as_raw().members().expect("it is an object");
+    /// assert_eq!(members.map(|(key, _)| key).collect::<Vec<_>>(), ["a", "b"]);
+    /// # Ok::<(), kohiblad::Error>(())
+    /// ```
+    pub fn members(&self) -> Option<Members<'a>> {
+        match self.kind() {
+            Kind::Object(count) => Some(Members::of(*self, count)),
+            _ => None,
+        }
+    }
+
+    /// A number.
+    ///
+    /// `OtherKind`: the value is of another kind.
+    pub fn as_number(&self) -> Result<Number, Error> {
+        Number::of_document(self.bytes)
+    }
+
+    /// A number that is whole and of 64 bits.
+    ///
+    /// `PastRange`: it is larger, or has digits after its point, also if these are zeros.
+    /// `OtherKind`: the value is of another kind.
+    pub fn as_i64(&self) -> Result<i64, Error> {
+        ffi::int64(self.bytes)
+    }
+
+    /// A text, with neither quotes nor escapes.
+    ///
+    /// `OtherKind`: the value is of another kind.
+    pub fn as_str(&self) -> Result<&'a str, Error> {
+        ffi::text(self.bytes).map(text_of)
+    }
+
+    /// A truth value.
+    ///
+    /// `OtherKind`: the value is of another kind.
+    pub fn as_bool(&self) -> Result<bool, Error> {
+        ffi::boolean(self.bytes)
+    }
+
+    /// An extension value.
+    ///
+    /// `OtherKind`: the value is of another kind.
+    pub fn as_extension(&self) -> Result<ExtensionValue<'a>, Error> {
+        ExtensionValue::of_document(self.bytes)
+    }
+
+    /// The JSON text without white space. `to_string` is the same, but panics if an allocation
+    /// fails.
+    ///
+    /// `OutOfMemory`: an allocation failed.
+    pub fn compact_text(&self) -> Result<String, Error> {
+        ffi::to_string(self.bytes).map(string_of)
+    }
+
+    /// The JSON text on lines, indented by two spaces.
+    ///
+    /// `OutOfMemory`: an allocation failed.
+    ///
+    /// ```
+    /// let array = kohiblad::OwnedJsonb::parse("[1,[]]", 64)?;
+    /// assert_eq!(array.as_raw().pretty_text()?, "[\n  1,\n  []\n]");
+    /// # Ok::<(), kohiblad::Error>(())
+    /// ```
+    pub fn pretty_text(&self) -> Result<String, Error> {
+        ffi::to_pretty(self.bytes).map(string_of)
+    }
+
+    /// Whether each value is in the one form that is written today.
+    pub fn is_canonical(&self) -> bool {
+        ffi::is_canonical(self.bytes)
+    }
+
+    /// The canonical document of the same value, which is equal to this one.
+    ///
+    /// `InvalidJsonb`: it is past a limit of the format. `OutOfMemory`: an allocation failed.
+    pub fn to_canonical(&self) -> Result<OwnedJsonb, Error> {
+        ffi::to_canonical(self.bytes).map(OwnedJsonb::of_checked)
+    }
+
+    /// The key whose order by bytes is that of the documents.
+    ///
+    /// `OutOfMemory`: an allocation failed.
+    pub fn key(&self) -> Result<ComparableKey, Error> {
+        ffi::key(self.bytes).map(ComparableKey)
+    }
+}
+
+impl AsRef<[u8]> for RawJsonb<'_> {
+    fn as_ref(&self) -> &[u8] {
+        self.bytes
+    }
+}
+
+impl<'a> TryFrom<&'a [u8]> for RawJsonb<'a> {
+    type Error = Error;
+
+    fn try_from(bytes: &'a [u8]) -> Result<Self, Error> {
+        Self::new(bytes)
+    }
+}
+
+impl Ord for RawJsonb<'_> {
+    fn cmp(&self, other: &Self) -> Ordering {
+        ffi::compare(self.bytes, other.bytes)
+    }
+}
+
+impl PartialOrd for RawJsonb<'_> {
+    fn partial_cmp(&self, other: &Self) -> Option<Ordering> {
+        Some(self.cmp(other))
+    }
+}
+
+impl PartialEq for RawJsonb<'_> {
+    fn eq(&self, other: &Self) -> bool {
+        self.cmp(other).is_eq()
+    }
+}
+
+impl Eq for RawJsonb<'_> {}
+
+/// Hashes the key. Panics if an allocation fails.
+impl Hash for RawJsonb<'_> {
+    fn hash<H: Hasher>(&self, state: &mut H) {
+        self.key().expect("memory for a key").hash(state);
+    }
+}
+
+impl fmt::Display for RawJsonb<'_> {
+    fn fmt(&self, f: &mut fmt::Formatter<'_>) -> fmt::Result {
+        let text = if f.alternate() {
+            self.pretty_text()
+        } else {
+            self.compact_text()
+        };
+        f.write_str(&text.map_err(|_| fmt::Error)?)
+    }
+}
+
+impl fmt::Debug for RawJsonb<'_> {
+    fn fmt(&self, f: &mut fmt::Formatter<'_>) -> fmt::Result {
+        write!(f, "RawJsonb({self})")
+    }
+}
