@@ -502,18 +502,20 @@ pub(crate) fn array_item(bytes: &[u8], index: usize) -> Result<Option<Vec<u8>>, 
     optional(status, || item)
 }
 
-/// A key and the document of its value.
-pub(crate) fn object_member(
-    bytes: &[u8],
-    index: usize,
-) -> Result<Option<(Vec<u8>, Vec<u8>)>, Error> {
+/// A key's text, and the document of its value.
+pub(crate) struct Member {
+    pub(crate) key: Vec<u8>,
+    pub(crate) value: Vec<u8>,
+}
+
+pub(crate) fn object_member(bytes: &[u8], index: usize) -> Result<Option<Member>, Error> {
     let (mut key, mut value) = (with_room(FIRST_ROOM)?, with_room(FIRST_ROOM)?);
     let (mut status, key_length, length) = write_member(bytes, index, &mut key, &mut value);
     if status == NO_ROOM {
         (key, value) = (with_room(key_length)?, with_room(length)?);
         (status, ..) = write_member(bytes, index, &mut key, &mut value);
     }
-    optional(status, || (key, value))
+    optional(status, || Member { key, value })
 }
 
 /// Writes a key and the document of its value to two empty buffers, and returns the lengths of

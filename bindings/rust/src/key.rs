@@ -1,7 +1,8 @@
 use alloc::vec::Vec;
 
 /// A byte string that sorts by its bytes as the document sorts by its value, for stores and indexes
-/// that sort bytes. Equal documents, as `5` and `5.0`, have the same key, and no key begins another.
+/// that sort bytes. Equal documents, as `5` and `5.0`, have the same key, and no key is the
+/// beginning of another.
 ///
 /// ```
 /// use kohiblad::OwnedJsonb;

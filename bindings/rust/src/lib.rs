@@ -14,16 +14,16 @@
 //! ```
 //!
 //! [`RawJsonb`] (borrowed) and [`OwnedJsonb`] (owned) are documents, known to be: they are made by
-//! one check, by a parse or by a builder, and nest at most [`MAX_DEPTH`] deep. So their calls return
-//! no error because of the bytes, and need no more stack than that depth takes. Bytes of which
-//! nothing is known are a `&[u8]`: check them by [`RawJsonb::new`], or use the calls of the module
-//! [`bytes`].
+//! one check, by a parse or by a builder, and nest at most [`MAX_DEPTH`] deep. So their calls
+//! return no error because of the bytes, and need no more stack than that depth takes. Bytes of
+//! which nothing is known are a `&[u8]`: check them by [`RawJsonb::new`], or use the calls of the
+//! module [`bytes`].
 //!
-//! There is no floating point: a document with a double is refused as [`Error::InvalidJsonb`], and a
-//! JSON number with an exponent, as `1e5`, as [`Error::InvalidJson`].
+//! There is no floating point: a document with a double is refused as [`Error::InvalidJsonb`], and
+//! a JSON number with an exponent, as `1e5`, as [`Error::InvalidJson`].
 //!
-//! The feature `std`, which is on, implements `std::error::Error` for [`Error`]. Without it the crate
-//! needs `core` and `alloc` alone.
+//! The feature `std`, which is on by default, implements `std::error::Error` for [`Error`]. Without
+//! it the crate needs `core` and `alloc` alone.
 
 #![cfg_attr(not(any(feature = "std", test)), no_std)]
 #![deny(missing_docs, unsafe_code, rustdoc::broken_intra_doc_links)]

@@ -147,7 +147,7 @@ impl<'a> RawJsonb<'a> {
     /// ```
     pub fn object_member(&self, index: usize) -> Result<Option<(String, OwnedJsonb)>, Error> {
         let member = ffi::object_member(self.bytes, index)?;
-        Ok(member.map(|(key, value)| (string_of(key), OwnedJsonb::of_checked(value))))
+        Ok(member.map(|it| (string_of(it.key), OwnedJsonb::of_checked(it.value))))
     }
 
     /// The items of an array, in place, in one pass; `None` of all but arrays.
