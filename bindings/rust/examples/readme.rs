@@ -1,0 +1,16 @@
+use kohiblad::OwnedJsonb;
+
+fn main() -> Result<(), kohiblad::Error> {
+    let mut rows = Vec::new();
+    for text in [r#"{"id": 7, "price": 2.50}"#, r#"{"id": 3, "price": 10}"#] {
+        rows.push(OwnedJsonb::parse(text, 64)?);
+    }
+    rows.sort();
+    for row in &rows {
+        if let Some(price) = row.as_raw().get("price")? {
+            println!("{row} costs {price}");
+        }
+    }
+    println!("{:?}", OwnedJsonb::parse("1e5", 64));
+    Ok(())
+}

@@ -1,0 +1,75 @@
+#!/usr/bin/env bash
+# Tests the crate against an installed library, which pkg-config finds: by PKG_CONFIG_PATH, or below
+# the directory PREFIX if that is set. What is built goes to a scratch directory, which is removed.
+#
+#     PREFIX=/usr/local bindings/rust/test.sh
+#
+# The status is 0 if all passed, 1 if something failed, and 77 if a tool is missing.
+set -euo pipefail
+cd "$(dirname "$0")"
+name=bindings/rust
+scratch=$(mktemp -d)
+trap 'rm -rf "$scratch"' EXIT
+export CARGO_TARGET_DIR=$scratch/target
+if [ -n "${PREFIX:-}" ]; then
+    export PKG_CONFIG_PATH=$PREFIX/lib/pkgconfig${PKG_CONFIG_PATH:+:$PKG_CONFIG_PATH}
+fi
+
+note() { printf '== %s\n' "$*"; }
+
+fail() {
+    printf '%s: failed: %s\n' "$name" "$*"
+    exit 1
+}
+
+# Prints what is run, and runs it.
+run() {
+    note "$*"
+    "$@" || fail "$*"
+}
+
+# Ends if the tool $2, which the Debian package $1 has, does not run with the arguments after it.
+need() {
+    local package=$1
+    shift
+    "$@" > "$scratch/found" 2>&1 && return
+    printf '%s: passed over: needs the Debian package %s\n' "$name" "$package"
+    exit 77
+}
+
+# Prints the first block of the language $1 in README.md.
+readme_block() { awk -v fence="\`\`\`$1" '/^```/ { on = $0 == fence && !seen++; next } on' README.md; }
+
+need cargo cargo --version
+need rustc rustc --version
+need gcc "${CC:-cc}" --version
+need pkg-config "${PKG_CONFIG:-pkg-config}" --version
+"${PKG_CONFIG:-pkg-config}" --exists 'kohiblad >= 0.6' || fail 'pkg-config finds no kohiblad >= 0.6'
+cargo=(--offline --locked --quiet)
+
+if cargo fmt --version > "$scratch/found" 2>&1; then
+    run cargo fmt --check
+fi
+if cargo clippy --version > "$scratch/found" 2>&1; then
+    run cargo clippy "${cargo[@]}" --all-targets -- --deny warnings
+fi
+run cargo build "${cargo[@]}" --no-default-features
+run env RUSTDOCFLAGS='--deny warnings' cargo doc "${cargo[@]}" --no-deps
+run cargo test --offline --locked 2>&1 | tee "$scratch/tested"
+tests=$(sed -n 's/^test result: ok\. \([0-9]*\) passed.*/\1/p' "$scratch/tested" |
+    awk '{ sum += $1 } END { print sum + 0 }')
+[ "$tests" -gt 0 ] || fail 'no test was run'
+
+if command -v valgrind > "$scratch/found"; then
+    # Rust's test harness keeps blocks to the end, which are no definite leaks.
+    runner='valgrind --quiet --error-exitcode=1 --leak-check=full'
+    runner+=' --show-leak-kinds=definite --errors-for-leak-kinds=definite'
+    run env "CARGO_TARGET_X86_64_UNKNOWN_LINUX_GNU_RUNNER=$runner" \
+        cargo test "${cargo[@]}" --test format --test depth --test lines
+fi
+
+note 'the program of README.md'
+readme_block rust | diff - examples/readme.rs || fail 'README.md and examples/readme.rs differ'
+cargo run "${cargo[@]}" --example readme > "$scratch/shown" || fail 'examples/readme.rs'
+readme_block text | diff - "$scratch/shown" || fail 'README.md has another output'
+printf '%s: %s tests passed\n' "$name" "$((tests + 1))"
