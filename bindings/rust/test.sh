@@ -38,7 +38,9 @@ need() {
 }
 
 # Prints the first block of the language $1 in README.md.
-readme_block() { awk -v fence="\`\`\`$1" '/^```/ { on = $0 == fence && !seen++; next } on' README.md; }
+readme_block() {
+    awk -v fence="\`\`\`$1" '/^```/ { on = $0 == fence && !seen++; next } on' README.md
+}
 
 need cargo cargo --version
 need rustc rustc --version

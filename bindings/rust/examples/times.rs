@@ -42,8 +42,12 @@ fn each<'a, R, T>(
 /// A row of ten members; the numbers of rows are in no order.
 fn text(number: usize) -> String {
     let id = number * 7919 % ROWS;
-    format!(r#"{{"id":{id},"name":"Ada Lovelace","price":12.50,"tags":["new","red"],"seen":null,"#)
-        + r#""active":true,"city":"Oslo","lat":59.913868,"lon":10.752245,"note":"a \"short\" note"}"#
+    [
+        format!(r#"{{"id":{id},"name":"Ada Lovelace","price":12.50,"tags":["new","red"],"#),
+        r#""seen":null,"active":true,"city":"Oslo","lat":59.913868,"lon":10.752245,"#.into(),
+        r#""note":"a \"short\" note"}"#.into(),
+    ]
+    .concat()
 }
 
 fn main() -> Result<(), Error> {
