@@ -76,7 +76,8 @@ pub fn key(bytes: &[u8]) -> Result<ComparableKey, Error> {
 }
 
 /// The numbers of the rows, from 0, in the order of [`compare`]; equal rows keep their order. Each
-/// row is checked once, where a sort by [`compare`] checks both sides of each comparison.
+/// row is copied, and checked once, where a sort by [`compare`] checks both sides of each
+/// comparison.
 ///
 /// `OutOfMemory`: an allocation failed.
 ///

@@ -1,16 +1,22 @@
 use crate::raw::known;
 use crate::{ffi, Error, RawJsonb};
 
-/// The kind of a value, of an array with the number of its items, of an object of its pairs.
+/// The kind of a value.
 #[derive(Clone, Copy, Debug, PartialEq, Eq, Hash)]
-#[allow(missing_docs)]
 pub enum Kind {
+    /// Null.
     Null,
+    /// A truth value.
     Boolean,
+    /// A number.
     Number,
+    /// A text.
     String,
+    /// An extension value.
     Extension,
+    /// An array, and how many items it has.
     Array(usize),
+    /// An object, and how many members it has.
     Object(usize),
 }
 

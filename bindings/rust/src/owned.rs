@@ -57,7 +57,7 @@ impl OwnedJsonb {
         ffi::parse(text.as_ref(), depth).map(Self::of_checked)
     }
 
-    /// The document of a value: canonical for a scalar, a copy for a document.
+    /// The document of a value: canonical for a scalar, a copy for an array or object.
     ///
     /// `InvalidJsonb`: a text has 2^28 bytes or more, or binary or opaque data 2^28 - 1 or more.
     /// `InvalidJsonbExtension`: there is no opaque value of that tag. `OutOfMemory`: an allocation
@@ -82,7 +82,7 @@ impl OwnedJsonb {
             Node::Number(number) => ffi::of_decimal(number.digits, number.scale),
             Node::String(text) => ffi::of_text(text),
             Node::Extension(value) => ffi::of_extension(&value.fields()),
-            Node::Container(document) => ffi::copied(document.as_bytes()),
+            Node::Container(document) => return document.to_owned_jsonb(),
         };
         bytes.map(Self::of_checked)
     }

@@ -84,7 +84,7 @@ impl<'a> RawJsonb<'a> {
     ///
     /// `OutOfMemory`: an allocation failed.
     pub fn to_owned_jsonb(&self) -> Result<OwnedJsonb, Error> {
-        OwnedJsonb::of(Node::Container(*self))
+        ffi::copied(self.bytes).map(OwnedJsonb::of_checked)
     }
 
     /// The kind of the value.

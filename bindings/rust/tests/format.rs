@@ -124,6 +124,19 @@ fn refused_texts_are_named() {
 }
 
 #[test]
+fn a_look_up_in_any_bytes_checks_the_value_alone() {
+    // {"k": .., "l": null}, in which the value of k is a container of no kind.
+    let stored = hex("40000002 10000001 10000001 50000004 00000000 6b 6c e0000000");
+    assert_eq!(RawJsonb::new(&stored), Err(Error::InvalidJsonb));
+    assert_eq!(bytes::get(&stored, "k"), Err(Error::InvalidJsonb));
+    assert_eq!(bytes::get(&stored, "l"), Ok(Some(parsed("null"))));
+    assert_eq!(bytes::get(&stored, "m"), Ok(None));
+    assert_eq!(bytes::get(&stored[..12], "k"), Err(Error::InvalidJsonb));
+    assert_eq!(bytes::get(&stored[..2], "k"), Err(Error::InvalidEOF));
+    assert_eq!(bytes::get(b"\x80\x00\x00\x00", "k"), Ok(None));
+}
+
+#[test]
 fn extension_values_of_the_page() {
     let (binary, opaque) = (ExtensionValue::Binary, |tag, data| ExtensionValue::Opaque {
         tag,

@@ -76,22 +76,23 @@ fn assert_is(node: Node<'_>, tree: &Tree) {
             assert_eq!(value, extension_value(right));
         }
         (Node::Container(array), Tree::Array(right)) => {
-            let items = array.items().expect("it is an array");
-            assert_eq!(items.len(), right.len());
-            assert_eq!(items.clone().count(), right.len());
-            items
-                .zip(right)
-                .for_each(|(item, right)| assert_is(item, right));
+            let mut items = array.items().expect("it is an array");
+            for (index, item) in right.iter().enumerate() {
+                assert_eq!(items.len(), right.len() - index);
+                assert_is(items.next().expect("there is one more item"), item);
+            }
+            assert_eq!((items.len(), items.count()), (0, 0));
             assert!(array.members().is_none());
         }
         (Node::Container(object), Tree::Object(right)) => {
-            let members = object.members().expect("it is an object");
-            assert_eq!(members.len(), right.len());
-            assert_eq!(members.clone().count(), right.len());
-            for ((key, value), (right_key, right_value)) in members.zip(right) {
+            let mut members = object.members().expect("it is an object");
+            for (index, (right_key, right_value)) in right.iter().enumerate() {
+                assert_eq!(members.len(), right.len() - index);
+                let (key, value) = members.next().expect("there is one more member");
                 assert_eq!(key, right_key);
                 assert_is(value, right_value);
             }
+            assert_eq!((members.len(), members.count()), (0, 0));
             assert!(object.items().is_none());
         }
         (node, tree) => panic!("{node:?} is not {tree:?}"),
