@@ -67,7 +67,7 @@ if command -v valgrind > "$scratch/found"; then
     runner='valgrind --quiet --error-exitcode=1 --leak-check=full'
     runner+=' --show-leak-kinds=definite --errors-for-leak-kinds=definite'
     run env "CARGO_TARGET_X86_64_UNKNOWN_LINUX_GNU_RUNNER=$runner" \
-        cargo test "${cargo[@]}" --test format --test depth --test lines
+        cargo test "${cargo[@]}" --test format --test depth --test lines --test memory
 fi
 
 note 'the program of README.md'
