@@ -1,0 +1,171 @@
+"""Files of JSON lines as files of documents, and back: ``python -m kohiblad --help``."""
+import argparse
+import contextlib
+import sys
+import time
+from typing import BinaryIO, Callable, Dict, Iterator, Optional, TypeVar
+
+from . import Document, KohibladError, __version__
+
+_DESCRIPTION = """\
+Converts files of JSON lines (NDJSON) to files of binary documents and back, sorts documents, and
+prints one member of each. A file of documents has each document after its length: eight bytes, the
+most significant first. Two such files joined are a file of both."""
+
+_LENGTH_BYTES = 8
+_READ_AT_ONCE = 1 << 20
+_SECONDS_BETWEEN_REPORTS = 0.5
+_Row = TypeVar("_Row")
+
+
+class InputError(Exception):
+    """A row of the input cannot be read."""
+
+
+class Progress:
+    """A line on standard error that counts rows, written over itself."""
+
+    def __init__(self, is_shown: bool, unit: str) -> None:
+        self._is_shown = is_shown
+        self._unit = unit
+        self._next_time = time.monotonic() + _SECONDS_BETWEEN_REPORTS
+        self._is_begun = False
+
+    def count(self, rows: Iterator[_Row]) -> Iterator[_Row]:
+        """The rows; an error of one is raised with its number."""
+        number = 0
+        try:
+            for row in rows:
+                number += 1
+                yield row
+                if self._is_shown and time.monotonic() >= self._next_time:
+                    self._report(number)
+        finally:
+            if self._is_begun:
+                self._report(number)
+                sys.stderr.write("\n")
+
+    def _report(self, number: int) -> None:
+        self._is_begun = True
+        self._next_time = time.monotonic() + _SECONDS_BETWEEN_REPORTS
+        sys.stderr.write(f"\r{number:,} {self._unit}s")
+        sys.stderr.flush()
+
+
+def documents_of_lines(file: BinaryIO, name: str) -> Iterator[Document]:
+    """The documents of JSON lines; empty lines are left out."""
+    for number, line in enumerate(file, 1):
+        if line.strip():
+            yield _named(lambda: Document.parse(line), name, "line", number)
+
+
+def stored_documents(file: BinaryIO, name: str) -> Iterator[Document]:
+    """The documents of a file that has each after its length."""
+    number = 1
+    while True:
+        prefix = file.read(_LENGTH_BYTES)
+        if not prefix:
+            return
+        size = int.from_bytes(prefix, "big")
+        data = _read(file, size) if len(prefix) == _LENGTH_BYTES else b""
+        if len(prefix) < _LENGTH_BYTES or len(data) < size:
+            raise InputError(f"{name}: document {number}: the file ends within it")
+        yield _named(lambda: Document(data), name, "document", number)
+        number += 1
+
+
+def _read(file: BinaryIO, size: int) -> bytes:
+    """Up to `size` bytes. Memory is taken as they come, since a wrong length may be huge."""
+    parts = []
+    while size:
+        part = file.read(min(size, _READ_AT_ONCE))
+        if not part:
+            break
+        parts.append(part)
+        size -= len(part)
+    return b"".join(parts)
+
+
+def _named(read: Callable[[], Document], name: str, unit: str, number: int) -> Document:
+    try:
+        return read()
+    except KohibladError as error:
+        raise InputError(f"{name}: {unit} {number}: {error}") from None
+
+
+def stored(document: Document) -> bytes:
+    """The bytes of a document after their length."""
+    data = bytes(document)
+    return len(data).to_bytes(_LENGTH_BYTES, "big") + data
+
+
+def line_of(document: Document) -> bytes:
+    return str(document).encode() + b"\n"
+
+
+def member_line(document: Document, name: str) -> bytes:
+    """The member as a JSON line, which is empty if there is none."""
+    if document.kind != "object" or name not in document:  # type: ignore[operator]
+        return b"\n"
+    member = document[name]  # type: ignore[index]
+    return line_of(member if isinstance(member, Document) else Document.of(member))
+
+
+def _parser() -> argparse.ArgumentParser:
+    parser = argparse.ArgumentParser(prog="python -m kohiblad", description=_DESCRIPTION)
+    parser.add_argument("--version", action="version", version=f"kohiblad {__version__}")
+    commands = parser.add_subparsers(dest="command", metavar="COMMAND")
+    commands.required = True
+    helps = {"encode": "JSON lines to documents; empty lines are left out",
+             "decode": "documents to JSON lines",
+             "sort": "documents to documents in their order; all are kept in memory",
+             "get": "documents to the JSON lines of a member, empty where there is none"}
+    for name, text in helps.items():
+        command = commands.add_parser(name, help=text, description=text)
+        if name == "get":
+            command.add_argument("name", metavar="NAME", help="the member's key")
+        command.add_argument("input", nargs="?", default="-", metavar="FILE",
+                             help="the input; standard input if none or -")
+        command.add_argument("-o", "--output", default="-", metavar="FILE",
+                             help="the output; standard output if none or -")
+        command.add_argument("--progress", action="store_true",
+                             help="count on standard error, as is done on a terminal")
+    return parser
+
+
+def _run(options: argparse.Namespace, source: BinaryIO, target: BinaryIO) -> None:
+    name = "standard input" if options.input == "-" else options.input
+    is_encode = options.command == "encode"
+    rows = documents_of_lines(source, name) if is_encode else stored_documents(source, name)
+    progress = Progress(options.progress or sys.stderr.isatty(), "line" if is_encode else "document")
+    documents = progress.count(rows)
+    if options.command == "sort":
+        documents = iter(sorted(documents, key=Document.key))
+    written: Dict[str, Callable[[Document], bytes]] = {
+        "encode": stored, "decode": line_of, "sort": stored,
+        "get": lambda document: member_line(document, options.name)}
+    for document in documents:
+        target.write(written[options.command](document))
+    target.flush()
+
+
+def _opened(path: str, mode: str, standard: BinaryIO) -> "contextlib.AbstractContextManager":
+    return contextlib.nullcontext(standard) if path == "-" else open(path, mode)
+
+
+def main(arguments: Optional[list] = None) -> int:
+    options = _parser().parse_args(arguments)
+    try:
+        with _opened(options.input, "rb", sys.stdin.buffer) as source, \
+                _opened(options.output, "wb", sys.stdout.buffer) as target:
+            _run(options, source, target)
+    except (InputError, OSError) as error:
+        print(f"kohiblad: {error}", file=sys.stderr)
+        return 1
+    except KeyboardInterrupt:
+        return 130
+    return 0
+
+
+if __name__ == "__main__":
+    sys.exit(main())

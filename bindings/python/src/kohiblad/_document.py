@@ -1,0 +1,296 @@
+"""Documents: checked bytes, read in place."""
+from collections.abc import ItemsView, Mapping, Sequence, ValuesView
+from decimal import Decimal
+from functools import total_ordering
+from json import JSONDecoder
+from typing import Any, Dict, Generator, Iterator, List, Optional, Tuple, Type, TypeVar, Union
+
+from . import _library as library
+from ._encode import DEPTH, encode, parse
+from ._scalars import Scalar, scalar_of
+
+_KINDS = ("null", "boolean", "number", "string", "extension", "array", "object")
+_MOST_SHOWN = 70
+_Any = TypeVar("_Any", bound="Document")
+
+_value_of_json = JSONDecoder(parse_float=Decimal).decode
+
+Value = Union[Scalar, List[Any], Dict[str, Any]]
+
+
+@total_ordering
+class Document:
+    """A JSON value as the bytes of a binary document, read in place and never changed.
+
+    ``Document(data)`` takes bytes that were stored, and checks them once. ``Document.parse`` reads
+    a JSON text and ``Document.of`` takes a Python value. The result is an ``ObjectDocument``, which
+    is a ``Mapping``, an ``ArrayDocument``, which is a ``Sequence``, or a ``ScalarDocument``.
+
+    Documents are ordered, compared and hashed by what they mean: 5 and 5.0 are equal. The first
+    comparison makes the document's key, which is kept. Documents are equal to documents alone.
+    """
+    __slots__ = ("_data", "_key", "__weakref__")
+    _data: bytes
+    _key: Optional[bytes]
+
+    def __new__(cls, data: Union[bytes, bytearray, memoryview], depth: int = DEPTH) -> "Document":
+        """The document of stored bytes.
+
+        ``depth`` is how deep it may nest, from 0 to 1,000: a scalar has depth 0, an array or object
+        one more than its deepest child, and at least 1. InvalidDocumentError: the bytes are no
+        document of that depth.
+        """
+        data = library.bytes_of(data)
+        if not library.check(data, len(data), _checked_depth(depth)):
+            raise library.error_of(library.INVALID_JSONB, f"no document of depth {depth} or less")
+        return _of_checked(data)
+
+    @classmethod
+    def parse(cls, text: Union[str, bytes], depth: int = DEPTH) -> "Document":
+        """The document of a JSON text, as a str or in UTF-8.
+
+        Of a key that comes twice the last value stays. ``depth`` is how deep brackets may nest,
+        from 0 to 1,000. InvalidTextError: the text is no JSON or not UTF-8, or has a number with an
+        exponent or too many digits; TooDeepError; InvalidDocumentError: it is past a limit of the
+        format.
+        """
+        return _of_checked(parse(text, _checked_depth(depth)))
+
+    @classmethod
+    def of(cls, value: Any) -> "Document":
+        """The document of a Python value.
+
+        It may consist of None, bool, int, Decimal, str, bytes, date, datetime, Date, Timestamp,
+        TimestampTz, Interval, Opaque, Document, list, tuple and mappings with keys that are str.
+        FloatError: a float; NumberError: a number past 128 bits or 255 digits after its point;
+        InvalidTextError: half of a surrogate pair; TooDeepError: it nests more than 1,000 deep;
+        TypeError: a value of another type.
+        """
+        return _of_checked(encode(value, Document))
+
+    @property
+    def kind(self) -> str:
+        """null, boolean, number, string, extension, array or object."""
+        return _KINDS[library.kind(self._data, len(self._data)).kind]
+
+    def value(self) -> Value:
+        """The whole document as Python values.
+
+        Numbers come as an int, or with digits after the point as a Decimal with these digits;
+        extension values as bytes, date, datetime, Interval or Opaque, or as Date, Timestamp or
+        TimestampTz where Python has no such date.
+        """
+        # Without extension values the JSON text says all, and Python's reader of it is quicker.
+        if not _may_have_extensions(self._data):
+            try:
+                return _value_of_json(str(self))
+            except RecursionError:
+                pass
+        return _decode(self._data)
+
+    def key(self) -> bytes:
+        """The comparable key: keys compare by their bytes as documents do, and hash alike."""
+        if self._key is None:
+            # A document of n bytes is less than n deep, so this depth excludes none.
+            size = len(self._data)
+            self._key = library.result_of(library.key, 2 * size + 64, self._data, size, size)
+        return self._key
+
+    def canonical(self) -> "Document":
+        """The same document with each value in the one form that is written today.
+
+        InvalidDocumentError: that form is past a limit of the format.
+        """
+        return _of_checked(self._written(library.to_canonical))
+
+    def pretty(self) -> str:
+        """The JSON text on lines, indented by two spaces."""
+        return self._written(library.to_pretty).decode()
+
+    def __str__(self) -> str:
+        """The JSON text without white space; members are sorted by their keys."""
+        return self._written(library.to_string).decode()
+
+    def _written(self, call: Any) -> bytes:
+        size = len(self._data)
+        return library.result_of(call, 2 * size + 64, self._data, size)
+
+    def __bytes__(self) -> bytes:
+        return self._data
+
+    def __repr__(self) -> str:
+        text = str(self)
+        shown = text if len(text) <= _MOST_SHOWN else text[:_MOST_SHOWN - 3] + "..."
+        return f"<{type(self).__name__} {shown}>"
+
+    def __eq__(self, other: object) -> bool:
+        if not isinstance(other, Document):
+            return NotImplemented
+        return self._data == other._data or self.key() == other.key()
+
+    def __lt__(self, other: "Document") -> bool:
+        if not isinstance(other, Document):
+            return NotImplemented
+        return self.key() < other.key()
+
+    def __hash__(self) -> int:
+        return hash(self.key())
+
+    def __reduce__(self) -> Tuple[Any, ...]:
+        return Document, (self._data,)
+
+
+class ScalarDocument(Document):
+    """The document of null, a boolean, a number, a string or an extension value."""
+    __slots__ = ()
+
+    def value(self) -> Scalar:
+        """The scalar as a Python value."""
+        return scalar_of(*library.scalar_parts(self._data))
+
+
+class _Container(Document):
+    """What arrays and objects have in common: children, which are decoded when they are read.
+
+    A child is a Python value if it is a scalar, and else a document.
+    """
+    __slots__ = ()
+
+    def __len__(self) -> int:
+        return library.kind(self._data, len(self._data)).count
+
+    def _child(self, place: library.Place) -> Union[Scalar, Document]:
+        return _child_of(place.type, library.payload_of(self._data, place))
+
+    def _members(self) -> Iterator[Tuple[str, Union[Scalar, Document]]]:
+        for key, type_, payload in library.children(self._data):
+            yield key.decode(), _child_of(type_, payload)
+
+
+class ArrayDocument(_Container, Sequence):
+    """An array: a ``Sequence`` that decodes the items that are read, and a slice as a list."""
+    __slots__ = ()
+
+    def __getitem__(self, index: Any) -> Any:
+        if isinstance(index, slice):
+            return list(self)[index]
+        number = range(len(self))[index]
+        return self._child(library.part(self._data, len(self._data), number))
+
+    def __iter__(self) -> Iterator[Union[Scalar, Document]]:
+        return (item for _, item in self._members())
+
+    def __reversed__(self) -> Iterator[Union[Scalar, Document]]:
+        return reversed(list(self))
+
+    def index(self, value: Any, *bounds: int) -> int:
+        """The index of the first item that is equal to a value. ValueError: there is none."""
+        return list(self).index(value, *bounds)
+
+
+class ObjectDocument(_Container, Mapping):
+    """An object: a ``Mapping`` that decodes the members that are read, sorted by their keys."""
+    __slots__ = ()
+
+    def __getitem__(self, name: str) -> Union[Scalar, Document]:
+        place = self._find(name)
+        if place is None:
+            raise KeyError(name)
+        return self._child(place)
+
+    def __contains__(self, name: object) -> bool:
+        return self._find(name) is not None
+
+    def __iter__(self) -> Iterator[str]:
+        return (name for name, _ in self._members())
+
+    def items(self) -> "_Items":
+        return _Items(self)
+
+    def values(self) -> "_Values":
+        return _Values(self)
+
+    def _find(self, name: object) -> Optional[library.Place]:
+        """The place of a member. A name that is no str, or has no UTF-8, is no member's."""
+        if not isinstance(name, str):
+            return None
+        try:
+            data = name.encode()
+        except UnicodeEncodeError:
+            return None
+        place = library.find(self._data, len(self._data), data, len(data))
+        return place if place.status == library.OK else None
+
+
+class _Items(ItemsView):
+    """The members in one pass, where Mapping's own view finds each by its key."""
+
+    def __iter__(self) -> Iterator[Tuple[str, Union[Scalar, Document]]]:
+        return self._mapping._members()
+
+
+class _Values(ValuesView):
+    """The values in one pass."""
+
+    def __iter__(self) -> Iterator[Union[Scalar, Document]]:
+        return (value for _, value in self._mapping._members())
+
+
+_CLASSES: Dict[int, Type[Document]] = {library.ARRAY: ArrayDocument, library.OBJECT: ObjectDocument}
+
+
+def _of_checked(data: bytes) -> Document:
+    """The document of bytes that are known to be one of at most DEPTH."""
+    kind = library.kind(data, len(data)).kind
+    document = object.__new__(_CLASSES.get(kind, ScalarDocument))
+    document._data, document._key = data, None
+    return document
+
+
+def _checked_depth(depth: int) -> int:
+    if not 0 <= depth <= DEPTH:
+        raise ValueError(f"the depth is to be from 0 to {DEPTH}")
+    return depth
+
+
+def _child_of(type_: int, payload: bytes) -> Union[Scalar, Document]:
+    if type_ == library.TYPE_CONTAINER:
+        return _of_checked(payload)
+    return scalar_of(type_, payload)
+
+
+def _may_have_extensions(data: bytes) -> bool:
+    """False only if there are none: an entry of less than 2**24 bytes begins with its type."""
+    return library.TYPE_EXTENSION >> 24 in data or len(data) >= 1 << 24
+
+
+_Decoder = Generator[bytes, Any, Value]
+
+
+def _decode(data: bytes) -> Value:
+    """The value of a document. It does not recurse, for documents nest deeper than Python's calls.
+
+    A container's decoder yields each container inside it, and is sent the value of that.
+    """
+    opened: List[_Decoder] = [_decoder(data)]
+    sent: Any = None
+    while True:
+        try:
+            opened.append(_decoder(opened[-1].send(sent)))
+            sent = None
+        except StopIteration as finished:
+            opened.pop()
+            if not opened:
+                return finished.value
+            sent = finished.value
+
+
+def _decoder(data: bytes) -> _Decoder:
+    keys, values = [], []
+    for key, type_, payload in library.children(data):
+        keys.append(key)
+        is_container = type_ == library.TYPE_CONTAINER
+        values.append((yield payload) if is_container else scalar_of(type_, payload))
+    if library.kind(data, len(data)).kind == library.ARRAY:
+        return values
+    return {key.decode(): value for key, value in zip(keys, values)}

@@ -1,0 +1,144 @@
+"""Python values as documents.
+
+A value that JSON can express becomes its text, which the library parses in one call. Only the
+containers around extension values and documents are built of their children's documents.
+"""
+from datetime import date, datetime
+from decimal import Decimal
+from json.encoder import encode_basestring
+from typing import Any, Callable, Dict, Generator, List, Mapping, Optional, Sequence, Union
+
+from . import _library as library
+from . import _scalars as scalars
+from ._errors import FloatError
+
+# A JSON text, or a document.
+Encoded = Union[str, bytes]
+# Encodes a container: yields each child that is no plain scalar, and is sent what it became.
+Encoder = Generator[Any, Encoded, Encoded]
+
+# The greatest depth of any document and text: 1,000 levels of a text need 2 MB of stack.
+DEPTH = 1000
+
+
+def parse(text: Union[str, bytes], depth: int = DEPTH) -> bytes:
+    """The document of a JSON text."""
+    data = _utf8(text) if isinstance(text, str) else library.bytes_of(text)
+    return library.result_of(library.parse, 2 * len(data) + 64, data, len(data), depth)
+
+
+def encode(value: Any, document_type: type) -> bytes:
+    """The document of a value; a `document_type` inside it is taken as its bytes."""
+    def encoder_of(child: Any, level: int) -> Union[Encoded, Encoder]:
+        if isinstance(child, document_type):
+            document = bytes(child)
+            _expect(library.check(document, len(document), DEPTH - level))
+            return document
+        write = _writer_of(child)
+        if write:
+            return write(child)
+        _expect(level < DEPTH)
+        if isinstance(child, Mapping):
+            return _object_encoder(child)
+        if isinstance(child, (list, tuple)):
+            return _array_encoder(child)
+        raise TypeError(f"{type(child).__name__} has no form in a document")
+
+    return _document_of(_run(value, encoder_of))
+
+
+def _expect(is_within: bool) -> None:
+    if not is_within:
+        raise library.error_of(library.TOO_DEEP, f"the value nests more than {DEPTH} deep")
+
+
+def _run(value: Any, encoder_of: Callable[[Any, int], Union[Encoded, Encoder]]) -> Encoded:
+    """Encodes a value. It does not recurse, since values may nest deeper than Python's calls."""
+    opened: List[Encoder] = []
+    current = encoder_of(value, 0)
+    while True:
+        if isinstance(current, (str, bytes)):
+            if not opened:
+                return current
+            sent: Any = current
+        else:
+            opened.append(current)
+            sent = None
+        try:
+            current = encoder_of(opened[-1].send(sent), len(opened))
+        except StopIteration as finished:
+            opened.pop()
+            current = finished.value
+
+
+def _array_encoder(items: Sequence[Any]) -> Encoder:
+    encoded: List[Encoded] = []
+    for item in items:
+        write = _WRITERS.get(type(item))
+        encoded.append(write(item) if write else (yield item))
+    if _are_texts(encoded):
+        return "[" + ",".join(encoded) + "]"  # type: ignore[arg-type]
+    return library.build(library.build_array, [_document_of(it) for it in encoded])
+
+
+def _object_encoder(members: Mapping) -> Encoder:
+    names: List[str] = []
+    encoded: List[Encoded] = []
+    for name, value in members.items():
+        if not isinstance(name, str):
+            raise TypeError(f"the key {name!r} is no str")
+        write = _WRITERS.get(type(value))
+        names.append(name)
+        encoded.append(write(value) if write else (yield value))
+    if _are_texts(encoded):
+        pairs = zip(map(encode_basestring, names), encoded)
+        return "{" + ",".join([f"{name}:{value}" for name, value in pairs]) + "}"
+    rows: List[bytes] = []
+    for name, value in zip(names, encoded):
+        rows += (_utf8(name), _document_of(value))
+    return library.build(library.build_object, rows)
+
+
+def _are_texts(encoded: List[Encoded]) -> bool:
+    return bytes not in map(type, encoded)
+
+
+def _document_of(encoded: Encoded) -> bytes:
+    return parse(encoded) if isinstance(encoded, str) else encoded
+
+
+def _utf8(text: str) -> bytes:
+    try:
+        return text.encode()
+    except UnicodeEncodeError as error:
+        raise library.error_of(library.INVALID_UTF8, str(error)) from None
+
+
+def _refuse_float(value: float) -> Encoded:
+    raise FloatError(f"the float {value!r} is not stored, since documents have exact numbers: "
+                     "pass a Decimal")
+
+
+_WRITERS: Dict[type, Callable[[Any], Encoded]] = {
+    type(None): lambda value: "null",
+    bool: lambda value: "true" if value else "false",
+    int: scalars.text_of_int,
+    float: _refuse_float,
+    Decimal: scalars.text_of_decimal,
+    str: encode_basestring,
+    bytes: scalars.document_of_bytes,
+    bytearray: scalars.document_of_bytes,
+    memoryview: scalars.document_of_bytes,
+    date: scalars.document_of_date,
+    datetime: scalars.document_of_datetime,
+    scalars.Date: scalars.document_of_raw_date,
+    scalars.Timestamp: scalars.document_of_timestamp,
+    scalars.TimestampTz: scalars.document_of_timestamp_tz,
+    scalars.Interval: scalars.document_of_interval,
+    scalars.Opaque: scalars.document_of_opaque,
+}
+
+
+def _writer_of(value: Any) -> Optional[Callable[[Any], Encoded]]:
+    """How a scalar is written, also one of a subclass, as an IntEnum; None for all else."""
+    return next((_WRITERS[it] for it in type(value).__mro__ if it in _WRITERS), None)

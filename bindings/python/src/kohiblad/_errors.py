@@ -1,0 +1,52 @@
+"""What is raised for input that cannot be read or stored."""
+
+
+class KohibladError(ValueError):
+    """A call of the library was refused.
+
+    ``status`` is the number of the header's ``enum kohiblad_status``, and ``name`` the library's
+    name for it, as ``InvalidJson``.
+    """
+
+    def __init__(self, status: int, name: str, message: str = "") -> None:
+        super().__init__(status, name, message)
+        self.status = status
+        self.name = name
+        self.message = message
+
+    def __str__(self) -> str:
+        return f"{self.name}: {self.message}" if self.message else self.name
+
+
+class InvalidDocumentError(KohibladError):
+    """The bytes are no document of the depth that is allowed, or a limit of the format is passed.
+
+    Such limits are 2**28 - 1 bytes for a text or a nested value, and 2**29 - 1 children.
+    """
+
+
+class InvalidTextError(KohibladError):
+    """The text is not UTF-8 or no JSON, or has a number with an exponent or too many digits."""
+
+
+class NumberError(KohibladError):
+    """The number is not finite, or has more than 128 bits or 255 digits after its point."""
+
+
+class ExtensionError(KohibladError):
+    """A field of the extension value is past its range, or its tag is none."""
+
+
+class TooDeepError(KohibladError):
+    """A text or a value nests deeper than is allowed."""
+
+
+class OutOfMemoryError(KohibladError, MemoryError):
+    """The library was refused memory."""
+
+
+class FloatError(TypeError):
+    """A float was given: documents have exact numbers, and a float rarely is the number meant.
+
+    Pass ``Decimal("0.1")`` or ``Decimal(str(number))`` instead.
+    """

@@ -1,0 +1,226 @@
+"""The exports of libkohiblad, by ctypes, and what they take and return.
+
+ctypes releases Python's lock during each call. No export may get a null pointer, and ``bytes``
+never are one, also when they are empty.
+"""
+import ctypes
+import os
+from ctypes import c_bool, c_char_p, c_int32, c_int64, c_size_t, c_uint32, c_uint64, c_void_p
+from typing import Any, Callable, Dict, Iterator, List, Sequence, Tuple, Type
+
+from ._errors import (ExtensionError, InvalidDocumentError, InvalidTextError, KohibladError,
+                      NumberError, OutOfMemoryError, TooDeepError)
+
+FILE_NAME = "libkohiblad.so.0"
+OLDEST_VERSION = 6000
+
+OK = 0
+INVALID_EOF = 1
+INVALID_JSONB = 2
+INVALID_JSONB_NUMBER = 5
+INVALID_JSONB_EXTENSION = 6
+INVALID_UTF8 = 7
+INVALID_JSON = 9
+OUT_OF_MEMORY = 10
+NO_ROOM = 11
+NONE = 12
+TOO_DEEP = 13
+
+ARRAY = 5
+OBJECT = 6
+
+TYPE_NULL = 0x00000000
+TYPE_STRING = 0x10000000
+TYPE_NUMBER = 0x20000000
+TYPE_FALSE = 0x30000000
+TYPE_TRUE = 0x40000000
+TYPE_CONTAINER = 0x50000000
+TYPE_EXTENSION = 0x60000000
+
+_ERRORS: Dict[int, Type[KohibladError]] = {
+    INVALID_EOF: InvalidDocumentError,
+    INVALID_JSONB: InvalidDocumentError,
+    INVALID_JSONB_NUMBER: NumberError,
+    INVALID_JSONB_EXTENSION: ExtensionError,
+    INVALID_UTF8: InvalidTextError,
+    INVALID_JSON: InvalidTextError,
+    OUT_OF_MEMORY: OutOfMemoryError,
+    TOO_DEEP: TooDeepError,
+}
+
+
+class Kind(ctypes.Structure):
+    _fields_ = [("status", c_uint32), ("kind", c_uint32), ("count", c_uint64)]
+
+
+class Place(ctypes.Structure):
+    _fields_ = [("status", c_uint32), ("type", c_uint32), ("offset", c_uint64),
+                ("length", c_uint64)]
+
+
+class Cursor(ctypes.Structure):
+    _fields_ = [("index", c_uint64), ("key", c_uint64), ("value", c_uint64)]
+
+
+class Number(ctypes.Structure):
+    _fields_ = [("status", c_uint32), ("scale", c_uint32), ("high", c_int64), ("low", c_uint64)]
+
+
+class ExtensionValue(ctypes.Structure):
+    _fields_ = [("status", c_uint32), ("tag", c_uint32), ("value", c_int64), ("months", c_int32),
+                ("days", c_int32), ("seconds", c_int32), ("offset", c_uint64),
+                ("length", c_uint64)]
+
+
+def _open() -> ctypes.CDLL:
+    """The library that KOHIBLAD_LIBRARY names, or of this package, or of the system."""
+    beside = os.path.join(os.path.dirname(os.path.abspath(__file__)), FILE_NAME)
+    path = os.environ.get("KOHIBLAD_LIBRARY") or (beside if os.path.exists(beside) else FILE_NAME)
+    try:
+        return ctypes.CDLL(path)
+    except OSError as error:
+        raise ImportError(f"kohiblad needs its library: {error}; install it, or set "
+                          "KOHIBLAD_LIBRARY to its path") from None
+
+
+_library = _open()
+
+
+def _export(name: str, result: Any, *arguments: Any) -> Callable[..., Any]:
+    function = getattr(_library, "kohiblad_" + name)
+    function.restype = result
+    function.argtypes = arguments
+    return function
+
+
+version = _export("version", c_uint32)
+if version() < OLDEST_VERSION:
+    raise ImportError(f"kohiblad needs {FILE_NAME} of version {OLDEST_VERSION}, not {version()}")
+
+_BYTES = (c_char_p, c_size_t)
+_OUT = (c_void_p, c_size_t, c_void_p)
+_ROWS = (*_BYTES, c_void_p, c_size_t)
+
+check = _export("check", c_bool, *_BYTES, c_size_t)
+kind = _export("kind", Kind, *_BYTES)
+find = _export("find", Place, *_BYTES, *_BYTES)
+part = _export("part", Place, *_BYTES, c_size_t)
+number = _export("number", Number, *_BYTES)
+extension = _export("extension", ExtensionValue, *_BYTES)
+parse = _export("parse", c_uint32, *_BYTES, c_size_t, *_OUT)
+key = _export("key", c_uint32, *_BYTES, c_size_t, *_OUT)
+to_string = _export("to_string", c_uint32, *_BYTES, *_OUT)
+to_pretty = _export("to_pretty", c_uint32, *_BYTES, *_OUT)
+to_canonical = _export("to_canonical", c_uint32, *_BYTES, *_OUT)
+of_extension = _export("of_extension", c_uint32, c_uint32, c_int64, c_int32, c_int32, c_int32,
+                       *_BYTES, *_OUT)
+build_array = _export("build_array", c_uint32, *_ROWS, *_OUT)
+build_object = _export("build_object", c_uint32, *_ROWS, *_OUT)
+_begin = _export("begin", c_uint32, *_BYTES, c_void_p)
+_next = _export("next", c_uint32, *_BYTES, c_void_p, c_void_p, c_void_p)
+_status_name = _export("status_name", c_uint32, c_uint32, *_OUT)
+
+
+def bytes_of(data: Any) -> bytes:
+    """The bytes of an object that has some. TypeError: it has none."""
+    return data if type(data) is bytes else bytes(memoryview(data))
+
+
+class _Room:
+    """Memory that the library writes a result and its length to."""
+    USUAL_SIZE = 1 << 16
+    __slots__ = ("size", "buffer", "length", "address", "length_address")
+
+    def __init__(self, size: int) -> None:
+        self.size = size
+        self.buffer = ctypes.create_string_buffer(size)
+        self.length = c_size_t()
+        self.address = ctypes.addressof(self.buffer)
+        self.length_address = ctypes.addressof(self.length)
+
+
+# Rooms that no call uses now: to make one takes longer than most calls. A call takes one out, so
+# neither another thread nor a signal handler can write to it.
+_spare_rooms: List[_Room] = []
+
+
+def _room_of(size: int) -> _Room:
+    if size > _Room.USUAL_SIZE:
+        return _Room(size)
+    try:
+        return _spare_rooms.pop()
+    except IndexError:
+        return _Room(_Room.USUAL_SIZE)
+
+
+def result_of(call: Callable[..., int], guess: int, *arguments: Any) -> bytes:
+    """The bytes that a call writes; `guess` is how many they may be.
+
+    If they are more, the call is made again with enough room.
+    """
+    room = _room_of(guess)
+    status = call(*arguments, room.address, room.size, room.length_address)
+    while status == NO_ROOM:
+        room = _Room(room.length.value)
+        status = call(*arguments, room.address, room.size, room.length_address)
+    if status != OK:
+        raise error_of(status)
+    result = ctypes.string_at(room.address, room.length.value)
+    if room.size == _Room.USUAL_SIZE:
+        _spare_rooms.append(room)
+    return result
+
+
+def status_name(status: int) -> str:
+    """The library's name of a status."""
+    return result_of(_status_name, 0, status).decode()
+
+
+def error_of(status: int, message: str = "") -> KohibladError:
+    """The exception for a status."""
+    return _ERRORS.get(status, KohibladError)(status, status_name(status), message)
+
+
+def children(document: bytes) -> Iterator[Tuple[bytes, int, bytes]]:
+    """The key, type and payload of each child of an array or object; an item's key is empty."""
+    size = len(document)
+    cursor, key_place, place = Cursor(), Place(), Place()
+    places = tuple(map(ctypes.addressof, (cursor, key_place, place)))
+    status = _begin(document, size, places[0])
+    while status == OK:
+        status = _next(document, size, *places)
+        if status == OK:
+            yield payload_of(document, key_place), place.type, payload_of(document, place)
+    if status != NONE:
+        raise error_of(status)
+
+
+def payload_of(document: bytes, place: Place) -> bytes:
+    """The bytes at a place."""
+    offset = place.offset
+    return document[offset:offset + place.length]
+
+
+def build(call: Callable[..., int], rows: Sequence[bytes]) -> bytes:
+    """What `build_array` or `build_object` make of rows."""
+    ends = (c_size_t * (len(rows) or 1))()
+    end = 0
+    for index, row in enumerate(rows):
+        end += len(row)
+        ends[index] = end
+    guess = end + 4 * len(rows) + 8
+    return result_of(call, guess, b"".join(rows), end, ctypes.addressof(ends), len(rows))
+
+
+_SCALAR_HEADER = b"\x20\0\0\0"
+_TYPE_MASK = 0x70000000
+
+
+def scalar_document(type_: int, payload: bytes) -> bytes:
+    """The document of a scalar: a header, an entry of its type and length, and its payload."""
+    return _SCALAR_HEADER + (type_ | len(payload)).to_bytes(4, "big") + payload
+
+
+def scalar_parts(document: bytes) -> Tuple[int, bytes]:
+    """The type and payload of a scalar's document."""
+    return int.from_bytes(document[4:8], "big") & _TYPE_MASK, document[8:]

@@ -1,0 +1,193 @@
+"""Scalars: numbers, and the extension values with their Python types."""
+from datetime import date, datetime, timedelta, timezone
+from decimal import Context, Decimal
+from typing import NamedTuple, Union
+
+from . import _library as library
+from ._errors import NumberError
+
+
+class Date(NamedTuple):
+    """A date that no ``datetime.date`` can be: days from 1970-01-01."""
+    days: int
+
+
+class Timestamp(NamedTuple):
+    """A timestamp that no ``datetime`` can be: microseconds from 1970-01-01 00:00."""
+    micros: int
+
+
+class TimestampTz(NamedTuple):
+    """A timestamp with a zone that no aware ``datetime`` can be.
+
+    Microseconds from 1970-01-01 00:00 UTC, and the zone's offset in seconds.
+    """
+    micros: int
+    offset: int
+
+
+class Interval(NamedTuple):
+    """An interval of months, days and microseconds, which are kept apart."""
+    months: int
+    days: int
+    micros: int
+
+
+class Opaque(NamedTuple):
+    """An extension value of a newer kind: its tag (0x50, 0x60 to 0xF0), and its data."""
+    tag: int
+    data: bytes
+
+
+Scalar = Union[None, bool, int, Decimal, str, bytes, date, datetime, Date, Timestamp, TimestampTz,
+               Interval, Opaque]
+
+_BINARY, _DATE, _TIMESTAMP, _TIMESTAMP_TZ, _INTERVAL = 0x00, 0x10, 0x20, 0x30, 0x40
+_EPOCH = datetime(1970, 1, 1)
+_MICRO = timedelta(microseconds=1)
+# Wide enough for all digits of a number, and for 255 after its point.
+_EXACT = Context(prec=300)
+_MOST_SCALE = 255
+_LEAST, _MOST = -(1 << 127), (1 << 127) - 1
+
+
+def scalar_of(type_: int, payload: bytes) -> Scalar:
+    """The Python value of a scalar in a checked document."""
+    if type_ == library.TYPE_STRING:
+        return payload.decode()
+    if type_ == library.TYPE_NUMBER:
+        return _number_of(library.scalar_document(type_, payload))
+    if type_ == library.TYPE_EXTENSION:
+        return _extension_of(library.scalar_document(type_, payload))
+    return None if type_ == library.TYPE_NULL else type_ == library.TYPE_TRUE
+
+
+def _number_of(document: bytes) -> Union[int, Decimal]:
+    number = library.number(document, len(document))
+    if number.status:
+        raise library.error_of(number.status)
+    digits = number.high << 64 | number.low
+    scale = number.scale
+    return Decimal(digits).scaleb(-scale, _EXACT) if scale else digits
+
+
+def _extension_of(document: bytes) -> Scalar:
+    it = library.extension(document, len(document))
+    if it.status:
+        raise library.error_of(it.status)
+    if it.tag == _DATE:
+        return _date_of(it.value)
+    if it.tag == _TIMESTAMP:
+        return _timestamp_of(it.value)
+    if it.tag == _TIMESTAMP_TZ:
+        return _timestamp_tz_of(it.value, it.seconds)
+    if it.tag == _INTERVAL:
+        return Interval(it.months, it.days, it.value)
+    data = library.payload_of(document, it)
+    return data if it.tag == _BINARY else Opaque(it.tag, data)
+
+
+def _date_of(days: int) -> Union[date, Date]:
+    try:
+        return _EPOCH.date() + timedelta(days=days)
+    except OverflowError:
+        return Date(days)
+
+
+def _timestamp_of(micros: int) -> Union[datetime, Timestamp]:
+    try:
+        return _EPOCH + timedelta(microseconds=micros)
+    except OverflowError:
+        return Timestamp(micros)
+
+
+def _timestamp_tz_of(micros: int, offset: int) -> Union[datetime, TimestampTz]:
+    try:
+        zone = timezone(timedelta(seconds=offset))
+        local = _EPOCH + timedelta(microseconds=micros) + timedelta(seconds=offset)
+    except (OverflowError, ValueError):
+        return TimestampTz(micros, offset)
+    return local.replace(tzinfo=zone)
+
+
+def text_of_int(value: int) -> str:
+    """The JSON text of a whole number. NumberError: it has more than 128 bits."""
+    if not _LEAST <= value <= _MOST:
+        raise _number_error(f"a whole number of {value.bit_length()} bits; the most is 128, signed")
+    return int.__repr__(value)
+
+
+def text_of_decimal(value: Decimal) -> str:
+    """The JSON text of a decimal, with all its digits and no exponent.
+
+    NumberError: it is not finite, or has more than 128 bits or 255 digits after its point.
+    """
+    sign, digits, exponent = value.as_tuple()
+    if not isinstance(exponent, int):
+        raise _number_error(f"{value} is no number of JSON")
+    if exponent < -_MOST_SCALE:
+        raise _number_error(f"{-exponent} digits after the point; the most are {_MOST_SCALE}")
+    # A number of 40 digits has more than 128 bits, so that a huge exponent is never written out.
+    is_short = not value or len(digits) + max(exponent, 0) < 40
+    text = format(value, "f") if is_short else ""
+    if not text or not _LEAST <= int(text.replace(".", "")) <= _MOST:
+        raise _number_error("a decimal of more than 128 bits without its point")
+    return text
+
+
+def _number_error(message: str) -> NumberError:
+    status = library.INVALID_JSONB_NUMBER
+    return NumberError(status, library.status_name(status), message)
+
+
+def document_of_bytes(value: Union[bytes, bytearray, memoryview]) -> bytes:
+    return _extension(_BINARY, data=library.bytes_of(value))
+
+
+def document_of_date(value: date) -> bytes:
+    return _extension(_DATE, (value - _EPOCH.date()).days)
+
+
+def document_of_datetime(value: datetime) -> bytes:
+    """The document of a timestamp, with a zone if it is aware.
+
+    ValueError: the zone's offset is no whole number of seconds.
+    """
+    offset = value.utcoffset()
+    micros = (value.replace(tzinfo=None) - _EPOCH) // _MICRO
+    if offset is None:
+        return _extension(_TIMESTAMP, micros)
+    if offset.microseconds:
+        raise ValueError(f"the zone's offset {offset} is no whole number of seconds")
+    return _extension(_TIMESTAMP_TZ, micros - offset // _MICRO, seconds=offset // (_MICRO * 10**6))
+
+
+def document_of_raw_date(value: Date) -> bytes:
+    return _extension(_DATE, value.days)
+
+
+def document_of_timestamp(value: Timestamp) -> bytes:
+    return _extension(_TIMESTAMP, value.micros)
+
+
+def document_of_timestamp_tz(value: TimestampTz) -> bytes:
+    return _extension(_TIMESTAMP_TZ, value.micros, seconds=value.offset)
+
+
+def document_of_interval(value: Interval) -> bytes:
+    return _extension(_INTERVAL, value.micros, months=value.months, days=value.days)
+
+
+def document_of_opaque(value: Opaque) -> bytes:
+    if value.tag < 0x50:
+        raise library.error_of(library.INVALID_JSONB_EXTENSION, f"{value.tag} is no opaque tag")
+    return _extension(value.tag, data=library.bytes_of(value.data))
+
+
+def _extension(tag: int, value: int = 0, months: int = 0, days: int = 0, seconds: int = 0,
+               data: bytes = b"") -> bytes:
+    for field, bits in ((tag, 33), (value, 64), (months, 32), (days, 32), (seconds, 32)):
+        if not -(1 << bits - 1) <= field < 1 << bits - 1:
+            raise library.error_of(library.INVALID_JSONB_EXTENSION, f"{field} has over {bits} bits")
+    return library.result_of(library.of_extension, len(data) + 32, tag, value, months, days,
+                             seconds, data, len(data))
