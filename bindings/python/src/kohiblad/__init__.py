@@ -9,10 +9,10 @@ Numbers are exact: whole ones and decimals of 128 bits. There is no floating poi
 """
 from typing import Any, Union
 
-from ._document import (ArrayDocument, Document, ObjectDocument, ScalarDocument, Value)
+from ._document import ArrayDocument, Document, ObjectDocument, ScalarDocument, Value
 from ._encode import DEPTH
-from ._errors import (ExtensionError, FloatError, InvalidDocumentError, InvalidTextError, KohibladError,
-                      NumberError, OutOfMemoryError, TooDeepError)
+from ._errors import (ExtensionError, FloatError, InvalidDocumentError, InvalidTextError,
+                      KohibladError, NumberError, OutOfMemoryError, TooDeepError)
 from ._scalars import Date, Interval, Opaque, Scalar, Timestamp, TimestampTz
 
 __version__ = "0.6.0"

@@ -1,6 +1,7 @@
 """Files of JSON lines as files of documents, and back: ``python -m kohiblad --help``."""
 import argparse
 import contextlib
+import os
 import sys
 import time
 from typing import BinaryIO, Callable, Dict, Iterator, Optional, TypeVar
@@ -32,7 +33,7 @@ class Progress:
         self._is_begun = False
 
     def count(self, rows: Iterator[_Row]) -> Iterator[_Row]:
-        """The rows; an error of one is raised with its number."""
+        """The same rows, counted as they pass."""
         number = 0
         try:
             for row in rows:
@@ -153,12 +154,23 @@ def _opened(path: str, mode: str, standard: BinaryIO) -> "contextlib.AbstractCon
     return contextlib.nullcontext(standard) if path == "-" else open(path, mode)
 
 
+def _expect_two_files(input_path: str, output_path: str) -> None:
+    if os.path.exists(output_path) and os.path.exists(input_path) \
+            and os.path.samefile(input_path, output_path):
+        raise InputError(f"{output_path} is the input: write to another file")
+
+
 def main(arguments: Optional[list] = None) -> int:
     options = _parser().parse_args(arguments)
     try:
+        _expect_two_files(options.input, options.output)
         with _opened(options.input, "rb", sys.stdin.buffer) as source, \
                 _opened(options.output, "wb", sys.stdout.buffer) as target:
             _run(options, source, target)
+    except BrokenPipeError:
+        # Nobody reads on, as after `| head`. Python would fail once more at its end.
+        os.dup2(os.open(os.devnull, os.O_WRONLY), sys.stdout.fileno())
+        return 1
     except (InputError, OSError) as error:
         print(f"kohiblad: {error}", file=sys.stderr)
         return 1

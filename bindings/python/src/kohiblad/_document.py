@@ -1,4 +1,5 @@
 """Documents: checked bytes, read in place."""
+import re
 from collections.abc import ItemsView, Mapping, Sequence, ValuesView
 from decimal import Decimal
 from functools import total_ordering
@@ -236,13 +237,16 @@ class _Values(ValuesView):
         return (value for _, value in self._mapping._members())
 
 
-_CLASSES: Dict[int, Type[Document]] = {library.ARRAY: ArrayDocument, library.OBJECT: ObjectDocument}
+_CLASSES: Dict[int, Type[Document]] = {
+    library.SCALAR: ScalarDocument,
+    library.OBJECT: ObjectDocument,
+    library.ARRAY: ArrayDocument,
+}
 
 
 def _of_checked(data: bytes) -> Document:
     """The document of bytes that are known to be one of at most DEPTH."""
-    kind = library.kind(data, len(data)).kind
-    document = object.__new__(_CLASSES.get(kind, ScalarDocument))
+    document = object.__new__(_CLASSES[data[0] & library.HEADER_TAG_MASK])
     document._data, document._key = data, None
     return document
 
@@ -260,8 +264,12 @@ def _child_of(type_: int, payload: bytes) -> Union[Scalar, Document]:
 
 
 def _may_have_extensions(data: bytes) -> bool:
-    """False only if there are none: an entry of less than 2**24 bytes begins with its type."""
-    return library.TYPE_EXTENSION >> 24 in data or len(data) >= 1 << 24
+    """False only if there are none, by their entries: a type, and a length less than the data's."""
+    most = len(data) >> 16
+    if most > 255:
+        return True
+    most_length = re.escape(bytes([most]))
+    return re.search(b"\x60[\0-" + most_length + b"]", data) is not None
 
 
 _Decoder = Generator[bytes, Any, Value]
@@ -291,6 +299,6 @@ def _decoder(data: bytes) -> _Decoder:
         keys.append(key)
         is_container = type_ == library.TYPE_CONTAINER
         values.append((yield payload) if is_container else scalar_of(type_, payload))
-    if library.kind(data, len(data)).kind == library.ARRAY:
+    if data[0] & library.HEADER_TAG_MASK == library.ARRAY:
         return values
     return {key.decode(): value for key, value in zip(keys, values)}

@@ -3,10 +3,11 @@
 A value that JSON can express becomes its text, which the library parses in one call. Only the
 containers around extension values and documents are built of their children's documents.
 """
+from collections.abc import Mapping
 from datetime import date, datetime
 from decimal import Decimal
 from json.encoder import encode_basestring
-from typing import Any, Callable, Dict, Generator, List, Mapping, Optional, Sequence, Union
+from typing import Any, Callable, Dict, Generator, List, Optional, Sequence, Union
 
 from . import _library as library
 from . import _scalars as scalars
@@ -34,15 +35,14 @@ def encode(value: Any, document_type: type) -> bytes:
             document = bytes(child)
             _expect(library.check(document, len(document), DEPTH - level))
             return document
-        write = _writer_of(child)
-        if write:
-            return write(child)
+        open_container = _ENCODERS.get(type(child))
+        if open_container is None:
+            write = _writer_of(child)
+            if write:
+                return write(child)
+            open_container = _object_encoder if isinstance(child, Mapping) else _array_encoder
         _expect(level < DEPTH)
-        if isinstance(child, Mapping):
-            return _object_encoder(child)
-        if isinstance(child, (list, tuple)):
-            return _array_encoder(child)
-        raise TypeError(f"{type(child).__name__} has no form in a document")
+        return open_container(child)
 
     return _document_of(_run(value, encoder_of))
 
@@ -139,6 +139,18 @@ _WRITERS: Dict[type, Callable[[Any], Encoded]] = {
 }
 
 
+_ENCODERS: Dict[type, Callable[[Any], Encoder]] = {
+    dict: _object_encoder,
+    list: _array_encoder,
+    tuple: _array_encoder,
+}
+
+
 def _writer_of(value: Any) -> Optional[Callable[[Any], Encoded]]:
-    """How a scalar is written, also one of a subclass, as an IntEnum; None for all else."""
-    return next((_WRITERS[it] for it in type(value).__mro__ if it in _WRITERS), None)
+    """How a scalar of any type is written, as an IntEnum; None for a container."""
+    for base in type(value).__mro__:
+        if base in _WRITERS:
+            return _WRITERS[base]
+    if isinstance(value, (list, tuple, Mapping)):
+        return None
+    raise TypeError(f"{type(value).__name__} has no form in a document")

@@ -45,6 +45,7 @@ Scalar = Union[None, bool, int, Decimal, str, bytes, date, datetime, Date, Times
 _BINARY, _DATE, _TIMESTAMP, _TIMESTAMP_TZ, _INTERVAL = 0x00, 0x10, 0x20, 0x30, 0x40
 _EPOCH = datetime(1970, 1, 1)
 _MICRO = timedelta(microseconds=1)
+_SECOND = timedelta(seconds=1)
 # Wide enough for all digits of a number, and for 255 after its point.
 _EXACT = Context(prec=300)
 _MOST_SCALE = 255
@@ -104,7 +105,7 @@ def _timestamp_of(micros: int) -> Union[datetime, Timestamp]:
 def _timestamp_tz_of(micros: int, offset: int) -> Union[datetime, TimestampTz]:
     try:
         zone = timezone(timedelta(seconds=offset))
-        local = _EPOCH + timedelta(microseconds=micros) + timedelta(seconds=offset)
+        local = _EPOCH + timedelta(microseconds=micros + offset * 10**6)
     except (OverflowError, ValueError):
         return TimestampTz(micros, offset)
     return local.replace(tzinfo=zone)
@@ -122,7 +123,10 @@ def text_of_decimal(value: Decimal) -> str:
 
     NumberError: it is not finite, or has more than 128 bits or 255 digits after its point.
     """
-    sign, digits, exponent = value.as_tuple()
+    text = str(value)
+    if len(text) < 39 and "E" not in text and value.is_finite():
+        return text
+    _, digits, exponent = value.as_tuple()
     if not isinstance(exponent, int):
         raise _number_error(f"{value} is no number of JSON")
     if exponent < -_MOST_SCALE:
@@ -159,7 +163,7 @@ def document_of_datetime(value: datetime) -> bytes:
         return _extension(_TIMESTAMP, micros)
     if offset.microseconds:
         raise ValueError(f"the zone's offset {offset} is no whole number of seconds")
-    return _extension(_TIMESTAMP_TZ, micros - offset // _MICRO, seconds=offset // (_MICRO * 10**6))
+    return _extension(_TIMESTAMP_TZ, micros - offset // _MICRO, seconds=offset // _SECOND)
 
 
 def document_of_raw_date(value: Date) -> bytes:

@@ -1,0 +1,52 @@
+#!/usr/bin/env bash
+# Tests the Python package against an installed library, in a scratch directory.
+#
+#     PREFIX=/usr/local bindings/python/test.sh
+#     PKG_CONFIG_PATH=/usr/local/lib/pkgconfig bindings/python/test.sh
+#
+# PYTHON names another Python than python3. The last line says how many tests passed; the status is
+# 0, 1 after a failure, or 77 if a tool is missing.
+set -euo pipefail
+name=bindings/python
+python=${PYTHON:-python3}
+
+pass_over() {
+    echo "$name: passed over: needs the Debian package $1"
+    exit 77
+}
+
+fail() {
+    echo "$name: $1" >&2
+    exit 1
+}
+
+run() {
+    echo "+ $*"
+    "$@"
+}
+
+command -v "$python" > /dev/null || pass_over python3
+if [ -n "${PREFIX:-}" ]; then
+    folder=$PREFIX/lib
+else
+    command -v pkg-config > /dev/null || pass_over pkg-config
+    folder=$(pkg-config --variable=libdir kohiblad) || fail "pkg-config finds no kohiblad"
+fi
+library=$folder/libkohiblad.so.0
+[ -e "$library" ] || fail "there is no $library"
+
+scratch=$(mktemp -d)
+trap 'rm -rf "$scratch"' EXIT
+cp -r "$(cd "$(dirname "$0")" && pwd)/." "$scratch/python"
+cp -r "$(dirname "$0")/../../tests/lines/jsonb_probe" "$scratch/lines"
+cd "$scratch/python"
+export HOME=$scratch KOHIBLAD_LIBRARY=$library KOHIBLAD_LINES=$scratch/lines
+export PYTHONPATH=$scratch/python/src PYTHONWARNINGS=error::SyntaxWarning
+
+run "$python" --version
+run "$python" -m compileall -q src tests build_backend bench.py || fail "a file has a wrong syntax"
+cd tests
+run "$python" -m unittest 2>&1 | tee "$scratch/log" || fail "the tests failed"
+ran=$(sed -n 's/^Ran \([0-9]*\) test.*/\1/p' "$scratch/log")
+skipped=$(sed -n 's/^OK.*skipped=\([0-9]*\).*/\1/p' "$scratch/log")
+echo "$name: $((ran - ${skipped:-0})) tests passed"

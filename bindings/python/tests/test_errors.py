@@ -1,0 +1,133 @@
+"""Input that is refused, by name and with nothing lost."""
+import pickle
+import random
+import unittest
+from datetime import datetime, timedelta, timezone
+from decimal import Decimal
+
+import kohiblad
+from kohiblad import (DEPTH, Date, Document, ExtensionError, FloatError, Interval,
+                      InvalidDocumentError, InvalidTextError, KohibladError, NumberError, Opaque,
+                      Timestamp, TooDeepError)
+from models import Values
+
+
+class ErrorTest(unittest.TestCase):
+    def assert_refused(self, error, status, name, call, *arguments):
+        with self.assertRaises(error) as refused:
+            call(*arguments)
+        self.assertIsInstance(refused.exception, ValueError)
+        self.assertIsInstance(refused.exception, KohibladError)
+        self.assertEqual((refused.exception.status, refused.exception.name), (status, name))
+        self.assertTrue(str(refused.exception).startswith(name))
+
+    def test_texts(self):
+        for text in ("", " ", "[1,", "[1]]", "nul", "1e5", "1E-5", "[1.]", "01", "NaN", "Infinity",
+                     str(2**127), str(-2**127 - 1), "0." + "0" * 256, '"\\ud800"', "\ufeff1",
+                     "'a'", '{"a":1,}', '{1:2}', "\0"):
+            with self.subTest(text=text):
+                self.assert_refused(InvalidTextError, 9, "InvalidJson", kohiblad.loads, text)
+        for text in (b'"\xff"', b"\xc3", '"\udc00"'):
+            self.assert_refused(InvalidTextError, 7, "InvalidUtf8", kohiblad.loads, text)
+
+    def test_texts_that_nest_too_deep(self):
+        for text in ("[" * 100_000, "[" * 100_000 + "]" * 100_000, '{"a":' * 100_000,
+                     "[" * (DEPTH + 1) + "]" * (DEPTH + 1)):
+            self.assert_refused(TooDeepError, 13, "TooDeep", Document.parse, text)
+        self.assert_refused(TooDeepError, 13, "TooDeep", Document.parse, "[[]]", 1)
+        self.assertEqual(str(Document.parse("[[]]", 2)), "[[]]")
+
+    def test_values_that_nest_too_deep(self):
+        nested, around_bytes, endless = [], b"", {}
+        for _ in range(100_000):
+            nested, around_bytes = [nested], [around_bytes]
+        endless["a"] = endless
+        for value in (nested, around_bytes, endless):
+            self.assert_refused(TooDeepError, 13, "TooDeep", Document.of, value)
+        inner = Document.parse("[" * DEPTH + "]" * DEPTH)
+        self.assertEqual(Document.of(inner), inner)
+        self.assert_refused(TooDeepError, 13, "TooDeep", Document.of, [inner])
+
+    def test_floats(self):
+        for value in (1.5, 0.0, float("nan"), float("inf"), 1e300):
+            for whole in (value, [value], {"a": [value]}):
+                with self.assertRaisesRegex(FloatError, "Decimal") as refused:
+                    kohiblad.dumps(whole)
+                self.assertIsInstance(refused.exception, TypeError)
+
+    def test_numbers(self):
+        for value in (2**127, -2**127 - 1, 10**5000, Decimal("NaN"), Decimal("sNaN"),
+                      Decimal("-Infinity"), Decimal("1E-256"), Decimal("0E-256"), Decimal("1E+39"),
+                      Decimal("1E+999999"), Decimal(f"{2**127}E-3"), Decimal("2E+38"),
+                      Decimal(f"{-2**127 - 1}E-255")):
+            with self.subTest(value=str(value)[:50] if isinstance(value, Decimal) else "int"):
+                self.assert_refused(NumberError, 5, "InvalidJsonbNumber", kohiblad.dumps, [value])
+
+    def test_bytes(self):
+        for data in (b"", b"\0", b"\x20\0\0\0", bytes.fromhex("2000000020000001ff"),
+                     bytes.fromhex("2000000000000000ff"), bytes.fromhex("9fffffff")):
+            self.assert_refused(InvalidDocumentError, 2, "InvalidJsonb", Document, data)
+        with self.assertRaises(TypeError):
+            Document(5)
+        with self.assertRaises(TypeError):
+            Document("[]")
+        with self.assertRaises(TypeError):
+            Document.parse(5)
+
+    def test_damaged_bytes_are_refused_or_read(self):
+        """A random byte changed, put in or left out: nothing but a named error is raised."""
+        chance, values, read = random.Random(10), Values(seed=11), 0
+        for _ in range(3000):
+            data = bytearray(bytes(Document.of(values.any(depth=3))))
+            place = chance.randrange(len(data))
+            data[place:place + chance.randrange(2)] = bytes(
+                [chance.randrange(256)] * chance.randrange(3))
+            try:
+                document = Document(data)
+            except InvalidDocumentError:
+                continue
+            read += 1
+            document.value(), document.key(), document.pretty(), document.canonical()
+        self.assertGreater(read, 100)
+
+    def test_types(self):
+        for value in (object(), {1, 2}, 1j, [timedelta(1)], {"a": range(3)}):
+            with self.assertRaises(TypeError):
+                Document.of(value)
+        for value in ({1: 2}, {None: 1}, {("a",): b""}):
+            with self.assertRaisesRegex(TypeError, "is no str"):
+                Document.of(value)
+
+    def test_halves_of_surrogate_pairs(self):
+        for value in ("\ud800", {"\udfff": 1}, {"\udfff": b""}, [b"", "\ud800"]):
+            self.assert_refused(InvalidTextError, 7, "InvalidUtf8", Document.of, value)
+
+    def test_extension_values(self):
+        for value in (Date(2**31), Date(-2**31 - 1), Timestamp(2**63), Interval(2**31, 0, 0),
+                      Interval(0, -2**40, 0), Interval(0, 0, 2**63), Opaque(0, b""),
+                      Opaque(0x51, b""), Opaque(0x40, b""), Opaque(0x100, b""), Opaque(-1, b""),
+                      Opaque(2**40, b"")):
+            with self.subTest(value=value):
+                self.assert_refused(ExtensionError, 6, "InvalidJsonbExtension", Document.of, value)
+        with self.assertRaises(TypeError):
+            Document.of(Opaque(0x60, 5))
+        zone = timezone(timedelta(microseconds=1))
+        with self.assertRaisesRegex(ValueError, "whole number of seconds"):
+            Document.of(datetime(2020, 1, 1, tzinfo=zone))
+
+    def test_depths(self):
+        for depth in (-1, DEPTH + 1, 2**64):
+            with self.assertRaises(ValueError):
+                Document.parse("[]", depth)
+            with self.assertRaises(ValueError):
+                Document(b"\x80\0\0\0", depth)
+
+    def test_errors_can_be_pickled(self):
+        with self.assertRaises(TooDeepError) as refused:
+            Document.parse("[[]]", 1)
+        copy = pickle.loads(pickle.dumps(refused.exception))
+        self.assertEqual((type(copy), copy.status, str(copy)), (TooDeepError, 13, "TooDeep"))
+
+
+if __name__ == "__main__":
+    unittest.main()
