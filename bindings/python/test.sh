@@ -27,7 +27,7 @@ run() {
 
 command -v "$python" > /dev/null || pass_over python3
 if [ -n "${PREFIX:-}" ]; then
-    folder=$PREFIX/lib
+    folder=$(cd "$PREFIX/lib" && pwd) || fail "there is no $PREFIX/lib"
 else
     command -v pkg-config > /dev/null || pass_over pkg-config
     folder=$(pkg-config --variable=libdir kohiblad) || fail "pkg-config finds no kohiblad"

@@ -6,14 +6,12 @@ from functools import cmp_to_key
 
 from kohiblad import Interval, Opaque
 
-_KINDS = (("extension", (bytes, date, Interval, Opaque)), ("boolean", bool),
-          ("number", (int, Decimal)), ("string", str), ("object", dict), ("array", list),
-          ("null", type(None)))
-_EXTENSIONS = ("binary", "date", "timestamp", "timestamp_tz", "interval", "opaque")
+# From the least to the greatest.
+_KINDS = ((bytes, date, Interval, Opaque), bool, (int, Decimal), str, dict, list, type(None))
 
 
 def _kind(value):
-    return next(rank for rank, (_, types) in enumerate(_KINDS) if isinstance(value, types))
+    return next(rank for rank, types in enumerate(_KINDS) if isinstance(value, types))
 
 
 def _sign(left, right):

@@ -55,8 +55,8 @@ class CommandTest(unittest.TestCase):
 
     def test_sort_is_by_document_and_stable(self):
         rows = ["[2]", '{"id":3.0}', "3.0", '{"id":3}', "3", '"a"', "null"]
-        self.assertEqual(run("sort", given=stored(*rows)),
-                         (0, stored("3.0", "3", '"a"', '{"id":3.0}', '{"id":3}', "[2]", "null"), ""))
+        expected = ["3.0", "3", '"a"', '{"id":3.0}', '{"id":3}', "[2]", "null"]
+        self.assertEqual(run("sort", given=stored(*rows)), (0, stored(*expected), ""))
 
     def test_get_has_a_line_for_each_document(self):
         self.assertEqual(run("get", "town", given=stored(*LINES)),

@@ -118,14 +118,15 @@ class TextTest(unittest.TestCase):
 
     def test_canonical_rewrites_old_forms(self):
         """A decimal with the unused byte, and a whole number in more bytes than it needs."""
-        old = bytes.fromhex("20000000" "20000013" "70" "00000000000000000000000000000096" "ff02")
-        self.assertEqual(Document(old).value(), Decimal("1.50"))
-        new = bytes.fromhex("20000000" "2000000a" "70" "0000000000000096" "02")
-        self.assertEqual(bytes(Document(old).canonical()), bytes.fromhex(
-            "20000000" "20000012" "70" "00000000000000000000000000000096" "02"))
-        self.assertEqual(Document(old), Document(new))
+        digits = "00000000000000000000000000000096"
+        old = Document(bytes.fromhex("20000000" "20000013" "70" + digits + "ff02"))
+        self.assertEqual(old.value(), Decimal("1.50"))
+        canonical = bytes.fromhex("20000000" "20000012" "70" + digits + "02")
+        self.assertEqual(bytes(old.canonical()), canonical)
+        self.assertEqual(old, Document.parse("1.50"))
         wide = bytes.fromhex("20000000" "20000003" "500005")
-        self.assertEqual(bytes(Document(wide).canonical()), bytes.fromhex("2000000020000002" "5005"))
+        narrow = bytes.fromhex("20000000" "20000002" "5005")
+        self.assertEqual(bytes(Document(wide).canonical()), narrow)
 
     def test_a_scalar(self):
         for text, kind in (("null", "null"), ("true", "boolean"), ("1.5", "number"),

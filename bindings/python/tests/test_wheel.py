@@ -1,4 +1,5 @@
-"""The wheel: built by pip and by the backend itself, with no network."""
+"""The wheel, built by pip and by the backend itself with no network, and README's example."""
+import doctest
 import os
 import re
 import subprocess
@@ -15,6 +16,16 @@ PROGRAM = "import kohiblad; print(kohiblad.__file__, kohiblad.dumps(kohiblad.loa
 def has_pip():
     return subprocess.run([sys.executable, "-m", "pip", "--version"], stdout=subprocess.DEVNULL,
                           stderr=subprocess.DEVNULL).returncode == 0
+
+
+class ReadmeTest(unittest.TestCase):
+    def test_the_example_of_readme(self):
+        with open(os.path.join(TOP, "README.md"), encoding="utf-8") as file:
+            example = re.search("```python\n(.*?)```", file.read(), re.S).group(1)
+        test = doctest.DocTestParser().get_doctest(example, {}, "README.md", None, 0)
+        result = doctest.DocTestRunner(verbose=False).run(test)
+        self.assertEqual(result.failed, 0)
+        self.assertGreater(result.attempted, 8)
 
 
 class WheelTest(unittest.TestCase):

@@ -138,7 +138,8 @@ def _run(options: argparse.Namespace, source: BinaryIO, target: BinaryIO) -> Non
     name = "standard input" if options.input == "-" else options.input
     is_encode = options.command == "encode"
     rows = documents_of_lines(source, name) if is_encode else stored_documents(source, name)
-    progress = Progress(options.progress or sys.stderr.isatty(), "line" if is_encode else "document")
+    is_shown = options.progress or sys.stderr.isatty()
+    progress = Progress(is_shown, "line" if is_encode else "document")
     documents = progress.count(rows)
     if options.command == "sort":
         documents = iter(sorted(documents, key=Document.key))

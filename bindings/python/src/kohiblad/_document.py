@@ -2,9 +2,9 @@
 import re
 from collections.abc import ItemsView, Mapping, Sequence, ValuesView
 from decimal import Decimal
-from functools import total_ordering
+from functools import lru_cache, total_ordering
 from json import JSONDecoder
-from typing import Any, Dict, Generator, Iterator, List, Optional, Tuple, Type, TypeVar, Union
+from typing import Any, Dict, Generator, Iterator, List, Optional, Pattern, Tuple, Type, Union
 
 from . import _library as library
 from ._encode import DEPTH, encode, parse
@@ -12,7 +12,6 @@ from ._scalars import Scalar, scalar_of
 
 _KINDS = ("null", "boolean", "number", "string", "extension", "array", "object")
 _MOST_SHOWN = 70
-_Any = TypeVar("_Any", bound="Document")
 
 _value_of_json = JSONDecoder(parse_float=Decimal).decode
 
@@ -266,10 +265,13 @@ def _child_of(type_: int, payload: bytes) -> Union[Scalar, Document]:
 def _may_have_extensions(data: bytes) -> bool:
     """False only if there are none, by their entries: a type, and a length less than the data's."""
     most = len(data) >> 16
-    if most > 255:
-        return True
-    most_length = re.escape(bytes([most]))
-    return re.search(b"\x60[\0-" + most_length + b"]", data) is not None
+    return most > 255 or _extension_entry(most).search(data) is not None
+
+
+@lru_cache(maxsize=None)
+def _extension_entry(most: int) -> Pattern[bytes]:
+    """The first two bytes of an extension value's entry, whose second is at most `most`."""
+    return re.compile(b"\x60[\0-" + re.escape(bytes([most])) + b"]")
 
 
 _Decoder = Generator[bytes, Any, Value]

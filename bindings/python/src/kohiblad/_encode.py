@@ -115,8 +115,7 @@ def _utf8(text: str) -> bytes:
 
 
 def _refuse_float(value: float) -> Encoded:
-    raise FloatError(f"the float {value!r} is not stored, since documents have exact numbers: "
-                     "pass a Decimal")
+    raise FloatError(f"documents have exact numbers: pass a Decimal, not the float {value!r}")
 
 
 _WRITERS: Dict[type, Callable[[Any], Encoded]] = {
