@@ -139,6 +139,16 @@ class TextTest(unittest.TestCase):
         self.assertEqual(copy.deepcopy(scalar), scalar)
 
 
+class RoomTest(unittest.TestCase):
+    def test_results_longer_than_is_guessed(self):
+        zeros = [0] * 50_000
+        self.assertEqual(Document.parse("[" + ",".join("0" * 50_000) + "]").value(), zeros)
+        longest = [Decimal("1E-255")] * 1000
+        text = str(Document.of(longest))
+        self.assertEqual(len(text), 1000 * 258 + 1)
+        self.assertEqual(Document.parse(text).value(), longest)
+
+
 class DepthTest(unittest.TestCase):
     def test_as_deep_as_is_allowed(self):
         text = "[" * DEPTH + "]" * DEPTH

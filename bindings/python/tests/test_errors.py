@@ -1,6 +1,8 @@
 """Input that is refused, by name and with nothing lost."""
 import pickle
 import random
+import subprocess
+import sys
 import unittest
 from datetime import datetime, timedelta, timezone
 from decimal import Decimal
@@ -121,6 +123,23 @@ class ErrorTest(unittest.TestCase):
                 Document.parse("[]", depth)
             with self.assertRaises(ValueError):
                 Document(b"\x80\0\0\0", depth)
+
+    def test_memory_that_is_refused(self):
+        """The program may take as much memory as the room for the result, and not more."""
+        program = (
+            "import kohiblad, resource\n"
+            "text = '[' + ','.join(['1234567'] * 2_000_000) + ']'\n"
+            "text = text.encode()\n"
+            "used = int(open('/proc/self/statm').read().split()[0]) * resource.getpagesize()\n"
+            "most = used + 2 * len(text) + (1 << 20)\n"
+            "resource.setrlimit(resource.RLIMIT_AS, (most, most))\n"
+            "try:\n"
+            "    kohiblad.Document.parse(text)\n"
+            "except MemoryError as error:\n"
+            "    print(type(error).__name__, error)\n")
+        done = subprocess.run([sys.executable, "-c", program], stdout=subprocess.PIPE)
+        self.assertEqual(done.stdout.decode(), "OutOfMemoryError OutOfMemory\n")
+        self.assertEqual(done.returncode, 0)
 
     def test_errors_can_be_pickled(self):
         with self.assertRaises(TooDeepError) as refused:

@@ -98,6 +98,10 @@ class TypeTest(unittest.TestCase):
             with self.subTest(value=value):
                 self.assert_kept(value)
 
+    def test_extension_values_in_large_documents(self):
+        for size in (0, 0x60, 1 << 16, 0x60 << 16, 1 << 24):
+            self.assert_kept([b"\x01" * size, Interval(1, 2, 3), "a" * size])
+
     def test_stored_units(self):
         """The bytes that docs/FORMAT.md gives for extension values."""
         one_hour_east = timezone(timedelta(hours=1))

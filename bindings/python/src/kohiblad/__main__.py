@@ -106,9 +106,9 @@ def line_of(document: Document) -> bytes:
 
 def member_line(document: Document, name: str) -> bytes:
     """The member as a JSON line, which is empty if there is none."""
-    if document.kind != "object" or name not in document:  # type: ignore[operator]
+    if document.kind != "object" or name not in document:
         return b"\n"
-    member = document[name]  # type: ignore[index]
+    member = document[name]
     return line_of(member if isinstance(member, Document) else Document.of(member))
 
 

@@ -4,7 +4,8 @@ from collections.abc import ItemsView, Mapping, Sequence, ValuesView
 from decimal import Decimal
 from functools import lru_cache, total_ordering
 from json import JSONDecoder
-from typing import Any, Dict, Generator, Iterator, List, Optional, Pattern, Tuple, Type, Union
+from typing import (TYPE_CHECKING, Any, Dict, Generator, Iterator, List, Optional, Pattern, Tuple,
+                    Type, Union)
 
 from . import _library as library
 from ._encode import DEPTH, encode, parse
@@ -32,6 +33,13 @@ class Document:
     __slots__ = ("_data", "_key", "__weakref__")
     _data: bytes
     _key: Optional[bytes]
+
+    if TYPE_CHECKING:
+        # Arrays and objects have these; which kind a text has shows when the program runs.
+        def __getitem__(self, key: Any) -> Any: ...
+        def __iter__(self) -> Iterator[Any]: ...
+        def __len__(self) -> int: ...
+        def __contains__(self, it: object) -> bool: ...
 
     def __new__(cls, data: Union[bytes, bytearray, memoryview], depth: int = DEPTH) -> "Document":
         """The document of stored bytes.
