@@ -1,8 +1,6 @@
 /* The aggregates jb_group_array and jb_group_object. */
 #include "extension.h"
 
-#include <string.h>
-
 SQLITE_EXTENSION_INIT3
 
 /* Documents, and before each the text of its name if it is for an object, one after another. */
@@ -39,44 +37,24 @@ static bool reserve(struct rows *rows, size_t more)
     return true;
 }
 
-static uint32_t append(struct rows *rows, writer *write, sqlite3_value *value)
+static bool append(const struct caller *caller, struct rows *rows, writer *write,
+                   const void *input)
 {
     size_t length = 64;
     uint32_t status;
     do {
-        if (!reserve(rows, length)) return KOHIBLAD_OUT_OF_MEMORY;
-        status = write(value, rows->bytes + rows->size, rows->room - rows->size, &length);
+        if (!reserve(rows, length)) status = KOHIBLAD_OUT_OF_MEMORY;
+        else status = write(input, rows->bytes + rows->size, rows->room - rows->size, &length);
     } while (status == KOHIBLAD_NO_ROOM);
     if (status == KOHIBLAD_OK) rows->ends[rows->count++] = rows->size += length;
-    return status;
-}
-
-static uint32_t write_name(const void *input, uint8_t *out, size_t room, size_t *length)
-{
-    struct bytes name;
-    if (!bytes_of((sqlite3_value *)input, &name)) return KOHIBLAD_OUT_OF_MEMORY;
-    *length = name.size;
-    if (room < name.size) return KOHIBLAD_NO_ROOM;
-    memcpy(out, name.at, name.size);
-    return KOHIBLAD_OK;
+    else fail(caller, status);
+    return status == KOHIBLAD_OK;
 }
 
 static bool append_name(const struct caller *caller, struct rows *rows, sqlite3_value *value)
 {
     struct bytes name;
-    uint32_t status;
-    if (!get_text(caller, value, &name)) return false;
-    status = append(rows, write_name, value);
-    if (status != KOHIBLAD_OK) fail(caller, status);
-    return status == KOHIBLAD_OK;
-}
-
-static void append_value(const struct caller *caller, struct rows *rows, sqlite3_value *value)
-{
-    uint32_t status;
-    if (!is_exact(caller, value)) return;
-    status = append(rows, write_sql_value, value);
-    if (status != KOHIBLAD_OK) fail(caller, status);
+    return get_text(caller, value, &name) && append(caller, rows, write_bytes, &name);
 }
 
 static void step(sqlite3_context *context, int count, sqlite3_value **arguments)
@@ -84,9 +62,11 @@ static void step(sqlite3_context *context, int count, sqlite3_value **arguments)
     const struct aggregate *aggregate = sqlite3_user_data(context);
     struct caller caller = { context, aggregate->name };
     struct rows *rows = sqlite3_aggregate_context(context, sizeof *rows);
+    sqlite3_value *value = arguments[count - 1];
     if (!rows) fail(&caller, KOHIBLAD_OUT_OF_MEMORY);
-    else if (count == 1 || append_name(&caller, rows, arguments[0]))
-        append_value(&caller, rows, arguments[count - 1]);
+    else if (is_exact(&caller, value)
+             && (count == 1 || append_name(&caller, rows, arguments[0])))
+        append(&caller, rows, write_sql_value, value);
 }
 
 /* The rows nest one level less deep than the result. */

@@ -77,6 +77,8 @@ void give_document(const struct caller *caller, const struct part *part);
 void give_value(const struct caller *caller, const struct part *part);
 /* The compact text of a document. */
 void give_compact(const struct caller *caller, struct bytes document);
+/* The writer of a copy of struct bytes. */
+uint32_t write_bytes(const void *bytes, uint8_t *out, size_t room, size_t *length);
 /* The writer of the document of a sqlite3_value, which is no REAL. A BLOB is not checked. */
 uint32_t write_sql_value(const void *value, uint8_t *out, size_t room, size_t *length);
 struct kohiblad_value_kind kind_of_part(const struct part *part);

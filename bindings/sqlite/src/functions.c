@@ -28,8 +28,7 @@ static void give_parsed(const struct caller *caller, sqlite3_value *value)
 static void give_of(const struct caller *caller, sqlite3_value *value)
 {
     struct buffer buffer;
-    size_t guess = (size_t)sqlite3_value_bytes(value) + 64;
-    if (is_exact(caller, value) && fill(caller, &buffer, write_sql_value, value, guess))
+    if (is_exact(caller, value) && fill(caller, &buffer, write_sql_value, value, 0))
         give_blob(caller, &buffer);
 }
 

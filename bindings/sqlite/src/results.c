@@ -62,11 +62,12 @@ void give_text(const struct caller *caller, struct buffer *buffer)
                           SQLITE_UTF8);
 }
 
-static uint32_t copy(struct bytes bytes, uint8_t *out, size_t room, size_t *length)
+uint32_t write_bytes(const void *input, uint8_t *out, size_t room, size_t *length)
 {
-    *length = bytes.size;
-    if (room < bytes.size) return KOHIBLAD_NO_ROOM;
-    if (bytes.size) memcpy(out, bytes.at, bytes.size);
+    const struct bytes *bytes = input;
+    *length = bytes->size;
+    if (room < bytes->size) return KOHIBLAD_NO_ROOM;
+    if (bytes->size) memcpy(out, bytes->at, bytes->size);
     return KOHIBLAD_OK;
 }
 
@@ -80,7 +81,7 @@ uint32_t write_sql_value(const void *input, uint8_t *out, size_t room, size_t *l
         return kohiblad_of_int64(sqlite3_value_int64(value), out, room, length);
     if (!bytes_of(value, &bytes)) return KOHIBLAD_OUT_OF_MEMORY;
     if (type == SQLITE_TEXT) return kohiblad_of_text(bytes.at, bytes.size, out, room, length);
-    return copy(bytes, out, room, length);
+    return write_bytes(&bytes, out, room, length);
 }
 
 static void put_word(uint8_t *out, uint32_t word)
@@ -101,11 +102,12 @@ static uint32_t write_part(const void *input, uint8_t *out, size_t room, size_t 
 {
     const struct part *part = input;
     size_t payload_length;
-    if (part->type == KOHIBLAD_TYPE_CONTAINER) return copy(part->payload, out, room, length);
+    if (part->type == KOHIBLAD_TYPE_CONTAINER)
+        return write_bytes(&part->payload, out, room, length);
     *length = SCALAR_FRONT + part->payload.size;
     if (room < *length) return KOHIBLAD_NO_ROOM;
     put_scalar_front(out, part);
-    return copy(part->payload, out + SCALAR_FRONT, room - SCALAR_FRONT, &payload_length);
+    return write_bytes(&part->payload, out + SCALAR_FRONT, room - SCALAR_FRONT, &payload_length);
 }
 
 struct kohiblad_value_kind kind_of_part(const struct part *part)

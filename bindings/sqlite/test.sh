@@ -1,0 +1,83 @@
+#!/bin/sh
+# Builds the extension and runs its tests with the sqlite3 shell, in a scratch directory. Finds the
+# library by pkg-config; PREFIX names another place of it.
+set -eu
+cd "$(dirname "$0")"
+
+pass_over() {
+    echo "bindings/sqlite: passed over: needs the Debian package $1"
+    exit 77
+}
+needs() {
+    command -v "$1" > "$scratch/found" || pass_over "$2"
+}
+fail() {
+    echo "bindings/sqlite: failed: $1"
+    exit 1
+}
+
+scratch=$(mktemp -d)
+trap 'rm -rf "$scratch"' EXIT
+export HOME="$scratch"
+[ -z "${PREFIX:-}" ] || export PKG_CONFIG_PATH="$PREFIX/lib/pkgconfig"
+needs cc gcc
+needs make make
+needs pkg-config pkg-config
+needs sqlite3 sqlite3
+pkg-config --exists sqlite3 || pass_over libsqlite3-dev
+pkg-config --exists kohiblad || fail 'pkg-config finds no kohiblad; set PREFIX or PKG_CONFIG_PATH'
+
+tests=0
+# A script has the lines that it prints after -->, and its errors after --!.
+expect() {
+    sed -n "s/^--$2 //p" "$1"
+}
+run_script() {
+    echo "tests/$1.sql in $2"
+    sqlite3 -batch -list -nullvalue NULL -cmd "PRAGMA encoding='$2'" \
+        -cmd ".load $scratch/out/kohiblad" "$scratch/$1.$2.db" < "tests/$1.sql" \
+        > "$scratch/printed" 2> "$scratch/reported" || true
+    sed 's/^[A-Za-z ]*[Ee]rror:* near line [0-9]*: //' "$scratch/reported" > "$scratch/errors"
+    expect "tests/$1.sql" '>' | diff - "$scratch/printed" || fail "tests/$1.sql in $2"
+    expect "tests/$1.sql" '!' | diff - "$scratch/errors" || fail "errors of tests/$1.sql in $2"
+    tests=$((tests + $(grep -c '^--[>!] ' "tests/$1.sql")))
+}
+
+echo 'build the extension'
+make -s OUT="$scratch/out" EXTRA_CFLAGS=-Werror || fail 'the build'
+exports=$(nm -D --defined-only "$scratch/out/kohiblad.so" | awk '{ print $3 }')
+[ "$exports" = sqlite3_kohiblad_init ] || fail "it exports $exports"
+! ldd "$scratch/out/kohiblad.so" | grep -q kohiblad.so. || fail 'it needs libkohiblad.so'
+tests=$((tests + 2))
+
+for name in documents read paths each aggregates schema order errors; do
+    for encoding in UTF-8 UTF-16le UTF-16be; do run_script "$name" "$encoding"; done
+done
+run_script utf8 UTF-8
+run_script many UTF-8
+
+echo 'tests/deepest.sql with 2.5 MB of stack'
+(ulimit -s 2560 && run_script deepest UTF-8) || fail 'the stack'
+tests=$((tests + $(grep -c '^--[>!] ' tests/deepest.sql)))
+
+echo 'tests/refuse.c: each allocation refused in turn, and hostile documents'
+# The words that pkg-config prints are split.
+# shellcheck disable=SC2046
+cc -std=c11 -O1 -Wall -Wextra -Werror tests/refuse.c -o "$scratch/refuse" -rdynamic \
+    $(pkg-config --cflags --libs sqlite3) || fail 'the build of tests/refuse.c'
+"$scratch/refuse" "$scratch/out/kohiblad" > "$scratch/count" || fail 'tests/refuse.c'
+tests=$((tests + $(cat "$scratch/count")))
+
+if command -v valgrind > "$scratch/found"; then
+    for name in documents read paths each aggregates order errors; do
+        echo "tests/$name.sql under valgrind"
+        valgrind -q --error-exitcode=9 --leak-check=full --main-stacksize=16777216 \
+            sqlite3 -batch -cmd "PRAGMA encoding='UTF-16le'" -cmd ".load $scratch/out/kohiblad" \
+            "$scratch/valgrind.$name.db" < "tests/$name.sql" > "$scratch/printed" \
+            2> "$scratch/reported" || [ $? -ne 9 ] || fail "valgrind: $(cat "$scratch/reported")"
+        tests=$((tests + 1))
+    done
+else
+    echo 'without valgrind, which is the Debian package valgrind'
+fi
+echo "bindings/sqlite: $tests tests passed"

@@ -1,0 +1,73 @@
+SELECT jb('{"a":');
+--! jb: InvalidJson
+SELECT jb('');
+--! jb: InvalidJson
+SELECT jb('1e5');
+--! jb: InvalidJson
+-- A number of 39 digits past 128 bits.
+SELECT jb('999999999999999999999999999999999999999');
+--! jb: InvalidJson
+SELECT jb('"' || char(0) || '"');
+--! jb: InvalidJson
+SELECT jb('1' || char(0));
+--! jb: InvalidJson
+SELECT jb('"\ud800"');
+--! jb: InvalidJson
+SELECT jb(1.5);
+--! jb: InvalidJsonbNumber: a REAL is refused, pass decimals as TEXT
+SELECT jb_of(1.0);
+--! jb_of: InvalidJsonbNumber: a REAL is refused, pass decimals as TEXT
+SELECT jb(x'');
+--! jb: InvalidJsonb
+SELECT jb_of(x'00');
+--! jb_of: InvalidJsonb
+SELECT jb_text('[]');
+--! jb_text: InvalidJsonb: a document is a BLOB
+SELECT jb_text(1.5);
+--! jb_text: InvalidJsonb: a document is a BLOB
+-- A text that is not UTF-8.
+SELECT jb_text(x'2000000010000001FF');
+--! jb_text: InvalidJsonb
+SELECT jb_pretty(x'2000000010000001FF');
+--! jb_pretty: InvalidJsonb
+SELECT jb_canonical(x'2000000010000001FF');
+--! jb_canonical: InvalidJsonb
+SELECT jb_value(x'2000000010000001FF', '$');
+--! jb_value: InvalidJsonb
+SELECT jb_value(x'8000000110000001FF', '$');
+--! jb_value: InvalidJsonb
+SELECT jb_key('a');
+--! jb_key: InvalidJsonb: a document is a BLOB
+-- A stored double is no document.
+SELECT jb_text(x'2000000020000009603FF8000000000000');
+--! jb_text: InvalidJsonb
+SELECT jb_value(x'2000000020000009603FF8000000000000', '$');
+--! jb_value: InvalidJsonb
+SELECT jb_get(x'00', 'a');
+--! jb_get: InvalidEOF
+SELECT jb_at(x'00', '$.a');
+--! jb_at: InvalidEOF
+SELECT jb_kind(x'');
+--! jb_kind: InvalidEOF
+SELECT jb_kind(x'FFFFFFFF');
+--! jb_kind: InvalidJsonb
+SELECT jb_length(x'FFFFFFFF');
+--! jb_length: InvalidJsonb
+SELECT jb_get(jb('{}'), 5);
+--! jb_get: OtherKind: names and paths are TEXT
+SELECT jb_at(jb('{}'), 5);
+--! jb_at: OtherKind: names and paths are TEXT
+
+-- 1,000 brackets are a document; 1,001 and 100,000 are refused.
+CREATE TABLE deep AS SELECT replace(hex(zeroblob(500)), '0', '[') AS opened,
+    replace(hex(zeroblob(500)), '0', ']') AS closed;
+SELECT jb_valid(jb(opened || closed)) FROM deep;
+--> 1
+SELECT jb('[' || opened || closed || ']') FROM deep;
+--! jb: TooDeep
+SELECT jb(replace(hex(zeroblob(50000)), '0', '['));
+--! jb: TooDeep
+SELECT jb_group_array(jb(opened || closed)) FROM deep;
+--! jb_group_array: InvalidJsonb
+SELECT jb_kind(jb_group_array(jb(substr(opened, 2) || substr(closed, 2)))) FROM deep;
+--> array

@@ -1,0 +1,194 @@
+/* Runs SQL with each allocation refused in turn: the answer is the right one or SQLITE_NOMEM, and
+ * all memory is freed. Then passes hostile documents, and asks for results past SQLite's limit.
+ * Prints how many tests passed. The extension is its argument. */
+#define _GNU_SOURCE
+#include <dlfcn.h>
+#include <sqlite3.h>
+#include <stdbool.h>
+#include <stdint.h>
+#include <stdio.h>
+#include <stdlib.h>
+#include <string.h>
+
+static bool is_counting;
+static long countdown; /* the allocation that comes when it is 0 is refused */
+
+static bool is_refused(void)
+{
+    return is_counting && countdown-- == 0;
+}
+
+/* The extension and its library find these before those of libc. */
+void *malloc(size_t size)
+{
+    static void *(*next)(size_t);
+    if (!next) next = (void *(*)(size_t))(uintptr_t)dlsym(RTLD_NEXT, "malloc");
+    return is_refused() ? NULL : next(size);
+}
+
+void *realloc(void *block, size_t size)
+{
+    static void *(*next)(void *, size_t);
+    if (!next) next = (void *(*)(void *, size_t))(uintptr_t)dlsym(RTLD_NEXT, "realloc");
+    return is_refused() ? NULL : next(block, size);
+}
+
+static const char *extension;
+static int passed;
+
+static void fail(const char *what, const char *sql)
+{
+    fprintf(stderr, "tests/refuse.c: %s: %s\n", what, sql);
+    exit(1);
+}
+
+static sqlite3 *open_database(void)
+{
+    sqlite3 *database;
+    char *message = NULL;
+    if (sqlite3_open(":memory:", &database) != SQLITE_OK
+        || sqlite3_enable_load_extension(database, 1) != SQLITE_OK
+        || sqlite3_load_extension(database, extension, NULL, &message) != SQLITE_OK)
+        fail("the extension is not loaded", message ? message : "");
+    return database;
+}
+
+/* The code of a statement, and the text of its only row. */
+static int run(sqlite3 *database, const char *sql, const void *blob, int size, char *answer)
+{
+    sqlite3_stmt *statement;
+    const unsigned char *text;
+    int code = sqlite3_prepare_v2(database, sql, -1, &statement, NULL);
+    if (code != SQLITE_OK) return code;
+    if (blob) code = sqlite3_bind_blob(statement, 1, blob, size, SQLITE_STATIC);
+    if (code == SQLITE_OK) code = sqlite3_step(statement);
+    *answer = 0;
+    if (code == SQLITE_ROW) {
+        text = sqlite3_column_text(statement, 0);
+        if (text) snprintf(answer, 64, "%s", (const char *)text);
+        else if (sqlite3_errcode(database) == SQLITE_NOMEM) code = SQLITE_NOMEM;
+    }
+    sqlite3_finalize(statement);
+    return code;
+}
+
+static const struct { const char *sql, *answer; } statements[] = {
+    { "SELECT jb_text(jb('{\"a\":[1,2.50,\"x\"]}'))", "{\"a\":[1,2.50,\"x\"]}" },
+    { "SELECT length(jb('\"' || replace(hex(zeroblob(5000)), '0', 'x') || '\"'))", "10008" },
+    { "SELECT length(jb_pretty(jb('[1,{\"a\":2}]')))", "27" },
+    { "SELECT length(jb_canonical(jb('[1.5]')))", "18" },
+    { "SELECT jb_key(jb('5')) = jb_key(jb('5.0'))", "1" },
+    { "SELECT jb_value(jb('{\"a\":[1,\"x\"]}'), '$.a[#-1]')", "x" },
+    { "SELECT jb_value(jb('[1.50]'), '$[0]')", "1.50" },
+    { "SELECT jb_value(x'20000000600000051000004E20', '$')", "20000" },
+    { "SELECT jb_value(jb_of(replace(hex(zeroblob(4000)), '0', 'x')), '$') LIKE 'xx%'", "1" },
+    { "SELECT jb_text(jb_get(jb('{\"a\":{}}'), 'a'))", "{}" },
+    { "SELECT jb_text(jb_group_array(value)) FROM json_each('[1,\"x\",null]')", "[1,\"x\",null]" },
+    { "SELECT jb_text(jb_group_object(key, value)) FROM json_each('{\"b\":1,\"a\":\"x\"}')",
+      "{\"a\":\"x\",\"b\":1}" },
+    { "SELECT length(jb_group_array(jb(value))) FROM json_each('[[],[],[]]')", "28" },
+    { "SELECT group_concat(key || value || kind) FROM jb_each(jb('{\"k\":[7]}'), '$.k')",
+      "07number" },
+    { "SELECT sum(length(document)) FROM jb_each(jb('[1,\"x\",[]]'))", "23" },
+};
+
+/* Refuses the first allocation, the second and so on, until the statement needs no more. */
+static void refuse_each(const char *sql, const char *right)
+{
+    int code = SQLITE_NOMEM;
+    char answer[64];
+    for (long refused = 0; code != SQLITE_ROW; refused++) {
+        sqlite3_int64 used = sqlite3_memory_used();
+        sqlite3 *database = open_database();
+        countdown = refused;
+        is_counting = true;
+        code = run(database, sql, NULL, 0, answer);
+        is_counting = false;
+        if (code != SQLITE_ROW && code != SQLITE_NOMEM) fail(sqlite3_errmsg(database), sql);
+        if (code == SQLITE_ROW && strcmp(answer, right)) fail(answer, sql);
+        /* Allocations that SQLite can do without are refused, too. */
+        if (code == SQLITE_ROW && countdown < 0) code = SQLITE_NOMEM;
+        if (sqlite3_close(database) != SQLITE_OK) fail("the database stays open", sql);
+        if (sqlite3_memory_used() != used) fail("memory is lost", sql);
+        if (refused > 100000) fail("it takes memory without end", sql);
+    }
+    passed++;
+}
+
+/* Arrays inside one another, of so many levels. */
+static uint8_t *nested(uint32_t levels, int *size)
+{
+    uint8_t *bytes = calloc(levels, 8), *at = bytes;
+    *size = (int)(8 * levels - 4);
+    for (uint32_t level = levels - 1; level > 0; level--, at += 8) {
+        uint32_t entry = 0x50000000 | (8 * level - 4);
+        at[0] = 0x80, at[3] = 1;
+        for (int i = 0; i < 4; i++) at[4 + i] = (uint8_t)(entry >> (24 - 8 * i));
+    }
+    at[0] = 0x80;
+    return bytes;
+}
+
+/* An answer with `code` SQLITE_ROW, else the message of the error. */
+static const struct { const char *sql; int code; const char *answer; } hostile[] = {
+    { "SELECT jb_valid(?)", SQLITE_ROW, "0" },
+    { "SELECT jb(?)", SQLITE_ERROR, "jb: InvalidJsonb" },
+    { "SELECT jb_of(?)", SQLITE_ERROR, "jb_of: InvalidJsonb" },
+    { "SELECT jb_text(?)", SQLITE_ERROR, "jb_text: InvalidJsonb" },
+    { "SELECT jb_pretty(?)", SQLITE_ERROR, "jb_pretty: InvalidJsonb" },
+    { "SELECT jb_canonical(?)", SQLITE_ERROR, "jb_canonical: InvalidJsonb" },
+    { "SELECT jb_value(?, '$')", SQLITE_ERROR, "jb_value: InvalidJsonb" },
+    { "SELECT jb_group_array(?)", SQLITE_ERROR, "jb_group_array: InvalidJsonb" },
+    { "SELECT jb_group_object('a', ?)", SQLITE_ERROR, "jb_group_object: InvalidJsonb" },
+    { "SELECT value FROM jb_each(?)", SQLITE_ERROR, "jb_each: InvalidJsonb" },
+    { "SELECT kind FROM jb_each(?)", SQLITE_ROW, "array" },
+    { "SELECT jb_key(?) > jb_key(jb('null'))", SQLITE_ROW, "1" },
+    { "SELECT jb_kind(?)", SQLITE_ROW, "array" },
+    { "SELECT jb_length(jb_at(?, '$[0][0]'))", SQLITE_ROW, "1" },
+};
+
+static void pass_hostile(void)
+{
+    sqlite3 *database = open_database();
+    char answer[64];
+    int size;
+    uint8_t *bytes = nested(100000, &size);
+    for (size_t i = 0; i < sizeof hostile / sizeof *hostile; i++, passed++) {
+        int code = run(database, hostile[i].sql, bytes, size, answer);
+        const char *got = code == SQLITE_ROW ? answer : sqlite3_errmsg(database);
+        if (code != hostile[i].code || strcmp(got, hostile[i].answer)) fail(got, hostile[i].sql);
+    }
+    free(bytes);
+    if (sqlite3_close(database) != SQLITE_OK) fail("the database stays open", "");
+}
+
+/* Results longer than SQLite's limit, with a first room for them and without. */
+static const char *const too_big[] = {
+    "SELECT jb_of(replace(hex(zeroblob(1000)), '0', 'x'))",
+    "SELECT jb_text(jb_of(replace(hex(zeroblob(500)), '0', char(1))))",
+    "SELECT jb_group_array(hex(zeroblob(400))) FROM json_each('[1,2,3]')",
+};
+
+static void pass_limit(void)
+{
+    sqlite3 *database = open_database();
+    char answer[64];
+    sqlite3_limit(database, SQLITE_LIMIT_LENGTH, 2000);
+    for (size_t i = 0; i < sizeof too_big / sizeof *too_big; i++, passed++)
+        if (run(database, too_big[i], NULL, 0, answer) != SQLITE_TOOBIG)
+            fail(sqlite3_errmsg(database), too_big[i]);
+    if (sqlite3_close(database) != SQLITE_OK) fail("the database stays open", "");
+}
+
+int main(int count, char **arguments)
+{
+    if (count != 2) return 2;
+    extension = arguments[1];
+    sqlite3_initialize();
+    for (size_t i = 0; i < sizeof statements / sizeof *statements; i++)
+        refuse_each(statements[i].sql, statements[i].answer);
+    pass_hostile();
+    pass_limit();
+    printf("%d\n", passed);
+    return 0;
+}
