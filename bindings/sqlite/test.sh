@@ -57,10 +57,11 @@ run_script utf8 UTF-8
 run_script many UTF-8
 
 echo 'tests/deepest.sql with 2.5 MB of stack'
+# shellcheck disable=SC3045 # dash and bash have ulimit -s
 (ulimit -s 2560 && run_script deepest UTF-8) || fail 'the stack'
 tests=$((tests + $(grep -c '^--[>!] ' tests/deepest.sql)))
 
-echo 'tests/refuse.c: each allocation refused in turn, and hostile documents'
+echo 'tests/refuse.c: each allocation refused in turn, hostile and broken documents'
 # The words that pkg-config prints are split.
 # shellcheck disable=SC2046
 cc -std=c11 -O1 -Wall -Wextra -Werror tests/refuse.c -o "$scratch/refuse" -rdynamic \
@@ -68,15 +69,20 @@ cc -std=c11 -O1 -Wall -Wextra -Werror tests/refuse.c -o "$scratch/refuse" -rdyna
 "$scratch/refuse" "$scratch/out/kohiblad" > "$scratch/count" || fail 'tests/refuse.c'
 tests=$((tests + $(cat "$scratch/count")))
 
+under_valgrind() {
+    valgrind -q --error-exitcode=9 --leak-check=full --main-stacksize=16777216 "$@" \
+        > "$scratch/printed" 2> "$scratch/reported" || [ $? -ne 9 ] \
+        || fail "valgrind: $(cat "$scratch/reported")"
+    tests=$((tests + 1))
+}
 if command -v valgrind > "$scratch/found"; then
     for name in documents read paths each aggregates order errors; do
         echo "tests/$name.sql under valgrind"
-        valgrind -q --error-exitcode=9 --leak-check=full --main-stacksize=16777216 \
-            sqlite3 -batch -cmd "PRAGMA encoding='UTF-16le'" -cmd ".load $scratch/out/kohiblad" \
-            "$scratch/valgrind.$name.db" < "tests/$name.sql" > "$scratch/printed" \
-            2> "$scratch/reported" || [ $? -ne 9 ] || fail "valgrind: $(cat "$scratch/reported")"
-        tests=$((tests + 1))
+        under_valgrind sqlite3 -batch -cmd "PRAGMA encoding='UTF-16le'" \
+            -cmd ".load $scratch/out/kohiblad" "$scratch/valgrind.$name.db" < "tests/$name.sql"
     done
+    echo 'tests/refuse.c under valgrind, which refuses no allocation'
+    under_valgrind "$scratch/refuse" "$scratch/out/kohiblad"
 else
     echo 'without valgrind, which is the Debian package valgrind'
 fi

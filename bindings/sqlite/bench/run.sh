@@ -11,12 +11,13 @@ export HOME="$scratch"
 [ -z "${PREFIX:-}" ] || export PKG_CONFIG_PATH="$PREFIX/lib/pkgconfig"
 make -s OUT="$scratch"
 
-# A line of bench/statements is a name, the statement over text, and that over documents.
+# bench/statements has three lines for each row of the table: its name, the statement over text, and
+# the statement over documents.
 {
     echo ".load $scratch/kohiblad"
     echo '.read bench/rows.sql'
-    for round in $(seq "$rounds"); do
-        while IFS='|' read -r name text documents; do
+    for _ in $(seq "$rounds"); do
+        while read -r name && read -r text && read -r documents; do
             printf '.timer on\n%s;\n.timer off\n' "$text"
             [ "$name" != load ] || echo 'DROP TABLE x;'
             printf '.timer on\n%s;\n.timer off\n' "$documents"
@@ -32,7 +33,7 @@ echo
 echo '| milliseconds | SQLite, text | Kohiblad | share |'
 echo '|---|---|---|---|'
 # Two times for each statement and round, in the order of the list.
-awk -F '|' -v rounds="$rounds" '
+awk -v rounds="$rounds" '
     function median(column, row,    i, j, held) {
         for (i = 2; i <= rounds; i++)
             for (j = i; j > 1 && time[row, column, j - 1] > time[row, column, j]; j--) {
@@ -42,7 +43,7 @@ awk -F '|' -v rounds="$rounds" '
             }
         return time[row, column, (rounds + 1) / 2]
     }
-    FNR == NR { name[rows++] = $1; next }
+    FNR == NR { if (FNR % 3 == 1) name[rows++] = $0; next }
     /^Run Time/ {
         split($0, words, " ")
         row = int(count / 2) % rows

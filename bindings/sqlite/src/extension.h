@@ -17,7 +17,8 @@ struct bytes {
 };
 
 /* A value inside a document: the type of its entry and its payload. Of the type
- * KOHIBLAD_TYPE_CONTAINER the payload is itself a document; so is the whole document, of any kind. */
+ * KOHIBLAD_TYPE_CONTAINER the payload is a document by itself. A whole document is such a part,
+ * too, also of a scalar. */
 struct part {
     uint32_t type;
     struct bytes payload;

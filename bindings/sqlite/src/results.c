@@ -20,15 +20,21 @@ static void release(struct buffer *buffer)
     if (buffer->at != buffer->small) sqlite3_free(buffer->at);
 }
 
+static bool is_within_limit(const struct caller *caller, size_t length)
+{
+    sqlite3 *database = sqlite3_context_db_handle(caller->context);
+    return length <= (size_t)sqlite3_limit(database, SQLITE_LIMIT_LENGTH, -1);
+}
+
 bool fill(const struct caller *caller, struct buffer *buffer, writer *write, const void *input,
           size_t guess)
 {
-    int limit = sqlite3_limit(sqlite3_context_db_handle(caller->context), SQLITE_LIMIT_LENGTH, -1);
     size_t room = sizeof buffer->small;
     uint32_t status;
     buffer->at = buffer->small;
-    /* A first guess past the limit is no error: the result may be shorter. */
-    if (guess > room && guess <= (size_t)limit) buffer->at = sqlite3_malloc64(room = guess);
+    /* A guess past the limit is no error: the result may be shorter. */
+    if (guess > room && is_within_limit(caller, guess))
+        buffer->at = sqlite3_malloc64(room = guess);
     for (;;) {
         if (!buffer->at) status = KOHIBLAD_OUT_OF_MEMORY;
         else status = write(input, buffer->at, room, &buffer->size);
@@ -38,7 +44,7 @@ bool fill(const struct caller *caller, struct buffer *buffer, writer *write, con
             fail(caller, status);
             return false;
         }
-        if (buffer->size > (size_t)limit) {
+        if (!is_within_limit(caller, buffer->size)) {
             sqlite3_result_error_toobig(caller->context);
             return false;
         }
@@ -92,12 +98,6 @@ static void put_word(uint8_t *out, uint32_t word)
 /* The document of a scalar is a header without a count, its entry word and its payload. */
 enum { SCALAR_HEADER = 0x20000000, SCALAR_FRONT = 8 };
 
-static void put_scalar_front(uint8_t *out, const struct part *part)
-{
-    put_word(out, SCALAR_HEADER);
-    put_word(out + 4, part->type | (uint32_t)part->payload.size);
-}
-
 static uint32_t write_part(const void *input, uint8_t *out, size_t room, size_t *length)
 {
     const struct part *part = input;
@@ -106,17 +106,30 @@ static uint32_t write_part(const void *input, uint8_t *out, size_t room, size_t 
         return write_bytes(&part->payload, out, room, length);
     *length = SCALAR_FRONT + part->payload.size;
     if (room < *length) return KOHIBLAD_NO_ROOM;
-    put_scalar_front(out, part);
+    put_word(out, SCALAR_HEADER);
+    put_word(out + 4, part->type | (uint32_t)part->payload.size);
     return write_bytes(&part->payload, out + SCALAR_FRONT, room - SCALAR_FRONT, &payload_length);
 }
 
+static const uint8_t kinds_of_scalars[] = {
+    [KOHIBLAD_TYPE_NULL >> 28] = KOHIBLAD_NULL,
+    [KOHIBLAD_TYPE_STRING >> 28] = KOHIBLAD_STRING,
+    [KOHIBLAD_TYPE_NUMBER >> 28] = KOHIBLAD_NUMBER,
+    [KOHIBLAD_TYPE_FALSE >> 28] = KOHIBLAD_BOOLEAN,
+    [KOHIBLAD_TYPE_TRUE >> 28] = KOHIBLAD_BOOLEAN,
+    [KOHIBLAD_TYPE_EXTENSION >> 28] = KOHIBLAD_EXTENSION,
+};
+
 struct kohiblad_value_kind kind_of_part(const struct part *part)
 {
-    uint8_t front[SCALAR_FRONT];
+    struct kohiblad_value_kind kind = { .status = KOHIBLAD_INVALID_JSONB };
     if (part->type == KOHIBLAD_TYPE_CONTAINER)
         return kohiblad_kind(part->payload.at, part->payload.size);
-    put_scalar_front(front, part);
-    return kohiblad_kind(front, sizeof front);
+    if (part->type <= KOHIBLAD_TYPE_EXTENSION) {
+        kind.status = KOHIBLAD_OK;
+        kind.kind = kinds_of_scalars[part->type >> 28];
+    }
+    return kind;
 }
 
 void give_kind(const struct caller *caller, const struct part *part)
@@ -192,14 +205,9 @@ static void give_extension(const struct caller *caller, struct bytes document)
     }
 }
 
-static void give_document_value(const struct caller *caller, struct bytes document)
+static void give_by_kind(const struct caller *caller, uint32_t kind, struct bytes document)
 {
-    struct kohiblad_value_kind kind = kohiblad_kind(document.at, document.size);
-    if (kind.status != KOHIBLAD_OK) {
-        fail(caller, kind.status);
-        return;
-    }
-    switch (kind.kind) {
+    switch (kind) {
     case KOHIBLAD_NULL: sqlite3_result_null(caller->context); break;
     case KOHIBLAD_BOOLEAN: give_boolean(caller, document); break;
     case KOHIBLAD_NUMBER: give_number(caller, document); break;
@@ -211,11 +219,14 @@ static void give_document_value(const struct caller *caller, struct bytes docume
 
 void give_value(const struct caller *caller, const struct part *part)
 {
+    struct kohiblad_value_kind kind = kind_of_part(part);
     struct buffer buffer;
-    if (part->type == KOHIBLAD_TYPE_CONTAINER) {
-        give_document_value(caller, part->payload);
+    if (kind.status != KOHIBLAD_OK) {
+        fail(caller, kind.status);
+    } else if (part->type == KOHIBLAD_TYPE_CONTAINER) {
+        give_by_kind(caller, kind.kind, part->payload);
     } else if (fill(caller, &buffer, write_part, part, SCALAR_FRONT + part->payload.size)) {
-        give_document_value(caller, (struct bytes){ buffer.at, buffer.size });
+        give_by_kind(caller, kind.kind, (struct bytes){ buffer.at, buffer.size });
         release(&buffer);
     }
 }

@@ -21,7 +21,8 @@ SELECT typeof(value), jb_text(jb_group_array(name)) FROM t GROUP BY 1 ORDER BY 1
 SELECT jb_text(jb_group_object('é', 'a' || char(0) || 'b')), jb_text(jb_group_object('', ''));
 --> {"é":"a\u0000b"}|{"":""}
 -- As json_group_array.
-SELECT jb_text(jb_group_array(value)) = json_group_array(value) FROM t WHERE typeof(value) <> 'blob';
+SELECT jb_text(jb_group_array(value)) = json_group_array(value) FROM t
+WHERE typeof(value) <> 'blob';
 --> 1
 -- A BLOB of 10,008 bytes, longer than the first room.
 SELECT length(jb_group_array(jb_of(replace(hex(zeroblob(5000)), '0', 'x'))));

@@ -1,6 +1,6 @@
 /* Runs SQL with each allocation refused in turn: the answer is the right one or SQLITE_NOMEM, and
- * all memory is freed. Then passes hostile documents, and asks for results past SQLite's limit.
- * Prints how many tests passed. The extension is its argument. */
+ * all memory is freed. Then passes hostile and broken documents, and makes results past SQLite's
+ * limit. Prints how many tests passed. The extension is its argument. */
 #define _GNU_SOURCE
 #include <dlfcn.h>
 #include <sqlite3.h>
@@ -162,6 +162,72 @@ static void pass_hostile(void)
     if (sqlite3_close(database) != SQLITE_OK) fail("the database stays open", "");
 }
 
+static const struct { const char *sql; bool is_checked; } broken[] = {
+    { "SELECT jb(?)", true },
+    { "SELECT jb_of(?)", true },
+    { "SELECT jb_text(?)", true },
+    { "SELECT jb_pretty(?)", true },
+    { "SELECT jb_canonical(?)", true },
+    { "SELECT jb_group_array(?)", true },
+    { "SELECT jb_group_object('a', ?)", true },
+    { "SELECT jb_value(?, '$')", false },
+    { "SELECT jb_value(?, '$.a[#-1]')", false },
+    { "SELECT jb_value(?, '$.e')", false },
+    { "SELECT jb_at(?, '$.b.c')", false },
+    { "SELECT jb_get(?, 'b')", false },
+    { "SELECT group_concat(key || value || kind || document) FROM jb_each(?)", false },
+    { "SELECT count(value) FROM jb_each(?, '$.b')", false },
+    { "SELECT jb_key(?)", false },
+    { "SELECT jb_length(?)", false },
+    { "SELECT jb_kind(?)", false },
+};
+
+/* A document with one byte changed or its end cut off: each call ends with an answer or an error,
+ * and those that check the whole document have an answer exactly if it is valid. */
+static void pass_broken(sqlite3 *database, const uint8_t *bytes, int size)
+{
+    char valid[64], answer[64];
+    uint8_t *copy = malloc(size ? (size_t)size : 1); /* so that valgrind sees its end */
+    memcpy(copy, bytes, (size_t)size);
+    if (run(database, "SELECT jb_valid(?)", copy, size, valid) != SQLITE_ROW) fail("valid", "");
+    for (size_t i = 0; i < sizeof broken / sizeof *broken; i++) {
+        int code = run(database, broken[i].sql, copy, size, answer);
+        if (code != SQLITE_ROW && code != SQLITE_DONE && code != SQLITE_ERROR)
+            fail(sqlite3_errmsg(database), broken[i].sql);
+        if (*valid == '1' && code == SQLITE_ERROR) fail("refuses a document", broken[i].sql);
+        if (*valid == '0' && code != SQLITE_ERROR && broken[i].is_checked)
+            fail("takes what is no document", broken[i].sql);
+    }
+    free(copy);
+}
+
+static void break_each_byte(void)
+{
+    /* {"a":[1,"x",null],"b":{"c":2.50,"d":true},"e":a date} */
+    static const uint8_t whole[] =
+        "\x40\0\0\3\x10\0\0\1\x10\0\0\1\x10\0\0\1\x50\0\0\x13\x50\0\0\x20\x60\0\0\5abe"
+        "\x80\0\0\3\x20\0\0\2\x10\0\0\1\0\0\0\0\x50\1x"
+        "\x40\0\0\2\x10\0\0\1\x10\0\0\1\x20\0\0\x0a\x40\0\0\0cd\x70\0\0\0\0\0\0\0\xfa\2"
+        "\x10\0\0\x4e\x20";
+    enum { SIZE = sizeof whole - 1 };
+    sqlite3 *database = open_database();
+    char answer[64];
+    uint8_t bytes[SIZE];
+    if (run(database, "SELECT jb_valid(?)", whole, SIZE, answer) != SQLITE_ROW || *answer != '1')
+        fail("the document is wrong", "");
+    for (int at = 0; at < SIZE; at++) {
+        static const uint8_t changes[] = { 1, 2, 4, 8, 16, 32, 64, 128, 255 };
+        for (size_t change = 0; change < sizeof changes; change++) {
+            memcpy(bytes, whole, SIZE);
+            bytes[at] ^= changes[change];
+            pass_broken(database, bytes, SIZE);
+        }
+        pass_broken(database, whole, at);
+    }
+    passed++;
+    if (sqlite3_close(database) != SQLITE_OK) fail("the database stays open", "");
+}
+
 /* Results longer than SQLite's limit, with a first room for them and without. */
 static const char *const too_big[] = {
     "SELECT jb_of(replace(hex(zeroblob(1000)), '0', 'x'))",
@@ -188,6 +254,7 @@ int main(int count, char **arguments)
     for (size_t i = 0; i < sizeof statements / sizeof *statements; i++)
         refuse_each(statements[i].sql, statements[i].answer);
     pass_hostile();
+    break_each_byte();
     pass_limit();
     printf("%d\n", passed);
     return 0;
