@@ -71,7 +71,7 @@ tests=$((tests + $(cat "$scratch/count")))
 
 under_valgrind() {
     valgrind -q --error-exitcode=9 --leak-check=full --main-stacksize=16777216 "$@" \
-        > "$scratch/printed" 2> "$scratch/reported" || [ $? -ne 9 ] \
+        > "$scratch/printed" 2> "$scratch/reported" || [ $? -eq 1 ] \
         || fail "valgrind: $(cat "$scratch/reported")"
     tests=$((tests + 1))
 }
