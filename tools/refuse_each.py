@@ -35,7 +35,9 @@ import tempfile
 
 TOP = os.path.dirname(os.path.dirname(os.path.abspath(__file__)))
 # How a test writes that memory was refused: by a library's error, or one of the standard library.
-REFUSAL = re.compile(rb"[Ee]rror: (OutOfMemory|Call\(OutOfMemory\)|Memory|AllocError|AllocFailed)")
+REFUSAL = re.compile(
+    rb"[Ee]rror: (OutOfMemory|(Call|Refused)\(OutOfMemory\)|Memory|AllocError|AllocFailed)"
+)
 OBJECT = "400000021000000210000002200000025000000a61616162500180000001200000025002"
 PAIRS = "400000021000000110000001200000021000000361625001313233"
 STORED = f"000000000000001b{PAIRS}00000000000000082000000040000000"
