@@ -1,11 +1,9 @@
--- Digits and names, byte by byte.
-use Rattle.std.proofs.Common.{◌≡◌, ◌↔◌, ℕ, suc, ◌≤◌, ◌<◌, Bool, true, false, List, ◌∷◌}
-use Rattle.std.proofs.Common.{subst, ap, ◌∙◌, refl, arith}
-use Rattle.std.specs.Prelude.{◌&&◌, ◌==◌, not}
+-- Digits, byte by byte.
+use Rattle.std.proofs.Common.{◌≡◌, ◌↔◌, ℕ, ◌≤◌, ◌<◌, List, ◌∷◌}
+use Rattle.std.proofs.Common.{subst, arith}
 use Rattle.std.specs.Char.{digit_value}
 use Rattle.std.specs.Str.Parse.{AllDigits}
 use Rattle.std.proofs.lemmas.Bool.Decides.{nat_tests}
-use Rattle.jsonb_column_cli.specs.Commands.{name_len, open_after, escaped_after}
 
 digit_in_range : (d : ℕ) → 48 ≤ d → d ≤ 57 → digit_value d < 10
 digit_in_range d low high = grind (arith, nat_tests)
@@ -25,16 +23,3 @@ module _ (A : Type 0) (left rest : List ℕ) (d : ℕ) (cut : left ≡ d ∷ res
 
   pub no_digit : ((48 ≤ d) × (d ≤ 57) → ⊥) → A → ⊥
   no_digit none a = let both = here in none (range_of_digit d (both.0 a).0)
-
--- a byte more of the name
-pub one_more_byte : (is_open is_escaped : Bool) (b : ℕ) (left rest : List ℕ) → left ≡ b ∷ rest
-    → ((b == 32) && not is_open) ≡ false
-    → name_len is_open is_escaped left
-    ≡ suc (name_len (open_after is_open is_escaped b) (escaped_after is_open is_escaped b) rest)
-one_more_byte is_open is_escaped b left rest cut e =
-    ap (name_len is_open is_escaped) cut ∙ rw e refl
-
--- and the space that ends it
-pub at_space : (is_open is_escaped : Bool) (b : ℕ) (left rest : List ℕ) → left ≡ b ∷ rest
-    → ((b == 32) && not is_open) ≡ true → name_len is_open is_escaped left ≡ 0
-at_space is_open is_escaped b left rest cut e = ap (name_len is_open is_escaped) cut ∙ rw e refl

@@ -1,8 +1,8 @@
 -- What scalar documents are read as.
 use Rattle.std.proofs.Common.{◌≡◌, ℕ, Bool, true, false, List, refl}
-use Rattle.std.proofs.Common.{sym, arith}
+use Rattle.std.proofs.Common.{sym}
 use Rattle.jsonb_value.specs.declared.number.Number.{Number}
-use Rattle.jsonb_value.specs.Tree.{Tree, null, boolean, number, text, extension, array, object}
+use Rattle.jsonb_value.specs.Tree.{Tree, boolean, number, text, extension}
 use Rattle.jsonb_value.specs.Tree.{Extension}
 use Rattle.jsonb_codec.specs.declared.constants.TheConstants.{TRUE_TAG, FALSE_TAG}
 use Rattle.jsonb_codec.specs.Depth.{depth}
@@ -24,28 +24,6 @@ pub one_boolean : (b : List ℕ) (x y : Bool) → Doc b (boolean x) → Doc b (b
 one_boolean b x y left right =
     let same = Doc-unique b (boolean x) (boolean y) left right in
     cc
-
--- the truth value of an entry's type
-pub true_tree : (b : List ℕ) (t : Tree) → Doc b t → type_of t ≡ TRUE_TAG → Doc b (boolean true)
-true_tree b (boolean true) doc is = doc
-true_tree b (boolean false) doc is = absurd (omega arith)
-true_tree b null doc is = absurd (omega arith)
-true_tree b (number x) doc is = absurd (omega arith)
-true_tree b (text s) doc is = absurd (omega arith)
-true_tree b (extension e) doc is = absurd (omega arith)
-true_tree b (array ts) doc is = absurd (omega arith)
-true_tree b (object ps) doc is = absurd (omega arith)
-
-pub false_tree : (b : List ℕ) (t : Tree) → Doc b t → type_of t ≡ FALSE_TAG
-    → Doc b (boolean false)
-false_tree b (boolean false) doc is = doc
-false_tree b (boolean true) doc is = absurd (omega arith)
-false_tree b null doc is = absurd (omega arith)
-false_tree b (number x) doc is = absurd (omega arith)
-false_tree b (text s) doc is = absurd (omega arith)
-false_tree b (extension e) doc is = absurd (omega arith)
-false_tree b (array ts) doc is = absurd (omega arith)
-false_tree b (object ps) doc is = absurd (omega arith)
 
 -- numbers and truth values have depth 0
 pub no_number : (b : List ℕ) → ((t : Tree) → depth t ≡ 0 → Doc b t → ⊥) → (x : Number)

@@ -104,12 +104,7 @@ next_start bytes entries n j v place at here there =
     start_step bytes v ends.0 n 4 (4 + 4 * entries) j at here ends.1.0
     ∙ ap (λ (k : ℕ). Ok k) ends.1.1
 
--- where the cursors of items and members come from
-abbrev ItemCursor : List ℕ → ℕ → ℕ → KohibladCursor → Type 0
-ItemCursor bytes i count cursor =
-    (v : ℕ)
-    × ((part_start bytes count i ≡ Ok v) × (cursor ≡ record { index = i; key = 0; value = v }))
-
+-- Where the cursors of items and members come from.
 item_from : (bytes : List ℕ) (i count : ℕ) (cursor : KohibladCursor) (r : Result ℕ Error)
     → r >>= (λ (v : ℕ). Ok (Some record { index = i; key = 0; value = v })) ≡ Ok (Some cursor)
     → (v : ℕ) × ((r ≡ Ok v) × (cursor ≡ record { index = i; key = 0; value = v }))
