@@ -34,7 +34,7 @@
  * pass untrusted bytes through kohiblad_check, and limit untrusted texts by the depth of
  * kohiblad_parse. kohiblad_key and each call whose name ends in _within look no deeper than their
  * depth: to them a document that nests deeper is no document. kind, get, find, part, begin, next,
- * array_item, object_member, and the calls on scalars do not recurse.
+ * of_part, array_item, object_member, and the calls on scalars do not recurse.
  *
  * NULL is allowed for bytes, texts, ends, out and order whose length is 0, and for `key` of
  * kohiblad_next. A `length` and a cursor are never null.
@@ -99,7 +99,8 @@ enum kohiblad_kind_number {
     KOHIBLAD_OBJECT = 6
 };
 
-/* The types of entries, as kohiblad_part and kohiblad_find return them. */
+/* The types of entries, as kohiblad_part and kohiblad_find return them, and kohiblad_of_part takes
+ * them. */
 enum kohiblad_type {
     KOHIBLAD_TYPE_NULL = 0x00000000,      /* no payload */
     KOHIBLAD_TYPE_STRING = 0x10000000,    /* the payload is the text */
@@ -242,6 +243,16 @@ static inline uint32_t kohiblad_begin(const uint8_t *bytes, size_t size,
 static inline uint32_t kohiblad_next(const uint8_t *bytes, size_t size,
     struct kohiblad_cursor *cursor, struct kohiblad_place *key, struct kohiblad_place *value)
     KOHIBLAD_INLINE("kohiblad_next");
+
+/* Copies the part at a place to `out`, as a document of its own; `type` is that of the place, and
+ * `payload` are the bytes at its offset. An array or object is copied as it is, and a scalar's
+ * document has 8 bytes more than the payload. At a place in a document, as kohiblad_part,
+ * kohiblad_find and kohiblad_next return it, this is what kohiblad_array_item and kohiblad_get
+ * copy. The payload is not checked: other bytes than those of a document may give none.
+ * INVALID_JSONB_JENTRY: the type is none of enum kohiblad_type. INVALID_JSONB: a scalar's payload
+ * has 2^28 bytes or more. NO_ROOM if `out` has no room for the document. */
+static inline uint32_t kohiblad_of_part(uint32_t type, const uint8_t *payload, size_t size,
+    uint8_t *out, size_t room, size_t *length) KOHIBLAD_INLINE("kohiblad_of_part");
 
 /* Copies the item of an array at an index, from 0, to `out`, as a document of its own. NONE: there
  * is no such item, or the bytes are no array. INVALID_EOF: the header or an entry word that is read
@@ -485,6 +496,8 @@ uint32_t kohiblad_export_begin(const uint8_t *bytes, size_t size, struct kohibla
     KOHIBLAD_EXPORT("kohiblad_begin");
 uint32_t kohiblad_export_next(const uint8_t *bytes, size_t size, struct kohiblad_cursor *cursor,
     struct kohiblad_place *key, struct kohiblad_place *value) KOHIBLAD_EXPORT("kohiblad_next");
+uint32_t kohiblad_export_of_part(uint32_t type, const uint8_t *payload, size_t size, uint8_t *out,
+    size_t room, size_t *length) KOHIBLAD_EXPORT("kohiblad_of_part");
 uint32_t kohiblad_export_array_item(const uint8_t *bytes, size_t size, size_t index, uint8_t *out,
     size_t room, size_t *length) KOHIBLAD_EXPORT("kohiblad_array_item");
 uint32_t kohiblad_export_object_member(const uint8_t *bytes, size_t size, size_t index,
@@ -646,6 +659,14 @@ static inline uint32_t kohiblad_next(const uint8_t *bytes, size_t size,
         || kohiblad_meet(cursor, sizeof *cursor, value, sizeof *value))
         return KOHIBLAD_OVERLAP;
     return kohiblad_export_next(kohiblad_in(bytes), size, cursor, key, value);
+}
+static inline uint32_t kohiblad_of_part(uint32_t type, const uint8_t *payload, size_t size,
+    uint8_t *out, size_t room, size_t *length) {
+    if (!kohiblad_is_room(out, room, length)
+        || !kohiblad_is_apart(out, room, length, payload, size))
+        return KOHIBLAD_OVERLAP;
+    return kohiblad_export_of_part(type, kohiblad_in(payload), size, kohiblad_out(out), room,
+        length);
 }
 static inline uint32_t kohiblad_array_item(const uint8_t *bytes, size_t size, size_t index,
     uint8_t *out, size_t room, size_t *length) {

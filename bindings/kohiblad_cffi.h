@@ -114,6 +114,8 @@ struct kohiblad_place kohiblad_part(const uint8_t *bytes, size_t size, size_t nu
 uint32_t kohiblad_begin(const uint8_t *bytes, size_t size, struct kohiblad_cursor *cursor);
 uint32_t kohiblad_next(const uint8_t *bytes, size_t size, struct kohiblad_cursor *cursor,
     struct kohiblad_place *key, struct kohiblad_place *value);
+uint32_t kohiblad_of_part(uint32_t type, const uint8_t *payload, size_t size, uint8_t *out,
+    size_t room, size_t *length);
 uint32_t kohiblad_array_item(const uint8_t *bytes, size_t size, size_t index, uint8_t *out,
     size_t room, size_t *length);
 uint32_t kohiblad_object_member(const uint8_t *bytes, size_t size, size_t index, uint8_t *key,

@@ -150,6 +150,12 @@ def known_answers():
     assert ask("get", inner, b"j") == (NONE, b"") and ask("get", array, b"k")[0] == NONE
     place = tell("find", inner, b"k")
     assert (place.status, place.type, place.offset, place.length) == (0, 0x10000000, 13, 1)
+    assert ask("of_part", 0x10000000, b"v") == (0, bytes.fromhex("200000001000000176"))
+    assert ask("of_part", 0x20000000, array[16:18]) == ask("array_item", array, 1)
+    assert ask("of_part", 0x30000000, b"") == (0, bytes.fromhex("2000000030000000"))
+    assert ask("of_part", 0x50000000, inner) == (0, inner)
+    for unknown in (0x70000000, 0x80000000, 0x10000001):
+        assert name_of(ask("of_part", unknown, b"v")[0]) == "InvalidJsonbJEntry"
     parts = [ask("array_item", array, i)[1] for i in range(3)]
     assert ask("build_array", *rows(parts)) == (0, array)
     assert ask("build_object", *rows([b"k", ask("parse", b'"v"', 0)[1]])) == (0, inner)

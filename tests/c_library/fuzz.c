@@ -309,6 +309,47 @@ static void same(struct block left, uint32_t left_status, size_t left_length, st
     if (left_status == KOHIBLAD_OK) assert(!memcmp(left.at, right.at, left_length));
 }
 
+/* The document of a part is what the call returned that copies it; `place` is where the part is. */
+static void copied_part(struct block b, struct kohiblad_place place, struct block copy,
+                        uint32_t status, size_t length) {
+    struct block made = make(copy.size), payload = copy_of(b.at + place.offset, place.length);
+    uint32_t made_status;
+    size_t made_length;
+    ANSWER(made_status, made, made_length,
+           kohiblad_of_part(place.type, payload.at, payload.size, made.at, made.size,
+                            &made_length));
+    if (place.type > KOHIBLAD_TYPE_EXTENSION) assert(made_status == KOHIBLAD_INVALID_JSONB_JENTRY);
+    else same(copy, status, length, made, made_status, made_length);
+    drop(payload);
+    drop(made);
+}
+
+/* The document of any type and any payload, by the format's words. */
+static void make_part(struct block payload) {
+    uint32_t type = below(8) ? below(9) << 28 : below(UINT32_MAX), header, entry;
+    bool is_type = type % 0x10000000 == 0 && type <= KOHIBLAD_TYPE_EXTENSION;
+    bool is_container = type == KOHIBLAD_TYPE_CONTAINER;
+    struct block out = make(payload.size + below(16));
+    uint32_t status;
+    size_t length, wanted = payload.size + (is_container ? 0 : 8);
+    ANSWER(status, out, length,
+           kohiblad_of_part(type, payload.at, payload.size, out.at, out.size, &length));
+    if (!is_type) {
+        assert(status == KOHIBLAD_INVALID_JSONB_JENTRY);
+    } else {
+        assert(length == wanted && (status == KOHIBLAD_OK) == (wanted <= out.size));
+        if (status == KOHIBLAD_OK) {
+            if (!is_container) {
+                assert(word_at(out, 0, &header) && header == 0x20000000);
+                assert(word_at(out, 4, &entry) && entry == type + payload.size);
+            }
+            assert(!payload.size
+                   || !memcmp(out.at + wanted - payload.size, payload.at, payload.size));
+        }
+    }
+    drop(out);
+}
+
 /* The text of bytes that are no document: one that no document begins with stays such. */
 static void is_text_of(struct block b, const uint8_t *text, size_t length) {
     size_t plain = 0;
@@ -421,6 +462,7 @@ int main(int argc, char **argv) {
         walk_anywhere(b);
         make_scalar();
         make_extension(b);
+        make_part(b);
         numbers_read += read_scalar(b, is, kind);
         size_t depth = below(5);
         int32_t within = kohiblad_compare_within(b.at, b.size, docs[other], sizes[other], depth);
@@ -434,6 +476,8 @@ int main(int argc, char **argv) {
         if (place.status == KOHIBLAD_OK) assert(place.offset + place.length <= b.size);
         ANSWER(status, out, length,
                kohiblad_array_item(b.at, b.size, index, out.at, out.size, &length));
+        if (kind.kind == KOHIBLAD_ARRAY && place.status == KOHIBLAD_OK)
+            copied_part(b, place, out, status, length);
         if (is && kind.kind == KOHIBLAD_ARRAY) {
             assert((status == KOHIBLAD_NONE) == (index >= kind.count));
             assert((status == KOHIBLAD_NONE) == (place.status == KOHIBLAD_NONE));
@@ -462,6 +506,7 @@ int main(int argc, char **argv) {
         ANSWER(status, out, length,
                kohiblad_get(b.at, b.size, name.at, name.size, out.at, out.size, &length));
         if (status == KOHIBLAD_OK) found++;
+        if (place.status == KOHIBLAD_OK) copied_part(b, place, out, status, length);
         if (status == KOHIBLAD_OK && is) assert(kohiblad_is_document(out.at, length));
         if (status != KOHIBLAD_NO_ROOM) assert(status == place.status);
         bool is_answer = status == KOHIBLAD_OK || status == KOHIBLAD_NO_ROOM;

@@ -3,6 +3,7 @@
 
 #include <assert.h>
 #include <stdio.h>
+#include <stdlib.h>
 
 int main(void) {
     static const uint8_t null[] = { 0x20, 0, 0, 0, 0, 0, 0, 0 };
@@ -39,6 +40,10 @@ int main(void) {
     assert(kohiblad_of_extension(KOHIBLAD_BINARY, 0, 0, 0, 0, NULL, 0, NULL, 0, &length)
            == KOHIBLAD_NO_ROOM);
     assert(length == 9);
+    assert(kohiblad_of_part(KOHIBLAD_TYPE_STRING, NULL, 0, NULL, 0, &length) == KOHIBLAD_NO_ROOM);
+    assert(length == 8);
+    assert(kohiblad_of_part(KOHIBLAD_TYPE_CONTAINER, NULL, 0, NULL, 0, &length) == KOHIBLAD_OK);
+    assert(length == 0);
     assert(!kohiblad_is_canonical_within(NULL, 0, 9));
     assert(kohiblad_to_string_within(NULL, 0, 9, NULL, 0, &length) == KOHIBLAD_NO_ROOM);
     assert(length == 4);
@@ -68,6 +73,8 @@ int main(void) {
     assert(kohiblad_to_pretty_within(block, 8, 0, block + 7, 57, &length) == KOHIBLAD_OVERLAP);
     assert(kohiblad_of_extension(KOHIBLAD_BINARY, 0, 0, 0, 0, block, 8, block + 7, 57, &length)
            == KOHIBLAD_OVERLAP);
+    assert(kohiblad_of_part(KOHIBLAD_TYPE_STRING, block, 8, block + 7, 57, &length)
+           == KOHIBLAD_OVERLAP);
     assert(kohiblad_to_canonical_within(block, 8, 0, block, 64, &length) == KOHIBLAD_OVERLAP);
     assert(kohiblad_build_array_within(block, 8, numbers, 1, 0, block, 64, &length)
            == KOHIBLAD_OVERLAP);
@@ -80,6 +87,24 @@ int main(void) {
            == KOHIBLAD_OVERLAP);
     assert(kohiblad_object_member(block, 8, 0, block + 8, 8, &length, block + 16, 8, &length)
            == KOHIBLAD_OVERLAP);
+
+    /* The limit of a scalar's payload, of which no byte is read where the room is too small. */
+    size_t limit = (size_t)1 << 28;
+    uint8_t *payload = calloc(limit, 1);
+    assert(payload);
+    assert(kohiblad_of_part(KOHIBLAD_TYPE_STRING, payload, limit, NULL, 0, &length)
+           == KOHIBLAD_INVALID_JSONB);
+    assert(length == 0);
+    assert(kohiblad_of_part(KOHIBLAD_TYPE_STRING, payload, limit - 1, NULL, 0, &length)
+           == KOHIBLAD_NO_ROOM);
+    assert(length == limit + 7);
+    assert(kohiblad_of_part(KOHIBLAD_TYPE_CONTAINER, payload, limit, NULL, 0, &length)
+           == KOHIBLAD_NO_ROOM);
+    assert(length == limit);
+    assert(kohiblad_of_part(KOHIBLAD_TYPE_EXTENSION + 1, payload, limit, NULL, 0, &length)
+           == KOHIBLAD_INVALID_JSONB_JENTRY);
+    assert(length == 0);
+    free(payload);
     puts("null pointers with length 0: ok");
     return 0;
 }

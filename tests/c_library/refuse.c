@@ -26,7 +26,7 @@ void *__wrap_realloc(void *block, size_t size) {
 
 static const char text[] = "{\"a\":1,\"b\":[true,\"\\u00e9\"],"
                            "\"c\":{\"d\":\"e\",\"f\":-12.5,\"g\":[[],{}]}}";
-enum { ROOM = 1024, CALLS = 23 };
+enum { ROOM = 1024, CALLS = 24 };
 static uint8_t document[ROOM], pairs[ROOM];
 static size_t size, stops[4], pairs_size, order[4];
 
@@ -61,6 +61,8 @@ static uint32_t call(int which, uint8_t *out, size_t *length) {
     case 21:
         return kohiblad_is_canonical_within(document, size, 8) ? KOHIBLAD_OK
                                                                : KOHIBLAD_INVALID_JSONB;
+    case 22:
+        return kohiblad_of_part(KOHIBLAD_TYPE_CONTAINER, document, size, out, ROOM, length);
     default: return kohiblad_is_canonical(document, size) ? KOHIBLAD_OK : KOHIBLAD_INVALID_JSONB;
     }
 }

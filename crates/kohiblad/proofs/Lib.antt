@@ -3,6 +3,7 @@ pub mod Lookups
 pub mod NumberLengths
 pub mod Objects
 pub mod Orders
+pub mod PartLaws
 pub mod PlaceLaws
 pub mod Readings
 pub mod Scalars

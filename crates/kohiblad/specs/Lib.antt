@@ -1,6 +1,7 @@
 pub mod Status
 pub mod Results
 pub mod Places
+pub mod Parts
 pub mod Rows
 pub mod SortOrder
 pub mod KindAnswer

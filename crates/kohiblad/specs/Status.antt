@@ -1,6 +1,6 @@
 -- Statuses, and bytes copied into the caller's buffer, as C receives them.
 use Rattle.std.specs.Prelude.{◌≡◌, ◌==◌, ◌<◌, ◌≤◌, ◌⊎◌, if◌then◌else◌, ℕ, ℤ, pos, negsuc, List}
-use Rattle.std.specs.Prelude.{length, ◌++◌, drop, codes}
+use Rattle.std.specs.Prelude.{length, ◌++◌, drop, codes, Result, Ok, Err}
 use Rattle.std.specs.declared.cmp.Ordering.{Ordering}
 use Rattle.std.specs.declared.cmp.Ordering.TheVariants.{Less, Equal, Greater}
 use Rattle.jsonb_value.specs.declared.error.Error.{Error}
@@ -88,3 +88,8 @@ IsHandedOver answer before after told status =
 -- Only this status is returned: the buffer is unchanged, and the length is 0.
 abbrev pub IsRefused : ℕ → List ℕ → List ℕ → ℕ → ℕ → Type 0
 IsRefused reason before after told status = (status ≡ reason) × ((told ≡ 0) × (after ≡ before))
+
+-- The bytes are handed over, or the status of the error is returned.
+abbrev pub IsAnswered : Result (List ℕ) Error → List ℕ → List ℕ → ℕ → ℕ → Type 0
+IsAnswered (Ok answer) before after told status = IsHandedOver answer before after told status
+IsAnswered (Err e) before after told status = IsRefused (code e) before after told status

@@ -28,6 +28,9 @@ pub const OTHER_KIND: u32 = 14;
 /// The status of a number that is not a whole number of 64 bits.
 pub const PAST_RANGE: u32 = 15;
 
+/// The first length that the payload of a scalar may not have.
+pub const PAYLOAD_LIMIT: usize = 1 << 28;
+
 /// The version number of the library: a million per major, a thousand per minor and one per patch
 /// version.
 #[unsafe(no_mangle)]

@@ -1,21 +1,27 @@
 //! The positions of the parts of an array or object, and copying parts out as documents.
 
-ghost use Rattle.std.specs.Prelude.{◌≡◌, ◌+◌, ◌≤◌, ◌<◌, ◌^◌, length, Option, Result, Err, IfOk};
+ghost use Rattle.std.specs.Prelude.{◌≡◌, ◌≢◌, ◌+◌, ◌≤◌, ◌<◌, ◌^◌, ℕ, List, length, false, Option};
+ghost use Rattle.std.specs.Prelude.{Some, Result, Ok, Err, IfOk};
 ghost use Rattle.jsonb_value.specs.declared.error.Error.{Error};
 ghost use Rattle.kohiblad.specs.declared.places.Place.{Place};
 ghost use Rattle.std.specs.Str.{IsUtf8};
-ghost use Rattle.kohiblad.specs.Status.{code, IsHandedOver, IsRefused};
+ghost use Rattle.kohiblad.specs.Status.{code, IsAnswered, IsHandedOver, IsRefused};
 ghost use Rattle.jsonb_value.specs.Tree.{Tree};
 ghost use Rattle.jsonb_codec.specs.Doc.{Doc};
+ghost use Rattle.jsonb_codec.specs.Parts.{IsPayloadOf};
 ghost use Rattle.kohiblad.specs.Places.{IsItemPlace, AreMemberPlaces, part_place, place_in};
 ghost use Rattle.kohiblad.specs.Places.{item_place, IsPlaceFound, IsPlaceIn, IsInside, AreInside};
 ghost use Rattle.kohiblad.specs.Places.{member_places, IsMemberHandedOver, place_answer};
 ghost use Rattle.kohiblad.specs.Places.{entry_there, IsPartPlace};
 ghost use Rattle.kohiblad.specs.Places.{entry_document, IsPlaceHandedOver, IsValuePlace};
+ghost use Rattle.kohiblad.specs.Parts.{is_entry_type, is_too_long, part_document, IsPartDocument};
 
-use crate::answer::{NO_ROOM, NONE, OK, code, hand_over, hand_over_scalar, refuse};
+use crate::answer::{NO_ROOM, NONE, OK, PAYLOAD_LIMIT, code, hand_over, hand_over_scalar, refuse};
 use jsonb::{Error, RawJsonb, Reads, read_header, read_jentry};
-use jsonb_codec::constants::{ARRAY_CONTAINER_TAG, CONTAINER_TAG, OBJECT_CONTAINER_TAG};
+use jsonb_codec::constants::{
+    ARRAY_CONTAINER_TAG, CONTAINER_TAG, EXTENSION_TAG, FALSE_TAG, NULL_TAG, NUMBER_TAG,
+    OBJECT_CONTAINER_TAG, STRING_TAG, TRUE_TAG,
+};
 use std::str;
 
 /// The type of an entry, and the offset and length of its payload in bytes.
@@ -84,6 +90,48 @@ pub extern "C" fn kohiblad_get(bytes: &[u8], name: &[u8], out: &mut [u8], length
         × IsPlaceHandedOver bytes.now found out.old out.new length.new result) }
 {
     hand_over_item(bytes, place_of_key(bytes, name), out, length)
+}
+
+/// Copies the document of a part to `out`, and its length in bytes to `length`. The part is given
+/// by the type of its entry and its payload: an array or object is copied as it is, and a scalar is
+/// written as a document of its own. At a position in a document, as `kohiblad_part`,
+/// `kohiblad_find` and `kohiblad_next` return it, this is what `kohiblad_array_item` and
+/// `kohiblad_get` copy. The payload is not checked: null, true and false are also written with the
+/// one that is given, which in a document has no bytes. `InvalidJsonbJEntry` if entries have no
+/// such type; `InvalidJsonb` if the payload of a scalar has 2^28 bytes or more; `NO_ROOM` if `out`
+/// is shorter than the document. If the status is not `OK`, `out` is unchanged, and `length` is 0,
+/// or for `NO_ROOM` the length of the document.
+#[unsafe(no_mangle)]
+pub extern "C" fn kohiblad_of_part(
+    type_code: u32,
+    payload: &[u8],
+    out: &mut [u8],
+    length: &mut usize,
+) -> u32
+    ensures part { IsAnswered (part_document type_code payload.now) out.old out.new length.new
+        result }
+
+    // A payload that means a tree, in an entry of this type, becomes a document of that tree.
+    ensures document { (t : Tree) → IsPayloadOf type_code payload.now t
+        → is_too_long type_code payload.now ≡ false
+        → (answer : List ℕ)
+        × ((part_document type_code payload.now ≡ Ok answer) × Doc answer t) }
+
+    // At the position of a part of a document, it is what the calls that copy parts hand over, and
+    // a document of the part's tree.
+    ensures place { (bytes : List ℕ) (t : Tree) (number : ℕ) (place : Place) → Doc bytes t
+        → place_in bytes number ≡ Ok (Some place)
+        → entry_there bytes place ≡ record { type = type_code; payload = payload.now }
+        → (part_document type_code payload.now ≡ Ok (entry_document (entry_there bytes place)))
+        × IsPartDocument t number (entry_document (entry_there bytes place)) }
+{
+    if !is_entry_type(type_code) {
+        return refuse(code(Error::InvalidJsonbJEntry), out, length);
+    }
+    if type_code != CONTAINER_TAG && PAYLOAD_LIMIT <= payload.len() {
+        return refuse(code(Error::InvalidJsonb), out, length);
+    }
+    hand_over_entry(type_code, payload, out, length)
 }
 
 /// Copies the item of an array at an index, counted from 0, to `out`, as a document of its own, and
@@ -233,10 +281,29 @@ fn hand_over_place(bytes: &[u8], place: Place, out: &mut [u8], told: &mut usize)
         out.old out.new told.new result }
 {
     let payload = &bytes[place.start..place.start + place.length];
-    if place.type_code == CONTAINER_TAG {
+    hand_over_entry(place.type_code, payload, out, told)
+}
+
+// Whether entries may have this type.
+fn is_entry_type(type_code: u32) -> bool
+    ensures { result ≡ is_entry_type type_code }
+{
+    matches!(
+        type_code,
+        NULL_TAG | STRING_TAG | NUMBER_TAG | FALSE_TAG | TRUE_TAG | CONTAINER_TAG | EXTENSION_TAG
+    )
+}
+
+// Copies out the document of an entry with this type and payload.
+fn hand_over_entry(type_code: u32, payload: &[u8], out: &mut [u8], told: &mut usize) -> u32
+    requires { type_code ≢ CONTAINER_TAG → type_code + length payload.now < 2 ^ 31 }
+    ensures { IsHandedOver (entry_document (record { type = type_code; payload = payload.now }))
+        out.old out.new told.new result }
+{
+    if type_code == CONTAINER_TAG {
         hand_over(payload, out, told)
     } else {
-        hand_over_scalar(place.type_code, payload, out, told)
+        hand_over_scalar(type_code, payload, out, told)
     }
 }
 

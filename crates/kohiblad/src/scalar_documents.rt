@@ -14,7 +14,7 @@ ghost use Rattle.kohiblad.specs.Scalars.{int64_number, is_true, from_halves, IsS
 ghost use Rattle.kohiblad.specs.Scalars.{extension_answer, IsGivenBy, IsShortExtension};
 ghost use Rattle.kohiblad.specs.Status.{code, IsHandedOver, IsRefused};
 
-use crate::answer::{code, hand_over, hand_over_scalar, refuse};
+use crate::answer::{PAYLOAD_LIMIT, code, hand_over, hand_over_scalar, refuse};
 use crate::values::fields_of;
 use jsonb::{
     Date, Error, ExtensionItem, ExtensionValue, Interval, JsonbItem, Number, NumberItem, Opaque,
@@ -27,9 +27,6 @@ use jsonb_value::constants::{
 };
 use std::alloc::Global;
 use std::str;
-
-// The first length that the payload of a scalar may not have.
-const PAYLOAD_LIMIT: usize = 1 << 28;
 
 /// Copies the canonical document of null to `out`, and its length in bytes to `length`. `NO_ROOM`
 /// if `out` is shorter than the document; `out` is then unchanged, and `length` is still set.
