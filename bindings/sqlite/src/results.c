@@ -90,26 +90,14 @@ uint32_t write_sql_value(const void *input, uint8_t *out, size_t room, size_t *l
     return write_bytes(&bytes, out, room, length);
 }
 
-static void put_word(uint8_t *out, uint32_t word)
-{
-    for (int i = 0; i < 4; i++) out[i] = (uint8_t)(word >> (24 - 8 * i));
-}
-
-/* The document of a scalar is a header without a count, its entry word and its payload. */
-enum { SCALAR_HEADER = 0x20000000, SCALAR_FRONT = 8 };
-
 static uint32_t write_part(const void *input, uint8_t *out, size_t room, size_t *length)
 {
     const struct part *part = input;
-    size_t payload_length;
-    if (part->type == KOHIBLAD_TYPE_CONTAINER)
-        return write_bytes(&part->payload, out, room, length);
-    *length = SCALAR_FRONT + part->payload.size;
-    if (room < *length) return KOHIBLAD_NO_ROOM;
-    put_word(out, SCALAR_HEADER);
-    put_word(out + 4, part->type | (uint32_t)part->payload.size);
-    return write_bytes(&part->payload, out + SCALAR_FRONT, room - SCALAR_FRONT, &payload_length);
+    return kohiblad_of_part(part->type, part->payload.at, part->payload.size, out, room, length);
 }
+
+/* A part's document has at most these bytes more than its payload. */
+enum { SCALAR_FRONT = 8 };
 
 static const uint8_t kinds_of_scalars[] = {
     [KOHIBLAD_TYPE_NULL >> 28] = KOHIBLAD_NULL,
