@@ -43,9 +43,11 @@ static void add_row(Rows *rows, Bytes row) {
 /* The document of an argument; null of SQL is null of JSON. */
 static void add_document(Rows *rows, FunctionCallInfo fcinfo, int argument) {
     if (PG_ARGISNULL(argument)) {
-        uint8_t null[SCALAR_PREFIX];
-        write_scalar((Part){KOHIBLAD_TYPE_NULL, {null, 0}}, null);
-        add_row(rows, (Bytes){null, sizeof null});
+        uint8_t null[SCALAR_FRONT];
+        size_t length;
+        uint32_t status = kohiblad_of_null(null, sizeof null, &length);
+        if (status != KOHIBLAD_OK) refuse(status, ERRCODE_INTERNAL_ERROR);
+        add_row(rows, (Bytes){null, length});
         return;
     }
     struct varlena *document = PG_GETARG_VARLENA_PP(argument);

@@ -3,7 +3,6 @@
 #include "libpq/pqformat.h"
 #include "mb/pg_wchar.h"
 #include "miscadmin.h"
-#include "port/pg_bswap.h"
 #include "tcop/tcopprot.h"
 #include "utils/builtins.h"
 
@@ -131,45 +130,46 @@ static uint32_t parse(const uint8_t *given, size_t size, size_t depth, uint8_t *
     return kohiblad_parse(given, size, depth, out, room, length);
 }
 
-static inline uint32_t word_at(const uint8_t *at) {
-    uint32_t word;
-    memcpy(&word, at, sizeof word);
-    return pg_ntoh32(word);
-}
-
-static inline void write_word(uint8_t *at, uint32_t word) {
-    word = pg_hton32(word);
-    memcpy(at, &word, sizeof word);
+/* The type of the entry in the document of a scalar. */
+static uint32_t type_of_scalar(Bytes document, uint32_t kind) {
+    static const uint32_t types[] = {
+        [KOHIBLAD_NULL] = KOHIBLAD_TYPE_NULL,
+        [KOHIBLAD_NUMBER] = KOHIBLAD_TYPE_NUMBER,
+        [KOHIBLAD_STRING] = KOHIBLAD_TYPE_STRING,
+        [KOHIBLAD_EXTENSION] = KOHIBLAD_TYPE_EXTENSION,
+    };
+    if (kind != KOHIBLAD_BOOLEAN) return types[kind];
+    struct kohiblad_truth truth = kohiblad_boolean(document.at, document.size);
+    if (truth.status != KOHIBLAD_OK) refuse(truth.status, ERRCODE_DATA_CORRUPTED);
+    return truth.value ? KOHIBLAD_TYPE_TRUE : KOHIBLAD_TYPE_FALSE;
 }
 
 Part part_of_document(Bytes document) {
-    if (document.size < sizeof(uint32_t)) refuse(KOHIBLAD_INVALID_EOF, ERRCODE_DATA_CORRUPTED);
-    if (word_at(document.at) != SCALAR_HEADER)
+    struct kohiblad_value_kind kind = kohiblad_kind(document.at, document.size);
+    if (kind.status != KOHIBLAD_OK) refuse(kind.status, ERRCODE_DATA_CORRUPTED);
+    if (kind.kind == KOHIBLAD_ARRAY || kind.kind == KOHIBLAD_OBJECT)
         return (Part){KOHIBLAD_TYPE_CONTAINER, document};
-    if (document.size < SCALAR_PREFIX) refuse(KOHIBLAD_INVALID_EOF, ERRCODE_DATA_CORRUPTED);
-    uint32_t type = word_at(document.at + sizeof(uint32_t)) & ENTRY_TYPE_MASK;
-    return (Part){type, {document.at + SCALAR_PREFIX, document.size - SCALAR_PREFIX}};
+    uint32_t type = type_of_scalar(document, kind.kind);
+    return (Part){type, {document.at + SCALAR_FRONT, document.size - SCALAR_FRONT}};
 }
 
 Part part_at(Bytes document, struct kohiblad_place place) {
     return (Part){place.type, {document.at + place.offset, place.length}};
 }
 
-void write_scalar(Part part, uint8_t *out) {
-    write_word(out, SCALAR_HEADER);
-    write_word(out + sizeof(uint32_t), part.type | (uint32_t)part.payload.size);
-    memcpy(out + SCALAR_PREFIX, part.payload.at, part.payload.size);
+Bytes write_part(Part part, uint8_t *out, size_t room) {
+    size_t length;
+    uint32_t status =
+        kohiblad_of_part(part.type, part.payload.at, part.payload.size, out, room, &length);
+    if (status != KOHIBLAD_OK) refuse(status, ERRCODE_DATA_CORRUPTED);
+    return (Bytes){out, length};
 }
 
 struct varlena *document_of_part(Part part) {
-    bool is_scalar = part.type != KOHIBLAD_TYPE_CONTAINER;
-    size_t size = part.payload.size + (is_scalar ? SCALAR_PREFIX : 0);
-    struct varlena *value = palloc(VARHDRSZ + size);
-    SET_VARSIZE(value, VARHDRSZ + size);
-    if (is_scalar)
-        write_scalar(part, (uint8_t *)VARDATA(value));
-    else
-        memcpy(VARDATA(value), part.payload.at, size);
+    size_t room = room_of_part(part);
+    struct varlena *value = palloc(VARHDRSZ + room);
+    Bytes document = write_part(part, (uint8_t *)VARDATA(value), room);
+    SET_VARSIZE(value, VARHDRSZ + document.size);
     return value;
 }
 
@@ -215,7 +215,7 @@ PG_FUNCTION_INFO_V1(pg_kohiblad_in);
 Datum pg_kohiblad_in(PG_FUNCTION_ARGS) {
     const char *given = PG_GETARG_CSTRING(0);
     Bytes utf8 = utf8_of_server(given, strlen(given));
-    PG_RETURN_POINTER(write_value(parse, utf8, 4 * utf8.size + SCALAR_PREFIX,
+    PG_RETURN_POINTER(write_value(parse, utf8, 4 * utf8.size + SCALAR_FRONT,
                                   ERRCODE_INVALID_TEXT_REPRESENTATION));
 }
 

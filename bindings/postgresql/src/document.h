@@ -19,10 +19,8 @@
 /* The stack that a call of the library over a stored document needs. */
 #define DOCUMENT_STACK (MAX_DEPTH * KOHIBLAD_LEVEL_STACK + KOHIBLAD_CALL_STACK)
 
-/* The header of a scalar document, and of an entry the bits of its type: docs/FORMAT.md. */
-#define SCALAR_HEADER 0x20000000
-#define ENTRY_TYPE_MASK 0x70000000
-#define SCALAR_PREFIX 8 /* the bytes before a scalar's payload */
+/* The bytes before the payload in the document of a scalar. */
+#define SCALAR_FRONT 8
 
 typedef struct Bytes {
     const uint8_t *at;
@@ -63,8 +61,11 @@ extern Part part_of_document(Bytes document);
 extern Part part_at(Bytes document, struct kohiblad_place place);
 extern struct varlena *document_of_part(Part part);
 
-/* Writes the document of a scalar, of SCALAR_PREFIX bytes and the payload's. */
-extern void write_scalar(Part part, uint8_t *out);
+/* How many bytes the document of a part has, and writing it. */
+static inline size_t room_of_part(Part part) {
+    return part.payload.size + (part.type == KOHIBLAD_TYPE_CONTAINER ? 0 : SCALAR_FRONT);
+}
+extern Bytes write_part(Part part, uint8_t *out, size_t room);
 
 /* The text of a string without its quotes, null for null, and else the compact text. */
 extern text *plain_text(Part part);

@@ -53,10 +53,9 @@ static bool are_same_bytes(Bytes left, Bytes right) {
 
 /* The document of a scalar, in the buffer if it is small. */
 static Bytes scalar_document(Part part, uint8_t *small) {
-    size_t size = SCALAR_PREFIX + part.payload.size;
-    uint8_t *out = size <= SMALL_SCALAR ? small : palloc(size);
-    write_scalar(part, out);
-    return (Bytes){out, size};
+    size_t room = room_of_part(part);
+    uint8_t *out = room <= SMALL_SCALAR ? small : palloc(room);
+    return write_part(part, out, room);
 }
 
 static int compare_scalars(Part left, Part right) {
