@@ -130,6 +130,14 @@ extern "C" {
         key: *mut Place,
         value: *mut Place,
     ) -> u32;
+    fn kohiblad_of_part(
+        entry_type: u32,
+        payload: *const u8,
+        size: usize,
+        out: *mut u8,
+        room: usize,
+        length: *mut usize,
+    ) -> u32;
     fn kohiblad_array_item(
         bytes: *const u8,
         size: usize,
@@ -492,6 +500,26 @@ pub(crate) fn next<'a>(bytes: &'a [u8], cursor: &mut Cursor) -> Result<Option<Ch
         key: (key.status == OK).then(|| bytes_at(bytes, key.offset, key.length)),
         value: part_at(bytes, &value),
     })
+}
+
+/// Writes the document of a part to the start of the buffer, which must have room for it, and
+/// returns how many bytes it has.
+pub(crate) fn of_part(part: Part<'_>, out: &mut [u8]) -> Result<usize, Error> {
+    let payload = part.payload;
+    let mut length = 0;
+    // SAFETY: as above, of the payload and the buffer.
+    let status = unsafe {
+        kohiblad_of_part(
+            part.entry_type,
+            payload.as_ptr(),
+            payload.len(),
+            out.as_mut_ptr(),
+            out.len(),
+            &mut length,
+        )
+    };
+    tested(status)?;
+    Ok(length)
 }
 
 pub(crate) fn array_item(bytes: &[u8], index: usize) -> Result<Option<Vec<u8>>, Error> {

@@ -275,24 +275,24 @@ pub(crate) fn text_of(bytes: &[u8]) -> &str {
 /// payload it has the first bytes: only binary and opaque values are longer, and their beginnings
 /// are such values too.
 struct Scalar {
-    bytes: [u8; Scalar::HEADER + Scalar::LONGEST],
+    bytes: [u8; Scalar::FRONT + Scalar::LONGEST],
     size: usize,
 }
 
 impl Scalar {
-    /// The header and the entry word.
-    const HEADER: usize = 8;
+    /// The bytes of a document before the payload of its scalar.
+    const FRONT: usize = 8;
     /// The longest payload of a number, which is longer than any fields: a decimal in its old form.
     const LONGEST: usize = 19;
 
     fn of(part: ffi::Part<'_>) -> Self {
         let length = part.payload.len().min(Self::LONGEST);
-        let size = Self::HEADER + length;
-        let entry = part.entry_type | length as u32;
-        let mut bytes = [0; Self::HEADER + Self::LONGEST];
-        bytes[..4].copy_from_slice(&0x2000_0000_u32.to_be_bytes());
-        bytes[4..Self::HEADER].copy_from_slice(&entry.to_be_bytes());
-        bytes[Self::HEADER..size].copy_from_slice(&part.payload[..length]);
+        let beginning = ffi::Part {
+            entry_type: part.entry_type,
+            payload: &part.payload[..length],
+        };
+        let mut bytes = [0; Self::FRONT + Self::LONGEST];
+        let size = known(ffi::of_part(beginning, &mut bytes));
         Scalar { bytes, size }
     }
 
