@@ -7,6 +7,7 @@ import ctypes
 import os
 import struct
 from ctypes import c_bool, c_char_p, c_int32, c_int64, c_size_t, c_uint32, c_uint64, c_void_p
+from functools import lru_cache
 from typing import Any, Callable, Dict, Iterator, List, Sequence, Tuple, Type
 
 from ._errors import (ExtensionError, InvalidDocumentError, InvalidTextError, KohibladError,
@@ -39,6 +40,12 @@ TYPE_NUMBER = 0x20000000
 TYPE_TRUE = 0x40000000
 TYPE_CONTAINER = 0x50000000
 TYPE_EXTENSION = 0x60000000
+
+_TYPE_MASK = 0x70000000
+# The bytes of a document before the payload of its scalar.
+SCALAR_FRONT = 8
+# The longest payload of a number: a decimal of 128 bits in its old form.
+_LONGEST_NUMBER = 19
 
 _ERRORS: Dict[int, Type[KohibladError]] = {
     INVALID_EOF: InvalidDocumentError,
@@ -108,6 +115,7 @@ check = _export("check", c_bool, *_BYTES, c_size_t)
 kind = _export("kind", Kind, *_BYTES)
 find = _export("find", Place, *_BYTES, *_BYTES)
 part = _export("part", Place, *_BYTES, c_size_t)
+of_part = _export("of_part", c_uint32, c_uint32, *_BYTES, *_OUT)
 number = _export("number", Number, *_BYTES)
 extension = _export("extension", ExtensionValue, *_BYTES)
 parse = _export("parse", c_uint32, *_BYTES, c_size_t, *_OUT)
@@ -223,15 +231,28 @@ def build(call: Callable[..., int], rows: Sequence[bytes]) -> bytes:
     return result_of(call, guess, b"".join(rows), end, ctypes.addressof(ends), len(rows))
 
 
-_SCALAR_HEADER = bytes([SCALAR, 0, 0, 0])
-_TYPE_MASK = 0x70000000
+def _document_of_part(type_: int, payload: bytes) -> bytes:
+    size = len(payload)
+    return result_of(of_part, size + SCALAR_FRONT, type_, payload, size)
+
+
+@lru_cache(maxsize=256)
+def _front_of(type_: int, size: int) -> bytes:
+    """What a scalar's document has before its payload, which depends on type and length alone."""
+    return _document_of_part(type_, bytes(size))[:SCALAR_FRONT]
 
 
 def scalar_document(type_: int, payload: bytes) -> bytes:
-    """The document of a scalar: a header, an entry of its type and length, and its payload."""
-    return _SCALAR_HEADER + (type_ | len(payload)).to_bytes(4, "big") + payload
+    """The document of a scalar, given its type and payload.
+
+    Numbers are short and many, so what comes before their payloads is asked for once.
+    """
+    size = len(payload)
+    if size > _LONGEST_NUMBER:
+        return _document_of_part(type_, payload)
+    return _front_of(type_, size) + payload
 
 
 def scalar_parts(document: bytes) -> Tuple[int, bytes]:
     """The type and payload of a scalar's document."""
-    return int.from_bytes(document[4:8], "big") & _TYPE_MASK, document[8:]
+    return int.from_bytes(document[4:SCALAR_FRONT], "big") & _TYPE_MASK, document[SCALAR_FRONT:]
