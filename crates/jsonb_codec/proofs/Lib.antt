@@ -29,3 +29,4 @@ pub mod ZeroLaws
 pub mod Vectors
 pub mod SortOrder
 pub mod Building
+pub mod AsciiLaws

@@ -22,3 +22,4 @@ pub mod PartSource
 pub mod ValueSource
 pub mod Stored
 pub mod Encoder
+pub mod Ascii

@@ -15,6 +15,7 @@ ghost use Rattle.jsonb_codec.specs.Payloads.{payloads_in};
 ghost use Rattle.jsonb_codec.specs.Parts.{IsFault, Tells, HasScalar, HasPayload, HasArray};
 ghost use Rattle.jsonb_codec.specs.Parts.{HasObject, HasChildren, HasKeys, IsAbove, IsKeyAfter};
 
+use crate::ascii::is_all_ascii;
 use crate::constants::{
     ARRAY_CONTAINER_TAG, CONTAINER_TAG, EXTENSION_TAG, FALSE_TAG, NULL_TAG, NUMBER_TAG,
     OBJECT_CONTAINER_TAG, SCALAR_CONTAINER_TAG, STRING_TAG, TRUE_TAG,
@@ -539,7 +540,7 @@ fn check_scalar_payload(faults: FaultTable, tag: u32, payload: &[u8]) -> Result<
 fn check_text(faults: FaultTable, payload: &[u8]) -> Result<(), Error>
     ensures { Tells faults result (IsUtf8 payload.now) }
 {
-    if payload.is_ascii() {
+    if is_all_ascii(payload) {
         Ok(())
     } else {
         check_utf8(faults, payload)

@@ -1,6 +1,7 @@
 //! The binary format of JSON documents: checking, decoding, encoding and the canonical form.
 #![tactic(auto)]
 
+mod ascii;
 mod canonical;
 pub mod constants;
 mod de;
