@@ -65,6 +65,7 @@ impl Layout {
     }
 
     // Writes what precedes an item or a closing bracket.
+    #[inline(always)]
     fn start_line<W: fmt::Write>(self, f: &mut fmt::Formatter<W>) -> fmt::Result
         ensures { WritesStyledOnOk W.write_str_gives f.old result
             (line_start (layout_of self)) f.new }
@@ -78,13 +79,15 @@ impl Layout {
         }
     }
 
-    // The separator between a key and its value.
-    fn colon(self) -> &'static str
-        ensures { result.now ≡ colon (layout_of self) }
+    // Writes the separator between a key and its value. Each arm writes a text of known length,
+    // which the compiler copies without a call.
+    #[inline(always)]
+    fn write_colon<W: fmt::Write>(self, f: &mut fmt::Formatter<W>) -> fmt::Result
+        ensures { WritesStyledOnOk W.write_str_gives f.old result (colon (layout_of self)) f.new }
     {
         match self {
-            Layout::InOneLine => ":",
-            Layout::OnLines(_) => ": ",
+            Layout::InOneLine => f.write_str(":"),
+            Layout::OnLines(_) => f.write_str(": "),
         }
     }
 }
@@ -273,7 +276,7 @@ fn write_member<W: fmt::Write>(
 {
     layout.start_line(f)?;
     write_string(key, f)?;
-    f.write_str(layout.colon())?;
+    layout.write_colon(f)?;
     write_node(value, layout, f)
 }
 

@@ -70,11 +70,9 @@ pub write_member-returns : goal.write_member-returns
 write_member-returns g t c flush ok =
     let one = c.start_line.ensures flush (search rules) in
     let two = c.write_string.ensures one.flush (search rules) in
-    let three = c.write_str.ensures.styled two.flush (search rules) in
+    let three = c.write_colon.ensures two.flush (search rules) in
     let four = c.write_node.ensures three.flush ok in
-    let value = laid_out (layout_of c.args.layout) (node_tree c.args.value) in
-    let ends =
-    joins_two _ _ _ _ _ _ _ three four (cc c.colon.ensures) in
+    let ends = joins_two _ _ _ _ _ _ _ three four refl in
     joins_three _ _ _ _ _ _ _ _ _ one two ends refl
 
 pub write_members-members-init : goal.write_members-members-init
