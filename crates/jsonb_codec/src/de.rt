@@ -17,7 +17,7 @@ ghost use Rattle.jsonb_codec.specs.DocumentBytes.{bytes_of};
 use crate::constants::{CONTAINER_TAG, FALSE_TAG, NULL_TAG, NUMBER_TAG, STRING_TAG, TRUE_TAG};
 use crate::document::{DocumentBytes, FaultTable, check};
 use crate::parts::{Children, Contents, Members, Part};
-use jsonb_value::{Error, ExtensionValue, Object, Value};
+use jsonb_value::{Error, ExtensionValue, Number, Object, Value};
 use std::alloc::Global;
 use std::borrow::CowStr;
 use std::collections::BTreeMap;
@@ -106,8 +106,8 @@ pub fn value_of_document<'a>(alloc: Global, document: DocumentBytes<'a>) -> Resu
     }
 }
 
-// Appends the value of a part. Scalars and containers are pushed separately, since moving a value
-// is costly.
+// Appends the value of a part. Containers, strings and numbers are pushed separately, since moving
+// a value is costly.
 #[cycle(value)]
 #[inline(always)]
 fn push_part<'a>(alloc: Global, items: &mut Vec<Value<'a>>, part: Part<'a>) -> Result<(), Error>
@@ -115,10 +115,25 @@ fn push_part<'a>(alloc: Global, items: &mut Vec<Value<'a>>, part: Part<'a>) -> R
         × ((t : Tree) → Means part.entry t → tree_of v ≡ t))) }
     ensures memory { IfErr result (λ e. e ≡ Error.OutOfMemory) }
 {
-    if part.tag == CONTAINER_TAG {
-        items.push(build_container(alloc, part)?)?;
-    } else {
-        items.push(build_scalar(part))?;
+    match part.tag {
+        CONTAINER_TAG => items.push(build_container(alloc, part)?)?,
+        STRING_TAG => items.push(Value::String(CowStr::Borrowed(part.text())))?,
+        NUMBER_TAG => push_number(items, part.number())?,
+        _ => items.push(build_scalar(part))?,
+    }
+    Ok(())
+}
+
+// Appends a number. Each kind of integer is pushed separately, so that only its own bytes are read.
+#[inline(always)]
+fn push_number<'a>(items: &mut Vec<Value<'a>>, number: Number) -> Result<(), Error>
+    ensures ok { OnOk result (items.new.items ≡ items.old.items ++ Value.Number number ∷ []) }
+    ensures memory { IfErr result (λ e. e ≡ Error.OutOfMemory) }
+{
+    match number {
+        Number::UInt64(value) => items.push(Value::Number(Number::UInt64(value)))?,
+        Number::Int64(value) => items.push(Value::Number(Number::Int64(value)))?,
+        decimal => items.push(Value::Number(decimal))?,
     }
     Ok(())
 }
