@@ -11,6 +11,7 @@ pub mod ContentLaws
 pub mod PartLaws
 pub mod ParseLaws
 pub mod LookupLaws
+pub mod CutKeyLaws
 pub mod KeyEnds
 pub mod ResultLaws
 pub mod ObjectLaws

@@ -13,6 +13,7 @@ pub mod Walk
 pub mod DocumentWalk
 pub mod Lookup
 pub mod Parts
+pub mod CutKeys
 pub mod Storage
 pub mod Building
 pub mod Standing

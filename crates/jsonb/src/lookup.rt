@@ -10,6 +10,7 @@ ghost use Rattle.jsonb.specs.Item.{part_at};
 ghost use Rattle.jsonb.specs.Walk.{count_under};
 ghost use Rattle.jsonb.specs.Parts.{part_length, part_start, HasParts, PassedBefore, IsAccepted};
 ghost use Rattle.jsonb.specs.Parts.{IsNoneFound, IsValueFound, IsUnreadable};
+ghost use Rattle.jsonb.specs.CutKeys.{NoneOfSize, IsFirstUnread};
 ghost use Rattle.jsonb.specs.Lookup.{header_count, IsRefusal};
 
 use crate::entries::Entry;
@@ -46,14 +47,26 @@ fn read_entry(bytes: &[u8], number: usize, reads: &mut Reads) -> Result<JEntry, 
     requires number { number < 2 ^ 30 }
     requires room { reads.old < u64.MAX }
     ensures value { result ≡ jentry_at bytes.now (4 + 4 * number) }
-    ensures long { IfOk result (λ entry. entry.length ≡ part_length bytes.now number) }
-    ensures short { IfOk result (λ entry. entry.length < 2 ^ 28) }
-    ensures there { IsOk result ↔ (4 + 4 * number + 4 ≤ length bytes.now) }
     ensures cut { IfErr result (λ e. e ≡ Error.InvalidEOF) }
     ensures cost { OnOk result (reads.new ≡ reads.old + 1) }
     ensures bound { (reads.old ≤ reads.new) × (reads.new ≤ reads.old + 1) }
 {
     Ok(JEntry::decode_jentry(reads.word(bytes, 4 + 4 * number)?))
+}
+
+// The same, where it is known to be there.
+#[inline(always)]
+#[tactic(auto, unfolding(crate::specs::Parts::part_length))]
+fn entry_within(bytes: &[u8], number: usize, reads: &mut Reads) -> JEntry
+    requires number { number < 2 ^ 30 }
+    requires there { 4 + 4 * number + 4 ≤ length bytes.now }
+    requires room { reads.old < u64.MAX }
+    ensures value { Ok result ≡ jentry_at bytes.now (4 + 4 * number) }
+    ensures long { result.length ≡ part_length bytes.now number }
+    ensures short { result.length < 2 ^ 28 }
+    ensures cost { reads.new ≡ reads.old + 1 }
+{
+    JEntry::decode_jentry(reads.word_within(bytes, 4 + 4 * number))
 }
 
 // A range of `size` bytes from `start`. `InvalidJsonb` if it runs past the end.
@@ -67,11 +80,35 @@ fn payload(bytes: &[u8], start: usize, size: usize) -> Result<&[u8], Error>
     ensures there { IsOk result ↔ (start + size ≤ length bytes.now) }
     ensures past { IfErr result (λ e. e ≡ Error.InvalidJsonb) }
 {
-    let end = start + size;
-    if bytes.len() < end {
+    // The last valid start does not depend on `start`, so a loop over keys of one size finds it
+    // once.
+    if bytes.len() < size || bytes.len() - size < start {
         return Err(Error::InvalidJsonb);
     }
-    Ok(&bytes[start..end])
+    Ok(&bytes[start..start + size])
+}
+
+// Reads the entry words of the keys where those of all pairs are not there, and so no payload is.
+// `InvalidJsonb` if there is a key of this size, `InvalidEOF` if an entry word before it is cut
+// off.
+#[inline(never)]
+fn read_cut_keys(bytes: &[u8], count: usize, size: usize, reads: &mut Reads) -> Result<(), Error>
+    requires count { count < 2 ^ 29 }
+    requires cut { length bytes.now < 4 + 8 * count }
+    requires room { reads.old + count < 2 ^ 64 }
+    ensures none { OnOk result (NoneOfSize size bytes.now count count) }
+    ensures cost { OnOk result (reads.new ≡ reads.old + count) }
+    ensures bound { (reads.old ≤ reads.new) × (reads.new ≤ reads.old + count) }
+    ensures unread { IfErr result (IsFirstUnread size bytes.now count) }
+    ensures refused { IfErr result IsRefusal }
+{
+    for pair in 0..count {
+        let key_size = read_entry(bytes, pair, reads)?.length as usize;
+        if key_size == size {
+            return Err(Error::InvalidJsonb);
+        }
+    }
+    Ok(())
 }
 
 // A pair whose key was accepted, and the offset at which that key ends.
@@ -81,7 +118,8 @@ struct Accepted {
     end: usize,
 }
 
-// Calls `eq_func` on the keys of the name's length, in order, until it accepts one.
+// Calls `eq_func` on the keys of the name's length, in order, until it accepts one. All entry words
+// are there.
 #[tactic(auto, using(crate::proofs::PartLaws::before_bound, crate::proofs::PartLaws::part_fits))]
 fn matching_key<F: Fn(&[u8], &[u8]) -> bool>(
     bytes: &[u8],
@@ -91,6 +129,7 @@ fn matching_key<F: Fn(&[u8], &[u8]) -> bool>(
     reads: &mut Reads,
 ) -> Result<Option<Accepted>, Error>
     requires count { count < 2 ^ 29 }
+    requires words { 4 + 8 * count ≤ length bytes.now }
     requires callable { (a b : _) → a.now ≡ name.now → length b.now ≡ length name.now
         → F.pre eq_func.now a b }
     requires room { reads.old + count < 2 ^ 64 }
@@ -115,7 +154,7 @@ fn matching_key<F: Fn(&[u8], &[u8]) -> bool>(
 {
     let mut start = 4 + 8 * count;
     for pair in 0..count {
-        let size = read_entry(bytes, pair, reads)?.length as usize;
+        let size = entry_within(bytes, pair, reads).length as usize;
         if size == name.len() && eq_func(name, payload(bytes, start, size)?) {
             return Ok(Some(Accepted {
                 pair,
@@ -127,33 +166,24 @@ fn matching_key<F: Fn(&[u8], &[u8]) -> bool>(
     Ok(None)
 }
 
-// The offset of the payload of entry `to`, computed from the entries after `from`.
+// The offset of the payload of entry `to`, computed from the entries after `from`, which are there.
+#[inline(always)]
 #[tactic(auto, using(crate::proofs::PartLaws::before_bound, crate::proofs::PartLaws::part_fits))]
-fn skip_parts(
-    bytes: &[u8],
-    count: usize,
-    from: Accepted,
-    to: usize,
-    reads: &mut Reads,
-) -> Result<usize, Error>
+fn skip_parts(bytes: &[u8], count: usize, from: Accepted, to: usize, reads: &mut Reads) -> usize
     requires start { from.end ≡ part_start bytes.now count (from.pair + 1) }
     requires order { from.pair + 1 ≤ to }
     requires count { count < 2 ^ 29 }
     requires small { to < 2 ^ 30 }
+    requires words { 4 + 4 * to ≤ length bytes.now }
     requires room { reads.old + (to - from.pair) < 2 ^ 64 }
-    ensures start { IfOk result (λ place. place ≡ part_start bytes.now count to) }
-    ensures cost { OnOk result (reads.new + from.pair + 1 ≡ reads.old + to) }
-    ensures bound { (reads.old ≤ reads.new) × (reads.new + from.pair + 1 ≤ reads.old + to) }
-    ensures whole { HasParts bytes.now count → to ≤ 2 * count → IsOk result }
-    ensures cut { IfErr result (λ e. e ≡ Error.InvalidEOF) }
-    ensures short { IsErr result → length bytes.now < 4 + 4 * to + 4 }
-    ensures refused { IfErr result IsRefusal }
+    ensures start { result ≡ part_start bytes.now count to }
+    ensures cost { reads.new + from.pair + 1 ≡ reads.old + to }
 {
     let mut place = from.end;
     for number in from.pair + 1..to {
-        place += read_entry(bytes, number, reads)?.length as usize;
+        place += entry_within(bytes, number, reads).length as usize;
     }
-    Ok(place)
+    place
 }
 
 /// The entry of the value of the first accepted key among `count` pairs, `None` if no key is
@@ -184,12 +214,17 @@ pub fn find_value<'a, F: Fn(&[u8], &[u8]) -> bool>(
     ensures whole { HasParts bytes.now count → IsOk result }
     ensures refused { IfErr result IsRefusal }
 {
+    // The payloads come after all entry words.
+    if bytes.len() < 4 + 8 * count {
+        read_cut_keys(bytes, count, name.len(), reads)?;
+        return Ok(None);
+    }
     let Some(key) = matching_key(bytes, count, name.as_bytes(), eq_func, reads)? else {
         return Ok(None);
     };
     let wanted = count + key.pair;
-    let start = skip_parts(bytes, count, key, wanted, reads)?;
-    let entry = read_entry(bytes, wanted, reads)?;
+    let start = skip_parts(bytes, count, key, wanted, reads);
+    let entry = entry_within(bytes, wanted, reads);
     Ok(Some(Entry {
         type_code: entry.type_code,
         payload: payload(bytes, start, entry.length as usize)?,

@@ -1,13 +1,14 @@
 //! Counting the words that are read from a document.
 
-ghost use Rattle.std.specs.Prelude.{◌≡◌, ℕ, ◌+◌, ◌<◌, ◌^◌, OnOk, OnErr};
+ghost use Rattle.std.specs.Prelude.{◌≡◌, ℕ, ◌+◌, ◌<◌, ◌≤◌, ◌^◌, length, Ok, OnOk, OnErr};
 ghost use Rattle.jsonb_codec.specs.Word.{word_at};
 
+use byteorder::{BigEndian, ByteOrder};
 use jsonb_codec::read_word;
 use jsonb_value::Error;
 use std::marker::Model;
 
-/// A tally of the words that were read. Only `word` raises it.
+/// A tally of the words that were read. Only reading a word raises it.
 #[derive(Drop)]
 pub struct Reads {
     count: u64,
@@ -47,7 +48,28 @@ impl Reads {
         ensures kept { OnErr result (self.new ≡ self.old) }
     {
         let word = read_word(bytes, index)?;
-        self.count += 1;
+        self.raise();
         Ok(word)
+    }
+
+    /// The same word, where it is known to be there.
+    #[inline(always)]
+    pub(crate) fn word_within(&mut self, bytes: &[u8], index: usize) -> u32
+        requires room { self.old < u64.MAX }
+        requires there { index + 4 ≤ length bytes.now }
+        ensures word { word_at bytes.now index ≡ Ok result }
+        ensures counted { self.new ≡ self.old + 1 }
+    {
+        self.raise();
+        BigEndian::read_u32(&bytes[index..])
+    }
+
+    // Only the two calls that read a word raise the tally, by this.
+    #[inline(always)]
+    fn raise(&mut self)
+        requires { self.old < u64.MAX }
+        ensures { self.new ≡ self.old + 1 }
+    {
+        self.count += 1;
     }
 }
