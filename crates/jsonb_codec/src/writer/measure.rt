@@ -2,10 +2,11 @@
 //!
 //! A measure continues from a start, and ends before a container whose children would begin past a
 //! limit. An object's members are located only within the limit, since that may take a step for
-//! each of them. A container child and its later siblings are measured in turn, up to limits that
-//! grow; the length of whichever ends second is what remains of the whole. So at each level the
-//! work is at most a fixed multiple of all children but the largest, and a document takes time n
-//! log n.
+//! each of them. To find a container child's length, the child or its later siblings are measured:
+//! with a guess whichever is shorter by it, without one both in turn, up to limits that grow. Before
+//! that a few later siblings are measured up to a small limit, since they are often short. The
+//! length of what is not measured is what remains of the whole. So at each level the work is at most
+//! a fixed multiple of all children but the largest, and a document takes time n log n.
 
 ghost use Rattle.std.specs.Prelude.{◌≡◌, ◌≤◌, ◌<◌, ◌+◌, ◌^◌, length, IfSome, IfNone, OnSome};
 ghost use Rattle.std.specs.Prelude.{IfOk, IfErr, OnOk, OnErr};
@@ -13,7 +14,7 @@ ghost use Rattle.jsonb_codec.specs.Shape as shapes;
 ghost use Rattle.jsonb_codec.specs.Shape.{Shape, Shapes, count, body, payload};
 ghost use Rattle.jsonb_codec.specs.Shape.{document, AllFit, FitsInside, Fits, FitsEntry};
 ghost use Rattle.jsonb_codec.specs.Source.{Is, LevelHeld};
-ghost use Rattle.jsonb_codec.specs.Writing.{TakesLeft};
+ghost use Rattle.jsonb_codec.specs.Writing.{AreFew, TakesLeft};
 
 use super::source::{Leaf, Level, Source};
 use jsonb_value::Error;
@@ -27,6 +28,14 @@ const MAX_COUNT: usize = 0x1FFFFFFF;
 const NO_LIMIT: usize = 1 << 60;
 
 const FIRST_LIMIT: usize = 32;
+
+// The later siblings that are measured before a container: at most so many, up to this limit, and
+// only if they and the container are longer than this in total.
+const FEW: usize = 2;
+
+const SHORT: usize = 20;
+
+const SHORT_IN_TOTAL: usize = 96;
 
 /// The length of the document in bytes. `InvalidJsonb` if the value does not fit the format.
 #[inline(always)]
@@ -194,8 +203,10 @@ pub fn item_size<S: Source>(
     if S::count(behind) == 0 {
         return left;
     }
-    let limit = first_limit(S::guess(item), left, plain_levels);
-    item_size_by_limits::<S>(container, behind, left, limit)
+    match S::guess(item) {
+        Some(guess) => item_size_by_guess::<S>(container, behind, left, guess),
+        None => item_size_by_limits::<S>(container, behind, left, first_limit(plain_levels)),
+    }
 }
 
 /// The payload length of a container that is an object's value. `left`: the total size of this
@@ -216,23 +227,62 @@ pub fn value_size<S: Source>(
     if S::members_left(behind) == 0 {
         return left;
     }
-    let limit = first_limit(S::guess(value), left, plain_levels);
-    value_size_by_limits::<S>(container, S::again(behind), left, limit)
-}
-
-// The first limit: with a guess, the smaller of the child and its later siblings, which is then
-// measured at once; without a guess no limit in the top levels, and a small one below them.
-fn first_limit(guess: Option<usize>, left: usize, plain_levels: usize) -> usize
-    ensures { 0 < result }
-{
-    match guess {
-        Some(size) => size.min(left.saturating_sub(size)).max(FIRST_LIMIT),
-        None if plain_levels > 0 => usize::MAX,
-        None => FIRST_LIMIT,
+    let others = S::again(behind);
+    match S::guess(value) {
+        Some(guess) => value_size_by_guess::<S>(container, others, left, guess),
+        None => value_size_by_limits::<S>(container, others, left, first_limit(plain_levels)),
     }
 }
 
-// The payload length of a container, by measuring it and its later siblings up to growing limits.
+// The first limit: none in the top levels, and a small one below them.
+fn first_limit(plain_levels: usize) -> usize
+    ensures { 0 < result }
+{
+    if plain_levels > 0 {
+        usize::MAX
+    } else {
+        FIRST_LIMIT
+    }
+}
+
+// The payload length of a container, by measuring it or its later siblings, whichever is shorter by
+// the guess.
+#[inline(never)]
+fn item_size_by_guess<S: Source>(
+    item: Level<S::Leaf, S::Items, S::Object>,
+    behind: S::Items,
+    left: usize,
+    guess: usize,
+) -> usize
+    requires { (s : Shape) × (Is S.Leaf.code S.meaning item s
+        × TakesLeft S.meaning.items behind s left) }
+    ensures { (s : Shape) → Is S.Leaf.code S.meaning item s → result ≡ length (payload s) }
+{
+    if guess > left / 2 {
+        return left - items_size::<S>(behind);
+    }
+    child_size::<S>(item)
+}
+
+#[inline(never)]
+fn value_size_by_guess<S: Source>(
+    value: Level<S::Leaf, S::Items, S::Object>,
+    behind: S::Members,
+    left: usize,
+    guess: usize,
+) -> usize
+    requires { (s : Shape) × (Is S.Leaf.code S.meaning value s
+        × TakesLeft S.meaning.members behind s left) }
+    ensures { (s : Shape) → Is S.Leaf.code S.meaning value s → result ≡ length (payload s) }
+{
+    if guess > left / 2 {
+        return left - members_size::<S>(behind);
+    }
+    child_size::<S>(value)
+}
+
+// The payload length of a container: by a few short later siblings, or else by measuring it and its
+// later siblings up to growing limits.
 #[inline(never)]
 fn item_size_by_limits<S: Source>(
     item: Level<S::Leaf, S::Items, S::Object>,
@@ -245,6 +295,11 @@ fn item_size_by_limits<S: Source>(
     requires limit { 0 < first_limit }
     ensures { (s : Shape) → Is S.Leaf.code S.meaning item s → result ≡ length (payload s) }
 {
+    if left > SHORT_IN_TOTAL && S::count(behind) <= FEW {
+        if let Some(size) = measure_items::<S>(behind, 0, SHORT) {
+            return left - size;
+        }
+    }
     let mut most = first_limit;
     while most < left / 16 {
         if let Some(size) = measure_child::<S>(item, 0, most) {
@@ -270,6 +325,11 @@ fn value_size_by_limits<S: Source>(
     requires limit { 0 < first_limit }
     ensures { (s : Shape) → Is S.Leaf.code S.meaning value s → result ≡ length (payload s) }
 {
+    if left > SHORT_IN_TOTAL && S::members_left(&behind) <= FEW {
+        if let Some(size) = measure_members::<S>(S::again(&behind), 0, SHORT) {
+            return left - size;
+        }
+    }
     let mut most = first_limit;
     while most < left / 16 {
         if let Some(size) = measure_child::<S>(value, 0, most) {
@@ -290,6 +350,30 @@ fn child_size<S: Source>(child: Level<S::Leaf, S::Items, S::Object>) -> usize
     ensures { (s : Shape) → Is S.Leaf.code S.meaning child s → result ≡ length (payload s) }
 {
     let Some(size) = measure_child::<S>(child, 0, NO_LIMIT) else {
+        unreachable!();
+    };
+    size
+}
+
+// The total length of items, measured completely.
+#[inline(always)]
+fn items_size<S: Source>(items: S::Items) -> usize
+    requires { (ss : Shapes) × (S.meaning.items items ss × AreFew ss) }
+    ensures { (ss : Shapes) → S.meaning.items items ss → result ≡ body ss }
+{
+    let Some(size) = measure_items::<S>(items, 0, NO_LIMIT) else {
+        unreachable!();
+    };
+    size
+}
+
+// The total length of values and their keys, measured completely.
+#[inline(always)]
+fn members_size<S: Source>(members: S::Members) -> usize
+    requires { (ss : Shapes) × (S.meaning.members members ss × AreFew ss) }
+    ensures { (ss : Shapes) → S.meaning.members members ss → result ≡ body ss }
+{
+    let Some(size) = measure_members::<S>(members, 0, NO_LIMIT) else {
         unreachable!();
     };
     size

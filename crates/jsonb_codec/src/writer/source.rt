@@ -59,7 +59,8 @@ pub trait Source {
         ensures held { LevelHeld meaning result → meaning.child_held child };
 
     /// The approximate length of a child's payload, if it is known without measuring. Only a hint,
-    /// by which the writer chooses what to measure first.
+    /// by which the writer chooses what to measure: the time stays within n log n if the hint is
+    /// within a fixed factor of the length.
     fn guess(child: Self::Child) -> Option<usize>;
 
     /// The number of items.
