@@ -26,3 +26,5 @@ pub mod ResultMeanings
 pub mod Classes
 pub mod DocumentLaws
 pub mod FactLaws
+pub mod StableLaws
+pub mod PutLaws

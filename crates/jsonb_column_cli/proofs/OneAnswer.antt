@@ -18,7 +18,7 @@ use Rattle.jsonb.specs.Document.{document_bytes, tree_in}
 use Rattle.jsonb_column.specs.Select.{has_member}
 use Rattle.jsonb_column.specs.SortOrder.{is_between}
 use Rattle.jsonb_column.specs.Storage.{AreStored}
-use Rattle.jsonb_column.proofs.StableLaws.{filter-map}
+use Rattle.jsonb.proofs.StableLaws.{filter-map}
 use Rattle.jsonb_column.proofs.StorageLaws.{one_stored, not_cut, not_faulty, cut_or_faulty}
 use Rattle.answer_lines.specs.Session.{AreAnswers, IsRefused}
 use Rattle.answer_lines.proofs.OneOutput as session

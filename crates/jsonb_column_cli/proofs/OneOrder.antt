@@ -8,7 +8,7 @@ use Rattle.std.specs.declared.cmp.Ordering.{Ordering}
 use Rattle.std.specs.declared.cmp.Ordering.TheVariants.{Less, Equal, Greater}
 use Rattle.std.proofs.lemmas.List.{get_or-map, length-map}
 use Rattle.jsonb_column.proofs.OrderLaws.{parted-le}
-use Rattle.jsonb_column.proofs.StableLaws.{tie, Equal-tie}
+use Rattle.jsonb.proofs.StableLaws.{tie, Equal-tie}
 
 level : (r s : Ordering) → r ≡ ordering_reverse s → is_le r ≡ true → is_le s ≡ true → r ≡ Equal
 level Less Less turned le ge = let never : ⊥ = cc in absurd never

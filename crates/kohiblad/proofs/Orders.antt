@@ -1,12 +1,11 @@
 -- Sorted keys, and the order of rows by their numbers.
-use Rattle.std.proofs.Common.{◌≡◌, ℕ, zero, suc, ◌+◌, ◌≤◌, ◌<◌, List, [], ◌∷◌, ◌++◌, length, map}
-use Rattle.std.proofs.Common.{take, drop, slice_index_or, slice_set, refl, sym, ap, ap₂, subst, ◌∙◌}
-use Rattle.std.proofs.Common.{arith, append_assoc, add-one, length-append}
-use Rattle.std.proofs.lemmas.List.{get_or-map, drop_more, map-append, length-map, length-take-le}
+use Rattle.std.proofs.Common.{◌≡◌, ℕ, zero, suc, ◌+◌, ◌<◌, List, [], ◌∷◌, ◌++◌, length, map}
+use Rattle.std.proofs.Common.{drop, slice_index_or, refl, sym, ap, ap₂, subst, ◌∙◌}
+use Rattle.std.proofs.Common.{arith, length-append}
+use Rattle.std.proofs.lemmas.List.{get_or-map, drop_more, map-append, length-map}
 use Rattle.std.proofs.lemmas.List.Elements.{All-get_or, All-append, All-cons, All-nil}
 use Rattle.std.proofs.lemmas.List.FromFn.{length-range_with_len}
 use Rattle.std.proofs.lemmas.List.Sorted.{IsPermutation-map, All-permutation, length_permutation}
-use Rattle.std.proofs.Math.Seq.{set-append_seam, take-suc}
 use Rattle.std.specs.List.{All, range_with_len}
 use Rattle.std.specs.List.Sorted.{IsPermutation, IsSorted}
 use Rattle.std.specs.Ordering.{nat_cmp, ordering_then, is_lt}
@@ -133,24 +132,3 @@ pub length-rows_from : (bytes : List ℕ) (start : ℕ) (ends : List ℕ)
     → length (rows_from bytes start ends) ≡ length ends
 length-rows_from bytes start [] = refl
 length-rows_from bytes start (end ∷ ends) = ap suc (length-rows_from bytes end ends)
-
--- one more number is written at its position
-pub one_more_number : (keys : List (CheckedBytes × ℕ)) (old order : List ℕ) (n : ℕ)
-    (d : CheckedBytes × ℕ)
-    → n < length keys → length keys ≤ length old → order ≡ numbers_of (take n keys) ++ drop n old
-    → slice_set order n (slice_index_or keys n d).1 ≡ numbers_of (take (n + 1) keys)
-    ++ drop (n + 1) old
-one_more_number keys old order n d inside fits so_far =
-    let front = numbers_of (take n keys) in
-    let number : ℕ = (slice_index_or keys n d).1 in
-    let long : length (numbers_of (take n keys)) ≡ n = length-map (take n keys)
-    (λ (key : CheckedBytes × ℕ). key.1) ∙ length-take-le n keys (omega arith) in
-    let cut = drop_more old n 0 (omega arith) in
-    let parts = so_far ∙ ap (λ (xs : List ℕ). front ++ xs) cut in
-    let more = ap (λ (k : ℕ). numbers_of (take k keys)) (add-one n)
-    ∙ ap numbers_of (take-suc keys n d inside) ∙ map-append
-    (λ (key : CheckedBytes × ℕ). key.1) (take n keys) (slice_index_or keys n d ∷ []) in
-    ap₂ (λ (xs : List ℕ) (k : ℕ). slice_set xs k number) parts (sym long)
-    ∙ set-append_seam front (slice_index_or old n 0) (drop (n + 1) old) number
-    ∙ sym (append_assoc front (number ∷ []) (drop (n + 1) old))
-    ∙ ap (λ (xs : List ℕ). xs ++ drop (n + 1) old) (sym more)

@@ -7,7 +7,7 @@ use Rattle.std.proofs.lemmas.Iterator.Consumers.{map_from_collect, YieldsList-fr
 use Rattle.std.proofs.lemmas.List.Sorted.{IsPermutation-map}
 use Rattle.jsonb_value.specs.TreeOrder.{tree_cmp}
 use Rattle.jsonb.specs.Document.{document_bytes, tree_in}
-use Rattle.jsonb_column.proofs.StableLaws.{IsStable-map}
+use Rattle.jsonb.proofs.StableLaws.{IsStable-map}
 use Rattle.jsonb_column.proofs.sorted.Sorted.new.Goals as goal
 
 pub returns-clause-rows : goal.returns-clause-rows
