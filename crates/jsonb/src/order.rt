@@ -32,6 +32,9 @@ use documents::cmp_nodes;
 use jsonb_codec::document_text;
 use std::cmp::Ordering;
 
+// Bytes that are no longer are compared by their meaning at once: to check them takes few steps.
+const SHORT: usize = 128;
+
 /// The meaning of bytes and of items: a document means its tree, other bytes mean themselves, and
 /// an item means the tree of its value or, if it holds bytes, their meaning.
 pub fn meaning_laws()
@@ -68,6 +71,10 @@ pub fn cmp_bytes(left: &[u8], right: &[u8]) -> Ordering
     // Strings are compared most often, and two words suffice to recognize them.
     if let (Some(left), Some(right)) = (document_text(left), document_text(right)) {
         return left.cmp(right);
+    }
+    // Equal bytes mean the same, whatever they are, and a check of both sides costs more than this.
+    if left.len() > SHORT && left == right {
+        return Ordering::Equal;
     }
     SortKey::new(left).cmp(&SortKey::new(right))
 }
