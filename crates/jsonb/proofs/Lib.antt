@@ -28,3 +28,4 @@ pub mod DocumentLaws
 pub mod FactLaws
 pub mod StableLaws
 pub mod PutLaws
+pub mod SortLaws

@@ -18,6 +18,7 @@ mod owned;
 mod raw;
 mod reads;
 mod sort_key;
+mod sorting;
 mod text;
 
 pub use builder::{ArrayBuilder, ArrayDistinctBuilder, ObjectBuilder};
@@ -46,4 +47,5 @@ pub use owned::OwnedJsonb;
 pub use raw::RawJsonb;
 pub use reads::Reads;
 pub use sort_key::{OtherBytes, SortKey};
+pub use sorting::sort_views;
 pub use text::text_laws;

@@ -1,0 +1,7 @@
+use Rattle.std.proofs.Common.{◌≡◌, map, take}
+use Rattle.jsonb.specs.Raw.{raw_bytes}
+use Rattle.jsonb.specs.SortKey.{key_bytes}
+use Rattle.jsonb.proofs.sorting.sort_views.Given as goal
+
+abbrev pub invariant-loop-view : goal.invariant-loop-view
+invariant-loop-view l = map key_bytes l.keys.items ≡ map raw_bytes (take l.view-index l.fn.views)
