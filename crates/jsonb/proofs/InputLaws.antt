@@ -1,5 +1,5 @@
 -- Inserting pairs one by one, in the order of their keys.
-use Rattle.std.proofs.Common.{◌≡◌, ℕ, List, [], ◌∷◌, ◌++◌, map, Bor, Bool, false, ◌||◌}
+use Rattle.std.proofs.Common.{◌≡◌, ℕ, List, [], ◌∷◌, ◌++◌, map, Bool, false, ◌||◌}
 use Rattle.std.proofs.Common.{refl, sym, ap, ◌∙◌}
 use Rattle.std.proofs.Math.Bool.{or_assoc, or_comm, or_self_left, or-false}
 use Rattle.std.specs.BTreeMap.{insert_entry}
@@ -16,11 +16,9 @@ use Rattle.std.specs.Ordering.{nat_cmp, match_ordering}
 use Rattle.std.specs.Cmp.Lexicographic.{slice_cmp}
 use Rattle.std.specs.declared.cmp.Ordering.{Ordering}
 use Rattle.std.specs.declared.cmp.Ordering.TheVariants.{Less, Equal, Greater}
-use Rattle.jsonb.specs.declared.raw.RawJsonb.{RawJsonb}
-use Rattle.jsonb.specs.Raw.{raw_bytes}
 use Rattle.jsonb.specs.ItemView.{ItemView, raw}
 use Rattle.jsonb.specs.Building.{has_key, with_pair, with_pairs, in_order}
-use Rattle.jsonb.specs.Results.{raw_pairs, input_pair}
+use Rattle.jsonb.specs.Results.{raw_pairs}
 
 or_left_comm : (a b c : Bool) → a || (b || c) ≡ b || (a || c)
 or_left_comm a b c = rw (← or_assoc a b c, or_comm a b, or_assoc b a c)
@@ -92,34 +90,33 @@ keys_of-raw_pairs : (ps : List (List ℕ × List ℕ)) → keys_of (raw_pairs ps
 keys_of-raw_pairs [] = refl
 keys_of-raw_pairs (p ∷ ps) = ap (λ ks. p.0 ∷ ks) (keys_of-raw_pairs ps)
 
--- the inputs that were inserted so far
-module _ (builder : List (List ℕ × ItemView)) (xs : List (Bor (List ℕ) × RawJsonb))
-    (built : builder ≡ raw_pairs (in_order (map input_pair xs))) where
-  pub key_there : (k : List ℕ) → has_key builder k ≡ has_key (map input_pair xs) k
+-- the inputs that were inserted so far, each of them as a key and bytes
+module _ {A : Type 0} (input : A → List ℕ × List ℕ) (builder : List (List ℕ × ItemView))
+    (xs : List A) (built : builder ≡ raw_pairs (in_order (map input xs))) where
+  pub key_there : (k : List ℕ) → has_key builder k ≡ has_key (map input xs) k
   key_there k =
-      rw (built, keys_of-raw_pairs (in_order (map input_pair xs)))
-      (has_key-in_order (map input_pair xs) k)
+      rw (built, keys_of-raw_pairs (in_order (map input xs))) (has_key-in_order (map input xs) k)
 
-  pub one_more : (after : List (List ℕ × ItemView)) (x : Bor (List ℕ) × RawJsonb)
-      → after ≡ with_pair builder x.0.now (raw (raw_bytes x.1))
-      → after ≡ raw_pairs (in_order (map input_pair (xs ++ x ∷ [])))
+  pub one_more : (after : List (List ℕ × ItemView)) (x : A)
+      → after ≡ with_pair builder (input x).0 (raw (input x).1)
+      → after ≡ raw_pairs (in_order (map input (xs ++ x ∷ [])))
   one_more after x pushed =
       let inserted = map-insert_entry (slice_cmp nat_cmp) (λ k. k) raw
-      (in_order (map input_pair xs)) x.0.now (raw_bytes x.1) in
+      (in_order (map input xs)) (input x).0 (input x).1 in
       rw (
         pushed,
         built,
-        map-append input_pair xs (x ∷ []),
-        with_pairs-append [] (map input_pair xs) (input_pair x),
+        map-append input xs (x ∷ []),
+        with_pairs-append [] (map input xs) (input x),
       ) (sym inserted)
 
-  pub still_distinct : (x : Bor (List ℕ) × RawJsonb) → has_key builder x.0.now ≡ false
-      → IsDistinct bytes_eq (keys_of (map input_pair xs))
-      → IsDistinct bytes_eq (keys_of (map input_pair (xs ++ x ∷ [])))
+  pub still_distinct : (x : A) → has_key builder (input x).0 ≡ false
+      → IsDistinct bytes_eq (keys_of (map input xs))
+      → IsDistinct bytes_eq (keys_of (map input (xs ++ x ∷ [])))
   still_distinct x new distinct =
       rw (
-        map-append input_pair xs (x ∷ []),
-        map-append (λ p. p.0) (map input_pair xs) (input_pair x ∷ []),
+        map-append input xs (x ∷ []),
+        map-append (λ p. p.0) (map input xs) (input x ∷ []),
       )
-      (IsDistinct-push bytes_equiv (keys_of (map input_pair xs)) x.0.now distinct
-      (sym (key_there x.0.now) ∙ new))
+      (IsDistinct-push bytes_equiv (keys_of (map input xs)) (input x).0 distinct
+      (sym (key_there (input x).0) ∙ new))

@@ -28,4 +28,5 @@ pub mod DocumentLaws
 pub mod FactLaws
 pub mod StableLaws
 pub mod PutLaws
+pub mod DocumentInputLaws
 pub mod SortLaws

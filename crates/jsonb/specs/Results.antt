@@ -1,8 +1,8 @@
 -- The trees of built documents, given the trees of their parts.
-use Rattle.std.specs.Prelude.{◌≡◌, List, [], ◌∷◌, ℕ, Option, Some, map}
+use Rattle.std.specs.Prelude.{◌≡◌, ◌<◌, ◌^◌, List, [], ◌∷◌, ℕ, Option, Some, length, map}
 use Rattle.std.specs.Iterator.{Drains, YieldsThen}
 use Rattle.std.specs.Borrow.{Bor}
-use Rattle.std.specs.List.{IsDistinct}
+use Rattle.std.specs.List.{AllByRecursion, IsDistinct}
 use Rattle.std.specs.Map.{keys_of}
 use Rattle.std.specs.Str.{bytes_eq}
 use Rattle.jsonb_value.specs.Tree.{Trees, no_trees, tree, Pairs, no_pairs, pair}
@@ -11,8 +11,11 @@ use Rattle.jsonb_value.specs.Norm.{norms, norm_pairs}
 use Rattle.jsonb_value.specs.WellFormed.{IsTree}
 use Rattle.jsonb_codec.specs.Doc.{Doc}
 use Rattle.jsonb_codec.specs.Canon.{canon, Fits}
+use Rattle.jsonb.specs.declared.document.Document.{Document}
 use Rattle.jsonb.specs.declared.raw.RawJsonb.{RawJsonb}
+use Rattle.jsonb.specs.Document.{document_bytes, tree_in}
 use Rattle.jsonb.specs.Raw.{raw_bytes}
+use Rattle.jsonb.specs.Storage.{document_code}
 use Rattle.jsonb.specs.ItemView.{ItemView, raw}
 use Rattle.jsonb.specs.Code.{Means}
 use Rattle.jsonb.specs.Building.{IsArrayOf, in_order, FitObject, IsObjectOf}
@@ -98,6 +101,53 @@ pub record IsObjectOfInputs (inputs : List (List ℕ × List ℕ)) (bytes : List
 pub record MakeNoObject (inputs : List (List ℕ × List ℕ)) : Type 0 where
   pub distinct : IsDistinct bytes_eq (keys_of inputs)
   pub none : FitObject (raw_pairs (in_order inputs)) → ⊥
+
+-- The trees of documents, in order.
+abbrev pub trees_in : List (List ℕ) → Trees
+trees_in [] = no_trees
+trees_in (b ∷ bs) = tree (tree_in b) (trees_in bs)
+
+-- The keys and the trees of documents at keys, in order.
+abbrev pub trees_at_keys : List (List ℕ × List ℕ) → Pairs
+trees_at_keys [] = no_pairs
+trees_at_keys (x ∷ xs) = pair x.0 (tree_in x.1) (trees_at_keys xs)
+
+-- The payload with which the document is stored in a container does not exceed its limit.
+abbrev pub IsShortInput : List ℕ → Type 0
+IsShortInput b = length (document_code b).payload < 2 ^ 28
+
+-- No payload and not the count of these documents exceeds its limit.
+abbrev pub AreWithinLimits : List (List ℕ) → Type 0
+AreWithinLimits bs = AllByRecursion IsShortInput bs × (length bs < 2 ^ 29)
+
+-- No key, no payload and not the count of these documents at keys exceeds its limit.
+abbrev pub PairsAreWithinLimits : List (List ℕ × List ℕ) → Type 0
+PairsAreWithinLimits xs =
+    AllByRecursion (λ x. (length x.0 < 2 ^ 28) × IsShortInput x.1) xs × (length xs < 2 ^ 29)
+
+-- The bytes are the array of these documents, and a document of the array of their trees; if the
+-- documents are canonical, it is canonical.
+pub record IsArrayOfDocuments (documents : List (List ℕ)) (bytes : List ℕ) : Type 0 where
+  pub within : AreWithinLimits documents
+  pub means : Doc bytes (trees.array (trees_in documents))
+  pub inputs : IsArrayOfInputs documents bytes
+
+-- A key and a document, as byte strings.
+abbrev pub document_pair : Bor (List ℕ) × Document → List ℕ × List ℕ
+document_pair x = (x.0.now, document_bytes x.1)
+
+-- The bytes are the object of these documents, whose keys are distinct, and a document of the
+-- object of their trees; if the documents are canonical, it is canonical.
+pub record IsObjectOfDocuments (documents : List (List ℕ × List ℕ)) (bytes : List ℕ)
+    : Type 0 where
+  pub within : PairsAreWithinLimits (in_order documents)
+  pub means : Doc bytes (trees.object (trees_at_keys (in_order documents)))
+  pub inputs : IsObjectOfInputs documents bytes
+
+-- The keys of these documents are distinct, and a key, a payload or the count exceeds its limit.
+pub record PairsExceedLimits (documents : List (List ℕ × List ℕ)) : Type 0 where
+  pub distinct : IsDistinct bytes_eq (keys_of documents)
+  pub exceed : PairsAreWithinLimits (in_order documents) → ⊥
 
 -- The iterator made from the source yielded a list up to its end, and the list has this property.
 abbrev pub TakesAll : {C S A : Type 0} → (C → S → Type 0) → (S → Option A → S → Type 0) → C

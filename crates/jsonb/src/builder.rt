@@ -17,9 +17,12 @@ ghost use Rattle.std.specs.Map.{keys_of};
 ghost use Rattle.jsonb.specs.Children.{pairs_by};
 ghost use Rattle.jsonb.specs.Results.{AllMean, AllMeanAt, IsArrayUpToZeros, IsObjectUpToZeros};
 ghost use Rattle.jsonb.specs.Results.{IsArrayOfInputs, IsObjectOfInputs, MakeNoObject, input_pair};
-ghost use Rattle.jsonb.specs.Results.{TakesAll, TakesUpTo};
+ghost use Rattle.jsonb.specs.Results.{TakesAll, TakesUpTo, IsArrayOfDocuments, IsObjectOfDocuments};
+ghost use Rattle.jsonb.specs.Results.{AreWithinLimits, PairsExceedLimits, document_pair};
+ghost use Rattle.jsonb.specs.Document.{document_bytes};
 
 use crate::code::document_part;
+use crate::document::Document;
 use crate::item::JsonbItem;
 use crate::owned::OwnedJsonb;
 use crate::raw::RawJsonb;
@@ -268,5 +271,63 @@ impl OwnedJsonb {
             pairs.insert(key, document_part(input))?;
         }
         object_document(alloc, &pairs)
+    }
+
+    /// The array of these checked documents, as `build_array` builds it of their bytes, but none is
+    /// checked again. The iterator must end. `InvalidJsonb` if a payload exceeds 268,435,455 bytes,
+    /// or there are more than 536,870,911 documents; `OutOfMemory` if an allocation fails.
+    pub fn build_array_of_documents<'a, I: IntoIterator<Item = Document<'a>>>(
+        alloc: Global,
+        inputs: I,
+    ) -> Result<OwnedJsonb, Error>
+    where
+        I::IntoIter: Drop,
+        requires { (it : I.IntoIter) → I.into_iter_gives inputs it
+            → I.IntoIter.can_next it × IsFinite (I.IntoIter.remaining it) }
+        ensures ok { IfOk result (λ owned. TakesAll I.into_iter_gives I.IntoIter.next_gives inputs
+            (λ ds. IsArrayOfDocuments (map document_bytes ds) (owned_bytes owned))) }
+        ensures past { result ≡ Err Error.InvalidJsonb
+            → TakesAll I.into_iter_gives I.IntoIter.next_gives inputs
+            (λ ds. AreWithinLimits (map document_bytes ds) → ⊥) }
+        ensures only { IfErr result (λ e. (e ≡ Error.InvalidJsonb) ⊎ (e ≡ Error.OutOfMemory)) }
+    {
+        let mut documents = Vec::new(alloc);
+        for document in inputs {
+            documents.push(document)?;
+        }
+        array_document(alloc, &documents)
+    }
+
+    /// The object of these checked documents at their keys, as `build_object` builds it of their
+    /// bytes, but none is checked again. The iterator must end. `ObjectDuplicateKey` at the first
+    /// key that occurred before; otherwise `InvalidJsonb` if a key or a payload exceeds 268,435,455
+    /// bytes, or there are more than 536,870,911 documents; `OutOfMemory` if an allocation fails.
+    pub fn build_object_of_documents<'a, I: IntoIterator<Item = (&'a str, Document<'a>)>>(
+        alloc: Global,
+        inputs: I,
+    ) -> Result<OwnedJsonb, Error>
+    where
+        I::IntoIter: Drop,
+        requires { (it : I.IntoIter) → I.into_iter_gives inputs it
+            → I.IntoIter.can_next it × IsFinite (I.IntoIter.remaining it) }
+        ensures ok { IfOk result (λ owned. TakesAll I.into_iter_gives I.IntoIter.next_gives inputs
+            (λ xs. IsObjectOfDocuments (map document_pair xs) (owned_bytes owned))) }
+        ensures past { result ≡ Err Error.InvalidJsonb
+            → TakesAll I.into_iter_gives I.IntoIter.next_gives inputs
+            (λ xs. PairsExceedLimits (map document_pair xs)) }
+        ensures duplicate { result ≡ Err Error.ObjectDuplicateKey
+            → TakesUpTo I.into_iter_gives I.IntoIter.next_gives inputs
+            (λ xs x. IsTrue (has_key (map document_pair xs) x.0.now)) }
+        ensures only { IfErr result (λ e. (e ≡ Error.InvalidJsonb)
+            ⊎ ((e ≡ Error.ObjectDuplicateKey) ⊎ (e ≡ Error.OutOfMemory))) }
+    {
+        let mut members = BTreeMap::new(alloc);
+        for (key, document) in inputs {
+            if members.contains_key(key) {
+                return Err(Error::ObjectDuplicateKey);
+            }
+            members.insert(key, document)?;
+        }
+        object_document(alloc, &members)
     }
 }

@@ -1,14 +1,16 @@
 //! The stored form of items: the type and the payload of an entry.
 
-ghost use Rattle.std.specs.Prelude.{◌≡◌, IsSome};
+ghost use Rattle.std.specs.Prelude.{◌≡◌, IsSome, ⊤};
 ghost use Rattle.jsonb_codec.specs.Code.{code_of};
 ghost use Rattle.jsonb_codec.specs.Stored.{code_of_some};
 ghost use Rattle.jsonb_codec.specs.Doc.{IsDocument};
+ghost use Rattle.jsonb.specs.Document.{document_bytes};
 ghost use Rattle.jsonb.specs.ItemView.{item_view};
 ghost use Rattle.jsonb.specs.Raw.{raw_bytes};
 ghost use Rattle.jsonb.specs.Storage.{stored_code, document_code, pair_of, IsStored, IsHeld};
 ghost use Rattle.jsonb.specs.Children.{IsShown, raw_view};
 
+use crate::document::Document;
 use crate::item::{JsonbItem, text_of};
 use crate::raw::RawJsonb;
 use jsonb_codec::DocumentBytes;
@@ -46,6 +48,25 @@ impl<'a> Stored for JsonbItem<'a> {
             JsonbItem::Owned(owned) => return document_code(owned.as_bytes()),
         };
         Code { type_code, payload }
+    }
+}
+
+/// Documents are stored as given: they were checked on construction.
+impl<'a> Stored for Document<'a> {
+    ghost stored = { λ document. ⊤ };
+
+    ghost code = { λ document. pair_of (document_code (document_bytes document)) };
+
+    ghost held = { λ document. ⊤ };
+
+    #[inline(always)]
+    fn is_stored(&self) -> bool {
+        true
+    }
+
+    #[inline(always)]
+    fn code<'s>(&'s self) -> Code<'s> {
+        document_code(self.as_bytes())
     }
 }
 

@@ -100,8 +100,8 @@ module _ (all left behind : List (List ℕ × List ℕ)) (builder : List (List �
         done = so_far.done ++ x ∷ [];
         parts = parts ∙ sym (append_assoc (map input_pair so_far.done) (pair ∷ []) behind) ∙ ap
             (λ (ps : List (List ℕ × List ℕ)). ps ++ behind) (sym one);
-        built = one_more builder so_far.done so_far.built after x pushed;
-        distinct = still_distinct builder so_far.done so_far.built x new so_far.distinct;
+        built = one_more input_pair builder so_far.done so_far.built after x pushed;
+        distinct = still_distinct input_pair builder so_far.done so_far.built x new so_far.distinct;
         texts =
             subst AreTexts
             (sym (ap keys_of one ∙ keys-append (map input_pair so_far.done) (pair ∷ [])))
@@ -116,7 +116,7 @@ module _ (all left behind : List (List ℕ × List ℕ)) (builder : List (List �
   pub not_distinct : (key : List ℕ) → key ≡ pair.0 → IsTrue (has_key builder key)
       → IsDistinct bytes_eq (keys_of all) → ⊥
   not_distinct key key_is there distinct =
-      let known = subst IsTrue (key_there builder so_far.done so_far.built key) there in
+      let known = subst IsTrue (key_there input_pair builder so_far.done so_far.built key) there in
       twice (keys_of (map input_pair so_far.done)) (keys_of behind) pair.0
       (subst (λ (k : List ℕ). IsTrue
       (list_any (bytes_eq k) (keys_of (map input_pair so_far.done)))) key_is known)

@@ -27,13 +27,13 @@ loop-key-preserved g c =
       has_key-shown IsSome code_of_some walk.pairs.entries before walk.invariant.shown
           c.in-Some.key.now,
     ) in
-    let more = one_more before walk.yielded refl _ x refl in
+    let more = one_more input_pair before walk.yielded refl _ x refl in
     record {
       shown =
           rw (← more, c.in_ok-insert.ensures.entries) (shown_insert IsSome code_of_some
           walk.pairs.entries before walk.invariant.shown c.in-Some.key _ _
           c.document_part.ensures);
-      distinct = still_distinct before walk.yielded refl x new walk.invariant.distinct;
+      distinct = still_distinct input_pair before walk.yielded refl x new walk.invariant.distinct;
     }
 
 pub returns-then-contains_key-clause-duplicate : goal.returns-then-contains_key-clause-duplicate
@@ -46,7 +46,7 @@ returns-then-contains_key-clause-duplicate g c = λ e.
           c.in-Some.key.now,
     ) in
     let there : IsTrue (has_key (map input_pair walk.yielded) c.in-Some.key.now) =
-    sym (key_there before walk.yielded refl c.in-Some.key.now) ∙ found in (
+    sym (key_there input_pair before walk.yielded refl c.in-Some.key.now) ∙ found in (
       c.into_iter-key-iterator.result,
       (
         walk.yielded,

@@ -1,0 +1,113 @@
+use Rattle.std.proofs.Common.{◌≡◌, ◌∙◌, sym, refl, ℕ, List, Bor, map, IsTrue, true, false}
+use Rattle.std.proofs.Common.{rules}
+use Rattle.std.specs.List.{IsDistinct}
+use Rattle.std.proofs.lemmas.Result.{IfOk-weaker}
+use Rattle.jsonb.specs.declared.document.Document.{Document}
+use Rattle.jsonb.specs.Building.{has_key, in_order, AreKeys}
+use Rattle.jsonb.specs.Children.{key_bytes}
+use Rattle.jsonb.specs.Results.{document_pair, raw_pairs}
+use Rattle.jsonb.proofs.DocumentInputLaws.{has_entry, entry_of_document, document_shown}
+use Rattle.jsonb.proofs.DocumentInputLaws.{all_pair_documents, values-in_order, within_object}
+use Rattle.jsonb.proofs.DocumentInputLaws.{IsObjectOfDocuments-inputs}
+use Rattle.jsonb.proofs.InputLaws.{key_there, one_more, still_distinct}
+use Rattle.jsonb.proofs.ResultObjects.{both_ok, IsObjectOfInputs-IsObjectOf}
+use Rattle.jsonb.proofs.ShownLaws.{shown_insert, has_key-shown, at_keys}
+use Rattle.jsonb.proofs.owned.OwnedJsonb.build_object_of_documents.Goals as goal
+
+pub loop-key-init : goal.loop-key-init
+unfolding IsDistinct
+loop-key-init g c = record { shown = search rules; distinct = tt }
+
+pub loop-key-preserved : goal.loop-key-preserved
+loop-key-preserved g c =
+    let walk = c.loop-key in
+    let before = raw_pairs (in_order (map document_pair walk.yielded)) in
+    let x : Bor (List ℕ) × Document = (c.in-Some.key, c.in-Some.document) in
+    let new : has_key before c.in-Some.key.now ≡ false = search (
+      rules,
+      has_key-shown has_entry entry_of_document walk.members.entries before walk.invariant.shown
+          c.in-Some.key.now,
+    ) in
+    let more = one_more document_pair before walk.yielded refl _ x refl in
+    record {
+      shown =
+          rw (← more, c.in_ok-insert.ensures.entries) (shown_insert has_entry entry_of_document
+          walk.members.entries before walk.invariant.shown c.in-Some.key _ _
+          (document_shown c.in-Some.document));
+      distinct =
+          still_distinct document_pair before walk.yielded refl x new walk.invariant.distinct;
+    }
+
+pub returns-then-contains_key-clause-duplicate : goal.returns-then-contains_key-clause-duplicate
+returns-then-contains_key-clause-duplicate g c = λ e.
+    let walk = c.loop-key in
+    let before = raw_pairs (in_order (map document_pair walk.yielded)) in
+    let found : has_key before c.in-Some.key.now ≡ true = search (
+      rules,
+      has_key-shown has_entry entry_of_document walk.members.entries before walk.invariant.shown
+          c.in-Some.key.now,
+    ) in
+    let there : IsTrue (has_key (map document_pair walk.yielded) c.in-Some.key.now) =
+    sym (key_there document_pair before walk.yielded refl c.in-Some.key.now) ∙ found in (
+      c.into_iter-key-iterator.result,
+      (
+        walk.yielded,
+        (
+          (c.in-Some.key, c.in-Some.document),
+          (
+            c.next.new.self,
+            (
+              c.into_iter-key-iterator.ensures.into_iter_gives,
+              ((walk.key-iterator, walk.yielded_by, c.in-Some.ensures.steps), there),
+            ),
+          ),
+        ),
+      ),
+    )
+
+pub returns-clause-past : goal.returns-clause-past
+returns-clause-past g c = λ e.
+    let walk = c.loop-key in
+    let inputs = in_order (map document_pair walk.yielded) in (
+      c.into_iter-key-iterator.result,
+      (
+        walk.yielded,
+        (
+          c.into_iter-key-iterator.ensures.into_iter_gives,
+          (
+            (c.next.new.self, (walk.key-iterator, walk.yielded_by, c.in-None.ensures.steps)),
+            record {
+              distinct = walk.invariant.distinct;
+              exceed = λ within. c.object_document.ensures.past e _ walk.invariant.shown
+                  (within_object inputs (values-in_order _ (all_pair_documents walk.yielded))
+                  within);
+            },
+          ),
+        ),
+      ),
+    )
+
+pub returns-clause-ok : goal.returns-clause-ok
+returns-clause-ok g c =
+    let walk = c.loop-key in
+    let built = raw_pairs (in_order (map document_pair walk.yielded)) in
+    let keys =
+    (at_keys has_entry entry_of_document walk.members.entries built walk.invariant.shown).0 in
+    IfOk-weaker c.object_document.result _ _
+    (λ owned h. (
+      c.into_iter-key-iterator.result,
+      (
+        walk.yielded,
+        (
+          c.into_iter-key-iterator.ensures.into_iter_gives,
+          (
+            (c.next.new.self, (walk.key-iterator, walk.yielded_by, c.in-None.ensures.steps)),
+            IsObjectOfDocuments-inputs (map document_pair walk.yielded) _
+                (all_pair_documents walk.yielded)
+                (IsObjectOfInputs-IsObjectOf (map document_pair walk.yielded) built _ refl
+                walk.invariant.distinct (h.0 _ walk.invariant.shown) (rw (← keys) h.1)),
+          ),
+        ),
+      ),
+    )) (both_ok c.object_document.result _ (AreKeys (key_bytes walk.members.entries))
+    c.object_document.ensures.ok c.object_document.ensures.keys)
