@@ -3,9 +3,9 @@
 // each of its allocations failing in turn.
 use crate::documents::{decode_again, encoded, read_as_tree};
 use jsonb::{
-    ArrayBuilder, ArrayDistinctBuilder, Date, Decimal64, Decoder, Encoder, Error, ExtensionValue,
-    JsonAst, JsonAstEncoder, JsonbItem, Number, NumberItem, ObjectBuilder, OwnedJsonb, RawJsonb,
-    Value, append_canonical, parse_value, value_of,
+    ArrayBuilder, ArrayDistinctBuilder, Date, Decimal64, Decoder, Document, Encoder, Error,
+    ExtensionValue, JsonAst, JsonAstEncoder, JsonbItem, Number, NumberItem, ObjectBuilder,
+    OwnedJsonb, RawJsonb, Value, append_canonical, parse_value, sort_views, value_of,
 };
 use jsonb_composition::{ask, encode_and_ask};
 use std::alloc::Global;
@@ -28,6 +28,9 @@ const PAIR: &[u8] = b"\x40\0\0\x01\x10\0\0\x01\x10\0\0\x01kv";
 
 // The document of the number 5.
 const FIVE: &[u8] = b"\x20\0\0\0\x20\0\0\x02\x50\x05";
+
+// The document of the decimal 5.0.
+const FIVE_AND_TENTHS: &[u8] = b"\x20\0\0\0\x20\0\0\x0a\x70\0\0\0\0\0\0\0\x32\x01";
 
 // The document of the string "x".
 const X: &[u8] = b"\x20\0\0\0\x10\0\0\x01x";
@@ -176,6 +179,46 @@ fn objects_are_put_together(rt: HostRuntime) -> Result<(), Fail> {
     let inputs = [("b", RawJsonb::new(X)), ("a", RawJsonb::new(FIVE))];
     assert!(rt; OwnedJsonb::build_object(rt.alloc(), inputs)?.as_bytes() == OBJECT);
     Ok(())
+}
+
+#[test]
+fn arrays_of_checked_documents(rt: HostRuntime) -> Result<(), Fail> {
+    let (Some(five), Some(x)) = (Document::new(FIVE), Document::new(X)) else {
+        return Err(Fail::from(Error::InvalidJsonb));
+    };
+    let array = OwnedJsonb::build_array_of_documents(rt.alloc(), [five, x])?;
+    assert!(rt; array.as_bytes() == FIVE_AND_X);
+    Ok(())
+}
+
+#[test]
+fn objects_of_checked_documents(rt: HostRuntime) -> Result<(), Fail> {
+    let (Some(five), Some(x)) = (Document::new(FIVE), Document::new(X)) else {
+        return Err(Fail::from(Error::InvalidJsonb));
+    };
+    let object = OwnedJsonb::build_object_of_documents(rt.alloc(), [("b", x), ("a", five)])?;
+    assert!(rt; object.as_bytes() == OBJECT);
+    let twice = OwnedJsonb::build_object_of_documents(rt.alloc(), [("a", x), ("a", five)]);
+    if twice == Err(Error::OutOfMemory) {
+        return Ok(hand_on(twice.err())?);
+    }
+    assert!(rt; twice == Err(Error::ObjectDuplicateKey));
+    Ok(())
+}
+
+// Numbers come before strings, strings before objects, and other bytes after all documents; 5.0 and
+// 5 are equal and keep their order. Refused memory leaves the views as they were.
+#[test]
+fn views_are_sorted(rt: HostRuntime) -> Result<(), Fail> {
+    let given = [b"?".as_slice(), X, FIVE_AND_TENTHS, FIVE, b"!", PAIR, X];
+    let sorted = [FIVE_AND_TENTHS, FIVE, X, X, PAIR, b"!", b"?"];
+    let mut views = given.map(RawJsonb::new);
+    let refusal = sort_views(rt.alloc(), &mut views).err();
+    let wanted = if refusal.is_some() { given } else { sorted };
+    for (view, bytes) in views.iter().zip(wanted) {
+        assert!(rt; view.as_bytes() == bytes);
+    }
+    Ok(hand_on(refusal)?)
 }
 
 #[test]
