@@ -36,6 +36,12 @@ extern "C" {
         order: *mut u64,
         room: usize,
     ) -> bool;
+    fn measured_sort_views(
+        bytes: *const u8,
+        length: usize,
+        ends: *const u64,
+        count: usize,
+    ) -> usize;
     fn measured_keys(bytes: *const u8, length: usize, ends: *const u64, count: usize) -> usize;
     fn measured_sort_by_keys(
         bytes: *const u8,
@@ -53,7 +59,25 @@ extern "C" {
         count: usize,
         times: usize,
     ) -> usize;
+    fn measured_array_of_documents(
+        bytes: *const u8,
+        length: usize,
+        ends: *const u64,
+        count: usize,
+        times: usize,
+    ) -> usize;
     fn measured_object(
+        names: *const u8,
+        names_length: usize,
+        name_ends: *const u64,
+        name_count: usize,
+        bytes: *const u8,
+        length: usize,
+        ends: *const u64,
+        count: usize,
+        times: usize,
+    ) -> usize;
+    fn measured_object_of_documents(
         names: *const u8,
         names_length: usize,
         name_ends: *const u64,
@@ -304,6 +328,7 @@ fn sorts() {
         };
         let (ours, theirs) = fastest(sort, || sort_theirs(&documents));
         report(name, "sort", size, ours, theirs);
+        sort_views(name, &documents);
         sort_once(name, &documents);
         sort_by_keys(name, &documents);
     }
@@ -313,6 +338,17 @@ fn sort_theirs(documents: &[Vec<u8>]) -> usize {
     let mut all: Vec<RawJsonb> = documents.iter().map(|d| RawJsonb::new(d)).collect();
     all.sort();
     all[0].len()
+}
+
+// Our side sorts views, each checked once.
+fn sort_views(name: &str, documents: &[Vec<u8>]) {
+    let (bytes, ends) = joined(documents);
+    let sort = || unsafe {
+        measured_sort_views(bytes.as_ptr(), bytes.len(), ends.as_ptr(), ends.len())
+    };
+    assert_eq!(sort(), sort_theirs(documents));
+    let (ours, theirs) = fastest(sort, || sort_theirs(documents));
+    report(name, "sort views", bytes.len(), ours, theirs);
 }
 
 // Our side checks each document once, and sorts the keys.
@@ -398,7 +434,7 @@ fn joined(parts: &[impl AsRef<[u8]>]) -> (Vec<u8>, Vec<u64>) {
 }
 
 // An array and an object of 100,000 documents. Our builders check each document that they are
-// given, and the crate's do not.
+// given, unless it was checked before, and the crate's do not.
 fn builders() {
     let shapes: [(&str, fn(usize) -> Value<'static>); 2] = [
         ("numbers", |i| {
@@ -425,6 +461,16 @@ fn builders() {
             builder.build().unwrap().to_vec().len()
         };
         build(name, "array", bytes.len(), array, their_array);
+        let checked = |times| unsafe {
+            measured_array_of_documents(
+                bytes.as_ptr(),
+                bytes.len(),
+                ends.as_ptr(),
+                ends.len(),
+                times,
+            )
+        };
+        build(name, "array checked", bytes.len(), checked, their_array);
         let object = |times| unsafe {
             measured_object(
                 text.as_ptr(),
@@ -446,6 +492,20 @@ fn builders() {
             builder.build().unwrap().to_vec().len()
         };
         build(name, "object", bytes.len(), object, their_object);
+        let checked = |times| unsafe {
+            measured_object_of_documents(
+                text.as_ptr(),
+                text.len(),
+                name_ends.as_ptr(),
+                name_ends.len(),
+                bytes.as_ptr(),
+                bytes.len(),
+                ends.as_ptr(),
+                ends.len(),
+                times,
+            )
+        };
+        build(name, "object checked", bytes.len(), checked, their_object);
     }
 }
 

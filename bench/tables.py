@@ -45,8 +45,10 @@ SPEEDS = [
     ("numbers sort once", "the same, checked once"),
     ("arrays sort", "sort 100,000 arrays, not checked before"),
     ("arrays sort once", "the same, checked once"),
+    ("arrays sort views", "the same, by `sort_views`"),
     ("arrays sort by keys", "the same, by comparable keys, which are made first"),
     ("objects array", "build an array of 100,000 documents"),
+    ("objects array checked", "the same, of checked documents"),
     ("text parse", "read a JSON text (serde_json)"),
     ("objects print", "print a document (serde_json)"),
     ("objects text", "the same of a checked `Document`"),
@@ -66,6 +68,8 @@ def rows():
 
 
 def cell(row):
+    if not row:
+        return ""
     if len(row) == 1:
         return f"{row[0]:.2f}"
     return f"{statistics.median(row):.2f} ({min(row):.2f} to {max(row):.2f})"
@@ -96,11 +100,13 @@ def tables(found):
                           for place in ["first", "middle", "last"]]
                 look_ups.append([f"{int(count):,} {kind}{name}"] + places)
     sorts = [[name] + [cell(found[f"{shape} {call}"])
-                       for call in ["sort", "sort once", "sort by keys", "keys made"]]
+                       for call in ["sort", "sort views", "sort once", "sort by keys",
+                                    "keys made"]]
              for name, shape in [("numbers", "numbers"), ("strings", "strings"),
                                  ("objects of 4 keys", "objects"), ("objects of 20", "of 20"),
                                  ("arrays of 50", "arrays")]]
-    builders = [[name, cell(found[f"{shape} array"]), cell(found[f"{shape} object"])]
+    builders = [[name] + [cell(found[f"{shape} {call}"])
+                          for call in ["array", "array checked", "object", "object checked"]]
                 for name, shape in [("numbers", "numbers"),
                                     ("objects of four strings", "objects")]]
     nested = [[f"{name}{levels}", cell(found[f"{row}{levels} encode"]),
@@ -121,9 +127,11 @@ def tables(found):
     return "\n".join([
         table(["", "numbers", "objects", "an object of 3,000", "1,000 deep"], documents),
         table(["look-up of the", "first", "middle", "last"], look_ups),
-        table(["sort of 100,000", "views (`RawJsonb`)", "checked once (`SortKey`)",
-               "by comparable keys", "of which making the keys"], sorts),
-        table(["100,000 documents put together", "array", "object"], builders),
+        table(["sort of 100,000", "views (`RawJsonb`)", "by `sort_views`",
+               "checked once (`SortKey`)", "by comparable keys", "of which making the keys"],
+              sorts),
+        table(["100,000 documents put together", "array", "of checked ones", "object",
+               "of checked ones"], builders),
         table(["containers in one another, levels", "encoder", "canonical form"], nested),
         table(["texts, beside serde_json", ""], texts),
         table(["a column of 100,000 rows", ""], column),
@@ -138,7 +146,7 @@ def short_table(found, speeds):
 def speed_table(found, speeds):
     return table(["", "Kohiblad", "the crate", "share of its time"],
                  [[name, speed(speeds[row], 0), speed(speeds[row], 1), cell(found[row])]
-                  for row, name in SPEEDS])
+                  for row, name in SPEEDS if row in speeds])
 
 
 def picture(found):
