@@ -1,6 +1,7 @@
 pub mod ErrorName
 pub mod ParseErrorName
 pub mod Payload
+pub mod Appended
 pub mod Opaque
 pub mod Tree
 pub mod Depth

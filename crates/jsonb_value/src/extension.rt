@@ -4,6 +4,7 @@ ghost use Rattle.std.specs.Prelude.{◌≡◌, ◌≤◌, ◌<◌, ◌^◌, ◌�
 ghost use Rattle.std.specs.Prelude.{IfErr, OnOk, OnErr, length, take, IsOk, vec_len, vec_capacity};
 ghost use Rattle.std.specs.Prelude.{◌+◌};
 ghost use Rattle.std.specs.Int.{w32, w64};
+ghost use Rattle.jsonb_value.specs.Appended.{Appends};
 ghost use Rattle.jsonb_value.specs.Payload.{IsSigned};
 ghost use Rattle.jsonb_value.specs.Tree.{Extension, date, timestamp, timestamp_tz, interval};
 ghost use Rattle.jsonb_value.specs.ExtCode.{ExtCode, IsZoned, IsOldZoned, IsInterval, extension_of};
@@ -233,15 +234,7 @@ fn append_data(buf: &mut Vec<u8>, tag: u8, bytes: &[u8]) -> Result<usize, Error>
 }
 
 fn append_date(buf: &mut Vec<u8>, given: &Date) -> Result<usize, Error>
-    ensures len { IfOk result (λ n. n ≡ length (extension_payload (date given.now))) }
-    ensures appended { OnOk result
-        (buf.new.items ≡ buf.old.items ++ extension_payload (date given.now)) }
-    ensures err { OnErr result (buf.new.items ≡ buf.old.items) }
-    ensures memory { IfErr result (λ e. e ≡ Error.OutOfMemory) }
-    ensures capacity { vec_capacity buf.old ≤ vec_capacity buf.new }
-    ensures room { vec_len buf.old + length (extension_payload (date given.now))
-        ≤ vec_capacity buf.old
-        → IsOk result }
+    ensures { Appends (extension_payload (date given.now)) buf.old buf.new result }
 {
     let mut payload = [EXTENSION_DATE, 0, 0, 0, 0];
     BigEndian::write_i32(&mut payload[1..], given.value);
@@ -249,15 +242,7 @@ fn append_date(buf: &mut Vec<u8>, given: &Date) -> Result<usize, Error>
 }
 
 fn append_timestamp(buf: &mut Vec<u8>, given: &Timestamp) -> Result<usize, Error>
-    ensures len { IfOk result (λ n. n ≡ length (extension_payload (timestamp given.now))) }
-    ensures appended { OnOk result
-        (buf.new.items ≡ buf.old.items ++ extension_payload (timestamp given.now)) }
-    ensures err { OnErr result (buf.new.items ≡ buf.old.items) }
-    ensures memory { IfErr result (λ e. e ≡ Error.OutOfMemory) }
-    ensures capacity { vec_capacity buf.old ≤ vec_capacity buf.new }
-    ensures room { vec_len buf.old + length (extension_payload (timestamp given.now))
-        ≤ vec_capacity buf.old
-        → IsOk result }
+    ensures { Appends (extension_payload (timestamp given.now)) buf.old buf.new result }
 {
     let mut payload = [EXTENSION_TIMESTAMP, 0, 0, 0, 0, 0, 0, 0, 0];
     BigEndian::write_i64(&mut payload[1..], given.value);
@@ -265,15 +250,7 @@ fn append_timestamp(buf: &mut Vec<u8>, given: &Timestamp) -> Result<usize, Error
 }
 
 fn append_timestamp_tz(buf: &mut Vec<u8>, zoned: &TimestampTz) -> Result<usize, Error>
-    ensures len { IfOk result (λ n. n ≡ length (extension_payload (timestamp_tz zoned.now))) }
-    ensures appended { OnOk result
-        (buf.new.items ≡ buf.old.items ++ extension_payload (timestamp_tz zoned.now)) }
-    ensures err { OnErr result (buf.new.items ≡ buf.old.items) }
-    ensures memory { IfErr result (λ e. e ≡ Error.OutOfMemory) }
-    ensures capacity { vec_capacity buf.old ≤ vec_capacity buf.new }
-    ensures room { vec_len buf.old + length (extension_payload (timestamp_tz zoned.now))
-        ≤ vec_capacity buf.old
-        → IsOk result }
+    ensures { Appends (extension_payload (timestamp_tz zoned.now)) buf.old buf.new result }
 {
     let mut payload = [0; 13];
     payload[0] = EXTENSION_TIMESTAMP_TZ;
@@ -283,15 +260,7 @@ fn append_timestamp_tz(buf: &mut Vec<u8>, zoned: &TimestampTz) -> Result<usize, 
 }
 
 fn append_interval(buf: &mut Vec<u8>, given: &Interval) -> Result<usize, Error>
-    ensures len { IfOk result (λ n. n ≡ length (extension_payload (interval given.now))) }
-    ensures appended { OnOk result
-        (buf.new.items ≡ buf.old.items ++ extension_payload (interval given.now)) }
-    ensures err { OnErr result (buf.new.items ≡ buf.old.items) }
-    ensures memory { IfErr result (λ e. e ≡ Error.OutOfMemory) }
-    ensures capacity { vec_capacity buf.old ≤ vec_capacity buf.new }
-    ensures room { vec_len buf.old + length (extension_payload (interval given.now))
-        ≤ vec_capacity buf.old
-        → IsOk result }
+    ensures { Appends (extension_payload (interval given.now)) buf.old buf.new result }
 {
     let mut payload = [0; 17];
     payload[0] = EXTENSION_INTERVAL;

@@ -4,6 +4,7 @@ ghost use Rattle.std.specs.Prelude.{◌≡◌, ◌↔◌, ◌≤◌, ◌∷◌, 
 ghost use Rattle.std.specs.Prelude.{IfOk, IfErr, OnOk, OnErr, length, take, IsOk, vec_len};
 ghost use Rattle.std.specs.Prelude.{vec_capacity, ◌+◌, Some};
 ghost use Rattle.std.specs.Int.{w64, w128};
+ghost use Rattle.jsonb_value.specs.Appended.{Appends};
 ghost use Rattle.jsonb_value.specs.declared.number.Number.{Number};
 ghost use Rattle.jsonb_value.specs.Payload.{IsSignedNumber, IsUnsignedNumber, IsWholeLength};
 ghost use Rattle.jsonb_value.specs.Payload.{IsDecimalLength};
@@ -267,13 +268,7 @@ fn uint_len(value: u64) -> usize
 
 #[inline(always)]
 fn append_int(buf: &mut Vec<u8>, value: i64) -> Result<usize, Error>
-    ensures len { IfOk result (λ n. n ≡ length (int_payload value)) }
-    ensures appended { OnOk result (buf.new.items ≡ buf.old.items ++ int_payload value) }
-    ensures err { OnErr result (buf.new.items ≡ buf.old.items) }
-    ensures memory { IfErr result (λ e. e ≡ Error.OutOfMemory) }
-    ensures capacity { vec_capacity buf.old ≤ vec_capacity buf.new }
-    ensures room { vec_len buf.old + length (int_payload value) ≤ vec_capacity buf.old
-        → IsOk result }
+    ensures { Appends (int_payload value) buf.old buf.new result }
 {
     if value == 0 {
         append(buf, &[NUMBER_ZERO])
@@ -296,13 +291,7 @@ fn append_int(buf: &mut Vec<u8>, value: i64) -> Result<usize, Error>
 
 #[inline(always)]
 fn append_uint(buf: &mut Vec<u8>, value: u64) -> Result<usize, Error>
-    ensures len { IfOk result (λ n. n ≡ length (uint_payload value)) }
-    ensures appended { OnOk result (buf.new.items ≡ buf.old.items ++ uint_payload value) }
-    ensures err { OnErr result (buf.new.items ≡ buf.old.items) }
-    ensures memory { IfErr result (λ e. e ≡ Error.OutOfMemory) }
-    ensures capacity { vec_capacity buf.old ≤ vec_capacity buf.new }
-    ensures room { vec_len buf.old + length (uint_payload value) ≤ vec_capacity buf.old
-        → IsOk result }
+    ensures { Appends (uint_payload value) buf.old buf.new result }
 {
     if value == 0 {
         append(buf, &[NUMBER_ZERO])
@@ -324,16 +313,8 @@ fn append_uint(buf: &mut Vec<u8>, value: u64) -> Result<usize, Error>
 }
 
 fn append_decimal64(buf: &mut Vec<u8>, decimal: &Decimal64) -> Result<usize, Error>
-    ensures len { IfOk result
-        (λ n. n ≡ length (decimal_payload w64 decimal.now.value decimal.now.scale)) }
-    ensures appended { OnOk result
-        (buf.new.items ≡ buf.old.items ++ decimal_payload w64 decimal.now.value decimal.now.scale) }
-    ensures err { OnErr result (buf.new.items ≡ buf.old.items) }
-    ensures memory { IfErr result (λ e. e ≡ Error.OutOfMemory) }
-    ensures capacity { vec_capacity buf.old ≤ vec_capacity buf.new }
-    ensures room { vec_len buf.old
-        + length (decimal_payload w64 decimal.now.value decimal.now.scale) ≤ vec_capacity buf.old
-        → IsOk result }
+    ensures { Appends (decimal_payload w64 decimal.now.value decimal.now.scale)
+        buf.old buf.new result }
 {
     let mut payload = [0; 10];
     payload[0] = NUMBER_DECIMAL;
@@ -343,17 +324,8 @@ fn append_decimal64(buf: &mut Vec<u8>, decimal: &Decimal64) -> Result<usize, Err
 }
 
 fn append_decimal128(buf: &mut Vec<u8>, decimal: &Decimal128) -> Result<usize, Error>
-    ensures len { IfOk result
-        (λ n. n ≡ length (decimal_payload w128 decimal.now.value decimal.now.scale)) }
-    ensures appended { OnOk result
-        (buf.new.items ≡ buf.old.items
-        ++ decimal_payload w128 decimal.now.value decimal.now.scale) }
-    ensures err { OnErr result (buf.new.items ≡ buf.old.items) }
-    ensures memory { IfErr result (λ e. e ≡ Error.OutOfMemory) }
-    ensures capacity { vec_capacity buf.old ≤ vec_capacity buf.new }
-    ensures room { vec_len buf.old
-        + length (decimal_payload w128 decimal.now.value decimal.now.scale) ≤ vec_capacity buf.old
-        → IsOk result }
+    ensures { Appends (decimal_payload w128 decimal.now.value decimal.now.scale)
+        buf.old buf.new result }
 {
     let mut payload = [0; 18];
     payload[0] = NUMBER_DECIMAL;

@@ -1,7 +1,7 @@
 //! Appending payloads, whole or not at all.
 
-ghost use Rattle.std.specs.Prelude.{◌≡◌, ◌≤◌, ◌<◌, ◌+◌, ◌^◌, ◌∷◌, ◌++◌, length, IfOk, IfErr, OnOk};
-ghost use Rattle.std.specs.Prelude.{OnErr, IsOk, vec_len, vec_capacity};
+ghost use Rattle.std.specs.Prelude.{◌∷◌, ◌<◌, ◌^◌, length};
+ghost use Rattle.jsonb_value.specs.Appended.{Appends};
 
 use crate::error::Error;
 
@@ -9,12 +9,7 @@ use crate::error::Error;
 /// `buf` are then unchanged.
 #[inline(always)]
 pub fn append(buf: &mut Vec<u8>, payload: &[u8]) -> Result<usize, Error>
-    ensures len { IfOk result (λ n. n ≡ length payload.now) }
-    ensures appended { OnOk result (buf.new.items ≡ buf.old.items ++ payload.now) }
-    ensures err { OnErr result (buf.new.items ≡ buf.old.items) }
-    ensures memory { IfErr result (λ e. e ≡ Error.OutOfMemory) }
-    ensures capacity { vec_capacity buf.old ≤ vec_capacity buf.new }
-    ensures room { vec_len buf.old + length payload.now ≤ vec_capacity buf.old → IsOk result }
+    ensures { Appends payload.now buf.old buf.new result }
 {
     buf.extend_from_slice(payload)?;
     Ok(payload.len())
@@ -24,13 +19,7 @@ pub fn append(buf: &mut Vec<u8>, payload: &[u8]) -> Result<usize, Error>
 /// length in bytes. `OutOfMemory` is the only error; the bytes of `buf` are then unchanged.
 pub fn append_opaque(buf: &mut Vec<u8>, tag: u8, bytes: &[u8]) -> Result<usize, Error>
     requires { length bytes.now < 2 ^ 63 }
-    ensures len { IfOk result (λ n. n ≡ length (tag ∷ bytes.now)) }
-    ensures appended { OnOk result (buf.new.items ≡ buf.old.items ++ tag ∷ bytes.now) }
-    ensures err { OnErr result (buf.new.items ≡ buf.old.items) }
-    ensures memory { IfErr result (λ e. e ≡ Error.OutOfMemory) }
-    ensures capacity { vec_capacity buf.old ≤ vec_capacity buf.new }
-    ensures room { vec_len buf.old + length (tag ∷ bytes.now) ≤ vec_capacity buf.old
-        → IsOk result }
+    ensures { Appends (tag ∷ bytes.now) buf.old buf.new result }
 {
     let size = 1 + bytes.len();
     buf.try_reserve(size)?;

@@ -15,6 +15,13 @@ with_days months days =
 abbrev with_micros : List ℕ → List ℕ → List ℕ
 with_micros front micros = 64 ∷ (take 8 front ++ (micros ++ post_of {X = ℕ} 9 8 (64 ∷ front)))
 
-pub returns-clause-appended : goal.returns-clause-appended
-returns-clause-appended c =
-    grind (arith, common_steps, rules, written_bytes)
+pub returns : goal.returns
+returns c =
+    record {
+      len = search rules;
+      appended = grind (arith, common_steps, rules, written_bytes);
+      err = search rules;
+      memory = search rules;
+      capacity = search rules;
+      room = search rules;
+    }

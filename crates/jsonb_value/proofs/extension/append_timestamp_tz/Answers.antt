@@ -4,6 +4,6 @@ use Rattle.std.proofs.Common.{rules}
 use Rattle.jsonb_value.proofs.Codes.{written_bytes}
 use Rattle.jsonb_value.proofs.extension.append_timestamp_tz.Goals as goal
 
-pub returns-clause-appended : goal.returns-clause-appended
-returns-clause-appended c =
+pub returns : goal.returns
+returns c =
     grind (arith, common_steps, rules, written_bytes)
