@@ -1,5 +1,6 @@
 -- The entries of a document, and the trees that they mean.
 use Rattle.std.specs.Prelude.{◌≡◌, ℕ, List, [], ◌∷◌, length, map, ⊤, Result, Ok, Err}
+use Rattle.std.specs.Borrow.{Bor}
 use Rattle.std.specs.List.{zip}
 use Rattle.jsonb_value.specs.declared.error.Error.{Error}
 use Rattle.jsonb_value.specs.Tree as trees
@@ -43,6 +44,14 @@ key_read (Err e) = []
 -- The entry of a part.
 abbrev pub entry_of_part : Part → Entry
 entry_of_part part = record { type = part.tag; payload = part.payload.now }
+
+-- The tree of a part.
+abbrev pub part_tree : Part → Tree
+part_tree part = entry_tree (entry_of_part part)
+
+-- A key with the tree of its value's part.
+abbrev pub member_part_tree : Bor (List ℕ) × Part → List ℕ × Tree
+member_part_tree member = (member.0.now, part_tree member.1)
 
 -- All entries were read without an error, and each means a tree.
 abbrev pub AreParts : List (Result Entry Error) → Type 0

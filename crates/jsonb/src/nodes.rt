@@ -5,10 +5,12 @@ ghost use Rattle.std.specs.Iterator.{YieldsFirstBy, MakesProgress, item_count};
 ghost use Rattle.jsonb_value.specs.declared.error.Error.{Error};
 ghost use Rattle.jsonb.specs.Item.{Entry};
 ghost use Rattle.jsonb.specs.Facts.{AreParts, AreMembers, rest_trees, rest_pairs};
+ghost use Rattle.jsonb.specs.Facts.{part_tree, member_part_tree};
 ghost use Rattle.jsonb.specs.Node.{node_tree, member_tree, HoldsNoScalar};
 
 use crate::document::Node;
 use crate::entries::Cursor;
+use jsonb_codec::parts::Part;
 use std::marker::Model;
 
 /// The items of an array, in order, as values. The bytes were checked, so there is no error.
@@ -41,6 +43,14 @@ impl<'a> Items<'a> {
         self.entries.len()
     }
 
+    // The next item as a part, to be read as a value where it is used.
+    #[inline(always)]
+    pub(crate) fn next_part(&mut self) -> Option<Part<'a>>
+        ensures { YieldsFirstBy part_tree rest_trees self.old result self.new }
+    {
+        self.entries.next_part()
+    }
+
     // The item at an index among those left, counted from 0. `None` if the index is not below their
     // number.
     pub(crate) fn item_at(self, index: usize) -> Option<Node<'a>>
@@ -69,7 +79,7 @@ impl<'a> Iterator for Items<'a> {
             (λ _. Unit {0}) (item_count rest_trees) self.old result self.new }
         ensures container { IfSome result (HoldsNoScalar) }
     {
-        let part = self.entries.next_part()?;
+        let part = self.next_part()?;
         Some(Node::of_part(part))
     }
 }
@@ -99,6 +109,18 @@ impl<'a> Members<'a> {
         Members { keys, values }
     }
 
+    // The next key, and its value as a part, to be read where it is used.
+    #[inline(always)]
+    pub(crate) fn next_parts(&mut self) -> Option<(&'a str, Part<'a>)>
+        ensures { YieldsFirstBy member_part_tree rest_pairs self.old result self.new }
+    {
+        let key = self.keys.next_part()?;
+        let Some(value) = self.values.next_part() else {
+            unreachable!();
+        };
+        Some((key.text(), value))
+    }
+
     /// The number of members left.
     pub fn len(&self) -> usize
         ensures { result ≡ length (rest_pairs self.now) }
@@ -121,10 +143,7 @@ impl<'a> Iterator for Members<'a> {
             (λ _. Unit {0}) (item_count rest_pairs) self.old result self.new }
         ensures container { IfSome result (λ member. HoldsNoScalar member.1) }
     {
-        let key = self.keys.next_part()?;
-        let Some(value) = self.values.next_part() else {
-            unreachable!();
-        };
-        Some((key.text(), Node::of_part(value)))
+        let (key, value) = self.next_parts()?;
+        Some((key, Node::of_part(value)))
     }
 }

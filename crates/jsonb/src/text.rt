@@ -11,7 +11,7 @@ ghost use Rattle.jsonb_value.specs.Text.{quoted_text, extension_text};
 ghost use Rattle.jsonb_codec.specs.Depth.{depth};
 ghost use Rattle.jsonb_codec.specs.Doc.{Doc};
 ghost use Rattle.jsonb.specs.Document.{document_tree};
-ghost use Rattle.jsonb.specs.Facts.{rest_trees, rest_pairs};
+ghost use Rattle.jsonb.specs.Facts.{part_tree, rest_trees, rest_pairs};
 ghost use Rattle.jsonb.specs.Node.{node_tree, array_of, object_of, IsContainer, HoldsNoScalar};
 ghost use Rattle.jsonb.specs.Texts.{layout_of, lossy_text, other_text, display_text};
 ghost use Rattle.jsonb.specs.Texts.{pretty_display_text};
@@ -20,6 +20,7 @@ ghost use Rattle.jsonb.specs.Lines.{pair_text, HasRoom};
 use crate::document::{Contents, Document, Node};
 use crate::nodes::{Items, Members};
 use bstr::ByteSlice;
+use jsonb_codec::parts::Part;
 use jsonb_value::{Error, ExtensionValue, extension_text, write_number, write_string};
 use std::alloc::Global;
 use std::fmt;
@@ -205,12 +206,12 @@ fn write_items<W: fmt::Write>(
     ensures { WritesStyledOnOk W.write_str_gives f.old result
         (laid_out (layout_of layout) (array_of (rest_trees items.entry))) f.new }
 {
-    let Some(first) = items.next() else {
+    let Some(first) = items.next_part() else {
         return f.write_str("[]");
     };
     f.write_str("[")?;
     write_line(first, layout.inside(), f)?;
-    'items: while let Some(next) = items.next() {
+    'items: while let Some(next) = items.next_part() {
         f.write_str(",")?;
         write_line(next, layout.inside(), f)?;
     }
@@ -222,18 +223,17 @@ fn write_items<W: fmt::Write>(
 #[cycle(text)]
 #[inline(always)]
 fn write_line<W: fmt::Write>(
-    item: Node<'_>,
+    item: Part<'_>,
     layout: Layout,
     f: &mut fmt::Formatter<W>,
 ) -> fmt::Result
-    requires container { HoldsNoScalar item }
-    requires room { HasRoom (layout_of layout) (depth (node_tree item)) }
+    requires room { HasRoom (layout_of layout) (depth (part_tree item)) }
     ensures { WritesStyledOnOk W.write_str_gives f.old result
         (line_start (layout_of layout)
-        ++ laid_out (layout_of layout) (node_tree item.entry)) f.new }
+        ++ laid_out (layout_of layout) (part_tree item.entry)) f.new }
 {
     layout.start_line(f)?;
-    write_node(item, layout, f)
+    write_node(Node::of_part(item), layout, f)
 }
 
 #[cycle(text)]
@@ -247,12 +247,12 @@ fn write_members<W: fmt::Write>(
     ensures { WritesStyledOnOk W.write_str_gives f.old result
         (laid_out (layout_of layout) (object_of (rest_pairs members.entry))) f.new }
 {
-    let Some((key, value)) = members.next() else {
+    let Some((key, value)) = members.next_parts() else {
         return f.write_str("{}");
     };
     f.write_str("{")?;
     write_member(key, value, layout.inside(), f)?;
-    'members: while let Some((key, value)) = members.next() {
+    'members: while let Some((key, value)) = members.next_parts() {
         f.write_str(",")?;
         write_member(key, value, layout.inside(), f)?;
     }
@@ -265,19 +265,18 @@ fn write_members<W: fmt::Write>(
 #[inline(always)]
 fn write_member<W: fmt::Write>(
     key: &str,
-    value: Node<'_>,
+    value: Part<'_>,
     layout: Layout,
     f: &mut fmt::Formatter<W>,
 ) -> fmt::Result
-    requires container { HoldsNoScalar value }
-    requires room { HasRoom (layout_of layout) (depth (node_tree value)) }
+    requires room { HasRoom (layout_of layout) (depth (part_tree value)) }
     ensures { WritesStyledOnOk W.write_str_gives f.old result (line_start (layout_of layout)
-        ++ pair_text (layout_of layout) key.now (node_tree value.entry)) f.new }
+        ++ pair_text (layout_of layout) key.now (part_tree value.entry)) f.new }
 {
     layout.start_line(f)?;
     write_string(key, f)?;
     layout.write_colon(f)?;
-    write_node(value, layout, f)
+    write_node(Node::of_part(value), layout, f)
 }
 
 #[tactic(auto, using(jsonb_value::proofs::Writing::joins))]

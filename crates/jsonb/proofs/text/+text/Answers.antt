@@ -1,31 +1,49 @@
-use Rattle.std.proofs.Common.{rules, ◌++◌, codes, refl, ap, arith}
-use Rattle.jsonb_value.specs.Text.{inside, line_start, laid_out}
+use Rattle.std.proofs.Common.{rules, ◌++◌, codes, refl, sym, ap, subst, arith}
+use Rattle.jsonb_value.specs.Text.{inside, line_start, colon, laid_out}
 use Rattle.jsonb_value.specs.Value.{trees_of}
 use Rattle.jsonb_value.proofs.Writing.{joins_two, joins_three}
-use Rattle.jsonb.specs.Facts.{rest_trees, rest_pairs}
-use Rattle.jsonb.specs.Lines.{item_lines, pair_lines, pair_text}
-use Rattle.jsonb.specs.Node.{node_tree, pairs_of}
+use Rattle.jsonb.specs.Facts.{part_tree, rest_trees, rest_pairs}
+use Rattle.jsonb.specs.Lines.{item_lines, pair_lines, pair_text, HasRoom}
+use Rattle.jsonb_codec.specs.Depth.{depth, size}
+use Rattle.jsonb.specs.Node.{pairs_of}
+use Rattle.jsonb.proofs.FactLaws.{entry_tree-node}
 use Rattle.jsonb.specs.Texts.{layout_of}
 use Rattle.jsonb.proofs.LineLaws.{items_begin, items_behind, pairs_begin, pairs_behind, lines_next}
 use Rattle.jsonb.proofs.text.+text.Goals as goal
 
+pub write_line-write_node-requires : goal.write_line-write_node-requires
+write_line-write_node-requires g t c κs within =
+    let is = entry_tree-node c.args.item c.of_part.result c.of_part.ensures.means in (
+      omega (arith, ap size is),
+      (
+        within,
+        (
+          c.of_part.ensures.container,
+          subst (λ u. HasRoom (layout_of c.args.layout) (depth u)) is c.requires.room,
+        ),
+      ),
+    )
+
 pub write_line-returns : goal.write_line-returns
 write_line-returns g t c flush ok =
+    let l = layout_of c.args.layout in
+    let is = entry_tree-node c.args.item c.of_part.result c.of_part.ensures.means in
     let one = c.start_line.ensures flush (search rules) in
     let two = c.write_node.ensures one.flush ok in
-    joins_two _ _ _ _ _ _ _ one two refl
+    joins_two _ _ _ _ _ _ _ one two (ap (λ t. line_start l ++ laid_out l t) (sym is))
 
 pub write_items-items-init : goal.write_items-items-init
 write_items-items-init g t c =
     let l = layout_of c.args.layout in
-    let u = node_tree c.in-Some.first in
+    let u = part_tree c.in-Some.first in
     let behind = items_behind (rest_trees c.args.items)
-    (rest_trees c.next.new.self) u c.in-Some.ensures.steps in (
+    (rest_trees c.next_part.new.self) u c.in-Some.ensures in (
       behind.less,
       behind.no_deeper,
       codes "[" ++ (line_start (inside l) ++ laid_out (inside l) u),
-      items_begin l (trees_of (rest_trees c.args.items)) u (trees_of (rest_trees c.next.new.self))
-          (ap trees_of c.in-Some.ensures.steps),
+      items_begin l (trees_of (rest_trees c.args.items)) u
+          (trees_of (rest_trees c.next_part.new.self))
+          (ap trees_of c.in-Some.ensures),
       λ flush.
           let one = c.write_str-2.ensures.styled flush (search rules) in
           let two = c.write_line.ensures one.flush (search rules) in
@@ -37,22 +55,22 @@ pub write_items-items-preserved : goal.write_items-items-preserved
 write_items-items-preserved g t c =
     let l = layout_of c.args.layout in
     let end = line_start l ++ codes "]" in
-    let u = node_tree c.in-Some-next.next in
+    let u = part_tree c.in-Some-next_part.next in
     let line = laid_out (inside l) u in
-    let left = rest_trees c.next-in-items.new.self in
+    let left = rest_trees c.next_part-in-items.new.self in
     let (less, no_deeper, done, whole, writes) = c.items.invariant in
-    let behind = items_behind (rest_trees c.items.items) left u c.in-Some-next.ensures.steps in (
+    let behind = items_behind (rest_trees c.items.items) left u c.in-Some-next_part.ensures in (
       omega (arith, behind.less, less),
       omega (arith, behind.no_deeper, no_deeper),
       done ++ (codes "," ++ (line_start (inside l) ++ line)),
       lines_next (inside l) done end _ line (item_lines (inside l) (trees_of left))
-          (rw c.in-Some-next.ensures.steps at whole),
+          (rw c.in-Some-next_part.ensures at whole),
       λ flush.
           let so_far = writes flush in
-          let one = c.write_str-in-Some-next.ensures.styled so_far.flush (search rules) in
-          let two = c.write_line-in-Some-next.ensures one.flush (search rules) in
+          let one = c.write_str-in-Some-next_part.ensures.styled so_far.flush (search rules) in
+          let two = c.write_line-in-Some-next_part.ensures one.flush (search rules) in
           joins_three _ _ _ _ _ _ _ _ _ so_far one two
-          (cc c.inside-in-Some-next.ensures),
+          (cc c.inside-in-Some-next_part.ensures),
     )
 
 pub write_items-returns : goal.write_items-returns
@@ -64,7 +82,22 @@ write_items-returns g t c flush ok =
     let one = c.start_line.ensures so_far.flush (search rules) in
     let two = c.write_str-3.ensures.styled one.flush ok in
     joins_three _ _ _ _ _ _ _ _ _ so_far one two
-    (rw c.in_default-next.ensures.steps.0 at whole)
+    (rw c.in_default-next_part.ensures.0 at whole)
+
+pub write_member-write_node-requires : goal.write_member-write_node-requires
+write_member-write_node-requires g t c κs within =
+    let is = entry_tree-node c.args.value c.of_part.result c.of_part.ensures.means in
+    let l = layout_of c.args.layout in
+    let room : HasRoom l (depth (part_tree c.args.value)) = search rules in (
+      omega (arith, ap size is),
+      (
+        within,
+        (
+          c.of_part.ensures.container,
+          subst (λ u. HasRoom l (depth u)) is room,
+        ),
+      ),
+    )
 
 pub write_member-returns : goal.write_member-returns
 write_member-returns g t c flush ok =
@@ -72,21 +105,24 @@ write_member-returns g t c flush ok =
     let two = c.write_string.ensures one.flush (search rules) in
     let three = c.write_colon.ensures two.flush (search rules) in
     let four = c.write_node.ensures three.flush ok in
-    let ends = joins_two _ _ _ _ _ _ _ three four refl in
+    let l = layout_of c.args.layout in
+    let is = entry_tree-node c.args.value c.of_part.result c.of_part.ensures.means in
+    let ends =
+    joins_two _ _ _ _ _ _ _ three four (ap (λ t. colon l ++ laid_out l t) (sym is)) in
     joins_three _ _ _ _ _ _ _ _ _ one two ends refl
 
 pub write_members-members-init : goal.write_members-members-init
 write_members-members-init g t c =
     let l = layout_of c.args.layout in
     let k = c.in-Some.key.now in
-    let u = node_tree c.in-Some.value in
+    let u = part_tree c.in-Some.value in
     let behind = pairs_behind (rest_pairs c.args.members)
-    (rest_pairs c.next.new.self) k u c.in-Some.ensures.steps in (
+    (rest_pairs c.next_parts.new.self) k u c.in-Some.ensures in (
       behind.less,
       behind.no_deeper,
       codes "{" ++ (line_start (inside l) ++ pair_text (inside l) k u),
       pairs_begin l (pairs_of (rest_pairs c.args.members)) k u
-          (pairs_of (rest_pairs c.next.new.self)) (ap pairs_of c.in-Some.ensures.steps),
+          (pairs_of (rest_pairs c.next_parts.new.self)) (ap pairs_of c.in-Some.ensures),
       λ flush.
           let one = c.write_str-2.ensures.styled flush (search rules) in
           let two = c.write_member.ensures one.flush (search rules) in
@@ -98,24 +134,24 @@ pub write_members-members-preserved : goal.write_members-members-preserved
 write_members-members-preserved g t c =
     let l = layout_of c.args.layout in
     let end = line_start l ++ codes "}" in
-    let k = c.in-Some-next.key.now in
-    let u = node_tree c.in-Some-next.value in
+    let k = c.in-Some-next_parts.key.now in
+    let u = part_tree c.in-Some-next_parts.value in
     let line = pair_text (inside l) k u in
-    let left = rest_pairs c.next-in-members.new.self in
+    let left = rest_pairs c.next_parts-in-members.new.self in
     let (less, no_deeper, done, whole, writes) = c.members.invariant in
     let behind =
-    pairs_behind (rest_pairs c.members.members) left k u c.in-Some-next.ensures.steps in (
+    pairs_behind (rest_pairs c.members.members) left k u c.in-Some-next_parts.ensures in (
       omega (arith, behind.less, less),
       omega (arith, behind.no_deeper, no_deeper),
       done ++ (codes "," ++ (line_start (inside l) ++ line)),
       lines_next (inside l) done end _ line (pair_lines (inside l) (pairs_of left))
-          (rw c.in-Some-next.ensures.steps at whole),
+          (rw c.in-Some-next_parts.ensures at whole),
       λ flush.
           let so_far = writes flush in
-          let one = c.write_str-in-Some-next.ensures.styled so_far.flush (search rules) in
-          let two = c.write_member-in-Some-next.ensures one.flush (search rules) in
+          let one = c.write_str-in-Some-next_parts.ensures.styled so_far.flush (search rules) in
+          let two = c.write_member-in-Some-next_parts.ensures one.flush (search rules) in
           joins_three _ _ _ _ _ _ _ _ _ so_far one two
-          (cc c.inside-in-Some-next.ensures),
+          (cc c.inside-in-Some-next_parts.ensures),
     )
 
 pub write_members-returns : goal.write_members-returns
@@ -127,4 +163,4 @@ write_members-returns g t c flush ok =
     let one = c.start_line.ensures so_far.flush (search rules) in
     let two = c.write_str-3.ensures.styled one.flush ok in
     joins_three _ _ _ _ _ _ _ _ _ so_far one two
-    (rw c.in_default-next.ensures.steps.0 at whole)
+    (rw c.in_default-next_parts.ensures.0 at whole)

@@ -4,7 +4,7 @@ use Rattle.jsonb_value.specs.Text.{inside, line_start, laid_out}
 use Rattle.jsonb_value.specs.Value.{trees_of}
 use Rattle.jsonb_codec.specs.Depth.{depths, pair_depths, size, sizes, pair_sizes}
 use Rattle.jsonb.specs.Document.{document_tree}
-use Rattle.jsonb.specs.Facts.{rest_trees, rest_pairs}
+use Rattle.jsonb.specs.Facts.{part_tree, rest_trees, rest_pairs}
 use Rattle.jsonb.specs.Lines.{more_lines, item_lines, pair_lines}
 use Rattle.jsonb.specs.Node.{node_tree, pairs_of, array_of, object_of}
 use Rattle.jsonb.specs.Texts.{layout_of}
@@ -20,13 +20,13 @@ abbrev pub decreases-write_items : goal.decreases-write_items
 decreases-write_items g l = 4 * sizes (trees_of (rest_trees l.items)) + 3
 
 abbrev pub decreases-write_line : goal.decreases-write_line
-decreases-write_line g l = 4 * size (node_tree l.item) + 2
+decreases-write_line g l = 4 * size (part_tree l.item) + 2
 
 abbrev pub decreases-write_members : goal.decreases-write_members
 decreases-write_members g l = 4 * pair_sizes (pairs_of (rest_pairs l.members)) + 3
 
 abbrev pub decreases-write_member : goal.decreases-write_member
-decreases-write_member g l = 4 * size (node_tree l.value) + 2
+decreases-write_member g l = 4 * size (part_tree l.value) + 2
 
 -- what is written so far, followed by what is left to write, up to the closing bracket
 abbrev pub invariant-write_items-items : goal.invariant-write_items-items

@@ -1,11 +1,10 @@
-use Rattle.std.proofs.Common.{◌∷◌, sym, ap, ◌∙◌}
+use Rattle.std.proofs.Common.{◌∷◌, ap, ◌∙◌}
 use Rattle.jsonb.specs.Facts.{rest_trees}
 use Rattle.jsonb.proofs.FactLaws.{entry_tree-node}
 use Rattle.jsonb.proofs.nodes.ItemsIterator.next.Goals as goal
 
 pub returns-clause-steps : goal.returns-clause-steps
 returns-clause-steps c =
-    sym (ap rest_trees c.self.view_is)
-    ∙ ap rest_trees c.in_ok-part.ensures.steps
+    c.in_ok-part.ensures
     ∙ ap (λ t. t ∷ rest_trees c.next_part.new.self)
     (entry_tree-node c.in_ok-part.part c.of_part.result c.of_part.ensures.means)
