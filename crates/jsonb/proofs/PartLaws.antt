@@ -79,15 +79,6 @@ word_cut bytes i short = rw (lt-leb (i + 4) (length bytes) short)
 
 -- the value's entry, given its entry word and its offset
 module _ (bytes : List ℕ) (n pair : ℕ) where
-  pub value_cut : length bytes < 4 + 4 * (n + pair) + 4 → value_entry bytes n pair ≡ Err InvalidEOF
-  unfolding entry_at
-  value_cut short = rw (word_cut bytes (4 + 4 * (n + pair)) short)
-
-  pub value_refused : (e : Error) → Err e ≡ jentry_at bytes (4 + 4 * (n + pair))
-      → value_entry bytes n pair ≡ Err e
-  unfolding entry_at
-  value_refused e cut = rw (← cut)
-
   pub value_told : (start : ℕ) (jentry : JEntry) → Ok jentry ≡ jentry_at bytes (4 + 4 * (n + pair))
       → start ≡ part_start bytes n (n + pair) → (r : Result (List ℕ) Error)
       → part_at bytes start jentry.length ≡ r

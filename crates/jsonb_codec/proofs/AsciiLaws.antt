@@ -25,7 +25,8 @@ on_true b P f = grind arith
 
 -- an empty mask means that each of its bytes is ASCII
 pub ascii_by_mask : (bytes : List ℕ) (i n : ℕ) → i + n ≤ length bytes → n ≤ 64
-    → OnTrue (mask_l (map (top 7) (zip2 at_least (replicate n 128) (chunk i n bytes))) % 2 ^ 64 == 0)
+    → OnTrue
+    (mask_l (map (top 7) (zip2 at_least (replicate n 128) (chunk i n bytes))) % 2 ^ 64 == 0)
     (IsAsciiWithin bytes i (i + n))
 ascii_by_mask bytes i n within few =
     let mask = mask_l (map (top 7) (zip2 at_least (replicate n 128) (chunk i n bytes))) % 2 ^ 64 in

@@ -99,7 +99,8 @@ module _ (b : List ℕ) (cs : List Entry) (is : AreEntries cs) (entries_at : At 
       (None, (rw test refl, sym absent))
 
 -- What holds of the documents of each kind of tree holds of every document.
-pub by_kind : (P : Tree → Type 0) (b : List ℕ) → ((ts : Trees) → Payload (array ts) b → P (array ts))
+pub by_kind : (P : Tree → Type 0) (b : List ℕ)
+    → ((ts : Trees) → Payload (array ts) b → P (array ts))
     → ((ps : Pairs) → Payload (object ps) b → P (object ps)) → (Scalar null b → P null)
     → ((x : Bool) → Scalar (boolean x) b → P (boolean x))
     → ((x : Number) → Scalar (number x) b → P (number x))

@@ -3,10 +3,10 @@
 //! A measure continues from a start, and ends before a container whose children would begin past a
 //! limit. An object's members are located only within the limit, since that may take a step for
 //! each of them. To find a container child's length, the child or its later siblings are measured:
-//! with a guess whichever is shorter by it, without one both in turn, up to limits that grow. Before
-//! that a few later siblings are measured up to a small limit, since they are often short. The
-//! length of what is not measured is what remains of the whole. So at each level the work is at most
-//! a fixed multiple of all children but the largest, and a document takes time n log n.
+//! with a guess whichever is shorter by it, without one both in turn, up to limits that grow.
+//! Before that a few later siblings are measured up to a small limit, since they are often short.
+//! The length of what is not measured is what remains of the whole. So at each level the work is at
+//! most a fixed multiple of all children but the largest, and a document takes time n log n.
 
 ghost use Rattle.std.specs.Prelude.{◌≡◌, ◌≤◌, ◌<◌, ◌+◌, ◌^◌, length, IfSome, IfNone, OnSome};
 ghost use Rattle.std.specs.Prelude.{IfOk, IfErr, OnOk, OnErr};
