@@ -20,9 +20,10 @@ def root_names(crate):
 
 
 def exported():
-    """What the libraries above `jsonb_codec` export at their roots, by the library it is of."""
+    """What the upper libraries and `json_fault` export at their roots, by the library it is of."""
     names = {}
-    for crate in ("jsonb", "jsonb_composition", "jsonb_column", "jsonb_comparable"):
+    crates = ("jsonb", "jsonb_composition", "jsonb_column", "jsonb_comparable", "json_fault")
+    for crate in crates:
         for source, name in root_names(crate):
             library = source if source.startswith("jsonb_") else crate
             names.setdefault(library, set()).add(name)

@@ -23,6 +23,8 @@ mod encoding;
 #[cfg(test)]
 mod errors;
 #[cfg(test)]
+mod faults;
+#[cfg(test)]
 mod items;
 #[cfg(test)]
 mod lookup;

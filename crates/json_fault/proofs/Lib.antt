@@ -1,0 +1,15 @@
+mod Conditions
+mod Endings
+mod StringBack
+mod NumberBack
+mod StepBack
+mod Completions
+mod Going
+mod StringGoes
+mod NumberGoes
+mod ValueGoes
+mod OpenBrackets
+mod Scanning
+mod NumbersLeftOut
+mod NumberSteps
+mod Offsets

@@ -1,0 +1,517 @@
+-- What completes a text after a character, completes it with the character before it.
+use Rattle.std.proofs.Common.{◌≡◌, ℕ, inl, inr, Bool, true, false, cond, refl, sym, ap, ◌∙◌}
+use Rattle.std.proofs.Common.{subst, List, [], ◌∷◌, ◌++◌, append_assoc, Some}
+use Rattle.std.proofs.Common.{eqb-true}
+use Rattle.std.specs.Prelude.{◌==◌, codes, option_map}
+use Rattle.jsonb_value.specs.Tree.{Tree, null, array, object, text, boolean, no_trees, tree}
+use Rattle.jsonb_value.specs.Tree.{no_pairs}
+use Rattle.jsonb_value.specs.Value.{trees_of}
+use Rattle.jsonb_value.specs.Json.Characters.{quote, comma, colon, open_bracket, close_bracket}
+use Rattle.jsonb_value.specs.Json.Characters.{open_brace, close_brace, is_blank, all_blank, minus}
+use Rattle.jsonb_value.specs.Json.Piece.{pieces_text}
+use Rattle.jsonb_value.specs.Json.Syntax.{Syntax, nothing, truth, string, empty_array, items}
+use Rattle.jsonb_value.specs.Json.Syntax.{empty_object, members, Element, element, Items, no_item}
+use Rattle.jsonb_value.specs.Json.Syntax.{next_item, Member, member, Members, no_member}
+use Rattle.jsonb_value.specs.Json.Syntax.{next_member}
+use Rattle.jsonb_value.specs.Json.Syntax.{Entries, element_text, items_text, member_text}
+use Rattle.jsonb_value.specs.Json.Syntax.{members_text, meaning, element_meaning, items_meaning}
+use Rattle.jsonb_value.specs.Json.Syntax.{member_meaning, members_meaning, syntax_text}
+use Rattle.jsonb_value.specs.Json.Syntax.{pairs, insert_all, Json}
+use Rattle.jsonb_value.proofs.Json.Tests.{and_both, by_true, bound, cond_some, chosen}
+use Rattle.jsonb_value.proofs.Json.Tests.{some_same, no_error, bind_then}
+use Rattle.json_fault.specs.declared.string.Place.{Place}
+use Rattle.json_fault.specs.declared.string.Place.TheVariants.{Inside}
+use Rattle.json_fault.specs.declared.expected.Bracket.{Bracket}
+use Rattle.json_fault.specs.declared.expected.Bracket.TheVariants.{Array, Object}
+use Rattle.json_fault.specs.declared.expected.Word.{Word}
+use Rattle.json_fault.specs.declared.expected.Word.TheVariants.{Rue, Ue, E, Alse, Lse, Se, Ull, Ll}
+use Rattle.json_fault.specs.declared.expected.Word.TheVariants.{L}
+use Rattle.json_fault.specs.declared.expected.Expected.{Expected}
+use Rattle.json_fault.specs.declared.expected.Expected.TheVariants.{Value, FirstItem, FirstKey}
+use Rattle.json_fault.specs.declared.expected.Expected.TheVariants.{Key, Colon, Rest, Letters}
+use Rattle.json_fault.specs.declared.expected.Expected.TheVariants.{Digits, Content, Name}
+use Rattle.json_fault.specs.declared.expected.Change.TheVariants.{Keep, Close}
+use Rattle.json_fault.specs.Scan.{Move, keep, changed, innermost, followed, value_begun}
+use Rattle.json_fault.specs.Scan.{number_first}
+use Rattle.json_fault.specs.Scan.{number_begun, rest_begun, rest_followed, mark_begun}
+use Rattle.json_fault.specs.Scan.{word_continued, is_viable, is_closed}
+use Rattle.json_fault.specs.Scan.{number_continued, string_continued}
+use Rattle.json_fault.proofs.Conditions.{either_found}
+use Rattle.json_fault.proofs.Endings.{After, ValueEnd, StringEnd, ColonEnd, KeyEnd, ItemsEnd}
+use Rattle.json_fault.proofs.Endings.{MembersEnd, Ends, Literal, letters, PlaceEnd, Completes}
+use Rattle.json_fault.proofs.StringBack.{place_back, quote_back}
+use Rattle.json_fault.proofs.NumberBack.{value_of_sign, sign_back, number_back, number_ends}
+
+-- ---- white space
+
+after_blank : (k : ℕ) (P : List ℕ → Type 0) (c : ℕ) (w : List ℕ) → is_blank c ≡ true → After k P w
+    → After k P (c ∷ w)
+after_blank k P c w is end = record {
+  blank = c ∷ end.blank;
+  is_blank = and_both _ _ is end.is_blank;
+  rest = end.rest;
+  is_spelled = ap (λ r. c ∷ r) end.is_spelled;
+  ends = end.ends;
+}
+
+value_blank : (P : List ℕ → Type 0) (c : ℕ) (w : List ℕ) → is_blank c ≡ true → ValueEnd P w
+    → ValueEnd P (c ∷ w)
+value_blank P c w is end = record {
+  before = c ∷ end.before;
+  is_blank = and_both _ _ is end.is_blank;
+  syntax = end.syntax;
+  tree = end.tree;
+  is_meant = end.is_meant;
+  rest = end.rest;
+  is_spelled = ap (λ r. c ∷ r) end.is_spelled;
+  ends = end.ends;
+}
+
+ends_blank : (bs : List Bracket) (c : ℕ) (w : List ℕ) → is_blank c ≡ true → Ends bs w
+    → Ends bs (c ∷ w)
+unfolding Ends
+ends_blank [] c w is end = and_both _ _ is end
+ends_blank (Array ∷ bs) c w is end = record {
+  blank = c ∷ end.blank;
+  is_blank = and_both _ _ is end.is_blank;
+  items = end.items;
+  trees = end.trees;
+  is_meant = end.is_meant;
+  rest = end.rest;
+  is_spelled = ap (λ r. c ∷ r) end.is_spelled;
+  ends = end.ends;
+}
+ends_blank (Object ∷ bs) c w is end = record {
+  blank = c ∷ end.blank;
+  is_blank = and_both _ _ is end.is_blank;
+  members = end.members;
+  entries = end.entries;
+  is_meant = end.is_meant;
+  rest = end.rest;
+  is_spelled = ap (λ r. c ∷ r) end.is_spelled;
+  ends = end.ends;
+}
+
+-- ---- items and members
+
+-- a value and the rest of its array
+record ItemsFront (P : List ℕ → Type 0) (w : List ℕ) : Type 0 where
+  first : Element
+  first_tree : Tree
+  others : Items
+  trees : List Tree
+  first_meant : element_meaning first ≡ Some first_tree
+  others_meant : items_meaning others ≡ Some trees
+  rest : List ℕ
+  is_spelled : w ≡ element_text first ++ (items_text others ++ rest)
+  ends : P rest
+
+regroup : (a s b t r : List ℕ) → a ++ (s ++ (b ++ (t ++ r))) ≡ (a ++ (s ++ b)) ++ (t ++ r)
+regroup a s b t r = simp append_assoc
+
+element_is : (before after : List ℕ) (x : Syntax) (t : Tree) → all_blank before ≡ true
+    → all_blank after ≡ true → meaning x ≡ Some t
+    → element_meaning (element before x after) ≡ Some t
+element_is before after x t front back is = by_true _ _ _ _ (and_both _ _ front back) is
+
+items_front : (P : List ℕ → Type 0) (w : List ℕ) → ValueEnd (ItemsEnd P) w → ItemsFront P w
+items_front P w v =
+    let i = v.ends in
+    record {
+      first = element v.before v.syntax i.blank;
+      first_tree = v.tree;
+      others = i.items;
+      trees = i.trees;
+      first_meant = element_is v.before i.blank v.syntax v.tree v.is_blank i.is_blank v.is_meant;
+      others_meant = i.is_meant;
+      rest = i.rest;
+      is_spelled = v.is_spelled
+          ∙ ap (λ r. v.before ++ (syntax_text v.syntax ++ r)) i.is_spelled
+          ∙ regroup v.before (syntax_text v.syntax) i.blank (items_text i.items) i.rest;
+      ends = i.ends;
+    }
+
+-- a member and the rest of its object
+record MembersFront (P : List ℕ → Type 0) (w : List ℕ) : Type 0 where
+  first : Member
+  entry : List ℕ × Tree
+  others : Members
+  entries : Entries
+  first_meant : member_meaning first ≡ Some entry
+  others_meant : members_meaning others ≡ Some entries
+  rest : List ℕ
+  is_spelled : w ≡ member_text first ++ (members_text others ++ rest)
+  ends : P rest
+
+regroup_member : (a p b x s t ms r : List ℕ) (q k : ℕ)
+    → a ++ q ∷ (p ++ q ∷ (b ++ k ∷ (x ++ (s ++ (t ++ (ms ++ r))))))
+    ≡ (a ++ ((q ∷ (p ++ q ∷ [])) ++ (b ++ k ∷ (x ++ (s ++ t))))) ++ (ms ++ r)
+regroup_member a p b x s t ms r q k = simp append_assoc
+
+members_front : (P : List ℕ → Type 0) (w : List ℕ) → KeyEnd (MembersEnd P) w → MembersFront P w
+members_front P w k =
+    let s = k.ends in
+    let a = s.ends in
+    let v = a.ends in
+    let i = v.ends in
+    record {
+      first = member k.blank s.pieces a.blank (element v.before v.syntax i.blank);
+      entry = (s.bytes, v.tree);
+      others = i.members;
+      entries = i.entries;
+      first_meant = bound _ _ _ s.bytes
+          (by_true _ _ _ _ (and_both _ _ k.is_blank a.is_blank) s.is_meant)
+          (bound _ _ _ v.tree
+          (element_is v.before i.blank v.syntax v.tree v.is_blank i.is_blank v.is_meant) refl);
+      others_meant = i.is_meant;
+      rest = i.rest;
+      is_spelled = k.is_spelled
+          ∙ ap (λ r. k.blank ++ quote ∷ r) (s.is_spelled
+          ∙ ap (λ r. pieces_text s.pieces ++ quote ∷ r) (a.is_spelled
+          ∙ ap (λ r. a.blank ++ colon ∷ r) (v.is_spelled
+          ∙ ap (λ r. v.before ++ (syntax_text v.syntax ++ r)) i.is_spelled)))
+          ∙ regroup_member k.blank (pieces_text s.pieces) a.blank v.before (syntax_text v.syntax)
+          i.blank (members_text i.members) i.rest quote colon;
+      ends = i.ends;
+    }
+
+-- ---- values
+
+-- a value at the front
+pub value_front : (P : List ℕ → Type 0) (x : Syntax) (t : Tree) (rest : List ℕ) → meaning x ≡ Some t
+    → P rest → ValueEnd P (syntax_text x ++ rest)
+value_front P x t rest is end = record {
+  before = [];
+  is_blank = refl;
+  syntax = x;
+  tree = t;
+  is_meant = is;
+  rest = rest;
+  is_spelled = refl;
+  ends = end;
+}
+
+string_value : (P : List ℕ → Type 0) (w : List ℕ) → StringEnd P w → ValueEnd P (quote ∷ w)
+string_value P w s =
+    rw s.is_spelled (subst (λ (r : List ℕ). ValueEnd P (quote ∷ r))
+    (append_assoc (pieces_text s.pieces) (quote ∷ []) s.rest)
+    (value_front P (string s.pieces) (text s.bytes) s.rest (ap (option_map text) s.is_meant)
+    s.ends))
+
+array_value : (bs : List Bracket) (w : List ℕ) → Completes FirstItem (Array ∷ bs) w
+    → ValueEnd (Ends bs) (open_bracket ∷ w)
+unfolding Ends
+array_value bs w end = elim end [
+  | inl a ↦
+      rw a.is_spelled (subst (λ (r : List ℕ). ValueEnd (Ends bs) (open_bracket ∷ r))
+      (append_assoc a.blank (close_bracket ∷ []) a.rest)
+      (value_front (Ends bs) (empty_array a.blank) (array no_trees) a.rest
+      (by_true _ _ _ _ (and_both _ _ a.is_blank refl) refl) a.ends))
+  | inr v ↦
+      let f = items_front (Ends bs) w v in
+      rw f.is_spelled (subst (λ (r : List ℕ). ValueEnd (Ends bs) (open_bracket ∷ r))
+      (append_assoc (element_text f.first) (items_text f.others) f.rest)
+      (value_front (Ends bs) (items f.first f.others) (array (tree f.first_tree (trees_of f.trees)))
+      f.rest (bound _ _ _ _ f.first_meant (bound _ _ _ _ f.others_meant refl)) f.ends))
+]
+
+object_value : (bs : List Bracket) (w : List ℕ) → Completes FirstKey (Object ∷ bs) w
+    → ValueEnd (Ends bs) (open_brace ∷ w)
+unfolding Ends
+object_value bs w end = elim end [
+  | inl a ↦
+      rw a.is_spelled (subst (λ (r : List ℕ). ValueEnd (Ends bs) (open_brace ∷ r))
+      (append_assoc a.blank (close_brace ∷ []) a.rest)
+      (value_front (Ends bs) (empty_object a.blank) (object no_pairs) a.rest
+      (by_true _ _ _ _ (and_both _ _ a.is_blank refl) refl) a.ends))
+  | inr v ↦
+      let f = members_front (Ends bs) w v in
+      rw f.is_spelled (subst (λ (r : List ℕ). ValueEnd (Ends bs) (open_brace ∷ r))
+      (append_assoc (member_text f.first) (members_text f.others) f.rest)
+      (value_front (Ends bs) (members f.first f.others)
+      (object (pairs (insert_all [] (f.entry ∷ f.entries))))
+      f.rest (bound _ _ _ _ f.first_meant (bound _ _ _ _ f.others_meant refl)) f.ends))
+]
+
+word_value : (P : List ℕ → Type 0) (x : Syntax) (t : Tree) (k : ℕ) (ks w : List ℕ)
+    → meaning x ≡ Some t → syntax_text x ≡ k ∷ ks → Literal ks P w → ValueEnd P (k ∷ w)
+word_value P x t k ks w is spelled l =
+    rw l.is_spelled (subst (λ (s : List ℕ). ValueEnd P (s ++ l.rest)) spelled
+    (value_front P x t l.rest is l.ends))
+
+-- what completes a text after a step
+abbrev pub Goes : Move → List Bracket → List ℕ → Type 0
+Goes m bs w = Completes m.0 (changed m.1 bs) w
+
+-- the step is known
+known : (m n : Move) (bs : List Bracket) (w : List ℕ) → Some m ≡ Some n → Goes n bs w → Goes m bs w
+known m n bs w e end = subst (λ (x : Move). Goes x bs w) (sym (some_same m n e)) end
+
+number_value : (bs : List Bracket) (m : Move) (c : ℕ) (w : List ℕ) → number_first c ≡ Some m
+    → Goes m bs w → ValueEnd (Ends bs) (c ∷ w)
+number_value bs m c w e end = elim (chosen (c == minus) _ _ _ e) [
+  | inl is ↦
+      rw (eqb-true c minus is.0) (value_of_sign (Ends bs) true w (known _ m bs w is.1 end))
+  | inr other ↦ bind_then (number_begun false c) _ _ other.1 (λ n first more.
+      value_of_sign (Ends bs) false (c ∷ w) (sign_back (Ends bs) false n c w first
+      (known (Digits n, Keep) m bs w more end)))
+]
+
+word_begun : (bs : List Bracket) (m : Move) (c : ℕ) (w : List ℕ)
+    → cond (c == 116) (keep (Letters Rue)) (cond (c == 102) (keep (Letters Alse))
+    (cond (c == 110) (keep (Letters Ull)) (number_first c))) ≡ Some m
+    → Goes m bs w → ValueEnd (Ends bs) (c ∷ w)
+word_begun bs m c w e end = elim (chosen (c == 116) _ _ _ e) [
+  | inl is ↦
+      rw (eqb-true c 116 is.0) (word_value (Ends bs) (truth true) (boolean true) 116 (codes "rue") w
+      refl refl (known _ m bs w is.1 end))
+  | inr other ↦ elim (chosen (c == 102) _ _ _ other.1) [
+    | inl is ↦
+        rw (eqb-true c 102 is.0) (word_value (Ends bs) (truth false) (boolean false) 102
+        (codes "alse") w refl refl (known _ m bs w is.1 end))
+    | inr other ↦ elim (chosen (c == 110) _ _ _ other.1) [
+      | inl is ↦
+          rw (eqb-true c 110 is.0) (word_value (Ends bs) nothing null 110 (codes "ull") w refl
+          refl (known _ m bs w is.1 end))
+      | inr other ↦ number_value bs m c w other.1 end
+    ]
+  ]
+]
+
+value_back : (bs : List Bracket) (m : Move) (c : ℕ) (w : List ℕ) → value_begun c ≡ Some m
+    → Goes m bs w → ValueEnd (Ends bs) (c ∷ w)
+value_back bs m c w e end = elim (chosen (c == quote) _ _ _ e) [
+  | inl is ↦ rw (eqb-true c quote is.0) (string_value (Ends bs) w (known _ m bs w is.1 end))
+  | inr other ↦ elim (chosen (c == open_bracket) _ _ _ other.1) [
+    | inl is ↦ rw (eqb-true c open_bracket is.0) (array_value bs w (known _ m bs w is.1 end))
+    | inr other ↦ elim (chosen (c == open_brace) _ _ _ other.1) [
+      | inl is ↦ rw (eqb-true c open_brace is.0) (object_value bs w (known _ m bs w is.1 end))
+      | inr other ↦ word_begun bs m c w other.1 end
+    ]
+  ]
+]
+
+-- ---- marks
+
+pub key_back : (P : List ℕ → Type 0) (c : ℕ) (w : List ℕ) → c ≡ quote → StringEnd (ColonEnd P) w
+    → KeyEnd P (c ∷ w)
+key_back P c w is end = record {
+  blank = [];
+  is_blank = refl;
+  rest = w;
+  is_spelled = ap (λ x. x ∷ w) is;
+  ends = end;
+}
+
+pub mark_back : (k : ℕ) (P : List ℕ → Type 0) (c : ℕ) (w : List ℕ) → c ≡ k → P w → After k P (c ∷ w)
+mark_back k P c w is end = record {
+  blank = [];
+  is_blank = refl;
+  rest = w;
+  is_spelled = ap (λ x. x ∷ w) is;
+  ends = end;
+}
+
+array_back : (bs : List Bracket) (m : Move) (c : ℕ) (w : List ℕ)
+    → rest_begun (Some Array) c ≡ Some m → Goes m (Array ∷ bs) w → ItemsEnd (Ends bs) (c ∷ w)
+unfolding Ends
+array_back bs m c w e end = elim (chosen (c == close_bracket) _ _ _ e) [
+  | inl is ↦ record {
+    blank = [];
+    is_blank = refl;
+    items = no_item;
+    trees = [];
+    is_meant = refl;
+    rest = w;
+    is_spelled = ap (λ x. x ∷ w) (eqb-true c close_bracket is.0);
+    ends = known _ m (Array ∷ bs) w is.1 end;
+  }
+  | inr other ↦
+      let both = cond_some _ _ _ other.1 in
+      let f = items_front (Ends bs) w (known _ m (Array ∷ bs) w both.1 end) in
+      record {
+        blank = [];
+        is_blank = refl;
+        items = next_item f.first f.others;
+        trees = f.first_tree ∷ f.trees;
+        is_meant = bound _ _ _ _ f.first_meant (bound _ _ _ _ f.others_meant refl);
+        rest = f.rest;
+        is_spelled = ap (λ x. x ∷ w) (eqb-true c comma both.0) ∙ ap (λ r. comma ∷ r)
+            (f.is_spelled ∙ sym (append_assoc (element_text f.first) (items_text f.others) f.rest));
+        ends = f.ends;
+      }
+]
+
+object_back : (bs : List Bracket) (m : Move) (c : ℕ) (w : List ℕ)
+    → rest_begun (Some Object) c ≡ Some m → Goes m (Object ∷ bs) w → MembersEnd (Ends bs) (c ∷ w)
+unfolding Ends
+object_back bs m c w e end = elim (chosen (c == close_brace) _ _ _ e) [
+  | inl is ↦ record {
+    blank = [];
+    is_blank = refl;
+    members = no_member;
+    entries = [];
+    is_meant = refl;
+    rest = w;
+    is_spelled = ap (λ x. x ∷ w) (eqb-true c close_brace is.0);
+    ends = known _ m (Object ∷ bs) w is.1 end;
+  }
+  | inr other ↦
+      let both = cond_some _ _ _ other.1 in
+      let f = members_front (Ends bs) w (known _ m (Object ∷ bs) w both.1 end) in
+      record {
+        blank = [];
+        is_blank = refl;
+        members = next_member f.first f.others;
+        entries = f.entry ∷ f.entries;
+        is_meant = bound _ _ _ _ f.first_meant (bound _ _ _ _ f.others_meant refl);
+        rest = f.rest;
+        is_spelled = ap (λ x. x ∷ w) (eqb-true c comma both.0) ∙ ap (λ r. comma ∷ r)
+            (f.is_spelled
+            ∙ sym (append_assoc (member_text f.first) (members_text f.others) f.rest));
+        ends = f.ends;
+      }
+]
+
+rest_back : (bs : List Bracket) (m : Move) (c : ℕ) (w : List ℕ)
+    → rest_begun (innermost bs) c ≡ Some m → Goes m bs w → Ends bs (c ∷ w)
+unfolding Ends
+rest_back [] m c w e end = no_error e
+rest_back (Array ∷ bs) m c w e end = array_back bs m c w e end
+rest_back (Object ∷ bs) m c w e end = object_back bs m c w e end
+
+after_value : (bs : List Bracket) (m : Move) (c : ℕ) (w : List ℕ)
+    → rest_followed (innermost bs) c ≡ Some m → Goes m bs w → Ends bs (c ∷ w)
+after_value bs m c w e end = elim (chosen (is_blank c) _ _ _ e) [
+  | inl is ↦ ends_blank bs c w is.0 (known _ m bs w is.1 end)
+  | inr other ↦ rest_back bs m c w other.1 end
+]
+
+letter_back : (P : List ℕ → Type 0) (k c : ℕ) (ks w : List ℕ) → c ≡ k → Literal ks P w
+    → Literal (k ∷ ks) P (c ∷ w)
+letter_back P k c ks w is l = record {
+  rest = l.rest;
+  is_spelled = ap (λ x. x ∷ w) is ∙ ap (λ r. k ∷ r) l.is_spelled;
+  ends = l.ends;
+}
+
+last_letter : (P : List ℕ → Type 0) (k c : ℕ) (w : List ℕ) → c ≡ k → P w
+    → Literal (k ∷ []) P (c ∷ w)
+last_letter P k c w is end = record {
+  rest = w;
+  is_spelled = ap (λ x. x ∷ w) is;
+  ends = end;
+}
+
+more_letters : (bs : List Bracket) (m : Move) (word : Word) (k c : ℕ) (w : List ℕ)
+    → mark_begun c k (Letters word) ≡ Some m → Goes m bs w
+    → Literal (k ∷ letters word) (Ends bs) (c ∷ w)
+more_letters bs m word k c w e end =
+    let both = cond_some _ _ _ e in
+    letter_back (Ends bs) k c (letters word) w (eqb-true c k both.0) (known _ m bs w both.1 end)
+
+no_letters : (bs : List Bracket) (m : Move) (k c : ℕ) (w : List ℕ) → mark_begun c k Rest ≡ Some m
+    → Goes m bs w → Literal (k ∷ []) (Ends bs) (c ∷ w)
+no_letters bs m k c w e end =
+    let both = cond_some _ _ _ e in
+    last_letter (Ends bs) k c w (eqb-true c k both.0) (known _ m bs w both.1 end)
+
+word_back : (bs : List Bracket) (m : Move) (word : Word) (c : ℕ) (w : List ℕ)
+    → word_continued word c ≡ Some m → Goes m bs w → Literal (letters word) (Ends bs) (c ∷ w)
+word_back bs m Rue c w e end = more_letters bs m Ue 114 c w e end
+word_back bs m Ue c w e end = more_letters bs m E 117 c w e end
+word_back bs m E c w e end = no_letters bs m 101 c w e end
+word_back bs m Alse c w e end = more_letters bs m Lse 97 c w e end
+word_back bs m Lse c w e end = more_letters bs m Se 108 c w e end
+word_back bs m Se c w e end = more_letters bs m E 115 c w e end
+word_back bs m Ull c w e end = more_letters bs m Ll 117 c w e end
+word_back bs m Ll c w e end = more_letters bs m L 108 c w e end
+word_back bs m L c w e end = no_letters bs m 108 c w e end
+
+-- a quote closes a string only inside
+closing : (P : List ℕ → Type 0) (place : Place) (c : ℕ) (w : List ℕ) → is_closed place c ≡ true
+    → P w → PlaceEnd place P (c ∷ w)
+closing P Inside c w e end = rw (eqb-true c quote e) (quote_back P w end)
+closing P _ c w e end = absurd (let h : ⊥ = cc in h)
+
+-- The number may still be one that the format holds.
+abbrev pub is_live : Expected → Bool
+is_live (Digits n) = is_viable n
+is_live _ = true
+
+pub step_back : (e : Expected) (bs : List Bracket) (m : Move) (c : ℕ) (w : List ℕ)
+    → followed e (innermost bs) c ≡ Some m → is_live e ≡ true → Goes m bs w → Completes e bs (c ∷ w)
+step_back Value bs m c w e live end = elim (chosen (is_blank c) _ _ _ e) [
+  | inl is ↦ value_blank (Ends bs) c w is.0 (known _ m bs w is.1 end)
+  | inr other ↦ value_back bs m c w other.1 end
+]
+step_back FirstItem bs m c w e live end = elim (chosen (is_blank c) _ _ _ e) [
+  | inl is ↦ elim (known (FirstItem, Keep) m bs w is.1 end) [
+    | inl a ↦ inl (after_blank close_bracket _ c w is.0 a)
+    | inr v ↦ inr (value_blank (Ends bs) c w is.0 v)
+  ]
+  | inr other ↦ elim (chosen (c == close_bracket) _ _ _ other.1) [
+    | inl is ↦ inl (mark_back close_bracket _ c w (eqb-true c close_bracket is.0)
+        (known (Rest, Close) m bs w is.1 end))
+    | inr other ↦ inr (value_back bs m c w other.1 end)
+  ]
+]
+step_back FirstKey bs m c w e live end = elim (chosen (is_blank c) _ _ _ e) [
+  | inl is ↦ elim (known (FirstKey, Keep) m bs w is.1 end) [
+    | inl a ↦ inl (after_blank close_brace _ c w is.0 a)
+    | inr k ↦ inr (after_blank quote _ c w is.0 k)
+  ]
+  | inr other ↦ elim (chosen (c == close_brace) _ _ _ other.1) [
+    | inl is ↦ inl (mark_back close_brace _ c w (eqb-true c close_brace is.0)
+        (known (Rest, Close) m bs w is.1 end))
+    | inr other ↦
+        let both = cond_some _ _ _ other.1 in
+        inr (key_back (Ends bs) c w (eqb-true c quote both.0)
+        (known (Name Inside, Keep) m bs w both.1 end))
+  ]
+]
+step_back Key bs m c w e live end = elim (chosen (is_blank c) _ _ _ e) [
+  | inl is ↦ after_blank quote _ c w is.0 (known (Key, Keep) m bs w is.1 end)
+  | inr other ↦
+      let both = cond_some _ _ _ other.1 in
+      key_back (Ends bs) c w (eqb-true c quote both.0) (known (Name Inside, Keep) m bs w both.1 end)
+]
+step_back Colon bs m c w e live end = elim (chosen (is_blank c) _ _ _ e) [
+  | inl is ↦ after_blank colon _ c w is.0 (known (Colon, Keep) m bs w is.1 end)
+  | inr other ↦
+      let both = cond_some _ _ _ other.1 in
+      mark_back colon _ c w (eqb-true c colon both.0) (known (Value, Keep) m bs w both.1 end)
+]
+step_back Rest bs m c w e live end = after_value bs m c w e end
+step_back (Letters word) bs m c w e live end = word_back bs m word c w e end
+step_back (Digits n) bs m c w e live end = elim (either_found _ _ _ e) [
+  | inl is ↦ bind_then (number_continued n c) _ _ is (λ k more last.
+      number_back (Ends bs) n.part n.is_negative n.magnitude n.scale k c w more
+      (known (Digits k, Keep) m bs w last end))
+  | inr other ↦
+      let both = cond_some _ _ _ other.1 in
+      number_ends (Ends bs) n.part n.is_negative n.magnitude n.scale (c ∷ w) both.0 live
+      (after_value bs m c w both.1 end)
+]
+step_back (Content place) bs m c w e live end = elim (chosen (is_closed place c) _ _ _ e) [
+  | inl is ↦ closing (Ends bs) place c w is.0 (known (Rest, Keep) m bs w is.1 end)
+  | inr other ↦ bind_then (string_continued place c) _ _ other.1 (λ q more last.
+      place_back (Ends bs) place q c w more (known (Content q, Keep) m bs w last end))
+]
+step_back (Name place) bs m c w e live end = elim (chosen (is_closed place c) _ _ _ e) [
+  | inl is ↦ closing (ColonEnd (Ends bs)) place c w is.0 (known (Colon, Keep) m bs w is.1 end)
+  | inr other ↦ bind_then (string_continued place c) _ _ other.1 (λ q more last.
+      place_back (ColonEnd (Ends bs)) place q c w more (known (Name q, Keep) m bs w last end))
+]
+
+-- what is expected at first completes to a whole text
+pub whole_text : (s : List ℕ) → Completes Value [] s → (t : Tree) × Json s t
+unfolding Ends
+whole_text s v = (
+  v.tree,
+  record {
+    syntax = element v.before v.syntax v.rest;
+    is_spelled = v.is_spelled;
+    is_meant = element_is v.before v.rest v.syntax v.tree v.is_blank v.ends v.is_meant;
+  },
+)

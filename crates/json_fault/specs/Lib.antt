@@ -1,0 +1,4 @@
+pub mod Fault
+pub mod Scan
+pub mod Stack
+pub mod WithoutNumbers

@@ -1,0 +1,268 @@
+//! What may come next in a JSON text, character by character.
+
+ghost use Rattle.std.specs.Prelude.{◌≡◌};
+ghost use Rattle.jsonb_value.specs.Json.Characters.{is_blank};
+ghost use Rattle.json_fault.specs.Scan.{value_begun, number_first, mark_begun, closed_or};
+ghost use Rattle.json_fault.specs.Scan.{rest_begun, rest_followed, word_continued, in_number};
+ghost use Rattle.json_fault.specs.Scan.{in_content, in_name};
+ghost use Rattle.json_fault.specs.Scan.{skips, token_begun, followed};
+
+use crate::number::{Numeral, Part, is_complete, number_begun, number_continued};
+use crate::string::{Place, is_closed, string_continued};
+
+/// The kind of an open bracket.
+#[derive(Clone, Copy)]
+pub enum Bracket {
+    Array,
+    Object,
+}
+
+/// The letters of a word that are missing.
+#[derive(Clone, Copy)]
+pub enum Word {
+    Rue,
+    Ue,
+    E,
+    Alse,
+    Lse,
+    Se,
+    Ull,
+    Ll,
+    L,
+}
+
+/// What is expected next.
+#[derive(Clone, Copy)]
+pub enum Expected {
+    /// A value.
+    Value,
+    /// The first item of an array, or its end.
+    FirstItem,
+    /// The first key of an object, or its end.
+    FirstKey,
+    /// A key.
+    Key,
+    /// The colon after a key.
+    Colon,
+    /// What may follow a value.
+    Rest,
+    /// The rest of `null`, `true` or `false`.
+    Letters(Word),
+    /// The rest of a number.
+    Digits(Numeral),
+    /// The rest of a string that is a value.
+    Content(Place),
+    /// The rest of a key.
+    Name(Place),
+}
+
+/// What happens to the open brackets.
+#[derive(Clone, Copy)]
+pub enum Change {
+    Keep,
+    Open(Bracket),
+    Close,
+}
+
+// Whether the character is JSON white space.
+fn is_blank(character: char) -> bool
+    ensures { result ≡ is_blank character }
+{
+    matches!(character, ' ' | '\t' | '\n' | '\r')
+}
+
+// The beginning of a value.
+fn value_begun(character: char) -> Option<(Expected, Change)>
+    ensures { result ≡ value_begun character }
+{
+    match character {
+        '"' => Some((Expected::Content(Place::Inside), Change::Keep)),
+        '[' => Some((Expected::FirstItem, Change::Open(Bracket::Array))),
+        '{' => Some((Expected::FirstKey, Change::Open(Bracket::Object))),
+        't' => Some((Expected::Letters(Word::Rue), Change::Keep)),
+        'f' => Some((Expected::Letters(Word::Alse), Change::Keep)),
+        'n' => Some((Expected::Letters(Word::Ull), Change::Keep)),
+        _ => number_first(character),
+    }
+}
+
+// The beginning of a number.
+fn number_first(character: char) -> Option<(Expected, Change)>
+    ensures { result ≡ number_first character }
+{
+    if character == '-' {
+        let numeral = Numeral {
+            is_negative: true,
+            part: Part::Sign,
+            magnitude: 0,
+            scale: 0,
+        };
+        return Some((Expected::Digits(numeral), Change::Keep));
+    }
+    let numeral = number_begun(false, character)?;
+    Some((Expected::Digits(numeral), Change::Keep))
+}
+
+// What follows this character, if it comes.
+fn mark_begun(character: char, mark: char, next: Expected) -> Option<(Expected, Change)>
+    ensures { result ≡ mark_begun character mark next }
+{
+    if character == mark {
+        Some((next, Change::Keep))
+    } else {
+        None
+    }
+}
+
+// The end of a container, or something else.
+fn closed_or(
+    character: char,
+    mark: char,
+    other: Option<(Expected, Change)>,
+) -> Option<(Expected, Change)>
+    ensures { result ≡ closed_or character mark other }
+{
+    if character == mark {
+        Some((Expected::Rest, Change::Close))
+    } else {
+        other
+    }
+}
+
+// What follows a value, other than white space.
+fn rest_begun(top: Option<Bracket>, character: char) -> Option<(Expected, Change)>
+    ensures { result ≡ rest_begun top character }
+{
+    match top {
+        None => None,
+        Some(Bracket::Array) => {
+            closed_or(character, ']', mark_begun(character, ',', Expected::Value))
+        }
+        Some(Bracket::Object) => {
+            closed_or(character, '}', mark_begun(character, ',', Expected::Key))
+        }
+    }
+}
+
+// What follows a value.
+fn rest_followed(top: Option<Bracket>, character: char) -> Option<(Expected, Change)>
+    ensures { result ≡ rest_followed top character }
+{
+    if is_blank(character) {
+        Some((Expected::Rest, Change::Keep))
+    } else {
+        rest_begun(top, character)
+    }
+}
+
+// What follows a letter of a word.
+fn word_continued(word: Word, letter: char) -> Option<(Expected, Change)>
+    ensures { result ≡ word_continued word letter }
+{
+    match word {
+        Word::Rue => mark_begun(letter, 'r', Expected::Letters(Word::Ue)),
+        Word::Ue => mark_begun(letter, 'u', Expected::Letters(Word::E)),
+        Word::E => mark_begun(letter, 'e', Expected::Rest),
+        Word::Alse => mark_begun(letter, 'a', Expected::Letters(Word::Lse)),
+        Word::Lse => mark_begun(letter, 'l', Expected::Letters(Word::Se)),
+        Word::Se => mark_begun(letter, 's', Expected::Letters(Word::E)),
+        Word::Ull => mark_begun(letter, 'u', Expected::Letters(Word::Ll)),
+        Word::Ll => mark_begun(letter, 'l', Expected::Letters(Word::L)),
+        Word::L => mark_begun(letter, 'l', Expected::Rest),
+    }
+}
+
+// What follows a character of a number, or after its end.
+fn in_number(numeral: Numeral, top: Option<Bracket>, character: char) -> Option<(Expected, Change)>
+    ensures { result ≡ in_number numeral top character }
+{
+    match number_continued(numeral, character) {
+        Some(continued) => Some((Expected::Digits(continued), Change::Keep)),
+        None => {
+            if is_complete(numeral) {
+                rest_followed(top, character)
+            } else {
+                None
+            }
+        }
+    }
+}
+
+// What follows a character of a string that is a value.
+fn in_content(place: Place, character: char) -> Option<(Expected, Change)>
+    ensures { result ≡ in_content place character }
+{
+    if is_closed(place, character) {
+        return Some((Expected::Rest, Change::Keep));
+    }
+    let place = string_continued(place, character)?;
+    Some((Expected::Content(place), Change::Keep))
+}
+
+// What follows a character of a key.
+fn in_name(place: Place, character: char) -> Option<(Expected, Change)>
+    ensures { result ≡ in_name place character }
+{
+    if is_closed(place, character) {
+        return Some((Expected::Colon, Change::Keep));
+    }
+    let place = string_continued(place, character)?;
+    Some((Expected::Name(place), Change::Keep))
+}
+
+// Whether white space may come next and changes nothing.
+fn skips(expected: Expected) -> bool
+    ensures { result ≡ skips expected }
+{
+    match expected {
+        Expected::Value
+        | Expected::FirstItem
+        | Expected::FirstKey
+        | Expected::Key
+        | Expected::Colon
+        | Expected::Rest => true,
+        Expected::Letters(_) | Expected::Digits(_) | Expected::Content(_) | Expected::Name(_) =>
+            false,
+    }
+}
+
+// What follows this character, which is no white space between tokens.
+fn token_begun(
+    expected: Expected,
+    top: Option<Bracket>,
+    character: char,
+) -> Option<(Expected, Change)>
+    ensures { result ≡ token_begun expected top character }
+{
+    match expected {
+        Expected::Value => value_begun(character),
+        Expected::FirstItem => closed_or(character, ']', value_begun(character)),
+        Expected::FirstKey => {
+            let key = mark_begun(character, '"', Expected::Name(Place::Inside));
+            closed_or(character, '}', key)
+        }
+        Expected::Key => mark_begun(character, '"', Expected::Name(Place::Inside)),
+        Expected::Colon => mark_begun(character, ':', Expected::Value),
+        Expected::Rest => rest_begun(top, character),
+        Expected::Letters(word) => word_continued(word, character),
+        Expected::Digits(numeral) => in_number(numeral, top, character),
+        Expected::Content(place) => in_content(place, character),
+        Expected::Name(place) => in_name(place, character),
+    }
+}
+
+/// What is expected after this character, and what happens to the open brackets, if the character
+/// may come; `top` is the innermost open bracket.
+pub fn followed(
+    expected: Expected,
+    top: Option<Bracket>,
+    character: char,
+) -> Option<(Expected, Change)>
+    ensures { result ≡ followed expected top character }
+{
+    if skips(expected) && is_blank(character) {
+        Some((expected, Change::Keep))
+    } else {
+        token_begun(expected, top, character)
+    }
+}

@@ -1,0 +1,128 @@
+//! Where a text is no JSON.
+
+ghost use Rattle.std.specs.Prelude.{◌≡◌, ◌↔◌, chars, IsTrue, OnOk, IfOk, IfErr, IfSome};
+ghost use Rattle.json_fault.specs.Fault.{IsJson, IsFaultAt};
+ghost use Rattle.json_fault.specs.Scan.{innermost, changed};
+ghost use Rattle.json_fault.specs.Stack.{stack_of};
+ghost use Rattle.json_fault.specs.WithoutNumbers.{without_numbers};
+
+use crate::cursor::split_first;
+use crate::expected::{Bracket, Change, Expected, followed};
+use crate::without_numbers::without_numbers;
+use jsonb_value::{Error, parse_value};
+use std::alloc::Global;
+
+/// Why a text is no JSON.
+#[derive(Clone, Copy, Debug, PartialEq, Eq)]
+pub enum FaultReason {
+    /// The text is no JSON whatever its numbers are.
+    Syntax,
+    /// The text would be JSON with `null` in place of each number: it has numbers with an exponent,
+    /// or numbers that the format cannot hold.
+    Number,
+}
+
+/// Where a text is no JSON, and why.
+#[derive(Clone, Copy, Debug, PartialEq, Eq)]
+pub struct Fault {
+    /// The length in bytes of the longest beginning of the text that begins some JSON text.
+    pub offset: usize,
+    /// Why the text is no JSON.
+    pub reason: FaultReason,
+}
+
+// The innermost open bracket.
+fn innermost(brackets: &Vec<Bracket>) -> Option<Bracket>
+    ensures { result ≡ innermost (stack_of brackets.now.items) }
+{
+    brackets.as_slice().last().copied()
+}
+
+// Opens or closes a bracket.
+fn change(brackets: &mut Vec<Bracket>, change: Change) -> Result<(), Error>
+    ensures ok { OnOk result (stack_of brackets.new.items
+        ≡ changed change (stack_of brackets.old.items)) }
+    ensures memory { IfErr result (λ e. e ≡ Error.OutOfMemory) }
+{
+    match change {
+        Change::Keep => {}
+        Change::Open(bracket) => brackets.push(bracket)?,
+        Change::Close => {
+            let _ = brackets.pop();
+        }
+    }
+    Ok(())
+}
+
+// The length of the longest beginning of the text that begins some JSON text.
+fn front_length(alloc: Global, text: &str) -> Result<usize, Error>
+    ensures ok { IfOk result (IsFaultAt (chars text.now)) }
+    ensures memory { IfErr result (λ e. e ≡ Error.OutOfMemory) }
+{
+    let mut brackets = Vec::new(alloc);
+    let mut expected = Expected::Value;
+    let mut rest = text;
+    'scan: while let Some((character, after)) = split_first(rest) {
+        let top = innermost(&brackets);
+        let Some((next, bracket)) = followed(expected, top, character) else {
+            return Ok(text.len() - rest.len());
+        };
+        change(&mut brackets, bracket)?;
+        expected = next;
+        rest = after;
+    }
+    Ok(text.len())
+}
+
+// Whether the text is JSON.
+fn is_json(alloc: Global, text: &str) -> Result<bool, Error>
+    ensures ok { IfOk result (λ is. IsTrue is ↔ IsJson (chars text.now)) }
+    ensures memory { IfErr result (λ e. e ≡ Error.OutOfMemory) }
+{
+    match parse_value(alloc, text) {
+        Ok(_) => Ok(true),
+        Err(Error::InvalidJson) => Ok(false),
+        Err(error) => Err(error),
+    }
+}
+
+// Why the text is no JSON.
+fn reason(alloc: Global, text: &str) -> Result<FaultReason, Error>
+    ensures ok { IfOk result (λ reason. (reason ≡ FaultReason.Number)
+        ↔ IsJson (without_numbers (chars text.now))) }
+    ensures memory { IfErr result (λ e. e ≡ Error.OutOfMemory) }
+{
+    let kept = without_numbers(alloc, text)?;
+    if is_json(alloc, kept.as_str())? {
+        Ok(FaultReason::Number)
+    } else {
+        Ok(FaultReason::Syntax)
+    }
+}
+
+/// Where a text is no JSON, and why; `None` if it is JSON, as `parse_value` reads it.
+///
+/// The offset is the length of the longest beginning of the text that begins some JSON text: that
+/// of the whole text if it only ends too early, and otherwise the position of the first character
+/// that no JSON text has there. Like `parse_value` it needs stack for each level of the text.
+/// `OutOfMemory` if an allocation fails.
+pub fn text_fault(alloc: Global, text: &str) -> Result<Option<Fault>, Error>
+    // Nothing is found exactly in JSON texts.
+    ensures none { IfOk result (λ found. (found ≡ None) ↔ IsJson (chars text.now)) }
+    // The fault is after the longest beginning of the text that begins a JSON text.
+    ensures offset { IfOk result (λ found. IfSome found
+        (λ fault. IsFaultAt (chars text.now) fault.offset)) }
+    // The reason is the numbers exactly where the text without them is JSON.
+    ensures reason { IfOk result (λ found. IfSome found
+        (λ fault. (fault.reason ≡ FaultReason.Number)
+        ↔ IsJson (without_numbers (chars text.now)))) }
+    ensures memory { IfErr result (λ e. e ≡ Error.OutOfMemory) }
+{
+    if is_json(alloc, text)? {
+        return Ok(None);
+    }
+    Ok(Some(Fault {
+        offset: front_length(alloc, text)?,
+        reason: reason(alloc, text)?,
+    }))
+}
