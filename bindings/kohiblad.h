@@ -32,9 +32,10 @@
  * level of a document, KOHIBLAD_TEXT_LEVEL_STACK for each of a text, and KOHIBLAD_CALL_STACK beside
  * them are enough: 64 levels need 48 KB, of texts 136 KB; 1,000 levels 633 KB, of texts 2 MB. So
  * pass untrusted bytes through kohiblad_check, and limit untrusted texts by the depth of
- * kohiblad_parse. kohiblad_key and each call whose name ends in _within look no deeper than their
- * depth: to them a document that nests deeper is no document. kind, get, find, part, begin, next,
- * of_part, array_item, object_member, and the calls on scalars do not recurse.
+ * kohiblad_parse and kohiblad_text_fault. kohiblad_key and each call whose name ends in _within
+ * look no deeper than their depth: to them a document that nests deeper is no document. kind, get,
+ * find, part, begin, next, of_part, array_item, object_member, and the calls on scalars do not
+ * recurse.
  *
  * NULL is allowed for bytes, texts, ends, out and order whose length is 0, and for `key` of
  * kohiblad_next. A `length` and a cursor are never null.
@@ -85,7 +86,8 @@ enum kohiblad_status {
     KOHIBLAD_TOO_DEEP = 13,
     KOHIBLAD_OTHER_KIND = 14,             /* the value is of another kind */
     KOHIBLAD_PAST_RANGE = 15,             /* the number is no whole one of 64 bits */
-    KOHIBLAD_OVERLAP = 16                 /* what a call writes overlaps something else */
+    KOHIBLAD_OVERLAP = 16,                /* what a call writes overlaps something else */
+    KOHIBLAD_BAD_NUMBER = 17              /* the text would be JSON but for its numbers */
 };
 
 /* The kinds of values, as kohiblad_kind returns them. */
@@ -131,6 +133,12 @@ struct kohiblad_place {
     uint32_t type;   /* enum kohiblad_type */
     uint64_t offset; /* of the payload, from the start of the bytes */
     uint64_t length; /* of the payload */
+};
+
+/* Where a text is no JSON. */
+struct kohiblad_fault {
+    uint32_t status;
+    uint64_t offset; /* after the longest beginning of the text that begins some JSON text */
 };
 
 /* The state of a walk: the index of the next child, and the offsets of its key and value. */
@@ -379,6 +387,16 @@ static inline uint32_t kohiblad_to_pretty_within(const uint8_t *bytes, size_t si
 static inline uint32_t kohiblad_parse(const uint8_t *text, size_t size, size_t depth,
     uint8_t *out, size_t room, size_t *length) KOHIBLAD_INLINE("kohiblad_parse");
 
+/* Whether a text is JSON, and where it is none. OK: it is, and the offset is its size. BAD_NUMBER:
+ * it would be with null in place of each number; its numbers have an exponent or too many digits.
+ * INVALID_JSON: it is no JSON for another reason. Of both the offset is the length of the longest
+ * beginning of the text that begins some JSON text: 3 of [1,], and 2 of [1, which only ends too
+ * early. TOO_DEEP: more than `depth` brackets are open at once, and it was not read; INVALID_UTF8:
+ * the text is not UTF-8. OUT_OF_MEMORY if an allocation fails. Of these the offset is 0. Takes
+ * memory. */
+static inline struct kohiblad_fault kohiblad_text_fault(const uint8_t *text, size_t size,
+    size_t depth) KOHIBLAD_INLINE("kohiblad_text_fault");
+
 /* ROWS follow one another in `bytes` without gaps; `ends` has the offset where each ends, and the
  * first begins at 0. The offsets of an Arrow column have 32 or 64 bits and begin with a 0: leave
  * that 0 out, and widen those of 32 bits to size_t. INVALID_EOF: an end is less than the one before
@@ -536,6 +554,8 @@ uint32_t kohiblad_export_to_pretty_within(const uint8_t *bytes, size_t size, siz
     uint8_t *out, size_t room, size_t *length) KOHIBLAD_EXPORT("kohiblad_to_pretty_within");
 uint32_t kohiblad_export_parse(const uint8_t *text, size_t size, size_t depth, uint8_t *out,
     size_t room, size_t *length) KOHIBLAD_EXPORT("kohiblad_parse");
+struct kohiblad_fault kohiblad_export_text_fault(const uint8_t *text, size_t size, size_t depth)
+    KOHIBLAD_EXPORT("kohiblad_text_fault");
 uint32_t kohiblad_export_build_array(const uint8_t *bytes, size_t size, const size_t *ends,
     size_t rows, uint8_t *out, size_t room, size_t *length) KOHIBLAD_EXPORT("kohiblad_build_array");
 uint32_t kohiblad_export_build_array_within(const uint8_t *bytes, size_t size,
@@ -779,6 +799,10 @@ static inline uint32_t kohiblad_parse(const uint8_t *text, size_t size, size_t d
         || !kohiblad_is_apart(out, room, length, text, size))
         return KOHIBLAD_OVERLAP;
     return kohiblad_export_parse(kohiblad_in(text), size, depth, kohiblad_out(out), room, length);
+}
+static inline struct kohiblad_fault kohiblad_text_fault(const uint8_t *text, size_t size,
+    size_t depth) {
+    return kohiblad_export_text_fault(kohiblad_in(text), size, depth);
 }
 static inline uint32_t kohiblad_build_array(const uint8_t *bytes, size_t size, const size_t *ends,
     size_t rows, uint8_t *out, size_t room, size_t *length) {

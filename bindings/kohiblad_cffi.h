@@ -19,7 +19,8 @@ enum kohiblad_status {
     KOHIBLAD_TOO_DEEP = 13,
     KOHIBLAD_OTHER_KIND = 14,
     KOHIBLAD_PAST_RANGE = 15,
-    KOHIBLAD_OVERLAP = 16
+    KOHIBLAD_OVERLAP = 16,
+    KOHIBLAD_BAD_NUMBER = 17
 };
 
 enum kohiblad_kind_number {
@@ -61,6 +62,11 @@ struct kohiblad_place {
     uint32_t type;
     uint64_t offset;
     uint64_t length;
+};
+
+struct kohiblad_fault {
+    uint32_t status;
+    uint64_t offset;
 };
 
 struct kohiblad_cursor {
@@ -144,6 +150,7 @@ uint32_t kohiblad_to_pretty_within(const uint8_t *bytes, size_t size, size_t dep
     size_t room, size_t *length);
 uint32_t kohiblad_parse(const uint8_t *text, size_t size, size_t depth, uint8_t *out, size_t room,
     size_t *length);
+struct kohiblad_fault kohiblad_text_fault(const uint8_t *text, size_t size, size_t depth);
 uint32_t kohiblad_build_array(const uint8_t *bytes, size_t size, const size_t *ends, size_t rows,
     uint8_t *out, size_t room, size_t *length);
 uint32_t kohiblad_build_array_within(const uint8_t *bytes, size_t size, const size_t *ends,

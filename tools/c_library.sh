@@ -99,9 +99,9 @@ build depths -pthread
 for kilobytes in 64 256 1024; do
     for shape in a o; do
         for call in check is_document is_canonical compare compare_within sort_within to_string \
-            to_pretty to_canonical build_array parse; do
+            to_pretty to_canonical build_array parse text_fault; do
             level=$document_level
-            [ $call = parse ] && level=$text_level
+            case $call in parse | text_fault) level=$text_level ;; esac
             levels=$(((kilobytes * 1024 - call_stack) / level))
             # Deep lines are indented, so their text grows with the square of the depth.
             [ $call = to_pretty ] && [ $levels -gt 3000 ] && levels=3000

@@ -12,6 +12,8 @@ static uint8_t *in, *out;
 static size_t in_size, room, levels;
 static const char *name;
 
+static bool reads_text(void) { return !strcmp(name, "parse") || !strcmp(name, "text_fault"); }
+
 static void *work(void *unused) {
     size_t length = 0;
     uint32_t status = 0;
@@ -67,6 +69,8 @@ static void *work(void *unused) {
         status = kohiblad_build_array(in, in_size, &in_size, 1, out, room, &length);
     else if (!strcmp(name, "parse"))
         status = kohiblad_parse(in, in_size, levels, out, room, &length);
+    else if (!strcmp(name, "text_fault"))
+        status = kohiblad_text_fault(in, in_size, levels).status;
     else
         abort();
     if (status != KOHIBLAD_OK && status != KOHIBLAD_NO_ROOM) abort();
@@ -93,7 +97,7 @@ int main(int argc, char **argv) {
     if (!out) return 2;
     pthread_attr_t attributes;
     pthread_attr_init(&attributes);
-    if (strcmp(name, "parse")) {
+    if (!reads_text()) {
         /* The document of the text, made on a stack that surely carries it. */
         const char *wanted = name;
         name = "parse";

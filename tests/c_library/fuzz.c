@@ -427,6 +427,10 @@ int main(int argc, char **argv) {
     for (int i = 0; i < TEXTS; i++) {
         struct block t = copy_of(texts[i], strlen(texts[i]));
         status = kohiblad_parse(t.at, t.size, DEPTH, docs[count], ROOM, &length);
+        struct kohiblad_fault fault = kohiblad_text_fault(t.at, t.size, DEPTH);
+        assert(fault.status == status
+               || (status == KOHIBLAD_INVALID_JSON && fault.status == KOHIBLAD_BAD_NUMBER));
+        assert(status != KOHIBLAD_OK || fault.offset == t.size);
         if (status == KOHIBLAD_OK) {
             assert(kohiblad_check(docs[count], length, DEPTH));
             assert(kohiblad_is_canonical(docs[count], length));

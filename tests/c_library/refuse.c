@@ -26,11 +26,13 @@ void *__wrap_realloc(void *block, size_t size) {
 
 static const char text[] = "{\"a\":1,\"b\":[true,\"\\u00e9\"],"
                            "\"c\":{\"d\":\"e\",\"f\":-12.5,\"g\":[[],{}]}}";
-enum { ROOM = 1024, CALLS = 24 };
+enum { ROOM = 1024, CALLS = 25 };
 static uint8_t document[ROOM], pairs[ROOM];
 static size_t size, stops[4], pairs_size, order[4];
 
-static bool takes_memory(int which) { return which < 7 || (which > 13 && which < 21); }
+static bool takes_memory(int which) {
+    return which < 7 || (which > 13 && which < 21) || which == 23;
+}
 
 static uint32_t call(int which, uint8_t *out, size_t *length) {
     size_t key_length;
@@ -63,6 +65,12 @@ static uint32_t call(int which, uint8_t *out, size_t *length) {
                                                                : KOHIBLAD_INVALID_JSONB;
     case 22:
         return kohiblad_of_part(KOHIBLAD_TYPE_CONTAINER, document, size, out, ROOM, length);
+    case 23: {
+        struct kohiblad_fault fault =
+            kohiblad_text_fault((const uint8_t *)text, sizeof text - 1, 8);
+        *length = fault.offset;
+        return fault.status;
+    }
     default: return kohiblad_is_canonical(document, size) ? KOHIBLAD_OK : KOHIBLAD_INVALID_JSONB;
     }
 }

@@ -1,4 +1,5 @@
 pub mod Status
+pub mod TextFaults
 pub mod Results
 pub mod Places
 pub mod Parts

@@ -50,6 +50,10 @@ past_range = 15
 abbrev pub overlap : ℕ
 overlap = 16
 
+-- The status of a text that would be JSON but for its numbers.
+abbrev pub bad_number : ℕ
+bad_number = 17
+
 -- The name of a status.
 abbrev pub status_name : ℕ → List ℕ
 status_name status =
@@ -70,6 +74,7 @@ status_name status =
     else if status == other_kind then codes "OtherKind"
     else if status == past_range then codes "PastRange"
     else if status == overlap then codes "Overlap"
+    else if status == bad_number then codes "BadNumber"
     else codes "Unknown"
 
 -- The result was copied to the start of the buffer, and the rest is unchanged.

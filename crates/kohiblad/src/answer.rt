@@ -28,6 +28,9 @@ pub const OTHER_KIND: u32 = 14;
 /// The status of a number that is not a whole number of 64 bits.
 pub const PAST_RANGE: u32 = 15;
 
+/// The status of a text that would be JSON but for its numbers.
+pub const BAD_NUMBER: u32 = 17;
+
 /// The first length that the payload of a scalar may not have.
 pub const PAYLOAD_LIMIT: usize = 1 << 28;
 
@@ -64,6 +67,7 @@ pub extern "C" fn kohiblad_status_name(status: u32, out: &mut [u8], length: &mut
         14 => "OtherKind",
         15 => "PastRange",
         16 => "Overlap",
+        17 => "BadNumber",
         _ => "Unknown",
     };
     hand_over(name.as_bytes(), out, length)

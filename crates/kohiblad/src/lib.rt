@@ -13,5 +13,6 @@ mod places;
 mod rows;
 mod scalar_documents;
 mod sort;
+mod text_fault;
 mod texts;
 mod values;
