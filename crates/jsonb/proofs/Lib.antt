@@ -15,7 +15,7 @@ pub mod CutKeyLaws
 pub mod KeyEnds
 pub mod ResultLaws
 pub mod ObjectLaws
-pub mod ShownLaws
+pub mod SameEntryLaws
 pub mod InputLaws
 pub mod ResultObjects
 pub mod ItemMeaningLaws

@@ -30,15 +30,15 @@ Pairwise R (x ∷ xs) (y ∷ ys) = R x y × Pairwise R xs ys
 
 module _ {T : Type 0} (stored : T → Type 0) (code : T → ℕ × List ℕ) where
   -- The value has an entry exactly if the item has one, and it is the same entry.
-  abbrev pub IsShown : T → ItemView → Type 0
-  IsShown x item = (stored x ↔ IsStored item) × (stored x → code x ≡ stored_code item)
+  abbrev pub HasSameEntry : T → ItemView → Type 0
+  HasSameEntry x item = (stored x ↔ IsStored item) × (stored x → code x ≡ stored_code item)
 
   abbrev pub AreShown : List T → List ItemView → Type 0
-  AreShown = Pairwise IsShown
+  AreShown = Pairwise HasSameEntry
 
   -- The keys are equal, and the values have the same entry.
   abbrev pub IsShownAt : Bor (List ℕ) × T → List ℕ × ItemView → Type 0
-  IsShownAt e pair = (e.0.now ≡ pair.0) × IsShown e.1 pair.1
+  IsShownAt e pair = (e.0.now ≡ pair.0) × HasSameEntry e.1 pair.1
 
   abbrev pub AreShownAt : List (Bor (List ℕ) × T) → ItemPairs → Type 0
   AreShownAt = Pairwise IsShownAt

@@ -8,7 +8,7 @@ ghost use Rattle.jsonb.specs.Document.{document_bytes};
 ghost use Rattle.jsonb.specs.ItemView.{item_view};
 ghost use Rattle.jsonb.specs.Raw.{raw_bytes};
 ghost use Rattle.jsonb.specs.Storage.{stored_code, document_code, pair_of, IsStored, IsHeld};
-ghost use Rattle.jsonb.specs.Children.{IsShown, raw_view};
+ghost use Rattle.jsonb.specs.Children.{HasSameEntry, raw_view};
 
 use crate::document::Document;
 use crate::item::{JsonbItem, text_of};
@@ -82,7 +82,7 @@ fn document_code(bytes: &[u8]) -> Code<'_>
 /// The single part that a document consists of. `None` if the bytes are not a document.
 #[inline(always)]
 pub fn document_part<'a>(raw: RawJsonb<'a>) -> Option<Part<'a>>
-    ensures { IsShown IsSome code_of_some result (raw_view raw.entry) }
+    ensures { HasSameEntry IsSome code_of_some result (raw_view raw.entry) }
 {
     Some(DocumentBytes::new(raw.as_bytes())?.part())
 }

@@ -42,7 +42,7 @@ pub use jsonb_value::{
 pub use lookup::MAX_READS;
 pub use nodes::{Items, Members};
 pub use number_item::NumberItem;
-pub use order::{meaning_laws, order_of_bytes};
+pub use order::{byte_order_laws, meaning_laws};
 pub use owned::OwnedJsonb;
 pub use raw::RawJsonb;
 pub use reads::Reads;

@@ -47,7 +47,7 @@ pub fn meaning_laws()
 /// documents and items that mean one tree are `Equal` whatever their bytes. Where `rank_cmp` orders
 /// the kinds of two documents, it orders the documents. A tree and its normal form, in which signed
 /// zeros are made unsigned, compare alike.
-pub fn order_of_bytes()
+pub fn byte_order_laws()
     ensures total { IsTotalOrder (on meaning_of meaning_cmp) }
     ensures trees { (l r : List ℕ) (t u : Tree) → Doc l t → Doc r u
         → meaning_cmp (meaning_of l) (meaning_of r) ≡ tree_cmp t u }

@@ -6,7 +6,7 @@ use crate::item_type::{JsonbItemType, kind_of};
 use crate::lookup::{MAX_READS, count_pairs, find_value};
 use crate::owned::OwnedJsonb;
 use crate::reads::Reads;
-use crate::text::{text_of_document, write_pretty, write_view};
+use crate::text::{finish_text, write_pretty, write_view};
 use jsonb_codec::{append_canonical, value_of};
 use jsonb_value::{Error, Value};
 use std::alloc::Global;
@@ -288,7 +288,7 @@ impl<'a> RawJsonb<'a> {
         let text = String::with_capacity(alloc, self.len())?;
         let mut f = fmt::Formatter::new(text);
         let answer = write_view(self.as_bytes(), &mut f);
-        text_of_document(answer, f)
+        finish_text(answer, f)
     }
 
     /// The text of a document with each item or pair on its own line, indented by two spaces for
@@ -308,7 +308,7 @@ impl<'a> RawJsonb<'a> {
     {
         let mut f = fmt::Formatter::new(String::new(alloc));
         let answer = write_pretty(self.as_bytes(), &mut f);
-        text_of_document(answer, f)
+        finish_text(answer, f)
     }
 
     /// Whether the bytes are canonical: those that the encoder writes for some value.

@@ -34,7 +34,7 @@ pub fn text_laws()
 
 /// The text that was written. Writing to a `String` fails only for lack of memory, so a failed
 /// write is `OutOfMemory`.
-pub fn text_of_document(answer: fmt::Result, f: fmt::Formatter<String>) -> Result<String, Error>
+pub fn finish_text(answer: fmt::Result, f: fmt::Formatter<String>) -> Result<String, Error>
     ensures ok { OnOk result (IsOk answer) }
     ensures text { IfOk result (λ text. text ≡ formatter_writer f) }
     ensures memory { IfErr result (λ e. e ≡ Error.OutOfMemory) }
@@ -138,7 +138,7 @@ pub fn document_text(alloc: Global, document: Document, layout: Layout) -> Resul
     let text = String::with_capacity(alloc, document.as_bytes().len())?;
     let mut f = fmt::Formatter::new(text);
     let answer = write_document(document, layout, &mut f);
-    text_of_document(answer, f)
+    finish_text(answer, f)
 }
 
 /// Writes the text of a document in this layout.

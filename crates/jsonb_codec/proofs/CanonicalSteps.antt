@@ -15,7 +15,7 @@ use Rattle.jsonb_codec.specs.Doc.{type_of, Doc, IsDocument, Children}
 use Rattle.jsonb_codec.specs.Parts.{IsPayloadOf}
 use Rattle.jsonb_codec.specs.Canon.{payload_of, entries_of, payloads_of, document_of}
 use Rattle.jsonb_codec.specs.Canonical.{IsCanonical, IsWritten, AreWritten}
-use Rattle.jsonb_codec.specs.Rewriting.{FirstChild, Opened}
+use Rattle.jsonb_codec.specs.Rewriting.{FirstChild, ContainerParts}
 use Rattle.jsonb_codec.proofs.Words.{length-word, same_words, same_parts, length-word-append}
 use Rattle.jsonb_codec.proofs.Entries.{IsType-type_of, length-Children}
 use Rattle.jsonb_codec.proofs.Lengths.{length-entries_of, length-canon-scalar, document_of-scalar}
@@ -53,7 +53,7 @@ none_written ts e p none h =
     subst (λ us. AreWritten us e p) (sym none) (tt, (sym ended.no_entries, sym ended.no_payloads))
 
 -- A container is as written exactly if its children are.
-pub written_container : (t : Tree) (header : ℕ) (e p b : List ℕ) → (o : Opened t header e p)
+pub written_container : (t : Tree) (header : ℕ) (e p b : List ℕ) → (o : ContainerParts t header e p)
     → b ≡ word header ++ (e ++ p) → AreWritten o.children e p ↔ IsWritten t b
 written_container t header e p b o parts = (
   λ (fit, (es, ps)). (o.fit.0 fit, cc (o.written)),

@@ -16,7 +16,7 @@ use Rattle.jsonb_codec.specs.Canon.{canon, Fits, FitsInside, payload_of, entries
 use Rattle.jsonb_codec.specs.Canon.{key_entries, key_payloads, value_entries, value_payloads}
 use Rattle.jsonb_codec.specs.Canon.{AllFit, PairsFit}
 use Rattle.jsonb_codec.specs.Canonical.{IsCanonical}
-use Rattle.jsonb_codec.specs.Rewriting.{Opened}
+use Rattle.jsonb_codec.specs.Rewriting.{ContainerParts}
 use Rattle.jsonb_codec.proofs.Words.{same_words}
 use Rattle.jsonb_codec.proofs.Unique.{Doc-unique}
 use Rattle.jsonb_codec.proofs.CanonLaws.{type_of-norm, count-norms, pair_count-norm_pairs}
@@ -93,7 +93,7 @@ module _ {tag n : ℕ} {rest b : List ℕ} (read : Read (2 ^ 29) tag n rest b) (
     payloads : List ℕ
     body : rest ≡ entries ++ payloads
     len : length entries ≡ 4 * m
-    parts_are : Opened t (tag + n) entries payloads
+    parts_are : ContainerParts t (tag + n) entries payloads
 
   cut_at : (t : Tree) → IsPayloadOf 1342177280 b t → Cut t
   cut_at t (q, h) =
@@ -127,7 +127,7 @@ module _ {tag n : ℕ} {rest b : List ℕ} (read : Read (2 ^ 29) tag n rest b) (
       omega (arith, ap length k.body ∙ length-append k.entries k.payloads, k.len)
 
   pub opened_as : {front back : List ℕ} → front ≡ take (4 * m) rest → back ≡ drop (4 * m) rest
-      → (t : Tree) → IsPayloadOf 1342177280 b t → Opened t (tag + n) front back
+      → (t : Tree) → IsPayloadOf 1342177280 b t → ContainerParts t (tag + n) front back
   opened_as is_front is_back t is =
       let k = cut_at t is in
       rw (

@@ -11,7 +11,7 @@ use Rattle.jsonb_value.specs.ExtCode.{ExtCode}
 use Rattle.jsonb_value.specs.Tree.{Extension, Tree, null, boolean, number, text, extension}
 use Rattle.jsonb_codec.specs.Doc.{type_of, Payload}
 use Rattle.jsonb_codec.specs.declared.document.FaultTable.{FaultTable}
-use Rattle.jsonb_codec.specs.Parts.{IsFault, Tells, HasPayload}
+use Rattle.jsonb_codec.specs.Parts.{IsFault, HoldsOrFaults, HasPayload}
 
 empty_behind : (t : Tree) (p : List ℕ)
     → (type_of t ≡ 0) ⊎ ((type_of t ≡ 805306368) ⊎ (type_of t ≡ 1073741824)) → Payload t p → p ≡ []
@@ -75,7 +75,7 @@ not_empty b (x ∷ p) e never z = omega arith
 
 -- an error that `?` passes on
 pub raised : {A : Type 0} (faults : FaultTable) (P : Type 0) (r : Result A Error) (e : Error)
-    → IsErrAnd r (λ x. x ≡ e) → IsFault faults e → ¬ P → Tells faults r P
+    → IsErrAnd r (λ x. x ≡ e) → IsFault faults e → ¬ P → HoldsOrFaults faults r P
 raised faults P (Ok x) e h fault never = absurd h
 raised faults P (Err x) e h fault never = (subst (IsFault faults) (sym h) fault, never)
 
@@ -84,8 +84,8 @@ pub raised_as : {A : Type 0} (P : Error → Type 0) (r : Result A Error) (e : Er
 raised_as P (Ok x) e h p = tt
 raised_as P (Err x) e h p = subst P (sym h) p
 
-pub tells_iff : {A P Q : Type 0} (faults : FaultTable) (r : Result A Error) → Tells faults r P
-    → (P ↔ Q) → Tells faults r Q
+pub tells_iff : {A P Q : Type 0} (faults : FaultTable) (r : Result A Error)
+    → HoldsOrFaults faults r P → (P ↔ Q) → HoldsOrFaults faults r Q
 tells_iff faults (Ok x) h k = k.0 h
 tells_iff faults (Err e) h k = (h.0, λ q. h.1 (k.1 q))
 

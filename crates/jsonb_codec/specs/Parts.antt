@@ -17,9 +17,9 @@ IsFault FaultTable.Tree e = IsTreeFault e
 IsFault FaultTable.Decoder e = IsDecoderFault e
 
 -- The result is a success exactly if the statement holds, and an error is one of the table's.
-abbrev pub Tells : {A : Type 0} → FaultTable → Result A Error → Type 0 → Type 0
-Tells faults (Ok x) P = P
-Tells faults (Err e) P = IsFault faults e × (P → ⊥)
+abbrev pub HoldsOrFaults : {A : Type 0} → FaultTable → Result A Error → Type 0 → Type 0
+HoldsOrFaults faults (Ok x) P = P
+HoldsOrFaults faults (Err e) P = IsFault faults e × (P → ⊥)
 
 -- The payload, in an entry of this type, means the tree.
 abbrev pub IsPayloadOf : ℕ → List ℕ → Tree → Type 0

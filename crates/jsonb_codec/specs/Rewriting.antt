@@ -17,7 +17,7 @@ pub record FirstChild (ts : Trees) (type : ℕ) (payload entries payloads : List
 
 -- A container is written as this header and these children; those of an object are its keys, as
 -- texts, and then its values.
-pub record Opened (t : Tree) (header : ℕ) (entries payloads : List ℕ) : Type 0 where
+pub record ContainerParts (t : Tree) (header : ℕ) (entries payloads : List ℕ) : Type 0 where
   pub children : Trees
   pub are : Children children entries payloads
   pub fit : AllFit children ↔ FitsInside t

@@ -12,7 +12,7 @@ ghost use Rattle.jsonb_value.specs.Tree.{Tree, text};
 ghost use Rattle.jsonb_codec.specs.Doc.{Doc, IsDocument};
 ghost use Rattle.jsonb_codec.specs.Depth.{depth, size, IsDocumentWithin};
 ghost use Rattle.jsonb_codec.specs.Payloads.{payloads_in};
-ghost use Rattle.jsonb_codec.specs.Parts.{IsFault, Tells, HasScalar, HasPayload, HasArray};
+ghost use Rattle.jsonb_codec.specs.Parts.{IsFault, HoldsOrFaults, HasScalar, HasPayload, HasArray};
 ghost use Rattle.jsonb_codec.specs.Parts.{HasObject, HasChildren, HasKeys, IsAbove, IsKeyAfter};
 
 use crate::ascii::is_all_ascii;
@@ -268,7 +268,7 @@ pub fn check<'a>(
     depth: usize,
     bytes: &'a [u8],
 ) -> Result<DocumentBytes<'a>, Error>
-    ensures told { Tells faults result (IsDocumentWithin depth bytes.now) }
+    ensures told { HoldsOrFaults faults result (IsDocumentWithin depth bytes.now) }
     ensures bytes { IfOk result (λ d. d.bytes.now ≡ bytes.now) }
 {
     match find_fault(faults, depth, bytes) {
@@ -280,7 +280,7 @@ pub fn check<'a>(
 // The first fault of the bytes.
 #[inline(always)]
 fn find_fault(faults: FaultTable, depth: usize, bytes: &[u8]) -> Result<(), Error>
-    ensures { Tells faults result (IsDocumentWithin depth bytes.now) }
+    ensures { HoldsOrFaults faults result (IsDocumentWithin depth bytes.now) }
 {
     let Some(header) = split_header(bytes) else {
         return Err(faults.short_header());
@@ -296,7 +296,8 @@ fn find_fault(faults: FaultTable, depth: usize, bytes: &[u8]) -> Result<(), Erro
 #[inline(always)]
 fn check_scalar(faults: FaultTable, count: usize, body: &[u8]) -> Result<(), Error>
     requires { count < 2 ^ 29 }
-    ensures { Tells faults result (HasScalar (word (SCALAR_CONTAINER_TAG + count) ++ body.now)) }
+    ensures { HoldsOrFaults faults result
+        (HasScalar (word (SCALAR_CONTAINER_TAG + count) ++ body.now)) }
 {
     if count != 0 {
         return Err(faults.header_kind());
@@ -318,7 +319,7 @@ fn check_scalar(faults: FaultTable, count: usize, body: &[u8]) -> Result<(), Err
 // Checks an array or object with its header.
 #[cycle(container)]
 fn check_container(faults: FaultTable, depth: usize, bytes: &[u8]) -> Result<(), Error>
-    ensures { Tells faults result (HasPayload depth CONTAINER_TAG bytes.now) }
+    ensures { HoldsOrFaults faults result (HasPayload depth CONTAINER_TAG bytes.now) }
 {
     if depth == 0 {
         return Err(Error::InvalidJsonb);
@@ -337,7 +338,7 @@ fn check_container(faults: FaultTable, depth: usize, bytes: &[u8]) -> Result<(),
 #[cycle(container)]
 fn check_array(faults: FaultTable, depth: usize, count: usize, body: &[u8]) -> Result<(), Error>
     requires { count < 2 ^ 29 }
-    ensures { Tells faults result (HasArray depth count body.now) }
+    ensures { HoldsOrFaults faults result (HasArray depth count body.now) }
 {
     if body.len() < 4 * count {
         return Err(faults.short_entries());
@@ -350,7 +351,7 @@ fn check_array(faults: FaultTable, depth: usize, count: usize, body: &[u8]) -> R
 #[cycle(container)]
 fn check_object(faults: FaultTable, depth: usize, count: usize, body: &[u8]) -> Result<(), Error>
     requires { count < 2 ^ 29 }
-    ensures { Tells faults result (HasObject depth count body.now) }
+    ensures { HoldsOrFaults faults result (HasObject depth count body.now) }
 {
     if body.len() < 8 * count {
         return Err(faults.short_entries());
@@ -375,7 +376,7 @@ fn check_children(
     payloads: &[u8],
 ) -> Result<(), Error>
     requires { length entries.now % 4 ≡ 0 }
-    ensures { Tells faults result (HasChildren depth entries.now payloads.now) }
+    ensures { HoldsOrFaults faults result (HasChildren depth entries.now payloads.now) }
 {
     let mut entries_left = entries;
     let mut payloads_left = payloads;
@@ -484,7 +485,7 @@ fn split_payload<'a>(
 #[cycle(container)]
 #[inline(always)]
 fn check_key(faults: FaultTable, depth: usize, tag: u32, payload: &[u8]) -> Result<(), Error>
-    ensures { Tells faults result (HasPayload depth tag payload.now) }
+    ensures { HoldsOrFaults faults result (HasPayload depth tag payload.now) }
 {
     if tag == STRING_TAG {
         check_text(faults, payload)
@@ -498,7 +499,7 @@ fn check_key(faults: FaultTable, depth: usize, tag: u32, payload: &[u8]) -> Resu
 #[cold]
 #[inline(never)]
 fn check_no_key(faults: FaultTable, depth: usize, tag: u32, payload: &[u8]) -> Result<(), Error>
-    ensures { Tells faults result (HasPayload depth tag payload.now) }
+    ensures { HoldsOrFaults faults result (HasPayload depth tag payload.now) }
 {
     check_payload(faults, depth, tag, payload)
 }
@@ -507,7 +508,7 @@ fn check_no_key(faults: FaultTable, depth: usize, tag: u32, payload: &[u8]) -> R
 #[cycle(container)]
 #[inline(always)]
 fn check_payload(faults: FaultTable, depth: usize, tag: u32, payload: &[u8]) -> Result<(), Error>
-    ensures { Tells faults result (HasPayload depth tag payload.now) }
+    ensures { HoldsOrFaults faults result (HasPayload depth tag payload.now) }
 {
     if tag == CONTAINER_TAG {
         check_container(faults, depth, payload)
@@ -520,7 +521,7 @@ fn check_payload(faults: FaultTable, depth: usize, tag: u32, payload: &[u8]) -> 
 #[inline(always)]
 fn check_scalar_payload(faults: FaultTable, tag: u32, payload: &[u8]) -> Result<(), Error>
     requires { tag ≢ CONTAINER_TAG }
-    ensures { Tells faults result (HasPayload 0 tag payload.now) }
+    ensures { HoldsOrFaults faults result (HasPayload 0 tag payload.now) }
 {
     match tag {
         NULL_TAG | FALSE_TAG | TRUE_TAG if payload.is_empty() => Ok(()),
@@ -538,7 +539,7 @@ fn check_scalar_payload(faults: FaultTable, tag: u32, payload: &[u8]) -> Result<
 // Checks the payload of a string. Most are ASCII, which is cheaper to check.
 #[inline(always)]
 fn check_text(faults: FaultTable, payload: &[u8]) -> Result<(), Error>
-    ensures { Tells faults result (IsUtf8 payload.now) }
+    ensures { HoldsOrFaults faults result (IsUtf8 payload.now) }
 {
     if is_all_ascii(payload) {
         Ok(())
@@ -550,7 +551,7 @@ fn check_text(faults: FaultTable, payload: &[u8]) -> Result<(), Error>
 // Checks the payload of a string that is not ASCII.
 #[inline(never)]
 fn check_utf8(faults: FaultTable, payload: &[u8]) -> Result<(), Error>
-    ensures { Tells faults result (IsUtf8 payload.now) }
+    ensures { HoldsOrFaults faults result (IsUtf8 payload.now) }
 {
     match str::from_utf8(payload) {
         Ok(_) => Ok(()),

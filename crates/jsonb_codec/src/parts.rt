@@ -84,7 +84,7 @@ impl<'a> Part<'a> {
     ghost use Rattle.jsonb_value.specs.Tree.{Tree, number, text, extension};
     ghost use Rattle.jsonb_codec.specs.Word.{word};
     ghost use Rattle.jsonb_codec.specs.Contents.{Means, AreContents, AreInside};
-    ghost use Rattle.jsonb_codec.specs.Rewriting.{Opened};
+    ghost use Rattle.jsonb_codec.specs.Rewriting.{ContainerParts};
 
     /// The text of a string.
     #[inline(always)]
@@ -145,7 +145,8 @@ impl<'a> Part<'a> {
     pub fn container(self) -> Container<'a>
         requires { self.tag ≡ CONTAINER_TAG }
         ensures opened { (t : Tree) → Means self.entry t
-            → Opened t result.header result.children.entries.now result.children.payloads.now }
+            → ContainerParts t result.header result.children.entries.now
+            result.children.payloads.now }
         ensures bytes { self.entry.payload.now ≡ word result.header
             ++ (result.children.entries.now ++ result.children.payloads.now) }
         ensures few { length result.children.entries.now < 2 ^ 32 }

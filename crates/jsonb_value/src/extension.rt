@@ -73,7 +73,7 @@ impl<'a> ExtensionValue<'a> {
             (λ e. (e ≡ Error.InvalidJsonbNumber) ⊎ (e ≡ Error.InvalidJsonbExtension)) }
     {
         match bytes {
-            [tag, rest @ ..] => opaque_extension(*tag, rest),
+            [tag, rest @ ..] => extension_of_tag(*tag, rest),
             [] => Err(Error::InvalidJsonbExtension),
         }
     }
@@ -124,7 +124,7 @@ impl<'a> ExtensionValue<'a> {
 }
 
 // Decodes `rest` as the payload of the tag.
-fn opaque_extension<'a>(tag: u8, rest: &'a [u8]) -> Result<ExtensionValue<'a>, Error>
+fn extension_of_tag<'a>(tag: u8, rest: &'a [u8]) -> Result<ExtensionValue<'a>, Error>
     ensures ok { IfOk result (λ x. ExtCode (tag ∷ rest.now) (extension_of x)) }
     ensures none { OnErr result ((e : Extension) → ExtCode (tag ∷ rest.now) e → ⊥) }
     ensures length { result ≡ Err Error.InvalidJsonbNumber → HasKnownTag (tag ∷ rest.now) }

@@ -27,7 +27,7 @@ use crate::word::{read_word, word_bytes};
 use jsonb_value::Error;
 
 // The top levels are measured without limits: limits do not help wide, shallow documents.
-const PLAIN_LEVELS: usize = 4;
+const UNLIMITED_LEVELS: usize = 4;
 
 /// Appends the document with a single growth of the buffer. `InvalidJsonb`, before any allocation,
 /// if the value does not fit the format; `OutOfMemory` if the buffer cannot grow. After an error
@@ -57,8 +57,8 @@ pub fn append_document<S: Source>(
             append_word(buf, leaf.type_code() + leaf.len() as u32);
             leaf.append_to(buf);
         }
-        Level::Array(items) => append_array::<S>(buf, items, size, PLAIN_LEVELS),
-        Level::Object(object) => append_object::<S>(buf, object, size, PLAIN_LEVELS),
+        Level::Array(items) => append_array::<S>(buf, items, size, UNLIMITED_LEVELS),
+        Level::Object(object) => append_object::<S>(buf, object, size, UNLIMITED_LEVELS),
     }
     Ok(())
 }
@@ -99,7 +99,7 @@ fn entry_size(out: &Vec<u8>, entry: usize) -> usize
 
 // Appends the payload of an array, which has `size` bytes.
 #[cycle(append)]
-fn append_array<S: Source>(out: &mut Vec<u8>, items: S::Items, size: usize, plain_levels: usize)
+fn append_array<S: Source>(out: &mut Vec<u8>, items: S::Items, size: usize, unlimited_levels: usize)
     requires { (ss : Shapes) × (S.meaning.items items ss
         × CanWrite out.old (shapes.array ss) size) }
     ensures { (ss : Shapes) → S.meaning.items items ss
@@ -108,13 +108,18 @@ fn append_array<S: Source>(out: &mut Vec<u8>, items: S::Items, size: usize, plai
     let count = S::count(items);
     append_word(out, ARRAY_CONTAINER_TAG + count as u32);
     let words = out.len();
-    append_item_entries::<S>(out, items, size - 4 - 4 * count, plain_levels);
-    append_items::<S>(out, items, words, plain_levels.saturating_sub(1));
+    append_item_entries::<S>(out, items, size - 4 - 4 * count, unlimited_levels);
+    append_items::<S>(out, items, words, unlimited_levels.saturating_sub(1));
 }
 
 // Appends the payload of an object, which has `size` bytes.
 #[cycle(append)]
-fn append_object<S: Source>(out: &mut Vec<u8>, object: S::Object, size: usize, plain_levels: usize)
+fn append_object<S: Source>(
+    out: &mut Vec<u8>,
+    object: S::Object,
+    size: usize,
+    unlimited_levels: usize,
+)
     requires { (ss : Shapes) × (S.meaning.object object ss
         × CanWrite out.old (shapes.object ss) size) }
     ensures { (ss : Shapes) → S.meaning.object object ss
@@ -125,9 +130,14 @@ fn append_object<S: Source>(out: &mut Vec<u8>, object: S::Object, size: usize, p
     append_word(out, OBJECT_CONTAINER_TAG + count as u32);
     append_key_entries::<S>(out, S::again(&members));
     let words = out.len();
-    append_value_entries::<S>(out, S::again(&members), size - 4 - 8 * count, plain_levels);
+    append_value_entries::<S>(
+        out,
+        S::again(&members),
+        size - 4 - 8 * count,
+        unlimited_levels,
+    );
     append_keys::<S>(out, S::again(&members));
-    append_values::<S>(out, members, words, plain_levels.saturating_sub(1));
+    append_values::<S>(out, members, words, unlimited_levels.saturating_sub(1));
 }
 
 // Appends the entry words of items, whose payloads have `size` bytes in total.
@@ -136,7 +146,7 @@ fn append_item_entries<S: Source>(
     out: &mut Vec<u8>,
     items: S::Items,
     size: usize,
-    plain_levels: usize,
+    unlimited_levels: usize,
 )
     requires { (ss : Shapes) × (S.meaning.items items ss
         × (CanGoOn out.old ss (entries ss) × (size ≡ body ss))) }
@@ -149,7 +159,7 @@ fn append_item_entries<S: Source>(
         size_left -= match S::level(item) {
             Level::Leaf(leaf) => append_leaf_entry(out, leaf),
             container => {
-                let size = item_size::<S>(item, container, others, size_left, plain_levels);
+                let size = item_size::<S>(item, container, others, size_left, unlimited_levels);
                 append_container_entry(out, size)
             }
         };
@@ -164,7 +174,7 @@ fn append_value_entries<S: Source>(
     out: &mut Vec<u8>,
     members: S::Members,
     size: usize,
-    plain_levels: usize,
+    unlimited_levels: usize,
 )
     requires { (ss : Shapes) × (S.meaning.members members ss
         × (CanGoOn out.old ss (entries ss) × (size ≡ body ss))) }
@@ -178,7 +188,7 @@ fn append_value_entries<S: Source>(
         size_left -= match S::level(value) {
             Level::Leaf(leaf) => append_leaf_entry(out, leaf),
             container => {
-                let size = value_size::<S>(value, container, &others, size_left, plain_levels);
+                let size = value_size::<S>(value, container, &others, size_left, unlimited_levels);
                 append_container_entry(out, size)
             }
         };
@@ -245,7 +255,12 @@ fn append_keys<S: Source>(out: &mut Vec<u8>, members: S::Members)
 // Appends the payloads of items, whose entry words are at index `words`.
 #[cycle(append)]
 #[inline(always)]
-fn append_items<S: Source>(out: &mut Vec<u8>, items: S::Items, words: usize, plain_levels: usize)
+fn append_items<S: Source>(
+    out: &mut Vec<u8>,
+    items: S::Items,
+    words: usize,
+    unlimited_levels: usize,
+)
     requires { (ss : Shapes) × (S.meaning.items items ss
         × (CanGoOn out.old ss (payloads ss) × Stands words (entries ss) out.old.items)) }
     ensures { (ss : Shapes) → S.meaning.items items ss
@@ -254,7 +269,7 @@ fn append_items<S: Source>(out: &mut Vec<u8>, items: S::Items, words: usize, pla
     let mut left = items;
     let mut entry = words;
     while let Some((item, others)) = S::split_item(left) {
-        append_child::<S>(out, item, entry, plain_levels);
+        append_child::<S>(out, item, entry, unlimited_levels);
         entry += 4;
         left = others;
     }
@@ -267,7 +282,7 @@ fn append_values<S: Source>(
     out: &mut Vec<u8>,
     members: S::Members,
     words: usize,
-    plain_levels: usize,
+    unlimited_levels: usize,
 )
     requires { (ss : Shapes) × (S.meaning.members members ss
         × (CanGoOn out.old ss (payloads ss) × Stands words (entries ss) out.old.items)) }
@@ -277,7 +292,7 @@ fn append_values<S: Source>(
     let mut left = members;
     let mut entry = words;
     while let Some((_, (value, others))) = S::split_member(left) {
-        append_child::<S>(out, value, entry, plain_levels);
+        append_child::<S>(out, value, entry, unlimited_levels);
         entry += 4;
         left = others;
     }
@@ -286,7 +301,12 @@ fn append_values<S: Source>(
 // Appends the payload of a child, whose entry word is at index `entry`.
 #[cycle(append)]
 #[inline(always)]
-fn append_child<S: Source>(out: &mut Vec<u8>, child: S::Child, entry: usize, plain_levels: usize)
+fn append_child<S: Source>(
+    out: &mut Vec<u8>,
+    child: S::Child,
+    entry: usize,
+    unlimited_levels: usize,
+)
     requires { (s : Shape) × (S.meaning.child child s × (FitsEntry s
         × (HasRoom out.old (payload s)
         × Stands entry (word (type_of s + length (payload s))) out.old.items))) }
@@ -296,11 +316,11 @@ fn append_child<S: Source>(out: &mut Vec<u8>, child: S::Child, entry: usize, pla
         Level::Leaf(leaf) => leaf.append_to(out),
         Level::Array(items) => {
             let size = entry_size(out, entry);
-            append_array::<S>(out, items, size, plain_levels);
+            append_array::<S>(out, items, size, unlimited_levels);
         }
         Level::Object(object) => {
             let size = entry_size(out, entry);
-            append_object::<S>(out, object, size, plain_levels);
+            append_object::<S>(out, object, size, unlimited_levels);
         }
     }
 }

@@ -186,15 +186,15 @@ fn measure_members<S: Source>(members: S::Members, start: usize, most: usize) ->
 }
 
 /// The payload length of a container that is an array's item. `left`: the total size of this item
-/// and its later siblings. `plain_levels`: the number of levels from here that are measured without
-/// limits.
+/// and its later siblings. `unlimited_levels`: the number of levels from here that are measured
+/// without limits.
 #[inline(always)]
 pub fn item_size<S: Source>(
     item: S::Child,
     container: Level<S::Leaf, S::Items, S::Object>,
     behind: S::Items,
     left: usize,
-    plain_levels: usize,
+    unlimited_levels: usize,
 ) -> usize
     requires { (s : Shape) × (Is S.Leaf.code S.meaning container s
         × TakesLeft S.meaning.items behind s left) }
@@ -205,20 +205,20 @@ pub fn item_size<S: Source>(
     }
     match S::guess(item) {
         Some(guess) => item_size_by_guess::<S>(container, behind, left, guess),
-        None => item_size_by_limits::<S>(container, behind, left, first_limit(plain_levels)),
+        None => item_size_by_limits::<S>(container, behind, left, first_limit(unlimited_levels)),
     }
 }
 
 /// The payload length of a container that is an object's value. `left`: the total size of this
-/// value, its later siblings and their keys. `plain_levels`: the number of levels from here that
-/// are measured without limits.
+/// value, its later siblings and their keys. `unlimited_levels`: the number of levels from here
+/// that are measured without limits.
 #[inline(always)]
 pub fn value_size<S: Source>(
     value: S::Child,
     container: Level<S::Leaf, S::Items, S::Object>,
     behind: &S::Members,
     left: usize,
-    plain_levels: usize,
+    unlimited_levels: usize,
 ) -> usize
     requires { (s : Shape) × (Is S.Leaf.code S.meaning container s
         × TakesLeft S.meaning.members behind.now s left) }
@@ -230,15 +230,15 @@ pub fn value_size<S: Source>(
     let others = S::again(behind);
     match S::guess(value) {
         Some(guess) => value_size_by_guess::<S>(container, others, left, guess),
-        None => value_size_by_limits::<S>(container, others, left, first_limit(plain_levels)),
+        None => value_size_by_limits::<S>(container, others, left, first_limit(unlimited_levels)),
     }
 }
 
 // The first limit: none in the top levels, and a small one below them.
-fn first_limit(plain_levels: usize) -> usize
+fn first_limit(unlimited_levels: usize) -> usize
     ensures { 0 < result }
 {
-    if plain_levels > 0 {
+    if unlimited_levels > 0 {
         usize::MAX
     } else {
         FIRST_LIMIT

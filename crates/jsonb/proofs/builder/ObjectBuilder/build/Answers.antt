@@ -8,7 +8,7 @@ use Rattle.jsonb.specs.Storage.{AreHeld}
 use Rattle.jsonb.specs.Building.{AreKeys, FitObject, IsObjectOf}
 use Rattle.jsonb.proofs.ResultObjects.{both_ok}
 use Rattle.jsonb.proofs.ResultMeanings.{IsObjectUpToZeros-IsObjectOf}
-use Rattle.jsonb.proofs.ShownLaws.{pairs_shown, pairs_held, keys_shown}
+use Rattle.jsonb.proofs.SameEntryLaws.{pairs_shown, pairs_held, keys_shown}
 use Rattle.jsonb.proofs.builder.ObjectBuilder.build.Goals as goal
 
 pub returns-clause-ok : goal.returns-clause-ok

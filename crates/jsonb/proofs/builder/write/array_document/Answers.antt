@@ -3,7 +3,7 @@ use Rattle.std.specs.List.{AllByRecursion}
 use Rattle.jsonb_value.specs.declared.error.Error.TheVariants.{InvalidJsonb, OutOfMemory}
 use Rattle.jsonb_codec.specs.Shape.{array}
 use Rattle.jsonb_codec.specs.Stored.{shapes_by}
-use Rattle.jsonb.proofs.ShownLaws.{array_made, array_fits}
+use Rattle.jsonb.proofs.SameEntryLaws.{array_made, array_fits}
 use Rattle.jsonb.proofs.builder.write.array_document.Goals as goal
 
 pub returns-then-not-are_stored-clause-past : goal.returns-then-not-are_stored-clause-past

@@ -5,7 +5,7 @@ use Rattle.jsonb_value.specs.declared.error.Error.TheVariants.{InvalidJsonb, Out
 use Rattle.jsonb_codec.specs.Shape.{object}
 use Rattle.jsonb_codec.specs.Stored.{shapes_by}
 use Rattle.jsonb.proofs.ObjectLaws.{AreKeys-held, values-held, at_pairs, of_pairs}
-use Rattle.jsonb.proofs.ShownLaws.{object_made, object_fits}
+use Rattle.jsonb.proofs.SameEntryLaws.{object_made, object_fits}
 use Rattle.jsonb.proofs.builder.write.object_document.Goals as goal
 
 pub returns-then-not-are_stored_at-clause-past : goal.returns-then-not-are_stored_at-clause-past

@@ -5,16 +5,16 @@ use Rattle.std.specs.Prelude.{IsSome}
 use Rattle.jsonb_codec.specs.Stored.{code_of_some}
 use Rattle.jsonb.specs.Raw.{raw_bytes}
 use Rattle.jsonb.specs.ItemView as items
-use Rattle.jsonb.specs.Children.{IsShown, raw_view}
+use Rattle.jsonb.specs.Children.{HasSameEntry, raw_view}
 use Rattle.jsonb.proofs.ResultLaws.{map-map, IsArrayOfInputs-IsArrayOf}
-use Rattle.jsonb.proofs.ShownLaws.{shown_push}
+use Rattle.jsonb.proofs.SameEntryLaws.{shown_push}
 use Rattle.jsonb.proofs.owned.OwnedJsonb.build_array.Goals as goal
 
 pub loop-input-preserved : goal.loop-input-preserved
 loop-input-preserved g c =
     let walk = c.loop-input in
     rw (map-append raw_view walk.yielded (c.in-Some.input ∷ []), c.in_ok-push.ensures.items)
-    (shown_push (IsShown IsSome code_of_some) walk.documents.items (map raw_view walk.yielded)
+    (shown_push (HasSameEntry IsSome code_of_some) walk.documents.items (map raw_view walk.yielded)
     walk.invariant _ _ c.document_part.ensures)
 
 pub returns-clause-past : goal.returns-clause-past

@@ -10,7 +10,7 @@ use Rattle.jsonb.specs.Children.{key_bytes}
 use Rattle.jsonb.specs.Results.{input_pair, raw_pairs}
 use Rattle.jsonb.proofs.InputLaws.{key_there, one_more, still_distinct}
 use Rattle.jsonb.proofs.ResultObjects.{both_ok, IsObjectOfInputs-IsObjectOf}
-use Rattle.jsonb.proofs.ShownLaws.{shown_insert, has_key-shown, at_keys}
+use Rattle.jsonb.proofs.SameEntryLaws.{shown_insert, has_key-shown, at_keys}
 use Rattle.jsonb.proofs.owned.OwnedJsonb.build_object.Goals as goal
 
 pub loop-key-init : goal.loop-key-init

@@ -11,7 +11,7 @@ use Rattle.jsonb.proofs.DocumentInputLaws.{all_pair_documents, values-in_order, 
 use Rattle.jsonb.proofs.DocumentInputLaws.{IsObjectOfDocuments-inputs}
 use Rattle.jsonb.proofs.InputLaws.{key_there, one_more, still_distinct}
 use Rattle.jsonb.proofs.ResultObjects.{both_ok, IsObjectOfInputs-IsObjectOf}
-use Rattle.jsonb.proofs.ShownLaws.{shown_insert, has_key-shown, at_keys}
+use Rattle.jsonb.proofs.SameEntryLaws.{shown_insert, has_key-shown, at_keys}
 use Rattle.jsonb.proofs.owned.OwnedJsonb.build_object_of_documents.Goals as goal
 
 pub loop-key-init : goal.loop-key-init

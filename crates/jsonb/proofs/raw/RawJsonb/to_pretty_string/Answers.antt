@@ -10,7 +10,7 @@ returns-clause-display c =
     prints_as _ _ _
     (string_written c.new.result _ _ _ _ _
     (c.write_pretty-answer.ensures.text c.new-f.ensures.plain.flush) c.new.ensures.bytes
-    c.new-f.ensures.writer c.text_of_document.ensures.ok c.text_of_document.ensures.text)
+    c.new-f.ensures.writer c.finish_text.ensures.ok c.finish_text.ensures.text)
     (cc c.as_bytes.ensures)
 
 pub returns-clause-document : goal.returns-clause-document

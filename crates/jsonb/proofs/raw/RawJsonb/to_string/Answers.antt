@@ -10,7 +10,7 @@ returns-clause-display c =
     prints_as _ _ _
     (string_written c.in_ok-text.text _ _ _ _ _
     (c.write_view-answer.ensures.text c.new-f.ensures.plain.flush) c.in_ok-text.ensures.bytes
-    c.new-f.ensures.writer c.text_of_document.ensures.ok c.text_of_document.ensures.text)
+    c.new-f.ensures.writer c.finish_text.ensures.ok c.finish_text.ensures.text)
     (cc c.as_bytes.ensures)
 
 pub returns-clause-document : goal.returns-clause-document

@@ -6,7 +6,7 @@ use Rattle.jsonb.specs.Storage.{AreHeld}
 use Rattle.jsonb.specs.Building.{FitArray, IsArrayOf}
 use Rattle.jsonb.proofs.ResultObjects.{both_ok}
 use Rattle.jsonb.proofs.ResultMeanings.{IsArrayUpToZeros-IsArrayOf}
-use Rattle.jsonb.proofs.ShownLaws.{items_shown, items_held}
+use Rattle.jsonb.proofs.SameEntryLaws.{items_shown, items_held}
 use Rattle.jsonb.proofs.builder.distinct.ArrayDistinctBuilder.build.Goals as goal
 
 pub returns-clause-ok : goal.returns-clause-ok

@@ -1,7 +1,7 @@
 use Rattle.jsonb.proofs.OrderLaws.{bytes_total, bytes_cmp-trees, bytes_cmp-one_tree}
 use Rattle.jsonb.proofs.OrderLaws.{items_cmp-one_tree, bytes_cmp-kinds, bytes_cmp-norm}
 use Rattle.jsonb.proofs.OrderLaws.{bytes_cmp-right_norm}
-use Rattle.jsonb.proofs.order.order_of_bytes.Goals as goal
+use Rattle.jsonb.proofs.order.byte_order_laws.Goals as goal
 
 pub returns : goal.returns
 returns c = record {

@@ -20,7 +20,7 @@ use Rattle.jsonb.specs.Storage.{AreStorable, AreHeld, IsHeld, IsStored, codes_of
 use Rattle.jsonb.specs.Building.{AreShort, code_entries, code_payloads, key_codes}
 use Rattle.jsonb.specs.Building.{FitArray, IsArrayOf, FitObject, IsObjectOf, has_key}
 use Rattle.jsonb.specs.Building.{with_pair}
-use Rattle.jsonb.specs.Children.{Pairwise, IsShown, AreShown, IsShownAt, AreShownAt}
+use Rattle.jsonb.specs.Children.{Pairwise, HasSameEntry, AreShown, IsShownAt, AreShownAt}
 use Rattle.jsonb.specs.Children.{ItemPairs, key_bytes, pairs_by}
 use Rattle.jsonb.proofs.StorageLaws.{AreCodes-codes_of, codes_of-AreCodes, length-codes_of}
 use Rattle.jsonb.proofs.StorageLaws.{AreStorable-FitArray}
@@ -198,7 +198,7 @@ shown_push R (z ∷ xs) (w ∷ ys) h x y r = (h.0, shown_push R xs ys h.1 x y r)
 
 module _ {T : Type 0} (stored : T → Type 0) (code : T → ℕ × List ℕ) where
   shown_at : (o : Ordering) (k : Bor (List ℕ)) (x : T) (item : ItemView)
-      → IsShown stored code x item → (e : Bor (List ℕ) × T) (es more : List (Bor (List ℕ) × T))
+      → HasSameEntry stored code x item → (e : Bor (List ℕ) × T) (es more : List (Bor (List ℕ) × T))
       (p : List ℕ × ItemView) (ps others : ItemPairs) → IsShownAt stored code e p
       → AreShownAt stored code es ps → AreShownAt stored code more others
       → AreShownAt stored code (match_ordering o ((k, x) ∷ e ∷ es) ((e.0, x) ∷ es) (e ∷ more))
@@ -208,7 +208,7 @@ module _ {T : Type 0} (stored : T → Type 0) (code : T → ℕ × List ℕ) whe
   shown_at Greater k x item is e es more p ps others here h rest = (here, rest)
 
   pub shown_insert : (es : List (Bor (List ℕ) × T)) (ps : ItemPairs) → AreShownAt stored code es ps
-      → (k : Bor (List ℕ)) (x : T) (item : ItemView) → IsShown stored code x item
+      → (k : Bor (List ℕ)) (x : T) (item : ItemView) → HasSameEntry stored code x item
       → AreShownAt stored code (insert_entry key_cmp es k x) (with_pair ps k.now item)
   shown_insert [] ps h k x item is = rw h ((refl, is), refl)
   shown_insert (e ∷ es) [] h k x item is = absurd h

@@ -1,6 +1,6 @@
 use Rattle.jsonb_value.proofs.ExtCodes.{date_behind, timestamp_behind, zoned_behind}
 use Rattle.jsonb_value.proofs.ExtCodes.{interval_behind}
-use Rattle.jsonb_value.proofs.extension.opaque_extension.Goals as goal
+use Rattle.jsonb_value.proofs.extension.extension_of_tag.Goals as goal
 
 pub returns-in-None-clause-none : goal.returns-in-None-clause-none
 returns-in-None-clause-none c = λ e h.
