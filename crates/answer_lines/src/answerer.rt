@@ -1,8 +1,7 @@
 //! Answering a line.
 
-ghost use Rattle.std.specs.Prelude.{◌≡◌, ◌∷◌, ◌++◌, [], ℕ, List, IfOk};
-ghost use Rattle.std.specs.String.{string_bytes};
-ghost use Rattle.answer_lines.specs.Session.{IsReply};
+ghost use Rattle.std.specs.Prelude.{◌≡◌, ◌∷◌, ◌++◌, [], ℕ, List, IfOk, string_bytes};
+ghost use Rattle.answer_lines.specs.Words.{IsReply};
 
 use std::alloc::{AllocError, Global};
 

@@ -1,8 +1,7 @@
 //! The source of lines.
 
 ghost use Rattle.std.specs.Prelude.{ℕ, List, Option, ⊤};
-ghost use Rattle.std.specs.Io.{ReadsAtMost};
-ghost use Rattle.std.specs.Io.KnownBytes.{ReadConsumes};
+ghost use Rattle.answer_lines.specs.Words.{ReadsAtMost, ReadConsumes};
 
 use std::io::{self, Read, Write};
 

@@ -1,12 +1,9 @@
 //! The loop from lines to replies, over any reader and any writer.
 
-ghost use Rattle.std.specs.Prelude.{◌≡◌, ℕ, [], ◌∷◌, ◌++◌, List, Option, OnOk, OnErr, IfOk};
-ghost use Rattle.std.specs.Prelude.{IfSome, IsErrOf, IsOkUnless, string_bytes};
-ghost use Rattle.std.specs.Io.KnownBytes.{IsAtEnd};
-ghost use Rattle.answer_lines.specs.Lines.{IsLine};
-ghost use Rattle.answer_lines.specs.Session.{IsReply, AppendsReplies, AppendsBeginning};
-ghost use Rattle.answer_lines.specs.Session.{AppendsWhole, IsPrompt};
-ghost use Rattle.answer_lines.specs.declared.run.RunError.TheVariants.{Memory};
+ghost use Rattle.std.specs.Prelude.{◌≡◌, ℕ, [], ◌∷◌, ◌++◌, List, Option, OnOk, OnErr, IfOk, IfSome};
+ghost use Rattle.std.specs.Prelude.{IsErrOf, IsOkUnless, string_bytes};
+ghost use Rattle.answer_lines.specs.Words.{IsAtEnd, IsLine, IsReply, AppendsReplies, AppendsWhole};
+ghost use Rattle.answer_lines.specs.Words.{AppendsBeginning, IsPrompt, Memory};
 
 use crate::answerer::LineAnswerer;
 use crate::reader::LineReader;

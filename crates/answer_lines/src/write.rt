@@ -1,8 +1,7 @@
 //! Writing to any writer.
 
 ghost use Rattle.std.specs.Prelude.{◌++◌, OnOk, OnErr, IsOkUnless};
-ghost use Rattle.std.specs.Io.KnownBytes.{Appends};
-ghost use Rattle.answer_lines.specs.Output.{AppendsPrefix, AppendsAllBut};
+ghost use Rattle.answer_lines.specs.Words.{Appends, AppendsPrefix, AppendsAllBut};
 
 use crate::run::RunError;
 use std::io::Write;

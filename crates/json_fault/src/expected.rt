@@ -1,11 +1,9 @@
 //! What may come next in a JSON text, character by character.
 
 ghost use Rattle.std.specs.Prelude.{◌≡◌};
-ghost use Rattle.jsonb_value.specs.Json.Characters.{is_blank};
-ghost use Rattle.json_fault.specs.Scan.{value_begun, number_first, mark_begun, closed_or};
-ghost use Rattle.json_fault.specs.Scan.{rest_begun, rest_followed, word_continued, in_number};
-ghost use Rattle.json_fault.specs.Scan.{in_content, in_name};
-ghost use Rattle.json_fault.specs.Scan.{skips, token_begun, followed};
+ghost use Rattle.json_fault.specs.Words.{is_blank, value_begun, number_first, mark_begun, in_name};
+ghost use Rattle.json_fault.specs.Words.{closed_or, rest_begun, rest_followed, word_continued};
+ghost use Rattle.json_fault.specs.Words.{in_number, in_content, skips, token_begun, followed};
 
 use crate::number::{Numeral, Part, is_complete, number_begun, number_continued};
 use crate::string::{Place, is_closed, string_continued};

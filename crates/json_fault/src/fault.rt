@@ -1,10 +1,8 @@
 //! Where a text is no JSON.
 
 ghost use Rattle.std.specs.Prelude.{◌≡◌, ◌↔◌, chars, IsTrue, OnOk, IfOk, IfErr, IfSome};
-ghost use Rattle.json_fault.specs.Fault.{IsJson, IsFaultAt};
-ghost use Rattle.json_fault.specs.Scan.{innermost, changed};
-ghost use Rattle.json_fault.specs.Stack.{stack_of};
-ghost use Rattle.json_fault.specs.WithoutNumbers.{without_numbers};
+ghost use Rattle.json_fault.specs.Words.{IsJson, IsFaultAt, innermost, changed, stack_of};
+ghost use Rattle.json_fault.specs.Words.{without_numbers};
 
 use crate::cursor::split_first;
 use crate::expected::{Bracket, Change, Expected, followed};

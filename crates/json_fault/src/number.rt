@@ -1,8 +1,8 @@
 //! Numbers, character by character.
 
 ghost use Rattle.std.specs.Prelude.{◌≡◌};
-ghost use Rattle.json_fault.specs.Scan.{has_room, is_viable, viable_only, with_digit, with_point};
-ghost use Rattle.json_fault.specs.Scan.{number_begun, number_continued, is_complete};
+ghost use Rattle.json_fault.specs.Words.{has_room, is_viable, viable_only, with_digit, with_point};
+ghost use Rattle.json_fault.specs.Words.{number_begun, number_continued, is_complete};
 
 /// The part of a number that was read last.
 #[derive(Clone, Copy)]

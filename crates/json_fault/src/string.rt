@@ -1,10 +1,9 @@
 //! Strings, character by character.
 
 ghost use Rattle.std.specs.Prelude.{◌≡◌, ◌≤◌, is_some};
-ghost use Rattle.jsonb_value.specs.Json.Piece.{escape_value};
-ghost use Rattle.json_fault.specs.Scan.{after_inside, after_backslash, after_digit, after_mark};
-ghost use Rattle.json_fault.specs.Scan.{string_continued, after_first_digit, after_digit_of_d};
-ghost use Rattle.json_fault.specs.Scan.{is_closed};
+ghost use Rattle.json_fault.specs.Words.{escape_value, after_inside, after_backslash, after_digit};
+ghost use Rattle.json_fault.specs.Words.{after_mark, string_continued, after_first_digit};
+ghost use Rattle.json_fault.specs.Words.{after_digit_of_d, is_closed};
 
 /// What a string expects next.
 #[derive(Clone, Copy)]

@@ -1,10 +1,9 @@
 //! A text without its numbers.
 
 ghost use Rattle.std.specs.Prelude.{◌≡◌, IfOk, IfErr, chars, option_map, string_bytes};
-ghost use Rattle.json_fault.specs.WithoutNumbers.{after_digits, after_some_digits, after_minus};
-ghost use Rattle.json_fault.specs.WithoutNumbers.{after_whole, after_fraction, after_sign};
-ghost use Rattle.json_fault.specs.WithoutNumbers.{after_exponent, after_number, number_here};
-ghost use Rattle.json_fault.specs.WithoutNumbers.{scan_after, without_numbers};
+ghost use Rattle.json_fault.specs.Words.{after_digits, after_some_digits, after_minus, after_whole};
+ghost use Rattle.json_fault.specs.Words.{after_fraction, after_sign, after_exponent, after_number};
+ghost use Rattle.json_fault.specs.Words.{number_here, scan_after, without_numbers};
 
 use crate::cursor::split_first;
 use jsonb_value::Error;

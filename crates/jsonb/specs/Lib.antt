@@ -29,3 +29,4 @@ pub mod Facts
 pub mod Node
 pub mod Contents
 pub mod SortKey
+pub mod Words

@@ -5,21 +5,14 @@ mod write;
 
 ghost use Rattle.std.specs.Prelude.{◌≡◌, ◌↔◌, ◌⊎◌, List, [], ◌∷◌, ◌++◌, ℕ, map, Err, IsTrue, IfOk};
 ghost use Rattle.std.specs.Prelude.{IfErr, OnOk, OnErr};
-ghost use Rattle.jsonb_value.specs.Tree.{Trees, Pairs};
-ghost use Rattle.jsonb.specs.Raw.{raw_bytes};
-ghost use Rattle.jsonb.specs.Owned.{owned_bytes};
-ghost use Rattle.jsonb.specs.ItemView.{ItemView, item_view};
 ghost use Rattle.jsonb.specs.ItemView as items;
-ghost use Rattle.std.specs.Iterator.{IsFinite};
-ghost use Rattle.jsonb.specs.Building.{FitArray, IsArrayOf, has_key, with_pair, FitObject};
-ghost use Rattle.jsonb.specs.Building.{IsObjectOf, AreKeys};
-ghost use Rattle.std.specs.Map.{keys_of};
-ghost use Rattle.jsonb.specs.Children.{pairs_by};
-ghost use Rattle.jsonb.specs.Results.{AllMean, AllMeanAt, IsArrayUpToZeros, IsObjectUpToZeros};
-ghost use Rattle.jsonb.specs.Results.{IsArrayOfInputs, IsObjectOfInputs, MakeNoObject, input_pair};
-ghost use Rattle.jsonb.specs.Results.{TakesAll, TakesUpTo, IsArrayOfDocuments, IsObjectOfDocuments};
-ghost use Rattle.jsonb.specs.Results.{AreWithinLimits, PairsExceedLimits, document_pair};
-ghost use Rattle.jsonb.specs.Document.{document_bytes};
+ghost use Rattle.jsonb.specs.Words.{Trees, Pairs, raw_bytes, owned_bytes, ItemView, item_view};
+ghost use Rattle.jsonb.specs.Words.{IsFinite, FitArray, IsArrayOf, has_key, with_pair, FitObject};
+ghost use Rattle.jsonb.specs.Words.{IsObjectOf, AreKeys, keys_of, pairs_by, AllMean, AllMeanAt};
+ghost use Rattle.jsonb.specs.Words.{IsArrayUpToZeros, IsObjectUpToZeros, IsArrayOfInputs, TakesAll};
+ghost use Rattle.jsonb.specs.Words.{IsObjectOfInputs, MakeNoObject, input_pair, TakesUpTo};
+ghost use Rattle.jsonb.specs.Words.{IsArrayOfDocuments, IsObjectOfDocuments, AreWithinLimits};
+ghost use Rattle.jsonb.specs.Words.{PairsExceedLimits, document_pair, document_bytes};
 
 use crate::code::document_part;
 use crate::document::Document;

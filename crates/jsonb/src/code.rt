@@ -1,14 +1,9 @@
 //! The stored form of items: the type and the payload of an entry.
 
 ghost use Rattle.std.specs.Prelude.{◌≡◌, IsSome, ⊤};
-ghost use Rattle.jsonb_codec.specs.Code.{code_of};
-ghost use Rattle.jsonb_codec.specs.Stored.{code_of_some};
-ghost use Rattle.jsonb_codec.specs.Doc.{IsDocument};
-ghost use Rattle.jsonb.specs.Document.{document_bytes};
-ghost use Rattle.jsonb.specs.ItemView.{item_view};
-ghost use Rattle.jsonb.specs.Raw.{raw_bytes};
-ghost use Rattle.jsonb.specs.Storage.{stored_code, document_code, pair_of, IsStored, IsHeld};
-ghost use Rattle.jsonb.specs.Children.{HasSameEntry, raw_view};
+ghost use Rattle.jsonb.specs.Words.{code_of, code_of_some, IsDocument, document_bytes, item_view};
+ghost use Rattle.jsonb.specs.Words.{raw_bytes, stored_code, document_code, pair_of, IsStored};
+ghost use Rattle.jsonb.specs.Words.{IsHeld, HasSameEntry, raw_view};
 
 use crate::document::Document;
 use crate::item::{JsonbItem, text_of};

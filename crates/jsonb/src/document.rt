@@ -47,29 +47,17 @@ pub enum Contents<'a> {
 
 impl<'a> Document<'a> {
     ghost use Rattle.std.specs.Prelude.{◌≡◌, ◌↔◌, ◌⊎◌, ◌<◌, ◌≤◌, ◌+◌, ◌*◌, ◌^◌, length, nat_eq};
-    ghost use Rattle.std.specs.Prelude.{None, Some, Err};
-    ghost use Rattle.std.specs.Prelude.{IfOk, IfErr, IfSome, IsSome, IsTrue, MatchOption};
-    ghost use Rattle.std.specs.Prelude.{option_map, string_bytes};
-    ghost use Rattle.std.specs.Cmp.Lexicographic.{pointwise};
-    ghost use Rattle.jsonb_value.specs.Text.{compact, pretty};
-    ghost use Rattle.jsonb_value.specs.Tree.{Tree, Pairs};
-    ghost use Rattle.jsonb_value.specs.Value.{tree_of};
-    ghost use Rattle.jsonb_codec.specs.Canon.{canon, Fits};
-    ghost use Rattle.jsonb_codec.specs.Canonical.{IsCanonical};
-    ghost use Rattle.jsonb_codec.specs.declared.constants.TheConstants.{CONTAINER_TAG};
-    ghost use Rattle.jsonb_codec.specs.Contents.{Means, AreMembers};
-    ghost use Rattle.jsonb_codec.specs.Depth.{IsDocumentWithin, depth};
-    ghost use Rattle.jsonb_codec.specs.Doc.{Doc, IsDocument};
-    ghost use Rattle.jsonb.specs.Contents.{contents_tree};
-    ghost use Rattle.jsonb.specs.Document.{document_bytes, document_tree};
-    ghost use Rattle.jsonb.specs.Kind.{kind_of_tree};
-    ghost use Rattle.jsonb.specs.Facts.{rest_trees, rest_pairs};
-    ghost use Rattle.jsonb.specs.Lookup.{find_pair, pairs_in};
-    ghost use Rattle.jsonb.specs.Node.{node_tree, value_of_key, words_for_key, items_of};
-    ghost use Rattle.jsonb.specs.Node.{item_at_index, members_of, first_key_of, IsContainer};
-    ghost use Rattle.jsonb.specs.Node.{HoldsNoScalar};
-    ghost use Rattle.jsonb.specs.Owned.{owned_bytes};
-    ghost use Rattle.jsonb.specs.Raw.{raw_bytes};
+    ghost use Rattle.std.specs.Prelude.{None, Some, Err, IfOk, IfErr, IfSome, IsSome, IsTrue};
+    ghost use Rattle.std.specs.Prelude.{MatchOption, option_map, string_bytes};
+    ghost use Rattle.jsonb_codec.specs.Contents.{Means};
+    ghost use Rattle.jsonb.specs.Lookup.{pairs_in};
+    ghost use Rattle.jsonb.specs.Words.{pointwise, compact, pretty, Tree, Pairs, tree_of, canon};
+    ghost use Rattle.jsonb.specs.Words.{Fits, IsCanonical, CONTAINER_TAG, AreMembers, depth, Doc};
+    ghost use Rattle.jsonb.specs.Words.{IsDocumentWithin, IsDocument, contents_tree, document_tree};
+    ghost use Rattle.jsonb.specs.Words.{document_bytes, kind_of_tree, rest_trees, rest_pairs};
+    ghost use Rattle.jsonb.specs.Words.{find_pair, node_tree, value_of_key, words_for_key};
+    ghost use Rattle.jsonb.specs.Words.{items_of, item_at_index, members_of, first_key_of};
+    ghost use Rattle.jsonb.specs.Words.{IsContainer, HoldsNoScalar, owned_bytes, raw_bytes};
 
     /// Checks the bytes. `None` if they are not a document.
     pub fn new(bytes: &'a [u8]) -> Option<Self>
@@ -357,10 +345,8 @@ impl<'a> Document<'a> {
 
 impl<'a> Node<'a> {
     ghost use Rattle.std.specs.Prelude.{◌≡◌};
-    ghost use Rattle.jsonb_value.specs.Tree.{Tree};
     ghost use Rattle.jsonb_codec.specs.Contents.{Means};
-    ghost use Rattle.jsonb.specs.Kind.{kind_of_tree};
-    ghost use Rattle.jsonb.specs.Node.{node_tree, HoldsNoScalar};
+    ghost use Rattle.jsonb.specs.Words.{Tree, kind_of_tree, node_tree, HoldsNoScalar};
 
     // The same value, where a container is known to be one: not a scalar's document.
     pub(crate) fn opened(self) -> Node<'a>

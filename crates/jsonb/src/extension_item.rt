@@ -18,15 +18,10 @@ pub struct ExtensionItem<'a> {
 }
 
 impl<'a> ExtensionItem<'a> {
-    ghost use Rattle.std.specs.Prelude.{◌≡◌, IfOk, IfErr, OnErr, Some, None};
-    ghost use Rattle.jsonb_value.specs.Tree.{Extension};
-    ghost use Rattle.jsonb_value.specs.ExtCode.{ExtCode, extension_of};
-    ghost use Rattle.jsonb.specs.ItemValues.{extension_source, extension_of_item};
-    ghost use Rattle.jsonb.specs.Payloads.{extension_error};
-    ghost use Rattle.jsonb.specs.ItemView.{extension};
-    ghost use Rattle.jsonb.specs.Storage.{IsHeld};
-    ghost use Rattle.jsonb_codec.specs.Code.{payload_bytes};
-    ghost use Rattle.jsonb.specs.Code.{extension_bytes};
+    ghost use Rattle.std.specs.Prelude.{IfOk, IfErr, OnErr, None};
+    ghost use Rattle.jsonb.specs.Words.{Extension, ExtCode, extension_source, extension_of_item};
+    ghost use Rattle.jsonb.specs.Words.{extension_error, extension, IsHeld, payload_bytes};
+    ghost use Rattle.jsonb.specs.Words.{extension_bytes};
 
     /// The extension value of these payload bytes, which are kept. `InvalidJsonbNumber` if the
     /// first byte is a known tag and the length is wrong for it, `InvalidJsonbExtension` if the

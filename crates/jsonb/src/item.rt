@@ -2,17 +2,10 @@
 
 ghost use Rattle.std.specs.Prelude.{◌≡◌, ◌≢◌, ◌↔◌, ◌⊎◌, None, Some, Ok, Err, option_map, IfOk};
 ghost use Rattle.std.specs.Prelude.{IfErr, IsOkAnd, IsSome, OnOk};
-ghost use Rattle.jsonb_value.specs.Tree.{Tree};
-ghost use Rattle.jsonb_value.specs.Value.{cow_bytes};
-ghost use Rattle.jsonb_codec.specs.Doc.{Doc, type_of};
-ghost use Rattle.jsonb.specs.Raw.{raw_bytes};
-ghost use Rattle.jsonb.specs.ItemView.{ItemView, item_view, result_view, null};
-ghost use Rattle.jsonb.specs.Item.{item_in, item_of, scalar_item, text_item, number_item};
-ghost use Rattle.jsonb.specs.Item.{extension_item};
-ghost use Rattle.jsonb.specs.Entries.{entry_of};
-ghost use Rattle.jsonb.specs.Code.{item_document, CanBeStored};
-ghost use Rattle.jsonb.specs.DocumentWalk.{IsItemIn};
-ghost use Rattle.jsonb.specs.Views.{kind_of_view, raw_in, text_in};
+ghost use Rattle.jsonb.specs.Words.{Tree, cow_bytes, Doc, type_of, raw_bytes, ItemView, item_view};
+ghost use Rattle.jsonb.specs.Words.{result_view, null, item_in, item_of, scalar_item, text_item};
+ghost use Rattle.jsonb.specs.Words.{number_item, extension_item, entry_of, item_document, IsItemIn};
+ghost use Rattle.jsonb.specs.Words.{CanBeStored, kind_of_view, raw_in, text_in};
 
 use crate::entries::{Entries, Entry};
 use crate::extension_item::ExtensionItem;

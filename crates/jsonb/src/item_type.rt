@@ -1,7 +1,7 @@
 //! Kinds of values.
 
 ghost use Rattle.std.specs.Prelude.{◌≡◌};
-ghost use Rattle.jsonb.specs.Kind.{kind, kind_of_type, kind_rank, rank_order};
+ghost use Rattle.jsonb.specs.Words.{kind, kind_of_type, kind_rank, rank_order};
 
 use jsonb_codec::constants::{
     ARRAY_CONTAINER_TAG, EXTENSION_TAG, FALSE_TAG, NULL_TAG, NUMBER_TAG, OBJECT_CONTAINER_TAG,

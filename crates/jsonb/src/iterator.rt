@@ -1,17 +1,13 @@
 //! Iterators over the children of an array or object, read from the bytes one by one.
 
 ghost use Rattle.std.specs.Prelude.{◌≡◌, ℕ, List, [], length, IfOk, IfErr, IfSome};
-ghost use Rattle.std.specs.Iterator.{YieldsFirstBy, MakesProgress, item_count};
-ghost use Rattle.jsonb.specs.Raw.{raw_bytes};
-ghost use Rattle.jsonb.specs.ItemView.{ItemView, result_view, pair_view};
-ghost use Rattle.jsonb.specs.Entries.{entry_of, entry_view};
-ghost use Rattle.jsonb.specs.Walk.{Walk, item_read, key_of, pair_read, items_in, pairs_in};
-ghost use Rattle.jsonb.specs.Walk.{array_walk, keys_walk, values_walk, pairs_walk, IsBounded};
-ghost use Rattle.jsonb_value.specs.Tree.{Tree};
-ghost use Rattle.jsonb_codec.specs.Doc.{Doc};
-ghost use Rattle.jsonb.specs.DocumentWalk.{WalksArray, WalksKeys, WalksValues, WalksPairs};
-ghost use Rattle.jsonb.specs.DocumentWalk.{WalksItems};
-ghost use Rattle.jsonb.specs.DocumentWalk.{WalksValueItems, WalksMembers};
+ghost use Rattle.jsonb.specs.Walk.{pairs_in};
+ghost use Rattle.jsonb.specs.Words.{YieldsFirstBy, MakesProgress, item_count, raw_bytes, ItemView};
+ghost use Rattle.jsonb.specs.Words.{result_view, pair_view, entry_of, entry_view, Walk, item_read};
+ghost use Rattle.jsonb.specs.Words.{key_of, pair_read, items_in, array_walk, keys_walk, pairs_walk};
+ghost use Rattle.jsonb.specs.Words.{values_walk, IsBounded, Tree, Doc, WalksArray, WalksKeys};
+ghost use Rattle.jsonb.specs.Words.{WalksValues, WalksPairs, WalksItems, WalksValueItems};
+ghost use Rattle.jsonb.specs.Words.{WalksMembers};
 
 use crate::entries::{Cursor, Entry, count_under};
 use crate::item::{JsonbItem, item_of_entry};

@@ -2,16 +2,10 @@
 
 ghost use Rattle.std.specs.Prelude.{◌≡◌, ◌+◌, ◌-◌, ◌*◌, ◌<◌, ◌≤◌, ◌↔◌, ◌^◌, length, Ok, Err, IfOk};
 ghost use Rattle.std.specs.Prelude.{IfErr, IfSome, IfNone, IsOk, IsErr, OnOk};
-ghost use Rattle.std.specs.Fn.{FnReturnsAtPair};
-ghost use Rattle.jsonb_codec.specs.declared.constants.TheConstants.{OBJECT_CONTAINER_TAG};
-ghost use Rattle.jsonb_codec.specs.JEntry.{jentry_at};
-ghost use Rattle.jsonb.specs.Entries.{entry_of};
-ghost use Rattle.jsonb.specs.Item.{part_at};
-ghost use Rattle.jsonb.specs.Walk.{count_under};
-ghost use Rattle.jsonb.specs.Parts.{part_length, part_start, HasParts, PassedBefore, IsAccepted};
-ghost use Rattle.jsonb.specs.Parts.{IsNoneFound, IsValueFound, IsUnreadable};
-ghost use Rattle.jsonb.specs.CutKeys.{NoneOfSize, IsFirstUnread};
-ghost use Rattle.jsonb.specs.Lookup.{header_count, IsRefusal};
+ghost use Rattle.jsonb.specs.Words.{FnReturnsAtPair, OBJECT_CONTAINER_TAG, jentry_at, entry_of};
+ghost use Rattle.jsonb.specs.Words.{part_at, count_under, part_length, part_start, HasParts};
+ghost use Rattle.jsonb.specs.Words.{PassedBefore, IsAccepted, IsNoneFound, IsValueFound, IsRefusal};
+ghost use Rattle.jsonb.specs.Words.{IsUnreadable, NoneOfSize, IsFirstUnread, header_count};
 
 use crate::entries::Entry;
 use crate::reads::Reads;

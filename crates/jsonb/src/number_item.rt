@@ -16,14 +16,10 @@ pub struct NumberItem<'a> {
 }
 
 impl<'a> NumberItem<'a> {
-    ghost use Rattle.std.specs.Prelude.{◌≡◌, IfOk, IfErr, OnErr, Some, None};
-    ghost use Rattle.jsonb_value.specs.declared.number.Number.{Number};
-    ghost use Rattle.jsonb_value.specs.NumCode.{NumCode};
-    ghost use Rattle.jsonb.specs.ItemValues.{number_source, number_of_item};
+    ghost use Rattle.std.specs.Prelude.{IfOk, IfErr, OnErr, None};
     ghost use Rattle.jsonb.specs.ItemView.{number};
-    ghost use Rattle.jsonb.specs.Storage.{IsHeld};
-    ghost use Rattle.jsonb_codec.specs.Code.{payload_bytes};
-    ghost use Rattle.jsonb.specs.Code.{number_bytes};
+    ghost use Rattle.jsonb.specs.Words.{Number, NumCode, number_source, number_of_item, IsHeld};
+    ghost use Rattle.jsonb.specs.Words.{payload_bytes, number_bytes};
 
     /// The number of these payload bytes, which are kept. `InvalidJsonbNumber` if they are not the
     /// payload of a number.

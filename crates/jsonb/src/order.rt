@@ -1,20 +1,11 @@
 //! The order of byte strings and of items by their meaning. No comparison allocates.
 
 ghost use Rattle.std.specs.Prelude.{◌≡◌, ℕ, List, Some, Ok, IfSome, MatchOption};
-ghost use Rattle.std.specs.Cmp.{IsTotalOrder};
-ghost use Rattle.std.specs.Ordering.{on};
-ghost use Rattle.jsonb_value.specs.Meaning.{document, other_bytes, meaning_cmp};
-ghost use Rattle.jsonb_value.specs.Norm.{norm};
-ghost use Rattle.jsonb_value.specs.Tree.{Tree};
-ghost use Rattle.jsonb_value.specs.TreeOrder.{tree_cmp};
-ghost use Rattle.jsonb_codec.specs.Doc.{Doc, IsDocument};
 ghost use Rattle.jsonb.specs.Code.{Means};
-ghost use Rattle.jsonb.specs.Kind.{kind, rank_order};
-ghost use Rattle.jsonb.specs.ItemMeaning.{meaning_of, view_meaning, item_meaning};
-ghost use Rattle.jsonb.specs.Raw.{raw_bytes};
-ghost use Rattle.jsonb.specs.ItemView.{ItemView, item_view};
-ghost use Rattle.jsonb.specs.Node.{node_tree, HoldsNoScalar};
-ghost use Rattle.jsonb.specs.Values.{bytes_in};
+ghost use Rattle.jsonb.specs.Words.{IsTotalOrder, on, document, other_bytes, meaning_cmp, norm};
+ghost use Rattle.jsonb.specs.Words.{Tree, tree_cmp, Doc, IsDocument, kind, rank_order, meaning_of};
+ghost use Rattle.jsonb.specs.Words.{view_meaning, item_meaning, raw_bytes, ItemView, item_view};
+ghost use Rattle.jsonb.specs.Words.{node_tree, HoldsNoScalar, bytes_in};
 
 mod document;
 mod documents;

@@ -1,10 +1,7 @@
 //! Documents that own their bytes.
 
 ghost use Rattle.std.specs.Prelude.{◌≡◌, ◌≤◌, ◌<◌, ◌^◌, ◌⊎◌, length, Err, Some, IfOk, IfErr, OnOk};
-ghost use Rattle.jsonb.specs.Owned.{owned_bytes};
-ghost use Rattle.jsonb_codec.specs.Code.{code_of};
-ghost use Rattle.jsonb.specs.Code.{scalar_bytes};
-ghost use Rattle.jsonb.specs.Texts.{display_text};
+ghost use Rattle.jsonb.specs.Words.{owned_bytes, code_of, scalar_bytes, display_text};
 
 use crate::document::Document;
 use crate::item::JsonbItem;
@@ -25,22 +22,11 @@ pub struct OwnedJsonb {
 }
 
 impl OwnedJsonb {
-    ghost use Rattle.std.specs.Prelude.{◌≡◌, ◌↔◌, ◌⊎◌, ◌<◌, chars, length, Err, IfOk, IfErr};
-    ghost use Rattle.std.specs.Prelude.{IfSome, IsSome, OnOk, IsTrue};
-    ghost use Rattle.jsonb_value.specs.Json.Syntax.{Json};
-    ghost use Rattle.jsonb_value.specs.Norm.{norm};
-    ghost use Rattle.jsonb_value.specs.Text.{compact, pretty};
-    ghost use Rattle.jsonb_value.specs.TextDepth.{text_depth, HasItsDepth};
-    ghost use Rattle.jsonb_value.specs.Tree.{Tree};
-    ghost use Rattle.jsonb_codec.specs.Canon.{canon, Fits};
-    ghost use Rattle.jsonb_codec.specs.Depth.{IsDocumentWithin};
-    ghost use Rattle.jsonb_codec.specs.Doc.{Doc, IsDocument};
-    ghost use Rattle.jsonb.specs.Code.{item_document, CanBeStored};
-    ghost use Rattle.jsonb.specs.Document.{document_bytes};
-    ghost use Rattle.jsonb.specs.Owned.{owned_bytes};
-    ghost use Rattle.jsonb.specs.Raw.{raw_bytes};
-    ghost use Rattle.jsonb.specs.ItemView.{item_view};
-    ghost use Rattle.jsonb.specs.Texts.{display_text, pretty_display_text};
+    ghost use Rattle.std.specs.Prelude.{◌↔◌, chars, IfSome, IsSome, IsTrue};
+    ghost use Rattle.jsonb.specs.Words.{Json, norm, compact, pretty, text_depth, HasItsDepth, Tree};
+    ghost use Rattle.jsonb.specs.Words.{canon, Fits, IsDocumentWithin, Doc, IsDocument, raw_bytes};
+    ghost use Rattle.jsonb.specs.Words.{item_document, CanBeStored, document_bytes, item_view};
+    ghost use Rattle.jsonb.specs.Words.{pretty_display_text};
 
     /// Takes these bytes, unchecked.
     pub fn new(bytes: Vec<u8>) -> Self

@@ -24,31 +24,15 @@ impl<'a> RawJsonb<'a> {
     ghost use Rattle.std.specs.Prelude.{◌≡◌, ◌≢◌, ◌↔◌, ◌⊎◌, ◌+◌, ◌-◌, ◌*◌, ◌≤◌, ℕ, Bool, List, []};
     ghost use Rattle.std.specs.Prelude.{All, None, Some, Ok, Err, chars, codes, length, option_map};
     ghost use Rattle.std.specs.Prelude.{string_bytes, IfOk, IfErr, IfSome, IsOkAnd, IsSome, IsTrue};
-    ghost use Rattle.std.specs.Fn.{FnReturnsAtPair};
-    ghost use Rattle.std.specs.Str.{IsUtf8};
-    ghost use Rattle.jsonb_value.specs.Meaning.{meaning_cmp};
-    ghost use Rattle.jsonb_value.specs.Norm.{norm};
-    ghost use Rattle.jsonb_value.specs.Plain.{IsPlain};
-    ghost use Rattle.jsonb_value.specs.Text.{compact, pretty};
-    ghost use Rattle.jsonb_value.specs.Tree.{Tree};
-    ghost use Rattle.jsonb_value.specs.TreeOrder.{tree_cmp};
-    ghost use Rattle.jsonb_value.specs.Value.{tree_of};
-    ghost use Rattle.jsonb_codec.specs.Canon.{canon, Fits};
-    ghost use Rattle.jsonb_codec.specs.Canonical.{IsCanonical};
-    ghost use Rattle.jsonb_codec.specs.Depth.{IsDocumentWithin};
-    ghost use Rattle.jsonb_codec.specs.Doc.{Doc, IsDocument};
-    ghost use Rattle.jsonb_codec.specs.Fault.{IsTreeFault};
-    ghost use Rattle.jsonb_codec.specs.Reread.{MeansAgain};
-    ghost use Rattle.jsonb.specs.Document.{document_bytes, document_tree};
-    ghost use Rattle.jsonb.specs.Kind.{kind, kind_of_tree};
-    ghost use Rattle.jsonb.specs.Lookup.{header_count, IsRefusal, LooksUp, LooksUpIn, LooksUpBytes};
-    ghost use Rattle.jsonb.specs.Lookup.{LooksUpInBytes, value_view, find, AnswersBy, IsItemFound};
-    ghost use Rattle.jsonb.specs.ItemMeaning.{raw_meaning};
-    ghost use Rattle.jsonb.specs.Owned.{owned_bytes};
-    ghost use Rattle.jsonb.specs.Raw.{raw_bytes};
-    ghost use Rattle.jsonb.specs.ItemView.{item_view};
-    ghost use Rattle.jsonb.specs.Standing.{IsFoundIn};
-    ghost use Rattle.jsonb.specs.Texts.{other_text, display_text, pretty_display_text};
+    ghost use Rattle.std.specs.Prelude.{IsUtf8};
+    ghost use Rattle.jsonb.specs.Words.{FnReturnsAtPair, meaning_cmp, norm, IsPlain, compact, Tree};
+    ghost use Rattle.jsonb.specs.Words.{pretty, tree_cmp, tree_of, canon, Fits, IsCanonical, Doc};
+    ghost use Rattle.jsonb.specs.Words.{IsDocumentWithin, IsDocument, IsTreeFault, MeansAgain};
+    ghost use Rattle.jsonb.specs.Words.{document_bytes, document_tree, kind, kind_of_tree, LooksUp};
+    ghost use Rattle.jsonb.specs.Words.{header_count, IsRefusal, LooksUpIn, LooksUpBytes, find};
+    ghost use Rattle.jsonb.specs.Words.{LooksUpInBytes, value_view, AnswersBy, IsItemFound};
+    ghost use Rattle.jsonb.specs.Words.{raw_meaning, owned_bytes, raw_bytes, item_view, IsFoundIn};
+    ghost use Rattle.jsonb.specs.Words.{other_text, display_text, pretty_display_text};
 
     /// Borrows these bytes, unchecked.
     pub fn new(bytes: &'a [u8]) -> Self

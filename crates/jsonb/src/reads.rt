@@ -1,7 +1,7 @@
 //! Counting the words that are read from a document.
 
 ghost use Rattle.std.specs.Prelude.{◌≡◌, ℕ, ◌+◌, ◌<◌, ◌≤◌, ◌^◌, length, Ok, OnOk, OnErr};
-ghost use Rattle.jsonb_codec.specs.Word.{word_at};
+ghost use Rattle.jsonb.specs.Words.{word_at};
 
 use byteorder::{BigEndian, ByteOrder};
 use jsonb_codec::read_word;

@@ -22,8 +22,7 @@ pub enum SortKey<'a> {
 
 impl<'a> OtherBytes<'a> {
     ghost use Rattle.std.specs.Prelude.{◌≡◌};
-    ghost use Rattle.jsonb_codec.specs.Doc.{IsDocument};
-    ghost use Rattle.jsonb.specs.SortKey.{other_key_bytes};
+    ghost use Rattle.jsonb.specs.Words.{other_key_bytes};
 
     /// The bytes of the key.
     pub fn as_bytes(&self) -> &'a [u8]
@@ -36,8 +35,8 @@ impl<'a> OtherBytes<'a> {
 
 impl<'a> SortKey<'a> {
     ghost use Rattle.std.specs.Prelude.{◌≡◌};
-    ghost use Rattle.jsonb.specs.ItemMeaning.{meaning_of};
-    ghost use Rattle.jsonb.specs.SortKey.{key_bytes, key_meaning};
+    ghost use Rattle.jsonb.specs.SortKey.{key_bytes};
+    ghost use Rattle.jsonb.specs.Words.{meaning_of, key_meaning};
 
     /// Checks the bytes and returns their key.
     pub fn new(bytes: &'a [u8]) -> Self

@@ -1,12 +1,9 @@
 //! Sorting views.
 
 ghost use Rattle.std.specs.Prelude.{◌≡◌, ◌++◌, ◌≤◌, length, drop, map, IfErr, OnOk, OnErr};
-ghost use Rattle.std.specs.List.Sorted.{IsPermutation, IsSorted, IsStable};
-ghost use Rattle.std.specs.Ordering.{on};
-ghost use Rattle.jsonb_value.specs.Meaning.{meaning_cmp};
-ghost use Rattle.jsonb.specs.ItemMeaning.{meaning_of, raw_meaning};
-ghost use Rattle.jsonb.specs.Raw.{raw_bytes};
+ghost use Rattle.std.specs.Prelude.{IsPermutation, IsSorted};
 ghost use Rattle.jsonb.specs.SortKey.{key_bytes};
+ghost use Rattle.jsonb.specs.Words.{IsStable, on, meaning_cmp, meaning_of, raw_meaning, raw_bytes};
 
 use crate::raw::RawJsonb;
 use crate::sort_key::SortKey;

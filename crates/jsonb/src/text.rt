@@ -1,21 +1,13 @@
 //! Writing the texts of documents directly from their bytes.
 
 ghost use Rattle.std.specs.Prelude.{◌≡◌, ◌++◌, ◌^◌, ◌<◌, ℕ, string_bytes, IsOk, IfOk, IfErr, OnOk};
-ghost use Rattle.std.specs.Fmt.{WritesStyledOnOk, formatter_writer};
-ghost use Rattle.jsonb_value.specs.Tree.{Tree};
-ghost use Rattle.jsonb_value.specs.Norm.{norm};
-ghost use Rattle.jsonb_value.specs.WellFormed.{IsTree};
-ghost use Rattle.jsonb_value.specs.ExtCode.{extension_of};
-ghost use Rattle.jsonb_value.specs.Text.{compact, pretty, inside, line_start, colon, laid_out};
-ghost use Rattle.jsonb_value.specs.Text.{quoted_text, extension_text};
-ghost use Rattle.jsonb_codec.specs.Depth.{depth};
-ghost use Rattle.jsonb_codec.specs.Doc.{Doc};
-ghost use Rattle.jsonb.specs.Document.{document_tree};
-ghost use Rattle.jsonb.specs.Facts.{part_tree, rest_trees, rest_pairs};
-ghost use Rattle.jsonb.specs.Node.{node_tree, array_of, object_of, IsContainer, HoldsNoScalar};
-ghost use Rattle.jsonb.specs.Texts.{layout_of, lossy_text, other_text, display_text};
-ghost use Rattle.jsonb.specs.Texts.{pretty_display_text};
-ghost use Rattle.jsonb.specs.Lines.{pair_text, HasRoom};
+ghost use Rattle.jsonb.specs.Words.{WritesStyledOnOk, formatter_writer, Tree, norm, IsTree, pretty};
+ghost use Rattle.jsonb.specs.Words.{extension_of, compact, inside, line_start, colon, laid_out};
+ghost use Rattle.jsonb.specs.Words.{quoted_text, extension_text, depth, Doc, document_tree};
+ghost use Rattle.jsonb.specs.Words.{part_tree, rest_trees, rest_pairs, node_tree, array_of};
+ghost use Rattle.jsonb.specs.Words.{object_of, IsContainer, HoldsNoScalar, layout_of, lossy_text};
+ghost use Rattle.jsonb.specs.Words.{other_text, display_text, pretty_display_text, pair_text};
+ghost use Rattle.jsonb.specs.Words.{HasRoom};
 
 use crate::document::{Contents, Document, Node};
 use crate::nodes::{Items, Members};

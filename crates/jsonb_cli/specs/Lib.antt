@@ -5,3 +5,4 @@ pub mod AnswerLine
 pub mod Each
 pub mod Answers
 pub mod Fault
+pub mod Names

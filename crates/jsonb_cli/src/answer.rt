@@ -1,9 +1,7 @@
 //! The outcome of a command, and its line.
 
-ghost use Rattle.std.specs.Prelude.{◌≡◌, ◌∷◌, ◌++◌, [], IfOk};
-ghost use Rattle.std.specs.String.{string_bytes};
-ghost use Rattle.jsonb_cli.specs.declared.answer.Refusal.TheVariants.{Call};
-ghost use Rattle.jsonb_cli.specs.AnswerLine.{refusal_name, outcome_line};
+ghost use Rattle.std.specs.Prelude.{◌≡◌, ◌∷◌, ◌++◌, [], IfOk, string_bytes};
+ghost use Rattle.jsonb_cli.specs.Names.{Call, refusal_name, outcome_line};
 
 use jsonb_value::Error;
 use std::alloc::{AllocError, Global};

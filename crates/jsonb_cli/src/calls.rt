@@ -1,24 +1,14 @@
 //! The calls of the library that the commands make.
 
-ghost use Rattle.std.specs.Prelude.{◌≡◌, ◌⊎◌, ◌++◌, ◌∷◌, [], ℕ, List, nat_eq, length};
-ghost use Rattle.std.specs.Prelude.{option_map, IfOk, IfErr, OnOk, IsOkAnd};
-ghost use Rattle.std.specs.Prelude.{IsErrOf};
-ghost use Rattle.std.specs.String.{string_bytes};
-ghost use Rattle.std.specs.Cmp.Lexicographic.{pointwise};
-ghost use Rattle.hex.specs.Hex.{encode_lower};
-ghost use Rattle.jsonb_value.specs.declared.error.Error.TheVariants.{OutOfMemory};
-ghost use Rattle.jsonb_value.specs.Text.{compact, pretty};
-ghost use Rattle.jsonb_value.specs.Tree.{Tree};
-ghost use Rattle.jsonb_codec.specs.Doc.{Doc, IsDocument};
-ghost use Rattle.jsonb.specs.Code.{item_document, CanBeStored};
-ghost use Rattle.jsonb.specs.Document.{document_bytes};
-ghost use Rattle.jsonb.specs.Lookup.{find, IsItemFound};
-ghost use Rattle.jsonb.specs.Standing.{IsFoundIn};
-ghost use Rattle.jsonb.specs.ItemView.{item_view, owned};
-ghost use Rattle.jsonb_cli.specs.AnswerLine.{answer_words, ok_line, outcome_line};
-ghost use Rattle.jsonb_cli.specs.Answers.{IsEncAnswer, IsDecAnswer, IsPrettyAnswer, IsTypeAnswer};
-ghost use Rattle.jsonb_cli.specs.Answers.{IsGetAnswer, IsCmpAnswer, IsArrAnswer, IsCanonAnswer};
-ghost use Rattle.jsonb_cli.specs.Answers.{IsReply, IsHexOf, kind_words, order_words};
+ghost use Rattle.std.specs.Prelude.{◌≡◌, ◌⊎◌, ◌++◌, ◌∷◌, [], ℕ, List, nat_eq, length, option_map};
+ghost use Rattle.std.specs.Prelude.{IfOk, IfErr, OnOk, IsOkAnd, IsErrOf, string_bytes};
+ghost use Rattle.jsonb_cli.specs.Names.{pointwise, encode_lower, OutOfMemory, compact, pretty, Doc};
+ghost use Rattle.jsonb_cli.specs.Names.{Tree, IsDocument, item_document, CanBeStored, find, owned};
+ghost use Rattle.jsonb_cli.specs.Names.{document_bytes, IsItemFound, IsFoundIn, item_view, ok_line};
+ghost use Rattle.jsonb_cli.specs.Names.{answer_words, outcome_line, IsEncAnswer, IsDecAnswer};
+ghost use Rattle.jsonb_cli.specs.Names.{IsPrettyAnswer, IsTypeAnswer, IsGetAnswer, IsCmpAnswer};
+ghost use Rattle.jsonb_cli.specs.Names.{IsArrAnswer, IsCanonAnswer, IsReply, IsHexOf, kind_words};
+ghost use Rattle.jsonb_cli.specs.Names.{order_words};
 
 use crate::answer::{Answer, Refusal};
 use crate::command::decode_word;

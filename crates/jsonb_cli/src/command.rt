@@ -2,11 +2,8 @@
 
 ghost use Rattle.std.specs.Prelude.{◌≡◌, ◌⊎◌, ◌++◌, ℕ, List, codes, IfSome, IfNone, IfOk, IfErr};
 ghost use Rattle.std.specs.Prelude.{IsErrOf};
-ghost use Rattle.jsonb_value.specs.declared.error.Error.TheVariants.{OutOfMemory};
-ghost use Rattle.jsonb_cli.specs.Commands.{Form, IsOfForm};
-ghost use Rattle.jsonb_cli.specs.Grammar.{form_of};
-ghost use Rattle.jsonb_cli.specs.AnswerLine.{outcome_line};
-ghost use Rattle.jsonb_cli.specs.Answers.{IsAnswer, IsFormAnswer, IsReply, IsLineReply, IsHexOf};
+ghost use Rattle.jsonb_cli.specs.Names.{OutOfMemory, Form, IsOfForm, form_of, outcome_line};
+ghost use Rattle.jsonb_cli.specs.Names.{IsAnswer, IsFormAnswer, IsReply, IsLineReply, IsHexOf};
 
 use crate::answer::{Answer, Refusal};
 use crate::calls::{

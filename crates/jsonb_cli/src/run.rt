@@ -1,11 +1,8 @@
 //! The loop from lines to answers, over any reader and any writer.
 
 ghost use Rattle.std.specs.Prelude.{◌≡◌, ℕ, List, OnOk, OnErr, IfSome, IsErrOf};
-ghost use Rattle.std.specs.Io.KnownBytes.{IsAtEnd};
-ghost use Rattle.answer_lines.specs.Session.{AreAnswers, AppendsReplies, AppendsBeginning};
-ghost use Rattle.answer_lines.specs.Session.{AppendsWhole};
-ghost use Rattle.jsonb_cli.specs.Answers.{line_rule, commands};
-ghost use Rattle.jsonb_cli.specs.Fault.{error_of, fault_line};
+ghost use Rattle.jsonb_cli.specs.Names.{IsAtEnd, AreAnswers, AppendsReplies, AppendsBeginning};
+ghost use Rattle.jsonb_cli.specs.Names.{AppendsWhole, line_rule, commands, error_of, fault_line};
 
 use crate::answer::line_text;
 use crate::command;

@@ -23,3 +23,4 @@ pub mod ValueSource
 pub mod Stored
 pub mod Encoder
 pub mod Ascii
+pub mod Words

@@ -1,9 +1,7 @@
 //! Bytes of ASCII, tested several at a time.
 
-ghost use Rattle.std.specs.Prelude.{◌≤◌, ◌+◌, length};
-ghost use Rattle.std.specs.Bool.{OnTrue};
-ghost use Rattle.std.specs.Str.{IsAscii};
-ghost use Rattle.jsonb_codec.specs.Ascii.{IsAsciiWithin};
+ghost use Rattle.std.specs.Prelude.{◌≤◌, ◌+◌, length, IsAscii};
+ghost use Rattle.jsonb_codec.specs.Words.{OnTrue, IsAsciiWithin};
 
 use std::simd::Simd;
 use std::simd::prelude::*;

@@ -3,12 +3,9 @@
 mod rewrite;
 
 ghost use Rattle.std.specs.Prelude.{◌↔◌, IsTrue};
-ghost use Rattle.jsonb_value.specs.Tree.{Tree, Trees, number, extension};
-ghost use Rattle.jsonb_value.specs.ExtCode.{extension_of};
-ghost use Rattle.jsonb_codec.specs.Canonical.{IsCanonical, IsWritten, AreWritten};
-ghost use Rattle.jsonb_codec.specs.Doc.{IsDocument, Payload};
-ghost use Rattle.jsonb_codec.specs.DocumentBytes.{bytes_of};
-ghost use Rattle.jsonb_codec.specs.Contents.{Means, AreChildren};
+ghost use Rattle.jsonb_codec.specs.Words.{Tree, Trees, number, extension, extension_of, IsWritten};
+ghost use Rattle.jsonb_codec.specs.Words.{IsCanonical, AreWritten, IsDocument, Payload, bytes_of};
+ghost use Rattle.jsonb_codec.specs.Words.{Means, AreChildren};
 
 use crate::constants::{CONTAINER_TAG, EXTENSION_TAG, NUMBER_TAG};
 use crate::document::DocumentBytes;

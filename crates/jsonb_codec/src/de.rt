@@ -3,16 +3,10 @@
 
 ghost use Rattle.std.specs.Prelude.{◌≡◌, ◌≢◌, ◌⊎◌, ◌++◌, ◌∷◌, [], string_cmp, IfOk, IfErr, OnOk};
 ghost use Rattle.std.specs.Prelude.{OnErr};
-ghost use Rattle.std.specs.BTreeMap.{insert_entry};
-ghost use Rattle.jsonb_value.specs.declared.value.Value.{Value};
-ghost use Rattle.jsonb_value.specs.ExtCode.{extension_of};
-ghost use Rattle.jsonb_value.specs.Tree.{Tree, Trees, Pairs, extension};
-ghost use Rattle.jsonb_value.specs.Value.{tree_of, items_view, pairs_view};
-ghost use Rattle.jsonb_codec.specs.Doc.{Doc, IsDocument};
-ghost use Rattle.jsonb_codec.specs.Fault.{IsTreeFault, IsDecoderFault};
-ghost use Rattle.jsonb_codec.specs.Parts.{IsFault};
-ghost use Rattle.jsonb_codec.specs.Contents.{Means, AreChildren, AreMembers};
-ghost use Rattle.jsonb_codec.specs.DocumentBytes.{bytes_of};
+ghost use Rattle.jsonb_codec.specs.Words.{insert_entry, Value, extension_of, Tree, Trees, Pairs};
+ghost use Rattle.jsonb_codec.specs.Words.{extension, tree_of, items_view, pairs_view, Doc, IsFault};
+ghost use Rattle.jsonb_codec.specs.Words.{IsDocument, IsTreeFault, IsDecoderFault, Means, bytes_of};
+ghost use Rattle.jsonb_codec.specs.Words.{AreChildren, AreMembers};
 
 use crate::constants::{CONTAINER_TAG, FALSE_TAG, NULL_TAG, NUMBER_TAG, STRING_TAG, TRUE_TAG};
 use crate::document::{DocumentBytes, FaultTable, check};
@@ -47,7 +41,7 @@ pub struct Decoder<'a> {
 }
 
 impl<'a> Decoder<'a> {
-    ghost use Rattle.jsonb_codec.specs.Decoder.{input_of};
+    ghost use Rattle.jsonb_codec.specs.Words.{input_of};
 
     /// A decoder over these bytes.
     pub fn new(buf: &'a [u8]) -> Decoder<'a>

@@ -2,13 +2,11 @@
 
 ghost use Rattle.std.specs.Prelude.{◌≡◌, ◌≢◌, ◌+◌, ◌*◌, ◌/◌, ◌%◌, ◌<◌, ◌≤◌, ◌^◌, ◌↔◌, ◌++◌, [], ℕ};
 ghost use Rattle.std.specs.Prelude.{List, length, take, drop, IsTrue, None, IfOk, IfErr, IfSome};
-ghost use Rattle.std.specs.Prelude.{IfNone, OnOk, OnErr, option_map};
+ghost use Rattle.std.specs.Prelude.{IfNone, OnOk, OnErr, option_map, All, IsUtf8};
 ghost use Rattle.std.specs.Cmp.Lexicographic.{slice_cmp};
-ghost use Rattle.std.specs.List.{All};
 ghost use Rattle.std.specs.Ordering.{nat_cmp};
-ghost use Rattle.std.specs.Str.{IsUtf8};
-ghost use Rattle.jsonb_codec.specs.Word.{word};
 ghost use Rattle.jsonb_value.specs.Tree.{Tree, text};
+ghost use Rattle.jsonb_codec.specs.Word.{word};
 ghost use Rattle.jsonb_codec.specs.Doc.{Doc, IsDocument};
 ghost use Rattle.jsonb_codec.specs.Depth.{depth, size, IsDocumentWithin};
 ghost use Rattle.jsonb_codec.specs.Payloads.{payloads_in};
@@ -175,13 +173,8 @@ pub struct DocumentBytes<'a> {
 }
 
 impl<'a> DocumentBytes<'a> {
-    ghost use Rattle.std.specs.Prelude.{◌≡◌, ◌↔◌, ◌<◌, ◌^◌, length, IsSome, IfSome};
-    ghost use Rattle.jsonb_value.specs.Tree.{Tree};
-    ghost use Rattle.jsonb_codec.specs.Canon.{document_of};
-    ghost use Rattle.jsonb_codec.specs.Contents.{Means};
-    ghost use Rattle.jsonb_codec.specs.Depth.{IsDocumentWithin};
-    ghost use Rattle.jsonb_codec.specs.Doc.{Doc, IsDocument};
-    ghost use Rattle.jsonb_codec.specs.DocumentBytes.{bytes_of};
+    ghost use Rattle.std.specs.Prelude.{IsSome};
+    ghost use Rattle.jsonb_codec.specs.Words.{document_of, Means, bytes_of};
 
     /// Checks the bytes. `None` if they are not a document.
     #[inline(always)]

@@ -1,11 +1,9 @@
 //! Decoding and encoding entry words.
 
 ghost use Rattle.std.specs.Prelude.{◌≡◌, ◌≤◌, ◌+◌, ◌%◌, ◌^◌, bit_and, bit_or};
-ghost use Rattle.std.specs.Ordering.{as_partial_cmp};
-ghost use Rattle.std.specs.Cmp.{partial_order_from_own_ties};
-ghost use Rattle.std.specs.Cmp.Rules.{comparing};
 ghost use Rattle.std.proofs.Common.{rules};
-ghost use Rattle.jsonb_codec.specs.JEntry.{jentry_cmp};
+ghost use Rattle.jsonb_codec.specs.Words.{as_partial_cmp, partial_order_from_own_ties, comparing};
+ghost use Rattle.jsonb_codec.specs.Words.{jentry_cmp};
 
 use crate::constants::{
     CONTAINER_TAG, EXTENSION_TAG, FALSE_TAG, JENTRY_OFF_LEN_MASK, JENTRY_TYPE_MASK, NULL_TAG,
@@ -22,7 +20,7 @@ pub struct JEntry {
 }
 
 impl JEntry {
-    ghost use Rattle.jsonb_codec.specs.JEntry.{jentry_of};
+    ghost use Rattle.jsonb_codec.specs.Words.{jentry_of};
 
     /// Decodes a word: its type and length are extracted by their masks, its top bit is ignored.
     #[inline(always)]

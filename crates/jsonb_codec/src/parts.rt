@@ -79,12 +79,9 @@ pub struct Container<'a> {
 }
 
 impl<'a> Part<'a> {
-    ghost use Rattle.std.specs.Prelude.{◌≡◌, ◌+◌, ◌++◌, ◌<◌, ◌^◌, length};
-    ghost use Rattle.jsonb_value.specs.ExtCode.{extension_of};
-    ghost use Rattle.jsonb_value.specs.Tree.{Tree, number, text, extension};
-    ghost use Rattle.jsonb_codec.specs.Word.{word};
-    ghost use Rattle.jsonb_codec.specs.Contents.{Means, AreContents, AreInside};
-    ghost use Rattle.jsonb_codec.specs.Rewriting.{ContainerParts};
+    ghost use Rattle.std.specs.Prelude.{◌+◌, ◌++◌};
+    ghost use Rattle.jsonb_codec.specs.Words.{extension_of, Tree, number, text, extension, word};
+    ghost use Rattle.jsonb_codec.specs.Words.{Means, AreContents, AreInside, ContainerParts};
 
     /// The text of a string.
     #[inline(always)]
@@ -180,11 +177,8 @@ fn entry_words(tag: u32, count: usize) -> usize
 }
 
 impl<'a> Children<'a> {
-    ghost use Rattle.std.specs.Prelude.{◌≡◌, ◌+◌, ◌++◌, ◌≤◌, ◌<◌, ◌^◌, length, IfSome, IfNone};
-    ghost use Rattle.jsonb_value.specs.Tree.{Trees, no_trees};
-    ghost use Rattle.jsonb_codec.specs.Word.{word};
-    ghost use Rattle.jsonb_codec.specs.Contents.{AreChildren};
-    ghost use Rattle.jsonb_codec.specs.Rewriting.{FirstChild};
+    ghost use Rattle.std.specs.Prelude.{◌+◌, ◌++◌, ◌≤◌, IfSome, IfNone};
+    ghost use Rattle.jsonb_codec.specs.Words.{Trees, no_trees, word, AreChildren, FirstChild};
 
     /// The first child, and the children after it. `None` if there is none.
     #[inline(always)]
@@ -222,10 +216,8 @@ impl<'a> Children<'a> {
 }
 
 impl<'a> Object<'a> {
-    ghost use Rattle.std.specs.Prelude.{◌≡◌, ◌+◌, ◌≤◌, length};
-    ghost use Rattle.jsonb_value.specs.Tree.{Pairs};
-    ghost use Rattle.jsonb_codec.specs.Contents.{AreMembers};
-    ghost use Rattle.jsonb_codec.specs.Parts.{IsObject};
+    ghost use Rattle.std.specs.Prelude.{◌+◌, ◌≤◌};
+    ghost use Rattle.jsonb_codec.specs.Words.{AreMembers, IsObject};
 
     /// The members. The lengths of all keys are added up, so this takes a step for each member.
     #[inline(always)]
@@ -252,9 +244,8 @@ impl<'a> Object<'a> {
 }
 
 impl<'a> Members<'a> {
-    ghost use Rattle.std.specs.Prelude.{◌≡◌, ◌+◌, ◌≤◌, length, IfSome, IfNone};
-    ghost use Rattle.jsonb_value.specs.Tree.{Pairs, no_pairs};
-    ghost use Rattle.jsonb_codec.specs.Contents.{AreMembers, FirstMember};
+    ghost use Rattle.std.specs.Prelude.{◌+◌, ◌≤◌, IfSome, IfNone};
+    ghost use Rattle.jsonb_codec.specs.Words.{no_pairs, AreMembers, FirstMember};
 
     /// The first member, and the members after it. `None` if there is none.
     #[inline(always)]

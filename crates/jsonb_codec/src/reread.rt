@@ -1,12 +1,8 @@
 //! What the texts of trees mean when they are parsed.
 
 ghost use Rattle.std.specs.Prelude.{chars};
-ghost use Rattle.jsonb_value.specs.Plain.{IsPlain};
-ghost use Rattle.jsonb_value.specs.Text.{compact, pretty};
-ghost use Rattle.jsonb_value.specs.Tree.{Tree};
-ghost use Rattle.jsonb_value.specs.WellFormed.{IsTree};
 ghost use Rattle.jsonb_codec.specs.Canon.{Fits};
-ghost use Rattle.jsonb_codec.specs.Reread.{MeansAgain};
+ghost use Rattle.jsonb_codec.specs.Words.{IsPlain, compact, pretty, Tree, IsTree, MeansAgain};
 
 /// Printed texts can be parsed: if a tree fits the format and has no extension value, its compact
 /// text is a JSON text whose tree fits the format and compares `Equal` to it; the same holds for

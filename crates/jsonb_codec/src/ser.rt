@@ -5,13 +5,9 @@ pub mod value;
 
 ghost use Rattle.std.specs.Prelude.{◌≡◌, ◌≤◌, ◌+◌, ◌++◌, ◌↔◌, ◌⊎◌, length, vec_capacity, Err, IsOk};
 ghost use Rattle.std.specs.Prelude.{IfOk, IfErr, OnOk, OnErr};
-ghost use Rattle.jsonb_value.specs.Value.{tree_of};
-ghost use Rattle.jsonb_value.specs.Ast.{ast_tree, AscendEverywhere};
-ghost use Rattle.jsonb_value.specs.Tree.{Tree};
-ghost use Rattle.jsonb_value.specs.Norm.{norm};
-ghost use Rattle.jsonb_value.specs.WellFormed.{IsTree};
-ghost use Rattle.jsonb_codec.specs.Doc.{Doc};
-ghost use Rattle.jsonb_codec.specs.Canon.{canon, Fits};
+ghost use Rattle.jsonb_codec.specs.Canon.{Fits};
+ghost use Rattle.jsonb_codec.specs.Words.{tree_of, ast_tree, AscendEverywhere, Tree, norm, IsTree};
+ghost use Rattle.jsonb_codec.specs.Words.{Doc, canon};
 
 use crate::writer::append::append_document;
 use crate::writer::measure::measure_document;
@@ -26,7 +22,7 @@ pub struct Encoder<'a> {
 }
 
 impl<'a> Encoder<'a> {
-    ghost use Rattle.jsonb_codec.specs.Encoder.{buffer};
+    ghost use Rattle.jsonb_codec.specs.Words.{buffer};
 
     /// An encoder that appends to `buf`.
     pub fn new(buf: &'a mut Vec<u8>) -> Encoder<'a>
@@ -87,7 +83,7 @@ pub struct JsonAstEncoder<'a> {
 }
 
 impl<'a> JsonAstEncoder<'a> {
-    ghost use Rattle.jsonb_codec.specs.Encoder.{ast_buffer};
+    ghost use Rattle.jsonb_codec.specs.Words.{ast_buffer};
 
     /// An encoder that appends to `buf`.
     pub fn new(buf: &'a mut Vec<u8>) -> JsonAstEncoder<'a>

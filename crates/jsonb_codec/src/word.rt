@@ -1,8 +1,7 @@
 //! Words of 32 bits, read from and written to bytes.
 
 ghost use Rattle.std.specs.Prelude.{◌≡◌, ◌+◌, ◌<◌, ◌%◌, ◌^◌, ◌++◌, length, IfSome, IfNone};
-ghost use Rattle.jsonb_codec.specs.Word.{word, word_at, header_of, header_at};
-ghost use Rattle.jsonb_codec.specs.JEntry.{jentry_at};
+ghost use Rattle.jsonb_codec.specs.Words.{word, word_at, header_of, header_at, jentry_at};
 
 use crate::constants::{
     ARRAY_CONTAINER_TAG, CONTAINER_HEADER_LEN_MASK, JENTRY_OFF_LEN_MASK, OBJECT_CONTAINER_TAG,

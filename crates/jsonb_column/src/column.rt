@@ -1,18 +1,12 @@
 //! A column of documents in one buffer.
 
-ghost use Rattle.std.specs.Prelude.{◌≡◌, ◌+◌, ◌<◌, ◌≤◌, ◌∷◌, ◌++◌, ◌⊎◌, [], ℕ, List, All, Err};
-ghost use Rattle.std.specs.Prelude.{IfOk, IfErr, IsErrAnd, OnOk, OnErr, chars, filter, length, map};
+ghost use Rattle.std.specs.Prelude.{◌≡◌, ◌+◌, ◌<◌, ◌≤◌, ◌∷◌, ◌++◌, ◌⊎◌, [], ℕ, List, All, Err, map};
+ghost use Rattle.std.specs.Prelude.{IfOk, IfErr, IsErrAnd, OnOk, OnErr, chars, filter, length};
 ghost use Rattle.std.specs.Prelude.{option_map, slice_get, slice_index_or};
-ghost use Rattle.jsonb_value.specs.Json.Syntax.{Json};
-ghost use Rattle.jsonb_value.specs.Tree.{Tree};
-ghost use Rattle.jsonb_codec.specs.Canon.{canon, Fits};
-ghost use Rattle.jsonb_codec.specs.Doc.{IsDocument};
-ghost use Rattle.jsonb.specs.Document.{document_bytes, document_tree};
-ghost use Rattle.std.specs.List.{concat};
-ghost use Rattle.std.specs.Iterator.{YieldsFirstBy, item_count};
-ghost use Rattle.jsonb_column.specs.Select.{has_member, most_reads};
-ghost use Rattle.jsonb_column.specs.Storage.{AreStored, HasFaultyRow, IsCut, IsRow, storage};
-ghost use Rattle.jsonb_column.specs.Rows.{row_in, rows_in, IsWithin, AreRows, FillBytes};
+ghost use Rattle.jsonb_column.specs.Words.{Json, Tree, canon, Fits, IsDocument, document_bytes};
+ghost use Rattle.jsonb_column.specs.Words.{document_tree, concat, YieldsFirstBy, item_count, IsCut};
+ghost use Rattle.jsonb_column.specs.Words.{has_member, most_reads, AreStored, HasFaultyRow, IsRow};
+ghost use Rattle.jsonb_column.specs.Words.{storage, row_in, rows_in, IsWithin, AreRows, FillBytes};
 
 use crate::place::Place;
 use crate::select::has_member;

@@ -1,9 +1,8 @@
 //! Whether a row has a member with a given name and value.
 
 ghost use Rattle.std.specs.Prelude.{◌≡◌, ◌+◌, ◌≤◌, length};
-ghost use Rattle.jsonb.specs.Document.{document_bytes, document_tree};
-ghost use Rattle.jsonb.specs.Node.{node_tree};
-ghost use Rattle.jsonb_column.specs.Select.{has_member, row_reads};
+ghost use Rattle.jsonb_column.specs.Words.{document_bytes, document_tree, node_tree, has_member};
+ghost use Rattle.jsonb_column.specs.Words.{row_reads};
 
 use jsonb::{Document, MAX_READS, Node, Reads};
 

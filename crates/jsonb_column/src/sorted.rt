@@ -20,7 +20,7 @@ pub struct Sorted<'c> {
 }
 
 impl<'c> Sorted<'c> {
-    ghost use Rattle.jsonb_column.specs.SortOrder.{sorted_rows, row_order, is_between, is_equal};
+    ghost use Rattle.jsonb_column.specs.Words.{sorted_rows, row_order, is_between, is_equal};
 
     /// Sorts the rows of the column; equal rows keep their order. `OutOfMemory` is the only error.
     pub fn new(alloc: Global, column: &'c Column) -> Result<Self, Error>

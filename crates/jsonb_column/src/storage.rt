@@ -2,7 +2,7 @@
 
 ghost use Rattle.std.specs.Prelude.{◌≡◌, ◌<◌, ◌^◌, ◌++◌, ◌⊎◌, ℕ, List, length, IfOk, IfErr, OnErr};
 ghost use Rattle.std.specs.Prelude.{OnOk};
-ghost use Rattle.jsonb_column.specs.Storage.{row_bytes};
+ghost use Rattle.jsonb_column.specs.Words.{row_bytes};
 
 use byteorder::{BigEndian, ByteOrder};
 use jsonb::Error;

@@ -3,3 +3,4 @@ pub mod Grammar
 pub mod Answers
 pub mod Fault
 pub mod Arguments
+pub mod Words

@@ -1,20 +1,13 @@
 //! The replies to commands, and the changes that commands make to the rows.
 
-ghost use Rattle.std.specs.Prelude.{◌≡◌, ◌↔◌, ◌⊎◌, ◌∷◌, ◌++◌, ℕ, List, [], map};
-ghost use Rattle.std.specs.Prelude.{IfErr, IfOk, IsTrue};
-ghost use Rattle.std.specs.Str.Parse.{AllDigits, IsNumeral, without_leading_plus};
-ghost use Rattle.std.specs.String.{string_bytes};
-ghost use Rattle.jsonb_value.specs.declared.error.Error.TheVariants.{OutOfMemory};
-ghost use Rattle.jsonb_codec.specs.Doc.{IsDocument};
-ghost use Rattle.jsonb.specs.Document.{document_bytes};
-ghost use Rattle.jsonb.specs.Owned.{owned_bytes};
-ghost use Rattle.jsonb_column_cli.specs.declared.answer.Refusal.TheVariants.{Call};
-ghost use Rattle.jsonb_column_cli.specs.Commands.{add, count, row, sort, find, range, save, load};
-ghost use Rattle.jsonb_column_cli.specs.Answers.{IsGiven, IsOutcome, IsRefusal, refusal_name};
-ghost use Rattle.jsonb_column_cli.specs.Answers.{refusal_of};
-ghost use Rattle.jsonb_column_cli.specs.Commands.{name_word, name_json};
-ghost use Rattle.jsonb_column_cli.specs.Grammar.{name_view};
-ghost use Rattle.jsonb_column_cli.specs.Answers.{reply_line, rows_line, reply_of};
+ghost use Rattle.std.specs.Prelude.{◌≡◌, ◌↔◌, ◌⊎◌, ◌∷◌, ◌++◌, ℕ, List, [], map, IfErr, IfOk};
+ghost use Rattle.std.specs.Prelude.{IsTrue, string_bytes};
+ghost use Rattle.jsonb_column_cli.specs.Words.{AllDigits, IsNumeral, without_leading_plus, Call};
+ghost use Rattle.jsonb_column_cli.specs.Words.{OutOfMemory, IsDocument, document_bytes, add, count};
+ghost use Rattle.jsonb_column_cli.specs.Words.{owned_bytes, row, sort, find, range, save, load};
+ghost use Rattle.jsonb_column_cli.specs.Words.{IsGiven, IsOutcome, IsRefusal, refusal_name};
+ghost use Rattle.jsonb_column_cli.specs.Words.{refusal_of, name_word, name_json, name_view};
+ghost use Rattle.jsonb_column_cli.specs.Words.{reply_line, rows_line, reply_of};
 
 use hex::FromHexError;
 use jsonb::{Document, Error, OwnedJsonb, ParseError, Reads, is_text_within, parse_string};

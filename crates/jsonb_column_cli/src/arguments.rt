@@ -1,8 +1,7 @@
 //! The program's arguments.
 
-ghost use Rattle.std.specs.Prelude.{◌≡◌, option_map};
-ghost use Rattle.std.specs.String.{string_bytes};
-ghost use Rattle.jsonb_column_cli.specs.Arguments.{request_in};
+ghost use Rattle.std.specs.Prelude.{◌≡◌, option_map, string_bytes};
+ghost use Rattle.jsonb_column_cli.specs.Words.{request_in};
 
 /// What `--help` prints.
 pub const USAGE: &str = "\

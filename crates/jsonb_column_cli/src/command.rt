@@ -1,11 +1,9 @@
 //! The grammar of commands.
 
 ghost use Rattle.std.specs.Prelude.{◌≡◌, ◌+◌, ◌<◌, ◌≤◌, false, take, drop, length, slice_index};
-ghost use Rattle.std.specs.List.{before_first, after_first};
-ghost use Rattle.jsonb_column_cli.specs.Answers.{IsLineOutcome, reply_of};
-ghost use Rattle.jsonb_column_cli.specs.Commands.{is_space, form_in, find_in, name_len};
-ghost use Rattle.jsonb_column_cli.specs.Commands.{open_after, escaped_after};
-ghost use Rattle.jsonb_column_cli.specs.Grammar.{form_of};
+ghost use Rattle.jsonb_column_cli.specs.Words.{before_first, after_first, IsLineOutcome, reply_of};
+ghost use Rattle.jsonb_column_cli.specs.Words.{is_space, form_in, find_in, name_len, open_after};
+ghost use Rattle.jsonb_column_cli.specs.Words.{escaped_after, form_of};
 
 use crate::answer::{
     Name, Refusal, answer_add, answer_count, answer_find, answer_load, answer_range, answer_row,
@@ -107,7 +105,7 @@ fn is_escaped_after(is_open: bool, is_escaped: bool, byte: u8) -> bool
 }
 
 impl<'a> Command<'a> {
-    ghost use Rattle.jsonb_column_cli.specs.Answers.{IsOutcome, reply_of};
+    ghost use Rattle.jsonb_column_cli.specs.Words.{IsOutcome};
 
     /// The command of a line.
     pub fn parse(line: &'a str) -> Command<'a>

@@ -1,11 +1,8 @@
 //! The loop from lines to replies, over any reader and any writer.
 
 ghost use Rattle.std.specs.Prelude.{◌≡◌, [], List, ℕ, OnOk, OnErr, IfSome, IsErrOf};
-ghost use Rattle.std.specs.Io.KnownBytes.{IsAtEnd};
-ghost use Rattle.answer_lines.specs.Session.{AreAnswers, AppendsReplies, AppendsBeginning};
-ghost use Rattle.answer_lines.specs.Session.{AppendsWhole};
-ghost use Rattle.jsonb_column_cli.specs.Answers.{Rows, AnswersLine};
-ghost use Rattle.jsonb_column_cli.specs.Fault.{fault_line};
+ghost use Rattle.jsonb_column_cli.specs.Words.{IsAtEnd, AreAnswers, AppendsReplies, AppendsWhole};
+ghost use Rattle.jsonb_column_cli.specs.Words.{AppendsBeginning, Rows, AnswersLine, fault_line};
 
 use crate::answer::line_text;
 use crate::command;

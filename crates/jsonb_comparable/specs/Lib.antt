@@ -8,3 +8,4 @@ pub mod TreeKey
 pub mod Within
 pub mod CheckedBytes
 pub mod ComparableKey
+pub mod Words

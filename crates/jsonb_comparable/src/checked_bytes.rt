@@ -1,13 +1,10 @@
 //! Bytes that were checked once, to be compared or to make a key of.
 
-ghost use Rattle.std.specs.Cmp.{on_total, eq_by_cmp_equiv, partial_equiv_from_equiv};
-ghost use Rattle.std.specs.Cmp.{partial_order_from_total};
-ghost use Rattle.std.specs.Cmp.Rules.{comparing};
-ghost use Rattle.std.specs.Ordering.{on, eq_by_cmp, as_partial_cmp};
 ghost use Rattle.std.proofs.Common.{rules};
-ghost use Rattle.jsonb_value.specs.Meaning.{meaning_cmp};
 ghost use Rattle.jsonb_value.proofs.MeaningLaws.{meaning_cmp_total};
-ghost use Rattle.jsonb_comparable.specs.CheckedBytes.{checked_meaning};
+ghost use Rattle.jsonb_comparable.specs.Words.{on_total, eq_by_cmp_equiv, partial_equiv_from_equiv};
+ghost use Rattle.jsonb_comparable.specs.Words.{partial_order_from_total, comparing, on, eq_by_cmp};
+ghost use Rattle.jsonb_comparable.specs.Words.{as_partial_cmp, meaning_cmp, checked_meaning};
 
 use jsonb::{Document, RawJsonb, SortKey};
 use std::cmp::Ordering;
@@ -23,10 +20,7 @@ pub enum CheckedBytes<'a> {
 
 impl<'a> CheckedBytes<'a> {
     ghost use Rattle.std.specs.Prelude.{◌≡◌};
-    ghost use Rattle.jsonb.specs.Raw.{raw_bytes};
-    ghost use Rattle.jsonb.specs.ItemMeaning.{raw_meaning};
-    ghost use Rattle.jsonb_comparable.specs.CheckedBytes.{checked_meaning};
-    ghost use Rattle.jsonb_comparable.specs.Within.{meaning_within};
+    ghost use Rattle.jsonb_comparable.specs.Words.{raw_bytes, raw_meaning, meaning_within};
 
     /// Checks any bytes.
     pub fn new(raw: RawJsonb<'a>) -> Self

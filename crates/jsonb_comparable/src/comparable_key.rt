@@ -1,14 +1,12 @@
 //! Keys that own their bytes.
 
 ghost use Rattle.std.specs.Prelude.{Some, nat_eq, refl};
-ghost use Rattle.std.specs.Cmp.{on_equiv, on_per, on_po, on_total, partial_equiv_from_equiv};
-ghost use Rattle.std.specs.Cmp.Lexicographic.{nat_list_cmp_total, nat_list_eq_equiv, pointwise};
-ghost use Rattle.std.specs.Cmp.Lexicographic.{slice_cmp, texts_po, texts_ties};
-ghost use Rattle.std.specs.Cmp.Rules.{hashing};
 ghost use Rattle.std.specs.Hash as fed;
-ghost use Rattle.std.specs.Ordering.{nat_cmp};
 ghost use Rattle.std.proofs.Common.{rules};
-ghost use Rattle.jsonb_comparable.specs.ComparableKey.{comparable_bytes};
+ghost use Rattle.jsonb_comparable.specs.Words.{on_equiv, on_per, on_po, on_total, pointwise};
+ghost use Rattle.jsonb_comparable.specs.Words.{partial_equiv_from_equiv, nat_list_cmp_total};
+ghost use Rattle.jsonb_comparable.specs.Words.{nat_list_eq_equiv, slice_cmp, texts_po, texts_ties};
+ghost use Rattle.jsonb_comparable.specs.Words.{hashing, nat_cmp, comparable_bytes};
 
 use crate::checked_bytes::CheckedBytes;
 use crate::key::append_checked_key;
@@ -26,13 +24,8 @@ pub struct ComparableKey {
 
 impl ComparableKey {
     ghost use Rattle.std.specs.Prelude.{◌≡◌, IfErr, IfOk};
-    ghost use Rattle.jsonb.specs.Document.{document_tree};
-    ghost use Rattle.jsonb.specs.ItemMeaning.{raw_meaning};
-    ghost use Rattle.jsonb.specs.Raw.{raw_bytes};
-    ghost use Rattle.jsonb_comparable.specs.CheckedBytes.{checked_meaning};
-    ghost use Rattle.jsonb_comparable.specs.ComparableKey.{comparable_bytes};
-    ghost use Rattle.jsonb_comparable.specs.TreeKey.{meaning_key, tree_key};
-    ghost use Rattle.jsonb_comparable.specs.Within.{meaning_within};
+    ghost use Rattle.jsonb_comparable.specs.Words.{document_tree, raw_meaning, raw_bytes, tree_key};
+    ghost use Rattle.jsonb_comparable.specs.Words.{checked_meaning, meaning_key, meaning_within};
 
     /// The key of a document, as `append_key` appends it. `OutOfMemory` is the only error.
     #[tactic(auto, unfolding(crate::specs::TreeKey::meaning_key))]

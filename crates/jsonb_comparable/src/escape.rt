@@ -1,7 +1,7 @@
 //! Bytes that are escaped, so that none begins another.
 
 ghost use Rattle.std.specs.Prelude.{◌≤◌, ◌<◌, ◌^◌, ◌∷◌, ℕ, length, slice_index};
-ghost use Rattle.jsonb_comparable.specs.Escaped.{escaped};
+ghost use Rattle.jsonb_comparable.specs.Words.{escaped};
 
 use crate::sink::Sink;
 

@@ -1,10 +1,8 @@
 //! The keys of extension values.
 
 ghost use Rattle.std.specs.Prelude.{◌≡◌, ◌+◌, ◌^◌, ◌++◌};
-ghost use Rattle.jsonb_value.specs.ExtCode.{extension_of};
-ghost use Rattle.jsonb_value.specs.Order.{kind_of};
-ghost use Rattle.jsonb_comparable.specs.ExtensionKey.{biased, biased_32, biased_64};
-ghost use Rattle.jsonb_comparable.specs.ExtensionKey.{fields_key, extension_key};
+ghost use Rattle.jsonb_comparable.specs.Words.{extension_of, kind_of, biased, biased_32, biased_64};
+ghost use Rattle.jsonb_comparable.specs.Words.{fields_key, extension_key};
 
 use crate::escape::{append_escaped, append_marked};
 use crate::sink::Sink;

@@ -2,13 +2,9 @@
 
 ghost use Rattle.std.specs.Prelude.{◌≡◌, ◌≤◌, ◌+◌, ◌++◌, OnOk, OnErr, IfErr, IsOk, length};
 ghost use Rattle.std.specs.Prelude.{vec_capacity};
-ghost use Rattle.jsonb.specs.Document.{document_tree};
-ghost use Rattle.jsonb.specs.ItemMeaning.{raw_meaning};
-ghost use Rattle.jsonb.specs.Raw.{raw_bytes};
-ghost use Rattle.jsonb_comparable.specs.CheckedBytes.{checked_meaning};
-ghost use Rattle.jsonb_comparable.specs.Sink.{length_64};
-ghost use Rattle.jsonb_comparable.specs.TreeKey.{tree_key, meaning_key};
-ghost use Rattle.jsonb_comparable.specs.Within.{meaning_within};
+ghost use Rattle.jsonb_comparable.specs.Words.{document_tree, raw_meaning, raw_bytes, length_64};
+ghost use Rattle.jsonb_comparable.specs.Words.{checked_meaning, tree_key, meaning_key};
+ghost use Rattle.jsonb_comparable.specs.Words.{meaning_within};
 
 use crate::checked_bytes::CheckedBytes;
 use crate::sink::KeyLength;

@@ -1,20 +1,11 @@
 //! The laws of keys.
 
-ghost use Rattle.std.specs.Prelude.{◌≡◌, ◌↔◌, ◌++◌, ◌∷◌, [], ◌+◌, ℕ, List, length, take};
-ghost use Rattle.std.specs.Cmp.Lexicographic.{slice_cmp};
-ghost use Rattle.std.specs.List.{flat_map};
-ghost use Rattle.std.specs.Ordering.{nat_cmp, ordering_then};
+ghost use Rattle.std.specs.Prelude.{◌≡◌, ◌↔◌, ◌++◌, ◌∷◌, [], ◌+◌, ℕ, List, length, take, flat_map};
 ghost use Rattle.jsonb_value.proofs.BigEndian.{AreBytes};
-ghost use Rattle.jsonb_value.specs.Meaning.{meaning_cmp};
-ghost use Rattle.jsonb_value.specs.Tree.{Tree};
-ghost use Rattle.jsonb_value.specs.TreeOrder.{tree_cmp};
-ghost use Rattle.jsonb_value.specs.WellFormed.{IsTree, AreTrees};
-ghost use Rattle.jsonb_value.specs.Value.{trees_of};
-ghost use Rattle.jsonb_codec.specs.Doc.{Doc};
-ghost use Rattle.jsonb.specs.ItemMeaning.{meaning_of};
-ghost use Rattle.jsonb.specs.Node.{array_of, object_of};
-ghost use Rattle.jsonb_comparable.specs.TreeKey.{tree_key, meaning_key, text_key, member_key};
-ghost use Rattle.jsonb_comparable.specs.Within.{meaning_within};
+ghost use Rattle.jsonb_comparable.specs.Words.{slice_cmp, nat_cmp, ordering_then, meaning_cmp, Doc};
+ghost use Rattle.jsonb_comparable.specs.Words.{Tree, tree_cmp, IsTree, AreTrees, trees_of};
+ghost use Rattle.jsonb_comparable.specs.Words.{meaning_of, array_of, object_of, tree_key, text_key};
+ghost use Rattle.jsonb_comparable.specs.Words.{meaning_key, member_key, meaning_within};
 
 use std::cmp::Ordering;
 

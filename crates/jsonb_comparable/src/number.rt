@@ -1,9 +1,8 @@
 //! The keys of numbers, computed in 128 bits.
 
 ghost use Rattle.std.specs.Prelude.{◌≡◌, ◌<◌, ◌≤◌, ◌+◌, ◌-◌, ◌*◌, ◌^◌, ◌∷◌, []};
-ghost use Rattle.jsonb_comparable.specs.NumberKey.{count_bytes, natural_key, decimal_key};
-ghost use Rattle.jsonb_comparable.specs.NumberKey.{number_key};
-ghost use Rattle.jsonb_comparable.specs.SplitDigits.{digits_value, split_pairs, signed};
+ghost use Rattle.jsonb_comparable.specs.Words.{count_bytes, natural_key, decimal_key, number_key};
+ghost use Rattle.jsonb_comparable.specs.Words.{digits_value, split_pairs, signed};
 
 use crate::sink::Sink;
 use jsonb::Number;

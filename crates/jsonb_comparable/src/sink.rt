@@ -1,9 +1,8 @@
 //! Where the bytes of a key go: into a buffer, or into a count.
 
 ghost use Rattle.std.specs.Prelude.{ℕ, List, ⊤};
-ghost use Rattle.jsonb_codec.specs.Room.{HasRoom, AppendsBytes};
-ghost use Rattle.jsonb_comparable.specs.Sink.{SinkLaws, Counts};
-ghost use Rattle.jsonb_comparable.specs.Sinks.{vec_laws, length_laws};
+ghost use Rattle.jsonb_comparable.specs.Words.{HasRoom, AppendsBytes, SinkLaws, Counts, vec_laws};
+ghost use Rattle.jsonb_comparable.specs.Words.{length_laws};
 
 /// Takes the bytes of a key, of which the length is known before.
 pub trait Sink {

@@ -1,13 +1,10 @@
 //! The walk over a document that writes or measures its key.
 
 ghost use Rattle.std.specs.Prelude.{◌≡◌, IfSome};
-ghost use Rattle.std.specs.Iterator.{YieldsFirstBy};
-ghost use Rattle.jsonb_value.specs.Value.{trees_of};
-ghost use Rattle.jsonb.specs.Document.{document_tree};
-ghost use Rattle.jsonb.specs.Facts.{rest_trees, rest_pairs};
-ghost use Rattle.jsonb.specs.Node.{node_tree, member_tree, pairs_of, HoldsNoScalar, IsContainer};
-ghost use Rattle.jsonb_comparable.specs.CheckedBytes.{checked_meaning};
-ghost use Rattle.jsonb_comparable.specs.TreeKey.{tree_key, trees_key, pairs_key, meaning_key};
+ghost use Rattle.jsonb_comparable.specs.Words.{YieldsFirstBy, trees_of, document_tree, rest_trees};
+ghost use Rattle.jsonb_comparable.specs.Words.{rest_pairs, node_tree, member_tree, pairs_of};
+ghost use Rattle.jsonb_comparable.specs.Words.{HoldsNoScalar, IsContainer, checked_meaning};
+ghost use Rattle.jsonb_comparable.specs.Words.{tree_key, trees_key, pairs_key, meaning_key};
 
 use crate::checked_bytes::CheckedBytes;
 use crate::escape::{append_escaped, append_marked};

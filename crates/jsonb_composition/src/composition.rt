@@ -2,19 +2,9 @@
 
 ghost use Rattle.std.specs.Prelude.{◌≡◌, ◌⊎◌, nat_eq, length, option_map, Err, IfOk, IfErr};
 ghost use Rattle.std.specs.Prelude.{IsOkAnd, string_bytes};
-ghost use Rattle.std.specs.Cmp.Lexicographic.{pointwise};
-ghost use Rattle.jsonb_value.specs.Norm.{norm};
-ghost use Rattle.jsonb_value.specs.Text.{compact};
-ghost use Rattle.jsonb_value.specs.Tree.{Tree};
-ghost use Rattle.jsonb_value.specs.Value.{tree_of};
-ghost use Rattle.jsonb_codec.specs.Canon.{canon, Fits};
-ghost use Rattle.jsonb_codec.specs.Doc.{Doc};
-ghost use Rattle.jsonb.specs.Raw.{raw_bytes};
-ghost use Rattle.jsonb_composition.specs.Question.{AnswersOf};
-ghost use Rattle.jsonb.specs.Lookup.{find, IsItemFound};
-ghost use Rattle.jsonb.specs.Node.{value_of_key, words_for_key};
-ghost use Rattle.jsonb.specs.Standing.{IsFoundIn};
-ghost use Rattle.jsonb.specs.ItemView.{item_view};
+ghost use Rattle.jsonb_composition.specs.Words.{pointwise, norm, compact, Tree, tree_of, canon};
+ghost use Rattle.jsonb_composition.specs.Words.{Fits, Doc, raw_bytes, AnswersOf, find, IsItemFound};
+ghost use Rattle.jsonb_composition.specs.Words.{value_of_key, words_for_key, IsFoundIn, item_view};
 
 use crate::walks::{array_items, object_keys, object_pairs, object_values};
 use jsonb::{Encoder, Error, JsonbItem, JsonbItemType, RawJsonb, Reads, Value, meaning_laws};

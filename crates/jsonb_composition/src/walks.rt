@@ -1,13 +1,9 @@
 //! Complete iterations, using only the contracts of the iterators.
 
 ghost use Rattle.std.specs.Prelude.{◌≡◌, IfOk, IfErr, option_map};
-ghost use Rattle.jsonb_value.specs.Tree.{Tree};
-ghost use Rattle.jsonb_codec.specs.Doc.{Doc};
-ghost use Rattle.jsonb.specs.Raw.{raw_bytes};
-ghost use Rattle.jsonb_composition.specs.Question.{walk_of_items, walk_of_pairs};
-ghost use Rattle.jsonb.specs.DocumentWalk.{WalksArray, WalksKeys, WalksValues, WalksPairs};
-ghost use Rattle.jsonb.specs.DocumentWalk.{WalksItems};
-ghost use Rattle.jsonb.specs.DocumentWalk.{WalksValueItems, WalksMembers};
+ghost use Rattle.jsonb_composition.specs.Words.{Tree, Doc, raw_bytes, walk_of_items, walk_of_pairs};
+ghost use Rattle.jsonb_composition.specs.Words.{WalksArray, WalksKeys, WalksValues, WalksPairs};
+ghost use Rattle.jsonb_composition.specs.Words.{WalksItems, WalksValueItems, WalksMembers};
 
 use jsonb::{
     ArrayIterator, Error, JsonbItem, ObjectIterator, ObjectKeyIterator, ObjectValueIterator,

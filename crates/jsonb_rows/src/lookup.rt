@@ -1,12 +1,8 @@
 //! The plain look-up compared with the counted one, and a closure that accepts all keys.
 
 ghost use Rattle.std.specs.Prelude.{length, option_map, IsOkAnd, nat_eq};
-ghost use Rattle.std.specs.Cmp.Lexicographic.{pointwise};
-ghost use Rattle.jsonb_value.specs.Tree.{Tree};
-ghost use Rattle.jsonb_codec.specs.Doc.{Doc};
-ghost use Rattle.jsonb.specs.Raw.{raw_bytes};
-ghost use Rattle.jsonb.specs.ItemView.{item_view};
-ghost use Rattle.jsonb.specs.Lookup.{find, IsItemFound};
+ghost use Rattle.jsonb_composition.specs.Words.{pointwise, Tree, Doc, raw_bytes, item_view, find};
+ghost use Rattle.jsonb_composition.specs.Words.{IsItemFound};
 
 use jsonb::{Error, JsonbItem, Number, NumberItem, RawJsonb, Reads};
 use std::test::Fail;

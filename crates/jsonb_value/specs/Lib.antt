@@ -20,3 +20,4 @@ pub mod Json
 pub mod Text
 pub mod TextDepth
 pub mod Reader
+pub mod Words

@@ -1,9 +1,8 @@
 //! A parsed value whose objects are lists of pairs.
 
 ghost use Rattle.std.specs.Prelude.{◌≡◌, ◌↔◌, IfSome, IsTrue, option_map};
-ghost use Rattle.std.specs.Ordering.{nat_cmp};
-ghost use Rattle.std.specs.Cmp.Lexicographic.{slice_cmp};
-ghost use Rattle.std.specs.declared.cmp.Ordering.TheVariants.{Less};
+ghost use Rattle.jsonb_value.specs.Words.{nat_cmp, slice_cmp, Less, asts_view, ast_pairs_view};
+ghost use Rattle.jsonb_value.specs.Words.{AllAscend, PairsAscend, Ascend};
 
 use crate::number::Number;
 use std::borrow::CowStr;
@@ -28,7 +27,7 @@ pub enum JsonAst<'a> {
 }
 
 impl<'a> JsonAst<'a> {
-    ghost use Rattle.jsonb_value.specs.Ast.{ast_tree, AscendEverywhere};
+    ghost use Rattle.jsonb_value.specs.Words.{ast_tree, AscendEverywhere};
 
     /// Whether the keys of every object in the value ascend strictly by their bytes. An object with
     /// at most one pair always qualifies.
@@ -43,9 +42,6 @@ impl<'a> JsonAst<'a> {
         }
     }
 }
-
-ghost use Rattle.jsonb_value.specs.Ast.{asts_view, ast_pairs_view, AllAscend, PairsAscend};
-ghost use Rattle.jsonb_value.specs.Tree.{Ascend};
 
 #[cycle(ascending)]
 fn all_ascend(items: &Vec<JsonAst<'_>>) -> bool

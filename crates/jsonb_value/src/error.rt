@@ -1,8 +1,7 @@
 //! The error type of this layer.
 
 ghost use Rattle.std.specs.Prelude.{◌≡◌};
-ghost use Rattle.jsonb_value.specs.declared.error.Error.TheVariants.{OutOfMemory};
-ghost use Rattle.jsonb_value.specs.ErrorName.{name_of};
+ghost use Rattle.jsonb_value.specs.Words.{OutOfMemory, name_of};
 
 use std::alloc::{AllocError, AllocFailed};
 

@@ -3,12 +3,9 @@
 ghost use Rattle.std.specs.Prelude.{◌≡◌, ◌≤◌, ◌<◌, ◌^◌, ◌∷◌, ◌++◌, ◌⊎◌, Err, IfSome, IfNone, IfOk};
 ghost use Rattle.std.specs.Prelude.{IfErr, OnOk, OnErr, length, take, IsOk, vec_len, vec_capacity};
 ghost use Rattle.std.specs.Prelude.{◌+◌};
-ghost use Rattle.std.specs.Int.{w32, w64};
-ghost use Rattle.jsonb_value.specs.Appended.{Appends};
-ghost use Rattle.jsonb_value.specs.Payload.{IsSigned};
-ghost use Rattle.jsonb_value.specs.Tree.{Extension, date, timestamp, timestamp_tz, interval};
-ghost use Rattle.jsonb_value.specs.ExtCode.{ExtCode, IsZoned, IsOldZoned, IsInterval, extension_of};
-ghost use Rattle.jsonb_value.specs.ExtCode.{extension_payload, HasKnownTag};
+ghost use Rattle.jsonb_value.specs.Words.{w32, w64, Appends, IsSigned, Extension, date, timestamp};
+ghost use Rattle.jsonb_value.specs.Words.{timestamp_tz, interval, ExtCode, IsZoned, IsOldZoned};
+ghost use Rattle.jsonb_value.specs.Words.{IsInterval, extension_of, extension_payload, HasKnownTag};
 
 use crate::constants::{
     EXTENSION_BINARY, EXTENSION_DATE, EXTENSION_INTERVAL, EXTENSION_TIMESTAMP,

@@ -1,9 +1,7 @@
 //! The strings that JSON texts spell.
 
 ghost use Rattle.std.specs.Prelude.{◌≡◌, ◌⊎◌, ℕ, IfErr, IfNone, IfOk, IfSome, List, chars};
-ghost use Rattle.jsonb_value.specs.Json.Syntax.{Json};
-ghost use Rattle.jsonb_value.specs.Tree.{text};
-ghost use Rattle.jsonb_value.specs.Value.{cow_bytes, tree_of};
+ghost use Rattle.jsonb_value.specs.Words.{Json, text, cow_bytes, tree_of};
 
 use crate::error::Error;
 use crate::parser::parse_value;

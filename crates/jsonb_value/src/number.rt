@@ -1,16 +1,12 @@
 //! Numbers with their kinds, and their payloads.
 
 ghost use Rattle.std.specs.Prelude.{◌≡◌, ◌↔◌, ◌≤◌, ◌∷◌, ◌++◌, ℕ, ℤ, List, IsTrue, IfSome, IfNone};
-ghost use Rattle.std.specs.Prelude.{IfOk, IfErr, OnOk, OnErr, length, take, IsOk, vec_len};
-ghost use Rattle.std.specs.Prelude.{vec_capacity, ◌+◌, Some};
-ghost use Rattle.std.specs.Int.{w64, w128};
-ghost use Rattle.jsonb_value.specs.Appended.{Appends};
-ghost use Rattle.jsonb_value.specs.declared.number.Number.{Number};
-ghost use Rattle.jsonb_value.specs.Payload.{IsSignedNumber, IsUnsignedNumber, IsWholeLength};
-ghost use Rattle.jsonb_value.specs.Payload.{IsDecimalLength};
-ghost use Rattle.jsonb_value.specs.NumCode.{NumCode, number_payload, int_payload, uint_payload};
-ghost use Rattle.jsonb_value.specs.NumCode.{decimal_payload};
-ghost use Rattle.jsonb_value.specs.Json.Numeral.{number_of, whole_number, decimal_number};
+ghost use Rattle.std.specs.Prelude.{IfOk, IfErr, OnOk, OnErr, length, take, IsOk, vec_len, ◌+◌};
+ghost use Rattle.std.specs.Prelude.{vec_capacity, Some};
+ghost use Rattle.jsonb_value.specs.Words.{w64, w128, Appends, Number, IsSignedNumber, NumCode};
+ghost use Rattle.jsonb_value.specs.Words.{IsUnsignedNumber, IsWholeLength, IsDecimalLength};
+ghost use Rattle.jsonb_value.specs.Words.{number_payload, int_payload, uint_payload, number_of};
+ghost use Rattle.jsonb_value.specs.Words.{decimal_payload, whole_number, decimal_number};
 
 use crate::constants::{NUMBER_DECIMAL, NUMBER_INT, NUMBER_UINT, NUMBER_ZERO};
 use crate::error::Error;

@@ -13,7 +13,7 @@ pub struct Opaque<'a> {
 }
 
 impl<'a> Opaque<'a> {
-    ghost use Rattle.jsonb_value.specs.ExtCode.{opaque_tag, opaque_bytes};
+    ghost use Rattle.jsonb_value.specs.Words.{opaque_tag, opaque_bytes};
 
     /// A value with this tag and these bytes. `None` unless the tag is a multiple of 0x10 from 0x50
     /// to 0xF0.

@@ -2,14 +2,10 @@
 //! builds on it.
 
 ghost use Rattle.std.specs.Prelude.{◌≡◌, ◌≢◌, ◌^◌, ◌*ℤ◌, pos};
-ghost use Rattle.std.specs.Cmp.{IsTotalOrder};
-ghost use Rattle.std.specs.Ordering.{nat_cmp, int_cmp};
-ghost use Rattle.jsonb_value.specs.ExtCode.{extension_of};
-ghost use Rattle.jsonb_value.specs.Meaning.{meaning_cmp};
-ghost use Rattle.jsonb_value.specs.Norm.{norm};
-ghost use Rattle.jsonb_value.specs.Order.{fraction_of, number_cmp, kind_of, extension_cmp};
-ghost use Rattle.jsonb_value.specs.Tree.{Tree, interval};
-ghost use Rattle.jsonb_value.specs.TreeOrder.{rank_of, tree_cmp};
+ghost use Rattle.jsonb_value.specs.Order.{kind_of};
+ghost use Rattle.jsonb_value.specs.Words.{IsTotalOrder, nat_cmp, int_cmp, extension_of, norm, Tree};
+ghost use Rattle.jsonb_value.specs.Words.{meaning_cmp, fraction_of, number_cmp, extension_cmp};
+ghost use Rattle.jsonb_value.specs.Words.{interval, rank_of, tree_cmp};
 
 use crate::extension::{ExtensionValue, Interval};
 use crate::number::{Decimal128, Number};

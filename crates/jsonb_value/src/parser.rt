@@ -2,17 +2,12 @@
 
 ghost use Rattle.std.specs.Prelude.{◌≡◌, ◌⊎◌, ℕ, ◌<◌, ◌≤◌, [], ◌∷◌, ◌++◌, List, Err, chars, length};
 ghost use Rattle.std.specs.Prelude.{string_bytes, string_cmp, IfOk, IfErr, IsOkAnd};
-ghost use Rattle.std.specs.BTreeMap.{insert_entry};
-ghost use Rattle.jsonb_value.specs.Tree.{Tree, object};
-ghost use Rattle.jsonb_value.specs.Json.Syntax.{Json};
-ghost use Rattle.jsonb_value.specs.Reader.Reading.{skip_blank, read_word, read_element, read_value};
-ghost use Rattle.jsonb_value.specs.Reader.Reading.{read_array, read_object, read_member, read_kind};
-ghost use Rattle.jsonb_value.specs.Reader.Reading.{kind_of, string_kind, number_kind};
-ghost use Rattle.jsonb_value.specs.Reader.Gives.{Fails, Gives};
-ghost use Rattle.jsonb_value.specs.Reader.Content.{ItemIsRead, KeyIsRead, MemberIsRead};
-ghost use Rattle.jsonb_value.specs.Reader.Content.{members_held};
-ghost use Rattle.jsonb_value.specs.Value.{tree_of, pairs_view};
-ghost use Rattle.jsonb_value.specs.Reader.Kind.{kind_view};
+ghost use Rattle.jsonb_value.specs.Reader.Reading.{kind_of};
+ghost use Rattle.jsonb_value.specs.Words.{insert_entry, Tree, object, Json, skip_blank, read_word};
+ghost use Rattle.jsonb_value.specs.Words.{read_element, read_value, read_array, read_object, Fails};
+ghost use Rattle.jsonb_value.specs.Words.{read_member, read_kind, string_kind, number_kind, Gives};
+ghost use Rattle.jsonb_value.specs.Words.{ItemIsRead, KeyIsRead, MemberIsRead, members_held};
+ghost use Rattle.jsonb_value.specs.Words.{tree_of, pairs_view, kind_view};
 
 mod cursor;
 mod members;

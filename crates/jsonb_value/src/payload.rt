@@ -1,7 +1,7 @@
 //! Appending payloads, whole or not at all.
 
 ghost use Rattle.std.specs.Prelude.{◌∷◌, ◌<◌, ◌^◌, length};
-ghost use Rattle.jsonb_value.specs.Appended.{Appends};
+ghost use Rattle.jsonb_value.specs.Words.{Appends};
 
 use crate::error::Error;
 

@@ -1,11 +1,8 @@
 //! Runs of bytes that a JSON string holds unescaped, tested several at a time.
 
 ghost use Rattle.std.specs.Prelude.{◌≡◌, ◌+◌, ◌≤◌, length, map};
-ghost use Rattle.std.specs.Bool.{OnTrue};
-ghost use Rattle.std.specs.List.{prefix_len};
-ghost use Rattle.std.specs.Simd.Lanes.{mask_l};
-ghost use Rattle.jsonb_value.specs.Json.Piece.{is_plain};
-ghost use Rattle.jsonb_value.specs.Text.{is_escaped, ends, NoneEscaped};
+ghost use Rattle.jsonb_value.specs.Words.{OnTrue, prefix_len, mask_l, is_plain, is_escaped, ends};
+ghost use Rattle.jsonb_value.specs.Words.{NoneEscaped};
 
 use std::simd::Simd;
 use std::simd::prelude::*;

@@ -1,12 +1,10 @@
 //! The texts of numbers, strings and extension values.
 
 ghost use Rattle.std.specs.Prelude.{◌≡◌, ◌<◌, false, Some, position, flat_map};
-ghost use Rattle.std.specs.Fmt.{WritesStyledOnOk, digit_glyph};
-ghost use Rattle.jsonb_value.specs.ExtCode.{extension_of};
-ghost use Rattle.jsonb_value.specs.Tree.{timestamp_tz, interval};
-ghost use Rattle.jsonb_value.specs.Text.{number_text, decimal_text, point_text, hex_text, hex_byte};
-ghost use Rattle.jsonb_value.specs.Text.{is_escaped, escape, byte_text, string_text};
-ghost use Rattle.jsonb_value.specs.Text.{extension_text};
+ghost use Rattle.jsonb_value.specs.Words.{WritesStyledOnOk, digit_glyph, extension_of, interval};
+ghost use Rattle.jsonb_value.specs.Words.{timestamp_tz, number_text, decimal_text, point_text};
+ghost use Rattle.jsonb_value.specs.Words.{hex_text, hex_byte, is_escaped, escape, byte_text};
+ghost use Rattle.jsonb_value.specs.Words.{string_text, extension_text};
 
 use crate::extension::{ExtensionValue, Interval, TimestampTz};
 use crate::number::Number;

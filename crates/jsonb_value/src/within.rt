@@ -1,13 +1,9 @@
 //! Texts of JSON, read within a depth.
 
 ghost use Rattle.std.specs.Prelude.{◌≡◌, ◌↔◌, ◌⊎◌, ◌<◌, ◌≤◌, Err, IfOk, IfErr, List, chars};
-ghost use Rattle.jsonb_value.specs.declared.within.ParseError.TheVariants.{Refused};
 ghost use Rattle.jsonb_value.specs.Depth.{depth as tree_depth};
-ghost use Rattle.jsonb_value.specs.Tree.{Tree};
-ghost use Rattle.jsonb_value.specs.Value.{tree_of};
-ghost use Rattle.jsonb_value.specs.Json.Syntax.{Json};
-ghost use Rattle.jsonb_value.specs.TextDepth.{text_depth, HasItsDepth};
-ghost use Rattle.jsonb_value.specs.ParseErrorName.{parse_error_name};
+ghost use Rattle.jsonb_value.specs.Words.{Refused, Tree, tree_of, Json, text_depth, HasItsDepth};
+ghost use Rattle.jsonb_value.specs.Words.{parse_error_name};
 
 use crate::error::Error;
 use crate::parser::parse_value;

@@ -10,3 +10,4 @@ pub mod Output
 pub mod Children
 pub mod BoundedMeaning
 pub mod Scalars
+pub mod Words

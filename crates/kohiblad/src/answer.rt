@@ -1,8 +1,7 @@
 //! Results as C receives them: statuses, and bytes copied into the caller's buffer.
 
 ghost use Rattle.std.specs.Prelude.{◌≡◌, ◌+◌, ◌<◌, ◌^◌, length};
-ghost use Rattle.jsonb.specs.Code.{scalar_bytes};
-ghost use Rattle.kohiblad.specs.Status.{code, status_name, IsHandedOver, IsRefused};
+ghost use Rattle.kohiblad.specs.Words.{scalar_bytes, code, status_name, IsHandedOver, IsRefused};
 
 use jsonb::Error;
 use jsonb_codec::constants::SCALAR_CONTAINER_TAG;

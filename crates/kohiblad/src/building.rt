@@ -1,17 +1,11 @@
 //! Building arrays and objects from documents in consecutive rows.
 
-ghost use Rattle.std.specs.Prelude.{◌≡◌, ◌⊎◌, ◌↔◌, Err, map, IfOk, IfErr, IsTrue};
-ghost use Rattle.std.specs.List.{IsDistinct};
-ghost use Rattle.std.specs.Map.{keys_of, values_of};
-ghost use Rattle.std.specs.Str.{bytes_eq};
-ghost use Rattle.jsonb.specs.Building.{FitArray, AreTexts};
-ghost use Rattle.jsonb.specs.Results.{IsArrayOfInputs, IsObjectOfInputs, MakeNoObject};
-ghost use Rattle.jsonb.specs.Owned.{owned_bytes};
-ghost use Rattle.jsonb.specs.ItemView.{raw};
-ghost use Rattle.kohiblad.specs.Results.{IsArrayOfRows, IsObjectOfRows, AreWithin};
-ghost use Rattle.kohiblad.specs.Results.{IsArrayOfRowsWithin, IsObjectOfRowsWithin};
-ghost use Rattle.kohiblad.specs.Results.{IsArrayBuilt, IsObjectBuilt};
-ghost use Rattle.kohiblad.specs.Rows.{pairs_in};
+ghost use Rattle.std.specs.Prelude.{◌≡◌, ◌⊎◌, ◌↔◌, Err, map, IfOk, IfErr, IsTrue, bytes_eq};
+ghost use Rattle.kohiblad.specs.Words.{IsDistinct, keys_of, values_of, FitArray, AreTexts, raw};
+ghost use Rattle.kohiblad.specs.Words.{IsArrayOfInputs, IsObjectOfInputs, MakeNoObject, AreWithin};
+ghost use Rattle.kohiblad.specs.Words.{owned_bytes, IsArrayOfRows, IsObjectOfRows, IsArrayBuilt};
+ghost use Rattle.kohiblad.specs.Words.{IsArrayOfRowsWithin, IsObjectOfRowsWithin, IsObjectBuilt};
+ghost use Rattle.kohiblad.specs.Words.{pairs_in};
 
 use crate::answer::{code, hand_over, refuse};
 use crate::rows::Rows;

@@ -1,9 +1,8 @@
 //! The canonical form of documents.
 
 ghost use Rattle.std.specs.Prelude.{◌↔◌, IsTrue};
-ghost use Rattle.jsonb_codec.specs.Canonical.{IsCanonical};
-ghost use Rattle.jsonb_codec.specs.Depth.{IsDocumentWithin};
-ghost use Rattle.kohiblad.specs.Output.{IsRewritten, IsRewrittenWithin};
+ghost use Rattle.kohiblad.specs.Words.{IsCanonical, IsDocumentWithin, IsRewritten};
+ghost use Rattle.kohiblad.specs.Words.{IsRewrittenWithin};
 
 use crate::answer::{code, hand_over, refuse};
 use jsonb::{Document, Error, RawJsonb, is_canonical, is_document_within};

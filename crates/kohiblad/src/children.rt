@@ -1,10 +1,9 @@
 //! The children of an array or object, one after another in one pass.
 
 ghost use Rattle.std.specs.Prelude.{◌≡◌, ◌<◌, ◌≤◌, ◌^◌, ℕ, suc, length, Ok, Some, IfOk};
-ghost use Rattle.kohiblad.specs.Children.{cursor_at, part_start, child_at, numbered_child};
-ghost use Rattle.kohiblad.specs.Children.{cursor_after, key_answer, value_answer, IsBegun};
-ghost use Rattle.kohiblad.specs.Children.{end_of, CanMove};
-ghost use Rattle.kohiblad.specs.Places.{place_at};
+ghost use Rattle.kohiblad.specs.Words.{cursor_at, part_start, child_at, numbered_child, key_answer};
+ghost use Rattle.kohiblad.specs.Words.{cursor_after, value_answer, IsBegun, end_of, CanMove};
+ghost use Rattle.kohiblad.specs.Words.{place_at};
 
 use crate::answer::{NONE, OK, code};
 use crate::places::{KohibladPlace, Place, place_answer};

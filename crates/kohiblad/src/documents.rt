@@ -1,15 +1,8 @@
 //! Checking bytes, their kind, and comparing them.
 
 ghost use Rattle.std.specs.Prelude.{◌≡◌, ◌↔◌, Ok, IsTrue};
-ghost use Rattle.jsonb_value.specs.Meaning.{meaning_cmp};
-ghost use Rattle.jsonb_value.specs.Tree.{Tree};
-ghost use Rattle.jsonb_codec.specs.Depth.{IsDocumentWithin};
-ghost use Rattle.jsonb_codec.specs.Doc.{Doc, IsDocument};
-ghost use Rattle.jsonb.specs.Kind.{kind, kind_of_tree};
-ghost use Rattle.jsonb.specs.ItemMeaning.{meaning_of};
-ghost use Rattle.jsonb_comparable.specs.Within.{meaning_within};
-ghost use Rattle.kohiblad.specs.Status.{sign};
-ghost use Rattle.kohiblad.specs.KindAnswer.{kind_answer};
+ghost use Rattle.kohiblad.specs.Words.{meaning_cmp, Tree, IsDocumentWithin, Doc, IsDocument, kind};
+ghost use Rattle.kohiblad.specs.Words.{kind_of_tree, meaning_of, meaning_within, sign, kind_answer};
 
 use crate::answer::{OK, code};
 use jsonb::{JsonbItemType, RawJsonb, is_document, is_document_within};

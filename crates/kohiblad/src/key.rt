@@ -1,8 +1,6 @@
 //! Comparable keys: byte strings that sort as the documents do.
 
-ghost use Rattle.jsonb_comparable.specs.TreeKey.{meaning_key};
-ghost use Rattle.jsonb_comparable.specs.Within.{meaning_within};
-ghost use Rattle.kohiblad.specs.Output.{IsWritten};
+ghost use Rattle.kohiblad.specs.Words.{meaning_key, meaning_within, IsWritten};
 
 use crate::answer::{code, hand_over, refuse};
 use jsonb::RawJsonb;

@@ -1,20 +1,14 @@
 //! The positions of the parts of an array or object, and copying parts out as documents.
 
 ghost use Rattle.std.specs.Prelude.{◌≡◌, ◌≢◌, ◌+◌, ◌≤◌, ◌<◌, ◌^◌, ℕ, List, length, false, Option};
-ghost use Rattle.std.specs.Prelude.{Some, Result, Ok, Err, IfOk};
-ghost use Rattle.jsonb_value.specs.declared.error.Error.{Error};
-ghost use Rattle.kohiblad.specs.declared.places.Place.{Place};
-ghost use Rattle.std.specs.Str.{IsUtf8};
-ghost use Rattle.kohiblad.specs.Status.{code, IsAnswered, IsHandedOver, IsRefused};
-ghost use Rattle.jsonb_value.specs.Tree.{Tree};
-ghost use Rattle.jsonb_codec.specs.Doc.{Doc};
-ghost use Rattle.jsonb_codec.specs.Parts.{IsPayloadOf};
-ghost use Rattle.kohiblad.specs.Places.{IsItemPlace, AreMemberPlaces, part_place, place_in};
-ghost use Rattle.kohiblad.specs.Places.{item_place, IsPlaceFound, IsPlaceIn, IsInside, AreInside};
-ghost use Rattle.kohiblad.specs.Places.{member_places, IsMemberHandedOver, place_answer};
-ghost use Rattle.kohiblad.specs.Places.{entry_there, IsPartPlace};
-ghost use Rattle.kohiblad.specs.Places.{entry_document, IsPlaceHandedOver, IsValuePlace};
-ghost use Rattle.kohiblad.specs.Parts.{is_entry_type, is_too_long, part_document, IsPartDocument};
+ghost use Rattle.std.specs.Prelude.{Some, Result, Ok, Err, IfOk, IsUtf8};
+ghost use Rattle.kohiblad.specs.Words.{Error, Place, code, IsAnswered, IsHandedOver, IsRefused};
+ghost use Rattle.kohiblad.specs.Words.{Tree, Doc, IsPayloadOf, IsItemPlace, AreMemberPlaces};
+ghost use Rattle.kohiblad.specs.Words.{part_place, place_in, item_place, IsPlaceFound, IsPlaceIn};
+ghost use Rattle.kohiblad.specs.Words.{IsInside, AreInside, member_places, IsMemberHandedOver};
+ghost use Rattle.kohiblad.specs.Words.{place_answer, entry_there, IsPartPlace, entry_document};
+ghost use Rattle.kohiblad.specs.Words.{IsPlaceHandedOver, IsValuePlace, is_entry_type, is_too_long};
+ghost use Rattle.kohiblad.specs.Words.{part_document, IsPartDocument};
 
 use crate::answer::{NO_ROOM, NONE, OK, PAYLOAD_LIMIT, code, hand_over, hand_over_scalar, refuse};
 use jsonb::{Error, RawJsonb, Reads, read_header, read_jentry};

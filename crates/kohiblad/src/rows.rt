@@ -1,8 +1,8 @@
 //! Consecutive rows of bytes.
 
-ghost use Rattle.std.specs.Prelude.{◌≡◌, ◌∷◌, [], ℕ, List, length, IfOk, IfErr, IsTrue};
-ghost use Rattle.std.specs.Prelude.{MatchOption, is_ok};
-ghost use Rattle.kohiblad.specs.Rows.{are_ends, rows_from, rows, pairs_in};
+ghost use Rattle.std.specs.Prelude.{◌≡◌, ◌∷◌, [], ℕ, List, length, IfOk, IfErr, IsTrue, is_ok};
+ghost use Rattle.std.specs.Prelude.{MatchOption};
+ghost use Rattle.kohiblad.specs.Words.{are_ends, rows_from, rows, pairs_in};
 
 use jsonb::Error;
 use std::marker::Model;

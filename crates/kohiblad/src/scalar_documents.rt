@@ -1,18 +1,11 @@
 //! Documents of scalars.
 
-ghost use Rattle.std.specs.Prelude.{◌≡◌, Some, None, IfSome, IfNone, length};
-ghost use Rattle.std.specs.Str.{IsUtf8};
-ghost use Rattle.jsonb_value.specs.declared.error.Error.{Error};
-ghost use Rattle.jsonb_value.specs.declared.number.Number.{Number};
-ghost use Rattle.jsonb_value.specs.Json.Numeral.{number_of};
-ghost use Rattle.jsonb_value.specs.ExtCode.{extension_of};
-ghost use Rattle.jsonb_value.specs.Tree.{null, boolean, number, text, extension, Extension};
-ghost use Rattle.jsonb_value.specs.WellFormed.{IsExtension};
-ghost use Rattle.jsonb_codec.specs.Canon.{canon};
-ghost use Rattle.kohiblad.specs.Output.{IsWritten};
-ghost use Rattle.kohiblad.specs.Scalars.{int64_number, is_true, from_halves, IsShort, data_of};
-ghost use Rattle.kohiblad.specs.Scalars.{extension_answer, IsGivenBy, IsShortExtension};
-ghost use Rattle.kohiblad.specs.Status.{code, IsHandedOver, IsRefused};
+ghost use Rattle.std.specs.Prelude.{◌≡◌, Some, None, IfSome, IfNone, length, IsUtf8};
+ghost use Rattle.kohiblad.specs.Words.{Error, Number, number_of, extension_of, null, boolean, text};
+ghost use Rattle.kohiblad.specs.Words.{number, extension, Extension, IsExtension, canon, IsWritten};
+ghost use Rattle.kohiblad.specs.Words.{int64_number, is_true, from_halves, IsShort, data_of, code};
+ghost use Rattle.kohiblad.specs.Words.{extension_answer, IsGivenBy, IsShortExtension, IsHandedOver};
+ghost use Rattle.kohiblad.specs.Words.{IsRefused};
 
 use crate::answer::{PAYLOAD_LIMIT, code, hand_over, hand_over_scalar, refuse};
 use crate::values::fields_of;

@@ -1,11 +1,8 @@
 //! Sorting consecutive rows.
 
 ghost use Rattle.std.specs.Prelude.{◌≡◌, ◌≤◌, ◌++◌, length, drop, map, IfOk, IfErr};
-ghost use Rattle.jsonb.specs.ItemMeaning.{meaning_of};
-ghost use Rattle.jsonb_comparable.specs.CheckedBytes.{checked_meaning};
-ghost use Rattle.jsonb_comparable.specs.Within.{meaning_within};
-ghost use Rattle.kohiblad.specs.BoundedMeaning.{bounded_meaning};
-ghost use Rattle.kohiblad.specs.SortOrder.{IsOrderOf, AreRowsOrdered};
+ghost use Rattle.kohiblad.specs.Words.{meaning_of, checked_meaning, meaning_within, IsOrderOf};
+ghost use Rattle.kohiblad.specs.Words.{bounded_meaning, AreRowsOrdered};
 
 use crate::answer::{NO_ROOM, OK, code};
 use crate::rows::Rows;

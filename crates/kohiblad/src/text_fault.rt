@@ -1,10 +1,8 @@
 //! Where a text is no JSON.
 
-ghost use Rattle.std.specs.Prelude.{◌≡◌, ◌<◌, ◌≤◌};
-ghost use Rattle.std.specs.Str.{IsUtf8};
-ghost use Rattle.jsonb_value.specs.TextDepth.{text_depth};
-ghost use Rattle.kohiblad.specs.Status.{code, too_deep};
-ghost use Rattle.kohiblad.specs.TextFaults.{reason_status, no_fault, IsTextFault};
+ghost use Rattle.std.specs.Prelude.{◌≡◌, ◌<◌, ◌≤◌, IsUtf8};
+ghost use Rattle.kohiblad.specs.Words.{text_depth, code, too_deep, reason_status, no_fault};
+ghost use Rattle.kohiblad.specs.Words.{IsTextFault};
 
 use crate::answer::{BAD_NUMBER, OK, TOO_DEEP, code};
 use json_fault::{FaultReason, text_fault};

@@ -1,12 +1,8 @@
 //! Printing bytes as texts, and parsing texts into documents.
 
-ghost use Rattle.jsonb_value.specs.Text.{compact, pretty};
-ghost use Rattle.jsonb_value.specs.Tree.{Tree};
-ghost use Rattle.jsonb_codec.specs.Doc.{Doc};
-ghost use Rattle.jsonb.specs.Texts.{display_text, pretty_display_text};
-ghost use Rattle.jsonb.specs.Texts.{plain_text, lined_text, other_text};
-ghost use Rattle.jsonb_comparable.specs.Within.{meaning_within};
-ghost use Rattle.kohiblad.specs.Output.{IsWritten, IsRead, IsReadWithin};
+ghost use Rattle.kohiblad.specs.Words.{compact, pretty, Tree, Doc, display_text, plain_text};
+ghost use Rattle.kohiblad.specs.Words.{pretty_display_text, lined_text, other_text, meaning_within};
+ghost use Rattle.kohiblad.specs.Words.{IsWritten, IsRead, IsReadWithin};
 
 use crate::answer::{TOO_DEEP, code, hand_over, refuse};
 use bstr::ByteSlice;

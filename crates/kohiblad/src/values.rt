@@ -1,17 +1,11 @@
 //! Scalar values, read from their documents.
 
 ghost use Rattle.std.specs.Prelude.{◌≡◌, ℕ, length, List, Bool, IfSome, IfNone};
-ghost use Rattle.jsonb_value.specs.declared.number.Number.{Number};
-ghost use Rattle.jsonb_value.specs.ExtCode.{extension_of};
-ghost use Rattle.jsonb_value.specs.Tree.{Tree, Extension, boolean, number, text, extension};
-ghost use Rattle.jsonb_codec.specs.Contents.{Means};
-ghost use Rattle.jsonb_codec.specs.Depth.{depth};
-ghost use Rattle.jsonb_codec.specs.Doc.{Doc};
-ghost use Rattle.jsonb.specs.Kind.{kind};
-ghost use Rattle.kohiblad.specs.KindAnswer.{kind_answer};
-ghost use Rattle.kohiblad.specs.Scalars.{why_none, coefficient, scale, IsDecimalOf, int64_answer};
-ghost use Rattle.kohiblad.specs.Scalars.{no_decimal, no_integer, no_truth, no_place, text_place};
-ghost use Rattle.kohiblad.specs.Scalars.{truth_of, extension_answer, data_answer, no_extension};
+ghost use Rattle.kohiblad.specs.Words.{Number, extension_of, Tree, Extension, boolean, number, Doc};
+ghost use Rattle.kohiblad.specs.Words.{text, extension, Means, depth, kind, kind_answer, why_none};
+ghost use Rattle.kohiblad.specs.Words.{coefficient, scale, IsDecimalOf, int64_answer, no_decimal};
+ghost use Rattle.kohiblad.specs.Words.{no_integer, no_truth, no_place, text_place, truth_of};
+ghost use Rattle.kohiblad.specs.Words.{extension_answer, data_answer, no_extension};
 
 use crate::answer::{OK, OTHER_KIND, PAST_RANGE, code};
 use crate::documents::kohiblad_kind;

@@ -1,10 +1,8 @@
 //! Builds documents from documents, without decoding them.
 
 ghost use Rattle.std.specs.Prelude.{◌≡◌, ◌⊎◌, codes, IfOk, IfErr};
-ghost use Rattle.jsonb_value.specs.Tree.{Tree, tree, no_trees, pair, no_pairs};
-ghost use Rattle.jsonb_codec.specs.Doc.{Doc};
-ghost use Rattle.jsonb.specs.Results.{IsArrayUpToZeros, IsObjectUpToZeros};
-ghost use Rattle.jsonb.specs.Owned.{owned_bytes};
+ghost use Rattle.jsonb.specs.Words.{Tree, tree, no_trees, pair, no_pairs, Doc, IsArrayUpToZeros};
+ghost use Rattle.jsonb.specs.Words.{IsObjectUpToZeros, owned_bytes};
 
 use jsonb::{ArrayBuilder, Error, ObjectBuilder, OwnedJsonb, RawJsonb};
 use std::alloc::Global;

@@ -1,9 +1,7 @@
 //! Brings documents of older writers to canonical form.
 
 ghost use Rattle.std.specs.Prelude.{◌≡◌, IfOk};
-ghost use Rattle.jsonb_value.specs.Tree.{Tree};
-ghost use Rattle.jsonb_codec.specs.Canon.{canon};
-ghost use Rattle.jsonb_codec.specs.Doc.{Doc};
+ghost use Rattle.jsonb.specs.Words.{Tree, canon, Doc};
 
 use jsonb::{Error, RawJsonb};
 use std::alloc::Global;

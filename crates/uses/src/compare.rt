@@ -1,9 +1,7 @@
 //! Compares two documents by value.
 
 ghost use Rattle.std.specs.Prelude.{◌≡◌, ◌↔◌, IsTrue};
-ghost use Rattle.jsonb_value.specs.Tree.{Tree};
-ghost use Rattle.jsonb_value.specs.TreeOrder.{tree_cmp};
-ghost use Rattle.jsonb_codec.specs.Doc.{Doc};
+ghost use Rattle.jsonb.specs.Words.{Tree, tree_cmp, Doc};
 
 use jsonb::RawJsonb;
 use std::cmp::Ordering;

@@ -1,9 +1,7 @@
 //! Checks bytes once, and then reads from them without errors.
 
 ghost use Rattle.std.specs.Prelude.{◌≡◌, codes, Some, IfSome};
-ghost use Rattle.jsonb_value.specs.Tree.{Tree, text};
-ghost use Rattle.jsonb_codec.specs.Doc.{Doc};
-ghost use Rattle.jsonb.specs.Node.{value_of_key};
+ghost use Rattle.jsonb.specs.Words.{Tree, text, Doc, value_of_key};
 
 use jsonb::{Document, Node};
 

@@ -1,9 +1,8 @@
 //! Encodes a value that the program built.
 
 ghost use Rattle.std.specs.Prelude.{◌≡◌, IfOk};
-ghost use Rattle.jsonb_value.specs.declared.number.Number.TheVariants.{Int64};
-ghost use Rattle.jsonb_value.specs.Tree.{number, array, tree, no_trees};
-ghost use Rattle.jsonb_codec.specs.Canon.{canon};
+ghost use Rattle.jsonb_value.specs.Tree.{number};
+ghost use Rattle.jsonb.specs.Words.{Int64, array, tree, no_trees, canon};
 
 use jsonb::{Encoder, Error, Number, Value};
 use std::alloc::Global;

@@ -1,12 +1,7 @@
 //! Finds the value of a key in the bytes.
 
 ghost use Rattle.std.specs.Prelude.{codes, option_map, IsOkAnd};
-ghost use Rattle.jsonb_value.specs.Tree.{Tree};
-ghost use Rattle.jsonb_codec.specs.Doc.{Doc};
-ghost use Rattle.jsonb.specs.Lookup.{IsItemFound};
-ghost use Rattle.jsonb.specs.Node.{value_of_key};
-ghost use Rattle.jsonb.specs.Raw.{raw_bytes};
-ghost use Rattle.jsonb.specs.ItemView.{item_view};
+ghost use Rattle.jsonb.specs.Words.{Tree, Doc, IsItemFound, value_of_key, raw_bytes, item_view};
 
 use jsonb::{Error, JsonbItem, RawJsonb};
 

@@ -1,9 +1,7 @@
 //! Stores a JSON text.
 
 ghost use Rattle.std.specs.Prelude.{◌≡◌, chars, IfOk};
-ghost use Rattle.jsonb_value.specs.Json.Syntax.{Json};
-ghost use Rattle.jsonb_value.specs.Tree.{Tree};
-ghost use Rattle.jsonb_codec.specs.Canon.{canon};
+ghost use Rattle.jsonb.specs.Words.{Json, Tree, canon};
 
 use jsonb::{Error, OwnedJsonb};
 use std::alloc::Global;

@@ -1,9 +1,7 @@
 //! Prints a document from its bytes.
 
 ghost use Rattle.std.specs.Prelude.{◌≡◌, string_bytes, IfOk};
-ghost use Rattle.jsonb_value.specs.Text.{pretty};
-ghost use Rattle.jsonb_value.specs.Tree.{Tree};
-ghost use Rattle.jsonb_codec.specs.Doc.{Doc};
+ghost use Rattle.jsonb.specs.Words.{pretty, Tree, Doc};
 
 use jsonb::{Error, RawJsonb};
 use std::alloc::Global;

@@ -1,10 +1,8 @@
 //! Sorts a column of byte strings, each checked once.
 
-ghost use Rattle.std.specs.Prelude.{◌≡◌, map, IfOk};
-ghost use Rattle.std.specs.List.Sorted.{IsPermutation, IsSorted};
-ghost use Rattle.std.specs.Ordering.{on};
-ghost use Rattle.jsonb_value.specs.Meaning.{meaning_cmp};
-ghost use Rattle.jsonb.specs.SortKey.{key_bytes, key_meaning};
+ghost use Rattle.std.specs.Prelude.{◌≡◌, map, IfOk, IsPermutation, IsSorted};
+ghost use Rattle.jsonb.specs.SortKey.{key_bytes};
+ghost use Rattle.jsonb.specs.Words.{on, meaning_cmp, key_meaning};
 
 use jsonb::{Error, SortKey};
 use std::alloc::Global;

@@ -1,11 +1,7 @@
 //! Iterates over an array.
 
 ghost use Rattle.std.specs.Prelude.{IsOkAnd, IsSomeAnd};
-ghost use Rattle.jsonb_value.specs.Tree.{Tree, Trees, array, tree};
-ghost use Rattle.jsonb_codec.specs.Doc.{Doc};
-ghost use Rattle.jsonb.specs.Raw.{raw_bytes};
-ghost use Rattle.jsonb.specs.ItemView.{item_view};
-ghost use Rattle.jsonb.specs.DocumentWalk.{IsItemOf};
+ghost use Rattle.jsonb.specs.Words.{Tree, Trees, array, tree, Doc, raw_bytes, item_view, IsItemOf};
 
 use jsonb::{ArrayIterator, Error, JsonbItem, RawJsonb};
 

@@ -2,16 +2,11 @@
 
 ghost use Rattle.std.specs.Prelude.{◌≡◌, ◌≢◌, ◌⊎◌, ◌↔◌, ◌+◌, ◌<◌, [], true, false, map, is_some};
 ghost use Rattle.std.specs.Prelude.{Err, IsSome, IsOk, IfOk, IfErr, OnOk, OnErr};
-ghost use Rattle.jsonb_value.specs.Tree.{Trees};
-ghost use Rattle.jsonb.specs.declared.item.JsonbItem.{JsonbItem};
-ghost use Rattle.jsonb.specs.Raw.{raw_bytes};
-ghost use Rattle.jsonb.specs.Owned.{owned_bytes};
-ghost use Rattle.jsonb.specs.ItemView.{item_view};
 ghost use Rattle.jsonb.specs.ItemView as items;
-ghost use Rattle.jsonb.specs.Building.{FitArray, IsArrayOf};
-ghost use Rattle.jsonb.specs.Results.{AllMean, IsArrayUpToZeros};
-ghost use Rattle.jsonb.specs.Tally.{Tally, has_equal, count_at, SetsCount, Lists, count_of};
-ghost use Rattle.jsonb.specs.Tally.{list_with, CountsOneMore, CountsOneLess};
+ghost use Rattle.jsonb.specs.Words.{Trees, JsonbItem, raw_bytes, owned_bytes, item_view, FitArray};
+ghost use Rattle.jsonb.specs.Words.{IsArrayOf, AllMean, IsArrayUpToZeros, Tally, has_equal, Lists};
+ghost use Rattle.jsonb.specs.Words.{count_at, SetsCount, count_of, list_with, CountsOneMore};
+ghost use Rattle.jsonb.specs.Words.{CountsOneLess};
 
 use super::write::array_document;
 use crate::item::JsonbItem;

@@ -1,16 +1,11 @@
 //! Writing arrays and objects of stored values: everything is measured first, then written with a
 //! single growth of the buffer.
 
-ghost use Rattle.std.specs.Prelude.{◌≡◌, ◌↔◌, ◌⊎◌, List, Err, IsTrue, IfOk, IfErr, OnOk};
-ghost use Rattle.std.specs.Cmp.Lexicographic.{slice_cmp};
-ghost use Rattle.std.specs.List.{All, AllByRecursion};
-ghost use Rattle.std.specs.List.Sorted.{IsStrictlySortedBy};
-ghost use Rattle.std.specs.Map.{values_of};
-ghost use Rattle.std.specs.Ordering.{nat_cmp};
-ghost use Rattle.jsonb.specs.Owned.{owned_bytes};
-ghost use Rattle.jsonb.specs.ItemView.{ItemView};
-ghost use Rattle.jsonb.specs.Building.{FitArray, IsArrayOf, FitObject, IsObjectOf, AreKeys};
-ghost use Rattle.jsonb.specs.Children.{AreShown, AreShownAt, ItemPairs, key_bytes};
+ghost use Rattle.std.specs.Prelude.{◌≡◌, ◌↔◌, ◌⊎◌, List, Err, IsTrue, IfOk, IfErr, OnOk, All};
+ghost use Rattle.jsonb.specs.Children.{key_bytes};
+ghost use Rattle.jsonb.specs.Words.{slice_cmp, AllByRecursion, IsStrictlySortedBy, values_of};
+ghost use Rattle.jsonb.specs.Words.{nat_cmp, owned_bytes, ItemView, FitArray, IsArrayOf, FitObject};
+ghost use Rattle.jsonb.specs.Words.{IsObjectOf, AreKeys, AreShown, AreShownAt, ItemPairs};
 
 use crate::owned::OwnedJsonb;
 use jsonb_codec::writer::{Level, Stored, append_document};

@@ -2,11 +2,9 @@
 //! bytes.
 
 ghost use Rattle.std.specs.Prelude.{◌≡◌, unwrap_or};
-ghost use Rattle.jsonb_value.specs.TreeOrder.{tree_cmp};
-ghost use Rattle.jsonb.specs.Document.{document_tree};
-ghost use Rattle.jsonb.specs.Kind.{kind_of_tree, rank_order};
-ghost use Rattle.jsonb.specs.Facts.{rest_trees, rest_pairs};
-ghost use Rattle.jsonb.specs.Node.{node_tree, HoldsNoScalar, IsContainer, array_of, object_of};
+ghost use Rattle.jsonb.specs.Words.{tree_cmp, document_tree, kind_of_tree, rank_order, rest_trees};
+ghost use Rattle.jsonb.specs.Words.{rest_pairs, node_tree, HoldsNoScalar, IsContainer, array_of};
+ghost use Rattle.jsonb.specs.Words.{object_of};
 
 use crate::document::{Contents, Document, Node};
 use crate::nodes::{Items, Members};

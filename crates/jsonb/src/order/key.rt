@@ -1,13 +1,10 @@
 //! The order of checked bytes is that of their meaning.
 
-ghost use Rattle.std.specs.Cmp.{on_total, eq_by_cmp_equiv, partial_equiv_from_equiv};
-ghost use Rattle.std.specs.Cmp.{partial_order_from_total};
-ghost use Rattle.std.specs.Cmp.Rules.{comparing};
-ghost use Rattle.std.specs.Ordering.{on, eq_by_cmp, as_partial_cmp};
 ghost use Rattle.std.proofs.Common.{rules};
-ghost use Rattle.jsonb_value.specs.Meaning.{meaning_cmp};
 ghost use Rattle.jsonb_value.proofs.MeaningLaws.{meaning_cmp_total};
-ghost use Rattle.jsonb.specs.SortKey.{key_meaning};
+ghost use Rattle.jsonb.specs.Words.{on_total, eq_by_cmp_equiv, partial_equiv_from_equiv, comparing};
+ghost use Rattle.jsonb.specs.Words.{partial_order_from_total, on, eq_by_cmp, as_partial_cmp};
+ghost use Rattle.jsonb.specs.Words.{meaning_cmp, key_meaning};
 
 use crate::sort_key::SortKey;
 use std::cmp::Ordering;

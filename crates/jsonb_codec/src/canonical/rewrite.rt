@@ -1,17 +1,10 @@
 //! Writing the canonical form of a document while reading the document.
 
-ghost use Rattle.std.specs.Prelude.{◌≡◌, ◌≤◌, ◌+◌, ◌++◌, ◌↔◌, ◌⊎◌, length, vec_capacity};
-ghost use Rattle.std.specs.Prelude.{Err, IsOk, IfErr, OnOk, OnErr};
-ghost use Rattle.jsonb_value.specs.Tree.{Tree};
-ghost use Rattle.jsonb_value.specs.WellFormed.{IsTree};
-ghost use Rattle.jsonb_codec.specs.Doc.{Doc, IsDocument};
-ghost use Rattle.jsonb_codec.specs.Canon.{canon, Fits};
-ghost use Rattle.jsonb_codec.specs.Code.{code_of};
-ghost use Rattle.jsonb_codec.specs.Contents.{Means};
-ghost use Rattle.jsonb_codec.specs.DocumentBytes.{bytes_of};
-ghost use Rattle.jsonb_codec.specs.PartSource.{part_meaning, part_laws};
-ghost use Rattle.jsonb_codec.specs.Source.{Is, level_size};
-ghost use Rattle.jsonb_codec.specs.TreeShape.{shape_of};
+ghost use Rattle.std.specs.Prelude.{◌≡◌, ◌≤◌, ◌+◌, ◌++◌, ◌↔◌, ◌⊎◌, length, vec_capacity, Err, IsOk};
+ghost use Rattle.std.specs.Prelude.{IfErr, OnOk, OnErr};
+ghost use Rattle.jsonb_codec.specs.Canon.{Fits};
+ghost use Rattle.jsonb_codec.specs.Words.{Tree, IsTree, Doc, IsDocument, canon, code_of, Means, Is};
+ghost use Rattle.jsonb_codec.specs.Words.{bytes_of, part_meaning, part_laws, level_size, shape_of};
 
 use crate::constants::{CONTAINER_TAG, EXTENSION_TAG, NUMBER_TAG};
 use crate::document::DocumentBytes;

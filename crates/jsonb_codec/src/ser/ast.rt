@@ -1,13 +1,9 @@
 //! Values whose objects are lists of pairs, as a source of the writer.
 
 ghost use Rattle.std.specs.Prelude.{◌<◌};
-ghost use Rattle.jsonb_value.specs.Ast.{ast_tree, AscendEverywhere};
-ghost use Rattle.jsonb_value.specs.WellFormed.{IsTree};
-ghost use Rattle.jsonb_codec.specs.Code.{scalar_code};
-ghost use Rattle.jsonb_codec.specs.Depth.{size};
-ghost use Rattle.jsonb_codec.specs.Source.{Is, level_size, LevelHeld};
-ghost use Rattle.jsonb_codec.specs.TreeShape.{shape_of};
-ghost use Rattle.jsonb_codec.specs.ValueSource.{ast_meaning, ast_laws};
+ghost use Rattle.jsonb_codec.specs.Words.{ast_tree, AscendEverywhere, IsTree, scalar_code, size};
+ghost use Rattle.jsonb_codec.specs.Words.{Is, level_size, LevelHeld, shape_of, ast_meaning};
+ghost use Rattle.jsonb_codec.specs.Words.{ast_laws};
 
 use crate::writer::code::Scalar;
 use crate::writer::source::{Level, Source};

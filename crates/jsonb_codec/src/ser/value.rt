@@ -1,13 +1,8 @@
 //! Values as a source of the writer.
 
 ghost use Rattle.std.specs.Prelude.{◌<◌};
-ghost use Rattle.jsonb_value.specs.Value.{tree_of};
-ghost use Rattle.jsonb_value.specs.WellFormed.{IsTree};
-ghost use Rattle.jsonb_codec.specs.Code.{scalar_code};
-ghost use Rattle.jsonb_codec.specs.Depth.{size};
-ghost use Rattle.jsonb_codec.specs.Source.{Is, level_size, LevelHeld};
-ghost use Rattle.jsonb_codec.specs.TreeShape.{shape_of};
-ghost use Rattle.jsonb_codec.specs.ValueSource.{value_meaning, value_laws};
+ghost use Rattle.jsonb_codec.specs.Words.{tree_of, IsTree, scalar_code, size, Is, level_size};
+ghost use Rattle.jsonb_codec.specs.Words.{LevelHeld, shape_of, value_meaning, value_laws};
 
 use crate::writer::code::Scalar;
 use crate::writer::source::{Level, Source};

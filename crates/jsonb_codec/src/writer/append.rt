@@ -5,17 +5,14 @@
 //! container is derived from that of the enclosing container, to avoid measuring it again
 //! completely.
 
-ghost use Rattle.std.specs.Prelude.{◌≡◌, ◌<◌, ◌≤◌, ◌+◌, ◌++◌, ◌^◌, ◌⊎◌, ◌↔◌, ℕ, length};
-ghost use Rattle.std.specs.Prelude.{vec_capacity};
-ghost use Rattle.std.specs.Prelude.{Err, IsOk, IfErr, OnOk, OnErr};
-ghost use Rattle.jsonb_codec.specs.Word.{word};
+ghost use Rattle.std.specs.Prelude.{◌≡◌, ◌<◌, ◌≤◌, ◌+◌, ◌++◌, ◌^◌, ◌⊎◌, ◌↔◌, ℕ, length, Err, IsOk};
+ghost use Rattle.std.specs.Prelude.{vec_capacity, IfErr, OnOk, OnErr};
 ghost use Rattle.jsonb_codec.specs.Shape as shapes;
-ghost use Rattle.jsonb_codec.specs.Shape.{Shape, Shapes, payload, payloads, entries, type_of};
-ghost use Rattle.jsonb_codec.specs.Shape.{key_entries, key_payloads, body, document, Fits};
-ghost use Rattle.jsonb_codec.specs.Shape.{FitsEntry};
-ghost use Rattle.jsonb_codec.specs.Source.{Is, LevelHeld};
-ghost use Rattle.jsonb_codec.specs.Room.{HasRoom, AppendsBytes, Stands};
-ghost use Rattle.jsonb_codec.specs.Writing.{CanWrite, CanGoOn};
+ghost use Rattle.jsonb_codec.specs.Shape.{Fits};
+ghost use Rattle.jsonb_codec.specs.Words.{word, Shape, Shapes, payload, payloads, entries, type_of};
+ghost use Rattle.jsonb_codec.specs.Words.{key_entries, key_payloads, body, document, FitsEntry, Is};
+ghost use Rattle.jsonb_codec.specs.Words.{LevelHeld, HasRoom, AppendsBytes, Stands, CanWrite};
+ghost use Rattle.jsonb_codec.specs.Words.{CanGoOn};
 
 use super::measure::{item_size, measure_document, value_size};
 use super::source::{Leaf, Level, Source};

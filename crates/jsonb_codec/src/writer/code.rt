@@ -1,7 +1,6 @@
 //! The stored form of values: the type of an entry, and its payload.
 
-ghost use Rattle.std.specs.Prelude.{◌≡◌, ◌≤◌, ◌<◌, ◌^◌, [], length};
-ghost use Rattle.std.specs.Str.{IsUtf8};
+ghost use Rattle.std.specs.Prelude.{◌≡◌, ◌≤◌, ◌<◌, ◌^◌, [], length, IsUtf8};
 ghost use Rattle.jsonb_value.specs.NumCode.{number_payload};
 ghost use Rattle.jsonb_value.specs.ExtCode.{extension_of, extension_payload};
 ghost use Rattle.jsonb_value.specs.WellFormed.{IsNumber, IsExtension};
@@ -29,7 +28,7 @@ pub struct Code<'a> {
 }
 
 impl<'a> Code<'a> {
-    ghost use Rattle.jsonb_codec.specs.Code.{code_of};
+    ghost use Rattle.jsonb_codec.specs.Words.{code_of};
 
     /// An entry that has only a type, and no payload.
     #[inline(always)]
@@ -95,7 +94,7 @@ pub enum Scalar<'a> {
 }
 
 impl<'a> Scalar<'a> {
-    ghost use Rattle.jsonb_codec.specs.Code.{scalar_code};
+    ghost use Rattle.jsonb_codec.specs.Words.{scalar_code};
 
     /// A text or a key. Every `&str` is UTF-8.
     #[inline(always)]

@@ -8,13 +8,12 @@
 //! The length of what is not measured is what remains of the whole. So at each level the work is at
 //! most a fixed multiple of all children but the largest, and a document takes time n log n.
 
-ghost use Rattle.std.specs.Prelude.{◌≡◌, ◌≤◌, ◌<◌, ◌+◌, ◌^◌, length, IfSome, IfNone, OnSome};
-ghost use Rattle.std.specs.Prelude.{IfOk, IfErr, OnOk, OnErr};
+ghost use Rattle.std.specs.Prelude.{◌≡◌, ◌≤◌, ◌<◌, ◌+◌, ◌^◌, length, IfSome, IfNone, OnSome, IfOk};
+ghost use Rattle.std.specs.Prelude.{IfErr, OnOk, OnErr};
 ghost use Rattle.jsonb_codec.specs.Shape as shapes;
-ghost use Rattle.jsonb_codec.specs.Shape.{Shape, Shapes, count, body, payload};
-ghost use Rattle.jsonb_codec.specs.Shape.{document, AllFit, FitsInside, Fits, FitsEntry};
-ghost use Rattle.jsonb_codec.specs.Source.{Is, LevelHeld};
-ghost use Rattle.jsonb_codec.specs.Writing.{AreFew, TakesLeft};
+ghost use Rattle.jsonb_codec.specs.Shape.{Fits};
+ghost use Rattle.jsonb_codec.specs.Words.{Shape, Shapes, count, body, payload, document, AllFit};
+ghost use Rattle.jsonb_codec.specs.Words.{FitsInside, FitsEntry, Is, LevelHeld, AreFew, TakesLeft};
 
 use super::source::{Leaf, Level, Source};
 use jsonb_value::Error;

@@ -1,9 +1,8 @@
 //! Lists and maps of values that are stored unchanged.
 
 ghost use Rattle.std.specs.Prelude.{◌≡◌, ◌↔◌, ℕ, List, IsTrue, IsSome, ⊤};
-ghost use Rattle.jsonb_codec.specs.Code.{code_of};
-ghost use Rattle.jsonb_codec.specs.Stored.{stored_meaning, stored_laws};
-ghost use Rattle.jsonb_codec.specs.Stored.{part_code, code_of_some};
+ghost use Rattle.jsonb_codec.specs.Words.{code_of, stored_meaning, stored_laws, part_code};
+ghost use Rattle.jsonb_codec.specs.Words.{code_of_some};
 
 use super::code::{Code, Payload};
 use super::source::{Level, Source};

@@ -1,8 +1,7 @@
 //! Steps over the characters at the start of a text.
 
 ghost use Rattle.std.specs.Prelude.{◌≡◌, [], ◌∷◌, chars, option_map, MatchOption};
-ghost use Rattle.jsonb_value.specs.Json.Characters.{is_blank};
-ghost use Rattle.jsonb_value.specs.Reader.Reading.{skip_blank, expect, expect_all};
+ghost use Rattle.jsonb_value.specs.Words.{is_blank, skip_blank, expect, expect_all};
 
 /// The first character, and the text after it.
 #[inline(always)]

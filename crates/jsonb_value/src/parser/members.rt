@@ -1,9 +1,7 @@
 //! The members of an object while it is being read.
 
 ghost use Rattle.std.specs.Prelude.{◌≡◌, ◌++◌, [], string_cmp, IfOk, IfErr, OnOk};
-ghost use Rattle.std.specs.BTreeMap.{insert_entry, IsFromIterResult};
-ghost use Rattle.jsonb_value.specs.Reader.Content.{members_held};
-ghost use Rattle.jsonb_value.specs.Value.{pairs_view};
+ghost use Rattle.jsonb_value.specs.Words.{insert_entry, IsFromIterResult, members_held, pairs_view};
 
 use crate::error::Error;
 use crate::value::{Object, Value};

@@ -1,14 +1,11 @@
 //! The parser of numbers.
 
-ghost use Rattle.std.specs.Prelude.{◌≡◌, ℕ, ◌+◌, ◌*◌, List, Some, None, chars, option_map};
-ghost use Rattle.std.specs.Prelude.{MatchOption, SomeIff, IsTrue};
-ghost use Rattle.std.specs.Char.{digit_value, is_ascii_digit};
-ghost use Rattle.std.specs.Str.Parse.{digits_value};
-ghost use Rattle.jsonb_value.specs.NumCode.{is_within};
-ghost use Rattle.jsonb_value.specs.Json.Numeral.{signed_number};
-ghost use Rattle.jsonb_value.specs.Reader.Reading.{read_sign, read_whole, read_fraction};
-ghost use Rattle.jsonb_value.specs.Reader.Reading.{read_number, front_digits, after_digits};
-ghost use Rattle.jsonb_value.specs.Reader.Digits.{Counts, AreDigits};
+ghost use Rattle.std.specs.Prelude.{◌≡◌, ℕ, ◌+◌, ◌*◌, List, Some, None, chars, option_map, SomeIff};
+ghost use Rattle.std.specs.Prelude.{MatchOption, IsTrue};
+ghost use Rattle.jsonb_value.specs.Words.{digit_value, is_ascii_digit, digits_value, is_within};
+ghost use Rattle.jsonb_value.specs.Words.{signed_number, read_sign, read_whole, read_fraction};
+ghost use Rattle.jsonb_value.specs.Words.{read_number, front_digits, after_digits, Counts};
+ghost use Rattle.jsonb_value.specs.Words.{AreDigits};
 
 use crate::number::Number;
 use crate::parser::cursor::{after_char, split_first};

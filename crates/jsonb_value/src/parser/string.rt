@@ -1,14 +1,11 @@
 //! The parser of strings; the opening quote has been read.
 
-ghost use Rattle.std.specs.Prelude.{◌≡◌, ℕ, ◌<◌, ◌++◌, true, [], Some, None, chars, length};
-ghost use Rattle.std.specs.Prelude.{option_map, string_bytes, encode_utf8_all, IfSome};
-ghost use Rattle.std.specs.List.{list_all};
-ghost use Rattle.jsonb_value.specs.Value.{cow_bytes};
-ghost use Rattle.jsonb_value.specs.Json.Piece.{unit4, unit_value, escape_value, unit_character};
-ghost use Rattle.jsonb_value.specs.Json.Piece.{pair_character, is_plain};
-ghost use Rattle.jsonb_value.specs.Reader.Reading.{read_unit, read_second, read_character};
-ghost use Rattle.jsonb_value.specs.Reader.Reading.{read_escape, read_piece, read_text};
-ghost use Rattle.jsonb_value.specs.Reader.Gives.{Gives};
+ghost use Rattle.std.specs.Prelude.{◌≡◌, ℕ, ◌<◌, ◌++◌, true, [], Some, None, chars, length, IfSome};
+ghost use Rattle.std.specs.Prelude.{option_map, string_bytes, encode_utf8_all};
+ghost use Rattle.jsonb_value.specs.Words.{list_all, cow_bytes, unit4, unit_value, escape_value};
+ghost use Rattle.jsonb_value.specs.Words.{unit_character, pair_character, is_plain, read_unit};
+ghost use Rattle.jsonb_value.specs.Words.{read_second, read_character, read_escape, read_piece};
+ghost use Rattle.jsonb_value.specs.Words.{read_text, Gives};
 
 use crate::error::Error;
 use crate::parser::cursor::{after_char, split_first};

@@ -1,0 +1,91 @@
+-- The names that the clauses of this crate cite, passed on from one place.
+pub use Rattle.std.specs.Cmp.{IsTotalOrder, eq_by_cmp_equiv, on_total, partial_equiv_from_equiv}
+pub use Rattle.std.specs.Cmp.{partial_order_from_total}
+pub use Rattle.std.specs.Cmp.Lexicographic.{pointwise, slice_cmp}
+pub use Rattle.std.specs.Cmp.Rules.{comparing}
+pub use Rattle.std.specs.Fmt.{WritesStyledOnOk, formatter_writer}
+pub use Rattle.std.specs.Fn.{FnReturnsAtPair}
+pub use Rattle.std.specs.Iterator.{IsFinite, MakesProgress, YieldsFirstBy, item_count}
+pub use Rattle.std.specs.List.{AllByRecursion}
+pub use Rattle.std.specs.List.Sorted.{IsStable, IsStrictlySortedBy}
+pub use Rattle.std.specs.Map.{keys_of, values_of}
+pub use Rattle.std.specs.Ordering.{as_partial_cmp, eq_by_cmp, nat_cmp, on}
+pub use Rattle.jsonb_value.specs.ExtCode.{ExtCode, extension_of}
+pub use Rattle.jsonb_value.specs.Json.Syntax.{Json}
+pub use Rattle.jsonb_value.specs.Meaning.{document, meaning_cmp, other_bytes}
+pub use Rattle.jsonb_value.specs.Norm.{norm}
+pub use Rattle.jsonb_value.specs.NumCode.{NumCode}
+pub use Rattle.jsonb_value.specs.Plain.{IsPlain}
+pub use Rattle.jsonb_value.specs.Text.{colon, compact, extension_text, inside, laid_out, line_start}
+pub use Rattle.jsonb_value.specs.Text.{pretty, quoted_text}
+pub use Rattle.jsonb_value.specs.TextDepth.{HasItsDepth, text_depth}
+pub use Rattle.jsonb_value.specs.Tree.{Extension, Pairs, Tree, Trees, array, no_pairs, no_trees}
+pub use Rattle.jsonb_value.specs.Tree.{pair, text, tree}
+pub use Rattle.jsonb_value.specs.TreeOrder.{tree_cmp}
+pub use Rattle.jsonb_value.specs.Value.{cow_bytes, tree_of}
+pub use Rattle.jsonb_value.specs.WellFormed.{IsTree}
+pub use Rattle.jsonb_value.specs.declared.number.Number.{Number}
+pub use Rattle.jsonb_value.specs.declared.number.Number.TheVariants.{Int64}
+pub use Rattle.jsonb_codec.specs.Canon.{Fits, canon}
+pub use Rattle.jsonb_codec.specs.Canonical.{IsCanonical}
+pub use Rattle.jsonb_codec.specs.Code.{code_of, payload_bytes}
+pub use Rattle.jsonb_codec.specs.Contents.{AreMembers}
+pub use Rattle.jsonb_codec.specs.Depth.{IsDocumentWithin, depth}
+pub use Rattle.jsonb_codec.specs.Doc.{Doc, IsDocument, type_of}
+pub use Rattle.jsonb_codec.specs.Fault.{IsTreeFault}
+pub use Rattle.jsonb_codec.specs.JEntry.{jentry_at}
+pub use Rattle.jsonb_codec.specs.Reread.{MeansAgain}
+pub use Rattle.jsonb_codec.specs.Stored.{code_of_some}
+pub use Rattle.jsonb_codec.specs.Word.{word_at}
+pub use Rattle.jsonb_codec.specs.declared.constants.TheConstants.{CONTAINER_TAG}
+pub use Rattle.jsonb_codec.specs.declared.constants.TheConstants.{OBJECT_CONTAINER_TAG}
+pub use Rattle.jsonb.specs.Building.{AreKeys, FitArray, FitObject, IsArrayOf, IsObjectOf, has_key}
+pub use Rattle.jsonb.specs.Building.{with_pair}
+pub use Rattle.jsonb.specs.Children.{AreShown, AreShownAt, HasSameEntry, ItemPairs, pairs_by}
+pub use Rattle.jsonb.specs.Children.{raw_view}
+pub use Rattle.jsonb.specs.Code.{CanBeStored, extension_bytes, item_document, number_bytes}
+pub use Rattle.jsonb.specs.Code.{scalar_bytes}
+pub use Rattle.jsonb.specs.Contents.{contents_tree}
+pub use Rattle.jsonb.specs.CutKeys.{IsFirstUnread, NoneOfSize}
+pub use Rattle.jsonb.specs.Document.{document_bytes, document_tree}
+pub use Rattle.jsonb.specs.DocumentWalk.{IsItemIn, IsItemOf, WalksArray, WalksItems, WalksKeys}
+pub use Rattle.jsonb.specs.DocumentWalk.{WalksMembers, WalksPairs, WalksValueItems, WalksValues}
+pub use Rattle.jsonb.specs.Entries.{entry_of, entry_view}
+pub use Rattle.jsonb.specs.Facts.{part_tree, rest_pairs, rest_trees}
+pub use Rattle.jsonb.specs.Item.{extension_item, item_in, item_of, number_item, part_at}
+pub use Rattle.jsonb.specs.Item.{scalar_item, text_item}
+pub use Rattle.jsonb.specs.ItemMeaning.{item_meaning, meaning_of, owned_meaning, raw_meaning}
+pub use Rattle.jsonb.specs.ItemMeaning.{view_meaning}
+pub use Rattle.jsonb.specs.ItemValues.{extension_of_item, extension_source, number_of_item}
+pub use Rattle.jsonb.specs.ItemValues.{number_source}
+pub use Rattle.jsonb.specs.ItemView.{ItemView, extension, item_view, null, pair_view, result_view}
+pub use Rattle.jsonb.specs.Kind.{kind, kind_of_tree, kind_of_type, kind_rank, rank_order}
+pub use Rattle.jsonb.specs.Lines.{HasRoom, pair_text}
+pub use Rattle.jsonb.specs.Lookup.{AnswersBy, IsItemFound, IsRefusal, LooksUp, LooksUpBytes}
+pub use Rattle.jsonb.specs.Lookup.{LooksUpIn, LooksUpInBytes, find, find_pair, header_count}
+pub use Rattle.jsonb.specs.Lookup.{value_view}
+pub use Rattle.jsonb.specs.Node.{HoldsNoScalar, IsContainer, array_of, first_key_of, item_at_index}
+pub use Rattle.jsonb.specs.Node.{items_of, members_of, node_tree, object_of, value_of_key}
+pub use Rattle.jsonb.specs.Node.{words_for_key}
+pub use Rattle.jsonb.specs.Owned.{owned_bytes}
+pub use Rattle.jsonb.specs.Parts.{HasParts, IsAccepted, IsNoneFound, IsUnreadable, IsValueFound}
+pub use Rattle.jsonb.specs.Parts.{PassedBefore, part_length, part_start}
+pub use Rattle.jsonb.specs.Payloads.{extension_error}
+pub use Rattle.jsonb.specs.Raw.{raw_bytes}
+pub use Rattle.jsonb.specs.Results.{AllMean, AllMeanAt, AreWithinLimits, IsArrayOfDocuments}
+pub use Rattle.jsonb.specs.Results.{IsArrayOfInputs, IsArrayUpToZeros, IsObjectOfDocuments}
+pub use Rattle.jsonb.specs.Results.{IsObjectOfInputs, IsObjectUpToZeros, MakeNoObject}
+pub use Rattle.jsonb.specs.Results.{PairsExceedLimits, TakesAll, TakesUpTo, document_pair}
+pub use Rattle.jsonb.specs.Results.{input_pair}
+pub use Rattle.jsonb.specs.SortKey.{key_meaning, other_key_bytes}
+pub use Rattle.jsonb.specs.Standing.{IsFoundIn}
+pub use Rattle.jsonb.specs.Storage.{IsHeld, IsStored, document_code, pair_of, stored_code}
+pub use Rattle.jsonb.specs.Tally.{CountsOneLess, CountsOneMore, Lists, SetsCount, Tally, count_at}
+pub use Rattle.jsonb.specs.Tally.{count_of, has_equal, list_with}
+pub use Rattle.jsonb.specs.Texts.{display_text, layout_of, lossy_text, other_text}
+pub use Rattle.jsonb.specs.Texts.{pretty_display_text}
+pub use Rattle.jsonb.specs.Values.{bytes_in}
+pub use Rattle.jsonb.specs.Views.{kind_of_view, raw_in, text_in}
+pub use Rattle.jsonb.specs.Walk.{IsBounded, Walk, array_walk, count_under, item_read, items_in}
+pub use Rattle.jsonb.specs.Walk.{key_of, keys_walk, pair_read, pairs_walk, values_walk}
+pub use Rattle.jsonb.specs.declared.item.JsonbItem.{JsonbItem}

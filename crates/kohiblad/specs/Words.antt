@@ -1,0 +1,55 @@
+-- The names that the clauses of this crate cite, passed on from one place.
+pub use Rattle.std.specs.List.{IsDistinct}
+pub use Rattle.std.specs.Map.{keys_of, values_of}
+pub use Rattle.jsonb_value.specs.ExtCode.{extension_of}
+pub use Rattle.jsonb_value.specs.Json.Numeral.{number_of}
+pub use Rattle.jsonb_value.specs.Meaning.{meaning_cmp}
+pub use Rattle.jsonb_value.specs.Text.{compact, pretty}
+pub use Rattle.jsonb_value.specs.TextDepth.{text_depth}
+pub use Rattle.jsonb_value.specs.Tree.{Extension, Tree, boolean, extension, null, number, text}
+pub use Rattle.jsonb_value.specs.WellFormed.{IsExtension}
+pub use Rattle.jsonb_value.specs.declared.error.Error.{Error}
+pub use Rattle.jsonb_value.specs.declared.number.Number.{Number}
+pub use Rattle.jsonb_codec.specs.Canon.{canon}
+pub use Rattle.jsonb_codec.specs.Canonical.{IsCanonical}
+pub use Rattle.jsonb_codec.specs.Contents.{Means}
+pub use Rattle.jsonb_codec.specs.Depth.{IsDocumentWithin, depth}
+pub use Rattle.jsonb_codec.specs.Doc.{Doc, IsDocument}
+pub use Rattle.jsonb_codec.specs.Parts.{IsPayloadOf}
+pub use Rattle.jsonb.specs.Building.{AreTexts, FitArray}
+pub use Rattle.jsonb.specs.Code.{scalar_bytes}
+pub use Rattle.jsonb.specs.ItemMeaning.{meaning_of}
+pub use Rattle.jsonb.specs.ItemView.{raw}
+pub use Rattle.jsonb.specs.Kind.{kind, kind_of_tree}
+pub use Rattle.jsonb.specs.Owned.{owned_bytes}
+pub use Rattle.jsonb.specs.Results.{IsArrayOfInputs, IsObjectOfInputs, MakeNoObject}
+pub use Rattle.jsonb.specs.Texts.{display_text, lined_text, other_text, plain_text}
+pub use Rattle.jsonb.specs.Texts.{pretty_display_text}
+pub use Rattle.jsonb_comparable.specs.CheckedBytes.{checked_meaning}
+pub use Rattle.jsonb_comparable.specs.TreeKey.{meaning_key}
+pub use Rattle.jsonb_comparable.specs.Within.{meaning_within}
+pub use Rattle.kohiblad.specs.BoundedMeaning.{bounded_meaning}
+pub use Rattle.kohiblad.specs.Children.{CanMove, IsBegun, child_at, cursor_after, cursor_at, end_of}
+pub use Rattle.kohiblad.specs.Children.{key_answer, numbered_child, part_start, value_answer}
+pub use Rattle.kohiblad.specs.KindAnswer.{kind_answer}
+pub use Rattle.kohiblad.specs.Output.{IsRead, IsReadWithin, IsRewritten, IsRewrittenWithin}
+pub use Rattle.kohiblad.specs.Output.{IsWritten}
+pub use Rattle.kohiblad.specs.Parts.{IsPartDocument, is_entry_type, is_too_long, part_document}
+pub use Rattle.kohiblad.specs.Places.{AreInside, AreMemberPlaces, IsInside, IsItemPlace}
+pub use Rattle.kohiblad.specs.Places.{IsMemberHandedOver, IsPartPlace, IsPlaceFound}
+pub use Rattle.kohiblad.specs.Places.{IsPlaceHandedOver, IsPlaceIn, IsValuePlace, entry_document}
+pub use Rattle.kohiblad.specs.Places.{entry_there, item_place, member_places, part_place}
+pub use Rattle.kohiblad.specs.Places.{place_answer, place_at, place_in}
+pub use Rattle.kohiblad.specs.Results.{AreWithin, IsArrayBuilt, IsArrayOfRows, IsArrayOfRowsWithin}
+pub use Rattle.kohiblad.specs.Results.{IsObjectBuilt, IsObjectOfRows, IsObjectOfRowsWithin}
+pub use Rattle.kohiblad.specs.Rows.{are_ends, pairs_in, rows, rows_from}
+pub use Rattle.kohiblad.specs.Scalars.{IsDecimalOf, IsGivenBy, IsShort, IsShortExtension}
+pub use Rattle.kohiblad.specs.Scalars.{coefficient, data_answer, data_of, extension_answer}
+pub use Rattle.kohiblad.specs.Scalars.{from_halves, int64_answer, int64_number, is_true, no_decimal}
+pub use Rattle.kohiblad.specs.Scalars.{no_extension, no_integer, no_place, no_truth, scale}
+pub use Rattle.kohiblad.specs.Scalars.{text_place, truth_of, why_none}
+pub use Rattle.kohiblad.specs.SortOrder.{AreRowsOrdered, IsOrderOf}
+pub use Rattle.kohiblad.specs.Status.{IsAnswered, IsHandedOver, IsRefused, code, sign, status_name}
+pub use Rattle.kohiblad.specs.Status.{too_deep}
+pub use Rattle.kohiblad.specs.TextFaults.{IsTextFault, no_fault, reason_status}
+pub use Rattle.kohiblad.specs.declared.places.Place.{Place}
