@@ -82,7 +82,9 @@ class CommandTest(unittest.TestCase):
     def test_faults_name_their_place(self):
         source = self.path("in", b"1\n\n1e5\n")
         self.assertEqual(run("encode", source),
-                         (1, stored("1"), f"kohiblad: {source}: line 3: InvalidJson\n"))
+                         (1, stored("1"), f"kohiblad: {source}: line 3: BadNumber: at byte 1\n"))
+        self.assertEqual(run("encode", given=b'{"a":1,}'),
+                         (1, b"", "kohiblad: standard input: line 1: InvalidJson: at byte 7\n"))
         self.assertEqual(run("encode", given=b"[" * 100_000),
                          (1, b"", "kohiblad: standard input: line 1: TooDeep\n"))
         status, _, message = run("decode", given=stored("1") + (8).to_bytes(8, "big") + b"x" * 8)

@@ -23,12 +23,23 @@ class ErrorTest(unittest.TestCase):
         self.assertEqual((refused.exception.status, refused.exception.name), (status, name))
         self.assertTrue(str(refused.exception).startswith(name))
 
+    def assert_fault(self, status, name, offset, text):
+        with self.subTest(text=text):
+            self.assert_refused(InvalidTextError, status, name, kohiblad.loads, text)
+            with self.assertRaises(InvalidTextError) as refused:
+                Document.parse(text)
+            self.assertEqual(refused.exception.offset, offset)
+            self.assertEqual(str(refused.exception), f"{name}: at byte {offset}")
+
     def test_texts(self):
-        for text in ("", " ", "[1,", "[1]]", "nul", "1e5", "1E-5", "[1.]", "01", "NaN", "Infinity",
-                     str(2**127), str(-2**127 - 1), "0." + "0" * 256, '"\\ud800"', "\ufeff1",
-                     "'a'", '{"a":1,}', '{1:2}', "\0"):
-            with self.subTest(text=text):
-                self.assert_refused(InvalidTextError, 9, "InvalidJson", kohiblad.loads, text)
+        for text, offset in (("", 0), (" ", 1), ("[1,", 3), ("[1]]", 3), ("nul", 3), ("[1.]", 3),
+                             ("01", 1), ("NaN", 0), ("Infinity", 0), ('"\\ud800"', 7),
+                             ("\ufeff1", 0), ("'a'", 0), ('{"a":1,}', 7), ('{1:2}', 1), ("\0", 0),
+                             ('["\u00e9" 1]', 6), ("1e", 1)):
+            self.assert_fault(9, "InvalidJson", offset, text)
+        for text, offset in (("1e5", 1), ("1E-5", 1), (str(2**127), 38), (str(-2**127 - 1), 39),
+                             ("0." + "0" * 256, 257), ('{"a": [1, 2.5e-7]}', 13)):
+            self.assert_fault(17, "BadNumber", offset, text)
         for text in (b'"\xff"', b"\xc3", '"\udc00"'):
             self.assert_refused(InvalidTextError, 7, "InvalidUtf8", kohiblad.loads, text)
 

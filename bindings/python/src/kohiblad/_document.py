@@ -59,8 +59,8 @@ class Document:
 
         Of a key that comes twice the last value stays. ``depth`` is how deep brackets may nest,
         from 0 to 1,000. InvalidTextError: the text is no JSON or not UTF-8, or has a number with an
-        exponent or too many digits; TooDeepError; InvalidDocumentError: it is past a limit of the
-        format.
+        exponent or too many digits, and its `offset` says where; TooDeepError;
+        InvalidDocumentError: it is past a limit of the format.
         """
         return _of_checked(parse(text, _checked_depth(depth)))
 

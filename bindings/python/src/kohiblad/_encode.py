@@ -11,7 +11,7 @@ from typing import Any, Callable, Dict, Generator, List, Optional, Sequence, Uni
 
 from . import _library as library
 from . import _scalars as scalars
-from ._errors import FloatError
+from ._errors import FloatError, InvalidTextError, KohibladError
 
 # A JSON text, or a document.
 Encoded = Union[str, bytes]
@@ -25,7 +25,22 @@ DEPTH = 1000
 def parse(text: Union[str, bytes], depth: int = DEPTH) -> bytes:
     """The document of a JSON text."""
     data = _utf8(text) if isinstance(text, str) else library.bytes_of(text)
-    return library.result_of(library.parse, 2 * len(data) + 64, data, len(data), depth)
+    try:
+        return library.result_of(library.parse, 2 * len(data) + 64, data, len(data), depth)
+    except InvalidTextError as error:
+        if error.status != library.INVALID_JSON:
+            raise
+        raise _fault_of(data, depth) from None
+
+
+def _fault_of(text: bytes, depth: int) -> KohibladError:
+    """Why a text is no JSON, and where."""
+    fault = library.text_fault(text, len(text), depth)
+    if fault.status not in (library.INVALID_JSON, library.BAD_NUMBER):
+        return library.error_of(fault.status)
+    error = library.error_of(fault.status, f"at byte {fault.offset}")
+    error.offset = fault.offset
+    return error
 
 
 def encode(value: Any, document_type: type) -> bytes:

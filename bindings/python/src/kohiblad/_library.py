@@ -27,6 +27,7 @@ OUT_OF_MEMORY = 10
 NO_ROOM = 11
 NONE = 12
 TOO_DEEP = 13
+BAD_NUMBER = 17
 
 # The tags of headers.
 HEADER_TAG_MASK = 0xE0
@@ -56,6 +57,7 @@ _ERRORS: Dict[int, Type[KohibladError]] = {
     INVALID_JSON: InvalidTextError,
     OUT_OF_MEMORY: OutOfMemoryError,
     TOO_DEEP: TooDeepError,
+    BAD_NUMBER: InvalidTextError,
 }
 
 
@@ -66,6 +68,10 @@ class Kind(ctypes.Structure):
 class Place(ctypes.Structure):
     _fields_ = [("status", c_uint32), ("type", c_uint32), ("offset", c_uint64),
                 ("length", c_uint64)]
+
+
+class Fault(ctypes.Structure):
+    _fields_ = [("status", c_uint32), ("offset", c_uint64)]
 
 
 class Cursor(ctypes.Structure):
@@ -119,6 +125,7 @@ of_part = _export("of_part", c_uint32, c_uint32, *_BYTES, *_OUT)
 number = _export("number", Number, *_BYTES)
 extension = _export("extension", ExtensionValue, *_BYTES)
 parse = _export("parse", c_uint32, *_BYTES, c_size_t, *_OUT)
+text_fault = _export("text_fault", Fault, *_BYTES, c_size_t)
 key = _export("key", c_uint32, *_BYTES, c_size_t, *_OUT)
 to_string = _export("to_string", c_uint32, *_BYTES, *_OUT)
 to_pretty = _export("to_pretty", c_uint32, *_BYTES, *_OUT)
