@@ -1,9 +1,6 @@
 -- The names that the clauses of this crate cite, passed on from one place.
-pub use Rattle.std.specs.Cmp.Lexicographic.{pointwise}
 pub use Rattle.jsonb_value.specs.Json.Characters.{is_blank}
 pub use Rattle.jsonb_value.specs.Json.Piece.{escape_value}
-pub use Rattle.jsonb_value.specs.Tree.{Tree}
-pub use Rattle.jsonb_value.specs.Value.{tree_of}
 pub use Rattle.json_fault.specs.Fault.{IsFaultAt, IsJson}
 pub use Rattle.json_fault.specs.Scan.{after_backslash, after_digit, after_digit_of_d}
 pub use Rattle.json_fault.specs.Scan.{after_first_digit, after_inside, after_mark, changed}
