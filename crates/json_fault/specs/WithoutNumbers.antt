@@ -55,7 +55,7 @@ abbrev pub after_number : List ℕ → Option (List ℕ)
 after_number s =
     after_whole (after_minus s) >>= λ rest. Some (after_exponent (after_fraction rest))
 
--- Whether the next character is outside strings, inside one, or after its backslash.
+-- The state after a character.
 abbrev pub scan_after : Scan → ℕ → Scan
 scan_after Outside c = cond (c == quote) Inside Outside
 scan_after Inside c = cond (c == quote) Outside (cond (c == backslash) Escaped Inside)
@@ -67,7 +67,8 @@ number_here Outside s = after_number s
 number_here Inside s = None
 number_here Escaped s = None
 
--- The characters with `null` in place of each number, where the first of them are skipped.
+-- The characters with `null` in place of each number. The first `skipped` of them are the rest of a
+-- number that was replaced, and are left out.
 unfoldable pub replaced : Scan → ℕ → List ℕ → List ℕ
 replaced scan skipped [] = []
 replaced scan (suc skipped) (c ∷ s) = replaced scan skipped s

@@ -109,7 +109,7 @@ fn number_here(scan: Scan, text: &str) -> Option<&str>
     }
 }
 
-// The state after this character.
+// The state after a character.
 fn scan_after(scan: Scan, character: char) -> Scan
     ensures { result ≡ scan_after scan character }
 {
@@ -133,9 +133,9 @@ pub fn without_numbers(alloc: Global, text: &str) -> Result<String, Error>
     let mut rest = text;
     'scan: while let Some((first, after)) = split_first(rest) {
         match number_here(scan, rest) {
-            Some(behind) => {
+            Some(left) => {
                 kept.push_str("null")?;
-                rest = behind;
+                rest = left;
             }
             None => {
                 kept.push(first)?;

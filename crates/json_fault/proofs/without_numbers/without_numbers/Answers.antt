@@ -13,14 +13,14 @@ scan-init c = (
 
 pub scan-smaller-in-Some-number_here : goal.scan-smaller-in-Some-number_here
 scan-smaller-in-Some-number_here c =
-    after_shorter c.scan.scan (chars c.scan.rest.now) (chars c.in-Some-number_here.behind.now)
+    after_shorter c.scan.scan (chars c.scan.rest.now) (chars c.in-Some-number_here.left.now)
     (sym c.in-Some-number_here.ensures)
 
 pub scan-preserved-in-Some-number_here : goal.scan-preserved-in-Some-number_here
 scan-preserved-in-Some-number_here c = (
   search rules,
   kept_null (string_bytes c.scan.kept) (string_bytes c.push_str.new.self) (chars c.scan.rest.now)
-      (chars c.in-Some-number_here.behind.now) c.scan.scan (IsUtf8-string_bytes c.scan.kept)
+      (chars c.in-Some-number_here.left.now) c.scan.scan (IsUtf8-string_bytes c.scan.kept)
       c.in_ok-push_str-in-Some-number_here.ensures.bytes (sym c.in-Some-number_here.ensures)
       ∙ c.scan.invariant.1,
 )
