@@ -8,12 +8,12 @@ use Rattle.std.specs.Str.{chars}
 use Rattle.std.proofs.lemmas.Str.{chars-nil, chars-append, chars-encodes, scalars-chars}
 use lib.Utf8.{scalars}
 use Rattle.jsonb_value.specs.Json.Characters.{minus, point, zero_digit}
+use Rattle.jsonb_value.specs.Reader.Reading.{after_digits}
 use Rattle.jsonb_value.proofs.Json.Tests.{cond_some, chosen, bool_cases, bind_then, some_same}
 use Rattle.jsonb_value.proofs.Json.Tests.{no_error, by_true, by_false, and_true, and_both}
 use Rattle.json_fault.specs.declared.without_numbers.Scan.{Scan}
 use Rattle.json_fault.specs.declared.without_numbers.Scan.TheVariants.{Outside, Inside, Escaped}
-use Rattle.json_fault.specs.WithoutNumbers.{after_digits, after_some_digits, after_minus}
-use Rattle.json_fault.specs.WithoutNumbers.{after_whole}
+use Rattle.json_fault.specs.WithoutNumbers.{after_some_digits, after_minus, after_whole}
 use Rattle.json_fault.specs.WithoutNumbers.{or_all, after_fraction, after_sign, after_exponent}
 use Rattle.json_fault.specs.WithoutNumbers.{after_number, scan_after, number_here, replaced}
 

@@ -5,13 +5,9 @@ use Rattle.std.specs.Prelude.{Option, Some, None, is_some}
 use Rattle.std.specs.Char.{is_ascii_digit}
 use Rattle.jsonb_value.specs.Json.Bind.{◌>>=◌}
 use Rattle.jsonb_value.specs.Json.Characters.{quote, minus, point, zero_digit, backslash}
+use Rattle.jsonb_value.specs.Reader.Reading.{after_digits}
 use Rattle.json_fault.specs.declared.without_numbers.Scan.{Scan}
 use Rattle.json_fault.specs.declared.without_numbers.Scan.TheVariants.{Outside, Inside, Escaped}
-
--- The characters after the leading digits.
-abbrev pub after_digits : List ℕ → List ℕ
-after_digits [] = []
-after_digits (c ∷ s) = cond (is_ascii_digit c) (after_digits s) (c ∷ s)
 
 -- The characters after the leading digits, of which there is at least one.
 abbrev pub after_some_digits : List ℕ → Option (List ℕ)

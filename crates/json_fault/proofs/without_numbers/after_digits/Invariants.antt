@@ -1,7 +1,7 @@
 use Rattle.std.proofs.Common.{◌≡◌, chars, length}
 use denote.Text.{Utf8}
 use denote.Shadow.{shadow}
-use Rattle.json_fault.specs.WithoutNumbers.{after_digits}
+use Rattle.jsonb_value.specs.Reader.Reading.{after_digits}
 use Rattle.json_fault.proofs.without_numbers.after_digits.Given as goal
 
 abbrev pub invariant-digits : goal.invariant-digits
