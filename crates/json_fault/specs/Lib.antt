@@ -1,5 +1,4 @@
 pub mod Fault
 pub mod Scan
-pub mod Stack
 pub mod WithoutNumbers
 pub mod Words

@@ -11,7 +11,6 @@ pub use Rattle.json_fault.specs.Scan.{number_begun, number_continued, number_fir
 pub use Rattle.json_fault.specs.Scan.{rest_followed, skips, string_continued, token_begun}
 pub use Rattle.json_fault.specs.Scan.{value_begun, viable_only, with_digit, with_point}
 pub use Rattle.json_fault.specs.Scan.{word_continued}
-pub use Rattle.json_fault.specs.Stack.{stack_of}
 pub use Rattle.json_fault.specs.WithoutNumbers.{after_exponent, after_fraction}
 pub use Rattle.json_fault.specs.WithoutNumbers.{after_minus, after_number, after_sign}
 pub use Rattle.json_fault.specs.WithoutNumbers.{after_some_digits, after_whole, number_here}

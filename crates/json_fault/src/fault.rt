@@ -1,8 +1,7 @@
 //! Where a text is no JSON.
 
-ghost use Rattle.std.specs.Prelude.{◌≡◌, ◌↔◌, chars, IsTrue, OnOk, IfOk, IfErr, IfSome};
-ghost use Rattle.json_fault.specs.Words.{IsJson, IsFaultAt, innermost, changed, stack_of};
-ghost use Rattle.json_fault.specs.Words.{without_numbers};
+ghost use Rattle.std.specs.Prelude.{◌≡◌, ◌↔◌, chars, reverse, IsTrue, OnOk, IfOk, IfErr, IfSome};
+ghost use Rattle.json_fault.specs.Words.{IsJson, IsFaultAt, innermost, changed, without_numbers};
 
 use crate::cursor::split_first;
 use crate::expected::{Bracket, Change, Expected, followed};
@@ -31,15 +30,15 @@ pub struct Fault {
 
 // The innermost open bracket.
 fn innermost(brackets: &Vec<Bracket>) -> Option<Bracket>
-    ensures { result ≡ innermost (stack_of brackets.now.items) }
+    ensures { result ≡ innermost (reverse brackets.now.items) }
 {
     brackets.as_slice().last().copied()
 }
 
 // Opens or closes a bracket.
 fn change(brackets: &mut Vec<Bracket>, change: Change) -> Result<(), Error>
-    ensures ok { OnOk result (stack_of brackets.new.items
-        ≡ changed change (stack_of brackets.old.items)) }
+    ensures ok { OnOk result (reverse brackets.new.items
+        ≡ changed change (reverse brackets.old.items)) }
     ensures memory { IfErr result (λ e. e ≡ Error.OutOfMemory) }
 {
     match change {

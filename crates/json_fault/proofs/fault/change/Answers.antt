@@ -1,17 +1,17 @@
-use Rattle.std.proofs.Common.{ap, ◌∙◌}
-use Rattle.json_fault.specs.Stack.{stack_of}
-use Rattle.json_fault.proofs.OpenBrackets.{stack_opened, stack_closed, none_open}
+use Rattle.std.proofs.Common.{ap, ◌∙◌, reverse, [], ◌∷◌}
+use Rattle.std.proofs.lemmas.List.{reverse-append}
+use Rattle.json_fault.proofs.OpenBrackets.{closed, none_open}
 use Rattle.json_fault.proofs.fault.change.Goals as goal
 
 pub returns-in_ok-push-in-Open-clause-ok : goal.returns-in_ok-push-in-Open-clause-ok
 returns-in_ok-push-in-Open-clause-ok c =
     rw c.in-Open.is
-    (ap stack_of c.in_ok-push-in-Open.ensures.items
-    ∙ stack_opened c.args.brackets.now.items c.in-Open.bracket)
+    (ap reverse c.in_ok-push-in-Open.ensures.items
+    ∙ reverse-append c.args.brackets.now.items (c.in-Open.bracket ∷ []))
 
 pub returns-in-Close-clause-ok : goal.returns-in-Close-clause-ok
 returns-in-Close-clause-ok c =
     rw c.in-Close.is
-    (stack_closed c.args.brackets.now.items c.pop.new.self.items c.pop.result c.pop.ensures.items
+    (closed c.args.brackets.now.items c.pop.new.self.items c.pop.result c.pop.ensures.items
     (none_open c.args.brackets.now.items c.pop.result c.args.brackets.now.len
     c.args.brackets.now.ok.0 c.pop.ensures.variant))
