@@ -4,6 +4,7 @@ use Rattle.std.proofs.Common.{false, cond, refl, sym, ap, ◌∙◌, arith, List
 use Rattle.std.proofs.Common.{length, Option, Some, None}
 use Rattle.std.specs.Prelude.{not, ◌==◌, nat_lt}
 use Rattle.std.specs.Char.{digit_value, is_digit, is_ascii_digit}
+use Rattle.std.specs.Option.{option_or}
 use Rattle.std.specs.Str.Parse.{digits_value_after}
 use Rattle.std.proofs.lemmas.Bool.Decides.{nat_tests}
 use Rattle.jsonb_value.specs.Json.Bind.{◌>>=◌}
@@ -20,7 +21,7 @@ use Rattle.json_fault.specs.declared.expected.Expected.TheVariants.{Value, Rest,
 use Rattle.json_fault.specs.declared.expected.Change.TheVariants.{Keep}
 use Rattle.json_fault.specs.Scan.{innermost, followed, has_room, has_room_after, is_end, limit}
 use Rattle.json_fault.specs.Scan.{part_continued, with_point, with_digit, number_begun, keep}
-use Rattle.json_fault.specs.Scan.{value_begun, or_else}
+use Rattle.json_fault.specs.Scan.{value_begun}
 use Rattle.json_fault.proofs.Conditions.{less_from, less_test, either_none, either_first}
 use Rattle.json_fault.proofs.NumberBack.{room_same, numeral_at}
 use Rattle.json_fault.proofs.Going.{Going, step}
@@ -101,11 +102,11 @@ number_stops bs p b m k (c ∷ w) end stop more =
     let none = not_continued p b m k c end (no_digit c (none_test _ both.0)) (none_test _ both.1) in
     (more.0, either_none _ _ (none_bound _ _ none) ∙ by_true _ _ _ _ end more.1, more.2)
 
-either_same : {A : Type 0} (x : Option A) → or_else x x ≡ x
+either_same : {A : Type 0} (x : Option A) → option_or x x ≡ x
 either_same None = refl
 either_same (Some x) = refl
 
-either_again : {A : Type 0} (x y : Option A) → or_else x (or_else x y) ≡ or_else x y
+either_again : {A : Type 0} (x y : Option A) → option_or x (option_or x y) ≡ option_or x y
 either_again None y = refl
 either_again (Some x) y = refl
 
@@ -142,7 +143,7 @@ module _ (bs : List Bracket) (b : Bool) (w : List ℕ) (stop : stops w ≡ true)
   -- a point and digits
   point_goes : (p : Part) (d : ℕ) (ds : List ℕ) (m k : ℕ)
       → part_continued p (numeral_at b p m k) point
-      ≡ or_else (with_point (numeral_at b p m k) point)
+      ≡ option_or (with_point (numeral_at b p m k) point)
       (part_continued p (numeral_at b p m k) point)
       → all_digits (d ∷ ds) ≡ true
       → has_room b (digits_value_after 10 m (d ∷ ds)) (k + length (d ∷ ds)) ≡ true

@@ -4,6 +4,7 @@ use Rattle.std.proofs.Common.{refl, sym, ap, ◌∙◌, subst, arith, List, [], 
 use Rattle.std.proofs.Common.{append-nil, length, length-append, Option, Some, None}
 use Rattle.std.specs.Prelude.{◌||◌, ◌==◌, codes, is_some, IsUtf8, encode_utf8}
 use Rattle.std.specs.Char.{is_ascii_digit}
+use Rattle.std.specs.Option.{unwrap_or}
 use Rattle.std.specs.Str.{chars}
 use Rattle.std.proofs.lemmas.Str.{chars-nil, chars-append, chars-encodes, scalars-chars}
 use lib.Utf8.{scalars}
@@ -14,7 +15,7 @@ use Rattle.jsonb_value.proofs.Json.Tests.{no_error, by_true, by_false, and_true,
 use Rattle.json_fault.specs.declared.without_numbers.Scan.{Scan}
 use Rattle.json_fault.specs.declared.without_numbers.Scan.TheVariants.{Outside, Inside, Escaped}
 use Rattle.json_fault.specs.WithoutNumbers.{after_some_digits, after_minus, after_whole}
-use Rattle.json_fault.specs.WithoutNumbers.{or_all, after_fraction, after_sign, after_exponent}
+use Rattle.json_fault.specs.WithoutNumbers.{after_fraction, after_sign, after_exponent}
 use Rattle.json_fault.specs.WithoutNumbers.{after_number, scan_after, number_here, replaced}
 
 -- ---- what is left is at the end
@@ -105,15 +106,15 @@ whole_shorter (c ∷ s) rest e = elim (chosen (c == zero_digit) _ _ _ e) [
   | inr other ↦ some_digits_shorter (c ∷ s) rest other.1
 ]
 
-or_all_end : (o : Option (List ℕ)) (s : List ℕ) → ((r : List ℕ) → o ≡ Some r → IsEnd r s)
-    → IsEnd (or_all o s) s
-or_all_end None s found = same_end s
-or_all_end (Some r) s found = found r refl
+found_end : (o : Option (List ℕ)) (s : List ℕ) → ((r : List ℕ) → o ≡ Some r → IsEnd r s)
+    → IsEnd (unwrap_or o s) s
+found_end None s found = same_end s
+found_end (Some r) s found = found r refl
 
 fraction_end : (s : List ℕ) → IsEnd (after_fraction s) s
 fraction_end [] = same_end []
 fraction_end (c ∷ s) = elim (bool_cases (c == point)) [
-  | inl is ↦ rw is (or_all_end (after_some_digits s) (c ∷ s)
+  | inl is ↦ rw is (found_end (after_some_digits s) (c ∷ s)
       (λ r e. end_after c r s (end_of_shorter r s (some_digits_shorter s r e))))
   | inr other ↦ rw other (same_end (c ∷ s))
 ]
@@ -128,7 +129,7 @@ sign_end (c ∷ s) = elim (bool_cases ((c == 43) || (c == minus))) [
 exponent_end : (s : List ℕ) → IsEnd (after_exponent s) s
 exponent_end [] = same_end []
 exponent_end (c ∷ s) = elim (bool_cases ((c == 101) || (c == 69))) [
-  | inl is ↦ rw is (or_all_end (after_some_digits (after_sign s)) (c ∷ s)
+  | inl is ↦ rw is (found_end (after_some_digits (after_sign s)) (c ∷ s)
       (λ r e. end_after c r s (end_of_end r (after_sign s) s
       (end_of_shorter r (after_sign s) (some_digits_shorter (after_sign s) r e)) (sign_end s))))
   | inr other ↦ rw other (same_end (c ∷ s))
@@ -180,7 +181,7 @@ number_replaced scan (c ∷ s) rest e =
     let count : length s - length rest ≡ length end.used =
     omega (arith, ap length split, length-append end.used rest) in
     by_true _ _ _ _ (ap is_some e)
-    (ap (λ o. codes "null" ++ replaced scan (length s - length (or_all o [])) s) e
+    (ap (λ o. codes "null" ++ replaced scan (length s - length (unwrap_or o [])) s) e
     ∙ ap (λ n. codes "null" ++ replaced scan n s) count
     ∙ ap (λ r. codes "null" ++ replaced scan (length end.used) r) split
     ∙ ap (λ r. codes "null" ++ r) (skipped_all scan end.used rest))

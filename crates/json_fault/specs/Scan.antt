@@ -2,6 +2,7 @@
 use Rattle.std.specs.Prelude.{ℕ, ◌+◌, ◌*◌, ◌^◌, Bool, true, false, cond, ◌&&◌, ◌==◌, nat_lt}
 use Rattle.std.specs.Prelude.{nat_le, List, [], ◌∷◌, Option, Some, None, is_some}
 use Rattle.std.specs.Char.{digit_value, is_digit}
+use Rattle.std.specs.Option.{option_or}
 use Rattle.jsonb_value.specs.Json.Characters.{quote, comma, minus, point, zero_digit, colon}
 use Rattle.jsonb_value.specs.Json.Characters.{open_bracket, backslash, close_bracket, letter_u}
 use Rattle.jsonb_value.specs.Json.Characters.{open_brace, close_brace, is_blank}
@@ -73,16 +74,11 @@ number_begun is_negative c = cond (is_digit c 10) (Some (record {
   scale = 0;
 })) None
 
--- The first result, or the other if there is none.
-abbrev pub or_else : {A : Type 0} → Option A → Option A → Option A
-or_else (Some x) other = Some x
-or_else None other = other
-
 -- The numeral after one more character, where the part read last is given.
 abbrev pub part_continued : Part → Numeral → ℕ → Option Numeral
 part_continued Sign n c = number_begun n.is_negative c
 part_continued Zero n c = with_point n c
-part_continued Whole n c = or_else (with_point n c) (with_digit n Whole 0 c)
+part_continued Whole n c = option_or (with_point n c) (with_digit n Whole 0 c)
 part_continued Point n c = with_digit n Fraction 1 c
 part_continued Fraction n c = with_digit n Fraction 1 c
 
@@ -124,11 +120,11 @@ after_mark c mark place = cond (c == mark) (Some place) None
 
 -- The place after the first digit of a unit.
 abbrev pub after_first_digit : ℕ → Option Place
-after_first_digit c = or_else (after_digit c 13 14 ThreeOfD) (after_digit c 0 16 Three)
+after_first_digit c = option_or (after_digit c 13 14 ThreeOfD) (after_digit c 0 16 Three)
 
 -- The place after the second digit of a unit that begins with `d`.
 abbrev pub after_digit_of_d : ℕ → Option Place
-after_digit_of_d c = or_else (after_digit c 0 8 Two) (after_digit c 8 12 HighTwo)
+after_digit_of_d c = option_or (after_digit c 0 8 Two) (after_digit c 8 12 HighTwo)
 
 -- The place in the string after one more character that is not its closing quote.
 abbrev pub string_continued : Place → ℕ → Option Place
@@ -216,7 +212,7 @@ word_continued L c = mark_begun c 108 Rest
 
 -- What follows a character of a number, or after its end.
 abbrev pub in_number : Numeral → Option Bracket → ℕ → Option Move
-in_number n top c = or_else (number_continued n c >>= λ m. keep (Digits m))
+in_number n top c = option_or (number_continued n c >>= λ m. keep (Digits m))
     (cond (is_complete n) (rest_followed top c) None)
 
 -- What follows a character of a string that is a value.

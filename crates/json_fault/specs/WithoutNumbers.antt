@@ -3,6 +3,7 @@ use Rattle.std.specs.Prelude.{ℕ, zero, suc, ◌-◌, cond, ◌||◌, ◌==◌,
 use Rattle.std.specs.Prelude.{codes}
 use Rattle.std.specs.Prelude.{Option, Some, None, is_some}
 use Rattle.std.specs.Char.{is_ascii_digit}
+use Rattle.std.specs.Option.{unwrap_or}
 use Rattle.jsonb_value.specs.Json.Bind.{◌>>=◌}
 use Rattle.jsonb_value.specs.Json.Characters.{quote, minus, point, zero_digit, backslash}
 use Rattle.jsonb_value.specs.Reader.Reading.{after_digits}
@@ -24,15 +25,10 @@ abbrev pub after_whole : List ℕ → Option (List ℕ)
 after_whole [] = None
 after_whole (c ∷ s) = cond (c == zero_digit) (Some s) (after_some_digits (c ∷ s))
 
--- What was found, or else the characters.
-abbrev pub or_all : Option (List ℕ) → List ℕ → List ℕ
-or_all None s = s
-or_all (Some rest) s = rest
-
 -- The characters after a point and digits, or all if there are none.
 abbrev pub after_fraction : List ℕ → List ℕ
 after_fraction [] = []
-after_fraction (c ∷ s) = cond (c == point) (or_all (after_some_digits s) (c ∷ s)) (c ∷ s)
+after_fraction (c ∷ s) = cond (c == point) (unwrap_or (after_some_digits s) (c ∷ s)) (c ∷ s)
 
 -- The characters after a plus or a minus, or all if there is none.
 abbrev pub after_sign : List ℕ → List ℕ
@@ -44,7 +40,7 @@ after_sign (c ∷ s) = cond ((c == 43) || (c == minus)) s (c ∷ s)
 abbrev pub after_exponent : List ℕ → List ℕ
 after_exponent [] = []
 after_exponent (c ∷ s) =
-    cond ((c == 101) || (c == 69)) (or_all (after_some_digits (after_sign s)) (c ∷ s)) (c ∷ s)
+    cond ((c == 101) || (c == 69)) (unwrap_or (after_some_digits (after_sign s)) (c ∷ s)) (c ∷ s)
 
 -- The characters after a number, if they begin with one.
 abbrev pub after_number : List ℕ → Option (List ℕ)
@@ -69,7 +65,7 @@ unfoldable pub replaced : Scan → ℕ → List ℕ → List ℕ
 replaced scan skipped [] = []
 replaced scan (suc skipped) (c ∷ s) = replaced scan skipped s
 replaced scan zero (c ∷ s) = cond (is_some (number_here scan (c ∷ s)))
-    (codes "null" ++ replaced scan (length s - length (or_all (number_here scan (c ∷ s)) [])) s)
+    (codes "null" ++ replaced scan (length s - length (unwrap_or (number_here scan (c ∷ s)) [])) s)
     (c ∷ replaced (scan_after scan c) zero s)
 
 -- The characters with `null` in place of each number outside strings.
