@@ -4,9 +4,10 @@ use Rattle.std.proofs.Common.{List, [], ◌∷◌, ◌++◌}
 use Rattle.std.specs.Prelude.{codes}
 use Rattle.std.specs.Char.{digit_value}
 use Rattle.jsonb_value.specs.Tree.{null}
-use Rattle.jsonb_value.specs.Json.Characters.{quote, backslash, letter_u, colon, close_bracket}
+use Rattle.jsonb_value.specs.Json.Characters.{quote, backslash, letter_u, colon}
 use Rattle.jsonb_value.specs.Json.Characters.{close_brace, zero_digit}
-use Rattle.jsonb_value.specs.Json.Syntax.{nothing, no_item, no_member}
+use Rattle.jsonb_value.specs.Json.Syntax.{nothing, no_item, no_member, meaning, items_meaning}
+use Rattle.jsonb_value.specs.Json.Syntax.{members_meaning, syntax_text, items_text, members_text}
 use Rattle.jsonb_value.proofs.Json.Tests.{and_true, and_both}
 use Rattle.json_fault.specs.declared.number.Part.{Part}
 use Rattle.json_fault.specs.declared.number.Part.TheVariants.{Sign, Zero, Whole, Point, Fraction}
@@ -22,43 +23,21 @@ use Rattle.json_fault.specs.declared.expected.Expected.TheVariants.{Key, Colon, 
 use Rattle.json_fault.specs.declared.expected.Expected.TheVariants.{Digits, Content, Name}
 use Rattle.json_fault.specs.Scan.{has_room, has_room_after, without_innermost}
 use Rattle.json_fault.proofs.Conditions.{less_from, less_test}
-use Rattle.json_fault.proofs.Endings.{ValueEnd, ColonEnd, KeyEnd, Ends, SignEnd, PointEnd}
-use Rattle.json_fault.proofs.Endings.{NumberEnd, Digit, PlaceEnd, letters, Completes}
+use Rattle.json_fault.proofs.Endings.{ValueEnd, StringEnd, ColonEnd, KeyEnd, Ends, SignEnd}
+use Rattle.json_fault.proofs.Endings.{PointEnd, NumberEnd, Digit, PlaceEnd, letters, Completes}
 use Rattle.json_fault.proofs.StringBack.{quote_back}
 use Rattle.json_fault.proofs.NumberBack.{number_ends, room_same}
-use Rattle.json_fault.proofs.StepBack.{value_front, mark_back, key_back, is_live}
+use Rattle.json_fault.proofs.StepBack.{syntax_front, mark_back, is_live}
 
 brackets_end : (bs : List Bracket) → (w : List ℕ) × Ends bs w
 unfolding Ends
 brackets_end [] = ([], refl)
 brackets_end (Array ∷ bs) =
-    let more = brackets_end bs in (
-      close_bracket ∷ more.0,
-      record {
-        blank = [];
-        is_blank = refl;
-        items = no_item;
-        trees = [];
-        is_meant = refl;
-        rest = more.0;
-        is_spelled = refl;
-        ends = more.1;
-      },
-    )
+    let more = brackets_end bs in
+    (_, syntax_front items_text items_meaning (Ends bs) no_item [] _ more.0 refl refl more.1)
 brackets_end (Object ∷ bs) =
-    let more = brackets_end bs in (
-      close_brace ∷ more.0,
-      record {
-        blank = [];
-        is_blank = refl;
-        members = no_member;
-        entries = [];
-        is_meant = refl;
-        rest = more.0;
-        is_spelled = refl;
-        ends = more.1;
-      },
-    )
+    let more = brackets_end bs in
+    (_, syntax_front members_text members_meaning (Ends bs) no_member [] _ more.0 refl refl more.1)
 
 zero_room : (b : Bool) → has_room b 0 0 ≡ true
 zero_room true = refl
@@ -66,13 +45,14 @@ zero_room false = refl
 
 module _ (P : List ℕ → Type 0) (w : List ℕ) (end : P w) where
   value_ends : ValueEnd P (codes "null" ++ w)
-  value_ends = value_front P nothing null w refl end
+  value_ends = syntax_front syntax_text meaning P nothing null _ w refl refl end
 
   colon_ends : ColonEnd P (colon ∷ (codes "null" ++ w))
   colon_ends = mark_back colon (ValueEnd P) colon _ refl value_ends
 
   key_ends : KeyEnd P (quote ∷ quote ∷ colon ∷ (codes "null" ++ w))
-  key_ends = key_back P quote _ refl (quote_back (ColonEnd P) _ colon_ends)
+  key_ends =
+      mark_back quote (StringEnd (ColonEnd P)) quote _ refl (quote_back (ColonEnd P) _ colon_ends)
 
   sign_ends : (b : Bool) → SignEnd b P (zero_digit ∷ w)
   sign_ends b = record {

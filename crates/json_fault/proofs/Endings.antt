@@ -1,16 +1,15 @@
 -- What completes a JSON text, for all that may be expected next.
 use Rattle.std.proofs.Common.{◌≡◌, ℕ, ◌+◌, ◌<◌, ◌≤◌, ◌⊎◌, Bool, true, List, [], ◌∷◌, ◌++◌}
-use Rattle.std.proofs.Common.{length, Some}
+use Rattle.std.proofs.Common.{length, Option, Some}
 use Rattle.std.specs.Prelude.{codes}
 use Rattle.std.specs.Char.{digit_value}
 use Rattle.std.specs.Str.Parse.{digits_value_after}
-use Rattle.jsonb_value.specs.Tree.{Tree}
 use Rattle.jsonb_value.specs.Json.Characters.{quote, backslash, letter_u, colon, close_bracket}
 use Rattle.jsonb_value.specs.Json.Characters.{close_brace, all_blank, all_digits}
 use Rattle.jsonb_value.specs.Json.Numeral.{is_whole, fraction_text}
 use Rattle.jsonb_value.specs.Json.Piece.{Piece, escape_value, pieces_text, pieces_meaning}
-use Rattle.jsonb_value.specs.Json.Syntax.{Syntax, Items, Members, Entries, meaning, items_meaning}
-use Rattle.jsonb_value.specs.Json.Syntax.{members_meaning, syntax_text, items_text, members_text}
+use Rattle.jsonb_value.specs.Json.Syntax.{meaning, items_meaning, members_meaning, syntax_text}
+use Rattle.jsonb_value.specs.Json.Syntax.{items_text, members_text}
 use Rattle.json_fault.specs.declared.number.Part.{Part}
 use Rattle.json_fault.specs.declared.number.Part.TheVariants.{Sign, Zero, Whole, Point, Fraction}
 use Rattle.json_fault.specs.declared.string.Place.{Place}
@@ -36,16 +35,29 @@ pub record After (k : ℕ) (P : List ℕ → Type 0) (w : List ℕ) : Type 0 whe
   pub is_spelled : w ≡ blank ++ k ∷ rest
   pub ends : P rest
 
--- white space, a value, and then what P holds of; likewise below
-pub record ValueEnd (P : List ℕ → Type 0) (w : List ℕ) : Type 0 where
-  pub before : List ℕ
-  pub is_blank : all_blank before ≡ true
-  pub syntax : Syntax
-  pub tree : Tree
-  pub is_meant : meaning syntax ≡ Some tree
+-- white space, syntax with a meaning, and then what P holds of; likewise below
+pub record SyntaxEnd {S M : Type 0} (spelling : S → List ℕ) (meaning_of : S → Option M)
+    (P : List ℕ → Type 0) (w : List ℕ) : Type 0 where
+  pub blank : List ℕ
+  pub is_blank : all_blank blank ≡ true
+  pub syntax : S
+  pub value : M
+  pub is_meant : meaning_of syntax ≡ Some value
   pub rest : List ℕ
-  pub is_spelled : w ≡ before ++ (syntax_text syntax ++ rest)
+  pub is_spelled : w ≡ blank ++ (spelling syntax ++ rest)
   pub ends : P rest
+
+-- a value
+abbrev pub ValueEnd : (List ℕ → Type 0) → List ℕ → Type 0
+ValueEnd P = SyntaxEnd syntax_text meaning P
+
+-- the rest of an array after an item
+abbrev pub ItemsEnd : (List ℕ → Type 0) → List ℕ → Type 0
+ItemsEnd P = SyntaxEnd items_text items_meaning P
+
+-- the rest of an object after a member
+abbrev pub MembersEnd : (List ℕ → Type 0) → List ℕ → Type 0
+MembersEnd P = SyntaxEnd members_text members_meaning P
 
 -- the rest of a string
 pub record StringEnd (P : List ℕ → Type 0) (w : List ℕ) : Type 0 where
@@ -63,28 +75,6 @@ ColonEnd P = After colon (ValueEnd P)
 -- a key, a colon and a value
 abbrev pub KeyEnd : (List ℕ → Type 0) → List ℕ → Type 0
 KeyEnd P = After quote (StringEnd (ColonEnd P))
-
--- the rest of an array after an item
-pub record ItemsEnd (P : List ℕ → Type 0) (w : List ℕ) : Type 0 where
-  pub blank : List ℕ
-  pub is_blank : all_blank blank ≡ true
-  pub items : Items
-  pub trees : List Tree
-  pub is_meant : items_meaning items ≡ Some trees
-  pub rest : List ℕ
-  pub is_spelled : w ≡ blank ++ (items_text items ++ rest)
-  pub ends : P rest
-
--- the rest of an object after a member
-pub record MembersEnd (P : List ℕ → Type 0) (w : List ℕ) : Type 0 where
-  pub blank : List ℕ
-  pub is_blank : all_blank blank ≡ true
-  pub members : Members
-  pub entries : Entries
-  pub is_meant : members_meaning members ≡ Some entries
-  pub rest : List ℕ
-  pub is_spelled : w ≡ blank ++ (members_text members ++ rest)
-  pub ends : P rest
 
 -- what closes these brackets, the first first, and only white space after them
 unfoldable pub Ends : List Bracket → List ℕ → Type 0

@@ -1,4 +1,4 @@
--- What completes a number after a character, completes it with the character before it.
+-- What completes a number after a character completes it before, with the character in front.
 use Rattle.std.proofs.Common.{◌≡◌, ℕ, zero, suc, ◌+◌, ◌*◌, ◌^◌, ◌<◌, inl, inr, Bool, true}
 use Rattle.std.proofs.Common.{false, cond, refl, sym, ap, subst, arith, List, [], ◌∷◌, ◌++◌}
 use Rattle.std.proofs.Common.{append_assoc, length, Some, eqb-true}
@@ -94,10 +94,10 @@ value_of_sign P b w end =
     let meant : numeral_meaning n ≡ Some found.0 =
     by_true _ _ _ _ (and_both _ _ end.is_whole_part end.is_fraction) found.1 in
     record {
-      before = [];
+      blank = [];
       is_blank = refl;
       syntax = numeral n;
-      tree = number found.0;
+      value = number found.0;
       is_meant = ap (option_map number) meant;
       rest = end.rest;
       is_spelled = grind (arith, append_assoc);

@@ -1,8 +1,8 @@
--- What completes a text after a character, completes it with the character before it.
+-- What completes a text after a character completes it before, with the character in front.
 use Rattle.std.proofs.Common.{◌≡◌, ℕ, inl, inr, Bool, true, false, cond, refl, sym, ap, ◌∙◌}
-use Rattle.std.proofs.Common.{subst, List, [], ◌∷◌, ◌++◌, append_assoc, Some}
+use Rattle.std.proofs.Common.{subst, List, [], ◌∷◌, ◌++◌, append_assoc, Option, Some}
 use Rattle.std.proofs.Common.{eqb-true}
-use Rattle.std.specs.Prelude.{◌==◌, codes, option_map}
+use Rattle.std.specs.Prelude.{◌==◌, option_map}
 use Rattle.jsonb_value.specs.Tree.{Tree, null, array, object, text, boolean, no_trees, tree}
 use Rattle.jsonb_value.specs.Tree.{no_pairs}
 use Rattle.jsonb_value.specs.Value.{trees_of}
@@ -10,10 +10,10 @@ use Rattle.jsonb_value.specs.Json.Characters.{quote, comma, colon, open_bracket,
 use Rattle.jsonb_value.specs.Json.Characters.{open_brace, close_brace, is_blank, all_blank, minus}
 use Rattle.jsonb_value.specs.Json.Piece.{pieces_text}
 use Rattle.jsonb_value.specs.Json.Syntax.{Syntax, nothing, truth, string, empty_array, items}
-use Rattle.jsonb_value.specs.Json.Syntax.{empty_object, members, Element, element, Items, no_item}
-use Rattle.jsonb_value.specs.Json.Syntax.{next_item, Member, member, Members, no_member}
+use Rattle.jsonb_value.specs.Json.Syntax.{empty_object, members, element, no_item}
+use Rattle.jsonb_value.specs.Json.Syntax.{next_item, member, no_member}
 use Rattle.jsonb_value.specs.Json.Syntax.{next_member}
-use Rattle.jsonb_value.specs.Json.Syntax.{Entries, element_text, items_text, member_text}
+use Rattle.jsonb_value.specs.Json.Syntax.{element_text, items_text, member_text}
 use Rattle.jsonb_value.specs.Json.Syntax.{members_text, meaning, element_meaning, items_meaning}
 use Rattle.jsonb_value.specs.Json.Syntax.{member_meaning, members_meaning, syntax_text}
 use Rattle.jsonb_value.specs.Json.Syntax.{pairs, insert_all, Json}
@@ -37,8 +37,9 @@ use Rattle.json_fault.specs.Scan.{number_begun, rest_begun, rest_followed, mark_
 use Rattle.json_fault.specs.Scan.{word_continued, is_viable, is_closed}
 use Rattle.json_fault.specs.Scan.{number_continued, string_continued}
 use Rattle.json_fault.proofs.Conditions.{either_found}
-use Rattle.json_fault.proofs.Endings.{After, ValueEnd, StringEnd, ColonEnd, KeyEnd, ItemsEnd}
-use Rattle.json_fault.proofs.Endings.{MembersEnd, Ends, Literal, letters, PlaceEnd, Completes}
+use Rattle.json_fault.proofs.Endings.{SyntaxEnd, After, ValueEnd, StringEnd, ColonEnd, KeyEnd}
+use Rattle.json_fault.proofs.Endings.{ItemsEnd, MembersEnd, Ends, Literal, letters, PlaceEnd}
+use Rattle.json_fault.proofs.Endings.{Completes}
 use Rattle.json_fault.proofs.StringBack.{place_back, quote_back}
 use Rattle.json_fault.proofs.NumberBack.{value_of_sign, sign_back, number_back, number_ends}
 
@@ -54,13 +55,14 @@ after_blank k P c w is end = record {
   ends = end.ends;
 }
 
-value_blank : (P : List ℕ → Type 0) (c : ℕ) (w : List ℕ) → is_blank c ≡ true → ValueEnd P w
-    → ValueEnd P (c ∷ w)
-value_blank P c w is end = record {
-  before = c ∷ end.before;
+syntax_blank : {S M : Type 0} (spelling : S → List ℕ) (meaning_of : S → Option M)
+    (P : List ℕ → Type 0) (c : ℕ) (w : List ℕ) → is_blank c ≡ true
+    → SyntaxEnd spelling meaning_of P w → SyntaxEnd spelling meaning_of P (c ∷ w)
+syntax_blank spelling meaning_of P c w is end = record {
+  blank = c ∷ end.blank;
   is_blank = and_both _ _ is end.is_blank;
   syntax = end.syntax;
-  tree = end.tree;
+  value = end.value;
   is_meant = end.is_meant;
   rest = end.rest;
   is_spelled = ap (λ r. c ∷ r) end.is_spelled;
@@ -71,42 +73,27 @@ ends_blank : (bs : List Bracket) (c : ℕ) (w : List ℕ) → is_blank c ≡ tru
     → Ends bs (c ∷ w)
 unfolding Ends
 ends_blank [] c w is end = and_both _ _ is end
-ends_blank (Array ∷ bs) c w is end = record {
-  blank = c ∷ end.blank;
-  is_blank = and_both _ _ is end.is_blank;
-  items = end.items;
-  trees = end.trees;
-  is_meant = end.is_meant;
-  rest = end.rest;
-  is_spelled = ap (λ r. c ∷ r) end.is_spelled;
-  ends = end.ends;
-}
-ends_blank (Object ∷ bs) c w is end = record {
-  blank = c ∷ end.blank;
-  is_blank = and_both _ _ is end.is_blank;
-  members = end.members;
-  entries = end.entries;
-  is_meant = end.is_meant;
-  rest = end.rest;
-  is_spelled = ap (λ r. c ∷ r) end.is_spelled;
-  ends = end.ends;
-}
+ends_blank (Array ∷ bs) c w is end = syntax_blank items_text items_meaning (Ends bs) c w is end
+ends_blank (Object ∷ bs) c w is end =
+    syntax_blank members_text members_meaning (Ends bs) c w is end
 
 -- ---- items and members
 
--- a value and the rest of its array
-record ItemsFront (P : List ℕ → Type 0) (w : List ℕ) : Type 0 where
-  first : Element
-  first_tree : Tree
-  others : Items
-  trees : List Tree
-  first_meant : element_meaning first ≡ Some first_tree
-  others_meant : items_meaning others ≡ Some trees
+-- an item or a member, and the rest of its container
+record Front {A B S M : Type 0} (first_spelling : A → List ℕ) (first_meaning : A → Option B)
+    (spelling : S → List ℕ) (meaning_of : S → Option M) (P : List ℕ → Type 0) (w : List ℕ)
+    : Type 0 where
+  first : A
+  first_value : B
+  others : S
+  values : M
+  first_meant : first_meaning first ≡ Some first_value
+  others_meant : meaning_of others ≡ Some values
   rest : List ℕ
-  is_spelled : w ≡ element_text first ++ (items_text others ++ rest)
+  is_spelled : w ≡ (first_spelling first ++ spelling others) ++ rest
   ends : P rest
 
-regroup : (a s b t r : List ℕ) → a ++ (s ++ (b ++ (t ++ r))) ≡ (a ++ (s ++ b)) ++ (t ++ r)
+regroup : (a s b t r : List ℕ) → a ++ (s ++ (b ++ (t ++ r))) ≡ ((a ++ (s ++ b)) ++ t) ++ r
 regroup a s b t r = simp append_assoc
 
 element_is : (before after : List ℕ) (x : Syntax) (t : Tree) → all_blank before ≡ true
@@ -114,130 +101,126 @@ element_is : (before after : List ℕ) (x : Syntax) (t : Tree) → all_blank bef
     → element_meaning (element before x after) ≡ Some t
 element_is before after x t front back is = by_true _ _ _ _ (and_both _ _ front back) is
 
-items_front : (P : List ℕ → Type 0) (w : List ℕ) → ValueEnd (ItemsEnd P) w → ItemsFront P w
+items_front : (P : List ℕ → Type 0) (w : List ℕ) → ValueEnd (ItemsEnd P) w
+    → Front element_text element_meaning items_text items_meaning P w
 items_front P w v =
     let i = v.ends in
     record {
-      first = element v.before v.syntax i.blank;
-      first_tree = v.tree;
-      others = i.items;
-      trees = i.trees;
-      first_meant = element_is v.before i.blank v.syntax v.tree v.is_blank i.is_blank v.is_meant;
+      first = element v.blank v.syntax i.blank;
+      first_value = v.value;
+      others = i.syntax;
+      values = i.value;
+      first_meant = element_is v.blank i.blank v.syntax v.value v.is_blank i.is_blank v.is_meant;
       others_meant = i.is_meant;
       rest = i.rest;
-      is_spelled = v.is_spelled
-          ∙ ap (λ r. v.before ++ (syntax_text v.syntax ++ r)) i.is_spelled
-          ∙ regroup v.before (syntax_text v.syntax) i.blank (items_text i.items) i.rest;
+      is_spelled = v.is_spelled ∙ ap (λ r. v.blank ++ (syntax_text v.syntax ++ r)) i.is_spelled
+          ∙ regroup v.blank (syntax_text v.syntax) i.blank (items_text i.syntax) i.rest;
       ends = i.ends;
     }
 
--- a member and the rest of its object
-record MembersFront (P : List ℕ → Type 0) (w : List ℕ) : Type 0 where
-  first : Member
-  entry : List ℕ × Tree
-  others : Members
-  entries : Entries
-  first_meant : member_meaning first ≡ Some entry
-  others_meant : members_meaning others ≡ Some entries
-  rest : List ℕ
-  is_spelled : w ≡ member_text first ++ (members_text others ++ rest)
-  ends : P rest
-
 regroup_member : (a p b x s t ms r : List ℕ) (q k : ℕ)
     → a ++ q ∷ (p ++ q ∷ (b ++ k ∷ (x ++ (s ++ (t ++ (ms ++ r))))))
-    ≡ (a ++ ((q ∷ (p ++ q ∷ [])) ++ (b ++ k ∷ (x ++ (s ++ t))))) ++ (ms ++ r)
+    ≡ ((a ++ ((q ∷ (p ++ q ∷ [])) ++ (b ++ k ∷ (x ++ (s ++ t))))) ++ ms) ++ r
 regroup_member a p b x s t ms r q k = simp append_assoc
 
-members_front : (P : List ℕ → Type 0) (w : List ℕ) → KeyEnd (MembersEnd P) w → MembersFront P w
+members_front : (P : List ℕ → Type 0) (w : List ℕ) → KeyEnd (MembersEnd P) w
+    → Front member_text member_meaning members_text members_meaning P w
 members_front P w k =
     let s = k.ends in
     let a = s.ends in
     let v = a.ends in
     let i = v.ends in
     record {
-      first = member k.blank s.pieces a.blank (element v.before v.syntax i.blank);
-      entry = (s.bytes, v.tree);
-      others = i.members;
-      entries = i.entries;
+      first = member k.blank s.pieces a.blank (element v.blank v.syntax i.blank);
+      first_value = (s.bytes, v.value);
+      others = i.syntax;
+      values = i.value;
       first_meant = bound _ _ _ s.bytes
           (by_true _ _ _ _ (and_both _ _ k.is_blank a.is_blank) s.is_meant)
-          (bound _ _ _ v.tree
-          (element_is v.before i.blank v.syntax v.tree v.is_blank i.is_blank v.is_meant) refl);
+          (bound _ _ _ v.value
+          (element_is v.blank i.blank v.syntax v.value v.is_blank i.is_blank v.is_meant) refl);
       others_meant = i.is_meant;
       rest = i.rest;
       is_spelled = k.is_spelled
           ∙ ap (λ r. k.blank ++ quote ∷ r) (s.is_spelled
           ∙ ap (λ r. pieces_text s.pieces ++ quote ∷ r) (a.is_spelled
           ∙ ap (λ r. a.blank ++ colon ∷ r) (v.is_spelled
-          ∙ ap (λ r. v.before ++ (syntax_text v.syntax ++ r)) i.is_spelled)))
-          ∙ regroup_member k.blank (pieces_text s.pieces) a.blank v.before (syntax_text v.syntax)
-          i.blank (members_text i.members) i.rest quote colon;
+          ∙ ap (λ r. v.blank ++ (syntax_text v.syntax ++ r)) i.is_spelled)))
+          ∙ regroup_member k.blank (pieces_text s.pieces) a.blank v.blank (syntax_text v.syntax)
+          i.blank (members_text i.syntax) i.rest quote colon;
       ends = i.ends;
     }
 
 -- ---- values
 
--- a value at the front
-pub value_front : (P : List ℕ → Type 0) (x : Syntax) (t : Tree) (rest : List ℕ) → meaning x ≡ Some t
-    → P rest → ValueEnd P (syntax_text x ++ rest)
-value_front P x t rest is end = record {
-  before = [];
+-- syntax at the front
+pub syntax_front : {S M : Type 0} (spelling : S → List ℕ) (meaning_of : S → Option M)
+    (P : List ℕ → Type 0) (x : S) (y : M) (w rest : List ℕ) → meaning_of x ≡ Some y
+    → w ≡ spelling x ++ rest → P rest → SyntaxEnd spelling meaning_of P w
+syntax_front spelling meaning_of P x y w rest is spelled end = record {
+  blank = [];
   is_blank = refl;
   syntax = x;
-  tree = t;
+  value = y;
   is_meant = is;
   rest = rest;
-  is_spelled = refl;
+  is_spelled = spelled;
   ends = end;
 }
 
-string_value : (P : List ℕ → Type 0) (w : List ℕ) → StringEnd P w → ValueEnd P (quote ∷ w)
-string_value P w s =
-    rw s.is_spelled (subst (λ (r : List ℕ). ValueEnd P (quote ∷ r))
-    (append_assoc (pieces_text s.pieces) (quote ∷ []) s.rest)
-    (value_front P (string s.pieces) (text s.bytes) s.rest (ap (option_map text) s.is_meant)
-    s.ends))
+-- the same with its first character
+syntax_from : {S M : Type 0} (spelling : S → List ℕ) (meaning_of : S → Option M)
+    (P : List ℕ → Type 0) (x : S) (y : M) (k c : ℕ) (s w rest : List ℕ) → (c == k) ≡ true
+    → spelling x ≡ k ∷ s → meaning_of x ≡ Some y → w ≡ s ++ rest → P rest
+    → SyntaxEnd spelling meaning_of P (c ∷ w)
+syntax_from spelling meaning_of P x y k c s w rest first spelled is split end =
+    syntax_front spelling meaning_of P x y (c ∷ w) rest is
+    (ap (λ d. d ∷ w) (eqb-true c k first) ∙ ap (λ r. k ∷ r) split
+    ∙ ap (λ r. r ++ rest) (sym spelled))
+    end
 
-array_value : (bs : List Bracket) (w : List ℕ) → Completes FirstItem (Array ∷ bs) w
-    → ValueEnd (Ends bs) (open_bracket ∷ w)
+value_from : (P : List ℕ → Type 0) (x : Syntax) (t : Tree) (k c : ℕ) (s w rest : List ℕ)
+    → (c == k) ≡ true → syntax_text x ≡ k ∷ s → meaning x ≡ Some t → w ≡ s ++ rest → P rest
+    → ValueEnd P (c ∷ w)
+value_from P x t k c s w rest first spelled is split end =
+    syntax_from syntax_text meaning P x t k c s w rest first spelled is split end
+
+string_value : (P : List ℕ → Type 0) (c : ℕ) (w : List ℕ) → (c == quote) ≡ true
+    → StringEnd P w → ValueEnd P (c ∷ w)
+string_value P c w first s =
+    value_from P (string s.pieces) (text s.bytes) quote c _ w s.rest first refl
+    (ap (option_map text) s.is_meant)
+    (s.is_spelled ∙ sym (append_assoc (pieces_text s.pieces) (quote ∷ []) s.rest)) s.ends
+
+array_value : (bs : List Bracket) (c : ℕ) (w : List ℕ) → (c == open_bracket) ≡ true
+    → Completes FirstItem (Array ∷ bs) w → ValueEnd (Ends bs) (c ∷ w)
 unfolding Ends
-array_value bs w end = elim end [
+array_value bs c w first end = elim end [
   | inl a ↦
-      rw a.is_spelled (subst (λ (r : List ℕ). ValueEnd (Ends bs) (open_bracket ∷ r))
-      (append_assoc a.blank (close_bracket ∷ []) a.rest)
-      (value_front (Ends bs) (empty_array a.blank) (array no_trees) a.rest
-      (by_true _ _ _ _ (and_both _ _ a.is_blank refl) refl) a.ends))
+      value_from (Ends bs) (empty_array a.blank) (array no_trees) open_bracket c _ w a.rest first
+      refl (by_true _ _ _ _ (and_both _ _ a.is_blank refl) refl)
+      (a.is_spelled ∙ sym (append_assoc a.blank (close_bracket ∷ []) a.rest)) a.ends
   | inr v ↦
       let f = items_front (Ends bs) w v in
-      rw f.is_spelled (subst (λ (r : List ℕ). ValueEnd (Ends bs) (open_bracket ∷ r))
-      (append_assoc (element_text f.first) (items_text f.others) f.rest)
-      (value_front (Ends bs) (items f.first f.others) (array (tree f.first_tree (trees_of f.trees)))
-      f.rest (bound _ _ _ _ f.first_meant (bound _ _ _ _ f.others_meant refl)) f.ends))
+      value_from (Ends bs) (items f.first f.others) (array (tree f.first_value (trees_of f.values)))
+      open_bracket c _ w f.rest first refl
+      (bound _ _ _ _ f.first_meant (bound _ _ _ _ f.others_meant refl)) f.is_spelled f.ends
 ]
 
-object_value : (bs : List Bracket) (w : List ℕ) → Completes FirstKey (Object ∷ bs) w
-    → ValueEnd (Ends bs) (open_brace ∷ w)
+object_value : (bs : List Bracket) (c : ℕ) (w : List ℕ) → (c == open_brace) ≡ true
+    → Completes FirstKey (Object ∷ bs) w → ValueEnd (Ends bs) (c ∷ w)
 unfolding Ends
-object_value bs w end = elim end [
+object_value bs c w first end = elim end [
   | inl a ↦
-      rw a.is_spelled (subst (λ (r : List ℕ). ValueEnd (Ends bs) (open_brace ∷ r))
-      (append_assoc a.blank (close_brace ∷ []) a.rest)
-      (value_front (Ends bs) (empty_object a.blank) (object no_pairs) a.rest
-      (by_true _ _ _ _ (and_both _ _ a.is_blank refl) refl) a.ends))
+      value_from (Ends bs) (empty_object a.blank) (object no_pairs) open_brace c _ w a.rest first
+      refl (by_true _ _ _ _ (and_both _ _ a.is_blank refl) refl)
+      (a.is_spelled ∙ sym (append_assoc a.blank (close_brace ∷ []) a.rest)) a.ends
   | inr v ↦
       let f = members_front (Ends bs) w v in
-      rw f.is_spelled (subst (λ (r : List ℕ). ValueEnd (Ends bs) (open_brace ∷ r))
-      (append_assoc (member_text f.first) (members_text f.others) f.rest)
-      (value_front (Ends bs) (members f.first f.others)
-      (object (pairs (insert_all [] (f.entry ∷ f.entries))))
-      f.rest (bound _ _ _ _ f.first_meant (bound _ _ _ _ f.others_meant refl)) f.ends))
+      value_from (Ends bs) (members f.first f.others)
+      (object (pairs (insert_all [] (f.first_value ∷ f.values)))) open_brace c _ w f.rest first refl
+      (bound _ _ _ _ f.first_meant (bound _ _ _ _ f.others_meant refl)) f.is_spelled f.ends
 ]
-
-word_value : (P : List ℕ → Type 0) (x : Syntax) (t : Tree) (k : ℕ) (ks w : List ℕ)
-    → meaning x ≡ Some t → syntax_text x ≡ k ∷ ks → Literal ks P w → ValueEnd P (k ∷ w)
-word_value P x t k ks w is spelled l =
-    rw l.is_spelled (subst (λ (s : List ℕ). ValueEnd P (s ++ l.rest)) spelled
-    (value_front P x t l.rest is l.ends))
 
 -- what completes a text after a step
 abbrev pub Goes : Move → List Bracket → List ℕ → Type 0
@@ -263,16 +246,18 @@ word_begun : (bs : List Bracket) (m : Move) (c : ℕ) (w : List ℕ)
     → Goes m bs w → ValueEnd (Ends bs) (c ∷ w)
 word_begun bs m c w e end = elim (chosen (c == 116) _ _ _ e) [
   | inl is ↦
-      rw (eqb-true c 116 is.0) (word_value (Ends bs) (truth true) (boolean true) 116 (codes "rue") w
-      refl refl (known _ m bs w is.1 end))
+      let l = known _ m bs w is.1 end in
+      value_from (Ends bs) (truth true) (boolean true) 116 c _ w l.rest is.0 refl refl l.is_spelled
+      l.ends
   | inr other ↦ elim (chosen (c == 102) _ _ _ other.1) [
     | inl is ↦
-        rw (eqb-true c 102 is.0) (word_value (Ends bs) (truth false) (boolean false) 102
-        (codes "alse") w refl refl (known _ m bs w is.1 end))
+        let l = known _ m bs w is.1 end in
+        value_from (Ends bs) (truth false) (boolean false) 102 c _ w l.rest is.0 refl refl
+        l.is_spelled l.ends
     | inr other ↦ elim (chosen (c == 110) _ _ _ other.1) [
       | inl is ↦
-          rw (eqb-true c 110 is.0) (word_value (Ends bs) nothing null 110 (codes "ull") w refl
-          refl (known _ m bs w is.1 end))
+          let l = known _ m bs w is.1 end in
+          value_from (Ends bs) nothing null 110 c _ w l.rest is.0 refl refl l.is_spelled l.ends
       | inr other ↦ number_value bs m c w other.1 end
     ]
   ]
@@ -281,27 +266,17 @@ word_begun bs m c w e end = elim (chosen (c == 116) _ _ _ e) [
 value_back : (bs : List Bracket) (m : Move) (c : ℕ) (w : List ℕ) → value_begun c ≡ Some m
     → Goes m bs w → ValueEnd (Ends bs) (c ∷ w)
 value_back bs m c w e end = elim (chosen (c == quote) _ _ _ e) [
-  | inl is ↦ rw (eqb-true c quote is.0) (string_value (Ends bs) w (known _ m bs w is.1 end))
+  | inl is ↦ string_value (Ends bs) c w is.0 (known _ m bs w is.1 end)
   | inr other ↦ elim (chosen (c == open_bracket) _ _ _ other.1) [
-    | inl is ↦ rw (eqb-true c open_bracket is.0) (array_value bs w (known _ m bs w is.1 end))
+    | inl is ↦ array_value bs c w is.0 (known _ m bs w is.1 end)
     | inr other ↦ elim (chosen (c == open_brace) _ _ _ other.1) [
-      | inl is ↦ rw (eqb-true c open_brace is.0) (object_value bs w (known _ m bs w is.1 end))
+      | inl is ↦ object_value bs c w is.0 (known _ m bs w is.1 end)
       | inr other ↦ word_begun bs m c w other.1 end
     ]
   ]
 ]
 
 -- ---- marks
-
-pub key_back : (P : List ℕ → Type 0) (c : ℕ) (w : List ℕ) → c ≡ quote → StringEnd (ColonEnd P) w
-    → KeyEnd P (c ∷ w)
-key_back P c w is end = record {
-  blank = [];
-  is_blank = refl;
-  rest = w;
-  is_spelled = ap (λ x. x ∷ w) is;
-  ends = end;
-}
 
 pub mark_back : (k : ℕ) (P : List ℕ → Type 0) (c : ℕ) (w : List ℕ) → c ≡ k → P w → After k P (c ∷ w)
 mark_back k P c w is end = record {
@@ -316,61 +291,30 @@ array_back : (bs : List Bracket) (m : Move) (c : ℕ) (w : List ℕ)
     → rest_begun (Some Array) c ≡ Some m → Goes m (Array ∷ bs) w → ItemsEnd (Ends bs) (c ∷ w)
 unfolding Ends
 array_back bs m c w e end = elim (chosen (c == close_bracket) _ _ _ e) [
-  | inl is ↦ record {
-    blank = [];
-    is_blank = refl;
-    items = no_item;
-    trees = [];
-    is_meant = refl;
-    rest = w;
-    is_spelled = ap (λ x. x ∷ w) (eqb-true c close_bracket is.0);
-    ends = known _ m (Array ∷ bs) w is.1 end;
-  }
+  | inl is ↦
+      syntax_from items_text items_meaning (Ends bs) no_item [] close_bracket c _ w w is.0 refl refl
+      refl (known _ m (Array ∷ bs) w is.1 end)
   | inr other ↦
       let both = cond_some _ _ _ other.1 in
       let f = items_front (Ends bs) w (known _ m (Array ∷ bs) w both.1 end) in
-      record {
-        blank = [];
-        is_blank = refl;
-        items = next_item f.first f.others;
-        trees = f.first_tree ∷ f.trees;
-        is_meant = bound _ _ _ _ f.first_meant (bound _ _ _ _ f.others_meant refl);
-        rest = f.rest;
-        is_spelled = ap (λ x. x ∷ w) (eqb-true c comma both.0) ∙ ap (λ r. comma ∷ r)
-            (f.is_spelled ∙ sym (append_assoc (element_text f.first) (items_text f.others) f.rest));
-        ends = f.ends;
-      }
+      syntax_from items_text items_meaning (Ends bs) (next_item f.first f.others)
+      (f.first_value ∷ f.values) comma c _ w f.rest both.0 refl
+      (bound _ _ _ _ f.first_meant (bound _ _ _ _ f.others_meant refl)) f.is_spelled f.ends
 ]
 
 object_back : (bs : List Bracket) (m : Move) (c : ℕ) (w : List ℕ)
     → rest_begun (Some Object) c ≡ Some m → Goes m (Object ∷ bs) w → MembersEnd (Ends bs) (c ∷ w)
 unfolding Ends
 object_back bs m c w e end = elim (chosen (c == close_brace) _ _ _ e) [
-  | inl is ↦ record {
-    blank = [];
-    is_blank = refl;
-    members = no_member;
-    entries = [];
-    is_meant = refl;
-    rest = w;
-    is_spelled = ap (λ x. x ∷ w) (eqb-true c close_brace is.0);
-    ends = known _ m (Object ∷ bs) w is.1 end;
-  }
+  | inl is ↦
+      syntax_from members_text members_meaning (Ends bs) no_member [] close_brace c _ w w is.0 refl
+      refl refl (known _ m (Object ∷ bs) w is.1 end)
   | inr other ↦
       let both = cond_some _ _ _ other.1 in
       let f = members_front (Ends bs) w (known _ m (Object ∷ bs) w both.1 end) in
-      record {
-        blank = [];
-        is_blank = refl;
-        members = next_member f.first f.others;
-        entries = f.entry ∷ f.entries;
-        is_meant = bound _ _ _ _ f.first_meant (bound _ _ _ _ f.others_meant refl);
-        rest = f.rest;
-        is_spelled = ap (λ x. x ∷ w) (eqb-true c comma both.0) ∙ ap (λ r. comma ∷ r)
-            (f.is_spelled
-            ∙ sym (append_assoc (member_text f.first) (members_text f.others) f.rest));
-        ends = f.ends;
-      }
+      syntax_from members_text members_meaning (Ends bs) (next_member f.first f.others)
+      (f.first_value ∷ f.values) comma c _ w f.rest both.0 refl
+      (bound _ _ _ _ f.first_meant (bound _ _ _ _ f.others_meant refl)) f.is_spelled f.ends
 ]
 
 rest_back : (bs : List Bracket) (m : Move) (c : ℕ) (w : List ℕ)
@@ -395,14 +339,6 @@ letter_back P k c ks w is l = record {
   ends = l.ends;
 }
 
-last_letter : (P : List ℕ → Type 0) (k c : ℕ) (w : List ℕ) → c ≡ k → P w
-    → Literal (k ∷ []) P (c ∷ w)
-last_letter P k c w is end = record {
-  rest = w;
-  is_spelled = ap (λ x. x ∷ w) is;
-  ends = end;
-}
-
 more_letters : (bs : List Bracket) (m : Move) (word : Word) (k c : ℕ) (w : List ℕ)
     → mark_begun c k (Letters word) ≡ Some m → Goes m bs w
     → Literal (k ∷ letters word) (Ends bs) (c ∷ w)
@@ -414,7 +350,8 @@ no_letters : (bs : List Bracket) (m : Move) (k c : ℕ) (w : List ℕ) → mark_
     → Goes m bs w → Literal (k ∷ []) (Ends bs) (c ∷ w)
 no_letters bs m k c w e end =
     let both = cond_some _ _ _ e in
-    last_letter (Ends bs) k c w (eqb-true c k both.0) (known _ m bs w both.1 end)
+    letter_back (Ends bs) k c [] w (eqb-true c k both.0)
+    (record { rest = w; is_spelled = refl; ends = known _ m bs w both.1 end })
 
 word_back : (bs : List Bracket) (m : Move) (word : Word) (c : ℕ) (w : List ℕ)
     → word_continued word c ≡ Some m → Goes m bs w → Literal (letters word) (Ends bs) (c ∷ w)
@@ -442,13 +379,13 @@ is_live _ = true
 pub step_back : (e : Expected) (bs : List Bracket) (m : Move) (c : ℕ) (w : List ℕ)
     → followed e (innermost bs) c ≡ Some m → is_live e ≡ true → Goes m bs w → Completes e bs (c ∷ w)
 step_back Value bs m c w e live end = elim (chosen (is_blank c) _ _ _ e) [
-  | inl is ↦ value_blank (Ends bs) c w is.0 (known _ m bs w is.1 end)
+  | inl is ↦ syntax_blank syntax_text meaning (Ends bs) c w is.0 (known _ m bs w is.1 end)
   | inr other ↦ value_back bs m c w other.1 end
 ]
 step_back FirstItem bs m c w e live end = elim (chosen (is_blank c) _ _ _ e) [
   | inl is ↦ elim (known (FirstItem, Keep) m bs w is.1 end) [
     | inl a ↦ inl (after_blank close_bracket _ c w is.0 a)
-    | inr v ↦ inr (value_blank (Ends bs) c w is.0 v)
+    | inr v ↦ inr (syntax_blank syntax_text meaning (Ends bs) c w is.0 v)
   ]
   | inr other ↦ elim (chosen (c == close_bracket) _ _ _ other.1) [
     | inl is ↦ inl (mark_back close_bracket _ c w (eqb-true c close_bracket is.0)
@@ -466,7 +403,7 @@ step_back FirstKey bs m c w e live end = elim (chosen (is_blank c) _ _ _ e) [
         (known (Rest, Close) m bs w is.1 end))
     | inr other ↦
         let both = cond_some _ _ _ other.1 in
-        inr (key_back (Ends bs) c w (eqb-true c quote both.0)
+        inr (mark_back quote _ c w (eqb-true c quote both.0)
         (known (Name Inside, Keep) m bs w both.1 end))
   ]
 ]
@@ -474,7 +411,7 @@ step_back Key bs m c w e live end = elim (chosen (is_blank c) _ _ _ e) [
   | inl is ↦ after_blank quote _ c w is.0 (known (Key, Keep) m bs w is.1 end)
   | inr other ↦
       let both = cond_some _ _ _ other.1 in
-      key_back (Ends bs) c w (eqb-true c quote both.0) (known (Name Inside, Keep) m bs w both.1 end)
+      mark_back quote _ c w (eqb-true c quote both.0) (known (Name Inside, Keep) m bs w both.1 end)
 ]
 step_back Colon bs m c w e live end = elim (chosen (is_blank c) _ _ _ e) [
   | inl is ↦ after_blank colon _ c w is.0 (known (Colon, Keep) m bs w is.1 end)
@@ -508,10 +445,10 @@ step_back (Name place) bs m c w e live end = elim (chosen (is_closed place c) _ 
 pub whole_text : (s : List ℕ) → Completes Value [] s → (t : Tree) × Json s t
 unfolding Ends
 whole_text s v = (
-  v.tree,
+  v.value,
   record {
-    syntax = element v.before v.syntax v.rest;
+    syntax = element v.blank v.syntax v.rest;
     is_spelled = v.is_spelled;
-    is_meant = element_is v.before v.rest v.syntax v.tree v.is_blank v.ends v.is_meant;
+    is_meant = element_is v.blank v.rest v.syntax v.value v.is_blank v.ends v.is_meant;
   },
 )
