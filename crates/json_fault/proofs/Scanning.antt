@@ -210,10 +210,10 @@ unfolding Going
 goes_on e bs m c w is go =
     subst (λ (x : Move). Going x.0 (changed x.1 bs) w) (some_same go.0 m (sym go.1 ∙ is)) go.2
 
-pub moved : (text rest after : List ℕ) (e : Expected) (bs : List Bracket) (m : Move) (c : ℕ)
+pub moved : {text rest after : List ℕ} {e : Expected} {bs : List Bracket} (m : Move) {c : ℕ}
     → IsReached text rest e bs → rest ≡ c ∷ after → followed e (innermost bs) c ≡ Some m
     → IsReached text after m.0 (changed m.1 bs)
-moved text rest after e bs m c reached cut is = record {
+moved {text} {rest} {after} {e} {bs} m {c} reached cut is = record {
   front = reached.front ++ c ∷ [];
   is_split = reached.is_split ∙ ap (λ r. reached.front ++ r) cut
       ∙ sym (append_assoc reached.front (c ∷ []) after);
@@ -239,9 +239,9 @@ begins_here text rest e bs reached =
     (end.0, whole)
 
 -- the text ends here
-pub ended : (text rest : List ℕ) (e : Expected) (bs : List Bracket) → IsReached text rest e bs
+pub ended : {text rest : List ℕ} {e : Expected} {bs : List Bracket} → IsReached text rest e bs
     → rest ≡ [] → IsSplitAtFault text rest
-ended text rest e bs reached none = record {
+ended {text} {rest} {e} {bs} reached none = record {
   front = reached.front;
   is_split = reached.is_split;
   is_fault = record {
@@ -256,10 +256,10 @@ unfolding Going
 stuck e bs c w none go = no_error (sym none ∙ go.1)
 
 -- the next character may not come
-pub stopped : (text rest after : List ℕ) (e : Expected) (bs : List Bracket) (c : ℕ)
+pub stopped : {text rest after : List ℕ} {e : Expected} {bs : List Bracket} {c : ℕ}
     → IsReached text rest e bs → rest ≡ c ∷ after → followed e (innermost bs) c ≡ None
     → IsSplitAtFault text rest
-stopped text rest after e bs c reached cut none = record {
+stopped {text} {rest} {after} {e} {bs} {c} reached cut none = record {
   front = reached.front;
   is_split = reached.is_split;
   is_fault = record {
