@@ -7,7 +7,7 @@ use Rattle.std.specs.Char.{digit_value, is_digit}
 use Rattle.jsonb_value.specs.Json.Characters.{quote, comma, colon, open_bracket, close_bracket}
 use Rattle.jsonb_value.specs.Json.Characters.{open_brace, close_brace, is_blank, minus, zero_digit}
 use Rattle.jsonb_value.specs.Json.Characters.{point}
-use Rattle.jsonb_value.proofs.Json.Tests.{and_both, cond_some, chosen, bind_then, some_same}
+use Rattle.jsonb_value.proofs.Json.Tests.{and_both, cond_some, bind_then, some_same}
 use Rattle.jsonb_value.proofs.Json.Tests.{no_error}
 use Rattle.json_fault.specs.declared.number.Part.{Part}
 use Rattle.json_fault.specs.declared.number.Part.TheVariants.{Sign, Zero, Whole, Point, Fraction}
@@ -28,7 +28,7 @@ use Rattle.json_fault.specs.Scan.{Move, changed, innermost, followed, limit, has
 use Rattle.json_fault.specs.Scan.{has_room_after, viable_only, with_digit, with_point, number_begun}
 use Rattle.json_fault.specs.Scan.{number_first}
 use Rattle.json_fault.specs.Scan.{part_continued, number_continued, value_begun, mark_begun}
-use Rattle.json_fault.specs.Scan.{closed_or, rest_begun, rest_followed, word_continued}
+use Rattle.json_fault.specs.Scan.{rest_begun, rest_followed, word_continued}
 use Rattle.json_fault.specs.Scan.{is_closed, string_continued}
 use Rattle.json_fault.proofs.Conditions.{less_from, less_test, either_found}
 use Rattle.json_fault.proofs.Endings.{Completes}
@@ -89,57 +89,41 @@ part_viable Fraction n m c e = digit_viable n m Fraction 1 c e
 live_same : (n m : Move) → Some n ≡ Some m → is_live n.0 ≡ true → is_live m.0 ≡ true
 live_same n m e is = subst (λ (x : Move). is_live x.0 ≡ true) (some_same n m e) is
 
-number_live : (c : ℕ) (m : Move) → number_first c ≡ Some m → is_live m.0 ≡ true
-number_live c m e = elim (chosen (c == minus) _ _ _ e) [
-  | inl is ↦ live_same _ m is.1 refl
-  | inr other ↦ bind_then (number_begun false c) _ _ other.1 (λ n is last.
-      live_same (Digits n, Keep) m last (begun_viable false c n is))
-]
-
-value_live : (c : ℕ) (m : Move) → value_begun c ≡ Some m → is_live m.0 ≡ true
-value_live c m e = elim (chosen (c == quote) _ _ _ e) [
-  | inl is ↦ live_same _ m is.1 refl
-  | inr other ↦ elim (chosen (c == open_bracket) _ _ _ other.1) [
-    | inl is ↦ live_same _ m is.1 refl
-    | inr other ↦ elim (chosen (c == open_brace) _ _ _ other.1) [
-      | inl is ↦ live_same _ m is.1 refl
-      | inr other ↦ elim (chosen (c == 116) _ _ _ other.1) [
-        | inl is ↦ live_same _ m is.1 refl
-        | inr other ↦ elim (chosen (c == 102) _ _ _ other.1) [
-          | inl is ↦ live_same _ m is.1 refl
-          | inr other ↦ elim (chosen (c == 110) _ _ _ other.1) [
-            | inl is ↦ live_same _ m is.1 refl
-            | inr other ↦ number_live c m other.1
-          ]
-        ]
-      ]
-    ]
-  ]
-]
+-- whichever of two moves the test takes
+chosen_live : (b : Bool) (n m : Move) (o : Option Move) → is_live n.0 ≡ true
+    → (o ≡ Some m → is_live m.0 ≡ true) → cond b (Some n) o ≡ Some m → is_live m.0 ≡ true
+chosen_live true n m o live other e = live_same n m e live
+chosen_live false n m o live other e = other e
 
 mark_live : (c k : ℕ) (e : Expected) (m : Move) → is_live e ≡ true → mark_begun c k e ≡ Some m
     → is_live m.0 ≡ true
-mark_live c k e m live is = live_same _ m (cond_some _ _ _ is).1 live
+mark_live c k e m live is = chosen_live (c == k) (e, Keep) m None live (λ none. no_error none) is
 
-closed_live : (c k : ℕ) (o : Option Move) (m : Move) → (o ≡ Some m → is_live m.0 ≡ true)
-    → closed_or c k o ≡ Some m → is_live m.0 ≡ true
-closed_live c k o m live e = elim (chosen (c == k) _ _ _ e) [
-  | inl is ↦ live_same _ m is.1 refl
-  | inr other ↦ live other.1
-]
+number_live : (c : ℕ) (m : Move) → number_first c ≡ Some m → is_live m.0 ≡ true
+number_live c m e =
+    chosen_live (c == minus) _ m _ refl (λ other. bind_then (number_begun false c) _ _ other
+    (λ n is last. live_same (Digits n, Keep) m last (begun_viable false c n is))) e
+
+value_live : (c : ℕ) (m : Move) → value_begun c ≡ Some m → is_live m.0 ≡ true
+value_live c m e =
+    chosen_live (c == quote) _ m _ refl
+    (chosen_live (c == open_bracket) _ m _ refl
+    (chosen_live (c == open_brace) _ m _ refl
+    (chosen_live (c == 116) _ m _ refl
+    (chosen_live (c == 102) _ m _ refl
+    (chosen_live (c == 110) _ m _ refl (number_live c m)))))) e
 
 rest_live : (top : Option Bracket) (c : ℕ) (m : Move) → rest_begun top c ≡ Some m
     → is_live m.0 ≡ true
 rest_live None c m e = no_error e
-rest_live (Some Array) c m e = closed_live c close_bracket _ m (mark_live c comma Value m refl) e
-rest_live (Some Object) c m e = closed_live c close_brace _ m (mark_live c comma Key m refl) e
+rest_live (Some Array) c m e =
+    chosen_live (c == close_bracket) _ m _ refl (mark_live c comma Value m refl) e
+rest_live (Some Object) c m e =
+    chosen_live (c == close_brace) _ m _ refl (mark_live c comma Key m refl) e
 
 after_value_live : (top : Option Bracket) (c : ℕ) (m : Move) → rest_followed top c ≡ Some m
     → is_live m.0 ≡ true
-after_value_live top c m e = elim (chosen (is_blank c) _ _ _ e) [
-  | inl is ↦ live_same _ m is.1 refl
-  | inr other ↦ rest_live top c m other.1
-]
+after_value_live top c m e = chosen_live (is_blank c) _ m _ refl (rest_live top c m) e
 
 word_live : (word : Word) (c : ℕ) (m : Move) → word_continued word c ≡ Some m
     → is_live m.0 ≡ true
@@ -155,26 +139,17 @@ word_live L c m e = mark_live c 108 Rest m refl e
 
 step_live : (e : Expected) (top : Option Bracket) (c : ℕ) (m : Move) → followed e top c ≡ Some m
     → is_live m.0 ≡ true
-step_live Value top c m e = elim (chosen (is_blank c) _ _ _ e) [
-  | inl is ↦ live_same _ m is.1 refl
-  | inr other ↦ value_live c m other.1
-]
-step_live FirstItem top c m e = elim (chosen (is_blank c) _ _ _ e) [
-  | inl is ↦ live_same _ m is.1 refl
-  | inr other ↦ closed_live c close_bracket _ m (value_live c m) other.1
-]
-step_live FirstKey top c m e = elim (chosen (is_blank c) _ _ _ e) [
-  | inl is ↦ live_same _ m is.1 refl
-  | inr other ↦ closed_live c close_brace _ m (mark_live c quote (Name Inside) m refl) other.1
-]
-step_live Key top c m e = elim (chosen (is_blank c) _ _ _ e) [
-  | inl is ↦ live_same _ m is.1 refl
-  | inr other ↦ mark_live c quote (Name Inside) m refl other.1
-]
-step_live Colon top c m e = elim (chosen (is_blank c) _ _ _ e) [
-  | inl is ↦ live_same _ m is.1 refl
-  | inr other ↦ mark_live c colon Value m refl other.1
-]
+step_live Value top c m e = chosen_live (is_blank c) _ m _ refl (value_live c m) e
+step_live FirstItem top c m e =
+    chosen_live (is_blank c) _ m _ refl
+    (chosen_live (c == close_bracket) _ m _ refl (value_live c m)) e
+step_live FirstKey top c m e =
+    chosen_live (is_blank c) _ m _ refl
+    (chosen_live (c == close_brace) _ m _ refl (mark_live c quote (Name Inside) m refl)) e
+step_live Key top c m e =
+    chosen_live (is_blank c) _ m _ refl (mark_live c quote (Name Inside) m refl) e
+step_live Colon top c m e =
+    chosen_live (is_blank c) _ m _ refl (mark_live c colon Value m refl) e
 step_live Rest top c m e = after_value_live top c m e
 step_live (Letters word) top c m e = word_live word c m e
 step_live (Digits n) top c m e = elim (either_found _ _ _ e) [
@@ -182,16 +157,14 @@ step_live (Digits n) top c m e = elim (either_found _ _ _ e) [
       live_same (Digits k, Keep) m last (part_viable n.part n k c more))
   | inr other ↦ after_value_live top c m (cond_some _ _ _ other.1).1
 ]
-step_live (Content place) top c m e = elim (chosen (is_closed place c) _ _ _ e) [
-  | inl is ↦ live_same _ m is.1 refl
-  | inr other ↦ bind_then (string_continued place c) _ _ other.1 (λ q more last.
-      live_same (Content q, Keep) m last refl)
-]
-step_live (Name place) top c m e = elim (chosen (is_closed place c) _ _ _ e) [
-  | inl is ↦ live_same _ m is.1 refl
-  | inr other ↦ bind_then (string_continued place c) _ _ other.1 (λ q more last.
-      live_same (Name q, Keep) m last refl)
-]
+step_live (Content place) top c m e =
+    chosen_live (is_closed place c) _ m _ refl
+    (λ other. bind_then (string_continued place c) _ _ other (λ q more last.
+    live_same (Content q, Keep) m last refl)) e
+step_live (Name place) top c m e =
+    chosen_live (is_closed place c) _ m _ refl
+    (λ other. bind_then (string_continued place c) _ _ other (λ q more last.
+    live_same (Name q, Keep) m last refl)) e
 
 -- ---- the scan
 
