@@ -1,8 +1,7 @@
 -- Whatever is expected, some characters complete the text.
-use Rattle.std.proofs.Common.{◌≡◌, ℕ, ◌+◌, ◌*◌, ◌<◌, ◌≤◌, inl, inr, Bool, true, false, refl, arith}
+use Rattle.std.proofs.Common.{◌≡◌, ℕ, ◌+◌, ◌*◌, inl, inr, Bool, true, false, refl, arith}
 use Rattle.std.proofs.Common.{List, [], ◌∷◌, ◌++◌}
 use Rattle.std.specs.Prelude.{codes}
-use Rattle.std.specs.Char.{digit_value}
 use Rattle.jsonb_value.specs.Tree.{null}
 use Rattle.jsonb_value.specs.Json.Characters.{quote, backslash, letter_u, colon}
 use Rattle.jsonb_value.specs.Json.Characters.{close_brace, zero_digit}
@@ -25,7 +24,7 @@ use Rattle.json_fault.specs.Scan.{has_room, has_room_after, without_innermost}
 use Rattle.json_fault.proofs.Conditions.{less_from, less_test}
 use Rattle.json_fault.proofs.Endings.{ValueEnd, StringEnd, ColonEnd, KeyEnd, Ends, SignEnd}
 use Rattle.json_fault.proofs.Endings.{PointEnd, NumberEnd, Digit, PlaceEnd, letters, Completes}
-use Rattle.json_fault.proofs.StringBack.{quote_back}
+use Rattle.json_fault.proofs.StringBack.{digit_first, quote_back}
 use Rattle.json_fault.proofs.NumberBack.{number_ends, room_same}
 use Rattle.json_fault.proofs.StepBack.{syntax_front, mark_back, is_live}
 
@@ -91,18 +90,6 @@ module _ (P : List ℕ → Type 0) (w : List ℕ) (end : P w) where
   number_completes Whole b m k e = (w, number_ends P Whole b m k w refl e end)
   number_completes Point b m k e = (zero_digit ∷ w, point_ends b m k e)
   number_completes Fraction b m k e = (w, number_ends P Fraction b m k w refl e end)
-
--- this digit at the front
-digit_first : (Q : List ℕ → Type 0) (c low high : ℕ) (w : List ℕ) → low ≤ digit_value c
-    → digit_value c < high → Q w → Digit low high Q (c ∷ w)
-digit_first Q c low high w is_low is_high end = record {
-  digit = c;
-  is_low = is_low;
-  is_high = is_high;
-  rest = w;
-  is_spelled = refl;
-  ends = end;
-}
 
 zero_first : (Q : List ℕ → Type 0) → (v : List ℕ) × Q v → (v : List ℕ) × Digit 0 16 Q v
 zero_first Q end =

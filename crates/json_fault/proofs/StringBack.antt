@@ -48,9 +48,6 @@ pair_is : (h l : ℕ) → is_high h ≡ true → is_low l ≡ true
     → pair_character h l ≡ Some (0x10000 + (h - 0xd800) * 1024 + (l - 0xdc00))
 pair_is h l high low = by_true _ _ _ _ (and_both _ _ high low) refl
 
-head_same : (a b : ℕ) (s t : List ℕ) → a ∷ s ≡ b ∷ t → a ≡ b
-head_same a b s t e = cc
-
 -- ---- pieces at the front
 
 pub piece_first : (P : List ℕ → Type 0) (p : Piece) (c : ℕ) (rest : List ℕ)
@@ -115,6 +112,18 @@ high_pair P a b c d s t x y rest la ha lb hb hc hd ls hs lt ht hx hy end =
     (bound _ _ _ _ high (bound _ _ _ _ low (pair_is first second is_h is_l))) end
 
 -- ---- escapes
+
+-- this digit at the front
+pub digit_first : (Q : List ℕ → Type 0) (c low high : ℕ) (w : List ℕ) → low ≤ digit_value c
+    → digit_value c < high → Q w → Digit low high Q (c ∷ w)
+digit_first Q c low high w is_low is_high end = record {
+  digit = c;
+  is_low = is_low;
+  is_high = is_high;
+  rest = w;
+  is_spelled = refl;
+  ends = end;
+}
 
 module _ (P : List ℕ → Type 0) where
   abbrev Q : List ℕ → Type 0
@@ -200,19 +209,21 @@ module _ (P : List ℕ → Type 0) where
 
   -- ---- places
 
+  place_known : (p q : Place) (w : List ℕ) → Some p ≡ Some q → PlaceEnd q P w → PlaceEnd p P w
+  place_known p q w e end = subst (λ (x : Place). PlaceEnd x P w) (sym (some_same p q e)) end
+
+  digit_known : (p q : Place) (c low high : ℕ) (w : List ℕ) → after_digit c low high p ≡ Some q
+      → PlaceEnd q P w → (low ≤ digit_value c) × (digit_value c < high) × PlaceEnd p P w
+  digit_known p q c low high w e end =
+      let both = cond_some _ _ _ e in
+      let tests = and_true _ _ both.0 in
+      (most_from _ _ tests.0, less_from _ _ tests.1, place_known p q w both.1 end)
+
   back_digit : (p q : Place) (c low high : ℕ) (w : List ℕ) → after_digit c low high p ≡ Some q
       → PlaceEnd q P w → Digit low high (PlaceEnd p P) (c ∷ w)
   back_digit p q c low high w e end =
-      let both = cond_some _ _ _ e in
-      let tests = and_true _ _ both.0 in
-      record {
-        digit = c;
-        is_low = most_from _ _ tests.0;
-        is_high = less_from _ _ tests.1;
-        rest = w;
-        is_spelled = refl;
-        ends = subst (λ (x : Place). PlaceEnd x P w) (sym (some_same p q both.1)) end;
-      }
+      let is = digit_known p q c low high w e end in
+      digit_first (PlaceEnd p P) c low high w is.0 is.1 is.2
 
   back_mark : (p q : Place) (c k : ℕ) (w : List ℕ) → after_mark c k p ≡ Some q → PlaceEnd q P w
       → Mark k (PlaceEnd p P) (c ∷ w)
@@ -221,54 +232,26 @@ module _ (P : List ℕ → Type 0) where
       record {
         rest = w;
         is_spelled = ap (λ x. x ∷ w) (eqb-true c k both.0);
-        ends = subst (λ (x : Place). PlaceEnd x P w) (sym (some_same p q both.1)) end;
+        ends = place_known p q w both.1 end;
       }
 
   none_out : (v : ℕ) (p : Place) → cond (nat_le 13 v && nat_lt v 14) (Some p) None ≡ None
       → (v < 13) ⊎ (14 ≤ v)
   none_out v p e = grind (arith, nat_tests)
 
-  four_digit : (c : ℕ) (w : List ℕ) → (digit_value c < 13) ⊎ (14 ≤ digit_value c)
-      → Digit 0 16 (ThreeEnd Q) (c ∷ w) → FourEnd Q (c ∷ w)
-  four_digit c w h d =
-      let same : digit_value c ≡ digit_value d.digit =
-      ap digit_value (head_same _ _ _ _ d.is_spelled) in
-      elim h [
-        | inl small ↦ inr (inl (record {
-          digit = d.digit;
-          is_low = d.is_low;
-          is_high = subst (λ (v : ℕ). v < 13) same small;
-          rest = d.rest;
-          is_spelled = d.is_spelled;
-          ends = d.ends;
-        }))
-        | inr large ↦ inr (inr (record {
-          digit = d.digit;
-          is_low = subst (λ (v : ℕ). 14 ≤ v) same large;
-          is_high = d.is_high;
-          rest = d.rest;
-          is_spelled = d.is_spelled;
-          ends = d.ends;
-        }))
-      ]
-
   pub place_back : (place q : Place) (c : ℕ) (w : List ℕ) → string_continued place c ≡ Some q
       → PlaceEnd q P w → PlaceEnd place P (c ∷ w)
   place_back Inside q c w e end = elim (chosen (c == backslash) _ _ _ e) [
     | inl is ↦
         rw (eqb-true c backslash is.0)
-        (escape_back w (subst (λ (x : Place). PlaceEnd x P w) (sym (some_same Escaped q is.1)) end))
+        (escape_back w (place_known Escaped q w is.1 end))
     | inr other ↦
         let both = cond_some _ _ _ other.1 in
         piece_first P (plain c) c w (by_true _ _ _ _ both.0 refl)
-        (subst (λ (x : Place). PlaceEnd x P w) (sym (some_same Inside q both.1)) end)
+        (place_known Inside q w both.1 end)
   ]
   place_back Escaped q c w e end = elim (chosen (c == letter_u) _ _ _ e) [
-    | inl is ↦ inr (record {
-      rest = w;
-      is_spelled = ap (λ x. x ∷ w) (eqb-true c letter_u is.0);
-      ends = subst (λ (x : Place). PlaceEnd x P w) (sym (some_same Four q is.1)) end;
-    })
+    | inl is ↦ inr (back_mark Four q c letter_u w (by_true _ _ _ _ is.0 is.1) end)
     | inr other ↦
         let both = cond_some _ _ _ other.1 in
         let meant = is_some_found (escape_value c) both.0 in
@@ -278,14 +261,17 @@ module _ (P : List ℕ → Type 0) where
           is_meant = meant.1;
           rest = w;
           is_spelled = refl;
-          ends = subst (λ (x : Place). PlaceEnd x P w) (sym (some_same Inside q both.1)) end;
+          ends = place_known Inside q w both.1 end;
         })
   ]
   place_back Four q c w e end = elim (either_found _ _ _ e) [
     | inl is ↦ inl (back_digit ThreeOfD q c 13 14 w is end)
     | inr other ↦
-        four_digit c w (none_out (digit_value c) ThreeOfD other.0)
-        (back_digit Three q c 0 16 w other.1 end)
+        let is = digit_known Three q c 0 16 w other.1 end in
+        elim (none_out (digit_value c) ThreeOfD other.0) [
+          | inl small ↦ inr (inl (digit_first (ThreeEnd Q) c 0 13 w is.0 small is.2))
+          | inr large ↦ inr (inr (digit_first (ThreeEnd Q) c 14 16 w large is.1 is.2))
+        ]
   ]
   place_back ThreeOfD q c w e end = elim (either_found _ _ _ e) [
     | inl is ↦ inl (back_digit Two q c 0 8 w is end)
