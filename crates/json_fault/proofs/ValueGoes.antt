@@ -1,7 +1,7 @@
 -- The scan goes through a whole JSON text.
 use Rattle.std.proofs.Common.{◌≡◌, ℕ, inl, inr, Bool, true, false, refl, sym, ◌∙◌}
 use Rattle.std.proofs.Common.{subst, arith, List, [], ◌∷◌, ◌++◌, append_assoc, append-nil}
-use Rattle.std.proofs.Common.{length, Option, Some, eqb-true, zero, suc}
+use Rattle.std.proofs.Common.{length, Option, Some, None, eqb-true, zero, suc, ap}
 use Rattle.std.specs.Prelude.{ℤ, pos, negsuc, ◌+◌, ◌^◌, ◌&&◌, ◌==◌, nat_lt, codes, option_map}
 use Rattle.std.proofs.lemmas.Bool.Decides.{nat_tests}
 use Rattle.jsonb_value.specs.declared.number.Number.{Number}
@@ -139,10 +139,10 @@ key_goes bs ps bytes w e more =
 
 -- ---- the beginnings of arrays and objects
 
-first_value : (c : ℕ) (m : Move) → value_begun c ≡ Some m → (c == close_bracket) ≡ false
-first_value c m e = elim (bool_cases (c == close_bracket)) [
-  | inl is ↦
-      no_error (subst (λ (x : ℕ). value_begun x ≡ Some m) (eqb-true c close_bracket is) e)
+not_closed : (f : ℕ → Option Move) (k c : ℕ) (m : Move) → f k ≡ None → f c ≡ Some m
+    → (c == k) ≡ false
+not_closed f k c m none e = elim (bool_cases (c == k)) [
+  | inl is ↦ no_error (sym none ∙ sym (ap f (eqb-true c k is)) ∙ e)
   | inr other ↦ other
 ]
 
@@ -156,15 +156,8 @@ first_item bs (c ∷ w) go = elim (chosen (is_blank c) _ _ _ go.1) [
       subst (λ (m : Move). Going m.0 (changed m.1 bs) w) (sym same) go.2 in
       ((FirstItem, Keep), by_true _ _ _ _ is.0 refl, first_item bs w rest)
   | inr other ↦
-      (go.0, by_false _ _ _ _ other.0 (by_false _ _ _ _ (first_value c go.0 other.1) other.1), go.2)
-]
-
-first_quote : (c : ℕ) (m : Move) → mark_begun c quote (Name Inside) ≡ Some m
-    → (c == close_brace) ≡ false
-first_quote c m e = elim (bool_cases (c == close_brace)) [
-  | inl is ↦ no_error (subst (λ (x : ℕ). mark_begun x quote (Name Inside) ≡ Some m)
-      (eqb-true c close_brace is) e)
-  | inr other ↦ other
+      let other_mark = not_closed value_begun close_bracket c go.0 refl other.1 in
+      (go.0, by_false _ _ _ _ other.0 (by_false _ _ _ _ other_mark other.1), go.2)
 ]
 
 first_key : (bs : List Bracket) (w : List ℕ) → Going Key bs w → Going FirstKey bs w
@@ -177,7 +170,9 @@ first_key bs (c ∷ w) go = elim (chosen (is_blank c) _ _ _ go.1) [
       subst (λ (m : Move). Going m.0 (changed m.1 bs) w) (sym same) go.2 in
       ((FirstKey, Keep), by_true _ _ _ _ is.0 refl, first_key bs w rest)
   | inr other ↦
-      (go.0, by_false _ _ _ _ other.0 (by_false _ _ _ _ (first_quote c go.0 other.1) other.1), go.2)
+      let other_mark = not_closed (λ d. mark_begun d quote (Name Inside)) close_brace c go.0 refl
+      other.1 in
+      (go.0, by_false _ _ _ _ other.0 (by_false _ _ _ _ other_mark other.1), go.2)
 ]
 
 -- ---- values
