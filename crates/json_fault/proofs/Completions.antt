@@ -59,7 +59,7 @@ module _ (P : List ℕ → Type 0) (w : List ℕ) (end : P w) where
     fraction = [];
     is_whole_part = refl;
     is_fraction = refl;
-    has_place = zero_room b;
+    is_held = zero_room b;
     rest = w;
     is_spelled = refl;
     ends = end;
@@ -77,7 +77,7 @@ module _ (P : List ℕ → Type 0) (w : List ℕ) (end : P w) where
         first = zero_digit;
         digits = [];
         are_digits = refl;
-        has_place = room_same b (m * 10) (m * 10 + 0) (k + 1) (k + 1) wider (omega arith) refl;
+        is_held = room_same b (m * 10) (m * 10 + 0) (k + 1) (k + 1) wider (omega arith) refl;
         rest = w;
         is_spelled = refl;
         ends = end;

@@ -90,7 +90,7 @@ pub record TailEnd (b : Bool) (m k : ℕ) (P : List ℕ → Type 0) (w : List �
   pub fraction : List ℕ
   pub are_digits : all_digits digits ≡ true
   pub is_fraction : all_digits fraction ≡ true
-  pub has_place : has_room b (digits_value_after 10 m (digits ++ fraction)) (k + length fraction)
+  pub is_held : has_room b (digits_value_after 10 m (digits ++ fraction)) (k + length fraction)
       ≡ true
   pub rest : List ℕ
   pub is_spelled : w ≡ digits ++ (fraction_text fraction ++ rest)
@@ -100,7 +100,7 @@ pub record TailEnd (b : Bool) (m k : ℕ) (P : List ℕ → Type 0) (w : List �
 pub record ZeroEnd (b : Bool) (m k : ℕ) (P : List ℕ → Type 0) (w : List ℕ) : Type 0 where
   pub fraction : List ℕ
   pub is_fraction : all_digits fraction ≡ true
-  pub has_place : has_room b (digits_value_after 10 m fraction) (k + length fraction) ≡ true
+  pub is_held : has_room b (digits_value_after 10 m fraction) (k + length fraction) ≡ true
   pub rest : List ℕ
   pub is_spelled : w ≡ fraction_text fraction ++ rest
   pub ends : P rest
@@ -109,7 +109,7 @@ pub record ZeroEnd (b : Bool) (m k : ℕ) (P : List ℕ → Type 0) (w : List �
 pub record DigitsEnd (b : Bool) (m k : ℕ) (P : List ℕ → Type 0) (w : List ℕ) : Type 0 where
   pub digits : List ℕ
   pub are_digits : all_digits digits ≡ true
-  pub has_place : has_room b (digits_value_after 10 m digits) (k + length digits) ≡ true
+  pub is_held : has_room b (digits_value_after 10 m digits) (k + length digits) ≡ true
   pub rest : List ℕ
   pub is_spelled : w ≡ digits ++ rest
   pub ends : P rest
@@ -119,7 +119,7 @@ pub record PointEnd (b : Bool) (m k : ℕ) (P : List ℕ → Type 0) (w : List �
   pub first : ℕ
   pub digits : List ℕ
   pub are_digits : all_digits (first ∷ digits) ≡ true
-  pub has_place : has_room b (digits_value_after 10 m (first ∷ digits))
+  pub is_held : has_room b (digits_value_after 10 m (first ∷ digits))
       (k + length (first ∷ digits)) ≡ true
   pub rest : List ℕ
   pub is_spelled : w ≡ first ∷ (digits ++ rest)
@@ -131,7 +131,7 @@ pub record SignEnd (b : Bool) (P : List ℕ → Type 0) (w : List ℕ) : Type 0 
   pub fraction : List ℕ
   pub is_whole_part : is_whole whole ≡ true
   pub is_fraction : all_digits fraction ≡ true
-  pub has_place : has_room b (digits_value_after 10 0 (whole ++ fraction)) (length fraction) ≡ true
+  pub is_held : has_room b (digits_value_after 10 0 (whole ++ fraction)) (length fraction) ≡ true
   pub rest : List ℕ
   pub is_spelled : w ≡ whole ++ (fraction_text fraction ++ rest)
   pub ends : P rest

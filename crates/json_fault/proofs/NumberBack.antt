@@ -90,7 +90,7 @@ value_of_sign P b w end =
       whole = end.whole;
       fraction = end.fraction;
     } in
-    let found = room_number b _ (length end.fraction) end.has_place in
+    let found = room_number b _ (length end.fraction) end.is_held in
     let meant : numeral_meaning n ≡ Some found.0 =
     by_true _ _ _ _ (and_both _ _ end.is_whole_part end.is_fraction) found.1 in
     record {
@@ -115,7 +115,7 @@ module _ (P : List ℕ → Type 0) where
     fraction = end.fraction;
     is_whole_part = ascii_digit c is;
     is_fraction = end.is_fraction;
-    has_place = room_same b _ _ _ _ end.has_place
+    is_held = room_same b _ _ _ _ end.is_held
         (ap (λ m. digits_value_after 10 m end.fraction) (omega arith)) (omega arith);
     rest = end.rest;
     is_spelled = ap (λ r. c ∷ r) end.is_spelled;
@@ -135,7 +135,7 @@ module _ (P : List ℕ → Type 0) where
     fraction = end.fraction;
     is_whole_part = whole_digits c end.digits (ascii_digit c is) other end.are_digits;
     is_fraction = end.is_fraction;
-    has_place = room_same b _ _ _ _ end.has_place
+    is_held = room_same b _ _ _ _ end.is_held
         (ap (λ m. digits_value_after 10 m (end.digits ++ end.fraction)) (omega arith))
         (omega arith);
     rest = end.rest;
@@ -162,7 +162,7 @@ module _ (P : List ℕ → Type 0) where
   point_zero b m k c w is end = record {
     fraction = end.first ∷ end.digits;
     is_fraction = end.are_digits;
-    has_place = end.has_place;
+    is_held = end.is_held;
     rest = end.rest;
     is_spelled = cc;
     ends = end.ends;
@@ -175,7 +175,7 @@ module _ (P : List ℕ → Type 0) where
     fraction = end.first ∷ end.digits;
     are_digits = refl;
     is_fraction = end.are_digits;
-    has_place = end.has_place;
+    is_held = end.is_held;
     rest = end.rest;
     is_spelled = cc;
     ends = end.ends;
@@ -188,7 +188,7 @@ module _ (P : List ℕ → Type 0) where
     fraction = end.fraction;
     are_digits = and_both _ _ (ascii_digit c is) end.are_digits;
     is_fraction = end.is_fraction;
-    has_place = room_same b _ _ _ _ end.has_place refl (omega arith);
+    is_held = room_same b _ _ _ _ end.is_held refl (omega arith);
     rest = end.rest;
     is_spelled = ap (λ r. c ∷ r) end.is_spelled;
     ends = end.ends;
@@ -200,7 +200,7 @@ module _ (P : List ℕ → Type 0) where
     first = c;
     digits = end.digits;
     are_digits = and_both _ _ (ascii_digit c is) end.are_digits;
-    has_place = room_same b _ _ _ _ end.has_place refl (omega arith);
+    is_held = room_same b _ _ _ _ end.is_held refl (omega arith);
     rest = end.rest;
     is_spelled = ap (λ r. c ∷ r) end.is_spelled;
     ends = end.ends;
@@ -211,7 +211,7 @@ module _ (P : List ℕ → Type 0) where
   digit_digits b m k c w is end = record {
     digits = c ∷ end.digits;
     are_digits = and_both _ _ (ascii_digit c is) end.are_digits;
-    has_place = room_same b _ _ _ _ end.has_place refl (omega arith);
+    is_held = room_same b _ _ _ _ end.is_held refl (omega arith);
     rest = end.rest;
     is_spelled = ap (λ r. c ∷ r) end.is_spelled;
     ends = end.ends;
@@ -264,7 +264,7 @@ module _ (P : List ℕ → Type 0) where
   number_ends Zero b m k w e room end = record {
     fraction = [];
     is_fraction = refl;
-    has_place = room_same b m m k (k + 0) room refl (omega arith);
+    is_held = room_same b m m k (k + 0) room refl (omega arith);
     rest = w;
     is_spelled = refl;
     ends = end;
@@ -274,7 +274,7 @@ module _ (P : List ℕ → Type 0) where
     fraction = [];
     are_digits = refl;
     is_fraction = refl;
-    has_place = room_same b m m k (k + 0) room refl (omega arith);
+    is_held = room_same b m m k (k + 0) room refl (omega arith);
     rest = w;
     is_spelled = refl;
     ends = end;
@@ -282,7 +282,7 @@ module _ (P : List ℕ → Type 0) where
   number_ends Fraction b m k w e room end = record {
     digits = [];
     are_digits = refl;
-    has_place = room_same b m m k (k + 0) room refl (omega arith);
+    is_held = room_same b m m k (k + 0) room refl (omega arith);
     rest = w;
     is_spelled = refl;
     ends = end;
