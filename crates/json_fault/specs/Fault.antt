@@ -16,7 +16,7 @@ pub record IsFault (front back : List ℕ) : Type 0 where
   pub begins : Begins front
   pub longest : (c : ℕ) (rest : List ℕ) → back ≡ c ∷ rest → Begins (front ++ c ∷ []) → ⊥
 
--- The longest beginning of the characters that begins a JSON text has so many bytes.
+-- The longest beginning of the characters that begins a JSON text has `offset` bytes.
 pub record IsFaultAt (s : List ℕ) (offset : ℕ) : Type 0 where
   pub front : List ℕ
   pub back : List ℕ

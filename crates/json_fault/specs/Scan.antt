@@ -52,7 +52,7 @@ is_viable n = has_room_after n.part n.is_negative n.magnitude n.scale
 abbrev pub viable_only : Numeral → Option Numeral
 viable_only n = cond (is_viable n) (Some n) None
 
--- The numeral after one more digit of this part, which adds so much to the scale.
+-- The numeral after one more digit of this part, which adds `more` to the scale.
 abbrev pub with_digit : Numeral → Part → ℕ → ℕ → Option Numeral
 with_digit n part more c = cond (is_digit c 10) (viable_only (record {
   is_negative = n.is_negative;
@@ -114,7 +114,7 @@ abbrev pub after_digit : ℕ → ℕ → ℕ → Place → Option Place
 after_digit c low high place =
     cond (nat_le low (digit_value c) && nat_lt (digit_value c) high) (Some place) None
 
--- The place after this character, if it comes.
+-- `place`, if the character is `mark`.
 abbrev pub after_mark : ℕ → ℕ → Place → Option Place
 after_mark c mark place = cond (c == mark) (Some place) None
 
@@ -180,11 +180,11 @@ value_begun c =
     (cond (c == 102) (keep (Letters Alse))
     (cond (c == 110) (keep (Letters Ull)) (number_first c))))))
 
--- What follows this character, if it comes.
+-- `next`, if the character is `mark`.
 abbrev pub mark_begun : ℕ → ℕ → Expected → Option Move
 mark_begun c mark next = cond (c == mark) (keep next) None
 
--- The end of a container, or something else.
+-- The end of a container, if the character is `mark`, or else `other`.
 abbrev pub closed_or : ℕ → ℕ → Option Move → Option Move
 closed_or c mark other = cond (c == mark) (Some (Rest, Close)) other
 

@@ -101,7 +101,7 @@ fn number_first(character: char) -> Option<(Expected, Change)>
     Some((Expected::Digits(numeral), Change::Keep))
 }
 
-// What follows this character, if it comes.
+// `next`, if the character is `mark`.
 fn mark_begun(character: char, mark: char, next: Expected) -> Option<(Expected, Change)>
     ensures { result ≡ mark_begun character mark next }
 {
@@ -112,7 +112,7 @@ fn mark_begun(character: char, mark: char, next: Expected) -> Option<(Expected, 
     }
 }
 
-// The end of a container, or something else.
+// The end of a container, if the character is `mark`, or else `other`.
 fn closed_or(
     character: char,
     mark: char,

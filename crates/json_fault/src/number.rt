@@ -65,7 +65,7 @@ fn viable_only(numeral: Numeral) -> Option<Numeral>
     }
 }
 
-// The numeral after one more digit of this part, which adds so much to the scale.
+// The numeral after one more digit of this part, which adds `more` to the scale.
 fn with_digit(numeral: Numeral, part: Part, more: usize, character: char) -> Option<Numeral>
     ensures { result ≡ with_digit numeral part more character }
 {

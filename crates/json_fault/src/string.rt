@@ -16,7 +16,7 @@ pub enum Place {
     Four,
     /// The last three digits of a unit that begins with `d`.
     ThreeOfD,
-    /// So many digits of any kind.
+    /// Three digits of any kind, and then two and one.
     Three,
     Two,
     One,
@@ -74,7 +74,7 @@ fn after_digit(character: char, low: u32, high: u32, place: Place) -> Option<Pla
     }
 }
 
-// The place after this character, if it comes.
+// `place`, if the character is `mark`.
 fn after_mark(character: char, mark: char, place: Place) -> Option<Place>
     ensures { result ≡ after_mark character mark place }
 {
