@@ -1,5 +1,5 @@
 -- Steps of leaving out the numbers of a text.
-use Rattle.std.proofs.Common.{◌≡◌, ℕ, zero, ◌-◌, ◌<◌, inl, inr, true}
+use Rattle.std.proofs.Common.{◌≡◌, ℕ, zero, ◌-◌, ◌<◌, inl, inr, Bool, true, false, cond}
 use Rattle.std.proofs.Common.{refl, sym, ap, ◌∙◌, subst, arith, List, [], ◌∷◌, ◌++◌, append_assoc}
 use Rattle.std.proofs.Common.{append-nil, length, length-append, Option, Some, None}
 use Rattle.std.specs.Prelude.{◌||◌, ◌==◌, codes, is_some, IsUtf8, encode_utf8}
@@ -10,7 +10,7 @@ use Rattle.std.proofs.lemmas.Str.{chars-nil, chars-append, chars-encodes, scalar
 use lib.Utf8.{scalars}
 use Rattle.jsonb_value.specs.Json.Characters.{minus, point, zero_digit}
 use Rattle.jsonb_value.specs.Reader.Reading.{after_digits}
-use Rattle.jsonb_value.proofs.Json.Tests.{cond_some, chosen, bool_cases, bind_then, some_same}
+use Rattle.jsonb_value.proofs.Json.Tests.{cond_some, chosen, bind_then, some_same}
 use Rattle.jsonb_value.proofs.Json.Tests.{no_error, by_true, by_false, and_true, and_both}
 use Rattle.json_fault.specs.declared.without_numbers.Scan.{Scan}
 use Rattle.json_fault.specs.declared.without_numbers.Scan.TheVariants.{Outside, Inside, Escaped}
@@ -73,12 +73,15 @@ first_used a b c (x ∷ xs) shorter e = record {
 shorter_in_end : (a b c : List ℕ) → IsShorter a b → IsEnd b c → IsShorter a c
 shorter_in_end a b c shorter end = first_used a b c end.used shorter end.is_split
 
+chosen_end : (b : Bool) (r s t : List ℕ) → IsEnd r t → IsEnd s t → IsEnd (cond b r s) t
+chosen_end true r s t first second = first
+chosen_end false r s t first second = second
+
 digits_end : (s : List ℕ) → IsEnd (after_digits s) s
 digits_end [] = same_end []
-digits_end (c ∷ s) = elim (bool_cases (is_ascii_digit c)) [
-  | inl is ↦ rw is (end_after c (after_digits s) s (digits_end s))
-  | inr other ↦ rw other (same_end (c ∷ s))
-]
+digits_end (c ∷ s) =
+    chosen_end (is_ascii_digit c) _ _ _ (end_after c (after_digits s) s (digits_end s))
+    (same_end (c ∷ s))
 
 some_digits_shorter : (s rest : List ℕ) → after_some_digits s ≡ Some rest → IsShorter rest s
 some_digits_shorter [] rest e = no_error e
@@ -90,10 +93,8 @@ some_digits_shorter (c ∷ s) rest e =
 
 minus_end : (s : List ℕ) → IsEnd (after_minus s) s
 minus_end [] = same_end []
-minus_end (c ∷ s) = elim (bool_cases (c == minus)) [
-  | inl is ↦ rw is (end_after c s s (same_end s))
-  | inr other ↦ rw other (same_end (c ∷ s))
-]
+minus_end (c ∷ s) =
+    chosen_end (c == minus) _ _ _ (end_after c s s (same_end s)) (same_end (c ∷ s))
 
 whole_shorter : (s rest : List ℕ) → after_whole s ≡ Some rest → IsShorter rest s
 whole_shorter [] rest e = no_error e
@@ -106,34 +107,30 @@ whole_shorter (c ∷ s) rest e = elim (chosen (c == zero_digit) _ _ _ e) [
   | inr other ↦ some_digits_shorter (c ∷ s) rest other.1
 ]
 
-found_end : (o : Option (List ℕ)) (s : List ℕ) → ((r : List ℕ) → o ≡ Some r → IsEnd r s)
-    → IsEnd (unwrap_or o s) s
-found_end None s found = same_end s
-found_end (Some r) s found = found r refl
+-- what is found after a first character, or all
+found_after : (c : ℕ) (o : Option (List ℕ)) (s : List ℕ) → ((r : List ℕ) → o ≡ Some r → IsEnd r s)
+    → IsEnd (unwrap_or o (c ∷ s)) (c ∷ s)
+found_after c None s found = same_end (c ∷ s)
+found_after c (Some r) s found = end_after c r s (found r refl)
 
 fraction_end : (s : List ℕ) → IsEnd (after_fraction s) s
 fraction_end [] = same_end []
-fraction_end (c ∷ s) = elim (bool_cases (c == point)) [
-  | inl is ↦ rw is (found_end (after_some_digits s) (c ∷ s)
-      (λ r e. end_after c r s (end_of_shorter r s (some_digits_shorter s r e))))
-  | inr other ↦ rw other (same_end (c ∷ s))
-]
+fraction_end (c ∷ s) =
+    chosen_end (c == point) _ _ _ (found_after c (after_some_digits s) s
+    (λ r e. end_of_shorter r s (some_digits_shorter s r e))) (same_end (c ∷ s))
 
 sign_end : (s : List ℕ) → IsEnd (after_sign s) s
 sign_end [] = same_end []
-sign_end (c ∷ s) = elim (bool_cases ((c == 43) || (c == minus))) [
-  | inl is ↦ rw is (end_after c s s (same_end s))
-  | inr other ↦ rw other (same_end (c ∷ s))
-]
+sign_end (c ∷ s) =
+    chosen_end ((c == 43) || (c == minus)) _ _ _ (end_after c s s (same_end s)) (same_end (c ∷ s))
 
 exponent_end : (s : List ℕ) → IsEnd (after_exponent s) s
 exponent_end [] = same_end []
-exponent_end (c ∷ s) = elim (bool_cases ((c == 101) || (c == 69))) [
-  | inl is ↦ rw is (found_end (after_some_digits (after_sign s)) (c ∷ s)
-      (λ r e. end_after c r s (end_of_end r (after_sign s) s
-      (end_of_shorter r (after_sign s) (some_digits_shorter (after_sign s) r e)) (sign_end s))))
-  | inr other ↦ rw other (same_end (c ∷ s))
-]
+exponent_end (c ∷ s) =
+    chosen_end ((c == 101) || (c == 69)) _ _ _ (found_after c (after_some_digits (after_sign s)) s
+    (λ r e. end_of_end r (after_sign s) s
+    (end_of_shorter r (after_sign s) (some_digits_shorter (after_sign s) r e)) (sign_end s)))
+    (same_end (c ∷ s))
 
 number_shorter : (s rest : List ℕ) → after_number s ≡ Some rest → IsShorter rest s
 number_shorter s rest e =
