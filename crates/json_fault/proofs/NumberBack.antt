@@ -15,8 +15,7 @@ use Rattle.jsonb_value.specs.Json.Numeral.{signed_number, number_of, whole_numbe
 use Rattle.jsonb_value.specs.Json.Numeral.{decimal_number, numeral_meaning}
 use Rattle.jsonb_value.specs.Json.Syntax.{numeral}
 use Rattle.jsonb_value.proofs.Json.Tests.{and_true, and_both, by_true, by_false, cond_some}
-use Rattle.jsonb_value.proofs.Json.Tests.{some_same}
-use Rattle.jsonb_value.proofs.Json.Tests.{bool_cases}
+use Rattle.jsonb_value.proofs.Json.Tests.{some_same, bool_cases}
 use Rattle.json_fault.specs.declared.number.Part.{Part}
 use Rattle.json_fault.specs.declared.number.Part.TheVariants.{Sign, Zero, Whole, Point, Fraction}
 use Rattle.json_fault.specs.declared.number.Numeral as code

@@ -7,8 +7,7 @@ use Rattle.std.specs.Char.{digit_value, is_digit}
 use Rattle.jsonb_value.specs.Json.Characters.{quote, comma, colon, open_bracket, close_bracket}
 use Rattle.jsonb_value.specs.Json.Characters.{open_brace, close_brace, is_blank, minus, zero_digit}
 use Rattle.jsonb_value.specs.Json.Characters.{point}
-use Rattle.jsonb_value.proofs.Json.Tests.{and_both, cond_some, bind_then, some_same}
-use Rattle.jsonb_value.proofs.Json.Tests.{no_error}
+use Rattle.jsonb_value.proofs.Json.Tests.{and_both, cond_some, bind_then, some_same, no_error}
 use Rattle.json_fault.specs.declared.number.Part.{Part}
 use Rattle.json_fault.specs.declared.number.Part.TheVariants.{Sign, Zero, Whole, Point, Fraction}
 use Rattle.json_fault.specs.declared.number.Numeral.{Numeral}
@@ -26,10 +25,9 @@ use Rattle.json_fault.specs.declared.expected.Change.TheVariants.{Keep}
 use Rattle.json_fault.specs.Fault.{Begins, IsFault}
 use Rattle.json_fault.specs.Scan.{Move, changed, innermost, followed, limit, has_room, is_viable}
 use Rattle.json_fault.specs.Scan.{has_room_after, viable_only, with_digit, with_point, number_begun}
-use Rattle.json_fault.specs.Scan.{number_first}
-use Rattle.json_fault.specs.Scan.{part_continued, number_continued, value_begun, mark_begun}
-use Rattle.json_fault.specs.Scan.{rest_begun, rest_followed, word_continued}
-use Rattle.json_fault.specs.Scan.{is_closed, string_continued}
+use Rattle.json_fault.specs.Scan.{number_first, part_continued, number_continued, value_begun}
+use Rattle.json_fault.specs.Scan.{mark_begun, rest_begun, rest_followed, word_continued, is_closed}
+use Rattle.json_fault.specs.Scan.{string_continued}
 use Rattle.json_fault.proofs.Conditions.{less_from, less_test, either_found}
 use Rattle.json_fault.proofs.Endings.{Completes}
 use Rattle.json_fault.proofs.StepBack.{is_live, step_back, whole_text}

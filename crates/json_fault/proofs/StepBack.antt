@@ -1,7 +1,6 @@
 -- What completes a text after a character completes it before, with the character in front.
-use Rattle.std.proofs.Common.{◌≡◌, ℕ, inl, inr, Bool, true, false, cond, refl, sym, ap, ◌∙◌}
-use Rattle.std.proofs.Common.{subst, List, [], ◌∷◌, ◌++◌, append_assoc, Option, Some}
-use Rattle.std.proofs.Common.{eqb-true}
+use Rattle.std.proofs.Common.{◌≡◌, ℕ, inl, inr, Bool, true, false, cond, refl, sym, ap, ◌∙◌, subst}
+use Rattle.std.proofs.Common.{List, [], ◌∷◌, ◌++◌, append_assoc, Option, Some, eqb-true}
 use Rattle.std.specs.Prelude.{◌==◌, option_map}
 use Rattle.jsonb_value.specs.Tree.{Tree, null, array, object, text, boolean, no_trees, tree}
 use Rattle.jsonb_value.specs.Tree.{no_pairs}
@@ -10,13 +9,11 @@ use Rattle.jsonb_value.specs.Json.Characters.{quote, comma, colon, open_bracket,
 use Rattle.jsonb_value.specs.Json.Characters.{open_brace, close_brace, is_blank, all_blank, minus}
 use Rattle.jsonb_value.specs.Json.Piece.{pieces_text}
 use Rattle.jsonb_value.specs.Json.Syntax.{Syntax, nothing, truth, string, empty_array, items}
-use Rattle.jsonb_value.specs.Json.Syntax.{empty_object, members, element, no_item}
-use Rattle.jsonb_value.specs.Json.Syntax.{next_item, member, no_member}
-use Rattle.jsonb_value.specs.Json.Syntax.{next_member}
-use Rattle.jsonb_value.specs.Json.Syntax.{element_text, items_text, member_text}
-use Rattle.jsonb_value.specs.Json.Syntax.{members_text, meaning, element_meaning, items_meaning}
-use Rattle.jsonb_value.specs.Json.Syntax.{member_meaning, members_meaning, syntax_text}
-use Rattle.jsonb_value.specs.Json.Syntax.{pairs, insert_all, Json}
+use Rattle.jsonb_value.specs.Json.Syntax.{empty_object, members, element, no_item, next_item}
+use Rattle.jsonb_value.specs.Json.Syntax.{member, no_member, next_member, element_text, items_text}
+use Rattle.jsonb_value.specs.Json.Syntax.{member_text, members_text, meaning, element_meaning}
+use Rattle.jsonb_value.specs.Json.Syntax.{items_meaning, member_meaning, members_meaning}
+use Rattle.jsonb_value.specs.Json.Syntax.{syntax_text, pairs, insert_all, Json}
 use Rattle.jsonb_value.proofs.Json.Tests.{and_both, by_true, bound, cond_some, chosen}
 use Rattle.jsonb_value.proofs.Json.Tests.{some_same, no_error, bind_then}
 use Rattle.json_fault.specs.declared.string.Place.{Place}
@@ -32,10 +29,9 @@ use Rattle.json_fault.specs.declared.expected.Expected.TheVariants.{Key, Colon, 
 use Rattle.json_fault.specs.declared.expected.Expected.TheVariants.{Digits, Content, Name}
 use Rattle.json_fault.specs.declared.expected.Change.TheVariants.{Keep, Close}
 use Rattle.json_fault.specs.Scan.{Move, keep, changed, innermost, followed, value_begun}
-use Rattle.json_fault.specs.Scan.{number_first}
-use Rattle.json_fault.specs.Scan.{number_begun, rest_begun, rest_followed, mark_begun}
-use Rattle.json_fault.specs.Scan.{word_continued, is_viable, is_closed}
-use Rattle.json_fault.specs.Scan.{number_continued, string_continued}
+use Rattle.json_fault.specs.Scan.{number_first, number_begun, rest_begun, rest_followed, mark_begun}
+use Rattle.json_fault.specs.Scan.{word_continued, is_viable, is_closed, number_continued}
+use Rattle.json_fault.specs.Scan.{string_continued}
 use Rattle.json_fault.proofs.Conditions.{either_found}
 use Rattle.json_fault.proofs.Endings.{SyntaxEnd, After, ValueEnd, StringEnd, ColonEnd, KeyEnd}
 use Rattle.json_fault.proofs.Endings.{ItemsEnd, MembersEnd, Ends, Literal, letters, PlaceEnd}

@@ -6,11 +6,9 @@ use Rattle.std.specs.Prelude.{◌&&◌, ◌==◌, nat_lt, nat_le, encode_utf8}
 use Rattle.std.specs.Char.{digit_value}
 use Rattle.std.proofs.lemmas.Bool.Decides.{nat_tests}
 use Rattle.jsonb_value.specs.Json.Characters.{quote, backslash, letter_u}
-use Rattle.jsonb_value.specs.Json.Piece.{Piece, unit4, plain, escape, unit, surrogates}
-use Rattle.jsonb_value.specs.Json.Piece.{piece_text, piece_meaning}
-use Rattle.jsonb_value.specs.Json.Piece.{unit_value, unit_character, pair_character, is_high}
-use Rattle.jsonb_value.specs.Json.Piece.{is_low}
-use Rattle.jsonb_value.specs.Json.Piece.{escape_value}
+use Rattle.jsonb_value.specs.Json.Piece.{Piece, unit4, plain, escape, unit, surrogates, piece_text}
+use Rattle.jsonb_value.specs.Json.Piece.{piece_meaning, unit_value, unit_character, pair_character}
+use Rattle.jsonb_value.specs.Json.Piece.{is_high, is_low, escape_value}
 use Rattle.jsonb_value.proofs.Json.Tests.{and_true, and_both, by_true, bound, cond_some, chosen}
 use Rattle.jsonb_value.proofs.Json.Tests.{some_same}
 use Rattle.json_fault.specs.declared.string.Place.{Place}

@@ -21,8 +21,7 @@ use Rattle.jsonb_value.specs.Json.Syntax.{items_text, member_text, members_text,
 use Rattle.jsonb_value.specs.Json.Syntax.{meaning, element_meaning, items_meaning, member_meaning}
 use Rattle.jsonb_value.specs.Json.Syntax.{members_meaning, Json}
 use Rattle.jsonb_value.proofs.Json.Tests.{and_true, and_both, by_true, by_false, bound, bind_then}
-use Rattle.jsonb_value.proofs.Json.Tests.{cond_some}
-use Rattle.jsonb_value.proofs.Json.Tests.{chosen, bool_cases, no_error, some_same}
+use Rattle.jsonb_value.proofs.Json.Tests.{cond_some, chosen, bool_cases, no_error, some_same}
 use Rattle.jsonb_value.proofs.Json.Digits.{stops}
 use Rattle.json_fault.specs.declared.string.Place.TheVariants.{Inside}
 use Rattle.json_fault.specs.declared.expected.Bracket.{Bracket}
@@ -33,8 +32,7 @@ use Rattle.json_fault.specs.declared.expected.Expected.TheVariants.{Value, First
 use Rattle.json_fault.specs.declared.expected.Expected.TheVariants.{Key, Colon, Rest, Letters}
 use Rattle.json_fault.specs.declared.expected.Expected.TheVariants.{Content, Name}
 use Rattle.json_fault.specs.declared.expected.Change.TheVariants.{Keep, Open, Close}
-use Rattle.json_fault.specs.Scan.{Move, has_room, limit, value_begun, mark_begun}
-use Rattle.json_fault.specs.Scan.{changed}
+use Rattle.json_fault.specs.Scan.{Move, has_room, limit, value_begun, mark_begun, changed}
 use Rattle.json_fault.proofs.Conditions.{less_from, less_test}
 use Rattle.json_fault.proofs.Going.{Going, arrived, step, blanks_go}
 use Rattle.json_fault.proofs.StringGoes.{pieces_go}

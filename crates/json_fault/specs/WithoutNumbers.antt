@@ -1,7 +1,6 @@
 -- A text without its numbers.
 use Rattle.std.specs.Prelude.{ℕ, zero, suc, ◌-◌, cond, ◌||◌, ◌==◌, List, [], ◌∷◌, ◌++◌, length}
-use Rattle.std.specs.Prelude.{codes}
-use Rattle.std.specs.Prelude.{Option, Some, None, is_some}
+use Rattle.std.specs.Prelude.{codes, Option, Some, None, is_some}
 use Rattle.std.specs.Char.{is_ascii_digit}
 use Rattle.std.specs.Option.{unwrap_or}
 use Rattle.jsonb_value.specs.Json.Bind.{◌>>=◌}
