@@ -28,10 +28,7 @@ pub fn array_items<'a>(
     let Some(walk) = ArrayIterator::new(raw)? else {
         return Ok(None);
     };
-    let mut items = Vec::new(alloc);
-    for item in walk {
-        items.push(item?)?;
-    }
+    let items = walk.try_collect(alloc)?;
     Ok(Some(items))
 }
 
@@ -49,10 +46,7 @@ pub fn object_keys<'a>(
     let Some(walk) = ObjectKeyIterator::new(raw)? else {
         return Ok(None);
     };
-    let mut keys = Vec::new(alloc);
-    for key in walk {
-        keys.push(key?)?;
-    }
+    let keys = walk.try_collect(alloc)?;
     Ok(Some(keys))
 }
 
@@ -73,10 +67,7 @@ pub fn object_values<'a>(
     let Some(walk) = ObjectValueIterator::new(raw)? else {
         return Ok(None);
     };
-    let mut values = Vec::new(alloc);
-    for value in walk {
-        values.push(value?)?;
-    }
+    let values = walk.try_collect(alloc)?;
     Ok(Some(values))
 }
 
@@ -97,9 +88,6 @@ pub fn object_pairs<'a>(
     let Some(walk) = ObjectIterator::new(raw)? else {
         return Ok(None);
     };
-    let mut pairs = Vec::new(alloc);
-    for pair in walk {
-        pairs.push(pair?)?;
-    }
+    let pairs = walk.try_collect(alloc)?;
     Ok(Some(pairs))
 }
