@@ -27,7 +27,7 @@ module _ {S : Type 0} (rule : Rule S) (one : HasOneReply rule) where
       (more {reply = b} {replies = ys} second rest) given also =
       let (same, left) =
       one_reply first second (All-head IsGiven a xs given) (All-head IsGiven b ys also) in
-      let behind = one_session (rw left at others) rest (All-tail IsGiven a xs given)
+      let later = one_session (rw left at others) rest (All-tail IsGiven a xs given)
       (All-tail IsGiven b ys also) in cc
 
   pub one_output : (state : S) (input a b : List ℕ) → AreAnswers rule state input a

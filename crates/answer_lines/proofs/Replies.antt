@@ -82,10 +82,10 @@ one_ended (x ∷ xs) [] r s lines others one also same =
     let feed = rw append_assoc at (sym same) in
     absurd (not_before 10 x (line_bytes xs ++ r) (rw feed at also))
 one_ended (x ∷ xs) (y ∷ ys) r s lines others one also same =
-    let (head, behind) = one_cut_at 10 x y (line_bytes xs ++ r) (line_bytes ys ++ s)
+    let (head, later) = one_cut_at 10 x y (line_bytes xs ++ r) (line_bytes ys ++ s)
     (All-head IsLine x xs lines) (All-head IsLine y ys others) (simp append_assoc at same) in
     let (tail, rest) = one_ended xs ys r s (All-tail IsLine x xs lines)
-    (All-tail IsLine y ys others) one also behind in (cc, rest)
+    (All-tail IsLine y ys others) one also later in (cc, rest)
 
 pub one_lines : (bytes : List ℕ) (xs ys : List (List ℕ)) → AreLines bytes xs → AreLines bytes ys
     → xs ≡ ys

@@ -63,13 +63,13 @@ module _ {S : Type 0} {rule : Rule S} where
       }
 
   -- the line that was begun has ended, and was answered
-  whole_line : {state last next : S} {input start behind bytes : List ℕ} (end : List ℕ)
+  whole_line : {state last next : S} {input start later bytes : List ℕ} (end : List ℕ)
       {old mid new : Known}
-      → AppendsWhole rule state last input start (end ++ 10 ∷ behind) old mid → IsLine end
+      → AppendsWhole rule state last input start (end ++ 10 ∷ later) old mid → IsLine end
       → IsReplyTo rule last next (start ++ end) bytes → Appends mid new bytes
-      → AppendsWhole rule state next input [] behind old new
-  whole_line {start = start} {behind = behind} end so_far one is then =
-      whole_joined (end ++ 10 ∷ []) behind so_far (rw append_assoc) (record {
+      → AppendsWhole rule state next input [] later old new
+  whole_line {start = start} {later = later} end so_far one is then =
+      whole_joined (end ++ 10 ∷ []) later so_far (rw append_assoc) (record {
         lines = (start ++ end) ∷ [];
         replies = is.reply ∷ [];
         parts = simp (append_assoc, append-nil);
@@ -87,12 +87,12 @@ module _ {S : Type 0} {rule : Rule S} where
   collects_none one = record { output = []; whole = whole_begins one; all_but = all_but_begins }
 
   -- the line that was begun ends, and its reply is added
-  pub collects_line : {state last next : S} {input start left waiting behind waiting' : List ℕ}
+  pub collects_line : {state last next : S} {input start left waiting later waiting' : List ℕ}
       {old mid new : Known} (end bytes : List ℕ)
       → Collects rule state last input start left waiting old mid
-      → left ≡ end ++ 10 ∷ behind → IsLine end → IsReplyTo rule last next (start ++ end) bytes
+      → left ≡ end ++ 10 ∷ later → IsLine end → IsReplyTo rule last next (start ++ end) bytes
       → AppendsAllBut waiting' mid new (waiting ++ bytes)
-      → Collects rule state next input [] behind waiting' old new
+      → Collects rule state next input [] later waiting' old new
   collects_line end bytes so_far cut one is then = record {
     output = so_far.output ++ bytes;
     whole = whole_line end (rw cut at so_far.whole) one is refl;
@@ -101,14 +101,14 @@ module _ {S : Type 0} {rule : Rule S} where
 
   -- a fault while the buffered bytes and the reply are written
   pub collects_fault : {state last next : S} {start left waiting : List ℕ}
-      {old mid new : Known} (begun chunk end behind bytes : List ℕ)
+      {old mid new : Known} (begun chunk end after bytes : List ℕ)
       → Collects rule state last (begun ++ chunk) start left waiting old mid
-      → left ≡ end ++ 10 ∷ behind → IsLine end → IsReplyTo rule last next (start ++ end) bytes
+      → left ≡ end ++ 10 ∷ after → IsLine end → IsReplyTo rule last next (start ++ end) bytes
       → AppendsPrefix mid new (waiting ++ bytes)
       → (later : List ℕ) → AppendsBeginning rule state (begun ++ (chunk ++ later)) old new
-  collects_fault begun chunk end behind bytes so_far cut one is then later = rw (← append_assoc)
+  collects_fault begun chunk end after bytes so_far cut one is then later = rw (← append_assoc)
       (beginning_within later
-      (whole_line {behind = behind} end (rw cut at so_far.whole) one is refl)
+      (whole_line {later = after} end (rw cut at so_far.whole) one is refl)
       (all_but_faults bytes so_far.all_but then))
 
   -- only a prefix of the buffered bytes was appended

@@ -67,14 +67,14 @@ fn answer_chunk<A: LineAnswerer, W: Write>(
 {
     let mut waiting = Vec::new(alloc);
     let mut rest = chunk;
-    while let Some((end, behind)) = split_once(rest, b'\n') {
+    while let Some((end, later)) = split_once(rest, b'\n') {
         let Ok(reply) = reply_to(alloc, answerer, start, end) else {
             write_bytes(writer, &waiting)?;
             return Err(RunError::Memory);
         };
         write_later(writer, &mut waiting, reply.as_bytes())?;
         start.clear();
-        rest = behind;
+        rest = later;
     }
     write_bytes(writer, &waiting)?;
     start.extend_from_slice(rest)?;

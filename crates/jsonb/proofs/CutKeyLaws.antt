@@ -8,7 +8,7 @@ use Rattle.jsonb_codec.specs.declared.jentry.JEntry.{JEntry}
 use Rattle.jsonb.specs.Item.{part_at}
 use Rattle.jsonb.specs.Parts.{part_start, key_of_size, PassedBefore, IsUnreadable, key_unread}
 use Rattle.jsonb.specs.CutKeys.{NoneOfSize, IsFirstUnread}
-use Rattle.jsonb.proofs.PartLaws.{key_told}
+use Rattle.jsonb.proofs.PartLaws.{key_known}
 
 -- a key of the size that runs past the end
 pub key_past : (size : ℕ) (bytes : List ℕ) (n pair : ℕ) (jentry : JEntry)
@@ -19,7 +19,7 @@ unfolding part_at
 key_past size bytes n pair jentry read fits past =
     let start = part_start bytes n pair in
     let more : length bytes < start + jentry.length = rw fits past in
-    key_told size bytes n pair jentry start read fits refl (Err InvalidJsonb)
+    key_known size bytes n pair jentry start read fits refl (Err InvalidJsonb)
     (rw (lt-leb (start + jentry.length) (length bytes) more))
 
 -- keys of other lengths are passed over

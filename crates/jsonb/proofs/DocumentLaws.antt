@@ -55,4 +55,4 @@ abbrev pub nothing : Option Document
 nothing = None
 
 pub no_document : (b : List ℕ) → IsSome nothing ↔ IsDocument b → IsDocument b → ⊥
-no_document b told d = let some = told.1 d in cc
+no_document b known d = let some = known.1 d in cc

@@ -8,7 +8,7 @@ use Rattle.jsonb_value.specs.Tree.{pair_count}
 use Rattle.jsonb_codec.specs.Doc.{Payload, Doc}
 use Rattle.jsonb.specs.ItemView.{ItemView}
 use Rattle.jsonb.specs.Item.{Entry}
-use Rattle.jsonb.specs.Standing.{HasItems, HasMembers, entry_item, member_item}
+use Rattle.jsonb.specs.StoredEntries.{HasItems, HasMembers, entry_item, member_item}
 use Rattle.jsonb.specs.Walk.{Walk, items_in, count_if, count_under, item_entries}
 use Rattle.jsonb.specs.Walk.{key_entries, item_walk, array_walk, keys_walk, values_of, values_walk}
 use Rattle.jsonb.specs.Walk.{pairs_of, pairs_walk}
@@ -17,8 +17,9 @@ use Rattle.jsonb.specs.DocumentWalk.{WalksArray, WalksKeys, WalksValues, WalksPa
 use Rattle.jsonb.specs.DocumentWalk.{ShowsValueItems, ShowsMembers, WalksItems, WalksValueItems}
 use Rattle.jsonb.specs.DocumentWalk.{WalksMembers}
 use Rattle.jsonb.proofs.KindLaws.{header_of_tree, header_at-Doc}
-use Rattle.jsonb.proofs.StandingLaws.{value_trees, both_are, ArrayHolds, array_holds, ObjectHolds}
-use Rattle.jsonb.proofs.StandingLaws.{object_holds, shown_items, shown_keys, shown_members}
+use Rattle.jsonb.proofs.StoredEntryLaws.{value_trees, both_are, ArrayHolds, array_holds}
+use Rattle.jsonb.proofs.StoredEntryLaws.{ObjectHolds, object_holds, shown_items, shown_keys}
+use Rattle.jsonb.proofs.StoredEntryLaws.{shown_members}
 
 -- a container's payload is the whole document
 pub array_payload : (b : List ℕ) (ts : Trees) → Doc b (array ts) → Payload (array ts) b
@@ -82,8 +83,8 @@ module _ (b : List ℕ) (t : Tree) (doc : Doc b t) where
       → WalksTrees Shows t (array_walk b)
   array_shown Shows shows = rw (count_under-Doc b t 2147483648 doc)
       (array_walked b Shows (λ ts a.
-      let shown = shown_items a.entries ts a.stand.mean a.stand.short in
-      rw shown.0 (shows ts a.entries a.stand shown.1)) t doc)
+      let shown = shown_items a.entries ts a.stored.mean a.stored.short in
+      rw shown.0 (shows ts a.entries a.stored shown.1)) t doc)
 
   values_shown : (Shows : Pairs → List (Result ItemView Error) → Type 0)
       → ((ps : Pairs) (ms : List (List ℕ × Entry)) → HasMembers b ps ms
@@ -92,9 +93,9 @@ module _ (b : List ℕ) (t : Tree) (doc : Doc b t) where
       → WalksObject Shows t (values_walk b)
   values_shown Shows shows = rw (count_under-Doc b t 1073741824 doc)
       (object_walked b Shows (values_of b) refl (λ ps o.
-      let mean = (both_are _ _ ps o.stand.mean).1 in
-      let shown = shown_items (maps.values_of o.members) (value_trees ps) mean o.stand.short in
-      rw o.values (refl, rw shown.0 (shows ps o.members o.stand shown.1))) t doc)
+      let mean = (both_are _ _ ps o.stored.mean).1 in
+      let shown = shown_items (maps.values_of o.members) (value_trees ps) mean o.stored.short in
+      rw o.values (refl, rw shown.0 (shows ps o.members o.stored shown.1))) t doc)
 
   pairs_shown : (Shows : Pairs → List (Result (List ℕ × ItemView) Error) → Type 0)
       → ((ps : Pairs) (ms : List (List ℕ × Entry)) → HasMembers b ps ms
@@ -102,33 +103,33 @@ module _ (b : List ℕ) (t : Tree) (doc : Doc b t) where
       → WalksObject Shows t (pairs_walk b)
   pairs_shown Shows shows = rw (count_under-Doc b t 1073741824 doc)
       (object_walked b Shows (pairs_of b) refl (λ ps o.
-      let shown = shown_members o.members ps o.stand.mean o.texts o.stand.short in
-      rw (o.values, o.keys) (refl, rw shown.0 (shows ps o.members o.stand shown.1))) t doc)
+      let shown = shown_members o.members ps o.stored.mean o.texts o.stored.short in
+      rw (o.values, o.keys) (refl, rw shown.0 (shows ps o.members o.stored shown.1))) t doc)
 
   pub array_walk-Doc : WalksArray t (array_walk b)
-  array_walk-Doc = array_shown ShowsTrees (λ ts cs stand shown. shown)
+  array_walk-Doc = array_shown ShowsTrees (λ ts cs stored shown. shown)
 
   pub array_items-Doc : WalksItems b t (array_walk b)
   array_items-Doc = array_shown (ShowsItems b)
-      (λ ts cs stand shown. record { entries = cs; stand = stand; items = refl })
+      (λ ts cs stored shown. record { entries = cs; stored = stored; items = refl })
 
   pub keys_walk-Doc : WalksKeys t (keys_walk b)
   keys_walk-Doc = rw (count_under-Doc b t 1073741824 doc)
       (object_walked b (λ ps xs. xs ≡ key_views ps)
       (λ n. Ok (option_map (λ n. item_walk n (key_entries b n)) n)) refl (λ ps o.
-      let keys = (both_are _ _ ps o.stand.mean).0 in
+      let keys = (both_are _ _ ps o.stored.mean).0 in
       rw (o.keys, keys) (refl, shown_keys ps (rw keys at o.texts))) t doc)
 
   pub values_walk-Doc : WalksValues t (values_walk b)
-  values_walk-Doc = values_shown ShowsValues (λ ps ms stand. ShowsValues-trees ps _)
+  values_walk-Doc = values_shown ShowsValues (λ ps ms stored. ShowsValues-trees ps _)
 
   pub values_items-Doc : WalksValueItems b t (values_walk b)
   values_items-Doc = values_shown (ShowsValueItems b)
-      (λ ps ms stand shown. record { members = ms; stand = stand; items = refl })
+      (λ ps ms stored shown. record { members = ms; stored = stored; items = refl })
 
   pub pairs_walk-Doc : WalksPairs t (pairs_walk b)
-  pairs_walk-Doc = pairs_shown ShowsPairs (λ ps ms stand shown. shown)
+  pairs_walk-Doc = pairs_shown ShowsPairs (λ ps ms stored shown. shown)
 
   pub members-Doc : WalksMembers b t (pairs_walk b)
   members-Doc = pairs_shown (ShowsMembers b)
-      (λ ps ms stand shown. record { members = ms; stand = stand; items = refl })
+      (λ ps ms stored shown. record { members = ms; stored = stored; items = refl })

@@ -12,7 +12,7 @@ use Rattle.jsonb_value.specs.declared.error.Error.TheVariants.{InvalidEOF}
 use Rattle.jsonb_codec.specs.declared.jentry.JEntry.{JEntry}
 use Rattle.jsonb_codec.specs.Word.{word_at}
 use Rattle.jsonb_codec.specs.JEntry.{jentry_of, jentry_in, jentry_at}
-use Rattle.jsonb_codec.proofs.Standing.{word_at-inside}
+use Rattle.jsonb_codec.proofs.RoomLaws.{word_at-inside}
 use Rattle.jsonb.specs.Walk.{payloads_end}
 use Rattle.jsonb.proofs.Places.{At, At-right, word_at-within}
 use Rattle.jsonb.proofs.PartLaws.{word_cut}

@@ -7,7 +7,7 @@ use Rattle.jsonb_codec.specs.Word.{word, header_at}
 use Rattle.jsonb_codec.specs.JEntry.{jentry_at}
 use Rattle.jsonb_codec.specs.Doc.{Doc, Scalar, Payload, type_of}
 use Rattle.jsonb.specs.Kind.{kind, kind_under, kind_of_type, kind_of_tree}
-use Rattle.jsonb.proofs.Places.{At, At-all, At-whole, At-left, At-behind_word, header_at-At}
+use Rattle.jsonb.proofs.Places.{At, At-all, At-whole, At-left, At-after_word, header_at-At}
 use Rattle.jsonb.proofs.Places.{header_of-array, header_of-object, header_of-scalar, IsTag}
 use Rattle.jsonb.proofs.Places.{jentry_at-At}
 
@@ -32,12 +32,12 @@ header_at-Scalar b t h = header_at-At b 536870912 (omega arith)
 
 pub At-entry : (b : List ℕ) (t : Tree) (h : Scalar t b)
     → At b 4 (word (type_of t + length h.payload) ++ h.payload)
-At-entry b t h = At-behind_word b 0 4 536870912
+At-entry b t h = At-after_word b 0 4 536870912
     (word (type_of t + length h.payload) ++ h.payload) refl (At-all b _ h.parts)
 
 pub At-payload : (b : List ℕ) (t : Tree) (h : Scalar t b) → At b 8 h.payload
 At-payload b t h =
-    At-behind_word b 4 8 (type_of t + length h.payload) h.payload refl (At-entry b t h)
+    At-after_word b 4 8 (type_of t + length h.payload) h.payload refl (At-entry b t h)
 
 pub jentry_at-Scalar : (b : List ℕ) (t : Tree) (h : Scalar t b)
     → jentry_at b 4 ≡ Ok record { type_code = type_of t; length = length h.payload }
@@ -47,14 +47,14 @@ jentry_at-Scalar b t h = jentry_at-At b 4 (type_of t) (length h.payload) (IsTag-
 pub header_at-array : (b : List ℕ) (ts : Trees) → Payload (array ts) b
     → header_at b 0 ≡ Ok (2147483648, count ts)
 header_at-array b ts h =
-    let few = h.behind.few in
+    let few = h.later.few in
     header_at-At b (2147483648 + count ts) (omega arith) (At-whole b _ h.rest h.parts)
     ∙ header_of-array (count ts) few
 
 pub header_at-object : (b : List ℕ) (ps : Pairs) → Payload (object ps) b
     → header_at b 0 ≡ Ok (1073741824, pair_count ps)
 header_at-object b ps h =
-    let few = h.1.behind.few in
+    let few = h.1.later.few in
     header_at-At b (1073741824 + pair_count ps) (omega arith) (At-whole b _ h.1.rest h.1.parts)
     ∙ header_of-object (pair_count ps) few
 

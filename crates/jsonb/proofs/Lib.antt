@@ -5,7 +5,7 @@ pub mod KindLaws
 pub mod WalkLaws
 pub mod ItemLaws
 pub mod StorageLaws
-pub mod StandingLaws
+pub mod StoredEntryLaws
 pub mod DocumentWalks
 pub mod ContentLaws
 pub mod PartLaws
@@ -25,7 +25,7 @@ pub mod TextLaws
 pub mod ResultMeanings
 pub mod Classes
 pub mod DocumentLaws
-pub mod FactLaws
+pub mod EntryTreeLaws
 pub mod StableLaws
 pub mod PutLaws
 pub mod DocumentInputLaws

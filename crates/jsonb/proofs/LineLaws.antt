@@ -89,18 +89,18 @@ pub record IsLess (small large shallow deep : ℕ) : Type 0 where
   pub less : small ≤ large
   pub no_deeper : shallow ≤ deep
 
-pub items_behind : (xs ys : List Tree) (t : Tree) → xs ≡ t ∷ ys
+pub items_after : (xs ys : List Tree) (t : Tree) → xs ≡ t ∷ ys
     → IsLess (sizes (trees_of ys)) (sizes (trees_of xs)) (depths (trees_of ys))
     (depths (trees_of xs))
-items_behind xs ys t are = rw are record {
+items_after xs ys t are = rw are record {
   less = omega arith;
   no_deeper = le-max_right (depth t) (depths (trees_of ys));
 }
 
-pub pairs_behind : (xs ys : List (List ℕ × Tree)) (k : List ℕ) (t : Tree) → xs ≡ (k, t) ∷ ys
+pub pairs_after : (xs ys : List (List ℕ × Tree)) (k : List ℕ) (t : Tree) → xs ≡ (k, t) ∷ ys
     → IsLess (pair_sizes (pairs_of ys)) (pair_sizes (pairs_of xs)) (pair_depths (pairs_of ys))
     (pair_depths (pairs_of xs))
-pairs_behind xs ys k t are = rw are record {
+pairs_after xs ys k t are = rw are record {
   less = omega arith;
   no_deeper = le-max_right (depth t) (pair_depths (pairs_of ys));
 }

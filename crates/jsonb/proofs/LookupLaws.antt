@@ -21,8 +21,8 @@ use Rattle.jsonb.specs.ItemView.{ItemView, item_view}
 use Rattle.jsonb.specs.Payloads.{has_known_tag}
 use Rattle.jsonb.specs.Item.{Entry, item_of, entry_at, part_at, item_of_number, item_of_extension}
 use Rattle.jsonb.specs.Building.{key_codes, code_entries, code_payloads}
-use Rattle.jsonb.specs.Standing.{AreCodesOf, ArePairsOf, HasMembers, find_entry}
-use Rattle.jsonb.specs.Standing.{IsFoundIn}
+use Rattle.jsonb.specs.StoredEntries.{AreCodesOf, ArePairsOf, HasMembers, find_entry}
+use Rattle.jsonb.specs.StoredEntries.{IsFoundIn}
 use Rattle.jsonb.specs.Walk.{count_under}
 use Rattle.jsonb.specs.Parts.{length_in, part_length, length_before, part_start}
 use Rattle.jsonb.specs.Parts.{key_of_size, value_entry, IsPassedAt, PassedBefore, IsAccepted}
@@ -34,17 +34,17 @@ use Rattle.jsonb.specs.Lookup.{value_view, find_pair}
 use Rattle.jsonb.specs.Lookup.{find, find_index, values_up_to, words_read, pairs_in, AnswersBy}
 use Rattle.jsonb.specs.Lookup.{IsItemFound, IsRefusal}
 use Rattle.jsonb.proofs.Places.{At-left, At, part_at-At}
-use Rattle.jsonb.proofs.PartLaws.{key_of_other_length, key_told}
-use Rattle.jsonb.proofs.StandingLaws.{value_trees, pair_keys, both_are, length-ArePairsOf}
-use Rattle.jsonb.proofs.StandingLaws.{AreEntries, AreEntries-keys, AreEntries-pairs, first_entry}
-use Rattle.jsonb.proofs.StandingLaws.{entry_item-tree, HasMembers-Payload, members_at}
-use Rattle.jsonb.proofs.StandingLaws.{length-key_codes, length-pair_keys}
+use Rattle.jsonb.proofs.PartLaws.{key_of_other_length, key_known}
+use Rattle.jsonb.proofs.StoredEntryLaws.{value_trees, pair_keys, both_are, length-ArePairsOf}
+use Rattle.jsonb.proofs.StoredEntryLaws.{AreEntries, AreEntries-keys, AreEntries-pairs, first_entry}
+use Rattle.jsonb.proofs.StoredEntryLaws.{entry_item-tree, HasMembers-Payload, members_at}
+use Rattle.jsonb.proofs.StoredEntryLaws.{length-key_codes, length-pair_keys}
 use Rattle.jsonb.proofs.DocumentWalks.{object_payload, count_under-Doc}
 use Rattle.std.proofs.lemmas.Map.Entries.{length-keys_of}
 use Rattle.jsonb_codec.specs.Parts.{IsPayloadOf}
 
 -- entries at their positions among the n keys' and n values', from number i
-record StandAt (bytes : List ℕ) (n i : ℕ) (cs : List Entry) : Type 0 where
+record AreAt (bytes : List ℕ) (n i : ℕ) (cs : List Entry) : Type 0 where
   are : AreEntries cs
   entries : At bytes (4 + 4 * i) (code_entries cs)
   payloads : At bytes (part_start bytes n i) (code_payloads cs)
@@ -59,15 +59,15 @@ record Part (bytes : List ℕ) (n i : ℕ) (c : Entry) : Type 0 where
   short : length c.payload < 2 ^ 28
 
 -- the first entry, and the positions of the others
-first_part : (bytes : List ℕ) (n i : ℕ) (c : Entry) (cs : List Entry) → StandAt bytes n i (c ∷ cs)
-    → Part bytes n i c × StandAt bytes n (suc i) cs
+first_part : (bytes : List ℕ) (n i : ℕ) (c : Entry) (cs : List Entry) → AreAt bytes n i (c ∷ cs)
+    → Part bytes n i c × AreAt bytes n (suc i) cs
 unfolding part_length
 first_part bytes n i c cs at =
     let start = part_start bytes n i in
     let f = first_entry bytes (4 + 4 * i) start c cs at.are.0 at.entries at.payloads in
     let long : part_length bytes i ≡ length c.payload = ap length_in f.jentry in
     let next : 4 + 4 * i + 4 ≡ 4 + 4 * suc i = omega arith in
-    let behind : start + length c.payload ≡ part_start bytes n (suc i) = omega arith in (
+    let later : start + length c.payload ≡ part_start bytes n (suc i) = omega arith in (
       record {
         entry = f.entry;
         jentry = f.jentry;
@@ -79,11 +79,11 @@ first_part bytes n i c cs at =
       record {
         are = at.are.1;
         entries = rw next at f.other_entries;
-        payloads = rw behind at f.other_payloads;
+        payloads = rw later at f.other_payloads;
       },
     )
 
-part_of : (bytes : List ℕ) (n i m part : ℕ) (cs : List Entry) (c : Entry) → StandAt bytes n i cs
+part_of : (bytes : List ℕ) (n i m part : ℕ) (cs : List Entry) (c : Entry) → AreAt bytes n i cs
     → part ≡ i + m → slice_get cs m ≡ Some c → Part bytes n part c
 part_of bytes n i m part [] c at e is = cc
 part_of bytes n i zero part (d ∷ cs) c at e is =
@@ -97,7 +97,7 @@ module _ (size : ℕ) (bytes : List ℕ) (n i : ℕ) (c : Entry) (part : Part by
   -- the key with this number, if it has the size
   asked : (test : Bool) → eqb (length c.payload) size ≡ test
       → key_of_size size bytes n i ≡ Ok (if test then Some c.payload else None)
-  asked true e = key_told size bytes n i _ _ (sym part.jentry) (eqb-true (length c.payload) size e)
+  asked true e = key_known size bytes n i _ _ (sym part.jentry) (eqb-true (length c.payload) size e)
       refl _ part.there
   asked false e = key_of_other_length size bytes n i _ (sym part.jentry)
       (eqb-false (length c.payload) size e)
@@ -145,7 +145,7 @@ module _ (answers : List ℕ → Bool → Type 0) (size : ℕ) where
       (v, d, ((passes 0 k (omega arith) refl, first), there, means))
 
 -- the total lengths of the keys and of the values
-length_before-entries : (bytes : List ℕ) (n i j : ℕ) (cs : List Entry) → StandAt bytes n i cs
+length_before-entries : (bytes : List ℕ) (n i j : ℕ) (cs : List Entry) → AreAt bytes n i cs
     → j ≡ i + length cs
     → length_before bytes j ≡ length_before bytes i + length (code_payloads cs)
 length_before-entries bytes n i j [] at end =
@@ -161,43 +161,43 @@ length_before-entries bytes n i j (c ∷ cs) at end =
 -- the entries of an object at their positions, by number
 record Numbered (bytes : List ℕ) (ps : Pairs) : Type 0 where
   members : List (List ℕ × Entry)
-  stand : HasMembers bytes ps members
+  stored : HasMembers bytes ps members
   mean : AreCodesOf (values_of members) (value_trees ps)
-  keys : StandAt bytes (pair_count ps) 0 (key_codes (pair_keys ps))
-  values : StandAt bytes (pair_count ps) (pair_count ps) (values_of members)
+  keys : AreAt bytes (pair_count ps) 0 (key_codes (pair_keys ps))
+  values : AreAt bytes (pair_count ps) (pair_count ps) (values_of members)
   counted : length (values_of members) ≡ pair_count ps
 
 numbered : (bytes : List ℕ) (ps : Pairs) → Payload (object ps) bytes → Numbered bytes ps
 numbered bytes ps h =
-    let (ms, stand) = HasMembers-Payload bytes ps h in
+    let (ms, stored) = HasMembers-Payload bytes ps h in
     let n = pair_count ps in
     let vs = values_of ms in
     let ks = key_codes (keys_of ms) in
-    let at = members_at bytes ms stand.few stand.written in
-    let both = both_are (keys_of ms) vs ps stand.mean in
+    let at = members_at bytes ms stored.few stored.written in
+    let both = both_are (keys_of ms) vs ps stored.mean in
     let count = length-values_of ms in
-    let counted : length vs ≡ n = length-ArePairsOf (keys_of ms) vs ps stand.mean in
+    let counted : length vs ≡ n = length-ArePairsOf (keys_of ms) vs ps stored.mean in
     let key_count = length-key_codes (keys_of ms) ∙ length-keys_of ms in
     let place : 4 + 4 * length ms ≡ 4 + 4 * n = omega arith in
     let front : 4 + 8 * length ms ≡ part_start bytes n 0 = omega arith in
-    let keys : StandAt bytes n 0 ks = record {
-      are = AreEntries-keys (keys_of ms) stand.short_keys;
+    let keys : AreAt bytes n 0 ks = record {
+      are = AreEntries-keys (keys_of ms) stored.short_keys;
       entries = at.key_entries_at;
       payloads = rw front at at.key_payloads_at;
     } in
     let before = length_before-entries bytes n 0 n ks keys (omega arith) in
-    let behind : 4 + 8 * length ms + length (code_payloads ks) ≡ part_start bytes n n =
+    let later : 4 + 8 * length ms + length (code_payloads ks) ≡ part_start bytes n n =
     omega arith in
-    let values : StandAt bytes n n vs = record {
-      are = AreEntries-pairs (keys_of ms) vs ps stand.mean stand.short;
+    let values : AreAt bytes n n vs = record {
+      are = AreEntries-pairs (keys_of ms) vs ps stored.mean stored.short;
       entries = rw place at at.entries_at;
-      payloads = rw behind at at.payloads_at;
+      payloads = rw later at at.payloads_at;
     } in
     record {
       members = ms;
-      stand = stand;
+      stored = stored;
       mean = both.1;
-      keys = subst (λ ks. StandAt bytes n 0 (key_codes ks)) both.0 keys;
+      keys = subst (λ ks. AreAt bytes n 0 (key_codes ks)) both.0 keys;
       values = values;
       counted = counted;
     }
@@ -211,11 +211,11 @@ module _ (answers : List ℕ → Bool → Type 0) (size : ℕ) (b : List ℕ) wh
   none_found : (r : Result (Option ItemView) Error) (reads : ℕ)
       → count_under b 1073741824 ≡ Ok None → LooksUpBytes answers size b r reads
       → (r ≡ Ok None) × (reads ≡ 1)
-  none_found r reads found (no_header e told is) = cc
-  none_found r reads found (other_header told is cost) = (is, cost)
-  none_found r reads found (unread n e told past is) = cc
-  none_found r reads found (all_passed n told none is cost) = cc
-  none_found r reads found (one_accepted n index entry told key there is cost) = cc
+  none_found r reads found (no_header e known is) = cc
+  none_found r reads found (other_header known is cost) = (is, cost)
+  none_found r reads found (unread n e known past is) = cc
+  none_found r reads found (all_passed n known none is cost) = cc
+  none_found r reads found (one_accepted n index entry known key there is cost) = cc
 
   module _ (ps : Pairs) (at : Numbered b ps) where
     -- the entries by number
@@ -232,7 +232,7 @@ module _ (answers : List ℕ → Bool → Type 0) (size : ℕ) (b : List ℕ) wh
     record ValueAt (index : ℕ) (entry : Entry) : Type 0 where
       value : Tree
       first : IsFirstAccepted answers size ps index value
-      stands : slice_get (values_of at.members) index ≡ Some entry
+      stored : slice_get (values_of at.members) index ≡ Some entry
       means : IsPayloadOf entry.type entry.payload value
       short : length entry.payload < 2 ^ 28
 
@@ -242,16 +242,16 @@ module _ (answers : List ℕ → Bool → Type 0) (size : ℕ) (b : List ℕ) wh
         let named = slice_get-get_or (pair_keys ps) index []
         (omega (arith, key.among, length-pair_keys ps)) in
         let (fits, given) = accepted size b _ index _ (key_part index _ named) key.key key.there in
-        let (v, c, (first, stands, means)) = first_accepted answers size (values_of at.members) ps
+        let (v, c, (first, stored, means)) = first_accepted answers size (values_of at.members) ps
         index _ at.mean named fits (rw given at key.accepted) (λ j x less at_j.
         passed size b _ j _ (key_part j x at_j) answers (key.earlier j less)) in
-        let part = value_part index c stands in
+        let part = value_part index c stored in
         let read = part.entry in
         let this : entry ≡ c = cc in
         rw this record {
           value = v;
           first = first;
-          stands = stands;
+          stored = stored;
           means = means;
           short = part.short;
         }
@@ -282,16 +282,16 @@ module _ (answers : List ℕ → Bool → Type 0) (size : ℕ) (b : List ℕ) wh
     pairs_found : (r : Result (Option ItemView) Error) (reads : ℕ)
         → count_under b 1073741824 ≡ Ok (Some (pair_count ps)) → LooksUpBytes answers size b r reads
         → IsOkAnd r (λ found. LooksUpPairs answers size b ps found reads)
-    pairs_found r reads found (no_header e told is) = cc
-    pairs_found r reads found (other_header told is cost) = cc
-    pairs_found r reads found (unread n e told past is) =
+    pairs_found r reads found (no_header e known is) = cc
+    pairs_found r reads found (other_header known is cost) = cc
+    pairs_found r reads found (unread n e known past is) =
         let same : n ≡ pair_count ps = cc in
         absurd (never_unread e (rw same at past))
-    pairs_found r reads found (all_passed n told none is cost) =
+    pairs_found r reads found (all_passed n known none is cost) =
         let same : n ≡ pair_count ps = cc in
         let before = subst (λ k. PassedBefore answers size b k k) same none in
         rw is record { none = all_passed_over before; cost = omega arith }
-    pairs_found r reads found (one_accepted n index entry told key there is cost) =
+    pairs_found r reads found (one_accepted n index entry known key there is cost) =
         let same : n ≡ pair_count ps = cc in
         let key = subst (λ n. IsAccepted answers size b n index) same key in
         let there = subst (λ n. value_entry b n index ≡ Ok entry) same there in
@@ -303,8 +303,8 @@ module _ (answers : List ℕ → Bool → Type 0) (size : ℕ) (b : List ℕ) wh
           first = f.first;
           item = shown;
           members = at.members;
-          stand = at.stand;
-          entry = rw (f.stands, item);
+          stored = at.stored;
+          entry = rw (f.stored, item);
           cost = omega arith;
         }
 
@@ -467,15 +467,15 @@ module _ (answers : List ℕ → Bool → Type 0) (accepts : List ℕ → Bool) 
   find_entry-first (m ∷ ms) (pair k t ps) (suc i) v h first =
       rw (passed_by_test m.0 k h.0 first.0) (find_entry-first ms ps i v h.1.1 first.1)
 
-  pub found_standing : (b : List ℕ) (t : Tree) (o : Option ItemView) (reads : ℕ) → Doc b t
+  pub found_stored : (b : List ℕ) (t : Tree) (o : Option ItemView) (reads : ℕ) → Doc b t
       → LooksUp answers size b t o reads → IsFoundIn accepts size b t o
-  found_standing b (object ps) None reads doc h =
-      let (ms, stand) = HasMembers-Payload b ps (object_payload b ps doc) in
-      (ms, (stand, rw (find_entry-none ms ps stand.mean h.none)))
-  found_standing b (object ps) (Some x) reads doc h =
-      let first = find_entry-first h.members ps h.index h.value h.stand.mean h.first in
-      (h.members, (h.stand, rw first h.entry))
-  found_standing b t o reads doc h = h.0
+  found_stored b (object ps) None reads doc h =
+      let (ms, stored) = HasMembers-Payload b ps (object_payload b ps doc) in
+      (ms, (stored, rw (find_entry-none ms ps stored.mean h.none)))
+  found_stored b (object ps) (Some x) reads doc h =
+      let first = find_entry-first h.members ps h.index h.value h.stored.mean h.first in
+      (h.members, (h.stored, rw first h.entry))
+  found_stored b t o reads doc h = h.0
 
 -- In a document that is no object nothing is found, after the header's word.
 pub none_by_header : (accepts : List ℕ → Bool) (size : ℕ) (b : List ℕ) (t : Tree) → Doc b t

@@ -65,12 +65,12 @@ module _ (size : ℕ) (bytes : List ℕ) (n pair : ℕ) where
   unfolding key_of_size
   key_of_other_length jentry read other = rw (← read, ne_eqb jentry.length size other)
 
-  pub key_told : (jentry : JEntry) (start : ℕ) → Ok jentry ≡ jentry_at bytes (4 + 4 * pair)
+  pub key_known : (jentry : JEntry) (start : ℕ) → Ok jentry ≡ jentry_at bytes (4 + 4 * pair)
       → jentry.length ≡ size → start ≡ part_start bytes n pair → (r : Result (List ℕ) Error)
       → part_at bytes start jentry.length ≡ r
       → key_of_size size bytes n pair ≡ (r >>= λ key. Ok (Some key))
   unfolding key_of_size
-  key_told jentry start read fits begins r part =
+  key_known jentry start read fits begins r part =
       let part = rw (fits, begins) at part in
       rw (← read, eq-eqb jentry.length size fits, part)
 
@@ -79,10 +79,10 @@ word_cut bytes i short = rw (lt-leb (i + 4) (length bytes) short)
 
 -- the value's entry, given its entry word and its offset
 module _ (bytes : List ℕ) (n pair : ℕ) where
-  pub value_told : (start : ℕ) (jentry : JEntry) → Ok jentry ≡ jentry_at bytes (4 + 4 * (n + pair))
+  pub value_known : (start : ℕ) (jentry : JEntry) → Ok jentry ≡ jentry_at bytes (4 + 4 * (n + pair))
       → start ≡ part_start bytes n (n + pair) → (r : Result (List ℕ) Error)
       → part_at bytes start jentry.length ≡ r
       → value_entry bytes n pair
       ≡ (r >>= λ payload. Ok record { type = jentry.type_code; payload = payload })
   unfolding entry_at
-  value_told start jentry read begins r part = let part = rw begins at part in rw (← read, part)
+  value_known start jentry read begins r part = let part = rw begins at part in rw (← read, part)

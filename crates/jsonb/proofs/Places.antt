@@ -82,9 +82,9 @@ length-word k = refl
 pub length-word-append : (k : ℕ) (xs : List ℕ) → length (word k ++ xs) ≡ 4 + length xs
 length-word-append k xs = cc (length-append (word k) xs, length-word k)
 
-pub At-behind_word : (bytes : List ℕ) (i j k : ℕ) (xs : List ℕ) → j ≡ i + 4
+pub At-after_word : (bytes : List ℕ) (i j k : ℕ) (xs : List ℕ) → j ≡ i + 4
     → At bytes i (word k ++ xs) → At bytes j xs
-At-behind_word bytes i j k xs e h =
+At-after_word bytes i j k xs e h =
     At-right bytes i j (word k) xs (cc (e, length-word k)) h
 
 -- a word at an offset

@@ -16,8 +16,8 @@ use Rattle.jsonb.specs.Code.{scalar_bytes}
 use Rattle.jsonb.specs.Storage.{document_code, codes_of}
 use Rattle.jsonb.specs.Building.{AreShort, code_entries, code_payloads, array_of, IsArrayOf}
 use Rattle.jsonb.specs.Results.{AreDocuments, AreCanonical, IsArrayOfInputs}
-use Rattle.jsonb.specs.Standing.{AreCodesOf}
-use Rattle.jsonb.proofs.StandingLaws.{length-AreCodesOf}
+use Rattle.jsonb.specs.StoredEntries.{AreCodesOf}
+use Rattle.jsonb.proofs.StoredEntryLaws.{length-AreCodesOf}
 use Rattle.jsonb.proofs.StorageLaws.{document_code-Scalar, document_code-container, same_payload}
 use Rattle.jsonb.proofs.StorageLaws.{codes_of-AreCodes, AreCodes-codes_of, length-codes_of}
 use Rattle.jsonb.proofs.StorageLaws.{AreStorable-FitArray, same_code}
@@ -57,7 +57,7 @@ Doc-array_of cs ts h short few =
       record {
         rest = code_entries cs ++ code_payloads cs;
         parts = cc n;
-        behind = record {
+        later = record {
           few = rw n at few;
           entries = code_entries cs;
           payloads = code_payloads cs;

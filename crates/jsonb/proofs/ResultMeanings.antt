@@ -19,7 +19,7 @@ use Rattle.jsonb.specs.Building.{AreKeys, IsArrayOf, IsObjectOf}
 use Rattle.jsonb.specs.Results.{AllMean, AllMeanAt, IsArrayUpToZeros, IsObjectUpToZeros}
 use Rattle.jsonb.proofs.StorageLaws.{codes_of-AreCodes}
 use Rattle.jsonb.proofs.StorageLaws.{AreStorable-FitArray}
-use Rattle.jsonb.specs.Standing.{AreCodesOf, ArePairsOf}
+use Rattle.jsonb.specs.StoredEntries.{AreCodesOf, ArePairsOf}
 use Rattle.jsonb.proofs.ResultLaws.{IsCodeOf, IsCodeOf-document_code, Doc-IsArrayOf}
 use Rattle.jsonb.proofs.ResultObjects.{Doc-IsObjectOf}
 

@@ -19,8 +19,8 @@ use Rattle.jsonb.specs.Building.{AreKeys, AreTexts, AreShort, code_entries, code
 use Rattle.jsonb.specs.Building.{key_codes}
 use Rattle.jsonb.specs.Building.{object_of, in_order, IsObjectOf}
 use Rattle.jsonb.specs.Results.{ArePairDocuments, ArePairsCanonical, raw_pairs, IsObjectOfInputs}
-use Rattle.jsonb.specs.Standing.{AreCodesOf, ArePairsOf}
-use Rattle.jsonb.proofs.StandingLaws.{pair_keys, value_trees, both_are, length-ArePairsOf}
+use Rattle.jsonb.specs.StoredEntries.{AreCodesOf, ArePairsOf}
+use Rattle.jsonb.proofs.StoredEntryLaws.{pair_keys, value_trees, both_are, length-ArePairsOf}
 use Rattle.jsonb.proofs.StorageLaws.{codes_of-AreCodes}
 use Rattle.jsonb.proofs.ResultLaws.{Children-AreCodesOf, IsCodeOf-document_code}
 use Rattle.jsonb.proofs.ResultLaws.{document_code-canon}
@@ -70,7 +70,7 @@ Doc-object_of ks cs ps h keys short_keys short few =
         record {
           rest = body;
           parts = rw n;
-          behind = record {
+          later = record {
             few = omega arith;
             key_entries = code_entries (key_codes (pair_keys ps));
             value_entries = code_entries cs;

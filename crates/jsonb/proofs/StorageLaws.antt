@@ -41,10 +41,10 @@ same_code c d = ap₂ (λ n p. record { type = n; payload = p })
 pub same_payload : (type n : ℕ) (p q : List ℕ)
     → scalar_bytes type p ≡ word 536870912 ++ (word n ++ q) → p ≡ q
 same_payload type n p q e =
-    let behind = same_parts (word 536870912) (word 536870912) (word (type + length p) ++ p)
+    let later = same_parts (word 536870912) (word 536870912) (word (type + length p) ++ p)
     (word n ++ q) refl e in
     (same_parts (word (type + length p)) (word n) p q
-    (length-word (type + length p) ∙ sym (length-word n)) behind.1).1
+    (length-word (type + length p) ∙ sym (length-word n)) later.1).1
 
 -- The single part of a document has the document's code.
 pub document_code-part : (b : List ℕ) (t : Tree) (type : ℕ) (p : List ℕ) → Doc b t

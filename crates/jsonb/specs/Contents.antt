@@ -2,7 +2,7 @@
 use Rattle.jsonb_value.specs.Tree.{Tree}
 use Rattle.jsonb.specs.declared.document.Contents.{Contents}
 use Rattle.jsonb.specs.declared.document.Contents.TheVariants as contents
-use Rattle.jsonb.specs.Facts.{rest_trees, rest_pairs}
+use Rattle.jsonb.specs.EntryTrees.{rest_trees, rest_pairs}
 use Rattle.jsonb.specs.Node.{array_of, object_of}
 
 -- The tree of the content.

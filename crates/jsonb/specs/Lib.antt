@@ -7,7 +7,7 @@ pub mod ItemValues
 pub mod ItemView
 pub mod Item
 pub mod Entries
-pub mod Views
+pub mod ItemAnswers
 pub mod Code
 pub mod Walk
 pub mod DocumentWalk
@@ -16,7 +16,7 @@ pub mod Parts
 pub mod CutKeys
 pub mod Storage
 pub mod Building
-pub mod Standing
+pub mod StoredEntries
 pub mod Children
 pub mod Results
 pub mod ItemMeaning
@@ -25,7 +25,7 @@ pub mod Texts
 pub mod Lines
 pub mod Tally
 pub mod Document
-pub mod Facts
+pub mod EntryTrees
 pub mod Node
 pub mod Contents
 pub mod SortKey

@@ -16,7 +16,7 @@ use Rattle.jsonb.specs.ItemView.{ItemView, item_view}
 use Rattle.jsonb.specs.Steps.{◌>>=◌}
 use Rattle.jsonb.specs.Item.{Entry}
 use Rattle.jsonb.specs.Parts.{value_entry, PassedBefore, IsAccepted, IsUnreadable}
-use Rattle.jsonb.specs.Standing.{HasMembers, entry_item}
+use Rattle.jsonb.specs.StoredEntries.{HasMembers, entry_item}
 use Rattle.jsonb.specs.Walk.{count_under}
 use Rattle.jsonb.specs.DocumentWalk.{IsItemOf}
 
@@ -46,7 +46,7 @@ pub record IsFound (answers : List ℕ → Bool → Type 0) (size : ℕ) (b : Li
   pub first : IsFirstAccepted answers size ps index value
   pub item : IsItemOf value x
   pub members : List (List ℕ × Entry)
-  pub stand : HasMembers b ps members
+  pub stored : HasMembers b ps members
   pub entry : option_map entry_item (slice_get (values_of members) index) ≡ Some (Ok x)
   pub cost : reads ≡ pair_count ps + index + 2
 

@@ -51,7 +51,7 @@ pub use Rattle.jsonb.specs.Document.{document_bytes, document_tree}
 pub use Rattle.jsonb.specs.DocumentWalk.{IsItemIn, IsItemOf, WalksArray, WalksItems, WalksKeys}
 pub use Rattle.jsonb.specs.DocumentWalk.{WalksMembers, WalksPairs, WalksValueItems, WalksValues}
 pub use Rattle.jsonb.specs.Entries.{entry_of, entry_view}
-pub use Rattle.jsonb.specs.Facts.{part_tree, rest_pairs, rest_trees}
+pub use Rattle.jsonb.specs.EntryTrees.{part_tree, rest_pairs, rest_trees}
 pub use Rattle.jsonb.specs.Item.{extension_item, item_in, item_of, number_item, part_at}
 pub use Rattle.jsonb.specs.Item.{scalar_item, text_item}
 pub use Rattle.jsonb.specs.ItemMeaning.{item_meaning, meaning_of, owned_meaning, raw_meaning}
@@ -78,14 +78,14 @@ pub use Rattle.jsonb.specs.Results.{IsObjectOfInputs, IsObjectUpToZeros, MakeNoO
 pub use Rattle.jsonb.specs.Results.{PairsExceedLimits, TakesAll, TakesUpTo, document_pair}
 pub use Rattle.jsonb.specs.Results.{input_pair}
 pub use Rattle.jsonb.specs.SortKey.{key_meaning, other_key_bytes}
-pub use Rattle.jsonb.specs.Standing.{IsFoundIn}
+pub use Rattle.jsonb.specs.StoredEntries.{IsFoundIn}
 pub use Rattle.jsonb.specs.Storage.{IsHeld, IsStored, document_code, pair_of, stored_code}
 pub use Rattle.jsonb.specs.Tally.{CountsOneLess, CountsOneMore, Lists, SetsCount, Tally, count_at}
 pub use Rattle.jsonb.specs.Tally.{count_of, has_equal, list_with}
 pub use Rattle.jsonb.specs.Texts.{display_text, layout_of, lossy_text, other_text}
 pub use Rattle.jsonb.specs.Texts.{pretty_display_text}
 pub use Rattle.jsonb.specs.Values.{bytes_in}
-pub use Rattle.jsonb.specs.Views.{kind_of_view, raw_in, text_in}
+pub use Rattle.jsonb.specs.ItemAnswers.{kind_of_view, raw_in, text_in}
 pub use Rattle.jsonb.specs.Walk.{IsBounded, Walk, array_walk, count_under, item_read, items_in}
 pub use Rattle.jsonb.specs.Walk.{key_of, keys_walk, pair_read, pairs_walk, values_walk}
 pub use Rattle.jsonb.specs.declared.item.JsonbItem.{JsonbItem}

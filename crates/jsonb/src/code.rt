@@ -11,7 +11,7 @@ use crate::raw::RawJsonb;
 use jsonb_codec::DocumentBytes;
 use jsonb_codec::constants::{EXTENSION_TAG, FALSE_TAG, NULL_TAG, NUMBER_TAG, TRUE_TAG};
 use jsonb_codec::parts::Part;
-use jsonb_codec::writer::{Code, Stored, part_code};
+use jsonb_codec::writer::{Stored, StoredEntry, part_code};
 
 /// Items are stored as given; bytes must be a document.
 impl<'a> Stored for JsonbItem<'a> {
@@ -31,18 +31,18 @@ impl<'a> Stored for JsonbItem<'a> {
     }
 
     #[inline(always)]
-    fn code<'s>(&'s self) -> Code<'s> {
+    fn code<'s>(&'s self) -> StoredEntry<'s> {
         let (type_code, payload) = match self {
-            JsonbItem::Null => return Code::of_type(NULL_TAG),
-            JsonbItem::Boolean(false) => return Code::of_type(FALSE_TAG),
-            JsonbItem::Boolean(true) => return Code::of_type(TRUE_TAG),
+            JsonbItem::Null => return StoredEntry::of_type(NULL_TAG),
+            JsonbItem::Boolean(false) => return StoredEntry::of_type(FALSE_TAG),
+            JsonbItem::Boolean(true) => return StoredEntry::of_type(TRUE_TAG),
             JsonbItem::Number(number) => (NUMBER_TAG, number.payload()),
-            JsonbItem::String(text) => return Code::of_text(text_of(text)),
+            JsonbItem::String(text) => return StoredEntry::of_text(text_of(text)),
             JsonbItem::Extension(extension) => (EXTENSION_TAG, extension.payload()),
             JsonbItem::Raw(raw) => return document_code(raw.as_bytes()),
             JsonbItem::Owned(owned) => return document_code(owned.as_bytes()),
         };
-        Code { type_code, payload }
+        StoredEntry { type_code, payload }
     }
 }
 
@@ -60,14 +60,14 @@ impl<'a> Stored for Document<'a> {
     }
 
     #[inline(always)]
-    fn code<'s>(&'s self) -> Code<'s> {
+    fn code<'s>(&'s self) -> StoredEntry<'s> {
         document_code(self.as_bytes())
     }
 }
 
 // The entry of a document: a scalar's own entry, or an array or object whole.
 #[inline(always)]
-fn document_code(bytes: &[u8]) -> Code<'_>
+fn document_code(bytes: &[u8]) -> StoredEntry<'_>
     requires { IsDocument bytes.now }
     ensures { code_of result ≡ pair_of (document_code bytes.now) }
 {

@@ -96,7 +96,7 @@ impl<'a> Document<'a> {
 
     // An array or object inside another one is a document itself.
     fn of_container(part: Part<'a>) -> Self
-        requires { part.tag ≡ CONTAINER_TAG }
+        requires { part.type_code ≡ CONTAINER_TAG }
         ensures { (t : Tree) → Means part.entry t → document_tree result ≡ t }
     {
         Document {
@@ -225,7 +225,7 @@ impl<'a> Document<'a> {
         ensures { option_map node_tree result ≡ value_of_key name.now (document_tree self.now) }
     {
         let whole = self.part();
-        if whole.tag != CONTAINER_TAG {
+        if whole.type_code != CONTAINER_TAG {
             return None;
         }
         match whole.contents() {
@@ -269,7 +269,7 @@ impl<'a> Document<'a> {
         let is_name = |name: &[u8], key: &[u8]| name == key;
         match find_value(bytes, count, name, &is_name, reads) {
             Ok(Some(value)) => Some(Part {
-                tag: value.type_code,
+                type_code: value.type_code,
                 payload: value.payload,
             }),
             Ok(None) => None,
@@ -337,7 +337,7 @@ impl<'a> Document<'a> {
             if name == first.key {
                 return Some(first.value);
             }
-            left = first.behind;
+            left = first.later;
         }
         None
     }
@@ -379,7 +379,7 @@ impl<'a> Node<'a> {
         ensures means { (t : Tree) → Means part.entry t → node_tree result ≡ t }
         ensures container { HoldsNoScalar result }
     {
-        match part.tag {
+        match part.type_code {
             NULL_TAG => Node::Null,
             TRUE_TAG => Node::Boolean(true),
             FALSE_TAG => Node::Boolean(false),

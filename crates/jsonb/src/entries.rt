@@ -8,7 +8,7 @@ ghost use Rattle.jsonb_codec.specs.declared.constants.TheConstants.{ARRAY_CONTAI
 ghost use Rattle.jsonb_codec.specs.declared.constants.TheConstants.{OBJECT_CONTAINER_TAG};
 ghost use Rattle.jsonb.specs.Item.{Entry as ItemEntry, entry_at};
 ghost use Rattle.jsonb.specs.Entries.{entry_view};
-ghost use Rattle.jsonb.specs.Facts.{AreParts, entry_of_part};
+ghost use Rattle.jsonb.specs.EntryTrees.{AreParts, entry_of_part};
 ghost use Rattle.jsonb.specs.Walk.{count_under, payloads_end, entries_from, item_entries};
 ghost use Rattle.jsonb.specs.Walk.{key_entries, value_entries, array_entries, object_entries};
 
@@ -229,7 +229,7 @@ impl<'a> Cursor<'a> {
     {
         match self.next() {
             Some(Ok(entry)) => Some(Part {
-                tag: entry.type_code,
+                type_code: entry.type_code,
                 payload: entry.payload,
             }),
             Some(Err(_)) => unreachable!(),

@@ -4,8 +4,8 @@ ghost use Rattle.std.specs.Prelude.{◌≡◌, List, length, Result, IfSome, sli
 ghost use Rattle.std.specs.Iterator.{YieldsFirstBy, MakesProgress, item_count};
 ghost use Rattle.jsonb_value.specs.declared.error.Error.{Error};
 ghost use Rattle.jsonb.specs.Item.{Entry};
-ghost use Rattle.jsonb.specs.Facts.{AreParts, AreMembers, rest_trees, rest_pairs, part_tree};
-ghost use Rattle.jsonb.specs.Facts.{member_part_tree};
+ghost use Rattle.jsonb.specs.EntryTrees.{AreParts, AreMembers, rest_trees, rest_pairs, part_tree};
+ghost use Rattle.jsonb.specs.EntryTrees.{member_part_tree};
 ghost use Rattle.jsonb.specs.Node.{node_tree, member_tree, HoldsNoScalar};
 
 use crate::document::Node;

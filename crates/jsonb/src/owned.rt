@@ -8,7 +8,7 @@ use crate::item::JsonbItem;
 use crate::raw::RawJsonb;
 use crate::text::write_view;
 use jsonb_codec::Encoder;
-use jsonb_codec::writer::{Code, Level, Stored, append_document};
+use jsonb_codec::writer::{Level, Stored, StoredEntry, append_document};
 use jsonb_value::{Error, ParseError, is_text_within, parse_value};
 use std::alloc::Global;
 use std::collections::BTreeMap;
@@ -219,7 +219,7 @@ impl fmt::Display for OwnedJsonb {
 }
 
 // The document of a scalar with this entry.
-fn of_scalar(alloc: Global, code: Code) -> Result<OwnedJsonb, Error>
+fn of_scalar(alloc: Global, code: StoredEntry) -> Result<OwnedJsonb, Error>
     ensures ok { IfOk result (λ owned. owned_bytes owned
         ≡ scalar_bytes (code_of code.entry).0 (code_of code.entry).1) }
     ensures fits { OnOk result (length (code_of code.entry).1 < 2 ^ 28) }

@@ -8,7 +8,7 @@ use Rattle.std.specs.Prelude.{Option, None, Some, IfNone, nat_eq, codes}
 use Rattle.std.specs.Cmp.Lexicographic.{pointwise}
 use Rattle.std.specs.List.{list_all}
 use Rattle.std.specs.Borrow.{Bor}
-use Rattle.jsonb_cli.specs.Words.{IsWord, after_space, words_behind_spaces, words_from}
+use Rattle.jsonb_cli.specs.Words.{IsWord, after_space, words_after_spaces, words_from}
 use Rattle.jsonb_cli.specs.Commands.{Form, enc, dec, pretty, item_type, get, cmp, arr, canon}
 use Rattle.jsonb_cli.specs.Commands.{line_of, HasWords, IsOfForm}
 use Rattle.answer_lines.proofs.Cuts.{one_cut, one_cut_at}
@@ -33,7 +33,7 @@ given_to (pretty word) = 32 ∷ word
 given_to (item_type word) = 32 ∷ word
 given_to (get word key) = 32 ∷ (word ++ 32 ∷ key)
 given_to (cmp left right) = 32 ∷ (left ++ 32 ∷ right)
-given_to (arr words) = words_behind_spaces words
+given_to (arr words) = words_after_spaces words
 given_to (canon word) = 32 ∷ word
 
 word_of_test : (bytes : List ℕ) → list_all (λ b. not (b == 32)) bytes ≡ true → IsWord bytes

@@ -21,9 +21,9 @@ use Rattle.jsonb.specs.Kind.{kind}
 use Rattle.jsonb.specs.ItemMeaning.{meaning_of}
 use Rattle.jsonb.specs.Code.{item_document}
 use Rattle.jsonb.specs.ItemView.{ItemView, owned}
-use Rattle.jsonb.specs.Standing.{IsFoundIn}
+use Rattle.jsonb.specs.StoredEntries.{IsFoundIn}
 use Rattle.jsonb.proofs.ResultLaws.{array_of-IsArrayOf}
-use Rattle.jsonb.proofs.StandingLaws.{IsFoundIn-one}
+use Rattle.jsonb.proofs.StoredEntryLaws.{IsFoundIn-one}
 use Rattle.jsonb_cli.specs.AnswerLine.{ok_line, error_line}
 use Rattle.jsonb_cli.specs.Answers as answers
 use Rattle.answer_lines.specs.Session.{AreAnswers}
@@ -33,7 +33,8 @@ use Rattle.jsonb_cli.specs.Answers.{order_words, kind_line, value_of_key, IsEncA
 use Rattle.jsonb_cli.specs.Answers.{IsPrettyAnswer, IsTypeAnswer, IsGetAnswer, IsCmpAnswer}
 use Rattle.jsonb_cli.specs.Answers.{IsArrAnswer, IsCanonAnswer, IsFormAnswer, IsAnswer}
 use Rattle.jsonb_cli.specs.Answers.{not_text, no_tree, too_large, encoded, bad_hex, no_document}
-use Rattle.jsonb_cli.specs.Answers.{printed, told, no_name, found, bad_left, bad_right, no_array}
+use Rattle.jsonb_cli.specs.Answers.{printed, answered, no_name, found, bad_left, bad_right}
+use Rattle.jsonb_cli.specs.Answers.{no_array}
 use Rattle.jsonb_cli.specs.Answers.{built, written, of_form, of_none}
 use Rattle.jsonb_cli.specs.Commands.{Form, enc, dec, pretty, item_type, get, cmp, arr, canon}
 use Rattle.jsonb_cli.specs.Commands.{IsOfForm}
@@ -126,7 +127,7 @@ canon_choices (written bytes t hex means fits is) = chosen hex (chosen {x = t} (
 type_choices : {word a : List ℕ} → IsTypeAnswer word a
     → OfBytes (λ bytes answer. answer ≡ kind_line (kind bytes)) word a
 type_choices (bad_hex cannot is) = refused cannot is
-type_choices (told bytes hex is) = chosen hex is
+type_choices (answered bytes hex is) = chosen hex is
 
 -- a text means only one name
 one_name : (key : List ℕ) → IsUnique (λ name. IsName name key)
@@ -134,19 +135,19 @@ one_name key a b first second = let same : trees.text a
     ≡ trees.text b = one_meaning (chars key) (trees.text a) (trees.text b) first.1 second.1 in cc
 
 -- the item of the entry at the value of the name
-abbrev StandsAt : List ℕ → List ℕ → Tree → ItemView → Type 0
-StandsAt name bytes t x = (u : Tree) × ((value_of_key name t ≡ Some u)
+abbrev IsItemAt : List ℕ → List ℕ → Tree → ItemView → Type 0
+IsItemAt name bytes t x = (u : Tree) × ((value_of_key name t ≡ Some u)
     × IsFoundIn (pointwise nat_eq name) (length name) bytes t (Some x))
 
-one_standing : (name bytes : List ℕ) (t : Tree) → IsUnique (StandsAt name bytes t)
-one_standing name bytes t x y first second =
+one_stored : (name bytes : List ℕ) (t : Tree) → IsUnique (IsItemAt name bytes t)
+one_stored name bytes t x y first second =
     IsFoundIn-one (pointwise nat_eq name) (length name) bytes t t x y first.1.1 second.1.1
 
 get_choices : {word key a : List ℕ} → IsGetAnswer word key a
     → OfBytes (λ bytes. Choice (λ (u : ⊤). IsUtf8 key) (said_of InvalidUtf8)
     (λ u. Choice (λ name. IsName name key) (said_of InvalidJson)
     (λ name. Choice (Doc bytes) (said_of InvalidJsonb)
-    (λ t. Choice (StandsAt name bytes t) (ok_line (codes "none"))
+    (λ t. Choice (IsItemAt name bytes t) (ok_line (codes "none"))
     (λ x answer. answer ≡ ok_line (encode_lower (item_document x))))))) word a
 get_choices (bad_hex cannot is) = refused cannot is
 get_choices (not_text bytes hex other is) =
@@ -158,10 +159,10 @@ get_choices (no_document bytes name hex named none is) =
     (refused (λ t means. none (t, means)) is)))
 get_choices (answers.none bytes name t hex named means missing is) =
     chosen hex (chosen {x = tt} named.0 (chosen named (chosen means
-    (refused (λ x stands. let there = stands.1.0 in cc) is))))
-get_choices (found bytes name t u x hex named means there item stands is) =
+    (refused (λ x stored. let there = stored.1.0 in cc) is))))
+get_choices (found bytes name t u x hex named means there item stored is) =
     chosen hex (chosen {x = tt} named.0 (chosen named (chosen means
-    (chosen {x = x} (u, (there, stands)) is))))
+    (chosen {x = x} (u, (there, stored)) is))))
 
 cmp_choices : {left right a : List ℕ} → IsCmpAnswer left right a
     → Choice (λ (both : List ℕ × List ℕ). IsHexOf both.0 left × IsHexOf both.1 right)
@@ -170,7 +171,7 @@ cmp_choices : {left right a : List ℕ} → IsCmpAnswer left right a
     ≡ ok_line (order_words (meaning_cmp (meaning_of both.0) (meaning_of both.1)))) a
 cmp_choices (bad_left cannot is) = refused (λ both hex. cannot both.0 hex.0) is
 cmp_choices (bad_right cannot is) = refused (λ both hex. cannot both.1 hex.1) is
-cmp_choices (told x y hex again is) = chosen {x = (x, y)} (hex, again) is
+cmp_choices (answered x y hex again is) = chosen {x = (x, y)} (hex, again) is
 
 -- words encode only one list of byte strings
 one_inputs : (words : List (List ℕ)) → IsUnique (λ inputs. Each IsHexOf inputs words)
@@ -178,7 +179,7 @@ one_inputs words xs ys each.none each.none = refl
 one_inputs words xs ys (each.more {x = x} {y = word} first others)
     (each.more {x = y} second rest) =
     let same = one_hex word x y first second in
-    let behind = one_inputs _ _ _ others rest in cc
+    let later = one_inputs _ _ _ others rest in cc
 
 -- a word that encodes nothing is not among them
 no_bad_hex : (xs before after : List (List ℕ)) (word : List ℕ)
@@ -217,7 +218,7 @@ one_form_answer (get word key) = one_by (λ a. get_choices)
     (λ bytes. one_choice (λ x y p q. refl)
     (λ u. one_choice (one_name key)
     (λ name. one_choice (Doc-unique bytes)
-    (λ t. one_choice (one_standing name bytes t) (λ x. one_line))))))
+    (λ t. one_choice (one_stored name bytes t) (λ x. one_line))))))
 one_form_answer (cmp left right) = one_by (λ a. cmp_choices)
     (one_choice
     (λ x y first second. ap₂ (λ (v w : List ℕ). (v, w)) (one_hex left x.0 y.0 first.0 second.0)

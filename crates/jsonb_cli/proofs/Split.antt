@@ -9,7 +9,7 @@ use Rattle.std.specs.Prelude.{All, Option, None, Some}
 use Rattle.std.specs.List.{slice_split, onto_first}
 use Rattle.std.specs.Borrow.{Bor}
 use Rattle.answer_lines.proofs.Cuts.{StartsAt, not_before, one_cut, one_cut_at}
-use Rattle.jsonb_cli.specs.Words.{IsWord, after_space, words_behind_spaces, words_from}
+use Rattle.jsonb_cli.specs.Words.{IsWord, after_space, words_after_spaces, words_from}
 
 -- ---- one word, and the rest
 
@@ -32,7 +32,7 @@ words_from-first whole bytes word (Some rest) some one is =
 
 -- the bytes are these words, each preceded by a space
 abbrev pub AreWordsOf : List ℕ → List (List ℕ) → Type 0
-AreWordsOf bytes parts = All IsWord parts × (words_behind_spaces parts ≡ bytes)
+AreWordsOf bytes parts = All IsWord parts × (words_after_spaces parts ≡ bytes)
 
 words-step : (b : ℕ) (t : Bool) (parts : List (List ℕ)) (bytes : List ℕ) → (b == 32) ≡ t
     → AreWordsOf (32 ∷ bytes) parts
@@ -68,7 +68,7 @@ pub after_space-starts : (rest : Option (Bor (List ℕ))) → StartsAtSpace (aft
 after_space-starts None = inl refl
 after_space-starts (Some rest) = inr (_, refl)
 
-pub spaced-starts : (words : List (List ℕ)) → StartsAtSpace (words_behind_spaces words)
+pub spaced-starts : (words : List (List ℕ)) → StartsAtSpace (words_after_spaces words)
 spaced-starts [] = inl refl
 spaced-starts (word ∷ words) = inr (_, refl)
 
@@ -90,13 +90,13 @@ three_words bytes left right word rest more some one_left parts right_is l r one
 
 -- the concatenation determines the words
 pub one_spaced : (xs ys : List (List ℕ)) → All IsWord xs → All IsWord ys
-    → words_behind_spaces xs ≡ words_behind_spaces ys → xs ≡ ys
+    → words_after_spaces xs ≡ words_after_spaces ys → xs ≡ ys
 one_spaced [] [] words others same = refl
 one_spaced (x ∷ xs) (y ∷ ys) words others same =
-    let behind : x ++ words_behind_spaces xs ≡ y ++ words_behind_spaces ys = cc in
-    let (head, tails) = one_cut 32 x y (words_behind_spaces xs) (words_behind_spaces ys)
+    let later : x ++ words_after_spaces xs ≡ y ++ words_after_spaces ys = cc in
+    let (head, tails) = one_cut 32 x y (words_after_spaces xs) (words_after_spaces ys)
     (All-head IsWord x xs words) (All-head IsWord y ys others) (spaced-starts xs)
-    (spaced-starts ys) behind in
+    (spaced-starts ys) later in
     let rest =
     one_spaced xs ys (All-tail IsWord x xs words) (All-tail IsWord y ys others) tails in cc
 one_spaced xs ys words others same = absurd cc

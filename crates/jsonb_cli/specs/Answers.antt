@@ -24,7 +24,7 @@ use Rattle.jsonb.specs.Kind.{kind}
 use Rattle.jsonb.specs.Lookup.{find}
 use Rattle.jsonb.specs.ItemMeaning.{meaning_of}
 use Rattle.jsonb.specs.ItemView.{ItemView, owned}
-use Rattle.jsonb.specs.Standing.{IsFoundIn}
+use Rattle.jsonb.specs.StoredEntries.{IsFoundIn}
 use Rattle.jsonb.specs.DocumentWalk.{IsItemOf}
 use Rattle.jsonb.specs.declared.item_type.JsonbItemType.{JsonbItemType}
 use Rattle.jsonb.specs.declared.item_type.JsonbItemType.TheVariants.{Null, Boolean, Number, String}
@@ -92,7 +92,7 @@ kind_line (Err e) = error_line (name_of e)
 pub data IsTypeAnswer (word answer : List ℕ) : Type 0 where
   bad_hex : ((bytes : List ℕ) → IsHexOf bytes word → ⊥) → answer ≡ error_line (codes "BadHex")
       → IsTypeAnswer word answer
-  told : (bytes : List ℕ) → IsHexOf bytes word → answer ≡ kind_line (kind bytes)
+  answered : (bytes : List ℕ) → IsHexOf bytes word → answer ≡ kind_line (kind bytes)
       → IsTypeAnswer word answer
 
 -- The JSON text of the key means this name.
@@ -136,7 +136,7 @@ pub data IsCmpAnswer (left right answer : List ℕ) : Type 0 where
       → IsCmpAnswer left right answer
   bad_right : ((bytes : List ℕ) → IsHexOf bytes right → ⊥) → answer ≡ error_line (codes "BadHex")
       → IsCmpAnswer left right answer
-  told : (x y : List ℕ) → IsHexOf x left → IsHexOf y right
+  answered : (x y : List ℕ) → IsHexOf x left → IsHexOf y right
       → answer ≡ ok_line (order_words (meaning_cmp (meaning_of x) (meaning_of y)))
       → IsCmpAnswer left right answer
 

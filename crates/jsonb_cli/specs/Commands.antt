@@ -1,6 +1,6 @@
 -- The grammar of commands.
 use Rattle.std.specs.Prelude.{◌≡◌, ℕ, List, ◌∷◌, ◌++◌, All, codes, ⊤}
-use Rattle.jsonb_cli.specs.Words.{IsWord, words_behind_spaces}
+use Rattle.jsonb_cli.specs.Words.{IsWord, words_after_spaces}
 
 -- A command with its arguments: a text, or words.
 pub data Form : Type 0 where
@@ -21,7 +21,7 @@ line_of (pretty word) = codes "pretty " ++ word
 line_of (item_type word) = codes "type " ++ word
 line_of (get word key) = codes "get " ++ (word ++ 32 ∷ key)
 line_of (cmp left right) = codes "cmp " ++ (left ++ 32 ∷ right)
-line_of (arr words) = codes "arr" ++ words_behind_spaces words
+line_of (arr words) = codes "arr" ++ words_after_spaces words
 line_of (canon word) = codes "canon " ++ word
 
 -- Words that are followed by another argument, and those of `arr`, have no space.

@@ -10,7 +10,7 @@ pub use Rattle.jsonb.specs.Code.{CanBeStored, item_document}
 pub use Rattle.jsonb.specs.Document.{document_bytes}
 pub use Rattle.jsonb.specs.ItemView.{item_view, owned}
 pub use Rattle.jsonb.specs.Lookup.{IsItemFound, find}
-pub use Rattle.jsonb.specs.Standing.{IsFoundIn}
+pub use Rattle.jsonb.specs.StoredEntries.{IsFoundIn}
 pub use Rattle.answer_lines.specs.Session.{AppendsBeginning, AppendsReplies, AppendsWhole}
 pub use Rattle.answer_lines.specs.Session.{AreAnswers}
 pub use Rattle.jsonb_cli.specs.AnswerLine.{answer_words, ok_line, outcome_line, refusal_name}

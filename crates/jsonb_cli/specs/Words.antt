@@ -13,9 +13,9 @@ after_space None = []
 after_space (Some rest) = 32 ∷ rest.now
 
 -- Words, each preceded by a space.
-abbrev pub words_behind_spaces : List (List ℕ) → List ℕ
-words_behind_spaces [] = []
-words_behind_spaces (word ∷ words) = 32 ∷ (word ++ words_behind_spaces words)
+abbrev pub words_after_spaces : List (List ℕ) → List ℕ
+words_after_spaces [] = []
+words_after_spaces (word ∷ words) = 32 ∷ (word ++ words_after_spaces words)
 
 -- The words after a space: the parts between single spaces, each of which may be empty.
 abbrev pub words_from : Option (Bor (List ℕ)) → List (List ℕ)

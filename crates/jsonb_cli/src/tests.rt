@@ -250,13 +250,13 @@ fn answers_before_it_reads_on(rt: HostRuntime) -> Result<(), Fail> {
 struct FaultyReader<'a> {
     before: &'a [u8],
     has_failed: bool,
-    behind: &'a [u8],
+    later: &'a [u8],
 }
 
 impl Read for FaultyReader<'_> {
     fn read(&mut self, buf: &mut [u8]) -> io::Result<usize> {
         if self.has_failed {
-            return self.behind.read(buf);
+            return self.later.read(buf);
         }
         if self.before.is_empty() {
             self.has_failed = true;
@@ -268,7 +268,7 @@ impl Read for FaultyReader<'_> {
 
 #[test]
 fn ends_at_a_fault_of_its_reader(rt: HostRuntime) -> Result<(), Fail> {
-    for (before, behind, expected) in [
+    for (before, later, expected) in [
         ("", "arr\n", ""),
         ("type 80000000", "\narr\n", ""),
         ("type 80000000\n", "arr\n", "ok array 0\n"),
@@ -277,7 +277,7 @@ fn ends_at_a_fault_of_its_reader(rt: HostRuntime) -> Result<(), Fail> {
         let mut reader = FaultyReader {
             before: before.as_bytes(),
             has_failed: false,
-            behind: behind.as_bytes(),
+            later: later.as_bytes(),
         };
         let mut bytes = [0; 64];
         let mut room = bytes.as_mut_slice();
@@ -295,13 +295,13 @@ struct FaultyWriter<'a> {
     room: &'a mut [u8],
     has_failed: bool,
     takes_no_byte: bool,
-    room_behind: &'a mut [u8],
+    room_after: &'a mut [u8],
 }
 
 impl Write for FaultyWriter<'_> {
     fn write(&mut self, buf: &[u8]) -> io::Result<usize> {
         if self.has_failed {
-            return self.room_behind.write(buf);
+            return self.room_after.write(buf);
         }
         if !self.room.is_empty() {
             return self.room.write(buf);
@@ -327,12 +327,12 @@ fn ends_at_a_fault_of_its_writer(rt: HostRuntime) -> Result<(), Fail> {
         (5, true, "ok 80"),
     ] {
         let mut bytes = [b' '; 64];
-        let (room, room_behind) = bytes.split_at_mut(count);
+        let (room, room_after) = bytes.split_at_mut(count);
         let mut writer = FaultyWriter {
             room,
             has_failed: false,
             takes_no_byte,
-            room_behind,
+            room_after,
         };
         let mut reader = b"enc [false,true]\narr\n".as_slice();
         let outcome = with_memory(run(rt.alloc(), &mut reader, &mut writer))?;

@@ -91,11 +91,11 @@ abbrev pub seen : List (String Global × Value) → List (String Global × Tree)
 seen ms = map (λ m. (m.0, tree_of m.1)) ms
 
 -- one more pair was appended
-pub pairs_and-behind : (vs : List (String Global × Value)) (k : String Global) (v : Value)
+pub pairs_and-later : (vs : List (String Global × Value)) (k : String Global) (v : Value)
     {ws : List (String Global × Value)} {ps us others : Pairs} {key : List ℕ} {value : Tree}
     → ps ≡ pairs_and (seen vs) us → us ≡ pair key value others → string_bytes k ≡ key
     → tree_of v ≡ value → ws ≡ vs ++ ((k, v) ∷ []) → ps ≡ pairs_and (seen ws) others
-pairs_and-behind vs k v {others = others} whole are is same more =
+pairs_and-later vs k v {others = others} whole are is same more =
     cc (
       pairs_and-append (seen vs) (k, tree_of v) others,
       map-append {B = String Global × Tree} (λ m. (m.0, tree_of m.1)) vs ((k, v) ∷ []),
@@ -110,7 +110,7 @@ pub pairs_and-push : (vs : List (String Global × Value)) (k : String Global) (v
 pairs_and-push vs k v {ps = ps} {others = others} ascend whole are is same more =
     let front : ps ≡ pairs_and (seen vs) (pair (string_bytes k) (tree_of v) others) = cc in
     let last = insert_entry-append None vs k v (tree_of v) others (subst Ascend front ascend) in
-    pairs_and-behind vs k v whole are is same (more ∙ last)
+    pairs_and-later vs k v whole are is same (more ∙ last)
 
 -- the decoded value is the tree of the document
 pub the_tree : (a b : List ℕ) (r : Result Value Error) → a ≡ b → IsDocument b

@@ -51,7 +51,7 @@ mutual
   Payload-canonical (array ts) h f = record {
     rest = entries_of ts ++ payloads_of ts;
     parts = rw (count-norms ts);
-    behind = record {
+    later = record {
       few = rw (count-norms ts) f.0;
       entries = entries_of ts;
       payloads = payloads_of ts;
@@ -64,7 +64,7 @@ mutual
     record {
       rest = key_entries ps ++ (value_entries ps ++ (key_payloads ps ++ value_payloads ps));
       parts = rw (pair_count-norm_pairs ps);
-      behind = record {
+      later = record {
         few = rw (pair_count-norm_pairs ps) f.0;
         key_entries = key_entries ps;
         value_entries = value_entries ps;

@@ -73,11 +73,11 @@ abbrev pub array_container : (ts : Trees) (b : List ℕ) → Payload (array ts) 
 array_container ts b h = record {
   rest = h.rest;
   parts = h.parts;
-  few = h.behind.few;
-  entries = h.behind.entries;
-  payloads = h.behind.payloads;
-  body = h.behind.parts;
-  items = h.behind.items;
+  few = h.later.few;
+  entries = h.later.entries;
+  payloads = h.later.payloads;
+  body = h.later.parts;
+  items = h.later.items;
 }
 
 pub pairs_body : (ps : Pairs) (n : ℕ) (rest : List ℕ) → (k : PairsBody n (Keys ps) (Values ps) rest)
@@ -87,7 +87,7 @@ pairs_body ps n rest k = rw append_assoc k.parts
 abbrev pub object_container : (ps : Pairs) (b : List ℕ) → Payload (object ps) b
     → Container (object ps) b
 object_container ps b (ascend, h) =
-    let k = h.behind in
+    let k = h.later in
     record {
       rest = h.rest;
       parts = h.parts;

@@ -263,15 +263,15 @@ decide_object : (limit : ℕ) → DecidesPayloads limit → (n : ℕ) (body : Li
     → Decided (HasObject limit n body)
 decide_object limit payloads n body few =
     let ke = take (4 * n) body in
-    let behind = drop (4 * n) body in
-    let ve = take (4 * n) behind in
-    let p = drop (4 * n) behind in
+    let later = drop (4 * n) body in
+    let ve = take (4 * n) later in
+    let p = drop (4 * n) later in
     elim (cases_lt (length body) (8 * n)) [
       | inl short ↦ inr (λ (ps, (v, h)). omega (arith, object_room n body ps h))
       | inr long ↦
-          let left : length behind ≡ length body - 4 * n = length-drop (4 * n) body in
+          let left : length later ≡ length body - 4 * n = length-drop (4 * n) body in
           let kn : length ke ≡ 4 * n = length-take-le (4 * n) body (omega arith) in
-          let vn : length ve ≡ 4 * n = length-take-le (4 * n) behind (omega arith) in
+          let vn : length ve ≡ 4 * n = length-take-le (4 * n) later (omega arith) in
           elim (decide_keys (suc (length ke)) None ke p (omega arith)) [
             | inl (q, keys) ↦ decided_by (object_back refl refl refl refl kn vn limit few q keys)
                 (λ h.

@@ -17,10 +17,10 @@ mutual
   Payload-bounds (array ts) p h = omega (
     arith,
     length-Container (array_container ts p h),
-    Children-bounds ts _ _ h.behind.items,
+    Children-bounds ts _ _ h.later.items,
   )
   Payload-bounds (object ps) p h =
-      let b = h.1.behind in
+      let b = h.1.later in
       omega (
         arith,
         length-Container (object_container ps p h),

@@ -10,22 +10,22 @@ use Rattle.jsonb_codec.specs.Shape.{Shape, document, Fits}
 use Rattle.jsonb_codec.specs.TreeShape.{shape_of}
 use Rattle.jsonb_codec.proofs.TreeShapes.{document-shape_of, Fits-shape_of}
 
-module _ (Is : Shape → Type 0) (t : Tree) (is : Is (shape_of t)) where
+module _ (LevelIs : Shape → Type 0) (t : Tree) (is : LevelIs (shape_of t)) where
   pub measured : (r : Result ℕ Error)
-      → IfOk r (λ n. (s : Shape) → Is s → Fits s × (n ≡ length (document s)))
+      → IfOk r (λ n. (s : Shape) → LevelIs s → Fits s × (n ≡ length (document s)))
       → IfOk r (λ n. n ≡ length (canon t))
   measured (Ok n) ok = rw (document-shape_of t) at (ok (shape_of t) is).1
   measured (Err e) ok = tt
 
   pub measured_fits : (r : Result ℕ Error)
-      → IfOk r (λ n. (s : Shape) → Is s → Fits s × (n ≡ length (document s)))
-      → OnErr r ((s : Shape) → Is s → Fits s → ⊥) → IsOk r ↔ tree.Fits t
+      → IfOk r (λ n. (s : Shape) → LevelIs s → Fits s × (n ≡ length (document s)))
+      → OnErr r ((s : Shape) → LevelIs s → Fits s → ⊥) → IsOk r ↔ tree.Fits t
   measured_fits (Ok n) ok err = (λ _. (Fits-shape_of t).0 (ok (shape_of t) is).0, λ _. refl)
   measured_fits (Err e) ok err =
       (search rules, λ fits. absurd (err (shape_of t) is ((Fits-shape_of t).1 fits)))
 
   pub appended : {A : Type 0} (r : Result A Error) (new old : List ℕ)
-      → OnOk r ((s : Shape) → Is s → Fits s × (new ≡ old ++ document s))
+      → OnOk r ((s : Shape) → LevelIs s → Fits s × (new ≡ old ++ document s))
       → OnOk r (tree.Fits t × (new ≡ old ++ canon t))
   appended (Ok x) new old ok =
       let (fits, is_new) = ok (shape_of t) is in
@@ -34,7 +34,7 @@ module _ (Is : Shape → Type 0) (t : Tree) (is : Is (shape_of t)) where
 
   -- If the tree does not fit, nothing is appended or allocated.
   pub past : {A : Type 0} (r : Result A Error)
-      → (r ≡ Err InvalidJsonb) ↔ ((s : Shape) → Is s → Fits s → ⊥) → OnOk r (tree.Fits t)
+      → (r ≡ Err InvalidJsonb) ↔ ((s : Shape) → LevelIs s → Fits s → ⊥) → OnOk r (tree.Fits t)
       → (r ≡ Err OutOfMemory → tree.Fits t)
       → IfErr r (λ e. (e ≡ InvalidJsonb) ⊎ (e ≡ OutOfMemory))
       → (r ≡ Err InvalidJsonb) ↔ (tree.Fits t → ⊥)

@@ -131,9 +131,9 @@ pub record IsPairs (ke ve p q : List ℕ) (ps : Pairs) : Type 0 where
   pub values : Values ps ve q
 
 -- an object is its keys and its values, whose entry words are separated by their count
-module _ {n : ℕ} {body ke behind ve p : List ℕ} (front : ke ≡ take (4 * n) body)
-    (back : behind ≡ drop (4 * n) body) (next : ve ≡ take (4 * n) behind)
-    (last : p ≡ drop (4 * n) behind) (long : length ke ≡ 4 * n) (longer : length ve ≡ 4 * n) where
+module _ {n : ℕ} {body ke later ve p : List ℕ} (front : ke ≡ take (4 * n) body)
+    (back : later ≡ drop (4 * n) body) (next : ve ≡ take (4 * n) later)
+    (last : p ≡ drop (4 * n) later) (long : length ke ≡ 4 * n) (longer : length ve ≡ 4 * n) where
   pub object_pairs : (ps : Pairs) → IsObject n body ps → (q : List ℕ) × IsPairs ke ve p q ps
   object_pairs ps (c, (a, b)) =
       let parts : body ≡ ke ++ (ve ++ p) = rw (← cut (4 * n) next last) (cut (4 * n) front back) in

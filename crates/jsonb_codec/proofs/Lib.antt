@@ -1,5 +1,5 @@
 pub mod Appending
-pub mod Standing
+pub mod RoomLaws
 pub mod Words
 pub mod Shapes
 pub mod ShapeWriting

@@ -25,7 +25,7 @@ pub record FirstPair (ps : Pairs) (kty : ℕ) (k : List ℕ) (vty : ℕ)
   pub are : ps ≡ pair k value others
   pub is_text : kty ≡ 268435456
   pub is : IsPayloadOf vty v value
-  pub behind : ArePairsOf others ke kp ve vp
+  pub later : ArePairsOf others ke kp ve vp
 
 Ascends-none : (k : List ℕ) (ps : Pairs) → Ascends (Some k) ps → Ascend ps
 Ascends-none k no_pairs h = tt
@@ -52,13 +52,13 @@ first_pair (pair l t ps) ke0 kp0 ve0 vp0 h {kty} {vty} {k} {ke} {kp} {v} {ve} {v
       are = ap (λ (x : List ℕ). pair x t ps) (sym is.1.0);
       is_text = sym is.0;
       is = subst (IsPayloadOf vty v) value g.is;
-      behind = (
+      later = (
         Ascends-none l ps h.0.1,
         (
           subst (λ R. R ke kp) (sym (Keys-children ps))
-              (subst (λ us. Children us ke kp) other_keys f.behind),
+              (subst (λ us. Children us ke kp) other_keys f.later),
           subst (λ R. R ve vp) (sym (Values-children ps))
-              (subst (λ us. Children us ve vp) other_values g.behind),
+              (subst (λ us. Children us ve vp) other_values g.later),
         ),
       );
     }
@@ -79,11 +79,11 @@ no_keys (pair l t ps) none = cc
 -- ---- their bytes in an object
 
 -- the keys after one whose entry word was read
-pub keys_behind : {ty n : ℕ} {rest e : List ℕ} → Read (2 ^ 28) ty n rest e
+pub keys_after : {ty n : ℕ} {rest e : List ℕ} → Read (2 ^ 28) ty n rest e
     → (ps : Pairs) (p : List ℕ) → Keys ps e p
     → (others : Pairs) × ((q : List ℕ) × (Keys others rest q × (length p ≡ n + length q)))
-keys_behind read no_pairs p h = absurd (not_at_end read h)
-keys_behind {n = n} read (pair k t ps) p h =
+keys_after read no_pairs p h = absurd (not_at_end read h)
+keys_after {n = n} read (pair k t ps) p h =
     let f = front_one read (IsType-type_of (text k)) h in
     (ps, (drop n p, (f.others, omega (arith, f.fits, length-drop n p))))
 
@@ -91,8 +91,8 @@ pub keys_ended : (ps : Pairs) (e p : List ℕ) → length e < 4 → Keys ps e p 
 keys_ended no_pairs e p short h = ap length h.no_payloads
 keys_ended (pair k t ps) e p short h = absurd (omega (arith, length-One h))
 
-module _ {n : ℕ} {body ke behind ve p : List ℕ} (kf : ke ≡ take (4 * n) body)
-    (kb : behind ≡ drop (4 * n) body) (vf : ve ≡ take (4 * n) behind) (vb : p ≡ drop (4 * n) behind)
+module _ {n : ℕ} {body ke later ve p : List ℕ} (kf : ke ≡ take (4 * n) body)
+    (kb : later ≡ drop (4 * n) body) (vf : ve ≡ take (4 * n) later) (vb : p ≡ drop (4 * n) later)
     (kn : length ke ≡ 4 * n) (vn : length ve ≡ 4 * n) (m : ℕ)
     (long : (ps : Pairs) (x : List ℕ) → Keys ps ke x → m ≡ length x) (ps : Pairs)
     (h : IsObject n body ps) where

@@ -72,23 +72,23 @@ part_is : (part : Part) (t : Tree) → Means part t → PartIs part (shape_of t)
 part_is part t h =
     ((t, h), λ u k. ap shape_of (same_tree t u (h.0 ∙ sym k.0) _ h.1 k.1))
 
-pub split_member : (part : Part) (x behind : Members) {key : List ℕ} (IsKey : List ℕ → Type 0)
+pub split_member : (part : Part) (x later : Members) {key : List ℕ} (IsKey : List ℕ → Type 0)
     → IsKey key
-    → ((ps : Pairs) → AreMembers ps x → FirstMember ps key part.tag part.payload.now behind)
-    → (ss : Shapes) → MembersAre x ss → AreSplit IsKey PartIs MembersAre (part, behind) ss
-split_member part x behind IsKey keyed first ss h =
+    → ((ps : Pairs) → AreMembers ps x → FirstMember ps key part.type_code part.payload.now later)
+    → (ss : Shapes) → MembersAre x ss → AreSplit IsKey PartIs MembersAre (part, later) ss
+split_member part x later IsKey keyed first ss h =
     let f = first h.0.0 h.0.1 in
-    subst (AreSplit IsKey PartIs MembersAre (part, behind))
+    subst (AreSplit IsKey PartIs MembersAre (part, later))
     (sym (h.1 h.0.0 h.0.1 ∙ ap pairs_shapes f.are))
-    (keyed, (part_is part f.value f.is, members_are f.others behind f.left))
+    (keyed, (part_is part f.value f.is, members_are f.others later f.left))
 
-pub split_item : (part : Part) (x behind : declared.Children)
+pub split_item : (part : Part) (x later : declared.Children)
     → ((ts : Trees) → AreChildren ts x
-    → FirstChild ts part.tag part.payload.now behind.entries.now behind.payloads.now)
+    → FirstChild ts part.type_code part.payload.now later.entries.now later.payloads.now)
     → (ss : Shapes) → ItemsAre x ss
-    → AreSplit (λ key. key ≡ []) PartIs ItemsAre (part, behind) ss
-split_item part x behind first ss h =
+    → AreSplit (λ key. key ≡ []) PartIs ItemsAre (part, later) ss
+split_item part x later first ss h =
     let f = first h.0.0 h.0.1 in
-    subst (AreSplit (λ key. key ≡ []) PartIs ItemsAre (part, behind))
+    subst (AreSplit (λ key. key ≡ []) PartIs ItemsAre (part, later))
     (sym (h.1 h.0.0 h.0.1 ∙ ap items_shapes f.are))
-    (refl, (part_is part f.first f.is, items_are f.others behind f.behind))
+    (refl, (part_is part f.first f.is, items_are f.others later f.later))

@@ -67,9 +67,9 @@ AllFit-values_of : (ps : Pairs) → PairsFit ps → AllFit (values_of ps)
 AllFit-values_of no_pairs f = tt
 AllFit-values_of (pair k t ps) f = (f.0.1, AllFit-values_of ps f.1)
 
-AllFit-behind : (ps : Pairs) (us : Trees) → AllFit (keys_and ps us) → AllFit us
-AllFit-behind no_pairs us h = h
-AllFit-behind (pair k t ps) us h = AllFit-behind ps us h.1
+AllFit-later : (ps : Pairs) (us : Trees) → AllFit (keys_and ps us) → AllFit us
+AllFit-later no_pairs us h = h
+AllFit-later (pair k t ps) us h = AllFit-later ps us h.1
 
 PairsFit-keys_and : (ps : Pairs) (us : Trees) → AllFit (keys_and ps us) → AllFit (values_of ps)
     → PairsFit ps
@@ -80,7 +80,7 @@ members_fit : (t : Tree) → type_of t ≡ 1342177280 → count_of t < 2 ^ 29
     → AllFit (members t) ↔ FitsInside t
 members_fit (array ts) is few = (λ a. (few, a), λ f. f.1)
 members_fit (object ps) is few = (
-  λ a. (few, PairsFit-keys_and ps _ a (AllFit-behind ps _ a)),
+  λ a. (few, PairsFit-keys_and ps _ a (AllFit-later ps _ a)),
   λ f. AllFit-keys_and ps _ f.1 (AllFit-values_of ps f.1),
 )
 members_fit t is few = absurd (grind arith)

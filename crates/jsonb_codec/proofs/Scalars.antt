@@ -13,32 +13,32 @@ use Rattle.jsonb_codec.specs.Doc.{type_of, Payload}
 use Rattle.jsonb_codec.specs.declared.document.FaultTable.{FaultTable}
 use Rattle.jsonb_codec.specs.Parts.{IsFault, HoldsOrFaults, HasPayload}
 
-empty_behind : (t : Tree) (p : List ℕ)
+empty_after : (t : Tree) (p : List ℕ)
     → (type_of t ≡ 0) ⊎ ((type_of t ≡ 805306368) ⊎ (type_of t ≡ 1073741824)) → Payload t p → p ≡ []
-empty_behind null p is h = h
-empty_behind (boolean b) p is h = h
-empty_behind t p is h = absurd (grind arith)
+empty_after null p is h = h
+empty_after (boolean b) p is h = h
+empty_after t p is h = absurd (grind arith)
 
-pub text_behind : (t : Tree) (p : List ℕ) → type_of t ≡ 268435456 → Payload t p → IsUtf8 p
-text_behind (text s) p e h = rw h.0 h.1
-text_behind t p e h = absurd (grind arith)
+pub text_after : (t : Tree) (p : List ℕ) → type_of t ≡ 268435456 → Payload t p → IsUtf8 p
+text_after (text s) p e h = rw h.0 h.1
+text_after t p e h = absurd (grind arith)
 
-pub number_behind : (t : Tree) (p : List ℕ) → type_of t ≡ 536870912 → Payload t p → (x : Number)
+pub number_after : (t : Tree) (p : List ℕ) → type_of t ≡ 536870912 → Payload t p → (x : Number)
     × NumCode p x
-number_behind (number x) p e h = (x, h)
-number_behind t p e h = absurd (grind arith)
+number_after (number x) p e h = (x, h)
+number_after t p e h = absurd (grind arith)
 
-pub extension_behind : (t : Tree) (p : List ℕ) → type_of t ≡ 1610612736 → Payload t p
+pub extension_after : (t : Tree) (p : List ℕ) → type_of t ≡ 1610612736 → Payload t p
     → (x : Extension) × ExtCode p x
-extension_behind (extension x) p e h = (x, h)
-extension_behind t p e h = absurd (grind arith)
+extension_after (extension x) p e h = (x, h)
+extension_after t p e h = absurd (grind arith)
 
 pub iff_trans : {A B C : Type 0} → (A ↔ B) → (B ↔ C) → A ↔ C
 iff_trans h k = (λ a. k.0 (h.0 a), λ c. h.1 (k.1 c))
 
 pub HasPayload-empty : (d k : ℕ) (p : List ℕ) → (k ≡ 0) ⊎ ((k ≡ 805306368) ⊎ (k ≡ 1073741824))
     → (p ≡ []) ↔ HasPayload d k p
-HasPayload-empty d k p is = (made is, λ (t, (w, (q, h))). empty_behind t p (rw q is) h)
+HasPayload-empty d k p is = (made is, λ (t, (w, (q, h))). empty_after t p (rw q is) h)
   where
     made : (k ≡ 0) ⊎ ((k ≡ 805306368) ⊎ (k ≡ 1073741824)) → p ≡ [] → HasPayload d k p
     made (inl e) h = (null, (omega arith, (sym e, h)))
@@ -48,21 +48,21 @@ HasPayload-empty d k p is = (made is, λ (t, (w, (q, h))). empty_behind t p (rw 
 pub HasPayload-text : (d k : ℕ) (p : List ℕ) → k ≡ 268435456 → IsUtf8 p ↔ HasPayload d k p
 HasPayload-text d k p e = (
   λ h. (text p, (omega arith, (sym e, (refl, h)))),
-  λ (t, (w, (q, h))). text_behind t p (q ∙ e) h,
+  λ (t, (w, (q, h))). text_after t p (q ∙ e) h,
 )
 
 pub HasPayload-number : (d k : ℕ) (p : List ℕ) → k ≡ 536870912 → ((x : Number) × NumCode p x)
     ↔ HasPayload d k p
 HasPayload-number d k p e = (
   λ h. (number h.0, (omega arith, (sym e, h.1))),
-  λ (t, (w, (q, h))). number_behind t p (q ∙ e) h,
+  λ (t, (w, (q, h))). number_after t p (q ∙ e) h,
 )
 
 pub HasPayload-extension : (d k : ℕ) (p : List ℕ) → k ≡ 1610612736 → ((x : Extension) × ExtCode p x)
     ↔ HasPayload d k p
 HasPayload-extension d k p e = (
   λ h. (extension h.0, (omega arith, (sym e, h.1))),
-  λ (t, (w, (q, h))). extension_behind t p (q ∙ e) h,
+  λ (t, (w, (q, h))). extension_after t p (q ∙ e) h,
 )
 
 pub empty_test : (b : Bool) (p : List ℕ) → b ≡ eqb (length p) 0 → IsTrue b ↔ (p ≡ [])

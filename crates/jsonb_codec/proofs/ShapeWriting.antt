@@ -11,13 +11,13 @@ use Rattle.jsonb_codec.specs.Shape.{Shape, array, object, Shapes, no_shapes, sha
 use Rattle.jsonb_codec.specs.Shape.{payload, entries, payloads}
 use Rattle.jsonb_codec.specs.Shape.{key_entries, key_payloads, body, AllFit}
 use Rattle.jsonb_codec.specs.Shape.{FitsEntry}
-use Rattle.jsonb_codec.specs.Source.{Meaning, Is}
-use Rattle.jsonb_codec.specs.Room.{HasRoom, AppendsBytes, Stands}
+use Rattle.jsonb_codec.specs.Source.{Meaning, LevelIs}
+use Rattle.jsonb_codec.specs.Room.{HasRoom, AppendsBytes, IsAt}
 use Rattle.jsonb_codec.specs.Writing.{AreFew, CanGoOn, TakesLeft}
 use Rattle.jsonb_codec.proofs.Appending.{Underway, underway_start, underway_next, underway_on}
 use Rattle.jsonb_codec.proofs.Appending.{underway_end}
 use Rattle.jsonb_codec.proofs.Appending.{length-Appended}
-use Rattle.jsonb_codec.proofs.Standing.{Stands-Appended, Stands-more}
+use Rattle.jsonb_codec.proofs.RoomLaws.{IsAt-Appended, IsAt-more}
 use Rattle.jsonb_codec.proofs.Shapes.{First, first_fits, first_body}
 
 -- The children that were written, and those that are left.
@@ -57,7 +57,7 @@ module _ {C W : Type 0} {IsKey : List ℕ → Type 0} {IsChild : C → Shape →
   going_takes size = record {
     fits = going_fit.1.0;
     others = f.others;
-    are = f.behind;
+    are = f.later;
     few = going_few;
     both = omega (arith, size, first_body f);
   }
@@ -78,7 +78,7 @@ module _ {C W : Type 0} {IsKey : List ℕ → Type 0} {IsChild : C → Shape →
       all = w.all;
       are_all = w.are_all;
       left = f.others;
-      are_left = f.behind;
+      are_left = f.later;
       few = going_few;
       underway = underway_on (One f.key f.child) (Bytes f.others) going_underway put;
     }
@@ -94,26 +94,26 @@ going_end {Bytes = Bytes} {start} {old} {now} w one empty none ss are =
 
 -- A leaf is written unchanged, and a level that is not a leaf has a container's type.
 pub is_leaf : {L C I O M : Type 0} (code : L → ℕ × List ℕ) (m : Meaning C I O M) {v : Level L I O}
-    {x : L} (s : Shape) → v ≡ levels.Leaf x → Is code m v s
+    {x : L} (s : Shape) → v ≡ levels.Leaf x → LevelIs code m v s
     → (type_of s ≡ (code x).0) × (payload s ≡ (code x).1)
 is_leaf code m s e is =
-    let same = subst (λ v. Is code m v s) e is in
+    let same = subst (λ v. LevelIs code m v s) e is in
     (ap type_of same, ap payload same)
 
 pub is_container : {L C I O M : Type 0} (code : L → ℕ × List ℕ) (m : Meaning C I O M)
-    (v : Level L I O) (s : Shape) → ((x : L) → v ≡ levels.Leaf x → ⊥) → Is code m v s
+    (v : Level L I O) (s : Shape) → ((x : L) → v ≡ levels.Leaf x → ⊥) → LevelIs code m v s
     → type_of s ≡ CONTAINER_TAG
 is_container code m (levels.Leaf x) s other is = absurd (other x refl)
 is_container code m (levels.Array x) s other (ss, (e, h)) = ap type_of e
 is_container code m (levels.Object x) s other (ss, (e, h)) = ap type_of e
 
 -- The entry word of the first child precedes those of the others.
-pub standing_first : {C W : Type 0} {IsKey : List ℕ → Type 0} {IsChild : C → Shape → Type 0}
+pub stored_first : {C W : Type 0} {IsKey : List ℕ → Type 0} {IsChild : C → Shape → Type 0}
     {Are : W → Shapes → Type 0} {x : C × W} {ss : Shapes} (f : First IsKey IsChild Are x ss)
-    (at : ℕ) (bytes : List ℕ) → Stands at (entries ss) bytes
-    → Stands at (word (type_of f.child + length (payload f.child)) ++ entries f.others) bytes
-standing_first f at bytes stands =
-    subst (λ (us : Shapes). Stands at (entries us) bytes) f.made stands
+    (at : ℕ) (bytes : List ℕ) → IsAt at (entries ss) bytes
+    → IsAt at (word (type_of f.child + length (payload f.child)) ++ entries f.others) bytes
+stored_first f at bytes stored =
+    subst (λ (us : Shapes). IsAt at (entries us) bytes) f.made stored
 
 -- Appending twice appends the concatenation.
 Appends-both : {a b c : Vec ℕ} {x y : List ℕ} → AppendsBytes a b x → AppendsBytes b c y
@@ -123,9 +123,9 @@ Appends-both {a} {b} {c} {x} {y} h k = record {
   capacity = le_trans h.capacity k.capacity;
 }
 
-room_behind : {a b : Vec ℕ} {x : List ℕ} (y : List ℕ) → AppendsBytes a b x → HasRoom a (x ++ y)
+room_after : {a b : Vec ℕ} {x : List ℕ} (y : List ℕ) → AppendsBytes a b x → HasRoom a (x ++ y)
     → HasRoom b y
-room_behind {x = x} y h room =
+room_after {x = x} y h room =
     omega (arith, room, length-append x y, length-Appended h, h.capacity)
 
 room_first : (v : Vec ℕ) (x y : List ℕ) → HasRoom v (x ++ y) → HasRoom v x
@@ -135,7 +135,7 @@ room_first v x y room = omega (arith, room, length-append x y)
 pub array_entries_room : (a b : Vec ℕ) (ss : Shapes) → HasRoom a (payload (array ss))
     → AppendsBytes a b (word (ARRAY_CONTAINER_TAG + count ss)) → HasRoom b (entries ss)
 array_entries_room a b ss room header =
-    room_first b (entries ss) (payloads ss) (room_behind (entries ss ++ payloads ss) header room)
+    room_first b (entries ss) (payloads ss) (room_after (entries ss ++ payloads ss) header room)
 
 -- The parts of an object.
 module _ (a b c : Vec ℕ) (ss : Shapes) (room : HasRoom a (payload (object ss)))
@@ -146,8 +146,8 @@ module _ (a b c : Vec ℕ) (ss : Shapes) (room : HasRoom a (payload (object ss))
 
   entries_room : HasRoom c (entries ss ++ bodies)
   unfolding bodies
-  entries_room = room_behind (entries ss ++ bodies) key_words
-      (room_behind (key_entries ss ++ (entries ss ++ bodies)) header room)
+  entries_room = room_after (entries ss ++ bodies) key_words
+      (room_after (key_entries ss ++ (entries ss ++ bodies)) header room)
 
   pub object_entries_room : HasRoom c (entries ss)
   object_entries_room = room_first c (entries ss) bodies entries_room
@@ -156,10 +156,10 @@ module _ (a b c : Vec ℕ) (ss : Shapes) (room : HasRoom a (payload (object ss))
       (keys : AppendsBytes d e (key_payloads ss)) where
     pub object_payloads_room : HasRoom e (payloads ss)
     unfolding bodies
-    object_payloads_room = room_behind (payloads ss) keys (room_behind bodies words entries_room)
+    object_payloads_room = room_after (payloads ss) keys (room_after bodies words entries_room)
 
-    pub object_words : Stands (length c.items) (entries ss) e.items
-    object_words = Stands-more (length c.items) (entries ss) (Stands-Appended words) keys
+    pub object_words : IsAt (length c.items) (entries ss) e.items
+    object_words = IsAt-more (length c.items) (entries ss) (IsAt-Appended words) keys
 
 pub object_written : (a b c d e f : Vec ℕ) (ss : Shapes)
     → AppendsBytes a b (word (OBJECT_CONTAINER_TAG + count ss)) → AppendsBytes b c (key_entries ss)

@@ -7,7 +7,7 @@ use Rattle.jsonb_codec.specs.declared.writer.source.Level.TheVariants as levels
 use Rattle.jsonb_codec.specs.Shape.{Shape, leaf, array, object, Shapes, no_shapes, shape, count}
 use Rattle.jsonb_codec.specs.Shape.{key_entries, key_payloads, payload, entries, payloads, body}
 use Rattle.jsonb_codec.specs.Shape.{document, AllFit, FitsEntry, Fits}
-use Rattle.jsonb_codec.specs.Source.{Meaning, Laws, Is, AreSplit}
+use Rattle.jsonb_codec.specs.Source.{Meaning, Laws, LevelIs, AreSplit}
 use Rattle.jsonb_codec.specs.Writing.{TakesLeft}
 use Rattle.jsonb_codec.proofs.Words.{length-word-append}
 
@@ -56,12 +56,12 @@ children_short ss h few = omega (arith, payloads_short ss h, key_payloads_short 
 
 -- ---- a level has only one shape
 
-pub Is-one : {L C I O M : Type 0} (code : L → ℕ × List ℕ) {m : Meaning C I O M} → Laws m
-    → (x : Level L I O) (s u : Shape) → Is code m x s → Is code m x u → s ≡ u
-Is-one code laws (levels.Leaf x) s u h k = h ∙ sym k
-Is-one code laws (levels.Array x) s u (ss, (e, h)) (us, (f, k)) =
+pub LevelIs-one : {L C I O M : Type 0} (code : L → ℕ × List ℕ) {m : Meaning C I O M} → Laws m
+    → (x : Level L I O) (s u : Shape) → LevelIs code m x s → LevelIs code m x u → s ≡ u
+LevelIs-one code laws (levels.Leaf x) s u h k = h ∙ sym k
+LevelIs-one code laws (levels.Array x) s u (ss, (e, h)) (us, (f, k)) =
     e ∙ ap array (laws.one_items x ss us h k) ∙ sym f
-Is-one code laws (levels.Object x) s u (ss, (e, h)) (us, (f, k)) =
+LevelIs-one code laws (levels.Object x) s u (ss, (e, h)) (us, (f, k)) =
     e ∙ ap object (laws.one_object x ss us h k) ∙ sym f
 
 -- ---- documents
@@ -81,10 +81,11 @@ object_short ss f = omega (arith, length-object ss, children_short ss f.1 f.0)
 -- What is known for one shape of the child is known for each.
 pub takes_of_each : {L C I O M W : Type 0} (code : L → ℕ × List ℕ) {m : Meaning C I O M} → Laws m
     → (x : Level L I O) {Are : W → Shapes → Type 0} {b : W} {left : ℕ}
-    → ((s : Shape) × (Is code m x s × TakesLeft Are b s left)) → (t : Shape) → Is code m x t
+    → ((s : Shape) × (LevelIs code m x s × TakesLeft Are b s left)) → (t : Shape)
+    → LevelIs code m x t
     → TakesLeft Are b t left
 takes_of_each code laws x {Are} {b} {left} (s, (h, takes)) t k =
-    subst (λ u. TakesLeft Are b u left) (Is-one code laws x s t h k) takes
+    subst (λ u. TakesLeft Are b u left) (LevelIs-one code laws x s t h k) takes
 
 -- A child without later siblings takes the whole length.
 pub takes_all : {W : Type 0} {Are : W → Shapes → Type 0} {b : W} {s : Shape} {left : ℕ}
@@ -105,7 +106,7 @@ pub record First {C W : Type 0} (IsKey : List ℕ → Type 0) (IsChild : C → S
   pub made : ss ≡ shape key child others
   pub keyed : IsKey key
   pub is : IsChild z.0 child
-  pub behind : Are z.1 others
+  pub later : Are z.1 others
 
 pub first : {C W : Type 0} {IsKey : List ℕ → Type 0} (IsChild : C → Shape → Type 0)
     (Are : W → Shapes → Type 0) {z : C × W} (ss : Shapes) → AreSplit IsKey IsChild Are z ss
@@ -118,7 +119,7 @@ first IsChild Are (shape k s ss) h = record {
   made = refl;
   keyed = h.0;
   is = h.1.0;
-  behind = h.1.1;
+  later = h.1.1;
 }
 
 module _ {C W : Type 0} {IsKey : List ℕ → Type 0} {IsChild : C → Shape → Type 0}

@@ -37,18 +37,18 @@ above_all k l [] below h = tt
 above_all k l ((m, v) ∷ ms) below h =
     let further = string_cmp_total.trans k l m below h.0 in (further, above_all k m ms further h.1)
 
-sorted_behind : (k : String Global) (ms : List (String Global × Value))
+sorted_after : (k : String Global) (ms : List (String Global × Value))
     → Ascends (Some (string_bytes k)) (pairs_view ms)
     → IsStrictlySortedBy string_cmp (k ∷ keys_of ms)
 unfolding IsStrictlySortedBy
-sorted_behind k [] h = (tt, tt)
-sorted_behind k ((l, v) ∷ ms) h = ((h.0, above_all k l ms h.0 h.1), sorted_behind l ms h.1)
+sorted_after k [] h = (tt, tt)
+sorted_after k ((l, v) ∷ ms) h = ((h.0, above_all k l ms h.0 h.1), sorted_after l ms h.1)
 
 sorted_keys : (ms : List (String Global × Value)) → Ascend (pairs_view ms)
     → IsStrictlySortedBy string_cmp (keys_of ms)
 unfolding IsStrictlySortedBy
 sorted_keys [] h = tt
-sorted_keys ((k, v) ∷ ms) h = sorted_behind k ms h.1
+sorted_keys ((k, v) ∷ ms) h = sorted_after k ms h.1
 
 -- a map built from pairs with ascending keys has these pairs
 pub from_ascending : (es : List (String Global × Value)) (n : BTreeMap (String Global) Value)

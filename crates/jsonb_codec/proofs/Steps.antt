@@ -103,7 +103,7 @@ module _ {ty n : ℕ} {rest e : List ℕ} (read : Read (2 ^ 28) ty n rest e) whe
         others = ts;
         are = refl;
         is = (f.type, subst (Payload t) (sym is_front) f.means);
-        behind = subst (Children ts rest) (sym is_back) f.others;
+        later = subst (Children ts rest) (sym is_back) f.others;
       }
 
   pub first_fits : (ts : Trees) (p : List ℕ) → Children ts e p → n ≤ length p
@@ -220,7 +220,7 @@ module _ {tag n : ℕ} {rest b : List ℕ} (read : Read (2 ^ 29) tag n rest b) w
   container_array d some is = (
     λ (ts, (w, (c, h))). (
       array ts,
-      (omega arith, (refl, record { rest = rest; parts = cc (read.found); behind = rw c h })),
+      (omega arith, (refl, record { rest = rest; parts = cc (read.found); later = rw c h })),
     ),
     λ (t, (w, h)).
         let x = array_in is t h in
@@ -232,7 +232,7 @@ module _ {tag n : ℕ} {rest b : List ℕ} (read : Read (2 ^ 29) tag n rest b) w
   container_object d some is = (
     λ (ps, (w, (c, (a, h)))). (
       object ps,
-      (omega arith, (refl, (a, record { rest = rest; parts = cc (read.found); behind = rw c h }))),
+      (omega arith, (refl, (a, record { rest = rest; parts = cc (read.found); later = rw c h }))),
     ),
     λ (t, (w, h)).
         let x = object_in (omega arith) t h in

@@ -145,7 +145,7 @@ object_unique n body ps qs h k =
       record {
         rest = body;
         parts = rw c refl;
-        behind = subst (λ m. PairsBody m (Keys rs) (Values rs) body) (sym c) b;
+        later = subst (λ m. PairsBody m (Keys rs) (Values rs) body) (sym c) b;
       },
     )
 

@@ -29,7 +29,7 @@ mutual
       let f = array_container ts p h in
       AreTrees-Children ts _ _ (payload_bytes bytes f) f.items
   IsTree-Payload (object ps) p bytes h =
-      let b = h.1.behind in
+      let b = h.1.later in
       let payloads = payload_bytes bytes (object_container ps p h) in (
         h.0,
         ArePairs-Values ps _ _ _ _

@@ -114,11 +114,11 @@ container-long : (b : List ℕ) (t : Tree) → (is : type_of t ≡ 1342177280) �
     → (h : Payload t b) → AreLong (payloads_in b t (inr (is, h)))
 container-long b (array ts) is zero_free h =
     let least = header_least zero_free (array_container ts b h) in
-    let items = h.behind.items in
+    let items = h.later.items in
     (omega (arith, least.0, length-items ts _ _ items), items_long ts _ _ least.1 items)
 container-long b (object ps) is zero_free h =
     let least = header_least zero_free (object_container ps b h) in
-    let k = h.1.behind in
+    let k = h.1.later in
     let words = NoZero-append k.key_entries k.value_entries least.1 in (
       omega (
         arith,

@@ -4,7 +4,7 @@ use Rattle.jsonb_value.specs.NumCode.{number_payload}
 use Rattle.jsonb_value.specs.ExtCode.{extension_of, extension_payload}
 use Rattle.jsonb_codec.specs.declared.writer.code.Payload.{Payload}
 use Rattle.jsonb_codec.specs.declared.writer.code.Payload.TheVariants as payloads
-use Rattle.jsonb_codec.specs.declared.writer.code.Code.{Code}
+use Rattle.jsonb_codec.specs.declared.writer.code.StoredEntry.{StoredEntry}
 use Rattle.jsonb_codec.specs.declared.writer.code.Scalar.{Scalar}
 use Rattle.jsonb_codec.specs.declared.writer.code.Scalar.TheVariants as scalars
 use Rattle.jsonb_codec.specs.declared.constants.TheConstants.{NULL_TAG, FALSE_TAG, TRUE_TAG}
@@ -18,7 +18,7 @@ payload_bytes (payloads.Number x) = number_payload x
 payload_bytes (payloads.Extension value) = extension_payload (extension_of value)
 
 -- The type and the payload of an entry.
-abbrev pub code_of : Code → ℕ × List ℕ
+abbrev pub code_of : StoredEntry → ℕ × List ℕ
 code_of code = (code.type_code, payload_bytes code.payload)
 
 -- The type and the payload with which a scalar is stored.

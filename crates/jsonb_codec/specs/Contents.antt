@@ -11,7 +11,7 @@ use Rattle.jsonb_codec.specs.Parts.{IsPayloadOf, IsObject, ArePairsOf}
 
 -- The part means the tree.
 abbrev pub Means : Part → Tree → Type 0
-Means part t = IsPayloadOf part.tag part.payload.now t
+Means part t = IsPayloadOf part.type_code part.payload.now t
 
 -- The children are these trees.
 abbrev pub AreChildren : Trees → declared.Children → Type 0
@@ -37,9 +37,9 @@ AreInside n (contents.Object it) = length it.body.now < n
 -- The first of these pairs has this key, and a value with this type and payload; the others are
 -- these members.
 pub record FirstMember (ps : Pairs) (key : List ℕ) (type : ℕ) (payload : List ℕ)
-    (behind : Members) : Type 0 where
+    (later : Members) : Type 0 where
   pub value : Tree
   pub others : Pairs
   pub are : ps ≡ pair key value others
   pub is : IsPayloadOf type payload value
-  pub left : AreMembers others behind
+  pub left : AreMembers others later

@@ -64,10 +64,10 @@ pub record PairsBody (n : ℕ) (Keys Values : List ℕ → List ℕ → Type 0)
   pub values : Values value_entries value_payloads
 
 -- The bytes are this header word, followed by bytes with this property.
-pub record BehindHeader (header : ℕ) (Behind : List ℕ → Type 0) (bytes : List ℕ) : Type 0 where
+pub record FollowsHeader (header : ℕ) (Rest : List ℕ → Type 0) (bytes : List ℕ) : Type 0 where
   pub rest : List ℕ
   pub parts : bytes ≡ word header ++ rest
-  pub behind : Behind rest
+  pub later : Rest rest
 
 -- The payload is the key, in UTF-8.
 abbrev pub IsKey : List ℕ → List ℕ → Type 0
@@ -86,9 +86,10 @@ abbrev mutual
   Payload (number x) = λ p. NumCode p x
   Payload (text s) = λ p. IsKey s p
   Payload (extension e) = λ p. ExtCode p e
-  Payload (array ts) = BehindHeader (ARRAY_CONTAINER_TAG + count ts) (Body (count ts) (Children ts))
+  Payload (array ts) =
+      FollowsHeader (ARRAY_CONTAINER_TAG + count ts) (Body (count ts) (Children ts))
   Payload (object ps) = λ p. Ascend ps
-      × BehindHeader (OBJECT_CONTAINER_TAG + pair_count ps)
+      × FollowsHeader (OBJECT_CONTAINER_TAG + pair_count ps)
       (PairsBody (pair_count ps) (Keys ps) (Values ps)) p
 
   -- The entry words and the payloads are those of an array's items.

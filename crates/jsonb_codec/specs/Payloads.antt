@@ -24,7 +24,7 @@ values_in (pair k t ps) e p h = h.payload ∷ values_in ps _ _ h.others
 -- values, or the one of a scalar.
 abbrev pub payloads_in : (b : List ℕ) (t : Tree) → Doc b t → List (List ℕ)
 payloads_in b t (inl h) = h.1.payload ∷ []
-payloads_in b (array ts) (inr h) = items_in ts _ _ h.1.behind.items
+payloads_in b (array ts) (inr h) = items_in ts _ _ h.1.later.items
 payloads_in b (object ps) (inr h) =
-    keys_in ps _ _ h.1.1.behind.keys ++ values_in ps _ _ h.1.1.behind.values
+    keys_in ps _ _ h.1.1.later.keys ++ values_in ps _ _ h.1.1.later.values
 payloads_in b t (inr h) = []

@@ -13,7 +13,7 @@ pub record FirstChild (ts : Trees) (type : ℕ) (payload entries payloads : List
   pub others : Trees
   pub are : ts ≡ tree first others
   pub is : IsPayloadOf type payload first
-  pub behind : Children others entries payloads
+  pub later : Children others entries payloads
 
 -- A container is written as this header and these children; those of an object are its keys, as
 -- texts, and then its values.

@@ -29,11 +29,11 @@ pub record Laws {C I O M : Type 0} (m : Meaning C I O M) : Type 0 where
   pub bare_items : (x : I) (ss : Shapes) → m.items x ss → key_payloads ss ≡ []
 
 -- A level is written as this shape: a leaf by its code, a container by its children.
-abbrev pub Is : {L C I O M : Type 0} → (L → ℕ × List ℕ) → Meaning C I O M → Level L I O → Shape
+abbrev pub LevelIs : {L C I O M : Type 0} → (L → ℕ × List ℕ) → Meaning C I O M → Level L I O → Shape
     → Type 0
-Is code m (levels.Leaf x) s = s ≡ leaf (code x).0 (code x).1
-Is code m (levels.Array x) s = (ss : Shapes) × ((s ≡ array ss) × m.items x ss)
-Is code m (levels.Object x) s = (ss : Shapes) × ((s ≡ object ss) × m.object x ss)
+LevelIs code m (levels.Leaf x) s = s ≡ leaf (code x).0 (code x).1
+LevelIs code m (levels.Array x) s = (ss : Shapes) × ((s ≡ array ss) × m.items x ss)
+LevelIs code m (levels.Object x) s = (ss : Shapes) × ((s ≡ object ss) × m.object x ss)
 
 -- The shapes consist of a first child with such a key and the others after it.
 abbrev pub AreSplit : {C W : Type 0} → (List ℕ → Type 0) → (C → Shape → Type 0)

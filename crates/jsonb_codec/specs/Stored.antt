@@ -68,7 +68,7 @@ module _ {T : Type 0} (stored : T → Type 0) (code : T → ℕ × List ℕ) (he
 
 -- The code of a part of a document.
 abbrev pub part_code : Part → ℕ × List ℕ
-part_code part = (part.tag, part.payload.now)
+part_code part = (part.type_code, part.payload.now)
 
 -- The code of a part, if there is one.
 abbrev pub code_of_some : Option Part → ℕ × List ℕ

@@ -31,11 +31,11 @@ pub use Rattle.jsonb_codec.specs.PartSource.{part_laws, part_meaning}
 pub use Rattle.jsonb_codec.specs.Parts.{IsFault, IsObject}
 pub use Rattle.jsonb_codec.specs.Reread.{MeansAgain}
 pub use Rattle.jsonb_codec.specs.Rewriting.{ContainerParts, FirstChild}
-pub use Rattle.jsonb_codec.specs.Room.{AppendsBytes, HasRoom, Stands}
+pub use Rattle.jsonb_codec.specs.Room.{AppendsBytes, HasRoom, IsAt}
 pub use Rattle.jsonb_codec.specs.Shape.{AllFit, FitsEntry, FitsInside, Shape, Shapes, body, count}
 pub use Rattle.jsonb_codec.specs.Shape.{document, entries, key_entries, key_payloads, payload}
 pub use Rattle.jsonb_codec.specs.Shape.{payloads, type_of}
-pub use Rattle.jsonb_codec.specs.Source.{Is, LevelHeld, level_size}
+pub use Rattle.jsonb_codec.specs.Source.{LevelIs, LevelHeld, level_size}
 pub use Rattle.jsonb_codec.specs.Stored.{code_of_some, part_code, stored_laws, stored_meaning}
 pub use Rattle.jsonb_codec.specs.TreeShape.{shape_of}
 pub use Rattle.jsonb_codec.specs.ValueSource.{ast_laws, ast_meaning, value_laws, value_meaning}

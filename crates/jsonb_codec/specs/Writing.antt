@@ -17,11 +17,11 @@ pub record AreFew (ss : Shapes) : Type 0 where
   pub few : count ss < 2 ^ 29
 
 -- The child's length is `left` minus the lengths of its later siblings, and all of them fit.
-pub record TakesLeft {W : Type 0} (Are : W → Shapes → Type 0) (behind : W) (s : Shape) (left : ℕ)
+pub record TakesLeft {W : Type 0} (Are : W → Shapes → Type 0) (later : W) (s : Shape) (left : ℕ)
     : Type 0 where
   pub fits : FitsEntry s
   pub others : Shapes
-  pub are : Are behind others
+  pub are : Are later others
   pub few : AreFew others
   pub both : left ≡ length (payload s) + body others
 

@@ -48,7 +48,7 @@ fn is_written(part: Part<'_>) -> bool
     ensures { (t : Tree) → Means part.entry t
         → IsTrue result ↔ IsWritten t part.entry.payload.now }
 {
-    match part.tag {
+    match part.type_code {
         NUMBER_TAG => is_written_number(part.payload, part.number()),
         EXTENSION_TAG => is_written_extension(part.payload, part.extension()),
         CONTAINER_TAG => are_written(part.container().children),
@@ -83,7 +83,7 @@ fn are_written(children: Children<'_>) -> bool
         if !is_written(child.part) {
             return false;
         }
-        left = child.behind;
+        left = child.later;
     }
     true
 }

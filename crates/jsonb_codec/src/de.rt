@@ -93,7 +93,7 @@ pub fn value_of_document<'a>(alloc: Global, document: DocumentBytes<'a>) -> Resu
     ensures memory { IfErr result (λ e. e ≡ Error.OutOfMemory) }
 {
     let whole = document.part();
-    if whole.tag == CONTAINER_TAG {
+    if whole.type_code == CONTAINER_TAG {
         build_container(alloc, whole)
     } else {
         Ok(build_scalar(whole))
@@ -109,7 +109,7 @@ fn push_part<'a>(alloc: Global, items: &mut Vec<Value<'a>>, part: Part<'a>) -> R
         × ((t : Tree) → Means part.entry t → tree_of v ≡ t))) }
     ensures memory { IfErr result (λ e. e ≡ Error.OutOfMemory) }
 {
-    match part.tag {
+    match part.type_code {
         CONTAINER_TAG => items.push(build_container(alloc, part)?)?,
         STRING_TAG => items.push(Value::String(CowStr::Borrowed(part.text())))?,
         NUMBER_TAG => push_number(items, part.number())?,
@@ -146,7 +146,7 @@ fn insert_part<'a>(
         × ((t : Tree) → Means part.entry t → tree_of v ≡ t))) }
     ensures memory { IfErr result (λ e. e ≡ Error.OutOfMemory) }
 {
-    let value = if part.tag == CONTAINER_TAG {
+    let value = if part.type_code == CONTAINER_TAG {
         build_container(alloc, part)?
     } else {
         build_scalar(part)
@@ -168,7 +168,7 @@ fn push_pair<'a>(
         × ((t : Tree) → Means part.entry t → tree_of v ≡ t))) }
     ensures memory { IfErr result (λ e. e ≡ Error.OutOfMemory) }
 {
-    let value = if part.tag == CONTAINER_TAG {
+    let value = if part.type_code == CONTAINER_TAG {
         build_container(alloc, part)?
     } else {
         build_scalar(part)
@@ -192,7 +192,7 @@ fn insert_member<'a>(members: &mut Object<'a>, key: String, value: Value<'a>) ->
 // Builds an array or object.
 #[cycle(value)]
 fn build_container<'a>(alloc: Global, part: Part<'a>) -> Result<Value<'a>, Error>
-    requires { part.tag ≡ CONTAINER_TAG }
+    requires { part.type_code ≡ CONTAINER_TAG }
     ensures ok { IfOk result (λ v. (t : Tree) → Means part.entry t → tree_of v ≡ t) }
     ensures memory { IfErr result (λ e. e ≡ Error.OutOfMemory) }
 {
@@ -213,7 +213,7 @@ fn build_items<'a>(alloc: Global, items: Children<'a>) -> Result<Vec<Value<'a>>,
     let mut built = Vec::with_capacity(alloc, items.entries.len() / 4)?;
     while let Some(child) = left.split_first() {
         push_part(alloc, &mut built, child.part)?;
-        left = child.behind;
+        left = child.later;
     }
     Ok(built)
 }
@@ -234,7 +234,7 @@ fn build_members<'a>(alloc: Global, members: Members<'a>) -> Result<Object<'a>, 
     while let Some(member) = left.split_first() {
         let key = String::from_str(alloc, member.key)?;
         insert_part(alloc, &mut built, key, member.value)?;
-        left = member.behind;
+        left = member.later;
     }
     Ok(built)
 }
@@ -253,7 +253,7 @@ fn build_many<'a>(alloc: Global, members: Members<'a>) -> Result<Object<'a>, Err
     while let Some(member) = left.split_first() {
         let key = String::from_str(alloc, member.key)?;
         push_pair(alloc, &mut built, key, member.value)?;
-        left = member.behind;
+        left = member.later;
     }
     Ok(built.into_iter().collect(alloc)?)
 }
@@ -261,10 +261,10 @@ fn build_many<'a>(alloc: Global, members: Members<'a>) -> Result<Object<'a>, Err
 // Builds the value of a scalar.
 #[inline(always)]
 fn build_scalar<'a>(part: Part<'a>) -> Value<'a>
-    requires { part.tag ≢ CONTAINER_TAG }
+    requires { part.type_code ≢ CONTAINER_TAG }
     ensures { (t : Tree) → Means part.entry t → tree_of result ≡ t }
 {
-    match part.tag {
+    match part.type_code {
         NULL_TAG => Value::Null,
         FALSE_TAG => Value::Bool(false),
         TRUE_TAG => Value::Bool(true),

@@ -209,7 +209,7 @@ impl<'a> DocumentBytes<'a> {
     /// A nested array or object as a document of its own.
     #[inline(always)]
     pub fn of_container(part: Part<'a>) -> Self
-        requires { part.tag ≡ CONTAINER_TAG }
+        requires { part.type_code ≡ CONTAINER_TAG }
         ensures { bytes_of result ≡ part.entry.payload.now }
     {
         DocumentBytes {
@@ -230,7 +230,7 @@ impl<'a> DocumentBytes<'a> {
     #[inline(always)]
     pub fn part(self) -> Part<'a>
         ensures means { (t : Tree) → Doc (bytes_of self.entry) t → Means result t }
-        ensures bytes { document_of result.tag result.payload.now ≡ bytes_of self.entry }
+        ensures bytes { document_of result.type_code result.payload.now ≡ bytes_of self.entry }
         ensures len { length result.payload.now < 2 ^ 64 }
     {
         let Some(header) = split_header(self.bytes) else {
@@ -238,7 +238,7 @@ impl<'a> DocumentBytes<'a> {
         };
         if header.tag != SCALAR_CONTAINER_TAG {
             return Part {
-                tag: CONTAINER_TAG,
+                type_code: CONTAINER_TAG,
                 payload: self.bytes,
             };
         }
@@ -246,7 +246,7 @@ impl<'a> DocumentBytes<'a> {
             unreachable!();
         };
         Part {
-            tag: entry.tag,
+            type_code: entry.tag,
             payload: entry.rest,
         }
     }
@@ -261,7 +261,7 @@ pub fn check<'a>(
     depth: usize,
     bytes: &'a [u8],
 ) -> Result<DocumentBytes<'a>, Error>
-    ensures told { HoldsOrFaults faults result (IsDocumentWithin depth bytes.now) }
+    ensures decided { HoldsOrFaults faults result (IsDocumentWithin depth bytes.now) }
     ensures bytes { IfOk result (λ d. d.bytes.now ≡ bytes.now) }
 {
     match find_fault(faults, depth, bytes) {
@@ -301,9 +301,9 @@ fn check_scalar(faults: FaultTable, count: usize, body: &[u8]) -> Result<(), Err
     if entry.tag == CONTAINER_TAG {
         return Err(faults.entry());
     }
-    let (payload, behind) = split_payload(faults, entry.tag, entry.number, entry.rest)?;
+    let (payload, later) = split_payload(faults, entry.tag, entry.number, entry.rest)?;
     check_scalar_payload(faults, entry.tag, payload)?;
-    if !behind.is_empty() {
+    if !later.is_empty() {
         return Err(faults.excess());
     }
     Ok(())
@@ -349,10 +349,10 @@ fn check_object(faults: FaultTable, depth: usize, count: usize, body: &[u8]) -> 
     if body.len() < 8 * count {
         return Err(faults.short_entries());
     }
-    let (key_entries, behind_keys) = body.split_at(4 * count);
-    let (value_entries, payloads) = behind_keys.split_at(4 * count);
+    let (key_entries, after_keys) = body.split_at(4 * count);
+    let (value_entries, payloads) = after_keys.split_at(4 * count);
     let keys = check_keys(faults, depth, key_entries, payloads)?;
-    check_children(faults, depth, value_entries, keys.behind)?;
+    check_children(faults, depth, value_entries, keys.later)?;
     if keys.ascend {
         Ok(())
     } else {
@@ -374,10 +374,10 @@ fn check_children(
     let mut entries_left = entries;
     let mut payloads_left = payloads;
     while let Some(entry) = split_entry(entries_left) {
-        let (payload, behind) = split_payload(faults, entry.tag, entry.number, payloads_left)?;
+        let (payload, later) = split_payload(faults, entry.tag, entry.number, payloads_left)?;
         check_payload(faults, depth, entry.tag, payload)?;
         entries_left = entry.rest;
-        payloads_left = behind;
+        payloads_left = later;
     }
     if payloads_left.is_empty() {
         Ok(())
@@ -391,7 +391,7 @@ fn check_children(
 struct Keys<'a> {
     // The keys are strings and ascend strictly.
     ascend: bool,
-    behind: &'a [u8],
+    later: &'a [u8],
 }
 
 // Checks an object's keys. Bad key order is reported only if no value is faulty, so it is part of
@@ -405,10 +405,10 @@ fn check_keys<'a>(
 ) -> Result<Keys<'a>, Error>
     requires { length entries.now % 4 ≡ 0 }
     ensures keys { IfOk result (λ k. IsTrue k.ascend
-        → HasKeys None entries.now payloads.now k.behind.now) }
+        → HasKeys None entries.now payloads.now k.later.now) }
     ensures ascend { IfOk result (λ k. (q : List ℕ) → HasKeys None entries.now payloads.now q
         → IsTrue k.ascend) }
-    ensures shorter { IfOk result (λ k. length k.behind.now ≤ length payloads.now) }
+    ensures shorter { IfOk result (λ k. length k.later.now ≤ length payloads.now) }
     ensures none { OnErr result
         ((q : List ℕ) → HasKeys None entries.now payloads.now q → ⊥) }
     ensures fault { IfErr result (IsFault faults) }
@@ -418,16 +418,16 @@ fn check_keys<'a>(
     let mut before: Option<&[u8]> = None;
     let mut ascend = true;
     while let Some(entry) = split_entry(entries_left) {
-        let (key, behind) = split_payload(faults, entry.tag, entry.number, payloads_left)?;
+        let (key, later) = split_payload(faults, entry.tag, entry.number, payloads_left)?;
         check_key(faults, depth, entry.tag, key)?;
         ascend &= is_key_after(before, entry.tag, key);
         entries_left = entry.rest;
-        payloads_left = behind;
+        payloads_left = later;
         before = Some(key);
     }
     Ok(Keys {
         ascend,
-        behind: payloads_left,
+        later: payloads_left,
     })
 }
 
@@ -463,7 +463,7 @@ fn split_payload<'a>(
     payloads: &'a [u8],
 ) -> Result<(&'a [u8], &'a [u8]), Error>
     ensures payload { IfOk result (λ x. x.0.now ≡ take number payloads.now) }
-    ensures behind { IfOk result (λ x. x.1.now ≡ drop number payloads.now) }
+    ensures later { IfOk result (λ x. x.1.now ≡ drop number payloads.now) }
     ensures fits { OnOk result (number ≤ length payloads.now) }
     ensures past { OnErr result (length payloads.now < number) }
     ensures fault { IfErr result (IsFault faults) }

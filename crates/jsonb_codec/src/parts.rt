@@ -16,9 +16,9 @@ use jsonb_value::{ExtensionValue, Number};
 /// The type of an entry, and its payload.
 #[derive(Clone, Copy, Debug)]
 pub struct Part<'a> {
-    pub tag: u32,
+    pub type_code: u32,
     pub payload: &'a [u8],
-    ghost fact: { ∥ IsSomePayload tag payload.now ∥₁ },
+    ghost fact: { ∥ IsSomePayload type_code payload.now ∥₁ },
 }
 
 /// Entry words and their payloads: those of an array's items, of an object's keys or of its values,
@@ -34,7 +34,7 @@ pub struct Children<'a> {
 #[derive(Clone, Copy, Debug)]
 pub struct Child<'a> {
     pub part: Part<'a>,
-    pub behind: Children<'a>,
+    pub later: Children<'a>,
 }
 
 /// An object: how many members it has, and the bytes after its header. Where its values begin is
@@ -60,7 +60,7 @@ pub struct Members<'a> {
 pub struct Member<'a> {
     pub key: &'a str,
     pub value: Part<'a>,
-    pub behind: Members<'a>,
+    pub later: Members<'a>,
 }
 
 /// The content of an array or object.
@@ -86,7 +86,7 @@ impl<'a> Part<'a> {
     /// The text of a string.
     #[inline(always)]
     pub fn text(self) -> &'a str
-        requires { self.tag ≡ STRING_TAG }
+        requires { self.type_code ≡ STRING_TAG }
         ensures means { (t : Tree) → Means self.entry t → t ≡ text result.now }
         ensures bytes { result.now ≡ self.entry.payload.now }
     {
@@ -96,7 +96,7 @@ impl<'a> Part<'a> {
     /// The number.
     #[inline(always)]
     pub fn number(self) -> Number
-        requires { self.tag ≡ NUMBER_TAG }
+        requires { self.type_code ≡ NUMBER_TAG }
         ensures { (t : Tree) → Means self.entry t → t ≡ number result }
     {
         let Ok(number) = Number::decode(self.payload) else {
@@ -108,7 +108,7 @@ impl<'a> Part<'a> {
     /// The extension value.
     #[inline(always)]
     pub fn extension(self) -> ExtensionValue<'a>
-        requires { self.tag ≡ EXTENSION_TAG }
+        requires { self.type_code ≡ EXTENSION_TAG }
         ensures { (t : Tree) → Means self.entry t → t ≡ extension (extension_of result) }
     {
         let Ok(value) = ExtensionValue::decode(self.payload) else {
@@ -120,7 +120,7 @@ impl<'a> Part<'a> {
     /// The content of the array or object.
     #[inline(always)]
     pub fn contents(self) -> Contents<'a>
-        requires { self.tag ≡ CONTAINER_TAG }
+        requires { self.type_code ≡ CONTAINER_TAG }
         ensures contents { (t : Tree) → Means self.entry t → AreContents result t }
         ensures inside { AreInside (length self.entry.payload.now) result }
     {
@@ -140,7 +140,7 @@ impl<'a> Part<'a> {
 
     /// The header word of the array or object, and all its children.
     pub fn container(self) -> Container<'a>
-        requires { self.tag ≡ CONTAINER_TAG }
+        requires { self.type_code ≡ CONTAINER_TAG }
         ensures opened { (t : Tree) → Means self.entry t
             → ContainerParts t result.header result.children.entries.now
             result.children.payloads.now }
@@ -184,17 +184,17 @@ impl<'a> Children<'a> {
     #[inline(always)]
     pub fn split_first(self) -> Option<Child<'a>>
         ensures first { IfSome result (λ c. (ts : Trees) → AreChildren ts self.entry
-            → FirstChild ts c.part.tag c.part.payload.now
-            c.behind.entries.now c.behind.payloads.now) }
+            → FirstChild ts c.part.type_code c.part.payload.now
+            c.later.entries.now c.later.payloads.now) }
         ensures entries { IfSome result (λ c. self.entry.entries.now
-            ≡ word (c.part.tag + length c.part.payload.now) ++ c.behind.entries.now) }
+            ≡ word (c.part.type_code + length c.part.payload.now) ++ c.later.entries.now) }
         ensures payloads { IfSome result (λ c. self.entry.payloads.now
-            ≡ c.part.payload.now ++ c.behind.payloads.now) }
+            ≡ c.part.payload.now ++ c.later.payloads.now) }
         ensures entries_len { IfSome result
-            (λ c. length self.entry.entries.now ≡ 4 + length c.behind.entries.now) }
+            (λ c. length self.entry.entries.now ≡ 4 + length c.later.entries.now) }
         ensures payloads_len { IfSome result (λ c. length self.entry.payloads.now
-            ≡ length c.part.payload.now + length c.behind.payloads.now) }
-        ensures tag { IfSome result (λ c. c.part.tag + 2 ^ 28 ≤ 2 ^ 32) }
+            ≡ length c.part.payload.now + length c.later.payloads.now) }
+        ensures tag { IfSome result (λ c. c.part.type_code + 2 ^ 28 ≤ 2 ^ 32) }
         ensures short { IfSome result (λ c. length c.part.payload.now < 2 ^ 28) }
         ensures none { IfNone result ((ts : Trees) → AreChildren ts self.entry → ts ≡ no_trees) }
     {
@@ -204,10 +204,10 @@ impl<'a> Children<'a> {
         let (payload, payloads) = self.payloads.split_at(entry.number);
         Some(Child {
             part: Part {
-                tag: entry.tag,
+                type_code: entry.tag,
                 payload,
             },
-            behind: Children {
+            later: Children {
                 entries: entry.rest,
                 payloads,
             },
@@ -227,8 +227,8 @@ impl<'a> Object<'a> {
         ensures inside { length result.values.entries.now + length result.values.payloads.now
             ≤ length self.entry.body.now }
     {
-        let (key_entries, behind) = self.body.split_at(4 * self.count);
-        let (value_entries, payloads) = behind.split_at(4 * self.count);
+        let (key_entries, later) = self.body.split_at(4 * self.count);
+        let (value_entries, payloads) = later.split_at(4 * self.count);
         let (keys, values) = payloads.split_at(keys_len(key_entries));
         Members {
             keys: Children {
@@ -251,13 +251,13 @@ impl<'a> Members<'a> {
     #[inline(always)]
     pub fn split_first(self) -> Option<Member<'a>>
         ensures first { IfSome result (λ m. (ps : Pairs) → AreMembers ps self.entry
-            → FirstMember ps m.key.now m.value.tag m.value.payload.now m.behind) }
+            → FirstMember ps m.key.now m.value.type_code m.value.payload.now m.later) }
         ensures values_len { IfSome result (λ m. length self.entry.values.payloads.now
-            ≡ length m.value.payload.now + length m.behind.values.payloads.now) }
+            ≡ length m.value.payload.now + length m.later.values.payloads.now) }
         ensures entries_len { IfSome result (λ m. length self.entry.values.entries.now
-            ≡ 4 + length m.behind.values.entries.now) }
+            ≡ 4 + length m.later.values.entries.now) }
         ensures keys_len { IfSome result (λ m. length self.entry.keys.entries.now
-            ≡ 4 + length m.behind.keys.entries.now) }
+            ≡ 4 + length m.later.keys.entries.now) }
         ensures none { IfNone result ((ps : Pairs) → AreMembers ps self.entry → ps ≡ no_pairs) }
     {
         let Some(key) = self.keys.split_first() else {
@@ -269,9 +269,9 @@ impl<'a> Members<'a> {
         Some(Member {
             key: key.part.text(),
             value: value.part,
-            behind: Members {
-                keys: key.behind,
-                values: value.behind,
+            later: Members {
+                keys: key.later,
+                values: value.later,
             },
         })
     }

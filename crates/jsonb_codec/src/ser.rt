@@ -68,7 +68,7 @@ impl<'a> Encoder<'a> {
         // unsigned; trees that differ in more than that have different canonical documents.
         ensures tree { OnOk result (IsTree (tree_of value.now)) }
         ensures means { (t : Tree) → IsTree t → Fits t → Doc (canon t) (norm t) }
-        ensures told_apart { (t u : Tree) → IsTree t → IsTree u → Fits t → Fits u
+        ensures distinct { (t u : Tree) → IsTree t → IsTree u → Fits t → Fits u
             → (canon t ≡ canon u) ↔ (norm t ≡ norm u) }
     {
         append_document::<&Value>(self.buf, value_level(value))
@@ -134,7 +134,7 @@ impl<'a> JsonAstEncoder<'a> {
         // unsigned; trees that differ in more than that have different canonical documents.
         ensures tree { OnOk result (IsTree (ast_tree value.now)) }
         ensures means { (t : Tree) → IsTree t → Fits t → Doc (canon t) (norm t) }
-        ensures told_apart { (t u : Tree) → IsTree t → IsTree u → Fits t → Fits u
+        ensures distinct { (t u : Tree) → IsTree t → IsTree u → Fits t → Fits u
             → (canon t ≡ canon u) ↔ (norm t ≡ norm u) }
     {
         append_document::<&JsonAst>(self.buf, ast_level(value))

@@ -8,6 +8,6 @@ pub(crate) mod source;
 pub(crate) mod stored;
 
 pub use append::append_document;
-pub use code::{Code, Payload};
+pub use code::{Payload, StoredEntry};
 pub use source::Level;
 pub use stored::{Stored, part_code};

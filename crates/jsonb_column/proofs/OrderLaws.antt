@@ -70,21 +70,21 @@ pub filter-between : {X : Type 0} (p : X → Bool) (xs : List X) (from n : ℕ)
     → ((i : ℕ) (d : X) → from ≤ i → i < from + n → p (slice_index_or xs i d) ≡ true)
     → ((i : ℕ) (d : X) → from + n ≤ i → i < length xs → p (slice_index_or xs i d) ≡ false)
     → from + n ≤ length xs → take n (drop from xs) ≡ filter p xs
-filter-between p [] zero zero before within behind fits = refl
-filter-between p [] zero (suc n) before within behind fits = absurd (omega arith)
-filter-between p [] (suc from) n before within behind fits = absurd (omega arith)
-filter-between p (x ∷ xs) zero zero before within behind fits =
-    rw (behind 0 x (omega arith) (omega arith))
+filter-between p [] zero zero before within later fits = refl
+filter-between p [] zero (suc n) before within later fits = absurd (omega arith)
+filter-between p [] (suc from) n before within later fits = absurd (omega arith)
+filter-between p (x ∷ xs) zero zero before within later fits =
+    rw (later 0 x (omega arith) (omega arith))
     (filter-between p xs 0 0 (λ i d low. absurd (omega arith)) (λ i d le low. absurd (omega arith))
-    (λ i d le low. behind (suc i) d (omega arith) (omega arith)) (omega arith))
-filter-between p (x ∷ xs) zero (suc n) before within behind fits =
+    (λ i d le low. later (suc i) d (omega arith) (omega arith)) (omega arith))
+filter-between p (x ∷ xs) zero (suc n) before within later fits =
     rw (within 0 x (omega arith) (omega arith))
     (ap (λ ys. x ∷ ys)
     (filter-between p xs 0 n (λ i d low. absurd (omega arith))
     (λ i d le low. within (suc i) d (omega arith) (omega arith))
-    (λ i d le low. behind (suc i) d (omega arith) (omega arith)) (omega arith)))
-filter-between p (x ∷ xs) (suc from) n before within behind fits =
+    (λ i d le low. later (suc i) d (omega arith) (omega arith)) (omega arith)))
+filter-between p (x ∷ xs) (suc from) n before within later fits =
     rw (before 0 x (omega arith))
     (filter-between p xs from n (λ i d low. before (suc i) d (omega arith))
     (λ i d le low. within (suc i) d (omega arith) (omega arith))
-    (λ i d le low. behind (suc i) d (omega arith) (omega arith)) (omega arith))
+    (λ i d le low. later (suc i) d (omega arith) (omega arith)) (omega arith))

@@ -61,7 +61,7 @@ words-scalar t b s = omega (arith, header_words b _ SCALAR_CONTAINER_TAG s.parts
 words-Doc : (b : List ℕ) (t : Tree) → Doc b t → 2 * pairs_in t + 1 ≤ length b
 words-Doc b (object ps) (inl h) = absurd (h.0 refl)
 words-Doc b (object ps) (inr h) =
-    let body = h.1.1.behind in
+    let body = h.1.1.later in
     omega (
       arith,
       header_words b h.1.1.rest (OBJECT_CONTAINER_TAG + pair_count ps) h.1.1.parts,

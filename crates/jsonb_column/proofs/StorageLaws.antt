@@ -65,10 +65,10 @@ same_row f r x y few short same =
     let lengths = to_be_bytes w64 (length f) in let others = to_be_bytes w64 (length r) in
     let parted : lengths ++ (f ++ x) ≡ others ++ (r ++ y) =
     sym (append_assoc lengths f x) ∙ same ∙ append_assoc others r y in
-    let (be, behind) = same_parts lengths others (f ++ x) (r ++ y) refl parted in
+    let (be, later) = same_parts lengths others (f ++ x) (r ++ y) refl parted in
     let size : length f ≡ length r = sym (from_be_bytes-to_be_bytes_8 (length f) few)
     ∙ ap (from_be_bytes w64) be ∙ from_be_bytes-to_be_bytes_8 (length r) short in
-    same_parts f r x y size behind
+    same_parts f r x y size later
 
 -- Rows that were read before the rest are the first of all the stored rows.
 pub record GoesOn (front rows : List (List ℕ)) (rest : List ℕ) : Type 0 where
@@ -92,11 +92,11 @@ storage-front (f ∷ front) [] rest first all same =
       ap length same,
     ))
 storage-front (f ∷ front) (r ∷ rows) rest first all same =
-    let (is, behind) = same_row f r (storage front ++ rest) (storage rows)
+    let (is, later) = same_row f r (storage front ++ rest) (storage rows)
     (All-head IsRow f front first).short (All-head IsRow r rows all).short
     (sym (append_assoc (row_bytes f) (storage front) rest) ∙ same) in
     let on = storage-front front rows rest (All-tail IsRow f front first)
-    (All-tail IsRow r rows all) behind in
+    (All-tail IsRow r rows all) later in
     record {
       more = on.more;
       rows_are = ap₂
@@ -129,12 +129,12 @@ IsRead-all bytes rest front rows read none all =
 
 pub IsRead-first : (bytes rest : List ℕ) (front rows : List (List ℕ)) → IsRead bytes front rest
     → 0 < length rest → AreStored rows bytes
-    → (row : List ℕ) × (IsRow row × ((behind : List ℕ) × (rest ≡ row_bytes row ++ behind)))
+    → (row : List ℕ) × (IsRow row × ((later : List ℕ) × (rest ≡ row_bytes row ++ later)))
 IsRead-first bytes rest front rows read some all =
     let on = goes_on bytes rest front rows read all in begun on.more on.each on.rest_is
   where
     begun : (more : List (List ℕ)) → All IsRow more → rest ≡ storage more → (row : List ℕ)
-        × (IsRow row × ((behind : List ℕ) × (rest ≡ row_bytes row ++ behind)))
+        × (IsRow row × ((later : List ℕ) × (rest ≡ row_bytes row ++ later)))
     begun [] each is = absurd (omega (arith, ap length is))
     begun (r ∷ more) each is = (r, (All-head IsRow r more each, (storage more, is)))
 
@@ -142,33 +142,33 @@ IsRead-first bytes rest front rows read some all =
 -- document.
 pub IsRead-cut : (bytes rest : List ℕ) (front rows : List (List ℕ)) → IsRead bytes front rest
     → 0 < length rest → AreStored rows bytes
-    → ((row behind : List ℕ) → length row < 2 ^ 64 → rest ≡ row_bytes row ++ behind → ⊥) → ⊥
+    → ((row later : List ℕ) → length row < 2 ^ 64 → rest ≡ row_bytes row ++ later → ⊥) → ⊥
 IsRead-cut bytes rest front rows read some all cut =
-    let (row, (means, (behind, is))) =
-    IsRead-first bytes rest front rows read some all in cut row behind means.short is
+    let (row, (means, (later, is))) =
+    IsRead-first bytes rest front rows read some all in cut row later means.short is
 
-pub IsRead-document : (bytes rest row behind : List ℕ) (front rows : List (List ℕ))
-    → IsRead bytes front rest → rest ≡ row_bytes row ++ behind → length row < 2 ^ 64
+pub IsRead-document : (bytes rest row later : List ℕ) (front rows : List (List ℕ))
+    → IsRead bytes front rest → rest ≡ row_bytes row ++ later → length row < 2 ^ 64
     → AreStored rows bytes
     → IsDocument row
-IsRead-document bytes rest row behind front rows read is short all =
+IsRead-document bytes rest row later front rows read is short all =
     let some : 0 < length rest =
-    omega (arith, ap length is, length-append (row_bytes row) behind, length-row_bytes row) in
+    omega (arith, ap length is, length-append (row_bytes row) later, length-row_bytes row) in
     let (first, (means, (others, also))) = IsRead-first bytes rest front rows read some all in
-    let (same, _) = same_row first row others behind means.short short (sym also ∙ is) in
+    let (same, _) = same_row first row others later means.short short (sym also ∙ is) in
     subst IsDocument same means.document
 
-pub IsRead-more : (bytes rest row behind : List ℕ) (front rows : List (List ℕ))
-    → IsRead bytes front rest → rest ≡ row_bytes row ++ behind → IsRow row
+pub IsRead-more : (bytes rest row later : List ℕ) (front rows : List (List ℕ))
+    → IsRead bytes front rest → rest ≡ row_bytes row ++ later → IsRow row
     → rows ≡ front ++ row ∷ []
-    → IsRead bytes rows behind
-IsRead-more bytes rest row behind front rows read is means rows_are =
-    subst (λ rs. IsRead bytes rs behind) (sym rows_are)
+    → IsRead bytes rows later
+IsRead-more bytes rest row later front rows read is means rows_are =
+    subst (λ rs. IsRead bytes rs later) (sym rows_are)
     record {
       each = All-push IsRow front row read.each means;
       parts = read.parts ∙ ap (λ b. storage front ++ b) is
-          ∙ sym (append_assoc (storage front) (row_bytes row) behind) ∙ ap
-          (λ b. b ++ behind) (sym (storage-push front row));
+          ∙ sym (append_assoc (storage front) (row_bytes row) later) ∙ ap
+          (λ b. b ++ later) (sym (storage-push front row));
     }
 
 pub IsRead-stored : (bytes rest : List ℕ) (rows : List (List ℕ)) → IsRead bytes rows rest
@@ -179,7 +179,7 @@ IsRead-stored bytes (b ∷ rest) rows read none = absurd (omega (arith, none))
 
 pub IsRead-IsCut : (bytes rest : List ℕ) (rows : List (List ℕ)) → IsRead bytes rows rest
     → 0 < length rest
-    → ((row behind : List ℕ) → length row < 2 ^ 64 → rest ≡ row_bytes row ++ behind → ⊥)
+    → ((row later : List ℕ) → length row < 2 ^ 64 → rest ≡ row_bytes row ++ later → ⊥)
     → IsCut bytes
 IsRead-IsCut bytes rest rows read some none =
     record {
@@ -191,14 +191,14 @@ IsRead-IsCut bytes rest rows read some none =
       no_row = none;
     }
 
-pub IsRead-HasFaultyRow : (bytes rest row behind : List ℕ) (rows : List (List ℕ))
-    → IsRead bytes rows rest → rest ≡ row_bytes row ++ behind → length row < 2 ^ 64
+pub IsRead-HasFaultyRow : (bytes rest row later : List ℕ) (rows : List (List ℕ))
+    → IsRead bytes rows rest → rest ≡ row_bytes row ++ later → length row < 2 ^ 64
     → (IsDocument row → ⊥) → HasFaultyRow bytes
-IsRead-HasFaultyRow bytes rest row behind rows read is short fault =
+IsRead-HasFaultyRow bytes rest row later rows read is short fault =
     record {
       rows = rows;
       row = row;
-      behind = behind;
+      later = later;
       each = read.each;
       parts = read.parts ∙ ap (λ b. storage rows ++ b) is;
       short = short;
@@ -228,45 +228,45 @@ pub not_faulty : (bytes : List ℕ) (rows : List (List ℕ)) → AreStored rows 
     → HasFaultyRow bytes → ⊥
 not_faulty bytes rows all faulty =
     faulty.no_document
-    (IsRead-document bytes (row_bytes faulty.row ++ faulty.behind) faulty.row faulty.behind
+    (IsRead-document bytes (row_bytes faulty.row ++ faulty.later) faulty.row faulty.later
     faulty.rows rows record { each = faulty.each; parts = faulty.parts } refl faulty.short all)
 
 -- bytes without stored rows are so for only one reason
-apart : (xs ys : List (List ℕ)) (rest row behind : List ℕ) → All IsRow xs → All IsRow ys
+apart : (xs ys : List (List ℕ)) (rest row later : List ℕ) → All IsRow xs → All IsRow ys
     → ((r b : List ℕ) → length r < 2 ^ 64 → rest ≡ row_bytes r ++ b → ⊥) → length row < 2 ^ 64
-    → (IsDocument row → ⊥) → storage xs ++ rest ≡ storage ys ++ (row_bytes row ++ behind) → ⊥
-apart [] [] rest row behind first second none short fault same = none row behind short same
-apart [] (y ∷ ys) rest row behind first second none short fault same =
-    none y (storage ys ++ (row_bytes row ++ behind)) (All-head IsRow y ys second).short
-    (same ∙ append_assoc (row_bytes y) (storage ys) (row_bytes row ++ behind))
-apart (x ∷ xs) [] rest row behind first second none short fault same =
+    → (IsDocument row → ⊥) → storage xs ++ rest ≡ storage ys ++ (row_bytes row ++ later) → ⊥
+apart [] [] rest row later first second none short fault same = none row later short same
+apart [] (y ∷ ys) rest row later first second none short fault same =
+    none y (storage ys ++ (row_bytes row ++ later)) (All-head IsRow y ys second).short
+    (same ∙ append_assoc (row_bytes y) (storage ys) (row_bytes row ++ later))
+apart (x ∷ xs) [] rest row later first second none short fault same =
     let means = All-head IsRow x xs first in
-    let (is, _) = same_row x row (storage xs ++ rest) behind means.short short
+    let (is, _) = same_row x row (storage xs ++ rest) later means.short short
     (sym (append_assoc (row_bytes x) (storage xs) rest) ∙ same) in
     fault (subst IsDocument is means.document)
-apart (x ∷ xs) (y ∷ ys) rest row behind first second none short fault same =
-    let other = row_bytes row ++ behind in
+apart (x ∷ xs) (y ∷ ys) rest row later first second none short fault same =
+    let other = row_bytes row ++ later in
     let (_, others) = same_row x y (storage xs ++ rest) (storage ys ++ other)
     (All-head IsRow x xs first).short (All-head IsRow y ys second).short
     (sym (append_assoc (row_bytes x) (storage xs) rest) ∙ same
     ∙ append_assoc (row_bytes y) (storage ys) other) in
-    apart xs ys rest row behind (All-tail IsRow x xs first) (All-tail IsRow y ys second) none short
+    apart xs ys rest row later (All-tail IsRow x xs first) (All-tail IsRow y ys second) none short
     fault others
 
 pub cut_or_faulty : (bytes : List ℕ) → IsCut bytes → HasFaultyRow bytes → ⊥
 cut_or_faulty bytes cut faulty =
-    apart cut.rows faulty.rows cut.rest faulty.row faulty.behind cut.each faulty.each cut.no_row
+    apart cut.rows faulty.rows cut.rest faulty.row faulty.later cut.each faulty.each cut.no_row
     faulty.short faulty.no_document (sym cut.parts ∙ faulty.parts)
 
 -- A call that refuses a row reports the reason.
-pub told_cut : {T : Type 0} (bytes : List ℕ) (r : Result T Error) (e : Error)
+pub cut_refused : {T : Type 0} (bytes : List ℕ) (r : Result T Error) (e : Error)
     → IsErrAnd r (λ x. x ≡ e) → (e ≡ InvalidJsonb) ⊎ (e ≡ OutOfMemory)
     → (e ≡ InvalidJsonb → HasFaultyRow bytes) → IsCut bytes
     → IsErrAnd r (λ x. (x ≡ InvalidEOF) ⊎ (x ≡ OutOfMemory))
-told_cut bytes (Ok x) e is kind faulty cut = absurd is
-told_cut bytes (Err x) e is (inl kind) faulty cut =
+cut_refused bytes (Ok x) e is kind faulty cut = absurd is
+cut_refused bytes (Err x) e is (inl kind) faulty cut =
     absurd (cut_or_faulty bytes cut (faulty kind))
-told_cut bytes (Err x) e is (inr kind) faulty cut = inr (is ∙ kind)
+cut_refused bytes (Err x) e is (inr kind) faulty cut = inr (is ∙ kind)
 
 pub told_memory : {T : Type 0} (bytes : List ℕ) (r : Result T Error) (e : Error)
     → IsErrAnd r (λ x. x ≡ e) → (e ≡ InvalidJsonb) ⊎ (e ≡ OutOfMemory)

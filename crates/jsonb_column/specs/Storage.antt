@@ -29,14 +29,14 @@ pub record IsCut (bytes : List ℕ) : Type 0 where
   pub each : All IsRow rows
   pub parts : bytes ≡ storage rows ++ rest
   pub some : 0 < length rest
-  pub no_row : (row behind : List ℕ) → length row < 2 ^ 64 → rest ≡ row_bytes row ++ behind → ⊥
+  pub no_row : (row later : List ℕ) → length row < 2 ^ 64 → rest ≡ row_bytes row ++ later → ⊥
 
 -- After stored rows there is one that is not a document.
 pub record HasFaultyRow (bytes : List ℕ) : Type 0 where
   pub rows : List (List ℕ)
   pub row : List ℕ
-  pub behind : List ℕ
+  pub later : List ℕ
   pub each : All IsRow rows
-  pub parts : bytes ≡ storage rows ++ (row_bytes row ++ behind)
+  pub parts : bytes ≡ storage rows ++ (row_bytes row ++ later)
   pub short : length row < 2 ^ 64
   pub no_document : IsDocument row → ⊥

@@ -193,10 +193,10 @@ impl Column {
         ensures memory { (rows : List (List ℕ)) → AreStored rows bytes.now
             → IfErr result (λ e. e ≡ Error.OutOfMemory) }
         ensures cut { result ≡ Err Error.InvalidEOF → IsCut bytes.now }
-        ensures told_cut { IsCut bytes.now
+        ensures cut_refused { IsCut bytes.now
             → IsErrAnd result (λ e. (e ≡ Error.InvalidEOF) ⊎ (e ≡ Error.OutOfMemory)) }
         ensures invalid { result ≡ Err Error.InvalidJsonb → HasFaultyRow bytes.now }
-        ensures told_invalid { HasFaultyRow bytes.now
+        ensures invalid_refused { HasFaultyRow bytes.now
             → IsErrAnd result (λ e. (e ≡ Error.InvalidJsonb) ⊎ (e ≡ Error.OutOfMemory)) }
         ensures only { IfErr result (λ e. (e ≡ Error.InvalidEOF)
             ⊎ ((e ≡ Error.InvalidJsonb) ⊎ (e ≡ Error.OutOfMemory))) }
@@ -204,9 +204,9 @@ impl Column {
         let mut column = Column::new(alloc);
         let mut rest = bytes;
         while !rest.is_empty() {
-            let (row, behind) = split_row(rest)?;
+            let (row, later) = split_row(rest)?;
             column.push(row)?;
-            rest = behind;
+            rest = later;
         }
         Ok(column)
     }
@@ -244,8 +244,8 @@ impl<'c> Iterator for Rows<'c> {
     ghost remaining = { item_count (λ rows. rows) };
 
     fn next(&mut self) -> Option<Document<'c>> {
-        let (place, behind) = self.places.split_first()?;
-        self.places = behind;
+        let (place, later) = self.places.split_first()?;
+        self.places = later;
         Some(document_at(self.bytes, *place))
     }
 }

@@ -24,17 +24,17 @@ pub fn append_row(buf: &mut Vec<u8>, row: &[u8]) -> Result<(), Error>
 pub fn split_row(bytes: &[u8]) -> Result<(&[u8], &[u8]), Error>
     ensures ok { IfOk result (λ parts. bytes.now ≡ row_bytes parts.0.now ++ parts.1.now) }
     ensures short { IfOk result (λ parts. length parts.0.now < 2 ^ 64) }
-    ensures cut { OnErr result ((row behind : List ℕ) → length row < 2 ^ 64
-        → bytes.now ≡ row_bytes row ++ behind → ⊥) }
+    ensures cut { OnErr result ((row later : List ℕ) → length row < 2 ^ 64
+        → bytes.now ≡ row_bytes row ++ later → ⊥) }
     ensures only { IfErr result (λ e. e ≡ Error.InvalidEOF) }
 {
     if bytes.len() < 8 {
         return Err(Error::InvalidEOF);
     }
-    let (length, behind) = bytes.split_at(8);
+    let (length, later) = bytes.split_at(8);
     let length = BigEndian::read_u64(length) as usize;
-    if behind.len() < length {
+    if later.len() < length {
         return Err(Error::InvalidEOF);
     }
-    Ok(behind.split_at(length))
+    Ok(later.split_at(length))
 }

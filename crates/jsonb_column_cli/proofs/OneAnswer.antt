@@ -279,17 +279,17 @@ IsTold outcome = outcome ≡ Err (Call OutOfMemory) → ⊥
 one_outcome : (rows x y : Rows) (form : Form) (o p : Result (List ℕ) Refusal)
     → IsOutcome rows form o x → IsOutcome rows form p y → IsTold o → IsTold p
     → (reply_line o ≡ reply_line p) × (x ≡ y)
-one_outcome rows x y form (Ok a) (Ok b) first second told also =
+one_outcome rows x y form (Ok a) (Ok b) first second known also =
     one_reply rows x y form a b first second
-one_outcome rows x y form (Ok a) (Err r) first second told also =
+one_outcome rows x y form (Ok a) (Err r) first second known also =
     absurd (answered_or_refused rows x form a r first
     (cause_of rows form r second.0 (λ is. also (ap Err is))))
-one_outcome rows x y form (Err r) (Ok b) first second told also =
+one_outcome rows x y form (Err r) (Ok b) first second known also =
     absurd (answered_or_refused rows y form b r second
-    (cause_of rows form r first.0 (λ is. told (ap Err is))))
-one_outcome rows x y form (Err r) (Err s) first second told also = (
+    (cause_of rows form r first.0 (λ is. known (ap Err is))))
+one_outcome rows x y form (Err r) (Err s) first second known also = (
   ap (λ (z : Refusal). reply_line (Err z))
-      (one_cause rows form r s (cause_of rows form r first.0 (λ is. told (ap Err is)))
+      (one_cause rows form r s (cause_of rows form r first.0 (λ is. known (ap Err is)))
       (cause_of rows form s second.0 (λ is. also (ap Err is)))),
   first.1 ∙ sym second.1,
 )
@@ -297,18 +297,18 @@ one_outcome rows x y form (Err r) (Err s) first second told also = (
 one_line : (rows x y : Rows) (line : List ℕ) (o p : Result (List ℕ) Refusal)
     → IsLineOutcome rows line o x → IsLineOutcome rows line p y → IsTold o → IsTold p
     → (reply_line o ≡ reply_line p) × (x ≡ y)
-one_line rows x y line o p (inl first) (inl second) told also =
-    one_outcome rows x y (form_in line) o p first.1 second.1 told also
-one_line rows x y line o p (inl first) (inr second) told also = absurd (second.0 first.0)
-one_line rows x y line o p (inr first) (inl second) told also = absurd (first.0 second.0)
-one_line rows x y line o p (inr first) (inr second) told also =
+one_line rows x y line o p (inl first) (inl second) known also =
+    one_outcome rows x y (form_in line) o p first.1 second.1 known also
+one_line rows x y line o p (inl first) (inr second) known also = absurd (second.0 first.0)
+one_line rows x y line o p (inr first) (inl second) known also = absurd (first.0 second.0)
+one_line rows x y line o p (inr first) (inr second) known also =
     (ap reply_line (first.1.0 ∙ sym second.1.0), first.1.1 ∙ sym second.1.1)
 
 one_answer : (rows x y : Rows) (line a b : List ℕ) → AnswersLine rows line a x
     → AnswersLine rows line b y → (IsRefused a → ⊥) → (IsRefused b → ⊥) → (a ≡ b) × (x ≡ y)
-one_answer rows x y line a b first second told also =
+one_answer rows x y line a b first second known also =
     let one = one_line rows x y line first.outcome second.outcome first.is_outcome
-    second.is_outcome (λ is. told (first.text ∙ ap reply_line is))
+    second.is_outcome (λ is. known (first.text ∙ ap reply_line is))
     (λ is. also (second.text ∙ ap reply_line is)) in
     (first.text ∙ one.0 ∙ sym second.text, one.1)
 

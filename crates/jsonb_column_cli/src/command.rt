@@ -31,7 +31,7 @@ pub enum Command<'a> {
 // The text before the first space, and the text after it.
 fn split_space(text: &str) -> (&str, &str)
     ensures before { result.0.now ≡ before_first is_space text.now }
-    ensures behind { result.1.now ≡ after_first is_space text.now }
+    ensures later { result.1.now ≡ after_first is_space text.now }
 {
     text.split_once(' ').unwrap_or((text, ""))
 }

@@ -16,7 +16,7 @@ pub use Rattle.jsonb_value.specs.WellFormed.{AreTrees, IsTree}
 pub use Rattle.jsonb_codec.specs.Doc.{Doc}
 pub use Rattle.jsonb_codec.specs.Room.{AppendsBytes, HasRoom}
 pub use Rattle.jsonb.specs.Document.{document_tree}
-pub use Rattle.jsonb.specs.Facts.{rest_pairs, rest_trees}
+pub use Rattle.jsonb.specs.EntryTrees.{rest_pairs, rest_trees}
 pub use Rattle.jsonb.specs.ItemMeaning.{meaning_of, raw_meaning}
 pub use Rattle.jsonb.specs.Node.{HoldsNoScalar, IsContainer, array_of, member_tree, node_tree}
 pub use Rattle.jsonb.specs.Node.{object_of, pairs_of}

@@ -9,7 +9,7 @@ use Rattle.jsonb_value.specs.Text.{compact, pretty}
 use Rattle.jsonb_value.specs.Tree.{Tree}
 use Rattle.jsonb_value.specs.TreeOrder.{tree_cmp}
 use Rattle.jsonb_codec.specs.Doc.{Doc, IsDocument}
-use Rattle.jsonb_composition.specs.declared.composition.Asked.{Asked}
+use Rattle.jsonb_composition.specs.declared.composition.Answers.{Answers}
 use Rattle.jsonb.specs.declared.item.JsonbItem.{JsonbItem}
 use Rattle.jsonb.specs.Kind.{kind_of_tree}
 use Rattle.jsonb.specs.ItemMeaning.{meaning_of}
@@ -17,7 +17,7 @@ use Rattle.jsonb.specs.Lookup.{find, IsItemFound}
 use Rattle.jsonb.specs.Node.{value_of_key, words_for_key}
 use Rattle.jsonb.specs.ItemView.{ItemView, item_view, pair_view}
 use Rattle.jsonb.specs.Walk.{Walk}
-use Rattle.jsonb.specs.Standing.{IsFoundIn}
+use Rattle.jsonb.specs.StoredEntries.{IsFoundIn}
 use Rattle.jsonb.specs.DocumentWalk.{WalksArray, WalksKeys, WalksValues, WalksPairs, WalksItems}
 use Rattle.jsonb.specs.DocumentWalk.{WalksValueItems, WalksMembers, IsItemIn}
 
@@ -38,28 +38,29 @@ walk_of_pairs pairs = Ok (option_map (λ xs. walk_of (map (λ x. pair_view (Ok x
 -- other bytes, its children in order, and the value whose key is the name with the words that were
 -- read for it; children and values are the items of the entries that are stored.
 pub record AnswersOf (bytes : List ℕ) (t : Tree) (name other : List ℕ)
-    (asked : Asked) : Type 0 where
-  pub kind : asked.kind ≡ kind_of_tree t
-  pub text : string_bytes asked.text ≡ compact t
-  pub pretty_text : string_bytes asked.pretty ≡ pretty t
-  pub display : string_bytes asked.display ≡ compact t
-  pub item : IsItemIn t bytes (item_view asked.item)
-  pub order : asked.order ≡ meaning_cmp (document t) (meaning_of other)
-  pub document_order : (u : Tree) → Doc other u → asked.document_order ≡ Some (tree_cmp t u)
-  pub no_order : (IsDocument other → ⊥) → asked.document_order ≡ None
-  pub items : WalksArray t (walk_of_items (option_map (λ xs. xs.items) asked.items))
-  pub keys : WalksKeys t (walk_of_items (option_map (λ xs. xs.items) asked.keys))
-  pub values : WalksValues t (walk_of_items (option_map (λ xs. xs.items) asked.values))
-  pub pairs : WalksPairs t (walk_of_pairs (option_map (λ xs. xs.items) asked.pairs))
-  pub item_entries : WalksItems bytes t (walk_of_items (option_map (λ xs. xs.items) asked.items))
+    (answers : Answers) : Type 0 where
+  pub kind : answers.kind ≡ kind_of_tree t
+  pub text : string_bytes answers.text ≡ compact t
+  pub pretty_text : string_bytes answers.pretty ≡ pretty t
+  pub display : string_bytes answers.display ≡ compact t
+  pub item : IsItemIn t bytes (item_view answers.item)
+  pub order : answers.order ≡ meaning_cmp (document t) (meaning_of other)
+  pub document_order : (u : Tree) → Doc other u → answers.document_order ≡ Some (tree_cmp t u)
+  pub no_order : (IsDocument other → ⊥) → answers.document_order ≡ None
+  pub items : WalksArray t (walk_of_items (option_map (λ xs. xs.items) answers.items))
+  pub keys : WalksKeys t (walk_of_items (option_map (λ xs. xs.items) answers.keys))
+  pub values : WalksValues t (walk_of_items (option_map (λ xs. xs.items) answers.values))
+  pub pairs : WalksPairs t (walk_of_pairs (option_map (λ xs. xs.items) answers.pairs))
+  pub item_entries : WalksItems bytes t (walk_of_items (option_map (λ xs. xs.items) answers.items))
   pub value_entries : WalksValueItems bytes t
-      (walk_of_items (option_map (λ xs. xs.items) asked.values))
-  pub pair_entries : WalksMembers bytes t (walk_of_pairs (option_map (λ xs. xs.items) asked.pairs))
+      (walk_of_items (option_map (λ xs. xs.items) answers.values))
+  pub pair_entries : WalksMembers bytes t
+      (walk_of_pairs (option_map (λ xs. xs.items) answers.pairs))
   pub found : IsItemFound (find (pointwise nat_eq name) (length name) t)
-      (option_map item_view asked.found)
-  pub counted : IsItemFound (value_of_key name t) (option_map item_view asked.counted)
+      (option_map item_view answers.found)
+  pub counted : IsItemFound (value_of_key name t) (option_map item_view answers.counted)
   pub counted_entry : IsFoundIn (pointwise nat_eq name) (length name) bytes t
-      (option_map item_view asked.counted)
-  pub reads : asked.reads ≡ words_for_key name t
+      (option_map item_view answers.counted)
+  pub reads : answers.reads ≡ words_for_key name t
   pub found_entry : IsFoundIn (pointwise nat_eq name) (length name) bytes t
-      (option_map item_view asked.found)
+      (option_map item_view answers.found)

@@ -12,5 +12,5 @@ pub use Rattle.jsonb.specs.ItemView.{item_view}
 pub use Rattle.jsonb.specs.Lookup.{IsItemFound, find}
 pub use Rattle.jsonb.specs.Node.{value_of_key, words_for_key}
 pub use Rattle.jsonb.specs.Raw.{raw_bytes}
-pub use Rattle.jsonb.specs.Standing.{IsFoundIn}
+pub use Rattle.jsonb.specs.StoredEntries.{IsFoundIn}
 pub use Rattle.jsonb_composition.specs.Question.{AnswersOf, walk_of_items, walk_of_pairs}

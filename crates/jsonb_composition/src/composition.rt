@@ -13,7 +13,7 @@ use std::cmp::Ordering;
 
 /// The results of the calls on a document.
 #[derive(Drop)]
-pub struct Asked<'a> {
+pub struct Answers<'a> {
     /// The kind; a container's with its count.
     pub kind: JsonbItemType,
     /// The compact text.
@@ -53,7 +53,7 @@ pub fn encode_and_ask<'a>(
     name: &str,
     other: RawJsonb,
     bytes: &'a mut Vec<u8>,
-) -> Result<Asked<'a>, Error>
+) -> Result<Answers<'a>, Error>
     ensures answers { IfOk result
         (AnswersOf (canon (tree_of value.now)) (norm (tree_of value.now)) name.now
         (raw_bytes other.entry)) }
@@ -72,7 +72,7 @@ pub fn ask<'a>(
     raw: RawJsonb<'a>,
     name: &str,
     other: RawJsonb,
-) -> Result<Asked<'a>, Error>
+) -> Result<Answers<'a>, Error>
     ensures answers { (t : Tree) → Doc (raw_bytes raw.entry) t
         → IfOk result (AnswersOf (raw_bytes raw.entry) t name.now (raw_bytes other.entry)) }
     ensures memory { (t : Tree) → Doc (raw_bytes raw.entry) t
@@ -80,7 +80,7 @@ pub fn ask<'a>(
 {
     meaning_laws();
     let (counted, reads) = find_counted(raw, name)?;
-    Ok(Asked {
+    Ok(Answers {
         kind: raw.jsonb_item_type()?,
         text: raw.to_string(alloc)?,
         pretty: raw.to_pretty_string(alloc)?,

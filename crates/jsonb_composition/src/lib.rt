@@ -5,4 +5,4 @@
 mod composition;
 mod walks;
 
-pub use composition::{Asked, ask, encode_and_ask};
+pub use composition::{Answers, ask, encode_and_ask};

@@ -24,7 +24,7 @@ fn arrays_nest_as_deep_as_bytes_allow(rt: HostRuntime) -> Result<(), Fail> {
 
 // Checking these arrays down to the innermost would need more than the ordinary stack.
 #[test]
-fn a_depth_is_told_by_its_outer_levels(rt: HostRuntime) -> Result<(), Fail> {
+fn the_outer_levels_decide_a_depth(rt: HostRuntime) -> Result<(), Fail> {
     let bytes = nested(rt.alloc(), 300_000)?;
     assert!(rt; !is_document_within(&bytes, 10));
     Ok(())

@@ -231,25 +231,25 @@ fn old_data_is_rewritten(rt: HostRuntime) -> Result<(), Fail> {
 fn a_document_is_asked(rt: HostRuntime) -> Result<(), Fail> {
     let value = parse_value(rt.alloc(), TEXT)?;
     let mut bytes = Vec::new(rt.alloc());
-    let asked = encode_and_ask(rt.alloc(), &value, "k", RawJsonb::new(FIVE), &mut bytes)?;
-    assert!(rt; asked.text.as_str() == TEXT && asked.pretty.as_str() == PRETTY);
+    let answers = encode_and_ask(rt.alloc(), &value, "k", RawJsonb::new(FIVE), &mut bytes)?;
+    assert!(rt; answers.text.as_str() == TEXT && answers.pretty.as_str() == PRETTY);
     assert!(rt;
-        asked.document_order == Some(Ordering::Greater) && asked.order == Ordering::Greater
+        answers.document_order == Some(Ordering::Greater) && answers.order == Ordering::Greater
     );
-    assert!(rt; asked.items.map(|items| items.len()) == Some(3));
-    assert!(rt; asked.keys.is_none() && asked.values.is_none());
-    assert!(rt; asked.pairs.is_none() && asked.found.is_none());
+    assert!(rt; answers.items.map(|items| items.len()) == Some(3));
+    assert!(rt; answers.keys.is_none() && answers.values.is_none());
+    assert!(rt; answers.pairs.is_none() && answers.found.is_none());
     Ok(())
 }
 
 #[test]
 fn an_object_is_asked(rt: HostRuntime) -> Result<(), Fail> {
-    let asked = ask(rt.alloc(), RawJsonb::new(PAIR), "k", RawJsonb::new(X))?;
-    assert!(rt; asked.items.is_none());
-    assert!(rt; asked.keys.map(|keys| keys.len()) == Some(1));
-    assert!(rt; asked.values.map(|values| values.len()) == Some(1));
-    assert!(rt; asked.pairs.map(|pairs| pairs.len()) == Some(1));
-    assert!(rt; asked.found == Some(JsonbItem::String(CowStr::Borrowed("v"))));
+    let answers = ask(rt.alloc(), RawJsonb::new(PAIR), "k", RawJsonb::new(X))?;
+    assert!(rt; answers.items.is_none());
+    assert!(rt; answers.keys.map(|keys| keys.len()) == Some(1));
+    assert!(rt; answers.values.map(|values| values.len()) == Some(1));
+    assert!(rt; answers.pairs.map(|pairs| pairs.len()) == Some(1));
+    assert!(rt; answers.found == Some(JsonbItem::String(CowStr::Borrowed("v"))));
     Ok(())
 }
 
@@ -291,7 +291,7 @@ fn assert_appended(
         assert!(rt; buffer.as_slice() == b"\xaa".as_slice());
         piece.append_to(&mut buffer)?;
     }
-    assert!(rt; matches!(buffer.split_first(), Some((0xaa, behind)) if behind == bytes));
+    assert!(rt; matches!(buffer.split_first(), Some((0xaa, later)) if later == bytes));
     hand_on(refusal)
 }
 

@@ -70,7 +70,7 @@ fn an_object_is_equal_to_itself(rt: HostRuntime) {
 }
 
 #[test]
-fn documents_are_told(rt: HostRuntime) {
+fn documents_are_checked(rt: HostRuntime) {
     let raw = RawJsonb::new(OBJECT);
     assert!(rt; is_document(OBJECT) && is_canonical(OBJECT));
     assert!(rt; is_document_within(OBJECT, 1) && !is_document_within(OBJECT, 0));

@@ -81,13 +81,13 @@ pub NumCode-unique : (p : List ℕ) (x y : Number) → NumCode p x → NumCode p
 NumCode-unique p x y h k = sym (NumCode-value p x h) ∙ NumCode-value p y k
 
 -- after the tag 64 follows a signed number, after 80 an unsigned one
-pub signed_behind : (t : ℕ) (rest : List ℕ) (x : Number) → t ≡ 64 → NumCode (t ∷ rest) x → (v : ℤ)
+pub signed_after : (t : ℕ) (rest : List ℕ) (x : Number) → t ≡ 64 → NumCode (t ∷ rest) x → (v : ℤ)
     × IsSignedNumber rest v
-signed_behind t rest x e h = grind arith
+signed_after t rest x e h = grind arith
 
-pub unsigned_behind : (t : ℕ) (rest : List ℕ) (x : Number) → t ≡ 80 → NumCode (t ∷ rest) x
+pub unsigned_after : (t : ℕ) (rest : List ℕ) (x : Number) → t ≡ 80 → NumCode (t ∷ rest) x
     → (n : ℕ) × IsUnsignedNumber rest n
-unsigned_behind t rest x e h = grind arith
+unsigned_after t rest x e h = grind arith
 
 -- the last byte split off, or the last two
 pub split_last : (n : ℕ) (xs : List ℕ) → length xs ≡ n + 1 → xs ≡ take n xs ++ get_or xs n 0 ∷ []

@@ -66,9 +66,9 @@ record IsBehindZeros (s m : ℕ) : Type 0 where
   digits : repeat (s - length (decimal m)) (codes "0") ++ decimal m ≡ last_digits s m
 
 -- if there are no more digits than the scale
-behind_zeros : (s m : ℕ) → m < 10 ^ 64 → length (decimal m) ≤ s → IsBehindZeros s m
-behind_zeros zero m small short = grind (arith, some_digit)
-behind_zeros (suc s) m small short =
+after_zeros : (s m : ℕ) → m < 10 ^ 64 → length (decimal m) ≤ s → IsBehindZeros s m
+after_zeros zero m small short = grind (arith, some_digit)
+after_zeros (suc s) m small short =
     elim (cases_lt m 10) [
       | inl below ↦
           let digit = decimal_digit m below in
@@ -82,7 +82,7 @@ behind_zeros (suc s) m small short =
       | inr above ↦
           let step = decimal_step_wide m above small in
           let more = length-append (decimal (m / 10)) ((48 + m % 10) ∷ []) in
-          let front = behind_zeros s (m / 10) (omega arith) (omega (arith, ap length step, more)) in
+          let front = after_zeros s (m / 10) (omega arith) (omega (arith, ap length step, more)) in
           let left : suc s - length (decimal m) ≡ s - length (decimal (m / 10)) =
           omega (arith, ap length step, more) in
           record {
@@ -98,4 +98,4 @@ behind_zeros (suc s) m small short =
 pub pointed-short : (s m : ℕ) → m < 10 ^ 64 → length (decimal m) ≤ s
     → codes "0." ++ (repeat (s - length (decimal m)) (codes "0") ++ decimal m) ≡ point_text s m
 pointed-short s m small short =
-    grind (arith, behind_zeros, decimal_digit)
+    grind (arith, after_zeros, decimal_digit)

@@ -59,11 +59,11 @@ zoned_at-value rest t (inr h) = grind (
 
 interval_at-value : (rest : List ℕ) (i : Interval) → IsInterval rest i → interval_at rest ≡ i
 interval_at-value rest i h =
-    let behind = h.day_bytes ++ h.micro_bytes in
-    let rest_is = back_of 4 h.month_bytes behind rest h.parts h.months.len in
+    let later = h.day_bytes ++ h.micro_bytes in
+    let rest_is = back_of 4 h.month_bytes later rest h.parts h.months.len in
     grind (
       arith,
-      front_of 4 h.month_bytes behind rest h.parts h.months.len,
+      front_of 4 h.month_bytes later rest h.parts h.months.len,
       front_of 4 h.day_bytes h.micro_bytes (drop 4 rest) rest_is h.days.len,
       back_of 4 h.day_bytes h.micro_bytes (drop 4 rest) rest_is h.days.len,
     )
@@ -96,21 +96,21 @@ pub ExtCode-unique : (p : List ℕ) (e f : Extension) → ExtCode p e → ExtCod
 ExtCode-unique p e f h k = sym (ExtCode-value p e h) ∙ ExtCode-value p f k
 
 -- what follows each tag
-pub date_behind : (t : ℕ) (rest : List ℕ) (e : Extension) → t ≡ 16 → ExtCode (t ∷ rest) e
+pub date_after : (t : ℕ) (rest : List ℕ) (e : Extension) → t ≡ 16 → ExtCode (t ∷ rest) e
     → (d : Date) × IsSigned w32 rest d.value
-date_behind t rest e q h = grind arith
+date_after t rest e q h = grind arith
 
-pub timestamp_behind : (t : ℕ) (rest : List ℕ) (e : Extension) → t ≡ 32 → ExtCode (t ∷ rest) e
+pub timestamp_after : (t : ℕ) (rest : List ℕ) (e : Extension) → t ≡ 32 → ExtCode (t ∷ rest) e
     → (d : Timestamp) × IsSigned w64 rest d.value
-timestamp_behind t rest e q h = grind arith
+timestamp_after t rest e q h = grind arith
 
-pub zoned_behind : (t : ℕ) (rest : List ℕ) (e : Extension) → t ≡ 48 → ExtCode (t ∷ rest) e
+pub zoned_after : (t : ℕ) (rest : List ℕ) (e : Extension) → t ≡ 48 → ExtCode (t ∷ rest) e
     → (d : TimestampTz) × (IsZoned rest d ⊎ IsOldZoned rest d)
-zoned_behind t rest e q h = grind arith
+zoned_after t rest e q h = grind arith
 
-pub interval_behind : (t : ℕ) (rest : List ℕ) (e : Extension) → t ≡ 64 → ExtCode (t ∷ rest) e
+pub interval_after : (t : ℕ) (rest : List ℕ) (e : Extension) → t ≡ 64 → ExtCode (t ∷ rest) e
     → (d : Interval) × IsInterval rest d
-interval_behind t rest e q h = grind arith
+interval_after t rest e q h = grind arith
 
 -- the range &xs[k..]
 pub whole_rest : (k : ℕ) (xs : List ℕ) → take (length xs - k) (drop k xs) ≡ drop k xs

@@ -43,9 +43,9 @@ all_with P (e ∷ es) k v own h = by (string_cmp k e.0) (all_with P es k v own h
         → AllByRecursion P
         (keys_of (match_ordering o ((k, v) ∷ e ∷ es) ((e.0, v) ∷ es)
         (e ∷ insert_entry string_cmp es k v)))
-    by Less behind = (own, h)
-    by Equal behind = h
-    by Greater behind = (h.0, behind)
+    by Less later = (own, h)
+    by Equal later = h
+    by Greater later = (h.0, later)
 
 all_above : (k l : String Global) (ks : List (String Global)) → string_cmp k l ≡ Less
     → AllByRecursion (λ y. string_cmp l y ≡ Less) ks
@@ -61,11 +61,11 @@ sorted_at : (o : Ordering) (e : String Global × Value) (es : Held) (k : String 
     (keys_of (match_ordering o ((k, v) ∷ e ∷ es) ((e.0, v) ∷ es)
     (e ∷ insert_entry string_cmp es k v)))
 unfolding IsStrictlySortedBy
-sorted_at Less e es k v is h behind = ((is, all_above k e.0 (keys_of es) is h.0), h)
-sorted_at Equal e es k v is h behind = h
-sorted_at Greater e es k v is h behind =
+sorted_at Less e es k v is h later = ((is, all_above k e.0 (keys_of es) is h.0), h)
+sorted_at Equal e es k v is h later = h
+sorted_at Greater e es k v is h later =
     let above = string_cmp_total.antisymm e.0 k ∙ ap ordering_reverse is in
-    (all_with (λ y. string_cmp e.0 y ≡ Less) es k v above h.0, behind)
+    (all_with (λ y. string_cmp e.0 y ≡ Less) es k v above h.0, later)
 
 sorted_one : (k : String Global) (v : Value)
     → IsStrictlySortedBy string_cmp (keys_of ((k, v) ∷ []))
@@ -141,8 +141,8 @@ module _ (e n : String Global × Value) (es ns : List (String Global × Value))
   first_key : string_bytes n.0 ≡ string_bytes e.0
   first_key = exact_bytes _ _ first
 
-  behind : (q : String Global) → at ns q ≡ at es q
-  behind q = grind (arith, first_key, cases_Bool, at-again, lookup_tail)
+  later : (q : String Global) → at ns q ≡ at es q
+  later q = grind (arith, first_key, cases_Bool, at-again, lookup_tail)
 
 pub same_pairs : (es ns : List (String Global × Value)) → IsStrictlySortedBy string_cmp (keys_of es)
     → IsStrictlySortedBy string_cmp (keys_of ns)
@@ -153,7 +153,7 @@ same_pairs (e ∷ es) [] ascend ascends same = is_none e.1 _ (sym (at-own e es) 
 same_pairs (e ∷ es) (n ∷ ns) ascend ascends same =
     let ascend_es = sorted_tail string_cmp e.0 (keys_of es) ascend in
     let ascend_ns = sorted_tail string_cmp n.0 (keys_of ns) ascends in
-    let others = same_pairs es ns ascend_es ascend_ns (behind e n es ns ascend ascends same) in
+    let others = same_pairs es ns ascend_es ascend_ns (later e n es ns ascend ascends same) in
     grind (arith, first_key, first_value, others)
 
 abbrev same : String Global → String Global → Bool
@@ -180,17 +180,17 @@ at_with (e ∷ es) k v q = by (string_cmp k e.0) refl (at_with es k v q)
         → at (match_ordering o ((k, v) ∷ e ∷ es) ((e.0, v) ∷ es)
         (e ∷ insert_entry string_cmp es k v)) q
         ≡ cond (same k q) (Some v) (at (e ∷ es) q)
-    by Less is behind =
+    by Less is later =
         ap (λ (b : Bool). cond b (Some v) (at (e ∷ es) q))
         ((eq_by_cmp_equiv string_cmp_total).symm q k)
-    by Equal is behind =
+    by Equal is later =
         let alike : same q e.0 ≡ same k q =
         (eq_by_cmp_equiv string_cmp_total).symm q e.0
         ∙ sym (ap is_eq (string_cmp_total.congr k e.0 q is)) in
         twice (same q e.0) (Some v) (Some e.1) (at es q)
         ∙ ap (λ (b : Bool). cond b (Some v) (at (e ∷ es) q)) alike
-    by Greater is behind =
-        ap (cond (same q e.0) (Some e.1)) behind
+    by Greater is later =
+        ap (cond (same q e.0) (Some e.1)) later
         ∙ swap (same k q) (same q e.0) (Some e.1) (Some v) (at es q)
         (λ tied. ap is_eq
         (sym (string_cmp_total.congr k q e.0 (equal (string_cmp k q) tied)) ∙ is))

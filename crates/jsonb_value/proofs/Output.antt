@@ -19,7 +19,7 @@ use Rattle.jsonb_value.proofs.Codes.{IsOldDecimal-length}
 use Rattle.jsonb_value.proofs.BigEndian.{AreBytes, AreBytes-front, AreBytes-back}
 use Rattle.jsonb_value.proofs.BigEndian.{length-to_be_bytes, signed_bytes-IsSigned}
 use Rattle.jsonb_value.proofs.BigEndian.{to_be_bytes-IsUnsigned}
-use Rattle.jsonb_value.proofs.PayloadLaws.{behind_tag}
+use Rattle.jsonb_value.proofs.PayloadLaws.{after_tag}
 use Rattle.jsonb_value.proofs.PayloadDecision.{IsOldZoned-length}
 
 same_width : (w x : Width) → byte_len w ≡ byte_len x → w ≡ x
@@ -59,15 +59,15 @@ signed_payload : (p rest : List ℕ) (v : ℤ) → p ≡ 64 ∷ rest → AreByte
     → length p ≡ length (number_payload (Int64 v)) → number_payload (Int64 v) ≡ p
 signed_payload p rest (pos zero) e h is long = grind arith
 signed_payload p rest (pos (suc n)) e h is long =
-    grind (arith, shortest_signed-written rest (pos (suc n)) (behind_tag p rest 64 e h) is)
+    grind (arith, shortest_signed-written rest (pos (suc n)) (after_tag p rest 64 e h) is)
 signed_payload p rest (negsuc n) e h is long =
-    grind (arith, shortest_signed-written rest (negsuc n) (behind_tag p rest 64 e h) is)
+    grind (arith, shortest_signed-written rest (negsuc n) (after_tag p rest 64 e h) is)
 
 unsigned_payload : (p rest : List ℕ) (n : ℕ) → p ≡ 80 ∷ rest → AreBytes p → IsUnsignedNumber rest n
     → length p ≡ length (number_payload (UInt64 n)) → number_payload (UInt64 n) ≡ p
 unsigned_payload p rest zero e h is long = grind arith
 unsigned_payload p rest (suc n) e h is long =
-    grind (arith, shortest_unsigned-written rest (suc n) (behind_tag p rest 80 e h) is)
+    grind (arith, shortest_unsigned-written rest (suc n) (after_tag p rest 80 e h) is)
 
 decimal_written : (w : Width) (bs : List ℕ) (v : ℤ) (s : ℕ) → AreBytes bs → IsDecimal w bs v s
     → signed_bytes w v ++ s ∷ [] ≡ bs
@@ -82,9 +82,9 @@ number_payload-NumCode p (UInt64 n) h (inl (e, z)) long = grind arith
 number_payload-NumCode p (UInt64 n) h (inr (rest, (e, is))) long =
     unsigned_payload p rest n e h is long
 number_payload-NumCode p (Decimal64 d) h (rest, (e, is)) long =
-    cc (decimal_written w64 rest d.value d.scale (behind_tag p rest 112 e h) is)
+    cc (decimal_written w64 rest d.value d.scale (after_tag p rest 112 e h) is)
 number_payload-NumCode p (Decimal128 d) h (rest, (e, inl is)) long =
-    cc (decimal_written w128 rest d.value d.scale (behind_tag p rest 112 e h) is)
+    cc (decimal_written w128 rest d.value d.scale (after_tag p rest 112 e h) is)
 number_payload-NumCode p (Decimal128 d) h (rest, (e, inr is)) long =
     grind (arith, IsOldDecimal-length, length-append, length-to_be_bytes)
 
@@ -101,10 +101,10 @@ interval_written : (rest : List ℕ) (i : Interval) → AreBytes rest → IsInte
     → signed_bytes w32 i.months ++ (signed_bytes w32 i.days ++ signed_bytes w64 i.micros) ≡ rest
 interval_written rest i h v =
     let parts = rw v.parts at h in
-    let behind = AreBytes-back v.month_bytes (v.day_bytes ++ v.micro_bytes) parts in
+    let later = AreBytes-back v.month_bytes (v.day_bytes ++ v.micro_bytes) parts in
     let months = AreBytes-front v.month_bytes (v.day_bytes ++ v.micro_bytes) parts in
-    let days = AreBytes-front v.day_bytes v.micro_bytes behind in
-    let micros = AreBytes-back v.day_bytes v.micro_bytes behind in
+    let days = AreBytes-front v.day_bytes v.micro_bytes later in
+    let micros = AreBytes-back v.day_bytes v.micro_bytes later in
     ap₂ ◌++◌ (signed_bytes-IsSigned w32 v.month_bytes i.months months v.months)
     (ap₂ ◌++◌ (signed_bytes-IsSigned w32 v.day_bytes i.days days v.days)
     (signed_bytes-IsSigned w64 v.micro_bytes i.micros micros v.micros)) ∙ sym v.parts
@@ -113,13 +113,13 @@ pub extension_payload-ExtCode : (p : List ℕ) (e : Extension) → AreBytes p �
     → length p ≡ length (extension_payload e) → extension_payload e ≡ p
 extension_payload-ExtCode p (binary bytes) h e long = sym e
 extension_payload-ExtCode p (date d) h (rest, (e, is)) long =
-    cc (signed_bytes-IsSigned w32 rest d.value (behind_tag p rest 16 e h) is)
+    cc (signed_bytes-IsSigned w32 rest d.value (after_tag p rest 16 e h) is)
 extension_payload-ExtCode p (timestamp t) h (rest, (e, is)) long =
-    cc (signed_bytes-IsSigned w64 rest t.value (behind_tag p rest 32 e h) is)
+    cc (signed_bytes-IsSigned w64 rest t.value (after_tag p rest 32 e h) is)
 extension_payload-ExtCode p (timestamp_tz t) h (rest, (e, inl z)) long =
-    cc (zoned_written rest t (behind_tag p rest 48 e h) z)
+    cc (zoned_written rest t (after_tag p rest 48 e h) z)
 extension_payload-ExtCode p (timestamp_tz t) h (rest, (e, inr z)) long =
     grind (arith, IsOldZoned-length, length-append, length-to_be_bytes)
 extension_payload-ExtCode p (interval i) h (rest, (e, v)) long =
-    cc (interval_written rest i (behind_tag p rest 64 e h) v)
+    cc (interval_written rest i (after_tag p rest 64 e h) v)
 extension_payload-ExtCode p (opaque tag bytes) h (known, e) long = sym e

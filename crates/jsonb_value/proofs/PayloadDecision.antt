@@ -19,8 +19,8 @@ use Rattle.std.proofs.lemmas.Grind.{common_steps}
 use Rattle.jsonb_value.proofs.Codes.{NumCode-first}
 use Rattle.jsonb_value.proofs.PayloadLengths.{NumCode-whole, NumCode-decimal, NumCode-zero}
 use Rattle.jsonb_value.proofs.PayloadLengths.{signed_front}
-use Rattle.jsonb_value.proofs.ExtCodes.{date_behind, timestamp_behind, zoned_behind}
-use Rattle.jsonb_value.proofs.ExtCodes.{interval_behind, no_other, IsZoned-from, IsOldZoned-from}
+use Rattle.jsonb_value.proofs.ExtCodes.{date_after, timestamp_after, zoned_after}
+use Rattle.jsonb_value.proofs.ExtCodes.{interval_after, no_other, IsZoned-from, IsOldZoned-from}
 use Rattle.jsonb_value.proofs.ExtCodes.{IsInterval-from}
 
 -- The statement or its negation holds.
@@ -134,19 +134,19 @@ decide_extension_tagged t rest =
       | inr not0 ↦ elim (cases_eq t 16) [
         | inl e ↦ decided_by
             (λ found. (date found.0, (rest, (ap (λ (k : ℕ). k ∷ rest) e, found.1))))
-            (λ found. date_behind t rest found.0 e found.1) (decide_date rest)
+            (λ found. date_after t rest found.0 e found.1) (decide_date rest)
         | inr not16 ↦ elim (cases_eq t 32) [
           | inl e ↦ decided_by
               (λ found. (timestamp found.0, (rest, (ap (λ (k : ℕ). k ∷ rest) e, found.1))))
-              (λ found. timestamp_behind t rest found.0 e found.1) (decide_timestamp rest)
+              (λ found. timestamp_after t rest found.0 e found.1) (decide_timestamp rest)
           | inr not32 ↦ elim (cases_eq t 48) [
             | inl e ↦ decided_by
                 (λ found. (timestamp_tz found.0, (rest, (ap (λ (k : ℕ). k ∷ rest) e, found.1))))
-                (λ found. zoned_behind t rest found.0 e found.1) (decide_zoned rest)
+                (λ found. zoned_after t rest found.0 e found.1) (decide_zoned rest)
             | inr not48 ↦ elim (cases_eq t 64) [
               | inl e ↦ decided_by
                   (λ found. (interval found.0, (rest, (ap (λ (k : ℕ). k ∷ rest) e, found.1))))
-                  (λ found. interval_behind t rest found.0 e found.1) (decide_interval rest)
+                  (λ found. interval_after t rest found.0 e found.1) (decide_interval rest)
               | inr not64 ↦ elim (decide_opaque t) [
                 | inl known ↦ inl (opaque t rest, (known, refl))
                 | inr none ↦ inr

@@ -121,22 +121,22 @@ IsOldDecimal-within bs v s h (front, (p, (e, is))) =
           (p ∷ (s ∷ [])) parts 1,
     )
 
-pub behind_tag : (p rest : List ℕ) (tag : ℕ) → p ≡ tag ∷ rest → AreBytes p → AreBytes rest
-behind_tag p rest tag e h = λ i. AreBytes-equal p (tag ∷ rest) e h (suc i)
+pub after_tag : (p rest : List ℕ) (tag : ℕ) → p ≡ tag ∷ rest → AreBytes p → AreBytes rest
+after_tag p rest tag e h = λ i. AreBytes-equal p (tag ∷ rest) e h (suc i)
 
 -- a number's payload means a number in the range of its type
 pub IsNumber-NumCode : (p : List ℕ) (x : Number) → AreBytes p → NumCode p x → IsNumber x
 IsNumber-NumCode p (Int64 v) h (rest, (e, is)) =
-    IsNumber-signed rest v (behind_tag p rest 64 e h) is
+    IsNumber-signed rest v (after_tag p rest 64 e h) is
 IsNumber-NumCode p (UInt64 n) h (inl (e, z)) = omega arith
 IsNumber-NumCode p (UInt64 n) h (inr (rest, (e, is))) =
-    IsNumber-unsigned rest n (behind_tag p rest 80 e h) is
+    IsNumber-unsigned rest n (after_tag p rest 80 e h) is
 IsNumber-NumCode p (Decimal64 d) h (rest, (e, is)) =
-    IsDecimal-within w64 rest d.value d.scale (behind_tag p rest 112 e h) is
+    IsDecimal-within w64 rest d.value d.scale (after_tag p rest 112 e h) is
 IsNumber-NumCode p (Decimal128 d) h (rest, (e, inl is)) =
-    IsDecimal-within w128 rest d.value d.scale (behind_tag p rest 112 e h) is
+    IsDecimal-within w128 rest d.value d.scale (after_tag p rest 112 e h) is
 IsNumber-NumCode p (Decimal128 d) h (rest, (e, inr is)) =
-    IsOldDecimal-within rest d.value d.scale (behind_tag p rest 112 e h) is
+    IsOldDecimal-within rest d.value d.scale (after_tag p rest 112 e h) is
 
 mag-neg_ℤ : (m : ℕ) → mag (neg_ℤ (pos m)) ≤ m
 mag-neg_ℤ m = grind arith
@@ -147,21 +147,21 @@ hours_within hours f = grind (arith, mag-neg_ℤ)
 -- an extension value's payload means fields in the range of their types
 pub IsExtension-ExtCode : (p : List ℕ) (e : Extension) → AreBytes p → ExtCode p e → IsExtension e
 IsExtension-ExtCode p (binary bytes) h c = tt
-IsExtension-ExtCode p (date d) h (rest, (e, is)) = grind (arith, IsSigned-fits, behind_tag)
-IsExtension-ExtCode p (timestamp t) h (rest, (e, is)) = grind (arith, IsSigned-fits, behind_tag)
+IsExtension-ExtCode p (date d) h (rest, (e, is)) = grind (arith, IsSigned-fits, after_tag)
+IsExtension-ExtCode p (timestamp t) h (rest, (e, is)) = grind (arith, IsSigned-fits, after_tag)
 IsExtension-ExtCode p (timestamp_tz t) h (rest, (e, inl z)) =
-    grind (arith, AreBytes-equal, behind_tag, IsSigned-fits, AreBytes-front, AreBytes-back)
+    grind (arith, AreBytes-equal, after_tag, IsSigned-fits, AreBytes-front, AreBytes-back)
 IsExtension-ExtCode p (timestamp_tz t) h (rest, (e, inr z)) =
     grind (
       arith,
       AreBytes-equal,
-      behind_tag,
+      after_tag,
       IsSigned-fits,
       AreBytes-front,
       hours_within,
       AreBytes-back,
     )
 IsExtension-ExtCode p (interval i) h (rest, (e, v)) =
-    grind (arith, AreBytes-equal, behind_tag, AreBytes-back, IsSigned-fits, AreBytes-front)
+    grind (arith, AreBytes-equal, after_tag, AreBytes-back, IsSigned-fits, AreBytes-front)
 IsExtension-ExtCode p (opaque tag bytes) h (known, e) =
     (known, AreBytes-equal p (tag ∷ bytes) e h 0)

@@ -10,7 +10,7 @@ use Rattle.jsonb_value.specs.declared.number.Number.TheVariants.{Decimal128}
 use Rattle.jsonb_value.specs.Payload.{IsSigned, IsSignedNumber, IsUnsignedNumber, IsWholeLength}
 use Rattle.jsonb_value.specs.Payload.{IsDecimalLength}
 use Rattle.jsonb_value.specs.NumCode.{NumCode}
-use Rattle.jsonb_value.proofs.Codes.{signed_behind, unsigned_behind, IsDecimal-from}
+use Rattle.jsonb_value.proofs.Codes.{signed_after, unsigned_after, IsDecimal-from}
 use Rattle.jsonb_value.proofs.Codes.{IsOldDecimal-from}
 use Rattle.std.proofs.lemmas.Grind.{common_steps}
 
@@ -37,11 +37,11 @@ pub NumCode-whole : (tag n : ℕ) → (tag ≡ 64) ⊎ (tag ≡ 80) → (rest : 
     → IsWholeLength n ↔ ((x : Number) × NumCode (tag ∷ rest) x)
 NumCode-whole tag n (inl e) rest len = (
   λ whole. let v = signed_of_length rest (rw len whole) in (Int64 v.0, (rest, (cc, v.1))),
-  λ (x, h). let v = signed_behind tag rest x e h in rw len at (length_of_signed rest v.0 v.1),
+  λ (x, h). let v = signed_after tag rest x e h in rw len at (length_of_signed rest v.0 v.1),
 )
 NumCode-whole tag n (inr e) rest len = (
   λ whole. let v = unsigned_of_length rest (rw len whole) in (UInt64 v.0, inr (rest, (cc, v.1))),
-  λ (x, h). let v = unsigned_behind tag rest x e h in rw len at (length_of_unsigned rest v.0 v.1),
+  λ (x, h). let v = unsigned_after tag rest x e h in rw len at (length_of_unsigned rest v.0 v.1),
 )
 
 -- the number in the first bytes

@@ -76,7 +76,7 @@ none_from_ends : (bytes : List ℕ) (n : ℕ) → n ≤ length bytes → length 
 none_from_ends bytes n within covers none k from upto = elim (cases_lt k n) [
   | inl front ↦ sym (ap is_escaped (get_or-ends_front n bytes k within front))
       ∙ none k (omega arith) (omega arith)
-  | inr behind ↦
+  | inr later ↦
       let j = k - (length bytes - n) in
       ap (λ i. is_escaped (get_or bytes i 0)) (omega arith)
       ∙ sym (ap is_escaped (get_or-ends_back n bytes j within (omega arith)))

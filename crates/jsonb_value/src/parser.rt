@@ -226,10 +226,10 @@ fn read_key<'a>(alloc: Global, text: &'a str) -> Result<(String, &'a str), Error
     };
     let (key, after) = read_string(alloc, opened)?;
     let key = key.into_owned(alloc)?;
-    let Some(behind) = after_char(skip_blank(after), ':') else {
+    let Some(later) = after_char(skip_blank(after), ':') else {
         return Err(Error::InvalidJson);
     };
-    Ok((key, behind))
+    Ok((key, later))
 }
 
 // Reads a key and its value and inserts them; returns the text after them.
@@ -246,8 +246,8 @@ fn read_member<'a>(
         → length (chars text.now) ≤ turns
         → Fails e (read_member (read_value n) turns (chars text.now))) }
 {
-    let (key, behind) = read_key(alloc, text)?;
-    insert_member(members, key, read_value(alloc, skip_blank(behind)))
+    let (key, later) = read_key(alloc, text)?;
+    insert_member(members, key, read_value(alloc, skip_blank(later)))
 }
 
 // Inserts the value that was read under its key.

@@ -12,15 +12,15 @@ use Rattle.jsonb.specs.declared.item.JsonbItem.{JsonbItem}
 use Rattle.jsonb.specs.Item.{Entry}
 use Rattle.jsonb.specs.ItemView.{ItemView, item_view}
 use Rattle.jsonb.specs.Lookup.{AnswersBy, IsFound, IsNotFound, LooksUp}
-use Rattle.jsonb.specs.Standing.{entry_item}
+use Rattle.jsonb.specs.StoredEntries.{entry_item}
 use Rattle.jsonb.specs.Steps.{◌>>=◌}
 use Rattle.jsonb.specs.Walk.{count_under, count_if}
 use Rattle.jsonb.proofs.KindLaws.{header_at-object}
 use Rattle.jsonb.proofs.LookupLaws.{find_entry-first, find_entry-none, count-Doc}
-use Rattle.jsonb.proofs.StandingLaws.{HasMembers-Payload, members_at}
+use Rattle.jsonb.proofs.StoredEntryLaws.{HasMembers-Payload, members_at}
 use Rattle.kohiblad.specs.declared.places.Place.{Place}
 use Rattle.kohiblad.specs.Places.{is_name, part_place, some_place, IsValuePlace}
-use Rattle.kohiblad.proofs.PlaceLaws.{value_standing}
+use Rattle.kohiblad.proofs.PlaceLaws.{value_stored}
 
 value_with : (o : Option Entry) (x : ItemView) → option_map entry_item o ≡ Some (Ok x)
     → (c : Entry) × (o ≡ Some c)
@@ -47,25 +47,25 @@ module _ (answers : List ℕ → Bool → Type 0) (name : List ℕ)
       → IsValuePlace b (object ps) name (some_place place)
   some_among ps x reads nth header place doc h read at there =
       let ms = h.members in
-      let shown = (members_at b ms h.stand.few h.stand.written).header in
+      let shown = (members_at b ms h.stored.few h.stored.written).header in
       let counted = same_count (header_at b 0) header _ read shown in
       let pairs = same_count (header_at b 0) _ _ (header_at-object b ps doc) shown in
       let value = value_with (slice_get (values_of ms) h.index) x h.entry in
-      let stands = value_standing b ps ms h.stand h.index value.0 value.1 in
+      let stored = value_stored b ps ms h.stored h.index value.0 value.1 in
       let cost = h.cost in
       let which : nth ≡ length ms + h.index = omega arith in
       let found = there
-      ∙ ap₂ (λ (n i : ℕ). part_place b (2 * n) i) counted which ∙ stands.1.0 in
+      ∙ ap₂ (λ (n i : ℕ). part_place b (2 * n) i) counted which ∙ stored.1.0 in
       let first = find_entry-first answers (is_name name) (length name) by ms ps h.index h.value
-      h.stand.mean h.first in (
+      h.stored.mean h.first in (
         ms,
         (
-          h.stand,
+          h.stored,
           (
-            Some stands.0,
+            Some stored.0,
             (
               ap some_place found,
-              ap (λ (c : Entry). Some c) stands.1.1 ∙ sym (first ∙ value.1),
+              ap (λ (c : Entry). Some c) stored.1.1 ∙ sym (first ∙ value.1),
             ),
           ),
         ),
@@ -142,9 +142,9 @@ module _ (answers : List ℕ → Bool → Type 0) (name given bytes viewed : Lis
   none_by None absent h = none_in answers given by_name viewed t reads viewed_document h
   none_by (Some x) absent h = let different : ⊥ = cc in absurd different
 
-  pub none_standing : (o : Option JsonbItem) → r ≡ Ok o → is_some o ≡ false
+  pub none_stored : (o : Option JsonbItem) → r ≡ Ok o → is_some o ≡ false
       → IsValuePlace bytes t name (Ok None)
-  none_standing o is absent = fitted (Ok None) (none_by o absent (looked_up o is))
+  none_stored o is absent = fitted (Ok None) (none_by o absent (looked_up o is))
 
   some_by : (o : Option JsonbItem) (header : ℕ × ℕ) (nth : ℕ) (place : Result Place Error)
       → is_some o ≡ true → LooksUp answers (length given) viewed t (option_map item_view o) reads
@@ -156,10 +156,10 @@ module _ (answers : List ℕ → Bool → Type 0) (name given bytes viewed : Lis
       some_in answers given by_name viewed t (item_view x) reads nth header place viewed_document h
       read at is
 
-  pub some_standing : (o : Option JsonbItem) (header : ℕ × ℕ) (nth : ℕ) (place : Result Place Error)
+  pub some_stored : (o : Option JsonbItem) (header : ℕ × ℕ) (nth : ℕ) (place : Result Place Error)
       → r ≡ Ok o → is_some o ≡ true → header_at bytes 0 ≡ Ok header → nth ≡ reads - 2
       → place ≡ part_place bytes (2 * header.1) nth → IsValuePlace bytes t name (some_place place)
-  some_standing o header nth place is found read at there =
+  some_stored o header nth place is found read at there =
       fitted (some_place place)
       (some_by o header nth place found (looked_up o is)
       (subst (λ (b : List ℕ). header_at b 0 ≡ Ok header) (sym same) read) at

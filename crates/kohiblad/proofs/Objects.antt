@@ -76,20 +76,20 @@ twice (x ∷ xs) ys y there distinct =
     (λ more. twice xs ys y more distinct.1) there
     (at_middle (λ z. bytes_eq x z ≡ false) xs ys y distinct.0)
 
-module _ (all left behind : List (List ℕ × List ℕ)) (builder : List (List ℕ × ItemView))
+module _ (all left later : List (List ℕ × List ℕ)) (builder : List (List ℕ × ItemView))
     (so_far : PairsSoFar all left builder) (pair : List ℕ × List ℕ)
-    (cut : left ≡ pair ∷ behind) where
-  parts : all ≡ map input_pair so_far.done ++ pair ∷ behind
+    (cut : left ≡ pair ∷ later) where
+  parts : all ≡ map input_pair so_far.done ++ pair ∷ later
   parts = so_far.parts ∙ ap (λ (ps : List (List ℕ × List ℕ)). map input_pair so_far.done ++ ps) cut
 
-  key_parts : keys_of all ≡ keys_of (map input_pair so_far.done) ++ pair.0 ∷ keys_of behind
-  key_parts = ap keys_of parts ∙ keys-append (map input_pair so_far.done) (pair ∷ behind)
+  key_parts : keys_of all ≡ keys_of (map input_pair so_far.done) ++ pair.0 ∷ keys_of later
+  key_parts = ap keys_of parts ∙ keys-append (map input_pair so_far.done) (pair ∷ later)
 
   pub one_more_pair : (after : List (List ℕ × ItemView)) (key : Bor (List ℕ)) (document : RawJsonb)
       → key.now ≡ pair.0 → raw_bytes document ≡ pair.1 → IsUtf8 pair.0
       → has_key builder key.now ≡ false
       → after ≡ with_pair builder key.now (raw (raw_bytes document))
-      → PairsSoFar all behind after
+      → PairsSoFar all later after
   one_more_pair after key document key_is document_is text new pushed =
       let x : Bor (List ℕ) × RawJsonb = (key, document) in
       let same : input_pair x ≡ pair = ap₂ (λ (k d : List ℕ). (k, d)) key_is document_is in
@@ -98,8 +98,8 @@ module _ (all left behind : List (List ℕ × List ℕ)) (builder : List (List �
       (λ (p : List ℕ × List ℕ). map input_pair so_far.done ++ p ∷ []) same in
       record {
         done = so_far.done ++ x ∷ [];
-        parts = parts ∙ sym (append_assoc (map input_pair so_far.done) (pair ∷ []) behind) ∙ ap
-            (λ (ps : List (List ℕ × List ℕ)). ps ++ behind) (sym one);
+        parts = parts ∙ sym (append_assoc (map input_pair so_far.done) (pair ∷ []) later) ∙ ap
+            (λ (ps : List (List ℕ × List ℕ)). ps ++ later) (sym one);
         built = one_more input_pair builder so_far.done so_far.built after x pushed;
         distinct = still_distinct input_pair builder so_far.done so_far.built x new so_far.distinct;
         texts =
@@ -117,7 +117,7 @@ module _ (all left behind : List (List ℕ × List ℕ)) (builder : List (List �
       → IsDistinct bytes_eq (keys_of all) → ⊥
   not_distinct key key_is there distinct =
       let known = subst IsTrue (key_there input_pair builder so_far.done so_far.built key) there in
-      twice (keys_of (map input_pair so_far.done)) (keys_of behind) pair.0
+      twice (keys_of (map input_pair so_far.done)) (keys_of later) pair.0
       (subst (λ (k : List ℕ). IsTrue
       (list_any (bytes_eq k) (keys_of (map input_pair so_far.done)))) key_is known)
       (subst (IsDistinct bytes_eq) key_parts distinct)

@@ -32,7 +32,7 @@ key_cmp x y = ordering_then (meaning_cmp (checked_meaning x.0) (checked_meaning 
 pub record KeysSoFar (means : List ℕ → Meaning) (rows left : List (List ℕ))
     (keys : List (CheckedBytes × ℕ)) : Type 0 where
   pub numbers : numbers_of keys ≡ range_with_len 0 (length keys)
-  pub behind : drop (length keys) rows ≡ left
+  pub later : drop (length keys) rows ≡ left
   pub count : length keys + length left ≡ length rows
   pub keys_of_rows : All (IsKeyOf means rows) keys
 
@@ -43,24 +43,24 @@ range_with_len-push a (suc n) =
     ap (λ (ks : List ℕ). a ∷ ks)
     (range_with_len-push (a + 1) n ∙ ap (λ (k : ℕ). range_with_len (a + 1) n ++ k ∷ []) next)
 
-pub one_more_key : (means : List ℕ → Meaning) (rows left behind : List (List ℕ)) (row : List ℕ)
+pub one_more_key : (means : List ℕ → Meaning) (rows left later : List (List ℕ)) (row : List ℕ)
     (keys : List (CheckedBytes × ℕ))
-    (key : CheckedBytes) → KeysSoFar means rows left keys → left ≡ row ∷ behind
+    (key : CheckedBytes) → KeysSoFar means rows left keys → left ≡ row ∷ later
     → checked_meaning key ≡ means row
-    → KeysSoFar means rows behind (keys ++ (key, length keys) ∷ [])
-one_more_key means rows left behind row keys key so_far cut is =
+    → KeysSoFar means rows later (keys ++ (key, length keys) ∷ [])
+one_more_key means rows left later row keys key so_far cut is =
     let n = length keys in
     let count = so_far.count in
-    let left_count : length left ≡ suc (length behind) = ap length cut in
+    let left_count : length left ≡ suc (length later) = ap length cut in
     let one : length (keys ++ (key, length keys) ∷ []) ≡ length keys + 1 =
     length-append keys ((key, length keys) ∷ []) in
     let longer : length (keys ++ (key, length keys) ∷ []) ≡ suc (length keys) = omega arith in
     let inside : length keys < length rows = omega arith in
     let more : drop (length keys) rows ≡ slice_index_or rows (length keys) []
     ∷ drop (length keys + 1) rows = drop_more rows (length keys) [] inside in
-    let there = so_far.behind in
+    let there = so_far.later in
     let here : slice_index_or rows (length keys) [] ≡ row = cc in
-    let rest : drop (length keys + 1) rows ≡ behind = cc in
+    let rest : drop (length keys + 1) rows ≡ later = cc in
     let this : 0 + length keys ≡ length keys = omega arith in
     record {
       numbers =
@@ -69,7 +69,7 @@ one_more_key means rows left behind row keys key so_far cut is =
           ∙ ap (λ (k : ℕ). range_with_len 0 (length keys) ++ k ∷ []) (sym this)
           ∙ sym (range_with_len-push 0 (length keys))
           ∙ ap (range_with_len 0) (sym longer);
-      behind = ap (λ (k : ℕ). drop k rows) one ∙ rest;
+      later = ap (λ (k : ℕ). drop k rows) one ∙ rest;
       count = omega arith;
       keys_of_rows =
           All-append (IsKeyOf means rows) keys ((key, length keys) ∷ []) so_far.keys_of_rows

@@ -16,13 +16,13 @@ use Rattle.jsonb.specs.Building.{AreShort, AreTexts, key_codes}
 use Rattle.jsonb.specs.Code.{scalar_bytes}
 use Rattle.jsonb.specs.Item.{Entry}
 use Rattle.jsonb.specs.Node.{tree_list, pair_list}
-use Rattle.jsonb.specs.Standing.{AreCodesOf, ArePairsOf}
-use Rattle.jsonb.proofs.StandingLaws.{both_are, object_holds}
+use Rattle.jsonb.specs.StoredEntries.{AreCodesOf, ArePairsOf}
+use Rattle.jsonb.proofs.StoredEntryLaws.{both_are, object_holds}
 use Rattle.kohiblad.specs.declared.places.Place.{Place}
 use Rattle.kohiblad.specs.Parts.{is_entry_type, is_too_long, part_document, part_trees}
 use Rattle.kohiblad.specs.Parts.{IsPartDocument}
 use Rattle.kohiblad.specs.Places.{entry_there, entry_document, place_in, IsPartPlace}
-use Rattle.kohiblad.proofs.PlaceLaws.{by_kind, place_in_standing}
+use Rattle.kohiblad.proofs.PlaceLaws.{by_kind, place_in_stored}
 
 -- the document of an entry that means a tree
 is_type : (t : Tree) → is_entry_type (type_of t) ≡ true
@@ -151,27 +151,28 @@ module _ (b : List ℕ) (nth : ℕ) (place : Place)
     (found : place_in b nth ≡ Ok (Some place)) where
   among_items : (ts : Trees) → IsPartPlace b (array ts) nth (place_in b nth)
       → IsAmong (part_trees (array ts)) nth (entry_there b place)
-  among_items ts (entries, (stand, (o, (is, there)))) =
+  among_items ts (entries, (stored, (o, (is, there)))) =
       let same : o ≡ Some place = cc in
       entry_among entries (tree_list ts) nth (entry_there b place)
-      (EntriesMean-items entries ts stand.mean stand.short)
+      (EntriesMean-items entries ts stored.mean stored.short)
       (sym there ∙ ap (option_map (entry_there b)) same)
 
   among_members : (ps : Pairs) → Payload (object ps) b
       → IsPartPlace b (object ps) nth (place_in b nth)
       → IsAmong (part_trees (object ps)) nth (entry_there b place)
-  among_members ps h (members, (stand, (o, (is, there)))) =
+  among_members ps h (members, (stored, (o, (is, there)))) =
       let same : o ≡ Some place = cc in
       let holds = object_holds b ps h in
-      let keys = (both_are (keys_of members) (values_of members) ps stand.mean).0 in
+      let keys = (both_are (keys_of members) (values_of members) ps stored.mean).0 in
       let others =
-      (both_are (keys_of holds.members) (values_of holds.members) ps holds.stand.mean).0 in
+      (both_are (keys_of holds.members) (values_of holds.members) ps holds.stored.mean).0 in
       let texts = subst AreTexts (others ∙ sym keys) holds.texts in
       entry_among _ (part_trees (object ps)) nth (entry_there b place)
       (EntriesMean-append (key_codes (keys_of members)) (values_of members)
       (map text (keys_of (pair_list ps))) (values_of (pair_list ps))
-      (EntriesMean-keys (keys_of members) (values_of members) ps stand.mean texts stand.short_keys)
-      (EntriesMean-values (keys_of members) (values_of members) ps stand.mean stand.short))
+      (EntriesMean-keys (keys_of members) (values_of members) ps stored.mean texts
+      stored.short_keys)
+      (EntriesMean-values (keys_of members) (values_of members) ps stored.mean stored.short))
       (sym there ∙ ap (option_map (entry_there b)) same)
 
   none_among : (t : Tree) → place_in b nth ≡ Ok None
@@ -186,7 +187,7 @@ module _ (b : List ℕ) (nth : ℕ) (place : Place)
       (λ ts h. among_items ts)
       (λ ps h. among_members ps h) (λ h. none_among null) (λ x h. none_among (boolean x))
       (λ x h. none_among (number x)) (λ x h. none_among (text x))
-      (λ x h. none_among (extension x)) t document (place_in_standing b t nth document)
+      (λ x h. none_among (extension x)) t document (place_in_stored b t nth document)
 
 and_false : (b : Bool) → (b && false) ≡ false
 and_false true = refl

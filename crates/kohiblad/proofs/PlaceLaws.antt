@@ -18,36 +18,36 @@ use Rattle.jsonb_codec.specs.Doc.{Doc, Payload, Scalar}
 use Rattle.jsonb_codec.specs.Word.{word, header_at}
 use Rattle.jsonb.specs.Building.{code_entries, code_payloads, key_codes, object_of}
 use Rattle.jsonb.specs.Item.{Entry}
-use Rattle.jsonb.specs.Standing.{HasMembers}
+use Rattle.jsonb.specs.StoredEntries.{HasMembers}
 use Rattle.jsonb.specs.Steps.{◌>>=◌}
 use Rattle.jsonb.proofs.KindLaws.{header_at-Scalar, header_at-array, header_at-object}
-use Rattle.jsonb.proofs.Places.{At, At-all, At-left, At-right, At-behind_word, take-At, within-At}
-use Rattle.jsonb.proofs.StandingLaws.{AreEntries, AreEntries-trees, AreEntries-keys}
-use Rattle.jsonb.proofs.StandingLaws.{AreEntries-pairs, HasItems-Payload, HasMembers-Payload}
-use Rattle.jsonb.proofs.StandingLaws.{first_entry, items_at, members_at}
+use Rattle.jsonb.proofs.Places.{At, At-all, At-left, At-right, At-after_word, take-At, within-At}
+use Rattle.jsonb.proofs.StoredEntryLaws.{AreEntries, AreEntries-trees, AreEntries-keys}
+use Rattle.jsonb.proofs.StoredEntryLaws.{AreEntries-pairs, HasItems-Payload, HasMembers-Payload}
+use Rattle.jsonb.proofs.StoredEntryLaws.{first_entry, items_at, members_at}
 use Rattle.jsonb.proofs.StorageLaws.{length-code_entries}
 use Rattle.kohiblad.specs.declared.places.Place.{Place}
-use Rattle.kohiblad.specs.Places.{place_at, place_behind, item_under, item_place, member_under}
+use Rattle.kohiblad.specs.Places.{place_at, place_after, item_under, item_place, member_under}
 use Rattle.kohiblad.specs.Places.{member_places, entry_there, member_there, IsItemPlace}
 use Rattle.kohiblad.specs.Places.{place_in, place_under, place_among, all_entries, IsPartPlace}
 use Rattle.kohiblad.specs.Places.{AreMemberPlaces}
 
-pub place_behind-cut : (bytes : List ℕ) (nth index start : ℕ) (e : Error) → 0 < nth
-    → jentry_at bytes index ≡ Err e → place_behind bytes nth index start ≡ Err e
-place_behind-cut bytes zero index start e some cut = absurd (omega arith)
-place_behind-cut bytes (suc nth) index start e some cut =
+pub place_after-cut : (bytes : List ℕ) (nth index start : ℕ) (e : Error) → 0 < nth
+    → jentry_at bytes index ≡ Err e → place_after bytes nth index start ≡ Err e
+place_after-cut bytes zero index start e some cut = absurd (omega arith)
+place_after-cut bytes (suc nth) index start e some cut =
     ap (λ (r : Result JEntry Error). r
-    >>= (λ (entry : JEntry). place_behind bytes nth (index + 4) (start + entry.length))) cut
+    >>= (λ (entry : JEntry). place_after bytes nth (index + 4) (start + entry.length))) cut
 
 -- the position of an entry in the bytes
-abbrev pub StandsAt : List ℕ → Result Place Error → Entry → Type 0
-StandsAt bytes found entry =
+abbrev pub IsItemAt : List ℕ → Result Place Error → Entry → Type 0
+IsItemAt bytes found entry =
     (place : Place) × ((found ≡ Ok place) × (entry_there bytes place ≡ entry))
 
-place_standing : (bytes : List ℕ) (i j : ℕ) (c : Entry) (cs : List Entry) → AreEntries (c ∷ cs)
+place_stored : (bytes : List ℕ) (i j : ℕ) (c : Entry) (cs : List Entry) → AreEntries (c ∷ cs)
     → At bytes i (code_entries (c ∷ cs)) → At bytes j (code_payloads (c ∷ cs))
-    → StandsAt bytes (place_at bytes i j) c
-place_standing bytes i j c cs is a b =
+    → IsItemAt bytes (place_at bytes i j) c
+place_stored bytes i j c cs is a b =
     let f = first_entry bytes i j c cs is.0 a b in
     let payload = At-left bytes j c.payload (code_payloads cs) b in
     let inside =
@@ -62,21 +62,21 @@ place_standing bytes i j c cs is a b =
       ),
     )
 
-place_behind_standing : (bytes : List ℕ) (nth i j : ℕ) (cs : List Entry) (c : Entry) → AreEntries cs
+place_after_stored : (bytes : List ℕ) (nth i j : ℕ) (cs : List Entry) (c : Entry) → AreEntries cs
     → At bytes i (code_entries cs) → At bytes j (code_payloads cs) → slice_get cs nth ≡ Some c
-    → StandsAt bytes (place_behind bytes nth i j) c
-place_behind_standing bytes zero i j [] c is a b there = let never : ⊥ = cc in absurd never
-place_behind_standing bytes (suc nth) i j [] c is a b there = let never : ⊥ = cc in absurd never
-place_behind_standing bytes zero i j (x ∷ cs) c is a b there =
+    → IsItemAt bytes (place_after bytes nth i j) c
+place_after_stored bytes zero i j [] c is a b there = let never : ⊥ = cc in absurd never
+place_after_stored bytes (suc nth) i j [] c is a b there = let never : ⊥ = cc in absurd never
+place_after_stored bytes zero i j (x ∷ cs) c is a b there =
     let same : x ≡ c = cc in
-    subst (StandsAt bytes (place_at bytes i j)) same (place_standing bytes i j x cs is a b)
-place_behind_standing bytes (suc nth) i j (x ∷ cs) c is a b there =
+    subst (IsItemAt bytes (place_at bytes i j)) same (place_stored bytes i j x cs is a b)
+place_after_stored bytes (suc nth) i j (x ∷ cs) c is a b there =
     let f = first_entry bytes i j x cs is.0 a b in
-    let more = place_behind_standing bytes nth (i + 4)
+    let more = place_after_stored bytes nth (i + 4)
     (j + length x.payload) cs c is.1 f.other_entries f.other_payloads there in
     let next = ap
     (λ (r : Result JEntry Error). r
-    >>= (λ (entry : JEntry). place_behind bytes nth (i + 4) (j + entry.length))) f.jentry in
+    >>= (λ (entry : JEntry). place_after bytes nth (i + 4) (j + entry.length))) f.jentry in
     (more.0, (next ∙ more.1.0, more.1.1))
 
 module _ (b : List ℕ) (cs : List Entry) (is : AreEntries cs) (entries_at : At b 4 (code_entries cs))
@@ -89,11 +89,11 @@ module _ (b : List ℕ) (cs : List Entry) (is : AreEntries cs) (entries_at : At 
       × ((place_among b nth n ≡ Ok o)
       × (option_map (entry_there b) o ≡ slice_get cs nth))
   part_there (inl (x, inside, there, here)) =
-      let stands = place_behind_standing b nth 4
+      let stored = place_after_stored b nth 4
       (4 + 4 * n) cs x is entries_at payloads_at there in
       let test = lt-leb n nth (omega arith) in
-      let found = stands.1.0 in
-      (Some stands.0, (rw (test, found) refl, ap (λ (c : Entry). Some c) stands.1.1 ∙ sym there))
+      let found = stored.1.0 in
+      (Some stored.0, (rw (test, found) refl, ap (λ (c : Entry). Some c) stored.1.1 ∙ sym there))
   part_there (inr (past, absent)) =
       let test = le-leb n nth (omega arith) in
       (None, (rw test refl, sym absent))
@@ -122,9 +122,9 @@ by_kind P b a o n c d e f (number x) (inr (is, h)) = absurd (omega arith)
 by_kind P b a o n c d e f (text x) (inr (is, h)) = absurd (omega arith)
 by_kind P b a o n c d e f (extension x) (inr (is, h)) = absurd (omega arith)
 
-item_standing : (b : List ℕ) (ts : Trees) (index : ℕ) → Payload (array ts) b
+item_stored : (b : List ℕ) (ts : Trees) (index : ℕ) → Payload (array ts) b
     → IsItemPlace b (array ts) index (item_place b index)
-item_standing b ts index h =
+item_stored b ts index h =
     let m = HasItems-Payload b ts h in
     let at = items_at b m.0 m.1.few m.1.written in
     let there = part_there b m.0
@@ -149,11 +149,11 @@ no_item : (b : List ℕ) (t : Tree) (index : ℕ) → Scalar t b → item_place 
 no_item b t index h =
     ap (λ (r : Result (ℕ × ℕ) Error). r >>= item_under b index) (header_at-Scalar b t h)
 
-pub item_place_standing : (b : List ℕ) (t : Tree) (index : ℕ) → Doc b t
+pub item_place_stored : (b : List ℕ) (t : Tree) (index : ℕ) → Doc b t
     → IsItemPlace b t index (item_place b index)
-item_place_standing b t index =
+item_place_stored b t index =
     by_kind (λ (u : Tree). IsItemPlace b u index (item_place b index)) b
-    (λ ts h. item_standing b ts index h)
+    (λ ts h. item_stored b ts index h)
     (λ ps h. ap (λ (r : Result (ℕ × ℕ) Error). r >>= item_under b index) (header_at-object b ps h))
     (no_item b null index) (λ x. no_item b (boolean x) index) (λ x. no_item b (number x) index)
     (λ x. no_item b (text x) index) (λ x. no_item b (extension x) index) t
@@ -200,11 +200,11 @@ value_at_index (x ∷ ms) zero m there =
     ap (λ (y : List ℕ × Entry). Some y.1) same
 value_at_index (x ∷ ms) (suc i) m there = value_at_index ms i m there
 
-behind_keys : (cs ds : List Entry) (k i : ℕ) (c : Entry) → k ≡ length cs + i
+after_keys : (cs ds : List Entry) (k i : ℕ) (c : Entry) → k ≡ length cs + i
     → slice_get ds i ≡ Some c → slice_get (cs ++ ds) k ≡ Some c
-behind_keys [] ds k i c e there = let same : k ≡ i = omega arith in ap (slice_get ds) same ∙ there
-behind_keys (x ∷ cs) ds zero i c e there = absurd (omega arith)
-behind_keys (x ∷ cs) ds (suc k) i c e there = behind_keys cs ds k i c (omega arith) there
+after_keys [] ds k i c e there = let same : k ≡ i = omega arith in ap (slice_get ds) same ∙ there
+after_keys (x ∷ cs) ds zero i c e there = absurd (omega arith)
+after_keys (x ∷ cs) ds (suc k) i c e there = after_keys cs ds k i c (omega arith) there
 
 -- the positions of an object's entries
 record AllAt (b : List ℕ) (ms : List (List ℕ × Entry)) : Type 0 where
@@ -218,7 +218,7 @@ all_at b ms few written =
     let ks = key_codes (keys_of ms) in
     let vs = values_of ms in
     let whole =
-    At-behind_word b 0 4 (1073741824 + length (values_of ms)) _ refl (At-all b _ written) in
+    At-after_word b 0 4 (1073741824 + length (values_of ms)) _ refl (At-all b _ written) in
     let parts =
     ap₂ (λ (x y : List ℕ). x ++ y) (code_entries-append ks vs) (code_payloads-append ks vs)
     ∙ append_assoc (code_entries ks) (code_entries vs) (code_payloads ks ++ code_payloads vs) in
@@ -246,13 +246,13 @@ module _ (b : List ℕ) (ms : List (List ℕ × Entry)) (is : AreEntries (all_en
   member_at (inl (m, inside, there, here)) =
       let number_of : length ms + index ≡ length (key_codes (keys_of ms)) + index =
       ap (λ (n : ℕ). n + index) (sym (length-all_keys ms)) in
-      let key = place_behind_standing b index 4 (4 + 4 * (2 * length ms))
+      let key = place_after_stored b index 4 (4 + 4 * (2 * length ms))
       (all_entries ms) _ is at.entries_at at.payloads_at
       (key_at_index ms (values_of ms) index m there) in
       let value =
-      place_behind_standing b (length ms + index) 4 (4 + 4 * (2 * length ms))
+      place_after_stored b (length ms + index) 4 (4 + 4 * (2 * length ms))
       (all_entries ms) m.1 is at.entries_at at.payloads_at
-      (behind_keys (key_codes (keys_of ms)) (values_of ms) (length ms + index) index m.1 number_of
+      (after_keys (key_codes (keys_of ms)) (values_of ms) (length ms + index) index m.1 number_of
       (value_at_index ms index m there)) in
       let test = lt-leb (length ms) index inside in
       let key_found = key.1.0 in
@@ -271,24 +271,24 @@ module _ (b : List ℕ) (ms : List (List ℕ × Entry)) (is : AreEntries (all_en
       (None, (rw test refl, sym absent))
 
 -- the position of a value's entry
-pub value_standing : (b : List ℕ) (ps : Pairs) (ms : List (List ℕ × Entry)) → HasMembers b ps ms
+pub value_stored : (b : List ℕ) (ps : Pairs) (ms : List (List ℕ × Entry)) → HasMembers b ps ms
     → (index : ℕ) (c : Entry) → slice_get (values_of ms) index ≡ Some c
-    → StandsAt b (place_behind b (length ms + index) 4 (4 + 4 * (2 * length ms))) c
-value_standing b ps ms h index c there =
+    → IsItemAt b (place_after b (length ms + index) 4 (4 + 4 * (2 * length ms))) c
+value_stored b ps ms h index c there =
     let at = all_at b ms h.few h.written in
     let is = AreEntries-append (key_codes (keys_of ms)) (values_of ms)
     (AreEntries-keys (keys_of ms) h.short_keys)
     (AreEntries-pairs (keys_of ms) (values_of ms) ps h.mean h.short) in
     let number_of : length ms + index ≡ length (key_codes (keys_of ms)) + index =
     ap (λ (n : ℕ). n + index) (sym (length-all_keys ms)) in
-    place_behind_standing b (length ms + index) 4 (4 + 4 * (2 * length ms))
+    place_after_stored b (length ms + index) 4 (4 + 4 * (2 * length ms))
     (all_entries ms) c is at.entries_at at.payloads_at
-    (behind_keys (key_codes (keys_of ms)) (values_of ms) (length ms + index) index c number_of
+    (after_keys (key_codes (keys_of ms)) (values_of ms) (length ms + index) index c number_of
     there)
 
-member_standing : (b : List ℕ) (ps : Pairs) (index : ℕ) → Payload (object ps) b
+member_stored : (b : List ℕ) (ps : Pairs) (index : ℕ) → Payload (object ps) b
     → AreMemberPlaces b (object ps) index (member_places b index)
-member_standing b ps index h =
+member_stored b ps index h =
     let m = HasMembers-Payload b ps h in
     let at = all_at b m.0 m.1.few m.1.written in
     let is = AreEntries-append (key_codes (keys_of m.0)) (values_of m.0)
@@ -309,9 +309,9 @@ member_standing b ps index h =
       ),
     )
 
-part_standing : (b : List ℕ) (ps : Pairs) (nth : ℕ) → Payload (object ps) b
+part_stored : (b : List ℕ) (ps : Pairs) (nth : ℕ) → Payload (object ps) b
     → IsPartPlace b (object ps) nth (place_in b nth)
-part_standing b ps nth h =
+part_stored b ps nth h =
     let m = HasMembers-Payload b ps h in
     let at = all_at b m.0 m.1.few m.1.written in
     let is = AreEntries-append (key_codes (keys_of m.0)) (values_of m.0)
@@ -344,7 +344,7 @@ items_part b ts nth h =
     ap (λ (r : Result (ℕ × ℕ) Error). r >>= place_under b nth) (header_at-array b ts h) in
     let item =
     ap (λ (r : Result (ℕ × ℕ) Error). r >>= item_under b nth) (header_at-array b ts h) in
-    subst (IsItemPlace b (array ts) nth) (item ∙ sym part) (item_standing b ts nth h)
+    subst (IsItemPlace b (array ts) nth) (item ∙ sym part) (item_stored b ts nth h)
 
 no_part : (b : List ℕ) (t : Tree) (nth : ℕ) → Scalar t b → place_in b nth ≡ Ok None
 no_part b t nth h =
@@ -352,12 +352,12 @@ no_part b t nth h =
     let none : place_among b nth 0 ≡ Ok None = rw test refl in
     ap (λ (r : Result (ℕ × ℕ) Error). r >>= place_under b nth) (header_at-Scalar b t h) ∙ none
 
-pub place_in_standing : (b : List ℕ) (t : Tree) (nth : ℕ) → Doc b t
+pub place_in_stored : (b : List ℕ) (t : Tree) (nth : ℕ) → Doc b t
     → IsPartPlace b t nth (place_in b nth)
-place_in_standing b t nth =
+place_in_stored b t nth =
     by_kind (λ (u : Tree). IsPartPlace b u nth (place_in b nth)) b
     (λ ts h. items_part b ts nth h)
-    (λ ps h. part_standing b ps nth h)
+    (λ ps h. part_stored b ps nth h)
     (no_part b null nth) (λ x. no_part b (boolean x) nth) (λ x. no_part b (number x) nth)
     (λ x. no_part b (text x) nth) (λ x. no_part b (extension x) nth) t
 
@@ -365,12 +365,12 @@ no_member : (b : List ℕ) (t : Tree) (index : ℕ) → Scalar t b → member_pl
 no_member b t index h =
     ap (λ (r : Result (ℕ × ℕ) Error). r >>= member_under b index) (header_at-Scalar b t h)
 
-pub member_places_standing : (b : List ℕ) (t : Tree) (index : ℕ) → Doc b t
+pub member_places_stored : (b : List ℕ) (t : Tree) (index : ℕ) → Doc b t
     → AreMemberPlaces b t index (member_places b index)
-member_places_standing b t index =
+member_places_stored b t index =
     by_kind (λ (u : Tree). AreMemberPlaces b u index (member_places b index)) b
     (λ ts h. ap (λ (r : Result (ℕ × ℕ) Error). r >>= member_under b index) (header_at-array b ts h))
-    (λ ps h. member_standing b ps index h)
+    (λ ps h. member_stored b ps index h)
     (no_member b null index) (λ x. no_member b (boolean x) index)
     (λ x. no_member b (number x) index) (λ x. no_member b (text x) index)
     (λ x. no_member b (extension x) index) t

@@ -14,7 +14,7 @@ use Rattle.jsonb.specs.Steps.{◌>>=◌}
 use Rattle.kohiblad.specs.declared.children.Child.{Child}
 use Rattle.kohiblad.specs.declared.children.KohibladCursor.{KohibladCursor}
 use Rattle.kohiblad.specs.declared.places.Place.{Place}
-use Rattle.kohiblad.specs.Places.{place_at, place_behind, part_place, some_place, both_places}
+use Rattle.kohiblad.specs.Places.{place_at, place_after, part_place, some_place, both_places}
 use Rattle.kohiblad.specs.Children.{start_after, part_start, item_cursor, member_cursor}
 use Rattle.kohiblad.specs.Children.{cursor_under, cursor_at, item_child, member_child}
 use Rattle.kohiblad.specs.Children.{numbered_under, numbered_child, item_there, member_there}
@@ -54,14 +54,14 @@ module _ (bytes : List ℕ) (v : ℕ) (e : JEntry) where
 module _ (bytes : List ℕ) (v : ℕ) where
   place_under : (n i s j : ℕ) (r : Result JEntry Error)
       → ((x : JEntry) → start_after bytes n i (s + x.length) ≡ Ok v
-      → place_behind bytes n i (s + x.length) ≡ place_at bytes j v)
+      → place_after bytes n i (s + x.length) ≡ place_at bytes j v)
       → r >>= (λ (x : JEntry). start_after bytes n i (s + x.length)) ≡ Ok v
-      → r >>= (λ (x : JEntry). place_behind bytes n i (s + x.length)) ≡ place_at bytes j v
+      → r >>= (λ (x : JEntry). place_after bytes n i (s + x.length)) ≡ place_at bytes j v
   place_under n i s j (Ok x) more here = more x here
   place_under n i s j (Err e) more here = let never : ⊥ = cc in absurd never
 
   pub place_from : (n i s j : ℕ) → j ≡ i + 4 * n → start_after bytes n i s ≡ Ok v
-      → place_behind bytes n i s ≡ place_at bytes j v
+      → place_after bytes n i s ≡ place_at bytes j v
   place_from zero i s j at here =
       let same : s ≡ v = cc in
       let first : i ≡ j = omega arith in

@@ -17,7 +17,7 @@ use Rattle.jsonb.specs.Building.{key_codes}
 use Rattle.jsonb.specs.Code.{scalar_bytes}
 use Rattle.jsonb.specs.Item.{Entry}
 use Rattle.jsonb.specs.ItemView.{ItemView}
-use Rattle.jsonb.specs.Standing.{HasItems, HasMembers, find_entry}
+use Rattle.jsonb.specs.StoredEntries.{HasItems, HasMembers, find_entry}
 use Rattle.jsonb.specs.Steps.{◌>>=◌}
 use Rattle.jsonb.specs.Lookup.{header_count, LooksUpBytes}
 use Rattle.kohiblad.specs.declared.places.Place.{Place}
@@ -34,14 +34,14 @@ place_at bytes index start =
     else Err InvalidJsonb
 
 -- The position of the payload that comes `number` entries after the one at `index` and `start`.
-abbrev pub place_behind : List ℕ → ℕ → ℕ → ℕ → Result Place Error
-place_behind bytes zero index start = place_at bytes index start
-place_behind bytes (suc number) index start =
-    jentry_at bytes index >>= λ entry. place_behind bytes number (index + 4) (start + entry.length)
+abbrev pub place_after : List ℕ → ℕ → ℕ → ℕ → Result Place Error
+place_after bytes zero index start = place_at bytes index start
+place_after bytes (suc number) index start =
+    jentry_at bytes index >>= λ entry. place_after bytes number (index + 4) (start + entry.length)
 
 -- The position of a part by number, given the number of all entries.
 abbrev pub part_place : List ℕ → ℕ → ℕ → Result Place Error
-part_place bytes entries number = place_behind bytes number 4 (4 + 4 * entries)
+part_place bytes entries number = place_after bytes number 4 (4 + 4 * entries)
 
 -- The number of entries after a header; an object has one for each key and one for each value.
 abbrev pub entry_count : ℕ × ℕ → ℕ
@@ -147,18 +147,18 @@ entry_document entry =
 -- The document at the position is handed over, if there is one.
 abbrev pub IsPlaceHandedOver : List ℕ → Result (Option Place) Error → List ℕ → List ℕ → ℕ → ℕ
     → Type 0
-IsPlaceHandedOver bytes (Ok (Some place)) before after told status =
-    IsHandedOver (entry_document (entry_there bytes place)) before after told status
-IsPlaceHandedOver bytes (Ok None) before after told status = IsRefused none before after told status
-IsPlaceHandedOver bytes (Err e) before after told status =
-    IsRefused (code e) before after told status
+IsPlaceHandedOver bytes (Ok (Some place)) before after size status =
+    IsHandedOver (entry_document (entry_there bytes place)) before after size status
+IsPlaceHandedOver bytes (Ok None) before after size status = IsRefused none before after size status
+IsPlaceHandedOver bytes (Err e) before after size status =
+    IsRefused (code e) before after size status
 
 -- Both results were copied, or one of the buffers is too small and both are unchanged; in any case
 -- both lengths are stored.
 abbrev pub AreHandedOver : List ℕ → List ℕ → List ℕ → ℕ → List ℕ → List ℕ → List ℕ → ℕ → ℕ → Type 0
-AreHandedOver key key_before key_after key_told answer before after told status =
-    (key_told ≡ length key)
-    × ((told ≡ length answer)
+AreHandedOver key key_before key_after key_size answer before after size status =
+    (key_size ≡ length key)
+    × ((size ≡ length answer)
     × (((status ≡ 0) × (IsCopied key key_before key_after × IsCopied answer before after))
     ⊎ ((status ≡ no_room)
     × (((length key_before < length key) ⊎ (length before < length answer))
@@ -167,14 +167,14 @@ AreHandedOver key key_before key_after key_told answer before after told status 
 -- A key and the document of its value are handed over, if there are such positions.
 abbrev pub IsMemberHandedOver : List ℕ → Result (Option (Place × Place)) Error → List ℕ → List ℕ → ℕ
     → List ℕ → List ℕ → ℕ → ℕ → Type 0
-IsMemberHandedOver bytes (Ok (Some places)) key_before key_after key_told before after told status =
-    AreHandedOver (entry_there bytes places.0).payload key_before key_after key_told
-    (entry_document (entry_there bytes places.1)) before after told status
-IsMemberHandedOver bytes (Ok None) key_before key_after key_told before after told status =
-    IsRefused none key_before key_after key_told status × IsRefused none before after told status
-IsMemberHandedOver bytes (Err e) key_before key_after key_told before after told status =
-    IsRefused (code e) key_before key_after key_told status
-    × IsRefused (code e) before after told status
+IsMemberHandedOver bytes (Ok (Some places)) key_before key_after key_size before after size status =
+    AreHandedOver (entry_there bytes places.0).payload key_before key_after key_size
+    (entry_document (entry_there bytes places.1)) before after size status
+IsMemberHandedOver bytes (Ok None) key_before key_after key_size before after size status =
+    IsRefused none key_before key_after key_size status × IsRefused none before after size status
+IsMemberHandedOver bytes (Err e) key_before key_after key_size before after size status =
+    IsRefused (code e) key_before key_after key_size status
+    × IsRefused (code e) before after size status
 
 -- In the document of an array the position is that of the item's entry, by index; in other
 -- documents there is none.

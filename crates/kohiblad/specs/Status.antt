@@ -85,16 +85,16 @@ IsCopied answer before after =
 -- The whole result was copied, or the buffer is too small and unchanged; in any case its length is
 -- stored.
 abbrev pub IsHandedOver : List ℕ → List ℕ → List ℕ → ℕ → ℕ → Type 0
-IsHandedOver answer before after told status =
-    (told ≡ length answer)
+IsHandedOver answer before after size status =
+    (size ≡ length answer)
     × (((status ≡ 0) × IsCopied answer before after)
     ⊎ ((status ≡ no_room) × ((length before < length answer) × (after ≡ before))))
 
 -- Only this status is returned: the buffer is unchanged, and the length is 0.
 abbrev pub IsRefused : ℕ → List ℕ → List ℕ → ℕ → ℕ → Type 0
-IsRefused reason before after told status = (status ≡ reason) × ((told ≡ 0) × (after ≡ before))
+IsRefused reason before after size status = (status ≡ reason) × ((size ≡ 0) × (after ≡ before))
 
 -- The bytes are handed over, or the status of the error is returned.
 abbrev pub IsAnswered : Result (List ℕ) Error → List ℕ → List ℕ → ℕ → ℕ → Type 0
-IsAnswered (Ok answer) before after told status = IsHandedOver answer before after told status
-IsAnswered (Err e) before after told status = IsRefused (code e) before after told status
+IsAnswered (Ok answer) before after size status = IsHandedOver answer before after size status
+IsAnswered (Err e) before after size status = IsRefused (code e) before after size status

@@ -92,10 +92,10 @@ pub fn code(error: Error) -> u32
 
 /// Copies the result to the start of `out` if it fits, and stores its length in bytes. `OK`, or
 /// `NO_ROOM` if `out` is shorter than the result, and then unchanged.
-pub fn hand_over(answer: &[u8], out: &mut [u8], told: &mut usize) -> u32
-    ensures { IsHandedOver answer.now out.old out.new told.new result }
+pub fn hand_over(answer: &[u8], out: &mut [u8], size: &mut usize) -> u32
+    ensures { IsHandedOver answer.now out.old out.new size.new result }
 {
-    *told = answer.len();
+    *size = answer.len();
     if out.len() < answer.len() {
         return NO_ROOM;
     }
@@ -104,28 +104,28 @@ pub fn hand_over(answer: &[u8], out: &mut [u8], told: &mut usize) -> u32
 }
 
 /// Returns this status, with the length 0 and no bytes.
-pub fn refuse(status: u32, out: &mut [u8], told: &mut usize) -> u32
-    ensures { IsRefused status out.old out.new told.new result }
+pub fn refuse(status: u32, out: &mut [u8], size: &mut usize) -> u32
+    ensures { IsRefused status out.old out.new size.new result }
 {
-    *told = 0;
+    *size = 0;
     status
 }
 
 /// Writes the document of a scalar with this payload to the start of `out` if it fits, and stores
 /// its length in bytes. `OK`, or `NO_ROOM` if `out` is shorter than the document, and then
 /// unchanged.
-pub fn hand_over_scalar(type_code: u32, payload: &[u8], out: &mut [u8], told: &mut usize) -> u32
+pub fn hand_over_scalar(type_code: u32, payload: &[u8], out: &mut [u8], size: &mut usize) -> u32
     requires { type_code + length payload.now < 2 ^ 31 }
-    ensures { IsHandedOver (scalar_bytes type_code payload.now) out.old out.new told.new result }
+    ensures { IsHandedOver (scalar_bytes type_code payload.now) out.old out.new size.new result }
 {
-    *told = 8 + payload.len();
-    if out.len() < *told {
+    *size = 8 + payload.len();
+    if out.len() < *size {
         return NO_ROOM;
     }
-    let (front, behind) = out.split_at_mut(8);
+    let (front, later) = out.split_at_mut(8);
     let (header, entry) = front.split_at_mut(4);
     header.copy_from_slice(&SCALAR_CONTAINER_TAG.to_be_bytes());
     entry.copy_from_slice(&(type_code + payload.len() as u32).to_be_bytes());
-    behind[..payload.len()].copy_from_slice(payload);
+    later[..payload.len()].copy_from_slice(payload);
     OK
 }

@@ -256,26 +256,26 @@ fn hand_over_item(
     bytes: &[u8],
     found: Result<Option<Place>, Error>,
     out: &mut [u8],
-    told: &mut usize,
+    size: &mut usize,
 ) -> u32
     requires { IsInside bytes.now found }
-    ensures { IsPlaceHandedOver bytes.now found out.old out.new told.new result }
+    ensures { IsPlaceHandedOver bytes.now found out.old out.new size.new result }
 {
     match found {
-        Ok(Some(place)) => hand_over_place(bytes, place, out, told),
-        Ok(None) => refuse(NONE, out, told),
-        Err(error) => refuse(code(error), out, told),
+        Ok(Some(place)) => hand_over_place(bytes, place, out, size),
+        Ok(None) => refuse(NONE, out, size),
+        Err(error) => refuse(code(error), out, size),
     }
 }
 
 // Copies out the document at this position.
-fn hand_over_place(bytes: &[u8], place: Place, out: &mut [u8], told: &mut usize) -> u32
+fn hand_over_place(bytes: &[u8], place: Place, out: &mut [u8], size: &mut usize) -> u32
     requires { IsPlaceIn bytes.now place }
     ensures { IsHandedOver (entry_document (entry_there bytes.now place))
-        out.old out.new told.new result }
+        out.old out.new size.new result }
 {
     let payload = &bytes[place.start..place.start + place.length];
-    hand_over_entry(place.type_code, payload, out, told)
+    hand_over_entry(place.type_code, payload, out, size)
 }
 
 // Whether entries may have this type.
@@ -289,15 +289,15 @@ fn is_entry_type(type_code: u32) -> bool
 }
 
 // Copies out the document of an entry with this type and payload.
-fn hand_over_entry(type_code: u32, payload: &[u8], out: &mut [u8], told: &mut usize) -> u32
+fn hand_over_entry(type_code: u32, payload: &[u8], out: &mut [u8], size: &mut usize) -> u32
     requires { type_code ≢ CONTAINER_TAG → type_code + length payload.now < 2 ^ 31 }
     ensures { IsHandedOver (entry_document (record { type = type_code; payload = payload.now }))
-        out.old out.new told.new result }
+        out.old out.new size.new result }
 {
     if type_code == CONTAINER_TAG {
-        hand_over(payload, out, told)
+        hand_over(payload, out, size)
     } else {
-        hand_over_scalar(type_code, payload, out, told)
+        hand_over_scalar(type_code, payload, out, size)
     }
 }
 

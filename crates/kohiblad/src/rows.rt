@@ -87,12 +87,12 @@ fn are_ends(size: usize, ends: &[usize]) -> bool
 {
     let mut start = 0;
     let mut left = ends;
-    while let Some((&end, behind)) = left.split_first() {
+    while let Some((&end, later)) = left.split_first() {
         if end < start || size < end {
             return false;
         }
         start = end;
-        left = behind;
+        left = later;
     }
     true
 }

@@ -179,7 +179,7 @@ fn extension_in(bytes: &[u8]) -> Option<ExtensionValue<'_>>
     let Some(part) = scalar_part(bytes) else {
         return None;
     };
-    if part.tag == EXTENSION_TAG {
+    if part.type_code == EXTENSION_TAG {
         Some(part.extension())
     } else {
         None
@@ -257,7 +257,7 @@ fn number_in(bytes: &[u8]) -> Option<Number>
     let Some(part) = scalar_part(bytes) else {
         return None;
     };
-    if part.tag == NUMBER_TAG {
+    if part.type_code == NUMBER_TAG {
         Some(part.number())
     } else {
         None
@@ -272,9 +272,9 @@ fn boolean_in(bytes: &[u8]) -> Option<bool>
     let Some(part) = scalar_part(bytes) else {
         return None;
     };
-    if part.tag == TRUE_TAG {
+    if part.type_code == TRUE_TAG {
         Some(true)
-    } else if part.tag == FALSE_TAG {
+    } else if part.type_code == FALSE_TAG {
         Some(false)
     } else {
         None

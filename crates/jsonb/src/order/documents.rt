@@ -20,7 +20,7 @@ pub fn cmp_documents(left: Document<'_>, right: Document<'_>) -> Ordering
 {
     let (left_part, right_part) = (left.part(), right.part());
     // The most common kinds are recognized by their tags, before the parts are decoded.
-    match (left_part.tag, right_part.tag) {
+    match (left_part.type_code, right_part.type_code) {
         (NUMBER_TAG, NUMBER_TAG) => left_part.number().cmp_value(&right_part.number()),
         (STRING_TAG, STRING_TAG) => left_part.text().cmp(right_part.text()),
         (CONTAINER_TAG, CONTAINER_TAG) => cmp_containers(left, right),

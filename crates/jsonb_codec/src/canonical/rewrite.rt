@@ -3,14 +3,15 @@
 ghost use Rattle.std.specs.Prelude.{◌≡◌, ◌≤◌, ◌+◌, ◌++◌, ◌↔◌, ◌⊎◌, length, vec_capacity, Err, IsOk};
 ghost use Rattle.std.specs.Prelude.{IfErr, OnOk, OnErr};
 ghost use Rattle.jsonb_codec.specs.Canon.{Fits};
-ghost use Rattle.jsonb_codec.specs.Words.{Tree, IsTree, Doc, IsDocument, canon, code_of, Means, Is};
+ghost use Rattle.jsonb_codec.specs.Words.{Tree, IsTree, Doc, IsDocument, canon, code_of, Means};
+ghost use Rattle.jsonb_codec.specs.Words.{LevelIs};
 ghost use Rattle.jsonb_codec.specs.Words.{bytes_of, part_meaning, part_laws, level_size, shape_of};
 
 use crate::constants::{CONTAINER_TAG, EXTENSION_TAG, NUMBER_TAG};
 use crate::document::DocumentBytes;
 use crate::parts::{Child, Children, Contents, Member, Members, Object, Part};
 use crate::writer::append::append_document;
-use crate::writer::code::{Code, Payload};
+use crate::writer::code::{Payload, StoredEntry};
 use crate::writer::source::{Level, Source};
 use jsonb_value::Error;
 
@@ -61,15 +62,16 @@ pub fn append_canonical_document(
     append_document::<Part>(buf, part_level(document.part()))
 }
 
-type PartLevel<'a> = Level<Code<'a>, Children<'a>, Object<'a>>;
+type PartLevel<'a> = Level<StoredEntry<'a>, Children<'a>, Object<'a>>;
 
 // Numbers and extension values are decoded and written in their shortest form.
 #[inline(always)]
 fn part_level<'a>(part: Part<'a>) -> PartLevel<'a>
-    ensures is { (t : Tree) → Means part.entry t → Is code_of part_meaning result (shape_of t) }
+    ensures is { (t : Tree) → Means part.entry t
+        → LevelIs code_of part_meaning result (shape_of t) }
     ensures inside { level_size part_meaning result ≤ length part.entry.payload.now }
 {
-    let type_code = part.tag;
+    let type_code = part.type_code;
     let payload = match type_code {
         NUMBER_TAG => Payload::Number(part.number()),
         EXTENSION_TAG => Payload::Extension(part.extension()),
@@ -79,11 +81,11 @@ fn part_level<'a>(part: Part<'a>) -> PartLevel<'a>
         },
         _ => Payload::Bytes(part.payload),
     };
-    Level::Leaf(Code { type_code, payload })
+    Level::Leaf(StoredEntry { type_code, payload })
 }
 
 impl<'a> Source for Part<'a> {
-    type Leaf = Code<'a>;
+    type Leaf = StoredEntry<'a>;
 
     type Child = Part<'a>;
 
@@ -104,7 +106,7 @@ impl<'a> Source for Part<'a> {
 
     // The canonical payload is about as long as the present one.
     #[inline(always)]
-    fn guess(child: Part<'a>) -> Option<usize> {
+    fn size_hint(child: Part<'a>) -> Option<usize> {
         Some(child.payload.len())
     }
 
@@ -115,8 +117,8 @@ impl<'a> Source for Part<'a> {
 
     #[inline(always)]
     fn split_item(items: Children<'a>) -> Option<(Part<'a>, Children<'a>)> {
-        let Child { part, behind } = items.split_first()?;
-        Some((part, behind))
+        let Child { part, later } = items.split_first()?;
+        Some((part, later))
     }
 
     #[inline(always)]
@@ -135,13 +137,13 @@ impl<'a> Source for Part<'a> {
     }
 
     #[inline(always)]
-    fn again(members: &Members<'a>) -> Members<'a> {
+    fn fork(members: &Members<'a>) -> Members<'a> {
         *members
     }
 
     #[inline(always)]
-    fn split_member(members: Members<'a>) -> Option<(Code<'a>, (Part<'a>, Members<'a>))> {
-        let Member { key, value, behind } = members.split_first()?;
-        Some((Code::of_text(key), (value, behind)))
+    fn split_member(members: Members<'a>) -> Option<(StoredEntry<'a>, (Part<'a>, Members<'a>))> {
+        let Member { key, value, later } = members.split_first()?;
+        Some((StoredEntry::of_text(key), (value, later)))
     }
 }

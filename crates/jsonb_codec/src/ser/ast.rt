@@ -2,7 +2,7 @@
 
 ghost use Rattle.std.specs.Prelude.{◌<◌};
 ghost use Rattle.jsonb_codec.specs.Words.{ast_tree, AscendEverywhere, IsTree, scalar_code, size};
-ghost use Rattle.jsonb_codec.specs.Words.{Is, level_size, LevelHeld, shape_of, ast_meaning};
+ghost use Rattle.jsonb_codec.specs.Words.{LevelIs, level_size, LevelHeld, shape_of, ast_meaning};
 ghost use Rattle.jsonb_codec.specs.Words.{ast_laws};
 
 use crate::writer::code::Scalar;
@@ -24,7 +24,7 @@ pub type AstLevel<'s, 'a> = Level<Scalar<'s>, &'s [JsonAst<'a>], Pairs<'s, 'a>>;
 /// The top level of a value.
 #[inline(always)]
 pub fn ast_level<'s, 'a>(value: &'s JsonAst<'a>) -> AstLevel<'s, 'a>
-    ensures is { Is scalar_code ast_meaning result (shape_of (ast_tree value.now)) }
+    ensures is { LevelIs scalar_code ast_meaning result (shape_of (ast_tree value.now)) }
     ensures size { level_size ast_meaning result < size (ast_tree value.now) }
     ensures held { LevelHeld ast_meaning result → AscendEverywhere (ast_tree value.now)
         → IsTree (ast_tree value.now) }
@@ -61,7 +61,7 @@ impl<'s, 'a> Source for &'s JsonAst<'a> {
     }
 
     #[inline(always)]
-    fn guess(_: &'s JsonAst<'a>) -> Option<usize> {
+    fn size_hint(_: &'s JsonAst<'a>) -> Option<usize> {
         None
     }
 
@@ -95,7 +95,7 @@ impl<'s, 'a> Source for &'s JsonAst<'a> {
     }
 
     #[inline(always)]
-    fn again(members: &Pairs<'s, 'a>) -> Pairs<'s, 'a> {
+    fn fork(members: &Pairs<'s, 'a>) -> Pairs<'s, 'a> {
         *members
     }
 

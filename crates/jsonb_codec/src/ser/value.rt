@@ -1,7 +1,7 @@
 //! Values as a source of the writer.
 
 ghost use Rattle.std.specs.Prelude.{◌<◌};
-ghost use Rattle.jsonb_codec.specs.Words.{tree_of, IsTree, scalar_code, size, Is, level_size};
+ghost use Rattle.jsonb_codec.specs.Words.{tree_of, IsTree, scalar_code, size, LevelIs, level_size};
 ghost use Rattle.jsonb_codec.specs.Words.{LevelHeld, shape_of, value_meaning, value_laws};
 
 use crate::writer::code::Scalar;
@@ -19,7 +19,7 @@ pub type ValueLevel<'s, 'a> = Level<Scalar<'s>, &'s [Value<'a>], &'s Object<'a>>
 /// The top level of a value.
 #[inline(always)]
 pub fn value_level<'s, 'a>(value: &'s Value<'a>) -> ValueLevel<'s, 'a>
-    ensures is { Is scalar_code value_meaning result (shape_of (tree_of value.now)) }
+    ensures is { LevelIs scalar_code value_meaning result (shape_of (tree_of value.now)) }
     ensures size { level_size value_meaning result < size (tree_of value.now) }
     ensures held { LevelHeld value_meaning result → IsTree (tree_of value.now) }
 {
@@ -61,7 +61,7 @@ impl<'s, 'a> Source for &'s Value<'a> {
     }
 
     #[inline(always)]
-    fn guess(_: &'s Value<'a>) -> Option<usize> {
+    fn size_hint(_: &'s Value<'a>) -> Option<usize> {
         None
     }
 
@@ -95,7 +95,7 @@ impl<'s, 'a> Source for &'s Value<'a> {
     }
 
     #[inline(always)]
-    fn again(members: &Members<'s, 'a>) -> Members<'s, 'a> {
+    fn fork(members: &Members<'s, 'a>) -> Members<'s, 'a> {
         let Ok(members) = members.clone() else {
             unreachable!();
         };

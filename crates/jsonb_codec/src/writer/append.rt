@@ -10,8 +10,9 @@ ghost use Rattle.std.specs.Prelude.{vec_capacity, IfErr, OnOk, OnErr};
 ghost use Rattle.jsonb_codec.specs.Shape as shapes;
 ghost use Rattle.jsonb_codec.specs.Shape.{Fits};
 ghost use Rattle.jsonb_codec.specs.Words.{word, Shape, Shapes, payload, payloads, entries, type_of};
-ghost use Rattle.jsonb_codec.specs.Words.{key_entries, key_payloads, body, document, FitsEntry, Is};
-ghost use Rattle.jsonb_codec.specs.Words.{LevelHeld, HasRoom, AppendsBytes, Stands, CanWrite};
+ghost use Rattle.jsonb_codec.specs.Words.{key_entries, key_payloads, body, document, FitsEntry};
+ghost use Rattle.jsonb_codec.specs.Words.{LevelIs};
+ghost use Rattle.jsonb_codec.specs.Words.{LevelHeld, HasRoom, AppendsBytes, IsAt, CanWrite};
 ghost use Rattle.jsonb_codec.specs.Words.{CanGoOn};
 
 use super::measure::{item_size, measure_document, value_size};
@@ -33,17 +34,17 @@ pub fn append_document<S: Source>(
     buf: &mut Vec<u8>,
     level: Level<S::Leaf, S::Items, S::Object>,
 ) -> Result<(), Error>
-    requires { (s : Shape) × Is S.Leaf.code S.meaning level s }
-    ensures appended { OnOk result ((s : Shape) → Is S.Leaf.code S.meaning level s
+    requires { (s : Shape) × LevelIs S.Leaf.code S.meaning level s }
+    ensures appended { OnOk result ((s : Shape) → LevelIs S.Leaf.code S.meaning level s
         → Fits s × (buf.new.items ≡ buf.old.items ++ document s)) }
     ensures held { OnOk result (LevelHeld S.meaning level) }
     ensures err { OnErr result (buf.new.items ≡ buf.old.items) }
     ensures past { (result ≡ Err Error.InvalidJsonb)
-        ↔ ((s : Shape) → Is S.Leaf.code S.meaning level s → Fits s → ⊥) }
+        ↔ ((s : Shape) → LevelIs S.Leaf.code S.meaning level s → Fits s → ⊥) }
     ensures memory { result ≡ Err Error.OutOfMemory
-        → (s : Shape) → Is S.Leaf.code S.meaning level s → Fits s }
+        → (s : Shape) → LevelIs S.Leaf.code S.meaning level s → Fits s }
     ensures only { IfErr result (λ e. (e ≡ Error.InvalidJsonb) ⊎ (e ≡ Error.OutOfMemory)) }
-    ensures room { (s : Shape) → Is S.Leaf.code S.meaning level s → Fits s
+    ensures room { (s : Shape) → LevelIs S.Leaf.code S.meaning level s → Fits s
         → length buf.old.items + length (document s) ≤ vec_capacity buf.old → IsOk result }
 {
     let size = measure_document::<S>(level)?;
@@ -84,8 +85,8 @@ pub fn append_word(out: &mut Vec<u8>, number: u32)
 // The length in the container's entry word that was written at index `entry`.
 #[inline(always)]
 fn entry_size(out: &Vec<u8>, entry: usize) -> usize
-    requires { (n : ℕ) × ((n < 2 ^ 28) × Stands entry (word (CONTAINER_TAG + n)) out.now.items) }
-    ensures { (n : ℕ) → n < 2 ^ 28 → Stands entry (word (CONTAINER_TAG + n)) out.now.items
+    requires { (n : ℕ) × ((n < 2 ^ 28) × IsAt entry (word (CONTAINER_TAG + n)) out.now.items) }
+    ensures { (n : ℕ) → n < 2 ^ 28 → IsAt entry (word (CONTAINER_TAG + n)) out.now.items
         → result ≡ n }
 {
     let Ok(word) = read_word(out, entry) else {
@@ -125,15 +126,15 @@ fn append_object<S: Source>(
     let members = S::members(object);
     let count = S::members_left(&members);
     append_word(out, OBJECT_CONTAINER_TAG + count as u32);
-    append_key_entries::<S>(out, S::again(&members));
+    append_key_entries::<S>(out, S::fork(&members));
     let words = out.len();
     append_value_entries::<S>(
         out,
-        S::again(&members),
+        S::fork(&members),
         size - 4 - 8 * count,
         unlimited_levels,
     );
-    append_keys::<S>(out, S::again(&members));
+    append_keys::<S>(out, S::fork(&members));
     append_values::<S>(out, members, words, unlimited_levels.saturating_sub(1));
 }
 
@@ -259,7 +260,7 @@ fn append_items<S: Source>(
     unlimited_levels: usize,
 )
     requires { (ss : Shapes) × (S.meaning.items items ss
-        × (CanGoOn out.old ss (payloads ss) × Stands words (entries ss) out.old.items)) }
+        × (CanGoOn out.old ss (payloads ss) × IsAt words (entries ss) out.old.items)) }
     ensures { (ss : Shapes) → S.meaning.items items ss
         → AppendsBytes out.old out.new (payloads ss) }
 {
@@ -282,7 +283,7 @@ fn append_values<S: Source>(
     unlimited_levels: usize,
 )
     requires { (ss : Shapes) × (S.meaning.members members ss
-        × (CanGoOn out.old ss (payloads ss) × Stands words (entries ss) out.old.items)) }
+        × (CanGoOn out.old ss (payloads ss) × IsAt words (entries ss) out.old.items)) }
     ensures { (ss : Shapes) → S.meaning.members members ss
         → AppendsBytes out.old out.new (payloads ss) }
 {
@@ -306,7 +307,7 @@ fn append_child<S: Source>(
 )
     requires { (s : Shape) × (S.meaning.child child s × (FitsEntry s
         × (HasRoom out.old (payload s)
-        × Stands entry (word (type_of s + length (payload s))) out.old.items))) }
+        × IsAt entry (word (type_of s + length (payload s))) out.old.items))) }
     ensures { (s : Shape) → S.meaning.child child s → AppendsBytes out.old out.new (payload s) }
 {
     match S::level(child) {

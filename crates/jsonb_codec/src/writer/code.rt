@@ -21,40 +21,40 @@ pub enum Payload<'a> {
 
 /// The stored form of a value: the type of its entry, and its payload.
 #[derive(Clone, Copy)]
-pub struct Code<'a> {
+pub struct StoredEntry<'a> {
     pub type_code: u32,
     pub payload: Payload<'a>,
     ghost small: { type_code ≤ 0x70000000 },
 }
 
-impl<'a> Code<'a> {
+impl<'a> StoredEntry<'a> {
     ghost use Rattle.jsonb_codec.specs.Words.{code_of};
 
     /// An entry that has only a type, and no payload.
     #[inline(always)]
-    pub fn of_type(type_code: u32) -> Code<'a>
+    pub fn of_type(type_code: u32) -> StoredEntry<'a>
         requires { type_code ≤ 0x70000000 }
         ensures { code_of result ≡ (type_code, []) }
     {
         let payload = Payload::Bytes(&[]);
-        Code { type_code, payload }
+        StoredEntry { type_code, payload }
     }
 
     /// The stored entry of a text or a key. Every `&str` is UTF-8.
     #[inline(always)]
-    pub fn of_text(text: &'a str) -> Code<'a>
+    pub fn of_text(text: &'a str) -> StoredEntry<'a>
         ensures code { code_of result ≡ (STRING_TAG, text.now) }
         ensures held { IsUtf8 text.now }
     {
         let payload = Payload::Bytes(text.as_bytes());
-        Code {
+        StoredEntry {
             type_code: STRING_TAG,
             payload,
         }
     }
 }
 
-impl<'a> Leaf for Code<'a> {
+impl<'a> Leaf for StoredEntry<'a> {
     ghost use Rattle.jsonb_codec.specs.Code.{code_of};
 
     ghost code = { code_of };

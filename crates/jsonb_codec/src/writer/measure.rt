@@ -3,7 +3,7 @@
 //! A measure continues from a start, and ends before a container whose children would begin past a
 //! limit. An object's members are located only within the limit, since that may take a step for
 //! each of them. To find a container child's length, the child or its later siblings are measured:
-//! with a guess whichever is shorter by it, without one both in turn, up to limits that grow.
+//! with a size hint whichever is shorter by it, without one both in turn, up to limits that grow.
 //! Before that a few later siblings are measured up to a small limit, since they are often short.
 //! The length of what is not measured is what remains of the whole. So at each level the work is at
 //! most a fixed multiple of all children but the largest, and a document takes time n log n.
@@ -13,7 +13,8 @@ ghost use Rattle.std.specs.Prelude.{IfErr, OnOk, OnErr};
 ghost use Rattle.jsonb_codec.specs.Shape as shapes;
 ghost use Rattle.jsonb_codec.specs.Shape.{Fits};
 ghost use Rattle.jsonb_codec.specs.Words.{Shape, Shapes, count, body, payload, document, AllFit};
-ghost use Rattle.jsonb_codec.specs.Words.{FitsInside, FitsEntry, Is, LevelHeld, AreFew, TakesLeft};
+ghost use Rattle.jsonb_codec.specs.Words.{FitsInside, FitsEntry, LevelIs, LevelHeld, AreFew};
+ghost use Rattle.jsonb_codec.specs.Words.{TakesLeft};
 
 use super::source::{Leaf, Level, Source};
 use jsonb_value::Error;
@@ -41,11 +42,11 @@ const SHORT_IN_TOTAL: usize = 96;
 pub fn measure_document<S: Source>(
     level: Level<S::Leaf, S::Items, S::Object>,
 ) -> Result<usize, Error>
-    requires { (s : Shape) × Is S.Leaf.code S.meaning level s }
-    ensures ok { IfOk result (λ n. (s : Shape) → Is S.Leaf.code S.meaning level s
+    requires { (s : Shape) × LevelIs S.Leaf.code S.meaning level s }
+    ensures ok { IfOk result (λ n. (s : Shape) → LevelIs S.Leaf.code S.meaning level s
         → Fits s × (n ≡ length (document s))) }
     ensures held { OnOk result (LevelHeld S.meaning level) }
-    ensures err { OnErr result ((s : Shape) → Is S.Leaf.code S.meaning level s → Fits s → ⊥) }
+    ensures err { OnErr result ((s : Shape) → LevelIs S.Leaf.code S.meaning level s → Fits s → ⊥) }
     ensures only { IfErr result (λ e. e ≡ Error.InvalidJsonb) }
 {
     let end = match level {
@@ -75,86 +76,86 @@ fn entry_end(start: usize, size: usize) -> Option<usize>
 fn measure_child<S: Source>(
     child: Level<S::Leaf, S::Items, S::Object>,
     start: usize,
-    most: usize,
+    limit: usize,
 ) -> Option<usize>
-    requires is { (s : Shape) × Is S.Leaf.code S.meaning child s }
+    requires is { (s : Shape) × LevelIs S.Leaf.code S.meaning child s }
     requires start { start ≤ 2 ^ 61 }
-    requires most { most ≤ 2 ^ 60 }
-    ensures some { IfSome result (λ end. (s : Shape) → Is S.Leaf.code S.meaning child s
+    requires limit { limit ≤ 2 ^ 60 }
+    ensures some { IfSome result (λ end. (s : Shape) → LevelIs S.Leaf.code S.meaning child s
         → FitsEntry s × (end ≡ start + length (payload s))) }
     ensures held { OnSome result (LevelHeld S.meaning child) }
-    ensures none { IfNone result ((s : Shape) → Is S.Leaf.code S.meaning child s → FitsEntry s
-        → most < start + length (payload s)) }
+    ensures none { IfNone result ((s : Shape) → LevelIs S.Leaf.code S.meaning child s → FitsEntry s
+        → limit < start + length (payload s)) }
 {
     let size = match child {
         Level::Leaf(leaf) => leaf.len(),
-        Level::Array(items) => measure_array::<S>(items, start, most)? - start,
-        Level::Object(object) => measure_object::<S>(object, start, most)? - start,
+        Level::Array(items) => measure_array::<S>(items, start, limit)? - start,
+        Level::Object(object) => measure_object::<S>(object, start, limit)? - start,
     };
     entry_end(start, size)
 }
 
 #[cycle(measure)]
-fn measure_array<S: Source>(items: S::Items, start: usize, most: usize) -> Option<usize>
+fn measure_array<S: Source>(items: S::Items, start: usize, limit: usize) -> Option<usize>
     requires are { (ss : Shapes) × S.meaning.items items ss }
     requires start { start ≤ 2 ^ 61 }
-    requires most { most ≤ 2 ^ 60 }
+    requires limit { limit ≤ 2 ^ 60 }
     ensures some { IfSome result (λ end. (ss : Shapes) → S.meaning.items items ss
         → FitsInside (shapes.array ss) × (end ≡ start + length (payload (shapes.array ss)))) }
     ensures held { OnSome result (S.meaning.items_held items) }
     ensures none { IfNone result ((ss : Shapes) → S.meaning.items items ss
-        → FitsInside (shapes.array ss) → most < start + length (payload (shapes.array ss))) }
+        → FitsInside (shapes.array ss) → limit < start + length (payload (shapes.array ss))) }
 {
     let count = S::count(items);
     if count > MAX_COUNT {
         return None;
     }
     let first = start + 4 + 4 * count;
-    if first > most {
+    if first > limit {
         return None;
     }
-    measure_items::<S>(items, first, most)
+    measure_items::<S>(items, first, limit)
 }
 
 #[cycle(measure)]
-fn measure_object<S: Source>(object: S::Object, start: usize, most: usize) -> Option<usize>
+fn measure_object<S: Source>(object: S::Object, start: usize, limit: usize) -> Option<usize>
     requires are { (ss : Shapes) × S.meaning.object object ss }
     requires start { start ≤ 2 ^ 61 }
-    requires most { most ≤ 2 ^ 60 }
+    requires limit { limit ≤ 2 ^ 60 }
     ensures some { IfSome result (λ end. (ss : Shapes) → S.meaning.object object ss
         → FitsInside (shapes.object ss) × (end ≡ start + length (payload (shapes.object ss)))) }
     ensures held { OnSome result (S.meaning.object_held object) }
     ensures none { IfNone result ((ss : Shapes) → S.meaning.object object ss
-        → FitsInside (shapes.object ss) → most < start + length (payload (shapes.object ss))) }
+        → FitsInside (shapes.object ss) → limit < start + length (payload (shapes.object ss))) }
 {
     let count = S::object_count(object);
     if count > MAX_COUNT {
         return None;
     }
     let first = start + 4 + 8 * count;
-    if first > most {
+    if first > limit {
         return None;
     }
-    measure_members::<S>(S::members(object), first, most)
+    measure_members::<S>(S::members(object), first, limit)
 }
 
 // The end of the payloads of items, `None` if they do not fit or end beyond the limit `most`.
 #[cycle(measure)]
 #[inline(always)]
-fn measure_items<S: Source>(items: S::Items, start: usize, most: usize) -> Option<usize>
+fn measure_items<S: Source>(items: S::Items, start: usize, limit: usize) -> Option<usize>
     requires are { (ss : Shapes) × (S.meaning.items items ss × (count ss < 2 ^ 29)) }
-    requires start { start ≤ most }
-    requires most { most ≤ 2 ^ 60 }
+    requires start { start ≤ limit }
+    requires limit { limit ≤ 2 ^ 60 }
     ensures some { IfSome result (λ end. (ss : Shapes) → S.meaning.items items ss
         → AllFit ss × (end ≡ start + body ss)) }
     ensures held { OnSome result (S.meaning.items_held items) }
     ensures none { IfNone result ((ss : Shapes) → S.meaning.items items ss → AllFit ss
-        → most < start + body ss) }
+        → limit < start + body ss) }
 {
     let mut end = start;
     let mut left = items;
     while let Some((item, others)) = S::split_item(left) {
-        end = measure_child::<S>(S::level(item), end, most)?;
+        end = measure_child::<S>(S::level(item), end, limit)?;
         left = others;
     }
     Some(end)
@@ -164,21 +165,21 @@ fn measure_items<S: Source>(items: S::Items, start: usize, most: usize) -> Optio
 // limit `most`.
 #[cycle(measure)]
 #[inline(always)]
-fn measure_members<S: Source>(members: S::Members, start: usize, most: usize) -> Option<usize>
+fn measure_members<S: Source>(members: S::Members, start: usize, limit: usize) -> Option<usize>
     requires are { (ss : Shapes) × (S.meaning.members members ss × (count ss < 2 ^ 29)) }
-    requires start { start ≤ most }
-    requires most { most ≤ 2 ^ 60 }
+    requires start { start ≤ limit }
+    requires limit { limit ≤ 2 ^ 60 }
     ensures some { IfSome result (λ end. (ss : Shapes) → S.meaning.members members ss
         → AllFit ss × (end ≡ start + body ss)) }
     ensures held { OnSome result (S.meaning.members_held members) }
     ensures none { IfNone result ((ss : Shapes) → S.meaning.members members ss → AllFit ss
-        → most < start + body ss) }
+        → limit < start + body ss) }
 {
     let mut end = start;
     let mut left = members;
     while let Some((key, (value, others))) = S::split_member(left) {
         let key_end = entry_end(end, key.len())?;
-        end = measure_child::<S>(S::level(value), key_end, most)?;
+        end = measure_child::<S>(S::level(value), key_end, limit)?;
         left = others;
     }
     Some(end)
@@ -191,20 +192,21 @@ fn measure_members<S: Source>(members: S::Members, start: usize, most: usize) ->
 pub fn item_size<S: Source>(
     item: S::Child,
     container: Level<S::Leaf, S::Items, S::Object>,
-    behind: S::Items,
+    later: S::Items,
     left: usize,
     unlimited_levels: usize,
 ) -> usize
-    requires { (s : Shape) × (Is S.Leaf.code S.meaning container s
-        × TakesLeft S.meaning.items behind s left) }
-    ensures { (s : Shape) → Is S.Leaf.code S.meaning container s → result ≡ length (payload s) }
+    requires { (s : Shape) × (LevelIs S.Leaf.code S.meaning container s
+        × TakesLeft S.meaning.items later s left) }
+    ensures { (s : Shape) → LevelIs S.Leaf.code S.meaning container s
+        → result ≡ length (payload s) }
 {
-    if S::count(behind) == 0 {
+    if S::count(later) == 0 {
         return left;
     }
-    match S::guess(item) {
-        Some(guess) => item_size_by_guess::<S>(container, behind, left, guess),
-        None => item_size_by_limits::<S>(container, behind, left, first_limit(unlimited_levels)),
+    match S::size_hint(item) {
+        Some(size_hint) => item_size_by_hint::<S>(container, later, left, size_hint),
+        None => item_size_by_limits::<S>(container, later, left, first_limit(unlimited_levels)),
     }
 }
 
@@ -215,20 +217,21 @@ pub fn item_size<S: Source>(
 pub fn value_size<S: Source>(
     value: S::Child,
     container: Level<S::Leaf, S::Items, S::Object>,
-    behind: &S::Members,
+    later: &S::Members,
     left: usize,
     unlimited_levels: usize,
 ) -> usize
-    requires { (s : Shape) × (Is S.Leaf.code S.meaning container s
-        × TakesLeft S.meaning.members behind.now s left) }
-    ensures { (s : Shape) → Is S.Leaf.code S.meaning container s → result ≡ length (payload s) }
+    requires { (s : Shape) × (LevelIs S.Leaf.code S.meaning container s
+        × TakesLeft S.meaning.members later.now s left) }
+    ensures { (s : Shape) → LevelIs S.Leaf.code S.meaning container s
+        → result ≡ length (payload s) }
 {
-    if S::members_left(behind) == 0 {
+    if S::members_left(later) == 0 {
         return left;
     }
-    let others = S::again(behind);
-    match S::guess(value) {
-        Some(guess) => value_size_by_guess::<S>(container, others, left, guess),
+    let others = S::fork(later);
+    match S::size_hint(value) {
+        Some(size_hint) => value_size_by_hint::<S>(container, others, left, size_hint),
         None => value_size_by_limits::<S>(container, others, left, first_limit(unlimited_levels)),
     }
 }
@@ -245,37 +248,37 @@ fn first_limit(unlimited_levels: usize) -> usize
 }
 
 // The payload length of a container, by measuring it or its later siblings, whichever is shorter by
-// the guess.
+// the size hint.
 #[inline(never)]
-fn item_size_by_guess<S: Source>(
+fn item_size_by_hint<S: Source>(
     item: Level<S::Leaf, S::Items, S::Object>,
-    behind: S::Items,
+    later: S::Items,
     left: usize,
-    guess: usize,
+    size_hint: usize,
 ) -> usize
-    requires { (s : Shape) × (Is S.Leaf.code S.meaning item s
-        × TakesLeft S.meaning.items behind s left) }
-    ensures { (s : Shape) → Is S.Leaf.code S.meaning item s → result ≡ length (payload s) }
+    requires { (s : Shape) × (LevelIs S.Leaf.code S.meaning item s
+        × TakesLeft S.meaning.items later s left) }
+    ensures { (s : Shape) → LevelIs S.Leaf.code S.meaning item s → result ≡ length (payload s) }
 {
-    if guess > left / 2 {
-        return left - items_size::<S>(behind);
+    if size_hint > left / 2 {
+        return left - items_size::<S>(later);
     }
     child_size::<S>(item)
 }
 
 #[inline(never)]
-fn value_size_by_guess<S: Source>(
+fn value_size_by_hint<S: Source>(
     value: Level<S::Leaf, S::Items, S::Object>,
-    behind: S::Members,
+    later: S::Members,
     left: usize,
-    guess: usize,
+    size_hint: usize,
 ) -> usize
-    requires { (s : Shape) × (Is S.Leaf.code S.meaning value s
-        × TakesLeft S.meaning.members behind s left) }
-    ensures { (s : Shape) → Is S.Leaf.code S.meaning value s → result ≡ length (payload s) }
+    requires { (s : Shape) × (LevelIs S.Leaf.code S.meaning value s
+        × TakesLeft S.meaning.members later s left) }
+    ensures { (s : Shape) → LevelIs S.Leaf.code S.meaning value s → result ≡ length (payload s) }
 {
-    if guess > left / 2 {
-        return left - members_size::<S>(behind);
+    if size_hint > left / 2 {
+        return left - members_size::<S>(later);
     }
     child_size::<S>(value)
 }
@@ -285,29 +288,29 @@ fn value_size_by_guess<S: Source>(
 #[inline(never)]
 fn item_size_by_limits<S: Source>(
     item: Level<S::Leaf, S::Items, S::Object>,
-    behind: S::Items,
+    later: S::Items,
     left: usize,
     first_limit: usize,
 ) -> usize
-    requires takes { (s : Shape) × (Is S.Leaf.code S.meaning item s
-        × TakesLeft S.meaning.items behind s left) }
+    requires takes { (s : Shape) × (LevelIs S.Leaf.code S.meaning item s
+        × TakesLeft S.meaning.items later s left) }
     requires limit { 0 < first_limit }
-    ensures { (s : Shape) → Is S.Leaf.code S.meaning item s → result ≡ length (payload s) }
+    ensures { (s : Shape) → LevelIs S.Leaf.code S.meaning item s → result ≡ length (payload s) }
 {
-    if left > SHORT_IN_TOTAL && S::count(behind) <= FEW {
-        if let Some(size) = measure_items::<S>(behind, 0, SHORT) {
+    if left > SHORT_IN_TOTAL && S::count(later) <= FEW {
+        if let Some(size) = measure_items::<S>(later, 0, SHORT) {
             return left - size;
         }
     }
-    let mut most = first_limit;
-    while most < left / 16 {
-        if let Some(size) = measure_child::<S>(item, 0, most) {
+    let mut limit = first_limit;
+    while limit < left / 16 {
+        if let Some(size) = measure_child::<S>(item, 0, limit) {
             return size;
         }
-        if let Some(size) = measure_items::<S>(behind, 0, most) {
+        if let Some(size) = measure_items::<S>(later, 0, limit) {
             return left - size;
         }
-        most *= 8;
+        limit *= 8;
     }
     child_size::<S>(item)
 }
@@ -315,29 +318,29 @@ fn item_size_by_limits<S: Source>(
 #[inline(never)]
 fn value_size_by_limits<S: Source>(
     value: Level<S::Leaf, S::Items, S::Object>,
-    behind: S::Members,
+    later: S::Members,
     left: usize,
     first_limit: usize,
 ) -> usize
-    requires takes { (s : Shape) × (Is S.Leaf.code S.meaning value s
-        × TakesLeft S.meaning.members behind s left) }
+    requires takes { (s : Shape) × (LevelIs S.Leaf.code S.meaning value s
+        × TakesLeft S.meaning.members later s left) }
     requires limit { 0 < first_limit }
-    ensures { (s : Shape) → Is S.Leaf.code S.meaning value s → result ≡ length (payload s) }
+    ensures { (s : Shape) → LevelIs S.Leaf.code S.meaning value s → result ≡ length (payload s) }
 {
-    if left > SHORT_IN_TOTAL && S::members_left(&behind) <= FEW {
-        if let Some(size) = measure_members::<S>(S::again(&behind), 0, SHORT) {
+    if left > SHORT_IN_TOTAL && S::members_left(&later) <= FEW {
+        if let Some(size) = measure_members::<S>(S::fork(&later), 0, SHORT) {
             return left - size;
         }
     }
-    let mut most = first_limit;
-    while most < left / 16 {
-        if let Some(size) = measure_child::<S>(value, 0, most) {
+    let mut limit = first_limit;
+    while limit < left / 16 {
+        if let Some(size) = measure_child::<S>(value, 0, limit) {
             return size;
         }
-        if let Some(size) = measure_members::<S>(S::again(&behind), 0, most) {
+        if let Some(size) = measure_members::<S>(S::fork(&later), 0, limit) {
             return left - size;
         }
-        most *= 8;
+        limit *= 8;
     }
     child_size::<S>(value)
 }
@@ -345,8 +348,8 @@ fn value_size_by_limits<S: Source>(
 // The payload length of a child, measured completely.
 #[inline(always)]
 fn child_size<S: Source>(child: Level<S::Leaf, S::Items, S::Object>) -> usize
-    requires { (s : Shape) × (Is S.Leaf.code S.meaning child s × FitsEntry s) }
-    ensures { (s : Shape) → Is S.Leaf.code S.meaning child s → result ≡ length (payload s) }
+    requires { (s : Shape) × (LevelIs S.Leaf.code S.meaning child s × FitsEntry s) }
+    ensures { (s : Shape) → LevelIs S.Leaf.code S.meaning child s → result ≡ length (payload s) }
 {
     let Some(size) = measure_child::<S>(child, 0, NO_LIMIT) else {
         unreachable!();

@@ -5,7 +5,7 @@ ghost use Rattle.std.specs.Prelude.{MatchOption};
 ghost use Rattle.jsonb_codec.specs.declared.constants.TheConstants.{STRING_TAG};
 ghost use Rattle.jsonb_codec.specs.Room.{HasRoom, AppendsBytes};
 ghost use Rattle.jsonb_codec.specs.Shape.{Shape, Shapes, no_shapes, count};
-ghost use Rattle.jsonb_codec.specs.Source.{Meaning, Laws, Is, AreSplit, level_size, LevelHeld};
+ghost use Rattle.jsonb_codec.specs.Source.{Meaning, Laws, LevelIs, AreSplit, level_size, LevelHeld};
 
 /// A scalar with a type and a payload.
 pub trait Leaf: Copy {
@@ -54,14 +54,14 @@ pub trait Source {
     /// The top level of a child.
     fn level(child: Self::Child) -> Level<Self::Leaf, Self::Items, Self::Object>
         requires { (s : Shape) × meaning.child child s }
-        ensures is { (s : Shape) → meaning.child child s → Is Self.Leaf.code meaning result s }
+        ensures is { (s : Shape) → meaning.child child s → LevelIs Self.Leaf.code meaning result s }
         ensures size { level_size meaning result ≤ meaning.child_size child }
         ensures held { LevelHeld meaning result → meaning.child_held child };
 
     /// The approximate length of a child's payload, if it is known without measuring. Only a hint,
     /// by which the writer chooses what to measure: the time stays within n log n if the hint is
     /// within a fixed factor of the length.
-    fn guess(child: Self::Child) -> Option<usize>;
+    fn size_hint(child: Self::Child) -> Option<usize>;
 
     /// The number of items.
     fn count(items: Self::Items) -> usize
@@ -93,7 +93,7 @@ pub trait Source {
         ensures { (ss : Shapes) → meaning.members members.now ss → result ≡ count ss };
 
     /// A second iteration over the members left.
-    fn again(members: &Self::Members) -> Self::Members
+    fn fork(members: &Self::Members) -> Self::Members
         ensures { (ss : Shapes) → meaning.members members.now ss → meaning.members result ss };
 
     /// The key and the value of the first member, and the members after it. `None` if there is

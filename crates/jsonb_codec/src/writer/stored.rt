@@ -4,7 +4,7 @@ ghost use Rattle.std.specs.Prelude.{◌≡◌, ◌↔◌, ℕ, List, IsTrue, IsS
 ghost use Rattle.jsonb_codec.specs.Words.{code_of, stored_meaning, stored_laws, part_code};
 ghost use Rattle.jsonb_codec.specs.Words.{code_of_some};
 
-use super::code::{Code, Payload};
+use super::code::{Payload, StoredEntry};
 use super::source::{Level, Source};
 use crate::parts::Part;
 use std::collections::{BTreeMap, btree_map};
@@ -23,21 +23,21 @@ pub trait Stored {
         ensures { IsTrue result ↔ stored self.now };
 
     /// The entry of the value: type and payload.
-    fn code<'s>(&'s self) -> Code<'s>
+    fn code<'s>(&'s self) -> StoredEntry<'s>
         requires { stored self.now }
         ensures code { code_of result ≡ code self.now }
         ensures held { held self.now };
 }
 
-type Kind<'s, 'k, T> = Level<Code<'s>, &'s [T], &'s BTreeMap<&'k str, T>>;
+type Kind<'s, 'k, T> = Level<StoredEntry<'s>, &'s [T], &'s BTreeMap<&'k str, T>>;
 
 type Members<'s, 'k, T> = btree_map::Iter<'s, &'k str, T>;
 
-type Member<'s, 'k, T> = (Code<'s>, (&'s T, Members<'s, 'k, T>));
+type Member<'s, 'k, T> = (StoredEntry<'s>, (&'s T, Members<'s, 'k, T>));
 
 /// Slices of stored values are written as arrays, and maps of them as objects.
 impl<'s, 'k, T: Stored> Source for &'s BTreeMap<&'k str, T> {
-    type Leaf = Code<'s>;
+    type Leaf = StoredEntry<'s>;
 
     type Child = &'s T;
 
@@ -57,7 +57,7 @@ impl<'s, 'k, T: Stored> Source for &'s BTreeMap<&'k str, T> {
     }
 
     #[inline(always)]
-    fn guess(_: &'s T) -> Option<usize> {
+    fn size_hint(_: &'s T) -> Option<usize> {
         None
     }
 
@@ -90,7 +90,7 @@ impl<'s, 'k, T: Stored> Source for &'s BTreeMap<&'k str, T> {
     }
 
     #[inline(always)]
-    fn again(members: &Members<'s, 'k, T>) -> Members<'s, 'k, T> {
+    fn fork(members: &Members<'s, 'k, T>) -> Members<'s, 'k, T> {
         let Ok(members) = members.clone() else {
             unreachable!();
         };
@@ -100,17 +100,17 @@ impl<'s, 'k, T: Stored> Source for &'s BTreeMap<&'k str, T> {
     #[inline(always)]
     fn split_member(mut members: Members<'s, 'k, T>) -> Option<Member<'s, 'k, T>> {
         let (key, first) = members.next()?;
-        Some((Code::of_text(*key), (first, members)))
+        Some((StoredEntry::of_text(*key), (first, members)))
     }
 }
 
 /// A part of a document is stored unchanged.
 #[inline(always)]
-pub fn part_code<'a>(part: Part<'a>) -> Code<'a>
+pub fn part_code<'a>(part: Part<'a>) -> StoredEntry<'a>
     ensures { code_of result ≡ part_code part.entry }
 {
-    Code {
-        type_code: part.tag,
+    StoredEntry {
+        type_code: part.type_code,
         payload: Payload::Bytes(part.payload),
     }
 }
@@ -128,7 +128,7 @@ impl<'a> Stored for Option<Part<'a>> {
     }
 
     #[inline(always)]
-    fn code<'s>(&'s self) -> Code<'s> {
+    fn code<'s>(&'s self) -> StoredEntry<'s> {
         let Some(part) = self else {
             unreachable!();
         };

@@ -80,10 +80,10 @@ value-append : (ds es : List ℕ) (n : ℕ)
 value-append [] es n = refl
 value-append (d ∷ ds) es n = value-append ds es _
 
-value_behind : (scale m : ℕ) → digits_value_after 10 (front_of scale m) (last_digits scale m) ≡ m
-value_behind zero m = refl
-value_behind (suc scale) m =
-    grind (arith, value-append, digit_value-last, value_behind scale (m / 10))
+value_after : (scale m : ℕ) → digits_value_after 10 (front_of scale m) (last_digits scale m) ≡ m
+value_after zero m = refl
+value_after (suc scale) m =
+    grind (arith, value-append, digit_value-last, value_after scale (m / 10))
 
 magnitude-printed : (scale m : ℕ) → m < 10 ^ 64
     → digits_value 10 (decimal (front_of scale m) ++ last_digits scale m) ≡ m
@@ -92,7 +92,7 @@ magnitude-printed scale m h =
     value-append (decimal (front_of scale m)) (last_digits scale m) 0
     ∙ ap (λ n. digits_value_after 10 n (last_digits scale m))
     (decimal_is_IsNumeral_wide (front_of scale m) front).1
-    ∙ value_behind scale m
+    ∙ value_after scale m
 
 -- ---- numerals
 

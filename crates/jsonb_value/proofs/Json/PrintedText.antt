@@ -161,7 +161,7 @@ wide_plain c wide = plain_front (encode_utf8 c) (λ k below.
           let same =
           inside_one c [] (encode_utf8 c) k (sym (append-nil (encode_utf8 c))) below ascii in
           absurd (omega arith)
-      | inr stands ↦ stands
+      | inr stored ↦ stored
     ])
 
 wide_piece : (c : ℕ) → 128 ≤ c → piece_text (printed_piece c) ≡ c ∷ []

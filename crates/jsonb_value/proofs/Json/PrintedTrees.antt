@@ -46,21 +46,21 @@ gap in_one_line = []
 gap (on_lines depth) = 32 ∷ []
 
 -- white space after an item: none, except before the closing bracket
-abbrev behind : Layout → Trees → List ℕ
-behind l no_trees = line_start l
-behind l (tree t ts) = []
+abbrev later : Layout → Trees → List ℕ
+later l no_trees = line_start l
+later l (tree t ts) = []
 
-abbrev pair_behind : Layout → Pairs → List ℕ
-pair_behind l no_pairs = line_start l
-pair_behind l (pair k t ps) = []
+abbrev pair_after : Layout → Pairs → List ℕ
+pair_after l no_pairs = line_start l
+pair_after l (pair k t ps) = []
 
 -- an item with its white space, given the items after it; likewise a pair
 abbrev item_in : Layout → Syntax → Trees → Element
-item_in l x ts = element (line_start (inside l)) x (behind l ts)
+item_in l x ts = element (line_start (inside l)) x (later l ts)
 
 abbrev pair_in : Layout → List ℕ → Syntax → Pairs → Member
 pair_in l k x ps = member (line_start (inside l)) (printed_text k) []
-    (element (gap (inside l)) x (pair_behind l ps))
+    (element (gap (inside l)) x (pair_after l ps))
 
 abbrev mutual
   printed : Layout → Tree → Syntax
@@ -108,11 +108,11 @@ line_start-blank l = grind (arith, spaces_blank)
 gap-blank : (l : Layout) → all_blank (gap l) ≡ true
 gap-blank l = grind arith
 
-behind-blank : (l : Layout) (ts : Trees) → all_blank (behind l ts) ≡ true
-behind-blank l ts = grind (arith, line_start-blank)
+later-blank : (l : Layout) (ts : Trees) → all_blank (later l ts) ≡ true
+later-blank l ts = grind (arith, line_start-blank)
 
-pair_behind-blank : (l : Layout) (ps : Pairs) → all_blank (pair_behind l ps) ≡ true
-pair_behind-blank l ps = grind (arith, line_start-blank)
+pair_after-blank : (l : Layout) (ps : Pairs) → all_blank (pair_after l ps) ≡ true
+pair_after-blank l ps = grind (arith, line_start-blank)
 
 colon-spelled : (l : Layout) → Spells (colon l) (58 ∷ gap l)
 colon-spelled in_one_line = Spells-ascii (58 ∷ []) refl
@@ -125,16 +125,16 @@ colon-inside (on_lines depth) = Spells-ascii (58 ∷ 32 ∷ []) refl
 -- ---- the printed text is the spelled text
 
 -- one ASCII character before other text
-behind_one : {c : ℕ} {b x : List ℕ} → all_ascii (c ∷ []) ≡ true → Spells b x
+after_one : {c : ℕ} {b x : List ℕ} → all_ascii (c ∷ []) ≡ true → Spells b x
     → Spells (c ∷ b) (c ∷ x)
-behind_one {c} e h = Spells-append (Spells-ascii (c ∷ []) e) h
+after_one {c} e h = Spells-append (Spells-ascii (c ∷ []) e) h
 
 -- a quoted string followed by other text
 string_spelled : {b x : List ℕ} (s : List ℕ) → IsUtf8 s → Spells b x
     → Spells (bytes.string_text s ++ b) (string_text (printed_text s) ++ x)
 string_spelled s utf8 more =
     simp append_assoc
-    (behind_one refl (Spells-append (content_spelled s utf8) (behind_one refl more)))
+    (after_one refl (Spells-append (content_spelled s utf8) (after_one refl more)))
 
 digits_ascii : (ds : List ℕ) → all_digits ds ≡ true → all_ascii ds ≡ true
 digits_ascii [] e = refl
@@ -174,30 +174,30 @@ mutual
   tree_spelled l (text s) ok plain = simp append-nil at (string_spelled s ok Spells-nil)
   tree_spelled l (extension e) ok plain = absurd plain
   tree_spelled l (array no_trees) ok plain = Spells-ascii (codes "[]") refl
-  tree_spelled l (array (tree t ts)) ok plain = simp append_assoc (behind_one refl
+  tree_spelled l (array (tree t ts)) ok plain = simp append_assoc (after_one refl
       (Spells-append (line_start-spelled (inside l))
       (Spells-append (tree_spelled (inside l) t ok.0 plain.0) (items_spelled l ts ok.1 plain.1))))
   tree_spelled l (object no_pairs) ok plain = Spells-ascii (codes "{}") refl
-  tree_spelled l (object (pair k t ps)) ok plain = simp append_assoc (behind_one refl
+  tree_spelled l (object (pair k t ps)) ok plain = simp append_assoc (after_one refl
       (Spells-append (line_start-spelled (inside l)) (simp append_assoc at (string_spelled k ok.1.0
       (Spells-append (colon-inside l) (Spells-append (tree_spelled (inside l) t ok.1.1.0 plain.0)
       (pairs_spelled l ps ok.1.1.1 plain.1)))))))
 
   items_spelled : (l : Layout) (ts : Trees) → AreTrees ts → ArePlain ts
       → Spells (more_items (inside l) ts ++ (line_start l ++ codes "]"))
-      (behind l ts ++ items_text (printed_items l ts))
+      (later l ts ++ items_text (printed_items l ts))
   items_spelled l no_trees ok plain =
       Spells-append (line_start-spelled l) (Spells-ascii (93 ∷ []) refl)
-  items_spelled l (tree t ts) ok plain = simp append_assoc (behind_one refl
+  items_spelled l (tree t ts) ok plain = simp append_assoc (after_one refl
       (Spells-append (line_start-spelled (inside l))
       (Spells-append (tree_spelled (inside l) t ok.0 plain.0) (items_spelled l ts ok.1 plain.1))))
 
   pairs_spelled : (l : Layout) (ps : Pairs) → ArePairs ps → PairsPlain ps
       → Spells (more_pairs (inside l) ps ++ (line_start l ++ codes "}"))
-      (pair_behind l ps ++ members_text (printed_members l ps))
+      (pair_after l ps ++ members_text (printed_members l ps))
   pairs_spelled l no_pairs ok plain =
       Spells-append (line_start-spelled l) (Spells-ascii (125 ∷ []) refl)
-  pairs_spelled l (pair k t ps) ok plain = simp append_assoc (behind_one refl
+  pairs_spelled l (pair k t ps) ok plain = simp append_assoc (after_one refl
       (Spells-append (line_start-spelled (inside l)) (simp append_assoc at (string_spelled k ok.0
       (Spells-append (colon-spelled (inside l))
       (Spells-append (tree_spelled (inside l) t ok.1.0 plain.0)
@@ -317,7 +317,7 @@ mutual
       let others = trees_read l ts ok.1 plain.1 in
       record {
         own = first.tree_is ∷ others.own;
-        is_meant = grind (arith, line_start-blank, behind-blank);
+        is_meant = grind (arith, line_start-blank, later-blank);
         are_same = (first.is_same, others.are_same);
         are_trees = (first.is_tree, others.are_trees);
       }
@@ -335,7 +335,7 @@ mutual
           arith,
           line_start-blank,
           gap-blank,
-          pair_behind-blank,
+          pair_after-blank,
           text_meaning k ok.0,
         );
         are_same = (refl, (first.is_same, others.are_same));

@@ -48,8 +48,8 @@ Passes-append a b d e first second = λ level rest.
     let two = second level rest in
     rw append_assoc (omega arith)
 
-Closes-behind : (a b : List ℕ) (d e : ℕ) → Passes a d → Closes b e → Closes (a ++ b) (max d e)
-Closes-behind a b d e first second = λ level rest.
+Closes-later : (a b : List ℕ) (d e : ℕ) → Passes a d → Closes b e → Closes (a ++ b) (max d e)
+Closes-later a b d e first second = λ level rest.
     let one = first (suc level) (b ++ rest) in
     let two = second level rest in
     rw append_assoc (omega arith)
@@ -212,14 +212,14 @@ mutual
       bind_then (items_meaning xs) _ _ more (λ ys are end.
       opened_passes 91 (element_text x ++ items_text xs) (max (element_depth x) (items_depth xs))
       (inl refl)
-      (Closes-behind (element_text x) (items_text xs) (element_depth x) (items_depth xs)
+      (Closes-later (element_text x) (items_text xs) (element_depth x) (items_depth xs)
       (element_passes x y is) (items_close xs ys are))))
   syntax_passes (members x xs) t e =
       bind_then (member_meaning x) _ _ e (λ y is more.
       bind_then (members_meaning xs) _ _ more (λ ys are end.
       opened_passes 123 (member_text x ++ members_text xs) (max (member_depth x) (members_depth xs))
       (inr refl)
-      (Closes-behind (member_text x) (members_text xs) (member_depth x) (members_depth xs)
+      (Closes-later (member_text x) (members_text xs) (member_depth x) (members_depth xs)
       (member_passes x y is) (members_close xs ys are))))
 
   pub element_passes : (x : Element) (t : Tree) → element_meaning x ≡ Some t
@@ -242,7 +242,7 @@ mutual
       bind_then (element_meaning x) _ _ e (λ y is more.
       bind_then (items_meaning xs) _ _ more (λ ys are end.
       comma_closes (element_text x ++ items_text xs) (max (element_depth x) (items_depth xs))
-      (Closes-behind (element_text x) (items_text xs) (element_depth x) (items_depth xs)
+      (Closes-later (element_text x) (items_text xs) (element_depth x) (items_depth xs)
       (element_passes x y is) (items_close xs ys are))))
 
   member_passes : (m : Member) (e : List ℕ × Tree) → member_meaning m ≡ Some e
@@ -273,7 +273,7 @@ mutual
       bind_then (member_meaning x) _ _ e (λ y is more.
       bind_then (members_meaning xs) _ _ more (λ ys are end.
       comma_closes (member_text x ++ members_text xs) (max (member_depth x) (members_depth xs))
-      (Closes-behind (member_text x) (members_text xs) (member_depth x) (members_depth xs)
+      (Closes-later (member_text x) (members_text xs) (member_depth x) (members_depth xs)
       (member_passes x y is) (members_close xs ys are))))
 
 -- The characters of a text are scanned to the depth of what they spell.

@@ -116,11 +116,11 @@ piece-found (x ∷ s) c rest e = elim (chosen (x == backslash) _ _ _ e) [
             (λ y. y ∷ s) (eqb-true x backslash is.0) ∙ front.is_spelled;
       }
   | inr other ↦
-      let stands = cond_some _ _ _ other.1 in
-      let same = some_pair x c s rest stands.1 in
+      let stored = cond_some _ _ _ other.1 in
+      let same = some_pair x c s rest stored.1 in
       record {
         piece = plain x;
-        is_meant = by_true _ _ _ _ stands.0
+        is_meant = by_true _ _ _ _ stored.0
             (ap Some same.0);
         is_spelled = ap (λ t. x ∷ t) same.1;
       }

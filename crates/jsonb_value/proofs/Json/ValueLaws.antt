@@ -178,14 +178,14 @@ module _ (value : Reader Tree) (sound : IsSound value) where
   member-found n s m rest e =
       bind_then (expect quote (skip_blank s)) _ _ e (λ opened is_opened more.
       bind_then (read_text n [] opened) _ _ more (λ key is_key more.
-      bind_then (expect colon (skip_blank key.1)) _ _ more (λ behind is_behind more.
-      bind_then (read_element value behind) _ _ more (λ x is_value end.
+      bind_then (expect colon (skip_blank key.1)) _ _ more (λ later is_after more.
+      bind_then (read_element value later) _ _ more (λ x is_value end.
       let before = skip-split s in
       let first = expect-found quote (skip_blank s) opened is_opened in
       let inside = text-found n [] opened key.0 key.1 is_key in
       let blank = skip-split key.1 in
-      let second = expect-found colon (skip_blank key.1) behind is_behind in
-      let found = element-found behind x.0 x.1 is_value in
+      let second = expect-found colon (skip_blank key.1) later is_after in
+      let found = element-found later x.0 x.1 is_value in
       record {
         syntax = member before.blank inside.pieces blank.blank found.syntax;
         is_meant = grind arith;

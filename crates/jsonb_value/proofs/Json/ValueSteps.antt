@@ -281,45 +281,45 @@ pub member_no_colon : (n k : ℕ) (s opened key after inside : List ℕ)
 member_no_colon n k s opened key after inside opens is e none = grind arith
 
 -- the text after the colon
-pub behind_shorter : (opened : List ℕ) (key after inside behind : List ℕ)
+pub after_shorter : (opened : List ℕ) (key after inside later : List ℕ)
     → ((n : ℕ) → length opened < n → read_text n [] opened ≡ Some (key, after))
-    → inside ≡ skip_blank after → Some behind ≡ expect colon inside → length behind < length opened
-behind_shorter opened key after inside behind is e found =
+    → inside ≡ skip_blank after → Some later ≡ expect colon inside → length later < length opened
+after_shorter opened key after inside later is e found =
     omega (
       arith,
       text_shorter (suc (length opened)) [] opened key after
           (is (suc (length opened))
           (omega arith)),
       skipped_shorter after inside e,
-      expect_shorter colon inside behind
+      expect_shorter colon inside later
           (sym found),
     )
 
 -- a key with its colon
-pub key_shorter : (s key behind : List ℕ) → KeyIsRead s key behind → length behind < length s
-key_shorter s key behind k =
+pub key_shorter : (s key later : List ℕ) → KeyIsRead s key later → length later < length s
+key_shorter s key later k =
     omega (
       arith,
       opened_shorter s (skip_blank s) k.opened refl (sym k.is_opened),
-      behind_shorter k.opened key k.after (skip_blank k.after) behind k.is_key refl
-          (sym k.is_behind),
+      after_shorter k.opened key k.after (skip_blank k.after) later k.is_key refl
+          (sym k.is_after),
     )
 
 -- no value follows a key
-member_no_value : (n turns : ℕ) (s key behind : List ℕ) → KeyIsRead s key behind
-    → length s ≤ turns → read_element (read_value n) behind ≡ None
+member_no_value : (n turns : ℕ) (s key later : List ℕ) → KeyIsRead s key later
+    → length s ≤ turns → read_element (read_value n) later ≡ None
     → read_member (read_value n) turns s ≡ None
-member_no_value n turns s key behind k enough none =
+member_no_value n turns s key later k enough none =
     let shorter = opened_shorter s (skip_blank s) k.opened refl (sym k.is_opened) in
-    rw (k.is_opened, k.is_key turns (omega arith), k.is_behind, none) refl
+    rw (k.is_opened, k.is_key turns (omega arith), k.is_after, none) refl
 
-member_reads : (n turns : ℕ) (s key behind : List ℕ) (t : Tree) (rest : List ℕ)
-    → KeyIsRead s key behind → length s ≤ turns
-    → read_element (read_value n) behind ≡ Some (t, rest)
+member_reads : (n turns : ℕ) (s key later : List ℕ) (t : Tree) (rest : List ℕ)
+    → KeyIsRead s key later → length s ≤ turns
+    → read_element (read_value n) later ≡ Some (t, rest)
     → read_member (read_value n) turns s ≡ member_found key t rest
-member_reads n turns s key behind t rest k enough is =
+member_reads n turns s key later t rest k enough is =
     let shorter = opened_shorter s (skip_blank s) k.opened refl (sym k.is_opened) in
-    rw (k.is_opened, k.is_key turns (omega arith), k.is_behind, is) refl
+    rw (k.is_opened, k.is_key turns (omega arith), k.is_after, is) refl
 
 -- reading a member and the mark after it consumes characters
 pub member_then_shorter : (old new : List (String Global × Value)) (rest after : List ℕ) (c : ℕ)
@@ -366,47 +366,47 @@ item_is_read found old new s inside rest skipped finds is =
     grind (arith, element_reads, skipped_shorter)
 
 -- the error of the read, or a failed allocation after it
-fails_behind : {Y : Type 0} (found : Result (Value × Bor (List ℕ)) Error) (s : List ℕ) (n : ℕ)
+fails_after : {Y : Type 0} (found : Result (Value × Bor (List ℕ)) Error) (s : List ℕ) (n : ℕ)
     (other : Option Y) (e : Error) → length s < n → Finds found s
     → (read_value n s ≡ None → other ≡ None) → (e ≡ OutOfMemory) ⊎ (found ≡ Err e) → Fails e other
-fails_behind found s n other e h finds handed k = grind (arith, fails_on)
+fails_after found s n other e h finds handed k = grind (arith, fails_on)
 
 pub item_fails : (found : Result (Value × Bor (List ℕ)) Error) (s inside : List ℕ) (e : Error)
     → inside ≡ skip_blank s → Finds found inside
     → (e ≡ OutOfMemory) ⊎ (found ≡ Err e) → (n : ℕ) → length s < n
     → Fails e (read_element (read_value n) s)
 item_fails found s inside e skipped finds why n h =
-    grind (arith, fails_behind, skipped_shorter, element_fails)
+    grind (arith, fails_after, skipped_shorter, element_fails)
 
 pub member_is_read : (found : Result (Value × Bor (List ℕ)) Error)
-    (old new : List (String Global × Value)) (key : String Global) (s behind inside rest : List ℕ)
-    → KeyIsRead s (string_bytes key) behind → inside ≡ skip_blank behind → Finds found inside
+    (old new : List (String Global × Value)) (key : String Global) (s later inside rest : List ℕ)
+    → KeyIsRead s (string_bytes key) later → inside ≡ skip_blank later → Finds found inside
     → IsOkAnd found
     (λ f. (new ≡ insert_entry string_cmp old key f.0) × (rest ≡ skip_blank (chars f.1.now)))
     → MemberIsRead old new s rest
-member_is_read (Err e) old new key s behind inside rest read skipped finds is = absurd is
-member_is_read (Ok f) old new key s behind inside rest read skipped finds is = record {
+member_is_read (Err e) old new key s later inside rest read skipped finds is = absurd is
+member_is_read (Ok f) old new key s later inside rest read skipped finds is = record {
   key = key;
   value = f.0;
   inserted = is.0;
   reads = λ n turns h k.
-      let short = key_shorter s (string_bytes key) behind read in
-      let inner = skipped_shorter behind inside skipped in
-      member_reads n turns s (string_bytes key) behind (tree_of f.0) rest read k
-      (element_reads n behind inside (tree_of f.0) (chars f.1.now) rest skipped
+      let short = key_shorter s (string_bytes key) later read in
+      let inner = skipped_shorter later inside skipped in
+      member_reads n turns s (string_bytes key) later (tree_of f.0) rest read k
+      (element_reads n later inside (tree_of f.0) (chars f.1.now) rest skipped
       (finds n (omega arith)) is.1);
 }
 
-pub member_fails : (found : Result (Value × Bor (List ℕ)) Error) (s key behind inside : List ℕ)
-    (e : Error) → KeyIsRead s key behind → inside ≡ skip_blank behind → Finds found inside
+pub member_fails : (found : Result (Value × Bor (List ℕ)) Error) (s key later inside : List ℕ)
+    (e : Error) → KeyIsRead s key later → inside ≡ skip_blank later → Finds found inside
     → (e ≡ OutOfMemory) ⊎ (found ≡ Err e)
     → (n turns : ℕ) → length s < n → length s ≤ turns → Fails e (read_member (read_value n) turns s)
-member_fails found s key behind inside e read skipped finds why n turns h k =
-    let short = key_shorter s key behind read in
-    fails_behind found inside n _ e (omega (arith, short, skipped_shorter behind inside skipped))
+member_fails found s key later inside e read skipped finds why n turns h k =
+    let short = key_shorter s key later read in
+    fails_after found inside n _ e (omega (arith, short, skipped_shorter later inside skipped))
     finds
-    (λ none. member_no_value n turns s key behind read k
-    (element_fails n behind inside skipped none)) why
+    (λ none. member_no_value n turns s key later read k
+    (element_fails n later inside skipped none)) why
 
 -- the object of the inserted members
 pub object_closes : (n : ℕ) (s after rest : List ℕ) (c : ℕ) (es : List (String Global × Value))

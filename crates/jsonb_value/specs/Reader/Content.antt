@@ -17,12 +17,12 @@ pub record ItemIsRead (old new : List Value) (s rest : List ℕ) : Type 0 where
   pub reads : (n : ℕ) → length s < n → read_element (read_value n) s ≡ Some (tree_of item, rest)
 
 -- A key with white space around it and its colon are at the start of the characters.
-pub record KeyIsRead (s key behind : List ℕ) : Type 0 where
+pub record KeyIsRead (s key later : List ℕ) : Type 0 where
   pub opened : List ℕ
   pub after : List ℕ
   pub is_opened : expect quote (skip_blank s) ≡ Some opened
   pub is_key : (turns : ℕ) → length opened < turns → read_text turns [] opened ≡ Some (key, after)
-  pub is_behind : expect colon (skip_blank after) ≡ Some behind
+  pub is_after : expect colon (skip_blank after) ≡ Some later
 
 -- The members after inserting others one by one: each at its key's position in byte order,
 -- replacing an equal key.

@@ -153,8 +153,8 @@ abbrev pub read_member : Reader Tree → ℕ → Reader (List ℕ × Tree)
 read_member value n s =
     expect quote (skip_blank s) >>= λ opened.
     read_text n [] opened >>= λ key.
-    expect colon (skip_blank key.1) >>= λ behind.
-    read_element value behind >>= λ x.
+    expect colon (skip_blank key.1) >>= λ later.
+    read_element value later >>= λ x.
     Some ((key.0, x.0), x.1)
 
 -- Reads the rest of an object after a member: a comma and more members, or the closing brace.

@@ -18,7 +18,7 @@ returns-in_default-reply_to-clause-err g c =
 pub returns-in_err-write_later-clause-err : goal.returns-in_err-write_later-clause-err
 returns-in_err-write_later-clause-err g c =
     on_err _ _
-    (collects_fault _ _ c.in-Some.end.now c.in-Some.behind.now c.as_bytes.result.now
+    (collects_fault _ _ c.in-Some.end.now c.in-Some.later.now c.as_bytes.result.now
     c.loop-end.invariant (search rules) (search rules)
     (reply_in _ _ c.in-Ok.ensures.ok refl c.as_bytes.ensures.value) (search rules))
 

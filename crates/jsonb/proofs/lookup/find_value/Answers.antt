@@ -1,6 +1,6 @@
 use Rattle.std.proofs.Common.{rules, ◌≡◌, Err}
 use Rattle.jsonb.specs.Parts.{value_unread}
-use Rattle.jsonb.proofs.PartLaws.{value_told}
+use Rattle.jsonb.proofs.PartLaws.{value_known}
 use Rattle.jsonb.proofs.CutKeyLaws.{first_unread}
 use Rattle.jsonb.proofs.lookup.find_value.Goals as goal
 
@@ -20,7 +20,7 @@ returns-in_err-payload-clause-unread g c =
     let refused : c.from_residual-in_err-payload.result ≡ Err c.in_err-payload.field-0.0 =
     search rules in
     rw refused (value_unread c.in-Some.key.pair (search rules)
-    (value_told _ _ c.in-Some.key.pair c.skip_parts-start.result _
+    (value_known _ _ c.in-Some.key.pair c.skip_parts-start.result _
     c.entry_within-entry.ensures.value c.skip_parts-start.ensures.start _
     c.in_err-payload.ensures.fault))
 
@@ -28,7 +28,7 @@ pub returns-clause-some : goal.returns-clause-some
 returns-clause-some g c = record {
   pair = c.in-Some.key.pair;
   key = search rules;
-  there = value_told _ _ c.in-Some.key.pair c.skip_parts-start.result _
+  there = value_known _ _ c.in-Some.key.pair c.skip_parts-start.result _
       c.entry_within-entry.ensures.value c.skip_parts-start.ensures.start _
       c.in_ok-payload.ensures.value;
   cost = search rules;

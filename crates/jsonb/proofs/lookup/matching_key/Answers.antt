@@ -1,7 +1,7 @@
 use Rattle.std.proofs.Common.{rules, ◌≡◌, Err, length}
 use Rattle.std.specs.Fn.{FnReturnsAtPair}
 use Rattle.jsonb.specs.Parts.{IsPassedAt, key_unread}
-use Rattle.jsonb.proofs.PartLaws.{key_of_other_length, key_told}
+use Rattle.jsonb.proofs.PartLaws.{key_of_other_length, key_known}
 use Rattle.jsonb.proofs.lookup.matching_key.Goals as goal
 use Rattle.jsonb.proofs.lookup.matching_key.Goals.{else-size-name-via-then-size-name+in_ok-payload+else-call}
 use Rattle.jsonb.proofs.lookup.matching_key.Goals.{else-size-name-via-else-size-name}
@@ -12,14 +12,14 @@ returns-in_err-payload-clause-unread g c =
     let refused : c.from_residual.result ≡ Err c.in_err-payload.field-0.0 =
     search rules in
     rw refused (key_unread c.loop-pair.pair c.loop-pair-test.true c.loop-pair.invariant.passed
-    (key_told _ _ _ _ _ c.loop-pair.start c.entry_within.ensures.value (search rules)
+    (key_known _ _ _ _ _ c.loop-pair.start c.entry_within.ensures.value (search rules)
     c.loop-pair.invariant.start _ c.in_err-payload.ensures.fault))
 
 pub returns-then-call-clause-some : goal.returns-then-call-clause-some
 returns-then-call-clause-some g c = record {
   among = c.loop-pair-test.true;
   key = c.in_ok-payload.field-0.now;
-  there = key_told _ _ _ _ _ c.loop-pair.start c.entry_within.ensures.value (search rules)
+  there = key_known _ _ _ _ _ c.loop-pair.start c.entry_within.ensures.value (search rules)
       c.loop-pair.invariant.start _ c.in_ok-payload.ensures.value;
   accepted = search rules;
   earlier = c.loop-pair.invariant.passed;
@@ -38,7 +38,7 @@ loop-pair-preserved g c =
       cost = search rules;
       passed = elim c.else-size-name.branch [
         | else-size-name-via-then-size-name+in_ok-payload+else-call w ↦
-            more (rw (key_told size bytes c.args.count pair _ c.loop-pair.start
+            more (rw (key_known size bytes c.args.count pair _ c.loop-pair.start
             c.entry_within.ensures.value (search rules) c.loop-pair.invariant.start _
             w.in_ok-payload.ensures.value) (search rules))
         | else-size-name-via-else-size-name w ↦

@@ -2,13 +2,13 @@ use Rattle.std.proofs.Common.{rules, ◌++◌, codes, refl, sym, ap, subst, arit
 use Rattle.jsonb_value.specs.Text.{inside, line_start, colon, laid_out}
 use Rattle.jsonb_value.specs.Value.{trees_of}
 use Rattle.jsonb_value.proofs.Writing.{joins_two, joins_three}
-use Rattle.jsonb.specs.Facts.{part_tree, rest_trees, rest_pairs}
+use Rattle.jsonb.specs.EntryTrees.{part_tree, rest_trees, rest_pairs}
 use Rattle.jsonb.specs.Lines.{item_lines, pair_lines, pair_text, HasRoom}
 use Rattle.jsonb_codec.specs.Depth.{depth, size}
 use Rattle.jsonb.specs.Node.{pairs_of}
-use Rattle.jsonb.proofs.FactLaws.{entry_tree-node}
+use Rattle.jsonb.proofs.EntryTreeLaws.{entry_tree-node}
 use Rattle.jsonb.specs.Texts.{layout_of}
-use Rattle.jsonb.proofs.LineLaws.{items_begin, items_behind, pairs_begin, pairs_behind, lines_next}
+use Rattle.jsonb.proofs.LineLaws.{items_begin, items_after, pairs_begin, pairs_after, lines_next}
 use Rattle.jsonb.proofs.text.+text.Goals as goal
 
 pub write_line-write_node-requires : goal.write_line-write_node-requires
@@ -36,10 +36,10 @@ pub write_items-items-init : goal.write_items-items-init
 write_items-items-init g t c =
     let l = layout_of c.args.layout in
     let u = part_tree c.in-Some.first in
-    let behind = items_behind (rest_trees c.args.items)
+    let later = items_after (rest_trees c.args.items)
     (rest_trees c.next_part.new.self) u c.in-Some.ensures in (
-      behind.less,
-      behind.no_deeper,
+      later.less,
+      later.no_deeper,
       codes "[" ++ (line_start (inside l) ++ laid_out (inside l) u),
       items_begin l (trees_of (rest_trees c.args.items)) u
           (trees_of (rest_trees c.next_part.new.self))
@@ -59,9 +59,9 @@ write_items-items-preserved g t c =
     let line = laid_out (inside l) u in
     let left = rest_trees c.next_part-in-items.new.self in
     let (less, no_deeper, done, whole, writes) = c.items.invariant in
-    let behind = items_behind (rest_trees c.items.items) left u c.in-Some-next_part.ensures in (
-      omega (arith, behind.less, less),
-      omega (arith, behind.no_deeper, no_deeper),
+    let later = items_after (rest_trees c.items.items) left u c.in-Some-next_part.ensures in (
+      omega (arith, later.less, less),
+      omega (arith, later.no_deeper, no_deeper),
       done ++ (codes "," ++ (line_start (inside l) ++ line)),
       lines_next (inside l) done end _ line (item_lines (inside l) (trees_of left))
           (rw c.in-Some-next_part.ensures at whole),
@@ -116,10 +116,10 @@ write_members-members-init g t c =
     let l = layout_of c.args.layout in
     let k = c.in-Some.key.now in
     let u = part_tree c.in-Some.value in
-    let behind = pairs_behind (rest_pairs c.args.members)
+    let later = pairs_after (rest_pairs c.args.members)
     (rest_pairs c.next_parts.new.self) k u c.in-Some.ensures in (
-      behind.less,
-      behind.no_deeper,
+      later.less,
+      later.no_deeper,
       codes "{" ++ (line_start (inside l) ++ pair_text (inside l) k u),
       pairs_begin l (pairs_of (rest_pairs c.args.members)) k u
           (pairs_of (rest_pairs c.next_parts.new.self)) (ap pairs_of c.in-Some.ensures),
@@ -139,10 +139,10 @@ write_members-members-preserved g t c =
     let line = pair_text (inside l) k u in
     let left = rest_pairs c.next_parts-in-members.new.self in
     let (less, no_deeper, done, whole, writes) = c.members.invariant in
-    let behind =
-    pairs_behind (rest_pairs c.members.members) left k u c.in-Some-next_parts.ensures in (
-      omega (arith, behind.less, less),
-      omega (arith, behind.no_deeper, no_deeper),
+    let later =
+    pairs_after (rest_pairs c.members.members) left k u c.in-Some-next_parts.ensures in (
+      omega (arith, later.less, less),
+      omega (arith, later.no_deeper, no_deeper),
       done ++ (codes "," ++ (line_start (inside l) ++ line)),
       lines_next (inside l) done end _ line (pair_lines (inside l) (pairs_of left))
           (rw c.in-Some-next_parts.ensures at whole),

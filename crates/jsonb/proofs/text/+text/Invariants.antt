@@ -4,7 +4,7 @@ use Rattle.jsonb_value.specs.Text.{inside, line_start, laid_out}
 use Rattle.jsonb_value.specs.Value.{trees_of}
 use Rattle.jsonb_codec.specs.Depth.{depths, pair_depths, size, sizes, pair_sizes}
 use Rattle.jsonb.specs.Document.{document_tree}
-use Rattle.jsonb.specs.Facts.{part_tree, rest_trees, rest_pairs}
+use Rattle.jsonb.specs.EntryTrees.{part_tree, rest_trees, rest_pairs}
 use Rattle.jsonb.specs.Lines.{more_lines, item_lines, pair_lines}
 use Rattle.jsonb.specs.Node.{node_tree, pairs_of, array_of, object_of}
 use Rattle.jsonb.specs.Texts.{layout_of}

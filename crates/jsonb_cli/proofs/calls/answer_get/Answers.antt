@@ -24,12 +24,12 @@ returns-in-Ok-Some c =
     let (t, means) = c.in-Ok-Some.ensures.some in
     let (u, (is, item)) =
     item_found (rw c.in-Ok-Some.field-0-is at (c.in-Ok-Some.ensures.found t means)) in
-    let stands = rw (c.in-Ok-Some.field-0-is, c.deref.ensures.value) at
+    let stored = rw (c.in-Ok-Some.field-0-is, c.deref.ensures.value) at
     (c.in-Ok-Some.ensures.entry t means) in
     come_out c.item_answer.result c.item_answer.ensures.ok
     (c.item_answer.ensures.memory (IsItemOf-CanBeStored u (item_view c.in-Ok-Some.item) item))
     (found _ _ t u (item_view c.in-Ok-Some.item) c.in_ok-bytes.ensures.ok named
-    (rw c.deref.ensures.value at means) is item stands)
+    (rw c.deref.ensures.value at means) is item stored)
 
 pub returns-in-Ok-None : goal.returns-in-Ok-None
 returns-in-Ok-None c =

@@ -26,7 +26,7 @@ are_written-loop-child-preserved t c =
           let is = (c.is_written.ensures f.first f.is).0 c.if-not-is_written.false in (
             f.others,
             (
-              f.behind,
+              f.later,
               (
                 λ w. same.0 (written_back f k.entries k.payloads k.short is w),
                 λ w. (written_onward f k.entries k.payloads k.short (same.1 w)).1,

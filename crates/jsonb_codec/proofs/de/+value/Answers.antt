@@ -4,7 +4,7 @@ use Rattle.std.specs.BTreeMap.{IsFromIterResult}
 use Rattle.jsonb_value.specs.Tree.{Ascend}
 use Rattle.jsonb_value.specs.Value.{tree_of, pairs_view}
 use Rattle.jsonb_codec.proofs.Building.{trees_and, trees_and-none, pairs_and, pairs_and-none}
-use Rattle.jsonb_codec.proofs.Building.{trees_and-push, pairs_and-push, pairs_and-behind, seen}
+use Rattle.jsonb_codec.proofs.Building.{trees_and-push, pairs_and-push, pairs_and-later, seen}
 use Rattle.jsonb_codec.proofs.SortOrder.{from_ascending}
 use Rattle.jsonb_codec.proofs.de.+value.Goals as goal
 
@@ -19,7 +19,7 @@ build_items-loop-child-preserved t c =
             f.others,
             (
               trees_and-push _ v whole f.are (same f.first f.is) more,
-              f.behind,
+              f.later,
             ),
           );
       shorter = omega (arith, k.payloads_len, l.invariant.shorter);
@@ -65,7 +65,7 @@ build_many-loop-member-preserved t c =
           let f = k.first us left in (
             f.others,
             (
-              pairs_and-behind _ c.in_ok-key.key v whole f.are c.in_ok-key.ensures.ok
+              pairs_and-later _ c.in_ok-key.key v whole f.are c.in_ok-key.ensures.ok
                   (same f.value f.is) more,
               f.left,
             ),

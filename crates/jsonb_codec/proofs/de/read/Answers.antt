@@ -10,16 +10,16 @@ use Rattle.jsonb_codec.proofs.de.read.Goals as goal
 
 pub returns-in_err-check-clause-fault : goal.returns-in_err-check-clause-fault
 returns-in_err-check-clause-fault c =
-    let told = c.in_err-check.ensures.told in
+    let decided = c.in_err-check.ensures.decided in
     raised_as
     (λ (e : Error). (e ≡ OutOfMemory)
     ⊎ (IsFault _ e
     × (IsDocument _
     → ⊥))) _ _ c.from_residual.ensures.1
-    (inr (told.0, λ h. told.1 ((document_within_length _).1 h)))
+    (inr (decided.0, λ h. decided.1 ((document_within_length _).1 h)))
 
 pub returns-clause-ok : goal.returns-clause-ok
 returns-clause-ok c =
     let b = c.args.bytes.now in
     the_tree _ b _ c.in_ok-check.ensures.bytes
-    ((document_within_length b).0 c.in_ok-check.ensures.told) c.value_of_document.ensures.ok
+    ((document_within_length b).0 c.in_ok-check.ensures.decided) c.value_of_document.ensures.ok

@@ -37,9 +37,9 @@ check_children-returns-in_err-payload t c =
 
 pub check_children-returns-in_err-check_payload : goal.check_children-returns-in_err-check_payload
 check_children-returns-in_err-check_payload t c =
-    let told = c.in_err-check_payload.ensures in
-    raised _ _ _ _ c.from_residual-in_err-check_payload.ensures.1 told.0
-    (λ h. told.1 (rw c.in_ok-payload.ensures.payload
+    let decided = c.in_err-check_payload.ensures in
+    raised _ _ _ _ c.from_residual-in_err-check_payload.ensures.1 decided.0
+    (λ h. decided.1 (rw c.in_ok-payload.ensures.payload
     ((children_iff (reading c.in-Some.ensures) _ _).1
     (c.loop-entry.invariant.same.1 h)).1.0))
 
@@ -53,21 +53,21 @@ check_children-loop-entry-preserved t c =
     let first = children_iff read _ _ in
     let whole = l.invariant.same in
     let shorter = length-Read read in
-    let behind = ap length split.behind ∙ length-drop e.number _ in
+    let later = ap length split.later ∙ length-drop e.number _ in
     record {
       same = (
         λ h. whole.0 (first.0 (
           split.fits,
           (
             subst (HasPayload _ e.tag) split.payload c.in_ok-check_payload.ensures,
-            subst (HasChildren _ e.rest.now) split.behind h,
+            subst (HasChildren _ e.rest.now) split.later h,
           ),
         )),
-        λ h. rw split.behind (first.1 (whole.1 h)).1.1,
+        λ h. rw split.later (first.1 (whole.1 h)).1.1,
       );
       words = omega (arith, shorter, l.invariant.words);
       entries_shorter = omega (arith, shorter, l.invariant.entries_shorter);
-      payloads_shorter = omega (arith, behind, l.invariant.payloads_shorter);
+      payloads_shorter = omega (arith, later, l.invariant.payloads_shorter);
     }
 
 pub check_children-returns-then-is_empty : goal.check_children-returns-then-is_empty
@@ -147,7 +147,7 @@ check_keys-loop-entry-preserved t c =
     let read = reading c.in-Some.ensures in
     let p = l.payloads_left.now in
     let shorter = length-Read read in
-    let behind = ap length split.behind ∙ length-drop e.number p in
+    let later = ap length split.later ∙ length-drop e.number p in
     let before : Option (List ℕ) = option_map (λ b. b.now) l.before in
     let next = c.is_key_after-ascend.ensures in
     record {
@@ -155,7 +155,7 @@ check_keys-loop-entry-preserved t c =
           let left = l.invariant.onward q h in
           let first = (keys_iff read before p q).1 left.1 in (
             true_both l.ascend _ left.0 (next.1 (first.is_text, rw split.payload first.above)),
-            rw (split.payload, split.behind) first.others,
+            rw (split.payload, split.later) first.others,
           );
       back = λ yes q h.
           let both = both_true l.ascend _ yes in
@@ -168,11 +168,11 @@ check_keys-loop-entry-preserved t c =
             fits = split.fits;
             above = subst (IsAbove before) split.payload is_key.1;
             utf8 = subst IsUtf8 split.payload is_text;
-            others = rw (← split.payload, ← split.behind) h;
+            others = rw (← split.payload, ← split.later) h;
           });
       words = omega (arith, shorter, l.invariant.words);
       entries_shorter = omega (arith, shorter, l.invariant.entries_shorter);
-      payloads_shorter = omega (arith, behind, l.invariant.payloads_shorter);
+      payloads_shorter = omega (arith, later, l.invariant.payloads_shorter);
     }
 
 pub check_keys-returns-clause-keys : goal.check_keys-returns-clause-keys
@@ -205,9 +205,9 @@ pub check_object-returns-in_err-check_children : goal.check_object-returns-in_er
 check_object-returns-in_err-check_children t c =
     let one = c.split_at.ensures in let two = c.split_at-2.ensures in
     let k = c.in_ok-keys in
-    let told = c.in_err-check_children.ensures in
-    raised _ _ _ _ c.from_residual-in_err-check_children.ensures.1 told.0
-    (λ object. told.1
+    let decided = c.in_err-check_children.ensures in
+    raised _ _ _ _ c.from_residual-in_err-check_children.ensures.1 decided.0
+    (λ object. decided.1
     (object_values one.front one.back two.front two.back one.front_len two.front_len _
     _ k.keys.ascend k.ensures.keys k.ensures.ascend object))
 

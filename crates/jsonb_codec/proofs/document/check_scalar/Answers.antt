@@ -35,25 +35,25 @@ returns-in_err-payload c =
 pub returns-in_err-check_scalar_payload : goal.returns-in_err-check_scalar_payload
 returns-in_err-check_scalar_payload c =
     let scalar = scalar_iff _ _ c.requires (reading c.in-Some.ensures) in
-    let told = c.in_err-check_scalar_payload.ensures in
-    raised _ _ _ _ c.from_residual-in_err-check_scalar_payload.ensures.1 told.0
-    (λ h. told.1 (rw c.in_ok-payload.ensures.payload (scalar.1 h).1.1.1))
+    let decided = c.in_err-check_scalar_payload.ensures in
+    raised _ _ _ _ c.from_residual-in_err-check_scalar_payload.ensures.1 decided.0
+    (λ h. decided.1 (rw c.in_ok-payload.ensures.payload (scalar.1 h).1.1.1))
 
 pub returns-then-not-is_empty : goal.returns-then-not-is_empty
 returns-then-not-is_empty c =
     let e = c.in-Some.entry in
     let scalar = scalar_iff _ _ c.requires (reading c.in-Some.ensures) in
-    let behind = ap length c.in_ok-payload.ensures.behind ∙ length-drop e.number e.rest.now in (
+    let later = ap length c.in_ok-payload.ensures.later ∙ length-drop e.number e.rest.now in (
       c.excess.ensures,
       λ h. not_empty _ _ c.is_empty.ensures c.if-not-is_empty.true
-          (omega (arith, behind, (scalar.1 h).1.1.0)),
+          (omega (arith, later, (scalar.1 h).1.1.0)),
     )
 
 pub returns : goal.returns
 returns c =
     let e = c.in-Some.entry in
     let split = c.in_ok-payload.ensures in
-    let behind = ap length split.behind ∙ length-drop e.number e.rest.now in
+    let later = ap length split.later ∙ length-drop e.number e.rest.now in
     let none =
     (empty_test _ _ c.is_empty.ensures).0 c.if-not-is_empty.false in
     (scalar_iff _ _ c.requires (reading c.in-Some.ensures)).0 (
@@ -61,7 +61,7 @@ returns c =
       (
         c.if-entry-eq-CONTAINER_TAG.false,
         (
-          omega (arith, behind, ap length none, split.fits),
+          omega (arith, later, ap length none, split.fits),
           subst (HasPayload 0 e.tag) split.payload c.in_ok-check_scalar_payload.ensures,
         ),
       ),

@@ -1,6 +1,6 @@
 use Rattle.std.proofs.Common.{arith}
 use Rattle.jsonb_codec.proofs.Steps.{reading, length-Read}
-use Rattle.jsonb_codec.proofs.PairLaws.{keys_behind, keys_ended}
+use Rattle.jsonb_codec.proofs.PairLaws.{keys_after, keys_ended}
 use Rattle.jsonb_codec.proofs.parts.keys_len.Goals as goal
 
 pub loop-entry-preserved : goal.loop-entry-preserved
@@ -10,7 +10,7 @@ loop-entry-preserved c =
       omega (arith, l.invariant.0, length-Read read, read.number),
       λ ps p h.
           let (us, (q, (are, long))) = l.invariant.1 ps p h in
-          let (vs, (r, (left, longer))) = keys_behind read us q are in
+          let (vs, (r, (left, longer))) = keys_after read us q are in
           (vs, (r, (left, omega (arith, long, longer)))),
     )
 

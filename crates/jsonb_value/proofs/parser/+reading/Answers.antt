@@ -157,10 +157,10 @@ read_member-returns-in_err-key-clause-err t c =
 
 pub read_member-read_value-requires : goal.read_member-read_value-requires
 read_member-read_value-requires t c =
-    let behind = chars _ in
+    let later = chars _ in
     let shorter = key_shorter _
-    _ behind c.in_ok-key.ensures.ok in
-    let inside = skipped_shorter behind _ c.skip_blank.ensures in
+    _ later c.in_ok-key.ensures.ok in
+    let inside = skipped_shorter later _ c.skip_blank.ensures in
     (omega (arith, shorter, inside), tt)
 
 pub read_member-returns-clause-ok : goal.read_member-returns-clause-ok

@@ -14,6 +14,6 @@ returns-clause-walk c = λ index is well.
     let bytes = c.args.bytes.now in
     let before = c.args.cursor.now in
     let status : (value_answer (child_at c.args.bytes.now c.args.cursor.now)).status ≡ 0 = cc in
-    let behind : c.cursor_after.result
+    let later : c.cursor_after.result
     ≡ cursor_after (child_at c.args.bytes.now c.args.cursor.now) c.args.cursor.now = cc in
-    walked bytes index before c.cursor_after.result is status behind
+    walked bytes index before c.cursor_after.result is status later

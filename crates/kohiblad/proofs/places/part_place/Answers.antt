@@ -1,11 +1,11 @@
 use Rattle.std.proofs.Common.{rules, sym}
-use Rattle.kohiblad.proofs.PlaceLaws.{place_behind-cut}
+use Rattle.kohiblad.proofs.PlaceLaws.{place_after-cut}
 use Rattle.kohiblad.proofs.places.part_place.Goals as goal
 
 pub returns-in_err-start-clause-value : goal.returns-in_err-start-clause-value
 returns-in_err-start-clause-value c =
     let cut =
-    place_behind-cut c.args.bytes.now c.loop-left.left c.loop-left.index c.loop-left.start _
+    place_after-cut c.args.bytes.now c.loop-left.left c.loop-left.index c.loop-left.start _
     c.loop-left-test.true (sym c.in_err-start.ensures) in
     let same = c.loop-left.invariant.same in
     search rules

@@ -4,8 +4,8 @@ use Rattle.kohiblad.specs.declared.places.Place.{Place}
 use Rattle.kohiblad.specs.Places.{some_place, IsPlaceFound, IsValuePlace}
 use Rattle.kohiblad.proofs.Lookups.{no_value_place, error_found, none_found, some_found}
 use Rattle.kohiblad.proofs.Lookups.{count_bound}
-use Rattle.kohiblad.proofs.FoundPlaces.{no_header_read, never_refused, none_standing}
-use Rattle.kohiblad.proofs.FoundPlaces.{some_standing}
+use Rattle.kohiblad.proofs.FoundPlaces.{no_header_read, never_refused, none_stored}
+use Rattle.kohiblad.proofs.FoundPlaces.{some_stored}
 use Rattle.kohiblad.proofs.places.place_of_key.Goals as goal
 
 pub returns-in_err-count-clause-place : goal.returns-in_err-count-clause-place
@@ -99,7 +99,7 @@ returns-in_err-get_object_value_by_key_name_counted-clause-document c = λ text 
 pub returns-then-not-is_there-clause-document : goal.returns-then-not-is_there-clause-document
 returns-then-not-is_there-clause-document c = λ text t document.
     let call = c.get_object_value_by_key_name_counted in
-    none_standing _ c.args.name.now c.in-Ok.name.now c.args.bytes.now _ c.in-Ok.ensures.cases.0
+    none_stored _ c.args.name.now c.in-Ok.name.now c.args.bytes.now _ c.in-Ok.ensures.cases.0
     c.new.ensures (λ key b says. search rules) call.result _ t document call.ensures.document
     c.in_ok-get_object_value_by_key_name_counted.field-0 (search rules) (search rules)
 
@@ -111,7 +111,7 @@ returns-in_err-part_place-clause-document c = λ text t document.
     let reads = c.count.ensures in
     let number = c.saturating_sub-number.ensures in
     let found =
-    some_standing _ c.args.name.now c.in-Ok.name.now c.args.bytes.now _ c.in-Ok.ensures.cases.0
+    some_stored _ c.args.name.now c.in-Ok.name.now c.args.bytes.now _ c.in-Ok.ensures.cases.0
     c.new.ensures (λ key b says. search rules) call.result _ t document call.ensures.document
     c.in_ok-get_object_value_by_key_name_counted.field-0 (
       c.in_ok-count.field-0-0,
@@ -131,7 +131,7 @@ returns-clause-document c = λ text t document.
     let reads = c.count.ensures in
     let number = c.saturating_sub-number.ensures in
     let found =
-    some_standing _ c.args.name.now c.in-Ok.name.now c.args.bytes.now _ c.in-Ok.ensures.cases.0
+    some_stored _ c.args.name.now c.in-Ok.name.now c.args.bytes.now _ c.in-Ok.ensures.cases.0
     c.new.ensures (λ key b says. search rules) call.result _ t document call.ensures.document
     c.in_ok-get_object_value_by_key_name_counted.field-0 (
       c.in_ok-count.field-0-0,

@@ -10,7 +10,7 @@ returns-in-Ok c =
     c.from_number.ensures.source in
     let bytes = c.as_bytes.ensures ∙ c.in-Ok.ensures.ok ∙ made in
     inl (subst
-    (λ (b : List ℕ). IsHandedOver b c.args.out.now c.hand_over.new.out c.hand_over.new.told
+    (λ (b : List ℕ). IsHandedOver b c.args.out.now c.hand_over.new.out c.hand_over.new.size
     c.hand_over.result) bytes c.hand_over.ensures)
 
 pub returns-in-Err : goal.returns-in-Err
@@ -19,5 +19,5 @@ returns-in-Err c =
     c.from_number.ensures.source in
     let is = only_memory c.in-Err.error _ fits c.in-Err.ensures.only c.in-Err.ensures.past in
     inr (subst
-    (λ (s : ℕ). IsRefused s c.args.out.now c.refuse.new.out c.refuse.new.told c.refuse.result)
+    (λ (s : ℕ). IsRefused s c.args.out.now c.refuse.new.out c.refuse.new.size c.refuse.result)
     (c.code.ensures ∙ ap code is) c.refuse.ensures)

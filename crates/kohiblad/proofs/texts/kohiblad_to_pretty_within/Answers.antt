@@ -9,7 +9,7 @@ use Rattle.kohiblad.proofs.texts.kohiblad_to_pretty_within.Goals as goal
 pub returns-in-Other : goal.returns-in-Other
 returns-in-Other c = subst
     (λ (m : Meaning). IsWritten (lined_text m) c.args.out.now c.hand_over-in-Other.new.out
-    c.hand_over-in-Other.new.told c.hand_over-in-Other.result)
+    c.hand_over-in-Other.new.size c.hand_over-in-Other.result)
     (ap checked_meaning (sym c.in-Other.is) ∙ rw c.new.ensures at c.within.ensures)
     (inl c.hand_over-in-Other.ensures)
 
@@ -20,4 +20,4 @@ returns-in-Ok c =
     let text = c.as_bytes.ensures.value ∙ c.in-Ok.ensures.text ∙ ap lined_text means in
     inl (subst
     (λ (b : List ℕ). IsHandedOver b c.args.out.now c.hand_over.new.out
-    c.hand_over.new.told c.hand_over.result) text c.hand_over.ensures)
+    c.hand_over.new.size c.hand_over.result) text c.hand_over.ensures)

@@ -19,5 +19,5 @@ returns-in-Ok c =
     ap checked_meaning (sym c.in-Document.is) ∙ rw c.new.ensures at c.within.ensures in
     let text = c.as_bytes.ensures.value ∙ c.in-Ok.ensures.text ∙ ap plain_text means in
     inl (subst
-    (λ (b : List ℕ). IsHandedOver b c.args.out.now c.hand_over.new.out c.hand_over.new.told
+    (λ (b : List ℕ). IsHandedOver b c.args.out.now c.hand_over.new.out c.hand_over.new.size
     c.hand_over.result) text c.hand_over.ensures)

@@ -7,5 +7,5 @@ returns-in_default-clause-none c = no_boolean c.args.bytes.now c.in_default.ensu
 
 pub returns-else-part-eq-FALSE_TAG-clause-none : goal.returns-else-part-eq-FALSE_TAG-clause-none
 returns-else-part-eq-FALSE_TAG-clause-none c = λ b doc.
-    neither_type c.in-Some.part.tag b (c.in-Some.ensures.means (boolean b) doc).0
+    neither_type c.in-Some.part.type_code b (c.in-Some.ensures.means (boolean b) doc).0
     c.if-part-eq-TRUE_TAG.false c.if-part-eq-FALSE_TAG.false

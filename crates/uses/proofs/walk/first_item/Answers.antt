@@ -8,14 +8,14 @@ use Rattle.jsonb.specs.ItemView.{ItemView, item_view, result_view}
 use Rattle.jsonb.specs.DocumentWalk.{ShowsTrees, IsItemOf}
 use Rattle.uses.proofs.walk.first_item.Goals as goal
 
-first : (t : Tree) (ts : Trees) (rest behind : List (Result ItemView Error))
+first : (t : Tree) (ts : Trees) (rest later : List (Result ItemView Error))
     (given : Option (Result JsonbItem Error)) → ShowsTrees (tree t ts) rest
-    → MatchOption given ((rest ≡ []) × (behind ≡ [])) (λ x. rest ≡ result_view x ∷ behind)
+    → MatchOption given ((rest ≡ []) × (later ≡ [])) (λ x. rest ≡ result_view x ∷ later)
     → IsOkAnd (option_transpose given) (λ o. IsSomeAnd o (λ item. IsItemOf t (item_view item)))
-first t ts rest behind None shows gives = subst (λ xs. ShowsTrees (tree t ts) xs) gives.0 shows
-first t ts rest behind (Some (Ok item)) shows gives =
+first t ts rest later None shows gives = subst (λ xs. ShowsTrees (tree t ts) xs) gives.0 shows
+first t ts rest later (Some (Ok item)) shows gives =
     (subst (λ xs. ShowsTrees (tree t ts) xs) gives shows).0
-first t ts rest behind (Some (Err e)) shows gives =
+first t ts rest later (Some (Err e)) shows gives =
     absurd (subst (λ xs. ShowsTrees (tree t ts) xs) gives shows)
 
 pub returns-in_err-items : goal.returns-in_err-items

@@ -1,7 +1,7 @@
 use Rattle.std.proofs.Common.{option_map, sym, ap, ◌∙◌}
 use Rattle.jsonb.specs.Document.{document_tree}
-use Rattle.jsonb.specs.Facts.{rest_trees, rest_pairs}
-use Rattle.jsonb.proofs.FactLaws.{array_of-items, object_of-members}
+use Rattle.jsonb.specs.EntryTrees.{rest_trees, rest_pairs}
+use Rattle.jsonb.proofs.EntryTreeLaws.{array_of-items, object_of-members}
 use Rattle.jsonb.proofs.document.Document.contents.Goals as goal
 
 pub returns-in-Some : goal.returns-in-Some

@@ -1,6 +1,6 @@
 use Rattle.std.proofs.Common.{◌≡◌, Ok, Some, ap, ◌∙◌}
 use Rattle.jsonb.specs.Document.{document_tree}
-use Rattle.jsonb.proofs.FactLaws.{first_key-Doc}
+use Rattle.jsonb.proofs.EntryTreeLaws.{first_key-Doc}
 use Rattle.jsonb.proofs.document.Document.first_key.Goals as goal
 
 pub unreachable-requires : goal.unreachable-requires

@@ -1,7 +1,7 @@
 use Rattle.std.proofs.Common.{Some, ap, ◌∙◌}
 use Rattle.jsonb.specs.Document.{document_tree}
-use Rattle.jsonb.specs.Facts.{rest_trees}
-use Rattle.jsonb.proofs.FactLaws.{array_entries-Doc}
+use Rattle.jsonb.specs.EntryTrees.{rest_trees}
+use Rattle.jsonb.proofs.EntryTreeLaws.{array_entries-Doc}
 use Rattle.jsonb.proofs.document.Document.items.Goals as goal
 
 pub new-requires : goal.new-requires

@@ -1,7 +1,7 @@
 use Rattle.std.proofs.Common.{◌≡◌, Ok, Some, ap, ◌∙◌}
 use Rattle.jsonb.specs.Document.{document_tree}
-use Rattle.jsonb.specs.Facts.{rest_pairs}
-use Rattle.jsonb.proofs.FactLaws.{object_entries-Doc}
+use Rattle.jsonb.specs.EntryTrees.{rest_pairs}
+use Rattle.jsonb.proofs.EntryTreeLaws.{object_entries-Doc}
 use Rattle.jsonb.proofs.document.Document.members.Goals as goal
 
 pub new-requires : goal.new-requires

@@ -18,7 +18,7 @@ handed_on r s e b t r_is s_is doc past = (
   λ refused.
       let is : e ≡ InvalidJsonb = cc in past.0 (s_is ∙ ap Err is) t doc,
   λ none.
-      let told = past.1 (λ u h fits. none (rw (← Doc-unique b u t h doc) fits)) in
+      let known = past.1 (λ u h fits. none (rw (← Doc-unique b u t h doc) fits)) in
       let is : e ≡ InvalidJsonb = cc in r_is ∙ ap Err is,
 )
 

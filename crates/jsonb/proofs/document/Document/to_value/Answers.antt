@@ -10,8 +10,8 @@ use Rattle.jsonb.proofs.document.Document.to_value.Goals as goal
 -- the one tree of the bytes is the value's
 means : (r : Result Value Error) (b : List ℕ) (t : Tree) → Doc b t
     → IfOk r (λ v. (u : Tree) → Doc b u → tree_of v ≡ u) → IfOk r (λ v. tree_of v ≡ t)
-means (Ok v) b t doc told = told t doc
-means (Err e) b t doc told = tt
+means (Ok v) b t doc known = known t doc
+means (Err e) b t doc known = tt
 
 pub returns-clause-ok : goal.returns-clause-ok
 returns-clause-ok c =

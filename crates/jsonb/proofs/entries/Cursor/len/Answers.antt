@@ -1,6 +1,6 @@
 use Rattle.std.proofs.Common.{sym, subst}
-use Rattle.jsonb.specs.Facts.{AreParts}
-use Rattle.jsonb.proofs.FactLaws.{length-AreParts}
+use Rattle.jsonb.specs.EntryTrees.{AreParts}
+use Rattle.jsonb.proofs.EntryTreeLaws.{length-AreParts}
 use Rattle.jsonb.proofs.entries.Cursor.len.Goals as goal
 
 pub returns : goal.returns

@@ -1,6 +1,6 @@
 use Rattle.std.proofs.Common.{◌≡◌, ◌-◌, Some, slice_get, sym, ap, ◌∙◌, arith}
-use Rattle.jsonb.specs.Facts.{rest_trees}
-use Rattle.jsonb.proofs.FactLaws.{entry_tree-node}
+use Rattle.jsonb.specs.EntryTrees.{rest_trees}
+use Rattle.jsonb.proofs.EntryTreeLaws.{entry_tree-node}
 use Rattle.jsonb.proofs.nodes.Items.item_at.Goals as goal
 
 pub returns : goal.returns

@@ -1,6 +1,6 @@
 -- The remaining items begin with the one after those passed over.
 use Rattle.std.proofs.Common.{◌≡◌, ◌-◌, ◌≤◌, slice_get}
-use Rattle.jsonb.specs.Facts.{AreParts, rest_trees}
+use Rattle.jsonb.specs.EntryTrees.{AreParts, rest_trees}
 use Rattle.jsonb.proofs.nodes.Items.item_at.Given as goal
 
 abbrev pub invariant-loop : goal.invariant-loop

@@ -1,4 +1,4 @@
-use Rattle.jsonb.proofs.FactLaws.{length-rest_pairs}
+use Rattle.jsonb.proofs.EntryTreeLaws.{length-rest_pairs}
 use Rattle.jsonb.proofs.nodes.Members.len.Goals as goal
 
 pub returns : goal.returns

@@ -1,5 +1,5 @@
 use Rattle.std.proofs.Common.{◌∷◌, ap, ap₂, sym, ◌∙◌}
-use Rattle.jsonb.specs.Facts.{part_tree, rest_pairs}
+use Rattle.jsonb.specs.EntryTrees.{part_tree, rest_pairs}
 use Rattle.jsonb.proofs.nodes.Members.next_parts.Goals as goal
 
 pub returns : goal.returns

@@ -1,6 +1,6 @@
 use Rattle.std.proofs.Common.{◌∷◌, ap, ◌∙◌}
-use Rattle.jsonb.specs.Facts.{rest_pairs}
-use Rattle.jsonb.proofs.FactLaws.{entry_tree-node}
+use Rattle.jsonb.specs.EntryTrees.{rest_pairs}
+use Rattle.jsonb.proofs.EntryTreeLaws.{entry_tree-node}
 use Rattle.jsonb.proofs.nodes.MembersIterator.next.Goals as goal
 
 pub returns-clause-steps : goal.returns-clause-steps

@@ -4,7 +4,7 @@ use Rattle.jsonb_value.specs.Value.{trees_of}
 use Rattle.jsonb_value.specs.TreeOrder.{trees_cmp, pairs_cmp}
 use Rattle.jsonb_codec.specs.Depth.{size, sizes, pair_sizes}
 use Rattle.jsonb.specs.Document.{document_tree}
-use Rattle.jsonb.specs.Facts.{rest_trees, rest_pairs}
+use Rattle.jsonb.specs.EntryTrees.{rest_trees, rest_pairs}
 use Rattle.jsonb.specs.Node.{node_tree, pairs_of}
 use Rattle.jsonb.proofs.order.documents.+documents.Given as goal
 

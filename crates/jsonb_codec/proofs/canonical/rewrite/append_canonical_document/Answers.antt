@@ -5,7 +5,7 @@ use Rattle.jsonb_codec.specs.Shape.{Fits}
 use Rattle.jsonb_codec.specs.TreeShape.{shape_of}
 use Rattle.jsonb_codec.proofs.Decision.{known_document}
 use Rattle.jsonb_codec.specs.PartSource.{part_laws}
-use Rattle.jsonb_codec.proofs.Shapes.{Is-one}
+use Rattle.jsonb_codec.proofs.Shapes.{LevelIs-one}
 use Rattle.jsonb_codec.proofs.TreeShapes.{document-shape_of, Fits-shape_of}
 use Rattle.jsonb_codec.proofs.canonical.rewrite.append_canonical_document.Goals as goal
 
@@ -29,7 +29,7 @@ returns-clause-past c = (
   λ none. c.append_document.ensures.past.1 (λ s h fit.
       let (t, k) = known_document _ c.args.document.fact in
       let is = c.part_level.ensures.is t (c.part.ensures.means t k) in
-      let same = Is-one code_of part_laws c.part_level.result s (shape_of t) h is in
+      let same = LevelIs-one code_of part_laws c.part_level.result s (shape_of t) h is in
       none t k ((Fits-shape_of t).0 (subst Fits same fit))),
 )
 

@@ -27,7 +27,7 @@ invariant_of-result-2 c =
     let (ts, h) = known_children _ _ c.args.self.fact in
     let cut = c.split_at.ensures in
     let f = first_child (reading c.in-Some.ensures) _ cut.front cut.back ts h in
-    record { fact = merely (f.others, f.behind) }
+    record { fact = merely (f.others, f.later) }
 
 pub returns-clause-entries_len : goal.returns-clause-entries_len
 returns-clause-entries_len c = length-Read (reading c.in-Some.ensures)

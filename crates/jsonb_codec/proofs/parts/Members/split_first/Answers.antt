@@ -25,7 +25,7 @@ invariant_of-result c = record {
   fact = ∥∥₁_map c.args.self.fact (λ (ps, h).
       let f =
       first_pair ps _ _ _ _ h c.in-Some.ensures.first c.in-Some-split_first.ensures.first in
-      (f.others, f.behind));
+      (f.others, f.later));
 }
 
 pub returns-clause-first : goal.returns-clause-first
@@ -36,5 +36,5 @@ returns-clause-first c ps h =
       others = f.others;
       are = rw c.text.ensures.bytes f.are;
       is = f.is;
-      left = f.behind;
+      left = f.later;
     }

@@ -34,5 +34,5 @@ returns-clause-room c fits room =
 pub returns-clause-means : goal.returns-clause-means
 returns-clause-means c = Doc-canon
 
-pub returns-clause-told_apart : goal.returns-clause-told_apart
-returns-clause-told_apart c = norm-canon
+pub returns-clause-distinct : goal.returns-clause-distinct
+returns-clause-distinct c = norm-canon

@@ -1,10 +1,10 @@
 use Rattle.std.proofs.Common.{refl, ap, arith, length}
 use Rattle.jsonb_codec.specs.Shape.{payload, payloads}
 use Rattle.jsonb_codec.specs.Writing.{AreFew, CanGoOn}
-use Rattle.jsonb_codec.proofs.Standing.{Stands-first, Stands-more, Stands-next}
+use Rattle.jsonb_codec.proofs.RoomLaws.{IsAt-first, IsAt-more, IsAt-next}
 use Rattle.jsonb_codec.proofs.Shapes.{first, length-array, length-object}
 use Rattle.jsonb_codec.proofs.ShapeWriting.{going_start, going_fit, going_next, going_on, going_end}
-use Rattle.jsonb_codec.proofs.ShapeWriting.{standing_first, array_entries_room}
+use Rattle.jsonb_codec.proofs.ShapeWriting.{stored_first, array_entries_room}
 use Rattle.jsonb_codec.proofs.ShapeWriting.{object_entries_room, object_payloads_room}
 use Rattle.jsonb_codec.proofs.ShapeWriting.{object_words, object_written}
 use Rattle.jsonb_codec.proofs.writer.append.+append.Goals as goal
@@ -54,11 +54,11 @@ append_object-append_value_entries-requires g t c =
     let header = rw count at c.append_word.ensures in
     let keys = c.append_key_entries in
     let room = object_entries_room c.args.out.now c.append_word.new.out keys.new.out ss can.room
-    header (keys.ensures ss (c.again.ensures ss are)) in
+    header (keys.ensures ss (c.fork.ensures ss are)) in
     let few : AreFew ss = record { fit = can.fits.1; few = can.fits.0 } in (
       ss,
       (
-        c.again-2.ensures ss are,
+        c.fork-2.ensures ss are,
         (record { few = few; room = room }, omega (arith, can.len, length-object ss, count)),
       ),
     )
@@ -69,22 +69,24 @@ append_object-append_values-requires g t c κs within =
     let are = c.members-members.ensures.are ss h in
     let header = rw (c.members_left-count.ensures ss are) at c.append_word.ensures in
     let keys = c.append_key_entries in
-    let words = c.append_value_entries.ensures ss (c.again-2.ensures ss are) in
-    let key_bytes = c.append_keys.ensures ss (c.again-3.ensures ss are) in
+    let words = c.append_value_entries.ensures ss (c.fork-2.ensures ss are) in
+    let key_bytes = c.append_keys.ensures ss (c.fork-3.ensures ss are) in
     let room = object_payloads_room c.args.out.now c.append_word.new.out keys.new.out ss can.room
-    header (keys.ensures ss (c.again.ensures ss are)) c.append_value_entries.new.out c.append_keys.new.out words
+    header (keys.ensures ss (c.fork.ensures ss are)) c.append_value_entries.new.out
+    c.append_keys.new.out words
     key_bytes in
-    let stands = object_words c.args.out.now c.append_word.new.out keys.new.out ss can.room header
-    (keys.ensures ss (c.again.ensures ss are)) c.append_value_entries.new.out c.append_keys.new.out words key_bytes in
+    let stored = object_words c.args.out.now c.append_word.new.out keys.new.out ss can.room header
+    (keys.ensures ss (c.fork.ensures ss are)) c.append_value_entries.new.out
+    c.append_keys.new.out words key_bytes in
     let few : AreFew ss = record { fit = can.fits.1; few = can.fits.0 } in
-    let words_stand = rw (← keys.new.out.ok.0, ← c.len-words.ensures) at stands in
+    let words_stored = rw (← keys.new.out.ok.0, ← c.len-words.ensures) at stored in
     let can : CanGoOn c.append_keys.new.out ss (payloads ss) = record { few = few; room = room } in
     let v = within.1.1 in
     let v' = v.1.1 in (
       omega (arith, c.members-members.ensures.size),
       (
         within.0,
-        (within.1.0, (v.0, (v.1.0, (v'.0, (v'.1, (ss, (are, (can, words_stand)))))))),
+        (within.1.0, (v.0, (v.1.0, (v'.0, (v'.1, (ss, (are, (can, words_stored)))))))),
       ),
     )
 
@@ -94,17 +96,17 @@ append_object-returns g t c ss h =
     object_written c.args.out.now c.append_word.new.out c.append_key_entries.new.out
     c.append_value_entries.new.out c.append_keys.new.out c.append_values.new.out ss
     (rw (c.members_left-count.ensures ss are) at c.append_word.ensures)
-    (c.append_key_entries.ensures ss (c.again.ensures ss are))
-    (c.append_value_entries.ensures ss (c.again-2.ensures ss are))
-    (c.append_keys.ensures ss (c.again-3.ensures ss are))
+    (c.append_key_entries.ensures ss (c.fork.ensures ss are))
+    (c.append_value_entries.ensures ss (c.fork-2.ensures ss are))
+    (c.append_keys.ensures ss (c.fork-3.ensures ss are))
     (c.append_values.ensures ss are)
 
 pub append_items-loop-item-init : goal.append_items-loop-item-init
 append_items-loop-item-init g t c =
-    let (ss, (are, (can, stands))) = c.requires in
+    let (ss, (are, (can, stored))) = c.requires in
     record {
       going = going_start _ payloads _ c.args.out.now ss are can;
-      words = stands;
+      words = stored;
       smaller = omega arith;
     }
 
@@ -113,8 +115,8 @@ append_items-append_child-requires g t c κs within =
     let m = g.S.Source.meaning in
     let l = c.loop-item.invariant in let w = l.going in
     let f = first m.child m.items w.left (c.in-Some.ensures.split w.left w.are_left) in
-    let words = standing_first f c.loop-item.entry c.loop-item.out.items l.words in
-    let word = Stands-first _ _ _ _ words in
+    let words = stored_first f c.loop-item.entry c.loop-item.out.items l.words in
+    let word = IsAt-first _ _ _ _ words in
     let fits = (going_fit w f).1.0 in
     let room = going_next w f (λ k s. payload s) (λ k s us. refl) in
     let v = within.1.1 in
@@ -132,10 +134,10 @@ append_items-loop-item-preserved g t c =
     let l = c.loop-item.invariant in let w = l.going in
     let f = first m.child m.items w.left (c.in-Some.ensures.split w.left w.are_left) in
     let put = c.append_child.ensures f.child f.is in
-    let words = standing_first f c.loop-item.entry c.loop-item.out.items l.words in
+    let words = stored_first f c.loop-item.entry c.loop-item.out.items l.words in
     record {
       going = going_on w f (λ k s. payload s) (λ k s us. refl) _ put;
-      words = Stands-next _ _ _ _ (Stands-more _ _ words put);
+      words = IsAt-next _ _ _ _ (IsAt-more _ _ words put);
       smaller = omega (arith, l.smaller, c.in-Some.ensures.size);
     }
 
@@ -146,10 +148,10 @@ append_items-returns g t c =
 
 pub append_values-loop-value-init : goal.append_values-loop-value-init
 append_values-loop-value-init g t c =
-    let (ss, (are, (can, stands))) = c.requires in
+    let (ss, (are, (can, stored))) = c.requires in
     record {
       going = going_start _ payloads _ c.args.out.now ss are can;
-      words = stands;
+      words = stored;
       smaller = omega arith;
     }
 
@@ -158,8 +160,8 @@ append_values-append_child-requires g t c κs within =
     let m = g.S.Source.meaning in
     let l = c.loop-value.invariant in let w = l.going in
     let f = first m.child m.members w.left (c.in-Some.ensures.split w.left w.are_left) in
-    let words = standing_first f c.loop-value.entry c.loop-value.out.items l.words in
-    let word = Stands-first _ _ _ _ words in
+    let words = stored_first f c.loop-value.entry c.loop-value.out.items l.words in
+    let word = IsAt-first _ _ _ _ words in
     let fits = (going_fit w f).1.0 in
     let room = going_next w f (λ k s. payload s) (λ k s us. refl) in
     let v = within.1.1 in
@@ -177,10 +179,10 @@ append_values-loop-value-preserved g t c =
     let l = c.loop-value.invariant in let w = l.going in
     let f = first m.child m.members w.left (c.in-Some.ensures.split w.left w.are_left) in
     let put = c.append_child.ensures f.child f.is in
-    let words = standing_first f c.loop-value.entry c.loop-value.out.items l.words in
+    let words = stored_first f c.loop-value.entry c.loop-value.out.items l.words in
     record {
       going = going_on w f (λ k s. payload s) (λ k s us. refl) _ put;
-      words = Stands-next _ _ _ _ (Stands-more _ _ words put);
+      words = IsAt-next _ _ _ _ (IsAt-more _ _ words put);
       smaller = omega (arith, l.smaller, c.in-Some.ensures.size);
     }
 

@@ -18,11 +18,11 @@ measure_array-returns-clause-none g t c =
     let bare = ap length (g.S.Source.laws.bare_items c.args.items ss h) in
     omega (arith, past ss h fit.1, length-array ss, c.count-count.ensures ss h, bare))
 
-pub measure_array-returns-then-first-most-clause-none :
-    goal.measure_array-returns-then-first-most-clause-none
-measure_array-returns-then-first-most-clause-none g t c ss h fit =
+pub measure_array-returns-then-first-limit-clause-none :
+    goal.measure_array-returns-then-first-limit-clause-none
+measure_array-returns-then-first-limit-clause-none g t c ss h fit =
     let bare = ap length (g.S.Source.laws.bare_items c.args.items ss h) in
-    omega (arith, c.if-first-most.true, length-array ss, c.count-count.ensures ss h, bare)
+    omega (arith, c.if-first-limit.true, length-array ss, c.count-count.ensures ss h, bare)
 
 pub measure_object-returns-clause-some : goal.measure_object-returns-clause-some
 measure_object-returns-clause-some g t c =
@@ -41,10 +41,10 @@ measure_object-returns-clause-none g t c =
     let count = c.object_count-count.ensures ss h in
     omega (arith, past ss members fit.1, length-object ss, count))
 
-pub measure_object-returns-then-first-most-clause-none :
-    goal.measure_object-returns-then-first-most-clause-none
-measure_object-returns-then-first-most-clause-none g t c ss h fit =
-    omega (arith, c.if-first-most.true, length-object ss, c.object_count-count.ensures ss h)
+pub measure_object-returns-then-first-limit-clause-none :
+    goal.measure_object-returns-then-first-limit-clause-none
+measure_object-returns-then-first-limit-clause-none g t c ss h fit =
+    omega (arith, c.if-first-limit.true, length-object ss, c.object_count-count.ensures ss h)
 
 pub measure_items-returns-clause-some : goal.measure_items-returns-clause-some
 measure_items-returns-clause-some g t c =

@@ -1,8 +1,8 @@
 use Rattle.std.proofs.Common.{◌<◌, ◌-◌}
 use Rattle.jsonb_codec.proofs.writer.measure.value_size_by_limits.Given as goal
 
-abbrev pub invariant-loop-most : goal.invariant-loop-most
-invariant-loop-most g l = 0 < l.most
+abbrev pub invariant-loop-limit : goal.invariant-loop-limit
+invariant-loop-limit g l = 0 < l.limit
 
-abbrev pub decreases-loop-most : goal.decreases-loop-most
-decreases-loop-most g l = l.fn.left - l.most
+abbrev pub decreases-loop-limit : goal.decreases-loop-limit
+decreases-loop-limit g l = l.fn.left - l.limit

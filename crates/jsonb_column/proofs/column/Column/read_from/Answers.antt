@@ -2,7 +2,7 @@ use Rattle.std.proofs.Common.{rules, ◌≡◌, ◌<◌, length, ap, Err}
 use Rattle.jsonb_column.specs.Storage.{IsRow}
 use Rattle.jsonb_column.proofs.StorageLaws.{IsRead-all, IsRead-cut, IsRead-more, IsRead-stored}
 use Rattle.jsonb_column.proofs.StorageLaws.{IsRead-IsCut, IsRead-HasFaultyRow, cut_or_faulty}
-use Rattle.jsonb_column.proofs.StorageLaws.{not_cut, not_faulty, told_cut, told_memory}
+use Rattle.jsonb_column.proofs.StorageLaws.{not_cut, not_faulty, cut_refused, told_memory}
 use Rattle.jsonb_column.proofs.column.Column.read_from.Goals as goal
 
 -- if the next row is cut off
@@ -18,8 +18,8 @@ returns-in_err-row-clause-cut c = λ refused.
     IsRead-IsCut c.args.bytes.now c.loop-rest.rest.now c.loop-rest.column c.loop-rest.invariant some
     c.in_err-row.ensures.cut
 
-pub returns-in_err-row-clause-told_invalid : goal.returns-in_err-row-clause-told_invalid
-returns-in_err-row-clause-told_invalid c = λ faulty.
+pub returns-in_err-row-clause-invalid_refused : goal.returns-in_err-row-clause-invalid_refused
+returns-in_err-row-clause-invalid_refused c = λ faulty.
     let some : 0 < length c.loop-rest.rest.now = search rules in
     absurd (cut_or_faulty c.args.bytes.now
     (IsRead-IsCut c.args.bytes.now c.loop-rest.rest.now c.loop-rest.column c.loop-rest.invariant
@@ -31,28 +31,28 @@ returns-in_err-push-clause-memory c =
     told_memory c.args.bytes.now c.from_residual-in_err-push.result c.in_err-push.field-0.0
     c.from_residual-in_err-push.ensures.1 c.in_err-push.ensures.only
     (λ is. IsRead-HasFaultyRow c.args.bytes.now c.loop-rest.rest.now c.in_ok-row.row.now
-    c.in_ok-row.behind.now c.loop-rest.column c.loop-rest.invariant c.in_ok-row.ensures.ok
+    c.in_ok-row.later.now c.loop-rest.column c.loop-rest.invariant c.in_ok-row.ensures.ok
     c.in_ok-row.ensures.short (c.in_err-push.ensures.invalid (ap Err is)))
 
-pub returns-in_err-push-clause-told_cut : goal.returns-in_err-push-clause-told_cut
-returns-in_err-push-clause-told_cut c =
-    told_cut c.args.bytes.now c.from_residual-in_err-push.result c.in_err-push.field-0.0
+pub returns-in_err-push-clause-cut_refused : goal.returns-in_err-push-clause-cut_refused
+returns-in_err-push-clause-cut_refused c =
+    cut_refused c.args.bytes.now c.from_residual-in_err-push.result c.in_err-push.field-0.0
     c.from_residual-in_err-push.ensures.1 c.in_err-push.ensures.only
     (λ is. IsRead-HasFaultyRow c.args.bytes.now c.loop-rest.rest.now c.in_ok-row.row.now
-    c.in_ok-row.behind.now c.loop-rest.column c.loop-rest.invariant c.in_ok-row.ensures.ok
+    c.in_ok-row.later.now c.loop-rest.column c.loop-rest.invariant c.in_ok-row.ensures.ok
     c.in_ok-row.ensures.short (c.in_err-push.ensures.invalid (ap Err is)))
 
 pub returns-in_err-push-clause-invalid : goal.returns-in_err-push-clause-invalid
 returns-in_err-push-clause-invalid c = λ refused.
     IsRead-HasFaultyRow c.args.bytes.now c.loop-rest.rest.now c.in_ok-row.row.now
-    c.in_ok-row.behind.now c.loop-rest.column c.loop-rest.invariant c.in_ok-row.ensures.ok
+    c.in_ok-row.later.now c.loop-rest.column c.loop-rest.invariant c.in_ok-row.ensures.ok
     c.in_ok-row.ensures.short (c.in_err-push.ensures.invalid (search rules))
 
 pub loop-rest-preserved : goal.loop-rest-preserved
 loop-rest-preserved c =
     let row : IsRow c.in_ok-row.row.now =
     record { document = c.in_ok-push.ensures.document; short = c.in_ok-row.ensures.short } in
-    IsRead-more c.args.bytes.now c.loop-rest.rest.now c.in_ok-row.row.now c.in_ok-row.behind.now
+    IsRead-more c.args.bytes.now c.loop-rest.rest.now c.in_ok-row.row.now c.in_ok-row.later.now
     c.loop-rest.column c.push.new.self c.loop-rest.invariant
     c.in_ok-row.ensures.ok row c.in_ok-push.ensures.pushed
 
@@ -62,15 +62,15 @@ returns-clause-same c = λ rows all.
     IsRead-all c.args.bytes.now c.loop-rest.rest.now c.loop-rest.column rows c.loop-rest.invariant
     none all
 
-pub returns-clause-told_cut : goal.returns-clause-told_cut
-returns-clause-told_cut c = λ cut.
+pub returns-clause-cut_refused : goal.returns-clause-cut_refused
+returns-clause-cut_refused c = λ cut.
     let none : length c.loop-rest.rest.now ≡ 0 = search rules in
     absurd (not_cut c.args.bytes.now c.loop-rest.column
     (IsRead-stored c.args.bytes.now c.loop-rest.rest.now c.loop-rest.column c.loop-rest.invariant
     none) cut)
 
-pub returns-clause-told_invalid : goal.returns-clause-told_invalid
-returns-clause-told_invalid c = λ faulty.
+pub returns-clause-invalid_refused : goal.returns-clause-invalid_refused
+returns-clause-invalid_refused c = λ faulty.
     let none : length c.loop-rest.rest.now ≡ 0 = search rules in
     absurd (not_faulty c.args.bytes.now c.loop-rest.column
     (IsRead-stored c.args.bytes.now c.loop-rest.rest.now c.loop-rest.column c.loop-rest.invariant

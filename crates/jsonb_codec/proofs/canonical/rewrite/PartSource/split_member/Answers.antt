@@ -4,5 +4,5 @@ use Rattle.jsonb_codec.proofs.canonical.rewrite.PartSource.split_member.Goals as
 pub returns-clause-split : goal.returns-clause-split
 returns-clause-split c ss h =
     let member = c.in_ok-key.field-0 in
-    split_member member.value c.args.members member.behind _ c.of_text.ensures.code
+    split_member member.value c.args.members member.later _ c.of_text.ensures.code
     c.in_ok-key.ensures.first ss h

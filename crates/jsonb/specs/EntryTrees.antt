@@ -43,7 +43,7 @@ key_read (Err e) = []
 
 -- The entry of a part.
 abbrev pub entry_of_part : Part → Entry
-entry_of_part part = record { type = part.tag; payload = part.payload.now }
+entry_of_part part = record { type = part.type_code; payload = part.payload.now }
 
 -- The tree of a part.
 abbrev pub part_tree : Part → Tree

@@ -16,11 +16,11 @@ use Rattle.jsonb.specs.ItemView as items
 use Rattle.jsonb.specs.Code.{Means}
 use Rattle.jsonb.specs.Item.{Entry, item_of, entry_at}
 use Rattle.jsonb.specs.Building.{AreTexts, key_codes}
-use Rattle.jsonb.specs.Standing.{AreCodesOf, ArePairsOf}
+use Rattle.jsonb.specs.StoredEntries.{AreCodesOf, ArePairsOf}
 use Rattle.jsonb.specs.Walk.{entries_from, item_entries, array_entries, member_entries}
 use Rattle.jsonb.specs.Walk.{object_entries, key_entries, count_if, count_under, length_at}
-use Rattle.jsonb.specs.Facts.{view_tree, item_tree, entry_tree, entry_of_part, AreParts}
-use Rattle.jsonb.specs.Facts.{AreKeys, AreMembers, key_read, rest_trees, rest_pairs}
+use Rattle.jsonb.specs.EntryTrees.{view_tree, item_tree, entry_tree, entry_of_part, AreParts}
+use Rattle.jsonb.specs.EntryTrees.{AreKeys, AreMembers, key_read, rest_trees, rest_pairs}
 use Rattle.jsonb_value.specs.Value.{trees_of}
 use Rattle.jsonb.specs.Node.{node_tree, array_of, pairs_of, object_of, tree_list, pair_list}
 use Rattle.jsonb.specs.Node.{items_of, members_of, first_key_of}
@@ -28,7 +28,7 @@ use Rattle.jsonb.proofs.ItemLaws.{found_item}
 use Rattle.jsonb.proofs.DocumentLaws.{tree_in-is}
 use Rattle.jsonb.proofs.KindLaws.{header_of_tree}
 use Rattle.jsonb.proofs.WalkLaws.{ahead}
-use Rattle.jsonb.proofs.StandingLaws.{array_holds, object_holds}
+use Rattle.jsonb.proofs.StoredEntryLaws.{array_holds, object_holds}
 use Rattle.jsonb.proofs.DocumentWalks.{array_payload, object_payload, count_under-Doc}
 
 length-ahead : (r : Result Entry Error) (rest : List (Result Entry Error)) (n : ℕ)
@@ -80,7 +80,7 @@ finds_items : (b : List ℕ) (t : Tree) → Doc b t
     → FindsItems t (Ok (option_map (item_entries b) (count_if 2147483648 (header_of_tree t))))
 finds_items b (array ts) doc =
     let holds = array_holds b ts (array_payload b ts doc) in
-    let mean = means_trees holds.entries ts holds.stand.mean in
+    let mean = means_trees holds.entries ts holds.stored.mean in
     rw holds.read (mean.0, ap Some mean.1)
 finds_items b t doc = refl
 
@@ -113,7 +113,7 @@ finds_members : (b : List ℕ) (t : Tree) → Doc b t
     → FindsMembers t (member_entries b (count_if 1073741824 (header_of_tree t)))
 finds_members b (object ps) doc =
     let holds = object_holds b ps (object_payload b ps doc) in
-    let mean = means_pairs holds.members ps holds.stand.mean holds.texts in
+    let mean = means_pairs holds.members ps holds.stored.mean holds.texts in
     rw (holds.values, holds.keys) (mean.0, ap Some mean.1)
 finds_members b t doc = refl
 
@@ -141,8 +141,8 @@ finds_first_key : (b : List ℕ) (t : Tree) → Doc b t
     → FindsFirstKey b t (Ok (count_if 1073741824 (header_of_tree t)))
 finds_first_key b (object ps) doc =
     let holds = object_holds b ps (object_payload b ps doc) in
-    let mean = means_pairs holds.members ps holds.stand.mean holds.texts in
-    rw holds.keys (mean.0.0, first_is holds.members ps holds.stand.mean)
+    let mean = means_pairs holds.members ps holds.stored.mean holds.texts in
+    rw holds.keys (mean.0.0, first_is holds.members ps holds.stored.mean)
 finds_first_key b t doc = refl
 
 pub first_key-Doc : (b : List ℕ) (t : Tree) → Doc b t
@@ -154,8 +154,8 @@ pub entry_tree-node : (part : Part) (node : Node)
     → ((t : Tree) → parts.Means part t → node_tree node ≡ t)
     → entry_tree (entry_of_part part) ≡ node_tree node
 entry_tree-node part node means =
-    let (t, is) = known_part part.tag part.payload.now part.fact in
-    entry_tree-is part.tag part.payload.now t is ∙ sym (means t is)
+    let (t, is) = known_part part.type_code part.payload.now part.fact in
+    entry_tree-is part.type_code part.payload.now t is ∙ sym (means t is)
 
 -- there are as many pairs as keys
 pub length-rest_pairs : (ks xs : Entries) → length ks ≡ length xs

@@ -16,14 +16,14 @@ use Rattle.jsonb.specs.ItemView.{ItemView}
 use Rattle.jsonb.specs.Item.{Entry, entry_at}
 use Rattle.jsonb.specs.Building.{AreShort, AreTexts, code_entries, code_payloads, key_codes}
 use Rattle.jsonb.specs.Building.{array_of, object_of}
-use Rattle.jsonb.specs.Standing.{AreCodesOf, ArePairsOf, HasItems, HasMembers, entry_item}
-use Rattle.jsonb.specs.Standing.{member_item, find_entry, IsFoundIn}
+use Rattle.jsonb.specs.StoredEntries.{AreCodesOf, ArePairsOf, HasItems, HasMembers, entry_item}
+use Rattle.jsonb.specs.StoredEntries.{member_item, find_entry, IsFoundIn}
 use Rattle.jsonb.specs.Lookup.{count_or_zero}
 use Rattle.jsonb.specs.Walk.{entries_from, payloads_end, items_in, pairs_in, item_entries}
 use Rattle.jsonb.specs.Walk.{key_entries, value_entries}
 use Rattle.jsonb.specs.DocumentWalk.{IsItemOf, ShowsTrees, key_views, ShowsPairs}
 use Rattle.jsonb.proofs.Utf8.{is_text_yes}
-use Rattle.jsonb.proofs.Places.{At, At-whole, At-all, At-left, At-right, At-behind_word, IsTag}
+use Rattle.jsonb.proofs.Places.{At, At-whole, At-all, At-left, At-right, At-after_word, IsTag}
 use Rattle.jsonb.proofs.Places.{jentry_at-At, header_at-At, header_of-array, header_of-object}
 use Rattle.jsonb.proofs.KindLaws.{IsTag-type_of}
 use Rattle.jsonb.proofs.ItemLaws.{item_of-text, IsItemOf-Payload, entry_at-entry}
@@ -108,7 +108,7 @@ first_entry bytes i j c cs is a b =
       jentry = jentry_at-At bytes i c.type (length c.payload) is.tag is.short here;
       entry = entry_at-entry bytes i j c is.tag is.short here
           (At-left bytes j c.payload (code_payloads cs) b);
-      other_entries = At-behind_word bytes i (i + 4) _ (code_entries cs) refl a;
+      other_entries = At-after_word bytes i (i + 4) _ (code_entries cs) refl a;
       other_payloads = At-right bytes j (j + length c.payload) c.payload (code_payloads cs) refl b;
     }
 
@@ -199,7 +199,7 @@ from_children (tree t ts) e p h =
 pub HasItems-Payload : (b : List ℕ) (ts : Trees) → Payload (array ts) b → (cs : List Entry)
     × HasItems b ts cs
 HasItems-Payload b ts h =
-    let body = h.behind in
+    let body = h.later in
     let f = from_children ts body.entries body.payloads body.items in
     let n = length-AreCodesOf f.entries ts f.mean in (
       f.entries,
@@ -249,7 +249,7 @@ from_pairs (pair k t ps) ke kp ve vp h v =
 object_members : (b : List ℕ) (ps : Pairs) → Payload (object ps) b
     → (ms : List (List ℕ × Entry)) × (HasMembers b ps ms × AreTexts (keys_of ms))
 object_members b ps h =
-    let body = h.1.behind in
+    let body = h.1.later in
     let f = from_pairs ps _ _ _ _ body.keys body.values in
     let values = length-ArePairsOf (keys_of f.members) (values_of f.members) ps f.mean in
     let members = length-values_of f.members in (
@@ -268,7 +268,7 @@ object_members b ps h =
 
 pub HasMembers-Payload : (b : List ℕ) (ps : Pairs) → Payload (object ps) b
     → (ms : List (List ℕ × Entry)) × HasMembers b ps ms
-HasMembers-Payload b ps h = let (ms, (stand, texts)) = object_members b ps h in (ms, stand)
+HasMembers-Payload b ps h = let (ms, (stored, texts)) = object_members b ps h in (ms, stored)
 
 -- the positions of an array's entries
 pub record ItemsAt (b : List ℕ) (cs : List Entry) : Type 0 where
@@ -278,7 +278,7 @@ pub record ItemsAt (b : List ℕ) (cs : List Entry) : Type 0 where
 
 pub items_at : (b : List ℕ) (cs : List Entry) → length cs < 2 ^ 29 → b ≡ array_of cs → ItemsAt b cs
 items_at b cs few written =
-    let whole = At-behind_word b 0 4 (2147483648 + length cs)
+    let whole = At-after_word b 0 4 (2147483648 + length cs)
     (code_entries cs ++ code_payloads cs) refl (At-all b _ written) in
     let n = length-code_entries cs in
     record {
@@ -313,7 +313,7 @@ members_at b ms few written =
     let count = length-values_of ms in
     let same : b ≡ word (1073741824 + length ms) ++ (ke ++ (ve ++ (kp ++ vp))) =
     written ∙ ap (λ k. word (1073741824 + k) ++ (ke ++ (ve ++ (kp ++ vp)))) count in
-    let whole = At-behind_word b 0 4 (1073741824 + length ms) (ke ++ (ve ++ (kp ++ vp))) refl
+    let whole = At-after_word b 0 4 (1073741824 + length ms) (ke ++ (ve ++ (kp ++ vp))) refl
     (At-all b _ same) in
     let m : length ke ≡ 4 * length ms = cc (
       length-code_entries (key_codes (keys_of ms)),
@@ -362,24 +362,24 @@ members_read b ps ms h =
 -- what is read from an array, and from an object
 pub record ArrayHolds (b : List ℕ) (ts : Trees) : Type 0 where
   pub entries : List Entry
-  pub stand : HasItems b ts entries
+  pub stored : HasItems b ts entries
   pub read : item_entries b (count ts) ≡ map Ok entries
 
 pub array_holds : (b : List ℕ) (ts : Trees) → Payload (array ts) b → ArrayHolds b ts
 array_holds b ts h =
-    let (cs, stand) = HasItems-Payload b ts h in
-    let at = items_at b cs stand.few stand.written in
+    let (cs, stored) = HasItems-Payload b ts h in
+    let at = items_at b cs stored.few stored.written in
     record {
       entries = cs;
-      stand = stand;
-      read = rw (length-AreCodesOf cs ts stand.mean) at (entries_from-entries b 4 _ cs
-          (AreEntries-trees cs ts stand.mean stand.short)
+      stored = stored;
+      read = rw (length-AreCodesOf cs ts stored.mean) at (entries_from-entries b 4 _ cs
+          (AreEntries-trees cs ts stored.mean stored.short)
           at.entries_at at.payloads_at);
     }
 
 pub record ObjectHolds (b : List ℕ) (ps : Pairs) : Type 0 where
   pub members : List (List ℕ × Entry)
-  pub stand : HasMembers b ps members
+  pub stored : HasMembers b ps members
   pub texts : AreTexts (keys_of members)
   pub counted : length members ≡ pair_count ps
   pub keys : key_entries b (pair_count ps) ≡ map Ok (key_codes (keys_of members))
@@ -387,13 +387,13 @@ pub record ObjectHolds (b : List ℕ) (ps : Pairs) : Type 0 where
 
 pub object_holds : (b : List ℕ) (ps : Pairs) → Payload (object ps) b → ObjectHolds b ps
 object_holds b ps h =
-    let (ms, (stand, texts)) = object_members b ps h in
-    let read = members_read b ps ms stand in
+    let (ms, (stored, texts)) = object_members b ps h in
+    let read = members_read b ps ms stored in
     let counted =
-    sym (length-values_of ms) ∙ length-ArePairsOf (keys_of ms) (values_of ms) ps stand.mean in
+    sym (length-values_of ms) ∙ length-ArePairsOf (keys_of ms) (values_of ms) ps stored.mean in
     record {
       members = ms;
-      stand = stand;
+      stored = stored;
       texts = texts;
       counted = counted;
       keys = rw counted at read.keys;
