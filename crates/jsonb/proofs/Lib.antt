@@ -5,6 +5,7 @@ pub mod KindLaws
 pub mod WalkLaws
 pub mod ItemLaws
 pub mod StorageLaws
+pub mod LeafLaws
 pub mod StoredEntryLaws
 pub mod DocumentWalks
 pub mod ContentLaws

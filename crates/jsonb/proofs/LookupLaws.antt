@@ -20,7 +20,8 @@ use Rattle.jsonb.specs.declared.item.JsonbItem.{JsonbItem}
 use Rattle.jsonb.specs.ItemView.{ItemView, item_view}
 use Rattle.jsonb.specs.Payloads.{has_known_tag}
 use Rattle.jsonb.specs.Item.{Entry, item_of, entry_at, part_at, item_of_number, item_of_extension}
-use Rattle.jsonb.specs.Building.{key_codes, code_entries, code_payloads}
+use Rattle.jsonb.specs.Building.{key_codes}
+use Rattle.jsonb.proofs.LeafLaws.{code_entries, code_payloads}
 use Rattle.jsonb.specs.StoredEntries.{AreCodesOf, ArePairsOf, HasMembers, find_entry}
 use Rattle.jsonb.specs.StoredEntries.{IsFoundIn}
 use Rattle.jsonb.specs.Walk.{count_under}

@@ -1,20 +1,23 @@
 -- What is built from documents is a document.
 use Rattle.std.proofs.Common.{◌≡◌, ℕ, suc, ◌+◌, ◌<◌, ◌^◌, List, [], ◌∷◌, ◌++◌, length, map, refl}
-use Rattle.std.proofs.Common.{sym, ap, ap₂, ◌∙◌, inl, inr}
+use Rattle.std.proofs.Common.{sym, ap, ap₂, ◌∙◌, inl, inr, lit<}
 use Rattle.jsonb_value.specs.Tree.{Tree, Trees, no_trees, tree, array, count}
 use Rattle.jsonb_value.specs.Norm.{norm}
 use Rattle.jsonb_value.specs.WellFormed.{IsTree}
 use Rattle.jsonb_codec.specs.Word.{word}
 use Rattle.jsonb_codec.specs.Doc.{Doc, Children, type_of}
 use Rattle.jsonb_codec.specs.Parts.{IsPayloadOf}
-use Rattle.jsonb_codec.specs.Canon.{canon, payload_of, entries_of, payloads_of, AllFit, Fits}
+use Rattle.jsonb_codec.specs.Canon.{canon, payload_of, Fits}
+use Rattle.jsonb_codec.proofs.TreeShapes.{entries_of, payloads_of, AllFit, Fits-parts}
+use Rattle.jsonb_codec.proofs.TreeShapes.{type_of-shape_of, count-items_shapes}
 use Rattle.jsonb_codec.proofs.Lengths.{canon-scalar, canon-container}
 use Rattle.jsonb_codec.proofs.CanonLaws.{Doc-canon, type_of-norm}
 use Rattle.jsonb.specs.ItemView.{ItemView, raw}
 use Rattle.jsonb.specs.Item.{Entry}
 use Rattle.jsonb.specs.Code.{scalar_bytes}
 use Rattle.jsonb.specs.Storage.{document_code, codes_of}
-use Rattle.jsonb.specs.Building.{AreShort, code_entries, code_payloads, array_of, IsArrayOf}
+use Rattle.jsonb.specs.Building.{AreShort, array_of, IsArrayOf}
+use Rattle.jsonb.proofs.LeafLaws.{code_entries, code_payloads, array_of-parts}
 use Rattle.jsonb.specs.Results.{AreDocuments, AreCanonical, IsArrayOfInputs}
 use Rattle.jsonb.specs.StoredEntries.{AreCodesOf}
 use Rattle.jsonb.proofs.StoredEntryLaws.{length-AreCodesOf}
@@ -56,7 +59,7 @@ Doc-array_of cs ts h short few =
       refl,
       record {
         rest = code_entries cs ++ code_payloads cs;
-        parts = cc n;
+        parts = cc (n, array_of-parts cs);
         later = record {
           few = rw n at few;
           entries = code_entries cs;
@@ -127,14 +130,11 @@ AreWritten-canonical (b ∷ bs) (tree t ts) h short =
     let more = AreWritten-canonical bs ts h.1 short.1 in
     let code = document_code-canon b t h.0.0 h.0.1.0 h.0.1.1 in
     record {
-      entries = cc (code, more.entries);
+      entries = cc (code, type_of-shape_of t, more.entries);
       payloads = cc (code, more.payloads);
       counted = ap suc more.counted;
       fit = (
-        (
-          h.0.1.0.inside,
-          rw code at short.0,
-        ),
+        (lit< tt, (((Fits-parts t).0 h.0.1.0).inside, rw code at short.0)),
         more.fit,
       );
     }
@@ -146,10 +146,10 @@ canon-documents bs bytes h ts are =
     let xs = map raw bs in
     let fit = AreStorable-FitArray xs h.fit in
     let w = AreWritten-canonical bs ts are (AreCodes-codes_of xs fit.0).1 in
-    let few = rw (sym (length-codes_of xs) ∙ w.counted) at fit.1 in (
-      record { inside = (few, w.fit); short = λ other. absurd (other refl) },
-      array_of-IsArrayOf xs bytes h
-          ∙ ap₂ (λ n ys. word (2147483648 + n) ++ ys) w.counted
+    let few = rw (sym (length-codes_of xs) ∙ w.counted ∙ sym (count-items_shapes ts)) at fit.1 in (
+      (few, w.fit),
+      array_of-IsArrayOf xs bytes h ∙ array_of-parts (codes_of xs)
+          ∙ ap₂ (λ n ys. word (2147483648 + n) ++ ys) (w.counted ∙ sym (count-items_shapes ts))
           (ap₂ (λ ys zs. ys ++ zs) w.entries w.payloads),
     )
 

@@ -1,7 +1,8 @@
 -- What is built from documents at keys is a document.
-use Rattle.std.proofs.Common.{◌≡◌, ℕ, ◌<◌, ◌^◌, List, [], ◌∷◌, ◌++◌, length, Some, Result}
-use Rattle.std.proofs.Common.{arith, Ok, Err, IfOk, OnOk, refl, ap, inr}
+use Rattle.std.proofs.Common.{◌≡◌, ℕ, ◌+◌, ◌<◌, ◌^◌, List, [], ◌∷◌, ◌++◌, length, Some, Result}
+use Rattle.std.proofs.Common.{arith, Ok, Err, IfOk, OnOk, refl, sym, ap, ◌∙◌, inr}
 use Rattle.std.specs.Map.{keys_of, values_of}
+use Rattle.std.proofs.lemmas.Map.Entries.{length-keys_of, length-values_of}
 use Rattle.std.specs.List.Sorted.{IsStrictlySortedBy}
 use Rattle.std.specs.List.{IsDistinct}
 use Rattle.std.specs.Str.{bytes_eq}
@@ -9,19 +10,23 @@ use Rattle.std.specs.Ordering.{nat_cmp}
 use Rattle.std.specs.Cmp.Lexicographic.{slice_cmp}
 use Rattle.jsonb_value.specs.Tree.{text, Trees, no_trees, tree}
 use Rattle.jsonb_value.specs.Tree.{Pairs, no_pairs, pair, object, pair_count, Ascends, Ascend}
+use Rattle.jsonb_codec.specs.Word.{word}
 use Rattle.jsonb_codec.specs.Doc.{Doc, One, IsKey, Keys, Values, Children, Payload, type_of}
-use Rattle.jsonb_codec.specs.Canon.{canon, key_entries, key_payloads, value_entries, value_payloads}
-use Rattle.jsonb_codec.specs.Canon.{PairsFit, Fits}
+use Rattle.jsonb_codec.specs.Canon.{canon, Fits}
+use Rattle.jsonb_codec.proofs.TreeShapes.{key_entries, key_payloads, value_entries, value_payloads}
+use Rattle.jsonb_codec.proofs.TreeShapes.{PairsFit, Fits-parts, type_of-shape_of}
+use Rattle.jsonb_codec.proofs.TreeShapes.{count-pairs_shapes}
 use Rattle.jsonb.specs.ItemView.{ItemView}
 use Rattle.jsonb.specs.Item.{Entry}
 use Rattle.jsonb.specs.Storage.{codes_of}
-use Rattle.jsonb.specs.Building.{AreKeys, AreTexts, AreShort, code_entries, code_payloads}
-use Rattle.jsonb.specs.Building.{key_codes}
+use Rattle.jsonb.specs.Building.{AreKeys, AreTexts, AreShort, key_codes}
+use Rattle.jsonb.proofs.LeafLaws.{code_entries, code_payloads, object_of-parts}
 use Rattle.jsonb.specs.Building.{object_of, in_order, IsObjectOf}
 use Rattle.jsonb.specs.Results.{ArePairDocuments, ArePairsCanonical, raw_pairs, IsObjectOfInputs}
 use Rattle.jsonb.specs.StoredEntries.{AreCodesOf, ArePairsOf}
 use Rattle.jsonb.proofs.StoredEntryLaws.{pair_keys, value_trees, both_are, length-ArePairsOf}
-use Rattle.jsonb.proofs.StorageLaws.{codes_of-AreCodes}
+use Rattle.jsonb.proofs.StoredEntryLaws.{length-pair_keys}
+use Rattle.jsonb.proofs.StorageLaws.{codes_of-AreCodes, length-codes_of}
 use Rattle.jsonb.proofs.ResultLaws.{Children-AreCodesOf, IsCodeOf-document_code}
 use Rattle.jsonb.proofs.ResultLaws.{document_code-canon}
 
@@ -61,6 +66,7 @@ Doc-object_of ks cs ps h keys short_keys short few =
     let n = length-ArePairsOf ks cs ps h in
     let (are, mean) = both_are ks cs ps h in
     let words = AreCodesOf-keys ps (rw are at keys.texts) in
+    let same : length ks ≡ length cs = ap length are ∙ length-pair_keys ps ∙ sym n in
     let body = code_entries (key_codes ks)
     ++ (code_entries cs ++ (code_payloads (key_codes ks) ++ code_payloads cs)) in
     inr (
@@ -69,7 +75,7 @@ Doc-object_of ks cs ps h keys short_keys short few =
         Ascend-keys ps (rw are at keys.ascend),
         record {
           rest = body;
-          parts = rw n;
+          parts = object_of-parts ks cs same ∙ ap (λ m. word (1073741824 + m) ++ body) n;
           later = record {
             few = omega arith;
             key_entries = code_entries (key_codes (pair_keys ps));
@@ -124,6 +130,7 @@ AreWritten-canonical (q ∷ qs) no_pairs h short_keys short = absurd h
 AreWritten-canonical (q ∷ qs) (pair k t ps) h short_keys short =
     let more = AreWritten-canonical qs ps h.1.1 short_keys.1 short.1 in
     let code = document_code-canon q.1 t h.1.0.0 h.1.0.1.0 h.1.0.1.1 in
+    let type = type_of-shape_of t in
     record {
       key_words = (cc);
       keys = (cc);
@@ -131,7 +138,7 @@ AreWritten-canonical (q ∷ qs) (pair k t ps) h short_keys short =
       values = (cc);
       counted = (cc);
       fit = (
-        (rw h.0 at short_keys.0, (h.1.0.1.0.inside, rw code at short.0)),
+        (rw h.0 at short_keys.0, (((Fits-parts t).0 h.1.0.1.0).inside, rw code at short.0)),
         more.fit,
       );
     }
@@ -143,11 +150,13 @@ canon-pairs qs bytes h ps are =
     let (codes, storable) =
     codes_of-AreCodes (values_of (raw_pairs qs)) h.fit.codes h.fit.are h.fit.short in
     let w = AreWritten-canonical qs ps are h.fit.short_keys (rw codes at h.fit.short) in
-    let few = rw (codes, w.counted) at h.fit.few in
-    let written = h.written in (
-      record { inside = (few, w.fit); short = λ other. absurd (other refl) },
-      cc,
-    )
+    let counted = w.counted ∙ sym (count-pairs_shapes ps) in
+    let few = rw (codes, counted) at h.fit.few in
+    let pairs = raw_pairs qs in
+    let parts = object_of-parts (keys_of pairs) (codes_of (values_of pairs))
+    (length-keys_of pairs
+    ∙ sym (length-codes_of (values_of pairs) ∙ length-values_of pairs)) in
+    let written = h.written in ((few, w.fit), cc parts)
 
 -- what is built from inputs
 pub IsObjectOfInputs-IsObjectOf : (inputs : List (List ℕ × List ℕ))

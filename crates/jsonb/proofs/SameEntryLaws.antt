@@ -1,6 +1,6 @@
 -- Stored values are written as the entries of the items that they represent.
 use Rattle.std.proofs.Common.{◌≡◌, ℕ, suc, List, [], ◌∷◌, ◌++◌, length, map, Bor, refl}
-use Rattle.std.proofs.Common.{ap, ap₂, arith}
+use Rattle.std.proofs.Common.{ap, ap₂, ◌∙◌, arith}
 use Rattle.std.proofs.lemmas.Map.Text.{is_eq-slice_cmp}
 use Rattle.std.specs.Prelude.{is_some}
 use Rattle.std.specs.BTreeMap.{insert_entry}
@@ -10,14 +10,13 @@ use Rattle.std.specs.Ordering.{match_ordering}
 use Rattle.std.specs.declared.cmp.Ordering.{Ordering}
 use Rattle.std.specs.declared.cmp.Ordering.TheVariants.{Less, Equal, Greater}
 use Rattle.jsonb_codec.specs.Shape as shapes
-use Rattle.jsonb_codec.specs.Shape.{Shapes, count, key_entries, key_payloads, entries, payloads}
-use Rattle.jsonb_codec.specs.Shape.{payload, AllFit, Fits}
+use Rattle.jsonb_codec.specs.Shape.{Shapes, shape, leaf, count, payload, AllFit, Fits}
 use Rattle.jsonb_codec.specs.Stored.{shapes_by}
 use Rattle.jsonb.specs.declared.item.JsonbItem.{JsonbItem}
 use Rattle.jsonb.specs.ItemView.{ItemView, item_view}
 use Rattle.jsonb.specs.Item.{Entry}
 use Rattle.jsonb.specs.Storage.{AreStorable, AreHeld, IsHeld, IsStored, codes_of, stored_code}
-use Rattle.jsonb.specs.Building.{AreShort, code_entries, code_payloads, key_codes}
+use Rattle.jsonb.specs.Building.{AreShort, key_codes, leaves, keyed_leaves}
 use Rattle.jsonb.specs.Building.{FitArray, IsArrayOf, FitObject, IsObjectOf, has_key}
 use Rattle.jsonb.specs.Building.{with_pair}
 use Rattle.jsonb.specs.Children.{Pairwise, HasSameEntry, AreShown, IsShownAt, AreShownAt}
@@ -30,35 +29,32 @@ use Rattle.jsonb.proofs.ObjectLaws.{key_test, key_cmp, is_some-cond}
 abbrev entries_by : {A : Type 0} → (A → ℕ × List ℕ) → List A → List Entry
 entries_by code xs = map (λ x. record { type = (code x).0; payload = (code x).1 }) xs
 
--- Children are written as entries, and fit exactly if the entries are short.
-record AreWritten (ss : Shapes) (keys values : List Entry) : Type 0 where
+-- Stored values have the shapes of leaves with their entries.
+items_leaves : {A : Type 0} (code : A → ℕ × List ℕ) (xs : List A)
+    → shapes_by (λ x. []) code xs ≡ leaves (entries_by code xs)
+items_leaves code [] = refl
+items_leaves code (x ∷ xs) = ap (shape [] (leaf (code x).0 (code x).1)) (items_leaves code xs)
+
+members_leaves : {A : Type 0} (key : A → List ℕ) (code : A → ℕ × List ℕ) (xs : List A)
+    → shapes_by key code xs ≡ keyed_leaves (map key xs) (entries_by code xs)
+members_leaves key code [] = refl
+members_leaves key code (x ∷ xs) =
+    ap (shape (key x) (leaf (code x).0 (code x).1)) (members_leaves key code xs)
+
+-- There are as many as entries, and they fit exactly if the entries are short.
+record AreCounted (ss : Shapes) (keys values : List Entry) : Type 0 where
   counted : count ss ≡ length values
-  key_words : key_entries ss ≡ code_entries keys
-  words : entries ss ≡ code_entries values
-  keys_are : key_payloads ss ≡ code_payloads keys
-  values_are : payloads ss ≡ code_payloads values
   short : AllFit ss → AreShort keys × AreShort values
   fit : AreShort keys → AreShort values → AllFit ss
 
-are_written : {A : Type 0} (key : A → List ℕ) (code : A → ℕ × List ℕ) (xs : List A)
-    → AreWritten (shapes_by key code xs) (key_codes (map key xs)) (entries_by code xs)
-are_written key code [] = record {
-  counted = refl;
-  key_words = refl;
-  words = refl;
-  keys_are = refl;
-  values_are = refl;
-  short = λ h. (tt, tt);
-  fit = λ h k. tt;
-}
-are_written key code (x ∷ xs) =
-    let more = are_written key code xs in
+are_counted : {A : Type 0} (key : A → List ℕ) (code : A → ℕ × List ℕ) (xs : List A)
+    → AreCounted (shapes_by key code xs) (key_codes (map key xs)) (entries_by code xs)
+are_counted key code [] =
+    record { counted = refl; short = λ h. (tt, tt); fit = λ h k. tt }
+are_counted key code (x ∷ xs) =
+    let more = are_counted key code xs in
     record {
       counted = ap suc more.counted;
-      key_words = rw more.key_words;
-      words = rw more.words;
-      keys_are = rw more.keys_are;
-      values_are = rw more.values_are;
       short = λ h. let (keys, values) = more.short h.1 in ((h.0.0, keys), (h.0.1.1, values));
       fit = λ h k. ((h.0, (tt, k.0)), more.fit h.1 k.1);
     }
@@ -96,7 +92,7 @@ module _ {T : Type 0} (stored : T → Type 0) (code : T → ℕ × List ℕ) whe
     pub array_made : AllByRecursion stored xs → Fits (shapes.array (shapes_by (λ x. []) code xs))
         → IsArrayOf items (payload (shapes.array (shapes_by (λ x. []) code xs)))
     array_made all fits =
-        let w = are_written (λ x. []) code xs in
+        let w = are_counted (λ x. []) code xs in
         let (storable, same) = to_items xs items h all (w.short fits.1).1 in
         let codes = AreCodes-codes_of items storable in
         record {
@@ -106,13 +102,13 @@ module _ {T : Type 0} (stored : T → Type 0) (code : T → ℕ × List ℕ) whe
             short = codes.1;
             few = rw (w.counted, same) at fits.0;
           };
-          written = rw (w.counted, w.words, w.values_are, same);
+          written = ap (λ ss. payload (shapes.array ss)) (items_leaves code xs ∙ ap leaves same);
         }
 
     pub array_fits : FitArray items → AllByRecursion stored xs
         × Fits (shapes.array (shapes_by (λ x. []) code xs))
     array_fits fit =
-        let w = are_written (λ x. []) code xs in
+        let w = are_counted (λ x. []) code xs in
         let (storable, few) = AreStorable-FitArray items fit in
         let (all, short) = of_items xs items h storable in
         let same = (to_items xs items h all short).1 in
@@ -135,7 +131,7 @@ module _ {T : Type 0} (stored : T → Type 0) (code : T → ℕ × List ℕ)
       → Fits (shapes.object (shapes_by (λ e. e.0.now) (λ e. code e.1) es))
       → IsObjectOf ps (payload (shapes.object (shapes_by (λ e. e.0.now) (λ e. code e.1) es)))
   object_made all fits =
-      let w = are_written (λ e. e.0.now) (λ e. code e.1) es in
+      let w = are_counted (λ e. e.0.now) (λ e. code e.1) es in
       let (keys, values) = at_keys stored code es ps h in
       let (short_keys, short) = w.short fits.1 in
       let (storable, same) = to_items (λ e. stored e.1) (λ e. code e.1) es _ values all short in
@@ -148,13 +144,14 @@ module _ {T : Type 0} (stored : T → Type 0) (code : T → ℕ × List ℕ)
           short_keys = rw keys at short_keys;
           few = rw (w.counted, same) at fits.0;
         };
-        written = rw (w.counted, w.key_words, w.words, w.keys_are, w.values_are, same, keys);
+        written = ap (λ ss. payload (shapes.object ss))
+            (members_leaves (λ e. e.0.now) (λ e. code e.1) es ∙ ap₂ keyed_leaves keys same);
       }
 
   pub object_fits : FitObject ps → AllByRecursion (λ e. stored e.1) es
       × Fits (shapes.object (shapes_by (λ e. e.0.now) (λ e. code e.1) es))
   object_fits fit =
-      let w = are_written (λ e. e.0.now) (λ e. code e.1) es in
+      let w = are_counted (λ e. e.0.now) (λ e. code e.1) es in
       let (keys, values) = at_keys stored code es ps h in
       let (codes, storable) = codes_of-AreCodes (values_of ps) fit.codes fit.are fit.short in
       let (all, short) = of_items (λ e. stored e.1) (λ e. code e.1) es _ values storable in

@@ -15,7 +15,8 @@ use Rattle.jsonb.specs.Item.{Entry}
 use Rattle.jsonb.specs.Code.{HasCode, IsDocumentCode, scalar_bytes}
 use Rattle.jsonb.specs.Storage.{entry_under, scalar_entry, document_code, code_of, IsStored}
 use Rattle.jsonb.specs.Storage.{AreStorable, codes_of}
-use Rattle.jsonb.specs.Building.{AreCodes, AreShort, code_entries}
+use Rattle.jsonb.specs.Building.{AreCodes, AreShort}
+use Rattle.jsonb.proofs.LeafLaws.{code_entries}
 use Rattle.jsonb.specs.Building.{FitArray}
 use Rattle.jsonb.proofs.KindLaws.{container_cases, header_at-Scalar, header_of_tree, header_at-Doc}
 use Rattle.jsonb.proofs.ItemLaws.{entry_at-Scalar}

@@ -14,7 +14,8 @@ use Rattle.jsonb_codec.specs.Doc.{Keys, Values, Children, Payload, type_of}
 use Rattle.jsonb_codec.specs.Parts.{IsPayloadOf}
 use Rattle.jsonb.specs.ItemView.{ItemView}
 use Rattle.jsonb.specs.Item.{Entry, entry_at}
-use Rattle.jsonb.specs.Building.{AreShort, AreTexts, code_entries, code_payloads, key_codes}
+use Rattle.jsonb.specs.Building.{AreShort, AreTexts, key_codes}
+use Rattle.jsonb.proofs.LeafLaws.{code_entries, code_payloads, array_of-parts, object_of-parts}
 use Rattle.jsonb.specs.Building.{array_of, object_of}
 use Rattle.jsonb.specs.StoredEntries.{AreCodesOf, ArePairsOf, HasItems, HasMembers, entry_item}
 use Rattle.jsonb.specs.StoredEntries.{member_item, find_entry, IsFoundIn}
@@ -203,7 +204,12 @@ HasItems-Payload b ts h =
     let f = from_children ts body.entries body.payloads body.items in
     let n = length-AreCodesOf f.entries ts f.mean in (
       f.entries,
-      record { mean = f.mean; short = f.short; few = omega (arith, body.few); written = cc },
+      record {
+        mean = f.mean;
+        short = f.short;
+        few = omega (arith, body.few);
+        written = cc (array_of-parts f.entries);
+      },
     )
 
 -- the members of an object's pairs
@@ -252,7 +258,9 @@ object_members b ps h =
     let body = h.1.later in
     let f = from_pairs ps _ _ _ _ body.keys body.values in
     let values = length-ArePairsOf (keys_of f.members) (values_of f.members) ps f.mean in
-    let members = length-values_of f.members in (
+    let members = length-values_of f.members in
+    let laid = object_of-parts (keys_of f.members) (values_of f.members)
+    (length-keys_of f.members ∙ sym members) in (
       f.members,
       (
         record {
@@ -260,7 +268,7 @@ object_members b ps h =
           short_keys = f.short_keys;
           short = f.short;
           few = omega (arith, body.few);
-          written = cc;
+          written = cc laid;
         },
         f.texts,
       ),
@@ -277,7 +285,8 @@ pub record ItemsAt (b : List ℕ) (cs : List Entry) : Type 0 where
   pub payloads_at : At b (4 + 4 * length cs) (code_payloads cs)
 
 pub items_at : (b : List ℕ) (cs : List Entry) → length cs < 2 ^ 29 → b ≡ array_of cs → ItemsAt b cs
-items_at b cs few written =
+items_at b cs few laid =
+    let written = laid ∙ array_of-parts cs in
     let whole = At-after_word b 0 4 (2147483648 + length cs)
     (code_entries cs ++ code_payloads cs) refl (At-all b _ written) in
     let n = length-code_entries cs in
@@ -311,8 +320,10 @@ members_at b ms few written =
     let kp = code_payloads (key_codes (keys_of ms)) in
     let vp = code_payloads (values_of ms) in
     let count = length-values_of ms in
+    let laid =
+    object_of-parts (keys_of ms) (values_of ms) (length-keys_of ms ∙ sym (length-values_of ms)) in
     let same : b ≡ word (1073741824 + length ms) ++ (ke ++ (ve ++ (kp ++ vp))) =
-    written ∙ ap (λ k. word (1073741824 + k) ++ (ke ++ (ve ++ (kp ++ vp)))) count in
+    written ∙ laid ∙ ap (λ k. word (1073741824 + k) ++ (ke ++ (ve ++ (kp ++ vp)))) count in
     let whole = At-after_word b 0 4 (1073741824 + length ms) (ke ++ (ve ++ (kp ++ vp))) refl
     (At-all b _ same) in
     let m : length ke ≡ 4 * length ms = cc (

@@ -1,5 +1,5 @@
 -- Building arrays and objects from items.
-use Rattle.std.specs.Prelude.{◌≡◌, ◌<◌, ◌^◌, ◌+◌, ⊤, ℕ, Bool, List, [], ◌∷◌, ◌++◌, length, map}
+use Rattle.std.specs.Prelude.{◌≡◌, ◌<◌, ◌^◌, ⊤, ℕ, Bool, List, [], ◌∷◌, length, map}
 use Rattle.std.specs.List.{list_any}
 use Rattle.std.specs.Map.{keys_of, values_of}
 use Rattle.std.specs.Str.{bytes_eq, IsUtf8}
@@ -7,9 +7,8 @@ use Rattle.std.specs.List.Sorted.{IsStrictlySortedBy}
 use Rattle.std.specs.Ordering.{nat_cmp}
 use Rattle.std.specs.Cmp.Lexicographic.{slice_cmp}
 use Rattle.std.specs.BTreeMap.{insert_entry}
-use Rattle.jsonb_codec.specs.declared.constants.TheConstants.{ARRAY_CONTAINER_TAG}
-use Rattle.jsonb_codec.specs.declared.constants.TheConstants.{OBJECT_CONTAINER_TAG, STRING_TAG}
-use Rattle.jsonb_codec.specs.Word.{word}
+use Rattle.jsonb_codec.specs.declared.constants.TheConstants.{STRING_TAG}
+use Rattle.jsonb_codec.specs.Shape.{Shapes, no_shapes, shape, leaf, array, object, payload}
 use Rattle.jsonb.specs.ItemView.{ItemView}
 use Rattle.jsonb.specs.Item.{Entry}
 use Rattle.jsonb.specs.Code.{HasCode}
@@ -25,31 +24,28 @@ abbrev pub AreShort : List Entry → Type 0
 AreShort [] = ⊤
 AreShort (c ∷ cs) = (length c.payload < 2 ^ 28) × AreShort cs
 
--- The words of these entries.
-abbrev pub code_entries : List Entry → List ℕ
-code_entries [] = []
-code_entries (c ∷ cs) = word (c.type + length c.payload) ++ code_entries cs
+-- Entries as the leaves of an array, which have no keys.
+abbrev pub leaves : List Entry → Shapes
+leaves [] = no_shapes
+leaves (c ∷ cs) = shape [] (leaf c.type c.payload) (leaves cs)
 
--- The payloads of these entries.
-abbrev pub code_payloads : List Entry → List ℕ
-code_payloads [] = []
-code_payloads (c ∷ cs) = c.payload ++ code_payloads cs
+-- Entries as the leaves of an object, at these keys.
+abbrev pub keyed_leaves : List (List ℕ) → List Entry → Shapes
+keyed_leaves [] cs = no_shapes
+keyed_leaves (k ∷ ks) [] = no_shapes
+keyed_leaves (k ∷ ks) (c ∷ cs) = shape k (leaf c.type c.payload) (keyed_leaves ks cs)
 
 -- The array with these entries.
 abbrev pub array_of : List Entry → List ℕ
-array_of codes =
-    word (ARRAY_CONTAINER_TAG + length codes) ++ (code_entries codes ++ code_payloads codes)
+array_of codes = payload (array (leaves codes))
+
+-- The object with these keys and these entries of their values.
+abbrev pub object_of : List (List ℕ) → List Entry → List ℕ
+object_of keys codes = payload (object (keyed_leaves keys codes))
 
 -- The entries of these keys.
 abbrev pub key_codes : List (List ℕ) → List Entry
 key_codes keys = map (λ k. record { type = STRING_TAG; payload = k }) keys
-
--- The object with these keys and these entries of their values.
-abbrev pub object_of : List (List ℕ) → List Entry → List ℕ
-object_of keys codes =
-    word (OBJECT_CONTAINER_TAG + length codes)
-    ++ (code_entries (key_codes keys)
-    ++ (code_entries codes ++ (code_payloads (key_codes keys) ++ code_payloads codes)))
 
 -- Each item has an entry, and no payload and not the count exceeds its limit.
 pub record FitArray (xs : List ItemView) : Type 0 where

@@ -10,9 +10,13 @@ use Rattle.jsonb_value.specs.WellFormed.{IsTree, AreTrees, ArePairs}
 use Rattle.jsonb_value.proofs.PayloadLaws.{NumCode-number_payload, ExtCode-extension_payload}
 use Rattle.jsonb_value.proofs.PayloadLaws.{number_payload-norm_number}
 use Rattle.jsonb_codec.specs.Doc.{type_of, Keys, Values, Children, Payload, Doc}
-use Rattle.jsonb_codec.specs.Canon.{canon, document_of, payload_of, entries_of, payloads_of}
-use Rattle.jsonb_codec.specs.Canon.{key_entries, key_payloads, value_entries, value_payloads}
-use Rattle.jsonb_codec.specs.Canon.{FitsInside, AllFit, PairsFit, Fits}
+use Rattle.jsonb_codec.specs.Shape as shapes
+use Rattle.jsonb_codec.specs.Shape.{leaf, document}
+use Rattle.jsonb_codec.specs.Canon.{shape_of, items_shapes, pairs_shapes, payload_of, canon, Fits}
+use Rattle.jsonb_codec.proofs.TreeShapes.{entries_of, payloads_of, key_entries, key_payloads}
+use Rattle.jsonb_codec.proofs.TreeShapes.{value_entries, value_payloads, FitsInside, AllFit}
+use Rattle.jsonb_codec.proofs.TreeShapes.{PairsFit, Fits-parts, type_of-shape_of}
+use Rattle.jsonb_codec.proofs.TreeShapes.{count-items_shapes, count-pairs_shapes}
 use Rattle.jsonb_codec.proofs.Entries.{one_more}
 use Rattle.jsonb_codec.proofs.Lengths.{canon-scalar, canon-container}
 use Rattle.jsonb_codec.proofs.Unique.{Doc-unique}
@@ -50,9 +54,9 @@ mutual
   Payload-canonical (extension e) h f = ExtCode-extension_payload e h
   Payload-canonical (array ts) h f = record {
     rest = entries_of ts ++ payloads_of ts;
-    parts = rw (count-norms ts);
+    parts = rw (count-norms ts, count-items_shapes ts);
     later = record {
-      few = rw (count-norms ts) f.0;
+      few = rw (count-norms ts) (rw (count-items_shapes ts) at f.0);
       entries = entries_of ts;
       payloads = payloads_of ts;
       parts = refl;
@@ -63,9 +67,9 @@ mutual
     Ascends-norm_pairs None ps h.0,
     record {
       rest = key_entries ps ++ (value_entries ps ++ (key_payloads ps ++ value_payloads ps));
-      parts = rw (pair_count-norm_pairs ps);
+      parts = rw (pair_count-norm_pairs ps, count-pairs_shapes ps);
       later = record {
-        few = rw (pair_count-norm_pairs ps) f.0;
+        few = rw (pair_count-norm_pairs ps) (rw (count-pairs_shapes ps) at f.0);
         key_entries = key_entries ps;
         value_entries = value_entries ps;
         key_payloads = key_payloads ps;
@@ -80,63 +84,41 @@ mutual
   Children-canonical : (ts : Trees) → AreTrees ts → AllFit ts
       → Children (norms ts) (entries_of ts) (payloads_of ts)
   Children-canonical no_trees h f = record { no_entries = refl; no_payloads = refl }
-  Children-canonical (tree t ts) h f = rw (← type_of-norm t)
-      (one_more (payload_of t) _ _ f.0.1 (Payload-canonical t h.0 f.0.0)
+  Children-canonical (tree t ts) h f = rw (type_of-shape_of t, ← type_of-norm t)
+      (one_more (payload_of t) _ _ f.0.1.1 (Payload-canonical t h.0 f.0.1.0)
       (Children-canonical ts h.1 f.1))
 
   Values-canonical : (ps : Pairs) → ArePairs ps → PairsFit ps
       → Values (norm_pairs ps) (value_entries ps) (value_payloads ps)
   Values-canonical no_pairs h f = record { no_entries = refl; no_payloads = refl }
-  Values-canonical (pair k t ps) h f = rw (← type_of-norm t)
+  Values-canonical (pair k t ps) h f = rw (type_of-shape_of t, ← type_of-norm t)
       (one_more (payload_of t) _ _ f.0.1.1 (Payload-canonical t h.1.0 f.0.1.0)
       (Values-canonical ps h.1.1 f.1))
 
 -- The canonical document of a tree means its normal form.
 pub Doc-canon : (t : Tree) → IsTree t → Fits t → Doc (canon t) (norm t)
 Doc-canon t h f =
+    let fit = (Fits-parts t).0 f in
     grind (arith, Payload-canonical, canon-container, canon-scalar, cases_eq, type_of-norm)
 
--- the normal form is written like the tree itself
-key_entries-norm_pairs : (ps : Pairs) → key_entries (norm_pairs ps) ≡ key_entries ps
-key_entries-norm_pairs no_pairs = refl
-key_entries-norm_pairs (pair k t ps) = rw (key_entries-norm_pairs ps)
-
-key_payloads-norm_pairs : (ps : Pairs) → key_payloads (norm_pairs ps) ≡ key_payloads ps
-key_payloads-norm_pairs no_pairs = refl
-key_payloads-norm_pairs (pair k t ps) = rw (key_payloads-norm_pairs ps)
-
+-- The normal form has the shape of the tree itself.
 mutual
-  pub payload_of-norm : (t : Tree) → payload_of (norm t) ≡ payload_of t
-  payload_of-norm (number x) = number_payload-norm_number x
-  payload_of-norm (array ts) = rw (count-norms ts, entries_of-norms ts, payloads_of-norms ts)
-  payload_of-norm (object ps) = rw (
-    pair_count-norm_pairs ps,
-    key_entries-norm_pairs ps,
-    value_entries-norm_pairs ps,
-    key_payloads-norm_pairs ps,
-    value_payloads-norm_pairs ps,
-  )
-  payload_of-norm t = refl
+  pub shape_of-norm : (t : Tree) → shape_of (norm t) ≡ shape_of t
+  shape_of-norm (number x) = ap (leaf 536870912) (number_payload-norm_number x)
+  shape_of-norm (array ts) = ap shapes.array (items_shapes-norms ts)
+  shape_of-norm (object ps) = ap shapes.object (pairs_shapes-norm_pairs ps)
+  shape_of-norm t = refl
 
-  entries_of-norms : (ts : Trees) → entries_of (norms ts) ≡ entries_of ts
-  entries_of-norms no_trees = refl
-  entries_of-norms (tree t ts) = rw (type_of-norm t, payload_of-norm t, entries_of-norms ts)
+  items_shapes-norms : (ts : Trees) → items_shapes (norms ts) ≡ items_shapes ts
+  items_shapes-norms no_trees = refl
+  items_shapes-norms (tree t ts) = rw (shape_of-norm t, items_shapes-norms ts)
 
-  payloads_of-norms : (ts : Trees) → payloads_of (norms ts) ≡ payloads_of ts
-  payloads_of-norms no_trees = refl
-  payloads_of-norms (tree t ts) = rw (payload_of-norm t, payloads_of-norms ts)
-
-  value_entries-norm_pairs : (ps : Pairs) → value_entries (norm_pairs ps) ≡ value_entries ps
-  value_entries-norm_pairs no_pairs = refl
-  value_entries-norm_pairs (pair k t ps) =
-      rw (type_of-norm t, payload_of-norm t, value_entries-norm_pairs ps)
-
-  value_payloads-norm_pairs : (ps : Pairs) → value_payloads (norm_pairs ps) ≡ value_payloads ps
-  value_payloads-norm_pairs no_pairs = refl
-  value_payloads-norm_pairs (pair k t ps) = rw (payload_of-norm t, value_payloads-norm_pairs ps)
+  pairs_shapes-norm_pairs : (ps : Pairs) → pairs_shapes (norm_pairs ps) ≡ pairs_shapes ps
+  pairs_shapes-norm_pairs no_pairs = refl
+  pairs_shapes-norm_pairs (pair k t ps) = rw (shape_of-norm t, pairs_shapes-norm_pairs ps)
 
 pub canon-norm : (t : Tree) → canon (norm t) ≡ canon t
-canon-norm t = ap₂ document_of (type_of-norm t) (payload_of-norm t)
+canon-norm t = ap document (shape_of-norm t)
 
 -- Two trees have the same canonical document exactly if they have the same normal form.
 pub norm-canon : (t u : Tree) → IsTree t → IsTree u → Fits t → Fits u → (canon t ≡ canon u)

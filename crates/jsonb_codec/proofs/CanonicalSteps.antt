@@ -13,13 +13,15 @@ use Rattle.jsonb_value.proofs.Output.{number_payload-NumCode, extension_payload-
 use Rattle.jsonb_codec.specs.Word.{word}
 use Rattle.jsonb_codec.specs.Doc.{type_of, Doc, IsDocument, Children}
 use Rattle.jsonb_codec.specs.Parts.{IsPayloadOf}
-use Rattle.jsonb_codec.specs.Canon.{payload_of, entries_of, payloads_of, document_of}
+use Rattle.jsonb_codec.specs.Canon.{payload_of, document_of}
 use Rattle.jsonb_codec.specs.Canonical.{IsCanonical, IsWritten, AreWritten}
 use Rattle.jsonb_codec.specs.Rewriting.{FirstChild, ContainerParts}
 use Rattle.jsonb_codec.proofs.Words.{length-word, same_words, same_parts, length-word-append}
 use Rattle.jsonb_codec.proofs.Entries.{IsType-type_of, length-Children}
 use Rattle.jsonb_codec.proofs.Lengths.{length-entries_of, length-canon-scalar, document_of-scalar}
 use Rattle.jsonb_codec.proofs.CanonLaws.{Doc-canon}
+use Rattle.jsonb_codec.proofs.TreeShapes.{entries_of, payloads_of, canon-parts, Fits-parts}
+use Rattle.jsonb_codec.proofs.TreeShapes.{type_of-shape_of}
 use Rattle.jsonb_codec.proofs.Rewriting.{canonical_twice}
 use Rattle.jsonb_codec.proofs.WellFormed.{IsTree-Doc}
 
@@ -78,7 +80,8 @@ same_document ty p q e =
 fits_document : (b : List ℕ) (t : Tree) → Doc b t → document_of (type_of t) (payload_of t) ≡ b
     → (type_of t ≡ 1342177280 → ⊥) → length (payload_of t) < 2 ^ 28
 fits_document b t (inr (q, h)) e other = absurd (other q)
-fits_document b t (inl (q, h)) e other = grind (arith, length-canon-scalar, length-word-append)
+fits_document b t (inl (q, h)) e other =
+    let same = canon-parts t in grind (arith, length-canon-scalar, length-word-append)
 
 pub written_document : (b : List ℕ) (t : Tree) → AreBytes b → Doc b t → (ty : ℕ) (p : List ℕ)
     → IsPayloadOf ty p t → document_of ty p ≡ b → IsWritten t p ↔ IsCanonical b
@@ -88,13 +91,17 @@ written_document b t bytes doc ty p (q, h) parts = (
         t,
         (
           IsTree-Doc b t bytes doc,
-          (record { inside = fit; short = fits_document b t doc same }, same),
+          (
+            (Fits-parts t).1 (record { inside = fit; short = fits_document b t doc same }),
+            canon-parts t ∙ same,
+          ),
         ),
       ),
   λ (u, (ok, (fits, e))).
       let again = canonical_twice b u (sym e) ok fits t doc in (
-        again.0.inside,
-        same_document (type_of t) (payload_of t) p (again.1 ∙ (rw q (sym parts))),
+        ((Fits-parts t).0 again.0).inside,
+        same_document (type_of t) (payload_of t) p
+            (sym (canon-parts t) ∙ again.1 ∙ (rw q (sym parts))),
       ),
 )
 

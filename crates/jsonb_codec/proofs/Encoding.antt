@@ -7,29 +7,28 @@ use Rattle.jsonb_value.specs.Tree.{Tree}
 use Rattle.jsonb_codec.specs.Canon as tree
 use Rattle.jsonb_codec.specs.Canon.{canon}
 use Rattle.jsonb_codec.specs.Shape.{Shape, document, Fits}
-use Rattle.jsonb_codec.specs.TreeShape.{shape_of}
-use Rattle.jsonb_codec.proofs.TreeShapes.{document-shape_of, Fits-shape_of}
+use Rattle.jsonb_codec.specs.Canon.{shape_of}
 
 module _ (LevelIs : Shape → Type 0) (t : Tree) (is : LevelIs (shape_of t)) where
   pub measured : (r : Result ℕ Error)
       → IfOk r (λ n. (s : Shape) → LevelIs s → Fits s × (n ≡ length (document s)))
       → IfOk r (λ n. n ≡ length (canon t))
-  measured (Ok n) ok = rw (document-shape_of t) at (ok (shape_of t) is).1
+  measured (Ok n) ok = (ok (shape_of t) is).1
   measured (Err e) ok = tt
 
   pub measured_fits : (r : Result ℕ Error)
       → IfOk r (λ n. (s : Shape) → LevelIs s → Fits s × (n ≡ length (document s)))
       → OnErr r ((s : Shape) → LevelIs s → Fits s → ⊥) → IsOk r ↔ tree.Fits t
-  measured_fits (Ok n) ok err = (λ _. (Fits-shape_of t).0 (ok (shape_of t) is).0, λ _. refl)
+  measured_fits (Ok n) ok err = (λ _. (ok (shape_of t) is).0, λ _. refl)
   measured_fits (Err e) ok err =
-      (search rules, λ fits. absurd (err (shape_of t) is ((Fits-shape_of t).1 fits)))
+      (search rules, λ fits. absurd (err (shape_of t) is fits))
 
   pub appended : {A : Type 0} (r : Result A Error) (new old : List ℕ)
       → OnOk r ((s : Shape) → LevelIs s → Fits s × (new ≡ old ++ document s))
       → OnOk r (tree.Fits t × (new ≡ old ++ canon t))
   appended (Ok x) new old ok =
       let (fits, is_new) = ok (shape_of t) is in
-      ((Fits-shape_of t).0 fits, rw (document-shape_of t) at is_new)
+      (fits, is_new)
   appended (Err e) new old ok = tt
 
   -- If the tree does not fit, nothing is appended or allocated.
@@ -39,10 +38,10 @@ module _ (LevelIs : Shape → Type 0) (t : Tree) (is : LevelIs (shape_of t)) whe
       → IfErr r (λ e. (e ≡ InvalidJsonb) ⊎ (e ≡ OutOfMemory))
       → (r ≡ Err InvalidJsonb) ↔ (tree.Fits t → ⊥)
   past (Ok x) refused fits memory only = (
-    λ e is_fit. refused.0 e (shape_of t) is ((Fits-shape_of t).1 is_fit),
+    λ e is_fit. refused.0 e (shape_of t) is is_fit,
     λ no. absurd (no fits),
   )
   past (Err e) refused fits memory only = (
-    λ e is_fit. refused.0 e (shape_of t) is ((Fits-shape_of t).1 is_fit),
+    λ e is_fit. refused.0 e (shape_of t) is is_fit,
     λ no. elim only [ inl invalid ↦ ap Err invalid | inr out ↦ absurd (no (memory (ap Err out))) ],
   )

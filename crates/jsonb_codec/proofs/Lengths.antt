@@ -1,6 +1,6 @@
 -- The lengths of the canonical parts.
 use Rattle.std.proofs.Common.{◌≡◌, ℕ, suc, ◌+◌, ◌*◌, List, [], ◌∷◌, ◌++◌, length, String, Global}
-use Rattle.std.proofs.Common.{refl, ap, arith, length-append, eqb, false, inl, inr}
+use Rattle.std.proofs.Common.{refl, ap, ◌∙◌, arith, length-append, eqb, false, inl, inr}
 use Rattle.std.proofs.lemmas.Bool.Decides.{eqb_tells}
 use Rattle.jsonb_value.specs.Tree.{Tree, array, object, Trees, no_trees, tree, Pairs, no_pairs}
 use Rattle.jsonb_value.specs.Tree.{pair, count, pair_count}
@@ -11,9 +11,10 @@ use Rattle.jsonb_value.specs.Ast.{asts_view, ast_pairs_view}
 use Rattle.jsonb_value.specs.Value.{items_view, pairs_view}
 use Rattle.jsonb_codec.specs.Word.{word}
 use Rattle.jsonb_codec.specs.Doc.{type_of}
-use Rattle.jsonb_codec.specs.Canon.{document_of, FitsEntry, Fits, canon, payload_of, entries_of}
-use Rattle.jsonb_codec.specs.Canon.{payloads_of, key_entries, value_entries, key_payloads}
-use Rattle.jsonb_codec.specs.Canon.{value_payloads}
+use Rattle.jsonb_codec.specs.Canon.{document_of, canon, payload_of}
+use Rattle.jsonb_codec.proofs.TreeShapes.{entries_of, payloads_of, key_entries, value_entries}
+use Rattle.jsonb_codec.proofs.TreeShapes.{key_payloads, value_payloads, canon-parts}
+use Rattle.jsonb_codec.proofs.TreeShapes.{count-items_shapes, count-pairs_shapes}
 use Rattle.jsonb_codec.proofs.Words.{length-word-append}
 
 pub count-items_view : (vs : List Value) → count (items_view vs) ≡ length vs
@@ -52,7 +53,13 @@ length-value_entries (pair k t ps) =
 pub length-payload_of-array : (ts : Trees)
     → length (payload_of (array ts)) ≡ 4 + 4 * count ts + length (payloads_of ts)
 length-payload_of-array ts =
-    omega (arith, length-word-append, length-append {A = ℕ}, length-entries_of ts)
+    omega (
+      arith,
+      length-word-append,
+      length-append {A = ℕ},
+      length-entries_of ts,
+      count-items_shapes ts,
+    )
 
 pub length-payload_of-object : (ps : Pairs)
     → length (payload_of (object ps))
@@ -64,6 +71,7 @@ length-payload_of-object ps =
       length-append {A = ℕ},
       length-key_entries ps,
       length-value_entries ps,
+      count-pairs_shapes ps,
     )
 
 ne-eqb : (a b : ℕ) → (a ≡ b → ⊥) → eqb a b ≡ false
@@ -76,14 +84,11 @@ document_of-scalar ty p other = rw (ne-eqb ty 1342177280 other)
 -- a scalar's document, and a container's
 pub canon-scalar : (t : Tree) → (type_of t ≡ 1342177280 → ⊥)
     → canon t ≡ word 536870912 ++ (word (type_of t + length (payload_of t)) ++ payload_of t)
-canon-scalar t other = document_of-scalar (type_of t) (payload_of t) other
+canon-scalar t other = canon-parts t ∙ document_of-scalar (type_of t) (payload_of t) other
 
 pub canon-container : (t : Tree) → type_of t ≡ 1342177280 → canon t ≡ payload_of t
-canon-container t is = rw is refl
+canon-container t is = canon-parts t ∙ rw is refl
 
 pub length-canon-scalar : (t : Tree) → (type_of t ≡ 1342177280 → ⊥)
     → length (canon t) ≡ 8 + length (payload_of t)
 length-canon-scalar t other = grind (arith, canon-scalar, length-word-append)
-
-pub FitsEntry-scalar : (t : Tree) → (type_of t ≡ 1342177280 → ⊥) → Fits t → FitsEntry t
-FitsEntry-scalar t other h = record { inside = h.inside; short = h.short other }

@@ -12,7 +12,7 @@ use Rattle.jsonb_codec.specs.PartSource.{PartIs, ItemsAre, ObjectIs, MembersAre}
 use Rattle.jsonb_codec.specs.Rewriting.{FirstChild}
 use Rattle.jsonb_codec.specs.Shape.{Shapes, count}
 use Rattle.jsonb_codec.specs.Source.{AreSplit}
-use Rattle.jsonb_codec.specs.TreeShape.{shape_of, items_shapes, pairs_shapes}
+use Rattle.jsonb_codec.specs.Canon.{shape_of, items_shapes, pairs_shapes}
 use Rattle.jsonb_codec.proofs.Containers.{count-values_of}
 use Rattle.jsonb_codec.proofs.Entries.{values_of, length-Children}
 use Rattle.jsonb_codec.proofs.PairLaws.{children_of_values}

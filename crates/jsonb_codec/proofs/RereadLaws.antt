@@ -9,10 +9,12 @@ use Rattle.jsonb_value.specs.WellFormed.{IsTree}
 use Rattle.jsonb_value.proofs.Json.Same.{IsSame, AreSame, PairsSame}
 use Rattle.jsonb_value.proofs.Json.PrintedTrees.{reread_tree}
 use Rattle.jsonb_codec.specs.Doc.{type_of}
-use Rattle.jsonb_codec.specs.Canon.{payload_of, payloads_of, key_payloads, value_payloads}
-use Rattle.jsonb_codec.specs.Canon.{FitsInside, AllFit, PairsFit, Fits}
+use Rattle.jsonb_codec.specs.Canon.{payload_of, Fits}
 use Rattle.jsonb_codec.specs.Reread.{MeansAgain}
 use Rattle.jsonb_codec.proofs.Lengths.{length-payload_of-array, length-payload_of-object}
+use Rattle.jsonb_codec.proofs.TreeShapes.{payloads_of, key_payloads, value_payloads, FitsInside}
+use Rattle.jsonb_codec.proofs.TreeShapes.{AllFit, PairsFit, Fits-parts, count-items_shapes}
+use Rattle.jsonb_codec.proofs.TreeShapes.{count-pairs_shapes}
 
 type_of-IsSame : (u t : Tree) → IsSame u t → type_of u ≡ type_of t
 type_of-IsSame (boolean a) (boolean b) s = ap (λ (c : Bool). type_of (boolean c)) s
@@ -67,15 +69,19 @@ mutual
 mutual
   inside_too : (u t : Tree) → IsSame u t → FitsInside t → FitsInside u
   inside_too (array us) (array ts) s h =
-      (omega (arith, h.0, count-AreSame us ts s), all_too us ts s h.1)
+      let before = count-items_shapes us in
+      let after = count-items_shapes ts in
+      (omega (arith, h.0, count-AreSame us ts s, before, after), all_too us ts s h.1)
   inside_too (object qs) (object ps) s h =
-      (omega (arith, h.0, pair_count-PairsSame qs ps s), pairs_too qs ps s h.1)
+      let before = count-pairs_shapes qs in
+      let after = count-pairs_shapes ps in
+      (omega (arith, h.0, pair_count-PairsSame qs ps s, before, after), pairs_too qs ps s h.1)
   inside_too u t s h = grind arith
 
   all_too : (us ts : Trees) → AreSame us ts → AllFit ts → AllFit us
   all_too no_trees no_trees s h = tt
   all_too (tree u us) (tree t ts) s h = (
-    (inside_too u t s.0 h.0.0, omega (arith, h.0.1, shorter u t s.0)),
+    (h.0.0, (inside_too u t s.0 h.0.1.0, omega (arith, h.0.1.1, shorter u t s.0))),
     all_too us ts s.1 h.1,
   )
   all_too us ts s h = absurd s
@@ -92,11 +98,13 @@ mutual
   pairs_too qs ps s h = absurd s
 
 Fits-IsSame : (u t : Tree) → IsSame u t → Fits t → Fits u
-Fits-IsSame u t s h = record {
-  inside = inside_too u t s h.inside;
-  short = λ other.
-      omega (arith, shorter u t s, h.short (λ e. other (type_of-IsSame u t s ∙ e)));
-}
+Fits-IsSame u t s h =
+    let parts = (Fits-parts t).0 h in
+    (Fits-parts u).1 (record {
+      inside = inside_too u t s parts.inside;
+      short = λ other.
+          omega (arith, shorter u t s, parts.short (λ e. other (type_of-IsSame u t s ∙ e)));
+    })
 
 -- The text of a tree without extension values means a tree that fits and compares Equal to it.
 pub reread_text : (l : Layout) (t : Tree) → IsTree t → IsPlain t → Fits t

@@ -1,6 +1,6 @@
 -- The children of a container, array or object, and how the container is written from them.
 use Rattle.std.proofs.Common.{◌≡◌, ◌↔◌, ◌<◌, ◌≤◌, ◌+◌, ◌*◌, ◌^◌, ℕ, List, ◌++◌, length, take, drop}
-use Rattle.std.proofs.Common.{refl, sym, ap, subst, ◌∙◌, arith, length-append, append_assoc}
+use Rattle.std.proofs.Common.{refl, sym, ap, subst, ◌∙◌, arith, lit<, length-append, append_assoc}
 use Rattle.jsonb_value.specs.Tree.{Tree, array, object, Trees, no_trees, tree, Pairs, no_pairs}
 use Rattle.jsonb_value.specs.Tree.{pair}
 use Rattle.std.specs.declared.cmp.Ordering.TheVariants.{Equal}
@@ -12,15 +12,15 @@ use Rattle.jsonb_value.proofs.ExtCodes.{front_of, back_of}
 use Rattle.jsonb_codec.specs.Word.{word}
 use Rattle.jsonb_codec.specs.Doc.{type_of, Doc}
 use Rattle.jsonb_codec.specs.Parts.{IsPayloadOf}
-use Rattle.jsonb_codec.specs.Canon.{canon, Fits, FitsInside, payload_of, entries_of, payloads_of}
-use Rattle.jsonb_codec.specs.Canon.{key_entries, key_payloads, value_entries, value_payloads}
-use Rattle.jsonb_codec.specs.Canon.{AllFit, PairsFit}
+use Rattle.jsonb_codec.specs.Canon.{canon, payload_of, Fits}
 use Rattle.jsonb_codec.specs.Canonical.{IsCanonical}
 use Rattle.jsonb_codec.specs.Rewriting.{ContainerParts}
 use Rattle.jsonb_codec.proofs.Words.{same_words}
 use Rattle.jsonb_codec.proofs.Unique.{Doc-unique}
-use Rattle.jsonb_codec.proofs.CanonLaws.{type_of-norm, count-norms, pair_count-norm_pairs}
-use Rattle.jsonb_codec.proofs.CanonLaws.{payload_of-norm, canon-norm, Doc-canon}
+use Rattle.jsonb_codec.proofs.CanonLaws.{shape_of-norm, canon-norm, Doc-canon}
+use Rattle.jsonb_codec.proofs.TreeShapes.{entries_of, payloads_of, key_entries, key_payloads}
+use Rattle.jsonb_codec.proofs.TreeShapes.{value_entries, value_payloads, FitsInside, AllFit}
+use Rattle.jsonb_codec.proofs.TreeShapes.{PairsFit, count-items_shapes, count-pairs_shapes}
 use Rattle.jsonb_codec.proofs.Entries.{keys_and, values_of, length-Children}
 use Rattle.jsonb_codec.proofs.Containers.{members, kind_of, count_of, count-members, container}
 use Rattle.jsonb_codec.proofs.Containers.{header_small}
@@ -48,24 +48,24 @@ payloads_of-keys_and (pair k t ps) us = rw (payloads_of-keys_and ps us, append_a
 members_written : (t : Tree) → type_of t ≡ 1342177280
     → payload_of t
     ≡ word (kind_of t + count_of t) ++ (entries_of (members t) ++ payloads_of (members t))
-members_written (array ts) is = refl
+members_written (array ts) is = rw (count-items_shapes ts) refl
 members_written (object ps) is = simp (
   entries_of-keys_and,
   payloads_of-keys_and,
   entries_of-values_of,
   payloads_of-values_of,
   append_assoc,
-)
+) (rw (count-pairs_shapes ps) refl)
 members_written t is = absurd (grind arith)
 
 -- an object's keys and values as children fit exactly if the object does
 AllFit-keys_and : (ps : Pairs) (us : Trees) → PairsFit ps → AllFit us → AllFit (keys_and ps us)
 AllFit-keys_and no_pairs us f h = h
-AllFit-keys_and (pair k t ps) us f h = ((tt, f.0.0), AllFit-keys_and ps us f.1 h)
+AllFit-keys_and (pair k t ps) us f h = ((lit< tt, (tt, f.0.0)), AllFit-keys_and ps us f.1 h)
 
 AllFit-values_of : (ps : Pairs) → PairsFit ps → AllFit (values_of ps)
 AllFit-values_of no_pairs f = tt
-AllFit-values_of (pair k t ps) f = (f.0.1, AllFit-values_of ps f.1)
+AllFit-values_of (pair k t ps) f = ((lit< tt, f.0.1), AllFit-values_of ps f.1)
 
 AllFit-later : (ps : Pairs) (us : Trees) → AllFit (keys_and ps us) → AllFit us
 AllFit-later no_pairs us h = h
@@ -74,13 +74,14 @@ AllFit-later (pair k t ps) us h = AllFit-later ps us h.1
 PairsFit-keys_and : (ps : Pairs) (us : Trees) → AllFit (keys_and ps us) → AllFit (values_of ps)
     → PairsFit ps
 PairsFit-keys_and no_pairs us h v = tt
-PairsFit-keys_and (pair k t ps) us h v = ((h.0.1, v.0), PairsFit-keys_and ps us h.1 v.1)
+PairsFit-keys_and (pair k t ps) us h v =
+    ((h.0.1.1, v.0.1), PairsFit-keys_and ps us h.1 v.1)
 
 members_fit : (t : Tree) → type_of t ≡ 1342177280 → count_of t < 2 ^ 29
     → AllFit (members t) ↔ FitsInside t
-members_fit (array ts) is few = (λ a. (few, a), λ f. f.1)
+members_fit (array ts) is few = (λ a. (rw (count-items_shapes ts) few, a), λ f. f.1)
 members_fit (object ps) is few = (
-  λ a. (few, PairsFit-keys_and ps _ a (AllFit-later ps _ a)),
+  λ a. (rw (count-pairs_shapes ps) few, PairsFit-keys_and ps _ a (AllFit-later ps _ a)),
   λ f. AllFit-keys_and ps _ f.1 (AllFit-values_of ps f.1),
 )
 members_fit t is few = absurd (grind arith)
@@ -139,30 +140,9 @@ module _ {tag n : ℕ} {rest b : List ℕ} (read : Read (2 ^ 29) tag n rest b) (
 
 -- ---- the written document and its source
 
-mutual
-  FitsInside-norm : (t : Tree) → FitsInside t → FitsInside (norm t)
-  FitsInside-norm (array ts) h = (rw (count-norms ts) h.0, AllFit-norms ts h.1)
-  FitsInside-norm (object ps) h = (rw (pair_count-norm_pairs ps) h.0, PairsFit-norm_pairs ps h.1)
-  FitsInside-norm t h = tt
-
-  AllFit-norms : (ts : Trees) → AllFit ts → AllFit (norms ts)
-  AllFit-norms no_trees h = tt
-  AllFit-norms (tree t ts) h =
-      ((FitsInside-norm t h.0.0, rw (payload_of-norm t) h.0.1), AllFit-norms ts h.1)
-
-  PairsFit-norm_pairs : (ps : Pairs) → PairsFit ps → PairsFit (norm_pairs ps)
-  PairsFit-norm_pairs no_pairs h = tt
-  PairsFit-norm_pairs (pair k t ps) h = (
-    (h.0.0, (FitsInside-norm t h.0.1.0, rw (payload_of-norm t) h.0.1.1)),
-    PairsFit-norm_pairs ps h.1,
-  )
-
 -- The normal form of a tree that fits also fits.
-pub Fits-norm : (t : Tree) → Fits t → Fits (norm t)
-Fits-norm t h = record {
-  inside = FitsInside-norm t h.inside;
-  short = λ other. rw (payload_of-norm t) (h.short (λ e. other (type_of-norm t ∙ e)));
-}
+Fits-norm : (t : Tree) → Fits t → Fits (norm t)
+Fits-norm t h = rw (shape_of-norm t) h
 
 meant : (b : List ℕ) (t u : Tree) → b ≡ canon t → IsTree t → Fits t → Doc b u → norm t ≡ u
 meant b t u e ok fit h =

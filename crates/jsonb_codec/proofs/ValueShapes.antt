@@ -4,7 +4,7 @@ use Rattle.jsonb_value.specs.Tree as trees
 use Rattle.jsonb_value.specs.Tree.{Trees, Pairs, pair_count}
 use Rattle.jsonb_codec.specs.Depth.{size}
 use Rattle.jsonb_codec.specs.Shape.{Shapes, count}
-use Rattle.jsonb_codec.specs.TreeShape.{items_shapes, pairs_shapes}
+use Rattle.jsonb_codec.specs.Canon.{items_shapes, pairs_shapes}
 use Rattle.jsonb_codec.proofs.TreeShapes.{count-items_shapes, count-pairs_shapes}
 
 pub items_count : (ts : Trees) (n : ℕ) (ss : Shapes) → trees.count ts ≡ n → items_shapes ts ≡ ss

@@ -5,6 +5,7 @@ pub mod Fault
 pub mod Parts
 pub mod DocumentBytes
 pub mod Decoder
+pub mod Shape
 pub mod Canon
 pub mod Canonical
 pub mod Rewriting
@@ -14,10 +15,8 @@ pub mod Depth
 pub mod Payloads
 pub mod Room
 pub mod Code
-pub mod Shape
 pub mod Source
 pub mod Writing
-pub mod TreeShape
 pub mod PartSource
 pub mod ValueSource
 pub mod Stored

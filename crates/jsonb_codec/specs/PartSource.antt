@@ -9,7 +9,7 @@ use Rattle.jsonb_codec.specs.Contents.{Means, AreChildren, AreMembers}
 use Rattle.jsonb_codec.specs.Parts.{IsObject}
 use Rattle.jsonb_codec.specs.Shape.{Shape, Shapes, key_payloads}
 use Rattle.jsonb_codec.specs.Source.{Meaning, Laws}
-use Rattle.jsonb_codec.specs.TreeShape.{shape_of, items_shapes, pairs_shapes, bare}
+use Rattle.jsonb_codec.specs.Canon.{shape_of, items_shapes, pairs_shapes, bare}
 
 -- Something is meant, and everything that is meant has these shapes.
 abbrev pub Shaped : {A B : Type 0} → (A → Type 0) → (A → B) → B → Type 0

@@ -4,7 +4,9 @@ use Rattle.jsonb_value.specs.Tree.{Tree, Trees, tree}
 use Rattle.jsonb_codec.specs.Word.{word}
 use Rattle.jsonb_codec.specs.Doc.{Children}
 use Rattle.jsonb_codec.specs.Parts.{IsPayloadOf}
-use Rattle.jsonb_codec.specs.Canon.{payload_of, entries_of, payloads_of, FitsInside, AllFit}
+use Rattle.jsonb_codec.specs.Shape as shapes
+use Rattle.jsonb_codec.specs.Shape.{AllFit, FitsInside}
+use Rattle.jsonb_codec.specs.Canon.{shape_of, items_shapes, payload_of}
 
 -- The first of these children has this type and payload, and the others have the remaining entry
 -- words and payloads.
@@ -20,5 +22,6 @@ pub record FirstChild (ts : Trees) (type : ℕ) (payload entries payloads : List
 pub record ContainerParts (t : Tree) (header : ℕ) (entries payloads : List ℕ) : Type 0 where
   pub children : Trees
   pub are : Children children entries payloads
-  pub fit : AllFit children ↔ FitsInside t
-  pub written : payload_of t ≡ word header ++ (entries_of children ++ payloads_of children)
+  pub fit : AllFit (items_shapes children) ↔ FitsInside (shape_of t)
+  pub written : payload_of t ≡ word header
+      ++ (shapes.entries (items_shapes children) ++ shapes.payloads (items_shapes children))

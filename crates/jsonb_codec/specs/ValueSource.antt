@@ -14,7 +14,7 @@ use Rattle.jsonb_value.specs.WellFormed.{IsTree, AreTrees, ArePairs}
 use Rattle.jsonb_codec.specs.Depth.{size, sizes, pair_sizes}
 use Rattle.jsonb_codec.specs.Source.{Meaning, Laws}
 use Rattle.jsonb_codec.specs.Shape.{key_payloads}
-use Rattle.jsonb_codec.specs.TreeShape.{shape_of, items_shapes, pairs_shapes, bare}
+use Rattle.jsonb_codec.specs.Canon.{shape_of, items_shapes, pairs_shapes, bare}
 use Rattle.std.proofs.Common.{sym, ap, ◌∙◌}
 
 -- The meaning of values as a source of the writer.

@@ -15,7 +15,7 @@ pub use Rattle.jsonb_value.specs.Value.{items_view, pairs_view, tree_of}
 pub use Rattle.jsonb_value.specs.WellFormed.{IsTree}
 pub use Rattle.jsonb_value.specs.declared.value.Value.{Value}
 pub use Rattle.jsonb_codec.specs.Ascii.{IsAsciiWithin}
-pub use Rattle.jsonb_codec.specs.Canon.{canon, document_of}
+pub use Rattle.jsonb_codec.specs.Canon.{canon, document_of, shape_of}
 pub use Rattle.jsonb_codec.specs.Canonical.{AreWritten, IsCanonical, IsWritten}
 pub use Rattle.jsonb_codec.specs.Code.{code_of, scalar_code}
 pub use Rattle.jsonb_codec.specs.Contents.{AreChildren, AreContents, AreInside, AreMembers}
@@ -37,7 +37,6 @@ pub use Rattle.jsonb_codec.specs.Shape.{document, entries, key_entries, key_payl
 pub use Rattle.jsonb_codec.specs.Shape.{payloads, type_of}
 pub use Rattle.jsonb_codec.specs.Source.{LevelIs, LevelHeld, level_size}
 pub use Rattle.jsonb_codec.specs.Stored.{code_of_some, part_code, stored_laws, stored_meaning}
-pub use Rattle.jsonb_codec.specs.TreeShape.{shape_of}
 pub use Rattle.jsonb_codec.specs.ValueSource.{ast_laws, ast_meaning, value_laws, value_meaning}
 pub use Rattle.jsonb_codec.specs.Word.{header_at, header_of, word, word_at}
 pub use Rattle.jsonb_codec.specs.Writing.{AreFew, CanGoOn, CanWrite, TakesLeft}

@@ -4,7 +4,7 @@ use Rattle.std.proofs.Common.{[], ◌∷◌, ◌++◌, length, slice_get, slice_
 use Rattle.std.proofs.Common.{option_map, Result, Ok, Err, refl, sym, ap, ap₂, subst, ◌∙◌, inl, inr}
 use Rattle.std.proofs.Common.{arith, le-leb, append_assoc, length-append}
 use Rattle.std.specs.Map.{keys_of, values_of}
-use Rattle.std.proofs.lemmas.Map.Entries.{length-values_of}
+use Rattle.std.proofs.lemmas.Map.Entries.{length-keys_of, length-values_of}
 use Rattle.std.proofs.lemmas.Bool.{lt-leb}
 use Rattle.std.proofs.lemmas.Option.{slice_get_cases}
 use Rattle.jsonb_value.specs.declared.error.Error.{Error}
@@ -16,7 +16,8 @@ use Rattle.jsonb_codec.specs.declared.jentry.JEntry.{JEntry}
 use Rattle.jsonb_codec.specs.JEntry.{jentry_at}
 use Rattle.jsonb_codec.specs.Doc.{Doc, Payload, Scalar}
 use Rattle.jsonb_codec.specs.Word.{word, header_at}
-use Rattle.jsonb.specs.Building.{code_entries, code_payloads, key_codes, object_of}
+use Rattle.jsonb.specs.Building.{key_codes, object_of}
+use Rattle.jsonb.proofs.LeafLaws.{code_entries, code_payloads, object_of-parts}
 use Rattle.jsonb.specs.Item.{Entry}
 use Rattle.jsonb.specs.StoredEntries.{HasMembers}
 use Rattle.jsonb.specs.Steps.{◌>>=◌}
@@ -217,8 +218,8 @@ all_at : (b : List ℕ) (ms : List (List ℕ × Entry)) → length ms < 2 ^ 29
 all_at b ms few written =
     let ks = key_codes (keys_of ms) in
     let vs = values_of ms in
-    let whole =
-    At-after_word b 0 4 (1073741824 + length (values_of ms)) _ refl (At-all b _ written) in
+    let laid = object_of-parts (keys_of ms) vs (length-keys_of ms ∙ sym (length-values_of ms)) in
+    let whole = At-after_word b 0 4 (1073741824 + length vs) _ refl (At-all b _ (written ∙ laid)) in
     let parts =
     ap₂ (λ (x y : List ℕ). x ++ y) (code_entries-append ks vs) (code_payloads-append ks vs)
     ∙ append_assoc (code_entries ks) (code_entries vs) (code_payloads ks ++ code_payloads vs) in

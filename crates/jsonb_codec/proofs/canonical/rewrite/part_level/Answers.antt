@@ -1,7 +1,7 @@
 use Rattle.std.proofs.Common.{ap}
 use Rattle.jsonb_codec.proofs.Decision.{known_part}
 use Rattle.jsonb_codec.proofs.PartLaws.{items_are, object_is, small_type}
-use Rattle.jsonb_codec.specs.TreeShape.{shape_of, items_shapes, pairs_shapes}
+use Rattle.jsonb_codec.specs.Canon.{shape_of, items_shapes, pairs_shapes}
 use Rattle.jsonb_codec.proofs.canonical.rewrite.part_level.Goals as goal
 
 pub returns-in-Array-clause-is : goal.returns-in-Array-clause-is

@@ -1,6 +1,5 @@
 use Rattle.std.proofs.lemmas.Result.{IfOk-weaker}
 use Rattle.jsonb_codec.proofs.CanonLaws.{Doc-canon, norm-canon}
-use Rattle.jsonb_codec.proofs.TreeShapes.{document-shape_of, Fits-shape_of}
 use Rattle.jsonb_codec.proofs.Encoding.{appended, past}
 use Rattle.jsonb_codec.proofs.ser.Encoder.encode.Goals as goal
 
@@ -18,7 +17,7 @@ returns-clause-fits c =
 
 pub returns-clause-memory : goal.returns-clause-memory
 returns-clause-memory c out =
-    (Fits-shape_of _).0 (c.append_document.ensures.memory out _ c.value_level.ensures.is)
+    (c.append_document.ensures.memory out _ c.value_level.ensures.is)
 
 pub returns-clause-past : goal.returns-clause-past
 returns-clause-past c =
@@ -28,8 +27,8 @@ returns-clause-past c =
 
 pub returns-clause-room : goal.returns-clause-room
 returns-clause-room c fits room =
-    c.append_document.ensures.room _ c.value_level.ensures.is ((Fits-shape_of _).1 fits)
-    (rw (document-shape_of _) room)
+    c.append_document.ensures.room _ c.value_level.ensures.is fits
+    room
 
 pub returns-clause-means : goal.returns-clause-means
 returns-clause-means c = Doc-canon
