@@ -28,6 +28,7 @@ pub use Rattle.jsonb_value.specs.declared.number.Number.{Number}
 pub use Rattle.jsonb_value.specs.declared.number.Number.TheVariants.{Int64}
 pub use Rattle.jsonb_codec.specs.Canon.{Fits, canon}
 pub use Rattle.jsonb_codec.specs.Canonical.{IsCanonical}
+pub use Rattle.jsonb_codec.specs.Made.{MadeIfFit}
 pub use Rattle.jsonb_codec.specs.Code.{code_of, payload_bytes}
 pub use Rattle.jsonb_codec.specs.Contents.{AreMembers}
 pub use Rattle.jsonb_codec.specs.Depth.{IsDocumentWithin, depth}

@@ -12,7 +12,7 @@ ghost use Rattle.jsonb.specs.Words.{IsObjectOf, AreKeys, keys_of, pairs_by, AllM
 ghost use Rattle.jsonb.specs.Words.{IsArrayUpToZeros, IsObjectUpToZeros, IsArrayOfInputs, TakesAll};
 ghost use Rattle.jsonb.specs.Words.{IsObjectOfInputs, MakeNoObject, input_pair, TakesUpTo};
 ghost use Rattle.jsonb.specs.Words.{IsArrayOfDocuments, IsObjectOfDocuments, AreWithinLimits};
-ghost use Rattle.jsonb.specs.Words.{PairsExceedLimits, document_pair, document_bytes};
+ghost use Rattle.jsonb.specs.Words.{PairsExceedLimits, document_pair, document_bytes, MadeIfFit};
 
 use crate::code::document_part;
 use crate::document::Document;
@@ -99,9 +99,7 @@ impl<'a> ArrayBuilder<'a> {
         ensures ok { IfOk result (λ owned. IsArrayOf self.entry (owned_bytes owned)) }
         ensures means { IfOk result (λ owned. (ts : Trees) → AllMean self.entry ts
             → IsArrayUpToZeros ts (owned_bytes owned)) }
-        ensures past { (result ≡ Err Error.InvalidJsonb) ↔ (FitArray self.entry → ⊥) }
-        ensures memory { result ≡ Err Error.OutOfMemory → FitArray self.entry }
-        ensures only { IfErr result (λ e. (e ≡ Error.InvalidJsonb) ⊎ (e ≡ Error.OutOfMemory)) }
+        ensures limits { MadeIfFit (FitArray self.entry) result }
     {
         array_document(*self.items.allocator(), &self.items)
     }
@@ -197,9 +195,7 @@ impl<'a> ObjectBuilder<'a> {
         ensures keys { OnOk result (AreKeys (keys_of self.entry)) }
         ensures means { IfOk result (λ owned. (ps : Pairs) → AllMeanAt self.entry ps
             → IsObjectUpToZeros ps (owned_bytes owned)) }
-        ensures past { (result ≡ Err Error.InvalidJsonb) ↔ (FitObject self.entry → ⊥) }
-        ensures memory { result ≡ Err Error.OutOfMemory → FitObject self.entry }
-        ensures only { IfErr result (λ e. (e ≡ Error.InvalidJsonb) ⊎ (e ≡ Error.OutOfMemory)) }
+        ensures limits { MadeIfFit (FitObject self.entry) result }
     {
         object_document(self.alloc, &self.pairs)
     }

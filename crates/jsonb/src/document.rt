@@ -53,6 +53,7 @@ impl<'a> Document<'a> {
     ghost use Rattle.jsonb.specs.Lookup.{pairs_in};
     ghost use Rattle.jsonb.specs.Words.{pointwise, compact, pretty, Tree, Pairs, tree_of, canon};
     ghost use Rattle.jsonb.specs.Words.{Fits, IsCanonical, CONTAINER_TAG, AreMembers, depth, Doc};
+    ghost use Rattle.jsonb.specs.Words.{MadeIfFit};
     ghost use Rattle.jsonb.specs.Words.{IsDocumentWithin, IsDocument, contents_tree, document_tree};
     ghost use Rattle.jsonb.specs.Words.{document_bytes, kind_of_tree, rest_trees, rest_pairs};
     ghost use Rattle.jsonb.specs.Words.{find_pair, node_tree, value_of_key, words_for_key};
@@ -315,9 +316,7 @@ impl<'a> Document<'a> {
     /// fails.
     pub fn to_canonical(&self, alloc: Global) -> Result<OwnedJsonb, Error>
         ensures ok { IfOk result (λ owned. owned_bytes owned ≡ canon (document_tree self.now)) }
-        ensures past { (result ≡ Err Error.InvalidJsonb)
-            ↔ (Fits (document_tree self.now) → ⊥) }
-        ensures only { IfErr result (λ e. (e ≡ Error.InvalidJsonb) ⊎ (e ≡ Error.OutOfMemory)) }
+        ensures limits { MadeIfFit (Fits (document_tree self.now)) result }
     {
         let mut bytes = Vec::new(alloc);
         append_canonical_document(&mut bytes, self.bytes)?;

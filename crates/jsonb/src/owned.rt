@@ -1,7 +1,7 @@
 //! Documents that own their bytes.
 
 ghost use Rattle.std.specs.Prelude.{◌≡◌, ◌≤◌, ◌<◌, ◌^◌, ◌⊎◌, length, Err, Some, IfOk, IfErr, OnOk};
-ghost use Rattle.jsonb.specs.Words.{owned_bytes, code_of, scalar_bytes, display_text};
+ghost use Rattle.jsonb.specs.Words.{MadeIfFit, owned_bytes, code_of, scalar_bytes, display_text};
 
 use crate::document::Document;
 use crate::item::JsonbItem;
@@ -50,11 +50,7 @@ impl OwnedJsonb {
     pub fn from_item(alloc: Global, item: JsonbItem) -> Result<OwnedJsonb, Error>
         ensures ok { IfOk result
             (λ owned. owned_bytes owned ≡ item_document (item_view item.entry)) }
-        ensures fits { OnOk result (CanBeStored (item_view item.entry)) }
-        ensures past { result ≡ Err Error.InvalidJsonb → CanBeStored (item_view item.entry) → ⊥ }
-        ensures memory { result ≡ Err Error.OutOfMemory → CanBeStored (item_view item.entry) }
-        ensures only { IfErr result
-            (λ e. (e ≡ Error.InvalidJsonb) ⊎ (e ≡ Error.OutOfMemory)) }
+        ensures limits { MadeIfFit (CanBeStored (item_view item.entry)) result }
     {
         match item {
             JsonbItem::Raw(raw) => raw.to_owned(alloc),
@@ -222,12 +218,7 @@ impl fmt::Display for OwnedJsonb {
 fn of_scalar(alloc: Global, code: StoredEntry) -> Result<OwnedJsonb, Error>
     ensures ok { IfOk result (λ owned. owned_bytes owned
         ≡ scalar_bytes (code_of code.entry).0 (code_of code.entry).1) }
-    ensures fits { OnOk result (length (code_of code.entry).1 < 2 ^ 28) }
-    ensures past { result ≡ Err Error.InvalidJsonb
-        → 2 ^ 28 ≤ length (code_of code.entry).1 }
-    ensures memory { result ≡ Err Error.OutOfMemory
-        → length (code_of code.entry).1 < 2 ^ 28 }
-    ensures only { IfErr result (λ e. (e ≡ Error.InvalidJsonb) ⊎ (e ≡ Error.OutOfMemory)) }
+    ensures limits { MadeIfFit (length (code_of code.entry).1 < 2 ^ 28) result }
 {
     let mut bytes = Vec::new(alloc);
     append_document::<&BTreeMap<&str, JsonbItem>>(&mut bytes, Level::Leaf(code))?;

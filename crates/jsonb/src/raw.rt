@@ -27,6 +27,7 @@ impl<'a> RawJsonb<'a> {
     ghost use Rattle.std.specs.Prelude.{IsUtf8};
     ghost use Rattle.jsonb.specs.Words.{FnReturnsAtPair, meaning_cmp, norm, IsPlain, compact, Tree};
     ghost use Rattle.jsonb.specs.Words.{pretty, tree_cmp, tree_of, canon, Fits, IsCanonical, Doc};
+    ghost use Rattle.jsonb.specs.Words.{MadeIfFit};
     ghost use Rattle.jsonb.specs.Words.{IsDocumentWithin, IsDocument, IsTreeFault, MeansAgain};
     ghost use Rattle.jsonb.specs.Words.{document_bytes, document_tree, kind, kind_of_tree, LooksUp};
     ghost use Rattle.jsonb.specs.Words.{header_count, IsRefusal, LooksUpIn, LooksUpBytes, find};
@@ -317,11 +318,7 @@ impl<'a> RawJsonb<'a> {
 
         // Which error is returned: an allocation is attempted only if the canonical document
         // exists.
-        ensures past { (result ≡ Err Error.InvalidJsonb)
-            ↔ ((t : Tree) → Doc (raw_bytes self.now) t → Fits t → ⊥) }
-        ensures memory { result ≡ Err Error.OutOfMemory
-            → (t : Tree) × (Doc (raw_bytes self.now) t × Fits t) }
-        ensures only { IfErr result (λ e. (e ≡ Error.InvalidJsonb) ⊎ (e ≡ Error.OutOfMemory)) }
+        ensures limits { MadeIfFit ((t : Tree) × (Doc (raw_bytes self.now) t × Fits t)) result }
 
         // How the result relates to its source; its own canonical form is itself.
         ensures same { IfOk result (λ owned. (owned_bytes owned ≡ raw_bytes self.now)

@@ -6,7 +6,10 @@ use Rattle.jsonb_value.specs.declared.error.Error.TheVariants.{InvalidJsonb, Out
 use Rattle.jsonb_value.specs.Tree.{Tree}
 use Rattle.jsonb_codec.specs.Canon as tree
 use Rattle.jsonb_codec.specs.Canon.{canon}
+use Rattle.jsonb_codec.specs.Made.{MadeIfFit}
 use Rattle.jsonb_codec.specs.Shape.{Shape, document, Fits}
+use Rattle.jsonb_codec.proofs.MadeLaws.{made_if_fit}
+use Rattle.std.proofs.lemmas.Result.{on_ok_weaker}
 use Rattle.jsonb_codec.specs.Canon.{shape_of}
 
 module _ (LevelIs : Shape → Type 0) (t : Tree) (is : LevelIs (shape_of t)) where
@@ -32,16 +35,11 @@ module _ (LevelIs : Shape → Type 0) (t : Tree) (is : LevelIs (shape_of t)) whe
   appended (Err e) new old ok = tt
 
   -- If the tree does not fit, nothing is appended or allocated.
-  pub past : {A : Type 0} (r : Result A Error)
-      → (r ≡ Err InvalidJsonb) ↔ ((s : Shape) → LevelIs s → Fits s → ⊥) → OnOk r (tree.Fits t)
-      → (r ≡ Err OutOfMemory → tree.Fits t)
-      → IfErr r (λ e. (e ≡ InvalidJsonb) ⊎ (e ≡ OutOfMemory))
-      → (r ≡ Err InvalidJsonb) ↔ (tree.Fits t → ⊥)
-  past (Ok x) refused fits memory only = (
-    λ e is_fit. refused.0 e (shape_of t) is is_fit,
-    λ no. absurd (no fits),
-  )
-  past (Err e) refused fits memory only = (
-    λ e is_fit. refused.0 e (shape_of t) is is_fit,
-    λ no. elim only [ inl invalid ↦ ap Err invalid | inr out ↦ absurd (no (memory (ap Err out))) ],
-  )
+  pub limits : {A : Type 0} (r : Result A Error) (new old : List ℕ)
+      → OnOk r ((s : Shape) → LevelIs s → Fits s × (new ≡ old ++ document s))
+      → (r ≡ Err InvalidJsonb) ↔ ((s : Shape) → LevelIs s → Fits s → ⊥)
+      → (r ≡ Err OutOfMemory → (s : Shape) → LevelIs s → Fits s)
+      → IfErr r (λ e. (e ≡ InvalidJsonb) ⊎ (e ≡ OutOfMemory)) → MadeIfFit (tree.Fits t) r
+  limits r new old ok past memory only =
+      made_if_fit r (on_ok_weaker r (λ known. (known (shape_of t) is).0) ok)
+      (λ e. past.0 e (shape_of t) is) (λ e. memory e (shape_of t) is) only

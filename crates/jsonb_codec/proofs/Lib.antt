@@ -6,6 +6,7 @@ pub mod ShapeWriting
 pub mod TreeShapes
 pub mod PartLaws
 pub mod ValueShapes
+pub mod MadeLaws
 pub mod Encoding
 pub mod StoredLaws
 pub mod Entries

@@ -21,5 +21,6 @@ pub mod PartSource
 pub mod ValueSource
 pub mod Stored
 pub mod Encoder
+pub mod Made
 pub mod Ascii
 pub mod Words

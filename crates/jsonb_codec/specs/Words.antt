@@ -28,6 +28,7 @@ pub use Rattle.jsonb_codec.specs.Encoder.{ast_buffer, buffer}
 pub use Rattle.jsonb_codec.specs.Fault.{IsDecoderFault, IsTreeFault}
 pub use Rattle.jsonb_codec.specs.JEntry.{jentry_at, jentry_cmp, jentry_of}
 pub use Rattle.jsonb_codec.specs.PartSource.{part_laws, part_meaning}
+pub use Rattle.jsonb_codec.specs.Made.{MadeIfFit}
 pub use Rattle.jsonb_codec.specs.Parts.{IsFault, IsObject}
 pub use Rattle.jsonb_codec.specs.Reread.{MeansAgain}
 pub use Rattle.jsonb_codec.specs.Rewriting.{ContainerParts, FirstChild}

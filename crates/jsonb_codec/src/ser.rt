@@ -3,11 +3,11 @@
 pub mod ast;
 pub mod value;
 
-ghost use Rattle.std.specs.Prelude.{◌≡◌, ◌≤◌, ◌+◌, ◌++◌, ◌↔◌, ◌⊎◌, length, vec_capacity, Err, IsOk};
+ghost use Rattle.std.specs.Prelude.{◌≡◌, ◌≤◌, ◌+◌, ◌++◌, ◌↔◌, length, vec_capacity, IsOk};
 ghost use Rattle.std.specs.Prelude.{IfOk, IfErr, OnOk, OnErr};
 ghost use Rattle.jsonb_codec.specs.Canon.{Fits};
 ghost use Rattle.jsonb_codec.specs.Words.{tree_of, ast_tree, AscendEverywhere, Tree, norm, IsTree};
-ghost use Rattle.jsonb_codec.specs.Words.{Doc, canon};
+ghost use Rattle.jsonb_codec.specs.Words.{Doc, canon, MadeIfFit};
 
 use crate::writer::append::append_document;
 use crate::writer::measure::measure_document;
@@ -55,10 +55,7 @@ impl<'a> Encoder<'a> {
         ensures err { OnErr result ((buffer self.new).now.items ≡ (buffer self.old).now.items) }
 
         // Which error is returned: an allocation is attempted only if the value fits.
-        ensures fits { OnOk result (Fits (tree_of value.now)) }
-        ensures past { (result ≡ Err Error.InvalidJsonb) ↔ (Fits (tree_of value.now) → ⊥) }
-        ensures memory { result ≡ Err Error.OutOfMemory → Fits (tree_of value.now) }
-        ensures only { IfErr result (λ e. (e ≡ Error.InvalidJsonb) ⊎ (e ≡ Error.OutOfMemory)) }
+        ensures limits { MadeIfFit (Fits (tree_of value.now)) result }
         ensures room { Fits (tree_of value.now)
             → length (buffer self.old).now.items + length (canon (tree_of value.now))
             ≤ vec_capacity (buffer self.old).now
@@ -121,10 +118,7 @@ impl<'a> JsonAstEncoder<'a> {
             ((ast_buffer self.new).now.items ≡ (ast_buffer self.old).now.items) }
 
         // Which error is returned: an allocation is attempted only if the value fits.
-        ensures fits { OnOk result (Fits (ast_tree value.now)) }
-        ensures past { (result ≡ Err Error.InvalidJsonb) ↔ (Fits (ast_tree value.now) → ⊥) }
-        ensures memory { result ≡ Err Error.OutOfMemory → Fits (ast_tree value.now) }
-        ensures only { IfErr result (λ e. (e ≡ Error.InvalidJsonb) ⊎ (e ≡ Error.OutOfMemory)) }
+        ensures limits { MadeIfFit (Fits (ast_tree value.now)) result }
         ensures room { Fits (ast_tree value.now)
             → length (ast_buffer self.old).now.items + length (canon (ast_tree value.now))
             ≤ vec_capacity (ast_buffer self.old).now

@@ -6,7 +6,7 @@ ghost use Rattle.jsonb.specs.ItemView as items;
 ghost use Rattle.jsonb.specs.Words.{Trees, JsonbItem, raw_bytes, owned_bytes, item_view, FitArray};
 ghost use Rattle.jsonb.specs.Words.{IsArrayOf, AllMean, IsArrayUpToZeros, Tally, has_equal, Lists};
 ghost use Rattle.jsonb.specs.Words.{count_at, SetsCount, count_of, list_with, CountsOneMore};
-ghost use Rattle.jsonb.specs.Words.{CountsOneLess};
+ghost use Rattle.jsonb.specs.Words.{CountsOneLess, MadeIfFit};
 
 use super::write::array_document;
 use crate::item::JsonbItem;
@@ -131,9 +131,7 @@ impl<'a> ArrayDistinctBuilder<'a> {
         ensures ok { IfOk result (λ owned. IsArrayOf self.entry.list (owned_bytes owned)) }
         ensures means { IfOk result (λ owned. (ts : Trees) → AllMean self.entry.list ts
             → IsArrayUpToZeros ts (owned_bytes owned)) }
-        ensures past { (result ≡ Err Error.InvalidJsonb) ↔ (FitArray self.entry.list → ⊥) }
-        ensures memory { result ≡ Err Error.OutOfMemory → FitArray self.entry.list }
-        ensures only { IfErr result (λ e. (e ≡ Error.InvalidJsonb) ⊎ (e ≡ Error.OutOfMemory)) }
+        ensures limits { MadeIfFit (FitArray self.entry.list) result }
     {
         array_document(*self.list.allocator(), &self.list)
     }

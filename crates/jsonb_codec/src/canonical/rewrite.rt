@@ -1,10 +1,10 @@
 //! Writing the canonical form of a document while reading the document.
 
-ghost use Rattle.std.specs.Prelude.{◌≡◌, ◌≤◌, ◌+◌, ◌++◌, ◌↔◌, ◌⊎◌, length, vec_capacity, Err, IsOk};
+ghost use Rattle.std.specs.Prelude.{◌≡◌, ◌≤◌, ◌+◌, ◌++◌, length, vec_capacity, IsOk};
 ghost use Rattle.std.specs.Prelude.{IfErr, OnOk, OnErr};
 ghost use Rattle.jsonb_codec.specs.Canon.{Fits};
 ghost use Rattle.jsonb_codec.specs.Words.{Tree, IsTree, Doc, IsDocument, canon, code_of, Means};
-ghost use Rattle.jsonb_codec.specs.Words.{LevelIs};
+ghost use Rattle.jsonb_codec.specs.Words.{LevelIs, MadeIfFit};
 ghost use Rattle.jsonb_codec.specs.Words.{bytes_of, part_meaning, part_laws, level_size, shape_of};
 
 use crate::constants::{CONTAINER_TAG, EXTENSION_TAG, NUMBER_TAG};
@@ -27,10 +27,7 @@ pub fn append_canonical(buf: &mut Vec<u8>, bytes: &[u8]) -> Result<(), Error>
     ensures err { OnErr result (buf.new.items ≡ buf.old.items) }
 
     // Which error is returned: an allocation is attempted only if the canonical document exists.
-    ensures past { (result ≡ Err Error.InvalidJsonb)
-        ↔ ((t : Tree) → Doc bytes.now t → Fits t → ⊥) }
-    ensures memory { result ≡ Err Error.OutOfMemory → (t : Tree) × (Doc bytes.now t × Fits t) }
-    ensures only { IfErr result (λ e. (e ≡ Error.InvalidJsonb) ⊎ (e ≡ Error.OutOfMemory)) }
+    ensures limits { MadeIfFit ((t : Tree) × (Doc bytes.now t × Fits t)) result }
     ensures room { (t : Tree) → Doc bytes.now t → Fits t
         → length buf.old.items + length (canon t) ≤ vec_capacity buf.old → IsOk result }
 {
@@ -51,11 +48,7 @@ pub fn append_canonical_document(
     ensures appended { OnOk result ((t : Tree) → Doc (bytes_of document.entry) t
         → Fits t × (buf.new.items ≡ buf.old.items ++ canon t)) }
     ensures err { OnErr result (buf.new.items ≡ buf.old.items) }
-    ensures past { (result ≡ Err Error.InvalidJsonb)
-        ↔ ((t : Tree) → Doc (bytes_of document.entry) t → Fits t → ⊥) }
-    ensures memory { result ≡ Err Error.OutOfMemory
-        → (t : Tree) × (Doc (bytes_of document.entry) t × Fits t) }
-    ensures only { IfErr result (λ e. (e ≡ Error.InvalidJsonb) ⊎ (e ≡ Error.OutOfMemory)) }
+    ensures limits { MadeIfFit ((t : Tree) × (Doc (bytes_of document.entry) t × Fits t)) result }
     ensures room { (t : Tree) → Doc (bytes_of document.entry) t → Fits t
         → length buf.old.items + length (canon t) ≤ vec_capacity buf.old → IsOk result }
 {

@@ -30,7 +30,7 @@ pub returns-in-Err-build : goal.returns-in-Err-build
 returns-in-Err-build c =
     let end : c.loop-word.word-iterator ≡ [] = search rules in
     let read = rw end at c.loop-word.invariant in
-    failed c.in-Err-build.ensures.only
+    failed c.in-Err-build.ensures.limits.only
     (λ is. no_array read.inputs (all_read read)
-    (rw read.holds at (c.build.ensures.past.0 (rw is at c.in-Err-build.is)))
+    (rw read.holds at (c.build.ensures.limits.past.0 (rw is at c.in-Err-build.is)))
     (ap said_of is))

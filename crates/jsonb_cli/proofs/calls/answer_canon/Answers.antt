@@ -13,7 +13,8 @@ returns-in-Ok c =
 pub returns : goal.returns
 returns c =
     let same : raw_bytes c.new.result ≡ c.in_ok-bytes.bytes.items = search rules in
-    failed c.in-Err.ensures.only
-    (λ is. no_tree _ c.in_ok-bytes.ensures.ok
-    (rw same at (c.to_canonical.ensures.past.0 (rw is at c.in-Err.is)))
+    failed c.in-Err.ensures.limits.only
+    (λ is.
+    let none = rw same at (c.to_canonical.ensures.limits.past.0 (rw is at c.in-Err.is)) in
+    no_tree _ c.in_ok-bytes.ensures.ok (λ t doc fits. none (t, (doc, fits)))
     (ap said_of is))

@@ -17,7 +17,8 @@ pub returns-in-Err : goal.returns-in-Err
 returns-in-Err c =
     let fits = number_fits c.from_number.result c.args.value c.from_number.ensures.number
     c.from_number.ensures.source in
-    let is = only_memory c.in-Err.error _ fits c.in-Err.ensures.only c.in-Err.ensures.past in
+    let limits = c.in-Err.ensures.limits in
+    let is = only_memory c.in-Err.error _ fits limits.only limits.past.0 in
     inr (subst
     (λ (s : ℕ). IsRefused s c.args.out.now c.refuse.new.out c.refuse.new.size c.refuse.result)
     (c.code.ensures ∙ ap code is) c.refuse.ensures)

@@ -1,9 +1,8 @@
-use Rattle.std.proofs.Common.{◌≡◌, Err, rules}
 use Rattle.std.proofs.lemmas.Result.{IfOk-weaker, on_ok_weaker}
-use Rattle.jsonb_value.specs.declared.error.Error.TheVariants.{InvalidJsonb}
+use Rattle.jsonb_codec.proofs.MadeLaws.{made_if_fit}
 use Rattle.jsonb.specs.Owned.{owned_bytes}
 use Rattle.jsonb.specs.Storage.{AreHeld}
-use Rattle.jsonb.specs.Building.{FitArray, IsArrayOf}
+use Rattle.jsonb.specs.Building.{IsArrayOf}
 use Rattle.jsonb.proofs.ResultObjects.{both_ok}
 use Rattle.jsonb.proofs.ResultMeanings.{IsArrayUpToZeros-IsArrayOf}
 use Rattle.jsonb.proofs.SameEntryLaws.{items_shown, items_held}
@@ -27,16 +26,10 @@ returns-clause-means c =
     (λ h. rw (← c.self.view_is) (items_held _ (rw c.deref.ensures.value at h)))
     made.ensures.held))
 
-pub returns-clause-memory : goal.returns-clause-memory
-returns-clause-memory c =
-    λ e. c.array_document.ensures.memory e _
-    (rw (← c.self.view_is, c.deref.ensures.value) (items_shown _))
-
-pub returns-clause-past : goal.returns-clause-past
-returns-clause-past c =
-    let made = returns-clause-ok c in
-    let memory = returns-clause-memory c in
-    let past : c.array_document.result ≡ Err InvalidJsonb → FitArray c.args.self → ⊥ =
-    λ e. c.array_document.ensures.past e _
-    (rw (← c.self.view_is, c.deref.ensures.value) (items_shown _)) in
-    search rules
+pub returns-clause-limits : goal.returns-clause-limits
+returns-clause-limits c =
+    let made = c.array_document in
+    made_if_fit made.result (IfOk-weaker made.result _ _ (λ _ h. h.fit) (returns-clause-ok c))
+    (λ e. made.ensures.past e _ (rw (← c.self.view_is, c.deref.ensures.value) (items_shown _)))
+    (λ e. made.ensures.memory e _ (rw (← c.self.view_is, c.deref.ensures.value) (items_shown _)))
+    made.ensures.only

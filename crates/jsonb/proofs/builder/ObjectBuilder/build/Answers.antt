@@ -1,11 +1,10 @@
-use Rattle.std.proofs.Common.{◌≡◌, Err, rules}
 use Rattle.std.proofs.lemmas.Result.{IfOk-weaker, on_ok_weaker}
 use Rattle.std.specs.Map.{keys_of, values_of}
-use Rattle.jsonb_value.specs.declared.error.Error.TheVariants.{InvalidJsonb}
+use Rattle.jsonb_codec.proofs.MadeLaws.{made_if_fit}
 use Rattle.jsonb.specs.Owned.{owned_bytes}
 use Rattle.jsonb.specs.ItemView.{item_view}
 use Rattle.jsonb.specs.Storage.{AreHeld}
-use Rattle.jsonb.specs.Building.{AreKeys, FitObject, IsObjectOf}
+use Rattle.jsonb.specs.Building.{AreKeys, IsObjectOf}
 use Rattle.jsonb.proofs.ResultObjects.{both_ok}
 use Rattle.jsonb.proofs.ResultMeanings.{IsObjectUpToZeros-IsObjectOf}
 use Rattle.jsonb.proofs.SameEntryLaws.{pairs_shown, pairs_held, keys_shown}
@@ -35,14 +34,10 @@ returns-clause-means c =
     (returns-clause-ok c) (returns-clause-keys c))
     (on_ok_weaker made.result (λ h. rw (← c.self.view_is) (pairs_held _ h)) made.ensures.held))
 
-pub returns-clause-memory : goal.returns-clause-memory
-returns-clause-memory c =
-    λ e. c.object_document.ensures.memory e _ (rw (← c.self.view_is) (pairs_shown _))
-
-pub returns-clause-past : goal.returns-clause-past
-returns-clause-past c =
-    let made = returns-clause-ok c in
-    let memory = returns-clause-memory c in
-    let past : c.object_document.result ≡ Err InvalidJsonb → FitObject c.args.self → ⊥ =
-    λ e. c.object_document.ensures.past e _ (rw (← c.self.view_is) (pairs_shown _)) in
-    search rules
+pub returns-clause-limits : goal.returns-clause-limits
+returns-clause-limits c =
+    let made = c.object_document in
+    made_if_fit made.result (IfOk-weaker made.result _ _ (λ _ h. h.fit) (returns-clause-ok c))
+    (λ e. made.ensures.past e _ (rw (← c.self.view_is) (pairs_shown _)))
+    (λ e. made.ensures.memory e _ (rw (← c.self.view_is) (pairs_shown _)))
+    made.ensures.only

@@ -16,7 +16,7 @@ returns-in_err-value-clause-invalid c refused t h =
 pub returns-clause-fits : goal.returns-clause-fits
 returns-clause-fits c t h =
     let value = c.in_ok-value.ensures in
-    rw (value.one (tree_of c.in_ok-value.value) t value.ok h) at c.in_ok-encode.ensures.fits
+    rw (value.one (tree_of c.in_ok-value.value) t value.ok h) at c.in_ok-encode.ensures.limits.fits
 
 pub returns-clause-means : goal.returns-clause-means
 returns-clause-means c t h =
@@ -24,7 +24,7 @@ returns-clause-means c t h =
     let u = tree_of c.in_ok-value.value in
     let bytes : owned_bytes c.new-2.result ≡ canon u = search rules in
     rw (value.one u t value.ok h) at (subst (λ b. Doc b (norm u)) (sym bytes)
-    (c.in_ok-encode.ensures.means u c.in_ok-encode.ensures.tree c.in_ok-encode.ensures.fits))
+    (c.in_ok-encode.ensures.means u c.in_ok-encode.ensures.tree c.in_ok-encode.ensures.limits.fits))
 
 pub returns-clause-prints : goal.returns-clause-prints
 returns-clause-prints c t h = display_text-Doc (owned_bytes c.new-2.result) (norm t)

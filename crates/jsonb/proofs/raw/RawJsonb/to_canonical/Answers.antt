@@ -1,8 +1,9 @@
-use Rattle.std.proofs.Common.{◌++◌, ap, sym, ◌∙◌}
+use Rattle.std.proofs.Common.{◌≡◌, ◌++◌, Err, ap, sym, ◌∙◌, rules}
 use Rattle.jsonb_value.specs.Tree.{Tree}
 use Rattle.jsonb_codec.specs.Doc.{Doc}
 use Rattle.jsonb_codec.specs.Canon.{canon}
 use Rattle.jsonb_codec.proofs.CanonLaws.{Doc-canon}
+use Rattle.jsonb_codec.proofs.MadeLaws.{made_ok, made_passed_on}
 use Rattle.jsonb_codec.proofs.Rewriting.{canonical_same, canonical_twice, canonical_equal}
 use Rattle.jsonb.specs.Raw.{raw_bytes}
 use Rattle.jsonb.specs.Owned.{owned_bytes}
@@ -25,6 +26,19 @@ returns-clause-ok c =
         ),
       ),
     )
+
+pub returns-in_err-append_canonical-clause-limits :
+    goal.returns-in_err-append_canonical-clause-limits
+returns-in_err-append_canonical-clause-limits c =
+    let e = c.in_err-append_canonical.field-0.0 in
+    let handed : c.from_residual.result ≡ Err e = search rules in
+    let refused : c.append_canonical.result ≡ Err e = search rules in
+    made_passed_on _ _ e handed refused (λ fit. fit, λ fit. fit)
+    (rw c.as_bytes.ensures at c.append_canonical.ensures.limits)
+
+pub returns-clause-limits : goal.returns-clause-limits
+returns-clause-limits c =
+    let (t, (h, (fit, e))) = returns-clause-ok c in made_ok _ (t, (h, fit))
 
 pub returns-clause-same : goal.returns-clause-same
 returns-clause-same c =

@@ -14,8 +14,6 @@ returns-clause-tree c = on_ok_weaker c.append_canonical_document.result
     (λ _ t h. IsTree-Doc c.args.bytes.now t (λ i. omega (arith, c.type_inv.bytes i)) h)
     c.append_canonical_document.ensures.appended
 
-pub returns-clause-past : goal.returns-clause-past
-returns-clause-past c = rw c.in-Some.ensures.bytes at c.append_canonical_document.ensures.past
-
-pub returns-clause-memory : goal.returns-clause-memory
-returns-clause-memory c = rw c.in-Some.ensures.bytes at c.append_canonical_document.ensures.memory
+pub returns-clause-limits : goal.returns-clause-limits
+returns-clause-limits c =
+    rw c.in-Some.ensures.bytes at c.append_canonical_document.ensures.limits

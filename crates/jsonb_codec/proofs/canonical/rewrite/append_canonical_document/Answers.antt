@@ -1,11 +1,7 @@
-use Rattle.std.proofs.Common.{subst}
 use Rattle.std.proofs.lemmas.Result.{on_ok_weaker}
-use Rattle.jsonb_codec.specs.Code.{code_of}
-use Rattle.jsonb_codec.specs.Shape.{Fits}
 use Rattle.jsonb_codec.specs.Canon.{shape_of}
 use Rattle.jsonb_codec.proofs.Decision.{known_document}
-use Rattle.jsonb_codec.specs.PartSource.{part_laws}
-use Rattle.jsonb_codec.proofs.Shapes.{LevelIs-one}
+use Rattle.jsonb_codec.proofs.MadeLaws.{made_if_fit}
 use Rattle.jsonb_codec.proofs.canonical.rewrite.append_canonical_document.Goals as goal
 
 -- What holds of the part's shape holds of the tree that the document means.
@@ -21,22 +17,16 @@ returns-clause-appended c = on_ok_weaker c.append_document.result (λ known t h.
     (fit, items))
     c.append_document.ensures.appended
 
-pub returns-clause-past : goal.returns-clause-past
-returns-clause-past c = (
-  λ e t h fit. c.append_document.ensures.past.0 e (shape_of t)
-      (c.part_level.ensures.is t (c.part.ensures.means t h)) fit,
-  λ none. c.append_document.ensures.past.1 (λ s h fit.
-      let (t, k) = known_document _ c.args.document.fact in
-      let is = c.part_level.ensures.is t (c.part.ensures.means t k) in
-      let same = LevelIs-one code_of part_laws c.part_level.result s (shape_of t) h is in
-      none t k ((subst Fits same fit))),
-)
-
-pub returns-clause-memory : goal.returns-clause-memory
-returns-clause-memory c e =
+pub returns-clause-limits : goal.returns-clause-limits
+returns-clause-limits c =
+    let a = c.append_document in
     let (t, h) = known_document _ c.args.document.fact in
     let is = c.part_level.ensures.is t (c.part.ensures.means t h) in
-    (t, (h, (c.append_document.ensures.memory e (shape_of t) is)))
+    made_if_fit a.result
+    (on_ok_weaker a.result (λ known. (t, (h, (known (shape_of t) is).0))) a.ensures.appended)
+    (λ e (u, (k, fit)). a.ensures.past.0 e (shape_of u)
+    (c.part_level.ensures.is u (c.part.ensures.means u k)) fit)
+    (λ e. (t, (h, a.ensures.memory e (shape_of t) is))) a.ensures.only
 
 pub returns-clause-room : goal.returns-clause-room
 returns-clause-room c t h fit =

@@ -17,7 +17,7 @@ invariant_of-self-2 c =
     let b = c.self.inside.bytes.items in let x = canon (tree_of c.in_ok-value.value) in
     let means : IsDocument x = (
       norm (tree_of c.in_ok-value.value),
-      c.in_ok-encode.ensures.means _ c.in_ok-encode.ensures.tree c.in_ok-encode.ensures.fits,
+      c.in_ok-encode.ensures.means _ c.in_ok-encode.ensures.tree c.in_ok-encode.ensures.limits.fits,
     ) in
     let bytes : c.encode.new.self.buf.now.items ≡ b ++ x = search rules in
     let p : Place =
@@ -33,7 +33,7 @@ returns-clause-pushed c =
     let b = c.self.inside.bytes.items in let x = canon (tree_of c.in_ok-value.value) in
     let means : IsDocument x = (
       norm (tree_of c.in_ok-value.value),
-      c.in_ok-encode.ensures.means _ c.in_ok-encode.ensures.tree c.in_ok-encode.ensures.fits,
+      c.in_ok-encode.ensures.means _ c.in_ok-encode.ensures.tree c.in_ok-encode.ensures.limits.fits,
     ) in
     let bytes : c.encode.new.self.buf.now.items ≡ b ++ x = search rules in
     let p : Place =
@@ -45,7 +45,7 @@ returns-clause-pushed c =
       (
         c.in_ok-value.ensures.ok,
         (
-          c.in_ok-encode.ensures.fits,
+          c.in_ok-encode.ensures.limits.fits,
           (pushed b x _ c.self.inside.places.items _ p c.self.invariant means bytes
               (search rules) start size).1 ∙ ap (λ rows. rows ++ x ∷ []) c.self.view_is,
         ),
