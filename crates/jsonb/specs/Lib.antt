@@ -22,6 +22,7 @@ pub mod Results
 pub mod ItemMeaning
 pub mod Values
 pub mod Texts
+pub mod Parsing
 pub mod Lines
 pub mod Tally
 pub mod Document

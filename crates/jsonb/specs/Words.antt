@@ -83,6 +83,7 @@ pub use Rattle.jsonb.specs.StoredEntries.{IsFoundIn}
 pub use Rattle.jsonb.specs.Storage.{IsHeld, IsStored, document_code, pair_of, stored_code}
 pub use Rattle.jsonb.specs.Tally.{CountsOneLess, CountsOneMore, Lists, SetsCount, Tally, count_at}
 pub use Rattle.jsonb.specs.Tally.{count_of, has_equal, list_with}
+pub use Rattle.jsonb.specs.Parsing.{IsParsed}
 pub use Rattle.jsonb.specs.Texts.{display_text, layout_of, lossy_text, other_text}
 pub use Rattle.jsonb.specs.Texts.{pretty_display_text}
 pub use Rattle.jsonb.specs.Values.{bytes_in}

@@ -23,10 +23,9 @@ pub struct OwnedJsonb {
 
 impl OwnedJsonb {
     ghost use Rattle.std.specs.Prelude.{◌↔◌, chars, IfSome, IsSome, IsTrue};
-    ghost use Rattle.jsonb.specs.Words.{Json, norm, compact, pretty, text_depth, HasItsDepth, Tree};
-    ghost use Rattle.jsonb.specs.Words.{canon, Fits, IsDocumentWithin, Doc, IsDocument, raw_bytes};
-    ghost use Rattle.jsonb.specs.Words.{item_document, CanBeStored, document_bytes, item_view};
-    ghost use Rattle.jsonb.specs.Words.{pretty_display_text};
+    ghost use Rattle.jsonb.specs.Words.{Json, IsParsed, text_depth, HasItsDepth, Tree, Fits};
+    ghost use Rattle.jsonb.specs.Words.{IsDocumentWithin, IsDocument, raw_bytes, item_document};
+    ghost use Rattle.jsonb.specs.Words.{CanBeStored, document_bytes, item_view};
 
     /// Takes these bytes, unchecked.
     pub fn new(bytes: Vec<u8>) -> Self
@@ -124,19 +123,8 @@ impl OwnedJsonb {
     /// not accepted by `parse_value`, `InvalidJsonb` if a payload, a key or a count of its value
     /// exceeds its limit, `OutOfMemory` if an allocation fails.
     pub fn parse(alloc: Global, text: &str) -> Result<OwnedJsonb, Error>
-        ensures ok { IfOk result (λ owned. (t : Tree)
-            × (Json (chars text.now) t × (owned_bytes owned ≡ canon t))) }
-        ensures fits { OnOk result ((t : Tree) → Json (chars text.now) t → Fits t) }
+        ensures parsed { IfOk result (λ owned. IsParsed text.now (owned_bytes owned)) }
         ensures one { (t u : Tree) → Json (chars text.now) t → Json (chars text.now) u → t ≡ u }
-
-        // The document means the text's value with signed zeros made unsigned, and prints as that
-        // value.
-        ensures means { IfOk result (λ owned. (t : Tree) → Json (chars text.now) t
-            → Doc (owned_bytes owned) (norm t)) }
-        ensures prints { IfOk result (λ owned. (t : Tree) → Json (chars text.now) t
-            → display_text (owned_bytes owned) ≡ compact t) }
-        ensures prints_pretty { IfOk result (λ owned. (t : Tree) → Json (chars text.now) t
-            → pretty_display_text (owned_bytes owned) ≡ pretty t) }
         ensures invalid { result ≡ Err Error.InvalidJson
             → (t : Tree) → Json (chars text.now) t → ⊥ }
         ensures past { result ≡ Err Error.InvalidJsonb
@@ -158,23 +146,12 @@ impl OwnedJsonb {
     /// other text is answered as by `parse`: by its document, which is within the depth, or by
     /// `Refused` with the error of `parse`.
     pub fn parse_within(alloc: Global, text: &str, depth: usize) -> Result<OwnedJsonb, ParseError>
-        ensures ok { IfOk result (λ owned. (t : Tree)
-            × (Json (chars text.now) t × (owned_bytes owned ≡ canon t))) }
-        ensures fits { OnOk result ((t : Tree) → Json (chars text.now) t → Fits t) }
+        ensures parsed { IfOk result (λ owned. IsParsed text.now (owned_bytes owned)) }
 
         // The depth is exact, and that of a text of JSON is that of what it spells.
         ensures deep { (result ≡ Err ParseError.TooDeep) ↔ (depth < text_depth text.now) }
         ensures nests { HasItsDepth text.now }
         ensures within { IfOk result (λ owned. IsDocumentWithin depth (owned_bytes owned)) }
-
-        // The document means the text's value with signed zeros made unsigned, and prints as that
-        // value.
-        ensures means { IfOk result (λ owned. (t : Tree) → Json (chars text.now) t
-            → Doc (owned_bytes owned) (norm t)) }
-        ensures prints { IfOk result (λ owned. (t : Tree) → Json (chars text.now) t
-            → display_text (owned_bytes owned) ≡ compact t) }
-        ensures prints_pretty { IfOk result (λ owned. (t : Tree) → Json (chars text.now) t
-            → pretty_display_text (owned_bytes owned) ≡ pretty t) }
         ensures invalid { result ≡ Err (ParseError.Refused Error.InvalidJson)
             → (t : Tree) → Json (chars text.now) t → ⊥ }
         ensures past { result ≡ Err (ParseError.Refused Error.InvalidJsonb)

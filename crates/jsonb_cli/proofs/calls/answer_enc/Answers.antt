@@ -6,9 +6,9 @@ use Rattle.jsonb_cli.proofs.calls.answer_enc.Goals as goal
 pub returns-in-Ok-parse : goal.returns-in-Ok-parse
 returns-in-Ok-parse c =
     let same : c.in-Ok.json.now ≡ c.args.text.now = search rules in
-    let (t, (means, is)) = c.in-Ok-parse.ensures.ok in
-    inl (encoded t c.in-Ok.ensures.cases.1 (rw same at means) (c.in-Ok-parse.ensures.fits t means)
-    (rw (c.to_vec.ensures, is)))
+    let (t, (means, is)) = c.in-Ok-parse.ensures.parsed.ok in
+    inl (encoded t c.in-Ok.ensures.cases.1 (rw same at means)
+    (c.in-Ok-parse.ensures.parsed.fits t means) (rw (c.to_vec.ensures, is)))
 
 pub returns-in-Err : goal.returns-in-Err
 returns-in-Err c =

@@ -18,8 +18,8 @@ pub returns-clause-meaning : goal.returns-clause-meaning
 returns-clause-meaning c =
     let owned = c.in_ok-parse_within.field-0 in
     let known = c.in_ok-parse_within.ensures in
-    text_given c.args.text.now (owned_bytes owned) (Ok owned) owned refl known.deep known.ok
-    known.fits
+    text_given c.args.text.now (owned_bytes owned) (Ok owned) owned refl known.deep known.parsed.ok
+    known.parsed.fits
 
 pub returns-clause-document : goal.returns-clause-document
 returns-clause-document c =

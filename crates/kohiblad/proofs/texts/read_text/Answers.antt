@@ -5,11 +5,12 @@ use Rattle.kohiblad.proofs.texts.read_text.Goals as goal
 
 pub returns-in-Ok : goal.returns-in-Ok
 returns-in-Ok c =
-    let ok = c.in-Ok.ensures.ok in
+    let parsed = c.in-Ok.ensures.parsed in
+    let ok = parsed.ok in
     let handed = subst
     (λ (b : List ℕ). IsHandedOver b c.args.out.now c.hand_over.new.out c.hand_over.new.size
     c.hand_over.result) (c.as_bytes.ensures ∙ ok.1.1) c.hand_over.ensures in
-    inl (ok.0, (ok.1.0, (c.in-Ok.ensures.fits ok.0 ok.1.0, handed)))
+    inl (ok.0, (ok.1.0, (parsed.fits ok.0 ok.1.0, handed)))
 
 pub returns-in-Err : goal.returns-in-Err
 returns-in-Err c =

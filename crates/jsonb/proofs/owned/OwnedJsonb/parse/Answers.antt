@@ -1,6 +1,8 @@
-use Rattle.std.proofs.Common.{rules, ◌≡◌, sym, subst, ◌∙◌}
+use Rattle.std.proofs.Common.{rules, ◌≡◌, chars, sym, subst, ◌∙◌}
+use Rattle.jsonb_value.specs.Json.Syntax.{Json}
 use Rattle.jsonb_value.specs.Norm.{norm}
 use Rattle.jsonb_value.specs.Text.{in_one_line, on_lines}
+use Rattle.jsonb_value.specs.Tree.{Tree}
 use Rattle.jsonb_value.specs.Value.{tree_of}
 use Rattle.jsonb_value.proofs.NormTexts.{laid_out-norm}
 use Rattle.jsonb_codec.specs.Canon.{canon}
@@ -13,23 +15,24 @@ pub returns-in_err-value-clause-invalid : goal.returns-in_err-value-clause-inval
 returns-in_err-value-clause-invalid c refused t h =
     c.in_err-value.ensures.invalid (search rules) t h
 
-pub returns-clause-fits : goal.returns-clause-fits
-returns-clause-fits c t h =
+pub returns-clause-parsed : goal.returns-clause-parsed
+returns-clause-parsed c =
     let value = c.in_ok-value.ensures in
-    rw (value.one (tree_of c.in_ok-value.value) t value.ok h) at c.in_ok-encode.ensures.limits.fits
-
-pub returns-clause-means : goal.returns-clause-means
-returns-clause-means c t h =
-    let value = c.in_ok-value.ensures in
+    let encoded = c.in_ok-encode.ensures in
     let u = tree_of c.in_ok-value.value in
-    let bytes : owned_bytes c.new-2.result ≡ canon u = search rules in
-    rw (value.one u t value.ok h) at (subst (λ b. Doc b (norm u)) (sym bytes)
-    (c.in_ok-encode.ensures.means u c.in_ok-encode.ensures.tree c.in_ok-encode.ensures.limits.fits))
-
-pub returns-clause-prints : goal.returns-clause-prints
-returns-clause-prints c t h = display_text-Doc (owned_bytes c.new-2.result) (norm t)
-    (returns-clause-means c t h) ∙ laid_out-norm in_one_line t
-
-pub returns-clause-prints_pretty : goal.returns-clause-prints_pretty
-returns-clause-prints_pretty c t h = pretty_display_text-Doc (owned_bytes c.new-2.result) (norm t)
-    (returns-clause-means c t h) ∙ laid_out-norm (on_lines 0) t
+    let b = owned_bytes c.new-2.result in
+    let bytes : b ≡ canon u = search rules in
+    let doc = subst (λ x. Doc x (norm u)) (sym bytes)
+    (encoded.means u encoded.tree encoded.limits.fits) in
+    let is : (t : Tree) → Json (chars c.args.text.now) t → u ≡ t =
+    λ t h. value.one u t value.ok h in
+    let means : (t : Tree) → Json (chars c.args.text.now) t → Doc b (norm t) =
+    λ t h. rw (is t h) at doc in
+    record {
+      ok = (u, (value.ok, bytes));
+      fits = λ t h. rw (is t h) at encoded.limits.fits;
+      means = means;
+      prints = λ t h. display_text-Doc b (norm t) (means t h) ∙ laid_out-norm in_one_line t;
+      prints_pretty = λ t h.
+          pretty_display_text-Doc b (norm t) (means t h) ∙ laid_out-norm (on_lines 0) t;
+    }

@@ -22,7 +22,8 @@ returns-clause-nests c = its_depth c.args.text.now c.utf8.text
 
 pub returns-clause-within : goal.returns-clause-within
 returns-clause-within c =
-    let ok = c.in_ok-parse.ensures.ok in
+    let parsed = c.in_ok-parse.ensures.parsed in
+    let ok = parsed.ok in
     document_within c.args.text.now (owned_bytes c.in_ok-parse.field-0) ok.0 c.args.depth
-    (its_depth c.args.text.now c.utf8.text) ok.1.0 (c.in_ok-parse.ensures.means ok.0 ok.1.0)
+    (its_depth c.args.text.now c.utf8.text) ok.1.0 (parsed.means ok.0 ok.1.0)
     (search rules)
