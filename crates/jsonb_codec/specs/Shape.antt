@@ -1,4 +1,4 @@
--- What is written for any source: leaves with a type and a payload, and containers.
+-- The bytes of scalars, arrays and objects: headers, entry words and payloads.
 use Rattle.std.specs.Prelude.{◌<◌, ◌^◌, ◌+◌, ℕ, suc, List, [], ◌++◌, length, ⊤}
 use Rattle.jsonb_codec.specs.declared.constants.TheConstants.{ARRAY_CONTAINER_TAG}
 use Rattle.jsonb_codec.specs.declared.constants.TheConstants.{OBJECT_CONTAINER_TAG}
