@@ -2,7 +2,7 @@
 
 ghost use Rattle.std.specs.Prelude.{◌≡◌, IsSome, ⊤};
 ghost use Rattle.jsonb.specs.Words.{code_of, code_of_some, IsDocument, document_bytes, item_view};
-ghost use Rattle.jsonb.specs.Words.{raw_bytes, stored_code, document_code, pair_of, IsStored};
+ghost use Rattle.jsonb.specs.Words.{stored_code, document_code, pair_of, IsStored};
 ghost use Rattle.jsonb.specs.Words.{IsHeld, HasSameEntry, raw_view};
 
 use crate::document::Document;

@@ -46,7 +46,7 @@ pub enum Contents<'a> {
 }
 
 impl<'a> Document<'a> {
-    ghost use Rattle.std.specs.Prelude.{◌≡◌, ◌↔◌, ◌⊎◌, ◌<◌, ◌≤◌, ◌+◌, ◌*◌, ◌^◌, length, nat_eq};
+    ghost use Rattle.std.specs.Prelude.{◌≡◌, ◌↔◌, ◌<◌, ◌≤◌, ◌+◌, ◌*◌, ◌^◌, length, nat_eq};
     ghost use Rattle.std.specs.Prelude.{None, Some, Err, IfOk, IfErr, IfSome, IsSome, IsTrue};
     ghost use Rattle.std.specs.Prelude.{MatchOption, option_map, string_bytes};
     ghost use Rattle.jsonb_codec.specs.Contents.{Means};

@@ -1,8 +1,8 @@
 //! Single values: scalars, and documents by their bytes.
 
-ghost use Rattle.std.specs.Prelude.{◌≡◌, ◌≢◌, ◌↔◌, ◌⊎◌, None, Some, Ok, Err, option_map, IfOk};
-ghost use Rattle.std.specs.Prelude.{IfErr, IsOkAnd, IsSome, OnOk};
-ghost use Rattle.jsonb.specs.Words.{Tree, cow_bytes, Doc, type_of, raw_bytes, ItemView, item_view};
+ghost use Rattle.std.specs.Prelude.{◌≡◌, ◌↔◌, None, Some, Ok, Err, option_map, IfOk};
+ghost use Rattle.std.specs.Prelude.{IfErr, IsOkAnd, IsSome};
+ghost use Rattle.jsonb.specs.Words.{Tree, cow_bytes, Doc, raw_bytes, item_view};
 ghost use Rattle.jsonb.specs.Words.{result_view, null, item_in, item_of, scalar_item, text_item};
 ghost use Rattle.jsonb.specs.Words.{number_item, extension_item, entry_of, item_document, IsItemIn};
 ghost use Rattle.jsonb.specs.Words.{CanBeStored, kind_of_view, raw_in, text_in};

@@ -1,6 +1,6 @@
 //! Iterators over the children of an array or object, read from the bytes one by one.
 
-ghost use Rattle.std.specs.Prelude.{◌≡◌, ℕ, List, [], length, IfOk, IfErr, IfSome};
+ghost use Rattle.std.specs.Prelude.{◌≡◌, ℕ, List, [], IfOk, IfErr, IfSome};
 ghost use Rattle.jsonb.specs.Walk.{pairs_in};
 ghost use Rattle.jsonb.specs.Words.{YieldsFirstBy, MakesProgress, item_count, raw_bytes, ItemView};
 ghost use Rattle.jsonb.specs.Words.{result_view, pair_view, entry_of, entry_view, Walk, item_read};

@@ -1,7 +1,7 @@
 //! Looking up the value of a key in the bytes, with a counted number of word reads.
 
 ghost use Rattle.std.specs.Prelude.{◌≡◌, ◌+◌, ◌-◌, ◌*◌, ◌<◌, ◌≤◌, ◌↔◌, ◌^◌, length, Ok, Err, IfOk};
-ghost use Rattle.std.specs.Prelude.{IfErr, IfSome, IfNone, IsOk, IsErr, OnOk};
+ghost use Rattle.std.specs.Prelude.{IfErr, IfSome, IfNone, IsOk, OnOk};
 ghost use Rattle.jsonb.specs.Words.{FnReturnsAtPair, OBJECT_CONTAINER_TAG, jentry_at, entry_of};
 ghost use Rattle.jsonb.specs.Words.{part_at, count_under, part_length, part_start, HasParts};
 ghost use Rattle.jsonb.specs.Words.{PassedBefore, IsAccepted, IsNoneFound, IsValueFound, IsRefusal};

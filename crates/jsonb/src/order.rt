@@ -4,7 +4,7 @@ ghost use Rattle.std.specs.Prelude.{◌≡◌, ℕ, List, Some, Ok, IfSome, Matc
 ghost use Rattle.jsonb.specs.Code.{Means};
 ghost use Rattle.jsonb.specs.Words.{IsTotalOrder, on, document, other_bytes, meaning_cmp, norm};
 ghost use Rattle.jsonb.specs.Words.{Tree, tree_cmp, Doc, IsDocument, kind, rank_order, meaning_of};
-ghost use Rattle.jsonb.specs.Words.{view_meaning, item_meaning, raw_bytes, ItemView, item_view};
+ghost use Rattle.jsonb.specs.Words.{view_meaning, item_meaning, ItemView, item_view};
 ghost use Rattle.jsonb.specs.Words.{node_tree, HoldsNoScalar, bytes_in};
 
 mod document;

@@ -1,6 +1,6 @@
 //! Documents that own their bytes.
 
-ghost use Rattle.std.specs.Prelude.{◌≡◌, ◌≤◌, ◌<◌, ◌^◌, ◌⊎◌, length, Err, Some, IfOk, IfErr, OnOk};
+ghost use Rattle.std.specs.Prelude.{◌≡◌, ◌<◌, ◌^◌, ◌⊎◌, length, Err, Some, IfOk, IfErr};
 ghost use Rattle.jsonb.specs.Words.{MadeIfFit, owned_bytes, code_of, scalar_bytes, display_text};
 
 use crate::document::Document;

@@ -22,7 +22,7 @@ pub struct RawJsonb<'a> {
 
 impl<'a> RawJsonb<'a> {
     ghost use Rattle.std.specs.Prelude.{◌≡◌, ◌≢◌, ◌↔◌, ◌⊎◌, ◌+◌, ◌-◌, ◌*◌, ◌≤◌, ℕ, Bool, List, []};
-    ghost use Rattle.std.specs.Prelude.{All, None, Some, Ok, Err, chars, codes, length, option_map};
+    ghost use Rattle.std.specs.Prelude.{All, None, Some, Ok, chars, codes, length, option_map};
     ghost use Rattle.std.specs.Prelude.{string_bytes, IfOk, IfErr, IfSome, IsOkAnd, IsSome, IsTrue};
     ghost use Rattle.std.specs.Prelude.{IsUtf8};
     ghost use Rattle.jsonb.specs.Words.{FnReturnsAtPair, meaning_cmp, norm, IsPlain, compact, Tree};

@@ -6,7 +6,7 @@ ghost use Rattle.jsonb.specs.Words.{extension_of, compact, inside, line_start, c
 ghost use Rattle.jsonb.specs.Words.{quoted_text, extension_text, depth, Doc, document_tree};
 ghost use Rattle.jsonb.specs.Words.{part_tree, rest_trees, rest_pairs, node_tree, array_of};
 ghost use Rattle.jsonb.specs.Words.{object_of, IsContainer, HoldsNoScalar, layout_of, lossy_text};
-ghost use Rattle.jsonb.specs.Words.{other_text, display_text, pretty_display_text, pair_text};
+ghost use Rattle.jsonb.specs.Words.{display_text, pretty_display_text, pair_text};
 ghost use Rattle.jsonb.specs.Words.{HasRoom};
 
 use crate::document::{Contents, Document, Node};

@@ -1,6 +1,6 @@
 -- The canonical document means the tree with signed zeros made unsigned.
 use Rattle.std.proofs.Common.{arith, ◌≡◌, ◌↔◌, ℕ, suc, List, ◌++◌, Option, Some, None, refl, sym}
-use Rattle.std.proofs.Common.{ap, ap₂, subst, ◌∙◌}
+use Rattle.std.proofs.Common.{ap, subst, ◌∙◌}
 use Rattle.std.proofs.lemmas.Bool.{cases_eq}
 use Rattle.jsonb_value.specs.Tree.{Tree, null, boolean, number, text, extension, array, object}
 use Rattle.jsonb_value.specs.Tree.{Trees, no_trees, tree, Pairs, no_pairs, pair, count, pair_count}

@@ -21,7 +21,6 @@ use Rattle.jsonb_codec.proofs.Entries.{IsType-type_of, length-Children}
 use Rattle.jsonb_codec.proofs.Lengths.{length-entries_of, length-canon-scalar, document_of-scalar}
 use Rattle.jsonb_codec.proofs.CanonLaws.{Doc-canon}
 use Rattle.jsonb_codec.proofs.TreeShapes.{entries_of, payloads_of, canon-parts, Fits-parts}
-use Rattle.jsonb_codec.proofs.TreeShapes.{type_of-shape_of}
 use Rattle.jsonb_codec.proofs.Rewriting.{canonical_twice}
 use Rattle.jsonb_codec.proofs.WellFormed.{IsTree-Doc}
 

@@ -1,6 +1,6 @@
 -- What the writer ensures for each shape of a level, for the tree with that shape.
 use Rattle.std.proofs.Common.{◌≡◌, ◌⊎◌, ◌↔◌, ◌++◌, ℕ, List, length, Result, Ok, Err, IfOk}
-use Rattle.std.proofs.Common.{IfErr, OnOk, OnErr, IsOk, inl, inr, refl, ap, rules}
+use Rattle.std.proofs.Common.{IfErr, OnOk, OnErr, IsOk, refl, rules}
 use Rattle.jsonb_value.specs.declared.error.Error.{Error}
 use Rattle.jsonb_value.specs.declared.error.Error.TheVariants.{InvalidJsonb, OutOfMemory}
 use Rattle.jsonb_value.specs.Tree.{Tree}

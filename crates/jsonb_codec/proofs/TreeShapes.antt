@@ -2,7 +2,7 @@
 use Rattle.std.proofs.Common.{◌≡◌, ◌↔◌, ◌<◌, ◌^◌, ℕ, List, suc, true, false, length, refl, ap}
 use Rattle.std.proofs.Common.{rules}
 use Rattle.jsonb_value.specs.Tree as trees
-use Rattle.jsonb_value.specs.Tree.{Tree, null, boolean, number, text, extension, array, object}
+use Rattle.jsonb_value.specs.Tree.{Tree, null, boolean, array, object}
 use Rattle.jsonb_value.specs.Tree.{Trees, no_trees, tree, Pairs, no_pairs, pair, pair_count}
 use Rattle.jsonb_codec.specs.Doc as doc
 use Rattle.jsonb_codec.specs.Shape as shapes

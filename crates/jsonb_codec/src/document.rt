@@ -11,7 +11,7 @@ ghost use Rattle.jsonb_codec.specs.Doc.{Doc, IsDocument};
 ghost use Rattle.jsonb_codec.specs.Depth.{depth, size, IsDocumentWithin};
 ghost use Rattle.jsonb_codec.specs.Payloads.{payloads_in};
 ghost use Rattle.jsonb_codec.specs.Parts.{IsFault, HoldsOrFaults, HasScalar, HasPayload, HasArray};
-ghost use Rattle.jsonb_codec.specs.Parts.{HasObject, HasChildren, HasKeys, IsAbove, IsKeyAfter};
+ghost use Rattle.jsonb_codec.specs.Parts.{HasObject, HasChildren, HasKeys, IsKeyAfter};
 
 use crate::ascii::is_all_ascii;
 use crate::constants::{

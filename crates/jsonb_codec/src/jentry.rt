@@ -1,6 +1,6 @@
 //! Decoding and encoding entry words.
 
-ghost use Rattle.std.specs.Prelude.{◌≡◌, ◌≤◌, ◌+◌, ◌%◌, ◌^◌, bit_and, bit_or};
+ghost use Rattle.std.specs.Prelude.{◌≡◌, ◌≤◌, ◌%◌, ◌^◌, bit_and, bit_or};
 ghost use Rattle.std.proofs.Common.{rules};
 ghost use Rattle.jsonb_codec.specs.Words.{as_partial_cmp, partial_order_from_own_ties, comparing};
 ghost use Rattle.jsonb_codec.specs.Words.{jentry_cmp};

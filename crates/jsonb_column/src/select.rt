@@ -1,7 +1,7 @@
 //! Whether a row has a member with a given name and value.
 
 ghost use Rattle.std.specs.Prelude.{◌≡◌, ◌+◌, ◌≤◌, length};
-ghost use Rattle.jsonb_column.specs.Words.{document_bytes, document_tree, node_tree, has_member};
+ghost use Rattle.jsonb_column.specs.Words.{document_bytes, node_tree, has_member};
 ghost use Rattle.jsonb_column.specs.Words.{row_reads};
 
 use jsonb::{Document, MAX_READS, Node, Reads};

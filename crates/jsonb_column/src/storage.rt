@@ -1,6 +1,6 @@
 //! The stored form of a row.
 
-ghost use Rattle.std.specs.Prelude.{◌≡◌, ◌<◌, ◌^◌, ◌++◌, ◌⊎◌, ℕ, List, length, IfOk, IfErr, OnErr};
+ghost use Rattle.std.specs.Prelude.{◌≡◌, ◌<◌, ◌^◌, ◌++◌, ℕ, List, length, IfOk, IfErr, OnErr};
 ghost use Rattle.std.specs.Prelude.{OnOk};
 ghost use Rattle.jsonb_column.specs.Words.{row_bytes};
 

@@ -1,12 +1,12 @@
 //! The replies to commands, and the changes that commands make to the rows.
 
-ghost use Rattle.std.specs.Prelude.{◌≡◌, ◌↔◌, ◌⊎◌, ◌∷◌, ◌++◌, ℕ, List, [], map, IfErr, IfOk};
+ghost use Rattle.std.specs.Prelude.{◌≡◌, ◌↔◌, ◌∷◌, ◌++◌, [], map, IfErr, IfOk};
 ghost use Rattle.std.specs.Prelude.{IsTrue, string_bytes};
 ghost use Rattle.jsonb_column_cli.specs.Words.{AllDigits, IsNumeral, without_leading_plus, Call};
 ghost use Rattle.jsonb_column_cli.specs.Words.{OutOfMemory, IsDocument, document_bytes, add, count};
 ghost use Rattle.jsonb_column_cli.specs.Words.{owned_bytes, row, sort, find, range, save, load};
 ghost use Rattle.jsonb_column_cli.specs.Words.{IsGiven, IsOutcome, IsRefusal, refusal_name};
-ghost use Rattle.jsonb_column_cli.specs.Words.{refusal_of, name_word, name_json, name_view};
+ghost use Rattle.jsonb_column_cli.specs.Words.{refusal_of, name_word, name_view};
 ghost use Rattle.jsonb_column_cli.specs.Words.{reply_line, rows_line, reply_of};
 
 use hex::FromHexError;

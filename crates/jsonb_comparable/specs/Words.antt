@@ -30,6 +30,6 @@ pub use Rattle.jsonb_comparable.specs.NumberKey.{count_bytes, decimal_key, natur
 pub use Rattle.jsonb_comparable.specs.Sink.{Counts, SinkLaws, length_64}
 pub use Rattle.jsonb_comparable.specs.Sinks.{length_laws, vec_laws}
 pub use Rattle.jsonb_comparable.specs.SplitDigits.{digits_value, signed, split_pairs}
-pub use Rattle.jsonb_comparable.specs.TreeKey.{meaning_key, member_key, pairs_key, text_key}
+pub use Rattle.jsonb_comparable.specs.TreeKey.{meaning_key, member_key, pairs_key}
 pub use Rattle.jsonb_comparable.specs.TreeKey.{tree_key, trees_key}
 pub use Rattle.jsonb_comparable.specs.Within.{meaning_within}

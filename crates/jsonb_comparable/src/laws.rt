@@ -4,7 +4,7 @@ ghost use Rattle.std.specs.Prelude.{◌≡◌, ◌↔◌, ◌++◌, ◌∷◌, [
 ghost use Rattle.jsonb_value.proofs.BigEndian.{AreBytes};
 ghost use Rattle.jsonb_comparable.specs.Words.{slice_cmp, nat_cmp, ordering_then, meaning_cmp, Doc};
 ghost use Rattle.jsonb_comparable.specs.Words.{Tree, tree_cmp, IsTree, AreTrees, trees_of};
-ghost use Rattle.jsonb_comparable.specs.Words.{meaning_of, array_of, object_of, tree_key, text_key};
+ghost use Rattle.jsonb_comparable.specs.Words.{meaning_of, array_of, object_of, tree_key};
 ghost use Rattle.jsonb_comparable.specs.Words.{meaning_key, member_key, meaning_within};
 
 use std::cmp::Ordering;

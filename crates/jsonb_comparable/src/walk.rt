@@ -1,6 +1,6 @@
 //! The walk over a document that writes or measures its key.
 
-ghost use Rattle.std.specs.Prelude.{◌≡◌, IfSome};
+ghost use Rattle.std.specs.Prelude.{IfSome};
 ghost use Rattle.jsonb_comparable.specs.Words.{YieldsFirstBy, trees_of, document_tree, rest_trees};
 ghost use Rattle.jsonb_comparable.specs.Words.{rest_pairs, node_tree, member_tree, pairs_of};
 ghost use Rattle.jsonb_comparable.specs.Words.{HoldsNoScalar, IsContainer, checked_meaning};

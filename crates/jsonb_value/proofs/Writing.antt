@@ -5,9 +5,8 @@ use Rattle.std.proofs.Output.{has_written_styled_append, has_written_styled_of_e
 use Rattle.std.proofs.lemmas.Fmt.{contents_after_writes}
 use Rattle.std.proofs.lemmas.Str.{encode_ascii}
 use Rattle.std.specs.declared.fmt.Formatter.{Formatter}
-use Rattle.std.specs.declared.fmt.Error.{Error}
-use Rattle.std.specs.Prelude.{Result, String, string_bytes}
-use Rattle.std.specs.Fmt.{HasWrittenStyled, formatter_writer, WritesStyledOnOk, WritesOnOk}
+use Rattle.std.specs.Prelude.{String, string_bytes}
+use Rattle.std.specs.Fmt.{HasWrittenStyled, formatter_writer}
 
 module _ {W : Type 0} (took : W → List ℕ → W → Type 0) where
   pub joins_two : (f g h : Formatter W) (a b all : List ℕ) → HasWrittenStyled took f a g
@@ -26,11 +25,6 @@ module _ {W : Type 0} (took : W → List ℕ → W → Type 0) where
       → a ++ (b ++ (c ++ (d ++ e))) ≡ all → HasWrittenStyled took f all k
   joins_five f g h i j k a b c d e all p q r s t is =
       grind (arith, joins_three, has_written_styled_append)
-
-  -- what is written under any formatting options is also written without options
-  pub WritesOnOk-from_styled : (f g : Formatter W) (r : Result (Unit {0}) Error) (bs : List ℕ)
-      → WritesStyledOnOk took f r bs g → WritesOnOk took f r bs g
-  WritesOnOk-from_styled f g r bs writes plain ok = grind arith
 
 -- writing to a string appends
 pub string_bytes-written : {A : Type 0} (f g : Formatter (String A)) (bs : List ℕ)

@@ -1,7 +1,7 @@
 //! Values that JSON has no syntax for, and their payloads.
 
 ghost use Rattle.std.specs.Prelude.{◌≡◌, ◌≤◌, ◌<◌, ◌^◌, ◌∷◌, ◌++◌, ◌⊎◌, Err, IfSome, IfNone, IfOk};
-ghost use Rattle.std.specs.Prelude.{IfErr, OnOk, OnErr, length, take, IsOk, vec_len, vec_capacity};
+ghost use Rattle.std.specs.Prelude.{IfErr, OnOk, OnErr, length, IsOk, vec_len, vec_capacity};
 ghost use Rattle.std.specs.Prelude.{◌+◌};
 ghost use Rattle.jsonb_value.specs.Words.{w32, w64, Appends, IsSigned, Extension, date, timestamp};
 ghost use Rattle.jsonb_value.specs.Words.{timestamp_tz, interval, ExtCode, IsZoned, IsOldZoned};

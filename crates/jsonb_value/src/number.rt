@@ -1,7 +1,7 @@
 //! Numbers with their kinds, and their payloads.
 
 ghost use Rattle.std.specs.Prelude.{◌≡◌, ◌↔◌, ◌≤◌, ◌∷◌, ◌++◌, ℕ, ℤ, List, IsTrue, IfSome, IfNone};
-ghost use Rattle.std.specs.Prelude.{IfOk, IfErr, OnOk, OnErr, length, take, IsOk, vec_len, ◌+◌};
+ghost use Rattle.std.specs.Prelude.{IfOk, IfErr, OnOk, OnErr, length, IsOk, vec_len, ◌+◌};
 ghost use Rattle.std.specs.Prelude.{vec_capacity, Some};
 ghost use Rattle.jsonb_value.specs.Words.{w64, w128, Appends, Number, IsSignedNumber, NumCode};
 ghost use Rattle.jsonb_value.specs.Words.{IsUnsignedNumber, IsWholeLength, IsDecimalLength};

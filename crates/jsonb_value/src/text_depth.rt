@@ -1,6 +1,6 @@
 //! How deep a text nests, before it is read.
 
-ghost use Rattle.std.specs.Prelude.{◌≡◌, ◌↔◌, ◌+◌, ◌≤◌, ◌<◌, ◌^◌, length, IsTrue};
+ghost use Rattle.std.specs.Prelude.{◌≡◌, ◌↔◌, ◌+◌, ◌≤◌, ◌<◌, ◌^◌, IsTrue};
 ghost use Rattle.jsonb_value.specs.Words.{state_after, level_after, text_depth};
 
 // Whether the next character is outside strings, inside one, or after its backslash.

@@ -1,6 +1,6 @@
 //! Texts of JSON, read within a depth.
 
-ghost use Rattle.std.specs.Prelude.{◌≡◌, ◌↔◌, ◌⊎◌, ◌<◌, ◌≤◌, Err, IfOk, IfErr, List, chars};
+ghost use Rattle.std.specs.Prelude.{◌≡◌, ◌↔◌, ◌⊎◌, ◌<◌, ◌≤◌, Err, IfOk, IfErr, chars};
 ghost use Rattle.jsonb_value.specs.Depth.{depth as tree_depth};
 ghost use Rattle.jsonb_value.specs.Words.{Refused, Tree, tree_of, Json, text_depth, HasItsDepth};
 ghost use Rattle.jsonb_value.specs.Words.{parse_error_name};

@@ -1,6 +1,6 @@
 //! The positions of the parts of an array or object, and copying parts out as documents.
 
-ghost use Rattle.std.specs.Prelude.{◌≡◌, ◌≢◌, ◌+◌, ◌≤◌, ◌<◌, ◌^◌, ℕ, List, length, false, Option};
+ghost use Rattle.std.specs.Prelude.{◌≡◌, ◌≢◌, ◌+◌, ◌<◌, ◌^◌, ℕ, List, length, false, Option};
 ghost use Rattle.std.specs.Prelude.{Some, Result, Ok, Err, IfOk, IsUtf8};
 ghost use Rattle.kohiblad.specs.Words.{Error, Place, code, IsAnswered, IsHandedOver, IsRefused};
 ghost use Rattle.kohiblad.specs.Words.{Tree, Doc, IsPayloadOf, IsItemPlace, AreMemberPlaces};

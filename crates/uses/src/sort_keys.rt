@@ -1,6 +1,6 @@
 //! Sorts a column of byte strings, each checked once.
 
-ghost use Rattle.std.specs.Prelude.{◌≡◌, map, IfOk, IsPermutation, IsSorted};
+ghost use Rattle.std.specs.Prelude.{map, IfOk, IsPermutation, IsSorted};
 ghost use Rattle.jsonb.specs.SortKey.{key_bytes};
 ghost use Rattle.jsonb.specs.Words.{on, meaning_cmp, key_meaning};
 

@@ -1,7 +1,7 @@
 //! Writing the canonical form of a document while reading the document.
 
 ghost use Rattle.std.specs.Prelude.{◌≡◌, ◌≤◌, ◌+◌, ◌++◌, length, vec_capacity, IsOk};
-ghost use Rattle.std.specs.Prelude.{IfErr, OnOk, OnErr};
+ghost use Rattle.std.specs.Prelude.{OnOk, OnErr};
 ghost use Rattle.jsonb_codec.specs.Canon.{Fits};
 ghost use Rattle.jsonb_codec.specs.Words.{Tree, IsTree, Doc, IsDocument, canon, code_of, Means};
 ghost use Rattle.jsonb_codec.specs.Words.{LevelIs, MadeIfFit};

@@ -13,7 +13,7 @@ use Rattle.std.specs.Str.{IsUtf8}
 use Rattle.jsonb_value.specs.declared.number.Number.{Number}
 use Rattle.jsonb_value.specs.Plain.{IsPlain, ArePlain, PairsPlain}
 use Rattle.jsonb_value.specs.Text.{Layout, in_one_line, on_lines, inside, line_start, colon}
-use Rattle.jsonb_value.specs.Text.{byte_text, number_text, laid_out, more_items}
+use Rattle.jsonb_value.specs.Text.{number_text, laid_out, more_items}
 use Rattle.jsonb_value.specs.Text.{more_pairs}
 use Rattle.jsonb_value.specs.Text as bytes
 use Rattle.jsonb_value.specs.TreeOrder.{tree_cmp}
