@@ -309,7 +309,7 @@ module _ (answers : List ℕ → Bool → Type 0) (size : ℕ) (b : List ℕ) wh
           cost = omega arith;
         }
 
-  tree_found : (t : Tree) (r : Result (Option ItemView) Error) (reads : ℕ) → Doc b t
+  pub tree_found : (t : Tree) (r : Result (Option ItemView) Error) (reads : ℕ) → Doc b t
       → LooksUpBytes answers size b r reads
       → IsOkAnd r (λ found. LooksUp answers size b t found reads)
   tree_found (object ps) r reads doc h = pairs_found ps (numbered b ps (object_payload b ps doc)) r

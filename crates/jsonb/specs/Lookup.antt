@@ -12,6 +12,7 @@ use Rattle.jsonb_value.specs.Tree.{Tree, object, Pairs, no_pairs, pair, pair_cou
 use Rattle.jsonb_codec.specs.declared.constants.TheConstants.{OBJECT_CONTAINER_TAG}
 use Rattle.jsonb_codec.specs.Word.{header_at}
 use Rattle.jsonb.specs.declared.item.JsonbItem.{JsonbItem}
+use Rattle.jsonb.specs.declared.lookup.FoundValue.{FoundValue}
 use Rattle.jsonb.specs.ItemView.{ItemView, item_view}
 use Rattle.jsonb.specs.Steps.{◌>>=◌}
 use Rattle.jsonb.specs.Item.{Entry}
@@ -147,6 +148,11 @@ LooksUpInBytes answers size b r = (reads : ℕ) × LooksUpBytes answers size b r
 abbrev pub value_view : Result (Option JsonbItem) Error → Result (Option ItemView) Error
 value_view (Ok item) = Ok (option_map item_view item)
 value_view (Err e) = Err e
+
+-- The contents of the item that a look-up found.
+abbrev pub found_view : Result (Option FoundValue) Error → Result (Option ItemView) Error
+found_view (Ok found) = Ok (option_map (λ (f : FoundValue). item_view f.item) found)
+found_view (Err e) = Err e
 
 -- The count in a header that was read; 0 for an error.
 abbrev pub count_or_zero : Result (ℕ × ℕ) Error → ℕ

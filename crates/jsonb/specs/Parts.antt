@@ -6,6 +6,7 @@ use Rattle.std.specs.Prelude.{Err, IsOkAnd}
 use Rattle.jsonb_value.specs.declared.error.Error.{Error}
 use Rattle.jsonb_codec.specs.declared.jentry.JEntry.{JEntry}
 use Rattle.jsonb_codec.specs.JEntry.{jentry_at}
+use Rattle.jsonb.specs.declared.lookup.Place.{Place}
 use Rattle.jsonb.specs.Item.{Entry, entry_at, part_at}
 use Rattle.jsonb.specs.Steps.{◌>>=◌}
 
@@ -41,6 +42,14 @@ key_of_size size bytes n pair = do
 -- The entry of this pair's value.
 abbrev pub value_entry : List ℕ → ℕ → ℕ → Result Entry Error
 value_entry bytes n pair = entry_at bytes (4 + 4 * (n + pair)) (part_start bytes n (n + pair))
+
+-- The place of the payload of the entry with this number: its type and length are those in the
+-- entry's word, and it is inside the bytes.
+pub record IsPlaceOf (bytes : List ℕ) (n part : ℕ) (place : Place) : Type 0 where
+  pub entry : jentry_at bytes (4 + 4 * part)
+      ≡ Ok record { type_code = place.type_code; length = place.length }
+  pub start : place.start ≡ part_start bytes n part
+  pub inside : place.start + place.length ≤ length bytes
 
 -- The key of this pair can be read if it has the size, and it is passed over.
 abbrev pub IsPassedAt : (List ℕ → Bool → Type 0) → ℕ → List ℕ → ℕ → ℕ → Type 0

@@ -64,13 +64,13 @@ pub use Rattle.jsonb.specs.Kind.{kind, kind_of_tree, kind_of_type, kind_rank, ra
 pub use Rattle.jsonb.specs.Lines.{HasRoom, pair_text}
 pub use Rattle.jsonb.specs.Lookup.{AnswersBy, IsItemFound, IsRefusal, LooksUp, LooksUpBytes}
 pub use Rattle.jsonb.specs.Lookup.{LooksUpIn, LooksUpInBytes, find, find_pair, header_count}
-pub use Rattle.jsonb.specs.Lookup.{value_view}
+pub use Rattle.jsonb.specs.Lookup.{found_view, value_view}
 pub use Rattle.jsonb.specs.Node.{HoldsNoScalar, IsContainer, array_of, first_key_of, item_at_index}
 pub use Rattle.jsonb.specs.Node.{items_of, members_of, node_tree, object_of, value_of_key}
 pub use Rattle.jsonb.specs.Node.{words_for_key}
 pub use Rattle.jsonb.specs.Owned.{owned_bytes}
 pub use Rattle.jsonb.specs.Parts.{HasParts, IsAccepted, IsNoneFound, IsUnreadable, IsValueFound}
-pub use Rattle.jsonb.specs.Parts.{PassedBefore, part_length, part_start}
+pub use Rattle.jsonb.specs.Parts.{IsPlaceOf, PassedBefore, part_length, part_start}
 pub use Rattle.jsonb.specs.Payloads.{extension_error}
 pub use Rattle.jsonb.specs.Raw.{raw_bytes}
 pub use Rattle.jsonb.specs.Results.{AllMean, AllMeanAt, AreWithinLimits, IsArrayOfDocuments}

@@ -269,9 +269,9 @@ impl<'a> Document<'a> {
         };
         let is_name = |name: &[u8], key: &[u8]| name == key;
         match find_value(bytes, count, name, &is_name, reads) {
-            Ok(Some(value)) => Some(Part {
-                type_code: value.type_code,
-                payload: value.payload,
+            Ok(Some(found)) => Some(Part {
+                type_code: found.entry.type_code,
+                payload: found.entry.payload,
             }),
             Ok(None) => None,
             Err(_) => unreachable!(),

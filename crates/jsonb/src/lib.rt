@@ -39,7 +39,7 @@ pub use jsonb_value::{
     order_of_extension_values, order_of_meanings, order_of_numbers, order_of_trees, parse_string,
     parse_value, parse_value_within, write_number, write_string,
 };
-pub use lookup::MAX_READS;
+pub use lookup::{FoundValue, MAX_READS, Place};
 pub use nodes::{Items, Members};
 pub use number_item::NumberItem;
 pub use order::{byte_order_laws, meaning_laws};

@@ -8,10 +8,33 @@ ghost use Rattle.jsonb.specs.Words.{PassedBefore, IsAccepted, IsNoneFound, IsVal
 ghost use Rattle.jsonb.specs.Words.{IsUnreadable, NoneOfSize, IsFirstUnread, header_count};
 
 use crate::entries::Entry;
+use crate::item::JsonbItem;
 use crate::reads::Reads;
 use jsonb_codec::constants::OBJECT_CONTAINER_TAG;
 use jsonb_codec::{JEntry, decode_header};
 use jsonb_value::Error;
+
+/// The type of an entry, and the offset and length of its payload in bytes.
+#[derive(Clone, Copy)]
+pub struct Place {
+    pub type_code: u32,
+    pub start: usize,
+    pub length: usize,
+}
+
+/// A value that a look-up found, and where its payload is.
+#[derive(Drop)]
+pub struct FoundValue<'a> {
+    pub item: JsonbItem<'a>,
+    pub place: Place,
+}
+
+/// The entry of a value that was found, and the offset of its payload.
+#[derive(Clone, Copy)]
+pub struct FoundEntry<'a> {
+    pub entry: Entry<'a>,
+    pub start: usize,
+}
 
 /// The greatest tally at which a look-up may begin.
 pub const MAX_READS: u64 = 9_223_372_036_854_775_807;
@@ -190,7 +213,7 @@ pub fn find_value<'a, F: Fn(&[u8], &[u8]) -> bool>(
     name: &str,
     eq_func: &F,
     reads: &mut Reads,
-) -> Result<Option<Entry<'a>>, Error>
+) -> Result<Option<FoundEntry<'a>>, Error>
     requires count { count < 2 ^ 29 }
     requires callable { (a b : _) → a.now ≡ name.now → length b.now ≡ length name.now
         → F.pre eq_func.now a b }
@@ -198,9 +221,11 @@ pub fn find_value<'a, F: Fn(&[u8], &[u8]) -> bool>(
     ensures none { IfOk result (λ answer. IfNone answer
         (IsNoneFound (λ key b. FnReturnsAtPair F.Fn eq_func.now name.now key b) (length name.now)
         bytes.now count (reads.new - reads.old))) }
-    ensures some { IfOk result (λ answer. IfSome answer (λ entry.
+    ensures some { IfOk result (λ answer. IfSome answer (λ found.
         IsValueFound (λ key b. FnReturnsAtPair F.Fn eq_func.now name.now key b) (length name.now)
-        bytes.now count (entry_of entry) (reads.new - reads.old))) }
+        bytes.now count (entry_of found.entry) (reads.new - reads.old))) }
+    ensures start { IfOk result (λ answer. IfSome answer (λ found.
+        found.start ≡ part_start bytes.now count (reads.new - reads.old - 1))) }
     ensures unread { IfErr result
         (IsUnreadable (λ key b. FnReturnsAtPair F.Fn eq_func.now name.now key b)
         (length name.now) bytes.now count) }
@@ -218,9 +243,10 @@ pub fn find_value<'a, F: Fn(&[u8], &[u8]) -> bool>(
     };
     let wanted = count + key.pair;
     let start = skip_parts(bytes, count, key, wanted, reads);
-    let entry = entry_within(bytes, wanted, reads);
-    Ok(Some(Entry {
-        type_code: entry.type_code,
-        payload: payload(bytes, start, entry.length as usize)?,
-    }))
+    let jentry = entry_within(bytes, wanted, reads);
+    let entry = Entry {
+        type_code: jentry.type_code,
+        payload: payload(bytes, start, jentry.length as usize)?,
+    };
+    Ok(Some(FoundEntry { entry, start }))
 }

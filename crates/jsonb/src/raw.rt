@@ -3,7 +3,7 @@
 use crate::document::Document;
 use crate::item::{JsonbItem, item_of_entry};
 use crate::item_type::{JsonbItemType, kind_of};
-use crate::lookup::{MAX_READS, count_pairs, find_value};
+use crate::lookup::{FoundValue, MAX_READS, Place, count_pairs, find_value};
 use crate::owned::OwnedJsonb;
 use crate::reads::Reads;
 use crate::text::{finish_text, write_pretty, write_view};
@@ -32,6 +32,7 @@ impl<'a> RawJsonb<'a> {
     ghost use Rattle.jsonb.specs.Words.{document_bytes, document_tree, kind, kind_of_tree, LooksUp};
     ghost use Rattle.jsonb.specs.Words.{header_count, IsRefusal, LooksUpIn, LooksUpBytes, find};
     ghost use Rattle.jsonb.specs.Words.{LooksUpInBytes, value_view, AnswersBy, IsItemFound};
+    ghost use Rattle.jsonb.specs.Words.{found_view, IsPlaceOf};
     ghost use Rattle.jsonb.specs.Words.{raw_meaning, owned_bytes, raw_bytes, item_view, IsFoundIn};
     ghost use Rattle.jsonb.specs.Words.{other_text, display_text, pretty_display_text};
 
@@ -188,14 +189,61 @@ impl<'a> RawJsonb<'a> {
             (length name.now) (raw_bytes self.now) t (option_map item_view found)
             (reads.new - reads.old)) }
     {
+        match self.find_object_value_counted(name, eq_func, reads)? {
+            Some(found) => Ok(Some(found.item)),
+            None => Ok(None),
+        }
+    }
+
+    /// The value of the first key, in stored order, that has the name's length in bytes and for
+    /// which `eq_func(name, key)` is true, and where its payload is in the bytes: the type of its
+    /// entry, and the payload's offset and length. `eq_func` is called only for keys of that
+    /// length. `None` for a scalar, an array and `{}`, and if no key is accepted. No word is read
+    /// twice: `reads` is raised as by `get_object_value_by_key_name_counted`, and must be at most
+    /// `MAX_READS` before the call.
+    ///
+    /// `InvalidEOF` if the header or an entry word that is read is cut off; `InvalidJsonb` for a
+    /// header of no kind, if a key of the name's length or the value runs past the end, and for a
+    /// value of an unknown type; `InvalidUtf8`, `InvalidJsonbNumber` or `InvalidJsonbExtension` if
+    /// the value's payload is invalid.
+    pub fn find_object_value_counted<F: Fn(&[u8], &[u8]) -> bool + Drop>(
+        &self,
+        name: &str,
+        eq_func: F,
+        reads: &mut Reads,
+    ) -> Result<Option<FoundValue<'a>>, Error>
+        requires room { reads.old ≤ MAX_READS }
+        requires callable { (a b : _) → a.now ≡ name.now → length b.now ≡ length name.now
+            → F.pre eq_func a b }
+        ensures bound { (reads.old ≤ reads.new)
+            × (reads.new ≤ reads.old + (2 * header_count (raw_bytes self.now) + 1)) }
+        ensures refused { IfErr result IsRefusal }
+
+        // On any bytes: the result or the error, given the results of the closure.
+        ensures bytes { LooksUpBytes (λ key b. FnReturnsAtPair F.Fn eq_func name.now key b)
+            (length name.now) (raw_bytes self.now) (found_view result) (reads.new - reads.old) }
+
+        // The entry is the one whose word was read last.
+        ensures place { IfOk result (λ o. IfSome o (λ found.
+            IsPlaceOf (raw_bytes self.now) (header_count (raw_bytes self.now))
+            (reads.new - reads.old - 2) found.place)) }
+    {
         let bytes = self.as_bytes();
         let Some(count) = count_pairs(bytes, reads)? else {
             return Ok(None);
         };
-        let Some(entry) = find_value(bytes, count, name, &eq_func, reads)? else {
+        let Some(found) = find_value(bytes, count, name, &eq_func, reads)? else {
             return Ok(None);
         };
-        Ok(Some(item_of_entry(entry)?))
+        let place = Place {
+            type_code: found.entry.type_code,
+            start: found.start,
+            length: found.entry.payload.len(),
+        };
+        Ok(Some(FoundValue {
+            item: item_of_entry(found.entry)?,
+            place,
+        }))
     }
 
     /// The value of the first key, in stored order, that has the name's length in bytes and for

@@ -165,10 +165,7 @@ pub fn answer_row(alloc: Global, column: &Column, index: &str) -> Result<String,
         return Err(Refusal::BadCommand);
     }
     // A number that does not fit `usize` is greater than every index.
-    let _ = column.len();
-    let Ok(index) = index.parse::<usize>() else {
-        return Err(Refusal::NoRow);
-    };
+    let index = index.parse::<usize>().unwrap_or(column.len());
     let Some(row) = column.row(index) else {
         return Err(Refusal::NoRow);
     };

@@ -27,18 +27,18 @@ use Rattle.jsonb.proofs.StoredEntryLaws.{AreEntries, AreEntries-trees, AreEntrie
 use Rattle.jsonb.proofs.StoredEntryLaws.{AreEntries-pairs, HasItems-Payload, HasMembers-Payload}
 use Rattle.jsonb.proofs.StoredEntryLaws.{first_entry, items_at, members_at}
 use Rattle.jsonb.proofs.StorageLaws.{length-code_entries}
-use Rattle.kohiblad.specs.declared.places.Place.{Place}
-use Rattle.kohiblad.specs.Places.{place_at, place_after, item_under, item_place, member_under}
-use Rattle.kohiblad.specs.Places.{member_places, entry_there, member_there, IsItemPlace}
-use Rattle.kohiblad.specs.Places.{place_in, place_under, place_among, all_entries, IsPartPlace}
-use Rattle.kohiblad.specs.Places.{AreMemberPlaces}
+use Rattle.jsonb.specs.declared.lookup.Place.{Place}
+use Rattle.kohiblad.specs.Places.{start_after, place_at, part_place, item_under, item_place}
+use Rattle.kohiblad.specs.Places.{member_under, member_places, entry_there, member_there}
+use Rattle.kohiblad.specs.Places.{place_in, place_under, place_among, all_entries}
+use Rattle.kohiblad.specs.Places.{IsItemPlace, IsPartPlace, AreMemberPlaces}
 
-pub place_after-cut : (bytes : List ℕ) (nth index start : ℕ) (e : Error) → 0 < nth
-    → jentry_at bytes index ≡ Err e → place_after bytes nth index start ≡ Err e
-place_after-cut bytes zero index start e some cut = absurd (omega arith)
-place_after-cut bytes (suc nth) index start e some cut =
+pub start_after-cut : (bytes : List ℕ) (nth index start : ℕ) (e : Error) → 0 < nth
+    → jentry_at bytes index ≡ Err e → start_after bytes nth index start ≡ Err e
+start_after-cut bytes zero index start e some cut = absurd (omega arith)
+start_after-cut bytes (suc nth) index start e some cut =
     ap (λ (r : Result JEntry Error). r
-    >>= (λ (entry : JEntry). place_after bytes nth (index + 4) (start + entry.length))) cut
+    >>= (λ (entry : JEntry). start_after bytes nth (index + 4) (start + entry.length))) cut
 
 -- the position of an entry in the bytes
 abbrev pub IsItemAt : List ℕ → Result Place Error → Entry → Type 0
@@ -63,21 +63,25 @@ place_stored bytes i j c cs is a b =
       ),
     )
 
-place_after_stored : (bytes : List ℕ) (nth i j : ℕ) (cs : List Entry) (c : Entry) → AreEntries cs
-    → At bytes i (code_entries cs) → At bytes j (code_payloads cs) → slice_get cs nth ≡ Some c
-    → IsItemAt bytes (place_after bytes nth i j) c
-place_after_stored bytes zero i j [] c is a b there = let never : ⊥ = cc in absurd never
-place_after_stored bytes (suc nth) i j [] c is a b there = let never : ⊥ = cc in absurd never
-place_after_stored bytes zero i j (x ∷ cs) c is a b there =
+part_stored_at : (bytes : List ℕ) (nth i j k : ℕ) (cs : List Entry) (c : Entry) → k ≡ i + 4 * nth
+    → AreEntries cs → At bytes i (code_entries cs) → At bytes j (code_payloads cs)
+    → slice_get cs nth ≡ Some c
+    → IsItemAt bytes (start_after bytes nth i j >>= place_at bytes k) c
+part_stored_at bytes zero i j k [] c at is a b there = let never : ⊥ = cc in absurd never
+part_stored_at bytes (suc nth) i j k [] c at is a b there = let never : ⊥ = cc in absurd never
+part_stored_at bytes zero i j k (x ∷ cs) c at is a b there =
     let same : x ≡ c = cc in
-    subst (IsItemAt bytes (place_at bytes i j)) same (place_stored bytes i j x cs is a b)
-place_after_stored bytes (suc nth) i j (x ∷ cs) c is a b there =
+    let first : i ≡ k = omega arith in
+    subst (λ (w : ℕ). IsItemAt bytes (place_at bytes w j) c) first
+    (subst (IsItemAt bytes (place_at bytes i j)) same (place_stored bytes i j x cs is a b))
+part_stored_at bytes (suc nth) i j k (x ∷ cs) c at is a b there =
     let f = first_entry bytes i j x cs is.0 a b in
-    let more = place_after_stored bytes nth (i + 4)
-    (j + length x.payload) cs c is.1 f.other_entries f.other_payloads there in
+    let more = part_stored_at bytes nth (i + 4)
+    (j + length x.payload) k cs c (omega arith) is.1 f.other_entries f.other_payloads there in
     let next = ap
-    (λ (r : Result JEntry Error). r
-    >>= (λ (entry : JEntry). place_after bytes nth (i + 4) (j + entry.length))) f.jentry in
+    (λ (r : Result JEntry Error). (r
+    >>= (λ (entry : JEntry). start_after bytes nth (i + 4) (j + entry.length)))
+    >>= place_at bytes k) f.jentry in
     (more.0, (next ∙ more.1.0, more.1.1))
 
 module _ (b : List ℕ) (cs : List Entry) (is : AreEntries cs) (entries_at : At b 4 (code_entries cs))
@@ -90,8 +94,8 @@ module _ (b : List ℕ) (cs : List Entry) (is : AreEntries cs) (entries_at : At 
       × ((place_among b nth n ≡ Ok o)
       × (option_map (entry_there b) o ≡ slice_get cs nth))
   part_there (inl (x, inside, there, here)) =
-      let stored = place_after_stored b nth 4
-      (4 + 4 * n) cs x is entries_at payloads_at there in
+      let stored = part_stored_at b nth 4 (4 + 4 * n) (4 + 4 * nth) cs x refl is entries_at
+      payloads_at there in
       let test = lt-leb n nth (omega arith) in
       let found = stored.1.0 in
       (Some stored.0, (rw (test, found) refl, ap (λ (c : Entry). Some c) stored.1.1 ∙ sym there))
@@ -247,12 +251,12 @@ module _ (b : List ℕ) (ms : List (List ℕ × Entry)) (is : AreEntries (all_en
   member_at (inl (m, inside, there, here)) =
       let number_of : length ms + index ≡ length (key_codes (keys_of ms)) + index =
       ap (λ (n : ℕ). n + index) (sym (length-all_keys ms)) in
-      let key = place_after_stored b index 4 (4 + 4 * (2 * length ms))
-      (all_entries ms) _ is at.entries_at at.payloads_at
+      let key = part_stored_at b index 4 (4 + 4 * (2 * length ms)) (4 + 4 * index)
+      (all_entries ms) _ refl is at.entries_at at.payloads_at
       (key_at_index ms (values_of ms) index m there) in
       let value =
-      place_after_stored b (length ms + index) 4 (4 + 4 * (2 * length ms))
-      (all_entries ms) m.1 is at.entries_at at.payloads_at
+      part_stored_at b (length ms + index) 4 (4 + 4 * (2 * length ms))
+      (4 + 4 * (length ms + index)) (all_entries ms) m.1 refl is at.entries_at at.payloads_at
       (after_keys (key_codes (keys_of ms)) (values_of ms) (length ms + index) index m.1 number_of
       (value_at_index ms index m there)) in
       let test = lt-leb (length ms) index inside in
@@ -274,7 +278,7 @@ module _ (b : List ℕ) (ms : List (List ℕ × Entry)) (is : AreEntries (all_en
 -- the position of a value's entry
 pub value_stored : (b : List ℕ) (ps : Pairs) (ms : List (List ℕ × Entry)) → HasMembers b ps ms
     → (index : ℕ) (c : Entry) → slice_get (values_of ms) index ≡ Some c
-    → IsItemAt b (place_after b (length ms + index) 4 (4 + 4 * (2 * length ms))) c
+    → IsItemAt b (part_place b (2 * length ms) (length ms + index)) c
 value_stored b ps ms h index c there =
     let at = all_at b ms h.few h.written in
     let is = AreEntries-append (key_codes (keys_of ms)) (values_of ms)
@@ -282,8 +286,8 @@ value_stored b ps ms h index c there =
     (AreEntries-pairs (keys_of ms) (values_of ms) ps h.mean h.short) in
     let number_of : length ms + index ≡ length (key_codes (keys_of ms)) + index =
     ap (λ (n : ℕ). n + index) (sym (length-all_keys ms)) in
-    place_after_stored b (length ms + index) 4 (4 + 4 * (2 * length ms))
-    (all_entries ms) c is at.entries_at at.payloads_at
+    part_stored_at b (length ms + index) 4 (4 + 4 * (2 * length ms)) (4 + 4 * (length ms + index))
+    (all_entries ms) c refl is at.entries_at at.payloads_at
     (after_keys (key_codes (keys_of ms)) (values_of ms) (length ms + index) index c number_of
     there)
 

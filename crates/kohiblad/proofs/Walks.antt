@@ -1,5 +1,5 @@
 -- Walks over the children of an array or object.
-use Rattle.std.proofs.Common.{◌≡◌, ℕ, zero, suc, ◌+◌, ◌*◌, ◌==◌, ◌≤◌, nat_le, if◌then◌else◌, Bool}
+use Rattle.std.proofs.Common.{◌≡◌, ℕ, zero, suc, ◌+◌, ◌*◌, ◌==◌, nat_le, if◌then◌else◌, Bool}
 use Rattle.std.proofs.Common.{true, false, List, length, Option, None, Some, Result, Ok, Err, refl}
 use Rattle.std.proofs.Common.{sym, ap, ap₂, subst, ◌∙◌, arith}
 use Rattle.std.proofs.lemmas.Bool.{eqb-true}
@@ -13,20 +13,14 @@ use Rattle.jsonb_codec.specs.Word.{header_at}
 use Rattle.jsonb.specs.Steps.{◌>>=◌}
 use Rattle.kohiblad.specs.declared.children.Child.{Child}
 use Rattle.kohiblad.specs.declared.children.KohibladCursor.{KohibladCursor}
-use Rattle.kohiblad.specs.declared.places.Place.{Place}
-use Rattle.kohiblad.specs.Places.{place_at, place_after, part_place, some_place, both_places}
-use Rattle.kohiblad.specs.Children.{start_after, part_start, item_cursor, member_cursor}
+use Rattle.jsonb.specs.declared.lookup.Place.{Place}
+use Rattle.kohiblad.specs.Places.{start_after, part_start, place_at, part_place, some_place}
+use Rattle.kohiblad.specs.Places.{both_places}
+use Rattle.kohiblad.specs.Children.{item_cursor, member_cursor}
 use Rattle.kohiblad.specs.Children.{cursor_under, cursor_at, item_child, member_child}
 use Rattle.kohiblad.specs.Children.{numbered_under, numbered_child, item_there, member_there}
 use Rattle.kohiblad.specs.Children.{child_under, child_at, end_of, cursor_after, value_answer}
 use Rattle.kohiblad.specs.Status.{code}
-
-pub start_after-cut : (bytes : List ℕ) (nth index start : ℕ) (e : Error) → 0 + 1 ≤ nth
-    → jentry_at bytes index ≡ Err e → start_after bytes nth index start ≡ Err e
-start_after-cut bytes zero index start e some cut = absurd (omega arith)
-start_after-cut bytes (suc nth) index start e some cut =
-    ap (λ (r : Result JEntry Error). r
-    >>= (λ (entry : JEntry). start_after bytes nth (index + 4) (start + entry.length))) cut
 
 -- one entry more
 module _ (bytes : List ℕ) (v : ℕ) (e : JEntry) where
@@ -49,26 +43,6 @@ module _ (bytes : List ℕ) (v : ℕ) (e : JEntry) where
   start_step (suc n) i s j at here there =
       step_under n (i + 4) s (jentry_at bytes i)
       (λ x more. start_step n (i + 4) (s + x.length) j (omega arith) more there) here
-
--- the place of the payload that begins there
-module _ (bytes : List ℕ) (v : ℕ) where
-  place_under : (n i s j : ℕ) (r : Result JEntry Error)
-      → ((x : JEntry) → start_after bytes n i (s + x.length) ≡ Ok v
-      → place_after bytes n i (s + x.length) ≡ place_at bytes j v)
-      → r >>= (λ (x : JEntry). start_after bytes n i (s + x.length)) ≡ Ok v
-      → r >>= (λ (x : JEntry). place_after bytes n i (s + x.length)) ≡ place_at bytes j v
-  place_under n i s j (Ok x) more here = more x here
-  place_under n i s j (Err e) more here = let never : ⊥ = cc in absurd never
-
-  pub place_from : (n i s j : ℕ) → j ≡ i + 4 * n → start_after bytes n i s ≡ Ok v
-      → place_after bytes n i s ≡ place_at bytes j v
-  place_from zero i s j at here =
-      let same : s ≡ v = cc in
-      let first : i ≡ j = omega arith in
-      ap₂ (place_at bytes) first same
-  place_from (suc n) i s j at here =
-      place_under n (i + 4) s j (jentry_at bytes i)
-      (λ x more. place_from n (i + 4) (s + x.length) j (omega arith) more) here
 
 -- where the payload of a place that was found ends
 abbrev EndsBy : ℕ → Place → Result JEntry Error → Type 0
@@ -148,7 +122,7 @@ module _ (bytes : List ℕ) (i count v : ℕ) (here : part_start bytes count i �
   item_same false =
       item_of (place_at bytes (4 + 4 * i) v)
       ∙ ap (λ (r : Result Place Error). item_child (some_place r))
-      (sym (place_from bytes v i 4 (4 + 4 * count) (4 + 4 * i) refl here))
+      (sym (ap (λ (r : Result ℕ Error). r >>= place_at bytes (4 + 4 * i)) here))
 
   item_next_of : (child : Child) (r : Result Place Error)
       → ((value : Place) → r ≡ Ok value → part_start bytes count (suc i) ≡ Ok (end_of value))
@@ -186,9 +160,8 @@ module _ (bytes : List ℕ) (i count k v : ℕ) (keys : part_start bytes (2 * co
       member_of (place_at bytes (4 + 4 * i) k) (place_at bytes (4 + 4 * (count + i)) v)
       ∙ ap₂ (λ (r q : Result Place Error). member_child
       (r >>= (λ (key : Place). q >>= (λ (value : Place). Ok (Some (key, value))))))
-      (sym (place_from bytes k i 4 (4 + 4 * (2 * count)) (4 + 4 * i) refl keys))
-      (sym (place_from bytes v (count + i) 4 (4 + 4 * (2 * count)) (4 + 4 * (count + i)) refl
-      values))
+      (sym (ap (λ (r : Result ℕ Error). r >>= place_at bytes (4 + 4 * i)) keys))
+      (sym (ap (λ (r : Result ℕ Error). r >>= place_at bytes (4 + 4 * (count + i))) values))
 
   member_next_of : (child : Child) (r q : Result Place Error)
       → ((key : Place) → r ≡ Ok key → part_start bytes (2 * count) (suc i) ≡ Ok (end_of key))

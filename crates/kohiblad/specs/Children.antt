@@ -1,29 +1,17 @@
 -- The children of an array or object, one after another, and where a walk over them has come.
-use Rattle.std.specs.Prelude.{◌≡◌, ℕ, zero, suc, ◌+◌, ◌*◌, ◌==◌, nat_le, if◌then◌else◌, List}
+use Rattle.std.specs.Prelude.{◌≡◌, ℕ, suc, ◌+◌, ◌*◌, ◌==◌, nat_le, if◌then◌else◌, List}
 use Rattle.std.specs.Prelude.{Option, Some, None, Result, Ok, Err, IfOk, IfSome, ◌<◌, ◌^◌}
 use Rattle.jsonb_value.specs.declared.error.Error.{Error}
 use Rattle.jsonb_codec.specs.declared.constants.TheConstants.{ARRAY_CONTAINER_TAG}
 use Rattle.jsonb_codec.specs.declared.constants.TheConstants.{OBJECT_CONTAINER_TAG}
-use Rattle.jsonb_codec.specs.JEntry.{jentry_at}
 use Rattle.jsonb_codec.specs.Word.{header_at}
 use Rattle.jsonb.specs.Steps.{◌>>=◌}
 use Rattle.kohiblad.specs.declared.children.Child.{Child}
 use Rattle.kohiblad.specs.declared.children.KohibladCursor.{KohibladCursor}
-use Rattle.kohiblad.specs.declared.places.Place.{Place}
+use Rattle.jsonb.specs.declared.lookup.Place.{Place}
 use Rattle.kohiblad.specs.declared.places.KohibladPlace.{KohibladPlace}
-use Rattle.kohiblad.specs.Places.{place_at, place_answer, item_under, member_under}
+use Rattle.kohiblad.specs.Places.{part_start, place_at, place_answer, item_under, member_under}
 use Rattle.kohiblad.specs.Status.{code, none}
-
--- The start of the payload that comes `number` payloads after the one that begins at `start` and
--- has its entry word at `index`.
-abbrev pub start_after : List ℕ → ℕ → ℕ → ℕ → Result ℕ Error
-start_after bytes zero index start = Ok start
-start_after bytes (suc number) index start =
-    jentry_at bytes index >>= λ entry. start_after bytes number (index + 4) (start + entry.length)
-
--- The start of a part's payload, by number, given the number of all entries.
-abbrev pub part_start : List ℕ → ℕ → ℕ → Result ℕ Error
-part_start bytes entries number = start_after bytes number 4 (4 + 4 * entries)
 
 -- The cursor before the item of an array at an index.
 abbrev pub item_cursor : List ℕ → ℕ → ℕ → Result (Option KohibladCursor) Error

@@ -20,7 +20,7 @@ use Rattle.jsonb.specs.ItemView.{ItemView}
 use Rattle.jsonb.specs.StoredEntries.{HasItems, HasMembers, find_entry}
 use Rattle.jsonb.specs.Steps.{◌>>=◌}
 use Rattle.jsonb.specs.Lookup.{header_count, LooksUpBytes}
-use Rattle.kohiblad.specs.declared.places.Place.{Place}
+use Rattle.jsonb.specs.declared.lookup.Place.{Place}
 use Rattle.kohiblad.specs.declared.places.KohibladPlace.{KohibladPlace}
 use Rattle.kohiblad.specs.Status.{code, none, no_room, IsCopied, IsHandedOver, IsRefused}
 
@@ -33,15 +33,21 @@ place_at bytes index start =
     then Ok (record { type_code = entry.type_code; start = start; length = entry.length })
     else Err InvalidJsonb
 
--- The position of the payload that comes `number` entries after the one at `index` and `start`.
-abbrev pub place_after : List ℕ → ℕ → ℕ → ℕ → Result Place Error
-place_after bytes zero index start = place_at bytes index start
-place_after bytes (suc number) index start =
-    jentry_at bytes index >>= λ entry. place_after bytes number (index + 4) (start + entry.length)
+-- The start of the payload that comes `number` payloads after the one that begins at `start` and
+-- has its entry word at `index`.
+abbrev pub start_after : List ℕ → ℕ → ℕ → ℕ → Result ℕ Error
+start_after bytes zero index start = Ok start
+start_after bytes (suc number) index start =
+    jentry_at bytes index >>= λ entry. start_after bytes number (index + 4) (start + entry.length)
+
+-- The start of a part's payload, by number, given the number of all entries.
+abbrev pub part_start : List ℕ → ℕ → ℕ → Result ℕ Error
+part_start bytes entries number = start_after bytes number 4 (4 + 4 * entries)
 
 -- The position of a part by number, given the number of all entries.
 abbrev pub part_place : List ℕ → ℕ → ℕ → Result Place Error
-part_place bytes entries number = place_after bytes number 4 (4 + 4 * entries)
+part_place bytes entries number =
+    part_start bytes entries number >>= place_at bytes (4 + 4 * number)
 
 -- The number of entries after a header; an object has one for each key and one for each value.
 abbrev pub entry_count : ℕ × ℕ → ℕ

@@ -25,12 +25,13 @@ pub use Rattle.jsonb.specs.Owned.{owned_bytes}
 pub use Rattle.jsonb.specs.Results.{IsArrayOfInputs, IsObjectOfInputs, MakeNoObject}
 pub use Rattle.jsonb.specs.Texts.{display_text, lined_text, other_text, plain_text}
 pub use Rattle.jsonb.specs.Texts.{pretty_display_text}
+pub use Rattle.jsonb.specs.declared.lookup.Place.{Place}
 pub use Rattle.jsonb_comparable.specs.CheckedBytes.{checked_meaning}
 pub use Rattle.jsonb_comparable.specs.TreeKey.{meaning_key}
 pub use Rattle.jsonb_comparable.specs.Within.{meaning_within}
 pub use Rattle.kohiblad.specs.BoundedMeaning.{bounded_meaning}
 pub use Rattle.kohiblad.specs.Children.{CanMove, IsBegun, child_at, cursor_after, cursor_at, end_of}
-pub use Rattle.kohiblad.specs.Children.{key_answer, numbered_child, part_start, value_answer}
+pub use Rattle.kohiblad.specs.Children.{key_answer, numbered_child, value_answer}
 pub use Rattle.kohiblad.specs.KindAnswer.{kind_answer}
 pub use Rattle.kohiblad.specs.Output.{IsRead, IsReadWithin, IsRewritten, IsRewrittenWithin}
 pub use Rattle.kohiblad.specs.Output.{IsWritten}
@@ -39,7 +40,7 @@ pub use Rattle.kohiblad.specs.Places.{AreInside, AreMemberPlaces, IsInside, IsIt
 pub use Rattle.kohiblad.specs.Places.{IsMemberHandedOver, IsPartPlace, IsPlaceFound}
 pub use Rattle.kohiblad.specs.Places.{IsPlaceHandedOver, IsPlaceIn, IsValuePlace, entry_document}
 pub use Rattle.kohiblad.specs.Places.{entry_there, item_place, member_places, part_place}
-pub use Rattle.kohiblad.specs.Places.{place_answer, place_at, place_in}
+pub use Rattle.kohiblad.specs.Places.{part_start, place_answer, place_at, place_in}
 pub use Rattle.kohiblad.specs.Results.{AreWithin, IsArrayBuilt, IsArrayOfRows, IsArrayOfRowsWithin}
 pub use Rattle.kohiblad.specs.Results.{IsObjectBuilt, IsObjectOfRows, IsObjectOfRowsWithin}
 pub use Rattle.kohiblad.specs.Rows.{are_ends, pairs_in, rows, rows_from}
@@ -52,4 +53,3 @@ pub use Rattle.kohiblad.specs.SortOrder.{AreRowsOrdered, IsOrderOf}
 pub use Rattle.kohiblad.specs.Status.{IsAnswered, IsHandedOver, IsRefused, code, sign, status_name}
 pub use Rattle.kohiblad.specs.Status.{too_deep}
 pub use Rattle.kohiblad.specs.TextFaults.{IsTextFault, no_fault, reason_status}
-pub use Rattle.kohiblad.specs.declared.places.Place.{Place}

@@ -1,13 +1,12 @@
 //! The children of an array or object, one after another in one pass.
 
-ghost use Rattle.std.specs.Prelude.{◌≡◌, ◌<◌, ◌≤◌, ◌^◌, ℕ, suc, length, Ok, Some, IfOk};
-ghost use Rattle.kohiblad.specs.Words.{cursor_at, part_start, child_at, numbered_child, key_answer};
-ghost use Rattle.kohiblad.specs.Words.{cursor_after, value_answer, IsBegun, end_of, CanMove};
-ghost use Rattle.kohiblad.specs.Words.{place_at};
+ghost use Rattle.std.specs.Prelude.{◌≡◌, ℕ, suc, Ok, Some};
+ghost use Rattle.kohiblad.specs.Words.{cursor_at, child_at, numbered_child, key_answer, CanMove};
+ghost use Rattle.kohiblad.specs.Words.{cursor_after, value_answer, IsBegun};
 
 use crate::answer::{NONE, OK, code};
-use crate::places::{KohibladPlace, Place, place_answer};
-use jsonb::{Error, read_header, read_jentry};
+use crate::places::{KohibladPlace, part_start, place_answer, place_at};
+use jsonb::{Error, Place, read_header};
 use jsonb_codec::constants::{ARRAY_CONTAINER_TAG, OBJECT_CONTAINER_TAG};
 
 /// The state of a walk over the children of an array or object: the index of the next child, and
@@ -101,23 +100,6 @@ fn first_cursor(bytes: &[u8]) -> Result<Option<KohibladCursor>, Error>
     }
 }
 
-// The offset of a part's payload, by number, given the number of all entries.
-fn part_start(bytes: &[u8], entries: usize, number: usize) -> Result<usize, Error>
-    requires entries { entries < 2 ^ 30 }
-    requires number { number < 2 ^ 31 }
-    ensures { result ≡ part_start bytes.now entries number }
-{
-    let mut left = number;
-    let mut index = 4;
-    let mut start = 4 + 4 * entries;
-    while left > 0 {
-        start += read_jentry(bytes, index)?.length as usize;
-        index += 4;
-        left -= 1;
-    }
-    Ok(start)
-}
-
 // The child at the cursor. `None` after the last one.
 fn child_at(bytes: &[u8], cursor: KohibladCursor) -> Result<Option<Child>, Error>
     ensures value { result ≡ child_at bytes.now cursor }
@@ -126,12 +108,12 @@ fn child_at(bytes: &[u8], cursor: KohibladCursor) -> Result<Option<Child>, Error
     let index = cursor.index as usize;
     match read_header(bytes, 0)? {
         (ARRAY_CONTAINER_TAG, count) if index < count => {
-            let value = place_at(bytes, 4 + 4 * index, cursor.value)?;
+            let value = place_at(bytes, 4 + 4 * index, cursor.value as usize)?;
             Ok(Some(Child { key: None, value }))
         }
         (OBJECT_CONTAINER_TAG, count) if index < count => {
-            let key = place_at(bytes, 4 + 4 * index, cursor.key)?;
-            let value = place_at(bytes, 4 + 4 * (count + index), cursor.value)?;
+            let key = place_at(bytes, 4 + 4 * index, cursor.key as usize)?;
+            let value = place_at(bytes, 4 + 4 * (count + index), cursor.value as usize)?;
             Ok(Some(Child {
                 key: Some(key),
                 value,
@@ -139,25 +121,6 @@ fn child_at(bytes: &[u8], cursor: KohibladCursor) -> Result<Option<Child>, Error
         }
         _ => Ok(None),
     }
-}
-
-// The position of a payload that begins at `start` and whose entry word is at `entry`.
-fn place_at(bytes: &[u8], entry: usize, start: u64) -> Result<Place, Error>
-    requires { entry < 2 ^ 40 }
-    ensures value { result ≡ place_at bytes.now entry start }
-    ensures inside { IfOk result (λ place. end_of place ≤ length bytes.now) }
-{
-    let entry = read_jentry(bytes, entry)?;
-    let start = start as usize;
-    let length = entry.length as usize;
-    if bytes.len() < start || bytes.len() - start < length {
-        return Err(Error::InvalidJsonb);
-    }
-    Ok(Place {
-        type_code: entry.type_code,
-        start,
-        length,
-    })
 }
 
 // The cursor after a child that was found, or the unchanged cursor if none was.

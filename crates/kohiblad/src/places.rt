@@ -4,27 +4,20 @@ ghost use Rattle.std.specs.Prelude.{◌≡◌, ◌≢◌, ◌+◌, ◌<◌, ◌^
 ghost use Rattle.std.specs.Prelude.{Some, Result, Ok, Err, IfOk, IsUtf8};
 ghost use Rattle.kohiblad.specs.Words.{Error, Place, code, IsAnswered, IsHandedOver, IsRefused};
 ghost use Rattle.kohiblad.specs.Words.{Tree, Doc, IsPayloadOf, IsItemPlace, AreMemberPlaces};
-ghost use Rattle.kohiblad.specs.Words.{part_place, place_in, item_place, IsPlaceFound, IsPlaceIn};
+ghost use Rattle.kohiblad.specs.Words.{part_place, part_start, place_at, place_in, item_place};
+ghost use Rattle.kohiblad.specs.Words.{IsPlaceFound, IsPlaceIn};
 ghost use Rattle.kohiblad.specs.Words.{IsInside, AreInside, member_places, IsMemberHandedOver};
 ghost use Rattle.kohiblad.specs.Words.{place_answer, entry_there, IsPartPlace, entry_document};
 ghost use Rattle.kohiblad.specs.Words.{IsPlaceHandedOver, IsValuePlace, is_entry_type, is_too_long};
 ghost use Rattle.kohiblad.specs.Words.{part_document, IsPartDocument};
 
 use crate::answer::{NO_ROOM, NONE, OK, PAYLOAD_LIMIT, code, hand_over, hand_over_scalar, refuse};
-use jsonb::{Error, RawJsonb, Reads, read_header, read_jentry};
+use jsonb::{Error, Place, RawJsonb, Reads, read_header, read_jentry};
 use jsonb_codec::constants::{
     ARRAY_CONTAINER_TAG, CONTAINER_TAG, EXTENSION_TAG, FALSE_TAG, NULL_TAG, NUMBER_TAG,
     OBJECT_CONTAINER_TAG, STRING_TAG, TRUE_TAG,
 };
 use std::str;
-
-/// The type of an entry, and the offset and length of its payload in bytes.
-#[derive(Clone, Copy)]
-pub struct Place {
-    pub type_code: u32,
-    pub start: usize,
-    pub length: usize,
-}
 
 /// The type of an entry, and the offset and length of its payload in bytes, as C receives them.
 /// They are 0 if the status is not `OK`.
@@ -238,17 +231,12 @@ fn place_of_key(bytes: &[u8], name: &[u8]) -> Result<Option<Place>, Error>
     let Ok(name) = str::from_utf8(name) else {
         return Err(Error::InvalidUtf8);
     };
-    let (_, count) = read_header(bytes, 0)?;
     let mut reads = Reads::new();
-    let is_there = RawJsonb::new(bytes)
-        .get_object_value_by_key_name_counted(name, |wanted, key| wanted == key, &mut reads)?
-        .is_some();
-    if !is_there {
-        return Ok(None);
+    let object = RawJsonb::new(bytes);
+    match object.find_object_value_counted(name, |wanted, key| wanted == key, &mut reads)? {
+        Some(found) => Ok(Some(found.place)),
+        None => Ok(None),
     }
-    // The words are read in consecutive order, the value's entry last.
-    let number = reads.count().saturating_sub(2) as usize;
-    Ok(Some(part_place(bytes, 2 * count, number)?))
 }
 
 // Copies out the document at this position, if one was found.
@@ -353,6 +341,16 @@ fn part_place(bytes: &[u8], entries: usize, number: usize) -> Result<Place, Erro
     ensures value { result ≡ part_place bytes.now entries number }
     ensures inside { IfOk result (IsPlaceIn bytes.now) }
 {
+    place_at(bytes, 4 + 4 * number, part_start(bytes, entries, number)?)
+}
+
+/// The offset of a part's payload, by number, given the number of all entries. `InvalidEOF` if an
+/// entry word before it is cut off.
+pub fn part_start(bytes: &[u8], entries: usize, number: usize) -> Result<usize, Error>
+    requires entries { entries < 2 ^ 30 }
+    requires number { number < 2 ^ 31 }
+    ensures { result ≡ part_start bytes.now entries number }
+{
     let mut left = number;
     let mut index = 4;
     let mut start = 4 + 4 * entries;
@@ -361,9 +359,19 @@ fn part_place(bytes: &[u8], entries: usize, number: usize) -> Result<Place, Erro
         index += 4;
         left -= 1;
     }
-    let entry = read_jentry(bytes, index)?;
+    Ok(start)
+}
+
+/// The position of the payload that begins at `start` and whose entry word is at `entry`.
+/// `InvalidEOF` if the word is cut off, `InvalidJsonb` if the payload runs past the end.
+pub fn place_at(bytes: &[u8], entry: usize, start: usize) -> Result<Place, Error>
+    requires { entry < 2 ^ 40 }
+    ensures value { result ≡ place_at bytes.now entry start }
+    ensures inside { IfOk result (IsPlaceIn bytes.now) }
+{
+    let entry = read_jentry(bytes, entry)?;
     let length = entry.length as usize;
-    if bytes.len() < start + length {
+    if bytes.len() < start || bytes.len() - start < length {
         return Err(Error::InvalidJsonb);
     }
     Ok(Place {

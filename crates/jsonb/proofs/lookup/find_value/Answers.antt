@@ -21,7 +21,7 @@ returns-in_err-payload-clause-unread g c =
     search rules in
     rw refused (value_unread c.in-Some.key.pair (search rules)
     (value_known _ _ c.in-Some.key.pair c.skip_parts-start.result _
-    c.entry_within-entry.ensures.value c.skip_parts-start.ensures.start _
+    c.entry_within-jentry.ensures.value c.skip_parts-start.ensures.start _
     c.in_err-payload.ensures.fault))
 
 pub returns-clause-some : goal.returns-clause-some
@@ -29,7 +29,7 @@ returns-clause-some g c = record {
   pair = c.in-Some.key.pair;
   key = search rules;
   there = value_known _ _ c.in-Some.key.pair c.skip_parts-start.result _
-      c.entry_within-entry.ensures.value c.skip_parts-start.ensures.start _
+      c.entry_within-jentry.ensures.value c.skip_parts-start.ensures.start _
       c.in_ok-payload.ensures.value;
   cost = search rules;
 }

@@ -1,6 +1,6 @@
 use Rattle.std.proofs.Common.{rules, sym}
-use Rattle.kohiblad.proofs.Walks.{start_after-cut}
-use Rattle.kohiblad.proofs.children.part_start.Goals as goal
+use Rattle.kohiblad.proofs.PlaceLaws.{start_after-cut}
+use Rattle.kohiblad.proofs.places.part_start.Goals as goal
 
 pub returns-in_err-start : goal.returns-in_err-start
 returns-in_err-start c =

@@ -1,10 +1,10 @@
 use Rattle.std.proofs.Common.{◌≡◌, ◌+◌, ◌*◌, ◌^◌, ◌≤◌}
-use Rattle.kohiblad.specs.Places.{part_place, place_after}
-use Rattle.kohiblad.proofs.places.part_place.Given as goal
+use Rattle.kohiblad.specs.Places.{part_start, start_after}
+use Rattle.kohiblad.proofs.places.part_start.Given as goal
 
 abbrev pub invariant-loop-left : goal.invariant-loop-left
 invariant-loop-left l = record {
-  same : place_after l.bytes l.left l.index l.start ≡ part_place l.bytes l.entries l.number;
+  same : start_after l.bytes l.left l.index l.start ≡ part_start l.bytes l.entries l.number;
   index : l.index + 4 * l.left ≡ 4 + 4 * l.number;
   near : l.start + 2 ^ 32 * l.left ≤ 4 + 4 * l.entries + 2 ^ 32 * l.number;
 }
