@@ -11,6 +11,7 @@ pub mod DocumentWalks
 pub mod ContentLaws
 pub mod PartLaws
 pub mod ParseLaws
+pub mod CanonicalLaws
 pub mod LookupLaws
 pub mod CutKeyLaws
 pub mod KeyEnds

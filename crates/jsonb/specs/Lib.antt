@@ -23,6 +23,7 @@ pub mod ItemMeaning
 pub mod Values
 pub mod Texts
 pub mod Parsing
+pub mod Canonical
 pub mod Lines
 pub mod Tally
 pub mod Document

@@ -1,8 +1,8 @@
 -- The result of looking up a key by name. `answers key b` means that the closure can return b for
 -- the key; `size` is the name's length.
-use Rattle.std.specs.Prelude.{◌≡◌, ℕ, zero, suc, ◌+◌, ◌==◌, ◌&&◌, if◌then◌else◌, Bool, true, false}
-use Rattle.std.specs.Prelude.{List, length, slice_get, Option, Some, None, option_map, Result, Ok}
-use Rattle.std.specs.Prelude.{Err, ⊤}
+use Rattle.std.specs.Prelude.{◌≡◌, ℕ, zero, suc, ◌+◌, ◌-◌, ◌==◌, ◌&&◌, if◌then◌else◌, Bool, true}
+use Rattle.std.specs.Prelude.{false, List, length, slice_get, Option, Some, None, option_map}
+use Rattle.std.specs.Prelude.{Result, Ok, Err, ⊤}
 use Rattle.std.specs.Map.{values_of}
 use Rattle.jsonb_value.specs.declared.error.Error.{Error}
 use Rattle.jsonb_value.specs.declared.error.Error.TheVariants.{InvalidEOF, InvalidJsonb}
@@ -12,11 +12,15 @@ use Rattle.jsonb_value.specs.Tree.{Tree, object, Pairs, no_pairs, pair, pair_cou
 use Rattle.jsonb_codec.specs.declared.constants.TheConstants.{OBJECT_CONTAINER_TAG}
 use Rattle.jsonb_codec.specs.Word.{header_at}
 use Rattle.jsonb.specs.declared.item.JsonbItem.{JsonbItem}
+use Rattle.jsonb.specs.declared.lookup.Accepted.{Accepted}
+use Rattle.jsonb.specs.declared.lookup.FoundEntry.{FoundEntry}
 use Rattle.jsonb.specs.declared.lookup.FoundValue.{FoundValue}
 use Rattle.jsonb.specs.ItemView.{ItemView, item_view}
 use Rattle.jsonb.specs.Steps.{◌>>=◌}
 use Rattle.jsonb.specs.Item.{Entry}
-use Rattle.jsonb.specs.Parts.{value_entry, PassedBefore, IsAccepted, IsUnreadable}
+use Rattle.jsonb.specs.Entries.{entry_of}
+use Rattle.jsonb.specs.Parts.{part_start, value_entry, PassedBefore, IsAccepted, IsNoneFound}
+use Rattle.jsonb.specs.Parts.{IsUnreadable, IsValueFound}
 use Rattle.jsonb.specs.StoredEntries.{HasMembers, entry_item}
 use Rattle.jsonb.specs.Walk.{count_under}
 use Rattle.jsonb.specs.DocumentWalk.{IsItemOf}
@@ -118,6 +122,24 @@ IsItemFound (Some t) (Some x) = IsItemOf t x
 IsItemFound (Some t) None = ⊥
 IsItemFound None (Some x) = ⊥
 IsItemFound None None = ⊤
+
+-- The result of searching n keys for the first that is accepted, with the number of words read.
+abbrev pub FindsKey : (List ℕ → Bool → Type 0) → ℕ → List ℕ → ℕ → Result (Option Accepted) Error
+    → ℕ → Type 0
+FindsKey answers size b n (Ok None) reads = IsNoneFound answers size b n reads
+FindsKey answers size b n (Ok (Some key)) reads = IsAccepted answers size b n key.pair
+    × ((key.end ≡ part_start b n (key.pair + 1)) × (reads ≡ key.pair + 1))
+FindsKey answers size b n (Err e) reads = IsUnreadable answers size b n e
+
+-- The result of searching n pairs, with the number of words read: the entry of the accepted key's
+-- value and where its payload begins, nothing if all keys are passed over, or the first error.
+abbrev pub FindsEntry : (List ℕ → Bool → Type 0) → ℕ → List ℕ → ℕ
+    → Result (Option FoundEntry) Error → ℕ → Type 0
+FindsEntry answers size b n (Ok None) reads = IsNoneFound answers size b n reads
+FindsEntry answers size b n (Ok (Some found)) reads =
+    IsValueFound answers size b n (entry_of found.entry) reads
+    × (found.start ≡ part_start b n (reads - 1))
+FindsEntry answers size b n (Err e) reads = IsUnreadable answers size b n e
 
 -- The result of a look-up on any bytes, with the number of words read: the header's error; nothing
 -- under a header of another kind; the first error of a key, or that of the accepted key's value;

@@ -18,7 +18,7 @@ pub use Rattle.jsonb_value.specs.NumCode.{NumCode}
 pub use Rattle.jsonb_value.specs.Plain.{IsPlain}
 pub use Rattle.jsonb_value.specs.Text.{colon, compact, extension_text, inside, laid_out, line_start}
 pub use Rattle.jsonb_value.specs.Text.{pretty, quoted_text}
-pub use Rattle.jsonb_value.specs.TextDepth.{HasItsDepth, text_depth}
+pub use Rattle.jsonb_value.specs.TextDepth.{HasItsDepth}
 pub use Rattle.jsonb_value.specs.Tree.{Extension, Pairs, Tree, Trees, array, no_pairs, no_trees}
 pub use Rattle.jsonb_value.specs.Tree.{pair, text, tree}
 pub use Rattle.jsonb_value.specs.TreeOrder.{tree_cmp}
@@ -32,7 +32,7 @@ pub use Rattle.jsonb_codec.specs.Made.{MadeIfFit}
 pub use Rattle.jsonb_codec.specs.Code.{code_of, payload_bytes}
 pub use Rattle.jsonb_codec.specs.Contents.{AreMembers}
 pub use Rattle.jsonb_codec.specs.Depth.{IsDocumentWithin, depth}
-pub use Rattle.jsonb_codec.specs.Doc.{Doc, IsDocument, type_of}
+pub use Rattle.jsonb_codec.specs.Doc.{Doc, IsDocument}
 pub use Rattle.jsonb_codec.specs.Fault.{IsTreeFault}
 pub use Rattle.jsonb_codec.specs.JEntry.{jentry_at}
 pub use Rattle.jsonb_codec.specs.Reread.{MeansAgain}
@@ -42,6 +42,7 @@ pub use Rattle.jsonb_codec.specs.declared.constants.TheConstants.{CONTAINER_TAG}
 pub use Rattle.jsonb_codec.specs.declared.constants.TheConstants.{OBJECT_CONTAINER_TAG}
 pub use Rattle.jsonb.specs.Building.{AreKeys, FitArray, FitObject, IsArrayOf, IsObjectOf, has_key}
 pub use Rattle.jsonb.specs.Building.{with_pair}
+pub use Rattle.jsonb.specs.Canonical.{RewritesTo}
 pub use Rattle.jsonb.specs.Children.{AreShown, AreShownAt, HasSameEntry, ItemPairs, pairs_by}
 pub use Rattle.jsonb.specs.Children.{raw_view}
 pub use Rattle.jsonb.specs.Code.{CanBeStored, extension_bytes, item_document, number_bytes}
@@ -64,13 +65,12 @@ pub use Rattle.jsonb.specs.Kind.{kind, kind_of_tree, kind_of_type, kind_rank, ra
 pub use Rattle.jsonb.specs.Lines.{HasRoom, pair_text}
 pub use Rattle.jsonb.specs.Lookup.{AnswersBy, IsItemFound, IsRefusal, LooksUp, LooksUpBytes}
 pub use Rattle.jsonb.specs.Lookup.{LooksUpIn, LooksUpInBytes, find, find_pair, header_count}
-pub use Rattle.jsonb.specs.Lookup.{found_view, value_view}
+pub use Rattle.jsonb.specs.Lookup.{FindsEntry, FindsKey, found_view, value_view}
 pub use Rattle.jsonb.specs.Node.{HoldsNoScalar, IsContainer, array_of, first_key_of, item_at_index}
 pub use Rattle.jsonb.specs.Node.{items_of, members_of, node_tree, object_of, value_of_key}
 pub use Rattle.jsonb.specs.Node.{words_for_key}
-pub use Rattle.jsonb.specs.Owned.{owned_bytes}
-pub use Rattle.jsonb.specs.Parts.{HasParts, IsAccepted, IsNoneFound, IsUnreadable, IsValueFound}
-pub use Rattle.jsonb.specs.Parts.{IsPlaceOf, PassedBefore, part_length, part_start}
+pub use Rattle.jsonb.specs.Owned.{bytes_of, owned_bytes}
+pub use Rattle.jsonb.specs.Parts.{HasParts, IsPlaceOf, part_length, part_start}
 pub use Rattle.jsonb.specs.Payloads.{extension_error}
 pub use Rattle.jsonb.specs.Raw.{raw_bytes}
 pub use Rattle.jsonb.specs.Results.{AllMean, AllMeanAt, AreWithinLimits, IsArrayOfDocuments}
@@ -83,7 +83,7 @@ pub use Rattle.jsonb.specs.StoredEntries.{IsFoundIn}
 pub use Rattle.jsonb.specs.Storage.{IsHeld, IsStored, document_code, pair_of, stored_code}
 pub use Rattle.jsonb.specs.Tally.{CountsOneLess, CountsOneMore, Lists, SetsCount, Tally, count_at}
 pub use Rattle.jsonb.specs.Tally.{count_of, has_equal, list_with}
-pub use Rattle.jsonb.specs.Parsing.{IsParsed}
+pub use Rattle.jsonb.specs.Parsing.{IsParsed, ParsesTo, ParsesWithin}
 pub use Rattle.jsonb.specs.Texts.{display_text, layout_of, lossy_text, other_text}
 pub use Rattle.jsonb.specs.Texts.{pretty_display_text}
 pub use Rattle.jsonb.specs.Values.{bytes_in}

@@ -1,11 +1,10 @@
 //! Looking up the value of a key in the bytes, with a counted number of word reads.
 
 ghost use Rattle.std.specs.Prelude.{◌≡◌, ◌+◌, ◌-◌, ◌*◌, ◌<◌, ◌≤◌, ◌↔◌, ◌^◌, length, Ok, Err, IfOk};
-ghost use Rattle.std.specs.Prelude.{IfErr, IfSome, IfNone, IsOk, OnOk};
-ghost use Rattle.jsonb.specs.Words.{FnReturnsAtPair, OBJECT_CONTAINER_TAG, jentry_at, entry_of};
-ghost use Rattle.jsonb.specs.Words.{part_at, count_under, part_length, part_start, HasParts};
-ghost use Rattle.jsonb.specs.Words.{PassedBefore, IsAccepted, IsNoneFound, IsValueFound, IsRefusal};
-ghost use Rattle.jsonb.specs.Words.{IsUnreadable, NoneOfSize, IsFirstUnread, header_count};
+ghost use Rattle.std.specs.Prelude.{IfErr, IfSome, IsOk, OnOk};
+ghost use Rattle.jsonb.specs.Words.{FnReturnsAtPair, OBJECT_CONTAINER_TAG, FindsEntry, FindsKey};
+ghost use Rattle.jsonb.specs.Words.{jentry_at, part_at, count_under, part_length, part_start};
+ghost use Rattle.jsonb.specs.Words.{HasParts, IsRefusal, NoneOfSize, IsFirstUnread, header_count};
 
 use crate::entries::Entry;
 use crate::item::JsonbItem;
@@ -150,22 +149,9 @@ fn matching_key<F: Fn(&[u8], &[u8]) -> bool>(
     requires callable { (a b : _) → a.now ≡ name.now → length b.now ≡ length name.now
         → F.pre eq_func.now a b }
     requires room { reads.old + count < 2 ^ 64 }
-    ensures none { IfOk result (λ answer. IfNone answer
-        (PassedBefore (λ key b. FnReturnsAtPair F.Fn eq_func.now name.now key b)
-        (length name.now) bytes.now count count)) }
-    ensures some { IfOk result (λ answer. IfSome answer (λ accepted.
-        IsAccepted (λ key b. FnReturnsAtPair F.Fn eq_func.now name.now key b)
-        (length name.now) bytes.now count accepted.pair)) }
-    ensures end { IfOk result
-        (λ answer. IfSome answer
-        (λ accepted. accepted.end ≡ part_start bytes.now count (accepted.pair + 1))) }
-    ensures none_cost { IfOk result (λ answer. IfNone answer (reads.new ≡ reads.old + count)) }
-    ensures some_cost { IfOk result
-        (λ answer. IfSome answer (λ accepted. reads.new ≡ reads.old + accepted.pair + 1)) }
+    ensures found { FindsKey (FnReturnsAtPair F.Fn eq_func.now name.now) (length name.now)
+        bytes.now count result (reads.new - reads.old) }
     ensures bound { (reads.old ≤ reads.new) × (reads.new ≤ reads.old + count) }
-    ensures unread { IfErr result
-        (IsUnreadable (λ key b. FnReturnsAtPair F.Fn eq_func.now name.now key b)
-        (length name.now) bytes.now count) }
     ensures whole { HasParts bytes.now count → IsOk result }
     ensures refused { IfErr result IsRefusal }
 {
@@ -218,17 +204,8 @@ pub fn find_value<'a, F: Fn(&[u8], &[u8]) -> bool>(
     requires callable { (a b : _) → a.now ≡ name.now → length b.now ≡ length name.now
         → F.pre eq_func.now a b }
     requires room { reads.old + 2 * count < 2 ^ 64 }
-    ensures none { IfOk result (λ answer. IfNone answer
-        (IsNoneFound (λ key b. FnReturnsAtPair F.Fn eq_func.now name.now key b) (length name.now)
-        bytes.now count (reads.new - reads.old))) }
-    ensures some { IfOk result (λ answer. IfSome answer (λ found.
-        IsValueFound (λ key b. FnReturnsAtPair F.Fn eq_func.now name.now key b) (length name.now)
-        bytes.now count (entry_of found.entry) (reads.new - reads.old))) }
-    ensures start { IfOk result (λ answer. IfSome answer (λ found.
-        found.start ≡ part_start bytes.now count (reads.new - reads.old - 1))) }
-    ensures unread { IfErr result
-        (IsUnreadable (λ key b. FnReturnsAtPair F.Fn eq_func.now name.now key b)
-        (length name.now) bytes.now count) }
+    ensures found { FindsEntry (FnReturnsAtPair F.Fn eq_func.now name.now) (length name.now)
+        bytes.now count result (reads.new - reads.old) }
     ensures bound { (reads.old ≤ reads.new) × (reads.new ≤ reads.old + 2 * count) }
     ensures whole { HasParts bytes.now count → IsOk result }
     ensures refused { IfErr result IsRefusal }

@@ -1,6 +1,6 @@
 //! Documents that own their bytes.
 
-ghost use Rattle.std.specs.Prelude.{◌≡◌, ◌<◌, ◌^◌, ◌⊎◌, length, Err, Some, IfOk, IfErr};
+ghost use Rattle.std.specs.Prelude.{◌≡◌, ◌<◌, ◌^◌, length, Err, Some, IfOk, IfErr};
 ghost use Rattle.jsonb.specs.Words.{MadeIfFit, owned_bytes, code_of, scalar_bytes, display_text};
 
 use crate::document::Document;
@@ -23,7 +23,8 @@ pub struct OwnedJsonb {
 
 impl OwnedJsonb {
     ghost use Rattle.std.specs.Prelude.{◌↔◌, chars, IfSome, IsSome, IsTrue};
-    ghost use Rattle.jsonb.specs.Words.{Json, IsParsed, text_depth, HasItsDepth, Tree, Fits};
+    ghost use Rattle.jsonb.specs.Words.{Json, IsParsed, ParsesTo, ParsesWithin, bytes_of, Tree};
+    ghost use Rattle.jsonb.specs.Words.{HasItsDepth};
     ghost use Rattle.jsonb.specs.Words.{IsDocumentWithin, IsDocument, raw_bytes, item_document};
     ghost use Rattle.jsonb.specs.Words.{CanBeStored, document_bytes, item_view};
 
@@ -123,14 +124,9 @@ impl OwnedJsonb {
     /// not accepted by `parse_value`, `InvalidJsonb` if a payload, a key or a count of its value
     /// exceeds its limit, `OutOfMemory` if an allocation fails.
     pub fn parse(alloc: Global, text: &str) -> Result<OwnedJsonb, Error>
+        ensures value { ParsesTo text.now (bytes_of result) }
         ensures parsed { IfOk result (λ owned. IsParsed text.now (owned_bytes owned)) }
         ensures one { (t u : Tree) → Json (chars text.now) t → Json (chars text.now) u → t ≡ u }
-        ensures invalid { result ≡ Err Error.InvalidJson
-            → (t : Tree) → Json (chars text.now) t → ⊥ }
-        ensures past { result ≡ Err Error.InvalidJsonb
-            → (t : Tree) × (Json (chars text.now) t × (Fits t → ⊥)) }
-        ensures errors { IfErr result (λ e. (e ≡ Error.InvalidJson)
-            ⊎ ((e ≡ Error.InvalidJsonb) ⊎ (e ≡ Error.OutOfMemory))) }
     {
         let value = parse_value(alloc, text)?;
         let mut bytes = Vec::new(alloc);
@@ -146,20 +142,12 @@ impl OwnedJsonb {
     /// other text is answered as by `parse`: by its document, which is within the depth, or by
     /// `Refused` with the error of `parse`.
     pub fn parse_within(alloc: Global, text: &str, depth: usize) -> Result<OwnedJsonb, ParseError>
+        ensures value { ParsesWithin depth text.now (bytes_of result) }
         ensures parsed { IfOk result (λ owned. IsParsed text.now (owned_bytes owned)) }
 
-        // The depth is exact, and that of a text of JSON is that of what it spells.
-        ensures deep { (result ≡ Err ParseError.TooDeep) ↔ (depth < text_depth text.now) }
+        // The depth of a text of JSON is that of what it spells.
         ensures nests { HasItsDepth text.now }
         ensures within { IfOk result (λ owned. IsDocumentWithin depth (owned_bytes owned)) }
-        ensures invalid { result ≡ Err (ParseError.Refused Error.InvalidJson)
-            → (t : Tree) → Json (chars text.now) t → ⊥ }
-        ensures past { result ≡ Err (ParseError.Refused Error.InvalidJsonb)
-            → (t : Tree) × (Json (chars text.now) t × (Fits t → ⊥)) }
-        ensures errors { IfErr result (λ e. (e ≡ ParseError.TooDeep)
-            ⊎ ((e ≡ ParseError.Refused Error.InvalidJson)
-            ⊎ ((e ≡ ParseError.Refused Error.InvalidJsonb)
-            ⊎ (e ≡ ParseError.Refused Error.OutOfMemory)))) }
     {
         if !is_text_within(text.as_bytes(), depth) {
             return Err(ParseError::TooDeep);

@@ -27,12 +27,11 @@ impl<'a> RawJsonb<'a> {
     ghost use Rattle.std.specs.Prelude.{IsUtf8};
     ghost use Rattle.jsonb.specs.Words.{FnReturnsAtPair, meaning_cmp, norm, IsPlain, compact, Tree};
     ghost use Rattle.jsonb.specs.Words.{pretty, tree_cmp, tree_of, canon, Fits, IsCanonical, Doc};
-    ghost use Rattle.jsonb.specs.Words.{MadeIfFit};
     ghost use Rattle.jsonb.specs.Words.{IsDocumentWithin, IsDocument, IsTreeFault, MeansAgain};
     ghost use Rattle.jsonb.specs.Words.{document_bytes, document_tree, kind, kind_of_tree, LooksUp};
     ghost use Rattle.jsonb.specs.Words.{header_count, IsRefusal, LooksUpIn, LooksUpBytes, find};
     ghost use Rattle.jsonb.specs.Words.{LooksUpInBytes, value_view, AnswersBy, IsItemFound};
-    ghost use Rattle.jsonb.specs.Words.{found_view, IsPlaceOf};
+    ghost use Rattle.jsonb.specs.Words.{found_view, IsPlaceOf, RewritesTo, bytes_of};
     ghost use Rattle.jsonb.specs.Words.{raw_meaning, owned_bytes, raw_bytes, item_view, IsFoundIn};
     ghost use Rattle.jsonb.specs.Words.{other_text, display_text, pretty_display_text};
 
@@ -179,15 +178,14 @@ impl<'a> RawJsonb<'a> {
         ensures refused { IfErr result IsRefusal }
 
         // On any bytes: the result or the error, given the results of the closure.
-        ensures bytes { LooksUpBytes (λ key b. FnReturnsAtPair F.Fn eq_func name.now key b)
-            (length name.now) (raw_bytes self.now) (value_view result) (reads.new - reads.old) }
+        ensures bytes { LooksUpBytes (FnReturnsAtPair F.Fn eq_func name.now) (length name.now)
+            (raw_bytes self.now) (value_view result) (reads.new - reads.old) }
 
         // On a document: the result, given the document's members and entries.
         ensures document { (t : Tree) → Doc (raw_bytes self.now) t
             → IsOkAnd result
-            (λ found. LooksUp (λ key b. FnReturnsAtPair F.Fn eq_func name.now key b)
-            (length name.now) (raw_bytes self.now) t (option_map item_view found)
-            (reads.new - reads.old)) }
+            (λ found. LooksUp (FnReturnsAtPair F.Fn eq_func name.now) (length name.now)
+            (raw_bytes self.now) t (option_map item_view found) (reads.new - reads.old)) }
     {
         match self.find_object_value_counted(name, eq_func, reads)? {
             Some(found) => Ok(Some(found.item)),
@@ -220,8 +218,8 @@ impl<'a> RawJsonb<'a> {
         ensures refused { IfErr result IsRefusal }
 
         // On any bytes: the result or the error, given the results of the closure.
-        ensures bytes { LooksUpBytes (λ key b. FnReturnsAtPair F.Fn eq_func name.now key b)
-            (length name.now) (raw_bytes self.now) (found_view result) (reads.new - reads.old) }
+        ensures bytes { LooksUpBytes (FnReturnsAtPair F.Fn eq_func name.now) (length name.now)
+            (raw_bytes self.now) (found_view result) (reads.new - reads.old) }
 
         // The entry is the one whose word was read last.
         ensures place { IfOk result (λ o. IfSome o (λ found.
@@ -265,20 +263,19 @@ impl<'a> RawJsonb<'a> {
         ensures refused { IfErr result IsRefusal }
 
         // On any bytes: the result or the error, given the results of the closure.
-        ensures bytes { LooksUpInBytes (λ key b. FnReturnsAtPair F.Fn eq_func name.now key b)
-            (length name.now) (raw_bytes self.now) (value_view result) }
+        ensures bytes { LooksUpInBytes (FnReturnsAtPair F.Fn eq_func name.now) (length name.now)
+            (raw_bytes self.now) (value_view result) }
 
         // On a document: the result, given the document's members and entries.
         ensures document { (t : Tree) → Doc (raw_bytes self.now) t
             → IsOkAnd result
-            (λ found. LooksUpIn (λ key b. FnReturnsAtPair F.Fn eq_func name.now key b)
-            (length name.now) (raw_bytes self.now) t (option_map item_view found)) }
+            (λ found. LooksUpIn (FnReturnsAtPair F.Fn eq_func name.now) (length name.now)
+            (raw_bytes self.now) t (option_map item_view found)) }
 
         // If the closure computes one predicate: an item of the value that this predicate finds in
         // a document.
         ensures found { (accepts : List ℕ → Bool)
-            → AnswersBy accepts
-            (λ key b. FnReturnsAtPair F.Fn eq_func name.now key b) (length name.now)
+            → AnswersBy accepts (FnReturnsAtPair F.Fn eq_func name.now) (length name.now)
             → (t : Tree) → Doc (raw_bytes self.now) t
             → IsOkAnd result
             (λ found. IsItemFound (find accepts (length name.now) t) (option_map item_view found)) }
@@ -286,8 +283,7 @@ impl<'a> RawJsonb<'a> {
         // If the closure computes one predicate: the item of the entry that this predicate finds in
         // a document.
         ensures entry { (accepts : List ℕ → Bool)
-            → AnswersBy accepts
-            (λ key b. FnReturnsAtPair F.Fn eq_func name.now key b) (length name.now)
+            → AnswersBy accepts (FnReturnsAtPair F.Fn eq_func name.now) (length name.now)
             → (t : Tree) → Doc (raw_bytes self.now) t
             → IsOkAnd result (λ found. IsFoundIn accepts (length name.now) (raw_bytes self.now) t
             (option_map item_view found)) }
@@ -361,12 +357,7 @@ impl<'a> RawJsonb<'a> {
     /// fails. Everything is measured first and written with a single growth of the buffer; no tree
     /// is built.
     pub fn to_canonical(&self, alloc: Global) -> Result<OwnedJsonb, Error>
-        ensures ok { IfOk result (λ owned. (t : Tree) × (Doc (raw_bytes self.now) t
-            × (Fits t × (owned_bytes owned ≡ canon t)))) }
-
-        // Which error is returned: an allocation is attempted only if the canonical document
-        // exists.
-        ensures limits { MadeIfFit ((t : Tree) × (Doc (raw_bytes self.now) t × Fits t)) result }
+        ensures value { RewritesTo (raw_bytes self.now) (bytes_of result) }
 
         // How the result relates to its source; its own canonical form is itself.
         ensures same { IfOk result (λ owned. (owned_bytes owned ≡ raw_bytes self.now)

@@ -9,6 +9,7 @@ use Rattle.std.proofs.lemmas.List.{append-nil, map-append}
 use Rattle.std.specs.Str.{IsUtf8}
 use Rattle.jsonb_value.specs.ErrorName.{name_of}
 use Rattle.jsonb_value.specs.declared.error.Error.{Error}
+use Rattle.jsonb_value.specs.declared.error.Error.TheVariants.{InvalidJson, InvalidJsonb}
 use Rattle.jsonb_value.specs.declared.error.Error.TheVariants.{OutOfMemory}
 use Rattle.jsonb_value.specs.Json.Syntax.{Json}
 use Rattle.jsonb_value.specs.Tree.{Tree}
@@ -22,6 +23,8 @@ use Rattle.jsonb_codec.specs.Doc.{Doc}
 use Rattle.jsonb.specs.Lookup.{IsItemFound}
 use Rattle.jsonb.specs.ItemView.{ItemView, owned}
 use Rattle.jsonb.specs.DocumentWalk.{IsItemOf}
+use Rattle.jsonb.specs.Canonical.{RewritesTo}
+use Rattle.jsonb.specs.Parsing.{ParsesTo}
 use Rattle.answer_lines.specs.Session as session
 use Rattle.jsonb_cli.specs.declared.answer.Answer.{Answer}
 use Rattle.jsonb_cli.specs.declared.answer.Refusal.{Refusal}
@@ -31,7 +34,8 @@ use Rattle.jsonb_cli.specs.Each.{Each}
 use Rattle.jsonb_cli.specs.AnswerLine.{error_line, refusal_name, outcome_line}
 use Rattle.jsonb_cli.specs.declared.run.Commands.{Commands}
 use Rattle.jsonb_cli.specs.Answers.{IsReply, IsLineReply, line_rule}
-use Rattle.jsonb_cli.specs.Answers.{IsArrAnswer}
+use Rattle.jsonb_cli.specs.Answers as answers
+use Rattle.jsonb_cli.specs.Answers.{IsArrAnswer, IsCanonAnswer, IsEncAnswer, no_tree, too_large}
 use Rattle.jsonb_cli.specs.Answers.{IsName, bad_hex}
 use Rattle.jsonb_cli.specs.Answers.{IsHexOf}
 
@@ -43,6 +47,21 @@ pub failed : {IsAnswered : Type 0} {e wrong : Error} → (e ≡ wrong) ⊎ (e �
     → (e ≡ wrong → IsAnswered) → IsAnswered ⊎ session.IsRefused (said_of e)
 failed (inl is) answered = inl (answered is)
 failed (inr is) answered = inr (ap said_of is)
+
+-- a text that is not encoded
+pub enc_refused : (text : List ℕ) (e : Error) → IsUtf8 text → ParsesTo text (Err e)
+    → IsReply IsEncAnswer text (said_of e)
+enc_refused text InvalidJson utf8 none = inl (no_tree utf8 none refl)
+enc_refused text InvalidJsonb utf8 past = inl (too_large utf8 past refl)
+enc_refused text OutOfMemory utf8 any = inr refl
+enc_refused text e utf8 never = absurd never
+
+-- bytes that are not brought to canonical form
+pub canon_refused : (word bytes : List ℕ) (e : Error) → IsHexOf bytes word
+    → RewritesTo bytes (Err e) → IsReply IsCanonAnswer word (said_of e)
+canon_refused word bytes InvalidJsonb hex none = inl (answers.no_tree bytes hex none refl)
+canon_refused word bytes OutOfMemory hex any = inr refl
+canon_refused word bytes e hex never = absurd never
 
 -- an outcome that is this line, or lack of memory
 pub come_out : {IsAnswered : Type 0} {line : List ℕ} (r : Result Answer Refusal)

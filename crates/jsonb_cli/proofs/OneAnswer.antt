@@ -1,5 +1,6 @@
 -- The answer to a line is unique.
-use Rattle.std.proofs.Common.{◌≡◌, ℕ, List, [], ◌∷◌, ◌++◌, length, map, refl, sym, ap₂, subst, ◌∙◌}
+use Rattle.std.proofs.Common.{◌≡◌, ℕ, List, [], ◌∷◌, ◌++◌, length, map, refl, sym, ap, ap₂, subst}
+use Rattle.std.proofs.Common.{◌∙◌}
 use Rattle.std.proofs.Common.{chars, Some}
 use Rattle.std.specs.Prelude.{nat_eq, codes, ⊤}
 use Rattle.std.specs.Cmp.Lexicographic.{pointwise}
@@ -88,10 +89,11 @@ enc_choices : {text a : List ℕ} → IsEncAnswer text a
     (λ v answer. answer ≡ ok_line (encode_lower (canonical t))))) a
 enc_choices (not_text cannot is) = refused (λ u utf8. cannot utf8) is
 enc_choices (no_tree utf8 none is) = chosen {x = tt} utf8 (refused none is)
-enc_choices (too_large t utf8 means past is) =
+enc_choices (too_large utf8 (t, (means, past)) is) =
     chosen {x = tt} utf8 (chosen means (refused (λ u fits. past fits) is))
-enc_choices (encoded t utf8 means fits is) =
-    chosen {x = tt} utf8 (chosen means (chosen {x = tt} fits is))
+enc_choices (encoded bytes utf8 (t, (means, (fits, same))) is) =
+    chosen {x = tt} utf8 (chosen means
+    (chosen {x = tt} fits (is ∙ ap (λ b. ok_line (encode_lower b)) same)))
 
 -- the answers that the tree of the word's bytes determines
 abbrev OfTree : (List ℕ → Tree → Type 0) → (Tree → List ℕ) → List ℕ → List ℕ → Type 0
@@ -122,7 +124,8 @@ canon_choices : {word a : List ℕ} → IsCanonAnswer word a
 canon_choices (bad_hex cannot is) = refused cannot is
 canon_choices (no_tree bytes hex none is) =
     chosen hex (refused (λ t means. none t means.0 means.1) is)
-canon_choices (written bytes t hex means fits is) = chosen hex (chosen {x = t} (means, fits) is)
+canon_choices (written bytes document hex (t, (means, (fits, same))) is) =
+    chosen hex (chosen {x = t} (means, fits) (is ∙ ap (λ b. ok_line (encode_lower b)) same))
 
 type_choices : {word a : List ℕ} → IsTypeAnswer word a
     → OfBytes (λ bytes answer. answer ≡ kind_line (kind bytes)) word a

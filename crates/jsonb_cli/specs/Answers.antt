@@ -16,13 +16,14 @@ use Rattle.jsonb_value.specs.Text.{compact, pretty as pretty_text}
 use Rattle.jsonb_value.specs.Meaning.{meaning_cmp}
 use Rattle.jsonb_value.specs.Tree.{Tree}
 use Rattle.jsonb_value.specs.Tree as trees
-use Rattle.jsonb_codec.specs.Canon.{canon as canonical, Fits}
 use Rattle.jsonb_codec.specs.Doc.{Doc, IsDocument}
 use Rattle.jsonb.specs.Building.{FitArray, IsArrayOf}
+use Rattle.jsonb.specs.Canonical.{RewritesTo}
 use Rattle.jsonb.specs.Code.{item_document}
 use Rattle.jsonb.specs.Kind.{kind}
 use Rattle.jsonb.specs.Lookup.{find}
 use Rattle.jsonb.specs.ItemMeaning.{meaning_of}
+use Rattle.jsonb.specs.Parsing.{ParsesTo}
 use Rattle.jsonb.specs.ItemView.{ItemView, owned}
 use Rattle.jsonb.specs.StoredEntries.{IsFoundIn}
 use Rattle.jsonb.specs.DocumentWalk.{IsItemOf}
@@ -48,12 +49,12 @@ IsHexOf bytes word = decode_of word ≡ Ok bytes
 -- none.
 pub data IsEncAnswer (text answer : List ℕ) : Type 0 where
   not_text : (IsUtf8 text → ⊥) → answer ≡ error_line (name_of InvalidUtf8) → IsEncAnswer text answer
-  no_tree : IsUtf8 text → ((t : Tree) → Json (chars text) t → ⊥)
+  no_tree : IsUtf8 text → ParsesTo text (Err InvalidJson)
       → answer ≡ error_line (name_of InvalidJson) → IsEncAnswer text answer
-  too_large : (t : Tree) → IsUtf8 text → Json (chars text) t → (Fits t → ⊥)
+  too_large : IsUtf8 text → ParsesTo text (Err InvalidJsonb)
       → answer ≡ error_line (name_of InvalidJsonb) → IsEncAnswer text answer
-  encoded : (t : Tree) → IsUtf8 text → Json (chars text) t → Fits t
-      → answer ≡ ok_line (encode_lower (canonical t)) → IsEncAnswer text answer
+  encoded : (bytes : List ℕ) → IsUtf8 text → ParsesTo text (Ok bytes)
+      → answer ≡ ok_line (encode_lower bytes) → IsEncAnswer text answer
 
 -- The answer to `dec` is the compact text of the document, or why there is none.
 pub data IsDecAnswer (word answer : List ℕ) : Type 0 where
@@ -156,10 +157,10 @@ pub data IsArrAnswer (words : List (List ℕ)) (answer : List ℕ) : Type 0 wher
 pub data IsCanonAnswer (word answer : List ℕ) : Type 0 where
   bad_hex : ((bytes : List ℕ) → IsHexOf bytes word → ⊥) → answer ≡ error_line (codes "BadHex")
       → IsCanonAnswer word answer
-  no_tree : (bytes : List ℕ) → IsHexOf bytes word → ((t : Tree) → Doc bytes t → Fits t → ⊥)
+  no_tree : (bytes : List ℕ) → IsHexOf bytes word → RewritesTo bytes (Err InvalidJsonb)
       → answer ≡ error_line (name_of InvalidJsonb) → IsCanonAnswer word answer
-  written : (bytes : List ℕ) (t : Tree) → IsHexOf bytes word → Doc bytes t → Fits t
-      → answer ≡ ok_line (encode_lower (canonical t)) → IsCanonAnswer word answer
+  written : (bytes document : List ℕ) → IsHexOf bytes word → RewritesTo bytes (Ok document)
+      → answer ≡ ok_line (encode_lower document) → IsCanonAnswer word answer
 
 -- The answer to a command.
 abbrev pub IsFormAnswer : Form → List ℕ → Type 0

@@ -1,12 +1,10 @@
 -- The names that the clauses of this crate cite, passed on from one place.
 pub use Rattle.std.specs.Iterator.{YieldsFirstBy, item_count}
 pub use Rattle.std.specs.List.{concat}
-pub use Rattle.jsonb_value.specs.Json.Syntax.{Json}
-pub use Rattle.jsonb_value.specs.Tree.{Tree}
-pub use Rattle.jsonb_codec.specs.Canon.{Fits, canon}
 pub use Rattle.jsonb_codec.specs.Doc.{IsDocument}
 pub use Rattle.jsonb.specs.Document.{document_bytes, document_tree}
 pub use Rattle.jsonb.specs.Node.{node_tree}
+pub use Rattle.jsonb.specs.Parsing.{ParsesTo}
 pub use Rattle.jsonb_column.specs.Rows.{AreRows, FillBytes, IsWithin, row_in, rows_in}
 pub use Rattle.jsonb_column.specs.Select.{has_member, most_reads, row_reads}
 pub use Rattle.jsonb_column.specs.SortOrder.{is_between, is_equal, row_order, sorted_rows}

@@ -1,9 +1,9 @@
 //! A column of documents in one buffer.
 
 ghost use Rattle.std.specs.Prelude.{◌≡◌, ◌+◌, ◌<◌, ◌≤◌, ◌∷◌, ◌++◌, ◌⊎◌, [], ℕ, List, All, Err, map};
-ghost use Rattle.std.specs.Prelude.{IfOk, IfErr, IsErrAnd, OnOk, OnErr, chars, filter, length};
+ghost use Rattle.std.specs.Prelude.{IfOk, IfErr, IsErrAnd, OnOk, OnErr, filter, length};
 ghost use Rattle.std.specs.Prelude.{option_map, slice_get, slice_index_or};
-ghost use Rattle.jsonb_column.specs.Words.{Json, Tree, canon, Fits, IsDocument, document_bytes};
+ghost use Rattle.jsonb_column.specs.Words.{ParsesTo, IsDocument, document_bytes};
 ghost use Rattle.jsonb_column.specs.Words.{document_tree, concat, YieldsFirstBy, item_count, IsCut};
 ghost use Rattle.jsonb_column.specs.Words.{has_member, most_reads, AreStored, HasFaultyRow, IsRow};
 ghost use Rattle.jsonb_column.specs.Words.{storage, row_in, rows_in, IsWithin, AreRows, FillBytes};
@@ -78,16 +78,10 @@ impl Column {
     /// a key or a count exceeds its limit, `OutOfMemory` if an allocation fails. After an error the
     /// rows are unchanged.
     pub fn push_json(&mut self, alloc: Global, text: &str) -> Result<(), Error>
-        ensures pushed { OnOk result ((t : Tree)
-            × (Json (chars text.now) t
-            × (Fits t × (self.new ≡ self.old ++ canon t ∷ [])))) }
+        ensures pushed { OnOk result ((row : List ℕ)
+            × (ParsesTo text.now (Ok row) × (self.new ≡ self.old ++ row ∷ []))) }
         ensures kept { OnErr result (self.new ≡ self.old) }
-        ensures invalid { result ≡ Err Error.InvalidJson
-            → (t : Tree) → Json (chars text.now) t → ⊥ }
-        ensures past { result ≡ Err Error.InvalidJsonb
-            → (t : Tree) × (Json (chars text.now) t × (Fits t → ⊥)) }
-        ensures only { IfErr result (λ e. (e ≡ Error.InvalidJson)
-            ⊎ ((e ≡ Error.InvalidJsonb) ⊎ (e ≡ Error.OutOfMemory))) }
+        ensures refused { IfErr result (λ e. ParsesTo text.now (Err e)) }
     {
         let value = parse_value(alloc, text)?;
         self.places.reserve(1)?;

@@ -1,6 +1,6 @@
 -- The contents of replies with rows, and why a text is refused.
-use Rattle.std.proofs.Common.{◌≡◌, ◌↔◌, ◌⊎◌, inl, inr, ℕ, ◌+◌, ◌<◌, List, [], ◌∷◌, ◌++◌, length}
-use Rattle.std.proofs.Common.{chars, arith, map}
+use Rattle.std.proofs.Common.{◌≡◌, ◌⊎◌, inl, inr, ℕ, ◌+◌, ◌<◌, List, [], ◌∷◌, ◌++◌, length}
+use Rattle.std.proofs.Common.{chars, map}
 use Rattle.std.proofs.Common.{take, refl, sym, ap, subst, ◌∙◌, append_assoc, Result, Ok, Err}
 use Rattle.std.specs.Prelude.{IfErr, IfOk, IfSome, IsErrAnd, OnOk, Option, None, Some}
 use Rattle.std.specs.Prelude.{slice_index_or}
@@ -15,12 +15,10 @@ use Rattle.jsonb_value.specs.declared.within.ParseError.{ParseError}
 use Rattle.jsonb_value.specs.declared.within.ParseError.TheVariants as deep
 use Rattle.jsonb_value.specs.Json.Syntax.{Json}
 use Rattle.jsonb_value.specs.Text.{compact}
-use Rattle.jsonb_value.specs.TextDepth.{text_depth}
 use Rattle.jsonb_value.specs.Tree as trees
-use Rattle.jsonb_value.specs.Tree.{Tree}
-use Rattle.jsonb_codec.specs.Canon.{canon, Fits}
 use Rattle.jsonb.specs.declared.document.Document.{Document}
 use Rattle.jsonb.specs.Document.{document_bytes, tree_in}
+use Rattle.jsonb.specs.Parsing.{ParsesTo, ParsesWithin}
 use Rattle.answer_lines.specs.Session.{IsReply}
 use Rattle.jsonb_column_cli.specs.declared.answer.Refusal.{Refusal}
 use Rattle.jsonb_column_cli.specs.declared.answer.Refusal.TheVariants.{Call}
@@ -28,7 +26,7 @@ use Rattle.jsonb_column_cli.specs.declared.answer.TheConstants.{MAX_DEPTH}
 use Rattle.jsonb_column_cli.specs.Commands.{Form, add, find, name_word, name_json}
 use Rattle.jsonb_column_cli.specs.Answers.{Rows, spoken, rows_line, reply_of, IsAnswer, IsOutcome}
 use Rattle.jsonb_column_cli.specs.Answers.{IsRefusal, IsLineOutcome, AnswersLine, reply_line}
-use Rattle.jsonb_column_cli.specs.Answers.{IsGiven, IsShallow, refusal_of}
+use Rattle.jsonb_column_cli.specs.Answers.{IsShallow, refusal_of}
 
 spoken-append : (xs ys : Rows) → spoken (xs ++ ys) ≡ spoken xs ++ spoken ys
 spoken-append [] ys = refl
@@ -66,42 +64,22 @@ call_errors P e (inl is) first second memory = subst P (sym is) (first is)
 call_errors P e (inr (inl is)) first second memory = subst P (sym is) (second is)
 call_errors P e (inr (inr is)) first second memory = subst P (sym is) memory
 
--- a text that is not refused as too deep is shallow
-shallow : (P : Type 0) (text : List ℕ) → P ↔ (MAX_DEPTH < text_depth text) → (P → ⊥)
-    → IsShallow text
-shallow P text exact none =
-    grind (arith, λ (h : MAX_DEPTH < text_depth text). none (exact.1 h))
-
 -- what the library's reader refused
-pub text_refused : {A : Type 0} (text : List ℕ) (r : Result A ParseError) (e : ParseError)
-    → r ≡ Err e → (r ≡ Err deep.TooDeep) ↔ (MAX_DEPTH < text_depth text)
-    → (r ≡ Err (deep.Refused InvalidJson) → (t : Tree) → Json (chars text) t → ⊥)
-    → (r ≡ Err (deep.Refused InvalidJsonb) → (t : Tree) × (Json (chars text) t × (Fits t → ⊥)))
-    → (e ≡ deep.TooDeep) ⊎ ((e ≡ deep.Refused InvalidJson)
-    ⊎ ((e ≡ deep.Refused InvalidJsonb) ⊎ (e ≡ deep.Refused OutOfMemory)))
+pub text_refused : (text : List ℕ) (e : ParseError) → ParsesWithin MAX_DEPTH text (Err e)
     → IsRefusal [] (add text) (refusal_of e)
-text_refused text r e was exact invalid past (inl is) =
-    subst (λ (x : ParseError). IsRefusal [] (add text) (refusal_of x)) (sym is)
-    (exact.0 (was ∙ ap Err is))
-text_refused text r e was exact invalid past (inr (inl is)) =
-    let none : r ≡ Err deep.TooDeep → ⊥ = λ too. cc in
-    subst (λ (x : ParseError). IsRefusal [] (add text) (refusal_of x)) (sym is)
-    (shallow (r ≡ Err deep.TooDeep) text exact none, invalid (was ∙ ap Err is))
-text_refused text r e was exact invalid past (inr (inr (inl is))) =
-    let none : r ≡ Err deep.TooDeep → ⊥ = λ too. cc in
-    subst (λ (x : ParseError). IsRefusal [] (add text) (refusal_of x)) (sym is)
-    (shallow (r ≡ Err deep.TooDeep) text exact none, past (was ∙ ap Err is))
-text_refused text r e was exact invalid past (inr (inr (inr is))) =
-    subst (λ (x : ParseError). IsRefusal [] (add text) (refusal_of x)) (sym is) tt
+text_refused text deep.TooDeep past = past
+text_refused text (deep.Refused InvalidJson) none = none
+text_refused text (deep.Refused InvalidJsonb) past = past
+text_refused text (deep.Refused OutOfMemory) any = tt
+text_refused text (deep.Refused e) never = absurd never.1
 
--- and what it read
-pub text_given : {A : Type 0} (text bytes : List ℕ) (r : Result A ParseError) (a : A) → r ≡ Ok a
-    → (r ≡ Err deep.TooDeep) ↔ (MAX_DEPTH < text_depth text)
-    → ((t : Tree) × (Json (chars text) t × (bytes ≡ canon t)))
-    → ((t : Tree) → Json (chars text) t → Fits t) → IsGiven text bytes
-text_given text bytes r a was exact (t, (json, is)) fits =
-    let none : r ≡ Err deep.TooDeep → ⊥ = λ too. cc in
-    (shallow (r ≡ Err deep.TooDeep) text exact none, (t, (json, (fits t json, is))))
+-- what a row of its document was refused for
+pub row_refused : (rows next : Rows) (text : List ℕ) (e : Error) → IsShallow text
+    → ParsesTo text (Err e) → next ≡ rows → IsOutcome rows (add text) (Err (Call e)) next
+row_refused rows next text InvalidJson low none kept = ((low, none), kept)
+row_refused rows next text InvalidJsonb low past kept = ((low, past), kept)
+row_refused rows next text OutOfMemory low any kept = (tt, kept)
+row_refused rows next text e low never kept = absurd never
 
 pub if_err : {A : Type 0} (P : Refusal → Type 0) (r : Result A Refusal) (refusal : Refusal)
     → IsErrAnd r (λ x. x ≡ refusal) → P refusal → IfErr r P

@@ -20,13 +20,12 @@ use Rattle.jsonb_value.specs.Json.Syntax.{Json}
 use Rattle.jsonb_value.specs.Text.{compact}
 use Rattle.jsonb_value.specs.TextDepth.{text_depth}
 use Rattle.jsonb_value.specs.Tree as trees
-use Rattle.jsonb_value.specs.Tree.{Tree}
 use Rattle.jsonb_value.specs.declared.within.ParseError.{ParseError}
 use Rattle.jsonb_value.specs.declared.within.ParseError.TheVariants as deep
 use Rattle.jsonb_value.specs.TreeOrder.{tree_cmp}
-use Rattle.jsonb_codec.specs.Canon.{canon, Fits}
 use Rattle.jsonb.specs.declared.document.Document.{Document}
 use Rattle.jsonb.specs.Document.{document_bytes, document_tree, tree_in}
+use Rattle.jsonb.specs.Parsing.{ParsesTo}
 use Rattle.jsonb_column.specs.Select.{has_member}
 use Rattle.jsonb_column.specs.SortOrder.{is_between}
 use Rattle.jsonb_column.specs.Storage.{AreStored, HasFaultyRow, IsCut, storage}
@@ -56,15 +55,13 @@ IsShallow text = text_depth text ≤ MAX_DEPTH
 
 -- The text means a tree, and the bytes are its canonical document.
 abbrev pub IsGiven : List ℕ → List ℕ → Type 0
-IsGiven text bytes = IsShallow text
-    × ((t : Tree) × (Json (chars text) t × (Fits t × (bytes ≡ canon t))))
+IsGiven text bytes = IsShallow text × ParsesTo text (Ok bytes)
 
 -- Why a text gives no document, where memory is not refused.
 abbrev pub RefusesText : List ℕ → Refusal → Type 0
 RefusesText text TooDeep = MAX_DEPTH < text_depth text
-RefusesText text (Call InvalidJson) = IsShallow text × ((t : Tree) → Json (chars text) t → ⊥)
-RefusesText text (Call InvalidJsonb) =
-    IsShallow text × ((t : Tree) × (Json (chars text) t × (Fits t → ⊥)))
+RefusesText text (Call InvalidJson) = IsShallow text × ParsesTo text (Err InvalidJson)
+RefusesText text (Call InvalidJsonb) = IsShallow text × ParsesTo text (Err InvalidJsonb)
 RefusesText text refusal = ⊥
 
 -- The refusal of a text by the library's reader.

@@ -5,7 +5,7 @@ pub mod Objects
 pub mod Orders
 pub mod PartLaws
 pub mod PlaceLaws
-pub mod Readings
+pub mod ResultLaws
 pub mod Scalars
 pub mod ScalarValues
 pub mod Walks

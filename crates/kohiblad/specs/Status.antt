@@ -98,3 +98,8 @@ IsRefused reason before after size status = (status ≡ reason) × ((size ≡ 0)
 abbrev pub IsAnswered : Result (List ℕ) Error → List ℕ → List ℕ → ℕ → ℕ → Type 0
 IsAnswered (Ok answer) before after size status = IsHandedOver answer before after size status
 IsAnswered (Err e) before after size status = IsRefused (code e) before after size status
+
+-- One of these results is the answer.
+abbrev pub IsOneAnswered : (Result (List ℕ) Error → Type 0) → List ℕ → List ℕ → ℕ → ℕ → Type 0
+IsOneAnswered Results before after size status =
+    (r : Result (List ℕ) Error) × (Results r × IsAnswered r before after size status)

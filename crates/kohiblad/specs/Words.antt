@@ -1,6 +1,5 @@
 -- The names that the clauses of this crate cite, passed on from one place.
-pub use Rattle.std.specs.List.{IsDistinct}
-pub use Rattle.std.specs.Map.{keys_of, values_of}
+pub use Rattle.std.specs.Map.{values_of}
 pub use Rattle.jsonb_value.specs.ExtCode.{extension_of}
 pub use Rattle.jsonb_value.specs.Json.Numeral.{number_of}
 pub use Rattle.jsonb_value.specs.Meaning.{meaning_cmp}
@@ -16,13 +15,10 @@ pub use Rattle.jsonb_codec.specs.Contents.{Means}
 pub use Rattle.jsonb_codec.specs.Depth.{IsDocumentWithin, depth}
 pub use Rattle.jsonb_codec.specs.Doc.{Doc, IsDocument}
 pub use Rattle.jsonb_codec.specs.Parts.{IsPayloadOf}
-pub use Rattle.jsonb.specs.Building.{AreTexts, FitArray}
 pub use Rattle.jsonb.specs.Code.{scalar_bytes}
 pub use Rattle.jsonb.specs.ItemMeaning.{meaning_of}
-pub use Rattle.jsonb.specs.ItemView.{raw}
 pub use Rattle.jsonb.specs.Kind.{kind, kind_of_tree}
-pub use Rattle.jsonb.specs.Owned.{owned_bytes}
-pub use Rattle.jsonb.specs.Results.{IsArrayOfInputs, IsObjectOfInputs, MakeNoObject}
+pub use Rattle.jsonb.specs.Owned.{bytes_of}
 pub use Rattle.jsonb.specs.Texts.{display_text, lined_text, other_text, plain_text}
 pub use Rattle.jsonb.specs.Texts.{pretty_display_text}
 pub use Rattle.jsonb.specs.declared.lookup.Place.{Place}
@@ -30,7 +26,7 @@ pub use Rattle.jsonb_comparable.specs.CheckedBytes.{checked_meaning}
 pub use Rattle.jsonb_comparable.specs.TreeKey.{meaning_key}
 pub use Rattle.jsonb_comparable.specs.Within.{meaning_within}
 pub use Rattle.kohiblad.specs.BoundedMeaning.{bounded_meaning}
-pub use Rattle.kohiblad.specs.Children.{CanMove, IsBegun, child_at, cursor_after, cursor_at, end_of}
+pub use Rattle.kohiblad.specs.Children.{CanMove, IsBegun, child_at, cursor_after, cursor_at}
 pub use Rattle.kohiblad.specs.Children.{key_answer, numbered_child, value_answer}
 pub use Rattle.kohiblad.specs.KindAnswer.{kind_answer}
 pub use Rattle.kohiblad.specs.Output.{IsRead, IsReadWithin, IsRewritten, IsRewrittenWithin}
@@ -41,7 +37,8 @@ pub use Rattle.kohiblad.specs.Places.{IsMemberHandedOver, IsPartPlace, IsPlaceFo
 pub use Rattle.kohiblad.specs.Places.{IsPlaceHandedOver, IsPlaceIn, IsValuePlace, entry_document}
 pub use Rattle.kohiblad.specs.Places.{entry_there, item_place, member_places, part_place}
 pub use Rattle.kohiblad.specs.Places.{part_start, place_answer, place_at, place_in}
-pub use Rattle.kohiblad.specs.Results.{AreWithin, IsArrayBuilt, IsArrayOfRows, IsArrayOfRowsWithin}
+pub use Rattle.kohiblad.specs.Results.{AreWithin, BuildsArray, BuildsObject}
+pub use Rattle.kohiblad.specs.Results.{IsArrayBuilt, IsArrayOfRows, IsArrayOfRowsWithin}
 pub use Rattle.kohiblad.specs.Results.{IsObjectBuilt, IsObjectOfRows, IsObjectOfRowsWithin}
 pub use Rattle.kohiblad.specs.Rows.{are_ends, pairs_in, rows, rows_from}
 pub use Rattle.kohiblad.specs.Scalars.{IsDecimalOf, IsGivenBy, IsShort, IsShortExtension}

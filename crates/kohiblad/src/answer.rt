@@ -2,8 +2,9 @@
 
 ghost use Rattle.std.specs.Prelude.{◌≡◌, ◌+◌, ◌<◌, ◌^◌, length};
 ghost use Rattle.kohiblad.specs.Words.{scalar_bytes, code, status_name, IsHandedOver, IsRefused};
+ghost use Rattle.kohiblad.specs.Words.{IsAnswered, bytes_of};
 
-use jsonb::Error;
+use jsonb::{Error, OwnedJsonb};
 use jsonb_codec::constants::SCALAR_CONTAINER_TAG;
 
 /// The version number: a million per major, a thousand per minor and one per patch version.
@@ -101,6 +102,16 @@ pub fn hand_over(answer: &[u8], out: &mut [u8], size: &mut usize) -> u32
     }
     out[..answer.len()].copy_from_slice(answer);
     OK
+}
+
+/// Copies out the bytes that were made, as `hand_over` does, or returns the status of the error.
+pub fn hand_over_made(made: Result<OwnedJsonb, Error>, out: &mut [u8], size: &mut usize) -> u32
+    ensures { IsAnswered (bytes_of made) out.old out.new size.new result }
+{
+    match made {
+        Ok(owned) => hand_over(owned.as_bytes(), out, size),
+        Err(error) => refuse(code(error), out, size),
+    }
 }
 
 /// Returns this status, with the length 0 and no bytes.

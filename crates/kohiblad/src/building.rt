@@ -1,13 +1,11 @@
 //! Building arrays and objects from documents in consecutive rows.
 
-ghost use Rattle.std.specs.Prelude.{◌≡◌, ◌⊎◌, ◌↔◌, Err, map, IfOk, IfErr, IsTrue, bytes_eq};
-ghost use Rattle.kohiblad.specs.Words.{IsDistinct, keys_of, values_of, FitArray, AreTexts, raw};
-ghost use Rattle.kohiblad.specs.Words.{IsArrayOfInputs, IsObjectOfInputs, MakeNoObject, AreWithin};
-ghost use Rattle.kohiblad.specs.Words.{owned_bytes, IsArrayOfRows, IsObjectOfRows, IsArrayBuilt};
-ghost use Rattle.kohiblad.specs.Words.{IsArrayOfRowsWithin, IsObjectOfRowsWithin, IsObjectBuilt};
-ghost use Rattle.kohiblad.specs.Words.{pairs_in};
+ghost use Rattle.std.specs.Prelude.{◌↔◌, IsTrue};
+ghost use Rattle.kohiblad.specs.Words.{values_of, AreWithin, BuildsArray, BuildsObject, bytes_of};
+ghost use Rattle.kohiblad.specs.Words.{IsArrayOfRows, IsObjectOfRows, IsArrayBuilt, IsObjectBuilt};
+ghost use Rattle.kohiblad.specs.Words.{IsArrayOfRowsWithin, IsObjectOfRowsWithin, pairs_in};
 
-use crate::answer::{code, hand_over, refuse};
+use crate::answer::{code, hand_over_made, refuse};
 use crate::rows::Rows;
 use jsonb::{ArrayBuilder, Error, ObjectBuilder, OwnedJsonb, RawJsonb, is_document_within};
 use std::alloc::Global;
@@ -67,10 +65,7 @@ pub extern "C" fn kohiblad_build_array_within(
 fn write_array(alloc: Global, rows: Rows, out: &mut [u8], length: &mut usize) -> u32
     ensures { IsArrayBuilt rows.entry out.old out.new length.new result }
 {
-    match array_of(alloc, rows) {
-        Ok(owned) => hand_over(owned.as_bytes(), out, length),
-        Err(error) => refuse(code(error), out, length),
-    }
+    hand_over_made(array_of(alloc, rows), out, length)
 }
 
 // Whether each row is a document of at most this depth.
@@ -146,10 +141,7 @@ pub extern "C" fn kohiblad_build_object_within(
 fn write_object(alloc: Global, rows: Rows, out: &mut [u8], length: &mut usize) -> u32
     ensures { IsObjectBuilt (pairs_in rows.entry) out.old out.new length.new result }
 {
-    match object_of(alloc, rows) {
-        Ok(owned) => hand_over(owned.as_bytes(), out, length),
-        Err(error) => refuse(code(error), out, length),
-    }
+    hand_over_made(object_of(alloc, rows), out, length)
 }
 
 // Whether the document of each pair is one of at most this depth.
@@ -167,9 +159,7 @@ fn are_pairs_within(rows: Rows, depth: usize) -> bool
 
 // Builds the array of these rows.
 fn array_of(alloc: Global, rows: Rows) -> Result<OwnedJsonb, Error>
-    ensures ok { IfOk result (λ owned. IsArrayOfInputs rows.entry (owned_bytes owned)) }
-    ensures past { result ≡ Err Error.InvalidJsonb → FitArray (map raw rows.entry) → ⊥ }
-    ensures only { IfErr result (λ e. (e ≡ Error.InvalidJsonb) ⊎ (e ≡ Error.OutOfMemory)) }
+    ensures { BuildsArray rows.entry (bytes_of result) }
 {
     let mut left = rows;
     let mut builder = ArrayBuilder::new(alloc);
@@ -181,15 +171,7 @@ fn array_of(alloc: Global, rows: Rows) -> Result<OwnedJsonb, Error>
 
 // Builds the object of these rows: a key, then its document, and so on.
 fn object_of(alloc: Global, rows: Rows) -> Result<OwnedJsonb, Error>
-    ensures ok { IfOk result (λ owned. AreTexts (keys_of (pairs_in rows.entry))
-        × IsObjectOfInputs (pairs_in rows.entry) (owned_bytes owned)) }
-    ensures past { result ≡ Err Error.InvalidJsonb
-        → AreTexts (keys_of (pairs_in rows.entry)) × MakeNoObject (pairs_in rows.entry) }
-    ensures utf8 { result ≡ Err Error.InvalidUtf8 → AreTexts (keys_of (pairs_in rows.entry)) → ⊥ }
-    ensures twice { result ≡ Err Error.ObjectDuplicateKey
-        → IsDistinct bytes_eq (keys_of (pairs_in rows.entry)) → ⊥ }
-    ensures only { IfErr result (λ e. (e ≡ Error.InvalidJsonb) ⊎ ((e ≡ Error.InvalidUtf8)
-        ⊎ ((e ≡ Error.ObjectDuplicateKey) ⊎ (e ≡ Error.OutOfMemory)))) }
+    ensures { BuildsObject (pairs_in rows.entry) (bytes_of result) }
 {
     let mut left = rows;
     let mut builder = ObjectBuilder::new(alloc);

@@ -4,7 +4,7 @@ ghost use Rattle.std.specs.Prelude.{◌↔◌, IsTrue};
 ghost use Rattle.kohiblad.specs.Words.{IsCanonical, IsDocumentWithin, IsRewritten};
 ghost use Rattle.kohiblad.specs.Words.{IsRewrittenWithin};
 
-use crate::answer::{code, hand_over, refuse};
+use crate::answer::{code, hand_over_made, refuse};
 use jsonb::{Document, Error, RawJsonb, is_canonical, is_document_within};
 use std::alloc::Global;
 
@@ -43,10 +43,7 @@ pub extern "C" fn kohiblad_to_canonical(
 ) -> u32
     ensures { IsRewritten bytes.now out.old out.new length.new result }
 {
-    match RawJsonb::new(bytes).to_canonical(alloc) {
-        Ok(owned) => hand_over(owned.as_bytes(), out, length),
-        Err(error) => refuse(code(error), out, length),
-    }
+    hand_over_made(RawJsonb::new(bytes).to_canonical(alloc), out, length)
 }
 
 /// Copies the canonical document of the value that the bytes mean to `out`, and its length in bytes

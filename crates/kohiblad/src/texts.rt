@@ -4,7 +4,7 @@ ghost use Rattle.kohiblad.specs.Words.{compact, pretty, Tree, Doc, display_text,
 ghost use Rattle.kohiblad.specs.Words.{pretty_display_text, lined_text, other_text, meaning_within};
 ghost use Rattle.kohiblad.specs.Words.{IsWritten, IsRead, IsReadWithin};
 
-use crate::answer::{TOO_DEEP, code, hand_over, refuse};
+use crate::answer::{TOO_DEEP, code, hand_over, hand_over_made, refuse};
 use bstr::ByteSlice;
 use jsonb::{Error, OwnedJsonb, RawJsonb, is_text_within};
 use jsonb_comparable::CheckedBytes;
@@ -151,8 +151,5 @@ pub extern "C" fn kohiblad_parse(
 fn read_text(alloc: Global, text: &str, out: &mut [u8], length: &mut usize) -> u32
     ensures { IsRead text.now out.old out.new length.new result }
 {
-    match OwnedJsonb::parse(alloc, text) {
-        Ok(owned) => hand_over(owned.as_bytes(), out, length),
-        Err(error) => refuse(code(error), out, length),
-    }
+    hand_over_made(OwnedJsonb::parse(alloc, text), out, length)
 }

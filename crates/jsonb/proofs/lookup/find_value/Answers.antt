@@ -4,19 +4,19 @@ use Rattle.jsonb.proofs.PartLaws.{value_known}
 use Rattle.jsonb.proofs.CutKeyLaws.{first_unread}
 use Rattle.jsonb.proofs.lookup.find_value.Goals as goal
 
-pub returns-in_err-read_cut_keys-clause-unread : goal.returns-in_err-read_cut_keys-clause-unread
-returns-in_err-read_cut_keys-clause-unread g c =
+pub returns-in_err-read_cut_keys-clause-found : goal.returns-in_err-read_cut_keys-clause-found
+returns-in_err-read_cut_keys-clause-found g c =
     let refused : c.from_residual.result ≡ Err c.in_err-read_cut_keys.field-0.0 = search rules in
     let first = rw c.in_err-read_cut_keys.was at c.read_cut_keys.ensures.unread in
     rw refused (first_unread _ _ _ _ _ first)
 
-pub returns-in_err-key-clause-unread : goal.returns-in_err-key-clause-unread
-returns-in_err-key-clause-unread g c =
+pub returns-in_err-key-clause-found : goal.returns-in_err-key-clause-found
+returns-in_err-key-clause-found g c =
     let refused : c.from_residual-in_err-key.result ≡ Err c.in_err-key.field-0.0 = search rules in
-    rw refused (rw (c.in_err-key.was, c.as_bytes.ensures.value) at c.matching_key.ensures.unread)
+    rw refused (rw (c.in_err-key.was, c.as_bytes.ensures.value) at c.matching_key.ensures.found)
 
-pub returns-in_err-payload-clause-unread : goal.returns-in_err-payload-clause-unread
-returns-in_err-payload-clause-unread g c =
+pub returns-in_err-payload-clause-found : goal.returns-in_err-payload-clause-found
+returns-in_err-payload-clause-found g c =
     let refused : c.from_residual-in_err-payload.result ≡ Err c.in_err-payload.field-0.0 =
     search rules in
     rw refused (value_unread c.in-Some.key.pair (search rules)
@@ -24,12 +24,15 @@ returns-in_err-payload-clause-unread g c =
     c.entry_within-jentry.ensures.value c.skip_parts-start.ensures.start _
     c.in_err-payload.ensures.fault))
 
-pub returns-clause-some : goal.returns-clause-some
-returns-clause-some g c = record {
-  pair = c.in-Some.key.pair;
-  key = search rules;
-  there = value_known _ _ c.in-Some.key.pair c.skip_parts-start.result _
-      c.entry_within-jentry.ensures.value c.skip_parts-start.ensures.start _
-      c.in_ok-payload.ensures.value;
-  cost = search rules;
-}
+pub returns-clause-found : goal.returns-clause-found
+returns-clause-found g c = (
+  record {
+    pair = c.in-Some.key.pair;
+    key = search rules;
+    there = value_known _ _ c.in-Some.key.pair c.skip_parts-start.result _
+        c.entry_within-jentry.ensures.value c.skip_parts-start.ensures.start _
+        c.in_ok-payload.ensures.value;
+    cost = search rules;
+  },
+  search rules,
+)

@@ -7,23 +7,26 @@ use Rattle.jsonb.proofs.lookup.matching_key.Goals.{else-size-name-via-then-size-
 use Rattle.jsonb.proofs.lookup.matching_key.Goals.{else-size-name-via-else-size-name}
 use borrow.Author.Count.{below_more}
 
-pub returns-in_err-payload-clause-unread : goal.returns-in_err-payload-clause-unread
-returns-in_err-payload-clause-unread g c =
+pub returns-in_err-payload-clause-found : goal.returns-in_err-payload-clause-found
+returns-in_err-payload-clause-found g c =
     let refused : c.from_residual.result ≡ Err c.in_err-payload.field-0.0 =
     search rules in
     rw refused (key_unread c.loop-pair.pair c.loop-pair-test.true c.loop-pair.invariant.passed
     (key_known _ _ _ _ _ c.loop-pair.start c.entry_within.ensures.value (search rules)
     c.loop-pair.invariant.start _ c.in_err-payload.ensures.fault))
 
-pub returns-then-call-clause-some : goal.returns-then-call-clause-some
-returns-then-call-clause-some g c = record {
-  among = c.loop-pair-test.true;
-  key = c.in_ok-payload.field-0.now;
-  there = key_known _ _ _ _ _ c.loop-pair.start c.entry_within.ensures.value (search rules)
-      c.loop-pair.invariant.start _ c.in_ok-payload.ensures.value;
-  accepted = search rules;
-  earlier = c.loop-pair.invariant.passed;
-}
+pub returns-then-call-clause-found : goal.returns-then-call-clause-found
+returns-then-call-clause-found g c = (
+  record {
+    among = c.loop-pair-test.true;
+    key = c.in_ok-payload.field-0.now;
+    there = key_known _ _ _ _ _ c.loop-pair.start c.entry_within.ensures.value (search rules)
+        c.loop-pair.invariant.start _ c.in_ok-payload.ensures.value;
+    accepted = search rules;
+    earlier = c.loop-pair.invariant.passed;
+  },
+  (search rules, search rules),
+)
 
 pub loop-pair-preserved : goal.loop-pair-preserved
 loop-pair-preserved g c =

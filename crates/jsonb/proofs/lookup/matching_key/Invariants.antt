@@ -8,6 +8,6 @@ invariant-loop-pair g l = record {
   start : l.start ≡ part_start l.bytes l.count l.pair;
   cost : l.reads ≡ l.initial.reads + l.pair;
   passed : PassedBefore
-      (λ key b. FnReturnsAtPair g.F.Fn l.eq_func l.name key b)
+      (FnReturnsAtPair g.F.Fn l.eq_func l.name)
       (length l.name) l.bytes l.count l.pair;
 }

@@ -1,8 +1,8 @@
-use Rattle.std.proofs.Common.{rules, ap, Err}
+use Rattle.std.proofs.Common.{rules}
 use Rattle.jsonb_column_cli.specs.declared.answer.Refusal.TheVariants.{Call}
 use Rattle.jsonb_column_cli.specs.Answers.{IsOutcome, IsShallow}
 use Rattle.jsonb_column_cli.specs.Commands.{add}
-use Rattle.jsonb_column_cli.proofs.Replies.{reply_of_err, call_errors}
+use Rattle.jsonb_column_cli.proofs.Replies.{reply_of_err, row_refused}
 use Rattle.jsonb_column_cli.proofs.answer.answer_add.Goals as goal
 
 pub returns-in_err-push_json : goal.returns-in_err-push_json
@@ -13,9 +13,5 @@ returns-in_err-push_json c =
     (add c.args.text.now) outcome c.push_json.new.self) c.from_residual-in_err-push_json.result
     (Call e)
     c.from_residual-in_err-push_json.ensures.1
-    (call_errors
-    (λ e. IsOutcome c.args.column.now (add c.args.text.now)
-    (Err (Call e)) c.push_json.new.self) e c.in_err-push_json.ensures.only
-    (λ is. ((low, c.in_err-push_json.ensures.invalid (ap Err is)), c.in_err-push_json.ensures.kept))
-    (λ is. ((low, c.in_err-push_json.ensures.past (ap Err is)), c.in_err-push_json.ensures.kept))
-    (tt, c.in_err-push_json.ensures.kept))
+    (row_refused c.args.column.now c.push_json.new.self c.args.text.now e low
+    c.in_err-push_json.ensures.refused c.in_err-push_json.ensures.kept)

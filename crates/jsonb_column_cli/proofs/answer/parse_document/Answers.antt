@@ -1,25 +1,18 @@
-use Rattle.std.proofs.Common.{[], refl, Err, Ok}
-use Rattle.jsonb.specs.Owned.{owned_bytes}
+use Rattle.std.proofs.Common.{[]}
 use Rattle.jsonb_column_cli.specs.Answers.{IsRefusal, refusal_of}
 use Rattle.jsonb_column_cli.specs.Commands.{add}
-use Rattle.jsonb_column_cli.proofs.Replies.{if_err, text_refused, text_given}
+use Rattle.jsonb_column_cli.proofs.Replies.{if_err, text_refused}
 use Rattle.jsonb_column_cli.proofs.answer.parse_document.Goals as goal
 
 pub returns-in_err-parse_within-clause-refused : goal.returns-in_err-parse_within-clause-refused
 returns-in_err-parse_within-clause-refused c =
     let e = c.in_err-parse_within.field-0.0 in
     let text = c.args.text.now in
-    let known = c.in_err-parse_within.ensures in
     if_err (IsRefusal [] (add text)) c.from_residual.result (refusal_of e)
-    c.from_residual.ensures.1
-    (text_refused text (Err e) e refl known.deep known.invalid known.past known.errors)
+    c.from_residual.ensures.1 (text_refused text e c.in_err-parse_within.ensures.value)
 
 pub returns-clause-meaning : goal.returns-clause-meaning
-returns-clause-meaning c =
-    let owned = c.in_ok-parse_within.field-0 in
-    let known = c.in_ok-parse_within.ensures in
-    text_given c.args.text.now (owned_bytes owned) (Ok owned) owned refl known.deep known.parsed.ok
-    known.parsed.fits
+returns-clause-meaning c = c.in_ok-parse_within.ensures.value
 
 pub returns-clause-document : goal.returns-clause-document
 returns-clause-document c =

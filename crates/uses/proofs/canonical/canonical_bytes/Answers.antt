@@ -4,11 +4,5 @@ use Rattle.uses.proofs.canonical.canonical_bytes.Goals as goal
 
 pub returns : goal.returns
 returns c =
-    let means = c.in_ok-to_canonical.ensures.ok in (
-      means.0,
-      (
-        subst (λ (b : List ℕ). Doc b means.0) c.new.ensures means.1.0,
-        c.to_vec.ensures
-            ∙ means.1.1.1,
-      ),
-    )
+    let (t, (doc, (fits, is))) = c.in_ok-to_canonical.ensures.value in
+    (t, (subst (λ (b : List ℕ). Doc b t) c.new.ensures doc, c.to_vec.ensures ∙ is))

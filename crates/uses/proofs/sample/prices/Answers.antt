@@ -15,9 +15,9 @@ AreDocuments rows = All (λ row. IsDocument (owned_bytes row)) rows
 
 pub loop-text-preserved : goal.loop-text-preserved
 loop-text-preserved c =
-    let made = c.in_ok-parse.ensures.parsed.ok in
+    let (t, (json, (fits, bytes))) = c.in_ok-parse.ensures.value in
     let is : IsDocument (owned_bytes c.in_ok-parse.field-0) =
-    (norm made.0, c.in_ok-parse.ensures.parsed.means made.0 made.1.0) in
+    (norm t, c.in_ok-parse.ensures.parsed.means t json) in
     let items : c.push.new.self.items ≡ c.loop-text.rows.items ++ c.in_ok-parse.field-0 ∷ [] =
     search rules in
     let long : vec_len c.push.new.self ≡ c.loop-text.text-index + 1 = search rules in

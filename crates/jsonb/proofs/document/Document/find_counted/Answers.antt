@@ -31,7 +31,7 @@ unreachable-requires-in-Err-find_value c =
     always_read _ (pointwise nat_eq c.args.name.now) _ (λ key b same answers. search rules) _ _ _ _
     c.as_bytes-bytes.ensures.document
     (sym (ap Ok c.in-Ok-Some.field-0-is) ∙ c.in-Ok-Some.ensures.value)
-    c.in-Err-find_value.ensures.unread
+    c.in-Err-find_value.ensures.found
 
 -- The value's entry is that of the key's value.
 pub invariant_of-result : goal.invariant_of-result
@@ -40,7 +40,7 @@ invariant_of-result c =
     value_by_entry _ (pointwise nat_eq c.args.name.now) _ (λ key b same answers. search rules) _ _
     _ _ _ c.as_bytes-bytes.ensures.document
     (sym (ap Ok c.in-Ok-Some.field-0-is) ∙ c.in-Ok-Some.ensures.value)
-    (rw c.in-Ok-Some-find_value.field-0-is at c.in-Ok-Some-find_value.ensures.some) in
+    ((rw c.in-Ok-Some-find_value.field-0-is at c.in-Ok-Some-find_value.ensures.found).0) in
     record { fact = merely (v, means) }
 
 pub returns-in-Ok-Some-find_value-clause-found : goal.returns-in-Ok-Some-find_value-clause-found
@@ -49,7 +49,7 @@ returns-in-Ok-Some-find_value-clause-found c =
     value_by_entry _ (pointwise nat_eq c.args.name.now) _ (λ key b same answers. search rules) _ _
     _ _ _ c.as_bytes-bytes.ensures.document
     (sym (ap Ok c.in-Ok-Some.field-0-is) ∙ c.in-Ok-Some.ensures.value)
-    (rw c.in-Ok-Some-find_value.field-0-is at c.in-Ok-Some-find_value.ensures.some) in
+    ((rw c.in-Ok-Some-find_value.field-0-is at c.in-Ok-Some-find_value.ensures.found).0) in
     (v, (found, means))
 
 pub returns-in-Ok-Some-find_value-clause-cost : goal.returns-in-Ok-Some-find_value-clause-cost
@@ -58,7 +58,7 @@ returns-in-Ok-Some-find_value-clause-cost c =
     value_by_entry _ (pointwise nat_eq c.args.name.now) _ (λ key b same answers. search rules) _ _
     _ _ _ c.as_bytes-bytes.ensures.document
     (sym (ap Ok c.in-Ok-Some.field-0-is) ∙ c.in-Ok-Some.ensures.value)
-    (rw c.in-Ok-Some-find_value.field-0-is at c.in-Ok-Some-find_value.ensures.some) in
+    ((rw c.in-Ok-Some-find_value.field-0-is at c.in-Ok-Some-find_value.ensures.found).0) in
     omega (arith, words, c.in-Ok-Some.ensures.cost, c.find_value.ensures.bound)
 
 pub returns-in-Ok-Some-find_value-clause-bound : goal.returns-in-Ok-Some-find_value-clause-bound
@@ -75,7 +75,7 @@ returns-in-Ok-None-find_value-clause-found c =
     (none_by_entries _ (pointwise nat_eq c.args.name.now) _ (λ key b same answers. search rules) _
     _ _ _ c.as_bytes-bytes.ensures.document
     (sym (ap Ok c.in-Ok-Some.field-0-is) ∙ c.in-Ok-Some.ensures.value)
-    (rw c.in-Ok-None-find_value.field-0-is at c.in-Ok-None-find_value.ensures.none)).0
+    (rw c.in-Ok-None-find_value.field-0-is at c.in-Ok-None-find_value.ensures.found)).0
 
 pub returns-in-Ok-None-find_value-clause-cost : goal.returns-in-Ok-None-find_value-clause-cost
 returns-in-Ok-None-find_value-clause-cost c =
@@ -83,7 +83,7 @@ returns-in-Ok-None-find_value-clause-cost c =
     none_by_entries _ (pointwise nat_eq c.args.name.now) _ (λ key b same answers. search rules) _
     _ _ _ c.as_bytes-bytes.ensures.document
     (sym (ap Ok c.in-Ok-Some.field-0-is) ∙ c.in-Ok-Some.ensures.value)
-    (rw c.in-Ok-None-find_value.field-0-is at c.in-Ok-None-find_value.ensures.none) in
+    (rw c.in-Ok-None-find_value.field-0-is at c.in-Ok-None-find_value.ensures.found) in
     omega (arith, words, c.in-Ok-Some.ensures.cost, c.find_value.ensures.bound)
 
 pub returns-in-Ok-None-find_value-clause-bound : goal.returns-in-Ok-None-find_value-clause-bound

@@ -1,8 +1,7 @@
-use Rattle.std.proofs.Common.{rules, ap, Err}
-use Rattle.jsonb_value.specs.declared.error.Error.TheVariants.{InvalidJson}
-use Rattle.jsonb_value.proofs.DepthLaws.{its_depth, its_error}
+use Rattle.std.proofs.Common.{rules}
+use Rattle.jsonb_value.proofs.DepthLaws.{its_depth}
 use Rattle.jsonb.specs.Owned.{owned_bytes}
-use Rattle.jsonb.proofs.ParseLaws.{document_within}
+use Rattle.jsonb.proofs.ParseLaws.{document_within, refused_within}
 use Rattle.jsonb.proofs.owned.OwnedJsonb.parse_within.Goals as goal
 
 pub returns-then-not-is_text_within-clause-nests : goal.returns-then-not-is_text_within-clause-nests
@@ -11,19 +10,20 @@ returns-then-not-is_text_within-clause-nests c = its_depth c.args.text.now c.utf
 pub returns-in_err-parse-clause-nests : goal.returns-in_err-parse-clause-nests
 returns-in_err-parse-clause-nests c = its_depth c.args.text.now c.utf8.text
 
-pub returns-in_err-parse-clause-invalid : goal.returns-in_err-parse-clause-invalid
-returns-in_err-parse-clause-invalid c = λ is.
-    let e = c.in_err-parse.field-0.0 in
-    c.in_err-parse.ensures.invalid
-    (ap Err (its_error c.from_residual.result e InvalidJson c.from_residual.ensures.1 is))
+pub returns-in_err-parse-clause-value : goal.returns-in_err-parse-clause-value
+returns-in_err-parse-clause-value c =
+    refused_within c.args.depth c.args.text.now c.from_residual.result c.in_err-parse.field-0.0
+    c.from_residual.ensures.1 (search rules) c.in_err-parse.ensures.value
+
+pub returns-clause-value : goal.returns-clause-value
+returns-clause-value c = (search rules, c.in_ok-parse.ensures.value)
 
 pub returns-clause-nests : goal.returns-clause-nests
 returns-clause-nests c = its_depth c.args.text.now c.utf8.text
 
 pub returns-clause-within : goal.returns-clause-within
 returns-clause-within c =
-    let parsed = c.in_ok-parse.ensures.parsed in
-    let ok = parsed.ok in
-    document_within c.args.text.now (owned_bytes c.in_ok-parse.field-0) ok.0 c.args.depth
-    (its_depth c.args.text.now c.utf8.text) ok.1.0 (parsed.means ok.0 ok.1.0)
+    let (t, (json, (fits, is))) = c.in_ok-parse.ensures.value in
+    document_within c.args.text.now (owned_bytes c.in_ok-parse.field-0) t c.args.depth
+    (its_depth c.args.text.now c.utf8.text) json (c.in_ok-parse.ensures.parsed.means t json)
     (search rules)

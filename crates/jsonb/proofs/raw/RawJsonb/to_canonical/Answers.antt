@@ -3,14 +3,14 @@ use Rattle.jsonb_value.specs.Tree.{Tree}
 use Rattle.jsonb_codec.specs.Doc.{Doc}
 use Rattle.jsonb_codec.specs.Canon.{canon}
 use Rattle.jsonb_codec.proofs.CanonLaws.{Doc-canon}
-use Rattle.jsonb_codec.proofs.MadeLaws.{made_ok, made_passed_on}
 use Rattle.jsonb_codec.proofs.Rewriting.{canonical_same, canonical_twice, canonical_equal}
 use Rattle.jsonb.specs.Raw.{raw_bytes}
 use Rattle.jsonb.specs.Owned.{owned_bytes}
+use Rattle.jsonb.proofs.CanonicalLaws.{not_rewritten}
 use Rattle.jsonb.proofs.raw.RawJsonb.to_canonical.Goals as goal
 
-pub returns-clause-ok : goal.returns-clause-ok
-returns-clause-ok c =
+pub returns-clause-value : goal.returns-clause-value
+returns-clause-value c =
     let k = c.in_ok-append_canonical.ensures in
     let b = raw_bytes c.args.self.now in
     let h : (t : Tree) × Doc b t =
@@ -27,30 +27,25 @@ returns-clause-ok c =
       ),
     )
 
-pub returns-in_err-append_canonical-clause-limits :
-    goal.returns-in_err-append_canonical-clause-limits
-returns-in_err-append_canonical-clause-limits c =
+pub returns-in_err-append_canonical-clause-value :
+    goal.returns-in_err-append_canonical-clause-value
+returns-in_err-append_canonical-clause-value c =
     let e = c.in_err-append_canonical.field-0.0 in
-    let handed : c.from_residual.result ≡ Err e = search rules in
-    let refused : c.append_canonical.result ≡ Err e = search rules in
-    made_passed_on _ _ e handed refused (λ fit. fit, λ fit. fit)
-    (rw c.as_bytes.ensures at c.append_canonical.ensures.limits)
-
-pub returns-clause-limits : goal.returns-clause-limits
-returns-clause-limits c =
-    let (t, (h, (fit, e))) = returns-clause-ok c in made_ok _ (t, (h, fit))
+    let refused : c.from_residual.result ≡ Err e = search rules in
+    let limits = rw c.as_bytes.ensures at c.in_err-append_canonical.ensures.limits in
+    rw refused (not_rewritten (raw_bytes c.args.self.now) e limits)
 
 pub returns-clause-same : goal.returns-clause-same
 returns-clause-same c =
     let b = raw_bytes c.args.self.now in
-    let (t, (h, (fit, e))) = returns-clause-ok c in
+    let (t, (h, (fit, e))) = returns-clause-value c in
     let ok =
     c.in_ok-append_canonical.ensures.tree t (simp c.as_bytes.ensures h) in
     rw e (canonical_same b t ok h fit)
 
 pub returns-clause-canonical : goal.returns-clause-canonical
 returns-clause-canonical c =
-    let (t, (h, (fit, e))) = returns-clause-ok c in
+    let (t, (h, (fit, e))) = returns-clause-value c in
     let ok =
     c.in_ok-append_canonical.ensures.tree t (simp c.as_bytes.ensures h) in
     (t, (ok, (fit, sym e)))
@@ -73,7 +68,7 @@ returns-clause-equal c t u h =
 
 pub returns-clause-twice : goal.returns-clause-twice
 returns-clause-twice c =
-    let (t, (h, (fit, e))) = returns-clause-ok c in
+    let (t, (h, (fit, e))) = returns-clause-value c in
     let ok =
     c.in_ok-append_canonical.ensures.tree t (simp c.as_bytes.ensures h) in
     canonical_twice (owned_bytes c.new.result) t e ok fit

@@ -1,16 +1,28 @@
-use Rattle.std.proofs.Common.{rules, ◌≡◌, ◌∷◌, ◌++◌, [], ◌-◌, length, ap, ◌∙◌, arith}
+use Rattle.std.proofs.Common.{rules, ◌≡◌, ◌∷◌, ◌++◌, [], ◌-◌, length, Err, refl, ap, ◌∙◌}
+use Rattle.std.proofs.Common.{arith}
 use Rattle.std.proofs.lemmas.List.{length-append}
 use Rattle.jsonb_value.specs.Value.{tree_of}
 use Rattle.jsonb_value.specs.Norm.{norm}
 use Rattle.jsonb_codec.specs.Canon.{canon}
 use Rattle.jsonb_codec.specs.Doc.{IsDocument}
+use Rattle.jsonb.proofs.ParseLaws.{unread, unfit}
 use Rattle.jsonb_column.specs.declared.place.Place.{Place}
 use Rattle.jsonb_column.proofs.RowsLaws.{pushed}
 use Rattle.jsonb_column.proofs.column.Column.push_json.Goals as goal
 
-pub returns-in_err-value-clause-invalid : goal.returns-in_err-value-clause-invalid
-returns-in_err-value-clause-invalid c refused t h =
-    c.in_err-value.ensures.invalid (search rules) t h
+pub returns-in_err-value-clause-refused : goal.returns-in_err-value-clause-refused
+returns-in_err-value-clause-refused c =
+    let refused : c.from_residual.result ≡ Err c.in_err-value.field-0.0 = search rules in
+    let known = c.in_err-value.ensures in
+    rw refused (unread c.args.text.now _ (λ is. known.invalid (ap Err is)) known.errors)
+
+pub returns-in_err-encode-clause-refused : goal.returns-in_err-encode-clause-refused
+returns-in_err-encode-clause-refused c =
+    let refused : c.from_residual-in_err-encode.result ≡ Err c.in_err-encode.field-0.0 =
+    search rules in
+    let limits = c.in_err-encode.ensures.limits in
+    rw refused (unfit c.args.text.now (tree_of c.in_ok-value.value) _ c.in_ok-value.ensures.ok
+    (λ is. limits.past.0 (ap Err is)) limits.only)
 
 pub invariant_of-self-2 : goal.invariant_of-self-2
 invariant_of-self-2 c =
@@ -41,13 +53,16 @@ returns-clause-pushed c =
     let start : p.start ≡ length b = search rules in
     let size : p.size ≡ length x =
     omega (arith, c.len.ensures, ap length bytes ∙ length-append b x, start) in (
-      tree_of c.in_ok-value.value,
+      x,
       (
-        c.in_ok-value.ensures.ok,
         (
-          c.in_ok-encode.ensures.limits.fits,
-          (pushed b x _ c.self.inside.places.items _ p c.self.invariant means bytes
-              (search rules) start size).1 ∙ ap (λ rows. rows ++ x ∷ []) c.self.view_is,
+          tree_of c.in_ok-value.value,
+          (
+            c.in_ok-value.ensures.ok,
+            (c.in_ok-encode.ensures.limits.fits, refl),
+          ),
         ),
+        (pushed b x _ c.self.inside.places.items _ p c.self.invariant means bytes
+            (search rules) start size).1 ∙ ap (λ rows. rows ++ x ∷ []) c.self.view_is,
       ),
     )
