@@ -8,7 +8,8 @@ use jsonb_codec::read_word;
 use jsonb_value::Error;
 use std::marker::Model;
 
-/// A tally of the words that were read. Only reading a word raises it.
+/// A tally of the words that were read. Only reading a word raises it, or adding another tally,
+/// which is consumed: so no word is counted twice.
 #[derive(Drop)]
 pub struct Reads {
     count: u64,
@@ -37,6 +38,15 @@ impl Reads {
         self.count
     }
 
+    /// Adds the words of another tally. Both together must be at most `u64::MAX`, as they are if
+    /// each is at most `MAX_READS`.
+    pub fn add(&mut self, other: Reads)
+        requires { self.old + other ≤ u64.MAX }
+        ensures { self.new ≡ self.old + other }
+    {
+        self.raise(other.count);
+    }
+
     /// The big-endian word of four bytes at `index`; the tally is raised by one. `InvalidEOF` if
     /// the bytes end before the word does; the tally is then unchanged. The tally must be below
     /// `u64::MAX` before the call.
@@ -48,7 +58,7 @@ impl Reads {
         ensures kept { OnErr result (self.new ≡ self.old) }
     {
         let word = read_word(bytes, index)?;
-        self.raise();
+        self.raise(1);
         Ok(word)
     }
 
@@ -60,16 +70,16 @@ impl Reads {
         ensures word { word_at bytes.now index ≡ Ok result }
         ensures counted { self.new ≡ self.old + 1 }
     {
-        self.raise();
+        self.raise(1);
         BigEndian::read_u32(&bytes[index..])
     }
 
-    // Only the two calls that read a word raise the tally, by this.
+    // Every call that raises the tally does it by this.
     #[inline(always)]
-    fn raise(&mut self)
-        requires { self.old < u64.MAX }
-        ensures { self.new ≡ self.old + 1 }
+    fn raise(&mut self, words: u64)
+        requires { self.old + words ≤ u64.MAX }
+        ensures { self.new ≡ self.old + words }
     {
-        self.count += 1;
+        self.count += words;
     }
 }

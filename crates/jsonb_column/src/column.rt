@@ -103,10 +103,11 @@ impl Column {
         }
     }
 
-    // The row at an index below the number of rows.
+    // The row at an index below the number of rows. All rows together fit in memory.
     fn row_within(&self, index: usize) -> Document<'_>
         requires { index < length self.now }
-        ensures { document_bytes result ≡ slice_index_or self.now index [] }
+        ensures row { document_bytes result ≡ slice_index_or self.now index [] }
+        ensures bound { length (concat self.now) ≤ MAX_READS }
     {
         document_at(&self.bytes, self.places[index])
     }
@@ -131,8 +132,8 @@ impl Column {
 
     /// The rows that are objects with a member of this name whose value equals `value`, in order.
     /// `reads` is raised by one for each word that is read: at most two words for each pair of a
-    /// row and one more for the row. Before the call, `reads` and `size` together must be at most
-    /// `MAX_READS`. `OutOfMemory` is the only error.
+    /// row and one more for the row. It must be at most `MAX_READS` before the call. `OutOfMemory`
+    /// is the only error.
     pub fn select(
         &self,
         alloc: Global,
@@ -140,7 +141,7 @@ impl Column {
         value: Document<'_>,
         reads: &mut Reads,
     ) -> Result<Vec<Document<'_>>, Error>
-        requires { reads.old + length (concat self.now) ≤ MAX_READS }
+        requires { reads.old ≤ MAX_READS }
         ensures rows { IfOk result (λ rows. map document_bytes rows.items
             ≡ filter (has_member name.now (document_tree value.entry)) self.now) }
         ensures bound { (reads.old ≤ reads.new)
@@ -151,7 +152,10 @@ impl Column {
         let mut rows = Vec::new(alloc);
         for index in 0..self.len() {
             let row = self.row_within(index);
-            if has_member(row, name, &value, reads) {
+            let mut row_reads = Reads::new();
+            let is_selected = has_member(row, name, &value, &mut row_reads);
+            reads.add(row_reads);
+            if is_selected {
                 rows.push(row)?;
             }
         }

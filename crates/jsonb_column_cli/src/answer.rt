@@ -215,7 +215,6 @@ fn answer_select(alloc: Global, column: &Column, name: &str, value: &str) -> Res
 {
     let value = parse_document(alloc, value)?;
     let value = Document::new_unchecked(value.as_bytes());
-    let _ = column.size();
     let rows = column.select(alloc, name, value, &mut Reads::new())?;
     answer_rows(alloc, &rows)
 }

@@ -4,7 +4,7 @@ use Rattle.jsonb_column.proofs.column.Column.row.Goals as goal
 
 pub returns-then-index-len : goal.returns-then-index-len
 returns-then-index-len c =
-    ap Some c.row_within.ensures
+    ap Some c.row_within.ensures.row
     ∙ sym (slice_get-get_or c.args.self.now c.args.index [] (omega arith))
 
 pub returns-else-index-len : goal.returns-else-index-len

@@ -1,6 +1,8 @@
-use Rattle.std.proofs.Common.{◌<◌, length, ap, arith, sym, subst}
+use Rattle.std.proofs.Common.{◌<◌, ◌≤◌, length, ap, arith, sym, subst}
 use Rattle.std.proofs.lemmas.List.{length-map}
+use Rattle.std.specs.List.{concat}
 use Rattle.jsonb_codec.specs.Doc.{IsDocument}
+use Rattle.jsonb.specs.declared.lookup.TheConstants.{MAX_READS}
 use Rattle.jsonb_column.specs.Rows.{row_in}
 use Rattle.jsonb_column.proofs.RowsLaws.{row_document}
 use Rattle.jsonb_column.proofs.column.Column.row_within.Goals as goal
@@ -19,3 +21,9 @@ document_at-requires-clause-document c =
     subst (λ b. IsDocument (row_in b c.index.result.now)) (sym c.deref.ensures.value)
     (row_document c.self.inside.bytes.items places c.args.index c.index.result.now
     c.self.invariant.rows low c.index.ensures)
+
+pub returns-clause-bound : goal.returns-clause-bound
+returns-clause-bound c =
+    let column = c.self.inside in
+    subst (λ rows. length (concat rows) ≤ MAX_READS) c.self.view_is
+    (omega (arith, ap length c.self.invariant.whole, column.bytes.small))

@@ -21,4 +21,4 @@ loop-index-preserved c =
     ∙ append_assoc old (storage (take c.loop-index.index rows)) (row_bytes row)
     ∙ ap (λ b. old ++ b)
     (sym (storage-more rows c.loop-index.index row low
-    (c.as_bytes.ensures.bytes ∙ c.row_within.ensures)))
+    (c.as_bytes.ensures.bytes ∙ c.row_within.ensures.row)))
