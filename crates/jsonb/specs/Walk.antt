@@ -1,7 +1,8 @@
 -- The results of the iterators, on any bytes.
 use Rattle.std.specs.Prelude.{◌≡◌, ◌≤◌, ⊤, ℕ, zero, suc, ◌+◌, ◌*◌, ◌==◌, if◌then◌else◌, List, []}
 use Rattle.std.specs.Prelude.{◌∷◌, length, map, Option, Some, None, option_map, Result, Ok, Err}
-use Rattle.std.specs.Prelude.{is_ok}
+use Rattle.std.specs.Prelude.{is_ok, IfSome, IfErr}
+use Rattle.std.specs.Iterator.{MakesProgress, YieldsFirstBy, item_count}
 use Rattle.std.specs.List.{zip}
 use Rattle.jsonb_value.specs.declared.error.Error.{Error}
 use Rattle.jsonb_value.specs.declared.error.Error.TheVariants.{InvalidJsonb, InvalidUtf8}
@@ -18,6 +19,16 @@ use Rattle.jsonb.specs.Item.{Entry, item_of, entry_at}
 pub record Walk (A : Type 0) : Type 0 where
   pub count : ℕ
   pub rest : List (Result A Error)
+
+-- One call of `next`: it returns the first result that is left and takes it away, so that the end
+-- comes nearer. The count stays the header's, and after an error nothing is left.
+pub record Advances {A B : Type 0} (view : Result B Error → Result A Error) (old : Walk A)
+    (result : Option (Result B Error)) (new : Walk A) : Type 0 where
+  pub steps : YieldsFirstBy view (λ (it : Walk A). it.rest) old result new
+  pub goes : MakesProgress (λ (it : Walk A). Unit {0}) (item_count (λ (it : Walk A). it.rest))
+      old result new
+  pub count : new.count ≡ old.count
+  pub ended : IfSome result (λ item. IfErr item (λ _. new.rest ≡ []))
 
 -- The length of the payload of an entry that was read; 0 for an error.
 abbrev pub payload_length : Result Entry Error → ℕ

@@ -88,6 +88,6 @@ pub use Rattle.jsonb.specs.Texts.{display_text, layout_of, lossy_text, other_tex
 pub use Rattle.jsonb.specs.Texts.{pretty_display_text}
 pub use Rattle.jsonb.specs.Values.{bytes_in}
 pub use Rattle.jsonb.specs.ItemAnswers.{kind_of_view, raw_in, text_in}
-pub use Rattle.jsonb.specs.Walk.{IsBounded, Walk, array_walk, count_under, item_read, items_in}
-pub use Rattle.jsonb.specs.Walk.{key_of, keys_walk, pair_read, pairs_walk, values_walk}
+pub use Rattle.jsonb.specs.Walk.{Advances, IsBounded, Walk, array_walk, count_under, item_read}
+pub use Rattle.jsonb.specs.Walk.{items_in, key_of, keys_walk, pair_read, pairs_walk, values_walk}
 pub use Rattle.jsonb.specs.declared.item.JsonbItem.{JsonbItem}

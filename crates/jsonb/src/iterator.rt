@@ -1,8 +1,8 @@
 //! Iterators over the children of an array or object, read from the bytes one by one.
 
-ghost use Rattle.std.specs.Prelude.{◌≡◌, ℕ, List, [], IfOk, IfErr, IfSome};
+ghost use Rattle.std.specs.Prelude.{◌≡◌, ℕ, List, IfOk, IfErr, IfSome};
 ghost use Rattle.jsonb.specs.Walk.{pairs_in};
-ghost use Rattle.jsonb.specs.Words.{YieldsFirstBy, MakesProgress, item_count, raw_bytes, ItemView};
+ghost use Rattle.jsonb.specs.Words.{YieldsFirstBy, Advances, item_count, raw_bytes, ItemView};
 ghost use Rattle.jsonb.specs.Words.{result_view, pair_view, entry_of, entry_view, Walk, item_read};
 ghost use Rattle.jsonb.specs.Words.{key_of, pair_read, items_in, array_walk, keys_walk, pairs_walk};
 ghost use Rattle.jsonb.specs.Words.{values_walk, IsBounded, Tree, Doc, WalksArray, WalksKeys};
@@ -40,11 +40,7 @@ impl<'a> Model for Items<'a> {
 impl<'a> Items<'a> {
     // The next item. After an error there is no next item.
     fn next(&mut self) -> Option<Result<JsonbItem<'a>, Error>>
-        ensures steps { YieldsFirstBy result_view (λ it. it.rest) self.old result self.new }
-        ensures goes { MakesProgress
-            (λ _. Unit {0}) (item_count (λ it. it.rest)) self.old result self.new }
-        ensures count { self.new.count ≡ self.old.count }
-        ensures ended { IfSome result (λ item. IfErr item (λ _. self.new.rest ≡ [])) }
+        ensures { Advances result_view self.old result self.new }
     {
         let entry = self.entries.next()?;
         match item_read(entry) {
@@ -128,11 +124,7 @@ impl<'a> Iterator for ArrayIterator<'a> {
     ghost remaining = { item_count (λ it. it.rest) };
 
     fn next(&mut self) -> Option<Result<JsonbItem<'a>, Error>>
-        ensures steps { YieldsFirstBy result_view (λ it. it.rest) self.old result self.new }
-        ensures goes { MakesProgress
-            (λ _. Unit {0}) (item_count (λ it. it.rest)) self.old result self.new }
-        ensures count { self.new.count ≡ self.old.count }
-        ensures ended { IfSome result (λ item. IfErr item (λ _. self.new.rest ≡ [])) }
+        ensures { Advances result_view self.old result self.new }
     {
         self.items.next()
     }
@@ -199,11 +191,7 @@ impl<'a> Iterator for ObjectKeyIterator<'a> {
     ghost remaining = { item_count (λ it. it.rest) };
 
     fn next(&mut self) -> Option<Result<JsonbItem<'a>, Error>>
-        ensures steps { YieldsFirstBy result_view (λ it. it.rest) self.old result self.new }
-        ensures goes { MakesProgress
-            (λ _. Unit {0}) (item_count (λ it. it.rest)) self.old result self.new }
-        ensures count { self.new.count ≡ self.old.count }
-        ensures ended { IfSome result (λ item. IfErr item (λ _. self.new.rest ≡ [])) }
+        ensures { Advances result_view self.old result self.new }
     {
         self.keys.next()
     }
@@ -275,11 +263,7 @@ impl<'a> Iterator for ObjectValueIterator<'a> {
     ghost remaining = { item_count (λ it. it.rest) };
 
     fn next(&mut self) -> Option<Result<JsonbItem<'a>, Error>>
-        ensures steps { YieldsFirstBy result_view (λ it. it.rest) self.old result self.new }
-        ensures goes { MakesProgress
-            (λ _. Unit {0}) (item_count (λ it. it.rest)) self.old result self.new }
-        ensures count { self.new.count ≡ self.old.count }
-        ensures ended { IfSome result (λ item. IfErr item (λ _. self.new.rest ≡ [])) }
+        ensures { Advances result_view self.old result self.new }
     {
         self.values.next()
     }
@@ -383,11 +367,7 @@ impl<'a> Iterator for ObjectIterator<'a> {
     ghost remaining = { item_count (λ it. it.rest) };
 
     fn next(&mut self) -> Option<Result<(&'a str, JsonbItem<'a>), Error>>
-        ensures steps { YieldsFirstBy pair_view (λ it. it.rest) self.old result self.new }
-        ensures goes { MakesProgress
-            (λ _. Unit {0}) (item_count (λ it. it.rest)) self.old result self.new }
-        ensures count { self.new.count ≡ self.old.count }
-        ensures ended { IfSome result (λ item. IfErr item (λ _. self.new.rest ≡ [])) }
+        ensures { Advances pair_view self.old result self.new }
     {
         let key = self.keys.next()?;
         // There are as many values as keys, so both end together.
