@@ -1,5 +1,6 @@
 pub mod FoundPlaces
 pub mod Lookups
+pub mod MadeDocuments
 pub mod NumberLengths
 pub mod Objects
 pub mod Orders

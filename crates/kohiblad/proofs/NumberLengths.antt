@@ -2,7 +2,7 @@
 use Rattle.std.proofs.Common.{◌≡◌, ◌≤◌, ◌<◌, ◌^◌, ℕ, zero, suc, ℤ, pos, negsuc, Bool, true, false}
 use Rattle.std.proofs.Common.{[], ◌∷◌}
 use Rattle.std.proofs.Common.{length, if◌then◌else◌, arith, length-append, nat_lt}
-use Rattle.std.proofs.Common.{List, Option, None, Result, Err, ap, ap₂, inl, inr, ◌⊎◌}
+use Rattle.std.proofs.Common.{List, Option, None, ap₂}
 use Rattle.std.specs.Int.{Width, w8, w16, w32, w64, w128, to_be_bytes, cast_unsigned}
 use Rattle.jsonb_value.specs.declared.number.Number.{Number}
 use Rattle.jsonb_value.specs.declared.number.Number.TheVariants.{Int64, UInt64, Decimal64}
@@ -10,14 +10,11 @@ use Rattle.jsonb_value.specs.declared.number.Number.TheVariants.{Decimal128}
 use Rattle.jsonb_value.specs.NumCode.{signed_bytes, is_within, shortest_signed, shortest_unsigned}
 use Rattle.jsonb_value.specs.NumCode.{decimal_payload, number_payload}
 use Rattle.jsonb_value.proofs.BigEndian.{length-to_be_bytes}
-use Rattle.jsonb_value.specs.declared.error.Error.{Error}
-use Rattle.jsonb_value.specs.declared.error.Error.TheVariants as errors
 use Rattle.jsonb_value.specs.Tree.{number}
 use Rattle.jsonb_codec.specs.declared.constants.TheConstants.{NUMBER_TAG}
 use Rattle.jsonb_codec.specs.Canon.{canon}
 use Rattle.jsonb.specs.declared.item.JsonbItem.TheVariants as items
 use Rattle.jsonb.specs.declared.number_item.NumberItem.{NumberItem}
-use Rattle.jsonb.specs.declared.owned.OwnedJsonb.{OwnedJsonb}
 use Rattle.jsonb.specs.Code.{scalar_bytes, number_bytes, item_document, CanBeStored}
 use Rattle.jsonb.specs.ItemValues.{number_source, number_of_item}
 use Rattle.jsonb.specs.ItemView.{item_view}
@@ -79,13 +76,3 @@ module _ (item : NumberItem) (x : Number) (is : number_of_item item ≡ x)
       let same = ap₂ (λ (s : Option (List ℕ)) (y : Number). length (number_bytes s y)) source is in
       let short = short_number x in
       omega arith
-
-abbrev error_result : Error → Result OwnedJsonb Error
-error_result e = Err e
-
--- so that only memory is refused
-pub only_memory : (e : Error) (Fits : Type 0) → Fits
-    → (e ≡ errors.InvalidJsonb) ⊎ (e ≡ errors.OutOfMemory)
-    → (error_result e ≡ error_result errors.InvalidJsonb → Fits → ⊥) → e ≡ errors.OutOfMemory
-only_memory e Fits fits (inl is) past = absurd (past (ap error_result is) fits)
-only_memory e Fits fits (inr is) past = is

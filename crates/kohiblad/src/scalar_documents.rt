@@ -7,7 +7,7 @@ ghost use Rattle.kohiblad.specs.Words.{int64_number, is_true, from_halves, IsSho
 ghost use Rattle.kohiblad.specs.Words.{extension_answer, IsGivenBy, IsShortExtension, IsHandedOver};
 ghost use Rattle.kohiblad.specs.Words.{IsRefused};
 
-use crate::answer::{PAYLOAD_LIMIT, code, hand_over, hand_over_scalar, refuse};
+use crate::answer::{PAYLOAD_LIMIT, code, hand_over_made, hand_over_scalar, refuse};
 use crate::values::fields_of;
 use jsonb::{
     Date, Error, ExtensionItem, ExtensionValue, Interval, JsonbItem, Number, NumberItem, Opaque,
@@ -225,10 +225,7 @@ fn write_extension(alloc: Global, value: ExtensionValue, out: &mut [u8], length:
         → IsRefused (code Error.InvalidJsonb) out.old out.new length.new result }
 {
     let item = JsonbItem::Extension(ExtensionItem::from_value(value));
-    match OwnedJsonb::from_item(alloc, item) {
-        Ok(owned) => hand_over(owned.as_bytes(), out, length),
-        Err(error) => refuse(code(error), out, length),
-    }
+    hand_over_made(OwnedJsonb::from_item(alloc, item), out, length)
 }
 
 // The whole number of two halves.
@@ -242,8 +239,6 @@ fn whole_of(high: i64, low: u64) -> i128
 fn write_number(alloc: Global, value: Number, out: &mut [u8], length: &mut usize) -> u32
     ensures { IsWritten (canon (number value)) out.old out.new length.new result }
 {
-    match OwnedJsonb::from_item(alloc, JsonbItem::Number(NumberItem::from_number(value))) {
-        Ok(owned) => hand_over(owned.as_bytes(), out, length),
-        Err(error) => refuse(code(error), out, length),
-    }
+    let item = JsonbItem::Number(NumberItem::from_number(value));
+    hand_over_made(OwnedJsonb::from_item(alloc, item), out, length)
 }
