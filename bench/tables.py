@@ -118,9 +118,9 @@ def tables(found):
                                         ("a binary tree, ", "halves ", [17]),
                                         ("a large object below, ", "large ", [200, 400, 800])]
               for levels in depths if f"{row}{levels} canon" in found]
-    texts = [["parse, beside `from_str`", cell(found["text parse"])],
-             ["parse, beside `from_str` and the crate's encoder", cell(found["text document"])],
-             ["`to_string` of a view, beside `to_string`", cell(found["objects print"])],
+    texts = [["parse, against `from_str`", cell(found["text parse"])],
+             ["parse, against `from_str` and the crate's encoder", cell(found["text document"])],
+             ["`to_string` of a view, against `to_string`", cell(found["objects print"])],
              ["`to_string` of a `Document`, the same", cell(found["objects text"])]]
     column = [[call, cell(found[f"column {call}"])]
               for call in ["load", "sort", "search", "select"]]
@@ -133,7 +133,7 @@ def tables(found):
         table(["100,000 documents put together", "array", "of checked ones", "object",
                "of checked ones"], builders),
         table(["containers in one another, levels", "encoder", "canonical form"], nested),
-        table(["texts, beside serde_json", ""], texts),
+        table(["texts, against serde_json", ""], texts),
         table(["a column of 100,000 rows", ""], column),
     ])
 
