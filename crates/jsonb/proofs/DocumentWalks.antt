@@ -1,5 +1,5 @@
 -- The results of the iterators on a document.
-use Rattle.std.proofs.Common.{◌≡◌, ℕ, List, Option, Some, None, option_map, Result, Ok, map}
+use Rattle.std.proofs.Common.{◌≡◌, ℕ, List, Option, Some, None, Result, Ok, map}
 use Rattle.std.proofs.Common.{◌∷◌, refl, inl, inr}
 use Rattle.std.specs.Map as maps
 use Rattle.jsonb_value.specs.declared.error.Error.{Error}
@@ -9,13 +9,13 @@ use Rattle.jsonb_codec.specs.Doc.{Payload, Doc}
 use Rattle.jsonb.specs.ItemView.{ItemView}
 use Rattle.jsonb.specs.Item.{Entry}
 use Rattle.jsonb.specs.StoredEntries.{HasItems, HasMembers, entry_item, member_item}
-use Rattle.jsonb.specs.Walk.{Walk, items_in, count_if, count_under, item_entries}
-use Rattle.jsonb.specs.Walk.{key_entries, item_walk, array_walk, keys_walk, values_of, values_walk}
-use Rattle.jsonb.specs.Walk.{pairs_of, pairs_walk}
+use Rattle.jsonb.specs.declared.iterator.ChildKind.{ChildKind}
+use Rattle.jsonb.specs.declared.iterator.ChildKind.TheVariants.{ArrayItem, ObjectKey, ObjectValue}
+use Rattle.jsonb.specs.Walk.{Walk, items_in, count_if, count_under, walk_of_children}
+use Rattle.jsonb.specs.Walk.{children_walk, pairs_of, pairs_walk}
 use Rattle.jsonb.specs.DocumentWalk.{ShowsTrees, key_views, ShowsValues, ShowsPairs, WalksOver}
-use Rattle.jsonb.specs.DocumentWalk.{WalksArray, WalksKeys, WalksValues, WalksPairs, ShowsItems}
-use Rattle.jsonb.specs.DocumentWalk.{ShowsValueItems, ShowsMembers, WalksItems, WalksValueItems}
-use Rattle.jsonb.specs.DocumentWalk.{WalksMembers}
+use Rattle.jsonb.specs.DocumentWalk.{WalksChildren, WalksEntries, WalksPairs, ShowsItems}
+use Rattle.jsonb.specs.DocumentWalk.{ShowsValueItems, ShowsMembers, WalksMembers}
 use Rattle.jsonb.proofs.KindLaws.{header_of_tree, header_at-Doc}
 use Rattle.jsonb.proofs.StoredEntryLaws.{value_trees, both_are, ArrayHolds, array_holds}
 use Rattle.jsonb.proofs.StoredEntryLaws.{ObjectHolds, object_holds, shown_items, shown_keys}
@@ -58,9 +58,7 @@ module _ (b : List ℕ) where
   array_walked : (Shows : Trees → List (Result ItemView Error) → Type 0)
       → ((ts : Trees) (a : ArrayHolds b ts) → Shows ts (items_in (map Ok a.entries))) → (t : Tree)
       → Doc b t
-      → WalksTrees Shows t
-      (Ok (option_map (λ n. item_walk n (item_entries b n))
-      (count_if 2147483648 (header_of_tree t))))
+      → WalksTrees Shows t (walk_of_children ArrayItem b (count_if 2147483648 (header_of_tree t)))
   array_walked Shows shows (array ts) doc =
       let holds = array_holds b ts (array_payload b ts doc) in
       rw holds.read (refl, shows ts holds)
@@ -80,7 +78,7 @@ module _ (b : List ℕ) (t : Tree) (doc : Doc b t) where
   array_shown : (Shows : Trees → List (Result ItemView Error) → Type 0)
       → ((ts : Trees) (cs : List Entry) → HasItems b ts cs → ShowsTrees ts (map entry_item cs)
       → Shows ts (map entry_item cs))
-      → WalksTrees Shows t (array_walk b)
+      → WalksTrees Shows t (children_walk ArrayItem b)
   array_shown Shows shows = rw (count_under-Doc b t 2147483648 doc)
       (array_walked b Shows (λ ts a.
       let shown = shown_items a.entries ts a.stored.mean a.stored.short in
@@ -90,9 +88,9 @@ module _ (b : List ℕ) (t : Tree) (doc : Doc b t) where
       → ((ps : Pairs) (ms : List (List ℕ × Entry)) → HasMembers b ps ms
       → ShowsTrees (value_trees ps) (map entry_item (maps.values_of ms))
       → Shows ps (map entry_item (maps.values_of ms)))
-      → WalksObject Shows t (values_walk b)
+      → WalksObject Shows t (children_walk ObjectValue b)
   values_shown Shows shows = rw (count_under-Doc b t 1073741824 doc)
-      (object_walked b Shows (values_of b) refl (λ ps o.
+      (object_walked b Shows (walk_of_children ObjectValue b) refl (λ ps o.
       let mean = (both_are _ _ ps o.stored.mean).1 in
       let shown = shown_items (maps.values_of o.members) (value_trees ps) mean o.stored.short in
       rw o.values (refl, rw shown.0 (shows ps o.members o.stored shown.1))) t doc)
@@ -106,25 +104,22 @@ module _ (b : List ℕ) (t : Tree) (doc : Doc b t) where
       let shown = shown_members o.members ps o.stored.mean o.texts o.stored.short in
       rw (o.values, o.keys) (refl, rw shown.0 (shows ps o.members o.stored shown.1))) t doc)
 
-  pub array_walk-Doc : WalksArray t (array_walk b)
-  array_walk-Doc = array_shown ShowsTrees (λ ts cs stored shown. shown)
-
-  pub array_items-Doc : WalksItems b t (array_walk b)
-  array_items-Doc = array_shown (ShowsItems b)
-      (λ ts cs stored shown. record { entries = cs; stored = stored; items = refl })
-
-  pub keys_walk-Doc : WalksKeys t (keys_walk b)
-  keys_walk-Doc = rw (count_under-Doc b t 1073741824 doc)
-      (object_walked b (λ ps xs. xs ≡ key_views ps)
-      (λ n. Ok (option_map (λ n. item_walk n (key_entries b n)) n)) refl (λ ps o.
+  -- the children
+  pub children_walk-Doc : (kind : ChildKind) → WalksChildren kind t (children_walk kind b)
+  children_walk-Doc ArrayItem = array_shown ShowsTrees (λ ts cs stored shown. shown)
+  children_walk-Doc ObjectKey = rw (count_under-Doc b t 1073741824 doc)
+      (object_walked b (λ ps xs. xs ≡ key_views ps) (walk_of_children ObjectKey b) refl (λ ps o.
       let keys = (both_are _ _ ps o.stored.mean).0 in
       rw (o.keys, keys) (refl, shown_keys ps (rw keys at o.texts))) t doc)
+  children_walk-Doc ObjectValue =
+      values_shown ShowsValues (λ ps ms stored. ShowsValues-trees ps _)
 
-  pub values_walk-Doc : WalksValues t (values_walk b)
-  values_walk-Doc = values_shown ShowsValues (λ ps ms stored. ShowsValues-trees ps _)
-
-  pub values_items-Doc : WalksValueItems b t (values_walk b)
-  values_items-Doc = values_shown (ShowsValueItems b)
+  -- the items of their entries
+  pub children_entries-Doc : (kind : ChildKind) → WalksEntries kind b t (children_walk kind b)
+  children_entries-Doc ArrayItem = array_shown (ShowsItems b)
+      (λ ts cs stored shown. record { entries = cs; stored = stored; items = refl })
+  children_entries-Doc ObjectKey = children_walk-Doc ObjectKey
+  children_entries-Doc ObjectValue = values_shown (ShowsValueItems b)
       (λ ps ms stored shown. record { members = ms; stored = stored; items = refl })
 
   pub pairs_walk-Doc : WalksPairs t (pairs_walk b)

@@ -1,19 +1,19 @@
 -- Laws of walks on any bytes.
 use Rattle.std.proofs.Common.{◌≡◌, ℕ, zero, suc, ◌+◌, ◌*◌, ◌≤◌, List, [], ◌∷◌, length, map}
-use Rattle.std.proofs.Common.{Option, Some, None, option_map, IfOk, IfSome, is_ok, if◌then◌else◌}
+use Rattle.std.proofs.Common.{Option, Some, None, IfOk, IfSome, is_ok, if◌then◌else◌}
 use Rattle.std.proofs.Common.{Result, Ok, Err, refl, arith}
 use Rattle.std.proofs.lemmas.List.{length-map}
 use Rattle.std.proofs.lemmas.Slice.Zip.{length-zip}
 use Rattle.std.specs.List.{zip}
 use Rattle.jsonb_value.specs.declared.error.Error.{Error}
+use Rattle.jsonb.specs.declared.iterator.ChildKind.{ChildKind}
+use Rattle.jsonb.specs.declared.iterator.ChildKind.TheVariants.{ArrayItem, ObjectKey, ObjectValue}
 use Rattle.jsonb.specs.Steps.{◌>>=◌}
-use Rattle.jsonb.specs.ItemView.{ItemView}
 use Rattle.jsonb.specs.Item.{Entry, entry_at}
 use Rattle.jsonb.specs.Walk.{Walk, ErrsLast, IsBounded, length_at, entries_from}
 use Rattle.jsonb.specs.Walk.{until_error, item_read, pair_read, payloads_end}
-use Rattle.jsonb.specs.Walk.{count_under, key_entries, value_entries, item_walk}
-use Rattle.jsonb.specs.Walk.{array_walk, keys_walk, values_of, values_walk, pair_walk, pairs_of}
-use Rattle.jsonb.specs.Walk.{pairs_walk}
+use Rattle.jsonb.specs.Walk.{count_under, key_entries, value_entries, item_walk, pair_walk}
+use Rattle.jsonb.specs.Walk.{container_tag, walk_of_children, children_walk, pairs_of, pairs_walk}
 
 -- one more result, and nothing after an error
 abbrev pub ahead : {A : Type 0} → Result A Error → List (Result A Error) → List (Result A Error)
@@ -84,32 +84,24 @@ bounded_steps : {X A : Type 0} (f : X → Result (Option (Walk A)) Error)
 bounded_steps f bounded (Ok x) = bounded x
 bounded_steps f bounded (Err e) = tt
 
-bounded_map : (f : ℕ → Walk ItemView) → ((n : ℕ) → IsBounded (f n)) → (o : Option ℕ)
-    → AreBounded (Ok (option_map f o))
-bounded_map f bounded (Some n) = bounded n
-bounded_map f bounded None = tt
-
-pub array_walk-bounded : (bytes : List ℕ) → AreBounded (array_walk bytes)
-array_walk-bounded bytes = bounded_steps _
-    (bounded_map _ (λ n. bounded_items bytes n 4 (4 + 4 * n))) (count_under bytes 2147483648)
-
-pub keys_walk-bounded : (bytes : List ℕ) → AreBounded (keys_walk bytes)
-keys_walk-bounded bytes = bounded_steps _
-    (bounded_map _ (λ n. bounded_items bytes n 4 (4 + 8 * n))) (count_under bytes 1073741824)
-
 values_found : (bytes : List ℕ) (n : ℕ) (r : Result ℕ Error)
     → AreBounded (r >>= (λ start. Ok (entries_from bytes n (4 + 4 * n) start))
     >>= (λ values. Ok (Some (item_walk n values))))
 values_found bytes n (Ok start) = bounded_items bytes n (4 + 4 * n) start
 values_found bytes n (Err e) = tt
 
-values_of-bounded : (bytes : List ℕ) (o : Option ℕ) → AreBounded (values_of bytes o)
-values_of-bounded bytes None = tt
-values_of-bounded bytes (Some n) = values_found bytes n (payloads_end bytes n 4 (4 + 8 * n))
+walk_of_children-bounded : (kind : ChildKind) (bytes : List ℕ) (o : Option ℕ)
+    → AreBounded (walk_of_children kind bytes o)
+walk_of_children-bounded kind bytes None = tt
+walk_of_children-bounded ArrayItem bytes (Some n) = bounded_items bytes n 4 (4 + 4 * n)
+walk_of_children-bounded ObjectKey bytes (Some n) = bounded_items bytes n 4 (4 + 8 * n)
+walk_of_children-bounded ObjectValue bytes (Some n) =
+    values_found bytes n (payloads_end bytes n 4 (4 + 8 * n))
 
-pub values_walk-bounded : (bytes : List ℕ) → AreBounded (values_walk bytes)
-values_walk-bounded bytes =
-    bounded_steps (values_of bytes) (values_of-bounded bytes) (count_under bytes 1073741824)
+pub children_walk-bounded : (kind : ChildKind) (bytes : List ℕ)
+    → AreBounded (children_walk kind bytes)
+children_walk-bounded kind bytes = bounded_steps (walk_of_children kind bytes)
+    (walk_of_children-bounded kind bytes) (count_under bytes (container_tag kind))
 
 pairs_of-bounded : (bytes : List ℕ) (o : Option ℕ) → AreBounded (pairs_of bytes o)
 pairs_of-bounded bytes None = tt

@@ -7,6 +7,8 @@ use Rattle.jsonb_value.specs.Tree.{Tree, array, object, Trees, no_trees, tree, P
 use Rattle.jsonb_value.specs.Tree.{pair, count, pair_count}
 use Rattle.jsonb_codec.specs.declared.constants.TheConstants.{CONTAINER_TAG}
 use Rattle.jsonb_codec.specs.Doc.{Payload, type_of}
+use Rattle.jsonb.specs.declared.iterator.ChildKind.{ChildKind}
+use Rattle.jsonb.specs.declared.iterator.ChildKind.TheVariants.{ArrayItem, ObjectKey, ObjectValue}
 use Rattle.jsonb.specs.ItemView.{ItemView}
 use Rattle.jsonb.specs.ItemView as items
 use Rattle.jsonb.specs.Item.{Entry, item_of}
@@ -116,3 +118,16 @@ WalksValueItems b t r = r ≡ Ok None
 abbrev pub WalksMembers : List ℕ → Tree → Result (Option (Walk (List ℕ × ItemView))) Error → Type 0
 WalksMembers b (object ps) r = WalksOver (pair_count ps) (ShowsMembers b ps) r
 WalksMembers b t r = r ≡ Ok None
+
+-- The result is an iterator over these children of the tree, or none if it has no such children.
+abbrev pub WalksChildren : ChildKind → Tree → Result (Option (Walk ItemView)) Error → Type 0
+WalksChildren ArrayItem t r = WalksArray t r
+WalksChildren ObjectKey t r = WalksKeys t r
+WalksChildren ObjectValue t r = WalksValues t r
+
+-- The result is an iterator over the items of these children's entries in b, or none if the tree
+-- has no such children. The item of a key is the key itself.
+abbrev pub WalksEntries : ChildKind → List ℕ → Tree → Result (Option (Walk ItemView)) Error → Type 0
+WalksEntries ArrayItem b t r = WalksItems b t r
+WalksEntries ObjectKey b t r = WalksKeys t r
+WalksEntries ObjectValue b t r = WalksValueItems b t r

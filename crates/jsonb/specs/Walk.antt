@@ -10,6 +10,8 @@ use Rattle.jsonb_codec.specs.declared.constants.TheConstants.{ARRAY_CONTAINER_TA
 use Rattle.jsonb_codec.specs.declared.constants.TheConstants.{OBJECT_CONTAINER_TAG, STRING_TAG}
 use Rattle.jsonb_codec.specs.Word.{header_at}
 use Rattle.jsonb_codec.specs.JEntry.{jentry_at}
+use Rattle.jsonb.specs.declared.iterator.ChildKind.{ChildKind}
+use Rattle.jsonb.specs.declared.iterator.ChildKind.TheVariants.{ArrayItem, ObjectKey, ObjectValue}
 use Rattle.jsonb.specs.Steps.{◌>>=◌}
 use Rattle.jsonb.specs.Payloads.{is_text}
 use Rattle.jsonb.specs.ItemView.{ItemView}
@@ -127,25 +129,27 @@ object_entries bytes = count_under bytes OBJECT_CONTAINER_TAG >>= member_entries
 abbrev pub item_walk : ℕ → List (Result Entry Error) → Walk ItemView
 item_walk n entries = record { count = n; rest = items_in entries }
 
--- The iterator over the items of an array.
-abbrev pub array_walk : List ℕ → Result (Option (Walk ItemView)) Error
-array_walk bytes = count_under bytes ARRAY_CONTAINER_TAG
-    >>= λ n. Ok (option_map (λ n. item_walk n (item_entries bytes n)) n)
+-- The tag in the header of the containers that have children of this kind.
+abbrev pub container_tag : ChildKind → ℕ
+container_tag ArrayItem = ARRAY_CONTAINER_TAG
+container_tag ObjectKey = OBJECT_CONTAINER_TAG
+container_tag ObjectValue = OBJECT_CONTAINER_TAG
 
--- The iterator over the keys of an object, as items.
-abbrev pub keys_walk : List ℕ → Result (Option (Walk ItemView)) Error
-keys_walk bytes = count_under bytes OBJECT_CONTAINER_TAG
-    >>= λ n. Ok (option_map (λ n. item_walk n (key_entries bytes n)) n)
+-- The entries of these children in a container with this count.
+abbrev pub child_entries : ChildKind → List ℕ → ℕ → Result (List (Result Entry Error)) Error
+child_entries ArrayItem bytes n = Ok (item_entries bytes n)
+child_entries ObjectKey bytes n = Ok (key_entries bytes n)
+child_entries ObjectValue bytes n = value_entries bytes n
 
--- The iterator over the values of an object with this count.
-abbrev pub values_of : List ℕ → Option ℕ → Result (Option (Walk ItemView)) Error
-values_of bytes None = Ok None
-values_of bytes (Some n) =
-    value_entries bytes n >>= λ values. Ok (Some (item_walk n values))
+-- The iterator over these children of a container with this count.
+abbrev pub walk_of_children : ChildKind → List ℕ → Option ℕ → Result (Option (Walk ItemView)) Error
+walk_of_children kind bytes None = Ok None
+walk_of_children kind bytes (Some n) =
+    child_entries kind bytes n >>= λ entries. Ok (Some (item_walk n entries))
 
--- The iterator over the values of an object.
-abbrev pub values_walk : List ℕ → Result (Option (Walk ItemView)) Error
-values_walk bytes = count_under bytes OBJECT_CONTAINER_TAG >>= values_of bytes
+-- The iterator over these children of an array or an object.
+abbrev pub children_walk : ChildKind → List ℕ → Result (Option (Walk ItemView)) Error
+children_walk kind bytes = count_under bytes (container_tag kind) >>= walk_of_children kind bytes
 
 -- The iterator over the pairs of n keys and values.
 abbrev pub pair_walk : ℕ → List (Result Entry Error) → List (Result Entry Error)

@@ -50,8 +50,8 @@ pub use Rattle.jsonb.specs.Code.{scalar_bytes}
 pub use Rattle.jsonb.specs.Contents.{contents_tree}
 pub use Rattle.jsonb.specs.CutKeys.{IsFirstUnread, NoneOfSize}
 pub use Rattle.jsonb.specs.Document.{document_bytes, document_tree}
-pub use Rattle.jsonb.specs.DocumentWalk.{IsItemIn, IsItemOf, WalksArray, WalksItems, WalksKeys}
-pub use Rattle.jsonb.specs.DocumentWalk.{WalksMembers, WalksPairs, WalksValueItems, WalksValues}
+pub use Rattle.jsonb.specs.DocumentWalk.{IsItemIn, IsItemOf, WalksChildren, WalksEntries}
+pub use Rattle.jsonb.specs.DocumentWalk.{WalksMembers, WalksPairs}
 pub use Rattle.jsonb.specs.Entries.{entry_of, entry_view}
 pub use Rattle.jsonb.specs.EntryTrees.{part_tree, rest_pairs, rest_trees}
 pub use Rattle.jsonb.specs.Item.{extension_item, item_in, item_of, number_item, part_at}
@@ -88,6 +88,7 @@ pub use Rattle.jsonb.specs.Texts.{display_text, layout_of, lossy_text, other_tex
 pub use Rattle.jsonb.specs.Texts.{pretty_display_text}
 pub use Rattle.jsonb.specs.Values.{bytes_in}
 pub use Rattle.jsonb.specs.ItemAnswers.{kind_of_view, raw_in, text_in}
-pub use Rattle.jsonb.specs.Walk.{Advances, IsBounded, Walk, array_walk, count_under, item_read}
-pub use Rattle.jsonb.specs.Walk.{items_in, key_of, keys_walk, pair_read, pairs_walk, values_walk}
+pub use Rattle.jsonb.specs.Walk.{Advances, IsBounded, Walk, child_entries, children_walk}
+pub use Rattle.jsonb.specs.Walk.{container_tag, count_under, item_read, items_in, key_of}
+pub use Rattle.jsonb.specs.Walk.{pair_read, pairs_walk}
 pub use Rattle.jsonb.specs.declared.item.JsonbItem.{JsonbItem}

@@ -1,20 +1,19 @@
 //! Iterators over the children of an array or object, read from the bytes one by one.
 
-ghost use Rattle.std.specs.Prelude.{◌≡◌, ℕ, List, IfOk, IfErr, IfSome};
+ghost use Rattle.std.specs.Prelude.{◌≡◌, ◌<◌, ◌≤◌, ◌^◌, ℕ, List, length, IfOk, IfErr, IfSome};
 ghost use Rattle.jsonb.specs.Walk.{pairs_in};
 ghost use Rattle.jsonb.specs.Words.{YieldsFirstBy, Advances, item_count, raw_bytes, ItemView};
 ghost use Rattle.jsonb.specs.Words.{result_view, pair_view, entry_of, entry_view, Walk, item_read};
-ghost use Rattle.jsonb.specs.Words.{key_of, pair_read, items_in, array_walk, keys_walk, pairs_walk};
-ghost use Rattle.jsonb.specs.Words.{values_walk, IsBounded, Tree, Doc, WalksArray, WalksKeys};
-ghost use Rattle.jsonb.specs.Words.{WalksValues, WalksPairs, WalksItems, WalksValueItems};
-ghost use Rattle.jsonb.specs.Words.{WalksMembers};
+ghost use Rattle.jsonb.specs.Words.{key_of, pair_read, items_in, container_tag, child_entries};
+ghost use Rattle.jsonb.specs.Words.{children_walk, pairs_walk, IsBounded, Tree, Doc, WalksChildren};
+ghost use Rattle.jsonb.specs.Words.{WalksEntries, WalksPairs, WalksMembers};
 
 use crate::entries::{Cursor, Entry, count_under};
 use crate::item::{JsonbItem, item_of_entry};
 use crate::raw::RawJsonb;
 use jsonb_codec::constants::{ARRAY_CONTAINER_TAG, OBJECT_CONTAINER_TAG, STRING_TAG};
 use jsonb_value::Error;
-use std::marker::Model;
+use std::marker::{Model, PhantomData};
 use std::str;
 
 // The item of an entry, or the error with which the entry was read.
@@ -24,21 +23,173 @@ fn item_read<'a>(entry: Result<Entry<'a>, Error>) -> Result<JsonbItem<'a>, Error
     item_of_entry(entry?)
 }
 
-// The items of entries up to the first error, with the header's count.
-#[derive(Drop)]
-struct Items<'a> {
-    entries: Cursor<'a>,
-    count: usize,
+/// Which children of a container an iterator yields.
+#[derive(Clone, Copy)]
+pub enum ChildKind {
+    ArrayItem,
+    ObjectKey,
+    ObjectValue,
 }
 
-impl<'a> Model for Items<'a> {
+impl ChildKind {
+    // The header's tag of the containers that have such children.
+    fn container_tag(self) -> u32
+        ensures { result ≡ container_tag self }
+    {
+        match self {
+            Self::ArrayItem => ARRAY_CONTAINER_TAG,
+            Self::ObjectKey | Self::ObjectValue => OBJECT_CONTAINER_TAG,
+        }
+    }
+
+    // The entries of these children in a container of `count` items or pairs.
+    fn entries<'a>(self, bytes: &'a [u8], count: usize) -> Result<Cursor<'a>, Error>
+        requires count { count < 2 ^ 29 }
+        requires header { 4 ≤ length bytes.now }
+        ensures { result ≡ child_entries self bytes.entry.now count }
+    {
+        match self {
+            Self::ArrayItem => Ok(Cursor::over_items(bytes, count)),
+            Self::ObjectKey => Ok(Cursor::over_keys(bytes, count)),
+            Self::ObjectValue => Cursor::over_values(bytes, count),
+        }
+    }
+}
+
+/// The choice of children that an iterator's type makes.
+pub trait Children: Drop {
+    ghost use Rattle.jsonb.specs.declared.iterator.ChildKind.{ChildKind};
+
+    ghost kind: { ChildKind };
+
+    /// Which children these are.
+    fn kind() -> ChildKind
+        ensures { result ≡ kind };
+}
+
+/// The items of an array.
+#[derive(Drop)]
+pub struct ArrayItems {}
+
+impl Children for ArrayItems {
+    ghost use Rattle.jsonb.specs.declared.iterator.ChildKind.TheVariants.{ArrayItem};
+
+    ghost kind = { ArrayItem };
+
+    fn kind() -> ChildKind {
+        ChildKind::ArrayItem
+    }
+}
+
+/// The keys of an object, in stored order.
+#[derive(Drop)]
+pub struct ObjectKeys {}
+
+impl Children for ObjectKeys {
+    ghost use Rattle.jsonb.specs.declared.iterator.ChildKind.TheVariants.{ObjectKey};
+
+    ghost kind = { ObjectKey };
+
+    fn kind() -> ChildKind {
+        ChildKind::ObjectKey
+    }
+}
+
+/// The values of an object, in the order of their keys.
+#[derive(Drop)]
+pub struct ObjectValues {}
+
+impl Children for ObjectValues {
+    ghost use Rattle.jsonb.specs.declared.iterator.ChildKind.TheVariants.{ObjectValue};
+
+    ghost kind = { ObjectValue };
+
+    fn kind() -> ChildKind {
+        ChildKind::ObjectValue
+    }
+}
+
+/// An iterator over the items of an array.
+pub type ArrayIterator<'a> = ItemIterator<'a, ArrayItems>;
+
+/// An iterator over the keys of an object, each as the item of its entry.
+pub type ObjectKeyIterator<'a> = ItemIterator<'a, ObjectKeys>;
+
+/// An iterator over the values of an object.
+pub type ObjectValueIterator<'a> = ItemIterator<'a, ObjectValues>;
+
+/// The children of a container that are one item each, in stored order. On bytes that are not a
+/// document an item can be an error, after which the iteration ends: `InvalidEOF` if its entry word
+/// is cut off, `InvalidJsonb` if its payload runs past the end or its type is unknown, and
+/// `InvalidUtf8`, `InvalidJsonbNumber` or `InvalidJsonbExtension` if its payload is invalid.
+#[derive(Drop)]
+pub struct ItemIterator<'a, C: Children> {
+    entries: Cursor<'a>,
+    count: usize,
+    children: PhantomData<C>,
+}
+
+impl<'a, C: Children> Model for ItemIterator<'a, C> {
     ghost Value = { Walk ItemView };
 
     ghost view = { λ s. record { count = s.count; rest = items_in s.entries } };
 }
 
-impl<'a> Items<'a> {
-    // The next item. After an error there is no next item.
+impl<'a, C: Children> ItemIterator<'a, C> {
+    /// An iterator over the children in these bytes, `None` for a header of another kind than that
+    /// of their container. `InvalidEOF` if the header is cut off, or for values the entry word of a
+    /// key; `InvalidJsonb` if the header is of no kind.
+    pub fn new(raw: RawJsonb<'a>) -> Result<Option<Self>, Error>
+        ensures walk { result ≡ children_walk C.kind (raw_bytes raw.entry) }
+
+        // It yields at most as many items as the header counts, and an error only as the last.
+        ensures bounded { IfOk result (λ o. IfSome o IsBounded) }
+
+        // For a document of their container it yields the children and no error; for any other
+        // document it is `None`.
+        ensures document { (t : Tree) → Doc (raw_bytes raw.entry) t
+            → WalksChildren C.kind t result }
+
+        // The items have the types and payloads of the document's entries.
+        ensures entries { (t : Tree) → Doc (raw_bytes raw.entry) t
+            → WalksEntries C.kind (raw_bytes raw.entry) t result }
+    {
+        ItemIterator::over(raw)
+    }
+
+    // The iterator, if the header is that of the children's container.
+    fn over(raw: RawJsonb<'a>) -> Result<Option<Self>, Error>
+        ensures { result ≡ children_walk C.kind (raw_bytes raw.entry) }
+    {
+        let bytes = raw.as_bytes();
+        let kind = C::kind();
+        let Some(count) = count_under(bytes, kind.container_tag())? else {
+            return Ok(None);
+        };
+        let entries = kind.entries(bytes, count)?;
+        Ok(Some(ItemIterator {
+            entries,
+            count,
+            children: PhantomData,
+        }))
+    }
+
+    /// The count in the header, however many items were taken.
+    pub fn len(&self) -> usize
+        ensures { result ≡ self.now.count }
+    {
+        self.count
+    }
+}
+
+impl<'a, C: Children> Iterator for ItemIterator<'a, C> {
+    type Item = Result<JsonbItem<'a>, Error>;
+
+    ghost next_gives = { YieldsFirstBy result_view (λ it. it.rest) };
+
+    ghost remaining = { item_count (λ it. it.rest) };
+
+    /// The next item. After an error there is no next item.
     fn next(&mut self) -> Option<Result<JsonbItem<'a>, Error>>
         ensures { Advances result_view self.old result self.new }
     {
@@ -50,222 +201,6 @@ impl<'a> Items<'a> {
                 Some(Err(error))
             }
         }
-    }
-
-    fn len(&self) -> usize
-        ensures { result ≡ self.now.count }
-    {
-        self.count
-    }
-}
-
-/// The items of an array, in order. On bytes that are not a document an item can be an error, after
-/// which the iteration ends: `InvalidEOF` if its entry word is cut off, `InvalidJsonb` if its
-/// payload runs past the end or its type is unknown, and `InvalidUtf8`, `InvalidJsonbNumber` or
-/// `InvalidJsonbExtension` if its payload is invalid.
-#[derive(Drop)]
-pub struct ArrayIterator<'a> {
-    items: Items<'a>,
-}
-
-impl<'a> Model for ArrayIterator<'a> {
-    ghost Value = { Walk ItemView };
-
-    ghost view = { λ s. s.items };
-}
-
-impl<'a> ArrayIterator<'a> {
-    /// An iterator over the array in these bytes, `None` for the header of a scalar or an object.
-    /// `InvalidEOF` if the header is cut off, `InvalidJsonb` if it is of no kind.
-    pub fn new(raw: RawJsonb<'a>) -> Result<Option<Self>, Error>
-        ensures walk { result ≡ array_walk (raw_bytes raw.entry) }
-
-        // It yields at most as many items as the header counts, and an error only as the last.
-        ensures bounded { IfOk result (λ o. IfSome o IsBounded) }
-
-        // For an array's document it yields the items and no error; for any other document it is
-        // `None`.
-        ensures document { (t : Tree) → Doc (raw_bytes raw.entry) t → WalksArray t result }
-
-        // The items have the types and payloads of the document's entries.
-        ensures entries { (t : Tree) → Doc (raw_bytes raw.entry) t
-            → WalksItems (raw_bytes raw.entry) t result }
-    {
-        ArrayIterator::over(raw)
-    }
-
-    // The iterator, if the header is that of an array.
-    fn over(raw: RawJsonb<'a>) -> Result<Option<Self>, Error>
-        ensures { result ≡ array_walk (raw_bytes raw.entry) }
-    {
-        let bytes = raw.as_bytes();
-        let Some(count) = count_under(bytes, ARRAY_CONTAINER_TAG)? else {
-            return Ok(None);
-        };
-        let entries = Cursor::over_items(bytes, count);
-        Ok(Some(ArrayIterator {
-            items: Items { entries, count },
-        }))
-    }
-
-    /// The count in the header, however many items were taken.
-    pub fn len(&self) -> usize
-        ensures { result ≡ self.now.count }
-    {
-        self.items.len()
-    }
-}
-
-impl<'a> Iterator for ArrayIterator<'a> {
-    type Item = Result<JsonbItem<'a>, Error>;
-
-    ghost next_gives = { YieldsFirstBy result_view (λ it. it.rest) };
-
-    ghost remaining = { item_count (λ it. it.rest) };
-
-    fn next(&mut self) -> Option<Result<JsonbItem<'a>, Error>>
-        ensures { Advances result_view self.old result self.new }
-    {
-        self.items.next()
-    }
-}
-
-/// The keys of an object, in stored order, each as the item of its entry. On bytes that are not a
-/// document an item can be an error, after which the iteration ends: `InvalidEOF` if its entry word
-/// is cut off, `InvalidJsonb` if its payload runs past the end or its type is unknown, and
-/// `InvalidUtf8`, `InvalidJsonbNumber` or `InvalidJsonbExtension` if its payload is invalid.
-#[derive(Drop)]
-pub struct ObjectKeyIterator<'a> {
-    keys: Items<'a>,
-}
-
-impl<'a> Model for ObjectKeyIterator<'a> {
-    ghost Value = { Walk ItemView };
-
-    ghost view = { λ s. s.keys };
-}
-
-impl<'a> ObjectKeyIterator<'a> {
-    /// An iterator over the keys of the object in these bytes, `None` for the header of a scalar or
-    /// an array. `InvalidEOF` if the header is cut off, `InvalidJsonb` if it is of no kind.
-    pub fn new(raw: RawJsonb<'a>) -> Result<Option<Self>, Error>
-        ensures walk { result ≡ keys_walk (raw_bytes raw.entry) }
-
-        // It yields at most as many keys as the header counts, and an error only as the last.
-        ensures bounded { IfOk result (λ o. IfSome o IsBounded) }
-
-        // For an object's document it yields the keys and no error; for any other document it is
-        // `None`.
-        ensures document { (t : Tree) → Doc (raw_bytes raw.entry) t → WalksKeys t result }
-    {
-        ObjectKeyIterator::over(raw)
-    }
-
-    // The iterator, if the header is that of an object.
-    fn over(raw: RawJsonb<'a>) -> Result<Option<Self>, Error>
-        ensures { result ≡ keys_walk (raw_bytes raw.entry) }
-    {
-        let bytes = raw.as_bytes();
-        let Some(count) = count_under(bytes, OBJECT_CONTAINER_TAG)? else {
-            return Ok(None);
-        };
-        let entries = Cursor::over_keys(bytes, count);
-        Ok(Some(ObjectKeyIterator {
-            keys: Items { entries, count },
-        }))
-    }
-
-    /// The count in the header, however many keys were taken.
-    pub fn len(&self) -> usize
-        ensures { result ≡ self.now.count }
-    {
-        self.keys.len()
-    }
-}
-
-impl<'a> Iterator for ObjectKeyIterator<'a> {
-    type Item = Result<JsonbItem<'a>, Error>;
-
-    ghost next_gives = { YieldsFirstBy result_view (λ it. it.rest) };
-
-    ghost remaining = { item_count (λ it. it.rest) };
-
-    fn next(&mut self) -> Option<Result<JsonbItem<'a>, Error>>
-        ensures { Advances result_view self.old result self.new }
-    {
-        self.keys.next()
-    }
-}
-
-/// The values of an object, in the order of their keys. On bytes that are not a document an item
-/// can be an error, after which the iteration ends: `InvalidEOF` if its entry word is cut off,
-/// `InvalidJsonb` if its payload runs past the end or its type is unknown, and `InvalidUtf8`,
-/// `InvalidJsonbNumber` or `InvalidJsonbExtension` if its payload is invalid.
-#[derive(Drop)]
-pub struct ObjectValueIterator<'a> {
-    values: Items<'a>,
-}
-
-impl<'a> Model for ObjectValueIterator<'a> {
-    ghost Value = { Walk ItemView };
-
-    ghost view = { λ s. s.values };
-}
-
-impl<'a> ObjectValueIterator<'a> {
-    /// An iterator over the values of the object in these bytes, `None` for the header of a scalar
-    /// or an array. `InvalidEOF` if the header or the entry word of a key is cut off,
-    /// `InvalidJsonb` if the header is of no kind.
-    pub fn new(raw: RawJsonb<'a>) -> Result<Option<Self>, Error>
-        ensures walk { result ≡ values_walk (raw_bytes raw.entry) }
-
-        // It yields at most as many values as the header counts, and an error only as the last.
-        ensures bounded { IfOk result (λ o. IfSome o IsBounded) }
-
-        // For an object's document it yields the values and no error; for any other document it is
-        // `None`.
-        ensures document { (t : Tree) → Doc (raw_bytes raw.entry) t → WalksValues t result }
-
-        // The values have the types and payloads of the document's entries.
-        ensures entries { (t : Tree) → Doc (raw_bytes raw.entry) t
-            → WalksValueItems (raw_bytes raw.entry) t result }
-    {
-        ObjectValueIterator::over(raw)
-    }
-
-    // The iterator, if the header is that of an object.
-    fn over(raw: RawJsonb<'a>) -> Result<Option<Self>, Error>
-        ensures { result ≡ values_walk (raw_bytes raw.entry) }
-    {
-        let bytes = raw.as_bytes();
-        let Some(count) = count_under(bytes, OBJECT_CONTAINER_TAG)? else {
-            return Ok(None);
-        };
-        let entries = Cursor::over_values(bytes, count)?;
-        Ok(Some(ObjectValueIterator {
-            values: Items { entries, count },
-        }))
-    }
-
-    /// The count in the header, however many values were taken.
-    pub fn len(&self) -> usize
-        ensures { result ≡ self.now.count }
-    {
-        self.values.len()
-    }
-}
-
-impl<'a> Iterator for ObjectValueIterator<'a> {
-    type Item = Result<JsonbItem<'a>, Error>;
-
-    ghost next_gives = { YieldsFirstBy result_view (λ it. it.rest) };
-
-    ghost remaining = { item_count (λ it. it.rest) };
-
-    fn next(&mut self) -> Option<Result<JsonbItem<'a>, Error>>
-        ensures { Advances result_view self.old result self.new }
-    {
-        self.values.next()
     }
 }
 

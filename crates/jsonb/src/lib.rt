@@ -26,7 +26,10 @@ pub use document::{Document, Node};
 pub use extension_item::ExtensionItem;
 pub use item::JsonbItem;
 pub use item_type::JsonbItemType;
-pub use iterator::{ArrayIterator, ObjectIterator, ObjectKeyIterator, ObjectValueIterator};
+pub use iterator::{
+    ArrayItems, ArrayIterator, ChildKind, Children, ItemIterator, ObjectIterator,
+    ObjectKeyIterator, ObjectKeys, ObjectValueIterator, ObjectValues,
+};
 pub use jsonb_codec::{
     Decoder, DocumentBytes, Encoder, JEntry, JsonAstEncoder, append_canonical,
     append_canonical_document, constants, decode_header, document_laws, document_text,
