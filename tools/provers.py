@@ -1,0 +1,39 @@
+#!/usr/bin/env python3
+"""The command `rt` of the kit as a module, and how many provers run side by side.
+
+    tools/provers.py
+
+prints that number: one a processor, as far as the free memory goes. `rt ci` takes it from the
+variable RT_JOBS; its own estimate of what a prover takes is two to three times what it does.
+"""
+import importlib.machinery
+import importlib.util
+import os
+import shutil
+import sys
+
+# The most memory, in bytes, that one prover of one job was seen to take, and a little more.
+MEMORY = 3_300_000_000
+
+
+def loaded(path):
+    """A program of Python as a module."""
+    # Nothing is to be left in the kit's folder.
+    sys.dont_write_bytecode = True
+    loader = importlib.machinery.SourceFileLoader("rt", path)
+    made = importlib.util.module_from_spec(importlib.util.spec_from_loader("rt", loader))
+    loader.exec_module(made)
+    return made
+
+
+rt = loaded(os.path.realpath(shutil.which("rt") or sys.exit("the command rt is not on the path")))
+rtlib = rt.rtlib
+
+
+def lanes():
+    """How many provers run side by side."""
+    return max(1, min(rt.processors(), rt.free() // MEMORY))
+
+
+if __name__ == "__main__":
+    print(lanes())
