@@ -1,17 +1,21 @@
 #!/usr/bin/env bash
 # Runs the programs jsonb_cli and jsonb_column_cli with their standard streams closed, full or
-# broken, with memory refused, and with a line that waits for the answer to the one before, and
-# compares the status, the line on standard error and what was written with what they must be.
+# broken, or failing once after some bytes, with memory refused, and with input that waits for the
+# answers to the lines before, and compares the status, the line on standard error and what was
+# written with what they must be.
 #
 #     tools/main_faults.sh
 #
 # It takes what `rt ci` or `rt run` leaves, crates/PROGRAM/out/PROGRAM. A C compiler ($CC, or cc) is
-# needed for tools/refuse_request.c, and /dev/full. The status is 1 where a case differs.
+# needed for tools/refuse_request.c and fault_streams.c, and /dev/full. The status is 1 where a case
+# differs.
 set -uo pipefail
 top=$(cd "$(dirname "$0")/.." && pwd)
 work=$(mktemp -d)
 trap 'rm -rf "$work"' EXIT
-${CC:-cc} -O2 -shared -fPIC -o "$work/refuse.so" "$top/tools/refuse_request.c" -ldl || exit 1
+for source in refuse_request fault_streams; do
+    ${CC:-cc} -O2 -shared -fPIC -o "$work/$source.so" "$top/tools/$source.c" -ldl || exit 1
+done
 failed=0
 
 # Judges the run that ended with status $2: its standard error must be the text $4 and its output
@@ -30,6 +34,31 @@ expect() {
     : > "$work/output"
 }
 
+# Runs the program on two such lines, with a read that fails once after $2 bytes.
+read_fault() {
+    READ_FAULT=$2 LD_PRELOAD=$work/fault_streams.so "$program" < "$work/lines" \
+        > "$work/output" 2> "$work/errors"
+    expect "$1" $? 1 "$read_failed" "$3"
+}
+
+# Runs it with a write that fails once after $2 bytes, and once more with one that takes no byte.
+write_fault() {
+    WRITE_FAULT=$2 LD_PRELOAD=$work/fault_streams.so "$program" < "$work/lines" \
+        > "$work/output" 2> "$work/errors"
+    expect "$1 fails" $? 1 "$write_failed" "$3"
+    WRITE_FAULT=$2 WRITE_NOTHING=1 LD_PRELOAD=$work/fault_streams.so "$program" < "$work/lines" \
+        > "$work/output" 2> "$work/errors"
+    expect "$1 takes no byte" $? 1 "$write_failed" "$3"
+}
+
+# Runs the program on the lines of file $1, in pieces of 20 bytes, none of which comes before each
+# line among those before it is answered. The answers must be those of file $2.
+run_in_pieces() {
+    READ_MOST=20 LD_PRELOAD=$work/fault_streams.so "$program" < "$1" > "$work/output" \
+        2> "$work/errors"
+    expect 'pieces that wait for answers' $? 0 '' "$(cat "$2")"$'\n'
+}
+
 # Runs the program of this name on a line whose answer is known.
 run_faults() {
     local name=$1
@@ -40,7 +69,7 @@ run_faults() {
         echo "$program is not there: run rt ci first" >&2
         exit 1
     fi
-    echo "$name"
+    echo "$name: $2"
     printf '%s\n' "$2" > "$work/line"
     : > "$work/errors"
     : > "$work/output"
@@ -49,10 +78,10 @@ run_faults() {
     expect 'a line' $? 0 '' "$answer"
 
     # The next line comes once the answer to the one before was read.
-    rm -f "$work/lines" "$work/answers"
-    mkfifo "$work/lines" "$work/answers"
-    "$program" < "$work/lines" > "$work/answers" 2> "$work/errors" &
-    exec 3> "$work/lines" 4< "$work/answers"
+    rm -f "$work/questions" "$work/answers"
+    mkfifo "$work/questions" "$work/answers"
+    "$program" < "$work/questions" > "$work/answers" 2> "$work/errors" &
+    exec 3> "$work/questions" 4< "$work/answers"
     for line in 1 2; do
         cat "$work/line" >&3
         IFS= read -r -t 10 said <&4 && echo "$said" >> "$work/output"
@@ -85,7 +114,20 @@ run_faults() {
         { "$program" 2> "$work/errors"; echo $? > "$work/status"; } | true
     expect 'output a broken pipe' "$(cat "$work/status")" 1 "$write_failed" ''
 
-    REFUSE_REQUEST=1 LD_PRELOAD=$work/refuse.so "$program" < "$work/line" > "$work/output" \
+    # What comes after a fault is read and written no more, and half a line has no answer.
+    local size=$(($(wc -c < "$work/line")))
+    cat "$work/line" "$work/line" > "$work/lines"
+    read_fault 'the first read fails' 0 ''
+    read_fault 'a read fails before the end of a line' $((size - 1)) ''
+    read_fault 'a read fails after a line' $size "$answer"
+    read_fault 'a read fails in the second line' $((size + 4)) "$answer"
+    write_fault 'the first write' 0 ''
+    write_fault 'a later write' 5 "$(printf '%s%s' "$answer" "$answer" | head -c 5)"
+
+    printf '%s%s' "$answer" "$answer" > "$work/right"
+    run_in_pieces "$work/lines" "$work/right"
+
+    REFUSE_REQUEST=1 LD_PRELOAD=$work/refuse_request.so "$program" < "$work/line" > "$work/output" \
         2> "$work/errors"
     expect 'memory refused' $? 1 "$out_of_memory" ''
 
@@ -96,7 +138,9 @@ run_faults() {
     expect 'output and standard error full' $? 1 '' ''
 }
 
+run_faults jsonb_cli 'type 80000000' 'ok array 0'
 run_faults jsonb_cli 'enc [false,true]' 'ok 800000023000000040000000'
+run_in_pieces "$top"/tests/lines/jsonb_cli/each-command.{in,out}
 "$program" --help a b < "$work/line" > "$work/output" 2> "$work/errors"
 expect 'arguments are ignored' $? 0 '' "$answer"
 

@@ -41,6 +41,15 @@ REFUSAL = re.compile(
 OBJECT = "400000021000000210000002200000025000000a61616162500180000001200000025002"
 PAIRS = "400000021000000110000001200000021000000361625001313233"
 STORED = f"000000000000001b{PAIRS}00000000000000082000000040000000"
+# The lines of each command of jsonb_cli.
+EACH_COMMAND = f"{TOP}/tests/lines/jsonb_cli/each-command"
+
+
+def lines_of(path):
+    """The lines of a file, which end at a line feed alone."""
+    return pathlib.Path(path).read_bytes().decode().split("\n")[:-1]
+
+
 # Lines for each program, and their answers: one of each command, and some that are refused. The
 # rows of the column are loaded twice, and no line adds one: so the answers are the same where one
 # of these is refused.
@@ -48,20 +57,8 @@ LINES = {
     "jsonb_cli": [
         ("type 80000000", "ok array 0"),
         ("enc [false,true]", "ok 800000023000000040000000"),
-        (
-            "dec 400000021000000110000001200000022000000a616240f970000000000000009602",
-            'ok {"a":-7,"b":1.50}',
-        ),
-        ("pretty 80000000", "ok 5b5d"),
-        (f'get {OBJECT} "ab"', "ok 80000001200000025002"),
         ("cmp 20000000200000025005 20000000200000024005", "ok equal"),
-        ("arr 20000000200000025001 2000000000000000", "ok 8000000220000002000000005001"),
-        (
-            "canon 200000006000000a30000640d6b723800008",
-            "ok 200000006000000d30000640d6b723800000007080",
-        ),
-        ("enc 1e5", "error InvalidJson"),
-        ("", "error BadCommand"),
+        *zip(lines_of(f"{EACH_COMMAND}.in"), lines_of(f"{EACH_COMMAND}.out")),
     ],
     "jsonb_column_cli": [
         (f"load {STORED}", "ok"),

@@ -5,8 +5,6 @@ mod answer;
 mod calls;
 mod command;
 mod run;
-#[cfg(test)]
-mod tests;
 mod words;
 
 use std::io;
