@@ -10,8 +10,6 @@ mod key;
 mod laws;
 mod number;
 mod sink;
-#[cfg(test)]
-mod tests;
 mod walk;
 
 pub use checked_bytes::CheckedBytes;

@@ -13,6 +13,8 @@ mod builders;
 #[cfg(test)]
 mod changes;
 #[cfg(test)]
+mod comparable;
+#[cfg(test)]
 mod constants;
 #[cfg(test)]
 mod depth;

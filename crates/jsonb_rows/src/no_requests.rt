@@ -1,9 +1,11 @@
 // Calls that allocate nothing: tools/refuse_each.py checks that these tests make no allocation.
+use crate::comparable::{BYTES_KEY, KEY, NESTED};
 use jsonb::{
-    ArrayIterator, Encoder, Error, ExtensionItem, JsonbItem, JsonbItemType, Number, NumberItem,
-    ObjectIterator, ObjectKeyIterator, ObjectValueIterator, RawJsonb, Reads, Value, is_canonical,
-    is_document, is_document_within, read_header, read_jentry,
+    ArrayIterator, Document, Encoder, Error, ExtensionItem, JsonbItem, JsonbItemType, Number,
+    NumberItem, ObjectIterator, ObjectKeyIterator, ObjectValueIterator, RawJsonb, Reads, Value,
+    is_canonical, is_document, is_document_within, read_header, read_jentry,
 };
+use jsonb_comparable::{key_len, key_len_of, key_len_within};
 use std::borrow::CowStr;
 use std::cmp::Ordering;
 
@@ -123,4 +125,16 @@ fn values_are_measured(rt: HostRuntime) {
     assert!(rt; Encoder::measure(&Value::Null) == Ok(8));
     assert!(rt; Encoder::measure(&Value::Number(Number::UInt64(5))) == Ok(10));
     assert_eq!(rt; Number::UInt64(5).compact_len(), 2);
+}
+
+#[test]
+fn keys_are_measured(rt: HostRuntime) {
+    let raw = RawJsonb::new(NESTED);
+    assert!(rt; key_len_of(raw) == KEY.len());
+    assert!(rt; key_len_within(raw, 1) == BYTES_KEY.len());
+    assert!(rt; key_len_within(raw, 2) == KEY.len());
+    let Some(document) = Document::new(NESTED) else {
+        return assert!(rt; false);
+    };
+    assert!(rt; key_len(document) == KEY.len());
 }

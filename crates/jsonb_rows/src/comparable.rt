@@ -1,9 +1,6 @@
 // Worked keys, which were computed by another program from the layout alone, and each call once.
-mod no_requests;
-
-use crate::comparable_key::ComparableKey;
-use crate::key::{append_key, append_key_of, append_key_within};
 use jsonb::{Document, Error, OwnedJsonb, RawJsonb};
+use jsonb_comparable::{ComparableKey, append_key, append_key_of, append_key_within};
 use std::alloc::Global;
 use std::test::Fail;
 
@@ -86,13 +83,13 @@ fn stored_keys(rt: HostRuntime) -> Result<(), Fail> {
 }
 
 // The array of an empty array, its key, and its key where it counts as other bytes.
-const NESTED: &[u8] = b"\x80\0\0\x01\x50\0\0\x04\x80\0\0\0";
+pub const NESTED: &[u8] = b"\x80\0\0\x01\x50\0\0\x04\x80\0\0\0";
 
-const KEY: &[u8] = b"\xC0\xC0\0\0";
+pub const KEY: &[u8] = b"\xC0\xC0\0\0";
 
 const TWICE: &[u8] = b"\xC0\xC0\0\0\xC0\xC0\0\0";
 
-const BYTES_KEY: &[u8] = b"\xFF\x80\x02\x01\x02\x01\x02\x02\x50\x02\x01\x02\x01\x04\x80\x02\x01\
+pub const BYTES_KEY: &[u8] = b"\xFF\x80\x02\x01\x02\x01\x02\x02\x50\x02\x01\x02\x01\x04\x80\x02\x01\
     \x02\x01\x02\x01\x01";
 
 #[test]
