@@ -149,7 +149,7 @@ OUT_OF_MEMORY = {
 }
 # The module of tests that make no request, and two tests that differ by the encoding of a small
 # tree alone.
-NO_REQUESTS = "jsonb_rows no_requests"
+NO_REQUESTS = "jsonb_calls no_requests"
 COUNTED = [f"jsonb_rows memory::counted_{it}_an_encoding" for it in ("with", "without")]
 
 Series = collections.namedtuple("Series", "name words lines is_right")

@@ -1,8 +1,7 @@
 //! The plain look-up compared with the counted one, and a closure that accepts all keys.
 
 ghost use Rattle.std.specs.Prelude.{length, option_map, IsOkAnd, nat_eq};
-ghost use Rattle.jsonb_composition.specs.Words.{pointwise, Tree, Doc, raw_bytes, item_view, find};
-ghost use Rattle.jsonb_composition.specs.Words.{IsItemFound};
+ghost use Rattle.jsonb.specs.Words.{pointwise, Tree, Doc, raw_bytes, item_view, find, IsItemFound};
 
 use jsonb::{Error, JsonbItem, Number, NumberItem, RawJsonb, Reads};
 use std::test::Fail;
