@@ -12,7 +12,7 @@ use Rattle.jsonb_codec.specs.JEntry.{jentry_in, jentry_at}
 use Rattle.jsonb_codec.specs.Word.{word_at}
 use Rattle.jsonb_codec.specs.declared.jentry.JEntry.{JEntry}
 use Rattle.jsonb.specs.Steps.{◌>>=◌}
-use Rattle.jsonb.specs.declared.lookup.Place.{Place}
+use Rattle.jsonb.specs.declared.reads.lookup.Place.{Place}
 use Rattle.jsonb.specs.Item.{Entry, entry_at, part_at}
 use Rattle.jsonb.specs.Parts.{length_in, part_length, length_before, part_start, HasParts}
 use Rattle.jsonb.specs.Parts.{key_of_size, value_entry, IsPlaceOf}

@@ -12,9 +12,9 @@ use Rattle.jsonb_value.specs.Tree.{Tree, object, Pairs, no_pairs, pair, pair_cou
 use Rattle.jsonb_codec.specs.declared.constants.TheConstants.{OBJECT_CONTAINER_TAG}
 use Rattle.jsonb_codec.specs.Word.{header_at}
 use Rattle.jsonb.specs.declared.item.JsonbItem.{JsonbItem}
-use Rattle.jsonb.specs.declared.lookup.Accepted.{Accepted}
-use Rattle.jsonb.specs.declared.lookup.FoundEntry.{FoundEntry}
-use Rattle.jsonb.specs.declared.lookup.FoundValue.{FoundValue}
+use Rattle.jsonb.specs.declared.reads.lookup.Accepted.{Accepted}
+use Rattle.jsonb.specs.declared.reads.lookup.FoundEntry.{FoundEntry}
+use Rattle.jsonb.specs.declared.reads.lookup.FoundValue.{FoundValue}
 use Rattle.jsonb.specs.ItemView.{ItemView, item_view}
 use Rattle.jsonb.specs.Steps.{◌>>=◌}
 use Rattle.jsonb.specs.Item.{Entry}

@@ -2,11 +2,11 @@
 
 use crate::entries::{Cursor, count_under};
 use crate::item_type::JsonbItemType;
-use crate::lookup::{MAX_READS, count_pairs, find_value};
 use crate::nodes::{Items, Members};
 use crate::owned::OwnedJsonb;
 use crate::raw::RawJsonb;
 use crate::reads::Reads;
+use crate::reads::lookup::{MAX_READS, count_pairs, find_value};
 use crate::text::{Layout, document_text, write_document};
 use jsonb_codec::constants::{
     CONTAINER_TAG, EXTENSION_TAG, FALSE_TAG, NULL_TAG, NUMBER_TAG, OBJECT_CONTAINER_TAG,

@@ -10,7 +10,6 @@ mod extension_item;
 mod item;
 mod item_type;
 mod iterator;
-mod lookup;
 mod nodes;
 mod number_item;
 mod order;
@@ -42,13 +41,13 @@ pub use jsonb_value::{
     order_of_extension_values, order_of_meanings, order_of_numbers, order_of_trees, parse_string,
     parse_value, parse_value_within, write_number, write_string,
 };
-pub use lookup::{FoundValue, MAX_READS, Place};
 pub use nodes::{Items, Members};
 pub use number_item::NumberItem;
 pub use order::{byte_order_laws, meaning_laws};
 pub use owned::OwnedJsonb;
 pub use raw::RawJsonb;
 pub use reads::Reads;
+pub use reads::lookup::{FoundValue, MAX_READS, Place};
 pub use sort_key::{OtherBytes, SortKey};
 pub use sorting::sort_views;
 pub use text::text_laws;

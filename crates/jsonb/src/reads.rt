@@ -1,5 +1,7 @@
 //! Counting the words that are read from a document.
 
+pub mod lookup;
+
 ghost use Rattle.std.specs.Prelude.{◌≡◌, ℕ, ◌+◌, ◌<◌, ◌≤◌, ◌^◌, length, Ok, OnOk, OnErr};
 ghost use Rattle.jsonb.specs.Words.{word_at};
 
@@ -62,9 +64,9 @@ impl Reads {
         Ok(word)
     }
 
-    /// The same word, where it is known to be there.
+    // The same word, where it is known to be there. The look-up alone reads so, below.
     #[inline(always)]
-    pub(crate) fn word_within(&mut self, bytes: &[u8], index: usize) -> u32
+    fn word_within(&mut self, bytes: &[u8], index: usize) -> u32
         requires room { self.old < u64.MAX }
         requires there { index + 4 ≤ length bytes.now }
         ensures word { word_at bytes.now index ≡ Ok result }

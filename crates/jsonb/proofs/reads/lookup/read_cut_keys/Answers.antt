@@ -2,7 +2,7 @@ use Rattle.std.proofs.Common.{rules, ◌≡◌, Ok, Err, None, arith}
 use Rattle.jsonb.specs.Parts.{key_of_size}
 use Rattle.jsonb.proofs.PartLaws.{key_cut, key_of_other_length}
 use Rattle.jsonb.proofs.CutKeyLaws.{key_past}
-use Rattle.jsonb.proofs.lookup.read_cut_keys.Goals as goal
+use Rattle.jsonb.proofs.reads.lookup.read_cut_keys.Goals as goal
 use borrow.Author.Count.{below_more}
 
 pub returns-in_err-key_size-clause-unread : goal.returns-in_err-key_size-clause-unread

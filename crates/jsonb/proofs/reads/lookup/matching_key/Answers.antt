@@ -2,9 +2,9 @@ use Rattle.std.proofs.Common.{rules, ◌≡◌, Err, length}
 use Rattle.std.specs.Fn.{FnReturnsAtPair}
 use Rattle.jsonb.specs.Parts.{IsPassedAt, key_unread}
 use Rattle.jsonb.proofs.PartLaws.{key_of_other_length, key_known}
-use Rattle.jsonb.proofs.lookup.matching_key.Goals as goal
-use Rattle.jsonb.proofs.lookup.matching_key.Goals.{else-size-name-via-then-size-name+in_ok-payload+else-call}
-use Rattle.jsonb.proofs.lookup.matching_key.Goals.{else-size-name-via-else-size-name}
+use Rattle.jsonb.proofs.reads.lookup.matching_key.Goals as goal
+use Rattle.jsonb.proofs.reads.lookup.matching_key.Goals.{else-size-name-via-then-size-name+in_ok-payload+else-call}
+use Rattle.jsonb.proofs.reads.lookup.matching_key.Goals.{else-size-name-via-else-size-name}
 use borrow.Author.Count.{below_more}
 
 pub returns-in_err-payload-clause-found : goal.returns-in_err-payload-clause-found
