@@ -70,7 +70,7 @@ fn entry_end(start: usize, size: usize) -> Option<usize>
     Some(start + size)
 }
 
-// The end of the payload of a child, `None` if it does not fit or ends beyond the limit `most`.
+// The end of the payload of a child, `None` if it does not fit or ends beyond the limit.
 #[cycle(measure)]
 #[inline(always)]
 fn measure_child<S: Source>(
@@ -139,7 +139,7 @@ fn measure_object<S: Source>(object: S::Object, start: usize, limit: usize) -> O
     measure_members::<S>(S::members(object), first, limit)
 }
 
-// The end of the payloads of items, `None` if they do not fit or end beyond the limit `most`.
+// The end of the payloads of items, `None` if they do not fit or end beyond the limit.
 #[cycle(measure)]
 #[inline(always)]
 fn measure_items<S: Source>(items: S::Items, start: usize, limit: usize) -> Option<usize>
@@ -162,7 +162,7 @@ fn measure_items<S: Source>(items: S::Items, start: usize, limit: usize) -> Opti
 }
 
 // The end of the keys and the payloads of members, `None` if they do not fit or end beyond the
-// limit `most`.
+// limit.
 #[cycle(measure)]
 #[inline(always)]
 fn measure_members<S: Source>(members: S::Members, start: usize, limit: usize) -> Option<usize>
