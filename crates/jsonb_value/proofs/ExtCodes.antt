@@ -5,10 +5,12 @@ use Rattle.std.proofs.Common.{length-append, get_or, ◌-◌}
 use Rattle.std.proofs.lemmas.Bool.Decides.{nat_tests}
 use Rattle.std.proofs.lemmas.Grind.{common_steps}
 use Rattle.jsonb_value.proofs.Codes.{split_last}
-use Rattle.std.specs.Prelude.{◌*ℤ◌}
+use Rattle.std.specs.Prelude.{◌*ℤ◌, Result, Ok, Err, IfOk, OnErr, IsOkAnd}
 use Rattle.std.proofs.lemmas.List.{drop-drop}
 use Rattle.std.specs.Int.{Width, w8, w32, w64, from_be_bytes, cast_signed}
+use Rattle.jsonb_value.specs.declared.error.Error.{Error}
 use Rattle.jsonb_value.specs.declared.extension.Date.{Date}
+use Rattle.jsonb_value.specs.declared.extension.ExtensionValue.{ExtensionValue}
 use Rattle.jsonb_value.specs.declared.extension.Timestamp.{Timestamp}
 use Rattle.jsonb_value.specs.declared.extension.TimestampTz.{TimestampTz}
 use Rattle.jsonb_value.specs.declared.extension.Interval.{Interval}
@@ -16,7 +18,7 @@ use Rattle.jsonb_value.specs.Payload.{IsSigned}
 use Rattle.jsonb_value.specs.Tree.{Extension, binary, date, timestamp, timestamp_tz, interval}
 use Rattle.jsonb_value.specs.Tree.{opaque}
 use Rattle.jsonb_value.specs.Opaque.{IsOpaqueTag}
-use Rattle.jsonb_value.specs.ExtCode.{ExtCode, IsZoned, IsOldZoned, IsInterval}
+use Rattle.jsonb_value.specs.ExtCode.{ExtCode, IsZoned, IsOldZoned, IsInterval, extension_of}
 
 pub front_of : (n : ℕ) (a b xs : List ℕ) → xs ≡ a ++ b → length a ≡ n → take n xs ≡ a
 front_of n a b xs e l = grind (arith, common_steps)
@@ -94,6 +96,13 @@ ExtCode-value p (opaque tag bytes) (known, e) = grind (arith, extension_at-opaqu
 -- no payload means two extension values
 pub ExtCode-unique : (p : List ℕ) (e f : Extension) → ExtCode p e → ExtCode p f → e ≡ f
 ExtCode-unique p e f h k = sym (ExtCode-value p e h) ∙ ExtCode-value p f k
+
+-- A decoder that returns only what the payload means, and never misses it, returns exactly that.
+pub only_extension : (p : List ℕ) (r : Result ExtensionValue Error)
+    → IfOk r (λ x. ExtCode p (extension_of x)) → OnErr r ((e : Extension) → ExtCode p e → ⊥)
+    → (e : Extension) → ExtCode p e → IsOkAnd r (λ x. extension_of x ≡ e)
+only_extension p (Ok x) found none e h = ExtCode-unique p (extension_of x) e found h
+only_extension p (Err error) found none e h = absurd (none e h)
 
 -- what follows each tag
 pub date_after : (t : ℕ) (rest : List ℕ) (e : Extension) → t ≡ 16 → ExtCode (t ∷ rest) e

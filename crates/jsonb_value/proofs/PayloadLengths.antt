@@ -77,6 +77,18 @@ pub NumCode-zero : (tag n : ℕ) → tag ≡ 0 → (rest : List ℕ) → length 
 NumCode-zero tag n e [] len = (λ none. (UInt64 0, inl (cc, refl)), λ found. sym len)
 NumCode-zero tag n e (y ∷ ys) len = grind arith
 
+-- a payload that means a number has at most 19 bytes
+pub number_payload_short : (p : List ℕ) (x : Number) → NumCode p x → length p ≤ 19
+number_payload_short p (Int64 v) (rest, (e, h)) =
+    let whole = length_of_signed rest v h in grind arith
+number_payload_short p (UInt64 n) (inl (e, z)) = grind arith
+number_payload_short p (UInt64 n) (inr (rest, (e, h))) =
+    let whole = length_of_unsigned rest n h in grind arith
+number_payload_short p (Decimal64 d) (rest, (e, h)) =
+    let len = length_of_decimal rest (Decimal64 d) (rest, (refl, h)) in grind arith
+number_payload_short p (Decimal128 d) (rest, (e, h)) =
+    let len = length_of_decimal rest (Decimal128 d) (rest, (refl, h)) in grind arith
+
 -- equivalence is transitive
 pub tested : {P Q R : Type 0} → (P ↔ Q) → (Q ↔ R) → P ↔ R
 tested f g = (λ p. g.0 (f.0 p), λ r. f.1 (g.1 r))

@@ -2,7 +2,7 @@
 
 ghost use Rattle.std.specs.Prelude.{◌≡◌, ◌≤◌, ◌<◌, ◌^◌, ◌∷◌, ◌++◌, ◌⊎◌, Err, IfSome, IfNone, IfOk};
 ghost use Rattle.std.specs.Prelude.{IfErr, OnOk, OnErr, length, IsOk, vec_len, vec_capacity};
-ghost use Rattle.std.specs.Prelude.{◌+◌};
+ghost use Rattle.std.specs.Prelude.{◌+◌, IsOkAnd};
 ghost use Rattle.jsonb_value.specs.Words.{w32, w64, Appends, IsSigned, Extension, date, timestamp};
 ghost use Rattle.jsonb_value.specs.Words.{timestamp_tz, interval, ExtCode, IsZoned, IsOldZoned};
 ghost use Rattle.jsonb_value.specs.Words.{IsInterval, extension_of, extension_payload, HasKnownTag};
@@ -63,6 +63,8 @@ impl<'a> ExtensionValue<'a> {
     /// known tag.
     pub fn decode(bytes: &'a [u8]) -> Result<ExtensionValue<'a>, Error>
         ensures ok { IfOk result (λ x. ExtCode bytes.now (extension_of x)) }
+        ensures only { (e : Extension) → ExtCode bytes.now e
+            → IsOkAnd result (λ x. extension_of x ≡ e) }
         ensures none { OnErr result ((e : Extension) → ExtCode bytes.now e → ⊥) }
         ensures length { result ≡ Err Error.InvalidJsonbNumber → HasKnownTag bytes.now }
         ensures tag { result ≡ Err Error.InvalidJsonbExtension → HasKnownTag bytes.now → ⊥ }

@@ -52,12 +52,14 @@ impl Number {
     }
 
     /// Decodes a payload: zero, an integer of 1, 2, 4 or 8 bytes, or a decimal in its written form
-    /// or in the older form with a precision byte. `InvalidJsonbNumber` for every other byte
-    /// string.
+    /// or in the older form with a precision byte, which has 19 bytes. `InvalidJsonbNumber` for
+    /// every other byte string.
     #[inline(always)]
+    #[tactic(auto, using(crate::proofs::PayloadLengths::number_payload_short))]
     pub fn decode(bytes: &[u8]) -> Result<Number, Error>
         ensures ok { IfOk result (λ x. NumCode bytes.now x) }
         ensures only { (x : Number) → NumCode bytes.now x → result ≡ Ok x }
+        ensures short { OnOk result (length bytes.now ≤ 19) }
         ensures err { IfErr result (λ e. e ≡ Error.InvalidJsonbNumber) }
     {
         match bytes {
