@@ -5,10 +5,11 @@ use Rattle.std.specs.Prelude.{Bool, true, false, cond, nat_le}
 use Rattle.std.proofs.lemmas.Bool.Decides.{nat_tests}
 use Rattle.std.specs.declared.cmp.Ordering.{Ordering}
 use Rattle.std.specs.declared.cmp.Ordering.TheVariants.{Less, Equal, Greater}
-use Rattle.std.specs.List.{flat_map}
+use Rattle.std.specs.List.{All, flat_map}
 use Rattle.std.specs.Ordering.{nat_cmp, ordering_then}
 use Rattle.std.specs.Cmp.Lexicographic.{slice_cmp}
 use Rattle.std.proofs.lemmas.Cmp.{nat_list_cmp_total, tied_itself}
+use Rattle.std.proofs.lemmas.List.Elements.{All-head, All-tail}
 use Rattle.jsonb_value.specs.Meaning.{Meaning, document, other_bytes, meaning_cmp}
 use Rattle.jsonb_value.specs.Tree.{Tree}
 use Rattle.jsonb_value.specs.TreeOrder.{tree_cmp}
@@ -25,6 +26,7 @@ use Rattle.jsonb_comparable.specs.Escaped.{escaped}
 use Rattle.jsonb_codec.specs.Depth.{depth}
 use Rattle.jsonb.specs.Node.{array_of, object_of, pairs_of}
 use Rattle.jsonb_comparable.specs.TreeKey.{tree_key, trees_key, pairs_key, member_key, meaning_key}
+use Rattle.jsonb_comparable.specs.KeyLaws.{KeyLaws, key_by, cmp_by}
 use Rattle.jsonb_comparable.specs.Within.{limited, meaning_within}
 use Rattle.jsonb_comparable.proofs.Comparing.{Compared, ended, same, below, above, compared_whole}
 use Rattle.jsonb_comparable.proofs.Comparing.{cmp_below, cmp_above}
@@ -122,19 +124,6 @@ is_limited d b (other_bytes others) h = tt
 pub is_meaning_within : (d : ℕ) (b : List ℕ) → AreBytes b → IsMeaning (meaning_within d b)
 is_meaning_within d b bytes = is_limited d b (meaning_of b) (is_meaning b bytes)
 
-pub meanings_followed : (m n : Meaning) → IsMeaning m → IsMeaning n → (x y : List ℕ)
-    → slice_cmp nat_cmp (meaning_key m ++ x) (meaning_key n ++ y)
-    ≡ ordering_then (meaning_cmp m n) (slice_cmp nat_cmp x y)
-meanings_followed m n h g x y = compared_whole (meaning_key_decides m n h g) x y
-
-pub meanings_order : (m n : Meaning) → IsMeaning m → IsMeaning n
-    → slice_cmp nat_cmp (meaning_key m) (meaning_key n) ≡ meaning_cmp m n
-meanings_order m n h g = compared_alone (meaning_key_decides m n h g)
-
-pub meanings_equal : (m n : Meaning) → IsMeaning m → IsMeaning n
-    → (meaning_key m ≡ meaning_key n) ↔ (meaning_cmp m n ≡ Equal)
-meanings_equal m n h g = compared_equal (meaning_key_decides m n h g)
-
 -- A beginning of a key that is above another key decides,
 cut_decides : {a b : List ℕ} {o : Ordering} → Compared a b o → (n : ℕ)
     → slice_cmp nat_cmp (take n a) b ≡ Greater → o ≡ Greater
@@ -166,6 +155,55 @@ keys_cut t u h g n e = cut_decides (tree_key_decides t u h g) n e
 pub keys_both_cut : (t u : Tree) → IsTree t → IsTree u → (n : ℕ)
     → slice_cmp nat_cmp (take n (tree_key t)) (take n (tree_key u)) ≡ Less → tree_cmp t u ≡ Less
 keys_both_cut t u h g n e = both_cut_decide (tree_key_decides t u h g) n e
+
+-- The keys of a list of bytes, one after the other, compare as the lists.
+nothing_below_meaning : (m : Meaning) (xs : List ℕ)
+    → slice_cmp nat_cmp [] (meaning_key m ++ xs) ≡ Less
+unfolding meaning_key
+nothing_below_meaning (document t) xs = nothing_below_key t xs
+nothing_below_meaning (other_bytes b) xs = refl
+
+meaning_above_nothing : (m : Meaning) (xs : List ℕ)
+    → slice_cmp nat_cmp (meaning_key m ++ xs) [] ≡ Greater
+unfolding meaning_key
+meaning_above_nothing (document t) xs = key_above_nothing t xs
+meaning_above_nothing (other_bytes b) xs = refl
+
+-- Bytes whose meanings are trees or other bytes have keys with the laws.
+abbrev pub AreMeanings : (List ℕ → Meaning) → Type 0
+AreMeanings means = (b : List ℕ) → AreBytes b → IsMeaning (means b)
+
+keys_decide : (means : List ℕ → Meaning) → AreMeanings means → (l r : List ℕ)
+    → AreBytes l → AreBytes r → Compared (key_by means l) (key_by means r) (cmp_by means l r)
+keys_decide means are l r h g =
+    meaning_key_decides (means l) (means r) (are l h) (are r g)
+
+lists_decide : (means : List ℕ → Meaning) → AreMeanings means → (ls rs : List (List ℕ))
+    → All AreBytes ls → All AreBytes rs
+    → slice_cmp nat_cmp (flat_map (key_by means) ls) (flat_map (key_by means) rs)
+    ≡ slice_cmp (cmp_by means) ls rs
+lists_decide means are [] [] h g = refl
+lists_decide means are [] (r ∷ rs) h g =
+    nothing_below_meaning (means r) (flat_map (key_by means) rs)
+lists_decide means are (l ∷ ls) [] h g =
+    meaning_above_nothing (means l) (flat_map (key_by means) ls)
+lists_decide means are (l ∷ ls) (r ∷ rs) h g =
+    let first = keys_decide means are l r (All-head AreBytes l ls h) (All-head AreBytes r rs g) in
+    let rest =
+    lists_decide means are ls rs (All-tail AreBytes l ls h) (All-tail AreBytes r rs g) in
+    compared_whole first (flat_map (key_by means) ls) (flat_map (key_by means) rs)
+    ∙ ap (λ o. ordering_then (cmp_by means l r) o) rest
+
+pub meanings_laws : (means : List ℕ → Meaning) → AreMeanings means → KeyLaws means
+meanings_laws means are = record {
+  order = λ l r h g. compared_alone (keys_decide means are l r h g);
+  equal = λ l r h g. compared_equal (keys_decide means are l r h g);
+  followed = λ l r h g x y. compared_whole (keys_decide means are l r h g) x y;
+  no_beginning = λ l r h g x y e. compared_apart (keys_decide means are l r h g) x y e;
+  lists = lists_decide means are;
+  cut = λ l r h g n e. cut_decides (keys_decide means are l r h g) n e;
+  cut_both = λ l r h g n e. both_cut_decide (keys_decide means are l r h g) n e;
+}
 
 -- The keys of the parts are parts of the key.
 items_key : (ts : List Tree) → trees_key (trees_of ts) ≡ flat_map tree_key ts ++ (0 ∷ [])

@@ -5,6 +5,7 @@ pub mod NumberKey
 pub mod SplitDigits
 pub mod ExtensionKey
 pub mod TreeKey
+pub mod KeyLaws
 pub mod Within
 pub mod CheckedBytes
 pub mod ComparableKey

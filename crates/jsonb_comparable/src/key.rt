@@ -11,6 +11,11 @@ use crate::sink::KeyLength;
 use crate::walk::append_checked;
 use jsonb::{Document, Error, RawJsonb};
 
+/// The number of the layout of keys. It changes only if the key of some bytes does, and then with
+/// the major version of the library: stores and partitions whose keys are to be compared must have
+/// the same number.
+pub const KEY_LAYOUT: u32 = 1;
+
 /// The length of the key of checked bytes, or `usize::MAX` where it is longer.
 pub fn len_of_checked(checked: CheckedBytes<'_>) -> usize
     ensures { result ≡ length_64 (meaning_key (checked_meaning checked.entry)) }

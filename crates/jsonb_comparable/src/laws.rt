@@ -2,10 +2,10 @@
 
 ghost use Rattle.std.specs.Prelude.{◌≡◌, ◌↔◌, ◌++◌, ◌∷◌, [], ◌+◌, ℕ, List, length, take, flat_map};
 ghost use Rattle.jsonb_value.proofs.BigEndian.{AreBytes};
-ghost use Rattle.jsonb_comparable.specs.Words.{slice_cmp, nat_cmp, ordering_then, meaning_cmp, Doc};
+ghost use Rattle.jsonb_comparable.specs.Words.{slice_cmp, nat_cmp, ordering_then, KeyLaws, Doc};
 ghost use Rattle.jsonb_comparable.specs.Words.{Tree, tree_cmp, IsTree, AreTrees, trees_of};
 ghost use Rattle.jsonb_comparable.specs.Words.{meaning_of, array_of, object_of, tree_key};
-ghost use Rattle.jsonb_comparable.specs.Words.{meaning_key, member_key, meaning_within};
+ghost use Rattle.jsonb_comparable.specs.Words.{member_key, meaning_within};
 
 use std::cmp::Ordering;
 
@@ -46,32 +46,14 @@ pub fn key_laws()
     ensures documents { (b : List ℕ) (t : Tree) → AreBytes b → Doc b t → IsTree t }
 {}
 
-/// The same laws of the keys of any bytes: documents are below all other bytes, and those compare
-/// as bytes.
+/// The same laws of the keys of any bytes, but for those of parts: documents are below all other
+/// bytes, and those compare as bytes.
 pub fn key_laws_of_bytes()
-    ensures order { (l r : List ℕ) → AreBytes l → AreBytes r
-        → slice_cmp nat_cmp (meaning_key (meaning_of l)) (meaning_key (meaning_of r))
-        ≡ meaning_cmp (meaning_of l) (meaning_of r) }
-    ensures equal { (l r : List ℕ) → AreBytes l → AreBytes r
-        → (meaning_key (meaning_of l) ≡ meaning_key (meaning_of r))
-        ↔ (meaning_cmp (meaning_of l) (meaning_of r) ≡ Ordering.Equal) }
-    ensures followed { (l r : List ℕ) → AreBytes l → AreBytes r → (x y : List ℕ)
-        → slice_cmp nat_cmp (meaning_key (meaning_of l) ++ x) (meaning_key (meaning_of r) ++ y)
-        ≡ ordering_then (meaning_cmp (meaning_of l) (meaning_of r)) (slice_cmp nat_cmp x y) }
+    ensures { KeyLaws meaning_of }
 {}
 
 /// The same laws of the keys within a depth: documents that nest at most that deep are below all
 /// other bytes, and those compare as bytes.
 pub fn key_laws_within()
-    ensures order { (d : ℕ) (l r : List ℕ) → AreBytes l → AreBytes r
-        → slice_cmp nat_cmp (meaning_key (meaning_within d l)) (meaning_key (meaning_within d r))
-        ≡ meaning_cmp (meaning_within d l) (meaning_within d r) }
-    ensures equal { (d : ℕ) (l r : List ℕ) → AreBytes l → AreBytes r
-        → (meaning_key (meaning_within d l) ≡ meaning_key (meaning_within d r))
-        ↔ (meaning_cmp (meaning_within d l) (meaning_within d r) ≡ Ordering.Equal) }
-    ensures followed { (d : ℕ) (l r : List ℕ) → AreBytes l → AreBytes r → (x y : List ℕ)
-        → slice_cmp nat_cmp (meaning_key (meaning_within d l) ++ x)
-        (meaning_key (meaning_within d r) ++ y)
-        ≡ ordering_then (meaning_cmp (meaning_within d l) (meaning_within d r))
-        (slice_cmp nat_cmp x y) }
+    ensures { (depth : ℕ) → KeyLaws (meaning_within depth) }
 {}
