@@ -37,7 +37,7 @@
  * find, part, begin, next, of_part, array_item, object_member, and the calls on scalars do not
  * recurse.
  *
- * NULL is allowed for bytes, texts, ends, out and order whose length is 0, and for `key` of
+ * NULL is allowed for bytes, texts, offsets, out and order whose length is 0, and for `key` of
  * kohiblad_next. A `length` and a cursor are never null.
  *
  * OTHER LANGUAGES: the functions below are inline. They replace null and refuse overlaps, and then
@@ -52,7 +52,7 @@
 #include <stdint.h>
 
 /* The version that this header describes: millions, thousands and ones. */
-#define KOHIBLAD_VERSION 6000
+#define KOHIBLAD_VERSION 7000
 
 /* The stack that is enough, in bytes: see STACK above. These were measured, on x86-64. */
 #define KOHIBLAD_LEVEL_STACK 640
@@ -71,7 +71,7 @@ extern "C" {
 /* What a call returns. */
 enum kohiblad_status {
     KOHIBLAD_OK = 0,
-    KOHIBLAD_INVALID_EOF = 1,             /* the bytes are cut, or rows end outside them */
+    KOHIBLAD_INVALID_EOF = 1,             /* the bytes are cut, or rows are outside them */
     KOHIBLAD_INVALID_JSONB = 2,           /* no document, or past a limit of the format */
     KOHIBLAD_INVALID_JSONB_HEADER = 3,
     KOHIBLAD_INVALID_JSONB_JENTRY = 4,
@@ -397,45 +397,48 @@ static inline uint32_t kohiblad_parse(const uint8_t *text, size_t size, size_t d
 static inline struct kohiblad_fault kohiblad_text_fault(const uint8_t *text, size_t size,
     size_t depth) KOHIBLAD_INLINE("kohiblad_text_fault");
 
-/* ROWS follow one another in `bytes` without gaps; `ends` has the offset where each ends, and the
- * first begins at 0. The offsets of an Arrow column have 32 or 64 bits and begin with a 0: leave
- * that 0 out, and widen those of 32 bits to size_t. INVALID_EOF: an end is less than the one before
- * it, or past the bytes. */
+/* ROWS follow one another in `bytes` without gaps. `offsets` are `count` numbers, one more than
+ * there are rows: row k begins at offsets[k] and ends at offsets[k + 1]. The first need not be 0,
+ * so the offsets of an Arrow column, or of a slice of one, can be given as they are, where they
+ * have 64 bits; widen those of 32 bits. Of nulls and views of Arrow the calls know nothing: take
+ * the rows of those together first. No offset and one offset are no rows. INVALID_EOF: an offset is
+ * less than the one before it, or past the bytes. */
 
-/* Copies the array of the documents in these rows to `out`. INVALID_EOF: an end is less than the
+/* Copies the array of the documents in these rows to `out`. INVALID_EOF: an offset is less than the
  * one before it, or past the bytes. INVALID_JSONB: a row is no document, or a limit of the format
  * is passed. NO_ROOM if `out` has no room for the array. OUT_OF_MEMORY if an allocation fails.
  * Takes memory. */
-static inline uint32_t kohiblad_build_array(const uint8_t *bytes, size_t size, const size_t *ends,
-    size_t rows, uint8_t *out, size_t room, size_t *length) KOHIBLAD_INLINE("kohiblad_build_array");
+static inline uint32_t kohiblad_build_array(const uint8_t *bytes, size_t size,
+    const size_t *offsets, size_t count, uint8_t *out, size_t room, size_t *length)
+    KOHIBLAD_INLINE("kohiblad_build_array");
 
-/* Copies the array of the documents in these rows to `out`. INVALID_EOF: an end is less than the
+/* Copies the array of the documents in these rows to `out`. INVALID_EOF: an offset is less than the
  * one before it, or past the bytes. INVALID_JSONB: a row is no document of at most this depth,
  * which is tested before anything is built, or a limit of the format is passed. A scalar has depth
  * 0, an array or object one more than its deepest child, and at least 1. Looks no deeper. NO_ROOM
  * if `out` has no room for the array. OUT_OF_MEMORY if an allocation fails. Takes memory. */
 static inline uint32_t kohiblad_build_array_within(const uint8_t *bytes, size_t size,
-    const size_t *ends, size_t rows, size_t depth, uint8_t *out, size_t room, size_t *length)
+    const size_t *offsets, size_t count, size_t depth, uint8_t *out, size_t room, size_t *length)
     KOHIBLAD_INLINE("kohiblad_build_array_within");
 
 /* Copies the object of these rows to `out`: a key's text, then its document, and so on; keys in any
- * order. INVALID_EOF: an end is less than the one before it, or past the bytes, or the last key has
- * no document. INVALID_UTF8: a key is not UTF-8; OBJECT_DUPLICATE_KEY: a key comes twice;
+ * order. INVALID_EOF: an offset is less than the one before it, or past the bytes, or the last key
+ * has no document. INVALID_UTF8: a key is not UTF-8; OBJECT_DUPLICATE_KEY: a key comes twice;
  * INVALID_JSONB: a value is no document, or a limit of the format is passed. NO_ROOM if `out` has
  * no room for the object. OUT_OF_MEMORY if an allocation fails. Takes memory. */
 static inline uint32_t kohiblad_build_object(const uint8_t *bytes, size_t size,
-    const size_t *ends, size_t rows, uint8_t *out, size_t room, size_t *length)
+    const size_t *offsets, size_t count, uint8_t *out, size_t room, size_t *length)
     KOHIBLAD_INLINE("kohiblad_build_object");
 
 /* Copies the object of these rows to `out`: a key's text, then its document, and so on; keys in any
- * order. INVALID_EOF: an end is less than the one before it, or past the bytes, or the last key has
- * no document. INVALID_JSONB: a value is no document of at most this depth, which is tested before
- * the keys, or a limit of the format is passed. INVALID_UTF8: a key is not UTF-8;
+ * order. INVALID_EOF: an offset is less than the one before it, or past the bytes, or the last key
+ * has no document. INVALID_JSONB: a value is no document of at most this depth, which is tested
+ * before the keys, or a limit of the format is passed. INVALID_UTF8: a key is not UTF-8;
  * OBJECT_DUPLICATE_KEY: a key comes twice. A scalar has depth 0, an array or object one more than
  * its deepest child, and at least 1. Looks no deeper. NO_ROOM if `out` has no room for the object.
  * OUT_OF_MEMORY if an allocation fails. Takes memory. */
 static inline uint32_t kohiblad_build_object_within(const uint8_t *bytes, size_t size,
-    const size_t *ends, size_t rows, size_t depth, uint8_t *out, size_t room, size_t *length)
+    const size_t *offsets, size_t count, size_t depth, uint8_t *out, size_t room, size_t *length)
     KOHIBLAD_INLINE("kohiblad_build_object_within");
 
 /* Whether the bytes are a canonical document: each value in the one form that is written today. */
@@ -463,6 +466,11 @@ static inline uint32_t kohiblad_to_canonical_within(const uint8_t *bytes, size_t
     size_t depth, uint8_t *out, size_t room, size_t *length)
     KOHIBLAD_INLINE("kohiblad_to_canonical_within");
 
+/* The number of the layout of comparable keys. It changes only if the key of some bytes does, and
+ * then with the soname of the library: keys that are to be compared must be of libraries with the
+ * same number. */
+static inline uint32_t kohiblad_key_layout(void) KOHIBLAD_INLINE("kohiblad_key_layout");
+
 /* Copies the comparable key of any bytes to `out`, for an engine that sorts byte strings. The order
  * of two keys by memcmp, and then the shorter first, is that of kohiblad_compare_within at the same
  * depth; keys are equal exactly where it returns 0, and no key begins another. A scalar has depth
@@ -473,21 +481,22 @@ static inline uint32_t kohiblad_key(const uint8_t *bytes, size_t size, size_t de
 
 /* The numbers of the rows, from 0, sorted by kohiblad_compare; equal rows keep their order. They
  * are written to the start of `order`, which has room for `room` numbers. NO_ROOM: there are more
- * rows. INVALID_EOF: an end is less than the one before it, or past the bytes. With every status
+ * rows. INVALID_EOF: an offset is less than the one before it, or past the bytes. With every status
  * but OK `order` is untouched. Each row is checked once. OUT_OF_MEMORY if an allocation fails.
  * Takes memory. */
-static inline uint32_t kohiblad_sort(const uint8_t *bytes, size_t size, const size_t *ends,
-    size_t rows, size_t *order, size_t room) KOHIBLAD_INLINE("kohiblad_sort");
+static inline uint32_t kohiblad_sort(const uint8_t *bytes, size_t size, const size_t *offsets,
+    size_t count, size_t *order, size_t room) KOHIBLAD_INLINE("kohiblad_sort");
 
 /* The numbers of the rows, from 0, sorted by kohiblad_compare_within at this depth: documents that
  * nest deeper come after all others, in the order of their bytes; equal rows keep their order. They
  * are written to the start of `order`, which has room for `room` numbers. NO_ROOM: there are more
- * rows. INVALID_EOF: an end is less than the one before it, or past the bytes. With every status
+ * rows. INVALID_EOF: an offset is less than the one before it, or past the bytes. With every status
  * but OK `order` is untouched. Each row is checked once. A scalar has depth 0, an array or object
  * one more than its deepest child, and at least 1. Looks no deeper. OUT_OF_MEMORY if an allocation
  * fails. Takes memory. */
-static inline uint32_t kohiblad_sort_within(const uint8_t *bytes, size_t size, const size_t *ends,
-    size_t rows, size_t depth, size_t *order, size_t room) KOHIBLAD_INLINE("kohiblad_sort_within");
+static inline uint32_t kohiblad_sort_within(const uint8_t *bytes, size_t size,
+    const size_t *offsets, size_t count, size_t depth, size_t *order, size_t room)
+    KOHIBLAD_INLINE("kohiblad_sort_within");
 
 /* The exports of the library. */
 uint32_t kohiblad_export_version(void) KOHIBLAD_EXPORT("kohiblad_version");
@@ -556,16 +565,17 @@ uint32_t kohiblad_export_parse(const uint8_t *text, size_t size, size_t depth, u
     size_t room, size_t *length) KOHIBLAD_EXPORT("kohiblad_parse");
 struct kohiblad_fault kohiblad_export_text_fault(const uint8_t *text, size_t size, size_t depth)
     KOHIBLAD_EXPORT("kohiblad_text_fault");
-uint32_t kohiblad_export_build_array(const uint8_t *bytes, size_t size, const size_t *ends,
-    size_t rows, uint8_t *out, size_t room, size_t *length) KOHIBLAD_EXPORT("kohiblad_build_array");
+uint32_t kohiblad_export_build_array(const uint8_t *bytes, size_t size, const size_t *offsets,
+    size_t count, uint8_t *out, size_t room, size_t *length)
+        KOHIBLAD_EXPORT("kohiblad_build_array");
 uint32_t kohiblad_export_build_array_within(const uint8_t *bytes, size_t size,
-    const size_t *ends, size_t rows, size_t depth, uint8_t *out, size_t room, size_t *length)
+    const size_t *offsets, size_t count, size_t depth, uint8_t *out, size_t room, size_t *length)
     KOHIBLAD_EXPORT("kohiblad_build_array_within");
-uint32_t kohiblad_export_build_object(const uint8_t *bytes, size_t size, const size_t *ends,
-    size_t rows, uint8_t *out, size_t room, size_t *length)
+uint32_t kohiblad_export_build_object(const uint8_t *bytes, size_t size, const size_t *offsets,
+    size_t count, uint8_t *out, size_t room, size_t *length)
     KOHIBLAD_EXPORT("kohiblad_build_object");
 uint32_t kohiblad_export_build_object_within(const uint8_t *bytes, size_t size,
-    const size_t *ends, size_t rows, size_t depth, uint8_t *out, size_t room, size_t *length)
+    const size_t *offsets, size_t count, size_t depth, uint8_t *out, size_t room, size_t *length)
     KOHIBLAD_EXPORT("kohiblad_build_object_within");
 bool kohiblad_export_is_canonical(const uint8_t *bytes, size_t size)
     KOHIBLAD_EXPORT("kohiblad_is_canonical");
@@ -575,12 +585,13 @@ uint32_t kohiblad_export_to_canonical(const uint8_t *bytes, size_t size, uint8_t
     size_t room, size_t *length) KOHIBLAD_EXPORT("kohiblad_to_canonical");
 uint32_t kohiblad_export_to_canonical_within(const uint8_t *bytes, size_t size, size_t depth,
     uint8_t *out, size_t room, size_t *length) KOHIBLAD_EXPORT("kohiblad_to_canonical_within");
+uint32_t kohiblad_export_key_layout(void) KOHIBLAD_EXPORT("kohiblad_key_layout");
 uint32_t kohiblad_export_key(const uint8_t *bytes, size_t size, size_t depth, uint8_t *out,
     size_t room, size_t *length) KOHIBLAD_EXPORT("kohiblad_key");
-uint32_t kohiblad_export_sort(const uint8_t *bytes, size_t size, const size_t *ends, size_t rows,
-    size_t *order, size_t room) KOHIBLAD_EXPORT("kohiblad_sort");
-uint32_t kohiblad_export_sort_within(const uint8_t *bytes, size_t size, const size_t *ends,
-    size_t rows, size_t depth, size_t *order, size_t room) KOHIBLAD_EXPORT("kohiblad_sort_within");
+uint32_t kohiblad_export_sort(const uint8_t *bytes, size_t size, const size_t *offsets, size_t
+    count, size_t *order, size_t room) KOHIBLAD_EXPORT("kohiblad_sort");
+uint32_t kohiblad_export_sort_within(const uint8_t *bytes, size_t size, const size_t *offsets,
+    size_t count, size_t depth, size_t *order, size_t room) KOHIBLAD_EXPORT("kohiblad_sort_within");
 
 /* Null with length 0 becomes a pointer to something that is never read or written. */
 static inline const uint8_t *kohiblad_in(const uint8_t *bytes) {
@@ -591,9 +602,9 @@ static inline uint8_t *kohiblad_out(uint8_t *out) {
     static uint8_t none;
     return out ? out : &none;
 }
-static inline const size_t *kohiblad_ends_in(const size_t *ends) {
+static inline const size_t *kohiblad_offsets_in(const size_t *offsets) {
     static const size_t none = 0;
-    return ends ? ends : &none;
+    return offsets ? offsets : &none;
 }
 static inline size_t *kohiblad_order_out(size_t *order) {
     static size_t none;
@@ -804,41 +815,41 @@ static inline struct kohiblad_fault kohiblad_text_fault(const uint8_t *text, siz
     size_t depth) {
     return kohiblad_export_text_fault(kohiblad_in(text), size, depth);
 }
-static inline uint32_t kohiblad_build_array(const uint8_t *bytes, size_t size, const size_t *ends,
-    size_t rows, uint8_t *out, size_t room, size_t *length) {
+static inline uint32_t kohiblad_build_array(const uint8_t *bytes, size_t size,
+    const size_t *offsets, size_t count, uint8_t *out, size_t room, size_t *length) {
     if (!kohiblad_is_room(out, room, length)
         || !kohiblad_is_apart(out, room, length, bytes, size)
-        || !kohiblad_is_apart(out, room, length, ends, rows * sizeof *ends))
+        || !kohiblad_is_apart(out, room, length, offsets, count * sizeof *offsets))
         return KOHIBLAD_OVERLAP;
-    return kohiblad_export_build_array(kohiblad_in(bytes), size, kohiblad_ends_in(ends), rows,
-        kohiblad_out(out), room, length);
+    return kohiblad_export_build_array(kohiblad_in(bytes), size, kohiblad_offsets_in(offsets),
+        count, kohiblad_out(out), room, length);
 }
 static inline uint32_t kohiblad_build_array_within(const uint8_t *bytes, size_t size,
-    const size_t *ends, size_t rows, size_t depth, uint8_t *out, size_t room, size_t *length) {
+    const size_t *offsets, size_t count, size_t depth, uint8_t *out, size_t room, size_t *length) {
     if (!kohiblad_is_room(out, room, length)
         || !kohiblad_is_apart(out, room, length, bytes, size)
-        || !kohiblad_is_apart(out, room, length, ends, rows * sizeof *ends))
+        || !kohiblad_is_apart(out, room, length, offsets, count * sizeof *offsets))
         return KOHIBLAD_OVERLAP;
-    return kohiblad_export_build_array_within(kohiblad_in(bytes), size, kohiblad_ends_in(ends),
-        rows, depth, kohiblad_out(out), room, length);
+    return kohiblad_export_build_array_within(kohiblad_in(bytes), size,
+        kohiblad_offsets_in(offsets), count, depth, kohiblad_out(out), room, length);
 }
 static inline uint32_t kohiblad_build_object(const uint8_t *bytes, size_t size,
-    const size_t *ends, size_t rows, uint8_t *out, size_t room, size_t *length) {
+    const size_t *offsets, size_t count, uint8_t *out, size_t room, size_t *length) {
     if (!kohiblad_is_room(out, room, length)
         || !kohiblad_is_apart(out, room, length, bytes, size)
-        || !kohiblad_is_apart(out, room, length, ends, rows * sizeof *ends))
+        || !kohiblad_is_apart(out, room, length, offsets, count * sizeof *offsets))
         return KOHIBLAD_OVERLAP;
-    return kohiblad_export_build_object(kohiblad_in(bytes), size, kohiblad_ends_in(ends), rows,
-        kohiblad_out(out), room, length);
+    return kohiblad_export_build_object(kohiblad_in(bytes), size, kohiblad_offsets_in(offsets),
+        count, kohiblad_out(out), room, length);
 }
 static inline uint32_t kohiblad_build_object_within(const uint8_t *bytes, size_t size,
-    const size_t *ends, size_t rows, size_t depth, uint8_t *out, size_t room, size_t *length) {
+    const size_t *offsets, size_t count, size_t depth, uint8_t *out, size_t room, size_t *length) {
     if (!kohiblad_is_room(out, room, length)
         || !kohiblad_is_apart(out, room, length, bytes, size)
-        || !kohiblad_is_apart(out, room, length, ends, rows * sizeof *ends))
+        || !kohiblad_is_apart(out, room, length, offsets, count * sizeof *offsets))
         return KOHIBLAD_OVERLAP;
-    return kohiblad_export_build_object_within(kohiblad_in(bytes), size, kohiblad_ends_in(ends),
-        rows, depth, kohiblad_out(out), room, length);
+    return kohiblad_export_build_object_within(kohiblad_in(bytes), size,
+        kohiblad_offsets_in(offsets), count, depth, kohiblad_out(out), room, length);
 }
 static inline bool kohiblad_is_canonical(const uint8_t *bytes, size_t size) {
     return kohiblad_export_is_canonical(kohiblad_in(bytes), size);
@@ -861,6 +872,9 @@ static inline uint32_t kohiblad_to_canonical_within(const uint8_t *bytes, size_t
     return kohiblad_export_to_canonical_within(kohiblad_in(bytes), size, depth, kohiblad_out(out),
         room, length);
 }
+static inline uint32_t kohiblad_key_layout(void) {
+    return kohiblad_export_key_layout();
+}
 static inline uint32_t kohiblad_key(const uint8_t *bytes, size_t size, size_t depth, uint8_t *out,
     size_t room, size_t *length) {
     if (!kohiblad_is_room(out, room, length)
@@ -868,21 +882,21 @@ static inline uint32_t kohiblad_key(const uint8_t *bytes, size_t size, size_t de
         return KOHIBLAD_OVERLAP;
     return kohiblad_export_key(kohiblad_in(bytes), size, depth, kohiblad_out(out), room, length);
 }
-static inline uint32_t kohiblad_sort(const uint8_t *bytes, size_t size, const size_t *ends,
-    size_t rows, size_t *order, size_t room) {
+static inline uint32_t kohiblad_sort(const uint8_t *bytes, size_t size, const size_t *offsets,
+    size_t count, size_t *order, size_t room) {
     if (kohiblad_meet(order, room * sizeof *order, bytes, size)
-        || kohiblad_meet(order, room * sizeof *order, ends, rows * sizeof *ends))
+        || kohiblad_meet(order, room * sizeof *order, offsets, count * sizeof *offsets))
         return KOHIBLAD_OVERLAP;
-    return kohiblad_export_sort(kohiblad_in(bytes), size, kohiblad_ends_in(ends), rows,
+    return kohiblad_export_sort(kohiblad_in(bytes), size, kohiblad_offsets_in(offsets), count,
         kohiblad_order_out(order), room);
 }
-static inline uint32_t kohiblad_sort_within(const uint8_t *bytes, size_t size, const size_t *ends,
-    size_t rows, size_t depth, size_t *order, size_t room) {
+static inline uint32_t kohiblad_sort_within(const uint8_t *bytes, size_t size,
+    const size_t *offsets, size_t count, size_t depth, size_t *order, size_t room) {
     if (kohiblad_meet(order, room * sizeof *order, bytes, size)
-        || kohiblad_meet(order, room * sizeof *order, ends, rows * sizeof *ends))
+        || kohiblad_meet(order, room * sizeof *order, offsets, count * sizeof *offsets))
         return KOHIBLAD_OVERLAP;
-    return kohiblad_export_sort_within(kohiblad_in(bytes), size, kohiblad_ends_in(ends), rows,
-        depth, kohiblad_order_out(order), room);
+    return kohiblad_export_sort_within(kohiblad_in(bytes), size, kohiblad_offsets_in(offsets),
+        count, depth, kohiblad_order_out(order), room);
 }
 
 #ifdef __cplusplus

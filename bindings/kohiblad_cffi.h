@@ -1,6 +1,6 @@
 /* The exports, for cffi's cdef: tools/c_header makes this file of kohiblad.h. */
 
-#define KOHIBLAD_VERSION 6000
+#define KOHIBLAD_VERSION 7000
 
 enum kohiblad_status {
     KOHIBLAD_OK = 0,
@@ -151,23 +151,24 @@ uint32_t kohiblad_to_pretty_within(const uint8_t *bytes, size_t size, size_t dep
 uint32_t kohiblad_parse(const uint8_t *text, size_t size, size_t depth, uint8_t *out, size_t room,
     size_t *length);
 struct kohiblad_fault kohiblad_text_fault(const uint8_t *text, size_t size, size_t depth);
-uint32_t kohiblad_build_array(const uint8_t *bytes, size_t size, const size_t *ends, size_t rows,
-    uint8_t *out, size_t room, size_t *length);
-uint32_t kohiblad_build_array_within(const uint8_t *bytes, size_t size, const size_t *ends,
-    size_t rows, size_t depth, uint8_t *out, size_t room, size_t *length);
-uint32_t kohiblad_build_object(const uint8_t *bytes, size_t size, const size_t *ends, size_t rows,
-    uint8_t *out, size_t room, size_t *length);
-uint32_t kohiblad_build_object_within(const uint8_t *bytes, size_t size, const size_t *ends,
-    size_t rows, size_t depth, uint8_t *out, size_t room, size_t *length);
+uint32_t kohiblad_build_array(const uint8_t *bytes, size_t size, const size_t *offsets,
+    size_t count, uint8_t *out, size_t room, size_t *length);
+uint32_t kohiblad_build_array_within(const uint8_t *bytes, size_t size, const size_t *offsets,
+    size_t count, size_t depth, uint8_t *out, size_t room, size_t *length);
+uint32_t kohiblad_build_object(const uint8_t *bytes, size_t size, const size_t *offsets,
+    size_t count, uint8_t *out, size_t room, size_t *length);
+uint32_t kohiblad_build_object_within(const uint8_t *bytes, size_t size, const size_t *offsets,
+    size_t count, size_t depth, uint8_t *out, size_t room, size_t *length);
 bool kohiblad_is_canonical(const uint8_t *bytes, size_t size);
 bool kohiblad_is_canonical_within(const uint8_t *bytes, size_t size, size_t depth);
 uint32_t kohiblad_to_canonical(const uint8_t *bytes, size_t size, uint8_t *out, size_t room,
     size_t *length);
 uint32_t kohiblad_to_canonical_within(const uint8_t *bytes, size_t size, size_t depth, uint8_t *out,
     size_t room, size_t *length);
+uint32_t kohiblad_key_layout(void);
 uint32_t kohiblad_key(const uint8_t *bytes, size_t size, size_t depth, uint8_t *out, size_t room,
     size_t *length);
-uint32_t kohiblad_sort(const uint8_t *bytes, size_t size, const size_t *ends, size_t rows,
+uint32_t kohiblad_sort(const uint8_t *bytes, size_t size, const size_t *offsets, size_t count,
     size_t *order, size_t room);
-uint32_t kohiblad_sort_within(const uint8_t *bytes, size_t size, const size_t *ends, size_t rows,
-    size_t depth, size_t *order, size_t room);
+uint32_t kohiblad_sort_within(const uint8_t *bytes, size_t size, const size_t *offsets,
+    size_t count, size_t depth, size_t *order, size_t room);

@@ -20,7 +20,7 @@ int main(void) {
         "{\"id\": 2, \"price\": 2.5}", "\"a note\"",
     };
     uint8_t column[ROOM];
-    size_t ends[ROWS], order[ROWS], size = 0, length;
+    size_t offsets[ROWS + 1] = {0}, order[ROWS], size = 0, length;
 
     for (size_t i = 0; i < ROWS; i++) {
         const uint8_t *text = (const uint8_t *)texts[i];
@@ -28,15 +28,15 @@ int main(void) {
                                          column + size, ROOM - size, &length);
         if (status != KOHIBLAD_OK) return fail(texts[i], status);
         size += length;
-        ends[i] = size;
+        offsets[i + 1] = size;
     }
-    uint32_t status = kohiblad_sort(column, size, ends, ROWS, order, ROWS);
+    uint32_t status = kohiblad_sort(column, size, offsets, ROWS + 1, order, ROWS);
     if (status != KOHIBLAD_OK) return fail("sort", status);
 
     for (size_t i = 0; i < ROWS; i++) {
-        size_t start = order[i] ? ends[order[i] - 1] : 0;
-        const uint8_t *row = column + start;
-        size_t row_size = ends[order[i]] - start;
+        const size_t *offset = &offsets[order[i]];
+        const uint8_t *row = column + offset[0];
+        size_t row_size = offset[1] - offset[0];
         uint8_t text[256], price[64];
 
         status = kohiblad_to_string(row, row_size, text, sizeof text, &length);

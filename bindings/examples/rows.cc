@@ -67,16 +67,16 @@ std::string text_of(const Bytes &row) {
 int main() {
     std::vector<Bytes> rows;
     Bytes column;
-    std::vector<std::size_t> ends;
+    std::vector<std::size_t> offsets = {0};
     for (std::string_view text : {R"({"id": 3, "price": 2.50})", R"({"id": 1, "price": null})",
                                   "[1, 2]", R"({"id": 2, "price": 2.5})", R"("a note")"}) {
         rows.push_back(document_of(text));
         column.insert(column.end(), rows.back().begin(), rows.back().end());
-        ends.push_back(column.size());
+        offsets.push_back(column.size());
     }
     std::vector<std::size_t> order(rows.size());
-    const std::uint32_t status = kohiblad_sort(column.data(), column.size(), ends.data(),
-                                               ends.size(), order.data(), order.size());
+    const std::uint32_t status = kohiblad_sort(column.data(), column.size(), offsets.data(),
+                                               offsets.size(), order.data(), order.size());
     if (status != KOHIBLAD_OK) fail(status);
     for (std::size_t number : order) {
         std::cout << text_of(rows[number]);

@@ -6,6 +6,9 @@ import ctypes
 import sys
 
 OK, NO_ROOM, NONE, DEPTH = 0, 11, 12, 64
+if len(sys.argv) != 2:
+    print("usage: python3 rows.py libkohiblad.so", file=sys.stderr)
+    sys.exit(2)
 library = ctypes.CDLL(sys.argv[1])
 library.kohiblad_status_name.argtypes = [ctypes.c_uint32, ctypes.c_char_p, ctypes.c_size_t,
                                          ctypes.POINTER(ctypes.c_size_t)]
@@ -40,12 +43,13 @@ def bytes_of(name, *given):
 texts = ['{"id": 3, "price": 2.50}', '{"id": 1, "price": null}', "[1, 2]",
          '{"id": 2, "price": 2.5}', '"a note"']
 rows = [bytes_of("kohiblad_parse", text.encode(), DEPTH) for text in texts]
-column, ends = b"".join(rows), (ctypes.c_size_t * len(rows))()
+column, offsets = b"".join(rows), (ctypes.c_size_t * (len(rows) + 1))()
 for i in range(len(rows)):
-    ends[i] = len(rows[i]) + (ends[i - 1] if i else 0)
+    offsets[i + 1] = offsets[i] + len(rows[i])
 order = (ctypes.c_size_t * len(rows))()
-count = ctypes.c_size_t(len(rows))
-status = library.kohiblad_sort(column, ctypes.c_size_t(len(column)), ends, count, order, count)
+status = library.kohiblad_sort(column, ctypes.c_size_t(len(column)),
+                               offsets, ctypes.c_size_t(len(offsets)),
+                               order, ctypes.c_size_t(len(order)))
 assert status == OK
 for row in (rows[i] for i in order):
     status, price = call("kohiblad_get", row, b"price")

@@ -35,8 +35,8 @@ mod library {
         pub fn kohiblad_sort(
             bytes: *const u8,
             size: usize,
-            ends: *const usize,
-            rows: usize,
+            offsets: *const usize,
+            count: usize,
             order: *mut usize,
             room: usize,
         ) -> u32;
@@ -90,16 +90,16 @@ fn text_of(row: &[u8]) -> Result<String, u32> {
 fn order_of(rows: &[Vec<u8>]) -> Result<Vec<usize>, u32> {
     let column = rows.concat();
     let mut end = 0;
-    let mut ends = Vec::new();
+    let mut offsets = vec![end];
     for row in rows {
         end += row.len();
-        ends.push(end);
+        offsets.push(end);
     }
     let mut order = vec![0; rows.len()];
     let status = unsafe {
         let (bytes, size) = (column.as_ptr(), column.len());
         let (written, room) = (order.as_mut_ptr(), order.len());
-        library::kohiblad_sort(bytes, size, ends.as_ptr(), ends.len(), written, room)
+        library::kohiblad_sort(bytes, size, offsets.as_ptr(), offsets.len(), written, room)
     };
     if status == OK {
         Ok(order)

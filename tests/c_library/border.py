@@ -41,7 +41,7 @@ LIBRARY.kohiblad_find.restype = LIBRARY.kohiblad_part.restype = Place
 
 
 def given(values):
-    """How values cross: bytes and lists of ends as a pointer and a length, numbers as size_t."""
+    """How values cross: bytes and lists of offsets as a pointer and a length, numbers as size_t."""
     crossed = []
     for value in values:
         if isinstance(value, bytes):
@@ -95,17 +95,16 @@ def member(document, index):
 
 
 def rows(parts):
-    ends, size = [], 0
+    offsets = [0]
     for part in parts:
-        size += len(part)
-        ends.append(size)
-    return b"".join(parts), ends
+        offsets.append(offsets[-1] + len(part))
+    return b"".join(parts), offsets
 
 
 def known_answers():
     """Answers that the format's pages give."""
     array = bytes.fromhex("8000000330000000200000025000000e500a4000000110000001100000016b76")
-    assert tell("version") == 6000
+    assert tell("version") == 7000
     names = ("Ok InvalidEOF InvalidJsonb InvalidJsonbHeader InvalidJsonbJEntry InvalidJsonbNumber "
              "InvalidJsonbExtension InvalidUtf8 ObjectDuplicateKey InvalidJson OutOfMemory NoRoom "
              "None TooDeep OtherKind PastRange Overlap BadNumber Unknown").split()
@@ -161,7 +160,7 @@ def known_answers():
     assert ask("build_object", *rows([b"k", ask("parse", b'"v"', 0)[1]])) == (0, inner)
     status, _ = ask("build_object", *rows([b"k", inner, b"k", inner]))
     assert name_of(status) == "ObjectDuplicateKey"
-    assert name_of(ask("build_array", array, [40])[0]) == "InvalidEOF"
+    assert name_of(ask("build_array", array, [0, 40])[0]) == "InvalidEOF"
     order = (SIZE * 4)(9, 9, 9, 9)
     documents = [ask("parse", text, 9)[1] for text in (b"null", b'"a"', b"5.0", b"5")]
     assert LIBRARY.kohiblad_sort(*given(rows(documents)), order, SIZE(4)) == 0

@@ -28,14 +28,15 @@ static void *work(void *unused) {
     else if (!strcmp(name, "compare_within"))
         status = (uint32_t)kohiblad_compare_within(in, in_size, in, in_size, levels);
     else if (!strcmp(name, "sort_within"))
-        status = kohiblad_sort_within(in, in_size, &in_size, 1, levels, &length, 1);
+        status = kohiblad_sort_within(in, in_size, (size_t[]){ 0, in_size }, 2, levels, &length, 1);
     else if (!strcmp(name, "bounded")) {
         /* Each call that looks no deeper than 64 levels, or into no child. */
         struct kohiblad_cursor cursor;
         struct kohiblad_place value;
         status = kohiblad_check(in, in_size, 64);
         status |= (uint32_t)kohiblad_compare_within(in, in_size, in, in_size, 64);
-        status |= kohiblad_sort_within(in, in_size, &in_size, 1, 64, &length, 1);
+        size_t offsets[3] = { 0, 0, in_size };
+        status |= kohiblad_sort_within(in, in_size, offsets + 1, 2, 64, &length, 1);
         status |= kohiblad_key(in, in_size, 64, NULL, 0, &length) != KOHIBLAD_NO_ROOM;
         status |= kohiblad_is_canonical_within(in, in_size, 64);
         status |= kohiblad_to_string_within(in, in_size, 64, NULL, 0, &length) != KOHIBLAD_NO_ROOM;
@@ -43,10 +44,9 @@ static void *work(void *unused) {
         status |= length != 4;
         status |= kohiblad_to_canonical_within(in, in_size, 64, out, room, &length)
             != KOHIBLAD_INVALID_JSONB;
-        status |= kohiblad_build_array_within(in, in_size, &in_size, 1, 64, out, room, &length)
+        status |= kohiblad_build_array_within(in, in_size, offsets + 1, 2, 64, out, room, &length)
             != KOHIBLAD_INVALID_JSONB;
-        size_t pair[2] = { 0, in_size };
-        status |= kohiblad_build_object_within(in, in_size, pair, 2, 64, out, room, &length)
+        status |= kohiblad_build_object_within(in, in_size, offsets, 3, 64, out, room, &length)
             != KOHIBLAD_INVALID_JSONB;
         status |= kohiblad_kind(in, in_size).status;
         status |= kohiblad_part(in, in_size, 0).status;
@@ -66,7 +66,7 @@ static void *work(void *unused) {
     else if (!strcmp(name, "to_canonical"))
         status = kohiblad_to_canonical(in, in_size, out, room, &length);
     else if (!strcmp(name, "build_array"))
-        status = kohiblad_build_array(in, in_size, &in_size, 1, out, room, &length);
+        status = kohiblad_build_array(in, in_size, (size_t[]){ 0, in_size }, 2, out, room, &length);
     else if (!strcmp(name, "parse"))
         status = kohiblad_parse(in, in_size, levels, out, room, &length);
     else if (!strcmp(name, "text_fault"))

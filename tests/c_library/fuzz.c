@@ -388,33 +388,33 @@ static void answer_within(struct block b, bool shallow, size_t depth, struct blo
 }
 
 /* Two rows built within a depth: as without one, after the test of each row. */
-static void build_within(struct block rows, const size_t *ends, size_t depth, bool good,
-                         struct block out) {
+static void build_within(struct block rows, const size_t *offsets, size_t depth, struct block out) {
     struct block other = make(out.size);
     uint32_t status, wanted;
     size_t length, needed;
-    bool ascend = good || (ends[0] <= ends[1] && ends[1] <= rows.size);
+    bool ascend = offsets[0] <= offsets[1] && offsets[1] <= offsets[2] && offsets[2] <= rows.size;
     bool shallow = false, is_last = false;
     if (ascend) {
-        is_last = kohiblad_check(rows.at + ends[0], ends[1] - ends[0], depth);
-        shallow = is_last && kohiblad_check(rows.at, ends[0], depth);
+        is_last = kohiblad_check(rows.at + offsets[1], offsets[2] - offsets[1], depth);
+        shallow = is_last
+            && kohiblad_check(rows.at + offsets[0], offsets[1] - offsets[0], depth);
     }
     ANSWER(status, out, length,
-           kohiblad_build_array_within(rows.at, rows.size, ends, 2, depth, out.at, out.size,
+           kohiblad_build_array_within(rows.at, rows.size, offsets, 3, depth, out.at, out.size,
                                        &length));
     ANSWER(wanted, other, needed,
-           kohiblad_build_array(rows.at, rows.size, ends, 2, other.at, other.size, &needed));
+           kohiblad_build_array(rows.at, rows.size, offsets, 3, other.at, other.size, &needed));
     if (shallow || !ascend) same(out, status, length, other, wanted, needed);
     else assert(status == KOHIBLAD_INVALID_JSONB);
     ANSWER(status, out, length,
-           kohiblad_build_object_within(rows.at, rows.size, ends, 2, depth, out.at, out.size,
+           kohiblad_build_object_within(rows.at, rows.size, offsets, 3, depth, out.at, out.size,
                                         &length));
     ANSWER(wanted, other, needed,
-           kohiblad_build_object(rows.at, rows.size, ends, 2, other.at, other.size, &needed));
+           kohiblad_build_object(rows.at, rows.size, offsets, 3, other.at, other.size, &needed));
     if (is_last || !ascend) same(out, status, length, other, wanted, needed);
     else assert(status == KOHIBLAD_INVALID_JSONB);
     /* Pairs have an even number of rows. */
-    assert(kohiblad_build_object_within(rows.at, rows.size, ends, 1, depth, NULL, 0, &length)
+    assert(kohiblad_build_object_within(rows.at, rows.size, offsets, 2, depth, NULL, 0, &length)
            == KOHIBLAD_INVALID_EOF);
     drop(other);
 }
@@ -538,39 +538,43 @@ int main(int argc, char **argv) {
                == (shallow && kohiblad_is_canonical(b.at, b.size)));
         answer_within(b, shallow, depth, out);
 
-        /* Rows: the bytes once more behind a document, with ends that may be wrong. */
-        struct block rows = make(b.size + sizes[other]), ends = make(3 * sizeof(size_t));
+        /* Rows: the bytes once more behind a document, with offsets that may be wrong, or begin
+         * behind the document. */
+        struct block rows = make(b.size + sizes[other]), offsets = make(4 * sizeof(size_t));
         struct block numbers = make(3 * sizeof(size_t));
         memcpy(rows.at, docs[other], sizes[other]);
         if (b.size) memcpy(rows.at + sizes[other], b.at, b.size);
-        size_t stops[3] = { sizes[other], rows.size, rows.size }, order_of[3] = { 7, 7, 7 };
+        size_t stops[4] = { 0, sizes[other], rows.size, rows.size }, order_of[3] = { 7, 7, 7 };
         bool moved = below(8) == 0;
-        if (moved) stops[below(3)] = below((uint32_t)rows.size + 4);
-        memcpy(ends.at, stops, sizeof stops);
+        if (moved) stops[below(4)] = below((uint32_t)rows.size + 4);
+        memcpy(offsets.at, stops, sizeof stops);
         memcpy(numbers.at, order_of, sizeof order_of);
-        bool good = stops[0] <= stops[1] && stops[1] <= stops[2] && stops[2] <= rows.size;
-        const size_t *where = (const size_t *)(const void *)ends.at;
+        bool good = stops[0] <= stops[1] && stops[1] <= stops[2] && stops[2] <= stops[3]
+            && stops[3] <= rows.size;
+        const size_t *where = (const size_t *)(const void *)offsets.at;
         size_t *to = (size_t *)(void *)numbers.at;
         size_t room = below(5) ? 3 : below(3);
-        status = kohiblad_sort(rows.at, rows.size, where, 3, to, room);
-        assert(status == (room < 3 ? KOHIBLAD_NO_ROOM : good ? KOHIBLAD_OK : KOHIBLAD_INVALID_EOF));
+        status = kohiblad_sort(rows.at, rows.size, where, 4, to, room);
+        assert(status
+               == (!good ? KOHIBLAD_INVALID_EOF : room < 3 ? KOHIBLAD_NO_ROOM : KOHIBLAD_OK));
         memcpy(order_of, numbers.at, sizeof order_of);
         if (status == KOHIBLAD_OK) {
             sorted++;
             assert(order_of[0] + order_of[1] + order_of[2] == 3 && order_of[0] != order_of[1]);
             for (int i = 0; i < 2; i++) {
                 size_t l = order_of[i], r = order_of[i + 1];
-                size_t ls = l ? stops[l - 1] : 0, rs = r ? stops[r - 1] : 0;
-                order = kohiblad_compare(rows.at + ls, stops[l] - ls, rows.at + rs, stops[r] - rs);
+                size_t ls = stops[l], rs = stops[r];
+                order = kohiblad_compare(rows.at + ls, stops[l + 1] - ls,
+                                         rows.at + rs, stops[r + 1] - rs);
                 assert(order < 0 || (order == 0 && l < r));
             }
             size_t order_within[3];
-            assert(!kohiblad_sort_within(rows.at, rows.size, where, 3, depth, order_within, 3));
+            assert(!kohiblad_sort_within(rows.at, rows.size, where, 4, depth, order_within, 3));
             for (int i = 0; i < 2; i++) {
                 size_t l = order_within[i], r = order_within[i + 1];
-                size_t ls = l ? stops[l - 1] : 0, rs = r ? stops[r - 1] : 0;
-                order = model_within(rows.at + ls, stops[l] - ls, rows.at + rs, stops[r] - rs,
-                                     depth);
+                size_t ls = stops[l], rs = stops[r];
+                order = model_within(rows.at + ls, stops[l + 1] - ls,
+                                     rows.at + rs, stops[r + 1] - rs, depth);
                 assert(order < 0 || (order == 0 && l < r));
             }
             assert(order_within[0] + order_within[1] + order_within[2] == 3);
@@ -578,19 +582,20 @@ int main(int argc, char **argv) {
             assert(order_of[0] == 7 && order_of[1] == 7 && order_of[2] == 7);
         }
         ANSWER(status, out, length,
-               kohiblad_build_array(rows.at, rows.size, where, 2, out.at, out.size, &length));
+               kohiblad_build_array(rows.at, rows.size, where, 3, out.at, out.size, &length));
         if (!moved) assert(is == (status == KOHIBLAD_OK || status == KOHIBLAD_NO_ROOM));
         if (status == KOHIBLAD_OK) {
             built++;
             assert(kohiblad_is_document(out.at, length));
         }
-        build_within(rows, where, depth, good, out);
+        build_within(rows, where, depth, out);
         size_t pairs = 2 + below(2);
         ANSWER(status, out, length,
-               kohiblad_build_object(rows.at, rows.size, where, pairs, out.at, out.size, &length));
+               kohiblad_build_object(rows.at, rows.size, where, pairs + 1, out.at, out.size,
+                                     &length));
         if (pairs == 3) assert(status == KOHIBLAD_INVALID_EOF);
         if (status == KOHIBLAD_OK) assert(kohiblad_is_document(out.at, length));
-        drop(numbers); drop(ends); drop(rows); drop(back); drop(text);
+        drop(numbers); drop(offsets); drop(rows); drop(back); drop(text);
         drop(name); drop(key); drop(out); drop(b);
     }
     assert(documents && found && built && sorted && children && numbers_read);

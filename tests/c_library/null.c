@@ -64,7 +64,7 @@ int main(void) {
 
     /* What overlaps is refused, and nothing is written. */
     uint8_t block[64] = { 0x20 };
-    size_t numbers[4] = { 8, 8, 8, 8 };
+    size_t numbers[4] = { 0, 8, 8, 8 };
     length = 9;
     assert(kohiblad_to_string(block, 8, block, 64, &length) == KOHIBLAD_OVERLAP);
     assert(kohiblad_to_string(block, 8, block + 7, 57, &length) == KOHIBLAD_OVERLAP);
@@ -78,13 +78,13 @@ int main(void) {
     assert(kohiblad_of_part(KOHIBLAD_TYPE_STRING, block, 8, block + 7, 57, &length)
            == KOHIBLAD_OVERLAP);
     assert(kohiblad_to_canonical_within(block, 8, 0, block, 64, &length) == KOHIBLAD_OVERLAP);
-    assert(kohiblad_build_array_within(block, 8, numbers, 1, 0, block, 64, &length)
+    assert(kohiblad_build_array_within(block, 8, numbers, 2, 0, block, 64, &length)
            == KOHIBLAD_OVERLAP);
-    assert(kohiblad_build_object_within(block, 8, numbers, 1, 0, (uint8_t *)numbers, 8, &length)
+    assert(kohiblad_build_object_within(block, 8, numbers, 2, 0, (uint8_t *)numbers, 8, &length)
            == KOHIBLAD_OVERLAP);
-    assert(length == 9 && block[0] == 0x20 && numbers[0] == 8);
-    assert(kohiblad_sort(block, 8, numbers, 1, numbers, 4) == KOHIBLAD_OVERLAP);
-    assert(kohiblad_sort(block, 8, numbers, 1, numbers + 1, 3) == KOHIBLAD_OK && numbers[1] == 0);
+    assert(length == 9 && block[0] == 0x20 && numbers[0] == 0);
+    assert(kohiblad_sort(block, 8, numbers, 2, numbers, 4) == KOHIBLAD_OVERLAP);
+    assert(kohiblad_sort(block, 8, numbers, 2, numbers + 2, 2) == KOHIBLAD_OK && numbers[2] == 0);
     assert(kohiblad_object_member(block, 8, 0, block + 8, 8, &length, block + 12, 8, numbers)
            == KOHIBLAD_OVERLAP);
     assert(kohiblad_object_member(block, 8, 0, block + 8, 8, &length, block + 16, 8, &length)

@@ -28,7 +28,7 @@ static const char text[] = "{\"a\":1,\"b\":[true,\"\\u00e9\"],"
                            "\"c\":{\"d\":\"e\",\"f\":-12.5,\"g\":[[],{}]}}";
 enum { ROOM = 1024, CALLS = 25 };
 static uint8_t document[ROOM], pairs[ROOM];
-static size_t size, stops[4], pairs_size, order[4];
+static size_t size, offsets[5], pairs_size, order[4];
 
 static bool takes_memory(int which) {
     return which < 7 || (which > 13 && which < 21) || which == 23;
@@ -41,9 +41,9 @@ static uint32_t call(int which, uint8_t *out, size_t *length) {
     case 1: return kohiblad_to_string(document, size, out, ROOM, length);
     case 2: return kohiblad_to_pretty(document, size, out, ROOM, length);
     case 3: return kohiblad_to_canonical(document, size, out, ROOM, length);
-    case 4: return kohiblad_build_array(pairs + 1, size, &size, 1, out, ROOM, length);
-    case 5: return kohiblad_build_object(pairs, pairs_size, stops, 4, out, ROOM, length);
-    case 6: return kohiblad_sort(pairs, pairs_size, stops, 4, order, 4);
+    case 4: return kohiblad_build_array(pairs, pairs_size, offsets + 1, 2, out, ROOM, length);
+    case 5: return kohiblad_build_object(pairs, pairs_size, offsets, 5, out, ROOM, length);
+    case 6: return kohiblad_sort(pairs, pairs_size, offsets, 5, order, 4);
     case 7: return kohiblad_get(document, size, (const uint8_t *)"c", 1, out, ROOM, length);
     case 8: return kohiblad_object_member(document, size, 1, out, ROOM / 2, &key_length,
                                           out + ROOM / 2, ROOM / 2, length);
@@ -56,8 +56,10 @@ static uint32_t call(int which, uint8_t *out, size_t *length) {
     case 15: return kohiblad_to_string_within(document, size, 8, out, ROOM, length);
     case 16: return kohiblad_to_pretty_within(document, size, 8, out, ROOM, length);
     case 17: return kohiblad_to_canonical_within(document, size, 8, out, ROOM, length);
-    case 18: return kohiblad_build_array_within(pairs + 1, size, &size, 1, 8, out, ROOM, length);
-    case 19: return kohiblad_build_object_within(pairs, pairs_size, stops, 4, 8, out, ROOM, length);
+    case 18:
+        return kohiblad_build_array_within(pairs, pairs_size, offsets + 1, 2, 8, out, ROOM, length);
+    case 19:
+        return kohiblad_build_object_within(pairs, pairs_size, offsets, 5, 8, out, ROOM, length);
     case 20:
         return kohiblad_of_extension(KOHIBLAD_DATE, 19000, 0, 0, 0, NULL, 0, out, ROOM, length);
     case 21:
@@ -84,8 +86,8 @@ int main(void) {
     for (int i = 0; i < 2; i++) {
         pairs[pairs_size] = i ? 'y' : 'x';
         memcpy(pairs + pairs_size + 1, document, size);
-        stops[2 * i] = pairs_size + 1;
-        stops[2 * i + 1] = pairs_size += 1 + size;
+        offsets[2 * i + 1] = pairs_size + 1;
+        offsets[2 * i + 2] = pairs_size += 1 + size;
     }
     long runs = 0;
     for (int which = 0; which < CALLS; which++) {

@@ -42,12 +42,12 @@ int main() {
         return kohiblad_compare(at(l), l.size(), at(r), r.size()) < 0;
     };
     std::string column;
-    std::vector<size_t> ends, order(rows.size()), stable(rows.size());
+    std::vector<size_t> offsets = {0}, order(rows.size()), stable(rows.size());
     for (auto &row : rows) {
         column += row;
-        ends.push_back(column.size());
+        offsets.push_back(column.size());
     }
-    if (kohiblad_sort(at(column), column.size(), ends.data(), ends.size(), order.data(),
+    if (kohiblad_sort(at(column), column.size(), offsets.data(), offsets.size(), order.data(),
                       order.size()) != KOHIBLAD_OK) {
         return 1;
     }

@@ -12,7 +12,7 @@ use std::alloc::Global;
 /// Why a text is no JSON.
 #[derive(Clone, Copy, Debug, PartialEq, Eq)]
 pub enum FaultReason {
-    /// The text is no JSON whatever its numbers are.
+    /// The text is no JSON with `null` in place of each number either.
     Syntax,
     /// The text would be JSON with `null` in place of each number: it has numbers with an exponent,
     /// or numbers that the format cannot hold.

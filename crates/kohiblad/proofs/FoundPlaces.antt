@@ -7,7 +7,7 @@ use Rattle.jsonb_value.specs.declared.error.Error.{Error}
 use Rattle.jsonb_value.specs.Tree.{Tree, null, boolean, number, text, extension, array, object}
 use Rattle.jsonb_value.specs.Tree.{Pairs}
 use Rattle.jsonb_codec.specs.Doc.{Doc, Payload}
-use Rattle.jsonb.specs.declared.lookup.Place.{Place}
+use Rattle.jsonb.specs.declared.reads.lookup.Place.{Place}
 use Rattle.jsonb.specs.Item.{Entry}
 use Rattle.jsonb.specs.ItemView.{ItemView}
 use Rattle.jsonb.specs.Lookup.{AnswersBy, IsFound, IsNotFound, LooksUp}

@@ -6,8 +6,8 @@ use Rattle.std.proofs.lemmas.Bool.{le-leb, leb-true}
 use Rattle.jsonb_codec.specs.declared.jentry.JEntry.{JEntry}
 use Rattle.jsonb_codec.specs.JEntry.{jentry_at}
 use Rattle.jsonb_codec.specs.Word.{header_at}
-use Rattle.jsonb.specs.declared.lookup.FoundValue.{FoundValue}
-use Rattle.jsonb.specs.declared.lookup.Place.{Place}
+use Rattle.jsonb.specs.declared.reads.lookup.FoundValue.{FoundValue}
+use Rattle.jsonb.specs.declared.reads.lookup.Place.{Place}
 use Rattle.jsonb.specs.Steps.{◌>>=◌}
 use Rattle.jsonb.specs.Lookup as lookup
 use Rattle.kohiblad.specs.Places.{is_name, start_after, place_at, part_place, some_place}

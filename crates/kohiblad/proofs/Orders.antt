@@ -128,7 +128,7 @@ pub length-IsOrderOf : (means : List ℕ → Meaning) (rows : List (List ℕ)) (
 length-IsOrderOf means rows numbers h =
     length_permutation _ _ h.each_once ∙ length-range_with_len 0 (length rows)
 
-pub length-rows_from : (bytes : List ℕ) (start : ℕ) (ends : List ℕ)
+pub row_count : (bytes : List ℕ) (start : ℕ) (ends : List ℕ)
     → length (rows_from bytes start ends) ≡ length ends
-length-rows_from bytes start [] = refl
-length-rows_from bytes start (end ∷ ends) = ap suc (length-rows_from bytes end ends)
+row_count bytes start [] = refl
+row_count bytes start (end ∷ ends) = ap suc (row_count bytes end ends)

@@ -18,7 +18,7 @@ use Rattle.jsonb.specs.Item.{Entry}
 use Rattle.jsonb.specs.Node.{tree_list, pair_list}
 use Rattle.jsonb.specs.StoredEntries.{AreCodesOf, ArePairsOf}
 use Rattle.jsonb.proofs.StoredEntryLaws.{both_are, object_holds}
-use Rattle.jsonb.specs.declared.lookup.Place.{Place}
+use Rattle.jsonb.specs.declared.reads.lookup.Place.{Place}
 use Rattle.kohiblad.specs.Parts.{is_entry_type, is_too_long, part_document, part_trees}
 use Rattle.kohiblad.specs.Parts.{IsPartDocument}
 use Rattle.kohiblad.specs.Places.{entry_there, entry_document, place_in, IsPartPlace}

@@ -27,7 +27,7 @@ use Rattle.jsonb.proofs.StoredEntryLaws.{AreEntries, AreEntries-trees, AreEntrie
 use Rattle.jsonb.proofs.StoredEntryLaws.{AreEntries-pairs, HasItems-Payload, HasMembers-Payload}
 use Rattle.jsonb.proofs.StoredEntryLaws.{first_entry, items_at, members_at}
 use Rattle.jsonb.proofs.StorageLaws.{length-code_entries}
-use Rattle.jsonb.specs.declared.lookup.Place.{Place}
+use Rattle.jsonb.specs.declared.reads.lookup.Place.{Place}
 use Rattle.kohiblad.specs.Places.{start_after, place_at, part_place, item_under, item_place}
 use Rattle.kohiblad.specs.Places.{member_under, member_places, entry_there, member_there}
 use Rattle.kohiblad.specs.Places.{place_in, place_under, place_among, all_entries}

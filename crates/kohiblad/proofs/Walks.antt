@@ -13,7 +13,7 @@ use Rattle.jsonb_codec.specs.Word.{header_at}
 use Rattle.jsonb.specs.Steps.{◌>>=◌}
 use Rattle.kohiblad.specs.declared.children.Child.{Child}
 use Rattle.kohiblad.specs.declared.children.KohibladCursor.{KohibladCursor}
-use Rattle.jsonb.specs.declared.lookup.Place.{Place}
+use Rattle.jsonb.specs.declared.reads.lookup.Place.{Place}
 use Rattle.kohiblad.specs.Places.{start_after, part_start, place_at, part_place, some_place}
 use Rattle.kohiblad.specs.Places.{both_places}
 use Rattle.kohiblad.specs.Children.{item_cursor, member_cursor}

@@ -8,7 +8,7 @@ use Rattle.jsonb_codec.specs.Word.{header_at}
 use Rattle.jsonb.specs.Steps.{◌>>=◌}
 use Rattle.kohiblad.specs.declared.children.Child.{Child}
 use Rattle.kohiblad.specs.declared.children.KohibladCursor.{KohibladCursor}
-use Rattle.jsonb.specs.declared.lookup.Place.{Place}
+use Rattle.jsonb.specs.declared.reads.lookup.Place.{Place}
 use Rattle.kohiblad.specs.declared.places.KohibladPlace.{KohibladPlace}
 use Rattle.kohiblad.specs.Places.{part_start, place_at, place_answer, item_under, member_under}
 use Rattle.kohiblad.specs.Status.{code, none}

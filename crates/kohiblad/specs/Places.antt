@@ -20,7 +20,7 @@ use Rattle.jsonb.specs.ItemView.{ItemView}
 use Rattle.jsonb.specs.StoredEntries.{HasItems, HasMembers, find_entry}
 use Rattle.jsonb.specs.Steps.{◌>>=◌}
 use Rattle.jsonb.specs.Lookup.{header_count, LooksUpBytes}
-use Rattle.jsonb.specs.declared.lookup.Place.{Place}
+use Rattle.jsonb.specs.declared.reads.lookup.Place.{Place}
 use Rattle.kohiblad.specs.declared.places.KohibladPlace.{KohibladPlace}
 use Rattle.kohiblad.specs.Status.{code, none, no_room, IsCopied, IsHandedOver, IsRefused}
 

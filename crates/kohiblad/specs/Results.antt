@@ -13,7 +13,7 @@ use Rattle.jsonb.specs.ItemView.{raw}
 use Rattle.jsonb.specs.Building.{FitArray, AreTexts}
 use Rattle.jsonb.specs.Results.{IsArrayOfInputs, IsObjectOfInputs, MakeNoObject}
 use Rattle.kohiblad.specs.Status.{code, IsOneAnswered, IsRefused}
-use Rattle.kohiblad.specs.Rows.{are_ends, rows, pairs_in}
+use Rattle.kohiblad.specs.Rows.{are_offsets, rows, pairs_in}
 
 -- The result of building an array: that of these documents, or why there is none.
 abbrev pub BuildsArray : List (List ℕ) → Result (List ℕ) Error → Type 0
@@ -36,31 +36,31 @@ abbrev pub IsArrayBuilt : List (List ℕ) → List ℕ → List ℕ → ℕ → 
 IsArrayBuilt documents before after size status =
     IsOneAnswered (BuildsArray documents) before after size status
 
--- The rows are refused if an end is below the previous one or beyond the bytes, and otherwise built
+-- The rows are refused if an offset is below the previous one or beyond the bytes, and otherwise built
 -- as `IsArrayBuilt` says.
 abbrev pub IsArrayOfRows : List ℕ → List ℕ → List ℕ → List ℕ → ℕ → ℕ → Type 0
-IsArrayOfRows bytes ends before after size status =
-    ((are_ends (length bytes) 0 ends ≡ false)
+IsArrayOfRows bytes offsets before after size status =
+    ((are_offsets (length bytes) 0 offsets ≡ false)
     × IsRefused (code InvalidEOF) before after size status)
-    ⊎ ((are_ends (length bytes) 0 ends ≡ true)
-    × IsArrayBuilt (rows bytes ends) before after size status)
+    ⊎ ((are_offsets (length bytes) 0 offsets ≡ true)
+    × IsArrayBuilt (rows bytes offsets) before after size status)
 
 -- The object of these pairs is built and handed over.
 abbrev pub IsObjectBuilt : List (List ℕ × List ℕ) → List ℕ → List ℕ → ℕ → ℕ → Type 0
 IsObjectBuilt pairs before after size status =
     IsOneAnswered (BuildsObject pairs) before after size status
 
--- The rows are pairs: no end is below the previous one or beyond the bytes, and their number is
+-- The rows are pairs: no offset is below the previous one or beyond the bytes, and their number is
 -- even.
 abbrev pub are_pairs : List ℕ → List ℕ → Bool
-are_pairs bytes ends = are_ends (length bytes) 0 ends && (length ends % 2 == 0)
+are_pairs bytes offsets = are_offsets (length bytes) 0 offsets && (length (rows bytes offsets) % 2 == 0)
 
 -- The rows are refused if they are not pairs, and otherwise built as `IsObjectBuilt` says.
 abbrev pub IsObjectOfRows : List ℕ → List ℕ → List ℕ → List ℕ → ℕ → ℕ → Type 0
-IsObjectOfRows bytes ends before after size status =
-    ((are_pairs bytes ends ≡ false) × IsRefused (code InvalidEOF) before after size status)
-    ⊎ ((are_pairs bytes ends ≡ true)
-    × IsObjectBuilt (pairs_in (rows bytes ends)) before after size status)
+IsObjectOfRows bytes offsets before after size status =
+    ((are_pairs bytes offsets ≡ false) × IsRefused (code InvalidEOF) before after size status)
+    ⊎ ((are_pairs bytes offsets ≡ true)
+    × IsObjectBuilt (pairs_in (rows bytes offsets)) before after size status)
 
 -- Each of these is a document of at most this depth.
 abbrev pub AreWithin : ℕ → List (List ℕ) → Type 0
@@ -68,25 +68,25 @@ AreWithin depth [] = ⊤
 AreWithin depth (document ∷ documents) =
     IsDocumentWithin depth document × AreWithin depth documents
 
--- The rows are refused if an end is below the previous one or beyond the bytes, then if one is no
+-- The rows are refused if an offset is below the previous one or beyond the bytes, then if one is no
 -- document of at most this depth, and otherwise built as `IsArrayBuilt` says.
 abbrev pub IsArrayOfRowsWithin : ℕ → List ℕ → List ℕ → List ℕ → List ℕ → ℕ → ℕ → Type 0
-IsArrayOfRowsWithin depth bytes ends before after size status =
-    ((are_ends (length bytes) 0 ends ≡ false)
+IsArrayOfRowsWithin depth bytes offsets before after size status =
+    ((are_offsets (length bytes) 0 offsets ≡ false)
     × IsRefused (code InvalidEOF) before after size status)
-    ⊎ ((are_ends (length bytes) 0 ends ≡ true)
-    × (((AreWithin depth (rows bytes ends) → ⊥)
+    ⊎ ((are_offsets (length bytes) 0 offsets ≡ true)
+    × (((AreWithin depth (rows bytes offsets) → ⊥)
     × IsRefused (code InvalidJsonb) before after size status)
-    ⊎ (AreWithin depth (rows bytes ends)
-    × IsArrayBuilt (rows bytes ends) before after size status)))
+    ⊎ (AreWithin depth (rows bytes offsets)
+    × IsArrayBuilt (rows bytes offsets) before after size status)))
 
 -- The rows are refused if they are not pairs, then if the document of one is none of at most this
 -- depth, and otherwise built as `IsObjectBuilt` says.
 abbrev pub IsObjectOfRowsWithin : ℕ → List ℕ → List ℕ → List ℕ → List ℕ → ℕ → ℕ → Type 0
-IsObjectOfRowsWithin depth bytes ends before after size status =
-    ((are_pairs bytes ends ≡ false) × IsRefused (code InvalidEOF) before after size status)
-    ⊎ ((are_pairs bytes ends ≡ true)
-    × (((AreWithin depth (values_of (pairs_in (rows bytes ends))) → ⊥)
+IsObjectOfRowsWithin depth bytes offsets before after size status =
+    ((are_pairs bytes offsets ≡ false) × IsRefused (code InvalidEOF) before after size status)
+    ⊎ ((are_pairs bytes offsets ≡ true)
+    × (((AreWithin depth (values_of (pairs_in (rows bytes offsets))) → ⊥)
     × IsRefused (code InvalidJsonb) before after size status)
-    ⊎ (AreWithin depth (values_of (pairs_in (rows bytes ends)))
-    × IsObjectBuilt (pairs_in (rows bytes ends)) before after size status)))
+    ⊎ (AreWithin depth (values_of (pairs_in (rows bytes offsets)))
+    × IsObjectBuilt (pairs_in (rows bytes offsets)) before after size status)))

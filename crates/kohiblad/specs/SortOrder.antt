@@ -8,7 +8,7 @@ use Rattle.std.specs.declared.cmp.Ordering.{Ordering}
 use Rattle.jsonb_value.specs.declared.error.Error.TheVariants as errors
 use Rattle.jsonb_value.specs.Meaning.{Meaning, meaning_cmp}
 use Rattle.kohiblad.specs.Status.{code, no_room}
-use Rattle.kohiblad.specs.Rows.{are_ends, rows}
+use Rattle.kohiblad.specs.Rows.{are_offsets, rows}
 
 -- Compares two rows by their meaning, and equal ones by their numbers.
 abbrev pub row_cmp : (List ℕ → Meaning) → List (List ℕ) → ℕ → ℕ → Ordering
@@ -31,13 +31,14 @@ AreOrdered means all before after status =
     × ((after ≡ numbers ++ drop (length all) before) × (status ≡ 0))))
     ⊎ ((status ≡ code errors.OutOfMemory) × (after ≡ before))
 
--- Too short a buffer is refused first, then ends that are below the previous one or beyond the
--- bytes; otherwise the rows are ordered as `AreOrdered` says.
+-- Offsets that are below the previous one or beyond the bytes are refused first, then too short a
+-- buffer; otherwise the rows are ordered as `AreOrdered` says.
 abbrev pub AreRowsOrdered : (List ℕ → Meaning) → List ℕ → List ℕ → List ℕ → List ℕ → ℕ → Type 0
-AreRowsOrdered means bytes ends before after status =
-    ((length before < length ends) × ((status ≡ no_room) × (after ≡ before)))
-    ⊎ ((length ends ≤ length before)
-    × (((are_ends (length bytes) 0 ends ≡ false)
+AreRowsOrdered means bytes offsets before after status =
+    ((are_offsets (length bytes) 0 offsets ≡ false)
     × ((status ≡ code errors.InvalidEOF) × (after ≡ before)))
-    ⊎ ((are_ends (length bytes) 0 ends ≡ true)
-    × AreOrdered means (rows bytes ends) before after status)))
+    ⊎ ((are_offsets (length bytes) 0 offsets ≡ true)
+    × (((length before < length (rows bytes offsets))
+    × ((status ≡ no_room) × (after ≡ before)))
+    ⊎ ((length (rows bytes offsets) ≤ length before)
+    × AreOrdered means (rows bytes offsets) before after status)))

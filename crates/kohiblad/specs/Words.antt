@@ -21,7 +21,7 @@ pub use Rattle.jsonb.specs.Kind.{kind, kind_of_tree}
 pub use Rattle.jsonb.specs.Owned.{bytes_of}
 pub use Rattle.jsonb.specs.Texts.{display_text, lined_text, other_text, plain_text}
 pub use Rattle.jsonb.specs.Texts.{pretty_display_text}
-pub use Rattle.jsonb.specs.declared.lookup.Place.{Place}
+pub use Rattle.jsonb.specs.declared.reads.lookup.Place.{Place}
 pub use Rattle.jsonb_comparable.specs.CheckedBytes.{checked_meaning}
 pub use Rattle.jsonb_comparable.specs.TreeKey.{meaning_key}
 pub use Rattle.jsonb_comparable.specs.Within.{meaning_within}
@@ -40,7 +40,7 @@ pub use Rattle.kohiblad.specs.Places.{part_start, place_answer, place_at, place_
 pub use Rattle.kohiblad.specs.Results.{AreWithin, BuildsArray, BuildsObject}
 pub use Rattle.kohiblad.specs.Results.{IsArrayBuilt, IsArrayOfRows, IsArrayOfRowsWithin}
 pub use Rattle.kohiblad.specs.Results.{IsObjectBuilt, IsObjectOfRows, IsObjectOfRowsWithin}
-pub use Rattle.kohiblad.specs.Rows.{are_ends, pairs_in, rows, rows_from}
+pub use Rattle.kohiblad.specs.Rows.{are_offsets, pairs_in, rows, rows_from}
 pub use Rattle.kohiblad.specs.Scalars.{IsDecimalOf, IsGivenBy, IsShort, IsShortExtension}
 pub use Rattle.kohiblad.specs.Scalars.{coefficient, data_answer, data_of, extension_answer}
 pub use Rattle.kohiblad.specs.Scalars.{from_halves, int64_answer, int64_number, is_true, no_decimal}

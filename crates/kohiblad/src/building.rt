@@ -12,47 +12,47 @@ use std::alloc::Global;
 use std::str;
 
 /// Builds the array of the documents in the rows, and copies it to `out` and its length in bytes to
-/// `length`. Row k ends at `ends[k]` and begins at the end of the previous row, the first at 0.
-/// `InvalidEOF` if an end is below the previous one or beyond the bytes; `InvalidJsonb` if a row is
-/// not a document, or a limit of the format is exceeded; `OutOfMemory` if an allocation fails;
-/// `NO_ROOM` if `out` is shorter than the array. If the status is not `OK`, `out` is unchanged, and
-/// `length` is 0, or for `NO_ROOM` the length of the array.
+/// `length`. Row k begins at `offsets[k]` and ends at `offsets[k + 1]`. `InvalidEOF` if an offset
+/// is below the previous one or beyond the bytes; `InvalidJsonb` if a row is not a document, or a
+/// limit of the format is exceeded; `OutOfMemory` if an allocation fails; `NO_ROOM` if `out` is
+/// shorter than the array. If the status is not `OK`, `out` is unchanged, and `length` is 0, or for
+/// `NO_ROOM` the length of the array.
 #[unsafe(no_mangle)]
 pub extern "C" fn kohiblad_build_array(
     alloc: Global,
     bytes: &[u8],
-    ends: &[usize],
+    offsets: &[usize],
     out: &mut [u8],
     length: &mut usize,
 ) -> u32
-    ensures { IsArrayOfRows bytes.now ends.now out.old out.new length.new result }
+    ensures { IsArrayOfRows bytes.now offsets.now out.old out.new length.new result }
 {
-    let Ok(rows) = Rows::new(bytes, ends) else {
+    let Ok(rows) = Rows::new(bytes, offsets) else {
         return refuse(code(Error::InvalidEOF), out, length);
     };
     write_array(alloc, rows, out, length)
 }
 
 /// Builds the array of the documents in the rows, and copies it to `out` and its length in bytes to
-/// `length`. Row k ends at `ends[k]` and begins at the end of the previous row, the first at 0.
-/// `InvalidEOF` if an end is below the previous one or beyond the bytes; then, before anything is
-/// built, `InvalidJsonb` if a row is not a document of at most this depth. `InvalidJsonb` also if a
-/// limit of the format is exceeded; `OutOfMemory` if an allocation fails; `NO_ROOM` if `out` is
-/// shorter than the array. If the status is not `OK`, `out` is unchanged, and `length` is 0, or for
-/// `NO_ROOM` the length of the array. A scalar has depth 0, an array or object one more than its
-/// deepest child, and at least 1. Deeper levels are not examined.
+/// `length`. Row k begins at `offsets[k]` and ends at `offsets[k + 1]`. `InvalidEOF` if an offset
+/// is below the previous one or beyond the bytes; then, before anything is built, `InvalidJsonb` if
+/// a row is not a document of at most this depth. `InvalidJsonb` also if a limit of the format is
+/// exceeded; `OutOfMemory` if an allocation fails; `NO_ROOM` if `out` is shorter than the array. If
+/// the status is not `OK`, `out` is unchanged, and `length` is 0, or for `NO_ROOM` the length of
+/// the array. A scalar has depth 0, an array or object one more than its deepest child, and at
+/// least 1. Deeper levels are not examined.
 #[unsafe(no_mangle)]
 pub extern "C" fn kohiblad_build_array_within(
     alloc: Global,
     bytes: &[u8],
-    ends: &[usize],
+    offsets: &[usize],
     depth: usize,
     out: &mut [u8],
     length: &mut usize,
 ) -> u32
-    ensures { IsArrayOfRowsWithin depth bytes.now ends.now out.old out.new length.new result }
+    ensures { IsArrayOfRowsWithin depth bytes.now offsets.now out.old out.new length.new result }
 {
-    let Ok(documents) = Rows::new(bytes, ends) else {
+    let Ok(documents) = Rows::new(bytes, offsets) else {
         return refuse(code(Error::InvalidEOF), out, length);
     };
     if !are_within(documents.again(), depth) {
@@ -82,53 +82,52 @@ fn are_within(rows: Rows, depth: usize) -> bool
 }
 
 /// Builds the object of the pairs in the rows: a key, then its document, and so on. It is copied to
-/// `out` and its length in bytes to `length`. Row k ends at `ends[k]` and begins at the end of the
-/// previous row, the first at 0. `InvalidEOF` if an end is below the previous one or beyond the
-/// bytes, or the number of rows is odd; `InvalidUtf8` if a key is not UTF-8; `ObjectDuplicateKey`
-/// if a key occurs twice; `InvalidJsonb` if a document is not one, or a limit of the format is
-/// exceeded; `OutOfMemory` if an allocation fails; `NO_ROOM` if `out` is shorter than the object.
-/// If the status is not `OK`, `out` is unchanged, and `length` is 0, or for `NO_ROOM` the length of
-/// the object.
+/// `out` and its length in bytes to `length`. Row k begins at `offsets[k]` and ends at `offsets[k +
+/// 1]`. `InvalidEOF` if an offset is below the previous one or beyond the bytes, or the number of
+/// rows is odd; `InvalidUtf8` if a key is not UTF-8; `ObjectDuplicateKey` if a key occurs twice;
+/// `InvalidJsonb` if a document is not one, or a limit of the format is exceeded; `OutOfMemory` if
+/// an allocation fails; `NO_ROOM` if `out` is shorter than the object. If the status is not `OK`,
+/// `out` is unchanged, and `length` is 0, or for `NO_ROOM` the length of the object.
 #[unsafe(no_mangle)]
 pub extern "C" fn kohiblad_build_object(
     alloc: Global,
     bytes: &[u8],
-    ends: &[usize],
+    offsets: &[usize],
     out: &mut [u8],
     length: &mut usize,
 ) -> u32
-    ensures { IsObjectOfRows bytes.now ends.now out.old out.new length.new result }
+    ensures { IsObjectOfRows bytes.now offsets.now out.old out.new length.new result }
 {
-    let rows = match Rows::new(bytes, ends) {
-        Ok(rows) if ends.len() % 2 == 0 => rows,
+    let rows = match Rows::new(bytes, offsets) {
+        Ok(rows) if rows.len() % 2 == 0 => rows,
         _ => return refuse(code(Error::InvalidEOF), out, length),
     };
     write_object(alloc, rows, out, length)
 }
 
 /// Builds the object of the pairs in the rows: a key, then its document, and so on. It is copied to
-/// `out` and its length in bytes to `length`. Row k ends at `ends[k]` and begins at the end of the
-/// previous row, the first at 0. `InvalidEOF` if an end is below the previous one or beyond the
-/// bytes, or the number of rows is odd; then, before the keys are looked at, `InvalidJsonb` if a
-/// document is not one of at most this depth. `InvalidUtf8` if a key is not UTF-8;
-/// `ObjectDuplicateKey` if a key occurs twice; `InvalidJsonb` also if a limit of the format is
-/// exceeded; `OutOfMemory` if an allocation fails; `NO_ROOM` if `out` is shorter than the object.
-/// If the status is not `OK`, `out` is unchanged, and `length` is 0, or for `NO_ROOM` the length of
-/// the object. A scalar has depth 0, an array or object one more than its deepest child, and at
-/// least 1. Deeper levels are not examined.
+/// `out` and its length in bytes to `length`. Row k begins at `offsets[k]` and ends at `offsets[k +
+/// 1]`. `InvalidEOF` if an offset is below the previous one or beyond the bytes, or the number of
+/// rows is odd; then, before the keys are looked at, `InvalidJsonb` if a document is not one of at
+/// most this depth. `InvalidUtf8` if a key is not UTF-8; `ObjectDuplicateKey` if a key occurs
+/// twice; `InvalidJsonb` also if a limit of the format is exceeded; `OutOfMemory` if an allocation
+/// fails; `NO_ROOM` if `out` is shorter than the object. If the status is not `OK`, `out` is
+/// unchanged, and `length` is 0, or for `NO_ROOM` the length of the object. A scalar has depth 0,
+/// an array or object one more than its deepest child, and at least 1. Deeper levels are not
+/// examined.
 #[unsafe(no_mangle)]
 pub extern "C" fn kohiblad_build_object_within(
     alloc: Global,
     bytes: &[u8],
-    ends: &[usize],
+    offsets: &[usize],
     depth: usize,
     out: &mut [u8],
     length: &mut usize,
 ) -> u32
-    ensures { IsObjectOfRowsWithin depth bytes.now ends.now out.old out.new length.new result }
+    ensures { IsObjectOfRowsWithin depth bytes.now offsets.now out.old out.new length.new result }
 {
-    let pairs = match Rows::new(bytes, ends) {
-        Ok(pairs) if ends.len() % 2 == 0 => pairs,
+    let pairs = match Rows::new(bytes, offsets) {
+        Ok(pairs) if pairs.len() % 2 == 0 => pairs,
         _ => return refuse(code(Error::InvalidEOF), out, length),
     };
     if !are_pairs_within(pairs.again(), depth) {

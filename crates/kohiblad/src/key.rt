@@ -1,11 +1,21 @@
 //! Comparable keys: byte strings that sort as the documents do.
 
+ghost use Rattle.std.specs.Prelude.{◌≡◌};
 ghost use Rattle.kohiblad.specs.Words.{meaning_key, meaning_within, IsWritten};
 
 use crate::answer::{code, hand_over, refuse};
 use jsonb::RawJsonb;
-use jsonb_comparable::ComparableKey;
+use jsonb_comparable::{ComparableKey, KEY_LAYOUT};
 use std::alloc::Global;
+
+/// The number of the layout of keys. It changes only with the major version of the library: keys
+/// that are to be compared must be of libraries with the same number.
+#[unsafe(no_mangle)]
+pub extern "C" fn kohiblad_key_layout() -> u32
+    ensures { result ≡ 1 }
+{
+    KEY_LAYOUT
+}
 
 /// Copies the comparable key of any bytes to `out`, and its length in bytes to `length`. Keys
 /// compare by their bytes, a prefix before what continues it, as `kohiblad_compare_within` compares

@@ -2,7 +2,7 @@
 
 ghost use Rattle.std.specs.Prelude.{◌≡◌, ◌∷◌, [], ℕ, List, length, IfOk, IfErr, IsTrue, is_ok};
 ghost use Rattle.std.specs.Prelude.{MatchOption};
-ghost use Rattle.kohiblad.specs.Words.{are_ends, rows_from, rows, pairs_in};
+ghost use Rattle.kohiblad.specs.Words.{are_offsets, rows_from, rows, pairs_in};
 
 use jsonb::Error;
 use std::marker::Model;
@@ -20,26 +20,33 @@ impl<'a> Model for Rows<'a> {
 
     ghost view = { λ s. rows_from s.bytes.now s.start s.ends.now };
 
-    ghost invariant = { λ s. IsTrue (are_ends (length s.bytes.now) s.start s.ends.now) };
+    ghost invariant = { λ s. IsTrue (are_offsets (length s.bytes.now) s.start s.ends.now) };
 }
 
 impl<'a> Rows<'a> {
-    /// The rows with these ends, the first of which begins at 0. `InvalidEOF` if an end is below
-    /// the previous one or beyond the bytes.
-    pub fn new(bytes: &'a [u8], ends: &'a [usize]) -> Result<Self, Error>
-        ensures rows { IfOk result (λ all. all ≡ rows bytes.now ends.now) }
-        ensures exact { is_ok result ≡ are_ends (length bytes.now) 0 ends.now }
+    /// The rows between these offsets, one fewer than there are offsets. `InvalidEOF` if an offset
+    /// is below the previous one or beyond the bytes.
+    pub fn new(bytes: &'a [u8], offsets: &'a [usize]) -> Result<Self, Error>
+        ensures rows { IfOk result (λ all. all ≡ rows bytes.now offsets.now) }
+        ensures exact { is_ok result ≡ are_offsets (length bytes.now) 0 offsets.now }
         ensures past { IfErr result (λ e. e ≡ Error.InvalidEOF) }
     {
-        if are_ends(bytes.len(), ends) {
-            Ok(Rows {
-                bytes,
-                start: 0,
-                ends,
-            })
-        } else {
-            Err(Error::InvalidEOF)
+        if !are_offsets(bytes.len(), offsets) {
+            return Err(Error::InvalidEOF);
         }
+        let (start, ends) = match offsets.split_first() {
+            Some((&start, ends)) => (start, ends),
+            None => (0, offsets),
+        };
+        Ok(Rows { bytes, start, ends })
+    }
+
+    /// How many rows are left.
+    #[tactic(auto, using(crate::proofs::Orders::row_count))]
+    pub fn len(&self) -> usize
+        ensures { result ≡ length self.now }
+    {
+        self.ends.len()
     }
 
     /// The same rows once more, for a second walk.
@@ -81,12 +88,12 @@ impl<'a> Rows<'a> {
     }
 }
 
-// Whether no end is below the previous one or above `size`.
-fn are_ends(size: usize, ends: &[usize]) -> bool
-    ensures { result ≡ are_ends size 0 ends.now }
+// Whether no offset is below the previous one or above `size`.
+fn are_offsets(size: usize, offsets: &[usize]) -> bool
+    ensures { result ≡ are_offsets size 0 offsets.now }
 {
     let mut start = 0;
-    let mut left = ends;
+    let mut left = offsets;
     while let Some((&end, later)) = left.split_first() {
         if end < start || size < end {
             return false;

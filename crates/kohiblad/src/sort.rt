@@ -11,43 +11,42 @@ use jsonb_comparable::CheckedBytes;
 use std::alloc::Global;
 
 /// Writes the numbers of the rows, counted from 0, to the start of `order`, sorted by the meaning
-/// of the rows, as `kohiblad_compare` compares them; equal rows keep their order. Row k ends at
-/// `ends[k]` and begins at the end of the previous row, the first at 0. Each row is checked once.
-/// `NO_ROOM` if `order` is shorter than `ends`; `InvalidEOF` if an end is below the previous one or
-/// beyond the bytes; `OutOfMemory` if an allocation fails. If the status is not `OK`, `order` is
-/// unchanged.
+/// of the rows, as `kohiblad_compare` compares them; equal rows keep their order. Row k begins at
+/// `offsets[k]` and ends at `offsets[k + 1]`. Each row is checked once. `InvalidEOF` if an offset
+/// is below the previous one or beyond the bytes; `NO_ROOM` if `order` has fewer numbers than there
+/// are rows; `OutOfMemory` if an allocation fails. If the status is not `OK`, `order` is unchanged.
 #[unsafe(no_mangle)]
 pub extern "C" fn kohiblad_sort(
     alloc: Global,
     bytes: &[u8],
-    ends: &[usize],
+    offsets: &[usize],
     order: &mut [usize],
 ) -> u32
-    ensures { AreRowsOrdered meaning_of bytes.now ends.now order.old order.new result }
+    ensures { AreRowsOrdered meaning_of bytes.now offsets.now order.old order.new result }
 {
-    sort_rows(alloc, bytes, ends, None, order)
+    sort_rows(alloc, bytes, offsets, None, order)
 }
 
 /// Writes the numbers of the rows, counted from 0, to the start of `order`, sorted as
 /// `kohiblad_compare_within` compares the rows at this depth; equal rows keep their order. Row k
-/// ends at `ends[k]` and begins at the end of the previous row, the first at 0. A document that
-/// nests deeper than `depth` levels counts as no document, and sorts by its bytes after all
-/// documents. A scalar has depth 0, an array or object one more than its deepest child, and at
-/// least 1. Each row is checked once, and deeper levels are not examined. `NO_ROOM` if `order` is
-/// shorter than `ends`; `InvalidEOF` if an end is below the previous one or beyond the bytes;
-/// `OutOfMemory` if an allocation fails. If the status is not `OK`, `order` is unchanged.
+/// begins at `offsets[k]` and ends at `offsets[k + 1]`. A document that nests deeper than `depth`
+/// levels counts as no document, and sorts by its bytes after all documents. A scalar has depth 0,
+/// an array or object one more than its deepest child, and at least 1. Each row is checked once,
+/// and deeper levels are not examined. `InvalidEOF` if an offset is below the previous one or
+/// beyond the bytes; `NO_ROOM` if `order` has fewer numbers than there are rows; `OutOfMemory` if
+/// an allocation fails. If the status is not `OK`, `order` is unchanged.
 #[unsafe(no_mangle)]
 pub extern "C" fn kohiblad_sort_within(
     alloc: Global,
     bytes: &[u8],
-    ends: &[usize],
+    offsets: &[usize],
     depth: usize,
     order: &mut [usize],
 ) -> u32
     ensures { AreRowsOrdered (meaning_within depth)
-        bytes.now ends.now order.old order.new result }
+        bytes.now offsets.now order.old order.new result }
 {
-    sort_rows(alloc, bytes, ends, Some(depth), order)
+    sort_rows(alloc, bytes, offsets, Some(depth), order)
 }
 
 // Sorts the rows and writes their numbers. With a limit, a document that nests deeper counts as no
@@ -55,19 +54,19 @@ pub extern "C" fn kohiblad_sort_within(
 fn sort_rows(
     alloc: Global,
     bytes: &[u8],
-    ends: &[usize],
+    offsets: &[usize],
     limit: Option<usize>,
     order: &mut [usize],
 ) -> u32
     ensures { AreRowsOrdered (bounded_meaning limit)
-        bytes.now ends.now order.old order.new result }
+        bytes.now offsets.now order.old order.new result }
 {
-    if order.len() < ends.len() {
-        return NO_ROOM;
-    }
-    let Ok(rows) = Rows::new(bytes, ends) else {
+    let Ok(rows) = Rows::new(bytes, offsets) else {
         return code(Error::InvalidEOF);
     };
+    if order.len() < rows.len() {
+        return NO_ROOM;
+    }
     match keys_in_order(alloc, rows, limit) {
         Ok(keys) => {
             put_numbers(&keys, order);
