@@ -4,7 +4,7 @@
 #     PKG_CONFIG_PATH=/usr/local/lib/pkgconfig bindings/postgresql/test.sh
 #
 # tests/server.sh has the settings. Each line of tests/NAME.out is the answer that tests/NAME.sql
-# must print there, and counts as a test.
+# must print there, and counts as a test, as does each line that tests/catalogue.sql prints.
 set -Eeuo pipefail
 folder=$(cd "$(dirname "$0")" && pwd)
 . "$folder/tests/server.sh"
@@ -39,7 +39,7 @@ copy() {
     psql -c "COPY $3 FROM STDIN (FORMAT $2)" < "$scratch/copied" 2> "$scratch/refused"
 }
 
-# Copies the documents of 33 rows. The first, a date, has no form in JSON: as a text it is a string.
+# Copies the documents of 33 rows. The first is a date, which has no form in JSON.
 run_copies() {
     note "COPY, in text and binary"
     local format
@@ -47,10 +47,28 @@ run_copies() {
         query "CREATE TABLE copied_$format (d kohiblad)"
         copy "SELECT d FROM ranked" "$format" "copied_$format"
     done
-    local same="SELECT count(*) FROM ranked r JOIN TABLE c ON r.d::bytea = c.d::bytea"
-    expect "COPY in text" 32 "$(query "${same/TABLE/copied_text}")"
-    expect "COPY in CSV" 32 "$(query "${same/TABLE/copied_csv}")"
-    expect "COPY in binary" 33 "$(query "${same/TABLE/copied_binary}")"
+    for format in text csv binary; do
+        expect "COPY in $format" 33 "$(query "SELECT count(*) FROM ranked r
+            JOIN copied_$format c ON r.d::bytea = c.d::bytea")"
+    done
+}
+
+# Rows of hash partitions that are copied as text, as pg_dump does, are found in the new ones.
+run_partitions() {
+    note "COPY of hash partitions, in text"
+    local table part
+    for table in spread received; do
+        query "CREATE TABLE $table (d kohiblad) PARTITION BY HASH (d)"
+        for part in 0 1 2 3; do
+            query "CREATE TABLE ${table}_$part PARTITION OF $table
+                FOR VALUES WITH (MODULUS 4, REMAINDER $part)"
+        done
+    done
+    query "INSERT INTO spread SELECT d FROM ranked"
+    for part in 0 1 2 3; do
+        copy "SELECT d FROM spread_$part" text "received_$part"
+    done
+    expect "documents found" 33 "$(query "SELECT found_in('received', 'ranked')")"
 }
 
 # Bytes that a client sends in binary are checked: those of bytea are sent unchanged.
@@ -83,12 +101,12 @@ run_latin() {
 # What pg_dump writes makes the same rows, indexes and extension in another database.
 run_dump() {
     note "pg_dump and restore"
-    query "DELETE FROM ranked WHERE kohiblad_kind(d) = 'extension'"
     psql -c "CREATE DATABASE restored"
     "$bin/pg_dump" --no-sync postgres > "$scratch/dump.sql"
     psql -d restored -f "$scratch/dump.sql" > "$scratch/restored"
     local rows="SELECT md5(string_agg(d::bytea::text, ' ' ORDER BY d::bytea)) FROM ranked"
     expect "the rows restored" "$(query "$rows")" "$(query "$rows" restored)"
+    expect "documents found" 33 "$(query "SELECT found_in('spread', 'ranked')" restored)"
     expect "the indexes restored" 3 \
         "$(query "SELECT count(*) FROM pg_indexes WHERE tablename = 'rows_of'" restored)"
     query "DROP EXTENSION kohiblad CASCADE" restored 2> "$scratch/dropped"
@@ -96,19 +114,106 @@ run_dump() {
         "$(query "SELECT count(*) FROM pg_proc WHERE proname LIKE 'kohiblad%'" restored)"
 }
 
+# Another server is asked in text, and what it sorts is merged by this one.
+run_servers() {
+    [ -f "$("$bin/pg_config" --sharedir)/extension/postgres_fdw.control" ] ||
+        { note "passed over: two servers need postgres_fdw"; return; }
+    note "rows on another server"
+    psql -c "CREATE DATABASE other" -c "CREATE EXTENSION postgres_fdw" -c "CREATE SERVER other
+        FOREIGN DATA WRAPPER postgres_fdw
+        OPTIONS (host '$scratch', dbname 'other', extensions 'kohiblad')" \
+        -c "CREATE USER MAPPING FOR tester SERVER other OPTIONS (user 'tester')" \
+        -c "CREATE TABLE remote (d kohiblad) PARTITION BY HASH (d)"
+    query "CREATE EXTENSION kohiblad" other
+    local part
+    for part in 0 1; do
+        query "CREATE TABLE remote_$part (d kohiblad)" other
+        query "CREATE FOREIGN TABLE remote_$part PARTITION OF remote
+            FOR VALUES WITH (MODULUS 2, REMAINDER $part) SERVER other"
+    done
+    query "INSERT INTO remote SELECT d FROM ranked"
+    expect "documents found" 33 "$(query "SELECT found_in('remote', 'ranked')")"
+    local merged="SET enable_sort = off; SELECT"
+    expect "a merge" t "$(query "$merged
+        plan_has('SELECT d FROM remote ORDER BY d', 'Merge Append')")"
+    local keys="string_agg(kohiblad_key(d)::text, ' ')"
+    expect "the order merged" "$(query "SELECT $keys FROM (SELECT d FROM ranked ORDER BY d) s")" \
+        "$(query "$merged $keys FROM (SELECT d FROM remote ORDER BY d) s")"
+}
+
+# Rows that were inserted before a subscription come from the log, in text.
+run_replication() {
+    note "logical replication"
+    psql -c "CREATE DATABASE replica" -c "CREATE TABLE published (d kohiblad)" \
+        -c "CREATE PUBLICATION documents FOR TABLE published"
+    query "SELECT pg_create_logical_replication_slot('replica', 'pgoutput')" > "$scratch/slot"
+    query "INSERT INTO published SELECT d FROM ranked"
+    psql -d replica -c "CREATE EXTENSION kohiblad" -c "CREATE TABLE published (d kohiblad)" \
+        -c "CREATE SUBSCRIPTION documents CONNECTION 'host=$scratch user=tester dbname=postgres'
+            PUBLICATION documents
+            WITH (create_slot = false, slot_name = 'replica', copy_data = false)"
+    local waited
+    for ((waited = 0; waited < 600; waited++)); do
+        [ "$(query "SELECT count(*) FROM published" replica)" != 33 ] || break
+        sleep 0.1
+    done
+    local rows="SELECT md5(string_agg(d::bytea::text, ' ' ORDER BY d::bytea)) FROM published"
+    expect "the rows replicated" "$(query "$rows")" "$(query "$rows" replica)"
+}
+
+# The owner of a database, who is no superuser, makes the extension and updates it.
+run_trusted() {
+    note "an owner's extension"
+    psql -c "CREATE ROLE owner LOGIN" -c "CREATE DATABASE owned OWNER owner"
+    psql -U owner -d owned -c "CREATE EXTENSION kohiblad VERSION '0.6'" \
+        -c "ALTER EXTENSION kohiblad UPDATE"
+    expect "a member" 7 "$("$bin/psql" -XAt -U owner -d owned -c "SELECT '[7]'::kohiblad -> 0")"
+}
+
+# An extension of version 0.6 that is updated has the catalogue of a new one.
+run_update() {
+    note "an update"
+    psql -c "CREATE DATABASE updated"
+    query "CREATE EXTENSION kohiblad VERSION '0.6'" updated
+    query "CREATE TABLE goods AS SELECT '[7]'::kohiblad AS doc" updated
+    query "CREATE VIEW shown AS SELECT doc::json FROM goods" updated
+    query "ALTER EXTENSION kohiblad UPDATE" updated
+    expect "the version" 0.7 "$(query "SELECT extversion FROM pg_extension
+        WHERE extname = 'kohiblad'" updated)"
+    expect "the library's version" "$(pkg-config --modversion kohiblad)" \
+        "$(query "SELECT kohiblad_version()" updated)"
+    expect "a row" '{"doc":[7]}' "$(query "SELECT row_to_json(goods) FROM goods" updated)"
+    expect "a view" '[7]' "$(query "TABLE shown" updated)"
+    local database
+    for database in postgres updated; do
+        psql -At -d "$database" -f "$folder/tests/catalogue.sql" > "$scratch/$database.catalogue"
+    done
+    diff -u "$scratch/postgres.catalogue" "$scratch/updated.catalogue" >&2 || fail "the update"
+    passed "$(wc -l < "$scratch/updated.catalogue")"
+}
+
 # The least stack that the server allows at this setting: nothing may reach its end.
 ulimit -S -s 2560
-open_server max_stack_depth=2MB
+open_server max_stack_depth=2MB wal_level=logical
 run_script prepare
 run_script documents
+run_script texts
+run_script json
 run_script access
 run_script order
+run_script casts
+run_script minmax
 run_script damaged
 run_copies
+run_partitions
 run_refusals
 load_vectors
 run_script vectors
 run_latin
 run_dump
+run_servers
+run_replication
+run_trusted
+run_update
 ! grep -E 'PANIC|terminated by signal' "$scratch/server.log" || fail "the server broke down"
 echo "$binding: $tests tests passed"

@@ -14,12 +14,6 @@ static const char *const kind_names[] = {
     [KOHIBLAD_OBJECT] = "object",
 };
 
-static struct kohiblad_value_kind kind_of(Bytes document) {
-    struct kohiblad_value_kind kind = kohiblad_kind(document.at, document.size);
-    if (kind.status != KOHIBLAD_OK) refuse(kind.status, ERRCODE_DATA_CORRUPTED);
-    return kind;
-}
-
 static bool is_found(struct kohiblad_place place, Bytes document, Part *child) {
     if (place.status == KOHIBLAD_NONE) return false;
     if (place.status != KOHIBLAD_OK) refuse(place.status, ERRCODE_DATA_CORRUPTED);

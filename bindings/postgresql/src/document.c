@@ -14,14 +14,8 @@ PG_MODULE_MAGIC;
 /* What check_stack_depth leaves below its limit, less a reserve for the server's own calls. */
 #define STACK_LEFT (STACK_DEPTH_SLOP - 64 * 1024)
 
-/* Texts are first parsed within a depth whose stack is always left. */
-#define SHALLOW_DEPTH 64
-#define TEXT_STACK (MAX_DEPTH * KOHIBLAD_TEXT_LEVEL_STACK + KOHIBLAD_CALL_STACK)
-
 static const char *explanation(uint32_t status) {
     switch (status) {
-        case KOHIBLAD_INVALID_JSON:
-            return "The text is not JSON, or has a number with an exponent or past 128 bits.";
         case KOHIBLAD_INVALID_JSONB:
             return "The bytes are no document of at most " CppAsString2(MAX_DEPTH)
                    " levels, or past a limit of the format.";
@@ -44,15 +38,18 @@ static int code_of(uint32_t status, int code) {
     }
 }
 
-void refuse(uint32_t status, int code) {
+void refuse_because(uint32_t status, int code, const char *detail) {
     uint8_t name[STATUS_NAME_ROOM];
     size_t length;
     if (kohiblad_status_name(status, name, sizeof name, &length) != KOHIBLAD_OK)
         elog(ERROR, "kohiblad: status %u", status);
-    const char *detail = explanation(status);
     ereport(ERROR, (errcode(code_of(status, code)),
                     errmsg("kohiblad: %.*s", (int)length, (const char *)name),
                     detail ? errdetail("%s", detail) : 0));
+}
+
+void refuse(uint32_t status, int code) {
+    refuse_because(status, code, explanation(status));
 }
 
 /* Asks the server from as far down as the call will go. */
@@ -70,9 +67,13 @@ void check_stack_for(size_t bytes) {
                         errhint("Increase the configuration parameter \"max_stack_depth\".")));
 }
 
-/* The result of a call after `prefix` bytes that the caller fills in, and before a zero byte. */
-static char *write_after(size_t prefix, WriteCall call, Bytes in, size_t guess, int code,
-                         size_t *length) {
+void check_room(size_t bytes) {
+    if (bytes > MAX_ROOM - 1)
+        ereport(ERROR, (errcode(ERRCODE_PROGRAM_LIMIT_EXCEEDED),
+                        errmsg("kohiblad: the result has %zu bytes, more than 1 GB", bytes)));
+}
+
+char *write_after(size_t prefix, WriteCall call, Bytes in, size_t guess, int code, size_t *length) {
     check_stack_for(DOCUMENT_STACK);
     size_t room = Min(guess, MAX_ROOM - 1);
     char *out = palloc(prefix + room + 1);
@@ -80,9 +81,7 @@ static char *write_after(size_t prefix, WriteCall call, Bytes in, size_t guess, 
     if (status == KOHIBLAD_NO_ROOM) {
         pfree(out);
         room = *length;
-        if (room > MAX_ROOM - 1)
-            ereport(ERROR, (errcode(ERRCODE_PROGRAM_LIMIT_EXCEEDED),
-                            errmsg("kohiblad: the result has %zu bytes, more than 1 GB", room)));
+        check_room(room);
         out = palloc(prefix + room + 1);
         status = call(in.at, in.size, MAX_DEPTH, (uint8_t *)out + prefix, room, length);
     }
@@ -112,7 +111,7 @@ text *text_of_utf8(Bytes utf8) {
     return result;
 }
 
-static Bytes utf8_of_server(const char *given, size_t size) {
+Bytes utf8_of_server(const char *given, size_t size) {
     char *utf8 = pg_server_to_any(given, size, PG_UTF8);
     return (Bytes){(const uint8_t *)utf8, utf8 == given ? size : strlen(utf8)};
 }
@@ -121,13 +120,10 @@ Bytes utf8_of_text(const text *name) {
     return utf8_of_server(VARDATA_ANY(name), VARSIZE_ANY_EXHDR(name));
 }
 
-/* Parses within few levels, and only where that is too deep within all, which needs much stack. */
-static uint32_t parse(const uint8_t *given, size_t size, size_t depth, uint8_t *out, size_t room,
-                      size_t *length) {
-    uint32_t status = kohiblad_parse(given, size, SHALLOW_DEPTH, out, room, length);
-    if (status != KOHIBLAD_TOO_DEEP) return status;
-    check_stack_for(TEXT_STACK);
-    return kohiblad_parse(given, size, depth, out, room, length);
+struct kohiblad_value_kind kind_of(Bytes document) {
+    struct kohiblad_value_kind kind = kohiblad_kind(document.at, document.size);
+    if (kind.status != KOHIBLAD_OK) refuse(kind.status, ERRCODE_DATA_CORRUPTED);
+    return kind;
 }
 
 /* The type of the entry in the document of a scalar. */
@@ -145,16 +141,11 @@ static uint32_t type_of_scalar(Bytes document, uint32_t kind) {
 }
 
 Part part_of_document(Bytes document) {
-    struct kohiblad_value_kind kind = kohiblad_kind(document.at, document.size);
-    if (kind.status != KOHIBLAD_OK) refuse(kind.status, ERRCODE_DATA_CORRUPTED);
+    struct kohiblad_value_kind kind = kind_of(document);
     if (kind.kind == KOHIBLAD_ARRAY || kind.kind == KOHIBLAD_OBJECT)
         return (Part){KOHIBLAD_TYPE_CONTAINER, document};
     uint32_t type = type_of_scalar(document, kind.kind);
     return (Part){type, {document.at + SCALAR_FRONT, document.size - SCALAR_FRONT}};
-}
-
-Part part_at(Bytes document, struct kohiblad_place place) {
-    return (Part){place.type, {document.at + place.offset, place.length}};
 }
 
 Bytes write_part(Part part, uint8_t *out, size_t room) {
@@ -177,58 +168,14 @@ bool is_array(Part container) {
     return kohiblad_kind(container.payload.at, container.payload.size).kind == KOHIBLAD_ARRAY;
 }
 
-/* Texts are seldom longer than twice their documents. */
-static size_t text_guess(Bytes document) {
-    return 2 * document.size + 64;
-}
-
-static text *compact_text(Bytes document) {
-    struct varlena *shown = write_value(kohiblad_to_string_within, document, text_guess(document),
-                                        ERRCODE_DATA_CORRUPTED);
-    if (GetDatabaseEncoding() == PG_UTF8) return shown;
-    text *result = text_of_utf8(bytes_of(shown));
-    pfree(shown);
-    return result;
-}
-
-text *plain_text(Part part) {
-    if (part.type == KOHIBLAD_TYPE_NULL) return NULL;
-    if (part.type == KOHIBLAD_TYPE_STRING) return text_of_utf8(part.payload);
-    if (part.type == KOHIBLAD_TYPE_CONTAINER) return compact_text(part.payload);
-    struct varlena *document = document_of_part(part);
-    text *shown = compact_text(bytes_of(document));
-    pfree(document);
-    if (part.type != KOHIBLAD_TYPE_EXTENSION) return shown;
-    text *unquoted = cstring_to_text_with_len(VARDATA(shown) + 1, VARSIZE(shown) - VARHDRSZ - 2);
-    pfree(shown);
-    return unquoted;
+void check_document(Bytes given, int code) {
+    check_stack_for(DOCUMENT_STACK);
+    if (!kohiblad_check(given.at, given.size, MAX_DEPTH)) refuse(KOHIBLAD_INVALID_JSONB, code);
 }
 
 static struct varlena *checked_document(Bytes given) {
-    check_stack_for(DOCUMENT_STACK);
-    if (!kohiblad_check(given.at, given.size, MAX_DEPTH))
-        refuse(KOHIBLAD_INVALID_JSONB, ERRCODE_INVALID_BINARY_REPRESENTATION);
+    check_document(given, ERRCODE_INVALID_BINARY_REPRESENTATION);
     return (struct varlena *)cstring_to_text_with_len((const char *)given.at, given.size);
-}
-
-PG_FUNCTION_INFO_V1(pg_kohiblad_in);
-Datum pg_kohiblad_in(PG_FUNCTION_ARGS) {
-    const char *given = PG_GETARG_CSTRING(0);
-    Bytes utf8 = utf8_of_server(given, strlen(given));
-    PG_RETURN_POINTER(write_value(parse, utf8, 4 * utf8.size + SCALAR_FRONT,
-                                  ERRCODE_INVALID_TEXT_REPRESENTATION));
-}
-
-PG_FUNCTION_INFO_V1(pg_kohiblad_out);
-Datum pg_kohiblad_out(PG_FUNCTION_ARGS) {
-    struct varlena *value = PG_GETARG_VARLENA_PP(0);
-    Bytes document = bytes_of(value);
-    size_t length;
-    char *shown = write_after(0, kohiblad_to_string_within, document, text_guess(document),
-                              ERRCODE_DATA_CORRUPTED, &length);
-    PG_FREE_IF_COPY(value, 0);
-    if (GetDatabaseEncoding() != PG_UTF8) shown = pg_any_to_server(shown, length, PG_UTF8);
-    PG_RETURN_CSTRING(shown);
 }
 
 PG_FUNCTION_INFO_V1(pg_kohiblad_recv);
@@ -244,17 +191,16 @@ Datum pg_kohiblad_of_bytea(PG_FUNCTION_ARGS) {
     PG_RETURN_POINTER(checked_document(bytes_of(PG_GETARG_VARLENA_PP(0))));
 }
 
-PG_FUNCTION_INFO_V1(pg_kohiblad_pretty);
-Datum pg_kohiblad_pretty(PG_FUNCTION_ARGS) {
-    Bytes document = bytes_of(PG_GETARG_VARLENA_PP(0));
-    struct varlena *shown = write_value(kohiblad_to_pretty_within, document,
-                                        2 * text_guess(document), ERRCODE_DATA_CORRUPTED);
-    PG_RETURN_TEXT_P(text_of_utf8(bytes_of(shown)));
-}
-
 PG_FUNCTION_INFO_V1(pg_kohiblad_canonical);
 Datum pg_kohiblad_canonical(PG_FUNCTION_ARGS) {
     Bytes document = bytes_of(PG_GETARG_VARLENA_PP(0));
     PG_RETURN_POINTER(write_value(kohiblad_to_canonical_within, document, document.size,
                                   ERRCODE_PROGRAM_LIMIT_EXCEEDED));
+}
+
+PG_FUNCTION_INFO_V1(pg_kohiblad_version);
+Datum pg_kohiblad_version(PG_FUNCTION_ARGS) {
+    uint32_t version = kohiblad_version();
+    char *shown = psprintf("%u.%u.%u", version / 1000000, version / 1000 % 1000, version % 1000);
+    PG_RETURN_TEXT_P(cstring_to_text(shown));
 }

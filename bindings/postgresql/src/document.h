@@ -43,22 +43,37 @@ static inline Bytes bytes_of(const struct varlena *value) {
     return (Bytes){(const uint8_t *)VARDATA_ANY(value), VARSIZE_ANY_EXHDR(value)};
 }
 
-/* Raises an error that names the library's status. */
+/* Raises an error that names the library's status, with what it means or with another detail. */
 extern void refuse(uint32_t status, int code) pg_attribute_noreturn();
+extern void refuse_because(uint32_t status, int code, const char *detail) pg_attribute_noreturn();
 
-/* Raises an error unless that much stack is left. */
+/* Raises an error unless so much stack is left, unless a value can have so many bytes, and unless
+ * bytes are a document of at most MAX_DEPTH levels. */
 extern void check_stack_for(size_t bytes);
+extern void check_room(size_t bytes);
+extern void check_document(Bytes given, int code);
 
-/* The result of a call as a new value; `guess` is the room that is tried first. */
+/* The result of a call after `prefix` bytes that the caller fills in, and before a zero byte;
+ * `guess` is the room that is tried first. */
+extern char *write_after(size_t prefix, WriteCall call, Bytes in, size_t guess, int code,
+                         size_t *length);
+
+/* The result of a call as a new value. */
 extern struct varlena *write_value(WriteCall call, Bytes in, size_t guess, int code);
 
-/* UTF-8 of the library as a text of the server's encoding, and a text of the server as UTF-8. */
+/* UTF-8 of the library as a text of the server's encoding, and texts of the server as UTF-8. */
 extern text *text_of_utf8(Bytes utf8);
+extern Bytes utf8_of_server(const char *given, size_t size);
 extern Bytes utf8_of_text(const text *name);
+
+/* The kind of a document, and how many children it has. */
+extern struct kohiblad_value_kind kind_of(Bytes document);
 
 /* A document as a part, a part of a document as a part, and a part as a document of its own. */
 extern Part part_of_document(Bytes document);
-extern Part part_at(Bytes document, struct kohiblad_place place);
+static inline Part part_at(Bytes document, struct kohiblad_place place) {
+    return (Part){place.type, {document.at + place.offset, place.length}};
+}
 extern struct varlena *document_of_part(Part part);
 
 /* How many bytes the document of a part has, and writing it. */
@@ -67,7 +82,9 @@ static inline size_t room_of_part(Part part) {
 }
 extern Bytes write_part(Part part, uint8_t *out, size_t room);
 
-/* The text of a string without its quotes, null for null, and else the compact text. */
+/* The compact text of a document. That of a part is that of a string without its quotes, and NULL
+ * for null. */
+extern text *compact_text(Bytes document);
 extern text *plain_text(Part part);
 
 /* Whether the part is an array, and not an object. */

@@ -152,6 +152,23 @@ COMPARISON(pg_kohiblad_ne, !are_equal(fcinfo))
 COMPARISON(pg_kohiblad_ge, compare_arguments(fcinfo) >= 0)
 COMPARISON(pg_kohiblad_gt, compare_arguments(fcinfo) > 0)
 
+/* The lesser or the greater argument, and the first of equal ones. */
+static struct varlena *chosen_argument(FunctionCallInfo fcinfo, bool is_lesser) {
+    struct varlena *left = PG_GETARG_VARLENA_PP(0), *right = PG_GETARG_VARLENA_PP(1);
+    int order = compare_documents(bytes_of(left), bytes_of(right));
+    return (is_lesser ? order <= 0 : order >= 0) ? left : right;
+}
+
+PG_FUNCTION_INFO_V1(pg_kohiblad_smaller);
+Datum pg_kohiblad_smaller(PG_FUNCTION_ARGS) {
+    PG_RETURN_POINTER(chosen_argument(fcinfo, true));
+}
+
+PG_FUNCTION_INFO_V1(pg_kohiblad_larger);
+Datum pg_kohiblad_larger(PG_FUNCTION_ARGS) {
+    PG_RETURN_POINTER(chosen_argument(fcinfo, false));
+}
+
 PG_FUNCTION_INFO_V1(pg_kohiblad_key);
 Datum pg_kohiblad_key(PG_FUNCTION_ARGS) {
     Bytes document = bytes_of(PG_GETARG_VARLENA_PP(0));
@@ -223,7 +240,7 @@ typedef struct Sort {
 #define ENOUGH_DISTINCT 100000 /* after so many they are not judged again */
 #define DOCUMENTS_EACH 2000    /* with more documents for each abbreviation they do not pay */
 
-static int compare_datums(Datum left, Datum right, SortSupport support) {
+static int compare_datums(Datum left, Datum right, SortSupport support pg_attribute_unused()) {
     struct varlena *l = PG_DETOAST_DATUM_PACKED(left), *r = PG_DETOAST_DATUM_PACKED(right);
     int order = compare_documents(bytes_of(l), bytes_of(r));
     if ((Pointer)l != DatumGetPointer(left)) pfree(l);

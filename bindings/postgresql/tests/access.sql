@@ -20,7 +20,7 @@ FROM sample;
 SELECT d #> '{}' = d, '"x"'::kohiblad #>> '{}', 'null'::kohiblad #>> '{}' IS NULL FROM sample;
 SELECT refusal($$ SELECT d #> '{{a},{b}}' FROM sample $$);
 SELECT refusal($$ SELECT '["a\u0000b"]'::kohiblad ->> 0 $$);
--- Extension values as texts: binary data as hexadecimal, without quotes.
+-- Extension values as texts: binary data as hexadecimal, without quotes; and as a document.
 SELECT '\x80000001600000030001ff'::bytea::kohiblad ->> 0;
 SELECT '\x80000001600000030001ff'::bytea::kohiblad -> 0;
 -- Values that the table stores compressed, and out of line.

@@ -7,17 +7,22 @@ INSERT INTO damaged
         AS b)
     SELECT substring(b FROM 1 FOR n) FROM whole, generate_series(0, length(b)) n
     UNION SELECT set_bit(b, n, 1 - get_bit(b, n))
-    FROM whole, generate_series(0, 8 * length(b) - 1) n;
+    FROM whole, generate_series(0, 8 * length(b) - 1) n
+    UNION SELECT set_bit(b, n, 1 - get_bit(b, n))
+    FROM (SELECT d::bytea AS b
+          FROM (VALUES ('-2.50'::kohiblad), ('12345678901234567890'), ('true'),
+                       ('\x40000001100000015000000d6180000001600000051000000001')) v(d)) s,
+         generate_series(0, 8 * length(b) - 1) n;
 SET allow_system_table_mods = on;
 UPDATE pg_attribute SET atttypid = 'kohiblad'::regtype
 WHERE attrelid = 'damaged'::regclass AND attname = 'd';
 
 -- The rows where a call neither returns nor raises one of these errors.
-CREATE FUNCTION bad_ends(call text) RETURNS bigint LANGUAGE sql AS $$
+CREATE FUNCTION bad_ends(call text, cast_refused text = '') RETURNS bigint LANGUAGE sql AS $$
     SELECT count(*)
     FROM damaged, LATERAL (SELECT left(refusal(
         format('SELECT %s FROM damaged d WHERE d.ctid = %L', call, damaged.ctid)), 5)) r(state)
-    WHERE state NOT IN ('not r', 'XX001', '22P05', '54000')
+    WHERE state NOT IN ('not r', 'XX001', '22P05', '54000', cast_refused)
 $$;
 SELECT count(*) > 500 FROM damaged;
 SELECT bad_ends('d::text'), bad_ends('kohiblad_pretty(d)'), bad_ends('kohiblad_canonical(d)');
@@ -26,5 +31,7 @@ SELECT bad_ends($$ d -> 'a' $$), bad_ends($$ d ->> 'b' $$), bad_ends($$ d #>> '{
 SELECT bad_ends($$ d -> 'a' -> -1 $$), bad_ends($$ d #> '{}' $$), bad_ends($$ d #>> '{}' $$);
 SELECT bad_ends('(SELECT count(*) FROM kohiblad_each(d))'), bad_ends('kohiblad_hash(d)');
 SELECT bad_ends('kohiblad_agg(d)'), bad_ends('d::bytea');
+SELECT bad_ends('d::json'), bad_ends('d::jsonb');
+SELECT bad_ends('d::numeric', '22023'), bad_ends('d::bool', '22023');
 SELECT bad_ends('(SELECT sum(kohiblad_cmp(d, e.d)) FROM (SELECT d FROM damaged LIMIT 50) e)');
 DROP TABLE damaged;

@@ -10,6 +10,17 @@ SELECT refusal($$ SELECT '1e5'::kohiblad $$);
 SELECT refusal($$ SELECT ''::kohiblad $$);
 SELECT refusal($$ SELECT '{"a":'::kohiblad $$);
 SELECT refusal($$ SELECT '"\ud800"'::kohiblad $$);
+-- Where a text stops being JSON: after how many of its bytes, as UTF-8.
+SELECT detail_of($$ SELECT ''::kohiblad $$);
+SELECT detail_of($$ SELECT '{"a":'::kohiblad $$);
+SELECT detail_of($$ SELECT '{"é":x}'::kohiblad $$);
+SELECT detail_of($$ SELECT '[1.5, 1e5, ]'::kohiblad $$);
+SELECT detail_of($$ SELECT (repeat('[', 1000) || 'x')::kohiblad $$);
+-- Numbers: an exponent, more than 128 bits, and 256 digits after the point.
+SELECT detail_of($$ SELECT '[1.5, 1e5]'::kohiblad $$);
+SELECT detail_of($$ SELECT '170141183460469231731687303715884105728'::kohiblad $$);
+SELECT detail_of($$ SELECT ('0.' || repeat('0', 256))::kohiblad $$);
+SELECT detail_of($$ SELECT '1e40'::jsonb::kohiblad $$);
 -- Depth.
 SELECT nested_text(1000)::kohiblad::text = nested_text(1000);
 SELECT refusal($$ SELECT nested_text(1001)::kohiblad $$);
@@ -39,7 +50,7 @@ SELECT kohiblad_kind('null'), kohiblad_kind('true'), kohiblad_kind('1'), kohibla
 SELECT kohiblad_kind('[]'), kohiblad_kind('{}');
 SELECT kohiblad_length('[1,[2,3],4]'), kohiblad_length('{"a":1}'), kohiblad_length('[]');
 SELECT kohiblad_length('"abc"') IS NULL, kohiblad_kind(NULL) IS NULL;
--- A date: day 1. It has no JSON form of its own and prints as a string.
+-- A date: day 1. It has no JSON form of its own, and is shown as a string.
 SELECT kohiblad_kind(d), d, d #>> '{}'
 FROM (SELECT '\x20000000600000051000000001'::bytea::kohiblad AS d) s;
 -- Pretty and canonical forms: a time zone in hours, 8, becomes 28,800 seconds (7080).
@@ -80,3 +91,10 @@ SELECT refusal($$ SELECT kohiblad_object_agg(NULL, '1') $$);
 SELECT refusal($$ SELECT kohiblad_agg(nested_text(1000)::kohiblad) $$);
 SELECT refusal($$ SELECT kohiblad_object_agg('k', nested_text(1000)::kohiblad) $$);
 SELECT kohiblad_agg(nested_text(999)::kohiblad) = nested_text(1000)::kohiblad;
+-- Documents are not joined, and neither are their texts, unless the other value is of type text.
+SELECT refusal($$ SELECT '{"a":1}'::kohiblad || '{"x":1}' $$);
+SELECT refusal($$ SELECT '{"x":1}' || d FROM (SELECT '{"a":1}'::kohiblad AS d) s $$);
+SELECT detail_of($$ SELECT '[1]'::kohiblad || '[2]'::kohiblad $$);
+SELECT ('{"a":1.50}'::kohiblad::jsonb || '{"x":1}')::kohiblad, '[1]'::kohiblad || NULL IS NULL;
+SELECT '[1]'::kohiblad::text || '[2]', 'a'::text || '[1]'::kohiblad, 'a'::text || '[1]'::jsonb;
+SELECT ARRAY['1'::kohiblad] || '2'::kohiblad, '1'::kohiblad || ARRAY['2'::kohiblad];

@@ -6,6 +6,7 @@ SELECT '"é"'::kohiblad::bytea, key FROM kohiblad_each('{"é":1}');
 SELECT kohiblad_object_agg('é', '"ü"'), kohiblad_pretty('["é"]') = E'[\n  "é"\n]';
 SELECT '"\u65e5"'::kohiblad::bytea;
 \set ON_ERROR_STOP off
+SELECT '{"é":x}'::kohiblad;
 \set VERBOSITY sqlstate
 SELECT '"\u65e5"'::kohiblad;
 SELECT '["\u65e5"]'::kohiblad ->> 0;

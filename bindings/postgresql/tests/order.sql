@@ -84,3 +84,8 @@ SET enable_hashjoin = off;
 SELECT plan_has($$ SELECT * FROM rows_of r JOIN others o ON r.d -> 'id' = o.id $$, 'Merge Join');
 SELECT count(*), bool_and(r.i = o.i) FROM rows_of r JOIN others o ON r.d -> 'id' = o.id;
 RESET ALL;
+-- Conditions: what reads a few words comes before what reads all of a document.
+SELECT plan_has($$ SELECT i FROM rows_of WHERE kohiblad_hash(d) = 7 AND (i + 1) % 2 = 0 $$,
+                '= 0) AND (kohiblad_hash(d) = 7)');
+SELECT plan_has($$ SELECT i FROM rows_of WHERE kohiblad_canonical(d) = '{}' AND d ->> 'id' LIKE '7%'
+                   AND (i + 1) % 2 = 0 $$, '= 0) AND (kohiblad_canonical(d) = ');

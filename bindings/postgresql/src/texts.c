@@ -1,0 +1,172 @@
+/* Documents as texts, which the server has in its own encoding.
+ *
+ * The text of a column is JSON, but for documents that hold an extension value: JSON has none, and
+ * what is copied, dumped, or sent to another server as text must come back as it was. Those are
+ * written in hexadecimal. The other functions show an extension value as a string. */
+#include "document.h"
+
+#include "mb/pg_wchar.h"
+#include "miscadmin.h"
+#include "utils/builtins.h"
+
+/* What comes before hexadecimal, as in bytea. No JSON text begins so. */
+#define HEX_MARK "\\x"
+#define HEX_MARK_SIZE 2
+
+/* Texts are first parsed within a depth whose stack is always left. */
+#define SHALLOW_DEPTH 64
+#define TEXT_STACK (MAX_DEPTH * KOHIBLAD_TEXT_LEVEL_STACK + KOHIBLAD_CALL_STACK)
+
+/* Refuses a text that was read within a depth, and says where it is no JSON. */
+static void pg_attribute_noreturn() refuse_text(const uint8_t *given, size_t size, size_t depth) {
+    struct kohiblad_fault fault = kohiblad_text_fault(given, size, depth);
+    if (fault.status != KOHIBLAD_INVALID_JSON && fault.status != KOHIBLAD_BAD_NUMBER)
+        refuse(fault.status, ERRCODE_INVALID_TEXT_REPRESENTATION);
+    const char *reason = fault.status == KOHIBLAD_INVALID_JSON
+                             ? ""
+                             : ": a number has an exponent, or is past 128 bits or 255 digits "
+                               "after its point";
+    refuse_because(KOHIBLAD_INVALID_JSON, ERRCODE_INVALID_TEXT_REPRESENTATION,
+                   psprintf("The text stops being JSON at byte " UINT64_FORMAT "%s.", fault.offset,
+                            reason));
+}
+
+/* Parses within few levels, and only where that is too deep within all, which needs much stack. */
+static uint32_t parse(const uint8_t *given, size_t size, size_t depth, uint8_t *out, size_t room,
+                      size_t *length) {
+    size_t limit = SHALLOW_DEPTH;
+    uint32_t status = kohiblad_parse(given, size, limit, out, room, length);
+    if (status == KOHIBLAD_TOO_DEEP) {
+        check_stack_for(TEXT_STACK);
+        limit = depth;
+        status = kohiblad_parse(given, size, limit, out, room, length);
+    }
+    if (status == KOHIBLAD_INVALID_JSON) refuse_text(given, size, limit);
+    return status;
+}
+
+/* Texts are seldom longer than twice their documents. */
+static size_t text_guess(Bytes document) {
+    return 2 * document.size + 64;
+}
+
+text *compact_text(Bytes document) {
+    struct varlena *shown = write_value(kohiblad_to_string_within, document, text_guess(document),
+                                        ERRCODE_DATA_CORRUPTED);
+    if (GetDatabaseEncoding() == PG_UTF8) return shown;
+    text *result = text_of_utf8(bytes_of(shown));
+    pfree(shown);
+    return result;
+}
+
+text *plain_text(Part part) {
+    if (part.type == KOHIBLAD_TYPE_NULL) return NULL;
+    if (part.type == KOHIBLAD_TYPE_STRING) return text_of_utf8(part.payload);
+    if (part.type == KOHIBLAD_TYPE_CONTAINER) return compact_text(part.payload);
+    struct varlena *document = document_of_part(part);
+    text *shown = compact_text(bytes_of(document));
+    pfree(document);
+    if (part.type != KOHIBLAD_TYPE_EXTENSION) return shown;
+    text *unquoted = cstring_to_text_with_len(VARDATA(shown) + 1, VARSIZE(shown) - VARHDRSZ - 2);
+    pfree(shown);
+    return unquoted;
+}
+
+/* Whether a part is an extension value or holds one. The walk reads each entry once. */
+static bool finds_extension(Part part) {
+    if (part.type != KOHIBLAD_TYPE_CONTAINER) return part.type == KOHIBLAD_TYPE_EXTENSION;
+    check_stack_depth();
+    Bytes container = part.payload;
+    struct kohiblad_cursor cursor;
+    struct kohiblad_place child;
+    uint32_t status = kohiblad_begin(container.at, container.size, &cursor);
+    while (status == KOHIBLAD_OK) {
+        CHECK_FOR_INTERRUPTS();
+        status = kohiblad_next(container.at, container.size, &cursor, NULL, &child);
+        if (status == KOHIBLAD_OK && finds_extension(part_at(container, child))) return true;
+    }
+    if (status != KOHIBLAD_NONE) refuse(status, ERRCODE_DATA_CORRUPTED);
+    return false;
+}
+
+/* Few documents need the walk: unless there are payloads of 2^24 bytes, the entry word of an
+ * extension value begins with the byte of its type, which is rare in texts and small numbers. */
+static bool holds_extension(Bytes document) {
+    if (document.size < 1 << 24 &&
+        !memchr(document.at, KOHIBLAD_TYPE_EXTENSION >> 24, document.size))
+        return false;
+    return finds_extension(part_of_document(document));
+}
+
+static char *json_of_document(Bytes document) {
+    size_t length;
+    char *shown = write_after(0, kohiblad_to_string_within, document, text_guess(document),
+                              ERRCODE_DATA_CORRUPTED, &length);
+    if (GetDatabaseEncoding() == PG_UTF8) return shown;
+    return pg_any_to_server(shown, length, PG_UTF8);
+}
+
+static char *hex_of_document(Bytes document) {
+    size_t length = HEX_MARK_SIZE + 2 * document.size;
+    check_room(length);
+    char *shown = palloc(length + 1);
+    memcpy(shown, HEX_MARK, HEX_MARK_SIZE);
+    hex_encode((const char *)document.at, document.size, shown + HEX_MARK_SIZE);
+    shown[length] = 0;
+    return shown;
+}
+
+static int value_of_digit(char digit) {
+    if (digit >= '0' && digit <= '9') return digit - '0';
+    if (digit >= 'a' && digit <= 'f') return digit - 'a' + 10;
+    if (digit >= 'A' && digit <= 'F') return digit - 'A' + 10;
+    return -1;
+}
+
+static void pg_attribute_noreturn() refuse_hex(size_t place) {
+    ereport(ERROR, (errcode(ERRCODE_INVALID_TEXT_REPRESENTATION), errmsg("kohiblad: BadHex"),
+                    errdetail("The text stops being hexadecimal at byte %zu.", place)));
+}
+
+/* The document that is written in hexadecimal; the zero byte after the text is no digit. */
+static struct varlena *document_of_hex(const char *given) {
+    size_t size = strlen(given);
+    struct varlena *value = palloc(VARHDRSZ + size / 2);
+    uint8_t *end = (uint8_t *)VARDATA(value);
+    for (size_t i = HEX_MARK_SIZE; i < size; i += 2) {
+        int high = value_of_digit(given[i]), low = value_of_digit(given[i + 1]);
+        if (high < 0) refuse_hex(i);
+        if (low < 0) refuse_hex(i + 1);
+        *end++ = high << 4 | low;
+    }
+    SET_VARSIZE(value, end - (uint8_t *)value);
+    check_document(bytes_of(value), ERRCODE_INVALID_BINARY_REPRESENTATION);
+    return value;
+}
+
+PG_FUNCTION_INFO_V1(pg_kohiblad_in);
+Datum pg_kohiblad_in(PG_FUNCTION_ARGS) {
+    const char *given = PG_GETARG_CSTRING(0);
+    if (strncmp(given, HEX_MARK, HEX_MARK_SIZE) == 0) PG_RETURN_POINTER(document_of_hex(given));
+    Bytes utf8 = utf8_of_server(given, strlen(given));
+    PG_RETURN_POINTER(write_value(parse, utf8, 4 * utf8.size + SCALAR_FRONT,
+                                  ERRCODE_INVALID_TEXT_REPRESENTATION));
+}
+
+PG_FUNCTION_INFO_V1(pg_kohiblad_out);
+Datum pg_kohiblad_out(PG_FUNCTION_ARGS) {
+    struct varlena *value = PG_GETARG_VARLENA_PP(0);
+    Bytes document = bytes_of(value);
+    char *shown =
+        holds_extension(document) ? hex_of_document(document) : json_of_document(document);
+    PG_FREE_IF_COPY(value, 0);
+    PG_RETURN_CSTRING(shown);
+}
+
+PG_FUNCTION_INFO_V1(pg_kohiblad_pretty);
+Datum pg_kohiblad_pretty(PG_FUNCTION_ARGS) {
+    Bytes document = bytes_of(PG_GETARG_VARLENA_PP(0));
+    struct varlena *shown = write_value(kohiblad_to_pretty_within, document,
+                                        2 * text_guess(document), ERRCODE_DATA_CORRUPTED);
+    PG_RETURN_TEXT_P(text_of_utf8(bytes_of(shown)));
+}
