@@ -48,9 +48,12 @@ make -s OUT="$scratch/out" EXTRA_CFLAGS=-Werror || fail 'the build'
 exports=$(nm -D --defined-only "$scratch/out/kohiblad.so" | awk '{ print $3 }')
 [ "$exports" = sqlite3_kohiblad_init ] || fail "it exports $exports"
 ! ldd "$scratch/out/kohiblad.so" | grep -q kohiblad.so. || fail 'it needs libkohiblad.so'
-tests=$((tests + 2))
+version=$(sqlite3 -batch -cmd ".load $scratch/out/kohiblad" :memory: 'SELECT jb_version()')
+[ "$version" = "$(pkg-config --modversion kohiblad)" ] || fail "the version $version"
+tests=$((tests + 3))
 
-for name in documents read paths each aggregates schema order errors; do
+scripts='documents read numbers paths each aggregates subtypes binary changes schema order errors'
+for name in $scripts; do
     for encoding in UTF-8 UTF-16le UTF-16be; do run_script "$name" "$encoding"; done
 done
 run_script utf8 UTF-8
@@ -61,12 +64,26 @@ echo 'tests/deepest.sql with 2.5 MB of stack'
 (ulimit -s 2560 && run_script deepest UTF-8) || fail 'the stack'
 tests=$((tests + $(grep -c '^--[>!] ' tests/deepest.sql)))
 
+echo 'the session of README.md'
+awk '/^    sqlite> /,/^$/' README.md > "$scratch/session"
+sed -n 's/^    sqlite> //p; s/^       \.\.\.> //p' "$scratch/session" > "$scratch/typed"
+sed '/^    sqlite> /d; /^       \.\.\.> /d; /^$/d; s/^    //' "$scratch/session" > "$scratch/shown"
+(cd "$scratch" && sqlite3 -batch < typed > printed 2>&1) || true
+diff "$scratch/shown" "$scratch/printed" || fail 'the session of README.md'
+tests=$((tests + $(wc -l < "$scratch/shown")))
+
 echo 'tests/refuse.c: each allocation refused in turn, hostile and broken documents'
 # The words that pkg-config prints are split.
 # shellcheck disable=SC2046
 cc -std=c11 -O1 -Wall -Wextra -Werror tests/refuse.c -o "$scratch/refuse" -rdynamic \
     $(pkg-config --cflags --libs sqlite3) || fail 'the build of tests/refuse.c'
-"$scratch/refuse" "$scratch/out/kohiblad" > "$scratch/count" || fail 'tests/refuse.c'
+# In a locale whose decimal point is a comma, if one can be made. localedef fails on warnings.
+localedef -i de_DE -f UTF-8 "$scratch/de_DE.UTF-8" > "$scratch/found" 2>&1 || true
+locale=C
+if [ -d "$scratch/de_DE.UTF-8" ]; then locale=de_DE.UTF-8
+else echo 'without a decimal comma, which needs the Debian package locales'; fi
+LOCPATH="$scratch" LC_ALL=$locale "$scratch/refuse" "$scratch/out/kohiblad" > "$scratch/count" \
+    || fail 'tests/refuse.c'
 tests=$((tests + $(cat "$scratch/count")))
 
 under_valgrind() {
@@ -76,7 +93,7 @@ under_valgrind() {
     tests=$((tests + 1))
 }
 if command -v valgrind > "$scratch/found"; then
-    for name in documents read paths each aggregates order errors; do
+    for name in $scripts; do
         echo "tests/$name.sql under valgrind"
         under_valgrind sqlite3 -batch -cmd "PRAGMA encoding='UTF-16le'" \
             -cmd ".load $scratch/out/kohiblad" "$scratch/valgrind.$name.db" < "tests/$name.sql"

@@ -19,6 +19,11 @@ static bool get_bytes(const struct caller *caller, sqlite3_value *value, struct 
     return false;
 }
 
+bool has_json_subtype(sqlite3_value *value)
+{
+    return sqlite3_value_subtype(value) == JSON_SUBTYPE;
+}
+
 bool get_document(const struct caller *caller, sqlite3_value *value, struct bytes *document)
 {
     if (sqlite3_value_type(value) == SQLITE_BLOB) return get_bytes(caller, value, document);
@@ -34,6 +39,13 @@ bool get_checked(const struct caller *caller, sqlite3_value *value, struct bytes
     return false;
 }
 
+bool get_data(const struct caller *caller, sqlite3_value *value, struct bytes *data)
+{
+    if (sqlite3_value_type(value) == SQLITE_BLOB) return get_bytes(caller, value, data);
+    fail_because(caller, KOHIBLAD_OTHER_KIND, "binary data is a BLOB");
+    return false;
+}
+
 bool get_text(const struct caller *caller, sqlite3_value *value, struct bytes *text)
 {
     if (sqlite3_value_type(value) == SQLITE_TEXT) return get_bytes(caller, value, text);
@@ -41,9 +53,16 @@ bool get_text(const struct caller *caller, sqlite3_value *value, struct bytes *t
     return false;
 }
 
-bool is_exact(const struct caller *caller, sqlite3_value *value)
+bool get_sql_value(const struct caller *caller, sqlite3_value *value, bool is_json,
+                   struct sql_value *sql_value)
 {
-    if (sqlite3_value_type(value) != SQLITE_FLOAT) return true;
+    *sql_value = (struct sql_value){ .type = sqlite3_value_type(value), .is_json = is_json };
+    switch (sql_value->type) {
+    case SQLITE_NULL: return true;
+    case SQLITE_INTEGER: sql_value->integer = sqlite3_value_int64(value); return true;
+    case SQLITE_FLOAT: break;
+    default: return get_bytes(caller, value, &sql_value->bytes);
+    }
     fail_because(caller, KOHIBLAD_INVALID_JSONB_NUMBER, "a REAL is refused, pass decimals as TEXT");
     return false;
 }

@@ -27,5 +27,30 @@ void fail_because(const struct caller *caller, uint32_t status, const char *note
 
 void fail(const struct caller *caller, uint32_t status)
 {
-    fail_because(caller, status, NULL);
+    if (status == RESULT_TOO_BIG) sqlite3_result_error_toobig(caller->context);
+    else fail_because(caller, status, NULL);
+}
+
+static char *fault_message(const char *name, const struct kohiblad_fault *fault)
+{
+    char *status = status_message(name, fault->status, NULL), *message = NULL;
+    sqlite3_uint64 offset = fault->offset;
+    if (status) message = sqlite3_mprintf("%s at byte %llu", status, offset);
+    sqlite3_free(status);
+    return message;
+}
+
+/* To find the place takes memory: if that is refused, the status alone is reported. */
+static void fail_text(const struct caller *caller, const struct bytes *text)
+{
+    struct kohiblad_fault fault = kohiblad_text_fault(text->at, text->size, KOHIBLAD_SQLITE_DEPTH);
+    bool is_found = fault.status == KOHIBLAD_INVALID_JSON || fault.status == KOHIBLAD_BAD_NUMBER;
+    if (is_found) fail_with(caller, fault_message(caller->name, &fault));
+    else fail(caller, KOHIBLAD_INVALID_JSON);
+}
+
+void fail_value(const struct caller *caller, uint32_t status, const struct sql_value *value)
+{
+    if (status == KOHIBLAD_INVALID_JSON) fail_text(caller, &value->bytes);
+    else fail(caller, status);
 }

@@ -11,6 +11,17 @@
 #define KOHIBLAD_SQLITE_DEPTH 1000
 #endif
 
+/* Headers before 3.45 have no name for this flag, and SQLite before 3.45 ignores it. */
+#ifndef SQLITE_RESULT_SUBTYPE
+#define SQLITE_RESULT_SUBTYPE 0x001000000
+#endif
+
+/* The subtype of TEXT that is JSON: SQLite's JSON functions set and read it. */
+enum { JSON_SUBTYPE = 'J' };
+
+/* A status beside those of the library: the result is past SQLite's limit of lengths. */
+enum { RESULT_TOO_BIG = 1000 };
+
 struct bytes {
     const uint8_t *at;
     size_t size;
@@ -22,6 +33,14 @@ struct bytes {
 struct part {
     uint32_t type;
     struct bytes payload;
+};
+
+/* An SQL value that becomes a document. */
+struct sql_value {
+    int type;
+    bool is_json;       /* TEXT is JSON, else it is a string */
+    int64_t integer;
+    struct bytes bytes; /* of TEXT and BLOBs */
 };
 
 /* Where the result of an SQL function goes, and the name that its errors begin with. */
@@ -50,38 +69,70 @@ char *status_message(const char *name, uint32_t status, const char *note);
 void fail_with(const struct caller *caller, char *message);
 void fail(const struct caller *caller, uint32_t status);
 void fail_because(const struct caller *caller, uint32_t status, const char *note);
+/* Reports why a value has no document, and where a JSON text is at fault. */
+void fail_value(const struct caller *caller, uint32_t status, const struct sql_value *value);
 
-/* arguments.c: all but bytes_of report an error and return false. */
+/* arguments.c: where a function whose name begins with get returns false, it has reported why. */
 
 /* The bytes of a BLOB, or of TEXT in UTF-8; false if memory was refused. */
 bool bytes_of(sqlite3_value *value, struct bytes *bytes);
+/* Whether TEXT has the subtype of JSON. */
+bool has_json_subtype(sqlite3_value *value);
 /* The bytes of a BLOB, which are not checked. */
 bool get_document(const struct caller *caller, sqlite3_value *value, struct bytes *document);
 /* The bytes of a BLOB that is a document. */
 bool get_checked(const struct caller *caller, sqlite3_value *value, struct bytes *document);
+/* The bytes of a BLOB, which need be no document. */
+bool get_data(const struct caller *caller, sqlite3_value *value, struct bytes *data);
 /* TEXT in UTF-8. */
 bool get_text(const struct caller *caller, sqlite3_value *value, struct bytes *text);
-/* Anything but a REAL. */
-bool is_exact(const struct caller *caller, sqlite3_value *value);
+/* Any value but a REAL. A BLOB is not checked. */
+bool get_sql_value(const struct caller *caller, sqlite3_value *value, bool is_json,
+                   struct sql_value *sql_value);
 
-/* results.c */
+/* writers.c: these are of type `writer`. */
+
+/* A copy of struct bytes. */
+writer write_bytes;
+/* The document of struct sql_value. */
+writer write_sql_value;
+/* The room that the document of such a value mostly needs. */
+size_t guess_of(const struct sql_value *value);
+/* The document of struct part, which has at most SCALAR_FRONT bytes more than its payload. */
+enum { SCALAR_FRONT = 8 };
+writer write_part;
+/* Of a document in struct bytes. */
+writer write_compact, write_pretty, write_canonical, write_key;
+/* The document of struct bytes as binary data. */
+writer write_binary;
+
+/* buffer.c */
 
 /* Calls the writer with room for `guess` bytes, and again if it needs more. After `false` it has
  * reported the error and the buffer holds no memory. */
 bool fill(const struct caller *caller, struct buffer *buffer, writer *write, const void *input,
           size_t guess);
+/* The same with the document of a value. */
+bool fill_document(const struct caller *caller, struct buffer *buffer,
+                   const struct sql_value *value);
+void release(struct buffer *buffer);
 /* These hand the buffer's memory to SQLite. */
 void give_blob(const struct caller *caller, struct buffer *buffer);
 void give_text(const struct caller *caller, struct buffer *buffer);
+/* Gives the TEXT the subtype of JSON. */
+void give_json(const struct caller *caller, struct buffer *buffer);
+
+/* results.c */
+
+/* The text of a document, with the subtype of JSON. */
+void give_compact(const struct caller *caller, struct bytes document);
 void give_document(const struct caller *caller, const struct part *part);
 /* A part as an SQL value: NULL, an INTEGER or TEXT. */
 void give_value(const struct caller *caller, const struct part *part);
-/* The compact text of a document. */
-void give_compact(const struct caller *caller, struct bytes document);
-/* The writer of a copy of struct bytes. */
-uint32_t write_bytes(const void *bytes, uint8_t *out, size_t room, size_t *length);
-/* The writer of the document of a sqlite3_value, which is no REAL. A BLOB is not checked. */
-uint32_t write_sql_value(const void *value, uint8_t *out, size_t room, size_t *length);
+/* An INTEGER or a REAL; nothing of other kinds. */
+void give_number(const struct caller *caller, const struct part *part);
+/* The bytes of binary data; nothing of other kinds. */
+void give_data(const struct caller *caller, const struct part *part);
 struct kohiblad_value_kind kind_of_part(const struct part *part);
 /* The name of a part's kind. */
 void give_kind(const struct caller *caller, const struct part *part);

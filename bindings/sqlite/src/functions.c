@@ -6,31 +6,10 @@ SQLITE_EXTENSION_INIT3
 struct function {
     const char *name;
     int arguments;
+    int flags;
     bool takes_null; /* else NULL gives NULL */
     void (*run)(const struct caller *caller, sqlite3_value **arguments);
 };
-
-static uint32_t write_parsed(const void *input, uint8_t *out, size_t room, size_t *length)
-{
-    const struct bytes *text = input;
-    return kohiblad_parse(text->at, text->size, KOHIBLAD_SQLITE_DEPTH, out, room, length);
-}
-
-/* Most documents are shorter than twice their text. */
-static void give_parsed(const struct caller *caller, sqlite3_value *value)
-{
-    struct buffer buffer;
-    struct bytes text;
-    if (!bytes_of(value, &text)) fail(caller, KOHIBLAD_OUT_OF_MEMORY);
-    else if (fill(caller, &buffer, write_parsed, &text, 2 * text.size)) give_blob(caller, &buffer);
-}
-
-static void give_of(const struct caller *caller, sqlite3_value *value)
-{
-    struct buffer buffer;
-    if (is_exact(caller, value) && fill(caller, &buffer, write_sql_value, value, 0))
-        give_blob(caller, &buffer);
-}
 
 static void give_same(const struct caller *caller, sqlite3_value *value)
 {
@@ -38,18 +17,34 @@ static void give_same(const struct caller *caller, sqlite3_value *value)
     if (get_checked(caller, value, &document)) sqlite3_result_value(caller->context, value);
 }
 
+static void give_document_of(const struct caller *caller, sqlite3_value *value, bool is_json)
+{
+    struct buffer buffer;
+    struct sql_value sql_value;
+    if (sqlite3_value_type(value) == SQLITE_BLOB)
+        give_same(caller, value);
+    else if (get_sql_value(caller, value, is_json, &sql_value)
+             && fill_document(caller, &buffer, &sql_value))
+        give_blob(caller, &buffer);
+}
+
 static void jb(const struct caller *caller, sqlite3_value **arguments)
 {
-    int type = sqlite3_value_type(*arguments);
-    if (type == SQLITE_TEXT) give_parsed(caller, *arguments);
-    else if (type == SQLITE_BLOB) give_same(caller, *arguments);
-    else give_of(caller, *arguments);
+    give_document_of(caller, *arguments, true);
 }
 
 static void jb_of(const struct caller *caller, sqlite3_value **arguments)
 {
-    if (sqlite3_value_type(*arguments) == SQLITE_BLOB) give_same(caller, *arguments);
-    else give_of(caller, *arguments);
+    give_document_of(caller, *arguments, has_json_subtype(*arguments));
+}
+
+static void jb_binary(const struct caller *caller, sqlite3_value **arguments)
+{
+    struct buffer buffer;
+    struct bytes data;
+    if (get_data(caller, *arguments, &data)
+        && fill(caller, &buffer, write_binary, &data, SCALAR_FRONT + 1 + data.size))
+        give_blob(caller, &buffer);
 }
 
 static void jb_text(const struct caller *caller, sqlite3_value **arguments)
@@ -58,27 +53,13 @@ static void jb_text(const struct caller *caller, sqlite3_value **arguments)
     if (get_checked(caller, *arguments, &document)) give_compact(caller, document);
 }
 
-static uint32_t write_pretty(const void *input, uint8_t *out, size_t room, size_t *length)
-{
-    const struct bytes *document = input;
-    return kohiblad_to_pretty_within(document->at, document->size, KOHIBLAD_SQLITE_DEPTH, out, room,
-                                     length);
-}
-
 static void jb_pretty(const struct caller *caller, sqlite3_value **arguments)
 {
     struct buffer buffer;
     struct bytes document;
     if (get_checked(caller, *arguments, &document)
         && fill(caller, &buffer, write_pretty, &document, 3 * document.size))
-        give_text(caller, &buffer);
-}
-
-static uint32_t write_canonical(const void *input, uint8_t *out, size_t room, size_t *length)
-{
-    const struct bytes *document = input;
-    return kohiblad_to_canonical_within(document->at, document->size, KOHIBLAD_SQLITE_DEPTH, out,
-                                        room, length);
+        give_json(caller, &buffer);
 }
 
 static void jb_canonical(const struct caller *caller, sqlite3_value **arguments)
@@ -90,12 +71,6 @@ static void jb_canonical(const struct caller *caller, sqlite3_value **arguments)
         give_blob(caller, &buffer);
 }
 
-static uint32_t write_key(const void *input, uint8_t *out, size_t room, size_t *length)
-{
-    const struct bytes *document = input;
-    return kohiblad_key(document->at, document->size, KOHIBLAD_SQLITE_DEPTH, out, room, length);
-}
-
 static void jb_key(const struct caller *caller, sqlite3_value **arguments)
 {
     struct buffer buffer;
@@ -103,6 +78,35 @@ static void jb_key(const struct caller *caller, sqlite3_value **arguments)
     if (get_document(caller, *arguments, &document)
         && fill(caller, &buffer, write_key, &document, document.size))
         give_blob(caller, &buffer);
+}
+
+/* The document that jb makes of a value; a BLOB is taken as it is, and not checked. After `true`
+ * the caller releases the buffer. */
+static bool make_document(const struct caller *caller, sqlite3_value *value, struct buffer *buffer,
+                          struct bytes *document)
+{
+    struct sql_value sql_value;
+    buffer->at = buffer->small;
+    if (sqlite3_value_type(value) == SQLITE_BLOB) return get_document(caller, value, document);
+    if (!get_sql_value(caller, value, true, &sql_value)
+        || !fill_document(caller, buffer, &sql_value))
+        return false;
+    *document = (struct bytes){ buffer->at, buffer->size };
+    return true;
+}
+
+static void jb_compare(const struct caller *caller, sqlite3_value **arguments)
+{
+    struct buffer left_buffer, right_buffer;
+    struct bytes left, right;
+    if (!make_document(caller, arguments[0], &left_buffer, &left)) return;
+    if (make_document(caller, arguments[1], &right_buffer, &right)) {
+        sqlite3_result_int(caller->context,
+                           kohiblad_compare_within(left.at, left.size, right.at, right.size,
+                                                   KOHIBLAD_SQLITE_DEPTH));
+        release(&right_buffer);
+    }
+    release(&left_buffer);
 }
 
 static void jb_valid(const struct caller *caller, sqlite3_value **arguments)
@@ -170,19 +174,52 @@ static void jb_value(const struct caller *caller, sqlite3_value **arguments)
     give_at(caller, arguments, give_value);
 }
 
+static void jb_number(const struct caller *caller, sqlite3_value **arguments)
+{
+    give_at(caller, arguments, give_number);
+}
+
+static void jb_blob(const struct caller *caller, sqlite3_value **arguments)
+{
+    give_at(caller, arguments, give_data);
+}
+
+/* The library's version in digits: millions, thousands and ones. */
+static void jb_version(const struct caller *caller, sqlite3_value **arguments)
+{
+    uint32_t version = kohiblad_version();
+    char text[sizeof "4294.999.999"];
+    (void)arguments;
+    sqlite3_snprintf(sizeof text, text, "%u.%u.%u", version / 1000000, version / 1000 % 1000,
+                     version % 1000);
+    sqlite3_result_text(caller->context, text, -1, SQLITE_TRANSIENT);
+}
+
+/* All but jb_version return the same for the same arguments, also after an upgrade. */
+enum {
+    SAME = SQLITE_DETERMINISTIC,
+    READS_SUBTYPE = SAME | SQLITE_SUBTYPE,
+    SETS_SUBTYPE = SAME | SQLITE_RESULT_SUBTYPE
+};
+
 static const struct function functions[] = {
-    { "jb", 1, false, jb },
-    { "jb_of", 1, true, jb_of },
-    { "jb_text", 1, false, jb_text },
-    { "jb_pretty", 1, false, jb_pretty },
-    { "jb_canonical", 1, false, jb_canonical },
-    { "jb_key", 1, false, jb_key },
-    { "jb_valid", 1, false, jb_valid },
-    { "jb_kind", 1, false, jb_kind },
-    { "jb_length", 1, false, jb_length },
-    { "jb_get", 2, false, jb_get },
-    { "jb_at", 2, false, jb_at },
-    { "jb_value", 2, false, jb_value },
+    { "jb", 1, SAME, false, jb },
+    { "jb_of", 1, READS_SUBTYPE, true, jb_of },
+    { "jb_binary", 1, SAME, false, jb_binary },
+    { "jb_text", 1, SETS_SUBTYPE, false, jb_text },
+    { "jb_pretty", 1, SETS_SUBTYPE, false, jb_pretty },
+    { "jb_canonical", 1, SAME, false, jb_canonical },
+    { "jb_key", 1, SAME, false, jb_key },
+    { "jb_compare", 2, SAME, false, jb_compare },
+    { "jb_valid", 1, SAME, false, jb_valid },
+    { "jb_kind", 1, SAME, false, jb_kind },
+    { "jb_length", 1, SAME, false, jb_length },
+    { "jb_get", 2, SAME, false, jb_get },
+    { "jb_at", 2, SAME, false, jb_at },
+    { "jb_value", 2, SETS_SUBTYPE, false, jb_value },
+    { "jb_number", 2, SAME, false, jb_number },
+    { "jb_blob", 2, SAME, false, jb_blob },
+    { "jb_version", 0, 0, false, jb_version },
 };
 
 static void run(sqlite3_context *context, int count, sqlite3_value **arguments)
@@ -196,10 +233,12 @@ static void run(sqlite3_context *context, int count, sqlite3_value **arguments)
 
 int register_functions(sqlite3 *database)
 {
-    int flags = SQLITE_UTF8 | SQLITE_DETERMINISTIC | SQLITE_INNOCUOUS;
     int code = SQLITE_OK;
-    for (size_t i = 0; i < sizeof functions / sizeof *functions && code == SQLITE_OK; i++)
-        code = sqlite3_create_function_v2(database, functions[i].name, functions[i].arguments,
-                                          flags, (void *)&functions[i], run, NULL, NULL, NULL);
+    for (size_t i = 0; i < sizeof functions / sizeof *functions && code == SQLITE_OK; i++) {
+        const struct function *function = &functions[i];
+        int flags = SQLITE_UTF8 | SQLITE_INNOCUOUS | function->flags;
+        code = sqlite3_create_function_v2(database, function->name, function->arguments, flags,
+                                          (void *)function, run, NULL, NULL, NULL);
+    }
     return code;
 }

@@ -1,7 +1,7 @@
-/* Results of the SQL functions: documents, texts and SQL values. */
+/* Results of the SQL functions: documents, and parts as SQL values. */
 #include "extension.h"
 
-#include <string.h>
+#include <stdlib.h>
 
 SQLITE_EXTENSION_INIT3
 
@@ -14,90 +14,6 @@ static const char *const kind_names[] = {
     [KOHIBLAD_ARRAY] = "array",
     [KOHIBLAD_OBJECT] = "object",
 };
-
-static void release(struct buffer *buffer)
-{
-    if (buffer->at != buffer->small) sqlite3_free(buffer->at);
-}
-
-static bool is_within_limit(const struct caller *caller, size_t length)
-{
-    sqlite3 *database = sqlite3_context_db_handle(caller->context);
-    return length <= (size_t)sqlite3_limit(database, SQLITE_LIMIT_LENGTH, -1);
-}
-
-bool fill(const struct caller *caller, struct buffer *buffer, writer *write, const void *input,
-          size_t guess)
-{
-    size_t room = sizeof buffer->small;
-    uint32_t status;
-    buffer->at = buffer->small;
-    /* A guess past the limit is no error: the result may be shorter. */
-    if (guess > room && is_within_limit(caller, guess))
-        buffer->at = sqlite3_malloc64(room = guess);
-    for (;;) {
-        if (!buffer->at) status = KOHIBLAD_OUT_OF_MEMORY;
-        else status = write(input, buffer->at, room, &buffer->size);
-        if (status == KOHIBLAD_OK) return true;
-        release(buffer);
-        if (status != KOHIBLAD_NO_ROOM) {
-            fail(caller, status);
-            return false;
-        }
-        if (!is_within_limit(caller, buffer->size)) {
-            sqlite3_result_error_toobig(caller->context);
-            return false;
-        }
-        buffer->at = sqlite3_malloc64(room = buffer->size);
-    }
-}
-
-static void (*owner(struct buffer *buffer))(void *)
-{
-    return buffer->at == buffer->small ? SQLITE_TRANSIENT : sqlite3_free;
-}
-
-void give_blob(const struct caller *caller, struct buffer *buffer)
-{
-    sqlite3_result_blob64(caller->context, buffer->at, buffer->size, owner(buffer));
-}
-
-void give_text(const struct caller *caller, struct buffer *buffer)
-{
-    sqlite3_result_text64(caller->context, (const char *)buffer->at, buffer->size, owner(buffer),
-                          SQLITE_UTF8);
-}
-
-uint32_t write_bytes(const void *input, uint8_t *out, size_t room, size_t *length)
-{
-    const struct bytes *bytes = input;
-    *length = bytes->size;
-    if (room < bytes->size) return KOHIBLAD_NO_ROOM;
-    if (bytes->size) memcpy(out, bytes->at, bytes->size);
-    return KOHIBLAD_OK;
-}
-
-uint32_t write_sql_value(const void *input, uint8_t *out, size_t room, size_t *length)
-{
-    sqlite3_value *value = (sqlite3_value *)input;
-    struct bytes bytes;
-    int type = sqlite3_value_type(value);
-    if (type == SQLITE_NULL) return kohiblad_of_null(out, room, length);
-    if (type == SQLITE_INTEGER)
-        return kohiblad_of_int64(sqlite3_value_int64(value), out, room, length);
-    if (!bytes_of(value, &bytes)) return KOHIBLAD_OUT_OF_MEMORY;
-    if (type == SQLITE_TEXT) return kohiblad_of_text(bytes.at, bytes.size, out, room, length);
-    return write_bytes(&bytes, out, room, length);
-}
-
-static uint32_t write_part(const void *input, uint8_t *out, size_t room, size_t *length)
-{
-    const struct part *part = input;
-    return kohiblad_of_part(part->type, part->payload.at, part->payload.size, out, room, length);
-}
-
-/* A part's document has at most these bytes more than its payload. */
-enum { SCALAR_FRONT = 8 };
 
 static const uint8_t kinds_of_scalars[] = {
     [KOHIBLAD_TYPE_NULL >> 28] = KOHIBLAD_NULL,
@@ -127,6 +43,13 @@ void give_kind(const struct caller *caller, const struct part *part)
     else sqlite3_result_text(caller->context, kind_names[kind.kind], -1, SQLITE_STATIC);
 }
 
+void give_compact(const struct caller *caller, struct bytes document)
+{
+    struct buffer buffer;
+    if (fill(caller, &buffer, write_compact, &document, document.size + document.size / 2))
+        give_json(caller, &buffer);
+}
+
 void give_document(const struct caller *caller, const struct part *part)
 {
     struct buffer buffer;
@@ -134,33 +57,24 @@ void give_document(const struct caller *caller, const struct part *part)
         give_blob(caller, &buffer);
 }
 
-static uint32_t write_compact(const void *input, uint8_t *out, size_t room, size_t *length)
-{
-    const struct bytes *document = input;
-    return kohiblad_to_string_within(document->at, document->size, KOHIBLAD_SQLITE_DEPTH, out, room,
-                                     length);
-}
+/* Makes a document, of the kind that the giver is for, the result. */
+typedef void giver(const struct caller *caller, struct bytes document);
 
-void give_compact(const struct caller *caller, struct bytes document)
+static void give_by(giver *give, const struct caller *caller, const struct part *part)
 {
     struct buffer buffer;
-    if (fill(caller, &buffer, write_compact, &document, document.size + document.size / 2))
-        give_text(caller, &buffer);
+    if (part->type == KOHIBLAD_TYPE_CONTAINER) {
+        give(caller, part->payload);
+    } else if (fill(caller, &buffer, write_part, part, SCALAR_FRONT + part->payload.size)) {
+        give(caller, (struct bytes){ buffer.at, buffer.size });
+        release(&buffer);
+    }
 }
 
-static void give_checked_compact(const struct caller *caller, struct bytes document)
+static void give_null(const struct caller *caller, struct bytes document)
 {
-    if (kohiblad_check(document.at, document.size, KOHIBLAD_SQLITE_DEPTH))
-        give_compact(caller, document);
-    else fail(caller, KOHIBLAD_INVALID_JSONB);
-}
-
-static void give_number(const struct caller *caller, struct bytes document)
-{
-    struct kohiblad_integer number = kohiblad_int64(document.at, document.size);
-    if (number.status == KOHIBLAD_OK) sqlite3_result_int64(caller->context, number.value);
-    else if (number.status == KOHIBLAD_PAST_RANGE) give_compact(caller, document);
-    else fail(caller, number.status);
+    (void)document;
+    sqlite3_result_null(caller->context);
 }
 
 static void give_boolean(const struct caller *caller, struct bytes document)
@@ -168,6 +82,57 @@ static void give_boolean(const struct caller *caller, struct bytes document)
     struct kohiblad_truth truth = kohiblad_boolean(document.at, document.size);
     if (truth.status == KOHIBLAD_OK) sqlite3_result_int(caller->context, (int)truth.value);
     else fail(caller, truth.status);
+}
+
+static void give_digits(const struct caller *caller, struct bytes document)
+{
+    struct buffer buffer;
+    if (fill(caller, &buffer, write_compact, &document, 0)) give_text(caller, &buffer);
+}
+
+/* A sign, "0." and 255 digits. */
+enum { LONGEST_NUMBER = 258 };
+
+/* The double nearest to the number of a text. strtod is exact, where SQLite's own reading of texts
+ * misses the last bit of some. It reads the point of the locale, so it gets none: of 1.50 it reads
+ * 150e-2. */
+static double nearest_double(const char *text, size_t size)
+{
+    char digits[LONGEST_NUMBER + sizeof "e-255"];
+    size_t count = 0, scale = 0;
+    for (size_t i = 0; i < size; i++) {
+        if (text[i] == '.') scale = size - i - 1;
+        else digits[count++] = text[i];
+    }
+    sqlite3_snprintf((int)(sizeof digits - count), digits + count, "e-%d", (int)scale);
+    return strtod(digits, NULL);
+}
+
+static void give_real(const struct caller *caller, struct bytes document)
+{
+    char text[LONGEST_NUMBER];
+    size_t size;
+    uint32_t status = write_compact(&document, (uint8_t *)text, sizeof text, &size);
+    if (status != KOHIBLAD_OK) fail(caller, status);
+    else sqlite3_result_double(caller->context, nearest_double(text, size));
+}
+
+static void give_integer_or(giver *give_other, const struct caller *caller, struct bytes document)
+{
+    struct kohiblad_integer number = kohiblad_int64(document.at, document.size);
+    if (number.status == KOHIBLAD_OK) sqlite3_result_int64(caller->context, number.value);
+    else if (number.status == KOHIBLAD_PAST_RANGE) give_other(caller, document);
+    else fail(caller, number.status);
+}
+
+static void give_exact(const struct caller *caller, struct bytes document)
+{
+    give_integer_or(give_digits, caller, document);
+}
+
+static void give_nearest(const struct caller *caller, struct bytes document)
+{
+    give_integer_or(give_real, caller, document);
 }
 
 static void give_string(const struct caller *caller, struct bytes document)
@@ -193,28 +158,53 @@ static void give_extension(const struct caller *caller, struct bytes document)
     }
 }
 
-static void give_by_kind(const struct caller *caller, uint32_t kind, struct bytes document)
+static void give_binary(const struct caller *caller, struct bytes document)
 {
-    switch (kind) {
-    case KOHIBLAD_NULL: sqlite3_result_null(caller->context); break;
-    case KOHIBLAD_BOOLEAN: give_boolean(caller, document); break;
-    case KOHIBLAD_NUMBER: give_number(caller, document); break;
-    case KOHIBLAD_STRING: give_string(caller, document); break;
-    case KOHIBLAD_EXTENSION: give_extension(caller, document); break;
-    default: give_checked_compact(caller, document);
-    }
+    struct kohiblad_extension_value value = kohiblad_extension(document.at, document.size);
+    if (value.status != KOHIBLAD_OK) fail(caller, value.status);
+    else if (value.tag == KOHIBLAD_BINARY)
+        sqlite3_result_blob64(caller->context, document.at + value.offset, value.length,
+                              SQLITE_TRANSIENT);
 }
+
+static void give_container(const struct caller *caller, struct bytes document)
+{
+    if (kohiblad_check(document.at, document.size, KOHIBLAD_SQLITE_DEPTH))
+        give_compact(caller, document);
+    else fail(caller, KOHIBLAD_INVALID_JSONB);
+}
+
+static giver *const givers[] = {
+    [KOHIBLAD_NULL] = give_null,
+    [KOHIBLAD_BOOLEAN] = give_boolean,
+    [KOHIBLAD_NUMBER] = give_exact,
+    [KOHIBLAD_STRING] = give_string,
+    [KOHIBLAD_EXTENSION] = give_extension,
+    [KOHIBLAD_ARRAY] = give_container,
+    [KOHIBLAD_OBJECT] = give_container,
+};
 
 void give_value(const struct caller *caller, const struct part *part)
 {
     struct kohiblad_value_kind kind = kind_of_part(part);
-    struct buffer buffer;
-    if (kind.status != KOHIBLAD_OK) {
-        fail(caller, kind.status);
-    } else if (part->type == KOHIBLAD_TYPE_CONTAINER) {
-        give_by_kind(caller, kind.kind, part->payload);
-    } else if (fill(caller, &buffer, write_part, part, SCALAR_FRONT + part->payload.size)) {
-        give_by_kind(caller, kind.kind, (struct bytes){ buffer.at, buffer.size });
-        release(&buffer);
-    }
+    if (kind.status == KOHIBLAD_OK) give_by(givers[kind.kind], caller, part);
+    else fail(caller, kind.status);
+}
+
+static void give_if(uint32_t wanted, giver *give, const struct caller *caller,
+                    const struct part *part)
+{
+    struct kohiblad_value_kind kind = kind_of_part(part);
+    if (kind.status != KOHIBLAD_OK) fail(caller, kind.status);
+    else if (kind.kind == wanted) give_by(give, caller, part);
+}
+
+void give_number(const struct caller *caller, const struct part *part)
+{
+    give_if(KOHIBLAD_NUMBER, give_nearest, caller, part);
+}
+
+void give_data(const struct caller *caller, const struct part *part)
+{
+    give_if(KOHIBLAD_EXTENSION, give_binary, caller, part);
 }

@@ -1,18 +1,53 @@
+-- The place is after the bytes that begin some JSON text.
 SELECT jb('{"a":');
---! jb: InvalidJson
+--! jb: InvalidJson at byte 5
 SELECT jb('');
---! jb: InvalidJson
-SELECT jb('1e5');
---! jb: InvalidJson
--- A number of 39 digits past 128 bits.
-SELECT jb('999999999999999999999999999999999999999');
---! jb: InvalidJson
+--! jb: InvalidJson at byte 0
+SELECT jb('[1,]');
+--! jb: InvalidJson at byte 3
+SELECT jb('{"a":1,}');
+--! jb: InvalidJson at byte 7
+SELECT jb('[1]]');
+--! jb: InvalidJson at byte 3
+SELECT jb('NaN');
+--! jb: InvalidJson at byte 0
+SELECT jb('01');
+--! jb: InvalidJson at byte 1
 SELECT jb('"' || char(0) || '"');
---! jb: InvalidJson
+--! jb: InvalidJson at byte 1
 SELECT jb('1' || char(0));
---! jb: InvalidJson
+--! jb: InvalidJson at byte 1
 SELECT jb('"\ud800"');
---! jb: InvalidJson
+--! jb: InvalidJson at byte 7
+-- Bytes of UTF-8, in a database of UTF-16 too: the first letter has two, the second four.
+SELECT jb('["é" 1]');
+--! jb: InvalidJson at byte 6
+SELECT jb('["' || char(0x1F600) || '" 1]');
+--! jb: InvalidJson at byte 8
+-- Only a number is at fault: an exponent, 39 digits past 128 bits, and 256 after the point.
+SELECT jb('1e5');
+--! jb: BadNumber at byte 1
+SELECT jb('{"a": 1e5}');
+--! jb: BadNumber at byte 7
+SELECT jb('{"a": [1, 2.5e-7]}');
+--! jb: BadNumber at byte 13
+SELECT jb('999999999999999999999999999999999999999');
+--! jb: BadNumber at byte 38
+SELECT jb('170141183460469231731687303715884105728');
+--! jb: BadNumber at byte 38
+SELECT jb('0.' || hex(zeroblob(128)));
+--! jb: BadNumber at byte 257
+-- A number and something else.
+SELECT jb('[1e5,]');
+--! jb: InvalidJson at byte 2
+SELECT jb_compare(jb('[]'), '[1');
+--! jb_compare: InvalidJson at byte 2
+SELECT jb_compare('1e5', '[1');
+--! jb_compare: BadNumber at byte 1
+SELECT jb_compare(1.5, 'null');
+--! jb_compare: InvalidJsonbNumber: a REAL is refused, pass decimals as TEXT
+SELECT jb_compare('null', 1.5);
+--! jb_compare: InvalidJsonbNumber: a REAL is refused, pass decimals as TEXT
 SELECT jb(1.5);
 --! jb: InvalidJsonbNumber: a REAL is refused, pass decimals as TEXT
 SELECT jb_of(1.0);
@@ -65,6 +100,10 @@ SELECT jb_valid(jb(opened || closed)) FROM deep;
 --> 1
 SELECT jb('[' || opened || closed || ']') FROM deep;
 --! jb: TooDeep
+SELECT jb_compare('[]', '[' || opened || closed || ']') FROM deep;
+--! jb_compare: TooDeep
+SELECT jb(opened || '}') FROM deep;
+--! jb: InvalidJson at byte 1000
 SELECT jb(replace(hex(zeroblob(50000)), '0', '['));
 --! jb: TooDeep
 SELECT jb_group_array(jb(opened || closed)) FROM deep;

@@ -20,6 +20,31 @@ SELECT count(*) FROM t GROUP BY jb_key(doc) HAVING count(*) > 1;
 SELECT jb_key(x'00') > jb_key(jb('null')), jb_key(x'00') < jb_key(x'01');
 --> 1|1
 
+-- The same order between two: of the 17 rows in this order, also of their JSON texts.
+CREATE TABLE ranked AS SELECT text, doc, dense_rank() OVER (ORDER BY jb_key(doc)) AS rank FROM t;
+SELECT count(*), sum(jb_compare(a.doc, b.doc) = sign(a.rank - b.rank)),
+    sum(jb_compare(a.text, b.doc) = sign(a.rank - b.rank)),
+    sum(jb_compare(a.text, b.text) = sign(a.rank - b.rank))
+FROM ranked a, ranked b;
+--> 289|289|289|289
+SELECT jb_compare(jb('5'), jb('5.00')), jb_compare(jb('{"b":1,"a":[2]}'), '{"a":[2.0],"b":1}');
+--> 0|0
+SELECT jb_compare(jb('1.50'), '1.5'), jb_compare(jb('1.50'), '1.49'), jb_compare(jb('1.50'), 2);
+--> 0|1|-1
+SELECT jb_compare(7, 7), jb_compare(-7, '-7.0'), jb_compare('"10"', '"9"'), jb_compare('"a"', 7);
+--> 0|0|-1|1
+SELECT jb_compare(NULL, jb('1')), jb_compare('1', NULL), jb_compare(NULL, NULL);
+--> NULL|NULL|NULL
+SELECT jb_compare(x'00', jb('null')), jb_compare(jb('null'), x'00'), jb_compare(x'00', x'01');
+--> 1|-1|-1
+-- Texts longer than the first room.
+SELECT jb_compare('"' || x || '"', '"' || x || '"'), jb_compare('"' || x || '"', jb_of(x || 'x'))
+FROM (SELECT hex(zeroblob(5000)) AS x);
+--> 0|-1
+SELECT group_concat(text, ' ') FROM (SELECT text FROM t
+    WHERE jb_compare(doc, '9') >= 0 AND jb_compare(doc, '"B"') <= 0 ORDER BY jb_key(doc), text);
+--> 9 9.0 10 18446744073709551616 "" "B"
+
 CREATE INDEX by_doc ON t(jb_key(doc));
 EXPLAIN QUERY PLAN SELECT text FROM t ORDER BY jb_key(doc);
 --> QUERY PLAN

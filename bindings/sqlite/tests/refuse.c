@@ -1,8 +1,10 @@
 /* Runs SQL with each allocation refused in turn: the answer is the right one or SQLITE_NOMEM, and
  * all memory is freed. Then passes hostile and broken documents, and makes results past SQLite's
- * limit. Prints how many tests passed. The extension is its argument. */
+ * limit. All in the locale of the environment, whose decimal point may be a comma. Prints how many
+ * tests passed. The extension is its argument. */
 #define _GNU_SOURCE
 #include <dlfcn.h>
+#include <locale.h>
 #include <sqlite3.h>
 #include <stdbool.h>
 #include <stdint.h>
@@ -53,22 +55,25 @@ static sqlite3 *open_database(void)
     return database;
 }
 
-/* The code of a statement, and the text of its only row. */
+enum { ANSWER = 64 };
+
+/* The code of a statement, and the text of its only row or of its error. */
 static int run(sqlite3 *database, const char *sql, const void *blob, int size, char *answer)
 {
     sqlite3_stmt *statement;
     const unsigned char *text;
     int code = sqlite3_prepare_v2(database, sql, -1, &statement, NULL);
-    if (code != SQLITE_OK) return code;
-    if (blob) code = sqlite3_bind_blob(statement, 1, blob, size, SQLITE_STATIC);
-    if (code == SQLITE_OK) code = sqlite3_step(statement);
     *answer = 0;
+    if (code == SQLITE_OK && blob)
+        code = sqlite3_bind_blob(statement, 1, blob, size, SQLITE_STATIC);
+    if (code == SQLITE_OK) code = sqlite3_step(statement);
     if (code == SQLITE_ROW) {
         text = sqlite3_column_text(statement, 0);
-        if (text) snprintf(answer, 64, "%s", (const char *)text);
+        if (text) snprintf(answer, ANSWER, "%s", (const char *)text);
         else if (sqlite3_errcode(database) == SQLITE_NOMEM) code = SQLITE_NOMEM;
     }
     sqlite3_finalize(statement);
+    if (code == SQLITE_ERROR) snprintf(answer, ANSWER, "%s", sqlite3_errmsg(database));
     return code;
 }
 
@@ -90,24 +95,61 @@ static const struct { const char *sql, *answer; } statements[] = {
     { "SELECT group_concat(key || value || kind) FROM jb_each(jb('{\"k\":[7]}'), '$.k')",
       "07number" },
     { "SELECT sum(length(document)) FROM jb_each(jb('[1,\"x\",[]]'))", "23" },
+    { "SELECT jb_number(jb('{\"a\":[1.50]}'), '$.a[0]')", "1.5" },
+    { "SELECT jb_number(jb('-18446744073709551616.0'), '$')", "-1.84467440737096e+19" },
+    { "SELECT jb_number(jb('12'), '$')", "12" },
+    { "SELECT jb_compare(jb('[1.5]'), '[1.50]') || jb_compare(2, '\"x\"')", "0-1" },
+    { "SELECT jb_compare('\"' || x || '\"', '\"' || x || '\"')"
+      " FROM (SELECT hex(zeroblob(4000)) AS x)", "0" },
+    { "SELECT json_group_array(jb_text(jb(value))) FROM json_each('[[1],{}]')", "[[1],{}]" },
+    { "SELECT json_array(jb_value(jb('{\"a\":[1]}'), '$.a'), jb_pretty(jb('2')))", "[[1],2]" },
+    { "SELECT jb_text(jb_of(json('[1, \"x\"]')))", "[1,\"x\"]" },
+    { "SELECT jb_text(jb_group_array(value)) FROM json_each('[[1],{\"a\":2.50}]')",
+      "[[1],{\"a\":2.50}]" },
+    { "SELECT jb_text(jb_group_object(key, value)) FROM json_each('{\"a\":[1]}')",
+      "{\"a\":[1]}" },
+    { "SELECT jb_value(jb_group_array(jb_binary(x'00FF')), '$[0]')", "00ff" },
+    { "SELECT hex(jb_blob(jb_group_array(jb_binary(x'00FF')), '$[0]'))", "00FF" },
+    { "SELECT length(jb_blob(jb_binary(zeroblob(5000)), '$'))", "5000" },
+    { "SELECT jb_version() LIKE '%.%.%'", "1" },
 };
 
-/* Refuses the first allocation, the second and so on, until the statement needs no more. */
-static void refuse_each(const char *sql, const char *right)
+/* The place of a text's fault needs memory: if that is refused, the error is the second. */
+static const struct { const char *sql, *error, *unplaced; } faults[] = {
+    { "SELECT jb('[1,]')", "jb: InvalidJson at byte 3", "jb: InvalidJson" },
+    { "SELECT jb('[1, 1e5]')", "jb: BadNumber at byte 5", "jb: InvalidJson" },
+    { "SELECT jb_of(json('[1e5]'))", "jb_of: BadNumber at byte 2", "jb_of: InvalidJson" },
+    { "SELECT jb_compare(jb('1'), '1x')", "jb_compare: InvalidJson at byte 1",
+      "jb_compare: InvalidJson" },
+    { "SELECT jb_compare('\"' || hex(zeroblob(4000)) || '\"', '1x')",
+      "jb_compare: InvalidJson at byte 1", "jb_compare: InvalidJson" },
+    { "SELECT jb_group_array(json('1e5'))", "jb_group_array: BadNumber at byte 1",
+      "jb_group_array: InvalidJson" },
+};
+
+static void expect(const char *sql, const char *got, const char *right, const char *unplaced)
 {
-    int code = SQLITE_NOMEM;
-    char answer[64];
-    for (long refused = 0; code != SQLITE_ROW; refused++) {
+    if (strcmp(got, right) && (!unplaced || strcmp(got, unplaced))) fail(got, sql);
+}
+
+/* Refuses the first allocation, the second and so on, until the statement needs no more. SQLite can
+ * do without some. `unplaced` is that of a fault, else null. */
+static void refuse_each(const char *sql, const char *right, const char *unplaced)
+{
+    bool was_refused = true;
+    for (long refused = 0; was_refused; refused++) {
         sqlite3_int64 used = sqlite3_memory_used();
         sqlite3 *database = open_database();
+        char answer[ANSWER];
+        int code;
         countdown = refused;
         is_counting = true;
         code = run(database, sql, NULL, 0, answer);
         is_counting = false;
-        if (code != SQLITE_ROW && code != SQLITE_NOMEM) fail(sqlite3_errmsg(database), sql);
-        if (code == SQLITE_ROW && strcmp(answer, right)) fail(answer, sql);
-        /* Allocations that SQLite can do without are refused, too. */
-        if (code == SQLITE_ROW && countdown < 0) code = SQLITE_NOMEM;
+        was_refused = countdown < 0;
+        if (code == (unplaced ? SQLITE_ERROR : SQLITE_ROW))
+            expect(sql, answer, right, was_refused ? unplaced : NULL);
+        else if (code != SQLITE_NOMEM || !was_refused) fail(sqlite3_errmsg(database), sql);
         if (sqlite3_close(database) != SQLITE_OK) fail("the database stays open", sql);
         if (sqlite3_memory_used() != used) fail("memory is lost", sql);
         if (refused > 100000) fail("it takes memory without end", sql);
@@ -143,6 +185,11 @@ static const struct { const char *sql; int code; const char *answer; } hostile[]
     { "SELECT value FROM jb_each(?)", SQLITE_ERROR, "jb_each: InvalidJsonb" },
     { "SELECT kind FROM jb_each(?)", SQLITE_ROW, "array" },
     { "SELECT jb_key(?) > jb_key(jb('null'))", SQLITE_ROW, "1" },
+    { "SELECT jb_compare(?1, 'null') - jb_compare('null', ?1) + jb_compare(?1, ?1)", SQLITE_ROW,
+      "2" },
+    { "SELECT jb_number(?, '$')", SQLITE_ROW, "" },
+    { "SELECT jb_blob(?, '$')", SQLITE_ROW, "" },
+    { "SELECT length(jb_blob(jb_binary(?), '$'))", SQLITE_ROW, "799996" },
     { "SELECT jb_kind(?)", SQLITE_ROW, "array" },
     { "SELECT jb_length(jb_at(?, '$[0][0]'))", SQLITE_ROW, "1" },
 };
@@ -150,13 +197,13 @@ static const struct { const char *sql; int code; const char *answer; } hostile[]
 static void pass_hostile(void)
 {
     sqlite3 *database = open_database();
-    char answer[64];
+    char answer[ANSWER];
     int size;
     uint8_t *bytes = nested(100000, &size);
     for (size_t i = 0; i < sizeof hostile / sizeof *hostile; i++, passed++) {
         int code = run(database, hostile[i].sql, bytes, size, answer);
-        const char *got = code == SQLITE_ROW ? answer : sqlite3_errmsg(database);
-        if (code != hostile[i].code || strcmp(got, hostile[i].answer)) fail(got, hostile[i].sql);
+        if (code != hostile[i].code || strcmp(answer, hostile[i].answer))
+            fail(answer, hostile[i].sql);
     }
     free(bytes);
     if (sqlite3_close(database) != SQLITE_OK) fail("the database stays open", "");
@@ -178,6 +225,11 @@ static const struct { const char *sql; bool is_checked; } broken[] = {
     { "SELECT group_concat(key || value || kind || document) FROM jb_each(?)", false },
     { "SELECT count(value) FROM jb_each(?, '$.b')", false },
     { "SELECT jb_key(?)", false },
+    { "SELECT jb_compare(?, '{}')", false },
+    { "SELECT jb_number(?, '$.b.c')", false },
+    { "SELECT jb_number(?, '$.a[0]')", false },
+    { "SELECT jb_blob(?, '$.e')", false },
+    { "SELECT json_array(jb_value(?, '$.a'))", false },
     { "SELECT jb_length(?)", false },
     { "SELECT jb_kind(?)", false },
 };
@@ -186,7 +238,7 @@ static const struct { const char *sql; bool is_checked; } broken[] = {
  * and those that check the whole document have an answer exactly if it is valid. */
 static void pass_broken(sqlite3 *database, const uint8_t *bytes, int size)
 {
-    char valid[64], answer[64];
+    char valid[ANSWER], answer[ANSWER];
     uint8_t *copy = malloc(size ? (size_t)size : 1); /* so that valgrind sees its end */
     memcpy(copy, bytes, (size_t)size);
     if (run(database, "SELECT jb_valid(?)", copy, size, valid) != SQLITE_ROW) fail("valid", "");
@@ -211,7 +263,7 @@ static void break_each_byte(void)
         "\x10\0\0\x4e\x20";
     enum { SIZE = sizeof whole - 1 };
     sqlite3 *database = open_database();
-    char answer[64];
+    char answer[ANSWER];
     uint8_t bytes[SIZE];
     if (run(database, "SELECT jb_valid(?)", whole, SIZE, answer) != SQLITE_ROW || *answer != '1')
         fail("the document is wrong", "");
@@ -233,12 +285,14 @@ static const char *const too_big[] = {
     "SELECT jb_of(replace(hex(zeroblob(1000)), '0', 'x'))",
     "SELECT jb_text(jb_of(replace(hex(zeroblob(500)), '0', char(1))))",
     "SELECT jb_group_array(hex(zeroblob(400))) FROM json_each('[1,2,3]')",
+    "SELECT jb_compare('[' || replace(hex(zeroblob(400)), '0', '1,') || '1]', 'null')",
+    "SELECT jb_binary(zeroblob(1995))",
 };
 
 static void pass_limit(void)
 {
     sqlite3 *database = open_database();
-    char answer[64];
+    char answer[ANSWER];
     sqlite3_limit(database, SQLITE_LIMIT_LENGTH, 2000);
     for (size_t i = 0; i < sizeof too_big / sizeof *too_big; i++, passed++)
         if (run(database, too_big[i], NULL, 0, answer) != SQLITE_TOOBIG)
@@ -250,9 +304,12 @@ int main(int count, char **arguments)
 {
     if (count != 2) return 2;
     extension = arguments[1];
+    if (!setlocale(LC_ALL, "")) fail("there is no such locale", "");
     sqlite3_initialize();
     for (size_t i = 0; i < sizeof statements / sizeof *statements; i++)
-        refuse_each(statements[i].sql, statements[i].answer);
+        refuse_each(statements[i].sql, statements[i].answer, NULL);
+    for (size_t i = 0; i < sizeof faults / sizeof *faults; i++)
+        refuse_each(faults[i].sql, faults[i].error, faults[i].unplaced);
     pass_hostile();
     break_each_byte();
     pass_limit();

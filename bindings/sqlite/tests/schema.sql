@@ -60,6 +60,15 @@ INSERT INTO checked VALUES ('{}');
 --! CHECK constraint failed: jb_valid(doc) (19)
 SELECT count(*) FROM checked;
 --> 2
+-- All are innocuous. The version is not deterministic: it changes when the library is replaced.
+SELECT group_concat(name) FROM pragma_function_list WHERE name LIKE 'jb%' AND NOT flags & 0x200000;
+--> NULL
+SELECT group_concat(name) FROM pragma_function_list WHERE name LIKE 'jb%' AND NOT flags & 0x800;
+--> jb_version
+-- These read subtypes.
+SELECT group_concat(name, ' ') FROM (SELECT name FROM pragma_function_list
+    WHERE name LIKE 'jb%' AND flags & 0x100000 ORDER BY name);
+--> jb_group_array jb_group_object jb_of
 -- An index refuses what its function refuses, and nothing is stored.
 CREATE TABLE plain(doc);
 CREATE INDEX plain_id ON plain(jb_value(doc, '$.id'));

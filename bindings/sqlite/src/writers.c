@@ -1,0 +1,84 @@
+/* Writers: the library's calls over documents, parts and SQL values. */
+#include "extension.h"
+
+#include <string.h>
+
+SQLITE_EXTENSION_INIT3
+
+uint32_t write_bytes(const void *input, uint8_t *out, size_t room, size_t *length)
+{
+    const struct bytes *bytes = input;
+    *length = bytes->size;
+    if (room < bytes->size) return KOHIBLAD_NO_ROOM;
+    if (bytes->size) memcpy(out, bytes->at, bytes->size);
+    return KOHIBLAD_OK;
+}
+
+static uint32_t write_parsed(const void *input, uint8_t *out, size_t room, size_t *length)
+{
+    const struct bytes *text = input;
+    return kohiblad_parse(text->at, text->size, KOHIBLAD_SQLITE_DEPTH, out, room, length);
+}
+
+static uint32_t write_string(const void *input, uint8_t *out, size_t room, size_t *length)
+{
+    const struct bytes *text = input;
+    return kohiblad_of_text(text->at, text->size, out, room, length);
+}
+
+uint32_t write_sql_value(const void *input, uint8_t *out, size_t room, size_t *length)
+{
+    const struct sql_value *value = input;
+    writer *write = value->is_json ? write_parsed : write_string;
+    if (value->type == SQLITE_NULL) return kohiblad_of_null(out, room, length);
+    if (value->type == SQLITE_INTEGER)
+        return kohiblad_of_int64(value->integer, out, room, length);
+    if (value->type == SQLITE_BLOB) write = write_bytes;
+    return write(&value->bytes, out, room, length);
+}
+
+/* Most documents are shorter than twice their JSON text, and numbers have at most 27 bytes. */
+size_t guess_of(const struct sql_value *value)
+{
+    return 32 + (value->is_json ? 2 : 1) * value->bytes.size;
+}
+
+uint32_t write_part(const void *input, uint8_t *out, size_t room, size_t *length)
+{
+    const struct part *part = input;
+    return kohiblad_of_part(part->type, part->payload.at, part->payload.size, out, room, length);
+}
+
+uint32_t write_compact(const void *input, uint8_t *out, size_t room, size_t *length)
+{
+    const struct bytes *document = input;
+    return kohiblad_to_string_within(document->at, document->size, KOHIBLAD_SQLITE_DEPTH, out, room,
+                                     length);
+}
+
+uint32_t write_pretty(const void *input, uint8_t *out, size_t room, size_t *length)
+{
+    const struct bytes *document = input;
+    return kohiblad_to_pretty_within(document->at, document->size, KOHIBLAD_SQLITE_DEPTH, out, room,
+                                     length);
+}
+
+uint32_t write_canonical(const void *input, uint8_t *out, size_t room, size_t *length)
+{
+    const struct bytes *document = input;
+    return kohiblad_to_canonical_within(document->at, document->size, KOHIBLAD_SQLITE_DEPTH, out,
+                                        room, length);
+}
+
+uint32_t write_key(const void *input, uint8_t *out, size_t room, size_t *length)
+{
+    const struct bytes *document = input;
+    return kohiblad_key(document->at, document->size, KOHIBLAD_SQLITE_DEPTH, out, room, length);
+}
+
+uint32_t write_binary(const void *input, uint8_t *out, size_t room, size_t *length)
+{
+    const struct bytes *data = input;
+    return kohiblad_of_extension(KOHIBLAD_BINARY, 0, 0, 0, 0, data->at, data->size, out, room,
+                                 length);
+}
