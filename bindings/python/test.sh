@@ -4,8 +4,8 @@
 #     PREFIX=/usr/local bindings/python/test.sh
 #     PKG_CONFIG_PATH=/usr/local/lib/pkgconfig bindings/python/test.sh
 #
-# PYTHON names another Python than python3. The last line says how many tests passed; the status is
-# 0, 1 after a failure, or 77 if a tool is missing.
+# PYTHON names another Python than python3. The last line says how many tests passed, and lines
+# before it which were passed over; the status is 0, 1 after a failure, or 77 if a tool is missing.
 set -euo pipefail
 name=bindings/python
 python=${PYTHON:-python3}
@@ -35,10 +35,13 @@ fi
 library=$folder/libkohiblad.so.0
 [ -e "$library" ] || fail "there is no $library"
 
+top=$(cd "$(dirname "$0")/../.." && pwd)
+cmp "$top/LICENSE" "$top/$name/LICENSE" || fail "LICENSE is not that of the repository"
 scratch=$(mktemp -d)
 trap 'rm -rf "$scratch"' EXIT
-cp -r "$(cd "$(dirname "$0")" && pwd)/." "$scratch/python"
-cp -r "$(dirname "$0")/../../tests/lines/jsonb_probe" "$scratch/lines"
+cp -r "$top/$name" "$scratch/python"
+cp -r "$top/bindings/examples" "$scratch/examples"
+cp -r "$top/tests/lines/jsonb_probe" "$scratch/lines"
 cd "$scratch/python"
 export HOME=$scratch KOHIBLAD_LIBRARY=$library KOHIBLAD_LINES=$scratch/lines
 export PYTHONPATH=$scratch/python/src PYTHONWARNINGS=error::SyntaxWarning
@@ -46,7 +49,8 @@ export PYTHONPATH=$scratch/python/src PYTHONWARNINGS=error::SyntaxWarning
 run "$python" --version
 run "$python" -m compileall -q src tests build_backend bench.py || fail "a file has a wrong syntax"
 cd tests
-run "$python" -m unittest 2>&1 | tee "$scratch/log" || fail "the tests failed"
+run "$python" -m unittest -v 2>&1 | tee "$scratch/log" || fail "the tests failed"
 ran=$(sed -n 's/^Ran \([0-9]*\) test.*/\1/p' "$scratch/log")
 skipped=$(sed -n 's/^OK.*skipped=\([0-9]*\).*/\1/p' "$scratch/log")
+sed -n "s|.*\.\.\. skipped ['\"]\(.*\)['\"]$|$name: passed over: \1|p" "$scratch/log" | sort -u
 echo "$name: $((ran - ${skipped:-0})) tests passed"

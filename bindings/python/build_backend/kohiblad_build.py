@@ -1,56 +1,98 @@
-"""Builds the wheel of kohiblad by the standard library alone (PEP 517).
+"""Builds the packages of kohiblad by the standard library alone (PEP 517 and PEP 660).
 
 The wheel has the shared library inside if it is found: below PREFIX, if that is set, or else by
 pkg-config. Then it is for this platform. Without the library it is for all, and the package loads
-the system's. To build it with no pip: python3 build_backend/kohiblad_build.py FOLDER
+the system's. An editable wheel leads to src, where the library that is found is linked. The source
+distribution has what these builds read. To build without pip:
+
+    python3 build_backend/kohiblad_build.py FOLDER            # the wheel
+    python3 build_backend/kohiblad_build.py --sdist FOLDER    # the source distribution
 """
 import base64
+import gzip
 import hashlib
+import io
 import os
 import re
 import subprocess
 import sys
 import sysconfig
+import tarfile
 import zipfile
 
 TOP = os.path.dirname(os.path.dirname(os.path.abspath(__file__)))
+SOURCE = os.path.join(TOP, "src")
 LIBRARY = "libkohiblad.so.0"
+# What a source distribution has beside the package and its metadata.
+OTHERS = ("LICENSE", "README.md", "build_backend/kohiblad_build.py", "pyproject.toml")
+# A fixed time, so that the same files make the same package: the beginning of 2020.
+DATE, SECONDS = (2020, 1, 1, 0, 0, 0), 1577836800
 
 
 def build_wheel(wheel_directory, config_settings=None, metadata_directory=None):
     """Writes the wheel to a folder and returns its file name."""
-    library = find_library()
-    platform = re.sub(r"\W", "_", sysconfig.get_platform()) if library else "any"
-    tag = f"py3-none-{platform}"
-    files = {f"kohiblad/{name}": read(os.path.join(TOP, "src", "kohiblad", name))
-             for name in sorted(os.listdir(os.path.join(TOP, "src", "kohiblad")))
-             if name.endswith((".py", ".typed"))}
-    if library:
-        files[f"kohiblad/{LIBRARY}"] = read(library)
-    version = re.search(rb'__version__ = "(.+)"', files["kohiblad/__init__.py"]).group(1).decode()
-    info = f"kohiblad-{version}.dist-info"
-    files[f"{info}/METADATA"] = metadata(version)
-    files[f"{info}/WHEEL"] = (f"Wheel-Version: 1.0\nGenerator: kohiblad_build\n"
-                              f"Root-Is-Purelib: {'false' if library else 'true'}\n"
-                              f"Tag: {tag}\n").encode()
-    files[f"{info}/RECORD"] = record(files, f"{info}/RECORD")
-    name = f"kohiblad-{version}-{tag}.whl"
-    with zipfile.ZipFile(os.path.join(wheel_directory, name), "w") as wheel:
-        for path, content in files.items():
-            # A fixed time, so that the same files make the same wheel.
-            entry = zipfile.ZipInfo(path, (2020, 1, 1, 0, 0, 0))
-            entry.external_attr = (0o100755 if path.endswith(LIBRARY) else 0o100644) << 16
-            wheel.writestr(entry, content, zipfile.ZIP_DEFLATED)
-    return name
+    files, library = package_files(), find_library()
+    if not library:
+        return write_wheel(wheel_directory, files, "any")
+    files[f"kohiblad/{LIBRARY}"] = read(library)
+    return write_wheel(wheel_directory, files, re.sub(r"\W", "_", sysconfig.get_platform()))
+
+
+def build_editable(wheel_directory, config_settings=None, metadata_directory=None):
+    """Writes a wheel that leads to the package in this folder, and returns its file name."""
+    link_library(find_library())
+    files = {"kohiblad.pth": os.fsencode(SOURCE) + b"\n"}
+    return write_wheel(wheel_directory, files, "any")
 
 
 def build_sdist(sdist_directory, config_settings=None):
-    """Not supported: the package is built in its repository."""
-    raise UnsupportedOperation("build the wheel in a clone of the repository")
+    """Writes the source distribution to a folder and returns its file name."""
+    files = {f"src/{path}": content for path, content in package_files().items()}
+    files.update((path, read(os.path.join(TOP, path))) for path in OTHERS)
+    files["PKG-INFO"] = metadata()
+    name = f"kohiblad-{version()}"
+    with open(os.path.join(sdist_directory, f"{name}.tar.gz"), "wb") as file, \
+            gzip.GzipFile("", "wb", fileobj=file, mtime=SECONDS) as packed, \
+            tarfile.open(fileobj=packed, mode="w", format=tarfile.PAX_FORMAT) as archive:
+        for path, content in sorted(files.items()):
+            entry = tarfile.TarInfo(f"{name}/{path}")
+            entry.size, entry.mtime = len(content), SECONDS
+            archive.addfile(entry, io.BytesIO(content))
+    return f"{name}.tar.gz"
 
 
-class UnsupportedOperation(Exception):
-    """PEP 517 finds it by this name."""
+def get_requires_for_build_wheel(config_settings=None):
+    """No package is needed."""
+    return []
+
+
+get_requires_for_build_editable = get_requires_for_build_sdist = get_requires_for_build_wheel
+
+
+def package_files():
+    """The files of the package, by their paths in a wheel."""
+    names = sorted(os.listdir(os.path.join(SOURCE, "kohiblad")))
+    return {f"kohiblad/{name}": read(os.path.join(SOURCE, "kohiblad", name))
+            for name in names if name.endswith((".py", ".typed"))}
+
+
+def write_wheel(folder, files, platform):
+    """Writes a wheel of files, with what describes them, and returns its file name."""
+    tag = f"py3-none-{platform}"
+    info = f"kohiblad-{version()}.dist-info"
+    files[f"{info}/licenses/LICENSE"] = read(os.path.join(TOP, "LICENSE"))
+    files[f"{info}/METADATA"] = metadata()
+    files[f"{info}/WHEEL"] = (f"Wheel-Version: 1.0\nGenerator: kohiblad_build\n"
+                              f"Root-Is-Purelib: {'true' if platform == 'any' else 'false'}\n"
+                              f"Tag: {tag}\n").encode()
+    files[f"{info}/RECORD"] = record(files, f"{info}/RECORD")
+    name = f"kohiblad-{version()}-{tag}.whl"
+    with zipfile.ZipFile(os.path.join(folder, name), "w") as wheel:
+        for path, content in files.items():
+            entry = zipfile.ZipInfo(path, DATE)
+            entry.external_attr = (0o100755 if path.endswith(LIBRARY) else 0o100644) << 16
+            wheel.writestr(entry, content, zipfile.ZIP_DEFLATED)
+    return name
 
 
 def find_library():
@@ -60,7 +102,7 @@ def find_library():
     """
     prefix = os.environ.get("PREFIX")
     if prefix:
-        path = os.path.join(prefix, "lib", LIBRARY)
+        path = os.path.join(os.path.abspath(prefix), "lib", LIBRARY)
         if not os.path.exists(path):
             raise FileNotFoundError(f"PREFIX has no {path}")
         return path
@@ -73,13 +115,29 @@ def find_library():
     return path if os.path.exists(path) else None
 
 
-def metadata(version):
-    """The METADATA file: the fields of pyproject.toml, and README."""
+def link_library(library):
+    """Links the library beside the package in src, in place of an earlier link."""
+    link = os.path.join(SOURCE, "kohiblad", LIBRARY)
+    if os.path.islink(link):
+        os.remove(link)
+    if library:
+        os.symlink(library, link)
+
+
+def version():
+    """The version, as the package has it."""
+    text = read(os.path.join(SOURCE, "kohiblad", "__init__.py")).decode()
+    return re.search('__version__ = "(.+)"', text).group(1)
+
+
+def metadata():
+    """The METADATA and PKG-INFO file: the fields of pyproject.toml, and README."""
     project = read(os.path.join(TOP, "pyproject.toml")).decode()
-    fields = {"Metadata-Version": "2.1", "Name": "kohiblad", "Version": version,
+    fields = {"Metadata-Version": "2.4", "Name": "kohiblad", "Version": version(),
               "Summary": re.search(r'^description = "(.+)"', project, re.M).group(1),
               "Requires-Python": re.search(r'^requires-python = "(.+)"', project, re.M).group(1),
-              "License": re.search(r'^license = \{text = "(.+)"\}', project, re.M).group(1),
+              "License-Expression": re.search(r'^license = "(.+)"', project, re.M).group(1),
+              "License-File": "LICENSE",
               "Description-Content-Type": "text/markdown"}
     lines = "".join(f"{name}: {value}\n" for name, value in fields.items())
     return lines.encode() + b"\n" + read(os.path.join(TOP, "README.md"))
@@ -100,4 +158,5 @@ def read(path):
 
 
 if __name__ == "__main__":
-    print(build_wheel(sys.argv[1]))
+    build = build_sdist if sys.argv[1] == "--sdist" else build_wheel
+    print(build(sys.argv[-1]))

@@ -1,12 +1,15 @@
 """Documents read in place: as a Mapping, a Sequence and texts."""
 import collections.abc
 import copy
+import json
+import subprocess
+import sys
 import threading
 import unittest
 from decimal import Decimal
 
 from kohiblad import (ArrayDocument, DEPTH, Document, InvalidDocumentError, ObjectDocument,
-                      ScalarDocument, loads)
+                      ScalarDocument, dumps, loads)
 from models import Values
 
 ROW = '{"id":7,"price":1.50,"tags":["new",[1,{"é":null}]],"ok":true}'
@@ -17,6 +20,16 @@ PAGE = bytes.fromhex("800000033000000020000002" "5000000e" "500a" "40000001"
 
 def value_of(child):
     return child.value() if isinstance(child, Document) else child
+
+
+def assert_refused_alike(test, call, value, document):
+    """Both are refused by the same error, whose text says array where Python's says list."""
+    with test.assertRaises(Exception) as expected:
+        call(value)
+    with test.assertRaises(type(expected.exception)) as refused:
+        call(document)
+    text = str(expected.exception).replace("list ind", "array ind")
+    test.assertEqual(str(refused.exception), text)
 
 
 class MappingTest(unittest.TestCase):
@@ -46,6 +59,14 @@ class MappingTest(unittest.TestCase):
             self.assertNotIn(name, self.row)
             with self.assertRaises(KeyError):
                 self.row[name]
+
+    def test_keys_that_are_none_are_refused_as_by_a_dict(self):
+        value = {"id": 7}
+        for key in ("x", 7, 1.5, None, ("id",), b"id", [], {}, {"id"}):
+            assert_refused_alike(self, lambda it: it[key], value, self.row)
+        for key in ([], {}):
+            assert_refused_alike(self, lambda it: key in it, value, self.row)
+            assert_refused_alike(self, lambda it: it.get(key), value, self.row)
 
     def test_views_are_the_members(self):
         values = Values(seed=8)
@@ -91,8 +112,18 @@ class SequenceTest(unittest.TestCase):
             for index in (size, -size - 1, 2**64, -2**64):
                 with self.assertRaises(IndexError):
                     array[index]
-            with self.assertRaises(TypeError):
-                array["a"]
+
+    def test_indexes_that_are_none_are_refused_as_by_a_list(self):
+        value, array = [1, 2], Document.parse("[1,2]")
+        for index in (2, 5, -3, "a", 1.5, None, (0,), b"", slice("a"), slice(1, 2, 0)):
+            assert_refused_alike(self, lambda it: it[index], value, array)
+
+        class Second:
+            def __index__(self):
+                return 1
+
+        self.assertEqual(array[Second()], 2)
+        self.assertEqual(array[True], 2)
 
     def test_many_items_are_walked_in_one_pass(self):
         count = 20_000
@@ -139,6 +170,14 @@ class TextTest(unittest.TestCase):
         self.assertEqual(copy.deepcopy(scalar), scalar)
 
 
+    def test_json_takes_the_text_and_not_the_document(self):
+        document = Document.parse('{"a":[1,true]}')
+        with self.assertRaises(TypeError):
+            json.dumps(document)
+        self.assertEqual(json.loads(str(document)), document.value())
+        self.assertEqual(dumps({"row": document}), '{"row":{"a":[1,true]}}')
+
+
 class RoomTest(unittest.TestCase):
     def test_results_longer_than_is_guessed(self):
         zeros = [0] * 50_000
@@ -181,6 +220,27 @@ class DepthTest(unittest.TestCase):
 
 
 class ThreadTest(unittest.TestCase):
+    def test_a_depth_keeps_texts_within_a_small_stack(self):
+        """README's 64 levels, in a process that would end by a signal without them."""
+        program = (
+            "import threading\n"
+            "from kohiblad import Document, TooDeepError\n"
+            "def run():\n"
+            "    for open, close in (('[', ']'), ('{\"a\":', '}')):\n"
+            "        text = open * 64 + '0' + close * 64\n"
+            "        assert str(Document.parse(text, depth=64)) == text\n"
+            "        for deep in (open * 65 + '0' + close * 65, open * 100_000):\n"
+            "            try:\n"
+            "                Document.parse(deep, depth=64)\n"
+            "            except TooDeepError as error:\n"
+            "                print(error)\n"
+            "threading.stack_size(256 << 10)\n"
+            "thread = threading.Thread(target=run)\n"
+            "thread.start()\n"
+            "thread.join()\n")
+        done = subprocess.run([sys.executable, "-c", program], stdout=subprocess.PIPE)
+        self.assertEqual((done.returncode, done.stdout), (0, b"TooDeep\n" * 4))
+
     def test_threads_share_nothing(self):
         texts = [f'{{"n":{number},"a":[{number}.50,"{"x" * number}"]}}' for number in range(300)]
         wrong = []

@@ -80,12 +80,18 @@ class ErrorTest(unittest.TestCase):
         for data in (b"", b"\0", b"\x20\0\0\0", bytes.fromhex("2000000020000001ff"),
                      bytes.fromhex("2000000000000000ff"), bytes.fromhex("9fffffff")):
             self.assert_refused(InvalidDocumentError, 2, "InvalidJsonb", Document, data)
-        with self.assertRaises(TypeError):
-            Document(5)
-        with self.assertRaises(TypeError):
-            Document("[]")
-        with self.assertRaises(TypeError):
-            Document.parse(5)
+
+    def test_what_is_neither_text_nor_bytes(self):
+        for read in (Document.parse, kohiblad.loads):
+            for value in (None, 5, ["[]"]):
+                with self.assertRaisesRegex(TypeError, "JSON text is a str or bytes, not "
+                                                       + type(value).__name__):
+                    read(value)
+        for value in (None, 5, "[]"):
+            with self.assertRaisesRegex(TypeError, "stored bytes.*, not " + type(value).__name__):
+                Document(value)
+        with self.assertRaisesRegex(TypeError, "data of an Opaque are bytes, not int"):
+            Document.of(Opaque(0x60, 5))
 
     def test_damaged_bytes_are_refused_or_read(self):
         """A random byte changed, put in or left out: nothing but a named error is raised."""
@@ -122,8 +128,6 @@ class ErrorTest(unittest.TestCase):
                       Opaque(2**40, b"")):
             with self.subTest(value=value):
                 self.assert_refused(ExtensionError, 6, "InvalidJsonbExtension", Document.of, value)
-        with self.assertRaises(TypeError):
-            Document.of(Opaque(0x60, 5))
         zone = timezone(timedelta(microseconds=1))
         with self.assertRaisesRegex(ValueError, "whole number of seconds"):
             Document.of(datetime(2020, 1, 1, tzinfo=zone))

@@ -1,16 +1,27 @@
-"""The wheel, built by pip and by the backend itself with no network, and README's example."""
+"""The packages, built by pip and by the backend itself with no network, and README's example."""
 import doctest
+import email
 import os
 import re
+import shutil
 import subprocess
 import sys
+import tarfile
 import tempfile
 import unittest
 import zipfile
 
+import kohiblad
+
 TOP = os.path.dirname(os.path.dirname(os.path.abspath(__file__)))
 BACKEND = os.path.join(TOP, "build_backend", "kohiblad_build.py")
 PROGRAM = "import kohiblad; print(kohiblad.__file__, kohiblad.dumps(kohiblad.loads('[1.50]')))"
+# Reads the paths of a folder as Python's start reads those of site-packages.
+EDITABLE = """
+import importlib.metadata, site, sys
+site.addsitedir(sys.argv[1])
+print(importlib.metadata.version("kohiblad"))
+"""
 
 
 def has_pip():
@@ -28,14 +39,15 @@ class ReadmeTest(unittest.TestCase):
         self.assertGreater(result.attempted, 8)
 
 
-class WheelTest(unittest.TestCase):
+class PackageTest(unittest.TestCase):
+    """Builds packages in a folder, with neither the package nor the library to be found."""
+
     def setUp(self):
         folder = tempfile.TemporaryDirectory()
         self.addCleanup(folder.cleanup)
         self.folder = folder.name
         self.path = os.environ["KOHIBLAD_LIBRARY"]
         prefix = os.path.dirname(os.path.dirname(self.path))
-        # The package in the wheel is to be found, and the library inside it.
         self.environment = {name: value for name, value in os.environ.items()
                             if name not in ("KOHIBLAD_LIBRARY", "PYTHONPATH", "PKG_CONFIG_PATH")}
         self.environment["PREFIX"] = prefix
@@ -47,11 +59,25 @@ class WheelTest(unittest.TestCase):
         self.assertEqual(done.returncode, 0, done.stdout.decode())
         return done.stdout.decode()
 
-    def wheel(self):
-        names = [it for it in os.listdir(self.folder) if it.endswith(".whl")]
+    def run_pip(self, *arguments):
+        self.run_python("-m", "pip", "--disable-pip-version-check", "--no-cache-dir", *arguments)
+
+    def built(self, ending):
+        names = [it for it in os.listdir(self.folder) if it.endswith(ending)]
         self.assertEqual(len(names), 1)
         return os.path.join(self.folder, names[0])
 
+    def wheel(self):
+        return self.built(".whl")
+
+    def contents_of_wheel(self):
+        """The contents of a wheel's files by their names, and the name of its metadata's folder."""
+        with zipfile.ZipFile(self.wheel()) as files:
+            contents = {name: files.read(name) for name in files.namelist()}
+        return contents, f"kohiblad-{kohiblad.__version__}.dist-info"
+
+
+class WheelTest(PackageTest):
     def test_the_backend_puts_the_library_in(self):
         self.run_python(BACKEND, self.folder)
         wheel = self.wheel()
@@ -94,15 +120,103 @@ class WheelTest(unittest.TestCase):
         with open(self.wheel(), "rb") as file:
             self.assertEqual(file.read(), first)
 
+    def test_the_licence_is_inside_and_named(self):
+        self.run_python(BACKEND, self.folder)
+        contents, info = self.contents_of_wheel()
+        with open(os.path.join(TOP, "LICENSE"), "rb") as file:
+            self.assertEqual(contents[f"{info}/licenses/LICENSE"], file.read())
+        fields = email.message_from_bytes(contents[f"{info}/METADATA"])
+        self.assertEqual((fields["Name"], fields["Version"], fields["License-Expression"],
+                          fields.get_all("License-File")),
+                         ("kohiblad", kohiblad.__version__, "Apache-2.0", ["LICENSE"]))
+
     @unittest.skipUnless(has_pip(), "pip is not installed")
     def test_pip_builds_and_installs_it(self):
-        pip = ("-m", "pip", "--disable-pip-version-check", "--no-cache-dir")
-        self.run_python(*pip, "wheel", "--no-build-isolation", "--no-index", "--no-deps", TOP,
-                        "--wheel-dir", self.folder)
-        self.run_python(*pip, "install", "--no-index", "--no-deps", "--target", "site",
-                        self.wheel())
+        self.run_pip("wheel", "--no-build-isolation", "--no-index", "--no-deps", TOP,
+                     "--wheel-dir", self.folder)
+        self.run_pip("install", "--no-index", "--no-deps", "--target", "site", self.wheel())
         output = self.run_python("-c", PROGRAM, PYTHONPATH="site")
         self.assertTrue(output.endswith("[1.50]\n"))
+
+
+class SourceTest(PackageTest):
+    def test_it_has_what_a_build_reads(self):
+        self.run_python(BACKEND, "--sdist", self.folder)
+        with tarfile.open(self.built(".tar.gz")) as archive:
+            archive.extractall(self.folder)
+        top = os.path.join(self.folder, f"kohiblad-{kohiblad.__version__}")
+        self.assertEqual(self.built(".tar.gz"), top + ".tar.gz")
+        found = {os.path.relpath(os.path.join(folder, name), top)
+                 for folder, _, names in os.walk(top) for name in names}
+        package = {f"src/kohiblad/{name}" for name in os.listdir(os.path.dirname(kohiblad.__file__))
+                   if name.endswith(".py") or name == "py.typed"}
+        self.assertEqual(found, package | {"PKG-INFO", "LICENSE", "README.md", "pyproject.toml",
+                                           "build_backend/kohiblad_build.py"})
+        self.run_python(os.path.join(top, "build_backend", "kohiblad_build.py"), self.folder)
+        with open(self.wheel(), "rb") as file:
+            from_sources = file.read()
+        with open(os.path.join(top, "PKG-INFO"), "rb") as file:
+            contents, info = self.contents_of_wheel()
+            self.assertEqual(file.read(), contents[f"{info}/METADATA"])
+        self.run_python(BACKEND, self.folder)
+        with open(self.wheel(), "rb") as file:
+            self.assertEqual(file.read(), from_sources)
+
+    @unittest.skipUnless(has_pip(), "pip is not installed")
+    def test_pip_installs_it(self):
+        self.run_python(BACKEND, "--sdist", self.folder)
+        self.run_pip("install", "--no-index", "--no-deps", "--target", "site",
+                     self.built(".tar.gz"))
+        output = self.run_python("-c", PROGRAM, PYTHONPATH="site")
+        self.assertTrue(output.endswith("[1.50]\n"))
+        self.assertIn("site", output)
+
+
+class EditableTest(PackageTest):
+    def setUp(self):
+        super().setUp()
+        # A copy, since the library is linked into it.
+        self.clone = os.path.join(self.folder, "clone")
+        shutil.copytree(TOP, self.clone)
+        self.link = os.path.join(self.clone, "src", "kohiblad", "libkohiblad.so.0")
+
+    def build(self, **more):
+        """Builds the editable wheel by its hook and puts its files into site."""
+        hook = "import kohiblad_build; print(kohiblad_build.build_editable('.'))"
+        self.run_python("-c", hook, PYTHONPATH=os.path.join(self.clone, "build_backend"), **more)
+        with zipfile.ZipFile(self.wheel()) as files:
+            files.extractall(os.path.join(self.folder, "site"))
+
+    def assert_is_installed(self, site, **more):
+        """The package that runs is the clone's, also after it is changed."""
+        version, output = self.run_python("-c", EDITABLE + PROGRAM, site, **more).splitlines()
+        self.assertEqual(version, kohiblad.__version__)
+        source = os.path.join(self.clone, "src", "kohiblad", "__init__.py")
+        self.assertEqual(output, f"{source} [1.50]")
+        with open(source, "a", encoding="utf-8") as file:
+            file.write("\nprint('changed')\n")
+        output = self.run_python("-c", EDITABLE + PROGRAM, site, **more)
+        self.assertEqual(output.splitlines()[1], "changed")
+
+    def test_the_hook_links_the_library(self):
+        self.build()
+        self.assertEqual(os.readlink(self.link), self.path)
+        self.assert_is_installed("site")
+
+    def test_without_the_library_no_link_is_left(self):
+        self.build()
+        self.environment.pop("PREFIX")
+        self.build(PATH="", PKG_CONFIG_LIBDIR=self.folder)
+        self.assertFalse(os.path.lexists(self.link))
+        self.assert_is_installed("site", LD_LIBRARY_PATH=os.path.dirname(self.path))
+
+    @unittest.skipUnless(has_pip(), "pip is not installed")
+    def test_pip_installs_it(self):
+        self.run_pip("install", "--no-index", "--prefix", "prefix", "-e", self.clone)
+        sites = [folder for folder, _, names in os.walk(os.path.join(self.folder, "prefix"))
+                 if "kohiblad.pth" in names]
+        self.assertEqual(len(sites), 1)
+        self.assert_is_installed(sites[0])
 
 
 if __name__ == "__main__":

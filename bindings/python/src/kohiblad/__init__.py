@@ -15,7 +15,7 @@ from ._errors import (ExtensionError, FloatError, InvalidDocumentError, InvalidT
                       KohibladError, NumberError, OutOfMemoryError, TooDeepError)
 from ._scalars import Date, Interval, Opaque, Scalar, Timestamp, TimestampTz
 
-__version__ = "0.6.0"
+__version__ = "0.7.0"
 __all__ = ["ArrayDocument", "DEPTH", "Date", "Document", "ExtensionError", "FloatError", "Interval",
            "InvalidDocumentError", "InvalidTextError", "KohibladError", "NumberError",
            "ObjectDocument", "Opaque", "OutOfMemoryError", "Scalar", "ScalarDocument", "Timestamp",

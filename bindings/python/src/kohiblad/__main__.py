@@ -4,7 +4,7 @@ import contextlib
 import os
 import sys
 import time
-from typing import BinaryIO, Callable, Dict, Iterator, Optional, TypeVar
+from typing import IO, Callable, ContextManager, Dict, Iterator, List, Optional, TypeVar
 
 from . import Document, KohibladError, __version__
 
@@ -53,14 +53,14 @@ class Progress:
         sys.stderr.flush()
 
 
-def documents_of_lines(file: BinaryIO, name: str) -> Iterator[Document]:
+def documents_of_lines(file: IO[bytes], name: str) -> Iterator[Document]:
     """The documents of JSON lines; empty lines are left out."""
     for number, line in enumerate(file, 1):
         if line.strip():
             yield _named(lambda: Document.parse(line), name, "line", number)
 
 
-def stored_documents(file: BinaryIO, name: str) -> Iterator[Document]:
+def stored_documents(file: IO[bytes], name: str) -> Iterator[Document]:
     """The documents of a file that has each after its length."""
     number = 1
     while True:
@@ -75,7 +75,7 @@ def stored_documents(file: BinaryIO, name: str) -> Iterator[Document]:
         number += 1
 
 
-def _read(file: BinaryIO, size: int) -> bytes:
+def _read(file: IO[bytes], size: int) -> bytes:
     """Up to `size` bytes. Memory is taken as they come, since a wrong length may be huge."""
     parts = []
     while size:
@@ -134,7 +134,7 @@ def _parser() -> argparse.ArgumentParser:
     return parser
 
 
-def _run(options: argparse.Namespace, source: BinaryIO, target: BinaryIO) -> None:
+def _run(options: argparse.Namespace, source: IO[bytes], target: IO[bytes]) -> None:
     name = "standard input" if options.input == "-" else options.input
     is_encode = options.command == "encode"
     rows = documents_of_lines(source, name) if is_encode else stored_documents(source, name)
@@ -151,8 +151,10 @@ def _run(options: argparse.Namespace, source: BinaryIO, target: BinaryIO) -> Non
     target.flush()
 
 
-def _opened(path: str, mode: str, standard: BinaryIO) -> "contextlib.AbstractContextManager":
-    return contextlib.nullcontext(standard) if path == "-" else open(path, mode)
+def _opened(path: str, mode: str, standard: IO[bytes]) -> ContextManager[IO[bytes]]:
+    if path == "-":
+        return contextlib.nullcontext(standard)
+    return open(path, mode)
 
 
 def _expect_two_files(input_path: str, output_path: str) -> None:
@@ -161,7 +163,7 @@ def _expect_two_files(input_path: str, output_path: str) -> None:
         raise InputError(f"{output_path} is the input: write to another file")
 
 
-def main(arguments: Optional[list] = None) -> int:
+def main(arguments: Optional[List[str]] = None) -> int:
     options = _parser().parse_args(arguments)
     try:
         _expect_two_files(options.input, options.output)

@@ -1,11 +1,11 @@
 """Documents: checked bytes, read in place."""
 import re
-from collections.abc import ItemsView, Mapping, Sequence, ValuesView
 from decimal import Decimal
 from functools import lru_cache, total_ordering
 from json import JSONDecoder
-from typing import (TYPE_CHECKING, Any, Dict, Generator, Iterator, List, Optional, Pattern, Tuple,
-                    Type, Union)
+from typing import (TYPE_CHECKING, Any, Callable, Dict, Generator, ItemsView, Iterator, List,
+                    Mapping, Optional, Pattern, Sequence, SupportsIndex, Tuple, Type, Union,
+                    ValuesView, overload)
 
 from . import _library as library
 from ._encode import DEPTH, encode, parse
@@ -14,9 +14,11 @@ from ._scalars import Scalar, scalar_of
 _KINDS = ("null", "boolean", "number", "string", "extension", "array", "object")
 _MOST_SHOWN = 70
 
-_value_of_json = JSONDecoder(parse_float=Decimal).decode
-
 Value = Union[Scalar, List[Any], Dict[str, Any]]
+# A child of an array or object, as it is read.
+Child = Union[Scalar, "Document"]
+
+_value_of_json: Callable[[str], Value] = JSONDecoder(parse_float=Decimal).decode
 
 
 @total_ordering
@@ -48,7 +50,7 @@ class Document:
         one more than its deepest child, and at least 1. InvalidDocumentError: the bytes are no
         document of that depth.
         """
-        data = library.bytes_of(data)
+        data = library.bytes_of(data, "Document takes stored bytes (Document.parse: a text)")
         if not library.check(data, len(data), _checked_depth(depth)):
             raise library.error_of(library.INVALID_JSONB, f"no document of depth {depth} or less")
         return _of_checked(data)
@@ -165,30 +167,47 @@ class _Container(Document):
     __slots__ = ()
 
     def __len__(self) -> int:
-        return library.kind(self._data, len(self._data)).count
+        count: int = library.kind(self._data, len(self._data)).count
+        return count
 
-    def _child(self, place: library.Place) -> Union[Scalar, Document]:
+    def _child(self, place: library.Place) -> Child:
         return _child_of(place.type, library.payload_of(self._data, place))
 
-    def _members(self) -> Iterator[Tuple[str, Union[Scalar, Document]]]:
+    def _members(self) -> Iterator[Tuple[str, Child]]:
         for key, type_, payload in library.children(self._data):
             yield key.decode(), _child_of(type_, payload)
 
 
-class ArrayDocument(_Container, Sequence):
+class ArrayDocument(_Container, Sequence[Child]):
     """An array: a ``Sequence`` that decodes the items that are read, and a slice as a list."""
     __slots__ = ()
 
-    def __getitem__(self, index: Any) -> Any:
+    @overload
+    def __getitem__(self, index: SupportsIndex) -> Child: ...
+
+    @overload
+    def __getitem__(self, index: slice) -> List[Child]: ...
+
+    def __getitem__(self, index: Union[SupportsIndex, slice]) -> Union[Child, List[Child]]:
         if isinstance(index, slice):
             return list(self)[index]
-        number = range(len(self))[index]
-        return self._child(library.part(self._data, len(self._data), number))
+        place = library.part(self._data, len(self._data), self._number_of(index))
+        return self._child(place)
 
-    def __iter__(self) -> Iterator[Union[Scalar, Document]]:
+    def _number_of(self, index: SupportsIndex) -> int:
+        """The number from 0 of an item, whose index may be negative. Errors are as of lists."""
+        if not hasattr(type(index), "__index__"):
+            type_name = type(index).__name__
+            raise TypeError(f"array indices must be integers or slices, not {type_name}")
+        try:
+            return range(len(self))[index]
+        except IndexError:
+            raise IndexError("array index out of range") from None
+
+    def __iter__(self) -> Iterator[Child]:
         return (item for _, item in self._members())
 
-    def __reversed__(self) -> Iterator[Union[Scalar, Document]]:
+    def __reversed__(self) -> Iterator[Child]:
         return reversed(list(self))
 
     def index(self, value: Any, *bounds: int) -> int:
@@ -196,11 +215,11 @@ class ArrayDocument(_Container, Sequence):
         return list(self).index(value, *bounds)
 
 
-class ObjectDocument(_Container, Mapping):
+class ObjectDocument(_Container, Mapping[str, Child]):
     """An object: a ``Mapping`` that decodes the members that are read, sorted by their keys."""
     __slots__ = ()
 
-    def __getitem__(self, name: str) -> Union[Scalar, Document]:
+    def __getitem__(self, name: str) -> Child:
         place = self._find(name)
         if place is None:
             raise KeyError(name)
@@ -221,6 +240,8 @@ class ObjectDocument(_Container, Mapping):
     def _find(self, name: object) -> Optional[library.Place]:
         """The place of a member. A name that is no str, or has no UTF-8, is no member's."""
         if not isinstance(name, str):
+            # As of a dict: TypeError for a list, which has no hash.
+            hash(name)
             return None
         try:
             data = name.encode()
@@ -230,17 +251,19 @@ class ObjectDocument(_Container, Mapping):
         return place if place.status == library.OK else None
 
 
-class _Items(ItemsView):
+class _Items(ItemsView[str, Child]):
     """The members in one pass, where Mapping's own view finds each by its key."""
+    _mapping: ObjectDocument
 
-    def __iter__(self) -> Iterator[Tuple[str, Union[Scalar, Document]]]:
+    def __iter__(self) -> Iterator[Tuple[str, Child]]:
         return self._mapping._members()
 
 
-class _Values(ValuesView):
+class _Values(ValuesView[Child]):
     """The values in one pass."""
+    _mapping: ObjectDocument
 
-    def __iter__(self) -> Iterator[Union[Scalar, Document]]:
+    def __iter__(self) -> Iterator[Child]:
         return (value for _, value in self._mapping._members())
 
 
@@ -264,7 +287,7 @@ def _checked_depth(depth: int) -> int:
     return depth
 
 
-def _child_of(type_: int, payload: bytes) -> Union[Scalar, Document]:
+def _child_of(type_: int, payload: bytes) -> Child:
     if type_ == library.TYPE_CONTAINER:
         return _of_checked(payload)
     return scalar_of(type_, payload)
@@ -298,9 +321,10 @@ def _decode(data: bytes) -> Value:
             sent = None
         except StopIteration as finished:
             opened.pop()
+            value: Value = finished.value
             if not opened:
-                return finished.value
-            sent = finished.value
+                return value
+            sent = value
 
 
 def _decoder(data: bytes) -> _Decoder:

@@ -3,11 +3,12 @@
 A value that JSON can express becomes its text, which the library parses in one call. Only the
 containers around extension values and documents are built of their children's documents.
 """
+import json.encoder
 from collections.abc import Mapping
 from datetime import date, datetime
 from decimal import Decimal
-from json.encoder import encode_basestring
-from typing import Any, Callable, Dict, Generator, List, Optional, Sequence, Union
+from typing import (Any, Callable, Dict, Generator, List, Optional, Sequence, SupportsBytes, Type,
+                    Union, cast)
 
 from . import _library as library
 from . import _scalars as scalars
@@ -18,13 +19,19 @@ Encoded = Union[str, bytes]
 # Encodes a container: yields each child that is no plain scalar, and is sent what it became.
 Encoder = Generator[Any, Encoded, Encoded]
 
+# The JSON text of a str. Not all type checkers know its name.
+_text_of_str: Callable[[str], str] = getattr(json.encoder, "encode_basestring")
+
 # The greatest depth of any document and text: 1,000 levels of a text need 2 MB of stack.
 DEPTH = 1000
 
 
 def parse(text: Union[str, bytes], depth: int = DEPTH) -> bytes:
     """The document of a JSON text."""
-    data = _utf8(text) if isinstance(text, str) else library.bytes_of(text)
+    if isinstance(text, str):
+        data = _utf8(text)
+    else:
+        data = library.bytes_of(text, "a JSON text is a str or bytes")
     try:
         return library.result_of(library.parse, 2 * len(data) + 64, data, len(data), depth)
     except InvalidTextError as error:
@@ -38,12 +45,13 @@ def _fault_of(text: bytes, depth: int) -> KohibladError:
     fault = library.text_fault(text, len(text), depth)
     if fault.status not in (library.INVALID_JSON, library.BAD_NUMBER):
         return library.error_of(fault.status)
-    error = library.error_of(fault.status, f"at byte {fault.offset}")
+    name = library.status_name(fault.status)
+    error = InvalidTextError(fault.status, name, f"at byte {fault.offset}")
     error.offset = fault.offset
     return error
 
 
-def encode(value: Any, document_type: type) -> bytes:
+def encode(value: Any, document_type: Type[SupportsBytes]) -> bytes:
     """The document of a value; a `document_type` inside it is taken as its bytes."""
     def encoder_of(child: Any, level: int) -> Union[Encoded, Encoder]:
         if isinstance(child, document_type):
@@ -91,12 +99,13 @@ def _array_encoder(items: Sequence[Any]) -> Encoder:
     for item in items:
         write = _WRITERS.get(type(item))
         encoded.append(write(item) if write else (yield item))
-    if _are_texts(encoded):
-        return "[" + ",".join(encoded) + "]"  # type: ignore[arg-type]
+    texts = _texts_of(encoded)
+    if texts is not None:
+        return "[" + ",".join(texts) + "]"
     return library.build(library.build_array, [_document_of(it) for it in encoded])
 
 
-def _object_encoder(members: Mapping) -> Encoder:
+def _object_encoder(members: "Mapping[Any, Any]") -> Encoder:
     names: List[str] = []
     encoded: List[Encoded] = []
     for name, value in members.items():
@@ -105,8 +114,9 @@ def _object_encoder(members: Mapping) -> Encoder:
         write = _WRITERS.get(type(value))
         names.append(name)
         encoded.append(write(value) if write else (yield value))
-    if _are_texts(encoded):
-        pairs = zip(map(encode_basestring, names), encoded)
+    texts = _texts_of(encoded)
+    if texts is not None:
+        pairs = zip(map(_text_of_str, names), texts)
         return "{" + ",".join([f"{name}:{value}" for name, value in pairs]) + "}"
     rows: List[bytes] = []
     for name, value in zip(names, encoded):
@@ -114,8 +124,9 @@ def _object_encoder(members: Mapping) -> Encoder:
     return library.build(library.build_object, rows)
 
 
-def _are_texts(encoded: List[Encoded]) -> bool:
-    return bytes not in map(type, encoded)
+def _texts_of(encoded: List[Encoded]) -> Optional[List[str]]:
+    """The same list if all of it are texts."""
+    return None if bytes in map(type, encoded) else cast(List[str], encoded)
 
 
 def _document_of(encoded: Encoded) -> bytes:
@@ -139,7 +150,7 @@ _WRITERS: Dict[type, Callable[[Any], Encoded]] = {
     int: scalars.text_of_int,
     float: _refuse_float,
     Decimal: scalars.text_of_decimal,
-    str: encode_basestring,
+    str: _text_of_str,
     bytes: scalars.document_of_bytes,
     bytearray: scalars.document_of_bytes,
     memoryview: scalars.document_of_bytes,

@@ -14,7 +14,7 @@ from ._errors import (ExtensionError, InvalidDocumentError, InvalidTextError, Ko
                       NumberError, OutOfMemoryError, TooDeepError)
 
 FILE_NAME = "libkohiblad.so.0"
-OLDEST_VERSION = 6000
+OLDEST_VERSION = 7000
 
 OK = 0
 INVALID_EOF = 1
@@ -103,7 +103,7 @@ _library = _open()
 
 
 def _export(name: str, result: Any, *arguments: Any) -> Callable[..., Any]:
-    function = getattr(_library, "kohiblad_" + name)
+    function = _library["kohiblad_" + name]
     function.restype = result
     function.argtypes = arguments
     return function
@@ -139,9 +139,14 @@ _next = _export("next", c_uint32, *_BYTES, c_void_p, c_void_p, c_void_p)
 _status_name = _export("status_name", c_uint32, c_uint32, *_OUT)
 
 
-def bytes_of(data: Any) -> bytes:
-    """The bytes of an object that has some. TypeError: it has none."""
-    return data if type(data) is bytes else bytes(memoryview(data))
+def bytes_of(data: Any, expected: str) -> bytes:
+    """The bytes of an object that has some. TypeError, with what was expected: it has none."""
+    if type(data) is bytes:
+        return data
+    try:
+        return bytes(memoryview(data))
+    except TypeError:
+        raise TypeError(f"{expected}, not {type(data).__name__}") from None
 
 
 # A cursor, the place of a key and the place of a value: one unpack is quicker than five fields.
@@ -229,13 +234,14 @@ def payload_of(document: bytes, place: Place) -> bytes:
 
 def build(call: Callable[..., int], rows: Sequence[bytes]) -> bytes:
     """What `build_array` or `build_object` make of rows."""
-    ends = (c_size_t * (len(rows) or 1))()
+    offsets = (c_size_t * (len(rows) + 1))()
     end = 0
-    for index, row in enumerate(rows):
+    for index, row in enumerate(rows, 1):
         end += len(row)
-        ends[index] = end
+        offsets[index] = end
     guess = end + 4 * len(rows) + 8
-    return result_of(call, guess, b"".join(rows), end, ctypes.addressof(ends), len(rows))
+    count = len(offsets)
+    return result_of(call, guess, b"".join(rows), end, ctypes.addressof(offsets), count)
 
 
 def _document_of_part(type_: int, payload: bytes) -> bytes:

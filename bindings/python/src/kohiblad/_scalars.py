@@ -145,7 +145,7 @@ def _number_error(message: str) -> NumberError:
 
 
 def document_of_bytes(value: Union[bytes, bytearray, memoryview]) -> bytes:
-    return _extension(_BINARY, data=library.bytes_of(value))
+    return _extension(_BINARY, data=library.bytes_of(value, "binary data are bytes"))
 
 
 def document_of_date(value: date) -> bytes:
@@ -185,7 +185,8 @@ def document_of_interval(value: Interval) -> bytes:
 def document_of_opaque(value: Opaque) -> bytes:
     if value.tag < 0x50:
         raise library.error_of(library.INVALID_JSONB_EXTENSION, f"{value.tag} is no opaque tag")
-    return _extension(value.tag, data=library.bytes_of(value.data))
+    data = library.bytes_of(value.data, "the data of an Opaque are bytes")
+    return _extension(value.tag, data=data)
 
 
 def _extension(tag: int, value: int = 0, months: int = 0, days: int = 0, seconds: int = 0,

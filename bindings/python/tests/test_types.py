@@ -1,0 +1,83 @@
+"""The annotations, as mypy reads them, of the package and for its callers."""
+import os
+import re
+import shutil
+import subprocess
+import sys
+import tempfile
+import unittest
+
+TOP = os.path.dirname(os.path.dirname(os.path.abspath(__file__)))
+SOURCE = os.path.join(TOP, "src")
+# A program that uses what README says of types. Its last line is wrong.
+CALLER = """\
+from typing import Iterator, Mapping, Sequence
+from kohiblad import ArrayDocument, Document, ObjectDocument, dumps, loads
+
+document = Document.parse(b"{}", depth=3)
+if isinstance(document, ObjectDocument):
+    mapping: Mapping[str, object] = document
+    names: Iterator[str] = iter(document)
+if isinstance(document, ArrayDocument):
+    sequence: Sequence[object] = document
+    some: Sequence[object] = document[1:]
+text: str = dumps([loads("1"), document, document["a"][0]]) + str(document) + document.pretty()
+ordered = sorted([document, Document.of(None)])
+Document.parse(5)
+"""
+
+
+def mypy_command():
+    """How mypy is called, or None."""
+    own = [sys.executable, "-m", "mypy"]
+    found = shutil.which("mypy")
+    for command in (own, [found]) if found else (own,):
+        if subprocess.run([*command, "--version"], stdout=subprocess.DEVNULL,
+                          stderr=subprocess.DEVNULL).returncode == 0:
+            return command
+    return None
+
+
+MYPY = mypy_command()
+
+
+@unittest.skipUnless(MYPY, "the annotations: needs the Debian package mypy")
+class TypesTest(unittest.TestCase):
+    @classmethod
+    def setUpClass(cls):
+        folder = tempfile.TemporaryDirectory()
+        cls.addClassCleanup(folder.cleanup)
+        cls.folder = folder.name
+
+    def complaints(self, *paths):
+        """The errors and notes of mypy --strict."""
+        done = subprocess.run([*MYPY, "--strict", "--no-error-summary", "--cache-dir", self.folder,
+                               *paths], env=dict(os.environ, MYPYPATH=SOURCE), cwd=self.folder,
+                              stdout=subprocess.PIPE, stderr=subprocess.STDOUT)
+        self.assertIn(done.returncode, (0, 1), done.stdout.decode())
+        return done.stdout.decode().splitlines()
+
+    def caller(self, program):
+        path = os.path.join(self.folder, "caller.py")
+        with open(path, "w", encoding="utf-8") as file:
+            file.write(program)
+        return path
+
+    def test_the_package(self):
+        self.assertEqual(self.complaints(os.path.join(SOURCE, "kohiblad")), [])
+
+    def test_a_caller(self):
+        complaints = self.complaints(self.caller(CALLER))
+        self.assertEqual([it.split(": ")[0] for it in complaints if ": error: " in it],
+                         [f"caller.py:{len(CALLER.splitlines())}"], complaints)
+
+    def test_the_example_of_readme(self):
+        with open(os.path.join(TOP, "README.md"), encoding="utf-8") as file:
+            example = re.search("```python\n(.*?)```", file.read(), re.S).group(1)
+        lines = re.findall(r"^(?:>>>|\.\.\.) (.*\n)", example, re.M)
+        self.assertGreater(len(lines), 8)
+        self.assertEqual(self.complaints(self.caller("".join(lines))), [])
+
+
+if __name__ == "__main__":
+    unittest.main()
