@@ -1,5 +1,6 @@
 //! Finds the archive libkohiblad.a: in the directory `KOHIBLAD_LIB_DIR`, or else where pkg-config
-//! says that the library is installed.
+//! says that the library is installed. If `DOCS_RS` is set, it needs none: docs.rs builds the pages
+//! alone, where the library is not installed.
 
 use std::env;
 use std::path::Path;
@@ -9,8 +10,16 @@ const ARCHIVE: &str = "libkohiblad.a";
 const NEEDED: &str = "kohiblad >= 0.6";
 
 fn main() {
-    for variable in ["KOHIBLAD_LIB_DIR", "PKG_CONFIG", "PKG_CONFIG_PATH"] {
+    for variable in [
+        "DOCS_RS",
+        "KOHIBLAD_LIB_DIR",
+        "PKG_CONFIG",
+        "PKG_CONFIG_PATH",
+    ] {
         println!("cargo:rerun-if-env-changed={variable}");
+    }
+    if env::var_os("DOCS_RS").is_some() {
+        return;
     }
     let directory = env::var("KOHIBLAD_LIB_DIR").unwrap_or_else(|_| installed());
     let archive = Path::new(&directory).join(ARCHIVE);

@@ -57,6 +57,9 @@ if cargo clippy --version > "$scratch/found" 2>&1; then
 fi
 run cargo build "${cargo[@]}" --no-default-features
 run env RUSTDOCFLAGS='--deny warnings' cargo doc "${cargo[@]}" --no-deps
+# As docs.rs does it, where no library is installed.
+run env -u KOHIBLAD_LIB_DIR DOCS_RS=1 PKG_CONFIG=false RUSTDOCFLAGS='--deny warnings' \
+    cargo doc "${cargo[@]}" --no-deps
 run cargo test --offline --locked 2>&1 | tee "$scratch/tested"
 tests=$(sed -n 's/^test result: ok\. \([0-9]*\) passed.*/\1/p' "$scratch/tested" |
     awk '{ sum += $1 } END { print sum + 0 }')
@@ -67,11 +70,17 @@ if command -v valgrind > "$scratch/found"; then
     runner='valgrind --quiet --error-exitcode=1 --leak-check=full'
     runner+=' --show-leak-kinds=definite --errors-for-leak-kinds=definite'
     run env "CARGO_TARGET_X86_64_UNKNOWN_LINUX_GNU_RUNNER=$runner" \
-        cargo test "${cargo[@]}" --test format --test depth --test lines --test memory
+        cargo test "${cargo[@]}" --test format --test depth --test lines --test memory \
+        --test conversions
 fi
 
 note 'the program of README.md'
 readme_block rust | diff - examples/readme.rs || fail 'README.md and examples/readme.rs differ'
 cargo run "${cargo[@]}" --example readme > "$scratch/shown" || fail 'examples/readme.rs'
 readme_block text | diff - "$scratch/shown" || fail 'README.md has another output'
-printf '%s: %s tests passed\n' "$name" "$((tests + 1))"
+
+# This builds the crate of the files in the package.
+run cargo package "${cargo[@]}" --allow-dirty
+tar -xOf "$CARGO_TARGET_DIR"/package/kohiblad-*.crate --wildcards 'kohiblad-*/LICENSE' |
+    cmp - ../../LICENSE || fail 'the package has not the licence of the repository'
+printf '%s: %s tests passed\n' "$name" "$((tests + 2))"

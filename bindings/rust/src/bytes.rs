@@ -20,14 +20,17 @@ pub fn is_document(bytes: &[u8]) -> bool {
 
 /// The kind by the first two words. Nothing else is checked.
 ///
-/// `InvalidEOF`: one of the words is cut. `InvalidJsonb`: they are of no kind.
-///
 /// ```
 /// use kohiblad::{bytes, Error, Kind};
 ///
 /// assert_eq!(bytes::kind(&[0x40, 0, 0, 3]), Ok(Kind::Object(3)));
 /// assert_eq!(bytes::kind(&[0x40]), Err(Error::InvalidEOF));
 /// ```
+///
+/// # Errors
+///
+/// - [`Error::InvalidEOF`]: one of the words is cut.
+/// - [`Error::InvalidJsonb`]: they are of no kind.
 pub fn kind(bytes: &[u8]) -> Result<Kind, Error> {
     Kind::of(bytes)
 }
@@ -36,15 +39,18 @@ pub fn kind(bytes: &[u8]) -> Result<Kind, Error> {
 /// object. The words that the look-up reads and the value are checked, and nothing else is: this is
 /// several times faster than a check of the whole row.
 ///
-/// `InvalidEOF`, `InvalidJsonb`: the bytes that were read are no document's, or the value is none.
-/// `OutOfMemory`: an allocation failed.
-///
 /// ```
 /// let row = kohiblad::OwnedJsonb::parse(r#"{"id": 7, "price": 1.50}"#, 64)?;
 /// let price = kohiblad::bytes::get(row.as_bytes(), "price")?;
 /// assert_eq!(price.expect("the row has a price").to_string(), "1.50");
 /// # Ok::<(), kohiblad::Error>(())
 /// ```
+///
+/// # Errors
+///
+/// - [`Error::InvalidEOF`], [`Error::InvalidJsonb`]: the bytes that were read are no document's, or
+///   the value is none.
+/// - [`Error::OutOfMemory`]: an allocation failed.
 pub fn get(bytes: &[u8], name: &str) -> Result<Option<OwnedJsonb>, Error> {
     ffi::get(bytes, name)?.map(OwnedJsonb::new).transpose()
 }
@@ -65,12 +71,14 @@ pub fn compare(left: &[u8], right: &[u8]) -> Ordering {
 
 /// The key of any bytes: keys are ordered as [`compare`] orders the bytes.
 ///
-/// `OutOfMemory`: an allocation failed.
-///
 /// ```
 /// assert_eq!(kohiblad::bytes::key(b"a")?.as_bytes(), [0xff, b'a', 0x01]);
 /// # Ok::<(), kohiblad::Error>(())
 /// ```
+///
+/// # Errors
+///
+/// - [`Error::OutOfMemory`]: an allocation failed.
 pub fn key(bytes: &[u8]) -> Result<ComparableKey, Error> {
     ffi::key(bytes).map(ComparableKey)
 }
@@ -79,8 +87,6 @@ pub fn key(bytes: &[u8]) -> Result<ComparableKey, Error> {
 /// row is copied, and checked once, where a sort by [`compare`] checks both sides of each
 /// comparison.
 ///
-/// `OutOfMemory`: an allocation failed.
-///
 /// ```
 /// use kohiblad::OwnedJsonb;
 ///
@@ -88,6 +94,10 @@ pub fn key(bytes: &[u8]) -> Result<ComparableKey, Error> {
 /// assert_eq!(kohiblad::bytes::sorted_order(&rows)?, [2, 0, 1]);
 /// # Ok::<(), kohiblad::Error>(())
 /// ```
+///
+/// # Errors
+///
+/// - [`Error::OutOfMemory`]: an allocation failed.
 pub fn sorted_order<I>(rows: I) -> Result<Vec<usize>, Error>
 where
     I: IntoIterator,

@@ -1,9 +1,16 @@
+use core::convert::Infallible;
 use core::fmt;
 
 /// Why a call was refused. The variants have the names of the library's statuses.
 ///
 /// Three statuses are no errors here: `None` is [`Option::None`], after `NoRoom` the call is
 /// repeated with more room, and `Overlap` cannot come, since Rust keeps what is written apart.
+///
+/// ```
+/// let refused = kohiblad::OwnedJsonb::parse(r#"{"a":1e5}"#, 64).unwrap_err();
+/// assert_eq!(refused, kohiblad::Error::BadNumber { offset: 6 });
+/// assert_eq!(refused.to_string(), "BadNumber at byte 6");
+/// ```
 #[derive(Clone, Copy, Debug, PartialEq, Eq, Hash)]
 #[non_exhaustive]
 pub enum Error {
@@ -23,15 +30,23 @@ pub enum Error {
     InvalidUtf8,
     /// A key comes twice.
     ObjectDuplicateKey,
-    /// The text is no JSON, or has a number with an exponent or too many digits.
-    InvalidJson,
+    /// The text is no JSON.
+    InvalidJson {
+        /// How many bytes of the text begin some JSON text.
+        offset: usize,
+    },
+    /// The text would be JSON with other numbers: one has an exponent or too many digits.
+    BadNumber {
+        /// How many bytes of the text begin some JSON text.
+        offset: usize,
+    },
     /// An allocation failed.
     OutOfMemory,
     /// More brackets of the text are open at once than the depth allows.
     TooDeep,
     /// The value is of another kind.
     OtherKind,
-    /// The number is no whole one of 64 bits.
+    /// The number does not fit the type: it is too large, or has digits after its point.
     PastRange,
     /// A status that this version of the crate does not know.
     Unknown(u32),
@@ -40,6 +55,11 @@ pub enum Error {
 impl Error {
     /// The error of a status. Only a status that is no success may be given.
     pub(crate) fn of_status(status: u32) -> Self {
+        Self::of_fault(status, 0)
+    }
+
+    /// The error of a status, and the offset that a fault in a text has.
+    pub(crate) fn of_fault(status: u32, offset: usize) -> Self {
         match status {
             1 => Error::InvalidEOF,
             2 => Error::InvalidJsonb,
@@ -49,11 +69,12 @@ impl Error {
             6 => Error::InvalidJsonbExtension,
             7 => Error::InvalidUtf8,
             8 => Error::ObjectDuplicateKey,
-            9 => Error::InvalidJson,
+            9 => Error::InvalidJson { offset },
             10 => Error::OutOfMemory,
             13 => Error::TooDeep,
             14 => Error::OtherKind,
             15 => Error::PastRange,
+            17 => Error::BadNumber { offset },
             _ => Error::Unknown(status),
         }
     }
@@ -61,7 +82,7 @@ impl Error {
     /// The library's name of the status.
     ///
     /// ```
-    /// let refused = kohiblad::OwnedJsonb::parse("1e5", 64).unwrap_err();
+    /// let refused = kohiblad::OwnedJsonb::parse("1 2", 64).unwrap_err();
     /// assert_eq!(refused.name(), "InvalidJson");
     /// ```
     pub fn name(&self) -> &'static str {
@@ -74,7 +95,8 @@ impl Error {
             Error::InvalidJsonbExtension => "InvalidJsonbExtension",
             Error::InvalidUtf8 => "InvalidUtf8",
             Error::ObjectDuplicateKey => "ObjectDuplicateKey",
-            Error::InvalidJson => "InvalidJson",
+            Error::InvalidJson { .. } => "InvalidJson",
+            Error::BadNumber { .. } => "BadNumber",
             Error::OutOfMemory => "OutOfMemory",
             Error::TooDeep => "TooDeep",
             Error::OtherKind => "OtherKind",
@@ -82,11 +104,38 @@ impl Error {
             Error::Unknown(_) => "Unknown",
         }
     }
+
+    /// Where a text stops being JSON: how many bytes of it begin some JSON text. `None` of the
+    /// errors that are of no place in a text.
+    ///
+    /// ```
+    /// let refused = kohiblad::OwnedJsonb::parse("[1,]", 64).unwrap_err();
+    /// assert_eq!(refused.offset(), Some(3));
+    /// ```
+    pub fn offset(&self) -> Option<usize> {
+        match *self {
+            Error::InvalidJson { offset } | Error::BadNumber { offset } => Some(offset),
+            _ => None,
+        }
+    }
 }
 
+/// The error of a conversion that cannot fail, which is never made: so
+/// [`OwnedJsonb::array_of`](crate::OwnedJsonb::array_of) takes documents as well as values.
+impl From<Infallible> for Error {
+    fn from(never: Infallible) -> Self {
+        match never {}
+    }
+}
+
+/// The name, and the place if there is one.
 impl fmt::Display for Error {
     fn fmt(&self, f: &mut fmt::Formatter<'_>) -> fmt::Result {
-        f.write_str(self.name())
+        f.write_str(self.name())?;
+        match self.offset() {
+            Some(offset) => write!(f, " at byte {offset}"),
+            None => Ok(()),
+        }
     }
 }
 
@@ -111,7 +160,7 @@ mod tests {
 
     #[test]
     fn only_three_statuses_are_no_errors() {
-        let others: Vec<_> = (1..=16)
+        let others: Vec<_> = (1..=17)
             .filter(|&status| matches!(Error::of_status(status), Error::Unknown(_)))
             .map(ffi::status_name)
             .collect();

@@ -52,6 +52,13 @@ pub(crate) struct Cursor {
     value: u64,
 }
 
+/// Why a text is no JSON, and where.
+#[repr(C)]
+struct Fault {
+    status: u32,
+    offset: u64,
+}
+
 #[repr(C)]
 struct Decimal {
     status: u32,
@@ -215,11 +222,12 @@ extern "C" {
         room: usize,
         length: *mut usize,
     ) -> u32;
+    fn kohiblad_text_fault(text: *const u8, size: usize, depth: usize) -> Fault;
     fn kohiblad_build_array_within(
         bytes: *const u8,
         size: usize,
-        ends: *const usize,
-        rows: usize,
+        offsets: *const usize,
+        count: usize,
         depth: usize,
         out: *mut u8,
         room: usize,
@@ -228,8 +236,8 @@ extern "C" {
     fn kohiblad_build_object_within(
         bytes: *const u8,
         size: usize,
-        ends: *const usize,
-        rows: usize,
+        offsets: *const usize,
+        count: usize,
         depth: usize,
         out: *mut u8,
         room: usize,
@@ -255,8 +263,8 @@ extern "C" {
     fn kohiblad_sort_within(
         bytes: *const u8,
         size: usize,
-        ends: *const usize,
-        rows: usize,
+        offsets: *const usize,
+        count: usize,
         depth: usize,
         order: *mut usize,
         room: usize,
@@ -276,11 +284,12 @@ pub(crate) struct Child<'a> {
     pub(crate) value: Part<'a>,
 }
 
-/// Byte strings one after another, and the end of each.
+/// Byte strings one after another, with the offset of each and the end of the last.
 #[derive(Default)]
 pub(crate) struct Rows {
     bytes: Vec<u8>,
-    ends: Vec<usize>,
+    /// Empty before the first row.
+    offsets: Vec<usize>,
 }
 
 impl Rows {
@@ -291,10 +300,19 @@ impl Rows {
         self.bytes
             .try_reserve(row.len())
             .map_err(|_| Error::OutOfMemory)?;
-        self.ends.try_reserve(1).map_err(|_| Error::OutOfMemory)?;
+        self.offsets
+            .try_reserve(2)
+            .map_err(|_| Error::OutOfMemory)?;
+        if self.offsets.is_empty() {
+            self.offsets.push(0);
+        }
         self.bytes.extend_from_slice(row);
-        self.ends.push(self.bytes.len());
+        self.offsets.push(self.bytes.len());
         Ok(())
+    }
+
+    fn len(&self) -> usize {
+        self.offsets.len().saturating_sub(1)
     }
 }
 
@@ -378,17 +396,17 @@ fn bounded(
 
 /// What an export builds of rows, none of which nests so deep that the result passes `MAX_DEPTH`.
 fn built(export: Building, rows: &Rows) -> Result<Vec<u8>, Error> {
-    let (bytes, ends) = (&rows.bytes, &rows.ends);
+    let (bytes, offsets) = (&rows.bytes, &rows.offsets);
     // An entry for each row, and the header.
-    let first_room = bytes.len() + 4 * ends.len() + 4;
+    let first_room = bytes.len() + 4 * rows.len() + 4;
     all_written(first_room, |out, room, length| {
         // SAFETY: as above; each `Building` export requires that alone, and writes `length` bytes.
         unsafe {
             export(
                 bytes.as_ptr(),
                 bytes.len(),
-                ends.as_ptr(),
-                ends.len(),
+                offsets.as_ptr(),
+                offsets.len(),
                 MAX_DEPTH - 1,
                 out,
                 room,
@@ -688,7 +706,18 @@ pub(crate) fn of_extension(fields: &Fields<'_>) -> Result<Vec<u8>, Error> {
 pub(crate) fn parse(text: &[u8], depth: usize) -> Result<Vec<u8>, Error> {
     // The header: the result is shorter than 4 times the text plus 8 bytes.
     let room = text.len().saturating_mul(4).saturating_add(8);
-    bounded(kohiblad_parse, text, depth, room)
+    bounded(kohiblad_parse, text, depth, room).map_err(|error| match error {
+        Error::InvalidJson { .. } => text_fault(text, depth),
+        other => other,
+    })
+}
+
+/// Why a text is no JSON, and where. Only such a text may be given.
+fn text_fault(text: &[u8], depth: usize) -> Error {
+    // SAFETY: as above.
+    let fault = unsafe { kohiblad_text_fault(text.as_ptr(), text.len(), depth.min(MAX_DEPTH)) };
+    // The offset is in the text, so it fits a `usize`.
+    Error::of_fault(fault.status, fault.offset as usize)
 }
 
 pub(crate) fn to_string(bytes: &[u8]) -> Result<Vec<u8>, Error> {
@@ -716,15 +745,15 @@ pub(crate) fn build_object(rows: &Rows) -> Result<Vec<u8>, Error> {
 }
 
 pub(crate) fn sort(rows: &Rows) -> Result<Vec<usize>, Error> {
-    let count = rows.ends.len();
+    let count = rows.len();
     let mut order = with_room(count)?;
-    // SAFETY: as above, of the rows, their ends and the buffer for the order.
+    // SAFETY: as above, of the rows, their offsets and the buffer for the order.
     let status = unsafe {
         kohiblad_sort_within(
             rows.bytes.as_ptr(),
             rows.bytes.len(),
-            rows.ends.as_ptr(),
-            count,
+            rows.offsets.as_ptr(),
+            rows.offsets.len(),
             MAX_DEPTH,
             order.as_mut_ptr(),
             order.capacity(),

@@ -20,13 +20,14 @@
 //! module [`bytes`].
 //!
 //! There is no floating point: a document with a double is refused as [`Error::InvalidJsonb`], and
-//! a JSON number with an exponent, as `1e5`, as [`Error::InvalidJson`].
+//! a JSON number with an exponent, as `1e5`, as [`Error::BadNumber`].
 //!
 //! The feature `std`, which is on by default, implements `std::error::Error` for [`Error`]. Without
 //! it the crate needs `core` and `alloc` alone.
 
 #![cfg_attr(not(any(feature = "std", test)), no_std)]
 #![deny(missing_docs, unsafe_code, rustdoc::broken_intra_doc_links)]
+#![warn(clippy::missing_errors_doc, clippy::missing_panics_doc)]
 
 extern crate alloc;
 
@@ -55,10 +56,10 @@ pub use raw::RawJsonb;
 /// `std::thread` gives.
 pub const MAX_DEPTH: usize = 1000;
 
-/// The version of the library: millions, thousands and ones. 6000 is 0.6.0.
+/// The version of the library: millions, thousands and ones. 7000 is 0.7.0.
 ///
 /// ```
-/// assert!(kohiblad::version() >= 6000);
+/// assert!(kohiblad::version() >= 7000);
 /// ```
 pub fn version() -> u32 {
     ffi::version()

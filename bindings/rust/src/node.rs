@@ -1,5 +1,7 @@
+use alloc::string::String;
+
 use crate::raw::known;
-use crate::{ffi, Error, RawJsonb};
+use crate::{ffi, Error, OwnedJsonb, RawJsonb};
 
 /// The kind of a value.
 #[derive(Clone, Copy, Debug, PartialEq, Eq, Hash)]
@@ -57,13 +59,42 @@ impl Number {
     }
 }
 
-impl From<i128> for Number {
-    fn from(digits: i128) -> Self {
-        Number { digits, scale: 0 }
+/// Whole numbers of the types whose values all fit.
+macro_rules! of_integers {
+    ($($integer:ty)*) => {$(
+        impl From<$integer> for Number {
+            fn from(value: $integer) -> Self {
+                // `usize` and `isize` have 64 bits, but no `From` in Rust.
+                Number { digits: value as i128, scale: 0 }
+            }
+        }
+
+        impl From<$integer> for Node<'_> {
+            fn from(value: $integer) -> Self {
+                Node::Number(value.into())
+            }
+        }
+    )*};
+}
+
+of_integers!(i8 i16 i32 i64 i128 isize u8 u16 u32 u64 usize);
+
+/// # Errors
+///
+/// - [`Error::PastRange`]: the number is 2^127 or more.
+impl TryFrom<u128> for Number {
+    type Error = Error;
+
+    fn try_from(value: u128) -> Result<Self, Error> {
+        let digits = i128::try_from(value).map_err(|_| Error::PastRange)?;
+        Ok(digits.into())
     }
 }
 
-/// `PastRange`: the number is larger, or has digits after its point, also if these are zeros.
+/// # Errors
+///
+/// - [`Error::PastRange`]: the number is larger, or has digits after its point, also if these are
+///   zeros.
 impl TryFrom<Number> for i64 {
     type Error = Error;
 
@@ -307,27 +338,14 @@ impl From<bool> for Node<'_> {
     }
 }
 
-impl From<i32> for Node<'_> {
-    fn from(value: i32) -> Self {
-        i128::from(value).into()
-    }
-}
+/// # Errors
+///
+/// - [`Error::PastRange`]: the number is 2^127 or more.
+impl TryFrom<u128> for Node<'_> {
+    type Error = Error;
 
-impl From<i64> for Node<'_> {
-    fn from(value: i64) -> Self {
-        i128::from(value).into()
-    }
-}
-
-impl From<u64> for Node<'_> {
-    fn from(value: u64) -> Self {
-        i128::from(value).into()
-    }
-}
-
-impl From<i128> for Node<'_> {
-    fn from(value: i128) -> Self {
-        Node::Number(value.into())
+    fn try_from(value: u128) -> Result<Self, Error> {
+        Number::try_from(value).map(Node::Number)
     }
 }
 
@@ -343,6 +361,19 @@ impl<'a> From<&'a str> for Node<'a> {
     }
 }
 
+impl<'a> From<&'a String> for Node<'a> {
+    fn from(value: &'a String) -> Self {
+        Node::String(value)
+    }
+}
+
+/// `None` is null.
+impl<'a, T: Into<Node<'a>>> From<Option<T>> for Node<'a> {
+    fn from(value: Option<T>) -> Self {
+        value.map_or(Node::Null, T::into)
+    }
+}
+
 impl<'a> From<ExtensionValue<'a>> for Node<'a> {
     fn from(value: ExtensionValue<'a>) -> Self {
         Node::Extension(value)
@@ -352,5 +383,11 @@ impl<'a> From<ExtensionValue<'a>> for Node<'a> {
 impl<'a> From<RawJsonb<'a>> for Node<'a> {
     fn from(value: RawJsonb<'a>) -> Self {
         value.node()
+    }
+}
+
+impl<'a> From<&'a OwnedJsonb> for Node<'a> {
+    fn from(value: &'a OwnedJsonb) -> Self {
+        value.as_raw().node()
     }
 }

@@ -44,14 +44,14 @@ pub struct RawJsonb<'a> {
 impl<'a> RawJsonb<'a> {
     /// Checks bytes.
     ///
-    /// `InvalidJsonb`: they are no document, or nest deeper than [`MAX_DEPTH`].
+    /// # Errors
+    ///
+    /// - [`Error::InvalidJsonb`]: they are no document, or nest deeper than [`MAX_DEPTH`].
     pub fn new(bytes: &'a [u8]) -> Result<Self, Error> {
         Self::within(bytes, MAX_DEPTH)
     }
 
     /// Checks bytes, and looks no deeper than the depth.
-    ///
-    /// `InvalidJsonb`: they are no document, or nest deeper than the depth or [`MAX_DEPTH`].
     ///
     /// ```
     /// use kohiblad::{Error, OwnedJsonb, RawJsonb};
@@ -62,6 +62,11 @@ impl<'a> RawJsonb<'a> {
     /// assert_eq!(refused, Error::InvalidJsonb);
     /// # Ok::<(), kohiblad::Error>(())
     /// ```
+    ///
+    /// # Errors
+    ///
+    /// - [`Error::InvalidJsonb`]: they are no document, or nest deeper than the depth or
+    ///   [`MAX_DEPTH`].
     pub fn within(bytes: &'a [u8], depth: usize) -> Result<Self, Error> {
         if ffi::check(bytes, depth) {
             Ok(Self::of_checked(bytes))
@@ -82,7 +87,9 @@ impl<'a> RawJsonb<'a> {
 
     /// A copy of the document.
     ///
-    /// `OutOfMemory`: an allocation failed.
+    /// # Errors
+    ///
+    /// - [`Error::OutOfMemory`]: an allocation failed.
     pub fn to_owned_jsonb(&self) -> Result<OwnedJsonb, Error> {
         ffi::copied(self.bytes).map(OwnedJsonb::of_checked)
     }
@@ -113,7 +120,9 @@ impl<'a> RawJsonb<'a> {
     /// The value of a key, as a document of its own; `None` if there is no such key or the value is
     /// no object.
     ///
-    /// `OutOfMemory`: an allocation failed.
+    /// # Errors
+    ///
+    /// - [`Error::OutOfMemory`]: an allocation failed.
     pub fn get(&self, name: &str) -> Result<Option<OwnedJsonb>, Error> {
         Ok(ffi::get(self.bytes, name)?.map(OwnedJsonb::of_checked))
     }
@@ -121,14 +130,16 @@ impl<'a> RawJsonb<'a> {
     /// The item of an array at an index, from 0, as a document of its own; `None` if there is no
     /// such item or the value is no array. For all items take [`items`](Self::items).
     ///
-    /// `OutOfMemory`: an allocation failed.
-    ///
     /// ```
     /// let array = kohiblad::OwnedJsonb::parse(r#"[true, "x"]"#, 64)?;
     /// let item = array.as_raw().array_item(1)?.expect("there are two items");
     /// assert_eq!(item.as_raw().as_str()?, "x");
     /// # Ok::<(), kohiblad::Error>(())
     /// ```
+    ///
+    /// # Errors
+    ///
+    /// - [`Error::OutOfMemory`]: an allocation failed.
     pub fn array_item(&self, index: usize) -> Result<Option<OwnedJsonb>, Error> {
         Ok(ffi::array_item(self.bytes, index)?.map(OwnedJsonb::of_checked))
     }
@@ -137,14 +148,16 @@ impl<'a> RawJsonb<'a> {
     /// document of its own; `None` if there is no such pair or the value is no object. For all
     /// members take [`members`](Self::members).
     ///
-    /// `OutOfMemory`: an allocation failed.
-    ///
     /// ```
     /// let object = kohiblad::OwnedJsonb::parse(r#"{"b": 2, "a": 1}"#, 64)?;
     /// let (key, value) = object.as_raw().object_member(0)?.expect("there are two members");
     /// assert_eq!((key.as_str(), value.as_raw().as_i64()?), ("a", 1));
     /// # Ok::<(), kohiblad::Error>(())
     /// ```
+    ///
+    /// # Errors
+    ///
+    /// - [`Error::OutOfMemory`]: an allocation failed.
     pub fn object_member(&self, index: usize) -> Result<Option<(String, OwnedJsonb)>, Error> {
         let member = ffi::object_member(self.bytes, index)?;
         Ok(member.map(|it| (string_of(it.key), OwnedJsonb::of_checked(it.value))))
@@ -188,36 +201,47 @@ impl<'a> RawJsonb<'a> {
 
     /// A number.
     ///
-    /// `OtherKind`: the value is of another kind.
+    /// # Errors
+    ///
+    /// - [`Error::OtherKind`]: the value is of another kind.
     pub fn as_number(&self) -> Result<Number, Error> {
         Number::of_document(self.bytes)
     }
 
     /// A number that is whole and of 64 bits.
     ///
-    /// `PastRange`: it is larger, or has digits after its point, also if these are zeros.
-    /// `OtherKind`: the value is of another kind.
+    /// # Errors
+    ///
+    /// - [`Error::PastRange`]: it is larger, or has digits after its point, also if these are
+    ///   zeros.
+    /// - [`Error::OtherKind`]: the value is of another kind.
     pub fn as_i64(&self) -> Result<i64, Error> {
         ffi::int64(self.bytes)
     }
 
     /// A text, with neither quotes nor escapes.
     ///
-    /// `OtherKind`: the value is of another kind.
+    /// # Errors
+    ///
+    /// - [`Error::OtherKind`]: the value is of another kind.
     pub fn as_str(&self) -> Result<&'a str, Error> {
         ffi::text(self.bytes).map(text_of)
     }
 
     /// A truth value.
     ///
-    /// `OtherKind`: the value is of another kind.
+    /// # Errors
+    ///
+    /// - [`Error::OtherKind`]: the value is of another kind.
     pub fn as_bool(&self) -> Result<bool, Error> {
         ffi::boolean(self.bytes)
     }
 
     /// An extension value.
     ///
-    /// `OtherKind`: the value is of another kind.
+    /// # Errors
+    ///
+    /// - [`Error::OtherKind`]: the value is of another kind.
     pub fn as_extension(&self) -> Result<ExtensionValue<'a>, Error> {
         ExtensionValue::of_document(self.bytes)
     }
@@ -225,20 +249,24 @@ impl<'a> RawJsonb<'a> {
     /// The JSON text without white space. `to_string` is the same, but panics if an allocation
     /// fails.
     ///
-    /// `OutOfMemory`: an allocation failed.
+    /// # Errors
+    ///
+    /// - [`Error::OutOfMemory`]: an allocation failed.
     pub fn compact_text(&self) -> Result<String, Error> {
         ffi::to_string(self.bytes).map(string_of)
     }
 
     /// The JSON text on lines, indented by two spaces.
     ///
-    /// `OutOfMemory`: an allocation failed.
-    ///
     /// ```
     /// let array = kohiblad::OwnedJsonb::parse("[1,[]]", 64)?;
     /// assert_eq!(array.as_raw().pretty_text()?, "[\n  1,\n  []\n]");
     /// # Ok::<(), kohiblad::Error>(())
     /// ```
+    ///
+    /// # Errors
+    ///
+    /// - [`Error::OutOfMemory`]: an allocation failed.
     pub fn pretty_text(&self) -> Result<String, Error> {
         ffi::to_pretty(self.bytes).map(string_of)
     }
@@ -250,14 +278,19 @@ impl<'a> RawJsonb<'a> {
 
     /// The canonical document of the same value, which is equal to this one.
     ///
-    /// `InvalidJsonb`: it is past a limit of the format. `OutOfMemory`: an allocation failed.
+    /// # Errors
+    ///
+    /// - [`Error::InvalidJsonb`]: it is past a limit of the format.
+    /// - [`Error::OutOfMemory`]: an allocation failed.
     pub fn to_canonical(&self) -> Result<OwnedJsonb, Error> {
         ffi::to_canonical(self.bytes).map(OwnedJsonb::of_checked)
     }
 
     /// The key whose order by bytes is that of the documents.
     ///
-    /// `OutOfMemory`: an allocation failed.
+    /// # Errors
+    ///
+    /// - [`Error::OutOfMemory`]: an allocation failed.
     pub fn key(&self) -> Result<ComparableKey, Error> {
         ffi::key(self.bytes).map(ComparableKey)
     }
@@ -269,6 +302,11 @@ impl AsRef<[u8]> for RawJsonb<'_> {
     }
 }
 
+/// Checks bytes.
+///
+/// # Errors
+///
+/// Those of [`RawJsonb::new`].
 impl<'a> TryFrom<&'a [u8]> for RawJsonb<'a> {
     type Error = Error;
 
@@ -297,13 +335,22 @@ impl PartialEq for RawJsonb<'_> {
 
 impl Eq for RawJsonb<'_> {}
 
-/// Hashes the key. Panics if an allocation fails.
+/// Hashes the key.
+///
+/// # Panics
+///
+/// If an allocation fails.
 impl Hash for RawJsonb<'_> {
     fn hash<H: Hasher>(&self, state: &mut H) {
         self.key().expect("memory for a key").hash(state);
     }
 }
 
+/// The JSON text without white space, and by `{:#}` on lines.
+///
+/// # Errors
+///
+/// [`fmt::Error`] if an allocation fails, for which `to_string` and `println!` panic.
 impl fmt::Display for RawJsonb<'_> {
     fn fmt(&self, f: &mut fmt::Formatter<'_>) -> fmt::Result {
         let text = if f.alternate() {

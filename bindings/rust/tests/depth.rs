@@ -51,6 +51,20 @@ fn deeper_texts_are_refused() {
 }
 
 #[test]
+fn the_place_of_a_fault_is_found_as_deep() {
+    for (open, close) in [("[", "]"), ("{\"a\":", "}")] {
+        let open = open.repeat(MAX_DEPTH);
+        let text = format!("{open}1e5{}", close.repeat(MAX_DEPTH));
+        let refused = Error::BadNumber {
+            offset: open.len() + 1,
+        };
+        assert_eq!(OwnedJsonb::parse(&text, MAX_DEPTH), Err(refused));
+        let refused = Error::InvalidJson { offset: open.len() };
+        assert_eq!(OwnedJsonb::parse(&open, MAX_DEPTH), Err(refused));
+    }
+}
+
+#[test]
 fn deeper_documents_are_refused() {
     assert!(bytes::is_document(&nested(MAX_DEPTH)));
     for levels in [MAX_DEPTH + 1, 100_000] {
@@ -84,5 +98,8 @@ fn builders_nest_no_deeper() {
     let refused = OwnedJsonb::build_array([array.as_raw()]);
     assert_eq!(refused, Err(Error::InvalidJsonb));
     let refused = OwnedJsonb::build_object([("a", array.as_raw())]);
+    assert_eq!(refused, Err(Error::InvalidJsonb));
+    assert_eq!(OwnedJsonb::array_of([&array]), Err(Error::InvalidJsonb));
+    let refused = OwnedJsonb::object_of([("a", array)]);
     assert_eq!(refused, Err(Error::InvalidJsonb));
 }

@@ -102,18 +102,30 @@ fn floating_point_is_refused() {
 
 #[test]
 fn refused_texts_are_named() {
+    let json = |offset| Error::InvalidJson { offset };
+    let number = |offset| Error::BadNumber { offset };
     let past_128_bits = "170141183460469231731687303715884105728";
-    for (text, error) in [
-        ("", Error::InvalidJson),
-        ("[1,]", Error::InvalidJson),
-        ("1e5", Error::InvalidJson),
-        ("1 2", Error::InvalidJson),
-        (r#""\ud800""#, Error::InvalidJson),
-        (past_128_bits, Error::InvalidJson),
-        ("[[[0]]]", Error::TooDeep),
+    for (text, error, shown) in [
+        ("", json(0), "InvalidJson at byte 0"),
+        ("[1,]", json(3), "InvalidJson at byte 3"),
+        ("[1", json(2), "InvalidJson at byte 2"),
+        ("1 2", json(2), "InvalidJson at byte 2"),
+        (r#"["é" 1]"#, json(6), "InvalidJson at byte 6"),
+        (r#""\ud800""#, json(7), "InvalidJson at byte 7"),
+        ("1e5", number(1), "BadNumber at byte 1"),
+        (r#"{"a":1e5}"#, number(6), "BadNumber at byte 6"),
+        (r#"{"a": [1, 2.5e-7]}"#, number(13), "BadNumber at byte 13"),
+        (past_128_bits, number(38), "BadNumber at byte 38"),
+        // With another number the comma would still be one too many.
+        ("[1e5,]", json(2), "InvalidJson at byte 2"),
+        ("[[[0]]]", Error::TooDeep, "TooDeep"),
     ] {
         assert_eq!(OwnedJsonb::parse(text, 2), Err(error), "{text}");
+        assert_eq!(error.to_string(), shown);
     }
+    assert_eq!(json(3).offset(), Some(3));
+    assert_eq!(number(4).offset(), Some(4));
+    assert_eq!(Error::TooDeep.offset(), None);
     assert_eq!(OwnedJsonb::parse(b"\"\xff\"", 2), Err(Error::InvalidUtf8));
     // The last value of a key stays, and brackets in strings are no levels.
     assert_eq!(

@@ -25,7 +25,9 @@ fn hex(bytes: impl AsRef<[u8]>) -> String {
 fn answer<T>(result: Result<T, Error>, shown: impl Fn(T) -> String) -> String {
     match result {
         Ok(value) => format!("ok {}", shown(value)),
-        Err(error) => format!("error {error}"),
+        // To the programs a text with such a number is no JSON either.
+        Err(Error::BadNumber { .. }) => "error InvalidJson".into(),
+        Err(error) => format!("error {}", error.name()),
     }
 }
 

@@ -83,6 +83,11 @@ fn refused_allocations_are_named() {
     refuse_each("build_object", || {
         OwnedJsonb::build_object([("b", row), ("a", list)])
     });
+    refuse_each("try_from a number", || OwnedJsonb::try_from(7_u8));
+    refuse_each("try_from a text", || OwnedJsonb::try_from(long.as_str()));
+    refuse_each("try_from nothing", || OwnedJsonb::try_from(None::<bool>));
+    refuse_each("array_of", || OwnedJsonb::array_of([row, list]));
+    refuse_each("object_of", || OwnedJsonb::object_of([("b", 1), ("a", 2)]));
     refuse_each("get", || row.get(&long));
     refuse_each("bytes::get", || bytes::get(row.as_bytes(), &long));
     refuse_each("array_item", || list.array_item(1));
