@@ -1,6 +1,8 @@
 pub mod Tests
 pub mod PrintedNumbers
 pub mod PrintedText
+pub mod Resume
+pub mod ReaderSteps
 pub mod Same
 pub mod PrintedTrees
 pub mod Digits

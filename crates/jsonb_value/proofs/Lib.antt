@@ -1,4 +1,5 @@
 pub mod Codes
+pub mod TreesLaws
 pub mod ExtCodes
 pub mod Scaling
 pub mod ScaledRange

@@ -5,3 +5,7 @@ pub mod Gives
 pub mod Digits
 pub mod Kind
 pub mod Content
+pub mod Resume
+pub mod Kinds
+pub mod IsAt
+pub mod TreesHeld

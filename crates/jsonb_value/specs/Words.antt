@@ -31,7 +31,7 @@ pub use Rattle.jsonb_value.specs.Order.{extension_cmp, fraction_of, number_cmp}
 pub use Rattle.jsonb_value.specs.ParseErrorName.{parse_error_name}
 pub use Rattle.jsonb_value.specs.Payload.{IsDecimalLength, IsSigned, IsSignedNumber}
 pub use Rattle.jsonb_value.specs.Payload.{IsUnsignedNumber, IsWholeLength}
-pub use Rattle.jsonb_value.specs.Reader.Content.{ItemIsRead, KeyIsRead, MemberIsRead, members_held}
+pub use Rattle.jsonb_value.specs.Reader.Content.{members_held}
 pub use Rattle.jsonb_value.specs.Reader.Digits.{AreDigits, Counts}
 pub use Rattle.jsonb_value.specs.Reader.Gives.{Fails, Gives}
 pub use Rattle.jsonb_value.specs.Reader.Kind.{kind_view}

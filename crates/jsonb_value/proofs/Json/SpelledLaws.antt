@@ -90,7 +90,7 @@ option_some : {A B : Type 0} (f : A → B) (o : Option A) (y : B) → option_map
     × (o ≡ Some x) × (f x ≡ y)
 option_some f o y e = grind arith
 
-value_begins : (x : Syntax) (t : Tree) → meaning x ≡ Some t → begins_value (syntax_text x) ≡ true
+pub value_begins : (x : Syntax) (t : Tree) → meaning x ≡ Some t → begins_value (syntax_text x) ≡ true
 value_begins (truth true) t e = refl
 value_begins (truth false) t e = refl
 value_begins (numeral n) t e =
@@ -167,6 +167,10 @@ members_follow (next_member m ms) rest = refl
 no_brace : (m : Member) (e : List ℕ × Tree) (rest : List ℕ) → member_meaning m ≡ Some e
     → expect close_brace (skip_blank (member_text m ++ rest)) ≡ None
 no_brace (member before pieces after x) e rest is = grind (arith, append_assoc, skip-append)
+
+pub value_positive : (x : Syntax) (t : Tree) (rest : List ℕ) → meaning x ≡ Some t
+    → length rest < length (syntax_text x ++ rest)
+value_positive x t rest e = grind (arith, value_begins, length-append)
 
 pub element_positive : (x : Element) (t : Tree) (rest : List ℕ) → element_meaning x ≡ Some t
     → length rest < length (element_text x ++ rest)

@@ -1,8 +1,8 @@
 -- The kinds of values in the code and in the grammar.
 use Rattle.jsonb_value.specs.Reader.Reading.{Kind, null_kind, true_kind, false_kind, string_kind}
 use Rattle.jsonb_value.specs.Reader.Reading.{array_kind, object_kind, number_kind}
-use Rattle.jsonb_value.specs.declared.parser.Kind as code
-use Rattle.jsonb_value.specs.declared.parser.Kind.TheVariants as kinds
+use Rattle.jsonb_value.specs.declared.parser.reader.Kind as code
+use Rattle.jsonb_value.specs.declared.parser.reader.Kind.TheVariants as kinds
 
 -- The grammar's kind for a kind of the code.
 abbrev pub kind_view : code.Kind → Kind

@@ -18,6 +18,8 @@ const LEAF_PAIRS: usize = 15;
 pub struct Members<'a> {
     few: Object<'a>,
     others: Vec<(String, Value<'a>)>,
+    /// The key whose value is read next.
+    pub key: String,
 }
 
 impl<'a> Members<'a> {
@@ -28,15 +30,17 @@ impl<'a> Members<'a> {
         Members {
             few: BTreeMap::new(alloc),
             others: Vec::new(alloc),
+            key: String::new(alloc),
         }
     }
 
-    /// Inserts the value under the key. Of equal keys the last value is kept.
-    pub fn insert(&mut self, key: String, value: Value<'a>) -> Result<(), Error>
+    /// Inserts the value of the key that was read last. Of equal keys the last value is kept.
+    pub fn insert(&mut self, alloc: Global, value: Value<'a>) -> Result<(), Error>
         ensures ok { OnOk result (members_held self.new
-            ≡ insert_entry string_cmp (members_held self.old) key value.entry) }
+            ≡ insert_entry string_cmp (members_held self.old) self.old.key value.entry) }
         ensures memory { IfErr result (λ e. e ≡ Error.OutOfMemory) }
     {
+        let key = replace(&mut self.key, String::new(alloc));
         if self.others.is_empty() && self.few.len() < LEAF_PAIRS {
             drop(self.few.insert(key, value)?);
         } else {
@@ -45,18 +49,17 @@ impl<'a> Members<'a> {
         Ok(())
     }
 
-    /// Takes out the object of all members, leaving none.
-    pub fn take_object(&mut self, alloc: Global) -> Result<Object<'a>, Error>
+    /// The object of all members.
+    pub fn into_object(self, alloc: Global) -> Result<Object<'a>, Error>
         ensures ok { IfOk result
-            (λ object. pairs_view object.entries ≡ pairs_view (members_held self.old)) }
+            (λ object. pairs_view object.entries ≡ pairs_view (members_held self.entry)) }
         ensures memory { IfErr result (λ e. e ≡ Error.OutOfMemory) }
     {
-        let few = replace(&mut self.few, BTreeMap::new(alloc));
-        if self.others.is_empty() {
+        let Members { few, others, .. } = self;
+        if others.is_empty() {
             return Ok(few);
         }
-        let all = join(alloc, few, replace(&mut self.others, Vec::new(alloc)))?;
-        object_of(alloc, all)
+        object_of(alloc, join(alloc, few, others)?)
     }
 }
 

@@ -1,0 +1,25 @@
+use Rattle.jsonb_value.proofs.Json.ReaderSteps.{array_begins, array_is_empty, past_first, first_is}
+use Rattle.jsonb_value.proofs.Json.ReaderSteps.{past_empty}
+use Rattle.jsonb_value.proofs.parser.reader.begin_array.Goals as goal
+
+pub returns-in-Some-after_char-clause-ok : goal.returns-in-Some-after_char-clause-ok
+returns-in-Some-after_char-clause-ok g c = λ target h.
+    array_is_empty g.S.Sink.is target _ _ _ _ _ _ _ _ _ h c.in-Some.ensures
+    (first_is _ _ _ _ c.in-Some.ensures c.requires.first)
+    c.skip_blank-inside.ensures c.in-Some-after_char.ensures c.in_ok-begin_array.ensures.ok
+    c.in_ok-end_array.ensures.ok
+
+pub returns-in-Some-after_char-clause-shorter : goal.returns-in-Some-after_char-clause-shorter
+returns-in-Some-after_char-clause-shorter g c =
+    past_empty _ _ _ _ _ _ c.in-Some.ensures c.skip_blank-inside.ensures
+    c.in-Some-after_char.ensures
+
+pub returns-clause-ok : goal.returns-clause-ok
+returns-clause-ok g c = λ target h.
+    array_begins g.S.Sink.is target _ _ _ _ _ _ _ _ h c.in-Some.ensures
+    (first_is _ _ _ _ c.in-Some.ensures c.requires.first)
+    c.skip_blank-inside.ensures c.in_default-after_char.ensures c.in_ok-begin_array.ensures.ok
+    c.in_ok-push.ensures.ok
+
+pub returns-clause-shorter : goal.returns-clause-shorter
+returns-clause-shorter g c = past_first _ _ _ _ c.in-Some.ensures c.skip_blank-inside.ensures

@@ -1,0 +1,19 @@
+use Rattle.std.proofs.Common.{chars}
+use Rattle.jsonb_value.specs.Reader.IsAt.{IsAt}
+use Rattle.jsonb_value.specs.Reader.Kinds.{kinds_held}
+use Rattle.jsonb_value.specs.Reader.Reading.{read_document}
+use Rattle.std.proofs.Common.{subst}
+use Rattle.jsonb_value.proofs.Json.ReaderSteps.{text_begins, text_ends}
+use Rattle.jsonb_value.proofs.parser.reader.read_text.Goals as goal
+
+pub steps-init : goal.steps-init
+steps-init g c =
+    text_begins g.S.Sink.is _ _ _ _ c.skip_blank.ensures c.new-kinds.ensures c.requires
+
+pub returns-in-End-clause-ok : goal.returns-in-End-clause-ok
+returns-in-End-clause-ok g c =
+    text_ends g.S.Sink.is _ _
+    (subst
+    (λ x. IsAt g.S.Sink.is (read_document (chars c.args.text.now)) c.steps.sink
+    (kinds_held c.steps.kinds) x)
+    c.in-End.is c.steps.invariant)

@@ -1,0 +1,12 @@
+use Rattle.std.proofs.Common.{chars}
+use Rattle.jsonb_value.specs.Reader.Kinds.{kinds_held}
+use Rattle.jsonb_value.specs.Reader.Reading.{read_document}
+use Rattle.jsonb_value.specs.Reader.IsAt.{IsAt, left}
+use Rattle.jsonb_value.proofs.parser.reader.read_text.Given as goal
+
+abbrev pub invariant-steps : goal.invariant-steps
+invariant-steps g l =
+    IsAt g.S.Sink.is (read_document (chars l.fn.text)) l.sink (kinds_held l.kinds) l.step
+
+abbrev pub decreases-steps : goal.decreases-steps
+decreases-steps g l = left l.step

@@ -1,0 +1,275 @@
+//! The reader: a loop over the values, keys and marks of a text, which tells a sink what it meets.
+//! Nested values take no stack: of each open container it keeps whether it is an object.
+
+ghost use Rattle.std.specs.Prelude.{◌≡◌, ℕ, ◌<◌, ◌≤◌, List, [], ◌∷◌, length, chars, Option, Some};
+ghost use Rattle.std.specs.Prelude.{IfOk, IfErr, OnOk, OnErr};
+ghost use Rattle.jsonb_value.specs.Tree.{Tree};
+ghost use Rattle.jsonb_value.specs.Reader.Gives.{Fails, Gives};
+ghost use Rattle.jsonb_value.specs.Reader.Kind.{kind_view};
+ghost use Rattle.jsonb_value.specs.Reader.Kinds.{kinds_held};
+ghost use Rattle.jsonb_value.specs.Reader.Reading.{read_document, read_word, kind_of};
+ghost use Rattle.jsonb_value.specs.Reader.Resume.{Adds, AddsKey, IsAtValue, IsAfterValue};
+ghost use Rattle.jsonb_value.specs.Reader.Resume.{IsAtKey};
+ghost use Rattle.jsonb_value.specs.Reader.IsAt.{IsAt, left};
+ghost use Rattle.jsonb_value.specs.Reader.Resume.{going, whole};
+ghost use Rattle.jsonb_value.specs.Json.Syntax.{Json};
+ghost use Rattle.jsonb_value.specs.Json.Characters.{open_bracket, open_brace};
+
+use crate::error::Error;
+use crate::parser::cursor::{after_all, after_char, skip_blank, split_first};
+use crate::parser::number::read_number;
+use crate::parser::open_kinds::OpenKinds;
+use crate::parser::sink::Sink;
+use crate::parser::string::read_string;
+use std::alloc::Global;
+
+// The kind of a value, known from its first character.
+#[derive(Clone, Copy)]
+enum Kind {
+    Null,
+    True,
+    False,
+    String,
+    Array,
+    Object,
+    Number,
+}
+
+fn kind_of(first: char) -> Kind
+    ensures { kind_view result ≡ kind_of first }
+{
+    match first {
+        'n' => Kind::Null,
+        't' => Kind::True,
+        'f' => Kind::False,
+        '"' => Kind::String,
+        '[' => Kind::Array,
+        '{' => Kind::Object,
+        _ => Kind::Number,
+    }
+}
+
+// Reads the rest of `null`, `true` or `false`; returns the text after it.
+fn read_word<'a>(text: &'a str, word: &[char]) -> Result<&'a str, Error>
+    ensures { (t : Tree)
+        → Gives (λ rest. (t, chars rest.now)) result (read_word word.now t (chars text.now)) }
+{
+    after_all(text, word).ok_or(Error::InvalidJson)
+}
+
+/// What comes next, and the text that is left.
+#[derive(Clone, Copy)]
+pub enum Step<'a> {
+    /// A value, without white space before it.
+    Value(&'a str),
+    /// A key, which may have white space before it.
+    Key(&'a str),
+    /// What follows a value.
+    After(&'a str),
+    /// Nothing: the text ended after its value.
+    End,
+}
+
+// Reads what follows a value: a comma, the end of its container, or the end of the text.
+fn go_on<'a, S: Sink<'a>>(
+    sink: &mut S,
+    kinds: &mut OpenKinds,
+    text: &'a str,
+) -> Result<Step<'a>, Error>
+    requires { (target : Option Tree)
+        × IsAfterValue S.is target sink.old (kinds_held kinds.old) (chars text.now) }
+    ensures ok { IfOk result (λ step. (target : Option Tree)
+        → IsAfterValue S.is target sink.old (kinds_held kinds.old) (chars text.now)
+        → IsAt S.is target sink.new (kinds_held kinds.new) step) }
+    ensures err { IfErr result (λ e. (target : Option Tree)
+        → IsAfterValue S.is target sink.old (kinds_held kinds.old) (chars text.now)
+        → Fails e target) }
+    ensures shorter { IfOk result (λ step. left step ≤ length (chars text.now)) }
+{
+    let rest = skip_blank(text);
+    let Some((mark, after)) = split_first(rest) else {
+        return match kinds.innermost() {
+            None => Ok(Step::End),
+            Some(_) => Err(Error::InvalidJson),
+        };
+    };
+    let Some(is_object) = kinds.innermost() else {
+        return Err(Error::InvalidJson);
+    };
+    if mark == ',' {
+        return if is_object {
+            Ok(Step::Key(after))
+        } else {
+            Ok(Step::Value(skip_blank(after)))
+        };
+    }
+    if is_object {
+        if mark != '}' {
+            return Err(Error::InvalidJson);
+        }
+        sink.end_object()?;
+        kinds.pop();
+        return Ok(Step::After(after));
+    }
+    if mark != ']' {
+        return Err(Error::InvalidJson);
+    }
+    sink.end_array()?;
+    kinds.pop();
+    Ok(Step::After(after))
+}
+
+// Reads a scalar, or the beginning of a container.
+fn begin<'a, S: Sink<'a>>(
+    alloc: Global,
+    sink: &mut S,
+    kinds: &mut OpenKinds,
+    text: &'a str,
+) -> Result<Step<'a>, Error>
+    requires { (target : Option Tree)
+        × IsAtValue S.is target sink.old (kinds_held kinds.old) (chars text.now) }
+    ensures ok { IfOk result (λ step. (target : Option Tree)
+        → IsAtValue S.is target sink.old (kinds_held kinds.old) (chars text.now)
+        → IsAt S.is target sink.new (kinds_held kinds.new) step) }
+    ensures err { IfErr result (λ e. (target : Option Tree)
+        → IsAtValue S.is target sink.old (kinds_held kinds.old) (chars text.now)
+        → Fails e target) }
+    ensures shorter { IfOk result (λ step. left step ≤ length (chars text.now)) }
+{
+    let Some((first, rest)) = split_first(text) else {
+        return Err(Error::InvalidJson);
+    };
+    match kind_of(first) {
+        Kind::Array => begin_array(sink, kinds, text),
+        Kind::Object => begin_object(sink, kinds, text),
+        Kind::Null => {
+            let after = read_word(rest, &['u', 'l', 'l'])?;
+            sink.null()?;
+            Ok(Step::After(after))
+        }
+        Kind::True => {
+            let after = read_word(rest, &['r', 'u', 'e'])?;
+            sink.truth(true)?;
+            Ok(Step::After(after))
+        }
+        Kind::False => {
+            let after = read_word(rest, &['a', 'l', 's', 'e'])?;
+            sink.truth(false)?;
+            Ok(Step::After(after))
+        }
+        Kind::String => {
+            let (content, after) = read_string(alloc, rest)?;
+            sink.string(content)?;
+            Ok(Step::After(after))
+        }
+        Kind::Number => {
+            let Some((number, after)) = read_number(text) else {
+                return Err(Error::InvalidJson);
+            };
+            sink.number(number)?;
+            Ok(Step::After(after))
+        }
+    }
+}
+
+// Reads the beginning of an array, and its end if it is empty.
+fn begin_array<'a, S: Sink<'a>>(
+    sink: &mut S,
+    kinds: &mut OpenKinds,
+    text: &'a str,
+) -> Result<Step<'a>, Error>
+    requires first { (s : List ℕ) × (chars text.now ≡ open_bracket ∷ s) }
+    requires stands { (target : Option Tree)
+        × IsAtValue S.is target sink.old (kinds_held kinds.old) (chars text.now) }
+    ensures ok { IfOk result (λ step. (target : Option Tree)
+        → IsAtValue S.is target sink.old (kinds_held kinds.old) (chars text.now)
+        → IsAt S.is target sink.new (kinds_held kinds.new) step) }
+    ensures memory { IfErr result (λ e. e ≡ Error.OutOfMemory) }
+    ensures shorter { IfOk result (λ step. left step ≤ length (chars text.now)) }
+{
+    let Some((_, rest)) = split_first(text) else {
+        unreachable!();
+    };
+    sink.begin_array()?;
+    let inside = skip_blank(rest);
+    if let Some(after) = after_char(inside, ']') {
+        sink.end_array()?;
+        return Ok(Step::After(after));
+    }
+    kinds.push(false)?;
+    Ok(Step::Value(inside))
+}
+
+// Reads the beginning of an object, and its end if it is empty.
+fn begin_object<'a, S: Sink<'a>>(
+    sink: &mut S,
+    kinds: &mut OpenKinds,
+    text: &'a str,
+) -> Result<Step<'a>, Error>
+    requires first { (s : List ℕ) × (chars text.now ≡ open_brace ∷ s) }
+    requires stands { (target : Option Tree)
+        × IsAtValue S.is target sink.old (kinds_held kinds.old) (chars text.now) }
+    ensures ok { IfOk result (λ step. (target : Option Tree)
+        → IsAtValue S.is target sink.old (kinds_held kinds.old) (chars text.now)
+        → IsAt S.is target sink.new (kinds_held kinds.new) step) }
+    ensures memory { IfErr result (λ e. e ≡ Error.OutOfMemory) }
+    ensures shorter { IfOk result (λ step. left step ≤ length (chars text.now)) }
+{
+    let Some((_, rest)) = split_first(text) else {
+        unreachable!();
+    };
+    sink.begin_object()?;
+    if let Some(after) = after_char(skip_blank(rest), '}') {
+        sink.end_object()?;
+        return Ok(Step::After(after));
+    }
+    kinds.push(true)?;
+    Ok(Step::Key(rest))
+}
+
+// Reads a key and its colon.
+fn read_key<'a, S: Sink<'a>>(
+    alloc: Global,
+    sink: &mut S,
+    kinds: &OpenKinds,
+    text: &'a str,
+) -> Result<Step<'a>, Error>
+    requires { (target : Option Tree)
+        × IsAtKey S.is target sink.old (kinds_held kinds.now) (chars text.now) }
+    ensures ok { IfOk result (λ step. (target : Option Tree)
+        → IsAtKey S.is target sink.old (kinds_held kinds.now) (chars text.now)
+        → IsAt S.is target sink.new (kinds_held kinds.now) step) }
+    ensures err { IfErr result (λ e. (target : Option Tree)
+        → IsAtKey S.is target sink.old (kinds_held kinds.now) (chars text.now)
+        → Fails e target) }
+    ensures shorter { IfOk result (λ step. left step ≤ length (chars text.now)) }
+{
+    let Some(opened) = after_char(skip_blank(text), '"') else {
+        return Err(Error::InvalidJson);
+    };
+    let (key, after) = read_string(alloc, opened)?;
+    let Some(later) = after_char(skip_blank(after), ':') else {
+        return Err(Error::InvalidJson);
+    };
+    sink.key(key)?;
+    Ok(Step::Value(skip_blank(later)))
+}
+
+/// Reads a whole text, and tells the sink what it meets. `InvalidJson` if it is not a JSON text,
+/// `OutOfMemory` if an allocation fails.
+pub fn read_text<'a, S: Sink<'a>>(alloc: Global, sink: &mut S, text: &'a str) -> Result<(), Error>
+    requires { S.is sink.old (going []) }
+    ensures ok { OnOk result ((t : Tree) × (Json (chars text.now) t × S.is sink.new (whole t))) }
+    ensures err { IfErr result (λ e. Fails e (read_document (chars text.now))) }
+{
+    let mut kinds = OpenKinds::new(alloc);
+    let mut step = Step::Value(skip_blank(text));
+    'steps: loop {
+        step = match step {
+            Step::Value(rest) => begin(alloc, sink, &mut kinds, rest)?,
+            Step::Key(rest) => read_key(alloc, sink, &kinds, rest)?,
+            Step::After(rest) => go_on(sink, &mut kinds, rest)?,
+            Step::End => return Ok(()),
+        };
+    }
+}

@@ -1,0 +1,76 @@
+//! What the reader tells of a text: one reader, and a sink for each thing made of it.
+
+ghost use Rattle.std.specs.Prelude.{◌≡◌, List, [], ◌∷◌, OnOk, IfErr};
+ghost use Rattle.jsonb_value.specs.declared.error.Error.TheVariants.{OutOfMemory};
+ghost use Rattle.jsonb_value.specs.Tree.{Tree, array, object, no_trees, null, boolean, number, text};
+ghost use Rattle.jsonb_value.specs.Value.{trees_of, cow_bytes};
+ghost use Rattle.jsonb_value.specs.Json.Syntax.{Entries, pairs};
+ghost use Rattle.jsonb_value.specs.Reader.Resume.{State, going, Content, items, members, put};
+ghost use Rattle.jsonb_value.specs.Reader.Resume.{Adds, AddsKey};
+
+use crate::error::Error;
+use crate::number::Number;
+use std::borrow::CowStr;
+
+/// Receives what the reader meets, in order: scalars, keys before their values, and where arrays and
+/// objects begin and end. Each call fails only if an allocation does.
+pub trait Sink<'a> {
+    ghost is: { Self → State → Type 0 };
+
+    /// The value `null`.
+    fn null(&mut self) -> Result<(), Error>
+        ensures ok { OnOk result (Adds is self.old self.new null) }
+        ensures memory { IfErr result (λ e. e ≡ OutOfMemory) };
+
+    /// `true` or `false`.
+    fn truth(&mut self, truth: bool) -> Result<(), Error>
+        ensures ok { OnOk result (Adds is self.old self.new (boolean truth)) }
+        ensures memory { IfErr result (λ e. e ≡ OutOfMemory) };
+
+    /// A number.
+    fn number(&mut self, value: Number) -> Result<(), Error>
+        ensures ok { OnOk result (Adds is self.old self.new (number value)) }
+        ensures memory { IfErr result (λ e. e ≡ OutOfMemory) };
+
+    /// A string, borrowed from the text if it has no escapes.
+    fn string(&mut self, content: CowStr<'a>) -> Result<(), Error>
+        ensures ok { OnOk result (Adds is self.old self.new (text (cow_bytes content.entry))) }
+        ensures memory { IfErr result (λ e. e ≡ OutOfMemory) };
+
+    /// The key whose value comes next.
+    fn key(&mut self, content: CowStr<'a>) -> Result<(), Error>
+        requires { (front : Entries) × ((cs : List Content)
+            × is self.old (going (members front ∷ cs))) }
+        ensures ok { OnOk result (AddsKey is self.old self.new (cow_bytes content.entry)) }
+        ensures memory { IfErr result (λ e. e ≡ OutOfMemory) };
+
+    /// An array begins.
+    fn begin_array(&mut self) -> Result<(), Error>
+        ensures ok { OnOk result ((cs : List Content) → is self.old (going cs)
+            → is self.new (going (items [] ∷ cs))) }
+        ensures memory { IfErr result (λ e. e ≡ OutOfMemory) };
+
+    /// The innermost container, an array, ends.
+    fn end_array(&mut self) -> Result<(), Error>
+        requires { (front : List Tree) × ((cs : List Content)
+            × is self.old (going (items front ∷ cs))) }
+        ensures ok { OnOk result ((front : List Tree) (cs : List Content)
+            → is self.old (going (items front ∷ cs))
+            → is self.new (put (array (trees_of front)) cs)) }
+        ensures memory { IfErr result (λ e. e ≡ OutOfMemory) };
+
+    /// An object begins.
+    fn begin_object(&mut self) -> Result<(), Error>
+        ensures ok { OnOk result ((cs : List Content) → is self.old (going cs)
+            → is self.new (going (members [] ∷ cs))) }
+        ensures memory { IfErr result (λ e. e ≡ OutOfMemory) };
+
+    /// The innermost container, an object, ends. Of equal keys the last value is kept.
+    fn end_object(&mut self) -> Result<(), Error>
+        requires { (front : Entries) × ((cs : List Content)
+            × is self.old (going (members front ∷ cs))) }
+        ensures ok { OnOk result ((front : Entries) (cs : List Content)
+            → is self.old (going (members front ∷ cs))
+            → is self.new (put (object (pairs front)) cs)) }
+        ensures memory { IfErr result (λ e. e ≡ OutOfMemory) };
+}
