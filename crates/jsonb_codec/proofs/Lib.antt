@@ -1,3 +1,9 @@
+pub mod TapeLaws
+pub mod MemberOrder
+pub mod TapeGrowth
+pub mod TapeClosing
+pub mod TapeMembers
+pub mod TapeWriting
 pub mod Appending
 pub mod RoomLaws
 pub mod Words

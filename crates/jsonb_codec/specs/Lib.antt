@@ -24,3 +24,4 @@ pub mod Encoder
 pub mod Made
 pub mod Ascii
 pub mod Words
+pub mod Tape

@@ -10,6 +10,7 @@ mod jentry;
 pub mod parts;
 mod reread;
 mod ser;
+mod tape;
 mod word;
 pub mod writer;
 
@@ -21,4 +22,5 @@ pub use document::{DocumentBytes, document_laws, document_text, is_document, is_
 pub use jentry::JEntry;
 pub use reread::printed_text_laws;
 pub use ser::{Encoder, JsonAstEncoder};
+pub use tape::encode_text;
 pub use word::{decode_header, read_header, read_jentry, read_word};

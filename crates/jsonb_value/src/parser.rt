@@ -12,9 +12,11 @@ mod sink;
 mod string;
 mod trees;
 
+pub use reader::read_text;
+pub use sink::Sink;
+
 use crate::error::Error;
 use crate::value::Value;
-use reader::read_text;
 use std::alloc::Global;
 use trees::Trees;
 

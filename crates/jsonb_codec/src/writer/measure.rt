@@ -22,7 +22,8 @@ use jsonb_value::Error;
 /// The greatest length of a payload that an entry word can hold.
 pub const MAX_PAYLOAD: usize = 0x0FFFFFFF;
 
-const MAX_COUNT: usize = 0x1FFFFFFF;
+/// The greatest count that a header word can hold.
+pub const MAX_COUNT: usize = 0x1FFFFFFF;
 
 // Greater than the length of anything that fits.
 const NO_LIMIT: usize = 1 << 60;

@@ -1,0 +1,5 @@
+use Rattle.jsonb_codec.proofs.TapeMembers.{no_members}
+use Rattle.jsonb_codec.proofs.tape.open.OpenObject.new.Goals as goal
+
+pub returns : goal.returns
+returns c = λ storage. no_members storage _ c.new.ensures.items

@@ -1,0 +1,187 @@
+//! Containers that are being read.
+
+ghost use Rattle.std.specs.Prelude.{◌≡◌, ◌++◌, ◌∷◌, [], ℕ, true, None, List, IfErr, IfOk, OnOk};
+ghost use Rattle.std.specs.Prelude.{IsUtf8, map};
+ghost use Rattle.jsonb_value.specs.declared.error.Error.TheVariants.{OutOfMemory};
+ghost use Rattle.jsonb_value.specs.Json.Syntax.{Entries, pairs, insert_all};
+ghost use Rattle.jsonb_value.specs.Tree.{Tree, Ascend};
+ghost use Rattle.jsonb_value.specs.Value.{cow_bytes};
+ghost use Rattle.jsonb_value.specs.Words.{insert_entry, slice_cmp, nat_cmp};
+ghost use Rattle.jsonb_codec.specs.declared.tape.storage.Storage.{Storage};
+ghost use Rattle.jsonb_codec.specs.Tape.{ArrayIs, ObjectIs, ObjectAt, MembersAre, IsMade, LastBelow};
+ghost use Rattle.jsonb_codec.specs.Tape.{member_of};
+
+use super::entry::Entry;
+use super::pieces::Payloads;
+use crate::word::word_bytes;
+use jsonb_value::Error;
+use std::alloc::Global;
+use std::borrow::CowStr;
+use std::collections::BTreeMap;
+use std::mem::replace;
+
+/// An array that is being read: the entry words and the payloads of its items, `size` bytes, if all
+/// of them fit.
+#[derive(Drop)]
+pub struct OpenArray {
+    pub words: Vec<u8>,
+    pub payloads: Payloads,
+    pub size: usize,
+    pub fits: bool,
+}
+
+impl OpenArray {
+    /// No items.
+    pub fn new(alloc: Global) -> OpenArray
+        ensures { (storage : Storage) → ArrayIs storage result [] }
+    {
+        OpenArray {
+            words: Vec::new(alloc),
+            payloads: Payloads::new(alloc),
+            size: 0,
+            fits: true,
+        }
+    }
+
+    /// Appends an item, whose entry is `None` if something inside it does not fit.
+    pub fn push(&mut self, entry: Option<Entry>) -> Result<(), Error>
+        ensures ok { OnOk result ((storage : Storage) (front : List Tree) (t : Tree)
+            → ArrayIs storage self.old front → IsMade storage entry t
+            → ArrayIs storage self.new (front ++ t ∷ [])) }
+        ensures memory { IfErr result (λ e. e ≡ OutOfMemory) }
+    {
+        let Some(entry) = entry else {
+            self.fits = false;
+            return Ok(());
+        };
+        let Some(word) = entry.word() else {
+            self.fits = false;
+            return Ok(());
+        };
+        let Some(size) = self.size.checked_add(entry.size) else {
+            return Err(Error::OutOfMemory);
+        };
+        self.words.extend_from_slice(&word_bytes(word))?;
+        self.payloads.push(entry.piece)?;
+        self.size = size;
+        Ok(())
+    }
+}
+
+/// A member of an object: its key, and the entry of its value, `None` if something inside it does
+/// not fit.
+#[derive(Drop)]
+pub struct Member<'a> {
+    pub key: CowStr<'a>,
+    pub entry: Option<Entry>,
+}
+
+/// An object that is being read: its members in the order read, the key whose value is read next,
+/// and whether all keys so far ascend.
+#[derive(Drop)]
+pub struct OpenObject<'a> {
+    pub members: Vec<Member<'a>>,
+    pub key: CowStr<'a>,
+    pub ascends: bool,
+}
+
+impl<'a> OpenObject<'a> {
+    /// No members.
+    pub fn new(alloc: Global) -> OpenObject<'a>
+        ensures { (storage : Storage) → ObjectIs storage result [] }
+    {
+        OpenObject {
+            members: Vec::new(alloc),
+            key: CowStr::Borrowed(""),
+            ascends: true,
+        }
+    }
+
+    /// Takes the key whose value is read next.
+    pub fn set_key(&mut self, key: CowStr<'a>)
+        ensures { (storage : Storage) (front : Entries) → ObjectIs storage self.old front
+            → ObjectAt storage self.new front (cow_bytes key.entry) }
+    {
+        self.ascends = still_ascends(self.ascends, &self.members, key.as_str());
+        self.key = key;
+    }
+
+    /// Appends the value of the key that was read last, as its entry.
+    pub fn push(&mut self, entry: Option<Entry>) -> Result<(), Error>
+        ensures ok { OnOk result
+            ((storage : Storage) (front : Entries) (key : List ℕ) (t : Tree)
+            → ObjectAt storage self.old front key → IsMade storage entry t
+            → ObjectIs storage self.new (insert_entry (slice_cmp nat_cmp) front key t)) }
+        ensures memory { IfErr result (λ e. e ≡ OutOfMemory) }
+    {
+        let key = replace(&mut self.key, CowStr::Borrowed(""));
+        self.members.push(Member { key, entry })?;
+        Ok(())
+    }
+
+    /// The members in the order of their keys, the last of equal keys.
+    pub fn into_members(self, alloc: Global) -> Result<Vec<Member<'a>>, Error>
+        ensures ok { IfOk result (λ members. (storage : Storage) (front : Entries)
+            → ObjectIs storage self.entry front
+            → MembersAre storage members.items front × Ascend (pairs front)) }
+        ensures memory { IfErr result (λ e. e ≡ OutOfMemory) }
+    {
+        let OpenObject {
+            members,
+            ascends,
+            ..
+        } = self;
+        if ascends {
+            return Ok(members);
+        }
+        in_order(alloc, members)
+    }
+}
+
+// Whether all keys ascend with this one, if those before it do.
+fn still_ascends(ascends: bool, members: &[Member<'_>], key: &str) -> bool
+    ensures before { result ≡ true → ascends ≡ true }
+    ensures last { result ≡ true → (storage : Storage) (read : Entries)
+        → MembersAre storage members.now read → LastBelow None read key.now }
+    ensures utf8 { IsUtf8 key.now }
+{
+    if !ascends {
+        return false;
+    }
+    match members.split_last() {
+        Some((last, _others)) => last.key.as_str() < key,
+        None => true,
+    }
+}
+
+// The members in the order of their keys, the last of equal keys.
+fn in_order<'a>(alloc: Global, members: Vec<Member<'a>>) -> Result<Vec<Member<'a>>, Error>
+    ensures ok { IfOk result (λ sorted. (storage : Storage) (read : Entries)
+        → MembersAre storage members.entry.items read
+        → MembersAre storage sorted.items (insert_all [] read)
+        × Ascend (pairs (insert_all [] read))) }
+    ensures memory { IfErr result (λ e. e ≡ OutOfMemory) }
+{
+    let mut sorted = Vec::new(alloc);
+    for (key, entry) in by_key(alloc, members)? {
+        sorted.push(Member { key, entry })?;
+    }
+    Ok(sorted)
+}
+
+// The entries by their keys, the last of equal keys.
+fn by_key<'a>(
+    alloc: Global,
+    members: Vec<Member<'a>>,
+) -> Result<BTreeMap<CowStr<'a>, Option<Entry>>, Error>
+    ensures ok { IfOk result (λ found. (storage : Storage) (read : Entries)
+        → MembersAre storage members.entry.items read
+        → MembersAre storage (map member_of found.entries) (insert_all [] read)) }
+    ensures memory { IfErr result (λ e. e ≡ OutOfMemory) }
+{
+    let mut found = BTreeMap::new(alloc);
+    for member in members {
+        drop(found.insert(member.key, member.entry)?);
+    }
+    Ok(found)
+}
