@@ -3,6 +3,7 @@ use Rattle.std.proofs.Common.{◌≡◌, ℕ, ◌+◌, ◌*◌, inl, inr, Bool, 
 use Rattle.std.proofs.Common.{List, [], ◌∷◌, ◌++◌}
 use Rattle.std.specs.Prelude.{codes}
 use Rattle.jsonb_value.specs.Tree.{null}
+use Rattle.jsonb_value.specs.declared.parser.number.Exponents.TheVariants.{Forbidden}
 use Rattle.jsonb_value.specs.Json.Characters.{quote, backslash, letter_u, colon}
 use Rattle.jsonb_value.specs.Json.Characters.{close_brace, zero_digit}
 use Rattle.jsonb_value.specs.Json.Syntax.{nothing, no_item, no_member, meaning, items_meaning}
@@ -32,11 +33,17 @@ brackets_end : (bs : List Bracket) → (w : List ℕ) × Ends bs w
 unfolding Ends
 brackets_end [] = ([], refl)
 brackets_end (Array ∷ bs) =
-    let more = brackets_end bs in
-    (_, syntax_front items_text items_meaning (Ends bs) no_item [] _ more.0 refl refl more.1)
+    let more = brackets_end bs in (
+      _,
+      syntax_front items_text (items_meaning Forbidden)
+          (Ends bs) no_item [] _ more.0 refl refl more.1,
+    )
 brackets_end (Object ∷ bs) =
-    let more = brackets_end bs in
-    (_, syntax_front members_text members_meaning (Ends bs) no_member [] _ more.0 refl refl more.1)
+    let more = brackets_end bs in (
+      _,
+      syntax_front members_text (members_meaning Forbidden)
+          (Ends bs) no_member [] _ more.0 refl refl more.1,
+    )
 
 zero_room : (b : Bool) → has_room b 0 0 ≡ true
 zero_room true = refl
@@ -44,7 +51,7 @@ zero_room false = refl
 
 module _ (P : List ℕ → Type 0) (w : List ℕ) (end : P w) where
   value_ends : ValueEnd P (codes "null" ++ w)
-  value_ends = syntax_front syntax_text meaning P nothing null _ w refl refl end
+  value_ends = syntax_front syntax_text (meaning Forbidden) P nothing null _ w refl refl end
 
   colon_ends : ColonEnd P (colon ∷ (codes "null" ++ w))
   colon_ends = mark_back colon (ValueEnd P) colon _ refl value_ends

@@ -4,6 +4,7 @@ use Rattle.std.proofs.Common.{length, Option, Some}
 use Rattle.std.specs.Prelude.{codes}
 use Rattle.std.specs.Char.{digit_value}
 use Rattle.std.specs.Str.Parse.{digits_value_after}
+use Rattle.jsonb_value.specs.declared.parser.number.Exponents.TheVariants.{Forbidden}
 use Rattle.jsonb_value.specs.Json.Characters.{quote, backslash, letter_u, colon, close_bracket}
 use Rattle.jsonb_value.specs.Json.Characters.{close_brace, all_blank, all_digits}
 use Rattle.jsonb_value.specs.Json.Numeral.{is_whole, fraction_text}
@@ -49,15 +50,15 @@ pub record SyntaxEnd {S M : Type 0} (spelling : S → List ℕ) (meaning_of : S 
 
 -- a value
 abbrev pub ValueEnd : (List ℕ → Type 0) → List ℕ → Type 0
-ValueEnd P = SyntaxEnd syntax_text meaning P
+ValueEnd P = SyntaxEnd syntax_text (meaning Forbidden) P
 
 -- the rest of an array after an item
 abbrev pub ItemsEnd : (List ℕ → Type 0) → List ℕ → Type 0
-ItemsEnd P = SyntaxEnd items_text items_meaning P
+ItemsEnd P = SyntaxEnd items_text (items_meaning Forbidden) P
 
 -- the rest of an object after a member
 abbrev pub MembersEnd : (List ℕ → Type 0) → List ℕ → Type 0
-MembersEnd P = SyntaxEnd members_text members_meaning P
+MembersEnd P = SyntaxEnd members_text (members_meaning Forbidden) P
 
 -- the rest of a string
 pub record StringEnd (P : List ℕ → Type 0) (w : List ℕ) : Type 0 where

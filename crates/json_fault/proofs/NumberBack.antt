@@ -1,7 +1,7 @@
 -- What completes a number after a character completes it before, with the character in front.
 use Rattle.std.proofs.Common.{◌≡◌, ℕ, zero, suc, ◌+◌, ◌*◌, ◌^◌, ◌<◌, inl, inr, Bool, true}
 use Rattle.std.proofs.Common.{false, cond, refl, sym, ap, subst, arith, List, [], ◌∷◌, ◌++◌}
-use Rattle.std.proofs.Common.{append_assoc, length, Some, eqb-true}
+use Rattle.std.proofs.Common.{append_assoc, append-nil, length, Some, None, eqb-true}
 use Rattle.std.specs.Prelude.{ℤ, pos, negsuc, not, ◌==◌, nat_lt, option_map}
 use Rattle.std.specs.Char.{digit_value, is_digit, is_ascii_digit}
 use Rattle.std.specs.Str.Parse.{digits_value_after}
@@ -9,11 +9,13 @@ use Rattle.std.proofs.lemmas.Bool.Decides.{nat_tests}
 use Rattle.jsonb_value.specs.declared.number.Number.{Number}
 use Rattle.jsonb_value.specs.Tree.{number}
 use Rattle.jsonb_value.specs.NumCode.{is_within}
+use Rattle.jsonb_value.specs.declared.parser.number.Exponents.TheVariants.{Forbidden}
 use Rattle.jsonb_value.specs.Json.Characters.{point, zero_digit, all_digits}
 use Rattle.jsonb_value.specs.Json.Numeral.{Numeral, sign_text, is_whole}
 use Rattle.jsonb_value.specs.Json.Numeral.{signed_number, number_of, whole_number, wide_number}
 use Rattle.jsonb_value.specs.Json.Numeral.{decimal_number, numeral_meaning}
 use Rattle.jsonb_value.specs.Json.Syntax.{numeral}
+use Rattle.jsonb_value.proofs.Json.Exponents.{meant_without}
 use Rattle.jsonb_value.proofs.Json.Tests.{and_true, and_both, by_true, by_false, cond_some}
 use Rattle.jsonb_value.proofs.Json.Tests.{some_same, bool_cases}
 use Rattle.json_fault.specs.declared.number.Part.{Part}
@@ -88,10 +90,11 @@ value_of_sign P b w end =
       is_negative = b;
       whole = end.whole;
       fraction = end.fraction;
+      exponent = None;
     } in
     let found = room_number b _ (length end.fraction) end.is_held in
-    let meant : numeral_meaning n ≡ Some found.0 =
-    by_true _ _ _ _ (and_both _ _ end.is_whole_part end.is_fraction) found.1 in
+    let meant : numeral_meaning Forbidden n ≡ Some found.0 =
+    meant_without b end.whole end.fraction found.0 end.is_whole_part end.is_fraction found.1 in
     record {
       blank = [];
       is_blank = refl;
@@ -99,7 +102,7 @@ value_of_sign P b w end =
       value = number found.0;
       is_meant = ap (option_map number) meant;
       rest = end.rest;
-      is_spelled = grind (arith, append_assoc);
+      is_spelled = grind (arith, append_assoc, append-nil);
       ends = end.ends;
     }
 

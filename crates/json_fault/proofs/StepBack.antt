@@ -5,6 +5,7 @@ use Rattle.std.specs.Prelude.{◌==◌, option_map}
 use Rattle.jsonb_value.specs.Tree.{Tree, null, array, object, text, boolean, no_trees, tree}
 use Rattle.jsonb_value.specs.Tree.{no_pairs}
 use Rattle.jsonb_value.specs.Value.{trees_of}
+use Rattle.jsonb_value.specs.declared.parser.number.Exponents.TheVariants.{Forbidden}
 use Rattle.jsonb_value.specs.Json.Characters.{quote, comma, colon, open_bracket, close_bracket}
 use Rattle.jsonb_value.specs.Json.Characters.{open_brace, close_brace, is_blank, all_blank, minus}
 use Rattle.jsonb_value.specs.Json.Piece.{pieces_text}
@@ -69,9 +70,10 @@ ends_blank : (bs : List Bracket) (c : ℕ) (w : List ℕ) → is_blank c ≡ tru
     → Ends bs (c ∷ w)
 unfolding Ends
 ends_blank [] c w is end = and_both _ _ is end
-ends_blank (Array ∷ bs) c w is end = syntax_blank items_text items_meaning (Ends bs) c w is end
+ends_blank (Array ∷ bs) c w is end =
+    syntax_blank items_text (items_meaning Forbidden) (Ends bs) c w is end
 ends_blank (Object ∷ bs) c w is end =
-    syntax_blank members_text members_meaning (Ends bs) c w is end
+    syntax_blank members_text (members_meaning Forbidden) (Ends bs) c w is end
 
 -- ---- items and members
 
@@ -93,12 +95,12 @@ regroup : (a s b t r : List ℕ) → a ++ (s ++ (b ++ (t ++ r))) ≡ ((a ++ (s +
 regroup a s b t r = simp append_assoc
 
 element_is : (before after : List ℕ) (x : Syntax) (t : Tree) → all_blank before ≡ true
-    → all_blank after ≡ true → meaning x ≡ Some t
-    → element_meaning (element before x after) ≡ Some t
+    → all_blank after ≡ true → meaning Forbidden x ≡ Some t
+    → element_meaning Forbidden (element before x after) ≡ Some t
 element_is before after x t front back is = by_true _ _ _ _ (and_both _ _ front back) is
 
 items_front : (P : List ℕ → Type 0) (w : List ℕ) → ValueEnd (ItemsEnd P) w
-    → Front element_text element_meaning items_text items_meaning P w
+    → Front element_text (element_meaning Forbidden) items_text (items_meaning Forbidden) P w
 items_front P w v =
     let i = v.ends in
     record {
@@ -120,7 +122,7 @@ regroup_member : (a p b x s t ms r : List ℕ) (q k : ℕ)
 regroup_member a p b x s t ms r q k = simp append_assoc
 
 members_front : (P : List ℕ → Type 0) (w : List ℕ) → KeyEnd (MembersEnd P) w
-    → Front member_text member_meaning members_text members_meaning P w
+    → Front member_text (member_meaning Forbidden) members_text (members_meaning Forbidden) P w
 members_front P w k =
     let s = k.ends in
     let a = s.ends in
@@ -176,10 +178,11 @@ syntax_from spelling meaning_of P x y k c s w rest first spelled is split end =
     end
 
 value_from : (P : List ℕ → Type 0) (x : Syntax) (t : Tree) (k c : ℕ) (s w rest : List ℕ)
-    → (c == k) ≡ true → syntax_text x ≡ k ∷ s → meaning x ≡ Some t → w ≡ s ++ rest → P rest
+    → (c == k) ≡ true → syntax_text x ≡ k ∷ s → meaning Forbidden x ≡ Some t → w ≡ s ++ rest
+    → P rest
     → ValueEnd P (c ∷ w)
 value_from P x t k c s w rest first spelled is split end =
-    syntax_from syntax_text meaning P x t k c s w rest first spelled is split end
+    syntax_from syntax_text (meaning Forbidden) P x t k c s w rest first spelled is split end
 
 string_value : (P : List ℕ → Type 0) (c : ℕ) (w : List ℕ) → (c == quote) ≡ true
     → StringEnd P w → ValueEnd P (c ∷ w)
@@ -288,12 +291,13 @@ array_back : (bs : List Bracket) (m : Move) (c : ℕ) (w : List ℕ)
 unfolding Ends
 array_back bs m c w e end = elim (chosen (c == close_bracket) _ _ _ e) [
   | inl is ↦
-      syntax_from items_text items_meaning (Ends bs) no_item [] close_bracket c _ w w is.0 refl refl
+      syntax_from items_text (items_meaning Forbidden)
+      (Ends bs) no_item [] close_bracket c _ w w is.0 refl refl
       refl (known _ m (Array ∷ bs) w is.1 end)
   | inr other ↦
       let both = cond_some _ _ _ other.1 in
       let f = items_front (Ends bs) w (known _ m (Array ∷ bs) w both.1 end) in
-      syntax_from items_text items_meaning (Ends bs) (next_item f.first f.others)
+      syntax_from items_text (items_meaning Forbidden) (Ends bs) (next_item f.first f.others)
       (f.first_value ∷ f.values) comma c _ w f.rest both.0 refl
       (bound _ _ _ _ f.first_meant (bound _ _ _ _ f.others_meant refl)) f.is_spelled f.ends
 ]
@@ -303,12 +307,13 @@ object_back : (bs : List Bracket) (m : Move) (c : ℕ) (w : List ℕ)
 unfolding Ends
 object_back bs m c w e end = elim (chosen (c == close_brace) _ _ _ e) [
   | inl is ↦
-      syntax_from members_text members_meaning (Ends bs) no_member [] close_brace c _ w w is.0 refl
+      syntax_from members_text (members_meaning Forbidden)
+      (Ends bs) no_member [] close_brace c _ w w is.0 refl
       refl refl (known _ m (Object ∷ bs) w is.1 end)
   | inr other ↦
       let both = cond_some _ _ _ other.1 in
       let f = members_front (Ends bs) w (known _ m (Object ∷ bs) w both.1 end) in
-      syntax_from members_text members_meaning (Ends bs) (next_member f.first f.others)
+      syntax_from members_text (members_meaning Forbidden) (Ends bs) (next_member f.first f.others)
       (f.first_value ∷ f.values) comma c _ w f.rest both.0 refl
       (bound _ _ _ _ f.first_meant (bound _ _ _ _ f.others_meant refl)) f.is_spelled f.ends
 ]
@@ -375,13 +380,14 @@ is_live _ = true
 pub step_back : (e : Expected) (bs : List Bracket) (m : Move) (c : ℕ) (w : List ℕ)
     → followed e (innermost bs) c ≡ Some m → is_live e ≡ true → Goes m bs w → Completes e bs (c ∷ w)
 step_back Value bs m c w e live end = elim (chosen (is_blank c) _ _ _ e) [
-  | inl is ↦ syntax_blank syntax_text meaning (Ends bs) c w is.0 (known _ m bs w is.1 end)
+  | inl is ↦ syntax_blank syntax_text (meaning Forbidden) (Ends bs) c w is.0
+      (known _ m bs w is.1 end)
   | inr other ↦ value_back bs m c w other.1 end
 ]
 step_back FirstItem bs m c w e live end = elim (chosen (is_blank c) _ _ _ e) [
   | inl is ↦ elim (known (FirstItem, Keep) m bs w is.1 end) [
     | inl a ↦ inl (after_blank close_bracket _ c w is.0 a)
-    | inr v ↦ inr (syntax_blank syntax_text meaning (Ends bs) c w is.0 v)
+    | inr v ↦ inr (syntax_blank syntax_text (meaning Forbidden) (Ends bs) c w is.0 v)
   ]
   | inr other ↦ elim (chosen (c == close_bracket) _ _ _ other.1) [
     | inl is ↦ inl (mark_back close_bracket _ c w (eqb-true c close_bracket is.0)

@@ -7,6 +7,7 @@ use Rattle.std.proofs.lemmas.Bool.Decides.{nat_tests}
 use Rattle.jsonb_value.specs.declared.number.Number.{Number}
 use Rattle.jsonb_value.specs.NumCode.{is_within}
 use Rattle.jsonb_value.specs.Tree.{Tree, number, text}
+use Rattle.jsonb_value.specs.declared.parser.number.Exponents.TheVariants.{Forbidden}
 use Rattle.jsonb_value.specs.Json.Characters.{quote, comma, colon, open_bracket, close_bracket}
 use Rattle.jsonb_value.specs.Json.Characters.{open_brace, close_brace, is_blank, all_blank}
 use Rattle.jsonb_value.specs.Json.Numeral.{Numeral, numeral_text, numeral_meaning, number_of}
@@ -20,6 +21,7 @@ use Rattle.jsonb_value.specs.Json.Syntax.{next_member, string_text, syntax_text,
 use Rattle.jsonb_value.specs.Json.Syntax.{items_text, member_text, members_text, Entries, between}
 use Rattle.jsonb_value.specs.Json.Syntax.{meaning, element_meaning, items_meaning, member_meaning}
 use Rattle.jsonb_value.specs.Json.Syntax.{members_meaning, Json}
+use Rattle.jsonb_value.proofs.Json.Exponents.{without_exponent}
 use Rattle.jsonb_value.proofs.Json.Tests.{and_true, and_both, by_true, by_false, bound, bind_then}
 use Rattle.jsonb_value.proofs.Json.Tests.{cond_some, chosen, bool_cases, no_error, some_same}
 use Rattle.jsonb_value.proofs.Json.Digits.{stops}
@@ -209,16 +211,16 @@ text_split : (a s b w : List ℕ) → (a ++ (s ++ b)) ++ w ≡ a ++ (s ++ (b ++ 
 text_split a s b w = simp append_assoc
 
 numeral_goes : (bs : List Bracket) (n : Numeral) (t : Tree) (w : List ℕ)
-    → meaning (numeral n) ≡ Some t → stops w ≡ true → Going Rest bs w
+    → meaning Forbidden (numeral n) ≡ Some t → stops w ≡ true → Going Rest bs w
     → Going Value bs (numeral_text n ++ w)
 numeral_goes bs n t w e stop more =
-    let is = option_was number (numeral_meaning n) t e in
-    let both = cond_some _ _ _ is.1 in
-    let parts = and_true _ _ both.0 in
+    let is = option_was number (numeral_meaning Forbidden n) t e in
+    let plain = without_exponent n is.0 is.1 in
     subst (λ (s : List ℕ). Going Value bs s)
-    (sym (text_split (sign_text n.is_negative) n.whole (fraction_text n.fraction) w))
-    (number_goes bs n.is_negative n.whole n.fraction w parts.0 parts.1
-    (number_room n.is_negative _ (length n.fraction) is.0 both.1) stop more)
+    (sym (ap (λ (s : List ℕ). s ++ w) plain.is_spelled
+    ∙ text_split (sign_text n.is_negative) n.whole (fraction_text n.fraction) w))
+    (number_goes bs n.is_negative n.whole n.fraction w plain.is_whole_part plain.is_fraction
+    (number_room n.is_negative _ (length n.fraction) is.0 plain.is_number) stop more)
 
 empty_array_goes : (bs : List Bracket) (blank w : List ℕ) → all_blank blank ≡ true → Going Rest bs w
     → Going Value bs ((open_bracket ∷ (blank ++ close_bracket ∷ [])) ++ w)
@@ -239,7 +241,8 @@ member_split : (a p b x w : List ℕ) (k : ℕ)
 member_split a p b x w k = simp append_assoc
 
 mutual
-  syntax_goes : (x : Syntax) (t : Tree) (bs : List Bracket) (w : List ℕ) → meaning x ≡ Some t
+  syntax_goes : (x : Syntax) (t : Tree) (bs : List Bracket) (w : List ℕ)
+      → meaning Forbidden x ≡ Some t
       → stops w ≡ true → Going Rest bs w → Going Value bs (syntax_text x ++ w)
   syntax_goes nothing t bs w e stop more = nothing_goes bs w more
   syntax_goes (truth b) t bs w e stop more = truth_goes bs b w more
@@ -251,25 +254,25 @@ mutual
   syntax_goes (empty_object blank) t bs w e stop more =
       empty_object_goes bs blank w (and_true _ _ (cond_some _ _ _ e).0).0 more
   syntax_goes (items x xs) t bs w e stop more =
-      bind_then (element_meaning x) _ _ e (λ y is last.
-      bind_then (items_meaning xs) _ _ last (λ ys are end.
+      bind_then (element_meaning Forbidden x) _ _ e (λ y is last.
+      bind_then (items_meaning Forbidden xs) _ _ last (λ ys are end.
       step Value bs (FirstItem, Open Array) open_bracket _ refl
       (first_item (Array ∷ bs) _ (rw append_assoc
       (element_goes x y (Array ∷ bs) (items_text xs ++ w) is (items_stop xs w)
       (items_go xs ys bs w are more))))))
   syntax_goes (members x xs) t bs w e stop more =
-      bind_then (member_meaning x) _ _ e (λ y is last.
-      bind_then (members_meaning xs) _ _ last (λ ys are end.
+      bind_then (member_meaning Forbidden x) _ _ e (λ y is last.
+      bind_then (members_meaning Forbidden xs) _ _ last (λ ys are end.
       step Value bs (FirstKey, Open Object) open_brace _ refl
       (first_key (Object ∷ bs) _ (rw append_assoc
       (member_goes x y (Object ∷ bs) (members_text xs ++ w) is (members_stop xs w)
       (members_go xs ys bs w are more))))))
 
   element_goes : (x : Element) (t : Tree) (bs : List Bracket) (w : List ℕ)
-      → element_meaning x ≡ Some t → stops w ≡ true → Going Rest bs w
+      → element_meaning Forbidden x ≡ Some t → stops w ≡ true → Going Rest bs w
       → Going Value bs (element_text x ++ w)
   element_goes (element before x after) t bs w e stop more =
-      let parts = cond_some (all_blank before && all_blank after) (meaning x) t e in
+      let parts = cond_some (all_blank before && all_blank after) (meaning Forbidden x) t e in
       let blanks = and_true (all_blank before) (all_blank after) parts.0 in
       subst (λ (s : List ℕ). Going Value bs s) (sym (text_split before (syntax_text x) after w))
       (blanks_go Value bs refl before (syntax_text x ++ (after ++ w)) blanks.0
@@ -277,22 +280,23 @@ mutual
       (blanks_go Rest bs refl after w blanks.1 more)))
 
   items_go : (xs : Items) (ts : List Tree) (bs : List Bracket) (w : List ℕ)
-      → items_meaning xs ≡ Some ts → Going Rest bs w → Going Rest (Array ∷ bs) (items_text xs ++ w)
+      → items_meaning Forbidden xs ≡ Some ts → Going Rest bs w
+      → Going Rest (Array ∷ bs) (items_text xs ++ w)
   items_go no_item ts bs w e more =
       step Rest (Array ∷ bs) (Rest, Close) close_bracket w refl more
   items_go (next_item x xs) ts bs w e more =
-      bind_then (element_meaning x) _ _ e (λ y is last.
-      bind_then (items_meaning xs) _ _ last (λ ys are end.
+      bind_then (element_meaning Forbidden x) _ _ e (λ y is last.
+      bind_then (items_meaning Forbidden xs) _ _ last (λ ys are end.
       step Rest (Array ∷ bs) (Value, Keep) comma _ refl
       (rw append_assoc (element_goes x y (Array ∷ bs) (items_text xs ++ w) is (items_stop xs w)
       (items_go xs ys bs w are more)))))
 
   member_goes : (m : Member) (y : List ℕ × Tree) (bs : List Bracket) (w : List ℕ)
-      → member_meaning m ≡ Some y → stops w ≡ true → Going Rest bs w
+      → member_meaning Forbidden m ≡ Some y → stops w ≡ true → Going Rest bs w
       → Going Key bs (member_text m ++ w)
   member_goes (member before key after x) y bs w e stop more =
       bind_then (between before after (pieces_meaning key)) _ _ e (λ k is_key last.
-      bind_then (element_meaning x) _ _ last (λ t is_value end.
+      bind_then (element_meaning Forbidden x) _ _ last (λ t is_value end.
       let parts = cond_some (all_blank before && all_blank after) (pieces_meaning key) k is_key in
       let blanks = and_true (all_blank before) (all_blank after) parts.0 in
       subst (λ (s : List ℕ). Going Key bs s)
@@ -304,13 +308,13 @@ mutual
       (element_goes x t bs w is_value stop more)))))))
 
   members_go : (ms : Members) (es : Entries) (bs : List Bracket) (w : List ℕ)
-      → members_meaning ms ≡ Some es → Going Rest bs w
+      → members_meaning Forbidden ms ≡ Some es → Going Rest bs w
       → Going Rest (Object ∷ bs) (members_text ms ++ w)
   members_go no_member es bs w e more =
       step Rest (Object ∷ bs) (Rest, Close) close_brace w refl more
   members_go (next_member m ms) es bs w e more =
-      bind_then (member_meaning m) _ _ e (λ y is last.
-      bind_then (members_meaning ms) _ _ last (λ ys are end.
+      bind_then (member_meaning Forbidden m) _ _ e (λ y is last.
+      bind_then (members_meaning Forbidden ms) _ _ last (λ ys are end.
       step Rest (Object ∷ bs) (Key, Keep) comma _ refl
       (rw append_assoc (member_goes m y (Object ∷ bs) (members_text ms ++ w) is (members_stop ms w)
       (members_go ms ys bs w are more)))))

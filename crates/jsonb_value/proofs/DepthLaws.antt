@@ -22,9 +22,11 @@ use Rattle.jsonb_value.specs.declared.within.ParseError.TheVariants.{Refused}
 use Rattle.jsonb_value.specs.Depth.{depth, depths, pair_depths}
 use Rattle.jsonb_value.specs.Tree.{Tree}
 use Rattle.jsonb_value.specs.Value.{trees_of}
+use Rattle.jsonb_value.specs.declared.parser.number.Exponents.{Exponents}
+use Rattle.jsonb_value.specs.declared.parser.number.Exponents.TheVariants.{Forbidden}
 use Rattle.jsonb_value.specs.TextDepth.{state_after, level_after, greatest_level, text_depth}
 use Rattle.jsonb_value.specs.TextDepth.{syntax_depth, element_depth, items_depth, member_depth}
-use Rattle.jsonb_value.specs.TextDepth.{members_depth, HasItsDepth}
+use Rattle.jsonb_value.specs.TextDepth.{members_depth, HasDepthOfSpelled, HasItsDepth}
 use Rattle.jsonb_value.specs.Json.Characters.{all_blank}
 use Rattle.jsonb_value.specs.Json.Piece.{pieces_meaning}
 use Rattle.jsonb_value.specs.Json.Syntax.{Syntax, nothing, truth, numeral, string, empty_array}
@@ -32,7 +34,7 @@ use Rattle.jsonb_value.specs.Json.Syntax.{items, empty_object, members, Element,
 use Rattle.jsonb_value.specs.Json.Syntax.{no_item, next_item, Member, member, Members, no_member}
 use Rattle.jsonb_value.specs.Json.Syntax.{next_member, Entries, pairs, insert_all}
 use Rattle.jsonb_value.specs.Json.Syntax.{between, meaning, element_meaning, items_meaning}
-use Rattle.jsonb_value.specs.Json.Syntax.{member_meaning, members_meaning, Json}
+use Rattle.jsonb_value.specs.Json.Syntax.{member_meaning, members_meaning, JsonText, Json}
 use Rattle.jsonb_value.proofs.ScanLaws.{level_within}
 use Rattle.jsonb_value.proofs.Json.Scanned.{scanned}
 use Rattle.jsonb_value.proofs.Json.Tests.{bind_then, cond_some, and_true, bool_cases}
@@ -67,62 +69,65 @@ some_depth : (a b : Tree) → Some a ≡ Some b → depth a ≡ depth b
 some_depth a b e = let same : a ≡ b = cc in ap depth same
 
 mutual
-  syntax_deep : (x : Syntax) (t : Tree) → meaning x ≡ Some t → depth t ≤ syntax_depth x
-  syntax_deep nothing t e = grind arith
-  syntax_deep (truth b) t e = grind arith
-  syntax_deep (numeral n) t e = grind arith
-  syntax_deep (string pieces) t e = grind arith
-  syntax_deep (empty_array blank) t e = grind arith
-  syntax_deep (empty_object blank) t e = grind arith
-  syntax_deep (items x xs) t e =
-      bind_then (element_meaning x) _ _ e (λ y is more.
-      bind_then (items_meaning xs) _ _ more (λ ys are end.
+  syntax_deep : (rule : Exponents) (x : Syntax) (t : Tree) → meaning rule x ≡ Some t
+      → depth t ≤ syntax_depth x
+  syntax_deep rule nothing t e = grind arith
+  syntax_deep rule (truth b) t e = grind arith
+  syntax_deep rule (numeral n) t e = grind arith
+  syntax_deep rule (string pieces) t e = grind arith
+  syntax_deep rule (empty_array blank) t e = grind arith
+  syntax_deep rule (empty_object blank) t e = grind arith
+  syntax_deep rule (items x xs) t e =
+      bind_then (element_meaning rule x) _ _ e (λ y is more.
+      bind_then (items_meaning rule xs) _ _ more (λ ys are end.
       let same = some_depth _ t end in
-      let first = element_deep x y is in
-      let others = items_deep xs ys are in
+      let first = element_deep rule x y is in
+      let others = items_deep rule xs ys are in
       omega arith))
-  syntax_deep (members x xs) t e =
-      bind_then (member_meaning x) _ _ e (λ y is more.
-      bind_then (members_meaning xs) _ _ more (λ ys are end.
+  syntax_deep rule (members x xs) t e =
+      bind_then (member_meaning rule x) _ _ e (λ y is more.
+      bind_then (members_meaning rule xs) _ _ more (λ ys are end.
       let same = some_depth _ t end in
-      let first = member_deep x y is in
-      let others = members_deep xs ys are in
+      let first = member_deep rule x y is in
+      let others = members_deep rule xs ys are in
       let put = inserted_depth [] (y ∷ ys) in
       omega arith))
 
-  element_deep : (x : Element) (t : Tree) → element_meaning x ≡ Some t → depth t ≤ element_depth x
-  element_deep (element before x after) t e =
-      syntax_deep x t (cond_some (all_blank before && all_blank after) (meaning x) t e).1
+  element_deep : (rule : Exponents) (x : Element) (t : Tree) → element_meaning rule x ≡ Some t
+      → depth t ≤ element_depth x
+  element_deep rule (element before x after) t e =
+      syntax_deep rule x t (cond_some (all_blank before && all_blank after) (meaning rule x) t e).1
 
-  items_deep : (xs : Items) (ts : List Tree) → items_meaning xs ≡ Some ts
+  items_deep : (rule : Exponents) (xs : Items) (ts : List Tree) → items_meaning rule xs ≡ Some ts
       → depths (trees_of ts) ≤ items_depth xs
-  items_deep no_item ts e = grind arith
-  items_deep (next_item x xs) ts e =
-      bind_then (element_meaning x) _ _ e (λ y is more.
-      bind_then (items_meaning xs) _ _ more (λ ys are end.
+  items_deep rule no_item ts e = grind arith
+  items_deep rule (next_item x xs) ts e =
+      bind_then (element_meaning rule x) _ _ e (λ y is more.
+      bind_then (items_meaning rule xs) _ _ more (λ ys are end.
       let same : y ∷ ys ≡ ts = cc in
-      let first = element_deep x y is in
-      let others = items_deep xs ys are in
+      let first = element_deep rule x y is in
+      let others = items_deep rule xs ys are in
       rw (← same) (omega arith)))
 
-  member_deep : (m : Member) (e : List ℕ × Tree) → member_meaning m ≡ Some e
+  member_deep : (rule : Exponents) (m : Member) (e : List ℕ × Tree) → member_meaning rule m ≡ Some e
       → depth e.1 ≤ member_depth m
-  member_deep (member before key after x) y e =
+  member_deep rule (member before key after x) y e =
       bind_then (between before after (pieces_meaning key)) _ _ e (λ k is_key more.
-      bind_then (element_meaning x) _ _ more (λ t is_value end.
-      let value = element_deep x t is_value in
+      bind_then (element_meaning rule x) _ _ more (λ t is_value end.
+      let value = element_deep rule x t is_value in
       let same : y.1 ≡ t = grind arith in
       rw same value))
 
-  members_deep : (ms : Members) (es : Entries) → members_meaning ms ≡ Some es
+  members_deep : (rule : Exponents) (ms : Members) (es : Entries)
+      → members_meaning rule ms ≡ Some es
       → pair_depths (pairs es) ≤ members_depth ms
-  members_deep no_member es e = grind arith
-  members_deep (next_member x xs) es e =
-      bind_then (member_meaning x) _ _ e (λ y is more.
-      bind_then (members_meaning xs) _ _ more (λ ys are end.
+  members_deep rule no_member es e = grind arith
+  members_deep rule (next_member x xs) es e =
+      bind_then (member_meaning rule x) _ _ e (λ y is more.
+      bind_then (members_meaning rule xs) _ _ more (λ ys are end.
       let same : y ∷ ys ≡ es = cc in
-      let first = member_deep x y is in
-      let others = members_deep xs ys are in
+      let first = member_deep rule x y is in
+      let others = members_deep rule xs ys are in
       rw (← same) (omega arith)))
 
 -- ---- bytes are scanned as their characters
@@ -207,19 +212,28 @@ bytes_scanned text utf8 =
     ap text_depth (sym (encodes-chars text utf8))
     ∙ characters_scanned (chars text) Outside 0 (scalars-chars text utf8)
 
-pub its_depth : (text : List ℕ) → IsUtf8 text → HasItsDepth text
-its_depth text utf8 = λ syntax t spelled meant. (
-  bytes_scanned text utf8 ∙ ap text_depth spelled ∙ scanned syntax t meant,
-  element_deep syntax t meant,
+pub depth_of_spelled : (rule : Exponents) (text : List ℕ) → IsUtf8 text
+    → HasDepthOfSpelled rule text
+depth_of_spelled rule text utf8 = λ syntax t spelled meant. (
+  bytes_scanned text utf8 ∙ ap text_depth spelled ∙ scanned rule syntax t meant,
+  element_deep rule syntax t meant,
 )
 
-pub tree_within : (text : List ℕ) (t : Tree) (limit : ℕ) → HasItsDepth text → Json (chars text) t
-    → text_depth text ≤ limit → depth t ≤ limit
-tree_within text t limit nests json within =
+pub its_depth : (text : List ℕ) → IsUtf8 text → HasItsDepth text
+its_depth = depth_of_spelled Forbidden
+
+pub spelled_within : (rule : Exponents) (text : List ℕ) (t : Tree) (limit : ℕ)
+    → HasDepthOfSpelled rule text → JsonText rule (chars text) t → text_depth text ≤ limit
+    → depth t ≤ limit
+spelled_within rule text t limit nests json within =
     let is = nests json.syntax t json.is_spelled json.is_meant in
     let exact = is.0 in
     let most = is.1 in
     omega arith
+
+pub tree_within : (text : List ℕ) (t : Tree) (limit : ℕ) → HasItsDepth text → Json (chars text) t
+    → text_depth text ≤ limit → depth t ≤ limit
+tree_within = spelled_within Forbidden
 
 -- a refusal at any depth has the reader's own error
 pub its_error : {A : Type 0} (r : Result A ParseError) (e f : Error)

@@ -12,6 +12,7 @@ pub mod ValueLaws
 pub mod SpelledLaws
 pub mod Shorter
 pub mod DigitLaws
+pub mod Exponents
 pub mod NumberSteps
 pub mod TextSteps
 pub mod ValueSteps

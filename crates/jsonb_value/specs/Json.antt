@@ -1,4 +1,4 @@
--- JSON texts without exponents: their characters, what they spell, and the tree that they mean.
+-- JSON texts: their characters, what they spell, and the tree that they mean.
 pub mod Characters
 pub mod Bind
 pub mod Numeral

@@ -3,6 +3,8 @@ use Rattle.std.specs.Prelude.{◌≡◌, ◌≤◌, ℕ, suc, ◌-◌, ◌==◌,
 use Rattle.std.specs.Prelude.{◌∷◌, Some, chars}
 use Rattle.jsonb_value.specs.declared.text_depth.ScanState.{ScanState}
 use Rattle.jsonb_value.specs.declared.text_depth.ScanState.TheVariants.{Outside, Inside, Escaped}
+use Rattle.jsonb_value.specs.declared.parser.number.Exponents.{Exponents}
+use Rattle.jsonb_value.specs.declared.parser.number.Exponents.TheVariants.{Forbidden}
 use Rattle.jsonb_value.specs.Depth.{depth}
 use Rattle.jsonb_value.specs.Tree.{Tree}
 use Rattle.jsonb_value.specs.Json.Syntax.{Syntax, nothing, truth, numeral, string, empty_array}
@@ -61,9 +63,13 @@ abbrev mutual
   members_depth no_member = 0
   members_depth (next_member m ms) = max (member_depth m) (members_depth ms)
 
--- A text of JSON is as deep as what it spells, and its tree is no deeper. The tree is less deep
--- only where a deeper value is not kept, since its key is repeated.
-abbrev pub HasItsDepth : List ℕ → Type 0
-HasItsDepth text = (syntax : Element) (t : Tree) → chars text ≡ element_text syntax
-    → element_meaning syntax ≡ Some t
+-- A text of JSON under this rule for exponents is as deep as what it spells, and its tree is no
+-- deeper. The tree is less deep only where a deeper value is not kept, since its key is repeated.
+abbrev pub HasDepthOfSpelled : Exponents → List ℕ → Type 0
+HasDepthOfSpelled rule text = (syntax : Element) (t : Tree) → chars text ≡ element_text syntax
+    → element_meaning rule syntax ≡ Some t
     → (text_depth text ≡ element_depth syntax) × (depth t ≤ element_depth syntax)
+
+-- The same for texts without exponents.
+abbrev pub HasItsDepth : List ℕ → Type 0
+HasItsDepth = HasDepthOfSpelled Forbidden

@@ -17,9 +17,9 @@ pub use Rattle.jsonb_value.specs.Ast.{ast_tree, asts_view}
 pub use Rattle.jsonb_value.specs.ErrorName.{name_of}
 pub use Rattle.jsonb_value.specs.ExtCode.{ExtCode, HasKnownTag, IsInterval, IsOldZoned, IsZoned}
 pub use Rattle.jsonb_value.specs.ExtCode.{extension_of, extension_payload, opaque_bytes, opaque_tag}
-pub use Rattle.jsonb_value.specs.Json.Characters.{is_blank}
-pub use Rattle.jsonb_value.specs.Json.Numeral.{decimal_number, number_of, signed_number}
-pub use Rattle.jsonb_value.specs.Json.Numeral.{whole_number}
+pub use Rattle.jsonb_value.specs.Json.Characters.{is_blank, is_exponent_mark}
+pub use Rattle.jsonb_value.specs.Json.Numeral.{decimal_number, number_of, scaled_number}
+pub use Rattle.jsonb_value.specs.Json.Numeral.{signed_number, whole_number}
 pub use Rattle.jsonb_value.specs.Json.Piece.{escape_value, is_plain, pair_character, unit4}
 pub use Rattle.jsonb_value.specs.Json.Piece.{unit_character, unit_value}
 pub use Rattle.jsonb_value.specs.Json.Syntax.{Json}
@@ -32,12 +32,13 @@ pub use Rattle.jsonb_value.specs.ParseErrorName.{parse_error_name}
 pub use Rattle.jsonb_value.specs.Payload.{IsDecimalLength, IsSigned, IsSignedNumber}
 pub use Rattle.jsonb_value.specs.Payload.{IsUnsignedNumber, IsWholeLength}
 pub use Rattle.jsonb_value.specs.Reader.Content.{members_held}
-pub use Rattle.jsonb_value.specs.Reader.Digits.{AreDigits, Counts}
+pub use Rattle.jsonb_value.specs.Reader.Digits.{AreDigits, Counts, HasInteger}
 pub use Rattle.jsonb_value.specs.Reader.Gives.{Fails, Gives}
 pub use Rattle.jsonb_value.specs.Reader.Kind.{kind_view}
 pub use Rattle.jsonb_value.specs.Reader.Reading.{after_digits, expect, expect_all, front_digits}
 pub use Rattle.jsonb_value.specs.Reader.Reading.{number_kind, read_array, read_character}
-pub use Rattle.jsonb_value.specs.Reader.Reading.{read_element, read_escape, read_fraction}
+pub use Rattle.jsonb_value.specs.Reader.Reading.{read_either_sign, read_element, read_escape}
+pub use Rattle.jsonb_value.specs.Reader.Reading.{read_exponent, read_fraction, read_integer}
 pub use Rattle.jsonb_value.specs.Reader.Reading.{read_kind, read_member, read_number, read_object}
 pub use Rattle.jsonb_value.specs.Reader.Reading.{read_piece, read_second, read_sign, read_text}
 pub use Rattle.jsonb_value.specs.Reader.Reading.{read_unit, read_value, read_whole, read_word}

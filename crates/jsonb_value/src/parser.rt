@@ -17,6 +17,7 @@ pub use sink::Sink;
 
 use crate::error::Error;
 use crate::value::Value;
+use number::Exponents;
 use std::alloc::Global;
 use trees::Trees;
 
@@ -38,6 +39,6 @@ pub fn parse_value<'a>(alloc: Global, text: &'a str) -> Result<Value<'a>, Error>
     ensures one { (t u : Tree) → Json (chars text.now) t → Json (chars text.now) u → t ≡ u }
 {
     let mut trees = Trees::new(alloc);
-    read_text(alloc, &mut trees, text)?;
+    read_text(alloc, &mut trees, text, Exponents::Forbidden)?;
     Ok(trees.into_value())
 }

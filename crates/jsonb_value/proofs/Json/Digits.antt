@@ -3,7 +3,7 @@ use Rattle.std.proofs.Common.{arith}
 use Rattle.std.proofs.Common.{◌≡◌, ℕ, Bool, true, refl, ap, List, [], ◌∷◌, ◌++◌}
 use Rattle.std.specs.Prelude.{◌&&◌, not, ◌==◌}
 use Rattle.std.specs.Char.{is_ascii_digit}
-use Rattle.jsonb_value.specs.Json.Characters.{all_digits, point}
+use Rattle.jsonb_value.specs.Json.Characters.{all_digits, is_exponent_mark, point}
 use Rattle.jsonb_value.specs.Reader.Reading.{front_digits, after_digits}
 use Rattle.jsonb_value.proofs.Json.Tests.{and_true}
 
@@ -19,6 +19,15 @@ all_digits-front (c ∷ s) = grind (arith, all_digits-front s)
 abbrev pub stops : List ℕ → Bool
 stops [] = true
 stops (c ∷ s) = not (is_ascii_digit c) && not (c == point)
+
+-- nor with the mark of an exponent
+abbrev pub no_mark : List ℕ → Bool
+no_mark [] = true
+no_mark (c ∷ s) = not (is_exponent_mark c)
+
+-- no character at the start continues a number
+abbrev pub ends_number : List ℕ → Bool
+ends_number s = stops s && no_mark s
 
 pub front_digits-end : (s : List ℕ) → stops s ≡ true → front_digits s ≡ []
 front_digits-end s e = grind arith

@@ -1,10 +1,13 @@
 -- Texts with the trees that they mean, and texts that mean none, by computation.
 use Rattle.std.proofs.Common.{◌≡◌, ℕ, refl, List, [], ◌∷◌, Some, None, true}
-use Rattle.std.specs.Prelude.{⊤, pos, codes}
-use Rattle.jsonb_value.specs.declared.number.Number.TheVariants.{UInt64, Decimal64, Decimal128}
+use Rattle.std.specs.Prelude.{⊤, pos, negsuc, codes}
+use Rattle.jsonb_value.specs.declared.number.Number.TheVariants.{Int64, UInt64, Decimal64}
+use Rattle.jsonb_value.specs.declared.number.Number.TheVariants.{Decimal128}
+use Rattle.jsonb_value.specs.declared.parser.number.Exponents.{Exponents}
+use Rattle.jsonb_value.specs.declared.parser.number.Exponents.TheVariants.{Forbidden, Allowed}
 use Rattle.jsonb_value.specs.Tree.{Tree, number, text, boolean, array, object, no_trees, no_pairs}
 use Rattle.jsonb_value.specs.Tree.{pair}
-use Rattle.jsonb_value.specs.Json.Syntax.{Json}
+use Rattle.jsonb_value.specs.Json.Syntax.{JsonText}
 use Rattle.jsonb_value.specs.Reader.Reading.{read_document, read_value, read_items, read_members}
 use Rattle.jsonb_value.specs.Reader.Reading.{read_text}
 use Rattle.jsonb_value.proofs.Json.ValueLaws.{document-found}
@@ -38,34 +41,76 @@ meaningless =
     ∷ codes "null null"
     ∷ []
 
-abbrev AllRead : List (List ℕ × Tree) → Type 0
-AllRead [] = ⊤
-AllRead (e ∷ es) = (read_document e.0 ≡ Some e.1) × AllRead es
+-- the same with exponents
+abbrev with_exponents : List (List ℕ × Tree)
+with_exponents =
+    (codes "1e5", number (UInt64 100000))
+    ∷ (codes "1.0e5", number (UInt64 100000))
+    ∷ (codes "1.50e1", number (Decimal64 (record { scale = 1; value = pos 150 })))
+    ∷ (codes "25e-1", number (Decimal64 (record { scale = 1; value = pos 25 })))
+    ∷ (
+      codes "6.02e23",
+      number
+          (Decimal128 (record { scale = 0; value = pos 602000000000000000000000 })),
+    )
+    ∷ (codes "-3E+2", number (Int64 (negsuc 299)))
+    ∷ (codes "0e99", number (UInt64 0))
+    ∷ (codes "-0e0", number (UInt64 0))
+    ∷ (codes "1.50", number (Decimal64 (record { scale = 2; value = pos 150 })))
+    ∷ []
 
-abbrev AllMean : List (List ℕ × Tree) → Type 0
-AllMean [] = ⊤
-AllMean (e ∷ es) = Json e.0 e.1 × AllMean es
+abbrev wrong_exponents : List (List ℕ)
+wrong_exponents =
+    codes "1e39"
+    ∷ codes "0e-256"
+    ∷ codes "1e"
+    ∷ codes "1e+"
+    ∷ codes "1e-+1"
+    ∷ codes "1.e1"
+    ∷ codes "1e5.0"
+    ∷ codes "e5"
+    ∷ []
 
-abbrev NoneRead : List (List ℕ) → Type 0
-NoneRead [] = ⊤
-NoneRead (s ∷ ss) = (read_document s ≡ None) × NoneRead ss
+abbrev AllRead : Exponents → List (List ℕ × Tree) → Type 0
+AllRead rule [] = ⊤
+AllRead rule (e ∷ es) = (read_document rule e.0 ≡ Some e.1) × AllRead rule es
 
-abbrev NoneMean : List (List ℕ) → Type 0
-NoneMean [] = ⊤
-NoneMean (s ∷ ss) = ((t : Tree) → Json s t → ⊥) × NoneMean ss
+abbrev AllMean : Exponents → List (List ℕ × Tree) → Type 0
+AllMean rule [] = ⊤
+AllMean rule (e ∷ es) = JsonText rule e.0 e.1 × AllMean rule es
 
-all_mean : (es : List (List ℕ × Tree)) → AllRead es → AllMean es
-all_mean [] read = tt
-all_mean (e ∷ es) read = (document-found e.0 e.1 read.0, all_mean es read.1)
+abbrev NoneRead : Exponents → List (List ℕ) → Type 0
+NoneRead rule [] = ⊤
+NoneRead rule (s ∷ ss) = (read_document rule s ≡ None) × NoneRead rule ss
 
-none_mean : (ss : List (List ℕ)) → NoneRead ss → NoneMean ss
-none_mean [] read = tt
-none_mean (s ∷ ss) read = (λ t json. nothing_read s t read.0 json, none_mean ss read.1)
+abbrev NoneMean : Exponents → List (List ℕ) → Type 0
+NoneMean rule [] = ⊤
+NoneMean rule (s ∷ ss) = ((t : Tree) → JsonText rule s t → ⊥) × NoneMean rule ss
 
-pub meaningful_texts : AllMean meaningful
+all_mean : (rule : Exponents) (es : List (List ℕ × Tree)) → AllRead rule es → AllMean rule es
+all_mean rule [] read = tt
+all_mean rule (e ∷ es) read = (document-found rule e.0 e.1 read.0, all_mean rule es read.1)
+
+none_mean : (rule : Exponents) (ss : List (List ℕ)) → NoneRead rule ss → NoneMean rule ss
+none_mean rule [] read = tt
+none_mean rule (s ∷ ss) read =
+    (λ t json. nothing_read rule s t read.0 json, none_mean rule ss read.1)
+
+pub meaningful_texts : AllMean Forbidden meaningful
 unfolding read_value read_members read_text lib.Utf8.encode
-meaningful_texts = all_mean meaningful (refl, (refl, (refl, (refl, (refl, (refl, tt))))))
+meaningful_texts = all_mean Forbidden meaningful (refl, (refl, (refl, (refl, (refl, (refl, tt))))))
 
-pub meaningless_texts : NoneMean meaningless
+pub meaningless_texts : NoneMean Forbidden meaningless
 unfolding read_value read_text read_items
-meaningless_texts = none_mean meaningless (refl, (refl, (refl, (refl, (refl, (refl, tt))))))
+meaningless_texts =
+    none_mean Forbidden meaningless (refl, (refl, (refl, (refl, (refl, (refl, tt))))))
+
+pub meaningful_exponents : AllMean Allowed with_exponents
+unfolding read_value
+meaningful_exponents = all_mean Allowed with_exponents
+    (refl, (refl, (refl, (refl, (refl, (refl, (refl, (refl, (refl, tt)))))))))
+
+pub meaningless_exponents : NoneMean Allowed wrong_exponents
+unfolding read_value
+meaningless_exponents = none_mean Allowed wrong_exponents
+    (refl, (refl, (refl, (refl, (refl, (refl, (refl, (refl, tt))))))))

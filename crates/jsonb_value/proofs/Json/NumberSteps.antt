@@ -1,26 +1,28 @@
 -- Steps of reading a number.
-use Rattle.std.proofs.Common.{◌≡◌, ℕ, ◌^◌, ◌≤◌, Bool, true, false, eqb-true}
-use Rattle.std.proofs.Common.{refl, sym, ap, ◌∙◌, List, [], ◌∷◌, length, arith, Option, Some}
+use Rattle.std.proofs.Common.{◌≡◌, ℕ, ◌^◌, ◌≤◌, Bool, true, false, eqb-true, lit<}
+use Rattle.std.proofs.Common.{refl, sym, ◌∙◌, List, [], ◌∷◌, length, arith, Option, Some}
 use Rattle.std.proofs.Common.{None}
-use Rattle.std.specs.Prelude.{◌==◌, ◌≢◌, nat_lt, ℤ, IsTrue, SomeIff}
+use Rattle.std.specs.Prelude.{◌==◌, ◌≢◌, ℤ, pos, ◌-ℤ◌, IsTrue, SomeIff}
 use Rattle.std.specs.Char.{is_ascii_digit}
 use Rattle.std.specs.Int.{w128}
 use Rattle.std.proofs.lemmas.Int.{to_z-of_z}
 use mir.Val.{SFits, of_z, to_z}
 use Rattle.std.specs.Str.Parse.{digits_value, digits_value_after}
-use Rattle.std.proofs.lemmas.Bool.{ltb-false, le-ltb}
 use Rattle.jsonb_value.specs.Json.Bind.{◌>>=◌}
 use Rattle.jsonb_value.specs.declared.parser.number.Digits.{Digits}
-use Rattle.jsonb_value.specs.Reader.Digits.{Counts, AreDigits}
+use Rattle.jsonb_value.specs.declared.parser.number.Exponents.{Exponents}
+use Rattle.jsonb_value.specs.declared.parser.number.Integer.{Integer}
+use Rattle.jsonb_value.specs.Reader.Digits.{Counts, AreDigits, HasInteger}
 use Rattle.jsonb_value.proofs.Json.DigitLaws.{digits_value_after-append}
 use Rattle.jsonb_value.specs.declared.number.Number.{Number}
 use Rattle.jsonb_value.specs.Json.Characters.{zero_digit}
-use Rattle.jsonb_value.specs.Json.Numeral.{signed_number, number_of, whole_number, wide_number}
-use Rattle.jsonb_value.specs.Json.Numeral.{decimal_number}
+use Rattle.jsonb_value.specs.Json.Numeral.{signed_number, number_of, scaled_number}
 use Rattle.jsonb_value.specs.NumCode.{is_within}
 use Rattle.jsonb_value.specs.Reader.Reading.{read_sign, read_whole, read_fraction, read_number}
-use Rattle.jsonb_value.specs.Reader.Reading.{front_digits, after_digits}
-use Rattle.jsonb_value.proofs.Json.Tests.{by_false, no_error}
+use Rattle.jsonb_value.specs.Reader.Reading.{front_digits, after_digits, some_digits}
+use Rattle.jsonb_value.specs.Reader.Reading.{read_either_sign, read_integer, read_exponent}
+use Rattle.jsonb_value.proofs.Json.Exponents.{within_large, number_large, scaled_large}
+use Rattle.jsonb_value.proofs.Json.Tests.{no_error}
 
 pub whole_zero : (s rest : List ℕ) (c : ℕ) → s ≡ c ∷ rest → is_ascii_digit c ≡ true → c ≡ zero_digit
     → read_whole s ≡ Some (c ∷ [], rest)
@@ -33,32 +35,40 @@ pub whole_more : (s rest : List ℕ) (c : ℕ) → s ≡ c ∷ rest → is_ascii
     → read_whole s ≡ Some (c ∷ front_digits rest, after_digits rest)
 whole_more s rest c is digit other = grind (arith, no_zero)
 
-within_large : (b : Bool) (m : ℕ) → 2 ^ 128 ≤ m → is_within 127 (signed_number b m) ≡ false
-within_large b m large = grind (arith, le-ltb)
+-- digits, after a sign or none
+integer_digits : (s : List ℕ) → length (front_digits s) ≢ 0
+    → some_digits s ≡ Some (front_digits s, after_digits s)
+integer_digits s some = grind arith
 
-within_narrow : (v : ℤ) → is_within 127 v ≡ false → is_within 63 v ≡ false
-within_narrow v e = grind (arith, ltb-false, le-ltb)
+pub integer_read : (s s1 rest : List ℕ) (b : Bool) (digits : Digits) → (b, s1) ≡ read_either_sign s
+    → AreDigits 0 (front_digits s1) digits → digits.count ≢ 0 → rest ≡ after_digits s1
+    → (z : ℤ) × (read_integer s ≡ Some (z, rest))
+    × HasInteger z (record { is_negative = b; magnitude = digits.value })
+integer_read s s1 rest b digits sign are some end = (
+  signed_number b (digits_value 10 (front_digits s1)),
+  grind (arith, integer_digits),
+  record { magnitude = digits_value 10 (front_digits s1); is_counted = are.value; is_value = refl },
+)
 
-wide_large : (scale : ℕ) (v : ℤ) → is_within 127 v ≡ false → wide_number scale v ≡ None
-wide_large scale v e = by_false _ _ _ _ e refl
+-- an exponent that is forbidden or not there means 0
+abbrev pub HasNoExponent : Exponents → List ℕ → Type 0
+HasNoExponent rule s = (z : ℤ) × (read_exponent rule s ≡ Some (z, s))
+    × HasInteger z (record { is_negative = false; magnitude = Some 0 })
 
-whole_large : (v : ℤ) → is_within 127 v ≡ false → whole_number v ≡ None
-whole_large v e = grind (arith, ltb-false, le-ltb, wide_large, within_narrow)
-
-decimal_large : (scale : ℕ) (v : ℤ) → is_within 127 v ≡ false → (t : Bool) → nat_lt 255 scale ≡ t
-    → decimal_number scale v ≡ None
-decimal_large scale v e t is = grind (arith, within_narrow, wide_large)
-
--- beyond 128 bits there is no number
-number_large : (scale : ℕ) (v : ℤ) → is_within 127 v ≡ false → number_of scale v ≡ None
-number_large scale v e = grind (arith, whole_large, decimal_large)
+pub no_exponent : (rule : Exponents) (s : List ℕ) → read_exponent rule s ≡ Some (pos 0, s)
+    → HasNoExponent rule s
+no_exponent rule s e =
+    (pos 0, e, record { magnitude = 0; is_counted = (lit< tt, refl); is_value = refl })
 
 -- the steps of reading, up to the number's meaning
-pub number_found : (s s1 w s2 f s3 : List ℕ) (b : Bool) (r : Option Number)
-    → (b, s1) ≡ read_sign s → read_whole s1 ≡ Some (w, s2) → read_fraction s2 ≡ Some (f, s3)
-    → number_of (length f) (signed_number b (digits_value_after 10 (digits_value 10 w) f)) ≡ r
-    → read_number s ≡ (r >>= λ n. Some (n, s3))
-number_found s s1 w s2 f s3 b r sign whole fraction value = grind (arith, digits_value_after-append)
+pub number_found : (rule : Exponents) (s s1 w s2 f s3 s4 : List ℕ) (b : Bool) (z : ℤ)
+    (r : Option Number) → (b, s1) ≡ read_sign s → read_whole s1 ≡ Some (w, s2)
+    → read_fraction s2 ≡ Some (f, s3) → read_exponent rule s3 ≡ Some (z, s4)
+    → scaled_number (pos (length f) -ℤ z)
+    (signed_number b (digits_value_after 10 (digits_value 10 w) f)) ≡ r
+    → read_number rule s ≡ (r >>= λ n. Some (n, s4))
+number_found rule s s1 w s2 f s3 s4 b z r sign whole fraction exponent value =
+    grind (arith, digits_value_after-append)
 
 no_test : (b : Bool) → (IsTrue b → ⊥) → b ≡ false
 no_test b h = grind arith
@@ -70,51 +80,83 @@ counted_some : (n m : ℕ) (o : Option ℕ) → Counts n o → o ≡ Some m → 
 counted_some n m o h e = grind arith
 
 -- the results of the code's steps
-pub record HasParts (s s3 : List ℕ) (b : Bool) (digits : Digits) : Type 0 where
+pub record HasParts (rule : Exponents) (s s4 : List ℕ) (b : Bool) (digits : Digits)
+    (exponent : Integer) : Type 0 where
   pub s1 : List ℕ
   pub s2 : List ℕ
+  pub s3 : List ℕ
   pub whole : List ℕ
   pub fraction : List ℕ
+  pub z : ℤ
   pub is_sign : (b, s1) ≡ read_sign s
   pub is_whole : read_whole s1 ≡ Some (whole, s2)
   pub is_fraction : read_fraction s2 ≡ Some (fraction, s3)
   pub are_digits : AreDigits (digits_value 10 whole) fraction digits
+  pub is_exponent : read_exponent rule s3 ≡ Some (z, s4)
+  pub is_integer : HasInteger z exponent
 
-pub has_parts : (s s1 s2 s3 : List ℕ) (b : Bool) (o : Option ℕ) (digits : Digits)
-    → (b, s1) ≡ read_sign s
+pub has_parts : (rule : Exponents) (s s1 s2 s3 s4 : List ℕ) (b : Bool) (o : Option ℕ)
+    (digits : Digits) (exponent : Integer) → (b, s1) ≡ read_sign s
     → (whole : (ds : List ℕ) × (read_whole s1 ≡ Some (ds, s2)) × Counts (digits_value 10 ds) o)
     → ((n : ℕ) → Counts n o → (ds : List ℕ) × (read_fraction s2 ≡ Some (ds, s3))
-    × AreDigits n ds digits) → HasParts s s3 b digits
-has_parts s s1 s2 s3 b o digits sign whole fraction = grind arith
+    × AreDigits n ds digits)
+    → (read : (z : ℤ) × (read_exponent rule s3 ≡ Some (z, s4)) × HasInteger z exponent)
+    → HasParts rule s s4 b digits exponent
+has_parts rule s s1 s2 s3 s4 b o digits exponent sign whole fraction read =
+    let part = fraction (digits_value 10 whole.0) whole.2 in
+    record {
+      s1 = s1;
+      s2 = s2;
+      s3 = s3;
+      whole = whole.0;
+      fraction = part.0;
+      z = read.0;
+      is_sign = sign;
+      is_whole = whole.1;
+      is_fraction = part.1;
+      are_digits = part.2;
+      is_exponent = read.1;
+      is_integer = read.2;
+    }
 
-pub number_too_large : (s s3 : List ℕ) (b : Bool) (digits : Digits) → HasParts s s3 b digits
-    → digits.value ≡ None → read_number s ≡ None
-number_too_large s s3 b digits parts none =
-    let large = counted_none _ digits.value parts.are_digits.value none in
-    number_found s parts.s1 parts.whole parts.s2 parts.fraction s3 b None parts.is_sign
-    parts.is_whole parts.is_fraction
-    (number_large (length parts.fraction) _ (within_large b _ large))
+module _ (rule : Exponents) (s s4 : List ℕ) (b : Bool) (digits : Digits) (exponent : Integer)
+    (parts : HasParts rule s s4 b digits exponent) where
+  pub number_too_large : digits.value ≡ None → read_number rule s ≡ None
+  number_too_large none =
+      let value = digits_value_after 10 (digits_value 10 parts.whole) parts.fraction in
+      let large = counted_none value digits.value parts.are_digits.value none in
+      number_found rule s parts.s1 parts.whole parts.s2 parts.fraction parts.s3 s4 b parts.z
+      None parts.is_sign parts.is_whole parts.is_fraction parts.is_exponent
+      (scaled_large (pos (length parts.fraction) -ℤ parts.z) (signed_number b value)
+      (within_large b value large))
 
--- the number computed from the parts
-number_by_value : (s s3 : List ℕ) (b : Bool) (digits : Digits) (m : ℕ) → HasParts s s3 b digits
-    → digits.value ≡ Some m
-    → read_number s ≡ (number_of digits.count (signed_number b m) >>= λ n. Some (n, s3))
-number_by_value s s3 b digits m parts some = grind (arith, counted_some, number_found)
+  -- the number computed from the parts
+  number_by_value : (m : ℕ) (r : Option Number) → digits.value ≡ Some m
+      → scaled_number (pos digits.count -ℤ parts.z) (signed_number b m) ≡ r
+      → read_number rule s ≡ (r >>= λ n. Some (n, s4))
+  number_by_value m r some value = grind (arith, counted_some, number_found)
 
-pub number_out_of_range : (s s3 : List ℕ) (b : Bool) (digits : Digits) (m : ℕ) (o : Option ℤ)
-    → HasParts s s3 b digits → digits.value ≡ Some m
-    → SomeIff o (IsTrue (is_within 127 (signed_number b m))) (signed_number b m) → o ≡ None
-    → read_number s ≡ None
-number_out_of_range s s3 b digits m None parts some none e =
-    number_by_value s s3 b digits m parts some ∙ ap
-    (λ r. r >>= λ n. Some (n, s3))
-    (number_large digits.count (signed_number b m) (no_test _ none))
-number_out_of_range s s3 b digits m (Some v) parts some is e = no_error (sym e)
+  pub number_past_scale : (m : ℕ) → digits.value ≡ Some m
+      → scaled_number (pos digits.count -ℤ parts.z) (signed_number b m) ≡ None
+      → read_number rule s ≡ None
+  number_past_scale m some none = number_by_value m None some none
 
-pub number_of_parts : (s s3 : List ℕ) (b : Bool) (digits : Digits) (m : ℕ) (o : Option ℤ) (v : ℤ)
-    (r : Option Number) → HasParts s s3 b digits → digits.value ≡ Some m
-    → SomeIff o (IsTrue (is_within 127 (signed_number b m))) (signed_number b m) → o ≡ Some v
-    → r ≡ number_of digits.count (to_z w128 (of_z w128 v)) → SFits w128 v
-    → read_number s ≡ (r >>= λ n. Some (n, s3))
-number_of_parts s s3 b digits m o v r parts some none e is fits =
-    grind (arith, number_by_value, to_z-of_z)
+  pub number_out_of_range : (m scale k : ℕ) (o : Option ℤ) → digits.value ≡ Some m
+      → scaled_number (pos digits.count -ℤ parts.z) (signed_number b m)
+      ≡ number_of scale (signed_number b k)
+      → SomeIff o (IsTrue (is_within 127 (signed_number b k))) (signed_number b k) → o ≡ None
+      → read_number rule s ≡ None
+  number_out_of_range m scale k None some same none e =
+      number_by_value m None some
+      (same ∙ number_large scale (signed_number b k) (no_test _ none))
+  number_out_of_range m scale k (Some v) some same is e = no_error (sym e)
+
+  pub number_of_parts : (m scale k : ℕ) (o : Option ℤ) (v : ℤ) (r : Option Number)
+      → digits.value ≡ Some m
+      → scaled_number (pos digits.count -ℤ parts.z) (signed_number b m)
+      ≡ number_of scale (signed_number b k)
+      → SomeIff o (IsTrue (is_within 127 (signed_number b k))) (signed_number b k) → o ≡ Some v
+      → r ≡ number_of scale (to_z w128 (of_z w128 v)) → SFits w128 v
+      → read_number rule s ≡ (r >>= λ n. Some (n, s4))
+  number_of_parts m scale k o v r some same none e is fits =
+      number_by_value m r some (grind (arith, to_z-of_z))

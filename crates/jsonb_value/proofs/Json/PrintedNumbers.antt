@@ -1,7 +1,7 @@
 -- The printed text of a number means a number of the same value, whose payload is no longer.
 use Rattle.std.proofs.lemmas.Grind.{common_steps}
 use Rattle.std.proofs.Common.{◌≡◌, ℕ, ℤ, zero, suc, pos, negsuc, ◌+◌, ◌/◌, ◌%◌, ◌<◌, ◌≤◌, ◌^◌}
-use Rattle.std.proofs.Common.{Bool, true, false, inl, inr, Some, refl, ap, ◌∙◌}
+use Rattle.std.proofs.Common.{Bool, true, false, inl, inr, Some, None, refl, ap, ◌∙◌}
 use Rattle.std.proofs.Common.{List, [], ◌∷◌, ◌++◌, length, arith, eqb-true, length-append}
 use Rattle.std.proofs.Common.{append-nil}
 use Rattle.std.specs.Prelude.{◌==◌, decimal, unsigned_abs, FitsSigned}
@@ -16,6 +16,7 @@ use Rattle.std.proofs.lemmas.Bool.{lt-ltb, le-ltb, le-leb}
 use Rattle.jsonb_value.specs.declared.number.Number.{Number}
 use Rattle.jsonb_value.specs.declared.number.Number.TheVariants.{Int64, UInt64, Decimal64}
 use Rattle.jsonb_value.specs.declared.number.Number.TheVariants.{Decimal128}
+use Rattle.jsonb_value.specs.declared.parser.number.Exponents.TheVariants.{Forbidden}
 use Rattle.jsonb_value.specs.NumCode.{is_within, shortest_signed, shortest_unsigned}
 use Rattle.jsonb_value.specs.NumCode.{decimal_payload, number_payload}
 use Rattle.jsonb_value.specs.Order.{fraction_of}
@@ -23,11 +24,12 @@ use Rattle.jsonb_value.specs.WellFormed.{IsNumber}
 use Rattle.jsonb_value.specs.Text.{front_of, last_digits, decimal_text, number_text}
 use Rattle.jsonb_value.specs.Json.Characters.{point, zero_digit, all_digits}
 use Rattle.jsonb_value.specs.Json.Numeral.{Numeral, fraction_text, numeral_text, is_whole}
-use Rattle.jsonb_value.specs.Json.Numeral.{signed_number}
+use Rattle.jsonb_value.specs.Json.Numeral.{is_numeral, signed_number, value_without_point}
 use Rattle.jsonb_value.specs.Json.Numeral.{wide_number, number_of, numeral_meaning}
 use Rattle.jsonb_value.proofs.BigEndian.{length-to_be_bytes}
 use Rattle.jsonb_value.proofs.PayloadLaws.{by_test, fits_within}
 use Rattle.jsonb_value.proofs.Decimals.{length-last_digits}
+use Rattle.jsonb_value.proofs.Json.Exponents.{scaled_plain}
 use Rattle.jsonb_value.proofs.Json.Tests.{bool_cases}
 
 -- ---- digits
@@ -107,6 +109,7 @@ printed_fraction scale z = record {
   whole = decimal
       (front_of scale (unsigned_abs z));
   fraction = last_digits scale (unsigned_abs z);
+  exponent = None;
 }
 
 abbrev pub printed_number : Number → Numeral
@@ -121,18 +124,21 @@ not_negative m = le-ltb m 0 (omega arith)
 signed-size : (z : ℤ) → signed_number (negative z) (unsigned_abs z) ≡ z
 signed-size z = grind arith
 
+printed_proper : (scale : ℕ) (z : ℤ) → unsigned_abs z < 10 ^ 64
+    → is_numeral Forbidden (printed_fraction scale z) ≡ true
+printed_proper scale z fits = grind (arith, decimal_is_whole, front_of-le, all_digits-last)
+
 fraction_meaning : (scale : ℕ) (z : ℤ) → unsigned_abs z < 10 ^ 64
-    → numeral_meaning (printed_fraction scale z) ≡ number_of scale z
+    → numeral_meaning Forbidden (printed_fraction scale z) ≡ number_of scale z
 fraction_meaning scale z fits =
-    grind (
-      arith,
-      decimal_is_whole,
-      front_of-le,
-      all_digits-last,
-      magnitude-printed,
-      signed-size,
-      length-last_digits,
-    )
+    let n = printed_fraction scale z in
+    let digits : value_without_point n ≡ z =
+    ap (signed_number (negative z)) (magnitude-printed scale (unsigned_abs z) fits)
+    ∙ signed-size z in
+    rw (printed_proper scale z fits)
+    (scaled_plain (length n.fraction) (value_without_point n)
+    ∙ ap (λ k. number_of k (value_without_point n)) (length-last_digits scale (unsigned_abs z))
+    ∙ ap (number_of scale) digits)
 
 -- ---- the lengths of payloads
 
@@ -168,7 +174,7 @@ length-decimal w v s = grind (arith, length-to_be_bytes, length-append)
 -- longer.
 pub record RereadNumber (x : Number) : Type 0 where
   pub number : Number
-  pub is_meant : numeral_meaning (printed_number x) ≡ Some number
+  pub is_meant : numeral_meaning Forbidden (printed_number x) ≡ Some number
   pub is_worth : fraction_of number ≡ fraction_of x
   pub is_number : IsNumber number
   pub is_short : length (number_payload number) ≤ length (number_payload x)
@@ -178,7 +184,7 @@ few_digits v h = grind arith
 
 -- a number without a point, not negative and negative
 as_unsigned : (x : Number) (m : ℕ) → m < 2 ^ 64
-    → numeral_meaning (printed_number x) ≡ number_of 0 (pos m)
+    → numeral_meaning Forbidden (printed_number x) ≡ number_of 0 (pos m)
     → fraction_of (UInt64 m) ≡ fraction_of x
     → length (number_payload (UInt64 m)) ≤ length (number_payload x) → RereadNumber x
 as_unsigned x m small means worth short = record {
@@ -190,7 +196,7 @@ as_unsigned x m small means worth short = record {
 }
 
 as_signed : (x : Number) (m : ℕ) → m < 2 ^ 63
-    → numeral_meaning (printed_number x) ≡ number_of 0 (negsuc m)
+    → numeral_meaning Forbidden (printed_number x) ≡ number_of 0 (negsuc m)
     → fraction_of (Int64 (negsuc m)) ≡ fraction_of x
     → length (number_payload (Int64 (negsuc m))) ≤ length (number_payload x) → RereadNumber x
 as_signed x m small means worth short = record {
@@ -206,7 +212,7 @@ is_within-fits w v h = grind (arith, lt-ltb)
 
 -- a number with a point, of 64 bits
 as_decimal : (x : Number) (s : ℕ) (v : ℤ) → FitsSigned w64 v → suc s < 2 ^ 8
-    → numeral_meaning (printed_number x) ≡ number_of (suc s) v
+    → numeral_meaning Forbidden (printed_number x) ≡ number_of (suc s) v
     → fraction_of (Decimal64 (record { scale = suc s; value = v })) ≡ fraction_of x
     → 10 ≤ length (number_payload x) → RereadNumber x
 as_decimal x s v fits small means worth short = record {
@@ -229,7 +235,7 @@ reread_64 (suc s) v h small = as_decimal _ s v h small
 
 -- a decimal of 128 bits may be read as any narrower number
 wide_itself : (scale : ℕ) (v : ℤ) → FitsSigned w128 v → scale < 2 ^ 8
-    → numeral_meaning (printed_fraction scale v) ≡ wide_number scale v
+    → numeral_meaning Forbidden (printed_fraction scale v) ≡ wide_number scale v
     → RereadNumber (Decimal128 (record { scale = scale; value = v }))
 wide_itself scale v h small e = grind (arith, is_within-fits w128 v h)
 

@@ -11,6 +11,7 @@ use Rattle.std.specs.Cmp.Lexicographic.{slice_cmp, nat_list_cmp_total}
 use Rattle.std.specs.BTreeMap.{insert_entry}
 use Rattle.std.specs.Str.{IsUtf8}
 use Rattle.jsonb_value.specs.declared.number.Number.{Number}
+use Rattle.jsonb_value.specs.declared.parser.number.Exponents.TheVariants.{Forbidden}
 use Rattle.jsonb_value.specs.Plain.{IsPlain, ArePlain, PairsPlain}
 use Rattle.jsonb_value.specs.Text.{Layout, in_one_line, on_lines, inside, line_start, colon}
 use Rattle.jsonb_value.specs.Text.{number_text, laid_out, more_items}
@@ -23,7 +24,7 @@ use Rattle.jsonb_value.specs.Value.{trees_of}
 use Rattle.jsonb_value.specs.WellFormed.{IsNumber, IsTree, AreTrees, ArePairs}
 use Rattle.jsonb_value.specs.Json.Characters.{all_blank, all_digits}
 use Rattle.jsonb_value.specs.Json.Numeral.{Numeral, sign_text, fraction_text, numeral_text}
-use Rattle.jsonb_value.specs.Json.Numeral.{is_numeral, is_whole}
+use Rattle.jsonb_value.specs.Json.Numeral.{is_whole}
 use Rattle.jsonb_value.specs.Json.Syntax.{Syntax, nothing, truth, numeral, string, empty_array}
 use Rattle.jsonb_value.specs.Json.Syntax.{items, empty_object, members, Element, element, Items}
 use Rattle.jsonb_value.specs.Json.Syntax.{no_item, next_item, Member, member, Members, no_member}
@@ -31,7 +32,7 @@ use Rattle.jsonb_value.specs.Json.Syntax.{next_member, string_text, syntax_text}
 use Rattle.jsonb_value.specs.Json.Syntax.{items_text, members_text, Entries, pairs}
 use Rattle.jsonb_value.specs.Json.Syntax.{insert_all, meaning, items_meaning}
 use Rattle.jsonb_value.specs.Json.Syntax.{members_meaning, Json}
-use Rattle.jsonb_value.proofs.Json.Tests.{cond_some}
+use Rattle.jsonb_value.proofs.Json.Exponents.{WithoutExponent, without_exponent}
 use Rattle.jsonb_value.proofs.Json.PrintedNumbers.{printed_number, reread, number_spelled}
 use Rattle.jsonb_value.proofs.Json.PrintedText.{Spells, Spells-append, Spells-nil, Spells-ascii}
 use Rattle.jsonb_value.proofs.Json.PrintedText.{all_ascii, printed_text, content_spelled}
@@ -154,15 +155,23 @@ sign_ascii b = grind arith
 fraction_ascii : (ds : List ℕ) → all_digits ds ≡ true → all_ascii (fraction_text ds) ≡ true
 fraction_ascii ds e = grind (arith, digits_ascii)
 
-numeral_ascii : (n : Numeral) → is_numeral n ≡ true → all_ascii (numeral_text n) ≡ true
-numeral_ascii n e = grind (arith, ascii-append, sign_ascii, whole_ascii, fraction_ascii)
+numeral_ascii : (n : Numeral) (x : Number) → WithoutExponent n x
+    → all_ascii (numeral_text n) ≡ true
+numeral_ascii n x proper =
+    let fraction = fraction_text n.fraction in
+    rw proper.is_spelled
+    (ascii-append (sign_text n.is_negative) (n.whole ++ fraction) (sign_ascii n.is_negative)
+    (ascii-append n.whole fraction (whole_ascii n.whole proper.is_whole_part)
+    (fraction_ascii n.fraction proper.is_fraction)))
 
 number_as_spelled : (x : Number) → IsNumber x
     → Spells (number_text x) (numeral_text (printed_number x))
 number_as_spelled x ok =
-    let proper = (cond_some _ _ _ (reread x ok).is_meant).0 in
+    let back = reread x ok in
+    let proper = without_exponent (printed_number x) back.number back.is_meant in
     rw number_spelled
-    (Spells-ascii (numeral_text (printed_number x)) (numeral_ascii (printed_number x) proper))
+    (Spells-ascii (numeral_text (printed_number x))
+    (numeral_ascii (printed_number x) back.number proper))
 
 mutual
   tree_spelled : (l : Layout) (t : Tree) → IsTree t → IsPlain t
@@ -230,31 +239,32 @@ inserted-ascending (m ∷ ms) front h =
 
 record ReadsTree (l : Layout) (t : Tree) : Type 0 where
   tree_is : Tree
-  is_meant : meaning (printed l t) ≡ Some tree_is
+  is_meant : meaning Forbidden (printed l t) ≡ Some tree_is
   is_same : IsSame tree_is t
   is_tree : IsTree tree_is
 
 record ReadsTrees (l : Layout) (ts : Trees) : Type 0 where
   own : List Tree
-  is_meant : items_meaning (printed_items l ts) ≡ Some own
+  is_meant : items_meaning Forbidden (printed_items l ts) ≡ Some own
   are_same : AreSame (trees_of own) ts
   are_trees : AreTrees (trees_of own)
 
 record ReadsPairs (l : Layout) (ps : Pairs) : Type 0 where
   own : Entries
-  is_meant : members_meaning (printed_members l ps) ≡ Some own
+  is_meant : members_meaning Forbidden (printed_members l ps) ≡ Some own
   are_same : PairsSame (pairs own) ps
   are_pairs : ArePairs (pairs own)
   ascends : (before : Option (List ℕ)) → Ascends before ps → Ascends before (pairs own)
 
 -- a nonempty list of items, and of members
 items_mean : (x : Element) (xs : Items) (own : List Tree)
-    → items_meaning (next_item x xs) ≡ Some own → meaning (items x xs) ≡ Some (array (trees_of own))
+    → items_meaning Forbidden (next_item x xs) ≡ Some own
+    → meaning Forbidden (items x xs) ≡ Some (array (trees_of own))
 items_mean x xs own e = grind arith
 
 members_mean : (m : Member) (ms : Members) (own : Entries)
-    → members_meaning (next_member m ms) ≡ Some own
-    → meaning (members m ms) ≡ Some (object (pairs (insert_all [] own)))
+    → members_meaning Forbidden (next_member m ms) ≡ Some own
+    → meaning Forbidden (members m ms) ≡ Some (object (pairs (insert_all [] own)))
 members_mean m ms own e = grind arith
 
 mutual

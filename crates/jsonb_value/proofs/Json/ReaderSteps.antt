@@ -5,6 +5,7 @@ use Rattle.std.specs.Prelude.{◌≢◌}
 use Rattle.std.specs.Ordering.{nat_cmp}
 use Rattle.std.specs.Cmp.Lexicographic.{slice_cmp}
 use Rattle.std.specs.BTreeMap.{insert_entry}
+use Rattle.jsonb_value.specs.declared.parser.number.Exponents.{Exponents}
 use Rattle.jsonb_value.specs.Tree.{Tree, array, object, no_trees, no_pairs, text, number}
 use Rattle.jsonb_value.specs.Value.{trees_of}
 use Rattle.jsonb_value.specs.Json.Characters.{comma, close_bracket, close_brace, open_bracket}
@@ -16,13 +17,15 @@ use Rattle.jsonb_value.specs.Reader.Resume.{Content, items, members, put, conten
 use Rattle.jsonb_value.specs.Reader.Resume.{innermost, IsAtValue, IsAtKey, IsAfterValue}
 use Rattle.jsonb_value.specs.Reader.Resume.{Enough, value_then}
 use Rattle.jsonb_value.specs.Reader.Resume.{steps as steps_of}
-use Rattle.jsonb_value.specs.Reader.Reading.{expect, read_document, read_text, read_value, read_number}
+use Rattle.jsonb_value.specs.Reader.Reading.{expect, read_document, read_text, read_value}
+use Rattle.jsonb_value.specs.Reader.Reading.{read_number}
 use Rattle.jsonb_value.specs.Json.Bind.{◌>>=◌}
 use Rattle.jsonb_value.specs.declared.number.Number.{Number}
-use Rattle.jsonb_value.specs.Json.Syntax.{Json}
+use Rattle.jsonb_value.specs.Json.Syntax.{JsonText}
 use Rattle.jsonb_value.proofs.Json.ValueLaws.{document-found, value-found}
 use Rattle.jsonb_value.proofs.Json.Shorter.{expect_shorter}
-use Rattle.jsonb_value.proofs.Json.ValueSteps.{value_ends, opened_shorter, after_shorter, opens, fails_on}
+use Rattle.jsonb_value.proofs.Json.ValueSteps.{value_ends, opened_shorter, after_shorter, opens}
+use Rattle.jsonb_value.proofs.Json.ValueSteps.{fails_on}
 use Rattle.jsonb_value.specs.declared.error.Error.{Error}
 use Rattle.jsonb_value.specs.Reader.Gives.{Fails}
 use Rattle.jsonb_value.proofs.Json.SpelledLaws.{value_positive}
@@ -53,55 +56,55 @@ inner_other kinds b c bs k some other =
     absurd (other (some_same b c (sym (ap innermost k) ∙ some)))
 
 -- the whole text ended
-pub after_end : {S : Type 0} (is : Relation S) (target : Option Tree) (sink : S)
-    (kinds : List Bool) (s rest : List ℕ) → IsAfterValue is target sink kinds s
+pub after_end : {S : Type 0} (rule : Exponents) (is : Relation S) (target : Option Tree) (sink : S)
+    (kinds : List Bool) (s rest : List ℕ) → IsAfterValue rule is target sink kinds s
     → innermost kinds ≡ None → rest ≡ skip_blank s → rest ≡ []
     → (t : Tree) × ((target ≡ Some t) × is sink (whole t))
-after_end is target sink kinds s rest h none e end = by h.parts h.kinds_are h.held h.same
+after_end rule is target sink kinds s rest h none e end = by h.parts h.kinds_are h.held h.same
   where
     by : (ps : List Part) → kinds ≡ kinds_of ps → is sink (put h.value (contents ps))
-        → target ≡ resume ps h.value (skip_blank s)
+        → target ≡ resume rule ps h.value (skip_blank s)
         → (t : Tree) × ((target ≡ Some t) × is sink (whole t))
     by [] k held same =
-        (h.value, (same ∙ steps.ends h.value (skip_blank s) (sym e ∙ end), held))
+        (h.value, (same ∙ steps.ends rule h.value (skip_blank s) (sym e ∙ end), held))
     by (in_array n turns front ∷ ps) k held same = inner_none kinds _ _ k none
     by (in_object n turns front key ∷ ps) k held same = inner_none kinds _ _ k none
 
 -- something follows the whole value
-pub after_more : {S : Type 0} (is : Relation S) (target : Option Tree) (sink : S)
+pub after_more : {S : Type 0} (rule : Exponents) (is : Relation S) (target : Option Tree) (sink : S)
     (kinds : List Bool) (s rest : List ℕ) (c : ℕ) (more : List ℕ)
-    → IsAfterValue is target sink kinds s
+    → IsAfterValue rule is target sink kinds s
     → innermost kinds ≡ None → rest ≡ skip_blank s → rest ≡ c ∷ more → target ≡ None
-after_more is target sink kinds s rest c more h none e follows =
+after_more rule is target sink kinds s rest c more h none e follows =
     by h.parts h.kinds_are h.same
   where
-    by : (ps : List Part) → kinds ≡ kinds_of ps → target ≡ resume ps h.value (skip_blank s)
+    by : (ps : List Part) → kinds ≡ kinds_of ps → target ≡ resume rule ps h.value (skip_blank s)
         → target ≡ None
-    by [] k same = same ∙ steps.goes_on h.value (skip_blank s) c more (sym e ∙ follows)
+    by [] k same = same ∙ steps.goes_on rule h.value (skip_blank s) c more (sym e ∙ follows)
     by (in_array n turns front ∷ ps) k same = inner_none kinds _ _ k none
     by (in_object n turns front key ∷ ps) k same = inner_none kinds _ _ k none
 
 -- the text ends in a container
-pub after_cut : {S : Type 0} (is : Relation S) (target : Option Tree) (sink : S)
-    (kinds : List Bool) (s rest : List ℕ) (b : Bool) → IsAfterValue is target sink kinds s
+pub after_cut : {S : Type 0} (rule : Exponents) (is : Relation S) (target : Option Tree) (sink : S)
+    (kinds : List Bool) (s rest : List ℕ) (b : Bool) → IsAfterValue rule is target sink kinds s
     → innermost kinds ≡ Some b → rest ≡ skip_blank s → rest ≡ [] → target ≡ None
-after_cut is target sink kinds s rest b h some e end = by h.parts h.kinds_are h.same
+after_cut rule is target sink kinds s rest b h some e end = by h.parts h.kinds_are h.same
   where
-    by : (ps : List Part) → kinds ≡ kinds_of ps → target ≡ resume ps h.value (skip_blank s)
+    by : (ps : List Part) → kinds ≡ kinds_of ps → target ≡ resume rule ps h.value (skip_blank s)
         → target ≡ None
     by [] k same = no_inner kinds b k some
     by (in_array n turns front ∷ ps) k same =
-        same ∙ steps.item_ends n turns front ps h.value (skip_blank s) (sym e ∙ end)
+        same ∙ steps.item_ends rule n turns front ps h.value (skip_blank s) (sym e ∙ end)
     by (in_object n turns front key ∷ ps) k same =
-        same ∙ steps.member_ends n turns front key ps h.value (skip_blank s) (sym e ∙ end)
+        same ∙ steps.member_ends rule n turns front key ps h.value (skip_blank s) (sym e ∙ end)
 
 -- a comma after an item
-pub after_item_comma : {S : Type 0} (is : Relation S) (target : Option Tree) (sink : S)
-    (kinds : List Bool) (s rest : List ℕ) (c : ℕ) (more next : List ℕ)
-    → IsAfterValue is target sink kinds s
+pub after_item_comma : {S : Type 0} (rule : Exponents) (is : Relation S) (target : Option Tree)
+    (sink : S) (kinds : List Bool) (s rest : List ℕ) (c : ℕ) (more next : List ℕ)
+    → IsAfterValue rule is target sink kinds s
     → innermost kinds ≡ Some false → rest ≡ skip_blank s → rest ≡ c ∷ more → c ≡ comma
-    → next ≡ skip_blank more → IsAtValue is target sink kinds next
-after_item_comma is target sink kinds s rest c more next h some e follows mark skipped =
+    → next ≡ skip_blank more → IsAtValue rule is target sink kinds next
+after_item_comma rule is target sink kinds s rest c more next h some e follows mark skipped =
     by h.parts h.enough h.kinds_are h.held h.same
   where
     shorter : length next < length s
@@ -115,8 +118,8 @@ after_item_comma is target sink kinds s rest c more next h some e follows mark s
     )
 
     by : (ps : List Part) → Enough h.bound ps (length s) → kinds ≡ kinds_of ps
-        → is sink (put h.value (contents ps)) → target ≡ resume ps h.value (skip_blank s)
-        → IsAtValue is target sink kinds next
+        → is sink (put h.value (contents ps)) → target ≡ resume rule ps h.value (skip_blank s)
+        → IsAtValue rule is target sink kinds next
     by [] enough k held same = no_inner kinds false k some
     by (in_array n zero front ∷ ps) enough k held same = absurd (omega (arith, enough.1.0, shorter))
     by (in_array n (suc turns) front ∷ ps) enough k held same = record {
@@ -124,32 +127,36 @@ after_item_comma is target sink kinds s rest c more next h some e follows mark s
       parts = in_array n turns (front ++ h.value ∷ []) ∷ ps;
       enough = (
         omega (arith, enough.0, shorter),
-        (omega (arith, enough.1.0, shorter), steps.fewer h.bound ps _ _ enough.1.1 (omega (arith, shorter))),
+        (
+          omega (arith, enough.1.0, shorter),
+          steps.fewer h.bound ps _ _ enough.1.1 (omega (arith, shorter)),
+        ),
       );
       kinds_are = k;
       held = held;
-      same = same ∙ steps.item_goes_on h.bound n turns front ps h.value (skip_blank s) c more
+      same = same ∙ steps.item_goes_on rule h.bound n turns front ps h.value (skip_blank s) c more
           (sym e ∙ follows) mark
-          ∙ ap (value_then h.bound (in_array n turns (front ++ h.value ∷ []) ∷ ps)) (sym skipped);
+          ∙ ap (value_then rule h.bound (in_array n turns (front ++ h.value ∷ []) ∷ ps))
+          (sym skipped);
     }
     by (in_object n turns front key ∷ ps) enough k held same =
         inner_other kinds true false _ k some (λ e. true_false e)
 
 -- a comma after a member
-pub after_member_comma : {S : Type 0} (is : Relation S) (target : Option Tree) (sink : S)
-    (kinds : List Bool) (s rest : List ℕ) (c : ℕ) (more : List ℕ)
-    → IsAfterValue is target sink kinds s
+pub after_member_comma : {S : Type 0} (rule : Exponents) (is : Relation S) (target : Option Tree)
+    (sink : S) (kinds : List Bool) (s rest : List ℕ) (c : ℕ) (more : List ℕ)
+    → IsAfterValue rule is target sink kinds s
     → innermost kinds ≡ Some true → rest ≡ skip_blank s → rest ≡ c ∷ more → c ≡ comma
-    → IsAtKey is target sink kinds more
-after_member_comma is target sink kinds s rest c more h some e follows mark =
+    → IsAtKey rule is target sink kinds more
+after_member_comma rule is target sink kinds s rest c more h some e follows mark =
     by h.parts h.enough h.kinds_are h.held h.same
   where
     shorter : length more < length s
     shorter = omega (arith, skip_shorter s, ap length e, ap length follows)
 
     by : (ps : List Part) → Enough h.bound ps (length s) → kinds ≡ kinds_of ps
-        → is sink (put h.value (contents ps)) → target ≡ resume ps h.value (skip_blank s)
-        → IsAtKey is target sink kinds more
+        → is sink (put h.value (contents ps)) → target ≡ resume rule ps h.value (skip_blank s)
+        → IsAtKey rule is target sink kinds more
     by [] enough k held same = no_inner kinds true k some
     by (in_object n zero front key ∷ ps) enough k held same =
         absurd (omega (arith, enough.1.0, shorter))
@@ -164,30 +171,30 @@ after_member_comma is target sink kinds s rest c more h some e follows mark =
       enough_turns = omega (arith, enough.1.0, shorter);
       kinds_are = k;
       held = held;
-      same = same ∙ steps.member_goes_on n turns front key ps h.value (skip_blank s) c more
+      same = same ∙ steps.member_goes_on rule n turns front key ps h.value (skip_blank s) c more
           (sym e ∙ follows) mark;
     }
     by (in_array n turns front ∷ ps) enough k held same =
         inner_other kinds false true _ k some (λ e. false_true e)
 
 -- an array closes
-pub after_array : {S : Type 0} (is : Relation S) (target : Option Tree) (sink new : S)
-    (kinds left : List Bool) (s rest : List ℕ) (c : ℕ) (more : List ℕ)
-    → IsAfterValue is target sink kinds s
+pub after_array : {S : Type 0} (rule : Exponents) (is : Relation S) (target : Option Tree)
+    (sink new : S) (kinds left : List Bool) (s rest : List ℕ) (c : ℕ) (more : List ℕ)
+    → IsAfterValue rule is target sink kinds s
     → innermost kinds ≡ Some false → rest ≡ skip_blank s → rest ≡ c ∷ more → c ≡ close_bracket
     → ((front : List Tree) (cs : List Content) → is sink (going (items front ∷ cs))
     → is new (put (array (trees_of front)) cs))
     → ((b : Bool) (bs : List Bool) → kinds ≡ b ∷ bs → left ≡ bs)
-    → IsAfterValue is target new left more
-after_array is target sink new kinds left s rest c more h some e follows mark ends pops =
+    → IsAfterValue rule is target new left more
+after_array rule is target sink new kinds left s rest c more h some e follows mark ends pops =
     by h.parts h.enough h.kinds_are h.held h.same
   where
     shorter : length more < length s
     shorter = omega (arith, skip_shorter s, ap length e, ap length follows)
 
     by : (ps : List Part) → Enough h.bound ps (length s) → kinds ≡ kinds_of ps
-        → is sink (put h.value (contents ps)) → target ≡ resume ps h.value (skip_blank s)
-        → IsAfterValue is target new left more
+        → is sink (put h.value (contents ps)) → target ≡ resume rule ps h.value (skip_blank s)
+        → IsAfterValue rule is target new left more
     by [] enough k held same = no_inner kinds false k some
     by (in_object n turns front key ∷ ps) enough k held same =
         inner_other kinds true false _ k some (λ e. true_false e)
@@ -198,28 +205,28 @@ after_array is target sink new kinds left s rest c more h some e follows mark en
       enough = steps.fewer h.bound ps _ _ enough.1.1 (omega (arith, shorter));
       kinds_are = pops false (kinds_of ps) k;
       held = ends (front ++ h.value ∷ []) (contents ps) held;
-      same = same ∙ steps.item_closes n turns front ps h.value (skip_blank s) c more
+      same = same ∙ steps.item_closes rule n turns front ps h.value (skip_blank s) c more
           (sym e ∙ follows) mark;
     }
 
 -- an object closes
-pub after_object : {S : Type 0} (is : Relation S) (target : Option Tree) (sink new : S)
-    (kinds left : List Bool) (s rest : List ℕ) (c : ℕ) (more : List ℕ)
-    → IsAfterValue is target sink kinds s
+pub after_object : {S : Type 0} (rule : Exponents) (is : Relation S) (target : Option Tree)
+    (sink new : S) (kinds left : List Bool) (s rest : List ℕ) (c : ℕ) (more : List ℕ)
+    → IsAfterValue rule is target sink kinds s
     → innermost kinds ≡ Some true → rest ≡ skip_blank s → rest ≡ c ∷ more → c ≡ close_brace
     → ((front : Entries) (cs : List Content) → is sink (going (members front ∷ cs))
     → is new (put (object (pairs front)) cs))
     → ((b : Bool) (bs : List Bool) → kinds ≡ b ∷ bs → left ≡ bs)
-    → IsAfterValue is target new left more
-after_object is target sink new kinds left s rest c more h some e follows mark ends pops =
+    → IsAfterValue rule is target new left more
+after_object rule is target sink new kinds left s rest c more h some e follows mark ends pops =
     by h.parts h.enough h.kinds_are h.held h.same
   where
     shorter : length more < length s
     shorter = omega (arith, skip_shorter s, ap length e, ap length follows)
 
     by : (ps : List Part) → Enough h.bound ps (length s) → kinds ≡ kinds_of ps
-        → is sink (put h.value (contents ps)) → target ≡ resume ps h.value (skip_blank s)
-        → IsAfterValue is target new left more
+        → is sink (put h.value (contents ps)) → target ≡ resume rule ps h.value (skip_blank s)
+        → IsAfterValue rule is target new left more
     by [] enough k held same = no_inner kinds true k some
     by (in_array n turns front ∷ ps) enough k held same =
         inner_other kinds false true _ k some (λ e. false_true e)
@@ -230,45 +237,46 @@ after_object is target sink new kinds left s rest c more h some e follows mark e
       enough = steps.fewer h.bound ps _ _ enough.1.1 (omega (arith, shorter));
       kinds_are = pops true (kinds_of ps) k;
       held = ends (insert_entry (slice_cmp nat_cmp) front key h.value) (contents ps) held;
-      same = same ∙ steps.member_closes n turns front key ps h.value (skip_blank s) c more
+      same = same ∙ steps.member_closes rule n turns front key ps h.value (skip_blank s) c more
           (sym e ∙ follows) mark;
     }
 
 -- another mark in a container
-pub after_other : {S : Type 0} (is : Relation S) (target : Option Tree) (sink : S)
-    (kinds : List Bool) (s rest : List ℕ) (c : ℕ) (more : List ℕ) (b : Bool)
-    → IsAfterValue is target sink kinds s
+pub after_other : {S : Type 0} (rule : Exponents) (is : Relation S) (target : Option Tree)
+    (sink : S) (kinds : List Bool) (s rest : List ℕ) (c : ℕ) (more : List ℕ) (b : Bool)
+    → IsAfterValue rule is target sink kinds s
     → innermost kinds ≡ Some b → rest ≡ skip_blank s → rest ≡ c ∷ more → c ≢ comma
     → (b ≡ false → c ≢ close_bracket) → (b ≡ true → c ≢ close_brace) → target ≡ None
-after_other is target sink kinds s rest c more b h some e follows no_comma square curly =
+after_other rule is target sink kinds s rest c more b h some e follows no_comma square curly =
     by h.parts h.kinds_are h.same
   where
-    by : (ps : List Part) → kinds ≡ kinds_of ps → target ≡ resume ps h.value (skip_blank s)
+    by : (ps : List Part) → kinds ≡ kinds_of ps → target ≡ resume rule ps h.value (skip_blank s)
         → target ≡ None
     by [] k same = no_inner kinds b k some
     by (in_array n turns front ∷ ps) k same =
-        same ∙ steps.item_stops n turns front ps h.value (skip_blank s) c more (sym e ∙ follows)
+        same ∙ steps.item_stops rule n turns front ps h.value (skip_blank s) c more
+        (sym e ∙ follows)
         no_comma (square (sym (some_same false b (sym (ap innermost k) ∙ some))))
     by (in_object n turns front key ∷ ps) k same =
-        same ∙ steps.member_stops n turns front key ps h.value (skip_blank s) c more
+        same ∙ steps.member_stops rule n turns front key ps h.value (skip_blank s) c more
         (sym e ∙ follows) no_comma (curly (sym (some_same true b (sym (ap innermost k) ∙ some))))
 
-pub after_no_array : {S : Type 0} (is : Relation S) (target : Option Tree) (sink : S)
-    (kinds : List Bool) (s rest : List ℕ) (c : ℕ) (more : List ℕ)
-    → IsAfterValue is target sink kinds s
+pub after_no_array : {S : Type 0} (rule : Exponents) (is : Relation S) (target : Option Tree)
+    (sink : S) (kinds : List Bool) (s rest : List ℕ) (c : ℕ) (more : List ℕ)
+    → IsAfterValue rule is target sink kinds s
     → innermost kinds ≡ Some false → rest ≡ skip_blank s → rest ≡ c ∷ more → c ≢ comma
     → c ≢ close_bracket → target ≡ None
-after_no_array is target sink kinds s rest c more h some e follows no_comma no_close =
-    after_other is target sink kinds s rest c more false h some e follows no_comma
+after_no_array rule is target sink kinds s rest c more h some e follows no_comma no_close =
+    after_other rule is target sink kinds s rest c more false h some e follows no_comma
     (λ _. no_close) (λ e. absurd (false_true e))
 
-pub after_no_object : {S : Type 0} (is : Relation S) (target : Option Tree) (sink : S)
-    (kinds : List Bool) (s rest : List ℕ) (c : ℕ) (more : List ℕ)
-    → IsAfterValue is target sink kinds s
+pub after_no_object : {S : Type 0} (rule : Exponents) (is : Relation S) (target : Option Tree)
+    (sink : S) (kinds : List Bool) (s rest : List ℕ) (c : ℕ) (more : List ℕ)
+    → IsAfterValue rule is target sink kinds s
     → innermost kinds ≡ Some true → rest ≡ skip_blank s → rest ≡ c ∷ more → c ≢ comma
     → c ≢ close_brace → target ≡ None
-after_no_object is target sink kinds s rest c more h some e follows no_comma no_close =
-    after_other is target sink kinds s rest c more true h some e follows no_comma
+after_no_object rule is target sink kinds s rest c more h some e follows no_comma no_close =
+    after_other rule is target sink kinds s rest c more true h some e follows no_comma
     (λ e. absurd (true_false e)) (λ _. no_close)
 
 -- ---- how much is left
@@ -300,18 +308,23 @@ past_empty s c rest inside k after e skipped is = omega (
   expect_shorter k inside after (sym is),
 )
 
-pub past_scalar : (s : List ℕ) (t : Tree) (after : List ℕ)
-    → ((n : ℕ) → length s < n → read_value n s ≡ Some (t, after)) → suc (length after) ≤ length s
-past_scalar s t after reads =
-    let found = value-found (suc (length s)) s t after (reads (suc (length s)) (omega arith)) in
-    omega (arith, ap length found.is_spelled, value_positive found.syntax t after found.is_meant)
+pub past_scalar : (rule : Exponents) (s : List ℕ) (t : Tree) (after : List ℕ)
+    → ((n : ℕ) → length s < n → read_value rule n s ≡ Some (t, after))
+    → suc (length after) ≤ length s
+past_scalar rule s t after reads =
+    let found = value-found rule (suc (length s)) s t after
+    (reads (suc (length s)) (omega arith)) in
+    let some = value_positive rule found.syntax t after found.is_meant in
+    omega (arith, ap length found.is_spelled, some)
 
 -- ---- at a value
 
-pub at_nothing : {S : Type 0} (is : Relation S) (target : Option Tree) (sink : S)
-    (kinds : List Bool) (s : List ℕ) → IsAtValue is target sink kinds s → s ≡ [] → target ≡ None
-at_nothing is target sink kinds s h e =
-    h.same ∙ steps.value_fails h.bound h.parts s (value_ends (steps_of h.bound h.parts) s e)
+pub at_nothing : {S : Type 0} (rule : Exponents) (is : Relation S) (target : Option Tree) (sink : S)
+    (kinds : List Bool) (s : List ℕ) → IsAtValue rule is target sink kinds s → s ≡ []
+    → target ≡ None
+at_nothing rule is target sink kinds s h e =
+    h.same ∙ steps.value_fails rule h.bound h.parts s
+    (value_ends rule (steps_of h.bound h.parts) s e)
 
 -- the bounds on the steps of an array or object that begins
 record Bounds (whole_bound : ℕ) (ps : List Part) (rest : List ℕ) : Type 0 where
@@ -337,16 +350,16 @@ bounds bound ps s c rest enough e =
       enough = omega (arith, h, ap length e);
     }
 
-pub array_begins : {S : Type 0} (is : Relation S) (target : Option Tree) (sink new : S)
-    (kinds more : List Bool) (s : List ℕ) (c : ℕ) (rest inside : List ℕ)
-    → IsAtValue is target sink kinds s → s ≡ c ∷ rest → c ≡ open_bracket
+pub array_begins : {S : Type 0} (rule : Exponents) (is : Relation S) (target : Option Tree)
+    (sink new : S) (kinds more : List Bool) (s : List ℕ) (c : ℕ) (rest inside : List ℕ)
+    → IsAtValue rule is target sink kinds s → s ≡ c ∷ rest → c ≡ open_bracket
     → inside ≡ skip_blank rest → None ≡ expect close_bracket inside
     → ((cs : List Content) → is sink (going cs) → is new (going (items [] ∷ cs)))
-    → more ≡ false ∷ kinds → IsAtValue is target new more inside
-array_begins is target sink new kinds more s c rest inside h e first skipped none begins push =
+    → more ≡ false ∷ kinds → IsAtValue rule is target new more inside
+array_begins rule is target sink new kinds more s c rest inside h e first skipped none begins push =
     let b = bounds h.bound h.parts s c rest h.enough e in
     let shorter = past_first s c rest inside e skipped in
-    let opened = steps.array_opens h.bound h.parts b.n b.turns s rest b.is_steps b.is_n
+    let opened = steps.array_opens rule h.bound h.parts b.n b.turns s rest b.is_steps b.is_n
     (e ∙ ap (λ k. k ∷ rest) first) (none ∙ ap (expect close_bracket) skipped) in
     record {
       bound = h.bound;
@@ -360,19 +373,20 @@ array_begins is target sink new kinds more s c rest inside h e first skipped non
       );
       kinds_are = push ∙ ap (λ ks. false ∷ ks) h.kinds_are;
       held = begins (contents h.parts) h.held;
-      same = h.same ∙ opened ∙ ap (value_then h.bound (in_array b.n b.turns [] ∷ h.parts))
+      same = h.same ∙ opened ∙ ap (value_then rule h.bound (in_array b.n b.turns [] ∷ h.parts))
           (sym skipped);
     }
 
-pub array_is_empty : {S : Type 0} (is : Relation S) (target : Option Tree) (sink mid new : S)
-    (kinds : List Bool) (s : List ℕ) (c : ℕ) (rest inside after : List ℕ)
-    → IsAtValue is target sink kinds s → s ≡ c ∷ rest → c ≡ open_bracket
+pub array_is_empty : {S : Type 0} (rule : Exponents) (is : Relation S) (target : Option Tree)
+    (sink mid new : S) (kinds : List Bool) (s : List ℕ) (c : ℕ) (rest inside after : List ℕ)
+    → IsAtValue rule is target sink kinds s → s ≡ c ∷ rest → c ≡ open_bracket
     → inside ≡ skip_blank rest → Some after ≡ expect close_bracket inside
     → ((cs : List Content) → is sink (going cs) → is mid (going (items [] ∷ cs)))
     → ((front : List Tree) (cs : List Content) → is mid (going (items front ∷ cs))
     → is new (put (array (trees_of front)) cs))
-    → IsAfterValue is target new kinds after
-array_is_empty is target sink mid new kinds s c rest inside after h e first skipped some begins ends =
+    → IsAfterValue rule is target new kinds after
+array_is_empty rule is target sink mid new kinds s c rest inside after h e first skipped some begins
+    ends =
     let b = bounds h.bound h.parts s c rest h.enough e in
     let shorter = past_empty s c rest inside close_bracket after e skipped some in
     record {
@@ -382,29 +396,29 @@ array_is_empty is target sink mid new kinds s c rest inside after h e first skip
       enough = steps.fewer h.bound h.parts _ _ h.enough (omega (arith, shorter));
       kinds_are = h.kinds_are;
       held = ends [] (contents h.parts) (begins (contents h.parts) h.held);
-      same = h.same ∙ steps.value_read h.bound h.parts s (array no_trees) after
-          (steps.array_empty b.n s rest after (e ∙ ap (λ k. k ∷ rest) first)
+      same = h.same ∙ steps.value_read rule h.bound h.parts s (array no_trees) after
+          (steps.array_empty rule b.n s rest after (e ∙ ap (λ k. k ∷ rest) first)
           (some ∙ ap (expect close_bracket) skipped) _ b.is_steps);
     }
 
 -- ---- the whole text
 
-pub text_begins : {S : Type 0} (is : Relation S) (sink : S) (kinds : List Bool) (s inside : List ℕ)
-    → inside ≡ skip_blank s → kinds ≡ [] → is sink (going [])
-    → IsAtValue is (read_document s) sink kinds inside
-text_begins is sink kinds s inside skipped none held = record {
+pub text_begins : {S : Type 0} (rule : Exponents) (is : Relation S) (sink : S) (kinds : List Bool)
+    (s inside : List ℕ) → inside ≡ skip_blank s → kinds ≡ [] → is sink (going [])
+    → IsAtValue rule is (read_document rule s) sink kinds inside
+text_begins rule is sink kinds s inside skipped none held = record {
   bound = suc (length s);
   parts = [];
   enough = omega (arith, skip_shorter s, ap length skipped);
   kinds_are = none;
   held = held;
-  same = steps.begins s ∙ ap (value_then (suc (length s)) []) (sym skipped);
+  same = steps.begins rule s ∙ ap (value_then rule (suc (length s)) []) (sym skipped);
 }
 
-pub text_ends : {S : Type 0} (is : Relation S) (s : List ℕ) (sink : S)
-    → (t : Tree) × ((read_document s ≡ Some t) × is sink (whole t))
-    → (t : Tree) × (Json s t × is sink (whole t))
-text_ends is s sink h = (h.0, (document-found s h.0 h.1.0, h.1.1))
+pub text_ends : {S : Type 0} (rule : Exponents) (is : Relation S) (s : List ℕ) (sink : S)
+    → (t : Tree) × ((read_document rule s ≡ Some t) × is sink (whole t))
+    → (t : Tree) × (JsonText rule s t × is sink (whole t))
+text_ends rule is s sink h = (h.0, (document-found rule s h.0 h.1.0, h.1.1))
 
 pub first_is : (s : List ℕ) (c : ℕ) (rest : List ℕ) (k : ℕ) → s ≡ c ∷ rest
     → (t : List ℕ) × (s ≡ k ∷ t) → c ≡ k
@@ -415,13 +429,13 @@ first_is s c rest k e h = by (sym e ∙ h.1)
 
 -- ---- objects and keys
 
-pub object_begins : {S : Type 0} (is : Relation S) (target : Option Tree) (sink new : S)
-    (kinds more : List Bool) (s : List ℕ) (c : ℕ) (rest : List ℕ)
-    → IsAtValue is target sink kinds s → s ≡ c ∷ rest → c ≡ open_brace
+pub object_begins : {S : Type 0} (rule : Exponents) (is : Relation S) (target : Option Tree)
+    (sink new : S) (kinds more : List Bool) (s : List ℕ) (c : ℕ) (rest : List ℕ)
+    → IsAtValue rule is target sink kinds s → s ≡ c ∷ rest → c ≡ open_brace
     → None ≡ expect close_brace (skip_blank rest)
     → ((cs : List Content) → is sink (going cs) → is new (going (members [] ∷ cs)))
-    → more ≡ true ∷ kinds → IsAtKey is target new more rest
-object_begins is target sink new kinds more s c rest h e first none begins push =
+    → more ≡ true ∷ kinds → IsAtKey rule is target new more rest
+object_begins rule is target sink new kinds more s c rest h e first none begins push =
     let b = bounds h.bound h.parts s c rest h.enough e in
     record {
       bound = h.bound;
@@ -434,19 +448,20 @@ object_begins is target sink new kinds more s c rest h e first none begins push 
       enough_turns = b.enough;
       kinds_are = push ∙ ap (λ ks. true ∷ ks) h.kinds_are;
       held = begins (contents h.parts) h.held;
-      same = h.same ∙ steps.object_opens h.bound h.parts b.n b.turns s rest b.is_steps b.is_n
+      same = h.same ∙ steps.object_opens rule h.bound h.parts b.n b.turns s rest b.is_steps b.is_n
           (e ∙ ap (λ k. k ∷ rest) first) none;
     }
 
-pub object_is_empty : {S : Type 0} (is : Relation S) (target : Option Tree) (sink mid new : S)
-    (kinds : List Bool) (s : List ℕ) (c : ℕ) (rest inside after : List ℕ)
-    → IsAtValue is target sink kinds s → s ≡ c ∷ rest → c ≡ open_brace
+pub object_is_empty : {S : Type 0} (rule : Exponents) (is : Relation S) (target : Option Tree)
+    (sink mid new : S) (kinds : List Bool) (s : List ℕ) (c : ℕ) (rest inside after : List ℕ)
+    → IsAtValue rule is target sink kinds s → s ≡ c ∷ rest → c ≡ open_brace
     → inside ≡ skip_blank rest → Some after ≡ expect close_brace inside
     → ((cs : List Content) → is sink (going cs) → is mid (going (members [] ∷ cs)))
     → ((front : Entries) (cs : List Content) → is mid (going (members front ∷ cs))
     → is new (put (object (pairs front)) cs))
-    → IsAfterValue is target new kinds after
-object_is_empty is target sink mid new kinds s c rest inside after h e first skipped some begins
+    → IsAfterValue rule is target new kinds after
+object_is_empty rule is target sink mid new kinds s c rest inside after h e first skipped some
+    begins
     ends =
     let b = bounds h.bound h.parts s c rest h.enough e in
     let shorter = past_empty s c rest inside close_brace after e skipped some in
@@ -457,19 +472,20 @@ object_is_empty is target sink mid new kinds s c rest inside after h e first ski
       enough = steps.fewer h.bound h.parts _ _ h.enough (omega (arith, shorter));
       kinds_are = h.kinds_are;
       held = ends [] (contents h.parts) (begins (contents h.parts) h.held);
-      same = h.same ∙ steps.value_read h.bound h.parts s (object no_pairs) after
-          (steps.object_empty b.n s rest after (e ∙ ap (λ k. k ∷ rest) first)
+      same = h.same ∙ steps.value_read rule h.bound h.parts s (object no_pairs) after
+          (steps.object_empty rule b.n s rest after (e ∙ ap (λ k. k ∷ rest) first)
           (some ∙ ap (expect close_brace) skipped) _ b.is_steps);
     }
 
-pub key_is_read : {S : Type 0} (is : Relation S) (target : Option Tree) (sink new : S)
-    (kinds : List Bool) (s inside opened key after within later next : List ℕ)
-    → IsAtKey is target sink kinds s → inside ≡ skip_blank s
+pub key_is_read : {S : Type 0} (rule : Exponents) (is : Relation S) (target : Option Tree)
+    (sink new : S) (kinds : List Bool) (s inside opened key after within later next : List ℕ)
+    → IsAtKey rule is target sink kinds s → inside ≡ skip_blank s
     → Some opened ≡ expect quote inside
     → ((n : ℕ) → length opened < n → read_text n [] opened ≡ Some (key, after))
     → within ≡ skip_blank after → Some later ≡ expect colon within → next ≡ skip_blank later
-    → AddsKey is sink new key → IsAtValue is target new kinds next
-key_is_read is target sink new kinds s inside opened key after within later next h skipped quoted
+    → AddsKey is sink new key → IsAtValue rule is target new kinds next
+key_is_read rule is target sink new kinds s inside opened key after within later next h skipped
+    quoted
     reads skipped_after coloned skipped_later adds =
     let first = opened_shorter s inside opened skipped quoted in
     let second = after_shorter opened key after within later reads skipped_after coloned in
@@ -487,11 +503,12 @@ key_is_read is target sink new kinds s inside opened key after within later next
       );
       kinds_are = h.kinds_are;
       held = adds h.front (contents h.parts) h.held;
-      same = h.same ∙ steps.key_read h.bound h.steps h.turns h.front h.parts s opened key after later
+      same = h.same
+          ∙ steps.key_read rule h.bound h.steps h.turns h.front h.parts s opened key after later
           (opens s inside opened skipped quoted)
           (reads h.turns (omega (arith, h.enough_turns, first)))
           (ap (expect colon) (sym skipped_after) ∙ sym coloned)
-          ∙ ap (value_then h.bound (in_object h.steps h.turns h.front key ∷ h.parts))
+          ∙ ap (value_then rule h.bound (in_object h.steps h.turns h.front key ∷ h.parts))
           (sym skipped_later);
     }
 
@@ -509,59 +526,61 @@ past_key s inside opened key after within later next skipped quoted reads skippe
       ap length skipped_later,
     )
 
-pub key_unquoted : {S : Type 0} (is : Relation S) (target : Option Tree) (sink : S)
-    (kinds : List Bool) (s inside : List ℕ) → IsAtKey is target sink kinds s
+pub key_unquoted : {S : Type 0} (rule : Exponents) (is : Relation S) (target : Option Tree)
+    (sink : S) (kinds : List Bool) (s inside : List ℕ) → IsAtKey rule is target sink kinds s
     → inside ≡ skip_blank s → None ≡ expect quote inside → target ≡ None
-key_unquoted is target sink kinds s inside h skipped none =
-    h.same ∙ steps.key_unquoted h.steps h.turns h.front h.parts s
+key_unquoted rule is target sink kinds s inside h skipped none =
+    h.same ∙ steps.key_unquoted rule h.steps h.turns h.front h.parts s
     (ap (expect quote) (sym skipped) ∙ sym none)
 
-pub key_unread : {S : Type 0} (is : Relation S) (target : Option Tree) (sink : S)
-    (kinds : List Bool) (s inside opened : List ℕ) (e : Error) → IsAtKey is target sink kinds s
+pub key_unread : {S : Type 0} (rule : Exponents) (is : Relation S) (target : Option Tree) (sink : S)
+    (kinds : List Bool) (s inside opened : List ℕ) (e : Error) → IsAtKey rule is target sink kinds s
     → inside ≡ skip_blank s → Some opened ≡ expect quote inside
     → ((n : ℕ) → length opened < n → Fails e (read_text n [] opened)) → Fails e target
-key_unread is target sink kinds s inside opened e h skipped quoted fails =
+key_unread rule is target sink kinds s inside opened e h skipped quoted fails =
     let first = opened_shorter s inside opened skipped quoted in
-    fails_on e _ target (λ none. h.same ∙ steps.key_unread h.steps h.turns h.front h.parts s opened
+    fails_on e _ target
+    (λ none. h.same ∙ steps.key_unread rule h.steps h.turns h.front h.parts s opened
     (opens s inside opened skipped quoted) none)
     (fails h.turns (omega (arith, h.enough_turns, first)))
 
-pub key_uncoloned : {S : Type 0} (is : Relation S) (target : Option Tree) (sink : S)
-    (kinds : List Bool) (s inside opened key after within : List ℕ)
-    → IsAtKey is target sink kinds s
+pub key_uncoloned : {S : Type 0} (rule : Exponents) (is : Relation S) (target : Option Tree)
+    (sink : S) (kinds : List Bool) (s inside opened key after within : List ℕ)
+    → IsAtKey rule is target sink kinds s
     → inside ≡ skip_blank s → Some opened ≡ expect quote inside
     → ((n : ℕ) → length opened < n → read_text n [] opened ≡ Some (key, after))
     → within ≡ skip_blank after → None ≡ expect colon within → target ≡ None
-key_uncoloned is target sink kinds s inside opened key after within h skipped quoted reads
+key_uncoloned rule is target sink kinds s inside opened key after within h skipped quoted reads
     skipped_after none =
     let first = opened_shorter s inside opened skipped quoted in
-    h.same ∙ steps.key_uncoloned h.steps h.turns h.front h.parts s opened key after
+    h.same ∙ steps.key_uncoloned rule h.steps h.turns h.front h.parts s opened key after
     (opens s inside opened skipped quoted) (reads h.turns (omega (arith, h.enough_turns, first)))
     (ap (expect colon) (sym skipped_after) ∙ sym none)
 
 -- ---- scalars
 
-pub scalar_is_read : {S : Type 0} (is : Relation S) (target : Option Tree) (sink new : S)
-    (kinds : List Bool) (s : List ℕ) (t : Tree) (after : List ℕ)
-    → IsAtValue is target sink kinds s
-    → ((n : ℕ) → length s < n → read_value n s ≡ Some (t, after))
-    → Adds is sink new t → IsAfterValue is target new kinds after
-scalar_is_read is target sink new kinds s t after h reads adds = record {
+pub scalar_is_read : {S : Type 0} (rule : Exponents) (is : Relation S) (target : Option Tree)
+    (sink new : S) (kinds : List Bool) (s : List ℕ) (t : Tree) (after : List ℕ)
+    → IsAtValue rule is target sink kinds s
+    → ((n : ℕ) → length s < n → read_value rule n s ≡ Some (t, after))
+    → Adds is sink new t → IsAfterValue rule is target new kinds after
+scalar_is_read rule is target sink new kinds s t after h reads adds = record {
   bound = h.bound;
   parts = h.parts;
   value = t;
-  enough = steps.fewer h.bound h.parts _ _ h.enough (omega (arith, past_scalar s t after reads));
+  enough = steps.fewer h.bound h.parts _ _ h.enough
+      (omega (arith, past_scalar rule s t after reads));
   kinds_are = h.kinds_are;
   held = adds (contents h.parts) h.held;
-  same = h.same ∙ steps.value_read h.bound h.parts s t after
+  same = h.same ∙ steps.value_read rule h.bound h.parts s t after
       (reads (steps_of h.bound h.parts) (steps.enough_steps h.bound h.parts (length s) h.enough));
 }
 
-pub scalar_fails : {S : Type 0} (is : Relation S) (target : Option Tree) (sink : S)
-    (kinds : List Bool) (s : List ℕ) (e : Error) → IsAtValue is target sink kinds s
-    → ((n : ℕ) → length s < n → Fails e (read_value n s)) → Fails e target
-scalar_fails is target sink kinds s e h fails =
-    fails_on e _ target (λ none. h.same ∙ steps.value_fails h.bound h.parts s none)
+pub scalar_fails : {S : Type 0} (rule : Exponents) (is : Relation S) (target : Option Tree)
+    (sink : S) (kinds : List Bool) (s : List ℕ) (e : Error) → IsAtValue rule is target sink kinds s
+    → ((n : ℕ) → length s < n → Fails e (read_value rule n s)) → Fails e target
+scalar_fails rule is target sink kinds s e h fails =
+    fails_on e _ target (λ none. h.same ∙ steps.value_fails rule h.bound h.parts s none)
     (fails (steps_of h.bound h.parts) (steps.enough_steps h.bound h.parts (length s) h.enough))
 
 abbrev pub as_text : List ℕ × List ℕ → Option (Tree × List ℕ)
@@ -578,23 +597,24 @@ pub string_fails : (n : ℕ) (s : List ℕ) (e : Error) → Fails e (read_text n
     → Fails e (read_text n [] s >>= as_text)
 string_fails n s e fails = fails_on e (read_text n [] s) _ (λ none. rw none refl) fails
 
-pub number_reads : (s : List ℕ) (c : ℕ) (rest : List ℕ) (x : Number) (after : List ℕ)
-    → s ≡ c ∷ rest → read_number s ≡ Some (x, after)
-    → (read_number (c ∷ rest) >>= as_number) ≡ Some (number x, after)
-number_reads s c rest x after e reads =
-    ap (λ q. q >>= as_number) (ap read_number (sym e) ∙ reads)
+pub number_reads : (rule : Exponents) (s : List ℕ) (c : ℕ) (rest : List ℕ) (x : Number)
+    (after : List ℕ) → s ≡ c ∷ rest → read_number rule s ≡ Some (x, after)
+    → (read_number rule (c ∷ rest) >>= as_number) ≡ Some (number x, after)
+number_reads rule s c rest x after e reads =
+    ap (λ q. q >>= as_number) (ap (read_number rule) (sym e) ∙ reads)
 
-pub number_fails : (s : List ℕ) (c : ℕ) (rest : List ℕ) → s ≡ c ∷ rest → read_number s ≡ None
-    → (read_number (c ∷ rest) >>= as_number) ≡ None
-number_fails s c rest e none = ap (λ q. q >>= as_number) (ap read_number (sym e) ∙ none)
+pub number_fails : (rule : Exponents) (s : List ℕ) (c : ℕ) (rest : List ℕ) → s ≡ c ∷ rest
+    → read_number rule s ≡ None
+    → (read_number rule (c ∷ rest) >>= as_number) ≡ None
+number_fails rule s c rest e none = ap (λ q. q >>= as_number) (ap (read_number rule) (sym e) ∙ none)
 
 -- ---- what a container's end may rely on
 
-pub holds_items : {S : Type 0} (is : Relation S) (sink : S) (kinds : List Bool) (s : List ℕ)
-    → (target : Option Tree) × IsAfterValue is target sink kinds s
+pub holds_items : {S : Type 0} (rule : Exponents) (is : Relation S) (sink : S) (kinds : List Bool)
+    (s : List ℕ) → (target : Option Tree) × IsAfterValue rule is target sink kinds s
     → innermost kinds ≡ Some false
     → (front : List Tree) × ((cs : List Content) × is sink (going (items front ∷ cs)))
-holds_items is sink kinds s h some = by h.1.parts h.1.kinds_are h.1.held
+holds_items rule is sink kinds s h some = by h.1.parts h.1.kinds_are h.1.held
   where
     by : (ps : List Part) → kinds ≡ kinds_of ps → is sink (put h.1.value (contents ps))
         → (front : List Tree) × ((cs : List Content) × is sink (going (items front ∷ cs)))
@@ -603,11 +623,11 @@ holds_items is sink kinds s h some = by h.1.parts h.1.kinds_are h.1.held
     by (in_object n turns front key ∷ ps) k held =
         inner_other kinds true false _ k some (λ e. true_false e)
 
-pub holds_members : {S : Type 0} (is : Relation S) (sink : S) (kinds : List Bool) (s : List ℕ)
-    → (target : Option Tree) × IsAfterValue is target sink kinds s
+pub holds_members : {S : Type 0} (rule : Exponents) (is : Relation S) (sink : S) (kinds : List Bool)
+    (s : List ℕ) → (target : Option Tree) × IsAfterValue rule is target sink kinds s
     → innermost kinds ≡ Some true
     → (front : Entries) × ((cs : List Content) × is sink (going (members front ∷ cs)))
-holds_members is sink kinds s h some = by h.1.parts h.1.kinds_are h.1.held
+holds_members rule is sink kinds s h some = by h.1.parts h.1.kinds_are h.1.held
   where
     by : (ps : List Part) → kinds ≡ kinds_of ps → is sink (put h.1.value (contents ps))
         → (front : Entries) × ((cs : List Content) × is sink (going (members front ∷ cs)))

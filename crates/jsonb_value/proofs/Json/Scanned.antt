@@ -1,18 +1,23 @@
 -- What is spelled is scanned to its depth.
 use Rattle.std.proofs.Common.{◌≡◌, ℕ, suc, ◌+◌, Bool, true, false, refl, sym, ap, ◌∙◌}
-use Rattle.std.proofs.Common.{List, [], ◌∷◌, ◌++◌, Some, Option, arith, append_assoc}
+use Rattle.std.proofs.Common.{List, [], ◌∷◌, ◌++◌, Some, None, Option, arith, append_assoc}
 use Rattle.std.proofs.Common.{append-nil, ◌⊎◌, inl, inr}
 use Rattle.std.specs.Prelude.{◌-◌, max, ◌&&◌, ◌||◌, ◌==◌, not, option_map, codes}
 use Rattle.std.specs.Char.{is_digit}
 use Rattle.std.proofs.lemmas.Bool.Decides.{nat_tests}
 use Rattle.jsonb_value.specs.declared.text_depth.ScanState.TheVariants.{Outside, Inside}
+use Rattle.jsonb_value.specs.declared.parser.number.Exponents.{Exponents}
+use Rattle.jsonb_value.specs.declared.parser.number.Exponents.TheVariants.{Forbidden, Allowed}
 use Rattle.jsonb_value.specs.Tree.{Tree, text, number}
 use Rattle.jsonb_value.specs.TextDepth.{greatest_level, text_depth}
 use Rattle.jsonb_value.specs.TextDepth.{syntax_depth, element_depth, items_depth, member_depth}
 use Rattle.jsonb_value.specs.TextDepth.{members_depth}
 use Rattle.jsonb_value.specs.Json.Characters.{comma, colon, all_blank, all_digits}
-use Rattle.jsonb_value.specs.Json.Numeral.{Numeral, numeral_text, numeral_meaning, is_numeral}
-use Rattle.jsonb_value.specs.Json.Numeral.{is_whole, sign_text, fraction_text}
+use Rattle.jsonb_value.specs.Json.Characters.{is_exponent_mark}
+use Rattle.jsonb_value.specs.Json.Numeral.{Numeral, Exponent, Sign, numeral_text, numeral_meaning}
+use Rattle.jsonb_value.specs.Json.Numeral.{is_numeral, is_whole, are_digits, is_exponent}
+use Rattle.jsonb_value.specs.Json.Numeral.{sign_text, fraction_text, exponent_sign_text}
+use Rattle.jsonb_value.specs.Json.Numeral.{exponent_text}
 use Rattle.jsonb_value.specs.Json.Piece.{Piece, Unit4, unit4, plain, escape, unit, surrogates}
 use Rattle.jsonb_value.specs.Json.Piece.{piece_text, pieces_text, piece_meaning, pieces_meaning}
 use Rattle.jsonb_value.specs.Json.Piece.{unit_text, unit_value}
@@ -25,7 +30,7 @@ use Rattle.jsonb_value.specs.Json.Syntax.{items_text, member_text, members_text,
 use Rattle.jsonb_value.specs.Json.Syntax.{between, meaning, element_meaning, items_meaning}
 use Rattle.jsonb_value.specs.Json.Syntax.{member_meaning, members_meaning}
 use Rattle.jsonb_value.proofs.ScanLaws.{level_within}
-use Rattle.jsonb_value.proofs.Json.Tests.{bind_then, cond_some, and_true}
+use Rattle.jsonb_value.proofs.Json.Tests.{bind_then, cond_some, and_true, and_both}
 
 -- ---- characters outside strings
 
@@ -96,9 +101,38 @@ sign_neutral b = grind arith
 fraction_neutral : (ds : List ℕ) → all_digits ds ≡ true → all_neutral (fraction_text ds) ≡ true
 fraction_neutral ds e = grind (arith, digits_neutral)
 
-numeral_neutral : (n : Numeral) → is_numeral n ≡ true → all_neutral (numeral_text n) ≡ true
-numeral_neutral n e =
-    grind (arith, neutral-append, sign_neutral, whole_neutral, fraction_neutral)
+some_digits_neutral : (ds : List ℕ) → are_digits ds ≡ true → all_neutral ds ≡ true
+some_digits_neutral ds e = grind (arith, nat_tests, digits_neutral)
+
+exponent_sign_neutral : (sign : Sign) → all_neutral (exponent_sign_text sign) ≡ true
+exponent_sign_neutral sign = grind arith
+
+mark_neutral : (c : ℕ) → is_exponent_mark c ≡ true → is_neutral c ≡ true
+mark_neutral c e = grind (arith, nat_tests)
+
+exponent_neutral : (rule : Exponents) (x : Option Exponent) → is_exponent rule x ≡ true
+    → all_neutral (exponent_text x) ≡ true
+exponent_neutral rule None e = refl
+exponent_neutral Forbidden (Some x) e = absurd (let h : ⊥ = cc in h)
+exponent_neutral Allowed (Some x) e =
+    let parts = and_true (is_exponent_mark x.mark) (are_digits x.digits) e in
+    and_both _ _ (mark_neutral x.mark parts.0)
+    (neutral-append (exponent_sign_text x.sign) x.digits (exponent_sign_neutral x.sign)
+    (some_digits_neutral x.digits parts.1))
+
+numeral_neutral : (rule : Exponents) (n : Numeral) → is_numeral rule n ≡ true
+    → all_neutral (numeral_text n) ≡ true
+numeral_neutral rule n e =
+    let parts = and_true (is_whole n.whole && all_digits n.fraction) (is_exponent rule n.exponent)
+    e in
+    let digits = and_true (is_whole n.whole) (all_digits n.fraction) parts.0 in
+    let last = exponent_text n.exponent in
+    let fraction = fraction_text n.fraction in
+    neutral-append (sign_text n.is_negative) (n.whole ++ (fraction ++ last))
+    (sign_neutral n.is_negative)
+    (neutral-append n.whole (fraction ++ last) (whole_neutral n.whole digits.0)
+    (neutral-append fraction last (fraction_neutral n.fraction digits.1)
+    (exponent_neutral rule n.exponent parts.1)))
 
 -- ---- characters of strings
 
@@ -194,68 +228,69 @@ one_less level rest =
     ap (λ (n : ℕ). max (suc level) (greatest_level Outside n rest)) down ∙ omega arith
 
 mutual
-  syntax_passes : (x : Syntax) (t : Tree) → meaning x ≡ Some t
+  syntax_passes : (rule : Exponents) (x : Syntax) (t : Tree) → meaning rule x ≡ Some t
       → Passes (syntax_text x) (syntax_depth x)
-  syntax_passes nothing t e = Passes-neutral (codes "null") refl
-  syntax_passes (truth b) t e = Passes-neutral (syntax_text (truth b)) (truth_neutral b)
-  syntax_passes (numeral n) t e =
-      let is = option_was number (numeral_meaning n) t e in
-      Passes-neutral (numeral_text n) (numeral_neutral n (cond_some _ _ _ is.1).0)
-  syntax_passes (string pieces) t e =
+  syntax_passes rule nothing t e = Passes-neutral (codes "null") refl
+  syntax_passes rule (truth b) t e = Passes-neutral (syntax_text (truth b)) (truth_neutral b)
+  syntax_passes rule (numeral n) t e =
+      let is = option_was number (numeral_meaning rule n) t e in
+      Passes-neutral (numeral_text n) (numeral_neutral rule n (cond_some _ _ _ is.1).0)
+  syntax_passes rule (string pieces) t e =
       let is = option_was text (pieces_meaning pieces) t e in string_passes pieces is.0 is.1
-  syntax_passes (empty_array blank) t e =
+  syntax_passes rule (empty_array blank) t e =
       empty_passes 91 93 blank (inl refl) (inl refl) (and_true _ _ (cond_some _ _ _ e).0).0
-  syntax_passes (empty_object blank) t e =
+  syntax_passes rule (empty_object blank) t e =
       empty_passes 123 125 blank (inr refl) (inr refl) (and_true _ _ (cond_some _ _ _ e).0).0
-  syntax_passes (items x xs) t e =
-      bind_then (element_meaning x) _ _ e (λ y is more.
-      bind_then (items_meaning xs) _ _ more (λ ys are end.
+  syntax_passes rule (items x xs) t e =
+      bind_then (element_meaning rule x) _ _ e (λ y is more.
+      bind_then (items_meaning rule xs) _ _ more (λ ys are end.
       opened_passes 91 (element_text x ++ items_text xs) (max (element_depth x) (items_depth xs))
       (inl refl)
       (Closes-later (element_text x) (items_text xs) (element_depth x) (items_depth xs)
-      (element_passes x y is) (items_close xs ys are))))
-  syntax_passes (members x xs) t e =
-      bind_then (member_meaning x) _ _ e (λ y is more.
-      bind_then (members_meaning xs) _ _ more (λ ys are end.
+      (element_passes rule x y is) (items_close rule xs ys are))))
+  syntax_passes rule (members x xs) t e =
+      bind_then (member_meaning rule x) _ _ e (λ y is more.
+      bind_then (members_meaning rule xs) _ _ more (λ ys are end.
       opened_passes 123 (member_text x ++ members_text xs) (max (member_depth x) (members_depth xs))
       (inr refl)
       (Closes-later (member_text x) (members_text xs) (member_depth x) (members_depth xs)
-      (member_passes x y is) (members_close xs ys are))))
+      (member_passes rule x y is) (members_close rule xs ys are))))
 
-  pub element_passes : (x : Element) (t : Tree) → element_meaning x ≡ Some t
+  pub element_passes : (rule : Exponents) (x : Element) (t : Tree) → element_meaning rule x ≡ Some t
       → Passes (element_text x) (element_depth x)
-  element_passes (element before x after) t e =
-      let parts = cond_some (all_blank before && all_blank after) (meaning x) t e in
+  element_passes rule (element before x after) t e =
+      let parts = cond_some (all_blank before && all_blank after) (meaning rule x) t e in
       let blanks = and_true (all_blank before) (all_blank after) parts.0 in
       let front = Passes-neutral before (blank_neutral before blanks.0) in
       let back = Passes-neutral after (blank_neutral after blanks.1) in
-      let value = syntax_passes x t parts.1 in
+      let value = syntax_passes rule x t parts.1 in
       λ level rest.
       Passes-append before (syntax_text x ++ after) 0 (max (syntax_depth x) 0) front
       (Passes-append (syntax_text x) after (syntax_depth x) 0 value back) level rest
       ∙ (omega arith)
 
-  items_close : (xs : Items) (ts : List Tree) → items_meaning xs ≡ Some ts
+  items_close : (rule : Exponents) (xs : Items) (ts : List Tree) → items_meaning rule xs ≡ Some ts
       → Closes (items_text xs) (items_depth xs)
-  items_close no_item ts e = one_less
-  items_close (next_item x xs) ts e =
-      bind_then (element_meaning x) _ _ e (λ y is more.
-      bind_then (items_meaning xs) _ _ more (λ ys are end.
+  items_close rule no_item ts e = one_less
+  items_close rule (next_item x xs) ts e =
+      bind_then (element_meaning rule x) _ _ e (λ y is more.
+      bind_then (items_meaning rule xs) _ _ more (λ ys are end.
       comma_closes (element_text x ++ items_text xs) (max (element_depth x) (items_depth xs))
       (Closes-later (element_text x) (items_text xs) (element_depth x) (items_depth xs)
-      (element_passes x y is) (items_close xs ys are))))
+      (element_passes rule x y is) (items_close rule xs ys are))))
 
-  member_passes : (m : Member) (e : List ℕ × Tree) → member_meaning m ≡ Some e
+  member_passes : (rule : Exponents) (m : Member) (e : List ℕ × Tree)
+      → member_meaning rule m ≡ Some e
       → Passes (member_text m) (member_depth m)
-  member_passes (member before key after x) y e =
+  member_passes rule (member before key after x) y e =
       bind_then (between before after (pieces_meaning key)) _ _ e (λ k is_key more.
-      bind_then (element_meaning x) _ _ more (λ t is_value end.
+      bind_then (element_meaning rule x) _ _ more (λ t is_value end.
       let parts = cond_some (all_blank before && all_blank after) (pieces_meaning key) k is_key in
       let blanks = and_true (all_blank before) (all_blank after) parts.0 in
       let front = Passes-neutral before (blank_neutral before blanks.0) in
       let back = Passes-neutral after (blank_neutral after blanks.1) in
       let name = string_passes key k parts.1 in
-      let value = element_passes x t is_value in
+      let value = element_passes rule x t is_value in
       let mark = Passes-neutral (colon ∷ []) refl in
       λ level rest.
       Passes-append before (string_text key ++ (after ++ colon ∷ element_text x)) 0
@@ -266,19 +301,20 @@ mutual
       (Passes-append (colon ∷ []) (element_text x) 0 (element_depth x) mark value))) level rest
       ∙ (omega arith)))
 
-  members_close : (ms : Members) (es : Entries) → members_meaning ms ≡ Some es
+  members_close : (rule : Exponents) (ms : Members) (es : Entries)
+      → members_meaning rule ms ≡ Some es
       → Closes (members_text ms) (members_depth ms)
-  members_close no_member es e = one_less
-  members_close (next_member x xs) es e =
-      bind_then (member_meaning x) _ _ e (λ y is more.
-      bind_then (members_meaning xs) _ _ more (λ ys are end.
+  members_close rule no_member es e = one_less
+  members_close rule (next_member x xs) es e =
+      bind_then (member_meaning rule x) _ _ e (λ y is more.
+      bind_then (members_meaning rule xs) _ _ more (λ ys are end.
       comma_closes (member_text x ++ members_text xs) (max (member_depth x) (members_depth xs))
       (Closes-later (member_text x) (members_text xs) (member_depth x) (members_depth xs)
-      (member_passes x y is) (members_close xs ys are))))
+      (member_passes rule x y is) (members_close rule xs ys are))))
 
 -- The characters of a text are scanned to the depth of what they spell.
-pub scanned : (x : Element) (t : Tree) → element_meaning x ≡ Some t
+pub scanned : (rule : Exponents) (x : Element) (t : Tree) → element_meaning rule x ≡ Some t
     → text_depth (element_text x) ≡ element_depth x
-scanned x t e =
-    let all = element_passes x t e 0 [] in
+scanned rule x t e =
+    let all = element_passes rule x t e 0 [] in
     ap text_depth (sym (append-nil (element_text x))) ∙ all ∙ (omega arith)

@@ -1,5 +1,6 @@
 -- Reading consumes characters from the start.
 use Rattle.std.proofs.Common.{◌≡◌, ℕ, ◌<◌, ◌≤◌, Some, ap, List, ◌∷◌, length, arith, length-append}
+use Rattle.jsonb_value.specs.declared.parser.number.Exponents.{Exponents}
 use Rattle.jsonb_value.specs.Tree.{Tree}
 use Rattle.jsonb_value.specs.Json.Characters.{quote}
 use Rattle.jsonb_value.specs.Json.Piece.{piece_text, pieces_text}
@@ -41,14 +42,15 @@ skip_shorter s =
 pub expect_shorter : (k : ℕ) (s rest : List ℕ) → expect k s ≡ Some rest → length rest < length s
 expect_shorter k s rest e = grind (arith, expect-found)
 
-pub element_shorter : (n : ℕ) (s : List ℕ) (t : Tree) (rest : List ℕ)
-    → read_element (read_value n) s ≡ Some (t, rest) → length rest < length s
-element_shorter n s t rest e =
-    let found = element-found (read_value n) (value-found n) s t rest e in
-    omega (arith, ap length found.is_spelled, element_positive found.syntax t rest found.is_meant)
+pub element_shorter : (rule : Exponents) (n : ℕ) (s : List ℕ) (t : Tree) (rest : List ℕ)
+    → read_element (read_value rule n) s ≡ Some (t, rest) → length rest < length s
+element_shorter rule n s t rest e =
+    let found = element-found rule (read_value rule n) (value-found rule n) s t rest e in
+    let some = element_positive rule found.syntax t rest found.is_meant in
+    omega (arith, ap length found.is_spelled, some)
 
-pub member_shorter : (n k : ℕ) (s key : List ℕ) (t : Tree) (rest : List ℕ)
-    → read_member (read_value n) k s ≡ Some ((key, t), rest) → length rest < length s
-member_shorter n k s key t rest e =
-    let found = member-found (read_value n) (value-found n) k s (key, t) rest e in
+pub member_shorter : (rule : Exponents) (n k : ℕ) (s key : List ℕ) (t : Tree) (rest : List ℕ)
+    → read_member (read_value rule n) k s ≡ Some ((key, t), rest) → length rest < length s
+member_shorter rule n k s key t rest e =
+    let found = member-found rule (read_value rule n) (value-found rule n) k s (key, t) rest e in
     omega (arith, ap length found.is_spelled, member_positive found.syntax rest)

@@ -7,6 +7,7 @@ use Rattle.std.specs.Prelude.{◌==◌}
 use Rattle.std.specs.Ordering.{nat_cmp}
 use Rattle.std.specs.Cmp.Lexicographic.{slice_cmp}
 use Rattle.std.specs.BTreeMap.{insert_entry}
+use Rattle.jsonb_value.specs.declared.parser.number.Exponents.{Exponents}
 use Rattle.jsonb_value.specs.Tree.{Tree, null, array, object, boolean, no_trees}
 use Rattle.jsonb_value.specs.Tree.{no_pairs}
 use Rattle.jsonb_value.specs.Json.Characters.{quote, comma, colon, open_bracket, close_bracket}
@@ -18,7 +19,7 @@ use Rattle.jsonb_value.specs.Json.Syntax.{no_item, next_item, Member, member, Me
 use Rattle.jsonb_value.specs.Json.Syntax.{next_member, syntax_text, element_text, items_text}
 use Rattle.jsonb_value.specs.Json.Syntax.{member_text, members_text, Entries, pairs, insert_all}
 use Rattle.jsonb_value.specs.Json.Syntax.{meaning, element_meaning, items_meaning, member_meaning}
-use Rattle.jsonb_value.specs.Json.Syntax.{members_meaning, Json}
+use Rattle.jsonb_value.specs.Json.Syntax.{members_meaning, JsonText}
 use Rattle.jsonb_value.specs.Reader.Reading.{Reader, skip_blank, expect, expect_all, empty_or}
 use Rattle.jsonb_value.specs.Reader.Reading.{read_word, read_text, read_element, after_item}
 use Rattle.jsonb_value.specs.Reader.Reading.{read_items, read_member, after_member, read_members}
@@ -58,58 +59,64 @@ skip-split (c ∷ s) = elim (bool_cases (is_blank c)) [
 ]
 
 -- a value at the start of the text; likewise an element and a member
-pub record IsValueFront (s : List ℕ) (t : Tree) (rest : List ℕ) : Type 0 where
+pub record IsValueFront (rule : Exponents) (s : List ℕ) (t : Tree) (rest : List ℕ) : Type 0 where
   pub syntax : Syntax
-  pub is_meant : meaning syntax ≡ Some t
+  pub is_meant : meaning rule syntax ≡ Some t
   pub is_spelled : s ≡ syntax_text syntax ++ rest
 
-pub record IsElementFront (s : List ℕ) (t : Tree) (rest : List ℕ) : Type 0 where
+pub record IsElementFront (rule : Exponents) (s : List ℕ) (t : Tree) (rest : List ℕ) : Type 0 where
   pub syntax : Element
-  pub is_meant : element_meaning syntax ≡ Some t
+  pub is_meant : element_meaning rule syntax ≡ Some t
   pub is_spelled : s ≡ element_text syntax ++ rest
 
-pub record IsMemberFront (s : List ℕ) (e : List ℕ × Tree) (rest : List ℕ) : Type 0 where
+pub record IsMemberFront (rule : Exponents) (s : List ℕ) (e : List ℕ × Tree)
+    (rest : List ℕ) : Type 0 where
   pub syntax : Member
-  pub is_meant : member_meaning syntax ≡ Some e
+  pub is_meant : member_meaning rule syntax ≡ Some e
   pub is_spelled : s ≡ member_text syntax ++ rest
 
 -- items at the start, which follow earlier ones, and the closing bracket; likewise members
-pub record IsItemsFront (front : List Tree) (s : List ℕ) (t : Tree) (rest : List ℕ) : Type 0 where
+pub record IsItemsFront (rule : Exponents) (front : List Tree) (s : List ℕ) (t : Tree)
+    (rest : List ℕ) : Type 0 where
   pub syntax : Items
   pub own : List Tree
-  pub is_meant : items_meaning syntax ≡ Some own
+  pub is_meant : items_meaning rule syntax ≡ Some own
   pub is_joined : array (trees_of (front ++ own)) ≡ t
   pub is_spelled : s ≡ items_text syntax ++ rest
 
-pub record IsMembersFront (front : Entries) (s : List ℕ) (t : Tree) (rest : List ℕ) : Type 0 where
+pub record IsMembersFront (rule : Exponents) (front : Entries) (s : List ℕ) (t : Tree)
+    (rest : List ℕ) : Type 0 where
   pub syntax : Members
   pub own : Entries
-  pub is_meant : members_meaning syntax ≡ Some own
+  pub is_meant : members_meaning rule syntax ≡ Some own
   pub is_joined : object (pairs (insert_all front own)) ≡ t
   pub is_spelled : s ≡ members_text syntax ++ rest
 
 -- a nonempty container, from what would follow a comma
-array_from : (x : Items) (own : List Tree) (s rest : List ℕ) → items_meaning x ≡ Some own
-    → comma ∷ s ≡ items_text x ++ rest → IsValueFront (open_bracket ∷ s) (array (trees_of own)) rest
-array_from no_item own s rest e is = grind arith
-array_from (next_item x xs) own s rest e is =
+array_from : (rule : Exponents) (x : Items) (own : List Tree) (s rest : List ℕ)
+    → items_meaning rule x ≡ Some own
+    → comma ∷ s ≡ items_text x ++ rest → IsValueFront rule (open_bracket ∷ s)
+    (array (trees_of own)) rest
+array_from rule no_item own s rest e is = grind arith
+array_from rule (next_item x xs) own s rest e is =
     record { syntax = items x xs; is_meant = grind arith; is_spelled = grind arith }
 
-object_from : (x : Members) (own : Entries) (s rest : List ℕ) → members_meaning x ≡ Some own
+object_from : (rule : Exponents) (x : Members) (own : Entries) (s rest : List ℕ)
+    → members_meaning rule x ≡ Some own
     → comma ∷ s ≡ members_text x ++ rest
-    → IsValueFront (open_brace ∷ s) (object (pairs (insert_all [] own))) rest
-object_from no_member own s rest e is = grind arith
-object_from (next_member x xs) own s rest e is =
+    → IsValueFront rule (open_brace ∷ s) (object (pairs (insert_all [] own))) rest
+object_from rule no_member own s rest e is = grind arith
+object_from rule (next_member x xs) own s rest e is =
     record { syntax = members x xs; is_meant = grind arith; is_spelled = grind arith }
 
 -- what the reader returns is spelled at the start of the text
-abbrev pub IsSound : Reader Tree → Type 0
-IsSound value =
-    (s : List ℕ) (t : Tree) (rest : List ℕ) → value s ≡ Some (t, rest) → IsValueFront s t rest
+abbrev pub IsSound : Exponents → Reader Tree → Type 0
+IsSound rule value =
+    (s : List ℕ) (t : Tree) (rest : List ℕ) → value s ≡ Some (t, rest) → IsValueFront rule s t rest
 
-module _ (value : Reader Tree) (sound : IsSound value) where
+module _ (rule : Exponents) (value : Reader Tree) (sound : IsSound rule value) where
   pub element-found : (s : List ℕ) (t : Tree) (rest : List ℕ)
-      → read_element value s ≡ Some (t, rest) → IsElementFront s t rest
+      → read_element value s ≡ Some (t, rest) → IsElementFront rule s t rest
   element-found s t rest e = bind_then (value (skip_blank s)) _ _ e (λ x is end.
       let before = skip-split s in
       let inside = sound (skip_blank s) x.0 x.1 is in
@@ -122,11 +129,11 @@ module _ (value : Reader Tree) (sound : IsSound value) where
 
   abbrev ItemsSound : ℕ → Type 0
   ItemsSound n = (front : List Tree) (s : List ℕ) (t : Tree) (rest : List ℕ)
-      → read_items value n front s ≡ Some (t, rest) → IsItemsFront front (comma ∷ s) t rest
+      → read_items value n front s ≡ Some (t, rest) → IsItemsFront rule front (comma ∷ s) t rest
 
   after_item-found : (n : ℕ) → ItemsSound n
       → (front : List Tree) (s : List ℕ) (t : Tree) (rest : List ℕ)
-      → after_item (read_items value n) front s ≡ Some (t, rest) → IsItemsFront front s t rest
+      → after_item (read_items value n) front s ≡ Some (t, rest) → IsItemsFront rule front s t rest
   after_item-found n found front [] t rest e = no_error e
   after_item-found n found front (c ∷ s) t rest e = elim (chosen (c == comma) _ _ _ e) [
     | inl is ↦ rw (eqb-true c comma is.0) (found front s t rest is.1)
@@ -159,7 +166,7 @@ module _ (value : Reader Tree) (sound : IsSound value) where
   array-found : (n : ℕ) (s : List ℕ) (t : Tree) (rest : List ℕ) (closed : Option (List ℕ))
       → expect close_bracket (skip_blank s) ≡ closed
       → empty_or closed (array no_trees) (read_items value n [] s) ≡ Some (t, rest)
-      → IsValueFront (open_bracket ∷ s) t rest
+      → IsValueFront rule (open_bracket ∷ s) t rest
   array-found n s t rest (Some r) is e =
       let before = skip-split s in
       let close = expect-found close_bracket (skip_blank s) r is in
@@ -171,10 +178,10 @@ module _ (value : Reader Tree) (sound : IsSound value) where
   array-found n s t rest None is e =
       let found = items-found n [] s t rest e in
       rw found.is_joined at
-      (array_from found.syntax found.own s rest found.is_meant found.is_spelled)
+      (array_from rule found.syntax found.own s rest found.is_meant found.is_spelled)
 
   pub member-found : (n : ℕ) (s : List ℕ) (m : List ℕ × Tree) (rest : List ℕ)
-      → read_member value n s ≡ Some (m, rest) → IsMemberFront s m rest
+      → read_member value n s ≡ Some (m, rest) → IsMemberFront rule s m rest
   member-found n s m rest e =
       bind_then (expect quote (skip_blank s)) _ _ e (λ opened is_opened more.
       bind_then (read_text n [] opened) _ _ more (λ key is_key more.
@@ -194,12 +201,12 @@ module _ (value : Reader Tree) (sound : IsSound value) where
 
   abbrev MembersSound : ℕ → Type 0
   MembersSound n = (front : Entries) (s : List ℕ) (t : Tree) (rest : List ℕ)
-      → read_members value n front s ≡ Some (t, rest) → IsMembersFront front (comma ∷ s) t rest
+      → read_members value n front s ≡ Some (t, rest) → IsMembersFront rule front (comma ∷ s) t rest
 
   after_member-found : (n : ℕ) → MembersSound n
       → (front : Entries) (s : List ℕ) (t : Tree) (rest : List ℕ)
       → after_member (read_members value n) front s ≡ Some (t, rest)
-      → IsMembersFront front s t rest
+      → IsMembersFront rule front s t rest
   after_member-found n found front [] t rest e = no_error e
   after_member-found n found front (c ∷ s) t rest e = elim (chosen (c == comma) _ _ _ e) [
     | inl is ↦ rw (eqb-true c comma is.0) (found front s t rest is.1)
@@ -232,7 +239,7 @@ module _ (value : Reader Tree) (sound : IsSound value) where
   object-found : (n : ℕ) (s : List ℕ) (t : Tree) (rest : List ℕ) (closed : Option (List ℕ))
       → expect close_brace (skip_blank s) ≡ closed
       → empty_or closed (object no_pairs) (read_members value n [] s) ≡ Some (t, rest)
-      → IsValueFront (open_brace ∷ s) t rest
+      → IsValueFront rule (open_brace ∷ s) t rest
   object-found n s t rest (Some r) is e =
       let before = skip-split s in
       let close = expect-found close_brace (skip_blank s) r is in
@@ -244,7 +251,7 @@ module _ (value : Reader Tree) (sound : IsSound value) where
   object-found n s t rest None is e =
       let found = members-found n [] s t rest e in
       rw found.is_joined at
-      (object_from found.syntax found.own s rest found.is_meant found.is_spelled)
+      (object_from rule found.syntax found.own s rest found.is_meant found.is_spelled)
 
 -- the first character of a value of each kind
 abbrev kind_character : Kind → ℕ → Type 0
@@ -259,21 +266,21 @@ kind_character number_kind c = Unit {0}
 kind-tells : (k : Kind) (c : ℕ) → kind_of c ≡ k → kind_character k c
 kind-tells k c e = grind (arith, eqb-true)
 
-word-found : (ls : List ℕ) (x : Tree) (word : Syntax) (c k : ℕ) (s : List ℕ) (t : Tree)
-    (rest : List ℕ) → c ≡ k → meaning word ≡ Some x → syntax_text word ≡ k ∷ ls
-    → read_word ls x s ≡ Some (t, rest) → IsValueFront (c ∷ s) t rest
-word-found ls x word c k s t rest is meant spelled e = grind (arith, literal-found)
+word-found : (rule : Exponents) (ls : List ℕ) (x : Tree) (word : Syntax) (c k : ℕ) (s : List ℕ)
+    (t : Tree) (rest : List ℕ) → c ≡ k → meaning rule word ≡ Some x → syntax_text word ≡ k ∷ ls
+    → read_word ls x s ≡ Some (t, rest) → IsValueFront rule (c ∷ s) t rest
+word-found rule ls x word c k s t rest is meant spelled e = grind (arith, literal-found)
 
-kind-found : (value : Reader Tree) → IsSound value
+kind-found : (rule : Exponents) (value : Reader Tree) → IsSound rule value
     → (n : ℕ) (k : Kind) (c : ℕ) (s : List ℕ) (t : Tree) (rest : List ℕ) → kind_character k c
-    → read_kind value n k c s ≡ Some (t, rest) → IsValueFront (c ∷ s) t rest
-kind-found value sound n null_kind c s t rest is e =
-    word-found _ null nothing c 110 s t rest is refl refl e
-kind-found value sound n true_kind c s t rest is e =
-    word-found _ (boolean true) (truth true) c 116 s t rest is refl refl e
-kind-found value sound n false_kind c s t rest is e =
-    word-found _ (boolean false) (truth false) c 102 s t rest is refl refl e
-kind-found value sound n string_kind c s t rest is e =
+    → read_kind rule value n k c s ≡ Some (t, rest) → IsValueFront rule (c ∷ s) t rest
+kind-found rule value sound n null_kind c s t rest is e =
+    word-found rule _ null nothing c 110 s t rest is refl refl e
+kind-found rule value sound n true_kind c s t rest is e =
+    word-found rule _ (boolean true) (truth true) c 116 s t rest is refl refl e
+kind-found rule value sound n false_kind c s t rest is e =
+    word-found rule _ (boolean false) (truth false) c 102 s t rest is refl refl e
+kind-found rule value sound n string_kind c s t rest is e =
     bind_then (read_text n [] s) _ _ e (λ x is_text end.
     let found = text-found n [] s x.0 x.1 is_text in
     record {
@@ -281,28 +288,29 @@ kind-found value sound n string_kind c s t rest is e =
       is_meant = grind arith;
       is_spelled = grind (arith, append_assoc);
     })
-kind-found value sound n array_kind c s t rest is e = grind (arith, array-found)
-kind-found value sound n object_kind c s t rest is e = grind (arith, object-found)
-kind-found value sound n number_kind c s t rest is e =
-    bind_then (read_number (c ∷ s)) _ _ e (λ x is_number end.
-    let found = number-found (c ∷ s) x.0 x.1 is_number in
+kind-found rule value sound n array_kind c s t rest is e = grind (arith, array-found)
+kind-found rule value sound n object_kind c s t rest is e = grind (arith, object-found)
+kind-found rule value sound n number_kind c s t rest is e =
+    bind_then (read_number rule (c ∷ s)) _ _ e (λ x is_number end.
+    let found = number-found rule (c ∷ s) x.0 x.1 is_number in
     record { syntax = numeral found.numeral; is_meant = grind arith; is_spelled = grind arith })
 
-pub value-found : (n : ℕ) → IsSound (read_value n)
+pub value-found : (rule : Exponents) (n : ℕ) → IsSound rule (read_value rule n)
 unfolding read_value
-value-found zero s t rest e = no_error e
-value-found (suc n) [] t rest e = no_error e
-value-found (suc n) (c ∷ s) t rest e = kind-found (read_value n) (value-found n) n
-    (kind_of c) c s t rest (kind-tells (kind_of c) c refl) e
+value-found rule zero s t rest e = no_error e
+value-found rule (suc n) [] t rest e = no_error e
+value-found rule (suc n) (c ∷ s) t rest e = kind-found rule (read_value rule n) (value-found rule n)
+    n (kind_of c) c s t rest (kind-tells (kind_of c) c refl) e
 
 last-found : (x : Tree) (s : List ℕ) (t : Tree) → if_last x s ≡ Some t → (x ≡ t) × (s ≡ [])
 last-found x s t e = grind arith
 
-pub document-found : (s : List ℕ) (t : Tree) → read_document s ≡ Some t → Json s t
-document-found s t e =
-    bind_then (read_element (read_value (suc (length s))) s) _ _ e (λ x is end.
-    let found =
-    element-found (read_value (suc (length s))) (value-found (suc (length s))) s x.0 x.1 is in
+pub document-found : (rule : Exponents) (s : List ℕ) (t : Tree) → read_document rule s ≡ Some t
+    → JsonText rule s t
+document-found rule s t e =
+    let n = suc (length s) in
+    bind_then (read_element (read_value rule n) s) _ _ e (λ x is end.
+    let found = element-found rule (read_value rule n) (value-found rule n) s x.0 x.1 is in
     let last = last-found x.0 x.1 t end in
     record {
       syntax = found.syntax;

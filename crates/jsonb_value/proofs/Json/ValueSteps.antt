@@ -4,6 +4,7 @@ use Rattle.std.proofs.Common.{ap, ◌∙◌, List, [], ◌∷◌, length, arith,
 use Rattle.std.proofs.Common.{None, Result}
 use Rattle.std.specs.Prelude.{IsErrAnd}
 use Rattle.std.specs.Prelude.{IfErr}
+use Rattle.jsonb_value.specs.declared.parser.number.Exponents.{Exponents}
 use Rattle.jsonb_value.specs.Tree.{Tree}
 use Rattle.jsonb_value.specs.Json.Characters.{quote, colon}
 use Rattle.jsonb_value.specs.Reader.Reading.{skip_blank, expect, read_text}
@@ -18,24 +19,26 @@ pub fails_on : {Y Y' : Type 0} (e : Error) (read : Option Y) (other : Option Y')
 fails_on e read other handed g = grind arith
 
 -- a value of the kind that its first character determines
-pub of_kind : (P : Option (Tree × List ℕ) → Type 0) (s rest : List ℕ) (c : ℕ) (k : Kind)
-    → s ≡ c ∷ rest → k ≡ kind_of c
-    → ((turns : ℕ) → length rest < turns → P (read_kind (read_value turns) turns k c rest))
-    → (n : ℕ) → length s < n → P (read_value n s)
+pub of_kind : (rule : Exponents) (P : Option (Tree × List ℕ) → Type 0) (s rest : List ℕ) (c : ℕ)
+    (k : Kind) → s ≡ c ∷ rest → k ≡ kind_of c
+    → ((turns : ℕ) → length rest < turns
+    → P (read_kind rule (read_value rule turns) turns k c rest))
+    → (n : ℕ) → length s < n → P (read_value rule n s)
 unfolding read_value
-of_kind P s rest c k e is reads zero h = absurd (omega arith)
-of_kind P s rest c k e is reads (suc n) h = rw (e, ← is) (reads n (omega (arith, ap length e)))
+of_kind rule P s rest c k e is reads zero h = absurd (omega arith)
+of_kind rule P s rest c k e is reads (suc n) h = rw (e, ← is) (reads n (omega (arith, ap length e)))
 
-pub reads_kind : (s rest : List ℕ) (c : ℕ) (k : Kind) (t : Tree) (after : List ℕ) → s ≡ c ∷ rest
+pub reads_kind : (rule : Exponents) (s rest : List ℕ) (c : ℕ) (k : Kind) (t : Tree) (after : List ℕ)
+    → s ≡ c ∷ rest
     → k ≡ kind_of c
     → ((turns : ℕ) → length rest < turns
-    → read_kind (read_value turns) turns k c rest ≡ Some (t, after))
-    → (n : ℕ) → length s < n → read_value n s ≡ Some (t, after)
-reads_kind s rest c k t after = of_kind (λ q. q ≡ Some (t, after)) s rest c k
+    → read_kind rule (read_value rule turns) turns k c rest ≡ Some (t, after))
+    → (n : ℕ) → length s < n → read_value rule n s ≡ Some (t, after)
+reads_kind rule s rest c k t after = of_kind rule (λ q. q ≡ Some (t, after)) s rest c k
 
-pub value_ends : (n : ℕ) (s : List ℕ) → s ≡ [] → read_value n s ≡ None
+pub value_ends : (rule : Exponents) (n : ℕ) (s : List ℕ) → s ≡ [] → read_value rule n s ≡ None
 unfolding read_value
-value_ends n s e = grind arith
+value_ends rule n s e = grind arith
 
 pub skipped_shorter : (s inside : List ℕ) → inside ≡ skip_blank s → length inside ≤ length s
 skipped_shorter s inside e = grind (arith, skip_shorter)

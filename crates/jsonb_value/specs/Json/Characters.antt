@@ -6,6 +6,10 @@ use Rattle.std.specs.Char.{is_ascii_digit}
 abbrev pub quote : ℕ
 quote = 34
 
+-- The code of `+`.
+abbrev pub plus : ℕ
+plus = 43
+
 -- The code of `,`.
 abbrev pub comma : ℕ
 comma = 44
@@ -53,6 +57,10 @@ close_brace = 125
 -- The character is white space: space, tab, line feed or carriage return.
 abbrev pub is_blank : ℕ → Bool
 is_blank c = (c == 32) || (c == 9) || (c == 10) || (c == 13)
+
+-- The character begins an exponent: `E` or `e`.
+abbrev pub is_exponent_mark : ℕ → Bool
+is_exponent_mark c = (c == 69) || (c == 101)
 
 -- Every character is white space.
 abbrev pub all_blank : List ℕ → Bool

@@ -11,6 +11,8 @@ use Rattle.jsonb_value.specs.Value.{trees_of}
 use Rattle.jsonb_value.specs.Json.Characters.{quote, comma, colon, open_bracket, close_bracket}
 use Rattle.jsonb_value.specs.Json.Characters.{open_brace, close_brace, all_blank}
 use Rattle.jsonb_value.specs.Json.Bind.{◌>>=◌}
+use Rattle.jsonb_value.specs.declared.parser.number.Exponents.{Exponents}
+use Rattle.jsonb_value.specs.declared.parser.number.Exponents.TheVariants.{Forbidden}
 use Rattle.jsonb_value.specs.Json.Numeral.{Numeral, numeral_text, numeral_meaning}
 use Rattle.jsonb_value.specs.Json.Piece.{Piece, pieces_text, pieces_meaning}
 
@@ -103,43 +105,48 @@ insert_all es (m ∷ ms) = insert_all (insert_entry (slice_cmp nat_cmp) es m.0 m
 abbrev pub between : {A : Type 0} → List ℕ → List ℕ → Option A → Option A
 between before after x = cond (all_blank before && all_blank after) x None
 
--- The tree that a syntax means, if it means one.
+-- The tree that a syntax means, if it means one under this rule for exponents.
 abbrev mutual
-  pub meaning : Syntax → Option Tree
-  meaning nothing = Some null
-  meaning (truth b) = Some (boolean b)
-  meaning (numeral n) = option_map number (numeral_meaning n)
-  meaning (string pieces) = option_map text (pieces_meaning pieces)
-  meaning (empty_array blank) = between blank [] (Some (array no_trees))
-  meaning (items x xs) =
-      element_meaning x >>= λ t. items_meaning xs >>= λ ts. Some (array (tree t (trees_of ts)))
-  meaning (empty_object blank) = between blank [] (Some (object no_pairs))
-  meaning (members m ms) = member_meaning m >>= λ e. members_meaning ms
+  pub meaning : Exponents → Syntax → Option Tree
+  meaning rule nothing = Some null
+  meaning rule (truth b) = Some (boolean b)
+  meaning rule (numeral n) = option_map number (numeral_meaning rule n)
+  meaning rule (string pieces) = option_map text (pieces_meaning pieces)
+  meaning rule (empty_array blank) = between blank [] (Some (array no_trees))
+  meaning rule (items x xs) =
+      element_meaning rule x >>= λ t. items_meaning rule xs
+      >>= λ ts. Some (array (tree t (trees_of ts)))
+  meaning rule (empty_object blank) = between blank [] (Some (object no_pairs))
+  meaning rule (members m ms) = member_meaning rule m >>= λ e. members_meaning rule ms
       >>= λ es. Some (object (pairs (insert_all [] (e ∷ es))))
 
   -- The tree of a value with its white space.
-  pub element_meaning : Element → Option Tree
-  element_meaning (element before x after) = between before after (meaning x)
+  pub element_meaning : Exponents → Element → Option Tree
+  element_meaning rule (element before x after) = between before after (meaning rule x)
 
   -- The trees of the rest of an array.
-  pub items_meaning : Items → Option (List Tree)
-  items_meaning no_item = Some []
-  items_meaning (next_item x xs) =
-      element_meaning x >>= λ t. items_meaning xs >>= λ ts. Some (t ∷ ts)
+  pub items_meaning : Exponents → Items → Option (List Tree)
+  items_meaning rule no_item = Some []
+  items_meaning rule (next_item x xs) =
+      element_meaning rule x >>= λ t. items_meaning rule xs >>= λ ts. Some (t ∷ ts)
 
   -- The key and the tree of a member.
-  pub member_meaning : Member → Option (List ℕ × Tree)
-  member_meaning (member before key after x) =
-      between before after (pieces_meaning key) >>= λ k. element_meaning x >>= λ t. Some (k, t)
+  pub member_meaning : Exponents → Member → Option (List ℕ × Tree)
+  member_meaning rule (member before key after x) =
+      between before after (pieces_meaning key) >>= λ k. element_meaning rule x >>= λ t. Some (k, t)
 
   -- The entries of the rest of an object.
-  pub members_meaning : Members → Option Entries
-  members_meaning no_member = Some []
-  members_meaning (next_member m ms) =
-      member_meaning m >>= λ e. members_meaning ms >>= λ es. Some (e ∷ es)
+  pub members_meaning : Exponents → Members → Option Entries
+  members_meaning rule no_member = Some []
+  members_meaning rule (next_member m ms) =
+      member_meaning rule m >>= λ e. members_meaning rule ms >>= λ es. Some (e ∷ es)
 
--- The characters are a JSON text that means the tree.
-pub record Json (characters : List ℕ) (t : Tree) : Type 0 where
+-- The characters are a JSON text that means the tree, with exponents if they are allowed.
+pub record JsonText (rule : Exponents) (characters : List ℕ) (t : Tree) : Type 0 where
   pub syntax : Element
   pub is_spelled : characters ≡ element_text syntax
-  pub is_meant : element_meaning syntax ≡ Some t
+  pub is_meant : element_meaning rule syntax ≡ Some t
+
+-- The characters are a JSON text without exponents that means the tree.
+abbrev pub Json : List ℕ → Tree → Type 0
+Json = JsonText Forbidden

@@ -1,17 +1,20 @@
 -- Where the reader stands after a step.
 use Rattle.std.specs.Prelude.{◌≡◌, ℕ, suc, Bool, List, Option, Some, chars, length}
+use Rattle.jsonb_value.specs.declared.parser.number.Exponents.{Exponents}
 use Rattle.jsonb_value.specs.Tree.{Tree}
 use Rattle.jsonb_value.specs.declared.parser.reader.Step.{Step}
 use Rattle.jsonb_value.specs.declared.parser.reader.Step.TheVariants as steps
 use Rattle.jsonb_value.specs.Reader.Resume.{State, whole, IsAtValue, IsAtKey}
 use Rattle.jsonb_value.specs.Reader.Resume.{IsAfterValue}
 
-abbrev pub IsAt : {S : Type 0} → (S → State → Type 0) → Option Tree → S → List Bool → Step → Type 0
-IsAt is target sink kinds (steps.Value rest) = IsAtValue is target sink kinds (chars rest.now)
-IsAt is target sink kinds (steps.Key rest) = IsAtKey is target sink kinds (chars rest.now)
-IsAt is target sink kinds (steps.After rest) =
-    IsAfterValue is target sink kinds (chars rest.now)
-IsAt is target sink kinds steps.End = (t : Tree) × ((target ≡ Some t) × is sink (whole t))
+abbrev pub IsAt : {S : Type 0} → Exponents → (S → State → Type 0) → Option Tree → S → List Bool
+    → Step → Type 0
+IsAt rule is target sink kinds (steps.Value rest) =
+    IsAtValue rule is target sink kinds (chars rest.now)
+IsAt rule is target sink kinds (steps.Key rest) = IsAtKey rule is target sink kinds (chars rest.now)
+IsAt rule is target sink kinds (steps.After rest) =
+    IsAfterValue rule is target sink kinds (chars rest.now)
+IsAt rule is target sink kinds steps.End = (t : Tree) × ((target ≡ Some t) × is sink (whole t))
 
 -- More than the count of the characters that are left, or nothing at the end.
 abbrev pub left : Step → ℕ

@@ -1,20 +1,22 @@
 -- Reading from left to right, as functions on characters.
-use Rattle.std.specs.Prelude.{ℕ, zero, suc, Bool, true, false, cond, ◌==◌, ◌&&◌, List, [], ◌∷◌}
-use Rattle.std.specs.Prelude.{◌++◌, length, Option, Some, None, encode_utf8, codes}
+use Rattle.std.specs.Prelude.{ℕ, zero, suc, ℤ, pos, ◌-ℤ◌, Bool, true, false, cond, ◌==◌, ◌&&◌}
+use Rattle.std.specs.Prelude.{List, [], ◌∷◌, ◌++◌, length, Option, Some, None, encode_utf8, codes}
 use Rattle.std.specs.Char.{is_ascii_digit}
 use Rattle.std.specs.Ordering.{nat_cmp}
 use Rattle.std.specs.Cmp.Lexicographic.{slice_cmp}
 use Rattle.std.specs.Str.Parse.{digits_value}
 use Rattle.std.specs.BTreeMap.{insert_entry}
 use Rattle.jsonb_value.specs.declared.number.Number.{Number}
+use Rattle.jsonb_value.specs.declared.parser.number.Exponents.{Exponents}
+use Rattle.jsonb_value.specs.declared.parser.number.Exponents.TheVariants.{Forbidden, Allowed}
 use Rattle.jsonb_value.specs.Tree.{Tree, null, array, object, text, number, boolean, no_trees}
 use Rattle.jsonb_value.specs.Tree.{no_pairs}
 use Rattle.jsonb_value.specs.Value.{trees_of}
-use Rattle.jsonb_value.specs.Json.Characters.{quote, comma, minus, point, zero_digit, colon}
+use Rattle.jsonb_value.specs.Json.Characters.{quote, plus, comma, minus, point, zero_digit, colon}
 use Rattle.jsonb_value.specs.Json.Characters.{open_bracket, backslash, close_bracket, letter_u}
-use Rattle.jsonb_value.specs.Json.Characters.{open_brace, close_brace, is_blank}
+use Rattle.jsonb_value.specs.Json.Characters.{open_brace, close_brace, is_blank, is_exponent_mark}
 use Rattle.jsonb_value.specs.Json.Bind.{◌>>=◌}
-use Rattle.jsonb_value.specs.Json.Numeral.{signed_number, number_of}
+use Rattle.jsonb_value.specs.Json.Numeral.{signed_number, scaled_number}
 use Rattle.jsonb_value.specs.Json.Piece.{unit4, unit_value, escape_value, unit_character}
 use Rattle.jsonb_value.specs.Json.Piece.{pair_character, is_plain, is_high}
 use Rattle.jsonb_value.specs.Json.Syntax.{Entries, pairs}
@@ -59,14 +61,32 @@ abbrev pub read_fraction : Reader (List ℕ)
 read_fraction [] = Some ([], [])
 read_fraction (c ∷ s) = cond (c == point) (some_digits s) (Some ([], c ∷ s))
 
+-- Whether the characters begin with a minus, and the characters after that or after a plus.
+abbrev pub read_either_sign : List ℕ → Bool × List ℕ
+read_either_sign [] = (false, [])
+read_either_sign (c ∷ s) = cond (c == plus) (false, s) (read_sign (c ∷ s))
+
+-- Reads an integer: digits, at least one, after a sign or none.
+abbrev pub read_integer : Reader ℤ
+read_integer s =
+    some_digits (read_either_sign s).1 >>= λ digits.
+    Some (signed_number (read_either_sign s).0 (digits_value 10 digits.0), digits.1)
+
+-- Reads an exponent, or nothing, which means 0, if there is none or exponents are forbidden.
+abbrev pub read_exponent : Exponents → Reader ℤ
+read_exponent Forbidden s = Some (pos 0, s)
+read_exponent Allowed [] = Some (pos 0, [])
+read_exponent Allowed (c ∷ s) = cond (is_exponent_mark c) (read_integer s) (Some (pos 0, c ∷ s))
+
 -- Reads a number.
-abbrev pub read_number : Reader Number
-read_number s =
+abbrev pub read_number : Exponents → Reader Number
+read_number rule s =
     read_whole (read_sign s).1 >>= λ whole.
     read_fraction whole.1 >>= λ fraction.
-    number_of (length fraction.0)
+    read_exponent rule fraction.1 >>= λ exponent.
+    scaled_number (pos (length fraction.0) -ℤ exponent.0)
     (signed_number (read_sign s).0 (digits_value 10 (whole.0 ++ fraction.0))) >>= λ n.
-    Some (n, fraction.1)
+    Some (n, exponent.1)
 
 -- ---- strings, after the opening quote
 
@@ -193,20 +213,20 @@ kind_of c =
     (cond (c == open_bracket) array_kind (cond (c == open_brace) object_kind number_kind)))))
 
 -- Reads a value of this kind whose first character c was read already.
-abbrev pub read_kind : Reader Tree → ℕ → Kind → ℕ → Reader Tree
-read_kind value n null_kind c s = read_word (codes "ull") null s
-read_kind value n true_kind c s = read_word (codes "rue") (boolean true) s
-read_kind value n false_kind c s = read_word (codes "alse") (boolean false) s
-read_kind value n string_kind c s = read_text n [] s >>= λ x. Some (text x.0, x.1)
-read_kind value n array_kind c s = read_array value n s
-read_kind value n object_kind c s = read_object value n s
-read_kind value n number_kind c s = read_number (c ∷ s) >>= λ x. Some (number x.0, x.1)
+abbrev pub read_kind : Exponents → Reader Tree → ℕ → Kind → ℕ → Reader Tree
+read_kind rule value n null_kind c s = read_word (codes "ull") null s
+read_kind rule value n true_kind c s = read_word (codes "rue") (boolean true) s
+read_kind rule value n false_kind c s = read_word (codes "alse") (boolean false) s
+read_kind rule value n string_kind c s = read_text n [] s >>= λ x. Some (text x.0, x.1)
+read_kind rule value n array_kind c s = read_array value n s
+read_kind rule value n object_kind c s = read_object value n s
+read_kind rule value n number_kind c s = read_number rule (c ∷ s) >>= λ x. Some (number x.0, x.1)
 
 -- Reads a value.
-unfoldable pub read_value : ℕ → Reader Tree
-read_value zero s = None
-read_value (suc n) [] = None
-read_value (suc n) (c ∷ s) = read_kind (read_value n) n (kind_of c) c s
+unfoldable pub read_value : Exponents → ℕ → Reader Tree
+read_value rule zero s = None
+read_value rule (suc n) [] = None
+read_value rule (suc n) (c ∷ s) = read_kind rule (read_value rule n) n (kind_of c) c s
 
 -- The tree, if no characters are left.
 abbrev pub if_last : Tree → List ℕ → Option Tree
@@ -214,5 +234,5 @@ if_last t [] = Some t
 if_last t (c ∷ s) = None
 
 -- The tree of a whole text.
-abbrev pub read_document : List ℕ → Option Tree
-read_document s = read_element (read_value (suc (length s))) s >>= λ x. if_last x.0 x.1
+abbrev pub read_document : Exponents → List ℕ → Option Tree
+read_document rule s = read_element (read_value rule (suc (length s))) s >>= λ x. if_last x.0 x.1

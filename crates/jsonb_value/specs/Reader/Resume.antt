@@ -4,6 +4,7 @@ use Rattle.std.specs.Prelude.{Option, Some, None, length}
 use Rattle.std.specs.Ordering.{nat_cmp}
 use Rattle.std.specs.Cmp.Lexicographic.{slice_cmp}
 use Rattle.std.specs.BTreeMap.{insert_entry}
+use Rattle.jsonb_value.specs.declared.parser.number.Exponents.{Exponents}
 use Rattle.jsonb_value.specs.Tree.{Tree}
 use Rattle.jsonb_value.specs.Json.Bind.{◌>>=◌}
 use Rattle.jsonb_value.specs.Json.Syntax.{Entries}
@@ -18,14 +19,15 @@ pub data Part : Type 0 where
 
 -- What comes of a value and the characters after it and white space, in these open containers, the
 -- innermost first.
-abbrev pub resume : List Part → Tree → List ℕ → Option Tree
-resume [] t s = if_last t s
-resume (in_array n turns front ∷ ps) t s =
-    after_item (read_items (read_value n) turns) (front ++ t ∷ []) s
-    >>= λ x. resume ps x.0 (skip_blank x.1)
-resume (in_object n turns front key ∷ ps) t s =
-    after_member (read_members (read_value n) turns) (insert_entry (slice_cmp nat_cmp) front key t) s
-    >>= λ x. resume ps x.0 (skip_blank x.1)
+abbrev pub resume : Exponents → List Part → Tree → List ℕ → Option Tree
+resume rule [] t s = if_last t s
+resume rule (in_array n turns front ∷ ps) t s =
+    after_item (read_items (read_value rule n) turns) (front ++ t ∷ []) s
+    >>= λ x. resume rule ps x.0 (skip_blank x.1)
+resume rule (in_object n turns front key ∷ ps) t s =
+    after_member (read_members (read_value rule n) turns)
+    (insert_entry (slice_cmp nat_cmp) front key t) s
+    >>= λ x. resume rule ps x.0 (skip_blank x.1)
 
 -- The bound on the steps of the next value.
 abbrev pub steps : ℕ → List Part → ℕ
@@ -34,8 +36,9 @@ steps whole (in_array n turns front ∷ ps) = n
 steps whole (in_object n turns front key ∷ ps) = n
 
 -- What comes of the characters, at which a value begins.
-abbrev pub value_then : ℕ → List Part → List ℕ → Option Tree
-value_then whole ps s = read_value (steps whole ps) s >>= λ x. resume ps x.0 (skip_blank x.1)
+abbrev pub value_then : Exponents → ℕ → List Part → List ℕ → Option Tree
+value_then rule whole ps s =
+    read_value rule (steps whole ps) s >>= λ x. resume rule ps x.0 (skip_blank x.1)
 
 -- The bounds exceed the count of the characters.
 abbrev pub Enough : ℕ → List Part → ℕ → Type 0
@@ -95,22 +98,24 @@ innermost [] = None
 innermost (b ∷ bs) = Some b
 
 -- At a value: what comes of the rest is the target.
-pub record IsAtValue {S : Type 0} (is : S → State → Type 0) (target : Option Tree)
+pub record IsAtValue {S : Type 0} (rule : Exponents) (is : S → State → Type 0)
+    (target : Option Tree)
     (sink : S) (kinds : List Bool) (rest : List ℕ) : Type 0 where
   pub bound : ℕ
   pub parts : List Part
   pub enough : Enough bound parts (length rest)
   pub kinds_are : kinds ≡ kinds_of parts
   pub held : is sink (going (contents parts))
-  pub same : target ≡ value_then bound parts rest
+  pub same : target ≡ value_then rule bound parts rest
 
 -- The rest of an object at its next key.
-abbrev pub key_then : ℕ → ℕ → Entries → List Part → List ℕ → Option Tree
-key_then n turns front ps s =
-    read_members (read_value n) (suc turns) front s >>= λ x. resume ps x.0 (skip_blank x.1)
+abbrev pub key_then : Exponents → ℕ → ℕ → Entries → List Part → List ℕ → Option Tree
+key_then rule n turns front ps s =
+    read_members (read_value rule n) (suc turns) front s
+    >>= λ x. resume rule ps x.0 (skip_blank x.1)
 
 -- At a key, which may have white space before it, likewise.
-pub record IsAtKey {S : Type 0} (is : S → State → Type 0) (target : Option Tree)
+pub record IsAtKey {S : Type 0} (rule : Exponents) (is : S → State → Type 0) (target : Option Tree)
     (sink : S) (kinds : List Bool) (rest : List ℕ) : Type 0 where
   pub bound : ℕ
   pub parts : List Part
@@ -122,10 +127,11 @@ pub record IsAtKey {S : Type 0} (is : S → State → Type 0) (target : Option T
   pub enough_turns : length rest ≤ turns
   pub kinds_are : kinds ≡ true ∷ kinds_of parts
   pub held : is sink (going (members front ∷ contents parts))
-  pub same : target ≡ key_then steps turns front parts rest
+  pub same : target ≡ key_then rule steps turns front parts rest
 
 -- After a value, likewise.
-pub record IsAfterValue {S : Type 0} (is : S → State → Type 0) (target : Option Tree)
+pub record IsAfterValue {S : Type 0} (rule : Exponents) (is : S → State → Type 0)
+    (target : Option Tree)
     (sink : S) (kinds : List Bool) (rest : List ℕ) : Type 0 where
   pub bound : ℕ
   pub parts : List Part
@@ -133,4 +139,4 @@ pub record IsAfterValue {S : Type 0} (is : S → State → Type 0) (target : Opt
   pub enough : Enough bound parts (length rest)
   pub kinds_are : kinds ≡ kinds_of parts
   pub held : is sink (put value (contents parts))
-  pub same : target ≡ resume parts value (skip_blank rest)
+  pub same : target ≡ resume rule parts value (skip_blank rest)

@@ -1,14 +1,22 @@
 //! The parser of numbers.
 
-ghost use Rattle.std.specs.Prelude.{◌≡◌, ℕ, ◌+◌, ◌*◌, List, Some, None, chars, option_map, SomeIff};
-ghost use Rattle.std.specs.Prelude.{MatchOption, IsTrue};
+ghost use Rattle.std.specs.Prelude.{◌≡◌, ℕ, ℤ, pos, ◌+◌, ◌*◌, ◌^◌, ◌<◌, ◌-ℤ◌, List, Some, None};
+ghost use Rattle.std.specs.Prelude.{chars, option_map, Bool, SomeIff, MatchOption, IsTrue};
 ghost use Rattle.jsonb_value.specs.Words.{digit_value, is_ascii_digit, digits_value, is_within};
 ghost use Rattle.jsonb_value.specs.Words.{signed_number, read_sign, read_whole, read_fraction};
-ghost use Rattle.jsonb_value.specs.Words.{read_number, front_digits, after_digits, Counts};
-ghost use Rattle.jsonb_value.specs.Words.{AreDigits};
+ghost use Rattle.jsonb_value.specs.Words.{is_exponent_mark, read_either_sign, read_integer};
+ghost use Rattle.jsonb_value.specs.Words.{read_exponent, read_number, front_digits, after_digits};
+ghost use Rattle.jsonb_value.specs.Words.{AreDigits, Counts, HasInteger, number_of, scaled_number};
 
 use crate::number::Number;
 use crate::parser::cursor::{after_char, split_first};
+
+/// Whether numbers may have an exponent.
+#[derive(Clone, Copy)]
+pub enum Exponents {
+    Forbidden,
+    Allowed,
+}
 
 // A number below this still fits 64 bits after one more digit.
 const SHORT: u128 = 1 << 60;
@@ -19,6 +27,13 @@ const SHORT: u128 = 1 << 60;
 pub struct Digits {
     pub count: usize,
     pub value: Option<u128>,
+}
+
+/// An integer that was read: its sign, and its magnitude, `None` if that exceeds 128 bits.
+#[derive(Clone, Copy)]
+pub struct Integer {
+    pub is_negative: bool,
+    pub magnitude: Option<u128>,
 }
 
 // Whether the text begins with a minus, and the text after it.
@@ -113,6 +128,64 @@ fn read_fraction(whole: Option<u128>, text: &str) -> Option<(Digits, &str)>
     Some((digits, rest))
 }
 
+// Whether the text begins with a minus, and the text after that or after a plus.
+fn read_either_sign(text: &str) -> (bool, &str)
+    ensures { (result.0, chars result.1.now) ≡ read_either_sign (chars text.now) }
+{
+    match after_char(text, '+') {
+        Some(rest) => (false, rest),
+        None => read_sign(text),
+    }
+}
+
+// Reads an integer: digits, at least one, after a sign or none; returns the text after it.
+#[inline(never)]
+fn read_integer(text: &str) -> Option<(Integer, &str)>
+    ensures { MatchOption result (read_integer (chars text.now) ≡ None)
+        (λ found. (z : ℤ) × (read_integer (chars text.now) ≡ Some (z, chars found.1.now))
+        × HasInteger z found.0) }
+{
+    let (is_negative, rest) = read_either_sign(text);
+    let (digits, rest) = read_digits(Some(0), rest);
+    if digits.count == 0 {
+        return None;
+    }
+    let integer = Integer {
+        is_negative,
+        magnitude: digits.value,
+    };
+    Some((integer, rest))
+}
+
+// Whether the character begins an exponent.
+fn is_exponent_mark(character: char) -> bool
+    ensures { result ≡ is_exponent_mark character }
+{
+    matches!(character, 'E' | 'e')
+}
+
+// Reads an exponent, if exponents are allowed and the text begins with `e` or `E`; otherwise it is
+// 0. Returns the text after it.
+#[inline(always)]
+fn read_exponent(exponents: Exponents, text: &str) -> Option<(Integer, &str)>
+    ensures { MatchOption result (read_exponent exponents (chars text.now) ≡ None)
+        (λ found. (z : ℤ)
+        × (read_exponent exponents (chars text.now) ≡ Some (z, chars found.1.now))
+        × HasInteger z found.0) }
+{
+    let none = Integer {
+        is_negative: false,
+        magnitude: Some(0),
+    };
+    if let Exponents::Forbidden = exponents {
+        return Some((none, text));
+    }
+    match split_first(text) {
+        Some((mark, rest)) if is_exponent_mark(mark) => read_integer(rest),
+        _ => Some((none, text)),
+    }
+}
+
 // The magnitude with its sign, if the type can hold it.
 fn signed(is_negative: bool, magnitude: u128) -> Option<i128>
     ensures { SomeIff result (IsTrue (is_within 127 (signed_number is_negative magnitude)))
@@ -125,15 +198,50 @@ fn signed(is_negative: bool, magnitude: u128) -> Option<i128>
     }
 }
 
+// The number with so many zeros appended, if 128 bits hold it. At most 38 zeros take time.
+fn with_zeros(number: u128, zeros: u128) -> Option<u128>
+    ensures { SomeIff result (number * 10 ^ zeros < 2 ^ 128) (number * 10 ^ zeros) }
+{
+    if number == 0 {
+        return Some(0);
+    }
+    let power = 10u128.checked_pow(u32::try_from(zeros).ok()?)?;
+    number.checked_mul(power)
+}
+
+// The scale and the magnitude of a number with `count` fraction digits, with this magnitude without
+// its point and with this exponent; `None` if no number has them.
+#[inline(always)]
+fn scaled(count: usize, magnitude: u128, exponent: Integer) -> Option<(usize, u128)>
+    ensures { (is_negative : Bool) (z : ℤ) → HasInteger z exponent
+        → MatchOption result
+        (scaled_number (pos count -ℤ z) (signed_number is_negative magnitude) ≡ None)
+        (λ found. scaled_number (pos count -ℤ z) (signed_number is_negative magnitude)
+        ≡ number_of found.0 (signed_number is_negative found.1)) }
+{
+    if exponent.is_negative {
+        let lowered = usize::try_from(exponent.magnitude?).ok()?;
+        return Some((count.checked_add(lowered)?, magnitude));
+    }
+    // An exponent past 128 bits has the effect of the greatest one below.
+    let raised = exponent.magnitude.unwrap_or(u128::MAX);
+    if raised <= count as u128 {
+        return Some((count - raised as usize, magnitude));
+    }
+    Some((0, with_zeros(magnitude, raised - count as u128)?))
+}
+
 /// Reads the number at the start of the text; returns the text after it.
-pub fn read_number(text: &str) -> Option<(Number, &str)>
+pub fn read_number(exponents: Exponents, text: &str) -> Option<(Number, &str)>
     ensures { option_map
-        (λ found. (found.0, chars found.1.now)) result ≡ read_number (chars text.now) }
+        (λ found. (found.0, chars found.1.now)) result ≡ read_number exponents (chars text.now) }
 {
     let (is_negative, rest) = read_sign(text);
     let (whole, rest) = read_whole(rest)?;
     let (digits, rest) = read_fraction(whole, rest)?;
-    let value = signed(is_negative, digits.value?)?;
-    let number = Number::from_scaled(digits.count, value)?;
+    let (exponent, rest) = read_exponent(exponents, rest)?;
+    let (scale, magnitude) = scaled(digits.count, digits.value?, exponent)?;
+    let value = signed(is_negative, magnitude)?;
+    let number = Number::from_scaled(scale, value)?;
     Some((number, rest))
 }

@@ -3,6 +3,7 @@
 
 ghost use Rattle.std.specs.Prelude.{◌≡◌, ℕ, ◌<◌, ◌≤◌, List, [], ◌∷◌, length, chars, Option, Some};
 ghost use Rattle.std.specs.Prelude.{IfOk, IfErr, OnOk, OnErr};
+ghost use Rattle.jsonb_value.specs.declared.parser.number.Exponents.{Exponents};
 ghost use Rattle.jsonb_value.specs.Tree.{Tree};
 ghost use Rattle.jsonb_value.specs.Reader.Gives.{Fails, Gives};
 ghost use Rattle.jsonb_value.specs.Reader.Kind.{kind_view};
@@ -12,12 +13,12 @@ ghost use Rattle.jsonb_value.specs.Reader.Resume.{Adds, AddsKey, IsAtValue, IsAf
 ghost use Rattle.jsonb_value.specs.Reader.Resume.{IsAtKey};
 ghost use Rattle.jsonb_value.specs.Reader.IsAt.{IsAt, left};
 ghost use Rattle.jsonb_value.specs.Reader.Resume.{going, whole};
-ghost use Rattle.jsonb_value.specs.Json.Syntax.{Json};
+ghost use Rattle.jsonb_value.specs.Json.Syntax.{JsonText};
 ghost use Rattle.jsonb_value.specs.Json.Characters.{open_bracket, open_brace};
 
 use crate::error::Error;
 use crate::parser::cursor::{after_all, after_char, skip_blank, split_first};
-use crate::parser::number::read_number;
+use crate::parser::number::{Exponents, read_number};
 use crate::parser::open_kinds::OpenKinds;
 use crate::parser::sink::Sink;
 use crate::parser::string::read_string;
@@ -76,13 +77,13 @@ fn go_on<'a, S: Sink<'a>>(
     kinds: &mut OpenKinds,
     text: &'a str,
 ) -> Result<Step<'a>, Error>
-    requires { (target : Option Tree)
-        × IsAfterValue S.is target sink.old (kinds_held kinds.old) (chars text.now) }
-    ensures ok { IfOk result (λ step. (target : Option Tree)
-        → IsAfterValue S.is target sink.old (kinds_held kinds.old) (chars text.now)
-        → IsAt S.is target sink.new (kinds_held kinds.new) step) }
-    ensures err { IfErr result (λ e. (target : Option Tree)
-        → IsAfterValue S.is target sink.old (kinds_held kinds.old) (chars text.now)
+    requires { (rule : Exponents) × ((target : Option Tree)
+        × IsAfterValue rule S.is target sink.old (kinds_held kinds.old) (chars text.now)) }
+    ensures ok { IfOk result (λ step. (rule : Exponents) (target : Option Tree)
+        → IsAfterValue rule S.is target sink.old (kinds_held kinds.old) (chars text.now)
+        → IsAt rule S.is target sink.new (kinds_held kinds.new) step) }
+    ensures err { IfErr result (λ e. (rule : Exponents) (target : Option Tree)
+        → IsAfterValue rule S.is target sink.old (kinds_held kinds.old) (chars text.now)
         → Fails e target) }
     ensures shorter { IfOk result (λ step. left step ≤ length (chars text.now)) }
 {
@@ -125,14 +126,15 @@ fn begin<'a, S: Sink<'a>>(
     sink: &mut S,
     kinds: &mut OpenKinds,
     text: &'a str,
+    exponents: Exponents,
 ) -> Result<Step<'a>, Error>
     requires { (target : Option Tree)
-        × IsAtValue S.is target sink.old (kinds_held kinds.old) (chars text.now) }
+        × IsAtValue exponents S.is target sink.old (kinds_held kinds.old) (chars text.now) }
     ensures ok { IfOk result (λ step. (target : Option Tree)
-        → IsAtValue S.is target sink.old (kinds_held kinds.old) (chars text.now)
-        → IsAt S.is target sink.new (kinds_held kinds.new) step) }
+        → IsAtValue exponents S.is target sink.old (kinds_held kinds.old) (chars text.now)
+        → IsAt exponents S.is target sink.new (kinds_held kinds.new) step) }
     ensures err { IfErr result (λ e. (target : Option Tree)
-        → IsAtValue S.is target sink.old (kinds_held kinds.old) (chars text.now)
+        → IsAtValue exponents S.is target sink.old (kinds_held kinds.old) (chars text.now)
         → Fails e target) }
     ensures shorter { IfOk result (λ step. left step ≤ length (chars text.now)) }
 {
@@ -163,7 +165,7 @@ fn begin<'a, S: Sink<'a>>(
             Ok(Step::After(after))
         }
         Kind::Number => {
-            let Some((number, after)) = read_number(text) else {
+            let Some((number, after)) = read_number(exponents, text) else {
                 return Err(Error::InvalidJson);
             };
             sink.number(number)?;
@@ -179,11 +181,11 @@ fn begin_array<'a, S: Sink<'a>>(
     text: &'a str,
 ) -> Result<Step<'a>, Error>
     requires first { (s : List ℕ) × (chars text.now ≡ open_bracket ∷ s) }
-    requires stands { (target : Option Tree)
-        × IsAtValue S.is target sink.old (kinds_held kinds.old) (chars text.now) }
-    ensures ok { IfOk result (λ step. (target : Option Tree)
-        → IsAtValue S.is target sink.old (kinds_held kinds.old) (chars text.now)
-        → IsAt S.is target sink.new (kinds_held kinds.new) step) }
+    requires stands { (rule : Exponents) × ((target : Option Tree)
+        × IsAtValue rule S.is target sink.old (kinds_held kinds.old) (chars text.now)) }
+    ensures ok { IfOk result (λ step. (rule : Exponents) (target : Option Tree)
+        → IsAtValue rule S.is target sink.old (kinds_held kinds.old) (chars text.now)
+        → IsAt rule S.is target sink.new (kinds_held kinds.new) step) }
     ensures memory { IfErr result (λ e. e ≡ Error.OutOfMemory) }
     ensures shorter { IfOk result (λ step. left step ≤ length (chars text.now)) }
 {
@@ -207,11 +209,11 @@ fn begin_object<'a, S: Sink<'a>>(
     text: &'a str,
 ) -> Result<Step<'a>, Error>
     requires first { (s : List ℕ) × (chars text.now ≡ open_brace ∷ s) }
-    requires stands { (target : Option Tree)
-        × IsAtValue S.is target sink.old (kinds_held kinds.old) (chars text.now) }
-    ensures ok { IfOk result (λ step. (target : Option Tree)
-        → IsAtValue S.is target sink.old (kinds_held kinds.old) (chars text.now)
-        → IsAt S.is target sink.new (kinds_held kinds.new) step) }
+    requires stands { (rule : Exponents) × ((target : Option Tree)
+        × IsAtValue rule S.is target sink.old (kinds_held kinds.old) (chars text.now)) }
+    ensures ok { IfOk result (λ step. (rule : Exponents) (target : Option Tree)
+        → IsAtValue rule S.is target sink.old (kinds_held kinds.old) (chars text.now)
+        → IsAt rule S.is target sink.new (kinds_held kinds.new) step) }
     ensures memory { IfErr result (λ e. e ≡ Error.OutOfMemory) }
     ensures shorter { IfOk result (λ step. left step ≤ length (chars text.now)) }
 {
@@ -234,13 +236,13 @@ fn read_key<'a, S: Sink<'a>>(
     kinds: &OpenKinds,
     text: &'a str,
 ) -> Result<Step<'a>, Error>
-    requires { (target : Option Tree)
-        × IsAtKey S.is target sink.old (kinds_held kinds.now) (chars text.now) }
-    ensures ok { IfOk result (λ step. (target : Option Tree)
-        → IsAtKey S.is target sink.old (kinds_held kinds.now) (chars text.now)
-        → IsAt S.is target sink.new (kinds_held kinds.now) step) }
-    ensures err { IfErr result (λ e. (target : Option Tree)
-        → IsAtKey S.is target sink.old (kinds_held kinds.now) (chars text.now)
+    requires { (rule : Exponents) × ((target : Option Tree)
+        × IsAtKey rule S.is target sink.old (kinds_held kinds.now) (chars text.now)) }
+    ensures ok { IfOk result (λ step. (rule : Exponents) (target : Option Tree)
+        → IsAtKey rule S.is target sink.old (kinds_held kinds.now) (chars text.now)
+        → IsAt rule S.is target sink.new (kinds_held kinds.now) step) }
+    ensures err { IfErr result (λ e. (rule : Exponents) (target : Option Tree)
+        → IsAtKey rule S.is target sink.old (kinds_held kinds.now) (chars text.now)
         → Fails e target) }
     ensures shorter { IfOk result (λ step. left step ≤ length (chars text.now)) }
 {
@@ -257,16 +259,22 @@ fn read_key<'a, S: Sink<'a>>(
 
 /// Reads a whole text, and tells the sink what it meets. `InvalidJson` if it is not a JSON text,
 /// `OutOfMemory` if an allocation fails.
-pub fn read_text<'a, S: Sink<'a>>(alloc: Global, sink: &mut S, text: &'a str) -> Result<(), Error>
+pub fn read_text<'a, S: Sink<'a>>(
+    alloc: Global,
+    sink: &mut S,
+    text: &'a str,
+    exponents: Exponents,
+) -> Result<(), Error>
     requires { S.is sink.old (going []) }
-    ensures ok { OnOk result ((t : Tree) × (Json (chars text.now) t × S.is sink.new (whole t))) }
-    ensures err { IfErr result (λ e. Fails e (read_document (chars text.now))) }
+    ensures ok { OnOk result ((t : Tree)
+        × (JsonText exponents (chars text.now) t × S.is sink.new (whole t))) }
+    ensures err { IfErr result (λ e. Fails e (read_document exponents (chars text.now))) }
 {
     let mut kinds = OpenKinds::new(alloc);
     let mut step = Step::Value(skip_blank(text));
     'steps: loop {
         step = match step {
-            Step::Value(rest) => begin(alloc, sink, &mut kinds, rest)?,
+            Step::Value(rest) => begin(alloc, sink, &mut kinds, rest, exponents)?,
             Step::Key(rest) => read_key(alloc, sink, &kinds, rest)?,
             Step::After(rest) => go_on(sink, &mut kinds, rest)?,
             Step::End => return Ok(()),

@@ -5,101 +5,111 @@ use Rattle.jsonb_value.specs.declared.error.Error.TheVariants.{InvalidJson}
 use Rattle.jsonb_value.specs.Reader.Reading.{null_kind, true_kind, false_kind, string_kind}
 use Rattle.jsonb_value.specs.Reader.Reading.{number_kind}
 use Rattle.jsonb_value.proofs.Json.ValueSteps.{err_is, of_kind, reads_kind}
-use Rattle.jsonb_value.proofs.Json.ReaderSteps.{at_nothing, scalar_is_read, scalar_fails, past_scalar}
-use Rattle.jsonb_value.proofs.Json.ReaderSteps.{number_reads, number_fails, string_reads, string_fails}
+use Rattle.jsonb_value.proofs.Json.ReaderSteps.{at_nothing, scalar_is_read, scalar_fails}
+use Rattle.jsonb_value.proofs.Json.ReaderSteps.{past_scalar}
+use Rattle.jsonb_value.proofs.Json.ReaderSteps.{number_reads, number_fails, string_reads}
+use Rattle.jsonb_value.proofs.Json.ReaderSteps.{string_fails}
 use Rattle.jsonb_value.proofs.parser.reader.begin.Goals as goal
 
 pub returns-in_default-clause-err : goal.returns-in_default-clause-err
 returns-in_default-clause-err g c = λ target h.
-    at_nothing g.S.Sink.is target _ _ _ h (search rules)
+    at_nothing c.args.exponents g.S.Sink.is target _ _ _ h (search rules)
 
 pub returns-in_err-after-in-Null-clause-err : goal.returns-in_err-after-in-Null-clause-err
 returns-in_err-after-in-Null-clause-err g c =
-    err_is _ _ _ c.from_residual.ensures.1 (λ target h. scalar_fails g.S.Sink.is target _ _ _ _ h
-    (of_kind (Fails _) _ _ _ null_kind c.in-Some.ensures c.in-Null.ensures (λ _ _.
+    err_is _ _ _ c.from_residual.ensures.1
+    (λ target h. scalar_fails c.args.exponents g.S.Sink.is target _ _ _ _ h
+    (of_kind c.args.exponents (Fails _) _ _ _ null_kind c.in-Some.ensures c.in-Null.ensures (λ _ _.
     c.in_err-after-in-Null.ensures null)))
 
 pub returns-in_ok-null-in-Null-clause-ok : goal.returns-in_ok-null-in-Null-clause-ok
 returns-in_ok-null-in-Null-clause-ok g c = λ target h.
-    scalar_is_read g.S.Sink.is target _ _ _ _ null _ h
-    (reads_kind _ _ _ null_kind _ _ c.in-Some.ensures c.in-Null.ensures (λ _ _.
+    scalar_is_read c.args.exponents g.S.Sink.is target _ _ _ _ null _ h
+    (reads_kind c.args.exponents _ _ _ null_kind _ _ c.in-Some.ensures c.in-Null.ensures (λ _ _.
     c.in_ok-after-in-Null.ensures null)) c.in_ok-null-in-Null.ensures.ok
 
 pub returns-in_ok-null-in-Null-clause-shorter : goal.returns-in_ok-null-in-Null-clause-shorter
 returns-in_ok-null-in-Null-clause-shorter g c =
-    past_scalar _ null _
-    (reads_kind _ _ _ null_kind _ _ c.in-Some.ensures c.in-Null.ensures (λ _ _.
+    past_scalar c.args.exponents _ null _
+    (reads_kind c.args.exponents _ _ _ null_kind _ _ c.in-Some.ensures c.in-Null.ensures (λ _ _.
     c.in_ok-after-in-Null.ensures null))
 
 pub returns-in_err-after-in-True-clause-err : goal.returns-in_err-after-in-True-clause-err
 returns-in_err-after-in-True-clause-err g c =
-    err_is _ _ _ c.from_residual-in_err-after-in-True.ensures.1 (λ target h. scalar_fails g.S.Sink.is target _ _ _ _ h
-    (of_kind (Fails _) _ _ _ true_kind c.in-Some.ensures c.in-True.ensures (λ _ _.
+    err_is _ _ _ c.from_residual-in_err-after-in-True.ensures.1
+    (λ target h. scalar_fails c.args.exponents g.S.Sink.is target _ _ _ _ h
+    (of_kind c.args.exponents (Fails _) _ _ _ true_kind c.in-Some.ensures c.in-True.ensures (λ _ _.
     c.in_err-after-in-True.ensures (boolean true))))
 
 pub returns-in_ok-truth-in-True-clause-ok : goal.returns-in_ok-truth-in-True-clause-ok
 returns-in_ok-truth-in-True-clause-ok g c = λ target h.
-    scalar_is_read g.S.Sink.is target _ _ _ _ (boolean true) _ h
-    (reads_kind _ _ _ true_kind _ _ c.in-Some.ensures c.in-True.ensures (λ _ _.
+    scalar_is_read c.args.exponents g.S.Sink.is target _ _ _ _ (boolean true) _ h
+    (reads_kind c.args.exponents _ _ _ true_kind _ _ c.in-Some.ensures c.in-True.ensures (λ _ _.
     c.in_ok-after-in-True.ensures (boolean true))) c.in_ok-truth-in-True.ensures.ok
 
 pub returns-in_ok-truth-in-True-clause-shorter : goal.returns-in_ok-truth-in-True-clause-shorter
 returns-in_ok-truth-in-True-clause-shorter g c =
-    past_scalar _ (boolean true) _
-    (reads_kind _ _ _ true_kind _ _ c.in-Some.ensures c.in-True.ensures (λ _ _.
+    past_scalar c.args.exponents _ (boolean true) _
+    (reads_kind c.args.exponents _ _ _ true_kind _ _ c.in-Some.ensures c.in-True.ensures (λ _ _.
     c.in_ok-after-in-True.ensures (boolean true)))
 
 pub returns-in_err-after-in-False-clause-err : goal.returns-in_err-after-in-False-clause-err
 returns-in_err-after-in-False-clause-err g c =
-    err_is _ _ _ c.from_residual-in_err-after-in-False.ensures.1 (λ target h. scalar_fails g.S.Sink.is target _ _ _ _ h
-    (of_kind (Fails _) _ _ _ false_kind c.in-Some.ensures c.in-False.ensures (λ _ _.
+    err_is _ _ _ c.from_residual-in_err-after-in-False.ensures.1
+    (λ target h. scalar_fails c.args.exponents g.S.Sink.is target _ _ _ _ h
+    (of_kind c.args.exponents (Fails _) _ _ _ false_kind c.in-Some.ensures c.in-False.ensures
+    (λ _ _.
     c.in_err-after-in-False.ensures (boolean false))))
 
 pub returns-in_ok-truth-in-False-clause-ok : goal.returns-in_ok-truth-in-False-clause-ok
 returns-in_ok-truth-in-False-clause-ok g c = λ target h.
-    scalar_is_read g.S.Sink.is target _ _ _ _ (boolean false) _ h
-    (reads_kind _ _ _ false_kind _ _ c.in-Some.ensures c.in-False.ensures (λ _ _.
+    scalar_is_read c.args.exponents g.S.Sink.is target _ _ _ _ (boolean false) _ h
+    (reads_kind c.args.exponents _ _ _ false_kind _ _ c.in-Some.ensures c.in-False.ensures (λ _ _.
     c.in_ok-after-in-False.ensures (boolean false))) c.in_ok-truth-in-False.ensures.ok
 
 pub returns-in_ok-truth-in-False-clause-shorter : goal.returns-in_ok-truth-in-False-clause-shorter
 returns-in_ok-truth-in-False-clause-shorter g c =
-    past_scalar _ (boolean false) _
-    (reads_kind _ _ _ false_kind _ _ c.in-Some.ensures c.in-False.ensures (λ _ _.
+    past_scalar c.args.exponents _ (boolean false) _
+    (reads_kind c.args.exponents _ _ _ false_kind _ _ c.in-Some.ensures c.in-False.ensures (λ _ _.
     c.in_ok-after-in-False.ensures (boolean false)))
 
 pub returns-in_err-content-in-String-clause-err : goal.returns-in_err-content-in-String-clause-err
 returns-in_err-content-in-String-clause-err g c =
-    err_is _ _ _ c.from_residual-in_err-content-in-String.ensures.1 (λ target h. scalar_fails g.S.Sink.is target _ _ _ _ h
-    (of_kind (Fails _) _ _ _ string_kind c.in-Some.ensures c.in-String.ensures (λ n k.
+    err_is _ _ _ c.from_residual-in_err-content-in-String.ensures.1
+    (λ target h. scalar_fails c.args.exponents g.S.Sink.is target _ _ _ _ h
+    (of_kind c.args.exponents (Fails _) _ _ _ string_kind c.in-Some.ensures c.in-String.ensures
+    (λ n k.
     string_fails n _ _ (c.in_err-content-in-String.ensures n k))))
 
 pub returns-in_ok-string-in-String-clause-ok : goal.returns-in_ok-string-in-String-clause-ok
 returns-in_ok-string-in-String-clause-ok g c = λ target h.
-    scalar_is_read g.S.Sink.is target _ _ _ _ _ _ h
-    (reads_kind _ _ _ string_kind _ _ c.in-Some.ensures c.in-String.ensures (λ n k.
-    string_reads n _ _ _ (c.in_ok-content-in-String.ensures n k))) c.in_ok-string-in-String.ensures.ok
+    scalar_is_read c.args.exponents g.S.Sink.is target _ _ _ _ _ _ h
+    (reads_kind c.args.exponents _ _ _ string_kind _ _ c.in-Some.ensures c.in-String.ensures (λ n k.
+    string_reads n _ _ _ (c.in_ok-content-in-String.ensures n k)))
+    c.in_ok-string-in-String.ensures.ok
 
 pub returns-in_ok-string-in-String-clause-shorter : goal.returns-in_ok-string-in-String-clause-shorter
 returns-in_ok-string-in-String-clause-shorter g c =
-    past_scalar _ _ _
-    (reads_kind _ _ _ string_kind _ _ c.in-Some.ensures c.in-String.ensures (λ n k.
+    past_scalar c.args.exponents _ _ _
+    (reads_kind c.args.exponents _ _ _ string_kind _ _ c.in-Some.ensures c.in-String.ensures (λ n k.
     string_reads n _ _ _ (c.in_ok-content-in-String.ensures n k)))
 
 pub returns-in_default-read_number-clause-err : goal.returns-in_default-read_number-clause-err
 returns-in_default-read_number-clause-err g c = λ target h.
-    scalar_fails g.S.Sink.is target _ _ _ InvalidJson h
-    (of_kind (Fails InvalidJson) _ _ _ number_kind c.in-Some.ensures c.in-Number.ensures (λ _ _.
-    number_fails _ _ _ c.in-Some.ensures (sym c.in_default-read_number.ensures)))
+    scalar_fails c.args.exponents g.S.Sink.is target _ _ _ InvalidJson h
+    (of_kind c.args.exponents
+    (Fails InvalidJson) _ _ _ number_kind c.in-Some.ensures c.in-Number.ensures (λ _ _.
+    number_fails c.args.exponents _ _ _ c.in-Some.ensures (sym c.in_default-read_number.ensures)))
 
 pub returns-in_ok-number-in-Number-clause-ok : goal.returns-in_ok-number-in-Number-clause-ok
 returns-in_ok-number-in-Number-clause-ok g c = λ target h.
-    scalar_is_read g.S.Sink.is target _ _ _ _ _ _ h
-    (reads_kind _ _ _ number_kind _ _ c.in-Some.ensures c.in-Number.ensures (λ _ _.
-    number_reads _ _ _ _ _ c.in-Some.ensures (sym c.in-Some-read_number.ensures)))
+    scalar_is_read c.args.exponents g.S.Sink.is target _ _ _ _ _ _ h
+    (reads_kind c.args.exponents _ _ _ number_kind _ _ c.in-Some.ensures c.in-Number.ensures (λ _ _.
+    number_reads c.args.exponents _ _ _ _ _ c.in-Some.ensures (sym c.in-Some-read_number.ensures)))
     c.in_ok-number-in-Number.ensures.ok
 
 pub returns-in_ok-number-in-Number-clause-shorter : goal.returns-in_ok-number-in-Number-clause-shorter
 returns-in_ok-number-in-Number-clause-shorter g c =
-    past_scalar _ _ _
-    (reads_kind _ _ _ number_kind _ _ c.in-Some.ensures c.in-Number.ensures (λ _ _.
-    number_reads _ _ _ _ _ c.in-Some.ensures (sym c.in-Some-read_number.ensures)))
+    past_scalar c.args.exponents _ _ _
+    (reads_kind c.args.exponents _ _ _ number_kind _ _ c.in-Some.ensures c.in-Number.ensures (λ _ _.
+    number_reads c.args.exponents _ _ _ _ _ c.in-Some.ensures (sym c.in-Some-read_number.ensures)))

@@ -1,60 +1,61 @@
 use Rattle.std.proofs.Common.{rules, sym, ap, ◌∙◌, Some, refl}
 use Rattle.jsonb_value.proofs.Json.ReaderSteps.{after_end, after_more, after_cut, after_item_comma}
 use Rattle.jsonb_value.proofs.Json.ReaderSteps.{after_member_comma, after_array, after_object}
-use Rattle.jsonb_value.proofs.Json.ReaderSteps.{after_no_array, after_no_object, past_mark, past_comma}
+use Rattle.jsonb_value.proofs.Json.ReaderSteps.{after_no_array, after_no_object, past_mark}
+use Rattle.jsonb_value.proofs.Json.ReaderSteps.{past_comma}
 use Rattle.jsonb_value.proofs.Json.ReaderSteps.{holds_items, holds_members}
 use Rattle.jsonb_value.proofs.parser.reader.go_on.Goals as goal
 
 pub returns-in-None-clause-ok : goal.returns-in-None-clause-ok
-returns-in-None-clause-ok g c = λ target h.
-    after_end g.S.Sink.is target _ _ _ _ h (sym c.innermost.ensures ∙ c.in-None.is)
+returns-in-None-clause-ok g c = λ rule target h.
+    after_end rule g.S.Sink.is target _ _ _ _ h (sym c.innermost.ensures ∙ c.in-None.is)
     c.skip_blank-rest.ensures (search rules)
 
 pub returns-in-Some-innermost-clause-err : goal.returns-in-Some-innermost-clause-err
-returns-in-Some-innermost-clause-err g c = λ target h.
-    after_cut g.S.Sink.is target _ _ _ _ _ h (sym c.innermost.ensures ∙ c.in-Some-innermost.is)
+returns-in-Some-innermost-clause-err g c = λ rule target h.
+    after_cut rule g.S.Sink.is target _ _ _ _ _ h (sym c.innermost.ensures ∙ c.in-Some-innermost.is)
     c.skip_blank-rest.ensures (search rules)
 
 pub returns-in_default-innermost-clause-err : goal.returns-in_default-innermost-clause-err
-returns-in_default-innermost-clause-err g c = λ target h.
-    after_more g.S.Sink.is target _ _ _ _ _ _ h
+returns-in_default-innermost-clause-err g c = λ rule target h.
+    after_more rule g.S.Sink.is target _ _ _ _ _ _ h
     (sym c.innermost-2.ensures ∙ c.in_default-innermost.is) c.skip_blank-rest.ensures
     c.in-Some.ensures
 
 pub returns-then-is_object-clause-ok : goal.returns-then-is_object-clause-ok
-returns-then-is_object-clause-ok g c = λ target h.
-    after_member_comma g.S.Sink.is target _ _ _ _ _ _ h
+returns-then-is_object-clause-ok g c = λ rule target h.
+    after_member_comma rule g.S.Sink.is target _ _ _ _ _ _ h
     (sym c.innermost-2.ensures ∙ c.in-Some-innermost-2.is ∙ ap Some c.if-is_object.true)
     c.skip_blank-rest.ensures c.in-Some.ensures c.if-mark-eq44.true
 
 pub returns-else-is_object-clause-ok : goal.returns-else-is_object-clause-ok
-returns-else-is_object-clause-ok g c = λ target h.
-    after_item_comma g.S.Sink.is target _ _ _ _ _ _ _ h
+returns-else-is_object-clause-ok g c = λ rule target h.
+    after_item_comma rule g.S.Sink.is target _ _ _ _ _ _ _ h
     (sym c.innermost-2.ensures ∙ c.in-Some-innermost-2.is ∙ ap Some c.if-is_object.false)
     c.skip_blank-rest.ensures c.in-Some.ensures c.if-mark-eq44.true c.skip_blank.ensures
 
 pub returns-then-mark-ne125-clause-err : goal.returns-then-mark-ne125-clause-err
-returns-then-mark-ne125-clause-err g c = λ target h.
-    after_no_object g.S.Sink.is target _ _ _ _ _ _ h
+returns-then-mark-ne125-clause-err g c = λ rule target h.
+    after_no_object rule g.S.Sink.is target _ _ _ _ _ _ h
     (sym c.innermost-2.ensures ∙ c.in-Some-innermost-2.is ∙ ap Some c.if-is_object-2.true)
     c.skip_blank-rest.ensures c.in-Some.ensures c.if-mark-eq44.false c.if-mark-ne125.true
 
 pub returns-then-is_object-2-clause-ok : goal.returns-then-is_object-2-clause-ok
-returns-then-is_object-2-clause-ok g c = λ target h.
-    after_object g.S.Sink.is target _ _ _ _ _ _ _ _ h
+returns-then-is_object-2-clause-ok g c = λ rule target h.
+    after_object rule g.S.Sink.is target _ _ _ _ _ _ _ _ h
     (sym c.innermost-2.ensures ∙ c.in-Some-innermost-2.is ∙ ap Some c.if-is_object-2.true)
     c.skip_blank-rest.ensures c.in-Some.ensures c.if-mark-ne125.false
     c.in_ok-end_object.ensures.ok c.pop.ensures
 
 pub returns-then-mark-ne93-clause-err : goal.returns-then-mark-ne93-clause-err
-returns-then-mark-ne93-clause-err g c = λ target h.
-    after_no_array g.S.Sink.is target _ _ _ _ _ _ h
+returns-then-mark-ne93-clause-err g c = λ rule target h.
+    after_no_array rule g.S.Sink.is target _ _ _ _ _ _ h
     (sym c.innermost-2.ensures ∙ c.in-Some-innermost-2.is ∙ ap Some c.if-is_object-2.false)
     c.skip_blank-rest.ensures c.in-Some.ensures c.if-mark-eq44.false c.if-mark-ne93.true
 
 pub returns-clause-ok : goal.returns-clause-ok
-returns-clause-ok g c = λ target h.
-    after_array g.S.Sink.is target _ _ _ _ _ _ _ _ h
+returns-clause-ok g c = λ rule target h.
+    after_array rule g.S.Sink.is target _ _ _ _ _ _ _ _ h
     (sym c.innermost-2.ensures ∙ c.in-Some-innermost-2.is ∙ ap Some c.if-is_object-2.false)
     c.skip_blank-rest.ensures c.in-Some.ensures c.if-mark-ne93.false
     c.in_ok-end_array.ensures.ok c.pop-2.ensures
@@ -77,13 +78,13 @@ returns-clause-shorter g c = past_mark _ _ _ _ c.skip_blank-rest.ensures c.in-So
 pub end_object-requires : goal.end_object-requires
 end_object-requires g c κs = (
   (refl, tt),
-  holds_members g.S.Sink.is _ _ _ c.requires
+  holds_members _ g.S.Sink.is _ _ _ c.requires.1
       (sym c.innermost-2.ensures ∙ c.in-Some-innermost-2.is ∙ ap Some c.if-is_object-2.true),
 )
 
 pub end_array-requires : goal.end_array-requires
 end_array-requires g c κs = (
   (refl, tt),
-  holds_items g.S.Sink.is _ _ _ c.requires
+  holds_items _ g.S.Sink.is _ _ _ c.requires.1
       (sym c.innermost-2.ensures ∙ c.in-Some-innermost-2.is ∙ ap Some c.if-is_object-2.false),
 )

@@ -8,12 +8,14 @@ use Rattle.jsonb_value.proofs.parser.reader.read_text.Goals as goal
 
 pub steps-init : goal.steps-init
 steps-init g c =
-    text_begins g.S.Sink.is _ _ _ _ c.skip_blank.ensures c.new-kinds.ensures c.requires
+    text_begins c.args.exponents g.S.Sink.is _ _ _ _ c.skip_blank.ensures c.new-kinds.ensures
+    c.requires
 
 pub returns-in-End-clause-ok : goal.returns-in-End-clause-ok
 returns-in-End-clause-ok g c =
-    text_ends g.S.Sink.is _ _
+    text_ends c.args.exponents g.S.Sink.is _ _
     (subst
-    (λ x. IsAt g.S.Sink.is (read_document (chars c.args.text.now)) c.steps.sink
+    (λ x. IsAt c.args.exponents g.S.Sink.is
+    (read_document c.args.exponents (chars c.args.text.now)) c.steps.sink
     (kinds_held c.steps.kinds) x)
     c.in-End.is c.steps.invariant)

@@ -6,7 +6,8 @@ use Rattle.jsonb_value.proofs.parser.reader.read_text.Given as goal
 
 abbrev pub invariant-steps : goal.invariant-steps
 invariant-steps g l =
-    IsAt g.S.Sink.is (read_document (chars l.fn.text)) l.sink (kinds_held l.kinds) l.step
+    IsAt l.exponents g.S.Sink.is (read_document l.exponents (chars l.fn.text)) l.sink
+    (kinds_held l.kinds) l.step
 
 abbrev pub decreases-steps : goal.decreases-steps
 decreases-steps g l = left l.step
