@@ -39,7 +39,8 @@ pub use jsonb_value::{
     Date, Decimal64, Decimal128, Error, ExtensionValue, Interval, JsonAst, Number, Object, Opaque,
     ParseError, Timestamp, TimestampTz, Value, extension_text, is_text_within,
     order_of_extension_values, order_of_meanings, order_of_numbers, order_of_trees, parse_string,
-    parse_value, parse_value_within, write_number, write_string,
+    parse_value, parse_value_with_exponents, parse_value_with_exponents_within, parse_value_within,
+    write_number, write_string,
 };
 pub use nodes::{Items, Members};
 pub use number_item::NumberItem;

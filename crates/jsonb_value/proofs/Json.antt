@@ -17,5 +17,6 @@ pub mod NumberSteps
 pub mod TextSteps
 pub mod ValueSteps
 pub mod Documents
+pub mod Allowed
 pub mod Examples
 pub mod Scanned

@@ -4,7 +4,7 @@ use Rattle.std.specs.Prelude.{◌∷◌, Some, chars}
 use Rattle.jsonb_value.specs.declared.text_depth.ScanState.{ScanState}
 use Rattle.jsonb_value.specs.declared.text_depth.ScanState.TheVariants.{Outside, Inside, Escaped}
 use Rattle.jsonb_value.specs.declared.parser.number.Exponents.{Exponents}
-use Rattle.jsonb_value.specs.declared.parser.number.Exponents.TheVariants.{Forbidden}
+use Rattle.jsonb_value.specs.declared.parser.number.Exponents.TheVariants.{Forbidden, Allowed}
 use Rattle.jsonb_value.specs.Depth.{depth}
 use Rattle.jsonb_value.specs.Tree.{Tree}
 use Rattle.jsonb_value.specs.Json.Syntax.{Syntax, nothing, truth, numeral, string, empty_array}
@@ -73,3 +73,7 @@ HasDepthOfSpelled rule text = (syntax : Element) (t : Tree) → chars text ≡ e
 -- The same for texts without exponents.
 abbrev pub HasItsDepth : List ℕ → Type 0
 HasItsDepth = HasDepthOfSpelled Forbidden
+
+-- The same for texts with or without exponents.
+abbrev pub HasItsDepthWithExponents : List ℕ → Type 0
+HasItsDepthWithExponents = HasDepthOfSpelled Allowed

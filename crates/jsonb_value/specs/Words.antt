@@ -22,7 +22,7 @@ pub use Rattle.jsonb_value.specs.Json.Numeral.{decimal_number, number_of, scaled
 pub use Rattle.jsonb_value.specs.Json.Numeral.{signed_number, whole_number}
 pub use Rattle.jsonb_value.specs.Json.Piece.{escape_value, is_plain, pair_character, unit4}
 pub use Rattle.jsonb_value.specs.Json.Piece.{unit_character, unit_value}
-pub use Rattle.jsonb_value.specs.Json.Syntax.{Json}
+pub use Rattle.jsonb_value.specs.Json.Syntax.{Json, JsonText, JsonWithExponents}
 pub use Rattle.jsonb_value.specs.Meaning.{meaning_cmp}
 pub use Rattle.jsonb_value.specs.Norm.{norm}
 pub use Rattle.jsonb_value.specs.NumCode.{NumCode, decimal_payload, int_payload, is_within}
@@ -46,7 +46,9 @@ pub use Rattle.jsonb_value.specs.Reader.Reading.{skip_blank, string_kind}
 pub use Rattle.jsonb_value.specs.Text.{NoneEscaped, byte_text, decimal_text, ends, escape}
 pub use Rattle.jsonb_value.specs.Text.{extension_text, hex_byte, hex_text, is_escaped, number_text}
 pub use Rattle.jsonb_value.specs.Text.{point_text, string_text}
-pub use Rattle.jsonb_value.specs.TextDepth.{HasItsDepth, level_after, state_after, text_depth}
+pub use Rattle.jsonb_value.specs.TextDepth.{HasDepthOfSpelled, HasItsDepth}
+pub use Rattle.jsonb_value.specs.TextDepth.{HasItsDepthWithExponents, level_after, state_after}
+pub use Rattle.jsonb_value.specs.TextDepth.{text_depth}
 pub use Rattle.jsonb_value.specs.Tree.{Ascend, Extension, Tree, date, interval, object, text}
 pub use Rattle.jsonb_value.specs.Tree.{timestamp, timestamp_tz}
 pub use Rattle.jsonb_value.specs.TreeOrder.{rank_of, tree_cmp}

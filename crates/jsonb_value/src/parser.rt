@@ -1,7 +1,7 @@
 //! The parser of JSON texts: one reader, which is a loop, and sinks for what it reads.
 
 ghost use Rattle.std.specs.Prelude.{◌≡◌, ◌⊎◌, Err, chars, IfOk, IfErr};
-ghost use Rattle.jsonb_value.specs.Words.{Tree, Json, tree_of};
+ghost use Rattle.jsonb_value.specs.Words.{Tree, Json, JsonText, JsonWithExponents, tree_of};
 
 mod cursor;
 mod members;
@@ -12,14 +12,26 @@ mod sink;
 mod string;
 mod trees;
 
+pub use number::Exponents;
 pub use reader::read_text;
 pub use sink::Sink;
 
 use crate::error::Error;
 use crate::value::Value;
-use number::Exponents;
 use std::alloc::Global;
 use trees::Trees;
+
+/// Parses a whole text, with exponents if they are allowed.
+pub fn parse<'a>(alloc: Global, text: &'a str, exponents: Exponents) -> Result<Value<'a>, Error>
+    ensures ok { IfOk result (λ value. JsonText exponents (chars text.now) (tree_of value)) }
+    ensures invalid { result ≡ Err Error.InvalidJson
+        → (t : Tree) → JsonText exponents (chars text.now) t → ⊥ }
+    ensures errors { IfErr result (λ e. (e ≡ Error.InvalidJson) ⊎ (e ≡ Error.OutOfMemory)) }
+{
+    let mut trees = Trees::new(alloc);
+    read_text(alloc, &mut trees, text, exponents)?;
+    Ok(trees.into_value())
+}
 
 /// Parses a whole text. Strings without escapes are borrowed from the text.
 ///
@@ -38,7 +50,29 @@ pub fn parse_value<'a>(alloc: Global, text: &'a str) -> Result<Value<'a>, Error>
     // No text means two different values.
     ensures one { (t u : Tree) → Json (chars text.now) t → Json (chars text.now) u → t ≡ u }
 {
-    let mut trees = Trees::new(alloc);
-    read_text(alloc, &mut trees, text, Exponents::Forbidden)?;
-    Ok(trees.into_value())
+    parse(alloc, text, Exponents::Forbidden)
+}
+
+/// Parses a whole text as `parse_value` does, but takes a number with an exponent too, as `1.5e3`,
+/// which means exactly its value.
+///
+/// The scale of a number is the count of its fraction digits less its exponent. A number whose
+/// scale is 1 to 255 is a decimal of that scale, with the digits as written: `1.50e1` is a decimal
+/// of scale 1, `15.0`. A number whose scale is 0 or less is an integer, so `1.0e5` is `100000`. A
+/// number of a greater scale, or past 128 bits, is refused as `InvalidJson`. However large the
+/// exponent is, reading it takes no more than its digits do.
+pub fn parse_value_with_exponents<'a>(alloc: Global, text: &'a str) -> Result<Value<'a>, Error>
+    // An accepted text means the returned value.
+    ensures ok { IfOk result (λ value. JsonWithExponents (chars text.now) (tree_of value)) }
+    // A text refused as `InvalidJson` means no value.
+    ensures invalid { result ≡ Err Error.InvalidJson
+        → (t : Tree) → JsonWithExponents (chars text.now) t → ⊥ }
+    ensures errors { IfErr result (λ e. (e ≡ Error.InvalidJson) ⊎ (e ≡ Error.OutOfMemory)) }
+    // No text means two different values.
+    ensures one { (t u : Tree) → JsonWithExponents (chars text.now) t
+        → JsonWithExponents (chars text.now) u → t ≡ u }
+    // What a text means without exponents, it means here too.
+    ensures same { (t : Tree) → Json (chars text.now) t → JsonWithExponents (chars text.now) t }
+{
+    parse(alloc, text, Exponents::Allowed)
 }

@@ -2,11 +2,12 @@
 
 ghost use Rattle.std.specs.Prelude.{◌≡◌, ◌↔◌, ◌⊎◌, ◌<◌, ◌≤◌, Err, IfOk, IfErr, chars};
 ghost use Rattle.jsonb_value.specs.Depth.{depth as tree_depth};
-ghost use Rattle.jsonb_value.specs.Words.{Refused, Tree, tree_of, Json, text_depth, HasItsDepth};
-ghost use Rattle.jsonb_value.specs.Words.{parse_error_name};
+ghost use Rattle.jsonb_value.specs.Words.{Refused, Tree, tree_of, Json, JsonText, text_depth};
+ghost use Rattle.jsonb_value.specs.Words.{JsonWithExponents, HasDepthOfSpelled, HasItsDepth};
+ghost use Rattle.jsonb_value.specs.Words.{HasItsDepthWithExponents, parse_error_name};
 
 use crate::error::Error;
-use crate::parser::parse_value;
+use crate::parser::{Exponents, parse};
 use crate::text_depth::is_text_within;
 use crate::value::Value;
 use std::alloc::Global;
@@ -42,6 +43,29 @@ impl From<Error> for ParseError {
     }
 }
 
+// The value of a whole text that nests at most that deep, with exponents if they are allowed.
+fn parse_within<'a>(
+    alloc: Global,
+    text: &'a str,
+    depth: usize,
+    exponents: Exponents,
+) -> Result<Value<'a>, ParseError>
+    ensures ok { IfOk result (λ value. JsonText exponents (chars text.now) (tree_of value)) }
+    ensures deep { (result ≡ Err ParseError.TooDeep) ↔ (depth < text_depth text.now) }
+    ensures nests { HasDepthOfSpelled exponents text.now }
+    ensures within { IfOk result (λ value. tree_depth (tree_of value) ≤ depth) }
+    ensures invalid { result ≡ Err (ParseError.Refused Error.InvalidJson)
+        → (t : Tree) → JsonText exponents (chars text.now) t → ⊥ }
+    ensures errors { IfErr result (λ e. (e ≡ ParseError.TooDeep)
+        ⊎ ((e ≡ ParseError.Refused Error.InvalidJson)
+        ⊎ (e ≡ ParseError.Refused Error.OutOfMemory))) }
+{
+    if !is_text_within(text.as_bytes(), depth) {
+        return Err(ParseError::TooDeep);
+    }
+    Ok(parse(alloc, text, exponents)?)
+}
+
 /// The value of a whole text that nests at most that deep, as `parse_value` reads it. Use this for
 /// untrusted texts: the stack that reading takes grows with the depth of the text.
 ///
@@ -68,8 +92,31 @@ pub fn parse_value_within<'a>(
         ⊎ ((e ≡ ParseError.Refused Error.InvalidJson)
         ⊎ (e ≡ ParseError.Refused Error.OutOfMemory))) }
 {
-    if !is_text_within(text.as_bytes(), depth) {
-        return Err(ParseError::TooDeep);
-    }
-    Ok(parse_value(alloc, text)?)
+    parse_within(alloc, text, depth, Exponents::Forbidden)
+}
+
+/// The value of a whole text that nests at most that deep, as `parse_value_with_exponents` reads
+/// it.
+///
+/// `TooDeep` comes as from `parse_value_within`, and `Refused` has the errors of
+/// `parse_value_with_exponents`: `InvalidJson` and `OutOfMemory`.
+pub fn parse_value_with_exponents_within<'a>(
+    alloc: Global,
+    text: &'a str,
+    depth: usize,
+) -> Result<Value<'a>, ParseError>
+    // What is read is what the text means.
+    ensures ok { IfOk result (λ value. JsonWithExponents (chars text.now) (tree_of value)) }
+    // The depth is exact, and that of a text of JSON is that of what it spells.
+    ensures deep { (result ≡ Err ParseError.TooDeep) ↔ (depth < text_depth text.now) }
+    ensures nests { HasItsDepthWithExponents text.now }
+    ensures within { IfOk result (λ value. tree_depth (tree_of value) ≤ depth) }
+    // What is refused at any depth means nothing.
+    ensures invalid { result ≡ Err (ParseError.Refused Error.InvalidJson)
+        → (t : Tree) → JsonWithExponents (chars text.now) t → ⊥ }
+    ensures errors { IfErr result (λ e. (e ≡ ParseError.TooDeep)
+        ⊎ ((e ≡ ParseError.Refused Error.InvalidJson)
+        ⊎ (e ≡ ParseError.Refused Error.OutOfMemory))) }
+{
+    parse_within(alloc, text, depth, Exponents::Allowed)
 }

@@ -12,7 +12,7 @@ use Rattle.jsonb_value.specs.Json.Characters.{quote, comma, colon, open_bracket,
 use Rattle.jsonb_value.specs.Json.Characters.{open_brace, close_brace, all_blank}
 use Rattle.jsonb_value.specs.Json.Bind.{◌>>=◌}
 use Rattle.jsonb_value.specs.declared.parser.number.Exponents.{Exponents}
-use Rattle.jsonb_value.specs.declared.parser.number.Exponents.TheVariants.{Forbidden}
+use Rattle.jsonb_value.specs.declared.parser.number.Exponents.TheVariants.{Forbidden, Allowed}
 use Rattle.jsonb_value.specs.Json.Numeral.{Numeral, numeral_text, numeral_meaning}
 use Rattle.jsonb_value.specs.Json.Piece.{Piece, pieces_text, pieces_meaning}
 
@@ -150,3 +150,7 @@ pub record JsonText (rule : Exponents) (characters : List ℕ) (t : Tree) : Type
 -- The characters are a JSON text without exponents that means the tree.
 abbrev pub Json : List ℕ → Tree → Type 0
 Json = JsonText Forbidden
+
+-- The characters are a JSON text, with or without exponents, that means the tree.
+abbrev pub JsonWithExponents : List ℕ → Tree → Type 0
+JsonWithExponents = JsonText Allowed
