@@ -11,38 +11,37 @@ use Rattle.jsonb_value.specs.Norm.{norm, norms, norm_pairs}
 use Rattle.jsonb_value.specs.Tree as trees
 use Rattle.jsonb_value.specs.Tree.{Tree, null, boolean, number, extension, array, object}
 use Rattle.jsonb_value.specs.Tree.{Trees, no_trees, tree, Pairs, no_pairs, pair}
-use Rattle.jsonb_value.specs.Json.Syntax.{Json}
-use Rattle.jsonb_value.specs.TextDepth.{text_depth, HasItsDepth}
-use Rattle.jsonb_value.proofs.DepthLaws.{tree_within}
+use Rattle.jsonb_value.specs.declared.parser.number.Exponents.{Exponents}
+use Rattle.jsonb_value.specs.Json.Syntax.{JsonText}
+use Rattle.jsonb_value.specs.TextDepth.{text_depth, HasDepthOfSpelled}
+use Rattle.jsonb_value.proofs.DepthLaws.{spelled_within}
 use Rattle.jsonb_codec.specs.Canon.{Fits}
 use Rattle.jsonb_codec.specs.Depth.{IsDocumentWithin}
 use Rattle.jsonb_codec.specs.Doc.{Doc}
 use Rattle.jsonb.specs.declared.owned.OwnedJsonb.{OwnedJsonb}
 use Rattle.jsonb.specs.Owned.{bytes_of}
-use Rattle.jsonb.specs.Parsing.{ParsesTo, ParsesWithin}
+use Rattle.jsonb.specs.Parsing.{ParsesUnder, ParsesUnderWithin}
 
--- a text that is not read
-pub unread : (text : List ℕ) (e : Error)
-    → (e ≡ InvalidJson → (t : Tree) → Json (chars text) t → ⊥)
-    → (e ≡ InvalidJson) ⊎ (e ≡ OutOfMemory) → ParsesTo text (Err e)
-unread text e invalid (inl is) = subst (λ (x : Error). ParsesTo text (Err x)) (sym is) (invalid is)
-unread text e invalid (inr is) = subst (λ (x : Error). ParsesTo text (Err x)) (sym is) tt
-
--- a text whose tree has no canonical document
-pub unfit : (text : List ℕ) (t : Tree) (e : Error) → Json (chars text) t
-    → (e ≡ InvalidJsonb → Fits t → ⊥) → (e ≡ InvalidJsonb) ⊎ (e ≡ OutOfMemory)
-    → ParsesTo text (Err e)
-unfit text t e json past (inl is) =
-    subst (λ (x : Error). ParsesTo text (Err x)) (sym is) (t, (json, past is))
-unfit text t e json past (inr is) = subst (λ (x : Error). ParsesTo text (Err x)) (sym is) tt
+-- a text that gives no document
+pub refused : (rule : Exponents) (text : List ℕ) (e : Error)
+    → (e ≡ InvalidJson → (t : Tree) → JsonText rule (chars text) t → ⊥)
+    → (e ≡ InvalidJsonb → (t : Tree) × (JsonText rule (chars text) t × (Fits t → ⊥)))
+    → (e ≡ InvalidJson) ⊎ ((e ≡ InvalidJsonb) ⊎ (e ≡ OutOfMemory)) → ParsesUnder rule text (Err e)
+refused rule text e invalid past (inl is) =
+    subst (λ (x : Error). ParsesUnder rule text (Err x)) (sym is) (invalid is)
+refused rule text e invalid past (inr (inl is)) =
+    subst (λ (x : Error). ParsesUnder rule text (Err x)) (sym is) (past is)
+refused rule text e invalid past (inr (inr is)) =
+    subst (λ (x : Error). ParsesUnder rule text (Err x)) (sym is) tt
 
 -- a text that nests within the depth, and is refused
-pub refused_within : (depth : ℕ) (text : List ℕ) (r : Result OwnedJsonb ParseError) (e : Error)
-    → IsErrAnd r (λ x. x ≡ Refused e) → text_depth text ≤ depth → ParsesTo text (Err e)
-    → ParsesWithin depth text (bytes_of r)
-refused_within depth text (Ok owned) e is low why = absurd is
-refused_within depth text (Err x) e is low why =
-    subst (λ (y : ParseError). ParsesWithin depth text (Err y)) (sym is) (low, why)
+pub refused_within : (rule : Exponents) (depth : ℕ) (text : List ℕ)
+    (r : Result OwnedJsonb ParseError) (e : Error) → IsErrAnd r (λ x. x ≡ Refused e)
+    → text_depth text ≤ depth → ParsesUnder rule text (Err e)
+    → ParsesUnderWithin rule depth text (bytes_of r)
+refused_within rule depth text (Ok owned) e is low why = absurd is
+refused_within rule depth text (Err x) e is low why =
+    subst (λ (y : ParseError). ParsesUnderWithin rule depth text (Err y)) (sym is) (low, why)
 
 mutual
   norm-depth : (t : Tree) → depth (norm t) ≡ depth t
@@ -64,10 +63,10 @@ mutual
   norm_pairs-depth (pair k t ps) =
       let first = norm-depth t in let others = norm_pairs-depth ps in omega arith
 
-pub document_within : (text bytes : List ℕ) (t : Tree) (limit : ℕ) → HasItsDepth text
-    → Json (chars text) t → Doc bytes (norm t) → text_depth text ≤ limit
-    → IsDocumentWithin limit bytes
-document_within text bytes t limit nests json doc within =
-    let most = tree_within text t limit nests json within in
+pub document_within : (rule : Exponents) (text bytes : List ℕ) (t : Tree) (limit : ℕ)
+    → HasDepthOfSpelled rule text → JsonText rule (chars text) t → Doc bytes (norm t)
+    → text_depth text ≤ limit → IsDocumentWithin limit bytes
+document_within rule text bytes t limit nests json doc within =
+    let most = spelled_within rule text t limit nests json within in
     let same = norm-depth t in
     (norm t, (omega arith, doc))

@@ -5,7 +5,9 @@ use Rattle.jsonb_value.specs.declared.error.Error.TheVariants.{InvalidJson, Inva
 use Rattle.jsonb_value.specs.declared.error.Error.TheVariants.{OutOfMemory}
 use Rattle.jsonb_value.specs.declared.within.ParseError.{ParseError}
 use Rattle.jsonb_value.specs.declared.within.ParseError.TheVariants.{TooDeep, Refused}
-use Rattle.jsonb_value.specs.Json.Syntax.{Json}
+use Rattle.jsonb_value.specs.declared.parser.number.Exponents.{Exponents}
+use Rattle.jsonb_value.specs.declared.parser.number.Exponents.TheVariants.{Forbidden, Allowed}
+use Rattle.jsonb_value.specs.Json.Syntax.{JsonText}
 use Rattle.jsonb_value.specs.Norm.{norm}
 use Rattle.jsonb_value.specs.Text.{compact, pretty}
 use Rattle.jsonb_value.specs.TextDepth.{text_depth}
@@ -14,22 +16,53 @@ use Rattle.jsonb_codec.specs.Canon.{canon, Fits}
 use Rattle.jsonb_codec.specs.Doc.{Doc}
 use Rattle.jsonb.specs.Texts.{display_text, pretty_display_text}
 
--- The result of parsing a text: the canonical document of its tree, or why there is none.
+-- The result of parsing a text under a rule for exponents: the canonical document of its tree, or
+-- why there is none.
+abbrev pub ParsesUnder : Exponents → List ℕ → Result (List ℕ) Error → Type 0
+ParsesUnder rule text (Ok bytes) =
+    (t : Tree) × (JsonText rule (chars text) t × (Fits t × (bytes ≡ canon t)))
+ParsesUnder rule text (Err InvalidJson) = (t : Tree) → JsonText rule (chars text) t → ⊥
+ParsesUnder rule text (Err InvalidJsonb) =
+    (t : Tree) × (JsonText rule (chars text) t × (Fits t → ⊥))
+ParsesUnder rule text (Err OutOfMemory) = ⊤
+ParsesUnder rule text (Err e) = ⊥
+
+-- The result of parsing a text without exponents.
 abbrev pub ParsesTo : List ℕ → Result (List ℕ) Error → Type 0
-ParsesTo text (Ok bytes) = (t : Tree) × (Json (chars text) t × (Fits t × (bytes ≡ canon t)))
-ParsesTo text (Err InvalidJson) = (t : Tree) → Json (chars text) t → ⊥
-ParsesTo text (Err InvalidJsonb) = (t : Tree) × (Json (chars text) t × (Fits t → ⊥))
-ParsesTo text (Err OutOfMemory) = ⊤
-ParsesTo text (Err e) = ⊥
+ParsesTo = ParsesUnder Forbidden
+
+-- The result of parsing a text with or without exponents.
+abbrev pub ParsesWithExponentsTo : List ℕ → Result (List ℕ) Error → Type 0
+ParsesWithExponentsTo = ParsesUnder Allowed
 
 -- The same of a text that nests at most this deep; a deeper one is refused.
-abbrev pub ParsesWithin : ℕ → List ℕ → Result (List ℕ) ParseError → Type 0
-ParsesWithin depth text (Ok bytes) = (text_depth text ≤ depth) × ParsesTo text (Ok bytes)
-ParsesWithin depth text (Err TooDeep) = depth < text_depth text
-ParsesWithin depth text (Err (Refused e)) = (text_depth text ≤ depth) × ParsesTo text (Err e)
+abbrev pub ParsesUnderWithin : Exponents → ℕ → List ℕ → Result (List ℕ) ParseError → Type 0
+ParsesUnderWithin rule depth text (Ok bytes) =
+    (text_depth text ≤ depth) × ParsesUnder rule text (Ok bytes)
+ParsesUnderWithin rule depth text (Err TooDeep) = depth < text_depth text
+ParsesUnderWithin rule depth text (Err (Refused e)) =
+    (text_depth text ≤ depth) × ParsesUnder rule text (Err e)
 
--- The bytes mean the text's tree with signed zeros made unsigned, and print as it.
-pub record IsParsed (text bytes : List ℕ) : Type 0 where
-  pub means : (t : Tree) → Json (chars text) t → Doc bytes (norm t)
-  pub prints : (t : Tree) → Json (chars text) t → display_text bytes ≡ compact t
-  pub prints_pretty : (t : Tree) → Json (chars text) t → pretty_display_text bytes ≡ pretty t
+-- The same without exponents.
+abbrev pub ParsesWithin : ℕ → List ℕ → Result (List ℕ) ParseError → Type 0
+ParsesWithin = ParsesUnderWithin Forbidden
+
+-- The same with or without exponents.
+abbrev pub ParsesWithExponentsWithin : ℕ → List ℕ → Result (List ℕ) ParseError → Type 0
+ParsesWithExponentsWithin = ParsesUnderWithin Allowed
+
+-- The bytes mean the tree of the text, under a rule for exponents, with signed zeros made unsigned,
+-- and print as it.
+pub record IsParsedUnder (rule : Exponents) (text bytes : List ℕ) : Type 0 where
+  pub means : (t : Tree) → JsonText rule (chars text) t → Doc bytes (norm t)
+  pub prints : (t : Tree) → JsonText rule (chars text) t → display_text bytes ≡ compact t
+  pub prints_pretty : (t : Tree) → JsonText rule (chars text) t
+      → pretty_display_text bytes ≡ pretty t
+
+-- The same without exponents.
+abbrev pub IsParsed : List ℕ → List ℕ → Type 0
+IsParsed = IsParsedUnder Forbidden
+
+-- The same with or without exponents.
+abbrev pub IsParsedWithExponents : List ℕ → List ℕ → Type 0
+IsParsedWithExponents = IsParsedUnder Allowed

@@ -11,14 +11,15 @@ pub use Rattle.std.specs.List.Sorted.{IsStable, IsStrictlySortedBy}
 pub use Rattle.std.specs.Map.{keys_of, values_of}
 pub use Rattle.std.specs.Ordering.{as_partial_cmp, eq_by_cmp, nat_cmp, on}
 pub use Rattle.jsonb_value.specs.ExtCode.{ExtCode, extension_of}
-pub use Rattle.jsonb_value.specs.Json.Syntax.{Json}
+pub use Rattle.jsonb_value.specs.Json.Syntax.{Json, JsonText, JsonWithExponents}
 pub use Rattle.jsonb_value.specs.Meaning.{document, meaning_cmp, other_bytes}
 pub use Rattle.jsonb_value.specs.Norm.{norm}
 pub use Rattle.jsonb_value.specs.NumCode.{NumCode}
 pub use Rattle.jsonb_value.specs.Plain.{IsPlain}
 pub use Rattle.jsonb_value.specs.Text.{colon, compact, extension_text, inside, laid_out, line_start}
 pub use Rattle.jsonb_value.specs.Text.{pretty, quoted_text}
-pub use Rattle.jsonb_value.specs.TextDepth.{HasItsDepth}
+pub use Rattle.jsonb_value.specs.TextDepth.{HasDepthOfSpelled, HasItsDepth}
+pub use Rattle.jsonb_value.specs.TextDepth.{HasItsDepthWithExponents}
 pub use Rattle.jsonb_value.specs.Tree.{Extension, Pairs, Tree, Trees, array, no_pairs, no_trees}
 pub use Rattle.jsonb_value.specs.Tree.{pair, text, tree}
 pub use Rattle.jsonb_value.specs.TreeOrder.{tree_cmp}
@@ -83,7 +84,9 @@ pub use Rattle.jsonb.specs.StoredEntries.{IsFoundIn}
 pub use Rattle.jsonb.specs.Storage.{IsHeld, IsStored, document_code, pair_of, stored_code}
 pub use Rattle.jsonb.specs.Tally.{CountsOneLess, CountsOneMore, Lists, SetsCount, Tally, count_at}
 pub use Rattle.jsonb.specs.Tally.{count_of, has_equal, list_with}
-pub use Rattle.jsonb.specs.Parsing.{IsParsed, ParsesTo, ParsesWithin}
+pub use Rattle.jsonb.specs.Parsing.{IsParsed, IsParsedUnder, IsParsedWithExponents, ParsesTo}
+pub use Rattle.jsonb.specs.Parsing.{ParsesUnder, ParsesUnderWithin, ParsesWithExponentsTo}
+pub use Rattle.jsonb.specs.Parsing.{ParsesWithExponentsWithin, ParsesWithin}
 pub use Rattle.jsonb.specs.Texts.{display_text, layout_of, lossy_text, other_text}
 pub use Rattle.jsonb.specs.Texts.{pretty_display_text}
 pub use Rattle.jsonb.specs.Values.{bytes_in}

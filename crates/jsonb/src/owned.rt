@@ -7,9 +7,9 @@ use crate::document::Document;
 use crate::item::JsonbItem;
 use crate::raw::RawJsonb;
 use crate::text::write_view;
-use jsonb_codec::Encoder;
+use jsonb_codec::encode_text;
 use jsonb_codec::writer::{Level, Stored, StoredEntry, append_document};
-use jsonb_value::{Error, ParseError, is_text_within, parse_value};
+use jsonb_value::{Error, Exponents, ParseError, is_text_within};
 use std::alloc::Global;
 use std::collections::BTreeMap;
 use std::fmt;
@@ -23,8 +23,11 @@ pub struct OwnedJsonb {
 
 impl OwnedJsonb {
     ghost use Rattle.std.specs.Prelude.{◌↔◌, chars, IfSome, IsSome, IsTrue};
-    ghost use Rattle.jsonb.specs.Words.{Json, IsParsed, ParsesTo, ParsesWithin, bytes_of, Tree};
-    ghost use Rattle.jsonb.specs.Words.{HasItsDepth};
+    ghost use Rattle.jsonb.specs.Words.{Json, JsonText, JsonWithExponents, IsParsed, IsParsedUnder};
+    ghost use Rattle.jsonb.specs.Words.{IsParsedWithExponents, ParsesTo, ParsesUnder, ParsesWithin};
+    ghost use Rattle.jsonb.specs.Words.{ParsesUnderWithin, ParsesWithExponentsTo};
+    ghost use Rattle.jsonb.specs.Words.{ParsesWithExponentsWithin, bytes_of, Tree};
+    ghost use Rattle.jsonb.specs.Words.{HasDepthOfSpelled, HasItsDepth, HasItsDepthWithExponents};
     ghost use Rattle.jsonb.specs.Words.{IsDocumentWithin, IsDocument, raw_bytes, item_document};
     ghost use Rattle.jsonb.specs.Words.{CanBeStored, document_bytes, item_view};
 
@@ -122,20 +125,48 @@ impl OwnedJsonb {
 
     /// Parses a JSON text into the canonical document of its value. `InvalidJson` if the text is
     /// not accepted by `parse_value`, `InvalidJsonb` if a payload, a key or a count of its value
-    /// exceeds its limit, `OutOfMemory` if an allocation fails.
+    /// exceeds its limit, `OutOfMemory` if an allocation fails. No stack is taken for the depth of
+    /// the text.
     pub fn parse(alloc: Global, text: &str) -> Result<OwnedJsonb, Error>
         ensures value { ParsesTo text.now (bytes_of result) }
         ensures parsed { IfOk result (λ owned. IsParsed text.now (owned_bytes owned)) }
         ensures one { (t u : Tree) → Json (chars text.now) t → Json (chars text.now) u → t ≡ u }
     {
-        let value = parse_value(alloc, text)?;
-        let mut bytes = Vec::new(alloc);
-        Encoder::new(&mut bytes).encode(&value)?;
-        Ok(OwnedJsonb::new(bytes))
+        OwnedJsonb::parse_under(alloc, text, Exponents::Forbidden)
     }
 
-    /// The canonical document of a JSON text that nests at most that deep. Use this for
-    /// untrusted texts: the stack that reading takes grows with the depth of the text.
+    /// Parses a JSON text as `parse` does, but takes numbers with an exponent too, each of which
+    /// means exactly its value, as `parse_value_with_exponents` reads them: `1e5` is the integer
+    /// 100000, and `1.50e1` the decimal 15.0. `InvalidJson` if the text is not accepted by
+    /// `parse_value_with_exponents`, among them numbers past 128 bits or with more than 255 digits
+    /// after the point; the other errors are those of `parse`.
+    pub fn parse_with_exponents(alloc: Global, text: &str) -> Result<OwnedJsonb, Error>
+        ensures value { ParsesWithExponentsTo text.now (bytes_of result) }
+        ensures parsed { IfOk result
+            (λ owned. IsParsedWithExponents text.now (owned_bytes owned)) }
+        ensures one { (t u : Tree) → JsonWithExponents (chars text.now) t
+            → JsonWithExponents (chars text.now) u → t ≡ u }
+    {
+        OwnedJsonb::parse_under(alloc, text, Exponents::Allowed)
+    }
+
+    // The document of a text, with exponents if they are allowed.
+    fn parse_under(
+        alloc: Global,
+        text: &str,
+        exponents: Exponents,
+    ) -> Result<OwnedJsonb, Error>
+        ensures value { ParsesUnder exponents text.now (bytes_of result) }
+        ensures parsed { IfOk result
+            (λ owned. IsParsedUnder exponents text.now (owned_bytes owned)) }
+        ensures one { (t u : Tree) → JsonText exponents (chars text.now) t
+            → JsonText exponents (chars text.now) u → t ≡ u }
+    {
+        Ok(OwnedJsonb::new(encode_text(alloc, text, exponents)?))
+    }
+
+    /// The canonical document of a JSON text that nests at most that deep, which a caller may want
+    /// where the document is walked by recursion later.
     ///
     /// `TooDeep` exactly where more brackets than `depth` are open at once, those in strings not
     /// counted. This is found before the text is read, so it comes before any other refusal. Every
@@ -149,10 +180,43 @@ impl OwnedJsonb {
         ensures nests { HasItsDepth text.now }
         ensures within { IfOk result (λ owned. IsDocumentWithin depth (owned_bytes owned)) }
     {
+        OwnedJsonb::parse_under_within(alloc, text, depth, Exponents::Forbidden)
+    }
+
+    /// The canonical document of a JSON text that nests at most that deep, as
+    /// `parse_with_exponents` reads it. `TooDeep` comes as from `parse_within`; every other text is
+    /// answered as by `parse_with_exponents`.
+    pub fn parse_with_exponents_within(
+        alloc: Global,
+        text: &str,
+        depth: usize,
+    ) -> Result<OwnedJsonb, ParseError>
+        ensures value { ParsesWithExponentsWithin depth text.now (bytes_of result) }
+        ensures parsed { IfOk result
+            (λ owned. IsParsedWithExponents text.now (owned_bytes owned)) }
+        ensures nests { HasItsDepthWithExponents text.now }
+        ensures within { IfOk result (λ owned. IsDocumentWithin depth (owned_bytes owned)) }
+    {
+        OwnedJsonb::parse_under_within(alloc, text, depth, Exponents::Allowed)
+    }
+
+    // The document of a text within a depth, with exponents if they are allowed.
+    fn parse_under_within(
+        alloc: Global,
+        text: &str,
+        depth: usize,
+        exponents: Exponents,
+    ) -> Result<OwnedJsonb, ParseError>
+        ensures value { ParsesUnderWithin exponents depth text.now (bytes_of result) }
+        ensures parsed { IfOk result
+            (λ owned. IsParsedUnder exponents text.now (owned_bytes owned)) }
+        ensures nests { HasDepthOfSpelled exponents text.now }
+        ensures within { IfOk result (λ owned. IsDocumentWithin depth (owned_bytes owned)) }
+    {
         if !is_text_within(text.as_bytes(), depth) {
             return Err(ParseError::TooDeep);
         }
-        Ok(OwnedJsonb::parse(alloc, text)?)
+        Ok(OwnedJsonb::parse_under(alloc, text, exponents)?)
     }
 }
 

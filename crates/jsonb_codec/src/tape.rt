@@ -8,7 +8,7 @@
 ghost use Rattle.std.specs.Prelude.{◌≡◌, ◌⊎◌, ◌≤◌, List, [], ◌∷◌, Err, chars, IfErr, IfOk, OnOk};
 ghost use Rattle.jsonb_value.specs.declared.error.Error.TheVariants.{OutOfMemory, InvalidJson};
 ghost use Rattle.jsonb_value.specs.declared.error.Error.TheVariants.{InvalidJsonb};
-ghost use Rattle.jsonb_value.specs.Json.Syntax.{Json};
+ghost use Rattle.jsonb_value.specs.Json.Syntax.{JsonText};
 ghost use Rattle.jsonb_value.specs.Tree.{Tree};
 ghost use Rattle.jsonb_value.specs.WellFormed.{IsTree};
 ghost use Rattle.jsonb_value.specs.Reader.Resume.{Content, going, Adds};
@@ -23,7 +23,7 @@ mod write;
 
 use crate::constants::{FALSE_TAG, NULL_TAG, STRING_TAG, TRUE_TAG};
 use entry::Entry;
-use jsonb_value::{Error, Number, Sink, read_text};
+use jsonb_value::{Error, Exponents, Number, Sink, read_text};
 use open::{OpenArray, OpenObject};
 use std::alloc::Global;
 use std::borrow::CowStr;
@@ -169,25 +169,26 @@ impl<'a> Sink<'a> for Tape<'a> {
     }
 }
 
-/// The canonical document of a JSON text. `InvalidJson` if the text is not accepted by
-/// `parse_value`, `InvalidJsonb` if a payload, a key or a count of its value exceeds its limit,
-/// `OutOfMemory` if an allocation fails.
-pub fn encode_text(alloc: Global, text: &str) -> Result<Vec<u8>, Error>
-    ensures ok { IfOk result (λ document. (t : Tree) × (Json (chars text.now) t
+/// The canonical document of a JSON text, with exponents if they are allowed. `InvalidJson` if the
+/// text is not accepted by `parse_value`, or with exponents by `parse_value_with_exponents`;
+/// `InvalidJsonb` if a payload, a key or a count of its value exceeds its limit; `OutOfMemory` if an
+/// allocation fails. Reading and writing take no stack for the depth of the text.
+pub fn encode_text(alloc: Global, text: &str, exponents: Exponents) -> Result<Vec<u8>, Error>
+    ensures ok { IfOk result (λ document. (t : Tree) × (JsonText exponents (chars text.now) t
         × (IsTree t × (Fits t × (document.items ≡ canon t))))) }
-    ensures invalid { result ≡ Err InvalidJson → (t : Tree) → Json (chars text.now) t → ⊥ }
+    ensures invalid { result ≡ Err InvalidJson
+        → (t : Tree) → JsonText exponents (chars text.now) t → ⊥ }
     ensures past { result ≡ Err InvalidJsonb
-        → (t : Tree) × (Json (chars text.now) t × (Fits t → ⊥)) }
+        → (t : Tree) × (JsonText exponents (chars text.now) t × (Fits t → ⊥)) }
     ensures only { IfErr result
         (λ e. (e ≡ InvalidJson) ⊎ ((e ≡ InvalidJsonb) ⊎ (e ≡ OutOfMemory))) }
-    ensures one { (t u : Tree) → Json (chars text.now) t → Json (chars text.now) u → t ≡ u }
+    ensures one { (t u : Tree) → JsonText exponents (chars text.now) t
+        → JsonText exponents (chars text.now) u → t ≡ u }
 {
     let mut tape = Tape::new(alloc);
-    read_text(alloc, &mut tape, text)?;
+    read_text(alloc, &mut tape, text, exponents)?;
     let Tape {
-        storage,
-        innermost,
-        ..
+        storage, innermost, ..
     } = tape;
     match innermost {
         Container::Whole(Some(entry)) => write_document(alloc, &storage, entry),
