@@ -3,7 +3,7 @@ use crate::comparable::{BYTES_KEY, KEY, NESTED};
 use jsonb::{
     ArrayIterator, Document, Encoder, Error, ExtensionItem, JsonbItem, JsonbItemType, Number,
     NumberItem, ObjectIterator, ObjectKeyIterator, ObjectValueIterator, RawJsonb, Reads, Value,
-    is_canonical, is_document, is_document_within, read_header, read_jentry,
+    is_canonical, is_document, is_document_within, nests_deeper, read_header, read_jentry,
 };
 use jsonb_comparable::{key_len, key_len_of, key_len_within};
 use std::borrow::CowStr;
@@ -76,6 +76,7 @@ fn documents_are_checked(rt: HostRuntime) {
     let raw = RawJsonb::new(OBJECT);
     assert!(rt; is_document(OBJECT) && is_canonical(OBJECT));
     assert!(rt; is_document_within(OBJECT, 1) && !is_document_within(OBJECT, 0));
+    assert!(rt; nests_deeper(OBJECT, 0) && !nests_deeper(OBJECT, 1));
     let kind = Ok(JsonbItemType::Object(2));
     assert!(rt; raw.jsonb_item_type() == kind && JsonbItem::Raw(raw).jsonb_item_type() == kind);
 }

@@ -192,6 +192,9 @@ container_too_deep b (t, (w, h)) = deep t h.0 w
     deep (object ps) q w = omega arith
     deep t q w = grind arith
 
+pub has_depth : (d : ℕ) (b : List ℕ) → HasPayload d 1342177280 b → d ≢ 0
+has_depth d b h none = container_too_deep b (subst (λ (k : ℕ). HasPayload k 1342177280 b) none h)
+
 -- The header of a container, as it was read, determines whether it is an array or object, and its
 -- count.
 module _ {tag n : ℕ} {rest b : List ℕ} (read : Read (2 ^ 29) tag n rest b) where
@@ -265,6 +268,14 @@ pub depth-scalar : (t : Tree) → type_of t ≢ 1342177280 → depth t ≡ 0
 depth-scalar (array ts) q = absurd (q refl)
 depth-scalar (object ps) q = absurd (q refl)
 depth-scalar t q = refl
+
+-- what is not a container has the same payloads at every depth
+pub payload_within : (d ty : ℕ) (p : List ℕ) → HasPayload 0 ty p → HasPayload d ty p
+payload_within d ty p (t, (w, h)) = (t, (omega arith, h))
+
+pub payload_flat : (d ty : ℕ) (p : List ℕ) → ty ≢ 1342177280 → HasPayload d ty p → HasPayload 0 ty p
+payload_flat d ty p other (t, (w, h)) =
+    (t, (omega (arith, depth-scalar t (λ is. other (sym h.0 ∙ is))), h))
 
 -- what follows the header of a scalar
 module _ (n : ℕ) (rest : List ℕ) (few : n < 2 ^ 29) where

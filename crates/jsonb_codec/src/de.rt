@@ -75,8 +75,10 @@ impl<'a> Decoder<'a> {
     }
 }
 
-// Decodes a document, or returns the first fault as this table names it.
+// Decodes a document, or returns the first fault as this table names it. `Depth` names one of its
+// faults as if memory had been refused.
 fn read<'a>(alloc: Global, faults: FaultTable, bytes: &'a [u8]) -> Result<Value<'a>, Error>
+    requires { faults ≢ FaultTable.Depth }
     ensures ok { IfOk result (λ v. Doc bytes.now (tree_of v)) }
     ensures one_tree { IfOk result (λ v. (t : Tree) → Doc bytes.now t → tree_of v ≡ t) }
     ensures fault { IfErr result

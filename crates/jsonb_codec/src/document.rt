@@ -3,6 +3,7 @@
 ghost use Rattle.std.specs.Prelude.{◌≡◌, ◌≢◌, ◌+◌, ◌*◌, ◌/◌, ◌%◌, ◌<◌, ◌≤◌, ◌^◌, ◌↔◌, ◌++◌, [], ℕ};
 ghost use Rattle.std.specs.Prelude.{List, length, take, drop, IsTrue, None, IfOk, IfErr, IfSome};
 ghost use Rattle.std.specs.Prelude.{IfNone, OnOk, OnErr, option_map, All, IsUtf8};
+ghost use Rattle.std.specs.Bool.{OnTrue, OnFalse};
 ghost use Rattle.std.specs.Cmp.Lexicographic.{slice_cmp};
 ghost use Rattle.std.specs.Ordering.{nat_cmp};
 ghost use Rattle.jsonb_value.specs.Tree.{Tree, text};
@@ -10,7 +11,8 @@ ghost use Rattle.jsonb_codec.specs.Word.{word};
 ghost use Rattle.jsonb_codec.specs.Doc.{Doc, IsDocument};
 ghost use Rattle.jsonb_codec.specs.Depth.{depth, size, IsDocumentWithin};
 ghost use Rattle.jsonb_codec.specs.Payloads.{payloads_in};
-ghost use Rattle.jsonb_codec.specs.Parts.{IsFault, HoldsOrFaults, HasScalar, HasPayload, HasArray};
+ghost use Rattle.jsonb_codec.specs.Parts.{IsFault, depth_fault, HoldsOrFaults, Excludes};
+ghost use Rattle.jsonb_codec.specs.Parts.{HoldsOrExcludes, HasScalar, HasPayload, HasArray};
 ghost use Rattle.jsonb_codec.specs.Parts.{HasObject, HasChildren, HasKeys, IsKeyAfter};
 
 use crate::ascii::is_all_ascii;
@@ -63,6 +65,24 @@ pub fn is_document_within(bytes: &[u8], depth: usize) -> bool
     check(FaultTable::Tree, depth, bytes).is_ok()
 }
 
+/// Whether the bytes nest too deep to be checked within this depth: whether the check, which goes
+/// from front to back and stops at the first fault, reaches a container that is nested deeper. So
+/// it is never true of a document of at most this depth, and where it is false the bytes are a
+/// document exactly if they are one of at most this depth. It looks no deeper itself.
+pub fn nests_deeper(bytes: &[u8], depth: usize) -> bool
+    ensures deeper { OnTrue result (IsDocumentWithin depth bytes.now → ⊥) }
+    ensures within { OnFalse result (IsDocument bytes.now ↔ IsDocumentWithin depth bytes.now) }
+{
+    // Each level takes at least 8 bytes, but the innermost 4.
+    if bytes.len() / 8 < depth {
+        return false;
+    }
+    match check(FaultTable::Depth, depth, bytes) {
+        Ok(_) => false,
+        Err(fault) => fault == Error::OutOfMemory,
+    }
+}
+
 /// The text of a document that is a string. `None` for all other bytes.
 #[inline(always)]
 pub fn document_text(bytes: &[u8]) -> Option<&str>
@@ -83,20 +103,34 @@ pub fn document_text(bytes: &[u8]) -> Option<&str>
     }
 }
 
-/// How faults are named as errors: the two readers name some of them differently.
+/// How faults are named as errors: the two readers name some of them differently, and `Depth` tells
+/// apart a container that is nested too deep.
 #[derive(Clone, Copy)]
 pub enum FaultTable {
     Tree,
     Decoder,
+    /// As `Tree`, but a container that is nested too deep has the name that no other fault has.
+    Depth,
 }
 
 impl FaultTable {
+    // A container that is nested more than the allowed depth.
+    fn too_deep(self) -> Error
+        ensures fault { IsFault self result }
+        ensures name { result ≡ depth_fault self }
+    {
+        match self {
+            FaultTable::Tree | FaultTable::Decoder => Error::InvalidJsonb,
+            FaultTable::Depth => Error::OutOfMemory,
+        }
+    }
+
     // The whole document has fewer than four bytes for its header.
     fn short_header(self) -> Error
         ensures { IsFault self result }
     {
         match self {
-            FaultTable::Tree => Error::InvalidEOF,
+            FaultTable::Tree | FaultTable::Depth => Error::InvalidEOF,
             FaultTable::Decoder => Error::InvalidJsonb,
         }
     }
@@ -113,7 +147,7 @@ impl FaultTable {
         ensures { IsFault self result }
     {
         match self {
-            FaultTable::Tree => Error::InvalidJsonb,
+            FaultTable::Tree | FaultTable::Depth => Error::InvalidJsonb,
             FaultTable::Decoder => Error::InvalidJsonbHeader,
         }
     }
@@ -130,7 +164,7 @@ impl FaultTable {
         ensures { IsFault self result }
     {
         match self {
-            FaultTable::Tree => Error::InvalidJsonb,
+            FaultTable::Tree | FaultTable::Depth => Error::InvalidJsonb,
             FaultTable::Decoder => Error::InvalidJsonbJEntry,
         }
     }
@@ -141,7 +175,7 @@ impl FaultTable {
         ensures { IsFault self result }
     {
         match (self, tag) {
-            (FaultTable::Tree, _) => Error::InvalidJsonb,
+            (FaultTable::Tree | FaultTable::Depth, _) => Error::InvalidJsonb,
             (FaultTable::Decoder, STRING_TAG) => Error::InvalidUtf8,
             (FaultTable::Decoder, NUMBER_TAG) => Error::InvalidJsonbNumber,
             (FaultTable::Decoder, EXTENSION_TAG) => Error::InvalidJsonbExtension,
@@ -253,7 +287,7 @@ impl<'a> DocumentBytes<'a> {
 }
 
 /// Checks the bytes once; returns the document or its first fault as this table names it. A
-/// container nested more than `depth` deep is a fault, reported as `InvalidJsonb`, and is not
+/// container nested more than `depth` deep is a fault, which the table names too, and is not
 /// examined.
 #[inline(always)]
 pub fn check<'a>(
@@ -262,6 +296,8 @@ pub fn check<'a>(
     bytes: &'a [u8],
 ) -> Result<DocumentBytes<'a>, Error>
     ensures decided { HoldsOrFaults faults result (IsDocumentWithin depth bytes.now) }
+    ensures none { IfErr result
+        (λ e. Excludes faults depth e (λ d. IsDocumentWithin d bytes.now)) }
     ensures bytes { IfOk result (λ d. d.bytes.now ≡ bytes.now) }
 {
     match find_fault(faults, depth, bytes) {
@@ -273,7 +309,7 @@ pub fn check<'a>(
 // The first fault of the bytes.
 #[inline(always)]
 fn find_fault(faults: FaultTable, depth: usize, bytes: &[u8]) -> Result<(), Error>
-    ensures { HoldsOrFaults faults result (IsDocumentWithin depth bytes.now) }
+    ensures { HoldsOrExcludes faults depth result (λ d. IsDocumentWithin d bytes.now) }
 {
     let Some(header) = split_header(bytes) else {
         return Err(faults.short_header());
@@ -312,10 +348,10 @@ fn check_scalar(faults: FaultTable, count: usize, body: &[u8]) -> Result<(), Err
 // Checks an array or object with its header.
 #[cycle(container)]
 fn check_container(faults: FaultTable, depth: usize, bytes: &[u8]) -> Result<(), Error>
-    ensures { HoldsOrFaults faults result (HasPayload depth CONTAINER_TAG bytes.now) }
+    ensures { HoldsOrExcludes faults depth result (λ d. HasPayload d CONTAINER_TAG bytes.now) }
 {
     if depth == 0 {
-        return Err(Error::InvalidJsonb);
+        return Err(faults.too_deep());
     }
     let Some(header) = split_header(bytes) else {
         return Err(faults.short_inner_header());
@@ -331,7 +367,7 @@ fn check_container(faults: FaultTable, depth: usize, bytes: &[u8]) -> Result<(),
 #[cycle(container)]
 fn check_array(faults: FaultTable, depth: usize, count: usize, body: &[u8]) -> Result<(), Error>
     requires { count < 2 ^ 29 }
-    ensures { HoldsOrFaults faults result (HasArray depth count body.now) }
+    ensures { HoldsOrExcludes faults depth result (λ d. HasArray d count body.now) }
 {
     if body.len() < 4 * count {
         return Err(faults.short_entries());
@@ -344,7 +380,7 @@ fn check_array(faults: FaultTable, depth: usize, count: usize, body: &[u8]) -> R
 #[cycle(container)]
 fn check_object(faults: FaultTable, depth: usize, count: usize, body: &[u8]) -> Result<(), Error>
     requires { count < 2 ^ 29 }
-    ensures { HoldsOrFaults faults result (HasObject depth count body.now) }
+    ensures { HoldsOrExcludes faults depth result (λ d. HasObject d count body.now) }
 {
     if body.len() < 8 * count {
         return Err(faults.short_entries());
@@ -369,7 +405,7 @@ fn check_children(
     payloads: &[u8],
 ) -> Result<(), Error>
     requires { length entries.now % 4 ≡ 0 }
-    ensures { HoldsOrFaults faults result (HasChildren depth entries.now payloads.now) }
+    ensures { HoldsOrExcludes faults depth result (λ d. HasChildren d entries.now payloads.now) }
 {
     let mut entries_left = entries;
     let mut payloads_left = payloads;
@@ -478,7 +514,7 @@ fn split_payload<'a>(
 #[cycle(container)]
 #[inline(always)]
 fn check_key(faults: FaultTable, depth: usize, tag: u32, payload: &[u8]) -> Result<(), Error>
-    ensures { HoldsOrFaults faults result (HasPayload depth tag payload.now) }
+    ensures { HoldsOrExcludes faults depth result (λ d. HasPayload d tag payload.now) }
 {
     if tag == STRING_TAG {
         check_text(faults, payload)
@@ -492,7 +528,7 @@ fn check_key(faults: FaultTable, depth: usize, tag: u32, payload: &[u8]) -> Resu
 #[cold]
 #[inline(never)]
 fn check_no_key(faults: FaultTable, depth: usize, tag: u32, payload: &[u8]) -> Result<(), Error>
-    ensures { HoldsOrFaults faults result (HasPayload depth tag payload.now) }
+    ensures { HoldsOrExcludes faults depth result (λ d. HasPayload d tag payload.now) }
 {
     check_payload(faults, depth, tag, payload)
 }
@@ -501,7 +537,7 @@ fn check_no_key(faults: FaultTable, depth: usize, tag: u32, payload: &[u8]) -> R
 #[cycle(container)]
 #[inline(always)]
 fn check_payload(faults: FaultTable, depth: usize, tag: u32, payload: &[u8]) -> Result<(), Error>
-    ensures { HoldsOrFaults faults result (HasPayload depth tag payload.now) }
+    ensures { HoldsOrExcludes faults depth result (λ d. HasPayload d tag payload.now) }
 {
     if tag == CONTAINER_TAG {
         check_container(faults, depth, payload)

@@ -18,7 +18,9 @@ pub use canonical::{
     append_canonical, append_canonical_document, is_canonical, is_canonical_document,
 };
 pub use de::{Decoder, value_of, value_of_document};
-pub use document::{DocumentBytes, document_laws, document_text, is_document, is_document_within};
+pub use document::{
+    DocumentBytes, document_laws, document_text, is_document, is_document_within, nests_deeper,
+};
 pub use jentry::JEntry;
 pub use reread::printed_text_laws;
 pub use ser::{Encoder, JsonAstEncoder};

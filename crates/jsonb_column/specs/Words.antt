@@ -1,6 +1,7 @@
 -- The names that the clauses of this crate cite, passed on from one place.
 pub use Rattle.std.specs.Iterator.{YieldsFirstBy, item_count}
 pub use Rattle.std.specs.List.{concat}
+pub use Rattle.jsonb_codec.specs.Depth.{IsDocumentWithin}
 pub use Rattle.jsonb_codec.specs.Doc.{IsDocument}
 pub use Rattle.jsonb.specs.Document.{document_bytes, document_tree}
 pub use Rattle.jsonb.specs.Node.{node_tree}

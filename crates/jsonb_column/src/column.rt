@@ -7,11 +7,12 @@ ghost use Rattle.jsonb_column.specs.Words.{ParsesTo, IsDocument, document_bytes}
 ghost use Rattle.jsonb_column.specs.Words.{document_tree, concat, YieldsFirstBy, item_count, IsCut};
 ghost use Rattle.jsonb_column.specs.Words.{has_member, most_reads, AreStored, HasFaultyRow, IsRow};
 ghost use Rattle.jsonb_column.specs.Words.{storage, row_in, rows_in, IsWithin, AreRows, FillBytes};
+ghost use Rattle.jsonb_column.specs.Words.{IsDocumentWithin};
 
 use crate::place::Place;
 use crate::select::has_member;
 use crate::storage::{append_row, split_row};
-use jsonb::{Document, Encoder, Error, MAX_READS, Reads, is_document, parse_value};
+use jsonb::{Document, Encoder, Error, MAX_READS, Reads, is_document, nests_deeper, parse_value};
 use std::alloc::Global;
 use std::marker::Model;
 
@@ -199,10 +200,37 @@ impl Column {
         ensures only { IfErr result (λ e. (e ≡ Error.InvalidEOF)
             ⊎ ((e ≡ Error.InvalidJsonb) ⊎ (e ≡ Error.OutOfMemory))) }
     {
+        // No row nests as deep as there are bytes.
+        Column::read_within(alloc, bytes, bytes.len())
+    }
+
+    /// Reads rows in stored form, as `read_from`, from untrusted bytes: a row that nests deeper
+    /// than `depth` is refused as `OutOfMemory`, since walking it may take more memory than the
+    /// stack has. Levels beyond it are not examined. A row of more than 8 bytes for each level that
+    /// is allowed is checked twice.
+    pub fn read_within(alloc: Global, bytes: &[u8], depth: usize) -> Result<Column, Error>
+        ensures storage { IfOk result (λ column. AreStored column bytes.now) }
+        ensures shallow { IfOk result (λ column. All (IsDocumentWithin depth) column) }
+        ensures same { (rows : List (List ℕ)) → AreStored rows bytes.now
+            → IfOk result (λ column. column ≡ rows) }
+        ensures memory { (rows : List (List ℕ)) → AreStored rows bytes.now
+            → IfErr result (λ e. e ≡ Error.OutOfMemory) }
+        ensures cut { result ≡ Err Error.InvalidEOF → IsCut bytes.now }
+        ensures cut_refused { IsCut bytes.now
+            → IsErrAnd result (λ e. (e ≡ Error.InvalidEOF) ⊎ (e ≡ Error.OutOfMemory)) }
+        ensures invalid { result ≡ Err Error.InvalidJsonb → HasFaultyRow bytes.now }
+        ensures invalid_refused { HasFaultyRow bytes.now
+            → IsErrAnd result (λ e. (e ≡ Error.InvalidJsonb) ⊎ (e ≡ Error.OutOfMemory)) }
+        ensures only { IfErr result (λ e. (e ≡ Error.InvalidEOF)
+            ⊎ ((e ≡ Error.InvalidJsonb) ⊎ (e ≡ Error.OutOfMemory))) }
+    {
         let mut column = Column::new(alloc);
         let mut rest = bytes;
         while !rest.is_empty() {
             let (row, later) = split_row(rest)?;
+            if nests_deeper(row, depth) {
+                return Err(Error::OutOfMemory);
+            }
             column.push(row)?;
             rest = later;
         }

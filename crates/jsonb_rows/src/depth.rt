@@ -1,7 +1,7 @@
 // The depth of documents of some lengths, and the depth to which they are examined.
 use crate::documents::{decode_again, nested, read_as_tree};
 use jsonb::{Error, OwnedJsonb, ParseError, RawJsonb, Value, is_text_within, parse_value_within};
-use jsonb_codec::{is_document, is_document_within};
+use jsonb_codec::{is_document, is_document_within, nests_deeper};
 use std::alloc::Global;
 use std::test::Fail;
 
@@ -18,6 +18,7 @@ fn arrays_nest_as_deep_as_bytes_allow(rt: HostRuntime) -> Result<(), Fail> {
     assert!(rt; bytes.get(4..8) == Some([0x50, 0, 0x0f, 0xf4].as_slice()));
     assert!(rt; is_document(&bytes) && is_document_within(&bytes, 512));
     assert!(rt; !is_document_within(&bytes, 511));
+    assert!(rt; nests_deeper(&bytes, 511) && !nests_deeper(&bytes, 512));
     assert!(rt; is_read(rt.alloc(), &bytes)?);
     Ok(())
 }
@@ -27,6 +28,7 @@ fn arrays_nest_as_deep_as_bytes_allow(rt: HostRuntime) -> Result<(), Fail> {
 fn the_outer_levels_decide_a_depth(rt: HostRuntime) -> Result<(), Fail> {
     let bytes = nested(rt.alloc(), 300_000)?;
     assert!(rt; !is_document_within(&bytes, 10));
+    assert!(rt; nests_deeper(&bytes, 10));
     Ok(())
 }
 

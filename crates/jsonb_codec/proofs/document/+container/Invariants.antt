@@ -1,4 +1,4 @@
-use Rattle.std.proofs.Common.{◌≡◌, ◌↔◌, ◌+◌, ◌*◌, ◌%◌, ◌≤◌, ℕ, List, IsTrue, None, length}
+use Rattle.std.proofs.Common.{◌≡◌, ◌+◌, ◌*◌, ◌%◌, ◌≤◌, ℕ, List, IsTrue, None, length}
 use Rattle.std.proofs.Common.{option_map}
 use Rattle.jsonb_codec.specs.Parts.{HasChildren, HasKeys}
 use Rattle.jsonb_codec.proofs.document.+container.Given as goal
@@ -27,11 +27,14 @@ decreases-check_children l = 4 * (length l.entries.now + length l.payloads.now) 
 abbrev pub decreases-check_keys : goal.decreases-check_keys
 decreases-check_keys l = 4 * (length l.entries.now + length l.payloads.now) + 7
 
--- The whole can be children exactly if the rest can.
+-- The whole can be children exactly if the rest can: at every depth only then, and then at that of
+-- the check.
 abbrev pub invariant-check_children-loop-entry : goal.invariant-check_children-loop-entry
 invariant-check_children-loop-entry l = record {
-  same : HasChildren l.depth l.entries_left l.payloads_left
-      ↔ HasChildren l.depth l.entries l.payloads;
+  onward : (d : ℕ) → HasChildren d l.entries l.payloads
+      → HasChildren d l.entries_left l.payloads_left;
+  back : HasChildren l.depth l.entries_left l.payloads_left
+      → HasChildren l.depth l.entries l.payloads;
   words : length l.entries_left % 4 ≡ 0;
   entries_shorter : length l.entries_left ≤ length l.entries;
   payloads_shorter : length l.payloads_left ≤ length l.payloads;
