@@ -1,14 +1,15 @@
 #!/usr/bin/env bash
 # Runs the programs jsonb_cli and jsonb_column_cli with their standard streams closed, full or
-# broken, or failing once after some bytes, with memory refused, and with input that waits for the
-# answers to the lines before, and compares the status, the line on standard error and what was
-# written with what they must be.
+# broken, or failing once after some bytes, with memory refused, with documents that nest deep, and
+# with input that waits for the answers to the lines before, and compares the status, the line on
+# standard error and what was written with what they must be.
 #
 #     tools/main_faults.sh
 #
-# It takes what `rt ci` or `rt run` leaves, crates/PROGRAM/out/PROGRAM. A C compiler ($CC, or cc) is
-# needed for tools/refuse_request.c and fault_streams.c, and /dev/full. The status is 1 where a case
-# differs.
+# It takes what `rt ci` or `rt run` leaves, crates/PROGRAM/out/PROGRAM, and for deep documents also
+# what Rattle's own compiler built, PROGRAM.by-rattle, where it is there. A C compiler ($CC, or cc)
+# is needed for tools/refuse_request.c and fault_streams.c, Python 3.8, and /dev/full. The status is
+# 1 where a case differs.
 set -uo pipefail
 top=$(cd "$(dirname "$0")/.." && pwd)
 work=$(mktemp -d)
@@ -138,13 +139,76 @@ run_faults() {
     expect 'output and standard error full' $? 1 '' ''
 }
 
+# The document of $1 arrays, each in the one before, in hexadecimal.
+nested() {
+    python3 -c '
+import sys
+words, size = ["80000000"], 4
+for _ in range(int(sys.argv[1]) - 1):
+    words.append(f"80000001{0x50000000 + size:08x}")
+    size += 8
+print("".join(reversed(words)))' "$1"
+}
+
+# The stored form of one row, a document in hexadecimal.
+stored() {
+    printf '%016x%s' $((${#1} / 2)) "$1"
+}
+
+# Runs both builds of the program on the lines $2, whose answers are $3, or begin so in $4 bytes.
+run_deep() {
+    local built
+    printf '%s\n' "$2" > "$work/lines"
+    for built in "$program" "$program.by-rattle"; do
+        [ -x "$built" ] || continue
+        "$built" < "$work/lines" 2> "$work/errors" | cut -b "1-${4:-}" > "$work/output"
+        expect "$1" "${PIPESTATUS[0]}" 0 '' "$3"$'\n'
+    done
+}
+
 run_faults jsonb_cli 'type 80000000' 'ok array 0'
 run_faults jsonb_cli 'enc [false,true]' 'ok 800000023000000040000000'
 run_in_pieces "$top"/tests/lines/jsonb_cli/each-command.{in,out}
 "$program" --help a b < "$work/line" > "$work/output" 2> "$work/errors"
 expect 'arguments are ignored' $? 0 '' "$answer"
 
+# The deepest document that is walked, one that nests one deeper, and a far deeper one.
+limit=4096
+text=$(printf '[%.0s' $(seq $limit))$(printf ']%.0s' $(seq $limit))
+least=$(nested $limit) over=$(nested $((limit + 1))) deep=$(nested 40000)
+run_deep 'a document at the limit' "dec $least
+cmp $least $least
+arr $least
+canon $least
+get $least \"k\"" "ok $text
+ok equal
+ok 8000000150$(printf '%06x' $((${#least} / 2)))$least
+ok $least
+ok none"
+run_deep 'a long text at the limit' "pretty $least"$'\ndec 80000000' $'ok 5b0a20205b0a20\nok []' 17
+for given in "$over" "$deep"; do
+    for line in "dec $given" "pretty $given" "cmp $given 80000000" "cmp 80000000 $given" \
+        "arr 80000000 $given" "canon $given" "get $given \"k\""; do
+        run_deep "too deep: ${line%% *}, $((${#given} / 2)) bytes" "$line"$'\ndec 80000000' \
+            $'error OutOfMemory\nok []'
+    done
+    run_deep "type of $((${#given} / 2)) bytes" "type $given" 'ok array 1'
+done
+# The first fault decides. The entry word 70000000 is one.
+entry=50$(printf '%06x' $((${#deep} / 2)))
+run_deep 'a fault before a deep item' "dec 8000000270000000$entry$deep" 'error InvalidJsonb'
+run_deep 'a fault after a deep item' "dec 80000002${entry}70000000$deep" 'error OutOfMemory'
+
 run_faults jsonb_column_cli 'find a 1' 'ok'
+run_deep 'a row at the limit' "load $(stored "$least")
+sort
+load $(stored 80000000)$(stored "$over")
+load $(stored "$deep")
+row 0" "ok
+ok $text
+error OutOfMemory
+error OutOfMemory
+ok $text"
 usage=$("$program" --help < "$work/line" 2> "$work/errors")$'\n'
 expect 'help ends well' $? 0 '' ''
 "$program" --help > "$work/output" 2> "$work/errors" < "$work/line"

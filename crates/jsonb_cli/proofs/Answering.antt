@@ -28,7 +28,7 @@ use Rattle.jsonb.specs.Parsing.{ParsesTo}
 use Rattle.answer_lines.specs.Session as session
 use Rattle.jsonb_cli.specs.declared.answer.Answer.{Answer}
 use Rattle.jsonb_cli.specs.declared.answer.Refusal.{Refusal}
-use Rattle.jsonb_cli.specs.declared.answer.Refusal.TheVariants.{BadHex, Call}
+use Rattle.jsonb_cli.specs.declared.answer.Refusal.TheVariants.{BadHex, TooDeep, Call}
 use Rattle.jsonb_cli.specs.Each as each
 use Rattle.jsonb_cli.specs.Each.{Each}
 use Rattle.jsonb_cli.specs.AnswerLine.{error_line, refusal_name, outcome_line}
@@ -125,12 +125,13 @@ one_more_read word bytes read is hex pushed = record {
 
 pub arr_unread : {words rest : List (List ℕ)} (left : List (List ℕ)) {held : List ItemView}
     (word : List ℕ) {refusal : Refusal} → IsRead words rest held → rest ≡ word ∷ left
-    → (refusal ≡ BadHex) ⊎ (refusal ≡ Call OutOfMemory)
+    → (refusal ≡ BadHex) ⊎ ((refusal ≡ TooDeep) ⊎ (refusal ≡ Call OutOfMemory))
     → (refusal ≡ BadHex → (bytes : List ℕ) → IsHexOf bytes word → ⊥)
     → IsReply IsArrAnswer words (error_line (refusal_name refusal))
 arr_unread left word read is (inl bad) none =
     inl (bad_hex read.before left word (rw is at read.parts) (none bad) (rw bad))
-arr_unread left word read is (inr memory) none = inr (rw memory)
+arr_unread left word read is (inr (inl deep)) none = inr (rw deep)
+arr_unread left word read is (inr (inr memory)) none = inr (rw memory)
 
 pub all_read : {words : List (List ℕ)} {held : List ItemView} (read : IsRead words [] held)
     → Each IsHexOf read.inputs words

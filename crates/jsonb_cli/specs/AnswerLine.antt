@@ -4,10 +4,11 @@ use Rattle.std.specs.String.{string_bytes}
 use Rattle.std.specs.Fmt.{decimal}
 use Rattle.hex.specs.Hex.{encode_lower}
 use Rattle.jsonb_value.specs.ErrorName.{name_of}
+use Rattle.jsonb_value.specs.declared.error.Error.TheVariants.{OutOfMemory}
 use Rattle.jsonb_cli.specs.declared.answer.Answer.{Answer}
 use Rattle.jsonb_cli.specs.declared.answer.Answer.TheVariants.{Hex, Text, Word, Counted}
 use Rattle.jsonb_cli.specs.declared.answer.Refusal.{Refusal}
-use Rattle.jsonb_cli.specs.declared.answer.Refusal.TheVariants.{BadCommand, BadHex, Call}
+use Rattle.jsonb_cli.specs.declared.answer.Refusal.TheVariants.{BadCommand, BadHex, TooDeep, Call}
 
 -- The line of a command that succeeds with these words.
 abbrev pub ok_line : List ℕ → List ℕ
@@ -21,6 +22,7 @@ error_line name = codes "error " ++ name
 abbrev pub refusal_name : Refusal → List ℕ
 refusal_name BadCommand = codes "BadCommand"
 refusal_name BadHex = codes "BadHex"
+refusal_name TooDeep = name_of OutOfMemory
 refusal_name (Call error) = name_of error
 
 -- The words of an answer.

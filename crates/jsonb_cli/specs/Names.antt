@@ -5,6 +5,7 @@ pub use Rattle.std.specs.Io.KnownBytes.{IsAtEnd}
 pub use Rattle.jsonb_value.specs.Text.{compact, pretty}
 pub use Rattle.jsonb_value.specs.Tree.{Tree}
 pub use Rattle.jsonb_value.specs.declared.error.Error.TheVariants.{OutOfMemory}
+pub use Rattle.jsonb_codec.specs.Depth.{IsDocumentWithin}
 pub use Rattle.jsonb_codec.specs.Doc.{Doc, IsDocument}
 pub use Rattle.jsonb.specs.Code.{CanBeStored, item_document}
 pub use Rattle.jsonb.specs.Document.{document_bytes}

@@ -26,6 +26,8 @@ pub enum Refusal {
     BadCommand,
     /// A word is not hexadecimal.
     BadHex,
+    /// The bytes of a word nest too deep: the memory that lacks is that of the stack.
+    TooDeep,
     /// A call of the library returned this error.
     Call(Error),
 }
@@ -46,6 +48,7 @@ impl Refusal {
         match self {
             Refusal::BadCommand => "BadCommand",
             Refusal::BadHex => "BadHex",
+            Refusal::TooDeep => Error::OutOfMemory.name(),
             Refusal::Call(error) => error.name(),
         }
     }

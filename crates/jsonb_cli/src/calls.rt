@@ -11,7 +11,7 @@ ghost use Rattle.jsonb_cli.specs.Names.{IsArrAnswer, IsCanonAnswer, IsReply, IsH
 ghost use Rattle.jsonb_cli.specs.Names.{order_words};
 
 use crate::answer::{Answer, Refusal};
-use crate::command::decode_word;
+use crate::command::{decode_shallow, decode_word};
 use crate::words::Words;
 use jsonb::{
     ArrayBuilder, Document, Error, JsonbItem, JsonbItemType, OwnedJsonb, RawJsonb, parse_string,
@@ -37,7 +37,7 @@ pub fn answer_enc(alloc: Global, text: &[u8]) -> Result<Answer, Refusal>
 pub fn answer_dec(alloc: Global, word: &[u8]) -> Result<Answer, Refusal>
     ensures { IsReply IsDecAnswer word.now (outcome_line result) }
 {
-    let bytes = decode_word(alloc, word)?;
+    let bytes = decode_shallow(alloc, word)?;
     match document_text(alloc, &bytes) {
         Ok(text) => Ok(Answer::Text(text)),
         Err(error) => Err(Refusal::Call(error)),
@@ -48,7 +48,7 @@ pub fn answer_dec(alloc: Global, word: &[u8]) -> Result<Answer, Refusal>
 pub fn answer_pretty(alloc: Global, word: &[u8]) -> Result<Answer, Refusal>
     ensures { IsReply IsPrettyAnswer word.now (outcome_line result) }
 {
-    let bytes = decode_word(alloc, word)?;
+    let bytes = decode_shallow(alloc, word)?;
     match pretty_document_text(alloc, &bytes) {
         Ok(text) => Ok(Answer::Hex(text.into_bytes())),
         Err(error) => Err(Refusal::Call(error)),
@@ -88,8 +88,8 @@ fn pretty_document_text(alloc: Global, bytes: &[u8]) -> Result<String, Error>
 pub fn answer_cmp(alloc: Global, left: &[u8], right: &[u8]) -> Result<Answer, Refusal>
     ensures { IsReply (IsCmpAnswer left.now) right.now (outcome_line result) }
 {
-    let left = decode_word(alloc, left)?;
-    let right = decode_word(alloc, right)?;
+    let left = decode_shallow(alloc, left)?;
+    let right = decode_shallow(alloc, right)?;
     let order = RawJsonb::new(&left).cmp(&RawJsonb::new(&right));
     Ok(Answer::Word(order_word(order)))
 }
@@ -126,10 +126,10 @@ fn push_document(alloc: Global, builder: &mut ArrayBuilder, word: &[u8]) -> Resu
     ensures ok { OnOk result ((bytes : List ℕ) × (IsHexOf bytes word.now
         × (builder.new ≡ builder.old ++ owned bytes ∷ []))) }
     ensures bad { IsErrOf result Refusal.BadHex → (bytes : List ℕ) → IsHexOf bytes word.now → ⊥ }
-    ensures refused { IfErr result (λ refusal.
-        (refusal ≡ Refusal.BadHex) ⊎ (refusal ≡ Refusal.Call OutOfMemory)) }
+    ensures refused { IfErr result (λ refusal. (refusal ≡ Refusal.BadHex)
+        ⊎ ((refusal ≡ Refusal.TooDeep) ⊎ (refusal ≡ Refusal.Call OutOfMemory))) }
 {
-    let document = OwnedJsonb::new(decode_word(alloc, word)?);
+    let document = OwnedJsonb::new(decode_shallow(alloc, word)?);
     if builder.push_owned_jsonb(document).is_err() {
         return Err(Refusal::Call(Error::OutOfMemory));
     }
@@ -140,7 +140,7 @@ fn push_document(alloc: Global, builder: &mut ArrayBuilder, word: &[u8]) -> Resu
 pub fn answer_canon(alloc: Global, word: &[u8]) -> Result<Answer, Refusal>
     ensures { IsReply IsCanonAnswer word.now (outcome_line result) }
 {
-    let bytes = decode_word(alloc, word)?;
+    let bytes = decode_shallow(alloc, word)?;
     match RawJsonb::new(&bytes).to_canonical(alloc) {
         Ok(document) => Ok(Answer::Hex(document.to_vec())),
         Err(error) => Err(Refusal::Call(error)),
@@ -177,7 +177,7 @@ fn kind_answer(kind: JsonbItemType) -> Answer
 pub fn answer_get(alloc: Global, word: &[u8], key: &[u8]) -> Result<Answer, Refusal>
     ensures { IsReply (IsGetAnswer word.now) key.now (outcome_line result) }
 {
-    let bytes = decode_word(alloc, word)?;
+    let bytes = decode_shallow(alloc, word)?;
     let Ok(json) = str::from_utf8(key) else {
         return Err(Refusal::Call(Error::InvalidUtf8));
     };

@@ -1,9 +1,10 @@
 //! The grammar of commands, and executing them.
 
-ghost use Rattle.std.specs.Prelude.{◌≡◌, ◌⊎◌, ◌++◌, ℕ, List, codes, IfSome, IfNone, IfOk, IfErr};
-ghost use Rattle.std.specs.Prelude.{IsErrOf};
+ghost use Rattle.std.specs.Prelude.{◌≡◌, ◌⊎◌, ◌↔◌, ◌++◌, ℕ, List, codes, IfSome, IfNone, IfOk};
+ghost use Rattle.std.specs.Prelude.{IfErr, IsErrOf};
 ghost use Rattle.jsonb_cli.specs.Names.{OutOfMemory, Form, IsOfForm, form_of, outcome_line};
 ghost use Rattle.jsonb_cli.specs.Names.{IsAnswer, IsFormAnswer, IsReply, IsLineReply, IsHexOf};
+ghost use Rattle.jsonb_cli.specs.Names.{IsDocument, IsDocumentWithin};
 
 use crate::answer::{Answer, Refusal};
 use crate::calls::{
@@ -12,8 +13,12 @@ use crate::calls::{
 };
 use crate::words::{Words, split_word};
 use hex::FromHexError;
-use jsonb::Error;
+use jsonb::{Error, nests_deeper};
 use std::alloc::Global;
+
+/// How deep the bytes of a word may nest if a command walks them. A level took at most 823 bytes of
+/// stack where it was measured, so this takes less than half of the usual 8 MB.
+pub const MAX_DEPTH: usize = 4096;
 
 /// A command with its arguments: a text, or words.
 #[derive(Drop)]
@@ -131,4 +136,24 @@ pub fn decode_word(alloc: Global, word: &[u8]) -> Result<Vec<u8>, Refusal>
         Err(FromHexError::OutOfMemory) => Err(Refusal::Call(Error::OutOfMemory)),
         Err(_) => Err(Refusal::BadHex),
     }
+}
+
+/// The bytes of a hexadecimal word, as `decode_word` returns them, for a command that walks them.
+/// `TooDeep` if checking them goes deeper than `MAX_DEPTH`, which never happens with a document
+/// that nests at most so deep.
+pub fn decode_shallow(alloc: Global, word: &[u8]) -> Result<Vec<u8>, Refusal>
+    ensures ok { IfOk result (λ bytes. IsHexOf bytes.items word.now) }
+    ensures shallow { IfOk result
+        (λ bytes. IsDocument bytes.items ↔ IsDocumentWithin MAX_DEPTH bytes.items) }
+    ensures bad { IsErrOf result Refusal.BadHex → (bytes : List ℕ) → IsHexOf bytes word.now → ⊥ }
+    ensures deep { IsErrOf result Refusal.TooDeep → (bytes : List ℕ) → IsHexOf bytes word.now
+        → IsDocumentWithin MAX_DEPTH bytes → ⊥ }
+    ensures refused { IfErr result (λ refusal. (refusal ≡ Refusal.BadHex)
+        ⊎ ((refusal ≡ Refusal.TooDeep) ⊎ (refusal ≡ Refusal.Call OutOfMemory))) }
+{
+    let bytes = decode_word(alloc, word)?;
+    if nests_deeper(&bytes, MAX_DEPTH) {
+        return Err(Refusal::TooDeep);
+    }
+    Ok(bytes)
 }

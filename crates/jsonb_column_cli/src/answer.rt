@@ -17,6 +17,9 @@ use std::alloc::{AllocError, Global};
 /// How deep the text of a line may nest. Reading it takes about 2 KB of stack for each level.
 pub const MAX_DEPTH: usize = 1024;
 
+/// How deep a row may nest that is loaded. Walking it takes less than 1 KB of stack for each level.
+pub const MAX_ROW_DEPTH: usize = 4096;
+
 /// Why the reply to a line is an error.
 #[derive(Clone, Copy, Debug, PartialEq, Eq)]
 pub enum Refusal {
@@ -257,6 +260,6 @@ pub fn answer_load(alloc: Global, column: &mut Column, word: &str) -> Result<Str
         Err(FromHexError::OutOfMemory) => return Err(Refusal::Call(Error::OutOfMemory)),
         Err(_) => return Err(Refusal::BadHex),
     };
-    *column = Column::read_from(alloc, &bytes)?;
+    *column = Column::read_within(alloc, &bytes, MAX_ROW_DEPTH)?;
     Ok(reply)
 }
