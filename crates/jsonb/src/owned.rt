@@ -151,11 +151,7 @@ impl OwnedJsonb {
     }
 
     // The document of a text, with exponents if they are allowed.
-    fn parse_under(
-        alloc: Global,
-        text: &str,
-        exponents: Exponents,
-    ) -> Result<OwnedJsonb, Error>
+    fn parse_under(alloc: Global, text: &str, exponents: Exponents) -> Result<OwnedJsonb, Error>
         ensures value { ParsesUnder exponents text.now (bytes_of result) }
         ensures parsed { IfOk result
             (λ owned. IsParsedUnder exponents text.now (owned_bytes owned)) }

@@ -1,9 +1,4 @@
-pub mod TapeLaws
-pub mod MemberOrder
-pub mod TapeGrowth
-pub mod TapeClosing
-pub mod TapeMembers
-pub mod TapeWriting
+pub mod OnTape
 pub mod Appending
 pub mod RoomLaws
 pub mod Words

@@ -1,5 +1,6 @@
 -- A document means only one tree, and none is a proper prefix of another.
-use Rattle.std.proofs.Common.{◌≡◌, ℕ, ◌+◌, List, [], ◌++◌, true, false, length, inl, inr, refl, sym, ap}
+use Rattle.std.proofs.Common.{◌≡◌, ℕ, ◌+◌, List, [], ◌++◌, true, false, length, inl, inr, refl, sym}
+use Rattle.std.proofs.Common.{ap}
 use Rattle.std.proofs.Common.{ap₂, subst, ◌∙◌, arith, append-nil}
 use Rattle.jsonb_value.specs.Tree.{Tree, null, boolean, number, text, extension, array, object}
 use Rattle.jsonb_value.specs.Tree.{Trees, no_trees, tree, Pairs, no_pairs, pair, pair_count}

@@ -1,6 +1,7 @@
 -- What the tape of a text holds.
 use Rattle.std.specs.Prelude.{◌≡◌, ◌<◌, ◌≤◌, ◌+◌, ◌-◌, ◌^◌, ℕ, Bool, true, false, List, [], ◌∷◌}
-use Rattle.std.specs.Prelude.{◌++◌, length, take, drop, reverse, Option, Some, None, IfSome, IsUtf8, ⊤}
+use Rattle.std.specs.Prelude.{◌++◌, length, take, drop, reverse, Option, Some, None, IfSome, IsUtf8}
+use Rattle.std.specs.Prelude.{⊤}
 use Rattle.std.specs.Ordering.{nat_cmp}
 use Rattle.std.specs.declared.alloc.Global.{Global}
 use Rattle.std.specs.declared.borrow.CowStr.{CowStr}

@@ -171,8 +171,8 @@ impl<'a> Sink<'a> for Tape<'a> {
 
 /// The canonical document of a JSON text, with exponents if they are allowed. `InvalidJson` if the
 /// text is not accepted by `parse_value`, or with exponents by `parse_value_with_exponents`;
-/// `InvalidJsonb` if a payload, a key or a count of its value exceeds its limit; `OutOfMemory` if an
-/// allocation fails. Reading and writing take no stack for the depth of the text.
+/// `InvalidJsonb` if a payload, a key or a count of its value exceeds its limit; `OutOfMemory` if
+/// an allocation fails. Reading and writing take no stack for the depth of the text.
 pub fn encode_text(alloc: Global, text: &str, exponents: Exponents) -> Result<Vec<u8>, Error>
     ensures ok { IfOk result (λ document. (t : Tree) × (JsonText exponents (chars text.now) t
         × (IsTree t × (Fits t × (document.items ≡ canon t))))) }
@@ -188,7 +188,9 @@ pub fn encode_text(alloc: Global, text: &str, exponents: Exponents) -> Result<Ve
     let mut tape = Tape::new(alloc);
     read_text(alloc, &mut tape, text, exponents)?;
     let Tape {
-        storage, innermost, ..
+        storage,
+        innermost,
+        ..
     } = tape;
     match innermost {
         Container::Whole(Some(entry)) => write_document(alloc, &storage, entry),

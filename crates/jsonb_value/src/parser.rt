@@ -12,12 +12,11 @@ mod sink;
 mod string;
 mod trees;
 
+use crate::error::Error;
+use crate::value::Value;
 pub use number::Exponents;
 pub use reader::read_text;
 pub use sink::Sink;
-
-use crate::error::Error;
-use crate::value::Value;
 use std::alloc::Global;
 use trees::Trees;
 

@@ -8,7 +8,8 @@ ghost use Rattle.jsonb_value.specs.Tree.{Tree, Ascend};
 ghost use Rattle.jsonb_value.specs.Value.{cow_bytes};
 ghost use Rattle.jsonb_value.specs.Words.{insert_entry, slice_cmp, nat_cmp};
 ghost use Rattle.jsonb_codec.specs.declared.tape.storage.Storage.{Storage};
-ghost use Rattle.jsonb_codec.specs.Tape.{ArrayIs, ObjectIs, ObjectAt, MembersAre, IsMade, LastBelow};
+ghost use Rattle.jsonb_codec.specs.Tape.{ArrayIs, ObjectIs, ObjectAt, MembersAre, IsMade};
+ghost use Rattle.jsonb_codec.specs.Tape.{LastBelow};
 ghost use Rattle.jsonb_codec.specs.Tape.{member_of};
 
 use super::entry::Entry;

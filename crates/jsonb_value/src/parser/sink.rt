@@ -2,7 +2,8 @@
 
 ghost use Rattle.std.specs.Prelude.{◌≡◌, List, [], ◌∷◌, OnOk, IfErr};
 ghost use Rattle.jsonb_value.specs.declared.error.Error.TheVariants.{OutOfMemory};
-ghost use Rattle.jsonb_value.specs.Tree.{Tree, array, object, no_trees, null, boolean, number, text};
+ghost use Rattle.jsonb_value.specs.Tree.{Tree, array, object, no_trees, null, boolean, number};
+ghost use Rattle.jsonb_value.specs.Tree.{text};
 ghost use Rattle.jsonb_value.specs.Value.{trees_of, cow_bytes};
 ghost use Rattle.jsonb_value.specs.Json.Syntax.{Entries, pairs};
 ghost use Rattle.jsonb_value.specs.Reader.Resume.{State, going, Content, items, members, put};
@@ -12,8 +13,8 @@ use crate::error::Error;
 use crate::number::Number;
 use std::borrow::CowStr;
 
-/// Receives what the reader meets, in order: scalars, keys before their values, and where arrays and
-/// objects begin and end. Each call fails only if an allocation does.
+/// Receives what the reader meets, in order: scalars, keys before their values, and where arrays
+/// and objects begin and end. Each call fails only if an allocation does.
 pub trait Sink<'a> {
     ghost is: { Self → State → Type 0 };
 

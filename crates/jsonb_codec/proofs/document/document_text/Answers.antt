@@ -6,8 +6,11 @@ use Rattle.jsonb_codec.proofs.Words.{length-word-append}
 use Rattle.jsonb_codec.proofs.Steps.{reading}
 use Rattle.jsonb_codec.proofs.TextDocuments.{text_room, text_header, text_entry}
 use Rattle.jsonb_codec.proofs.document.document_text.Goals as goal
+use Rattle.jsonb_codec.proofs.document.document_text.Goals.{}
 use Rattle.jsonb_codec.proofs.document.document_text.Goals.{then-header-ne-SCALAR_CONTAINER_TAG-via-then-header-ne-SCALAR_CONTAINER_TAG}
+use Rattle.jsonb_codec.proofs.document.document_text.Goals.{}
 use Rattle.jsonb_codec.proofs.document.document_text.Goals.{then-header-ne-SCALAR_CONTAINER_TAG-via-else-header-ne-SCALAR_CONTAINER_TAG+then-entry-ne-STRING_TAG}
+use Rattle.jsonb_codec.proofs.document.document_text.Goals.{}
 use Rattle.jsonb_codec.proofs.document.document_text.Goals.{then-header-ne-SCALAR_CONTAINER_TAG-via-else-header-ne-SCALAR_CONTAINER_TAG+else-entry-ne-STRING_TAG+then-entry}
 
 pub returns-in_err-header-clause-none : goal.returns-in_err-header-clause-none

@@ -16,8 +16,8 @@ pub returns-in_err-encode_text-clause-value : goal.returns-in_err-encode_text-cl
 returns-in_err-encode_text-clause-value c =
     let is : c.from_residual.result ≡ Err c.in_err-encode_text.field-0.0 = search rules in
     let known = c.in_err-encode_text.ensures in
-    rw is (refused c.args.exponents c.args.text.now _ (λ e. known.invalid (ap Err e)) (λ e. known.past (ap Err e))
-    known.only)
+    rw is (refused c.args.exponents c.args.text.now _ (λ e. known.invalid (ap Err e))
+    (λ e. known.past (ap Err e)) known.only)
 
 pub returns-clause-value : goal.returns-clause-value
 returns-clause-value c =

@@ -4,7 +4,7 @@ use Rattle.jsonb_value.specs.Reader.Resume.{Adds}
 use Rattle.jsonb_value.specs.Tree.{Tree}
 use Rattle.jsonb_codec.specs.Tape.{IsMade, IsScalar, tape_is}
 use Rattle.jsonb_codec.specs.declared.tape.Tape.{Tape}
-use Rattle.jsonb_codec.proofs.TapeGrowth.{added_after, scalar_made}
+use Rattle.jsonb_codec.proofs.OnTape.Growth.{added_after, scalar_made}
 use Rattle.jsonb_codec.proofs.tape.Tape.add_scalar.Goals as goal
 
 pub returns-clause-ok : goal.returns-clause-ok

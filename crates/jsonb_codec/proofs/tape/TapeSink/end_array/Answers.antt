@@ -5,7 +5,7 @@ use Rattle.jsonb_value.specs.Tree.{Tree, array}
 use Rattle.jsonb_value.specs.Value.{trees_of}
 use Rattle.jsonb_codec.specs.Tape.{ArrayIs, ContainerIs, IsMade, tape_is}
 use Rattle.jsonb_codec.specs.declared.tape.Tape.{Tape}
-use Rattle.jsonb_codec.proofs.TapeGrowth.{added_after}
+use Rattle.jsonb_codec.proofs.OnTape.Growth.{added_after}
 use Rattle.jsonb_codec.proofs.tape.TapeSink.end_array.Goals as goal
 
 pub returns-clause-ok : goal.returns-clause-ok

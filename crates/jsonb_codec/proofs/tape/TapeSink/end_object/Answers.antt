@@ -5,7 +5,7 @@ use Rattle.jsonb_value.specs.Reader.Resume.{Adds, Content, going, members, put}
 use Rattle.jsonb_value.specs.Tree.{Tree, object}
 use Rattle.jsonb_codec.specs.Tape.{ContainerIs, IsMade, ObjectIs, tape_is}
 use Rattle.jsonb_codec.specs.declared.tape.Tape.{Tape}
-use Rattle.jsonb_codec.proofs.TapeGrowth.{added_after}
+use Rattle.jsonb_codec.proofs.OnTape.Growth.{added_after}
 use Rattle.jsonb_codec.proofs.tape.TapeSink.end_object.Goals as goal
 
 pub returns-clause-ok : goal.returns-clause-ok

@@ -4,7 +4,7 @@ use Rattle.jsonb_value.specs.Reader.Resume.{Adds}
 use Rattle.jsonb_value.specs.Tree.{Tree, number}
 use Rattle.jsonb_codec.specs.Tape.{IsMade, tape_is}
 use Rattle.jsonb_codec.specs.declared.tape.Tape.{Tape}
-use Rattle.jsonb_codec.proofs.TapeGrowth.{added_after}
+use Rattle.jsonb_codec.proofs.OnTape.Growth.{added_after}
 use Rattle.jsonb_codec.proofs.tape.TapeSink.number.Goals as goal
 
 pub returns-clause-ok : goal.returns-clause-ok

@@ -1,5 +1,5 @@
 use Rattle.std.proofs.Common.{arith, rules}
-use Rattle.jsonb_codec.proofs.TapeMembers.{all_left, none_left, one_more}
+use Rattle.jsonb_codec.proofs.OnTape.Members.{all_left, none_left, one_more}
 use Rattle.jsonb_codec.proofs.tape.open.by_key.Goals as goal
 
 pub loop-member-init : goal.loop-member-init

@@ -1,7 +1,7 @@
 use Rattle.jsonb_value.specs.Json.Syntax.{Entries}
 use Rattle.jsonb_codec.specs.declared.tape.storage.Storage.{Storage}
 use Rattle.jsonb_codec.specs.Tape.{MembersAre}
-use Rattle.jsonb_codec.proofs.TapeMembers.{LeftOver}
+use Rattle.jsonb_codec.proofs.OnTape.Members.{LeftOver}
 use Rattle.jsonb_codec.proofs.tape.open.by_key.Given as goal
 
 abbrev pub invariant-loop-member : goal.invariant-loop-member

@@ -1,6 +1,6 @@
 use Rattle.std.proofs.Common.{rules, ◌≡◌, map}
 use Rattle.jsonb_codec.specs.Tape.{member_of}
-use Rattle.jsonb_codec.proofs.TapeMembers.{sorted_read}
+use Rattle.jsonb_codec.proofs.OnTape.Members.{sorted_read}
 use Rattle.jsonb_codec.proofs.tape.open.in_order.Goals as goal
 
 pub returns-clause-ok : goal.returns-clause-ok

@@ -1,5 +1,5 @@
 use Rattle.std.proofs.Common.{rules, None}
-use Rattle.jsonb_codec.proofs.TapeMembers.{last_below}
+use Rattle.jsonb_codec.proofs.OnTape.Members.{last_below}
 use Rattle.jsonb_codec.proofs.tape.open.still_ascends.Goals as goal
 
 pub returns-in-Some-clause-last : goal.returns-in-Some-clause-last

@@ -1,7 +1,7 @@
 use Rattle.std.proofs.Common.{◌++◌, ◌≡◌, List, rules, subst, ℕ}
 use Rattle.std.proofs.lemmas.Result.{on_ok_weaker}
 use Rattle.jsonb_codec.specs.Tape.{PieceIs, PiecesAre}
-use Rattle.jsonb_codec.proofs.TapeWriting.{block_own}
+use Rattle.jsonb_codec.proofs.OnTape.Writing.{block_own}
 use Rattle.jsonb_codec.proofs.tape.write.append_piece.Goals as goal
 
 pub returns-in-Block-clause-ok : goal.returns-in-Block-clause-ok

@@ -1,8 +1,8 @@
 use Rattle.std.proofs.Common.{◌≡◌, ◌∷◌, ◌∙◌, [], ap, refl, reverse, rules, subst, sym}
 use Rattle.jsonb_codec.specs.declared.tape.pieces.Piece.TheVariants as piece
-use Rattle.jsonb_codec.proofs.TapeWriting.{ListsAre, block_goes_on, block_less, block_next}
-use Rattle.jsonb_codec.proofs.TapeWriting.{nothing_next, one_list, popped, pushed, run_goes_on}
-use Rattle.jsonb_codec.proofs.TapeWriting.{run_less, run_next}
+use Rattle.jsonb_codec.proofs.OnTape.Writing.{ListsAre, block_goes_on, block_less, block_next}
+use Rattle.jsonb_codec.proofs.OnTape.Writing.{nothing_next, one_list, popped, pushed, run_goes_on}
+use Rattle.jsonb_codec.proofs.OnTape.Writing.{run_less, run_next}
 use Rattle.jsonb_codec.proofs.tape.write.append_pieces.Goals as goal
 
 pub lists-init : goal.lists-init

@@ -1,6 +1,6 @@
 use Rattle.std.proofs.Common.{◌≡◌, ◌++◌, ℕ, List, reverse}
 use Rattle.jsonb_codec.specs.Tape.{PiecesAre}
-use Rattle.jsonb_codec.proofs.TapeWriting.{ListsAre, lists_weight}
+use Rattle.jsonb_codec.proofs.OnTape.Writing.{ListsAre, lists_weight}
 use Rattle.jsonb_codec.proofs.tape.write.append_pieces.Given as goal
 
 abbrev pub invariant-lists : goal.invariant-lists

@@ -1,6 +1,6 @@
 use Rattle.std.proofs.Common.{◌≡◌, ◌∙◌, rules, sym}
 use Rattle.jsonb_codec.specs.Canon.{payload_of}
-use Rattle.jsonb_codec.proofs.TapeWriting.{container_canon}
+use Rattle.jsonb_codec.proofs.OnTape.Writing.{container_canon}
 use Rattle.jsonb_codec.proofs.tape.write.write_document.Goals as goal
 
 pub returns-then-entry-eq-CONTAINER_TAG-clause-ok :

@@ -1,6 +1,6 @@
 use Rattle.std.proofs.Common.{rules, arith, refl, subst}
 use Rattle.jsonb_codec.specs.Tape.{IsMade}
-use Rattle.jsonb_codec.proofs.TapeLaws.{fit_last, item_pushed}
+use Rattle.jsonb_codec.proofs.OnTape.Pieces.{fit_last, item_pushed}
 use Rattle.jsonb_codec.proofs.tape.open.OpenArray.push.Goals as goal
 
 pub returns-in_default-clause-ok : goal.returns-in_default-clause-ok

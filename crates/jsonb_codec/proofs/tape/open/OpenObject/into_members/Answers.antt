@@ -1,4 +1,4 @@
-use Rattle.jsonb_codec.proofs.TapeMembers.{in_order_read}
+use Rattle.jsonb_codec.proofs.OnTape.Members.{in_order_read}
 use Rattle.jsonb_codec.proofs.tape.open.OpenObject.into_members.Goals as goal
 
 pub returns-then-ascends-clause-ok : goal.returns-then-ascends-clause-ok

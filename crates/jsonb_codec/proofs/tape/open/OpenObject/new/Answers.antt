@@ -1,4 +1,4 @@
-use Rattle.jsonb_codec.proofs.TapeMembers.{no_members}
+use Rattle.jsonb_codec.proofs.OnTape.Members.{no_members}
 use Rattle.jsonb_codec.proofs.tape.open.OpenObject.new.Goals as goal
 
 pub returns : goal.returns

@@ -1,5 +1,5 @@
 use Rattle.std.proofs.Common.{refl}
-use Rattle.jsonb_codec.proofs.TapeMembers.{member_pushed}
+use Rattle.jsonb_codec.proofs.OnTape.Members.{member_pushed}
 use Rattle.jsonb_codec.proofs.tape.open.OpenObject.push.Goals as goal
 
 pub returns-clause-ok : goal.returns-clause-ok

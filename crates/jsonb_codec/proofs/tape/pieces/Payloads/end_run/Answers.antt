@@ -1,5 +1,5 @@
 use Rattle.std.proofs.Common.{arith}
-use Rattle.jsonb_codec.proofs.TapeLaws.{ended_nothing, ended_run}
+use Rattle.jsonb_codec.proofs.OnTape.Pieces.{ended_nothing, ended_run}
 use Rattle.jsonb_codec.proofs.tape.pieces.Payloads.end_run.Goals as goal
 
 pub returns-then-self-clause-ok : goal.returns-then-self-clause-ok

@@ -1,5 +1,5 @@
 use Rattle.std.proofs.Common.{refl}
-use Rattle.jsonb_codec.proofs.TapeLaws.{no_payload}
+use Rattle.jsonb_codec.proofs.OnTape.Pieces.{no_payload}
 use Rattle.jsonb_codec.proofs.tape.pieces.Payloads.new.Goals as goal
 
 pub returns : goal.returns

@@ -1,6 +1,6 @@
 use Rattle.std.proofs.Common.{rules, refl, subst}
 use Rattle.jsonb_codec.specs.Tape.{PieceIs}
-use Rattle.jsonb_codec.proofs.TapeLaws.{run_joined, block_pushed}
+use Rattle.jsonb_codec.proofs.OnTape.Pieces.{run_joined, block_pushed}
 use Rattle.jsonb_codec.proofs.tape.pieces.Payloads.push.Goals as goal
 
 pub returns-then-run-self-clause-ok : goal.returns-then-run-self-clause-ok

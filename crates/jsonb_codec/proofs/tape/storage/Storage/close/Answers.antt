@@ -4,7 +4,7 @@ use Rattle.std.proofs.lemmas.List.{append-nil, length-drop}
 use Rattle.jsonb_codec.specs.Tape.{PieceIs}
 use Rattle.jsonb_codec.specs.declared.tape.pieces.Piece.TheVariants as piece
 use Rattle.jsonb_codec.specs.declared.tape.storage.Storage.{Storage}
-use Rattle.jsonb_codec.proofs.TapeClosing.{block_closed, closed_grown, nothing_grows, only_head}
+use Rattle.jsonb_codec.proofs.OnTape.Closing.{block_closed, closed_grown, nothing_grows, only_head}
 use Rattle.jsonb_codec.proofs.tape.storage.Storage.close.Goals as goal
 
 pub returns-then-is_empty-clause-grows : goal.returns-then-is_empty-clause-grows
@@ -67,7 +67,8 @@ returns-clause-ok c = λ p h same.
           ) c.since-head.ensures.bytes
           (omega (arith, c.requires, c.since-head.ensures.start, c.since-head.ensures.end))
           (c.in_ok-pieces.ensures.ok storage p h) (search rules) (returns-clause-grows c)
-          (closed_grown _ c.push.new.self.items _ pieces _ c.in_ok-push.ensures.items (search rules))
+          (closed_grown _ c.push.new.self.items _ pieces _ c.in_ok-push.ensures.items
+          (search rules))
           (search rules) (search rules)
           (omega (
             arith,

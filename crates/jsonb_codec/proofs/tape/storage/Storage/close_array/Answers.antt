@@ -3,8 +3,9 @@ use Rattle.jsonb_codec.specs.declared.constants.TheConstants.{ARRAY_CONTAINER_TA
 use Rattle.jsonb_codec.specs.declared.tape.storage.Storage.{Storage}
 use Rattle.jsonb_codec.specs.Word.{word}
 use Rattle.jsonb_codec.proofs.Words.{length-word}
-use Rattle.jsonb_codec.proofs.TapeClosing.{array_closed, array_too_long, array_unfit, nothing_grows}
-use Rattle.jsonb_codec.proofs.TapeClosing.{stored_grows, stored_since}
+use Rattle.jsonb_codec.proofs.OnTape.Closing.{array_closed, array_too_long, array_unfit}
+use Rattle.jsonb_codec.proofs.OnTape.Closing.{nothing_grows}
+use Rattle.jsonb_codec.proofs.OnTape.Closing.{stored_grows, stored_since}
 use Rattle.jsonb_codec.proofs.tape.storage.Storage.close_array.Goals as goal
 
 pub returns-then-not-parts-clause-ok : goal.returns-then-not-parts-clause-ok

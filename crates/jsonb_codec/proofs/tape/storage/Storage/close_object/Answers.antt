@@ -4,9 +4,9 @@ use Rattle.jsonb_codec.specs.declared.constants.TheConstants.{OBJECT_CONTAINER_T
 use Rattle.jsonb_codec.specs.declared.tape.storage.Storage.{Storage}
 use Rattle.jsonb_codec.specs.Word.{word}
 use Rattle.jsonb_codec.proofs.Words.{length-word}
-use Rattle.jsonb_codec.proofs.TapeClosing.{bytes_grow, grows_further, head_begins, head_goes_on}
-use Rattle.jsonb_codec.proofs.TapeClosing.{long_key, nothing_grows, object_closed, object_head}
-use Rattle.jsonb_codec.proofs.TapeClosing.{object_unfit, stored_grows, too_many}
+use Rattle.jsonb_codec.proofs.OnTape.Closing.{bytes_grow, grows_further, head_begins, head_goes_on}
+use Rattle.jsonb_codec.proofs.OnTape.Closing.{long_key, nothing_grows, object_closed, object_head}
+use Rattle.jsonb_codec.proofs.OnTape.Closing.{object_unfit, stored_grows, too_many}
 use Rattle.jsonb_codec.proofs.tape.storage.Storage.close_object.Goals as goal
 
 pub returns-then-count-gt-MAX_COUNT-clause-grows :
@@ -54,14 +54,15 @@ loop-member-preserved c =
         ),
         λ front h. head_goes_on c.args.self.now c.loop-member.self c.push_member.new.self _
             c.loop-member.keys c.push_member.new.keys c.loop-member.values c.push_member.new.values
-            c.loop-member.member-iterator.rest.items c.next.new.self.rest.items c.in-Some.member front
-            (c.loop-member.invariant.1.1 front h) (search rules) pushed,
+            c.loop-member.member-iterator.rest.items c.next.new.self.rest.items
+            c.in-Some.member front (c.loop-member.invariant.1.1 front h) (search rules) pushed,
       ),
     )
 
 pub returns-then-not-branch-clause-grows : goal.returns-then-not-branch-clause-grows
 returns-then-not-branch-clause-grows c =
-    grows_further c.args.self.now c.loop-member.self c.push_member.new.self c.loop-member.invariant.0
+    grows_further c.args.self.now c.loop-member.self c.push_member.new.self
+    c.loop-member.invariant.0
     (c.in_ok-push_member.ensures.long c.if-not-branch.true).0
 
 pub returns-then-not-branch-clause-ok : goal.returns-then-not-branch-clause-ok
@@ -96,7 +97,8 @@ returns-clause-grows c =
     grows_further c.args.self.now mid c.close.new.self
     (grows_further c.args.self.now now mid c.loop-member.invariant.0
     (stored_grows now mid c.extend_from_slice.new.self.items c.deref.result.now c.deref-2.result.now
-    c.in_ok-extend_from_slice.ensures.items c.in_ok-extend_from_slice-2.ensures.items (search rules)))
+    c.in_ok-extend_from_slice.ensures.items c.in_ok-extend_from_slice-2.ensures.items
+    (search rules)))
     c.in_ok-close.ensures.grows
 
 pub returns-clause-ok : goal.returns-clause-ok
@@ -115,7 +117,8 @@ returns-clause-ok c = λ front h ascend.
     search rules in
     let last : mid.bytes.items ≡ c.extend_from_slice.new.self.items ++ keys = search rules in
     object_closed old now mid c.close.new.self n keys values left c.args.members.items front
-    c.in_ok-close.field-0 (drop c.len-start.result mid.bytes.items) done none c.if-not-values.false h
+    c.in_ok-close.field-0 (drop c.len-start.result mid.bytes.items) done none
+    c.if-not-values.false h
     (search rules) (search rules) ascend
     (grows_further old now mid c.loop-member.invariant.0
     (stored_grows now mid c.extend_from_slice.new.self.items values.words.items keys more last

@@ -1,7 +1,7 @@
 use Rattle.std.proofs.Common.{◌<◌, length}
 use Rattle.jsonb_value.specs.Json.Syntax.{Entries}
 use Rattle.jsonb_codec.specs.Tape.{Grows, MembersAre}
-use Rattle.jsonb_codec.proofs.TapeClosing.{HeadIs}
+use Rattle.jsonb_codec.proofs.OnTape.Closing.{HeadIs}
 use Rattle.jsonb_codec.proofs.tape.storage.Storage.close_object.Given as goal
 
 abbrev pub invariant-loop-member : goal.invariant-loop-member

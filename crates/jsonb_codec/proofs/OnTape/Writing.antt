@@ -1,16 +1,19 @@
 -- Copying the pieces of a payload one by one.
-use Rattle.std.proofs.Common.{◌≡◌, ℕ, ◌+◌, ◌-◌, ◌*◌, ◌<◌, ◌≤◌, ◌^◌, refl, sym, ap, subst, ◌∙◌, List, []}
+use Rattle.std.proofs.Common.{◌≡◌, ℕ, ◌+◌, ◌-◌, ◌*◌, ◌<◌, ◌≤◌, ◌^◌, refl, sym, ap, subst, ◌∙◌, List}
+use Rattle.std.proofs.Common.{[]}
 use Rattle.std.proofs.Common.{◌∷◌, ◌++◌, length, arith, length-append, drop}
 use Rattle.std.specs.Prelude.{◌≢◌, Option, Some, option_to_list, reverse}
 use Rattle.std.specs.Borrow.{Bor}
 use Rattle.std.proofs.Common.{true, false}
-use Rattle.std.proofs.lemmas.List.{append_assoc, append-nil, length-drop, length-take-le, reverse-append}
+use Rattle.std.proofs.lemmas.List.{append_assoc, append-nil, length-drop, length-take-le}
+use Rattle.std.proofs.lemmas.List.{reverse-append}
 use Rattle.jsonb_value.specs.Tree.{Tree, null, boolean, number, text, extension, array, object}
 use Rattle.jsonb_codec.specs.Word.{word}
 use Rattle.jsonb_codec.specs.Shape.{FitsInside, type_of}
 use Rattle.jsonb_codec.specs.Canon.{shape_of, payload_of, canon, Fits}
 use Rattle.jsonb_codec.specs.declared.constants.TheConstants.{SCALAR_CONTAINER_TAG, CONTAINER_TAG}
-use Rattle.jsonb_codec.specs.Tape.{run_bytes, IsRun, block_pieces, PiecesAre, no_piece, run_piece, block_piece}
+use Rattle.jsonb_codec.specs.Tape.{run_bytes, IsRun, block_pieces, PiecesAre, no_piece, run_piece}
+use Rattle.jsonb_codec.specs.Tape.{block_piece}
 use Rattle.jsonb_codec.specs.declared.tape.pieces.Run.{Run}
 use Rattle.jsonb_codec.specs.declared.tape.pieces.Block.{Block}
 use Rattle.jsonb_codec.specs.declared.tape.pieces.Piece.{Piece}
@@ -84,7 +87,8 @@ pushed old new x more = ap reverse more ∙ reverse-append old (x ∷ [])
 -- the next list is empty
 pub nothing_next : (s : Storage) (x : Bor (List Piece)) (xs : List (Bor (List Piece))) (r : List ℕ)
     → ListsAre s (x ∷ xs) r → x.now ≡ [] → ListsAre s xs r
-nothing_next s x xs r h is = by (h.0) (subst (λ ps. PiecesAre s ps h.0) is h.1.1.0) h.1.1.1.0 h.1.1.1.1
+nothing_next s x xs r h is =
+    by (h.0) (subst (λ ps. PiecesAre s ps h.0) is h.1.1.0) h.1.1.1.0 h.1.1.1.1
   where
     by : (p : List ℕ) → PiecesAre s [] p → r ≡ p ++ h.1.0 → ListsAre s xs h.1.0 → ListsAre s xs r
     by p (no_piece _ empty) same rest =
@@ -186,7 +190,8 @@ block_next s x later own xs r b h is =
       );
     }
 
-pub block_goes_on : (s : Storage) (r start p out : List ℕ) (b : Block) (own later : Bor (List Piece))
+pub block_goes_on : (s : Storage) (r start p out : List ℕ) (b : Block)
+    (own later : Bor (List Piece))
     (xs left : List (Bor (List Piece))) → AfterBlock s r b own later xs
     → own.now ≡ block_pieces s b → start ++ p ≡ out ++ r → left ≡ own ∷ later ∷ xs
     → (rest : List ℕ) × (ListsAre s left rest × (start ++ p ≡ out ++ rest))

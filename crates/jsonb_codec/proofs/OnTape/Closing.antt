@@ -1,5 +1,6 @@
 -- Closing a container on the tape of a text.
-use Rattle.std.proofs.Common.{◌≡◌, ℕ, suc, ◌+◌, ◌*◌, ◌/◌, ◌<◌, ◌≤◌, ◌^◌, refl, sym, ap, subst, ◌∙◌, List}
+use Rattle.std.proofs.Common.{◌≡◌, ℕ, suc, ◌+◌, ◌*◌, ◌/◌, ◌<◌, ◌≤◌, ◌^◌, refl, sym, ap, subst, ◌∙◌}
+use Rattle.std.proofs.Common.{List}
 use Rattle.std.proofs.Common.{[], ◌∷◌, ◌++◌, length, arith, length-append, take, drop, true, false}
 use Rattle.std.proofs.Common.{map}
 use Rattle.std.specs.Prelude.{⊤}
@@ -28,7 +29,7 @@ use Rattle.jsonb_codec.specs.declared.tape.entry.Entry.{Entry}
 use Rattle.jsonb_codec.specs.declared.tape.open.OpenArray.{OpenArray}
 use Rattle.jsonb_codec.specs.declared.tape.open.Member.{Member}
 use Rattle.jsonb_codec.proofs.Shapes.{length-entries}
-use Rattle.jsonb_codec.proofs.TapeLaws.{pieces_grow, payloads_grow}
+use Rattle.jsonb_codec.proofs.OnTape.Pieces.{pieces_grow, payloads_grow}
 
 -- ---- arrays
 
@@ -90,7 +91,8 @@ abbrev pub KeysFit : Entries → Type 0
 KeysFit [] = ⊤
 KeysFit (e ∷ es) = (length e.0 < 2 ^ 28) × KeysFit es
 
-same_entries : (es : Entries) → entries (pairs_shapes (pairs es)) ≡ entries (shapes_of (values_of es))
+same_entries : (es : Entries)
+    → entries (pairs_shapes (pairs es)) ≡ entries (shapes_of (values_of es))
 same_entries [] = refl
 same_entries (e ∷ es) =
     ap (λ x. word (type_of (shape_of e.1) + length (payload_of e.1)) ++ x) (same_entries es)
@@ -137,7 +139,8 @@ keys_snoc : (es : Entries) (e : List ℕ × Tree) → KeysFit es → length e.0 
 keys_snoc [] e h short = (short, tt)
 keys_snoc (f ∷ es) e h short = (h.0, keys_snoc es e h.1 short)
 
-key_words_snoc : (es : Entries) (e : List ℕ × Tree) → key_entries (pairs_shapes (pairs (es ++ e ∷ [])))
+key_words_snoc : (es : Entries) (e : List ℕ × Tree)
+    → key_entries (pairs_shapes (pairs (es ++ e ∷ [])))
     ≡ key_entries (pairs_shapes (pairs es)) ++ word (STRING_TAG + length e.0)
 key_words_snoc [] e = append-nil (word (STRING_TAG + length e.0))
 key_words_snoc (f ∷ es) e =
@@ -180,7 +183,8 @@ head_begins old now n keys values left ms front h same begun none empty = record
   rest = front;
   same = refl;
   others = subst (λ xs. MembersAre old xs front) (sym same) h;
-  bytes = begun ∙ ap (λ x. old.bytes.items ++ x) (sym (append-nil (word (OBJECT_CONTAINER_TAG + n))));
+  bytes = begun
+      ∙ ap (λ x. old.bytes.items ++ x) (sym (append-nil (word (OBJECT_CONTAINER_TAG + n))));
   keys_are = none;
   short = tt;
   values_are = empty old;
@@ -207,7 +211,8 @@ head_goes_on old mid now n keys more before after left later m front h next push
           others = others.1;
           bytes = pushed.word_is
               ∙ ap (λ x. x ++ word (STRING_TAG + length (cow_bytes m.key))) h.bytes
-              ∙ ap (λ k. (old.bytes.items ++ (head ++ words)) ++ word (STRING_TAG + length k)) others.0.0
+              ∙ ap (λ k. (old.bytes.items ++ (head ++ words)) ++ word (STRING_TAG + length k))
+              others.0.0
               ∙ append_assoc old.bytes.items (head ++ words) key_word
               ∙ ap (λ x. old.bytes.items ++ x) (append_assoc head words key_word
               ∙ ap (λ x. head ++ x) (sym (key_words_snoc h.done e)));
@@ -240,7 +245,8 @@ too_many s ms front h many fits =
 
 -- all members are done
 all_done : (old now : Storage) (n : ℕ) (keys : List ℕ) (values : OpenArray) (left : List Member)
-    (front : Entries) (h : HeadIs old now n keys values left front) → length left ≡ 0 → front ≡ h.done
+    (front : Entries) (h : HeadIs old now n keys values left front) → length left ≡ 0
+    → front ≡ h.done
 all_done old now n keys values (m ∷ left) front h none = absurd (omega (arith, none))
 all_done old now n keys values [] front h none = by h.rest h.same h.others
   where
@@ -277,10 +283,12 @@ object_closed old now mid new n keys values left ms front e head h none on all c
     let words_is : values.words.items ≡ entries shapes = held.words ∙ sym (same_entries front) in
     let tag = word (OBJECT_CONTAINER_TAG + count shapes) in
     let body = payloads shapes in
-    let payload : head ++ payloads (shapes_of (values_of front)) ≡ payload_of (object (pairs front)) =
+    let payload : head ++ payloads (shapes_of (values_of front))
+    ≡ payload_of (object (pairs front)) =
     ap (λ x. head ++ x) (sym (same_payloads front))
     ∙ ap (λ x. x ++ body) (is_head
-    ∙ ap (λ k. (word (OBJECT_CONTAINER_TAG + k) ++ key_entries shapes) ++ (values.words.items ++ keys))
+    ∙ ap (λ k. (word (OBJECT_CONTAINER_TAG + k) ++ key_entries shapes)
+    ++ (values.words.items ++ keys))
     count_is
     ∙ ap (λ x. (tag ++ key_entries shapes) ++ (x ++ keys)) words_is
     ∙ ap (λ x. (tag ++ key_entries shapes) ++ (entries shapes ++ x)) keys_is)

@@ -1,5 +1,6 @@
 -- The members of an object on the tape of a text.
-use Rattle.std.proofs.Common.{◌≡◌, ℕ, refl, sym, ap, subst, ◌∙◌, List, [], ◌∷◌, ◌++◌, Option, Some, None}
+use Rattle.std.proofs.Common.{◌≡◌, ℕ, refl, sym, ap, subst, ◌∙◌, List, [], ◌∷◌, ◌++◌, Option, Some}
+use Rattle.std.proofs.Common.{None}
 use Rattle.std.proofs.Common.{true, map, arith, length}
 use Rattle.std.proofs.lemmas.List.{append_assoc, append-nil}
 use Rattle.std.specs.Prelude.{IsUtf8}
@@ -20,7 +21,7 @@ use Rattle.jsonb_codec.specs.declared.tape.storage.Storage.{Storage}
 use Rattle.jsonb_codec.specs.declared.tape.entry.Entry.{Entry}
 use Rattle.jsonb_codec.specs.declared.tape.open.OpenObject.{OpenObject}
 use Rattle.jsonb_codec.specs.declared.tape.open.Member.{Member}
-use Rattle.jsonb_codec.proofs.MemberOrder.{ascends_snoc, inserts_last, all_ascend, in_order}
+use Rattle.jsonb_codec.proofs.OnTape.KeyOrder.{ascends_snoc, inserts_last, all_ascend, in_order}
 
 -- the member has this key and this value
 abbrev pub MemberIs : Storage → Member → List ℕ × Tree → Type 0
@@ -52,7 +53,8 @@ member_pushed s old new m front key t h is same pushed ascends = record {
   members = subst (λ ms. MembersAre s ms (h.read ++ (key, t) ∷ [])) (sym pushed)
       (members_snoc s old.members.items h.read m (key, t) h.members
       (ap cow_bytes same ∙ h.is_key, (h.utf8, is)));
-  is = ap (λ es. insert_entry (slice_cmp nat_cmp) es key t) h.is ∙ sym (inserts_last [] h.read key t);
+  is = ap (λ es. insert_entry (slice_cmp nat_cmp) es key t) h.is
+      ∙ sym (inserts_last [] h.read key t);
   ascend = λ on. h.ascend (sym ascends ∙ on) t;
 }
 
@@ -168,7 +170,8 @@ one_more s left later m read es new h next is =
       front = h.front ++ e ∷ [];
       rest = rest;
       same = same ∙ sym (append_assoc h.front (e ∷ []) rest);
-      held = subst (λ xs. MembersAre s (map member_of xs) (insert_all [] (h.front ++ e ∷ []))) (sym is)
+      held = subst (λ xs. MembersAre s (map member_of xs) (insert_all [] (h.front ++ e ∷ [])))
+          (sym is)
           (subst (MembersAre s (map member_of (insert_entry by_bytes es m.key m.entry)))
           (sym (inserts_last [] h.front e.0 e.1))
           (inserted s es (insert_all [] h.front) m.key m.entry e.0 e.1 h.held others.0));

@@ -8,7 +8,8 @@ use Rattle.jsonb_value.specs.Reader.Resume.{Adds, Content, items, members, at_ke
 use Rattle.jsonb_codec.specs.Shape.{payloads}
 use Rattle.jsonb_codec.specs.Canon.{payload_of}
 use Rattle.jsonb_codec.specs.Tape.{EntryIs, IsMade, HasItems, ArrayIs, shapes_of, Grows}
-use Rattle.jsonb_codec.specs.Tape.{MembersAre, ObjectIs, ObjectAt, ContainerIs, AreOpen, tape_is, IsScalar, PieceIs}
+use Rattle.jsonb_codec.specs.Tape.{MembersAre, ObjectIs, ObjectAt, ContainerIs, AreOpen, tape_is}
+use Rattle.jsonb_codec.specs.Tape.{IsScalar, PieceIs}
 use Rattle.jsonb_codec.specs.declared.tape.storage.Storage.{Storage}
 use Rattle.jsonb_codec.specs.declared.tape.entry.Entry.{Entry}
 use Rattle.jsonb_codec.specs.declared.tape.open.OpenArray.{OpenArray}
@@ -17,7 +18,7 @@ use Rattle.jsonb_codec.specs.declared.tape.open.Member.{Member}
 use Rattle.jsonb_codec.specs.declared.tape.Container.{Container}
 use Rattle.jsonb_codec.specs.declared.tape.Container.TheVariants as containers
 use Rattle.jsonb_codec.specs.declared.tape.Tape.{Tape}
-use Rattle.jsonb_codec.proofs.TapeLaws.{piece_grows, payloads_grow}
+use Rattle.jsonb_codec.proofs.OnTape.Pieces.{piece_grows, payloads_grow}
 
 pub made_grows : (old new : Storage) (e : Option Entry) (t : Tree) → Grows old new → IsMade old e t
     → IsMade new e t

@@ -1,5 +1,6 @@
 -- What each step does to what the tape of a text holds.
-use Rattle.std.proofs.Common.{◌≡◌, ℕ, ◌+◌, ◌-◌, ◌<◌, ◌≤◌, ◌^◌, refl, sym, ap, subst, ◌∙◌, List, [], ◌∷◌}
+use Rattle.std.proofs.Common.{◌≡◌, ℕ, ◌+◌, ◌-◌, ◌<◌, ◌≤◌, ◌^◌, refl, sym, ap, subst, ◌∙◌, List, []}
+use Rattle.std.proofs.Common.{◌∷◌}
 use Rattle.std.proofs.Common.{◌++◌, length, arith, length-append, take, drop, Bool, true, false}
 use Rattle.std.proofs.lemmas.List.{append_assoc, append-nil, take-append-le, drop-append-le}
 use Rattle.std.proofs.lemmas.List.{length-drop, drop-drop}
@@ -10,7 +11,8 @@ use Rattle.jsonb_value.specs.WellFormed.{IsTree, AreTrees}
 use Rattle.jsonb_codec.specs.Word.{word}
 use Rattle.jsonb_codec.specs.Shape.{AllFit, FitsInside, entries, payloads, type_of}
 use Rattle.jsonb_codec.specs.Canon.{shape_of, payload_of}
-use Rattle.jsonb_codec.specs.Tape.{run_bytes, IsRun, block_pieces, PiecesAre, no_piece, run_piece, block_piece, PieceIs}
+use Rattle.jsonb_codec.specs.Tape.{run_bytes, IsRun, block_pieces, PiecesAre, no_piece, run_piece}
+use Rattle.jsonb_codec.specs.Tape.{block_piece, PieceIs}
 use Rattle.jsonb_codec.specs.Tape.{PayloadsAre, EntryIs, HasItems, ArrayIs, shapes_of}
 use Rattle.jsonb_codec.specs.Tape.{Grows}
 use Rattle.jsonb_codec.specs.declared.tape.pieces.Run.{Run}
@@ -62,7 +64,8 @@ pieces_grow old new (piece.Run r ∷ ps) all g (run_piece _ _ p _ is some rest s
     let grown = run_grows old new r g is in
     run_piece r ps p all grown.0 some (pieces_grow old new ps p g rest)
     (same ∙ ap (λ x. x ++ p) grown.1)
-pieces_grow old new (piece.Block b ∷ ps) all g (block_piece _ q _ p _ inside two size own rest same) =
+pieces_grow old new (piece.Block b ∷ ps) all g
+    (block_piece _ q _ p _ inside two size own rest same) =
     let grown = block_grows old new b g inside in
     block_piece b q ps p all grown.0 two size
     (subst (λ x. PiecesAre new x q) grown.1 (pieces_grow old new (block_pieces old b) q g own))
@@ -93,7 +96,8 @@ pieces_append s [] qs p q (no_piece _ is) h = subst (PiecesAre s qs) (sym (ap (�
 pieces_append s (piece.Run r ∷ ps) qs all q (run_piece _ _ p _ is some rest same) h =
     run_piece r (ps ++ qs) (p ++ q) (all ++ q) is some (pieces_append s ps qs p q rest h)
     (ap (λ x. x ++ q) same ∙ append_assoc (run_bytes s r) p q)
-pieces_append s (piece.Block b ∷ ps) qs all q (block_piece _ o _ p _ inside two size own rest same) h =
+pieces_append s (piece.Block b ∷ ps) qs all q
+    (block_piece _ o _ p _ inside two size own rest same) h =
     block_piece b o (ps ++ qs) (p ++ q) (all ++ q) inside two size own
     (pieces_append s ps qs p q rest h) (ap (λ x. x ++ q) same ∙ append_assoc o p q)
 
