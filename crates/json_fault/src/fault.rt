@@ -101,8 +101,8 @@ fn reason(alloc: Global, text: &str) -> Result<FaultReason, Error>
 ///
 /// The offset is the length of the longest beginning of the text that begins some JSON text: that
 /// of the whole text if it only ends too early, and otherwise the position of the first character
-/// that no JSON text has there. Like `parse_value` it needs stack for each level of the text.
-/// `OutOfMemory` if an allocation fails.
+/// that no JSON text has there. A value that `parse_value` makes of the text is dropped, which
+/// takes stack for each of its levels. `OutOfMemory` if an allocation fails.
 pub fn text_fault(alloc: Global, text: &str) -> Result<Option<Fault>, Error>
     // Nothing is found exactly in JSON texts.
     ensures none { IfOk result (λ found. (found ≡ None) ↔ IsJson (chars text.now)) }
