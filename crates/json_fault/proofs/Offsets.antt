@@ -43,19 +43,3 @@ fault_at_end text rest whole part fault none =
     let zero : length rest ≡ 0 = ap length (sym empty) in
     let same : length text - length rest ≡ length text = omega arith in
     subst (λ (n : ℕ). IsFaultAt (chars text) n) same (fault_at text rest whole part fault)
-
-pub json_if : {E : Type 0} (r : Result Bool E) (s : List ℕ) (t : Tree) → r ≡ Ok true → Json s t
-    → IfOk r (λ is. IsTrue is ↔ IsJson s)
-json_if {E} r s t e json =
-    subst (λ (q : Result Bool E). IfOk q (λ is. IsTrue is ↔ IsJson s)) (sym e)
-    (λ _. (t, json), λ _. refl)
-
-pub no_json_if : {E : Type 0} (r : Result Bool E) (s : List ℕ) → r ≡ Ok false
-    → ((t : Tree) → Json s t → ⊥) → IfOk r (λ is. IsTrue is ↔ IsJson s)
-no_json_if {E} r s e none =
-    subst (λ (q : Result Bool E). IfOk q (λ is. IsTrue is ↔ IsJson s)) (sym e)
-    (λ h. absurd (let g : ⊥ = cc in g), λ json. absurd (none json.0 json.1))
-
-pub error_if : {E : Type 0} (r : Result Bool E) (x : E) (s : List ℕ) → r ≡ Err x
-    → IfOk r (λ is. IsTrue is ↔ IsJson s)
-error_if {E} r x s e = subst (λ (q : Result Bool E). IfOk q (λ is. IsTrue is ↔ IsJson s)) (sym e) tt

@@ -1,12 +1,12 @@
 //! Where a text is no JSON.
 
-ghost use Rattle.std.specs.Prelude.{◌≡◌, ◌↔◌, chars, reverse, IsTrue, OnOk, IfOk, IfErr, IfSome};
+ghost use Rattle.std.specs.Prelude.{◌≡◌, ◌↔◌, chars, reverse, OnOk, IfOk, IfErr, IfSome};
 ghost use Rattle.json_fault.specs.Words.{IsJson, IsFaultAt, innermost, changed, without_numbers};
 
 use crate::cursor::split_first;
 use crate::expected::{Bracket, Change, Expected, followed};
 use crate::without_numbers::without_numbers;
-use jsonb_value::{Error, parse_value};
+use jsonb_value::{Error, Exponents, is_json};
 use std::alloc::Global;
 
 /// Why a text is no JSON.
@@ -71,18 +71,6 @@ fn front_length(alloc: Global, text: &str) -> Result<usize, Error>
     Ok(text.len())
 }
 
-// Whether the text is JSON.
-fn is_json(alloc: Global, text: &str) -> Result<bool, Error>
-    ensures ok { IfOk result (λ is. IsTrue is ↔ IsJson (chars text.now)) }
-    ensures memory { IfErr result (λ e. e ≡ Error.OutOfMemory) }
-{
-    match parse_value(alloc, text) {
-        Ok(_) => Ok(true),
-        Err(Error::InvalidJson) => Ok(false),
-        Err(error) => Err(error),
-    }
-}
-
 // Why the text is no JSON.
 fn reason(alloc: Global, text: &str) -> Result<FaultReason, Error>
     ensures ok { IfOk result (λ reason. (reason ≡ FaultReason.Number)
@@ -90,7 +78,7 @@ fn reason(alloc: Global, text: &str) -> Result<FaultReason, Error>
     ensures memory { IfErr result (λ e. e ≡ Error.OutOfMemory) }
 {
     let kept = without_numbers(alloc, text)?;
-    if is_json(alloc, kept.as_str())? {
+    if is_json(alloc, kept.as_str(), Exponents::Forbidden)? {
         Ok(FaultReason::Number)
     } else {
         Ok(FaultReason::Syntax)
@@ -101,8 +89,8 @@ fn reason(alloc: Global, text: &str) -> Result<FaultReason, Error>
 ///
 /// The offset is the length of the longest beginning of the text that begins some JSON text: that
 /// of the whole text if it only ends too early, and otherwise the position of the first character
-/// that no JSON text has there. A value that `parse_value` makes of the text is dropped, which
-/// takes stack for each of its levels. `OutOfMemory` if an allocation fails.
+/// that no JSON text has there. `OutOfMemory` if an allocation fails. No value is made, and no stack
+/// is taken for the depth of the text.
 pub fn text_fault(alloc: Global, text: &str) -> Result<Option<Fault>, Error>
     // Nothing is found exactly in JSON texts.
     ensures none { IfOk result (λ found. (found ≡ None) ↔ IsJson (chars text.now)) }
@@ -115,7 +103,7 @@ pub fn text_fault(alloc: Global, text: &str) -> Result<Option<Fault>, Error>
         ↔ IsJson (without_numbers (chars text.now)))) }
     ensures memory { IfErr result (λ e. e ≡ Error.OutOfMemory) }
 {
-    if is_json(alloc, text)? {
+    if is_json(alloc, text, Exponents::Forbidden)? {
         return Ok(None);
     }
     Ok(Some(Fault {

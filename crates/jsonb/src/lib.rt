@@ -37,7 +37,7 @@ pub use jsonb_codec::{
 };
 pub use jsonb_value::{
     Date, Decimal64, Decimal128, Error, Exponents, ExtensionValue, Interval, JsonAst, Number,
-    Object, Opaque, ParseError, Sink, Timestamp, TimestampTz, Value, extension_text,
+    Object, Opaque, ParseError, Sink, Timestamp, TimestampTz, Value, extension_text, is_json,
     is_text_within, order_of_extension_values, order_of_meanings, order_of_numbers, order_of_trees,
     parse_string, parse_value, parse_value_with_exponents, parse_value_with_exponents_within,
     parse_value_within, read_text, write_number, write_string,

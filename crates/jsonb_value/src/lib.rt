@@ -24,7 +24,7 @@ pub use json_string::parse_string;
 pub use number::{Decimal64, Decimal128, Number};
 pub use opaque::Opaque;
 pub use order::{order_of_extension_values, order_of_meanings, order_of_numbers, order_of_trees};
-pub use parser::{Exponents, Sink, parse_value, parse_value_with_exponents, read_text};
+pub use parser::{Exponents, Sink, is_json, parse_value, parse_value_with_exponents, read_text};
 pub use text::{extension_text, write_number, write_string};
 pub use text_depth::is_text_within;
 pub use value::{Object, Value};

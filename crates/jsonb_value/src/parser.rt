@@ -1,10 +1,11 @@
 //! The parser of JSON texts: one reader, which is a loop, and sinks for what it reads.
 
-ghost use Rattle.std.specs.Prelude.{◌≡◌, ◌⊎◌, Err, chars, IfOk, IfErr};
+ghost use Rattle.std.specs.Prelude.{◌≡◌, ◌⊎◌, ◌↔◌, IsTrue, Err, chars, IfOk, IfErr};
 ghost use Rattle.jsonb_value.specs.Words.{Tree, Json, JsonText, JsonWithExponents, tree_of};
 
 mod cursor;
 mod members;
+mod nothing;
 mod number;
 mod open_kinds;
 mod reader;
@@ -14,11 +15,27 @@ mod trees;
 
 use crate::error::Error;
 use crate::value::Value;
+use nothing::Nothing;
 pub use number::Exponents;
 pub use reader::read_text;
 pub use sink::Sink;
 use std::alloc::Global;
 use trees::Trees;
+
+/// Whether a whole text is JSON, with exponents if they are allowed, and only numbers that a
+/// document can hold. `OutOfMemory` if an allocation fails. No value is made, and no stack is taken
+/// for the depth of the text.
+pub fn is_json(alloc: Global, text: &str, exponents: Exponents) -> Result<bool, Error>
+    ensures ok { IfOk result (λ is. IsTrue is
+        ↔ ((t : Tree) × JsonText exponents (chars text.now) t)) }
+    ensures memory { IfErr result (λ e. e ≡ Error.OutOfMemory) }
+{
+    match read_text(alloc, &mut Nothing, text, exponents) {
+        Ok(()) => Ok(true),
+        Err(Error::InvalidJson) => Ok(false),
+        Err(_) => Err(Error::OutOfMemory),
+    }
+}
 
 /// Parses a whole text, with exponents if they are allowed.
 pub fn parse<'a>(alloc: Global, text: &'a str, exponents: Exponents) -> Result<Value<'a>, Error>
