@@ -89,8 +89,8 @@ fn reason(alloc: Global, text: &str) -> Result<FaultReason, Error>
 ///
 /// The offset is the length of the longest beginning of the text that begins some JSON text: that
 /// of the whole text if it only ends too early, and otherwise the position of the first character
-/// that no JSON text has there. `OutOfMemory` if an allocation fails. No value is made, and no stack
-/// is taken for the depth of the text.
+/// that no JSON text has there. `OutOfMemory` if an allocation fails. No value is made, and no
+/// stack is taken for the depth of the text.
 pub fn text_fault(alloc: Global, text: &str) -> Result<Option<Fault>, Error>
     // Nothing is found exactly in JSON texts.
     ensures none { IfOk result (λ found. (found ≡ None) ↔ IsJson (chars text.now)) }

@@ -31,8 +31,8 @@ pub use iterator::{
 };
 pub use jsonb_codec::{
     Decoder, DocumentBytes, Encoder, JEntry, JsonAstEncoder, append_canonical,
-    append_canonical_document, constants, decode_header, document_laws, document_text,
-    encode_text, is_canonical, is_canonical_document, is_document, is_document_within, nests_deeper, parts,
+    append_canonical_document, constants, decode_header, document_laws, document_text, encode_text,
+    is_canonical, is_canonical_document, is_document, is_document_within, nests_deeper, parts,
     printed_text_laws, read_header, read_jentry, read_word, value_of, value_of_document, writer,
 };
 pub use jsonb_value::{

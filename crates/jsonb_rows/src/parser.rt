@@ -1,6 +1,6 @@
 // Texts with line feeds, and what a parsed value borrows from its text.
 use crate::documents::bytes_of;
-use jsonb::{Error, Number, OwnedJsonb, Value, parse_value};
+use jsonb::{Error, Number, OwnedJsonb, Value, parse_value, parse_value_with_exponents};
 use std::borrow::CowStr;
 use std::test::Fail;
 
@@ -56,6 +56,50 @@ fn zeros_are_unsigned(rt: HostRuntime) -> Result<(), Fail> {
     let zero = parse_value(rt.alloc(), "-0")?;
     assert!(rt; matches!(zero, Value::Number(Number::UInt64(0))));
     Ok(())
+}
+
+// Numbers with an exponent, and the `Debug` output of the values that they mean.
+const EXPONENTS: &[(&str, &str)] = &[
+    ("1.0e5", "Number(UInt64(100000))"),
+    ("-3E+2", "Number(Int64(-300))"),
+    ("0e999999999", "Number(UInt64(0))"),
+    (
+        "1.50e1",
+        "Number(Decimal64(Decimal64 { scale: 1, value: 150 }))",
+    ),
+    (
+        "25e-1",
+        "Number(Decimal64(Decimal64 { scale: 1, value: 25 }))",
+    ),
+    (
+        "6.02e23",
+        "Number(Decimal128(Decimal128 { scale: 0, value: 602000000000000000000000 }))",
+    ),
+];
+
+#[test]
+fn exponents_are_exact(rt: HostRuntime) -> Result<(), Fail> {
+    for &(text, debug_text) in EXPONENTS {
+        let value = parse_value_with_exponents(rt.alloc(), text)?;
+        assert!(rt;
+            format!(in rt.alloc(); "{value:?}")?.as_str() == debug_text,
+            "{text}"
+        );
+    }
+    Ok(())
+}
+
+// Their digits would fill the memory, if they were written out.
+#[test]
+fn great_exponents_are_refused(rt: HostRuntime) {
+    for text in [
+        "1e999999999",
+        "1e-999999999",
+        "1e99999999999999999999999999999999999999999",
+    ] {
+        let read = parse_value_with_exponents(rt.alloc(), text);
+        assert!(rt; matches!(read, Err(Error::InvalidJson)), "{text}");
+    }
 }
 
 #[test]
