@@ -1,14 +1,34 @@
-use Rattle.std.proofs.Common.{rules, ◌≡◌, ◌∷◌, ◌++◌, [], ◌-◌, length, Err, refl, ap, ◌∙◌}
-use Rattle.std.proofs.Common.{arith}
+use Rattle.std.proofs.Common.{rules, ◌≡◌, ◌⊎◌, ◌∷◌, ◌++◌, [], ◌-◌, length, Err, refl, ap, ◌∙◌}
+use Rattle.std.proofs.Common.{ℕ, List, chars, arith, sym, subst, inl, inr}
 use Rattle.std.proofs.lemmas.List.{length-append}
+use Rattle.jsonb_value.specs.declared.error.Error.{Error}
+use Rattle.jsonb_value.specs.declared.error.Error.TheVariants.{InvalidJson, InvalidJsonb}
+use Rattle.jsonb_value.specs.declared.error.Error.TheVariants.{OutOfMemory}
+use Rattle.jsonb_value.specs.Json.Syntax.{Json}
+use Rattle.jsonb_value.specs.Tree.{Tree}
 use Rattle.jsonb_value.specs.Value.{tree_of}
 use Rattle.jsonb_value.specs.Norm.{norm}
-use Rattle.jsonb_codec.specs.Canon.{canon}
+use Rattle.jsonb_codec.specs.Canon.{canon, Fits}
 use Rattle.jsonb_codec.specs.Doc.{IsDocument}
-use Rattle.jsonb.proofs.ParseLaws.{unread, unfit}
+use Rattle.jsonb.specs.Parsing.{ParsesTo}
 use Rattle.jsonb_column.specs.declared.place.Place.{Place}
 use Rattle.jsonb_column.proofs.RowsLaws.{pushed}
 use Rattle.jsonb_column.proofs.column.Column.push_json.Goals as goal
+
+-- a text that is not read
+unread : (text : List ℕ) (e : Error)
+    → (e ≡ InvalidJson → (t : Tree) → Json (chars text) t → ⊥)
+    → (e ≡ InvalidJson) ⊎ (e ≡ OutOfMemory) → ParsesTo text (Err e)
+unread text e invalid (inl is) = subst (λ (x : Error). ParsesTo text (Err x)) (sym is) (invalid is)
+unread text e invalid (inr is) = subst (λ (x : Error). ParsesTo text (Err x)) (sym is) tt
+
+-- a text whose tree has no canonical document
+unfit : (text : List ℕ) (t : Tree) (e : Error) → Json (chars text) t
+    → (e ≡ InvalidJsonb → Fits t → ⊥) → (e ≡ InvalidJsonb) ⊎ (e ≡ OutOfMemory)
+    → ParsesTo text (Err e)
+unfit text t e json past (inl is) =
+    subst (λ (x : Error). ParsesTo text (Err x)) (sym is) (t, (json, past is))
+unfit text t e json past (inr is) = subst (λ (x : Error). ParsesTo text (Err x)) (sym is) tt
 
 pub returns-in_err-value-clause-refused : goal.returns-in_err-value-clause-refused
 returns-in_err-value-clause-refused c =
