@@ -53,7 +53,7 @@ fn texts_are_read_within_a_depth(rt: HostRuntime) -> Result<(), Fail> {
     assert!(rt; matches!(refused, Err(ParseError::TooDeep)));
     assert!(rt;
         matches!(
-            parse_value_within(rt.alloc(), "[", 1),
+            parse_value_within(rt.alloc(), "]", 1),
             Err(ParseError::Refused(Error::InvalidJson))
         )
     );
