@@ -111,11 +111,14 @@ HasItems false s a ts = AllFit (shapes_of ts) → ⊥
 abbrev pub ArrayIs : Storage → OpenArray → List Tree → Type 0
 ArrayIs s a = HasItems a.fits s a
 
+-- The member has this key and this value.
+abbrev pub MemberIs : Storage → Member → List ℕ × Tree → Type 0
+MemberIs s m e = (cow_bytes m.key ≡ e.0) × (IsUtf8 e.0 × IsMade s m.entry e.1)
+
 -- The members have these keys and values, in this order.
 abbrev pub MembersAre : Storage → List Member → Entries → Type 0
 MembersAre s [] [] = ⊤
-MembersAre s (m ∷ ms) (e ∷ es) =
-    ((cow_bytes m.key ≡ e.0) × (IsUtf8 e.0 × IsMade s m.entry e.1)) × MembersAre s ms es
+MembersAre s (m ∷ ms) (e ∷ es) = MemberIs s m e × MembersAre s ms es
 MembersAre s _ _ = ⊥
 
 -- A pair of a map as a member.

@@ -1,6 +1,6 @@
 //! The document of a JSON text, without a value in between.
 //!
-//! The reader tells the tape what it meets. The tape stores the payload of each scalar, and where a
+//! The reader calls the tape as its sink. The tape stores the payload of each scalar, and where a
 //! container closes, its header, entry words and keys, since all counts and lengths are known then.
 //! The payload of a container is a list of pieces of what is stored. Where the text ends they are
 //! copied to the document. No step takes stack for the depth of the text.
@@ -13,7 +13,8 @@ ghost use Rattle.jsonb_value.specs.Tree.{Tree};
 ghost use Rattle.jsonb_value.specs.WellFormed.{IsTree};
 ghost use Rattle.jsonb_value.specs.Reader.Resume.{Content, going, Adds};
 ghost use Rattle.jsonb_codec.specs.Canon.{canon, Fits};
-ghost use Rattle.jsonb_codec.specs.Tape.{ContainerIs, IsMade, IsScalar, tape_is};
+ghost use Rattle.jsonb_codec.specs.Tape.{ArrayIs, ContainerIs, IsMade, IsScalar, tape_is};
+ghost use Rattle.jsonb_codec.specs.declared.tape.storage.Storage.{Storage};
 
 mod entry;
 mod open;
@@ -24,12 +25,15 @@ mod write;
 use crate::constants::{FALSE_TAG, NULL_TAG, STRING_TAG, TRUE_TAG};
 use entry::Entry;
 use jsonb_value::{Error, Exponents, Number, Sink, read_text};
-use open::{OpenArray, OpenObject};
+use open::{Member, OpenArray, OpenObject};
 use std::alloc::Global;
 use std::borrow::CowStr;
 use std::mem::replace;
 use storage::Storage;
 use write::write_document;
+
+// How many closed containers of each kind are kept for their memory.
+const SPARE: usize = 8;
 
 /// A container that is being read, or the place of the whole value.
 #[derive(Drop)]
@@ -46,6 +50,9 @@ pub struct Tape<'a> {
     storage: Storage,
     innermost: Container<'a>,
     outer: Vec<Container<'a>>,
+    // Those of containers that are closed, for their memory.
+    spare_arrays: Vec<OpenArray>,
+    spare_members: Vec<Vec<Member<'a>>>,
 }
 
 impl<'a> Tape<'a> {
@@ -58,10 +65,13 @@ impl<'a> Tape<'a> {
             storage: Storage::new(alloc),
             innermost: Container::Whole(None),
             outer: Vec::new(alloc),
+            spare_arrays: Vec::new(alloc),
+            spare_members: Vec::new(alloc),
         }
     }
 
     // Adds a value to the innermost container.
+    #[inline(always)]
     fn add(&mut self, entry: Option<Entry>) -> Result<(), Error>
         ensures ok { OnOk result ((t : Tree) → IsMade self.old.storage entry t
             → Adds tape_is self.old self.new t) }
@@ -76,6 +86,7 @@ impl<'a> Tape<'a> {
     }
 
     // Adds a scalar of this type and payload.
+    #[inline(always)]
     fn add_scalar(&mut self, type_code: u32, payload: &[u8]) -> Result<(), Error>
         requires { type_code ≤ 0x70000000 }
         ensures ok { OnOk result ((t : Tree) → IsScalar type_code payload.now t
@@ -84,6 +95,58 @@ impl<'a> Tape<'a> {
     {
         let entry = self.storage.scalar(type_code, payload)?;
         self.add(Some(entry))
+    }
+
+    // An array without items, with the memory of one that is closed.
+    fn empty_array(&mut self) -> OpenArray
+        ensures empty { (storage : Storage) → ArrayIs storage result [] }
+        ensures storage { self.new.storage ≡ self.old.storage }
+        ensures innermost { self.new.innermost ≡ self.old.innermost }
+        ensures outer { self.new.outer ≡ self.old.outer }
+    {
+        let Some(mut array) = self.spare_arrays.pop() else {
+            return OpenArray::new(self.alloc);
+        };
+        array.clear();
+        array
+    }
+
+    // Keeps a closed array for its memory.
+    fn keep_array(&mut self, array: OpenArray) -> Result<(), Error>
+        ensures storage { self.new.storage ≡ self.old.storage }
+        ensures innermost { self.new.innermost ≡ self.old.innermost }
+        ensures outer { self.new.outer ≡ self.old.outer }
+        ensures memory { IfErr result (λ e. e ≡ OutOfMemory) }
+    {
+        if self.spare_arrays.len() < SPARE {
+            self.spare_arrays.push(array)?;
+        }
+        Ok(())
+    }
+
+    // Keeps members for their memory.
+    fn keep_members(&mut self, members: Vec<Member<'a>>) -> Result<(), Error>
+        ensures storage { self.new.storage ≡ self.old.storage }
+        ensures innermost { self.new.innermost ≡ self.old.innermost }
+        ensures outer { self.new.outer ≡ self.old.outer }
+        ensures memory { IfErr result (λ e. e ≡ OutOfMemory) }
+    {
+        if self.spare_members.len() < SPARE {
+            self.spare_members.push(members)?;
+        }
+        Ok(())
+    }
+
+    // Memory for members.
+    fn empty_members(&mut self) -> Vec<Member<'a>>
+        ensures storage { self.new.storage ≡ self.old.storage }
+        ensures innermost { self.new.innermost ≡ self.old.innermost }
+        ensures outer { self.new.outer ≡ self.old.outer }
+    {
+        match self.spare_members.pop() {
+            Some(members) => members,
+            None => Vec::new(self.alloc),
+        }
     }
 
     // Begins a container.
@@ -118,23 +181,28 @@ impl<'a> Sink<'a> for Tape<'a> {
 
     ghost is = { tape_is };
 
+    #[inline(always)]
     fn null(&mut self) -> Result<(), Error> {
         self.add_scalar(NULL_TAG, &[])
     }
 
+    #[inline(always)]
     fn truth(&mut self, truth: bool) -> Result<(), Error> {
         self.add_scalar(if truth { TRUE_TAG } else { FALSE_TAG }, &[])
     }
 
+    #[inline(always)]
     fn number(&mut self, value: Number) -> Result<(), Error> {
         let entry = self.storage.number(value)?;
         self.add(Some(entry))
     }
 
+    #[inline(always)]
     fn string(&mut self, content: CowStr<'a>) -> Result<(), Error> {
         self.add_scalar(STRING_TAG, content.as_str().as_bytes())
     }
 
+    #[inline(always)]
     fn key(&mut self, content: CowStr<'a>) -> Result<(), Error> {
         let Container::Object(object) = &mut self.innermost else {
             unreachable!();
@@ -143,20 +211,25 @@ impl<'a> Sink<'a> for Tape<'a> {
         Ok(())
     }
 
+    #[inline(always)]
     fn begin_array(&mut self) -> Result<(), Error> {
-        self.begin(Container::Array(OpenArray::new(self.alloc)))
+        let array = self.empty_array();
+        self.begin(Container::Array(array))
     }
 
     fn end_array(&mut self) -> Result<(), Error> {
-        let Container::Array(array) = self.end() else {
+        let Container::Array(mut array) = self.end() else {
             unreachable!();
         };
-        let entry = self.storage.close_array(array)?;
+        let entry = self.storage.close_array(&mut array)?;
+        self.keep_array(array)?;
         self.add(entry)
     }
 
+    #[inline(always)]
     fn begin_object(&mut self) -> Result<(), Error> {
-        self.begin(Container::Object(OpenObject::new(self.alloc)))
+        let members = self.empty_members();
+        self.begin(Container::Object(OpenObject::new(members)))
     }
 
     fn end_object(&mut self) -> Result<(), Error> {
@@ -164,7 +237,8 @@ impl<'a> Sink<'a> for Tape<'a> {
             unreachable!();
         };
         let members = object.into_members(self.alloc)?;
-        let entry = self.storage.close_object(self.alloc, members)?;
+        let entry = self.storage.close_object(self.alloc, &members)?;
+        self.keep_members(members)?;
         self.add(entry)
     }
 }

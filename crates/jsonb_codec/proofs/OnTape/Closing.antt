@@ -2,7 +2,7 @@
 use Rattle.std.proofs.Common.{◌≡◌, ℕ, suc, ◌+◌, ◌*◌, ◌/◌, ◌<◌, ◌≤◌, ◌^◌, refl, sym, ap, subst, ◌∙◌}
 use Rattle.std.proofs.Common.{List}
 use Rattle.std.proofs.Common.{[], ◌∷◌, ◌++◌, length, arith, length-append, take, drop, true, false}
-use Rattle.std.proofs.Common.{map}
+use Rattle.std.proofs.Common.{map, get_or, zero}
 use Rattle.std.specs.Prelude.{⊤}
 use Rattle.std.specs.Global.{Vec}
 use Rattle.std.proofs.lemmas.List.{append_assoc, append-nil}
@@ -310,6 +310,15 @@ object_closed old now mid new n keys values left ms front e head h none on all c
       piece = subst (PieceIs new e.piece) payload made.1;
     }
 
+-- the item at an index is the first of those from there on
+pub next_item : {X : Type 0} (xs : List X) (i : ℕ) (x : X) → i < length xs
+    → x ≡ get_or xs i x → drop i xs ≡ x ∷ drop (i + 1) xs
+next_item [] i x short is = absurd (omega (arith, short))
+next_item (y ∷ xs) zero x short is = ap (λ z. z ∷ xs) (sym is)
+next_item (y ∷ xs) (suc i) x short is =
+    let same : suc (i + 1) ≡ suc i + 1 = omega arith in
+    next_item xs i x (omega (arith, short)) is ∙ ap (λ k. x ∷ drop k (y ∷ xs)) same
+
 -- ---- what was stored
 
 pub stored_since : (old first rest mid new : List ℕ) (start : ℕ) → start ≡ length old
@@ -326,6 +335,16 @@ stored_grows old new mid first rest begun ended same = record {
   more_closed = [];
   bytes = ended ∙ ap (λ x. x ++ rest) begun ∙ append_assoc old.bytes.items first rest;
   closed = ap (λ v. v.items) same ∙ sym (append-nil old.closed.items);
+}
+
+-- the storage has all that it had, and nothing more
+pub same_grows : (old new : Storage) → new.bytes ≡ old.bytes → new.closed ≡ old.closed
+    → Grows old new
+same_grows old new bytes closed = record {
+  more_bytes = [];
+  more_closed = [];
+  bytes = ap (λ v. v.items) bytes ∙ sym (append-nil old.bytes.items);
+  closed = ap (λ v. v.items) closed ∙ sym (append-nil old.closed.items);
 }
 
 pub bytes_grow : (old new : Storage) (more : List ℕ) → new.bytes.items ≡ old.bytes.items ++ more

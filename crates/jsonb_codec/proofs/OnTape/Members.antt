@@ -16,16 +16,12 @@ use Rattle.std.specs.BTreeMap.{insert_entry}
 use Rattle.jsonb_value.specs.Json.Syntax.{Entries, insert_all, pairs}
 use Rattle.jsonb_value.specs.Tree.{Tree, Ascend}
 use Rattle.jsonb_value.specs.Value.{cow_bytes}
-use Rattle.jsonb_codec.specs.Tape.{IsMade, LastBelow, MembersAre, ObjectIs, ObjectAt, member_of}
+use Rattle.jsonb_codec.specs.Tape.{IsMade, LastBelow, MemberIs, MembersAre, ObjectIs, ObjectAt, member_of}
 use Rattle.jsonb_codec.specs.declared.tape.storage.Storage.{Storage}
 use Rattle.jsonb_codec.specs.declared.tape.entry.Entry.{Entry}
 use Rattle.jsonb_codec.specs.declared.tape.open.OpenObject.{OpenObject}
 use Rattle.jsonb_codec.specs.declared.tape.open.Member.{Member}
 use Rattle.jsonb_codec.proofs.OnTape.KeyOrder.{ascends_snoc, inserts_last, all_ascend, in_order}
-
--- the member has this key and this value
-abbrev pub MemberIs : Storage → Member → List ℕ × Tree → Type 0
-MemberIs s m e = (cow_bytes m.key ≡ e.0) × (IsUtf8 e.0 × IsMade s m.entry e.1)
 
 pub members_snoc : (s : Storage) (ms : List Member) (es : Entries) (m : Member) (e : List ℕ × Tree)
     → MembersAre s ms es → MemberIs s m e → MembersAre s (ms ++ m ∷ []) (es ++ e ∷ [])
@@ -138,29 +134,39 @@ inserted s (x ∷ es) (f ∷ fs) key e k t h is =
     by Equal later = ((h.0.0, (h.0.1.0, is.1.1)), h.1)
     by Greater later = (h.0, later)
 
--- members in a map and members that are left
-pub record LeftOver (s : Storage) (left : List Member) (es : List (CowStr Global × Option Entry))
-    (read : Entries) : Type 0 where
+-- the map after a member
+pub in_map : (s : Storage) (es new : List (CowStr Global × Option Entry)) (m : Member)
+    → new ≡ insert_entry by_bytes es m.key m.entry → (front : Entries) (e : List ℕ × Tree)
+    → MembersAre s (map member_of es) front → MemberIs s m e
+    → MembersAre s (map member_of new) (insert_entry (slice_cmp nat_cmp) front e.0 e.1)
+in_map s es new m made front e held is =
+    subst (λ xs. MembersAre s (map member_of xs) (insert_entry (slice_cmp nat_cmp) front e.0 e.1))
+    (sym made) (inserted s es front m.key m.entry e.0 e.1 held is)
+
+-- members that are in order and members that are left
+pub record LeftOver (s : Storage) (left made : List Member) (read : Entries) : Type 0 where
   pub front : Entries
   pub rest : Entries
   pub same : read ≡ front ++ rest
-  pub held : MembersAre s (map member_of es) (insert_all [] front)
+  pub held : MembersAre s made (insert_all [] front)
   pub others : MembersAre s left rest
 
-pub all_left : (s : Storage) (left ms : List Member) (es : List (CowStr Global × Option Entry))
-    (read : Entries) → left ≡ ms → es ≡ [] → MembersAre s ms read → LeftOver s left es read
-all_left s left ms es read same none h = record {
+pub all_left : (s : Storage) (left ms made : List Member) (read : Entries) → left ≡ ms → made ≡ []
+    → MembersAre s ms read → LeftOver s left made read
+all_left s left ms made read same none h = record {
   front = [];
   rest = read;
   same = refl;
-  held = subst (λ xs. MembersAre s (map member_of xs) []) (sym none) tt;
+  held = subst (λ xs. MembersAre s xs []) (sym none) tt;
   others = subst (λ xs. MembersAre s xs read) (sym same) h;
 }
 
-pub one_more : (s : Storage) (left later : List Member) (m : Member) (read : Entries)
-    (es new : List (CowStr Global × Option Entry)) → LeftOver s left es read → left ≡ m ∷ later
-    → new ≡ insert_entry by_bytes es m.key m.entry → LeftOver s later new read
-one_more s left later m read es new h next is =
+pub one_more : (s : Storage) (left later made new : List Member) (m : Member) (read : Entries)
+    → LeftOver s left made read → left ≡ m ∷ later
+    → ((front : Entries) (e : List ℕ × Tree) → MembersAre s made front → MemberIs s m e
+    → MembersAre s new (insert_entry (slice_cmp nat_cmp) front e.0 e.1))
+    → LeftOver s later new read
+one_more s left later made new m read h next adds =
     by h.rest h.same (subst (λ xs. MembersAre s xs h.rest) next h.others)
   where
     by : (rest : Entries) → read ≡ h.front ++ rest → MembersAre s (m ∷ later) rest
@@ -170,23 +176,19 @@ one_more s left later m read es new h next is =
       front = h.front ++ e ∷ [];
       rest = rest;
       same = same ∙ sym (append_assoc h.front (e ∷ []) rest);
-      held = subst (λ xs. MembersAre s (map member_of xs) (insert_all [] (h.front ++ e ∷ [])))
-          (sym is)
-          (subst (MembersAre s (map member_of (insert_entry by_bytes es m.key m.entry)))
-          (sym (inserts_last [] h.front e.0 e.1))
-          (inserted s es (insert_all [] h.front) m.key m.entry e.0 e.1 h.held others.0));
+      held = subst (MembersAre s new) (sym (inserts_last [] h.front e.0 e.1))
+          (adds (insert_all [] h.front) e h.held others.0);
       others = others.1;
     }
 
-pub none_left : (s : Storage) (left : List Member) (es : List (CowStr Global × Option Entry))
-    (read : Entries) → LeftOver s left es read → length left ≡ 0
-    → MembersAre s (map member_of es) (insert_all [] read)
-none_left s (m ∷ left) es read h none = absurd (omega (arith, none))
-none_left s [] es read h none = by h.rest h.same h.others
+pub none_left : (s : Storage) (left made : List Member) (read : Entries)
+    → LeftOver s left made read → length left ≡ 0 → MembersAre s made (insert_all [] read)
+none_left s (m ∷ left) made read h none = absurd (omega (arith, none))
+none_left s [] made read h none = by h.rest h.same h.others
   where
     by : (rest : Entries) → read ≡ h.front ++ rest → MembersAre s [] rest
-        → MembersAre s (map member_of es) (insert_all [] read)
-    by [] same others = subst (λ xs. MembersAre s (map member_of es) (insert_all [] xs))
+        → MembersAre s made (insert_all [] read)
+    by [] same others = subst (λ xs. MembersAre s made (insert_all [] xs))
         (sym (same ∙ append-nil h.front)) h.held
     by (e ∷ rest) same others = absurd others
 

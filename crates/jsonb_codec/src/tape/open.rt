@@ -10,7 +10,7 @@ ghost use Rattle.jsonb_value.specs.Words.{insert_entry, slice_cmp, nat_cmp};
 ghost use Rattle.jsonb_codec.specs.declared.tape.storage.Storage.{Storage};
 ghost use Rattle.jsonb_codec.specs.Tape.{ArrayIs, ObjectIs, ObjectAt, MembersAre, IsMade};
 ghost use Rattle.jsonb_codec.specs.Tape.{LastBelow};
-ghost use Rattle.jsonb_codec.specs.Tape.{member_of};
+ghost use Rattle.jsonb_codec.specs.Tape.{MemberIs, member_of};
 
 use super::entry::Entry;
 use super::pieces::Payloads;
@@ -18,8 +18,12 @@ use crate::word::word_bytes;
 use jsonb_value::Error;
 use std::alloc::Global;
 use std::borrow::CowStr;
+use std::cmp::Ordering;
 use std::collections::BTreeMap;
 use std::mem::replace;
+
+// At most so many members are put in order one after another, and more by a map.
+const FEW: usize = 32;
 
 /// An array that is being read: the entry words and the payloads of its items, `size` bytes, if all
 /// of them fit.
@@ -44,7 +48,18 @@ impl OpenArray {
         }
     }
 
+    /// Forgets all items, but keeps the memory.
+    pub fn clear(&mut self)
+        ensures { (storage : Storage) → ArrayIs storage self.new [] }
+    {
+        self.words.clear();
+        self.payloads.clear();
+        self.size = 0;
+        self.fits = true;
+    }
+
     /// Appends an item, whose entry is `None` if something inside it does not fit.
+    #[inline(always)]
     pub fn push(&mut self, entry: Option<Entry>) -> Result<(), Error>
         ensures ok { OnOk result ((storage : Storage) (front : List Tree) (t : Tree)
             → ArrayIs storage self.old front → IsMade storage entry t
@@ -87,18 +102,20 @@ pub struct OpenObject<'a> {
 }
 
 impl<'a> OpenObject<'a> {
-    /// No members.
-    pub fn new(alloc: Global) -> OpenObject<'a>
+    /// No members. The memory of these is kept.
+    pub fn new(mut members: Vec<Member<'a>>) -> OpenObject<'a>
         ensures { (storage : Storage) → ObjectIs storage result [] }
     {
+        members.clear();
         OpenObject {
-            members: Vec::new(alloc),
+            members,
             key: CowStr::Borrowed(""),
             ascends: true,
         }
     }
 
     /// Takes the key whose value is read next.
+    #[inline(always)]
     pub fn set_key(&mut self, key: CowStr<'a>)
         ensures { (storage : Storage) (front : Entries) → ObjectIs storage self.old front
             → ObjectAt storage self.new front (cow_bytes key.entry) }
@@ -140,6 +157,7 @@ impl<'a> OpenObject<'a> {
 }
 
 // Whether all keys ascend with this one, if those before it do.
+#[inline(always)]
 fn still_ascends(ascends: bool, members: &[Member<'_>], key: &str) -> bool
     ensures before { result ≡ true → ascends ≡ true }
     ensures last { result ≡ true → (storage : Storage) (read : Entries)
@@ -163,11 +181,55 @@ fn in_order<'a>(alloc: Global, members: Vec<Member<'a>>) -> Result<Vec<Member<'a
         × Ascend (pairs (insert_all [] read))) }
     ensures memory { IfErr result (λ e. e ≡ OutOfMemory) }
 {
+    if members.len() <= FEW {
+        return few_in_order(alloc, members);
+    }
     let mut sorted = Vec::new(alloc);
     for (key, entry) in by_key(alloc, members)? {
         sorted.push(Member { key, entry })?;
     }
     Ok(sorted)
+}
+
+// The same of few members, one after another.
+fn few_in_order<'a>(alloc: Global, members: Vec<Member<'a>>) -> Result<Vec<Member<'a>>, Error>
+    ensures ok { IfOk result (λ sorted. (storage : Storage) (read : Entries)
+        → MembersAre storage members.entry.items read
+        → MembersAre storage sorted.items (insert_all [] read)
+        × Ascend (pairs (insert_all [] read))) }
+    ensures memory { IfErr result (λ e. e ≡ OutOfMemory) }
+{
+    let mut sorted = Vec::new(alloc);
+    sorted.reserve(members.len())?;
+    for member in members {
+        insert(&mut sorted, member)?;
+    }
+    Ok(sorted)
+}
+
+// Puts a member in its place among members in the order of their keys, or in that of its key.
+fn insert<'a>(sorted: &mut Vec<Member<'a>>, member: Member<'a>) -> Result<(), Error>
+    ensures ok { OnOk result ((storage : Storage) (front : Entries) (key : List ℕ) (t : Tree)
+        → MembersAre storage sorted.old.items front → MemberIs storage member.entry (key, t)
+        → MembersAre storage sorted.new.items
+        (insert_entry (slice_cmp nat_cmp) front key t)) }
+    ensures memory { IfErr result (λ e. e ≡ OutOfMemory) }
+{
+    for index in 0..sorted.len() {
+        match member.key.as_str().cmp(sorted[index].key.as_str()) {
+            Ordering::Less => {
+                sorted.insert(index, member)?;
+                return Ok(());
+            }
+            Ordering::Equal => {
+                sorted[index] = member;
+                return Ok(());
+            }
+            Ordering::Greater => {}
+        }
+    }
+    sorted.push(member)?;
+    Ok(())
 }
 
 // The entries by their keys, the last of equal keys.

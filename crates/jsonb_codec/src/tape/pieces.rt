@@ -33,7 +33,7 @@ pub enum Piece {
 /// Payloads one after another. Bytes that follow one another in the storage are one piece.
 #[derive(Drop)]
 pub struct Payloads {
-    pieces: Vec<Piece>,
+    pub pieces: Vec<Piece>,
     last: Run,
 }
 
@@ -49,6 +49,7 @@ impl Payloads {
     }
 
     /// Appends a payload.
+    #[inline(always)]
     pub fn push(&mut self, piece: Piece) -> Result<(), Error>
         ensures ok { OnOk result ((storage : Storage) (p q : List ℕ)
             → PayloadsAre storage self.old p → PieceIs storage piece q
@@ -72,8 +73,8 @@ impl Payloads {
         Ok(())
     }
 
-    // Makes a piece of the last bytes.
-    fn end_run(&mut self) -> Result<(), Error>
+    /// Makes a piece of the last bytes. Then the pieces have all payloads, and none is empty.
+    pub fn end_run(&mut self) -> Result<(), Error>
         ensures ok { OnOk result ((storage : Storage) (p : List ℕ)
             → PayloadsAre storage self.old p
             → PiecesAre storage self.new.pieces.items p × IsRun storage self.new.last) }
@@ -88,14 +89,11 @@ impl Payloads {
         Ok(())
     }
 
-    /// The pieces, none of which is empty.
-    pub fn into_pieces(mut self) -> Result<Vec<Piece>, Error>
-        ensures ok { IfOk result (λ pieces. (storage : Storage) (p : List ℕ)
-            → PayloadsAre storage self p → PiecesAre storage pieces.items p) }
-        ensures memory { IfErr result (λ e. e ≡ OutOfMemory) }
+    /// Forgets all payloads, but keeps the memory.
+    pub fn clear(&mut self)
+        ensures { (storage : Storage) → PayloadsAre storage self.new [] }
     {
-        self.end_run()?;
-        let Payloads { pieces, .. } = self;
-        Ok(pieces)
+        self.pieces.clear();
+        self.last = Run { start: 0, end: 0 };
     }
 }

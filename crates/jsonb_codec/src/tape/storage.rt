@@ -22,6 +22,7 @@ use crate::word::word_bytes;
 use crate::writer::measure::{MAX_COUNT, MAX_PAYLOAD};
 use jsonb_value::{Error, Number};
 use std::alloc::Global;
+use std::mem::replace;
 
 /// The payloads of scalars, and the headers, entry words and keys of closed containers, as bytes;
 /// and the pieces of the payloads of closed containers.
@@ -29,6 +30,9 @@ use std::alloc::Global;
 pub struct Storage {
     pub bytes: Vec<u8>,
     pub closed: Vec<Piece>,
+    // The keys and values of an object while it is closed. They are kept for their memory.
+    keys: Vec<u8>,
+    values: OpenArray,
 }
 
 impl Storage {
@@ -37,10 +41,13 @@ impl Storage {
         Storage {
             bytes: Vec::new(alloc),
             closed: Vec::new(alloc),
+            keys: Vec::new(alloc),
+            values: OpenArray::new(alloc),
         }
     }
 
     /// Stores a scalar of this type and payload.
+    #[inline(always)]
     pub fn scalar(&mut self, type_code: u32, payload: &[u8]) -> Result<Entry, Error>
         requires { type_code ≤ 0x70000000 }
         ensures grows { IfOk result (λ entry. Grows self.old self.new) }
@@ -54,6 +61,7 @@ impl Storage {
     }
 
     /// Stores a number.
+    #[inline(always)]
     pub fn number(&mut self, value: Number) -> Result<Entry, Error>
         ensures grows { IfOk result (λ entry. Grows self.old self.new) }
         ensures ok { IfOk result (λ entry. EntryIs self.new entry (number value)) }
@@ -65,6 +73,7 @@ impl Storage {
     }
 
     // The entry of a scalar whose payload was stored since `start`.
+    #[inline(always)]
     fn leaf_since(&self, type_code: u32, start: usize) -> Entry
         requires small { type_code ≤ 0x70000000 }
         requires start { start ≤ length self.now.bytes.items }
@@ -81,6 +90,7 @@ impl Storage {
     }
 
     // The bytes that were stored since `start`.
+    #[inline(always)]
     fn since(&self, start: usize) -> Run
         requires { start ≤ length self.now.bytes.items }
         ensures start { result.start ≡ start }
@@ -102,9 +112,9 @@ impl Storage {
     }
 
     /// Closes an array.
-    pub fn close_array(&mut self, parts: OpenArray) -> Result<Option<Entry>, Error>
+    pub fn close_array(&mut self, parts: &mut OpenArray) -> Result<Option<Entry>, Error>
         ensures grows { IfOk result (λ entry. Grows self.old self.new) }
-        ensures ok { IfOk result (λ entry. (front : List Tree) → ArrayIs self.old parts front
+        ensures ok { IfOk result (λ entry. (front : List Tree) → ArrayIs self.old parts.old front
             → IsMade self.new entry (array (trees_of front))) }
         ensures memory { IfErr result (λ e. e ≡ OutOfMemory) }
     {
@@ -118,18 +128,18 @@ impl Storage {
         let start = self.bytes.len();
         self.push_word(ARRAY_CONTAINER_TAG + count as u32)?;
         self.bytes.extend_from_slice(&parts.words)?;
-        Ok(Some(self.close(start, parts.payloads, parts.size)?))
+        Ok(Some(self.close(start, &mut parts.payloads, parts.size)?))
     }
 
     /// Closes an object that has these members, in the order of their keys.
     pub fn close_object(
         &mut self,
         alloc: Global,
-        members: Vec<Member<'_>>,
+        members: &[Member<'_>],
     ) -> Result<Option<Entry>, Error>
         ensures grows { IfOk result (λ entry. Grows self.old self.new) }
         ensures ok { IfOk result (λ entry. (front : Entries)
-            → MembersAre self.old members.entry.items front → Ascend (pairs front)
+            → MembersAre self.old members.now front → Ascend (pairs front)
             → IsMade self.new entry (object (pairs front))) }
         ensures memory { IfErr result (λ e. e ≡ OutOfMemory) }
     {
@@ -139,8 +149,10 @@ impl Storage {
         }
         let start = self.bytes.len();
         self.push_word(OBJECT_CONTAINER_TAG + count as u32)?;
-        let mut keys = Vec::new(alloc);
-        let mut values = OpenArray::new(alloc);
+        let mut keys = replace(&mut self.keys, Vec::new(alloc));
+        let mut values = replace(&mut self.values, OpenArray::new(alloc));
+        keys.clear();
+        values.clear();
         for member in members {
             if !self.push_member(&mut keys, &mut values, member)? {
                 return Ok(None);
@@ -151,22 +163,26 @@ impl Storage {
         }
         self.bytes.extend_from_slice(&values.words)?;
         self.bytes.extend_from_slice(&keys)?;
-        Ok(Some(self.close(start, values.payloads, values.size)?))
+        let entry = self.close(start, &mut values.payloads, values.size)?;
+        self.keys = keys;
+        self.values = values;
+        Ok(Some(entry))
     }
 
     // Stores the entry word of a member's key, and appends the key and the value to these. Returns
     // whether an entry word can hold the length of the key.
+    #[inline(always)]
     fn push_member(
         &mut self,
         keys: &mut Vec<u8>,
         values: &mut OpenArray,
-        member: Member<'_>,
+        member: &Member<'_>,
     ) -> Result<bool, Error>
         ensures closed { IfOk result (λ fits. self.new.closed ≡ self.old.closed) }
         ensures ok { IfOk result (λ fits. fits ≡ true
-            → IsPushed self.old self.new keys.old keys.new values.old values.new member.entry) }
+            → IsPushed self.old self.new keys.old keys.new values.old values.new member.now) }
         ensures long { IfOk result (λ fits. fits ≡ false → Grows self.old self.new
-            × (2 ^ 28 ≤ length (cow_bytes member.entry.key))) }
+            × (2 ^ 28 ≤ length (cow_bytes member.now.key))) }
         ensures memory { IfErr result (λ e. e ≡ OutOfMemory) }
     {
         let key = member.key.as_str();
@@ -180,6 +196,7 @@ impl Storage {
     }
 
     // Stores a word.
+    #[inline(always)]
     fn push_word(&mut self, number: u32) -> Result<(), Error>
         ensures ok { OnOk result ((self.new.bytes.items ≡ self.old.bytes.items ++ word number)
             × (self.new.closed ≡ self.old.closed)) }
@@ -190,11 +207,16 @@ impl Storage {
     }
 
     // Closes a container, whose header, entry words and keys were stored since `start`.
-    fn close(&mut self, start: usize, payloads: Payloads, size: usize) -> Result<Entry, Error>
+    fn close(
+        &mut self,
+        start: usize,
+        payloads: &mut Payloads,
+        size: usize,
+    ) -> Result<Entry, Error>
         requires { start < length self.old.bytes.items }
         ensures grows { IfOk result (λ entry. Grows self.old self.new) }
         ensures tag { IfOk result (λ entry. entry.type_code ≡ CONTAINER_TAG) }
-        ensures ok { IfOk result (λ entry. (p : List ℕ) → PayloadsAre self.old payloads p
+        ensures ok { IfOk result (λ entry. (p : List ℕ) → PayloadsAre self.old payloads.old p
             → size ≡ length p
             → (entry.size ≡ length (drop start self.old.bytes.items ++ p))
             × PieceIs self.new entry.piece (drop start self.old.bytes.items ++ p)) }
@@ -204,16 +226,16 @@ impl Storage {
         let Some(size) = size.checked_add(head.end - head.start) else {
             return Err(Error::OutOfMemory);
         };
-        let pieces = payloads.into_pieces()?;
-        if pieces.is_empty() {
+        payloads.end_run()?;
+        if payloads.pieces.is_empty() {
             return Ok(container(Piece::Run(head), size));
         }
         let first = self.closed.len();
         self.closed.push(Piece::Run(head))?;
-        self.closed.extend_from_slice(&pieces)?;
+        self.closed.extend_from_slice(&payloads.pieces)?;
         let block = Block {
             first,
-            count: pieces.len() + 1,
+            count: payloads.pieces.len() + 1,
             size,
         };
         Ok(container(Piece::Block(block), size))

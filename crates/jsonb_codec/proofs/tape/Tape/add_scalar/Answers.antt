@@ -13,12 +13,7 @@ returns-clause-ok c =
     let entry = c.in_ok-entry.entry in
     let payload = c.args.payload.now in
     let stored = c.in_ok-entry.ensures.ok in
-    let mid : Tape = record {
-      alloc = old.alloc;
-      storage = c.scalar.new.self;
-      innermost = old.innermost;
-      outer = old.outer;
-    } in
+    let mid : Tape = record old { storage = c.scalar.new.self } in
     let by : ((t : Tree) → IsMade mid.storage (Some entry) t → Adds tape_is mid c.add.new.self t)
     → (t : Tree) → IsScalar c.args.type_code payload t → Adds tape_is old c.add.new.self t =
     λ ok t is. added_after old mid c.add.new.self t c.in_ok-entry.ensures.grows refl refl

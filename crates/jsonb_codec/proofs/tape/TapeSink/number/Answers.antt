@@ -10,12 +10,7 @@ use Rattle.jsonb_codec.proofs.tape.TapeSink.number.Goals as goal
 pub returns-clause-ok : goal.returns-clause-ok
 returns-clause-ok c =
     let old = c.args.self.now in
-    let mid : Tape = record {
-      alloc = old.alloc;
-      storage = c.number.new.self;
-      innermost = old.innermost;
-      outer = old.outer;
-    } in
+    let mid : Tape = record old { storage = c.number.new.self } in
     let by : ((t : Tree) → IsMade mid.storage (Some c.in_ok-entry.entry) t
     → Adds tape_is mid c.add.new.self t) → Adds tape_is old c.add.new.self (number c.args.value) =
     λ ok. added_after old mid c.add.new.self (number c.args.value) c.in_ok-entry.ensures.grows refl

@@ -1,5 +1,6 @@
-use Rattle.std.proofs.Common.{arith, rules}
-use Rattle.jsonb_codec.proofs.OnTape.Members.{all_left, none_left, one_more}
+use Rattle.std.proofs.Common.{arith, map, rules}
+use Rattle.jsonb_codec.specs.Tape.{member_of}
+use Rattle.jsonb_codec.proofs.OnTape.Members.{all_left, in_map, none_left, one_more}
 use Rattle.jsonb_codec.proofs.tape.open.by_key.Goals as goal
 
 pub loop-member-init : goal.loop-member-init
@@ -9,11 +10,14 @@ loop-member-init c = λ storage read h.
 pub loop-member-preserved : goal.loop-member-preserved
 loop-member-preserved c = λ storage read h.
     one_more storage c.loop-member.member-iterator.rest.items c.next.new.self.rest.items
-    c.in-Some.member read c.loop-member.found.entries c.insert.new.self.entries
-    (c.loop-member.invariant storage read h) (search rules) c.in_ok-insert.ensures.entries
+    (map member_of c.loop-member.found.entries) (map member_of c.insert.new.self.entries)
+    c.in-Some.member read (c.loop-member.invariant storage read h) (search rules)
+    (in_map storage c.loop-member.found.entries c.insert.new.self.entries c.in-Some.member
+    c.in_ok-insert.ensures.entries)
 
 pub returns-clause-ok : goal.returns-clause-ok
 returns-clause-ok c = λ storage read h.
-    none_left storage c.loop-member.member-iterator.rest.items c.loop-member.found.entries read
+    none_left storage c.loop-member.member-iterator.rest.items
+    (map member_of c.loop-member.found.entries) read
     (c.loop-member.invariant storage read h)
     (omega (arith, c.in-None.ensures.steps, c.loop-member.member-iterator.rest.ok))

@@ -27,17 +27,17 @@ returns-then-is_empty-clause-ok c = λ p h same.
         length-drop c.args.start storage.bytes.items,
       ),
       subst (λ x. PieceIs storage x (head ++ p)) (sym c.container.ensures.piece)
-          (only_head storage run c.in_ok-pieces.pieces.items head p (
+          (only_head storage run c.end_run.new.self.pieces.items head p (
             omega (arith, c.requires, c.since-head.ensures.start, c.since-head.ensures.end),
             omega (arith, c.since-head.ensures.end),
           ) c.since-head.ensures.bytes
-          (c.in_ok-pieces.ensures.ok storage p h) (search rules)),
+          (c.in_ok-end_run.ensures.ok storage p h).0 (search rules)),
     )
 
 pub returns-clause-grows : goal.returns-clause-grows
 returns-clause-grows c = record {
   more_bytes = [];
-  more_closed = piece.Run c.since-head.result ∷ c.in_ok-pieces.pieces.items;
+  more_closed = piece.Run c.since-head.result ∷ c.end_run.new.self.pieces.items;
   bytes = sym (append-nil c.args.self.now.bytes.items);
   closed = closed_grown _ c.push.new.self.items _ _ _ c.in_ok-push.ensures.items (search rules);
 }
@@ -45,10 +45,10 @@ returns-clause-grows c = record {
 pub returns-clause-ok : goal.returns-clause-ok
 returns-clause-ok c = λ p h same.
     let storage = c.args.self.now in
-    let new : Storage = record { bytes = storage.bytes; closed = c.extend_from_slice.new.self } in
+    let new : Storage = record storage { closed = c.extend_from_slice.new.self } in
     let head = drop c.args.start storage.bytes.items in
     let run = c.since-head.result in
-    let pieces = c.in_ok-pieces.pieces.items in
+    let pieces = c.end_run.new.self.pieces.items in
     let sum : c.in-Some.size ≡ c.args.size + (run.end - run.start) = search rules in (
       omega (
         arith,
@@ -66,7 +66,7 @@ returns-clause-ok c = λ p h same.
             omega (arith, c.since-head.ensures.end),
           ) c.since-head.ensures.bytes
           (omega (arith, c.requires, c.since-head.ensures.start, c.since-head.ensures.end))
-          (c.in_ok-pieces.ensures.ok storage p h) (search rules) (returns-clause-grows c)
+          (c.in_ok-end_run.ensures.ok storage p h).0 (search rules) (returns-clause-grows c)
           (closed_grown _ c.push.new.self.items _ pieces _ c.in_ok-push.ensures.items
           (search rules))
           (search rules) (search rules)

@@ -10,7 +10,7 @@ use Rattle.jsonb_codec.proofs.tape.storage.Storage.close_array.Goals as goal
 
 pub returns-then-not-parts-clause-ok : goal.returns-then-not-parts-clause-ok
 returns-then-not-parts-clause-ok c = λ front h.
-    array_unfit c.args.self.now c.args.parts front c.if-not-parts.true h
+    array_unfit c.args.self.now c.args.parts.now front c.if-not-parts.true h
 
 pub returns-then-not-parts-clause-grows : goal.returns-then-not-parts-clause-grows
 returns-then-not-parts-clause-grows c = nothing_grows _
@@ -21,7 +21,7 @@ returns-then-count-gt-MAX_COUNT-clause-grows c = nothing_grows _
 
 pub returns-then-count-gt-MAX_COUNT-clause-ok : goal.returns-then-count-gt-MAX_COUNT-clause-ok
 returns-then-count-gt-MAX_COUNT-clause-ok c = λ front h.
-    array_too_long c.args.self.now c.args.parts front c.if-not-parts.false h (search rules)
+    array_too_long c.args.self.now c.args.parts.now front c.if-not-parts.false h (search rules)
 
 pub close-requires : goal.close-requires
 close-requires c = omega (
@@ -37,11 +37,8 @@ close-requires c = omega (
 pub returns-clause-ok : goal.returns-clause-ok
 returns-clause-ok c = λ front h.
     let storage = c.args.self.now in
-    let parts = c.args.parts in
-    let mid : Storage = record {
-      bytes = c.extend_from_slice.new.self;
-      closed = c.push_word.new.self.closed;
-    } in
+    let parts = c.args.parts.now in
+    let mid : Storage = record c.push_word.new.self { bytes = c.extend_from_slice.new.self } in
     let tag = word (ARRAY_CONTAINER_TAG + length parts.words.items / 4) in
     let begun : c.push_word.new.self.bytes.items ≡ storage.bytes.items ++ tag = search rules in
     let ended : mid.bytes.items ≡ c.push_word.new.self.bytes.items ++ parts.words.items =
