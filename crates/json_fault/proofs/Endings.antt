@@ -1,18 +1,21 @@
 -- What completes a JSON text, for all that may be expected next.
-use Rattle.std.proofs.Common.{◌≡◌, ℕ, ◌+◌, ◌<◌, ◌≤◌, ◌⊎◌, Bool, true, List, [], ◌∷◌, ◌++◌}
-use Rattle.std.proofs.Common.{length, Option, Some}
-use Rattle.std.specs.Prelude.{codes}
+use Rattle.std.proofs.Common.{◌≡◌, ℕ, ◌+◌, ◌<◌, ◌≤◌, ◌⊎◌, Bool, true, false, List, [], ◌∷◌}
+use Rattle.std.proofs.Common.{◌++◌, length, Option, Some}
+use Rattle.std.specs.Prelude.{◌||◌, codes}
 use Rattle.std.specs.Char.{digit_value}
-use Rattle.std.specs.Str.Parse.{digits_value_after}
-use Rattle.jsonb_value.specs.declared.parser.number.Exponents.TheVariants.{Forbidden}
+use Rattle.std.specs.Str.Parse.{digits_value, digits_value_after}
+use Rattle.jsonb_value.specs.declared.parser.number.Exponents.{Exponents}
+use Rattle.jsonb_value.specs.declared.parser.number.Exponents.TheVariants.{Forbidden, Allowed}
 use Rattle.jsonb_value.specs.Json.Characters.{quote, backslash, letter_u, colon, close_bracket}
-use Rattle.jsonb_value.specs.Json.Characters.{close_brace, all_blank, all_digits}
+use Rattle.jsonb_value.specs.Json.Characters.{close_brace, all_blank, all_digits, is_exponent_mark}
+use Rattle.jsonb_value.specs.Json.Numeral as json
 use Rattle.jsonb_value.specs.Json.Numeral.{is_whole, fraction_text}
 use Rattle.jsonb_value.specs.Json.Piece.{Piece, escape_value, pieces_text, pieces_meaning}
 use Rattle.jsonb_value.specs.Json.Syntax.{meaning, items_meaning, members_meaning, syntax_text}
 use Rattle.jsonb_value.specs.Json.Syntax.{items_text, members_text}
 use Rattle.json_fault.specs.declared.number.Part.{Part}
 use Rattle.json_fault.specs.declared.number.Part.TheVariants.{Sign, Zero, Whole, Point, Fraction}
+use Rattle.json_fault.specs.declared.exponent.Exponent.{Exponent}
 use Rattle.json_fault.specs.declared.string.Place.{Place}
 use Rattle.json_fault.specs.declared.string.Place.TheVariants.{Inside, Escaped, Four, ThreeOfD}
 use Rattle.json_fault.specs.declared.string.Place.TheVariants.{Three, Two, One, HighTwo, HighOne}
@@ -25,8 +28,10 @@ use Rattle.json_fault.specs.declared.expected.Word.TheVariants.{L}
 use Rattle.json_fault.specs.declared.expected.Expected.{Expected}
 use Rattle.json_fault.specs.declared.expected.Expected.TheVariants.{Value, FirstItem, FirstKey}
 use Rattle.json_fault.specs.declared.expected.Expected.TheVariants.{Key, Colon, Rest, Letters}
-use Rattle.json_fault.specs.declared.expected.Expected.TheVariants.{Digits, Content, Name}
-use Rattle.json_fault.specs.Scan.{has_room, without_innermost}
+use Rattle.json_fault.specs.declared.expected.Expected.TheVariants.{Digits, ExponentSign}
+use Rattle.json_fault.specs.declared.expected.Expected.TheVariants.{ExponentDigits, Content, Name}
+use Rattle.json_fault.specs.Scan.{has_room, is_between, without_innermost}
+use Rattle.json_fault.proofs.Held.{IsHeldWith}
 
 -- white space, this character, and then what P holds of
 pub record After (k : ℕ) (P : List ℕ → Type 0) (w : List ℕ) : Type 0 where
@@ -49,16 +54,16 @@ pub record SyntaxEnd {S M : Type 0} (spelling : S → List ℕ) (meaning_of : S 
   pub ends : P rest
 
 -- a value
-abbrev pub ValueEnd : (List ℕ → Type 0) → List ℕ → Type 0
-ValueEnd P = SyntaxEnd syntax_text (meaning Forbidden) P
+abbrev pub ValueEnd : Exponents → (List ℕ → Type 0) → List ℕ → Type 0
+ValueEnd rule P = SyntaxEnd syntax_text (meaning rule) P
 
 -- the rest of an array after an item
-abbrev pub ItemsEnd : (List ℕ → Type 0) → List ℕ → Type 0
-ItemsEnd P = SyntaxEnd items_text (items_meaning Forbidden) P
+abbrev pub ItemsEnd : Exponents → (List ℕ → Type 0) → List ℕ → Type 0
+ItemsEnd rule P = SyntaxEnd items_text (items_meaning rule) P
 
 -- the rest of an object after a member
-abbrev pub MembersEnd : (List ℕ → Type 0) → List ℕ → Type 0
-MembersEnd P = SyntaxEnd members_text (members_meaning Forbidden) P
+abbrev pub MembersEnd : Exponents → (List ℕ → Type 0) → List ℕ → Type 0
+MembersEnd rule P = SyntaxEnd members_text (members_meaning rule) P
 
 -- the rest of a string
 pub record StringEnd (P : List ℕ → Type 0) (w : List ℕ) : Type 0 where
@@ -70,80 +75,115 @@ pub record StringEnd (P : List ℕ → Type 0) (w : List ℕ) : Type 0 where
   pub ends : P rest
 
 -- a colon and a value
-abbrev pub ColonEnd : (List ℕ → Type 0) → List ℕ → Type 0
-ColonEnd P = After colon (ValueEnd P)
+abbrev pub ColonEnd : Exponents → (List ℕ → Type 0) → List ℕ → Type 0
+ColonEnd rule P = After colon (ValueEnd rule P)
 
 -- a key, a colon and a value
-abbrev pub KeyEnd : (List ℕ → Type 0) → List ℕ → Type 0
-KeyEnd P = After quote (StringEnd (ColonEnd P))
+abbrev pub KeyEnd : Exponents → (List ℕ → Type 0) → List ℕ → Type 0
+KeyEnd rule P = After quote (StringEnd (ColonEnd rule P))
 
 -- what closes these brackets, the first first, and only white space after them
-unfoldable pub Ends : List Bracket → List ℕ → Type 0
-Ends [] w = all_blank w ≡ true
-Ends (Array ∷ bs) w = ItemsEnd (Ends bs) w
-Ends (Object ∷ bs) w = MembersEnd (Ends bs) w
+unfoldable pub Ends : Exponents → List Bracket → List ℕ → Type 0
+Ends rule [] w = all_blank w ≡ true
+Ends rule (Array ∷ bs) w = ItemsEnd rule (Ends rule bs) w
+Ends rule (Object ∷ bs) w = MembersEnd rule (Ends rule bs) w
 
--- ---- numbers
+-- ---- exponents
 
--- digits and a fraction, which the format holds after the number m of this sign and scale
-pub record TailEnd (b : Bool) (m k : ℕ) (P : List ℕ → Type 0) (w : List ℕ) : Type 0 where
-  pub digits : List ℕ
-  pub fraction : List ℕ
-  pub are_digits : all_digits digits ≡ true
-  pub is_fraction : all_digits fraction ≡ true
-  pub is_held : has_room b (digits_value_after 10 m (digits ++ fraction)) (k + length fraction)
-      ≡ true
-  pub rest : List ℕ
-  pub is_spelled : w ≡ digits ++ (fraction_text fraction ++ rest)
-  pub ends : P rest
+-- There is a digit.
+abbrev pub is_filled : List ℕ → Bool
+is_filled [] = false
+is_filled (d ∷ ds) = true
 
--- a fraction alone
-pub record ZeroEnd (b : Bool) (m k : ℕ) (P : List ℕ → Type 0) (w : List ℕ) : Type 0 where
-  pub fraction : List ℕ
-  pub is_fraction : all_digits fraction ≡ true
-  pub is_held : has_room b (digits_value_after 10 m fraction) (k + length fraction) ≡ true
-  pub rest : List ℕ
-  pub is_spelled : w ≡ fraction_text fraction ++ rest
-  pub ends : P rest
-
--- digits alone
-pub record DigitsEnd (b : Bool) (m k : ℕ) (P : List ℕ → Type 0) (w : List ℕ) : Type 0 where
+-- the rest of an exponent's digits, with which it is in its range, and then what P holds of
+pub record ExponentEnd (x : Exponent) (P : List ℕ → Type 0) (w : List ℕ) : Type 0 where
   pub digits : List ℕ
   pub are_digits : all_digits digits ≡ true
-  pub is_held : has_room b (digits_value_after 10 m digits) (k + length digits) ≡ true
+  pub is_some : (x.has_digits || is_filled digits) ≡ true
+  pub is_held : is_between (digits_value_after 10 x.value digits) x.least x.greatest ≡ true
   pub rest : List ℕ
   pub is_spelled : w ≡ digits ++ rest
   pub ends : P rest
 
+-- an exponent after its mark, with which the format holds the number
+pub record MarkEnd (b : Bool) (m k : ℕ) (P : List ℕ → Type 0) (w : List ℕ) : Type 0 where
+  pub sign : json.Sign
+  pub digits : List ℕ
+  pub are_digits : json.are_digits digits ≡ true
+  pub is_held : IsHeldWith b m k (json.is_minus sign) (digits_value 10 digits)
+  pub rest : List ℕ
+  pub is_spelled : w ≡ json.exponent_sign_text sign ++ (digits ++ rest)
+  pub ends : P rest
+
+-- an exponent
+pub record MarkedEnd (rule : Exponents) (b : Bool) (P : List ℕ → Type 0) (m k : ℕ) (w : List ℕ)
+    : Type 0 where
+  pub is_allowed : rule ≡ Allowed
+  pub mark : ℕ
+  pub is_mark : is_exponent_mark mark ≡ true
+  pub rest : List ℕ
+  pub is_spelled : w ≡ mark ∷ rest
+  pub ends : MarkEnd b m k P rest
+
+-- what follows the digits of a number of this sign, magnitude and scale: an exponent, or none
+abbrev pub RestEnd : Exponents → Bool → (List ℕ → Type 0) → ℕ → ℕ → List ℕ → Type 0
+RestEnd rule b P m k w =
+    ((has_room Forbidden b m k ≡ true) × P w) ⊎ MarkedEnd rule b P m k w
+
+-- ---- numbers
+
+-- digits and a fraction, which follow the number m of this scale, and then what R holds of
+pub record TailEnd (m k : ℕ) (R : ℕ → ℕ → List ℕ → Type 0) (w : List ℕ) : Type 0 where
+  pub digits : List ℕ
+  pub fraction : List ℕ
+  pub are_digits : all_digits digits ≡ true
+  pub is_fraction : all_digits fraction ≡ true
+  pub rest : List ℕ
+  pub is_spelled : w ≡ digits ++ (fraction_text fraction ++ rest)
+  pub ends : R (digits_value_after 10 m (digits ++ fraction)) (k + length fraction) rest
+
+-- a fraction alone
+pub record ZeroEnd (m k : ℕ) (R : ℕ → ℕ → List ℕ → Type 0) (w : List ℕ) : Type 0 where
+  pub fraction : List ℕ
+  pub is_fraction : all_digits fraction ≡ true
+  pub rest : List ℕ
+  pub is_spelled : w ≡ fraction_text fraction ++ rest
+  pub ends : R (digits_value_after 10 m fraction) (k + length fraction) rest
+
+-- digits alone
+pub record DigitsEnd (m k : ℕ) (R : ℕ → ℕ → List ℕ → Type 0) (w : List ℕ) : Type 0 where
+  pub digits : List ℕ
+  pub are_digits : all_digits digits ≡ true
+  pub rest : List ℕ
+  pub is_spelled : w ≡ digits ++ rest
+  pub ends : R (digits_value_after 10 m digits) (k + length digits) rest
+
 -- digits alone, at least one
-pub record PointEnd (b : Bool) (m k : ℕ) (P : List ℕ → Type 0) (w : List ℕ) : Type 0 where
+pub record PointEnd (m k : ℕ) (R : ℕ → ℕ → List ℕ → Type 0) (w : List ℕ) : Type 0 where
   pub first : ℕ
   pub digits : List ℕ
   pub are_digits : all_digits (first ∷ digits) ≡ true
-  pub is_held : has_room b (digits_value_after 10 m (first ∷ digits))
-      (k + length (first ∷ digits)) ≡ true
   pub rest : List ℕ
   pub is_spelled : w ≡ first ∷ (digits ++ rest)
-  pub ends : P rest
+  pub ends : R (digits_value_after 10 m (first ∷ digits)) (k + length (first ∷ digits)) rest
 
 -- a number without its minus
-pub record SignEnd (b : Bool) (P : List ℕ → Type 0) (w : List ℕ) : Type 0 where
+pub record SignEnd (R : ℕ → ℕ → List ℕ → Type 0) (w : List ℕ) : Type 0 where
   pub whole : List ℕ
   pub fraction : List ℕ
   pub is_whole_part : is_whole whole ≡ true
   pub is_fraction : all_digits fraction ≡ true
-  pub is_held : has_room b (digits_value_after 10 0 (whole ++ fraction)) (length fraction) ≡ true
   pub rest : List ℕ
   pub is_spelled : w ≡ whole ++ (fraction_text fraction ++ rest)
-  pub ends : P rest
+  pub ends : R (digits_value_after 10 0 (whole ++ fraction)) (length fraction) rest
 
--- the rest of a number
-abbrev pub NumberEnd : Part → Bool → ℕ → ℕ → (List ℕ → Type 0) → List ℕ → Type 0
-NumberEnd Sign b m k P w = SignEnd b P w
-NumberEnd Zero b m k P w = ZeroEnd b m k P w
-NumberEnd Whole b m k P w = TailEnd b m k P w
-NumberEnd Point b m k P w = PointEnd b m k P w
-NumberEnd Fraction b m k P w = DigitsEnd b m k P w
+-- the rest of a number's digits
+abbrev pub NumberEnd : Part → ℕ → ℕ → (ℕ → ℕ → List ℕ → Type 0) → List ℕ → Type 0
+NumberEnd Sign m k R w = SignEnd R w
+NumberEnd Zero m k R w = ZeroEnd m k R w
+NumberEnd Whole m k R w = TailEnd m k R w
+NumberEnd Point m k R w = PointEnd m k R w
+NumberEnd Fraction m k R w = DigitsEnd m k R w
 
 -- ---- strings
 
@@ -245,15 +285,19 @@ pub record Literal (ks : List ℕ) (P : List ℕ → Type 0) (w : List ℕ) : Ty
   pub ends : P rest
 
 -- what completes a JSON text
-abbrev pub Completes : Expected → List Bracket → List ℕ → Type 0
-Completes Value bs w = ValueEnd (Ends bs) w
-Completes FirstItem bs w =
-    After close_bracket (Ends (without_innermost bs)) w ⊎ ValueEnd (Ends bs) w
-Completes FirstKey bs w = After close_brace (Ends (without_innermost bs)) w ⊎ KeyEnd (Ends bs) w
-Completes Key bs w = KeyEnd (Ends bs) w
-Completes Colon bs w = ColonEnd (Ends bs) w
-Completes Rest bs w = Ends bs w
-Completes (Letters word) bs w = Literal (letters word) (Ends bs) w
-Completes (Digits n) bs w = NumberEnd n.part n.is_negative n.magnitude n.scale (Ends bs) w
-Completes (Content place) bs w = PlaceEnd place (Ends bs) w
-Completes (Name place) bs w = PlaceEnd place (ColonEnd (Ends bs)) w
+abbrev pub Completes : Exponents → Expected → List Bracket → List ℕ → Type 0
+Completes rule Value bs w = ValueEnd rule (Ends rule bs) w
+Completes rule FirstItem bs w =
+    After close_bracket (Ends rule (without_innermost bs)) w ⊎ ValueEnd rule (Ends rule bs) w
+Completes rule FirstKey bs w =
+    After close_brace (Ends rule (without_innermost bs)) w ⊎ KeyEnd rule (Ends rule bs) w
+Completes rule Key bs w = KeyEnd rule (Ends rule bs) w
+Completes rule Colon bs w = ColonEnd rule (Ends rule bs) w
+Completes rule Rest bs w = Ends rule bs w
+Completes rule (Letters word) bs w = Literal (letters word) (Ends rule bs) w
+Completes rule (Digits n) bs w =
+    NumberEnd n.part n.magnitude n.scale (RestEnd rule n.is_negative (Ends rule bs)) w
+Completes rule (ExponentSign n) bs w = MarkEnd n.is_negative n.magnitude n.scale (Ends rule bs) w
+Completes rule (ExponentDigits x) bs w = ExponentEnd x (Ends rule bs) w
+Completes rule (Content place) bs w = PlaceEnd place (Ends rule bs) w
+Completes rule (Name place) bs w = PlaceEnd place (ColonEnd rule (Ends rule bs)) w

@@ -1,5 +1,8 @@
 mod Conditions
+mod Powers
+mod Held
 mod Endings
+mod ExponentBack
 mod StringBack
 mod NumberBack
 mod StepBack
@@ -7,9 +10,9 @@ mod Completions
 mod Going
 mod StringGoes
 mod NumberGoes
+mod ExponentGoes
 mod ValueGoes
 mod OpenBrackets
 mod Scanning
 mod NumbersLeftOut
-mod NumberSteps
 mod Offsets

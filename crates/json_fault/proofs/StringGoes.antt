@@ -4,6 +4,7 @@ use Rattle.std.proofs.Common.{List, [], ◌∷◌, ◌++◌, append_assoc, Some,
 use Rattle.std.specs.Prelude.{◌&&◌, ◌==◌, nat_lt, nat_le, is_some}
 use Rattle.std.specs.Char.{digit_value}
 use Rattle.std.proofs.lemmas.Bool.Decides.{nat_tests}
+use Rattle.jsonb_value.specs.declared.parser.number.Exponents.{Exponents}
 use Rattle.jsonb_value.specs.Json.Characters.{quote, backslash, letter_u}
 use Rattle.jsonb_value.specs.Json.Piece.{Piece, unit4, plain, escape, unit, surrogates}
 use Rattle.jsonb_value.specs.Json.Piece.{piece_text, pieces_text, piece_meaning, pieces_meaning}
@@ -104,28 +105,29 @@ escape_no_u c v e = grind (arith, nat_tests)
 
 -- ---- strings that are values, or keys
 
-module _ (at : Place → Expected) (moves : (place q : Place) (c : ℕ) (bs : List Bracket)
-    → is_closed place c ≡ false → string_continued place c ≡ Some q
-    → followed (at place) (innermost bs) c ≡ Some (at q, Keep)) (bs : List Bracket) where
+module _ (rule : Exponents) (at : Place → Expected) (moves : (place q : Place) (c : ℕ)
+    (bs : List Bracket) → is_closed place c ≡ false → string_continued place c ≡ Some q
+    → followed rule (at place) (innermost bs) c ≡ Some (at q, Keep)) (bs : List Bracket) where
   one_step : (place q : Place) (c : ℕ) (w : List ℕ) → is_closed place c ≡ false
-      → string_continued place c ≡ Some q → Going (at q) bs w → Going (at place) bs (c ∷ w)
+      → string_continued place c ≡ Some q → Going rule (at q) bs w
+      → Going rule (at place) bs (c ∷ w)
   one_step place q c w opened is more =
-      step (at place) bs (at q, Keep) c w (moves place q c bs opened is) more
+      step rule (at place) bs (at q, Keep) c w (moves place q c bs opened is) more
 
-  escape_steps : (w : List ℕ) → Going (at Four) bs w
-      → Going (at Inside) bs (backslash ∷ letter_u ∷ w)
+  escape_steps : (w : List ℕ) → Going rule (at Four) bs w
+      → Going rule (at Inside) bs (backslash ∷ letter_u ∷ w)
   escape_steps w more = one_step Inside Escaped backslash (letter_u ∷ w) refl refl
       (one_step Escaped Four letter_u w refl refl more)
 
   two_steps : (c d : ℕ) (w : List ℕ) → digit_value c < 16 → digit_value d < 16
-      → Going (at Inside) bs w → Going (at Two) bs (c ∷ d ∷ w)
+      → Going rule (at Inside) bs w → Going rule (at Two) bs (c ∷ d ∷ w)
   two_steps c d w hc hd more =
       one_step Two One c (d ∷ w) refl (after_digit_is c 0 16 One (omega arith) hc)
       (one_step One Inside d w refl (after_digit_is d 0 16 Inside (omega arith) hd) more)
 
   unit_goes : (a b c d u v : ℕ) (w : List ℕ) → unit_value (unit4 a b c d) ≡ Some u
-      → unit_character u ≡ Some v → Going (at Inside) bs w
-      → Going (at Inside) bs (backslash ∷ letter_u ∷ a ∷ b ∷ c ∷ d ∷ w)
+      → unit_character u ≡ Some v → Going rule (at Inside) bs w
+      → Going rule (at Inside) bs (backslash ∷ letter_u ∷ a ∷ b ∷ c ∷ d ∷ w)
   unit_goes a b c d u v w e f more =
       let are = are_digits a b c d u e in
       let last = two_steps c d w are.third are.fourth more in
@@ -146,8 +148,8 @@ module _ (at : Place → Expected) (moves : (place q : Place) (c : ℕ) (bs : Li
       ])
 
   low_goes : (s t x y l : ℕ) (w : List ℕ) → unit_value (unit4 s t x y) ≡ Some l
-      → is_low l ≡ true → Going (at Inside) bs w
-      → Going (at Low) bs (backslash ∷ letter_u ∷ s ∷ t ∷ x ∷ y ∷ w)
+      → is_low l ≡ true → Going rule (at Inside) bs w
+      → Going rule (at Low) bs (backslash ∷ letter_u ∷ s ∷ t ∷ x ∷ y ∷ w)
   low_goes s t x y l w e f more =
       let are = are_digits s t x y l e in
       let range = is_low_from l f in
@@ -162,9 +164,10 @@ module _ (at : Place → Expected) (moves : (place q : Place) (c : ℕ) (bs : Li
       (two_steps x y w are.third are.fourth more))))
 
   pair_goes : (a b c d s t x y h l v : ℕ) (w : List ℕ) → unit_value (unit4 a b c d) ≡ Some h
-      → unit_value (unit4 s t x y) ≡ Some l → pair_character h l ≡ Some v → Going (at Inside) bs w
-      → Going (at Inside) bs (backslash ∷ letter_u ∷ a ∷ b ∷ c ∷ d ∷ backslash ∷ letter_u ∷ s ∷ t
-      ∷ x ∷ y ∷ w)
+      → unit_value (unit4 s t x y) ≡ Some l → pair_character h l ≡ Some v
+      → Going rule (at Inside) bs w
+      → Going rule (at Inside) bs (backslash ∷ letter_u ∷ a ∷ b ∷ c ∷ d ∷ backslash ∷ letter_u ∷ s
+      ∷ t ∷ x ∷ y ∷ w)
   pair_goes a b c d s t x y h l v w e f g more =
       let halves = and_true _ _ (cond_some _ _ _ g).0 in
       let are = are_digits a b c d h e in
@@ -184,7 +187,7 @@ module _ (at : Place → Expected) (moves : (place q : Place) (c : ℕ) (bs : Li
       (low_goes s t x y l w f halves.1 more)))))
 
   piece_goes : (p : Piece) (v : ℕ) (w : List ℕ) → piece_meaning p ≡ Some v
-      → Going (at Inside) bs w → Going (at Inside) bs (piece_text p ++ w)
+      → Going rule (at Inside) bs w → Going rule (at Inside) bs (piece_text p ++ w)
   piece_goes (plain c) v w e more =
       let is = (cond_some _ _ _ e).0 in
       let opened = plain_open c is in
@@ -202,7 +205,7 @@ module _ (at : Place → Expected) (moves : (place q : Place) (c : ℕ) (bs : Li
       pair_goes a b c d s t x y h l v w is also end more))
 
   pub pieces_go : (ps : List Piece) (bytes w : List ℕ) → pieces_meaning ps ≡ Some bytes
-      → Going (at Inside) bs w → Going (at Inside) bs (pieces_text ps ++ w)
+      → Going rule (at Inside) bs w → Going rule (at Inside) bs (pieces_text ps ++ w)
   pieces_go [] bytes w e more = more
   pieces_go (p ∷ ps) bytes w e more =
       bind_then (piece_meaning p) _ _ e (λ v is last.

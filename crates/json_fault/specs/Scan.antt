@@ -1,16 +1,20 @@
 -- What may come next in a JSON text, character by character.
-use Rattle.std.specs.Prelude.{ℕ, ◌+◌, ◌*◌, ◌^◌, Bool, true, false, cond, ◌&&◌, ◌==◌, nat_lt}
-use Rattle.std.specs.Prelude.{nat_le, List, [], ◌∷◌, Option, Some, None, is_some}
+use Rattle.std.specs.Prelude.{ℕ, zero, suc, ◌+◌, ◌-◌, ◌*◌, ◌/◌, ◌^◌, min, Bool, true, false, cond}
+use Rattle.std.specs.Prelude.{◌&&◌, ◌||◌, ◌==◌, nat_lt, nat_le, List, [], ◌∷◌, Option, Some, None}
+use Rattle.std.specs.Prelude.{is_some, option_map}
 use Rattle.std.specs.Char.{digit_value, is_digit}
 use Rattle.std.specs.Option.{option_or}
-use Rattle.jsonb_value.specs.Json.Characters.{quote, comma, minus, point, zero_digit, colon}
+use Rattle.jsonb_value.specs.declared.parser.number.Exponents.{Exponents}
+use Rattle.jsonb_value.specs.declared.parser.number.Exponents.TheVariants.{Forbidden, Allowed}
+use Rattle.jsonb_value.specs.Json.Characters.{quote, comma, plus, minus, point, zero_digit, colon}
 use Rattle.jsonb_value.specs.Json.Characters.{open_bracket, backslash, close_bracket, letter_u}
-use Rattle.jsonb_value.specs.Json.Characters.{open_brace, close_brace, is_blank}
+use Rattle.jsonb_value.specs.Json.Characters.{open_brace, close_brace, is_blank, is_exponent_mark}
 use Rattle.jsonb_value.specs.Json.Piece.{escape_value, is_plain}
 use Rattle.jsonb_value.specs.Json.Bind.{◌>>=◌}
 use Rattle.json_fault.specs.declared.number.Part.{Part}
 use Rattle.json_fault.specs.declared.number.Part.TheVariants.{Sign, Zero, Whole, Point, Fraction}
 use Rattle.json_fault.specs.declared.number.Numeral.{Numeral}
+use Rattle.json_fault.specs.declared.exponent.Exponent.{Exponent}
 use Rattle.json_fault.specs.declared.string.Place.{Place}
 use Rattle.json_fault.specs.declared.string.Place.TheVariants.{Inside, Escaped, Four, ThreeOfD}
 use Rattle.json_fault.specs.declared.string.Place.TheVariants.{Three, Two, One, HighTwo, HighOne}
@@ -23,7 +27,8 @@ use Rattle.json_fault.specs.declared.expected.Word.TheVariants.{L}
 use Rattle.json_fault.specs.declared.expected.Expected.{Expected}
 use Rattle.json_fault.specs.declared.expected.Expected.TheVariants.{Value, FirstItem, FirstKey}
 use Rattle.json_fault.specs.declared.expected.Expected.TheVariants.{Key, Colon, Rest, Letters}
-use Rattle.json_fault.specs.declared.expected.Expected.TheVariants.{Digits, Content, Name}
+use Rattle.json_fault.specs.declared.expected.Expected.TheVariants.{Digits, ExponentSign}
+use Rattle.json_fault.specs.declared.expected.Expected.TheVariants.{ExponentDigits, Content, Name}
 use Rattle.json_fault.specs.declared.expected.Change.{Change}
 use Rattle.json_fault.specs.declared.expected.Change.TheVariants.{Keep, Open, Close}
 
@@ -34,27 +39,33 @@ abbrev pub limit : Bool → ℕ
 limit true = 2 ^ 127 + 1
 limit false = 2 ^ 127
 
--- The format holds numbers of this sign, magnitude and scale.
-abbrev pub has_room : Bool → ℕ → ℕ → Bool
-has_room is_negative magnitude scale = nat_lt magnitude (limit is_negative) && nat_lt scale 256
+-- There are fewer fraction digits than `below`, or an exponent can still lower the scale.
+abbrev pub has_scale : Exponents → ℕ → ℕ → Bool
+has_scale Forbidden scale below = nat_lt scale below
+has_scale Allowed scale below = true
+
+-- The format holds numbers of this sign, magnitude and scale, or with an exponent after them.
+abbrev pub has_room : Exponents → Bool → ℕ → ℕ → Bool
+has_room rule is_negative magnitude scale =
+    nat_lt magnitude (limit is_negative) && has_scale rule scale 256
 
 -- The same of the least number that begins so, where the part read last is given.
-abbrev pub has_room_after : Part → Bool → ℕ → ℕ → Bool
-has_room_after Point is_negative magnitude scale =
-    has_room is_negative (magnitude * 10) scale && nat_lt scale 255
-has_room_after _ is_negative magnitude scale = has_room is_negative magnitude scale
+abbrev pub has_room_after : Exponents → Part → Bool → ℕ → ℕ → Bool
+has_room_after rule Point is_negative magnitude scale =
+    nat_lt (magnitude * 10) (limit is_negative) && has_scale rule scale 255
+has_room_after rule _ is_negative magnitude scale = has_room rule is_negative magnitude scale
 
 -- The format holds the number, or one that begins so.
-abbrev pub is_viable : Numeral → Bool
-is_viable n = has_room_after n.part n.is_negative n.magnitude n.scale
+abbrev pub is_viable : Exponents → Numeral → Bool
+is_viable rule n = has_room_after rule n.part n.is_negative n.magnitude n.scale
 
 -- The numeral, if it is viable.
-abbrev pub viable_only : Numeral → Option Numeral
-viable_only n = cond (is_viable n) (Some n) None
+abbrev pub viable_only : Exponents → Numeral → Option Numeral
+viable_only rule n = cond (is_viable rule n) (Some n) None
 
 -- The numeral after one more digit of this part, which adds `more` to the scale.
-abbrev pub with_digit : Numeral → Part → ℕ → ℕ → Option Numeral
-with_digit n part more c = cond (is_digit c 10) (viable_only (record {
+abbrev pub with_digit : Exponents → Numeral → Part → ℕ → ℕ → Option Numeral
+with_digit rule n part more c = cond (is_digit c 10) (viable_only rule (record {
   is_negative = n.is_negative;
   part = part;
   magnitude = n.magnitude * 10 + digit_value c;
@@ -62,8 +73,8 @@ with_digit n part more c = cond (is_digit c 10) (viable_only (record {
 })) None
 
 -- The numeral after a point.
-abbrev pub with_point : Numeral → ℕ → Option Numeral
-with_point n c = cond (c == point) (viable_only (record n { part = Point })) None
+abbrev pub with_point : Exponents → Numeral → ℕ → Option Numeral
+with_point rule n c = cond (c == point) (viable_only rule (record n { part = Point })) None
 
 -- The numeral whose first digit this is.
 abbrev pub number_begun : Bool → ℕ → Option Numeral
@@ -75,16 +86,16 @@ number_begun is_negative c = cond (is_digit c 10) (Some (record {
 })) None
 
 -- The numeral after one more character, where the part read last is given.
-abbrev pub part_continued : Part → Numeral → ℕ → Option Numeral
-part_continued Sign n c = number_begun n.is_negative c
-part_continued Zero n c = with_point n c
-part_continued Whole n c = option_or (with_point n c) (with_digit n Whole 0 c)
-part_continued Point n c = with_digit n Fraction 1 c
-part_continued Fraction n c = with_digit n Fraction 1 c
+abbrev pub part_continued : Exponents → Part → Numeral → ℕ → Option Numeral
+part_continued rule Sign n c = number_begun n.is_negative c
+part_continued rule Zero n c = with_point rule n c
+part_continued rule Whole n c = option_or (with_point rule n c) (with_digit rule n Whole 0 c)
+part_continued rule Point n c = with_digit rule n Fraction 1 c
+part_continued rule Fraction n c = with_digit rule n Fraction 1 c
 
 -- The numeral after one more character, if the format holds a number that begins so.
-abbrev pub number_continued : Numeral → ℕ → Option Numeral
-number_continued n c = part_continued n.part n c
+abbrev pub number_continued : Exponents → Numeral → ℕ → Option Numeral
+number_continued rule n c = part_continued rule n.part n c
 
 -- A number may end with this part.
 abbrev pub is_end : Part → Bool
@@ -96,7 +107,81 @@ is_end Point = false
 
 -- The number may end here.
 abbrev pub is_complete : Numeral → Bool
-is_complete n = is_end n.part
+is_complete n = is_end n.part && nat_lt n.scale 256
+
+-- An exponent may follow the digits.
+abbrev pub takes_exponent : Exponents → Numeral → Bool
+takes_exponent Forbidden n = false
+takes_exponent Allowed n = is_end n.part
+
+-- ---- exponents
+
+-- The count of decimal digits after the first, or `most` if there are more.
+abbrev pub digits_after_first : (most : ℕ) → ℕ → ℕ
+digits_after_first zero n = 0
+digits_after_first (suc most) n = cond (nat_lt n 10) 0 (suc (digits_after_first most (n / 10)))
+
+-- The exponent of the greatest power of ten that is at most the number; 0 for 0.
+unfoldable pub log10 : ℕ → ℕ
+log10 n = digits_after_first n n
+
+-- How many zeros the digits have room for; `None` if for all, as the number is 0.
+abbrev pub zeros : Bool → ℕ → Option ℕ
+zeros is_negative magnitude =
+    cond (magnitude == 0) None (Some (log10 ((limit is_negative - 1) / magnitude)))
+
+-- An exponent of which no digit was read, with the least and the greatest that it may become.
+abbrev pub without_digits : ℕ → Option ℕ → Exponent
+without_digits least greatest = record {
+  has_digits = false;
+  value = 0;
+  least = least;
+  greatest = greatest;
+}
+
+-- The exponent after its mark, if it has no minus.
+abbrev pub raising : Numeral → Exponent
+raising n = without_digits (n.scale - 255)
+    (option_map (λ count. n.scale + count) (zeros n.is_negative n.magnitude))
+
+-- The exponent after its mark and a minus.
+abbrev pub lowering : Numeral → Option Exponent
+lowering n = cond (nat_lt n.scale 256) (Some (without_digits 0 (Some (255 - n.scale)))) None
+
+-- Some number from `least` to `greatest`, if there is any, begins with the digits of `value`.
+abbrev pub reaches : ℕ → ℕ → ℕ → Bool
+reaches value least greatest = (value == 0)
+    || (nat_le value greatest && nat_le (least / 10 ^ log10 (greatest / value)) value)
+
+-- The exponent with this value and a digit, where its greatest is given. Without a greatest all
+-- values from the least on have the same effect.
+abbrev pub with_value : Option ℕ → Exponent → ℕ → Option Exponent
+with_value None x value = Some (record x { has_digits = true; value = min value x.least })
+with_value (Some greatest) x value = cond (reaches value x.least greatest)
+    (Some (record x { has_digits = true; value = value })) None
+
+-- The exponent after one more digit, if the format holds a number that begins so.
+abbrev pub exponent_continued : Exponent → ℕ → Option Exponent
+exponent_continued x c = cond (is_digit c 10)
+    (with_value x.greatest x (x.value * 10 + digit_value c)) None
+
+-- The exponent after the character that follows its mark.
+abbrev pub exponent_begun : Numeral → ℕ → Option Exponent
+exponent_begun n c = cond (c == plus) (Some (raising n))
+    (cond (c == minus) (lowering n) (exponent_continued (raising n) c))
+
+-- The value is at most the greatest.
+abbrev pub at_most : ℕ → Option ℕ → Bool
+at_most value None = true
+at_most value (Some greatest) = nat_le value greatest
+
+-- The value is in the range.
+abbrev pub is_between : ℕ → ℕ → Option ℕ → Bool
+is_between value least greatest = nat_le least value && at_most value greatest
+
+-- The exponent may end here.
+abbrev pub is_final : Exponent → Bool
+is_final x = x.has_digits && is_between x.value x.least x.greatest
 
 -- ---- strings
 
@@ -210,10 +295,28 @@ word_continued Ull c = mark_begun c 117 (Letters Ll)
 word_continued Ll c = mark_begun c 108 (Letters L)
 word_continued L c = mark_begun c 108 Rest
 
+-- The mark of an exponent, if one may follow.
+abbrev pub mark_after : Exponents → Numeral → ℕ → Option Move
+mark_after rule n c =
+    cond (takes_exponent rule n && is_exponent_mark c) (keep (ExponentSign n)) None
+
+-- What follows the end of a number, if it may end here.
+abbrev pub number_ended : Bool → Option Bracket → ℕ → Option Move
+number_ended ends top c = cond ends (rest_followed top c) None
+
 -- What follows a character of a number, or after its end.
-abbrev pub in_number : Numeral → Option Bracket → ℕ → Option Move
-in_number n top c = option_or (number_continued n c >>= λ m. keep (Digits m))
-    (cond (is_complete n) (rest_followed top c) None)
+abbrev pub in_number : Exponents → Numeral → Option Bracket → ℕ → Option Move
+in_number rule n top c = option_or (number_continued rule n c >>= λ m. keep (Digits m))
+    (option_or (mark_after rule n c) (number_ended (is_complete n) top c))
+
+-- What follows the mark of an exponent.
+abbrev pub mark_followed : Numeral → ℕ → Option Move
+mark_followed n c = exponent_begun n c >>= λ x. keep (ExponentDigits x)
+
+-- What follows the sign or a digit of an exponent.
+abbrev pub in_exponent : Exponent → Option Bracket → ℕ → Option Move
+in_exponent x top c = option_or (exponent_continued x c >>= λ y. keep (ExponentDigits y))
+    (number_ended (is_final x) top c)
 
 -- What follows a character of a string that is a value.
 abbrev pub in_content : Place → ℕ → Option Move
@@ -236,22 +339,24 @@ skips Rest = true
 skips _ = false
 
 -- What follows this character, which is no white space between tokens.
-abbrev pub token_begun : Expected → Option Bracket → ℕ → Option Move
-token_begun Value top c = value_begun c
-token_begun FirstItem top c = closed_or c close_bracket (value_begun c)
-token_begun FirstKey top c = closed_or c close_brace (mark_begun c quote (Name Inside))
-token_begun Key top c = mark_begun c quote (Name Inside)
-token_begun Colon top c = mark_begun c colon Value
-token_begun Rest top c = rest_begun top c
-token_begun (Letters word) top c = word_continued word c
-token_begun (Digits n) top c = in_number n top c
-token_begun (Content place) top c = in_content place c
-token_begun (Name place) top c = in_name place c
+abbrev pub token_begun : Exponents → Expected → Option Bracket → ℕ → Option Move
+token_begun rule Value top c = value_begun c
+token_begun rule FirstItem top c = closed_or c close_bracket (value_begun c)
+token_begun rule FirstKey top c = closed_or c close_brace (mark_begun c quote (Name Inside))
+token_begun rule Key top c = mark_begun c quote (Name Inside)
+token_begun rule Colon top c = mark_begun c colon Value
+token_begun rule Rest top c = rest_begun top c
+token_begun rule (Letters word) top c = word_continued word c
+token_begun rule (Digits n) top c = in_number rule n top c
+token_begun rule (ExponentSign n) top c = mark_followed n c
+token_begun rule (ExponentDigits x) top c = in_exponent x top c
+token_begun rule (Content place) top c = in_content place c
+token_begun rule (Name place) top c = in_name place c
 
 -- What is expected after this character, and what happens to the open brackets, if the character
 -- may come; `top` is the innermost open bracket.
-abbrev pub followed : Expected → Option Bracket → ℕ → Option Move
-followed e top c = cond (skips e && is_blank c) (keep e) (token_begun e top c)
+abbrev pub followed : Exponents → Expected → Option Bracket → ℕ → Option Move
+followed rule e top c = cond (skips e && is_blank c) (keep e) (token_begun rule e top c)
 
 -- The innermost open bracket.
 abbrev pub innermost : List Bracket → Option Bracket
@@ -268,3 +373,8 @@ abbrev pub changed : Change → List Bracket → List Bracket
 changed Keep bs = bs
 changed (Open b) bs = b ∷ bs
 changed Close bs = without_innermost bs
+
+-- How many fraction digits were counted in the number that is being read.
+abbrev pub scale_of : Expected → ℕ
+scale_of (Digits n) = n.scale
+scale_of _ = 0

@@ -1,16 +1,20 @@
 -- The names that the clauses of this crate cite, passed on from one place.
-pub use Rattle.jsonb_value.specs.Json.Characters.{is_blank}
+pub use Rattle.jsonb_value.specs.Json.Characters.{is_blank, is_exponent_mark}
 pub use Rattle.jsonb_value.specs.Json.Piece.{escape_value}
 pub use Rattle.jsonb_value.specs.Reader.Reading.{after_digits}
-pub use Rattle.json_fault.specs.Fault.{IsFaultAt, IsJson}
+pub use Rattle.json_fault.specs.Fault.{IsFaultAt, IsFaultAtWithExponents, IsFaultUnder, IsJson}
+pub use Rattle.json_fault.specs.Fault.{IsJsonUnder, IsJsonWithExponents}
 pub use Rattle.json_fault.specs.Scan.{after_backslash, after_digit, after_digit_of_d}
-pub use Rattle.json_fault.specs.Scan.{after_first_digit, after_inside, after_mark, changed}
-pub use Rattle.json_fault.specs.Scan.{closed_or, followed, has_room, in_content, in_name, in_number}
-pub use Rattle.json_fault.specs.Scan.{innermost, is_closed, is_complete, is_viable, mark_begun}
-pub use Rattle.json_fault.specs.Scan.{number_begun, number_continued, number_first, rest_begun}
-pub use Rattle.json_fault.specs.Scan.{rest_followed, skips, string_continued, token_begun}
-pub use Rattle.json_fault.specs.Scan.{value_begun, viable_only, with_digit, with_point}
-pub use Rattle.json_fault.specs.Scan.{word_continued}
+pub use Rattle.json_fault.specs.Scan.{after_first_digit, after_inside, after_mark, at_most, changed}
+pub use Rattle.json_fault.specs.Scan.{closed_or, exponent_begun, exponent_continued, followed}
+pub use Rattle.json_fault.specs.Scan.{has_scale, in_content, in_exponent, in_name, in_number}
+pub use Rattle.json_fault.specs.Scan.{innermost, is_closed, is_complete, is_end, is_final}
+pub use Rattle.json_fault.specs.Scan.{is_viable, limit, log10, lowering, mark_after, mark_begun}
+pub use Rattle.json_fault.specs.Scan.{mark_followed, number_begun, number_continued, number_ended}
+pub use Rattle.json_fault.specs.Scan.{number_first, raising, reaches, rest_begun, rest_followed}
+pub use Rattle.json_fault.specs.Scan.{scale_of, skips, string_continued, takes_exponent}
+pub use Rattle.json_fault.specs.Scan.{token_begun, value_begun, viable_only, with_digit, with_point}
+pub use Rattle.json_fault.specs.Scan.{with_value, without_digits, word_continued, zeros}
 pub use Rattle.json_fault.specs.WithoutNumbers.{after_exponent, after_fraction}
 pub use Rattle.json_fault.specs.WithoutNumbers.{after_minus, after_number, after_sign}
 pub use Rattle.json_fault.specs.WithoutNumbers.{after_some_digits, after_whole, number_here}

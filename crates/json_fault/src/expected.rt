@@ -1,12 +1,16 @@
 //! What may come next in a JSON text, character by character.
 
-ghost use Rattle.std.specs.Prelude.{◌≡◌};
+ghost use Rattle.std.specs.Prelude.{◌≡◌, ◌+◌, ◌<◌, ◌^◌};
 ghost use Rattle.json_fault.specs.Words.{is_blank, value_begun, number_first, mark_begun, in_name};
 ghost use Rattle.json_fault.specs.Words.{closed_or, rest_begun, rest_followed, word_continued};
-ghost use Rattle.json_fault.specs.Words.{in_number, in_content, skips, token_begun, followed};
+ghost use Rattle.json_fault.specs.Words.{is_exponent_mark, mark_after, number_ended, in_number};
+ghost use Rattle.json_fault.specs.Words.{mark_followed, in_exponent, in_content, skips, scale_of};
+ghost use Rattle.json_fault.specs.Words.{token_begun, followed};
 
-use crate::number::{Numeral, Part, is_complete, number_begun, number_continued};
+use crate::exponent::{Exponent, exponent_begun, exponent_continued, is_final};
+use crate::number::{Numeral, Part, is_complete, number_begun, number_continued, takes_exponent};
 use crate::string::{Place, is_closed, string_continued};
+use jsonb_value::Exponents;
 
 /// The kind of an open bracket.
 #[derive(Clone, Copy)]
@@ -48,6 +52,10 @@ pub enum Expected {
     Letters(Word),
     /// The rest of a number.
     Digits(Numeral),
+    /// The rest of a number after the mark of its exponent.
+    ExponentSign(Numeral),
+    /// The digits of an exponent.
+    ExponentDigits(Exponent),
     /// The rest of a string that is a value.
     Content(Place),
     /// The rest of a key.
@@ -170,19 +178,73 @@ fn word_continued(word: Word, letter: char) -> Option<(Expected, Change)>
     }
 }
 
-// What follows a character of a number, or after its end.
-fn in_number(numeral: Numeral, top: Option<Bracket>, character: char) -> Option<(Expected, Change)>
-    ensures { result ≡ in_number numeral top character }
+// Whether the character begins an exponent.
+fn is_exponent_mark(character: char) -> bool
+    ensures { result ≡ is_exponent_mark character }
 {
-    match number_continued(numeral, character) {
-        Some(continued) => Some((Expected::Digits(continued), Change::Keep)),
-        None => {
-            if is_complete(numeral) {
-                rest_followed(top, character)
-            } else {
-                None
-            }
-        }
+    matches!(character, 'E' | 'e')
+}
+
+// The mark of an exponent, if one may follow.
+fn mark_after(exponents: Exponents, numeral: Numeral, character: char) -> Option<(Expected, Change)>
+    ensures { result ≡ mark_after exponents numeral character }
+{
+    if takes_exponent(exponents, numeral) && is_exponent_mark(character) {
+        Some((Expected::ExponentSign(numeral), Change::Keep))
+    } else {
+        None
+    }
+}
+
+// What follows the end of a number, if it may end here.
+fn number_ended(ends: bool, top: Option<Bracket>, character: char) -> Option<(Expected, Change)>
+    ensures { result ≡ number_ended ends top character }
+{
+    if ends {
+        rest_followed(top, character)
+    } else {
+        None
+    }
+}
+
+// What follows a character of a number, or after its end.
+fn in_number(
+    exponents: Exponents,
+    numeral: Numeral,
+    top: Option<Bracket>,
+    character: char,
+) -> Option<(Expected, Change)>
+    requires { numeral.scale + 1 < 2 ^ 64 }
+    ensures { result ≡ in_number exponents numeral top character }
+{
+    if let Some(continued) = number_continued(exponents, numeral, character) {
+        return Some((Expected::Digits(continued), Change::Keep));
+    }
+    match mark_after(exponents, numeral, character) {
+        Some(marked) => Some(marked),
+        None => number_ended(is_complete(numeral), top, character),
+    }
+}
+
+// What follows the mark of an exponent.
+fn mark_followed(numeral: Numeral, character: char) -> Option<(Expected, Change)>
+    ensures { result ≡ mark_followed numeral character }
+{
+    let exponent = exponent_begun(numeral, character)?;
+    Some((Expected::ExponentDigits(exponent), Change::Keep))
+}
+
+// What follows the sign or a digit of an exponent.
+fn in_exponent(
+    exponent: Exponent,
+    top: Option<Bracket>,
+    character: char,
+) -> Option<(Expected, Change)>
+    ensures { result ≡ in_exponent exponent top character }
+{
+    match exponent_continued(exponent, character) {
+        Some(continued) => Some((Expected::ExponentDigits(continued), Change::Keep)),
+        None => number_ended(is_final(exponent), top, character),
     }
 }
 
@@ -219,18 +281,24 @@ fn skips(expected: Expected) -> bool
         | Expected::Key
         | Expected::Colon
         | Expected::Rest => true,
-        Expected::Letters(_) | Expected::Digits(_) | Expected::Content(_) | Expected::Name(_) =>
-            false,
+        Expected::Letters(_)
+        | Expected::Digits(_)
+        | Expected::ExponentSign(_)
+        | Expected::ExponentDigits(_)
+        | Expected::Content(_)
+        | Expected::Name(_) => false,
     }
 }
 
 // What follows this character, which is no white space between tokens.
 fn token_begun(
+    exponents: Exponents,
     expected: Expected,
     top: Option<Bracket>,
     character: char,
 ) -> Option<(Expected, Change)>
-    ensures { result ≡ token_begun expected top character }
+    requires { scale_of expected + 1 < 2 ^ 64 }
+    ensures { result ≡ token_begun exponents expected top character }
 {
     match expected {
         Expected::Value => value_begun(character),
@@ -243,7 +311,9 @@ fn token_begun(
         Expected::Colon => mark_begun(character, ':', Expected::Value),
         Expected::Rest => rest_begun(top, character),
         Expected::Letters(word) => word_continued(word, character),
-        Expected::Digits(numeral) => in_number(numeral, top, character),
+        Expected::Digits(numeral) => in_number(exponents, numeral, top, character),
+        Expected::ExponentSign(numeral) => mark_followed(numeral, character),
+        Expected::ExponentDigits(exponent) => in_exponent(exponent, top, character),
         Expected::Content(place) => in_content(place, character),
         Expected::Name(place) => in_name(place, character),
     }
@@ -252,15 +322,17 @@ fn token_begun(
 /// What is expected after this character, and what happens to the open brackets, if the character
 /// may come; `top` is the innermost open bracket.
 pub fn followed(
+    exponents: Exponents,
     expected: Expected,
     top: Option<Bracket>,
     character: char,
 ) -> Option<(Expected, Change)>
-    ensures { result ≡ followed expected top character }
+    requires { scale_of expected + 1 < 2 ^ 64 }
+    ensures { result ≡ followed exponents expected top character }
 {
     if skips(expected) && is_blank(character) {
         Some((expected, Change::Keep))
     } else {
-        token_begun(expected, top, character)
+        token_begun(exponents, expected, top, character)
     }
 }

@@ -3,9 +3,10 @@
 
 mod cursor;
 mod expected;
+mod exponent;
 mod fault;
 mod number;
 mod string;
 mod without_numbers;
 
-pub use fault::{Fault, FaultReason, text_fault};
+pub use fault::{Fault, FaultReason, text_fault, text_fault_with_exponents};

@@ -1,8 +1,11 @@
 //! Numbers, character by character.
 
-ghost use Rattle.std.specs.Prelude.{◌≡◌};
-ghost use Rattle.json_fault.specs.Words.{has_room, is_viable, viable_only, with_digit, with_point};
-ghost use Rattle.json_fault.specs.Words.{number_begun, number_continued, is_complete};
+ghost use Rattle.std.specs.Prelude.{◌≡◌, ◌+◌, ◌<◌, ◌^◌};
+ghost use Rattle.json_fault.specs.Words.{limit, has_scale, is_viable, viable_only, with_digit};
+ghost use Rattle.json_fault.specs.Words.{with_point, number_begun, number_continued, is_end};
+ghost use Rattle.json_fault.specs.Words.{is_complete, takes_exponent};
+
+use jsonb_value::Exponents;
 
 /// The part of a number that was read last.
 #[derive(Clone, Copy)]
@@ -27,38 +30,46 @@ pub struct Numeral {
     pub scale: usize,
 }
 
-// Whether the format holds numbers of this sign, magnitude and scale.
-fn has_room(is_negative: bool, magnitude: u128, scale: usize) -> bool
-    ensures { result ≡ has_room is_negative magnitude scale }
+/// The least magnitude that the format does not hold.
+pub fn limit(is_negative: bool) -> u128
+    ensures { result ≡ limit is_negative }
 {
-    let limit: u128 = if is_negative {
+    if is_negative {
         (1 << 127) + 1
     } else {
         1 << 127
-    };
-    magnitude < limit && scale < 256
+    }
+}
+
+// Whether there are fewer fraction digits than `below`, or an exponent can still lower the scale.
+fn has_scale(exponents: Exponents, scale: usize, below: usize) -> bool
+    ensures { result ≡ has_scale exponents scale below }
+{
+    match exponents {
+        Exponents::Forbidden => scale < below,
+        Exponents::Allowed => true,
+    }
 }
 
 // Whether the format holds the number, or one that begins so.
-fn is_viable(numeral: Numeral) -> bool
-    ensures { result ≡ is_viable numeral }
+fn is_viable(exponents: Exponents, numeral: Numeral) -> bool
+    ensures { result ≡ is_viable exponents numeral }
 {
+    let limit = limit(numeral.is_negative);
     match numeral.part {
         Part::Point => match numeral.magnitude.checked_mul(10) {
-            Some(magnitude) => {
-                has_room(numeral.is_negative, magnitude, numeral.scale) && numeral.scale < 255
-            }
+            Some(magnitude) => magnitude < limit && has_scale(exponents, numeral.scale, 255),
             None => false,
         },
-        _ => has_room(numeral.is_negative, numeral.magnitude, numeral.scale),
+        _ => numeral.magnitude < limit && has_scale(exponents, numeral.scale, 256),
     }
 }
 
 // The numeral, if it is viable.
-fn viable_only(numeral: Numeral) -> Option<Numeral>
-    ensures { result ≡ viable_only numeral }
+fn viable_only(exponents: Exponents, numeral: Numeral) -> Option<Numeral>
+    ensures { result ≡ viable_only exponents numeral }
 {
-    if is_viable(numeral) {
+    if is_viable(exponents, numeral) {
         Some(numeral)
     } else {
         None
@@ -66,34 +77,46 @@ fn viable_only(numeral: Numeral) -> Option<Numeral>
 }
 
 // The numeral after one more digit of this part, which adds `more` to the scale.
-fn with_digit(numeral: Numeral, part: Part, more: usize, character: char) -> Option<Numeral>
-    ensures { result ≡ with_digit numeral part more character }
+fn with_digit(
+    exponents: Exponents,
+    numeral: Numeral,
+    part: Part,
+    more: usize,
+    character: char,
+) -> Option<Numeral>
+    requires { numeral.scale + more < 2 ^ 64 }
+    ensures { result ≡ with_digit exponents numeral part more character }
 {
     let digit = character.to_digit(10)?;
     let tens = numeral.magnitude.checked_mul(10)?;
     let magnitude = tens.checked_add(u128::from(digit))?;
-    let scale = numeral.scale.checked_add(more)?;
-    viable_only(Numeral {
-        is_negative: numeral.is_negative,
-        part,
-        magnitude,
-        scale,
-    })
+    viable_only(
+        exponents,
+        Numeral {
+            is_negative: numeral.is_negative,
+            part,
+            magnitude,
+            scale: numeral.scale + more,
+        },
+    )
 }
 
 // The numeral after a point.
-fn with_point(numeral: Numeral, character: char) -> Option<Numeral>
-    ensures { result ≡ with_point numeral character }
+fn with_point(exponents: Exponents, numeral: Numeral, character: char) -> Option<Numeral>
+    ensures { result ≡ with_point exponents numeral character }
 {
     if character != '.' {
         return None;
     }
-    viable_only(Numeral {
-        is_negative: numeral.is_negative,
-        part: Part::Point,
-        magnitude: numeral.magnitude,
-        scale: numeral.scale,
-    })
+    viable_only(
+        exponents,
+        Numeral {
+            is_negative: numeral.is_negative,
+            part: Part::Point,
+            magnitude: numeral.magnitude,
+            scale: numeral.scale,
+        },
+    )
 }
 
 /// The numeral whose first digit this is.
@@ -115,17 +138,30 @@ pub fn number_begun(is_negative: bool, character: char) -> Option<Numeral>
 }
 
 /// The numeral after one more character, if the format holds a number that begins so.
-pub fn number_continued(numeral: Numeral, character: char) -> Option<Numeral>
-    ensures { result ≡ number_continued numeral character }
+pub fn number_continued(exponents: Exponents, numeral: Numeral, character: char) -> Option<Numeral>
+    requires { numeral.scale + 1 < 2 ^ 64 }
+    ensures { result ≡ number_continued exponents numeral character }
 {
     match numeral.part {
         Part::Sign => number_begun(numeral.is_negative, character),
-        Part::Zero => with_point(numeral, character),
-        Part::Whole => match with_point(numeral, character) {
+        Part::Zero => with_point(exponents, numeral, character),
+        Part::Whole => match with_point(exponents, numeral, character) {
             Some(pointed) => Some(pointed),
-            None => with_digit(numeral, Part::Whole, 0, character),
+            None => with_digit(exponents, numeral, Part::Whole, 0, character),
         },
-        Part::Point | Part::Fraction => with_digit(numeral, Part::Fraction, 1, character),
+        Part::Point | Part::Fraction => {
+            with_digit(exponents, numeral, Part::Fraction, 1, character)
+        }
+    }
+}
+
+// Whether a number may end with this part.
+fn is_end(part: Part) -> bool
+    ensures { result ≡ is_end part }
+{
+    match part {
+        Part::Zero | Part::Whole | Part::Fraction => true,
+        Part::Sign | Part::Point => false,
     }
 }
 
@@ -133,8 +169,15 @@ pub fn number_continued(numeral: Numeral, character: char) -> Option<Numeral>
 pub fn is_complete(numeral: Numeral) -> bool
     ensures { result ≡ is_complete numeral }
 {
-    match numeral.part {
-        Part::Zero | Part::Whole | Part::Fraction => true,
-        Part::Sign | Part::Point => false,
+    is_end(numeral.part) && numeral.scale < 256
+}
+
+/// Whether an exponent may follow the digits.
+pub fn takes_exponent(exponents: Exponents, numeral: Numeral) -> bool
+    ensures { result ≡ takes_exponent exponents numeral }
+{
+    match exponents {
+        Exponents::Forbidden => false,
+        Exponents::Allowed => is_end(numeral.part),
     }
 }
