@@ -11,7 +11,7 @@ use std::borrow::CowStr;
 
 /// The string that a JSON text spells, as a program takes a key or a name. It is borrowed from the
 /// text if it has no escapes. `InvalidJson` if the text is not JSON, or spells something else;
-/// `OutOfMemory`. Like `parse_value` it needs stack for each level of the text.
+/// `OutOfMemory`. To drop the value of another text takes stack for each level.
 pub fn parse_string<'a>(alloc: Global, json: &'a str) -> Result<CowStr<'a>, Error>
     ensures ok { IfOk result (λ string. Json (chars json.now) (text (cow_bytes string))) }
     ensures invalid { IfErr result (λ e. e ≡ Error.InvalidJson

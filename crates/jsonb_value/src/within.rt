@@ -67,7 +67,8 @@ fn parse_within<'a>(
 }
 
 /// The value of a whole text that nests at most that deep, as `parse_value` reads it. Use this for
-/// untrusted texts: the stack that reading takes grows with the depth of the text.
+/// untrusted texts: to read one takes no stack for its depth, but to encode, print or drop the
+/// value does.
 ///
 /// `TooDeep` exactly where more brackets than `depth` are open at once, those in strings not
 /// counted. This is found before the text is read, so it comes before any other refusal. Of a text

@@ -1,4 +1,4 @@
-//! The reader: a loop over the values, keys and marks of a text, which tells a sink what it meets.
+//! The reader: a loop over the values, keys and brackets of a text, with a call of a sink for each.
 //! Nested values take no stack: of each open container it keeps whether it is an object.
 
 ghost use Rattle.std.specs.Prelude.{◌≡◌, ℕ, ◌<◌, ◌≤◌, List, [], ◌∷◌, length, chars, Option, Some};
@@ -257,7 +257,7 @@ fn read_key<'a, S: Sink<'a>>(
     Ok(Step::Value(skip_blank(later)))
 }
 
-/// Reads a whole text, and tells the sink what it meets. `InvalidJson` if it is not a JSON text,
+/// Reads a whole text, and calls the sink for each part of it. `InvalidJson` if it is not a JSON text,
 /// `OutOfMemory` if an allocation fails.
 pub fn read_text<'a, S: Sink<'a>>(
     alloc: Global,

@@ -1,4 +1,4 @@
-//! What the reader tells of a text: one reader, and a sink for each thing made of it.
+//! What the reader reports of a text: one reader, and a sink for each thing made of it.
 
 ghost use Rattle.std.specs.Prelude.{◌≡◌, List, [], ◌∷◌, OnOk, IfErr};
 ghost use Rattle.jsonb_value.specs.declared.error.Error.TheVariants.{OutOfMemory};
