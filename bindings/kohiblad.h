@@ -3,7 +3,8 @@
  *
  *     uint8_t row[256];
  *     size_t length;
- *     uint32_t status = kohiblad_parse(text, text_size, 64, row, sizeof row, &length);
+ *     uint32_t status = kohiblad_parse(text, text_size, 64, KOHIBLAD_EXPONENTS_ALLOWED, row,
+ *         sizeof row, &length);
  *
  * BYTES go in as a pointer and a length. Any bytes may be given: no call reads outside them, and
  * each says what it returns if they are no document. But a call may recurse as deep as the bytes
@@ -28,14 +29,13 @@
  * other, also over the same bytes, as long as nobody writes them. Do not call it in a signal
  * handler.
  *
- * STACK: calls recurse as deep as a document or a text nests. KOHIBLAD_LEVEL_STACK bytes for each
- * level of a document, KOHIBLAD_TEXT_LEVEL_STACK for each of a text, and KOHIBLAD_CALL_STACK beside
- * them are enough: 64 levels need 48 KB, of texts 136 KB; 1,000 levels 633 KB, of texts 2 MB. So
- * pass untrusted bytes through kohiblad_check, and limit untrusted texts by the depth of
- * kohiblad_parse and kohiblad_text_fault. kohiblad_key and each call whose name ends in _within
- * look no deeper than their depth: to them a document that nests deeper is no document. kind, get,
- * find, part, begin, next, of_part, array_item, object_member, and the calls on scalars do not
- * recurse.
+ * STACK: calls on documents recurse as deep as a document nests. KOHIBLAD_LEVEL_STACK bytes for
+ * each level, and KOHIBLAD_CALL_STACK beside them, are enough: 64 levels need 48 KB, and 1,000
+ * levels 633 KB. So pass untrusted bytes through kohiblad_check. kohiblad_key and each call whose
+ * name ends in _within look no deeper than their depth: to them a document that nests deeper is no
+ * document. parse and text_fault do not recurse, but the depth given to kohiblad_parse is also how
+ * deep its document nests. kind, get, find, part, begin, next, of_part, array_item, object_member,
+ * and the calls on scalars do not recurse either.
  *
  * NULL is allowed for bytes, texts, offsets, out and order whose length is 0, and for `key` of
  * kohiblad_next. A `length` and a cursor are never null.
@@ -56,7 +56,6 @@
 
 /* The stack that is enough, in bytes: see STACK above. These were measured, on x86-64. */
 #define KOHIBLAD_LEVEL_STACK 640
-#define KOHIBLAD_TEXT_LEVEL_STACK 2048
 #define KOHIBLAD_CALL_STACK 8192
 
 /* How the functions of this header are named to the assembler: an inline function must not have its
@@ -67,6 +66,9 @@
 #ifdef __cplusplus
 extern "C" {
 #endif
+
+/* Whether kohiblad_parse and kohiblad_text_fault take numbers with an exponent. */
+enum kohiblad_exponents { KOHIBLAD_EXPONENTS_FORBIDDEN = 0, KOHIBLAD_EXPONENTS_ALLOWED = 1 };
 
 /* What a call returns. */
 enum kohiblad_status {
@@ -379,23 +381,28 @@ static inline uint32_t kohiblad_to_pretty(const uint8_t *bytes, size_t size, uin
 static inline uint32_t kohiblad_to_pretty_within(const uint8_t *bytes, size_t size, size_t depth,
     uint8_t *out, size_t room, size_t *length) KOHIBLAD_INLINE("kohiblad_to_pretty_within");
 
-/* Copies the canonical document of a JSON text to `out`. TOO_DEEP: more than `depth` of its
- * brackets are open at once, and it was not read; INVALID_UTF8: the text is not UTF-8;
- * INVALID_JSON: it is no JSON, or has a number with an exponent or too many digits; INVALID_JSONB:
- * a limit of the format is passed. NO_ROOM if `out` has no room for the document. OUT_OF_MEMORY if
- * an allocation fails. Takes memory. The result is shorter than 4 times the text plus 8 bytes. */
+/* Copies the canonical document of a JSON text to `out`. If `exponents` is 0, a number with an
+ * exponent is refused; otherwise it means exactly its value: 1e5 is the whole number 100000, and
+ * 25e-1 is 2.5. TOO_DEEP: more than `depth` of the text's brackets are open
+ * at once, and it was not read; INVALID_UTF8: the text is not UTF-8; INVALID_JSON: it is no JSON, or
+ * a number is refused, or is past 128 bits or 255 digits after its point; INVALID_JSONB: a limit of
+ * the format is passed. NO_ROOM if `out` has no room for the document. OUT_OF_MEMORY if an
+ * allocation fails. Takes memory. The result is shorter than 4 times the text plus 8 bytes, and with
+ * exponents than 5 times the text plus 8. */
 static inline uint32_t kohiblad_parse(const uint8_t *text, size_t size, size_t depth,
-    uint8_t *out, size_t room, size_t *length) KOHIBLAD_INLINE("kohiblad_parse");
+    uint32_t exponents, uint8_t *out, size_t room, size_t *length)
+    KOHIBLAD_INLINE("kohiblad_parse");
 
-/* Whether a text is JSON, and where it is none. OK: it is, and the offset is its size. BAD_NUMBER:
- * it would be with null in place of each number; its numbers have an exponent or too many digits.
+/* Whether kohiblad_parse takes a text, with the same `exponents`, and where the text stops being
+ * JSON. OK: it takes it, and the offset is the text's size. BAD_NUMBER: it would with null in place
+ * of each number; a number has an exponent that is refused, or is past 128 bits or 255 digits.
  * INVALID_JSON: it is no JSON for another reason. Of both the offset is the length of the longest
  * beginning of the text that begins some JSON text: 3 of [1,], and 2 of [1, which only ends too
  * early. TOO_DEEP: more than `depth` brackets are open at once, and it was not read; INVALID_UTF8:
  * the text is not UTF-8. OUT_OF_MEMORY if an allocation fails. Of these the offset is 0. Takes
  * memory. */
 static inline struct kohiblad_fault kohiblad_text_fault(const uint8_t *text, size_t size,
-    size_t depth) KOHIBLAD_INLINE("kohiblad_text_fault");
+    size_t depth, uint32_t exponents) KOHIBLAD_INLINE("kohiblad_text_fault");
 
 /* ROWS follow one another in `bytes` without gaps. `offsets` are `count` numbers, one more than
  * there are rows: row k begins at offsets[k] and ends at offsets[k + 1]. The first need not be 0,
@@ -561,10 +568,10 @@ uint32_t kohiblad_export_to_pretty(const uint8_t *bytes, size_t size, uint8_t *o
     size_t *length) KOHIBLAD_EXPORT("kohiblad_to_pretty");
 uint32_t kohiblad_export_to_pretty_within(const uint8_t *bytes, size_t size, size_t depth,
     uint8_t *out, size_t room, size_t *length) KOHIBLAD_EXPORT("kohiblad_to_pretty_within");
-uint32_t kohiblad_export_parse(const uint8_t *text, size_t size, size_t depth, uint8_t *out,
-    size_t room, size_t *length) KOHIBLAD_EXPORT("kohiblad_parse");
-struct kohiblad_fault kohiblad_export_text_fault(const uint8_t *text, size_t size, size_t depth)
-    KOHIBLAD_EXPORT("kohiblad_text_fault");
+uint32_t kohiblad_export_parse(const uint8_t *text, size_t size, size_t depth, uint32_t exponents,
+    uint8_t *out, size_t room, size_t *length) KOHIBLAD_EXPORT("kohiblad_parse");
+struct kohiblad_fault kohiblad_export_text_fault(const uint8_t *text, size_t size, size_t depth,
+    uint32_t exponents) KOHIBLAD_EXPORT("kohiblad_text_fault");
 uint32_t kohiblad_export_build_array(const uint8_t *bytes, size_t size, const size_t *offsets,
     size_t count, uint8_t *out, size_t room, size_t *length)
         KOHIBLAD_EXPORT("kohiblad_build_array");
@@ -805,15 +812,16 @@ static inline uint32_t kohiblad_to_pretty_within(const uint8_t *bytes, size_t si
         room, length);
 }
 static inline uint32_t kohiblad_parse(const uint8_t *text, size_t size, size_t depth,
-    uint8_t *out, size_t room, size_t *length) {
+    uint32_t exponents, uint8_t *out, size_t room, size_t *length) {
     if (!kohiblad_is_room(out, room, length)
         || !kohiblad_is_apart(out, room, length, text, size))
         return KOHIBLAD_OVERLAP;
-    return kohiblad_export_parse(kohiblad_in(text), size, depth, kohiblad_out(out), room, length);
+    return kohiblad_export_parse(kohiblad_in(text), size, depth, exponents, kohiblad_out(out), room,
+        length);
 }
 static inline struct kohiblad_fault kohiblad_text_fault(const uint8_t *text, size_t size,
-    size_t depth) {
-    return kohiblad_export_text_fault(kohiblad_in(text), size, depth);
+    size_t depth, uint32_t exponents) {
+    return kohiblad_export_text_fault(kohiblad_in(text), size, depth, exponents);
 }
 static inline uint32_t kohiblad_build_array(const uint8_t *bytes, size_t size,
     const size_t *offsets, size_t count, uint8_t *out, size_t room, size_t *length) {

@@ -2,6 +2,9 @@
 
 #define KOHIBLAD_VERSION 7000
 
+enum kohiblad_exponents { KOHIBLAD_EXPONENTS_FORBIDDEN = 0, KOHIBLAD_EXPONENTS_ALLOWED = 1 };
+
+
 enum kohiblad_status {
     KOHIBLAD_OK = 0,
     KOHIBLAD_INVALID_EOF = 1,
@@ -148,9 +151,10 @@ uint32_t kohiblad_to_pretty(const uint8_t *bytes, size_t size, uint8_t *out, siz
     size_t *length);
 uint32_t kohiblad_to_pretty_within(const uint8_t *bytes, size_t size, size_t depth, uint8_t *out,
     size_t room, size_t *length);
-uint32_t kohiblad_parse(const uint8_t *text, size_t size, size_t depth, uint8_t *out, size_t room,
-    size_t *length);
-struct kohiblad_fault kohiblad_text_fault(const uint8_t *text, size_t size, size_t depth);
+uint32_t kohiblad_parse(const uint8_t *text, size_t size, size_t depth, uint32_t exponents,
+    uint8_t *out, size_t room, size_t *length);
+struct kohiblad_fault kohiblad_text_fault(const uint8_t *text, size_t size, size_t depth,
+    uint32_t exponents);
 uint32_t kohiblad_build_array(const uint8_t *bytes, size_t size, const size_t *offsets,
     size_t count, uint8_t *out, size_t room, size_t *length);
 uint32_t kohiblad_build_array_within(const uint8_t *bytes, size_t size, const size_t *offsets,

@@ -92,17 +92,14 @@ build refuse -Wl,--wrap=malloc,--wrap=realloc
 # What the header says of the stack.
 stack_of() { sed -n "s/^#define KOHIBLAD_$1_STACK //p" bindings/kohiblad.h; }
 document_level=$(stack_of LEVEL)
-text_level=$(stack_of TEXT_LEVEL)
 call_stack=$(stack_of CALL)
-note "levels on a stack: $document_level bytes for each of a document, $text_level of a text"
+note "levels on a stack: $document_level bytes for each of a document"
 build depths -pthread
 for kilobytes in 64 256 1024; do
     for shape in a o; do
         for call in check is_document is_canonical compare compare_within sort_within to_string \
-            to_pretty to_canonical build_array parse text_fault; do
-            level=$document_level
-            case $call in parse | text_fault) level=$text_level ;; esac
-            levels=$(((kilobytes * 1024 - call_stack) / level))
+            to_pretty to_canonical build_array; do
+            levels=$(((kilobytes * 1024 - call_stack) / document_level))
             # Deep lines are indented, so their text grows with the square of the depth.
             [ $call = to_pretty ] && [ $levels -gt 3000 ] && levels=3000
             "$work/depths" $call $kilobytes $levels $shape || {
@@ -113,8 +110,10 @@ for kilobytes in 64 256 1024; do
     done
 done
 
-note '100,000 levels on 256 KB, in the calls that look no deeper than their limit'
-for shape in a o; do "$work/depths" bounded 256 100000 $shape; done
+note '100,000 levels on 256 KB, in the calls that look no deeper than their limit or read texts'
+for shape in a o; do
+    for call in bounded parse text_fault; do "$work/depths" $call 256 100000 $shape; done
+done
 
 note 'std::sort'
 if has "${CXX:-c++}" g++; then

@@ -188,8 +188,8 @@ struct Parsed {
     explicit Parsed(std::string given) : text(std::move(given)), padded(text) {
         document.resize(4 * text.size() + 8);
         std::size_t length = 0;
-        if (kohiblad_parse(bytes_of(text), text.size(), depth, document.data(), document.size(),
-                           &length)) {
+        if (kohiblad_parse(bytes_of(text), text.size(), depth, KOHIBLAD_EXPONENTS_FORBIDDEN,
+                           document.data(), document.size(), &length)) {
             fail("kohiblad_parse");
         }
         document.resize(length);
@@ -243,8 +243,8 @@ Row parsing(const char *name, const Texts &texts) {
         texts,
         [room](const Parsed &it) {
             std::size_t length = 0;
-            kohiblad_parse(bytes_of(it.text), it.text.size(), depth, room->data(), room->size(),
-                           &length);
+            kohiblad_parse(bytes_of(it.text), it.text.size(), depth, KOHIBLAD_EXPONENTS_FORBIDDEN,
+                           room->data(), room->size(), &length);
             return length;
         },
         [](const Parsed &it) {

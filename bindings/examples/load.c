@@ -10,7 +10,7 @@
 #include <stdio.h>
 #include <string.h>
 
-typedef uint32_t parse_call(const uint8_t *, size_t, size_t, uint8_t *, size_t, size_t *);
+typedef uint32_t parse_call(const uint8_t *, size_t, size_t, uint32_t, uint8_t *, size_t, size_t *);
 typedef uint32_t get_call(const uint8_t *, size_t, const uint8_t *, size_t,
                           uint8_t *, size_t, size_t *);
 typedef uint32_t text_call(const uint8_t *, size_t, uint8_t *, size_t, size_t *);
@@ -41,7 +41,7 @@ int main(int count, char **words) {
         fprintf(stderr, "%s\n", dlerror());
         return 1;
     }
-    if (parse((const uint8_t *)text, sizeof text - 1, 64, row, sizeof row, &size)
+    if (parse((const uint8_t *)text, sizeof text - 1, 64, 1, row, sizeof row, &size)
         || get(row, size, (const uint8_t *)"price", 5, price, sizeof price, &price_size)
         || to_string(price, price_size, shown, sizeof shown, &shown_size)) {
         return 1;

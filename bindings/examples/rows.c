@@ -24,7 +24,7 @@ int main(void) {
 
     for (size_t i = 0; i < ROWS; i++) {
         const uint8_t *text = (const uint8_t *)texts[i];
-        uint32_t status = kohiblad_parse(text, strlen(texts[i]), DEPTH,
+        uint32_t status = kohiblad_parse(text, strlen(texts[i]), DEPTH, KOHIBLAD_EXPONENTS_ALLOWED,
                                          column + size, ROOM - size, &length);
         if (status != KOHIBLAD_OK) return fail(texts[i], status);
         size += length;

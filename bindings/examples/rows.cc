@@ -45,7 +45,8 @@ std::optional<Bytes> written(Call call) {
 
 Bytes document_of(std::string_view text) {
     return *written([&](std::uint8_t *out, std::size_t room, std::size_t *length) {
-        return kohiblad_parse(bytes_of(text), text.size(), depth, out, room, length);
+        return kohiblad_parse(bytes_of(text), text.size(), depth, KOHIBLAD_EXPONENTS_ALLOWED, out,
+                              room, length);
     });
 }
 

@@ -5,7 +5,7 @@
 import ctypes
 import sys
 
-OK, NO_ROOM, NONE, DEPTH = 0, 11, 12, 64
+OK, NO_ROOM, NONE, DEPTH, EXPONENTS_ALLOWED = 0, 11, 12, 64, 1
 if len(sys.argv) != 2:
     print("usage: python3 rows.py libkohiblad.so", file=sys.stderr)
     sys.exit(2)
@@ -42,7 +42,7 @@ def bytes_of(name, *given):
 
 texts = ['{"id": 3, "price": 2.50}', '{"id": 1, "price": null}', "[1, 2]",
          '{"id": 2, "price": 2.5}', '"a note"']
-rows = [bytes_of("kohiblad_parse", text.encode(), DEPTH) for text in texts]
+rows = [bytes_of("kohiblad_parse", text.encode(), DEPTH, EXPONENTS_ALLOWED) for text in texts]
 column, offsets = b"".join(rows), (ctypes.c_size_t * (len(rows) + 1))()
 for i in range(len(rows)):
     offsets[i + 1] = offsets[i] + len(rows[i])

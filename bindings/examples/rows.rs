@@ -4,6 +4,7 @@ const OK: u32 = 0;
 const NO_ROOM: u32 = 11;
 const NONE: u32 = 12;
 const DEPTH: usize = 64;
+const EXPONENTS_ALLOWED: u32 = 1;
 
 mod library {
     #[link(name = "kohiblad")]
@@ -12,6 +13,7 @@ mod library {
             text: *const u8,
             size: usize,
             depth: usize,
+            exponents: u32,
             out: *mut u8,
             room: usize,
             length: *mut usize,
@@ -65,7 +67,8 @@ fn written(call: impl Fn(*mut u8, usize, *mut usize) -> u32) -> Result<Vec<u8>, 
 
 fn document_of(text: &str) -> Result<Vec<u8>, u32> {
     written(|out, room, length| unsafe {
-        library::kohiblad_parse(text.as_ptr(), text.len(), DEPTH, out, room, length)
+        let (bytes, size) = (text.as_ptr(), text.len());
+        library::kohiblad_parse(bytes, size, DEPTH, EXPONENTS_ALLOWED, out, room, length)
     })
 }
 

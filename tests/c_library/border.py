@@ -74,6 +74,10 @@ def ask(call, *values):
     return status, out.raw[:size]
 
 
+def parse(text, depth, exponents=0):
+    return ask("parse", text, depth, exponents)
+
+
 def name_of(status):
     out, length = ctypes.create_string_buffer(32), SIZE()
     assert LIBRARY.kohiblad_status_name(status, out, SIZE(32), ctypes.byref(length)) == 0
@@ -125,11 +129,16 @@ def known_answers():
             ("2000000020000002 40ff", (0, 0, -1, 2**64 - 1))):
         number = tell("number", bytes.fromhex(document))
         assert (number.status, number.scale, number.high, number.low) == answer, document
-    assert ask("parse", b'[false,10,{"k":"v"}]', 2) == (0, array)
-    assert ask("parse", b'[false,10,{"k":"v"}]', 1) == (TOO_DEEP, b"")
-    assert ask("parse", b'["[[[","\\"[["]', 1)[0] == 0
-    assert ask("parse", b"[" * 2000000, 3) == (TOO_DEEP, b"")
-    assert name_of(ask("parse", b"\xff", 9)[0]) == "InvalidUtf8"
+    assert parse(b'[false,10,{"k":"v"}]', 2) == (0, array)
+    assert parse(b'[false,10,{"k":"v"}]', 1) == (TOO_DEEP, b"")
+    assert parse(b'["[[[","\\"[["]', 1)[0] == 0
+    assert parse(b"[" * 2000000, 3) == (TOO_DEEP, b"")
+    assert name_of(parse(b"\xff", 9)[0]) == "InvalidUtf8"
+    for text, same in ((b"1e5", b"100000"), (b"1.50e1", b"15.0"), (b"25e-1", b"2.5"),
+                       (b"6.02e23", b"602000000000000000000000"), (b"0e99", b"0")):
+        assert parse(text, 0, 1) == parse(same, 0), text
+        assert name_of(parse(text, 0)[0]) == "InvalidJson", text
+    assert name_of(parse(b"1e999999999", 0, 1)[0]) == "InvalidJson"
     assert ask("to_string", array) == (0, b'[false,10,{"k":"v"}]')
     assert ask("to_pretty", array)[1].count(b"\n") == 6
     assert tell("check", array, 2)
@@ -157,12 +166,12 @@ def known_answers():
         assert name_of(ask("of_part", unknown, b"v")[0]) == "InvalidJsonbJEntry"
     parts = [ask("array_item", array, i)[1] for i in range(3)]
     assert ask("build_array", *rows(parts)) == (0, array)
-    assert ask("build_object", *rows([b"k", ask("parse", b'"v"', 0)[1]])) == (0, inner)
+    assert ask("build_object", *rows([b"k", parse(b'"v"', 0)[1]])) == (0, inner)
     status, _ = ask("build_object", *rows([b"k", inner, b"k", inner]))
     assert name_of(status) == "ObjectDuplicateKey"
     assert name_of(ask("build_array", array, [0, 40])[0]) == "InvalidEOF"
     order = (SIZE * 4)(9, 9, 9, 9)
-    documents = [ask("parse", text, 9)[1] for text in (b"null", b'"a"', b"5.0", b"5")]
+    documents = [parse(text, 9)[1] for text in (b"null", b'"a"', b"5.0", b"5")]
     assert LIBRARY.kohiblad_sort(*given(rows(documents)), order, SIZE(4)) == 0
     assert list(order) == [2, 3, 1, 0]
 
@@ -224,7 +233,7 @@ def cli(line, answer):
     """The same of a line of jsonb_cli: texts that are written as documents."""
     if not line.startswith("enc "):
         return None
-    status, document = ask("parse", line[4:].encode("utf-8", "surrogateescape"), 1000)
+    status, document = parse(line[4:].encode("utf-8", "surrogateescape"), 1000)
     return said((status, document)) == answer
 
 

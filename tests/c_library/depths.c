@@ -68,9 +68,9 @@ static void *work(void *unused) {
     else if (!strcmp(name, "build_array"))
         status = kohiblad_build_array(in, in_size, (size_t[]){ 0, in_size }, 2, out, room, &length);
     else if (!strcmp(name, "parse"))
-        status = kohiblad_parse(in, in_size, levels, out, room, &length);
+        status = kohiblad_parse(in, in_size, levels, 0, out, room, &length);
     else if (!strcmp(name, "text_fault"))
-        status = kohiblad_text_fault(in, in_size, levels).status;
+        status = kohiblad_text_fault(in, in_size, levels, 0).status;
     else
         abort();
     if (status != KOHIBLAD_OK && status != KOHIBLAD_NO_ROOM) abort();

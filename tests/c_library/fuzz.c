@@ -208,13 +208,13 @@ static void make_scalar(void) {
         assert(!number.status && number.high == high && number.low == low && number.scale == scale);
         assert(kohiblad_is_canonical(made, size));
         assert(!kohiblad_to_string(made, size, shown, sizeof shown, &shown_size));
-        assert(!kohiblad_parse(shown, shown_size, 0, parsed, sizeof parsed, &parsed_size));
+        assert(!kohiblad_parse(shown, shown_size, 0, 0, parsed, sizeof parsed, &parsed_size));
         assert(size == parsed_size && !memcmp(made, parsed, size));
     }
     assert(!kohiblad_of_int64((int64_t)low, made, sizeof made, &size));
     assert(kohiblad_int64(made, size).value == (int64_t)low);
     assert(!kohiblad_to_string(made, size, shown, sizeof shown, &shown_size));
-    assert(!kohiblad_parse(shown, shown_size, 0, parsed, sizeof parsed, &parsed_size));
+    assert(!kohiblad_parse(shown, shown_size, 0, 0, parsed, sizeof parsed, &parsed_size));
     assert(size == parsed_size && !memcmp(made, parsed, size));
     struct block text = make(below(9));
     for (size_t i = 0; i < text.size; i++)
@@ -426,8 +426,9 @@ int main(int argc, char **argv) {
     uint32_t count = 0, status;
     for (int i = 0; i < TEXTS; i++) {
         struct block t = copy_of(texts[i], strlen(texts[i]));
-        status = kohiblad_parse(t.at, t.size, DEPTH, docs[count], ROOM, &length);
-        struct kohiblad_fault fault = kohiblad_text_fault(t.at, t.size, DEPTH);
+        uint32_t exponents = below(2);
+        status = kohiblad_parse(t.at, t.size, DEPTH, exponents, docs[count], ROOM, &length);
+        struct kohiblad_fault fault = kohiblad_text_fault(t.at, t.size, DEPTH, exponents);
         assert(fault.status == status
                || (status == KOHIBLAD_INVALID_JSON && fault.status == KOHIBLAD_BAD_NUMBER));
         assert(status != KOHIBLAD_OK || fault.offset == t.size);
@@ -525,7 +526,7 @@ int main(int argc, char **argv) {
         status = kohiblad_to_string(b.at, b.size, text.at, text.size, &again);
         assert(status == KOHIBLAD_OK && again == length);
         struct block back = make(4 * length + 8);
-        status = kohiblad_parse(text.at, text.size, below(8), back.at, back.size, &again);
+        status = kohiblad_parse(text.at, text.size, below(8), below(2), back.at, back.size, &again);
         assert(status == KOHIBLAD_OK || status == KOHIBLAD_TOO_DEEP || !is || again == 0);
         assert(status != KOHIBLAD_OK || kohiblad_is_canonical(back.at, again));
         ANSWER(status, out, length, kohiblad_to_canonical(b.at, b.size, out.at, out.size, &length));

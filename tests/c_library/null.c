@@ -24,9 +24,9 @@ int main(void) {
     assert(kohiblad_to_string(null, sizeof null, NULL, 0, &length) == KOHIBLAD_NO_ROOM);
     assert(length == 4);
     assert(kohiblad_to_pretty(NULL, 0, NULL, 0, &length) == KOHIBLAD_NO_ROOM && length == 4);
-    assert(kohiblad_parse(NULL, 0, 9, NULL, 0, &length) == KOHIBLAD_INVALID_JSON && length == 0);
-    assert(kohiblad_text_fault(NULL, 0, 9).status == KOHIBLAD_INVALID_JSON);
-    assert(kohiblad_text_fault(NULL, 0, 9).offset == 0);
+    assert(kohiblad_parse(NULL, 0, 9, 0, NULL, 0, &length) == KOHIBLAD_INVALID_JSON && length == 0);
+    assert(kohiblad_text_fault(NULL, 0, 9, 0).status == KOHIBLAD_INVALID_JSON);
+    assert(kohiblad_text_fault(NULL, 0, 9, 0).offset == 0);
     assert(kohiblad_to_canonical(NULL, 0, NULL, 0, &length) == KOHIBLAD_INVALID_JSONB);
     assert(kohiblad_key(NULL, 0, 64, NULL, 0, &length) == KOHIBLAD_NO_ROOM && length == 2);
     assert(kohiblad_build_array(NULL, 0, NULL, 0, NULL, 0, &length) == KOHIBLAD_NO_ROOM);

@@ -37,7 +37,7 @@ static bool takes_memory(int which) {
 static uint32_t call(int which, uint8_t *out, size_t *length) {
     size_t key_length;
     switch (which) {
-    case 0: return kohiblad_parse((const uint8_t *)text, sizeof text - 1, 8, out, ROOM, length);
+    case 0: return kohiblad_parse((const uint8_t *)text, sizeof text - 1, 8, 1, out, ROOM, length);
     case 1: return kohiblad_to_string(document, size, out, ROOM, length);
     case 2: return kohiblad_to_pretty(document, size, out, ROOM, length);
     case 3: return kohiblad_to_canonical(document, size, out, ROOM, length);
@@ -69,7 +69,7 @@ static uint32_t call(int which, uint8_t *out, size_t *length) {
         return kohiblad_of_part(KOHIBLAD_TYPE_CONTAINER, document, size, out, ROOM, length);
     case 23: {
         struct kohiblad_fault fault =
-            kohiblad_text_fault((const uint8_t *)text, sizeof text - 1, 8);
+            kohiblad_text_fault((const uint8_t *)text, sizeof text - 1, 8, 1);
         *length = fault.offset;
         return fault.status;
     }

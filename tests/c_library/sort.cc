@@ -16,8 +16,9 @@ static const uint8_t *at(std::string_view bytes) {
 static std::string parse(std::string_view text) {
     std::string out(4 * text.size() + 8, 0);
     size_t length;
-    if (kohiblad_parse(at(text), text.size(), 64, reinterpret_cast<uint8_t *>(&out[0]), out.size(),
-                       &length) != KOHIBLAD_OK) {
+    if (kohiblad_parse(at(text), text.size(), 64, KOHIBLAD_EXPONENTS_FORBIDDEN,
+                       reinterpret_cast<uint8_t *>(&out[0]), out.size(), &length)
+        != KOHIBLAD_OK) {
         std::abort();
     }
     out.resize(length);

@@ -131,8 +131,8 @@ Datum pg_kohiblad_of_numeric(PG_FUNCTION_ARGS) {
     const char *digits = DatumGetCString(DirectFunctionCall1(numeric_out, NumericGetDatum(number)));
     uint8_t document[NUMBER_ROOM];
     size_t size;
-    uint32_t status = kohiblad_parse((const uint8_t *)digits, strlen(digits), 0, document,
-                                     sizeof document, &size);
+    uint32_t status = kohiblad_parse((const uint8_t *)digits, strlen(digits), 0,
+                                     KOHIBLAD_EXPONENTS_ALLOWED, document, sizeof document, &size);
     if (status == KOHIBLAD_INVALID_JSON)
         refuse_number("A number has at most 128 bits, and 255 digits after its point.");
     return written_document(status, document, size);

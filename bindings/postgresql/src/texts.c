@@ -13,35 +13,27 @@
 #define HEX_MARK "\\x"
 #define HEX_MARK_SIZE 2
 
-/* Texts are first parsed within a depth whose stack is always left. */
-#define SHALLOW_DEPTH 64
-#define TEXT_STACK (MAX_DEPTH * KOHIBLAD_TEXT_LEVEL_STACK + KOHIBLAD_CALL_STACK)
-
 /* Refuses a text that was read within a depth, and says where it is no JSON. */
 static void pg_attribute_noreturn() refuse_text(const uint8_t *given, size_t size, size_t depth) {
-    struct kohiblad_fault fault = kohiblad_text_fault(given, size, depth);
+    struct kohiblad_fault fault =
+        kohiblad_text_fault(given, size, depth, KOHIBLAD_EXPONENTS_ALLOWED);
     if (fault.status != KOHIBLAD_INVALID_JSON && fault.status != KOHIBLAD_BAD_NUMBER)
         refuse(fault.status, ERRCODE_INVALID_TEXT_REPRESENTATION);
     const char *reason = fault.status == KOHIBLAD_INVALID_JSON
                              ? ""
-                             : ": a number has an exponent, or is past 128 bits or 255 digits "
-                               "after its point";
+                             : ": a number is past 128 bits, or has more than 255 digits after its "
+                               "point";
     refuse_because(KOHIBLAD_INVALID_JSON, ERRCODE_INVALID_TEXT_REPRESENTATION,
                    psprintf("The text stops being JSON at byte " UINT64_FORMAT "%s.", fault.offset,
                             reason));
 }
 
-/* Parses within few levels, and only where that is too deep within all, which needs much stack. */
+/* Parses a text, which takes no stack for its depth, and says where it is no JSON. */
 static uint32_t parse(const uint8_t *given, size_t size, size_t depth, uint8_t *out, size_t room,
                       size_t *length) {
-    size_t limit = SHALLOW_DEPTH;
-    uint32_t status = kohiblad_parse(given, size, limit, out, room, length);
-    if (status == KOHIBLAD_TOO_DEEP) {
-        check_stack_for(TEXT_STACK);
-        limit = depth;
-        status = kohiblad_parse(given, size, limit, out, room, length);
-    }
-    if (status == KOHIBLAD_INVALID_JSON) refuse_text(given, size, limit);
+    uint32_t status =
+        kohiblad_parse(given, size, depth, KOHIBLAD_EXPONENTS_ALLOWED, out, room, length);
+    if (status == KOHIBLAD_INVALID_JSON) refuse_text(given, size, depth);
     return status;
 }
 

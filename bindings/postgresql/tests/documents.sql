@@ -2,11 +2,11 @@
 SELECT ' { "b" : 1.50, "a" : [ 1, null, true, "x\u00e9\n" ] } '::kohiblad;
 SELECT '-0'::kohiblad, '-7'::kohiblad, '0.10'::kohiblad;
 SELECT '170141183460469231731687303715884105727'::kohiblad;
+SELECT '1e5'::kohiblad, '1.50e1'::kohiblad, '25e-1'::kohiblad, '[6.02e23, 0e99]'::kohiblad;
 SELECT '{"k":1,"k":2}'::kohiblad, '{}'::kohiblad, '[]'::kohiblad;
 SELECT '"a\u0000b"'::kohiblad;
 SELECT NULL::kohiblad IS NULL;
 SELECT refusal($$ SELECT '170141183460469231731687303715884105728'::kohiblad $$);
-SELECT refusal($$ SELECT '1e5'::kohiblad $$);
 SELECT refusal($$ SELECT ''::kohiblad $$);
 SELECT refusal($$ SELECT '{"a":'::kohiblad $$);
 SELECT refusal($$ SELECT '"\ud800"'::kohiblad $$);
@@ -16,8 +16,8 @@ SELECT detail_of($$ SELECT '{"a":'::kohiblad $$);
 SELECT detail_of($$ SELECT '{"é":x}'::kohiblad $$);
 SELECT detail_of($$ SELECT '[1.5, 1e5, ]'::kohiblad $$);
 SELECT detail_of($$ SELECT (repeat('[', 1000) || 'x')::kohiblad $$);
--- Numbers: an exponent, more than 128 bits, and 256 digits after the point.
-SELECT detail_of($$ SELECT '[1.5, 1e5]'::kohiblad $$);
+-- Numbers: a great exponent, more than 128 bits, and 256 digits after the point.
+SELECT detail_of($$ SELECT '[1.5, 1e99]'::kohiblad $$);
 SELECT detail_of($$ SELECT '170141183460469231731687303715884105728'::kohiblad $$);
 SELECT detail_of($$ SELECT ('0.' || repeat('0', 256))::kohiblad $$);
 SELECT detail_of($$ SELECT '1e40'::jsonb::kohiblad $$);
@@ -37,10 +37,9 @@ FROM (SELECT nested_text(1000)::kohiblad AS a,
              replace(nested_text(1000), '[]', '[0]')::kohiblad AS b) s;
 SELECT (repeat('{"a":', 999) || '[]' || repeat('}', 999))::kohiblad
     #> array_fill('a'::text, '{999}');
--- With less stack only what needs more is refused.
+-- With less stack only what needs more is refused. To read a text takes none for its depth.
 SET max_stack_depth = '1MB';
-SELECT refusal($$ SELECT nested_text(1000)::kohiblad $$);
-SELECT nested_text(64)::kohiblad::text = nested_text(64);
+SELECT nested_text(1000)::kohiblad::text = nested_text(1000);
 SELECT nested_bytes(1000)::kohiblad::text = nested_text(1000);
 SET max_stack_depth = '100kB';
 SELECT refusal($$ SELECT '[]'::kohiblad $$);
@@ -67,8 +66,8 @@ SELECT refusal($$ SELECT '\x2000000010000001ff'::bytea::kohiblad $$);
 SELECT refusal($$ SELECT '\x40000002100000011000000100000000000000006261'::bytea::kohiblad $$);
 -- json and jsonb.
 SELECT '{"b":[1.50],"a":null}'::kohiblad::jsonb, '{"b":[1.50],"a":null}'::kohiblad::json;
-SELECT '{"a": 1e2}'::jsonb::kohiblad, '{"b": 1.0, "a": 2}'::json::kohiblad;
-SELECT refusal($$ SELECT '{"a": 1e2}'::json::kohiblad $$);
+SELECT '{"a": 1e2}'::jsonb::kohiblad, '{"b": 1.0, "a": 2e0}'::json::kohiblad;
+SELECT refusal($$ SELECT '{"a": 1e99}'::json::kohiblad $$);
 SELECT refusal($$ SELECT '1e40'::jsonb::kohiblad $$);
 SELECT refusal($$ SELECT '"\u0000"'::kohiblad::jsonb $$);
 -- Children.

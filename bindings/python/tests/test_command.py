@@ -80,9 +80,9 @@ class CommandTest(unittest.TestCase):
             self.assertEqual(file.read(), NDJSON)
 
     def test_faults_name_their_place(self):
-        source = self.path("in", b"1\n\n1e5\n")
+        source = self.path("in", b"1\n\n1e99\n")
         self.assertEqual(run("encode", source),
-                         (1, stored("1"), f"kohiblad: {source}: line 3: BadNumber: at byte 1\n"))
+                         (1, stored("1"), f"kohiblad: {source}: line 3: BadNumber: at byte 3\n"))
         self.assertEqual(run("encode", given=b'{"a":1,}'),
                          (1, b"", "kohiblad: standard input: line 1: InvalidJson: at byte 7\n"))
         self.assertEqual(run("encode", given=b"[" * 100_000),

@@ -35,7 +35,8 @@ pub enum Error {
         /// How many bytes of the text begin some JSON text.
         offset: usize,
     },
-    /// The text would be JSON with other numbers: one has an exponent or too many digits.
+    /// The text would be JSON with other numbers: one has too many digits, or an exponent that is
+    /// not taken.
     BadNumber {
         /// How many bytes of the text begin some JSON text.
         offset: usize,

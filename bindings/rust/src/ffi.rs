@@ -25,6 +25,13 @@ const NONE: u32 = 12;
 /// The room that is tried first for a result of unknown length.
 const FIRST_ROOM: usize = 64;
 
+/// Whether numbers may have an exponent.
+#[derive(Clone, Copy)]
+pub(crate) enum Exponents {
+    Forbidden = 0,
+    Allowed = 1,
+}
+
 /// What `kohiblad_kind` returns.
 #[repr(C)]
 struct ValueKind {
@@ -218,11 +225,12 @@ extern "C" {
         text: *const u8,
         size: usize,
         depth: usize,
+        exponents: u32,
         out: *mut u8,
         room: usize,
         length: *mut usize,
     ) -> u32;
-    fn kohiblad_text_fault(text: *const u8, size: usize, depth: usize) -> Fault;
+    fn kohiblad_text_fault(text: *const u8, size: usize, depth: usize, exponents: u32) -> Fault;
     fn kohiblad_build_array_within(
         bytes: *const u8,
         size: usize,
@@ -703,19 +711,29 @@ pub(crate) fn of_extension(fields: &Fields<'_>) -> Result<Vec<u8>, Error> {
     })
 }
 
-pub(crate) fn parse(text: &[u8], depth: usize) -> Result<Vec<u8>, Error> {
-    // The header: the result is shorter than 4 times the text plus 8 bytes.
-    let room = text.len().saturating_mul(4).saturating_add(8);
-    bounded(kohiblad_parse, text, depth, room).map_err(|error| match error {
-        Error::InvalidJson { .. } => text_fault(text, depth),
+pub(crate) fn parse(text: &[u8], depth: usize, exponents: Exponents) -> Result<Vec<u8>, Error> {
+    let depth = depth.min(MAX_DEPTH);
+    let (bytes, size) = (text.as_ptr(), text.len());
+    // The header: the result is shorter than so many times the text plus 8 bytes.
+    let most = match exponents {
+        Exponents::Forbidden => 4,
+        Exponents::Allowed => 5,
+    };
+    let room = text.len().saturating_mul(most).saturating_add(8);
+    all_written(room, |out, room, length| {
+        // SAFETY: as above; the export writes `length` bytes.
+        unsafe { kohiblad_parse(bytes, size, depth, exponents as u32, out, room, length) }
+    })
+    .map_err(|error| match error {
+        Error::InvalidJson { .. } => text_fault(text, depth, exponents),
         other => other,
     })
 }
 
 /// Why a text is no JSON, and where. Only such a text may be given.
-fn text_fault(text: &[u8], depth: usize) -> Error {
+fn text_fault(text: &[u8], depth: usize, exponents: Exponents) -> Error {
     // SAFETY: as above.
-    let fault = unsafe { kohiblad_text_fault(text.as_ptr(), text.len(), depth.min(MAX_DEPTH)) };
+    let fault = unsafe { kohiblad_text_fault(text.as_ptr(), text.len(), depth, exponents as u32) };
     // The offset is in the text, so it fits a `usize`.
     Error::of_fault(fault.status, fault.offset as usize)
 }

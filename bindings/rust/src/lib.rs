@@ -19,8 +19,9 @@
 //! which nothing is known are a `&[u8]`: check them by [`RawJsonb::new`], or use the calls of the
 //! module [`bytes`].
 //!
-//! There is no floating point: a document with a double is refused as [`Error::InvalidJsonb`], and
-//! a JSON number with an exponent, as `1e5`, as [`Error::BadNumber`].
+//! There is no floating point: a document with a double is refused as [`Error::InvalidJsonb`]. A
+//! JSON number with an exponent, as `1e5`, is refused by [`OwnedJsonb::parse`] as
+//! [`Error::BadNumber`], and means exactly its value to [`OwnedJsonb::parse_with_exponents`].
 //!
 //! The feature `std`, which is on by default, implements `std::error::Error` for [`Error`]. Without
 //! it the crate needs `core` and `alloc` alone.
@@ -51,9 +52,8 @@ pub use raw::RawJsonb;
 /// How deep a document or a text may nest. A scalar has depth 0, an array or object one more than
 /// its deepest child, and at least 1.
 ///
-/// Calls on documents of this depth need less than 640 KB of stack. A parse needs at most 2 KB for
-/// each level that the text nests; texts of this depth fit a thread of 2 MiB, which is what
-/// `std::thread` gives.
+/// Calls on documents of this depth need less than 640 KB of stack, and a parse needs none for the
+/// depth of its text.
 pub const MAX_DEPTH: usize = 1000;
 
 /// The version of the library: millions, thousands and ones. 7000 is 0.7.0.

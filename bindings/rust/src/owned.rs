@@ -5,7 +5,8 @@ use core::fmt;
 use core::hash::{Hash, Hasher};
 use core::str::FromStr;
 
-use crate::{ffi, Error, ExtensionValue, Node, Number, RawJsonb, MAX_DEPTH};
+use crate::ffi::{self, Exponents};
+use crate::{Error, ExtensionValue, Node, Number, RawJsonb, MAX_DEPTH};
 
 /// The bytes of a document, owned, which nests at most [`MAX_DEPTH`] deep. [`as_raw`](Self::as_raw)
 /// has the calls that read it. It is equal to, ordered, hashed and printed as [`RawJsonb`].
@@ -64,7 +65,27 @@ impl OwnedJsonb {
     /// - [`Error::InvalidJsonb`]: a limit of the format is passed.
     /// - [`Error::OutOfMemory`]: an allocation failed.
     pub fn parse(text: impl AsRef<[u8]>, depth: usize) -> Result<Self, Error> {
-        ffi::parse(text.as_ref(), depth).map(Self::of_checked)
+        ffi::parse(text.as_ref(), depth, Exponents::Forbidden).map(Self::of_checked)
+    }
+
+    /// The same of a text whose numbers may have an exponent. Such a number means exactly its
+    /// value: `1e5` is the whole number 100000, and `25e-1` is 2.5.
+    ///
+    /// ```
+    /// use kohiblad::{Error, OwnedJsonb};
+    ///
+    /// let row = OwnedJsonb::parse_with_exponents("[1e5, 1.50e1, 25e-1]", 1)?;
+    /// assert_eq!(row.to_string(), "[100000,15.0,2.5]");
+    /// let refused = OwnedJsonb::parse_with_exponents("1e999", 0);
+    /// assert_eq!(refused, Err(Error::BadNumber { offset: 3 }));
+    /// # Ok::<(), kohiblad::Error>(())
+    /// ```
+    ///
+    /// # Errors
+    ///
+    /// Those of [`parse`](Self::parse), but for exponents.
+    pub fn parse_with_exponents(text: impl AsRef<[u8]>, depth: usize) -> Result<Self, Error> {
+        ffi::parse(text.as_ref(), depth, Exponents::Allowed).map(Self::of_checked)
     }
 
     /// The document of a value: canonical for a scalar, a copy for an array or object. A text

@@ -43,7 +43,8 @@ static char *fault_message(const char *name, const struct kohiblad_fault *fault)
 /* To find the place takes memory: if that is refused, the status alone is reported. */
 static void fail_text(const struct caller *caller, const struct bytes *text)
 {
-    struct kohiblad_fault fault = kohiblad_text_fault(text->at, text->size, KOHIBLAD_SQLITE_DEPTH);
+    struct kohiblad_fault fault = kohiblad_text_fault(text->at, text->size, KOHIBLAD_SQLITE_DEPTH,
+                                                      KOHIBLAD_EXPONENTS_ALLOWED);
     bool is_found = fault.status == KOHIBLAD_INVALID_JSON || fault.status == KOHIBLAD_BAD_NUMBER;
     if (is_found) fail_with(caller, fault_message(caller->name, &fault));
     else fail(caller, KOHIBLAD_INVALID_JSON);

@@ -15,8 +15,10 @@ SELECT jb_text(jb(json_remove(jb_text(doc), '$.name'))) FROM person;
 -- A REAL has the 15 digits that SQLite prints, or an exponent.
 SELECT jb_text(jb(json_set('{}', '$.a', 1.7, '$.b', 0.1 + 0.2)));
 --> {"a":1.7,"b":0.3}
-SELECT jb(json_set('{}', '$.a', 1e20));
---! jb: BadNumber at byte 8
+SELECT jb_text(jb(json_set('{}', '$.a', 1e20)));
+--> {"a":100000000000000000000}
+SELECT jb(json_set('{}', '$.a', 1e99));
+--! jb: BadNumber at byte 11
 
 -- Built anew, all of it stays what it is.
 UPDATE person SET doc = (SELECT jb_group_object(key,

@@ -24,26 +24,26 @@ SELECT jb('["é" 1]');
 --! jb: InvalidJson at byte 6
 SELECT jb('["' || char(0x1F600) || '" 1]');
 --! jb: InvalidJson at byte 8
--- Only a number is at fault: an exponent, 39 digits past 128 bits, and 256 after the point.
-SELECT jb('1e5');
---! jb: BadNumber at byte 1
-SELECT jb('{"a": 1e5}');
---! jb: BadNumber at byte 7
-SELECT jb('{"a": [1, 2.5e-7]}');
---! jb: BadNumber at byte 13
+-- Only a number is at fault: great exponents, 39 digits past 128 bits, and 256 after the point.
+SELECT jb('1e99');
+--! jb: BadNumber at byte 3
+SELECT jb('{"a": 1e999}');
+--! jb: BadNumber at byte 9
+SELECT jb('{"a": [1, 2.5e-999]}');
+--! jb: BadNumber at byte 17
 SELECT jb('999999999999999999999999999999999999999');
 --! jb: BadNumber at byte 38
 SELECT jb('170141183460469231731687303715884105728');
 --! jb: BadNumber at byte 38
 SELECT jb('0.' || hex(zeroblob(128)));
---! jb: BadNumber at byte 257
+--! jb: BadNumber at byte 258
 -- A number and something else.
 SELECT jb('[1e5,]');
---! jb: InvalidJson at byte 2
+--! jb: InvalidJson at byte 5
 SELECT jb_compare(jb('[]'), '[1');
 --! jb_compare: InvalidJson at byte 2
-SELECT jb_compare('1e5', '[1');
---! jb_compare: BadNumber at byte 1
+SELECT jb_compare('1e99', '[1');
+--! jb_compare: BadNumber at byte 3
 SELECT jb_compare(1.5, 'null');
 --! jb_compare: InvalidJsonbNumber: a REAL is refused, pass decimals as TEXT
 SELECT jb_compare('null', 1.5);

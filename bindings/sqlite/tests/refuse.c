@@ -117,13 +117,13 @@ static const struct { const char *sql, *answer; } statements[] = {
 /* The place of a text's fault needs memory: if that is refused, the error is the second. */
 static const struct { const char *sql, *error, *unplaced; } faults[] = {
     { "SELECT jb('[1,]')", "jb: InvalidJson at byte 3", "jb: InvalidJson" },
-    { "SELECT jb('[1, 1e5]')", "jb: BadNumber at byte 5", "jb: InvalidJson" },
-    { "SELECT jb_of(json('[1e5]'))", "jb_of: BadNumber at byte 2", "jb_of: InvalidJson" },
+    { "SELECT jb('[1, 1e99]')", "jb: BadNumber at byte 7", "jb: InvalidJson" },
+    { "SELECT jb_of(json('[1e99]'))", "jb_of: BadNumber at byte 4", "jb_of: InvalidJson" },
     { "SELECT jb_compare(jb('1'), '1x')", "jb_compare: InvalidJson at byte 1",
       "jb_compare: InvalidJson" },
     { "SELECT jb_compare('\"' || hex(zeroblob(4000)) || '\"', '1x')",
       "jb_compare: InvalidJson at byte 1", "jb_compare: InvalidJson" },
-    { "SELECT jb_group_array(json('1e5'))", "jb_group_array: BadNumber at byte 1",
+    { "SELECT jb_group_array(json('1e99'))", "jb_group_array: BadNumber at byte 3",
       "jb_group_array: InvalidJson" },
 };
 

@@ -62,12 +62,12 @@ SELECT json_array(text), jb_text(jb_of(text)) FROM kept;
 --> ["{\"a\":1}"]|"{\"a\":1}"
 
 -- What is no document here is refused, not taken as a string.
-SELECT jb_of(json('[1e5]'));
---! jb_of: BadNumber at byte 2
-SELECT jb_group_array(json('{"a":1e5}'));
---! jb_group_array: BadNumber at byte 6
-SELECT jb_group_object('k', json('1e5'));
---! jb_group_object: BadNumber at byte 1
+SELECT jb_of(json('[1e99]'));
+--! jb_of: BadNumber at byte 4
+SELECT jb_group_array(json('{"a":1e99}'));
+--! jb_group_array: BadNumber at byte 8
+SELECT jb_group_object('k', json('1e99'));
+--! jb_group_object: BadNumber at byte 3
 SELECT jb_of(json(replace(hex(zeroblob(501)), '0', '[') || replace(hex(zeroblob(501)), '0', ']')));
 --! jb_of: TooDeep
 

@@ -1,3 +1,4 @@
+pub mod ExponentRules
 pub mod FoundPlaces
 pub mod Lookups
 pub mod MadeDocuments

@@ -1,11 +1,13 @@
 -- The results of printing, parsing and bringing to canonical form, as C receives them.
-use Rattle.std.specs.Prelude.{◌<◌, ◌≤◌, ◌⊎◌, ℕ, List}
+use Rattle.std.specs.Prelude.{◌<◌, ◌≤◌, ◌⊎◌, ℕ, zero, suc, List}
 use Rattle.std.specs.Str.{IsUtf8}
 use Rattle.jsonb_value.specs.declared.error.Error.TheVariants as errors
 use Rattle.jsonb_value.specs.TextDepth.{text_depth}
 use Rattle.jsonb_codec.specs.Depth.{IsDocumentWithin}
 use Rattle.jsonb.specs.Canonical.{RewritesTo}
-use Rattle.jsonb.specs.Parsing.{ParsesTo}
+use Rattle.jsonb_value.specs.declared.parser.number.Exponents.{Exponents}
+use Rattle.jsonb_value.specs.declared.parser.number.Exponents.TheVariants.{Forbidden, Allowed}
+use Rattle.jsonb.specs.Parsing.{ParsesUnder}
 use Rattle.kohiblad.specs.Status.{code, too_deep, IsHandedOver, IsOneAnswered, IsRefused}
 
 -- The text is handed over, or there is not enough memory.
@@ -26,18 +28,24 @@ IsRewrittenWithin depth bytes before after size status =
     × IsRefused (code errors.InvalidJsonb) before after size status)
     ⊎ (IsDocumentWithin depth bytes × IsRewritten bytes before after size status)
 
--- The text is parsed, as the library does it.
-abbrev pub IsRead : List ℕ → List ℕ → List ℕ → ℕ → ℕ → Type 0
-IsRead text before after size status = IsOneAnswered (ParsesTo text) before after size status
+-- The rule for exponents that a caller gives as a number: 0 forbids them.
+abbrev pub rule_of : ℕ → Exponents
+rule_of zero = Forbidden
+rule_of (suc n) = Allowed
+
+-- The text is parsed under a rule for exponents, as the library does it.
+abbrev pub IsRead : Exponents → List ℕ → List ℕ → List ℕ → ℕ → ℕ → Type 0
+IsRead rule text before after size status =
+    IsOneAnswered (ParsesUnder rule text) before after size status
 
 -- The text is refused if it is not UTF-8, and otherwise read as `IsRead` says.
-abbrev pub IsReadAsText : List ℕ → List ℕ → List ℕ → ℕ → ℕ → Type 0
-IsReadAsText text before after size status =
+abbrev pub IsReadAsText : Exponents → List ℕ → List ℕ → List ℕ → ℕ → ℕ → Type 0
+IsReadAsText rule text before after size status =
     ((IsUtf8 text → ⊥) × IsRefused (code errors.InvalidUtf8) before after size status)
-    ⊎ (IsUtf8 text × IsRead text before after size status)
+    ⊎ (IsUtf8 text × IsRead rule text before after size status)
 
 -- The text is refused if it nests deeper than `depth`, and otherwise read as `IsReadAsText` says.
-abbrev pub IsReadWithin : ℕ → List ℕ → List ℕ → List ℕ → ℕ → ℕ → Type 0
-IsReadWithin depth text before after size status =
+abbrev pub IsReadWithin : Exponents → ℕ → List ℕ → List ℕ → List ℕ → ℕ → ℕ → Type 0
+IsReadWithin rule depth text before after size status =
     ((depth < text_depth text) × IsRefused too_deep before after size status)
-    ⊎ ((text_depth text ≤ depth) × IsReadAsText text before after size status)
+    ⊎ ((text_depth text ≤ depth) × IsReadAsText rule text before after size status)

@@ -3,7 +3,8 @@ use Rattle.std.specs.Prelude.{◌≡◌, ◌⊎◌, ℕ, List, chars, length}
 use Rattle.jsonb_value.specs.declared.error.Error.TheVariants.{InvalidJson, OutOfMemory}
 use Rattle.json_fault.specs.declared.fault.FaultReason.{FaultReason}
 use Rattle.json_fault.specs.declared.fault.FaultReason.TheVariants.{Syntax, Number}
-use Rattle.json_fault.specs.Fault.{IsJson, IsFaultAt}
+use Rattle.jsonb_value.specs.declared.parser.number.Exponents.{Exponents}
+use Rattle.json_fault.specs.Fault.{IsJson, IsJsonUnder, IsFaultUnder}
 use Rattle.json_fault.specs.WithoutNumbers.{without_numbers}
 use Rattle.kohiblad.specs.declared.text_fault.KohibladFault.{KohibladFault}
 use Rattle.kohiblad.specs.Status.{code, bad_number}
@@ -17,16 +18,16 @@ reason_status Number = bad_number
 abbrev pub no_fault : ℕ → KohibladFault
 no_fault status = record { status = status; offset = 0 }
 
--- The text is no JSON. The offset is that of the fault, and the status that of numbers exactly
--- where the text is JSON with `null` in place of each number.
-pub record IsFaultAnswer (text : List ℕ) (answer : KohibladFault) : Type 0 where
-  pub is_none : IsJson (chars text) → ⊥
-  pub is_there : IsFaultAt (chars text) answer.offset
+-- The text is no JSON under a rule for exponents. The offset is that of the fault, and the status
+-- that of numbers exactly where the text is JSON with `null` in place of each number.
+pub record IsFaultAnswer (rule : Exponents) (text : List ℕ) (answer : KohibladFault) : Type 0 where
+  pub is_none : IsJsonUnder rule (chars text) → ⊥
+  pub is_there : IsFaultUnder rule (chars text) answer.offset
   pub is_reason : ((answer.status ≡ bad_number) × IsJson (without_numbers (chars text)))
       ⊎ ((answer.status ≡ code InvalidJson) × (IsJson (without_numbers (chars text)) → ⊥))
 
 -- The text is JSON, and the offset its length; or it is none; or memory ran out.
-abbrev pub IsTextFault : List ℕ → KohibladFault → Type 0
-IsTextFault text answer =
-    (IsJson (chars text) × (answer ≡ record { status = 0; offset = length text }))
-    ⊎ (IsFaultAnswer text answer ⊎ (answer ≡ no_fault (code OutOfMemory)))
+abbrev pub IsTextFault : Exponents → List ℕ → KohibladFault → Type 0
+IsTextFault rule text answer =
+    (IsJsonUnder rule (chars text) × (answer ≡ record { status = 0; offset = length text }))
+    ⊎ (IsFaultAnswer rule text answer ⊎ (answer ≡ no_fault (code OutOfMemory)))

@@ -9,6 +9,8 @@ pub use Rattle.jsonb_value.specs.Tree.{Extension, Tree, boolean, extension, null
 pub use Rattle.jsonb_value.specs.WellFormed.{IsExtension}
 pub use Rattle.jsonb_value.specs.declared.error.Error.{Error}
 pub use Rattle.jsonb_value.specs.declared.number.Number.{Number}
+pub use Rattle.json_fault.specs.Fault.{IsFaultUnder, IsJson, IsJsonUnder}
+pub use Rattle.json_fault.specs.WithoutNumbers.{without_numbers}
 pub use Rattle.jsonb_codec.specs.Canon.{canon}
 pub use Rattle.jsonb_codec.specs.Canonical.{IsCanonical}
 pub use Rattle.jsonb_codec.specs.Contents.{Means}
@@ -19,6 +21,7 @@ pub use Rattle.jsonb.specs.Code.{scalar_bytes}
 pub use Rattle.jsonb.specs.ItemMeaning.{meaning_of}
 pub use Rattle.jsonb.specs.Kind.{kind, kind_of_tree}
 pub use Rattle.jsonb.specs.Owned.{bytes_of}
+pub use Rattle.jsonb.specs.Parsing.{ParsesUnder}
 pub use Rattle.jsonb.specs.Texts.{display_text, lined_text, other_text, plain_text}
 pub use Rattle.jsonb.specs.Texts.{pretty_display_text}
 pub use Rattle.jsonb.specs.declared.reads.lookup.Place.{Place}
@@ -29,8 +32,8 @@ pub use Rattle.kohiblad.specs.BoundedMeaning.{bounded_meaning}
 pub use Rattle.kohiblad.specs.Children.{CanMove, IsBegun, child_at, cursor_after, cursor_at}
 pub use Rattle.kohiblad.specs.Children.{key_answer, numbered_child, value_answer}
 pub use Rattle.kohiblad.specs.KindAnswer.{kind_answer}
-pub use Rattle.kohiblad.specs.Output.{IsRead, IsReadWithin, IsRewritten, IsRewrittenWithin}
-pub use Rattle.kohiblad.specs.Output.{IsWritten}
+pub use Rattle.kohiblad.specs.Output.{IsReadWithin, IsRewritten, IsRewrittenWithin}
+pub use Rattle.kohiblad.specs.Output.{IsWritten, rule_of}
 pub use Rattle.kohiblad.specs.Parts.{IsPartDocument, is_entry_type, is_too_long, part_document}
 pub use Rattle.kohiblad.specs.Places.{AreInside, AreMemberPlaces, IsInside, IsItemPlace}
 pub use Rattle.kohiblad.specs.Places.{IsMemberHandedOver, IsPartPlace, IsPlaceFound}

@@ -1,11 +1,12 @@
 //! Where a text is no JSON.
 
-ghost use Rattle.std.specs.Prelude.{◌≡◌, ◌<◌, ◌≤◌, IsUtf8};
+ghost use Rattle.std.specs.Prelude.{◌≡◌, ◌<◌, ◌≤◌, ◌↔◌, chars, IsUtf8, IfOk, IfErr, IfSome};
 ghost use Rattle.kohiblad.specs.Words.{text_depth, code, too_deep, reason_status, no_fault};
-ghost use Rattle.kohiblad.specs.Words.{IsTextFault};
+ghost use Rattle.kohiblad.specs.Words.{IsTextFault, IsJson, IsJsonUnder, IsFaultUnder, rule_of};
+ghost use Rattle.kohiblad.specs.Words.{without_numbers};
 
 use crate::answer::{BAD_NUMBER, OK, TOO_DEEP, code};
-use json_fault::{FaultReason, text_fault};
+use json_fault::{Fault, FaultReason, text_fault, text_fault_with_exponents};
 use jsonb::{Error, is_text_within};
 use std::alloc::Global;
 use std::str;
@@ -19,24 +20,31 @@ pub struct KohibladFault {
     pub offset: u64,
 }
 
-/// Whether a text is JSON, and where it is none. `OK`, with the length of the text, if it is JSON;
-/// `TOO_DEEP` if more than `depth` brackets outside strings are open at once, tested before
-/// anything else; `InvalidUtf8` if the text is not UTF-8; `BAD_NUMBER` if it would be JSON with
-/// `null` in place of each number; `InvalidJson` if it is no JSON for another reason; `OutOfMemory`
-/// if an allocation fails. Of `BAD_NUMBER` and `InvalidJson` the offset is the length in bytes of
-/// the longest beginning of the text that begins some JSON text.
+/// Whether a text is JSON, and where it is none. With `exponents` 0 no number has an exponent.
+/// `OK`, with the length of the text, if it is JSON; `TOO_DEEP` if more than `depth` brackets
+/// outside strings are open at once, tested before anything else; `InvalidUtf8` if the text is not
+/// UTF-8; `BAD_NUMBER` if it would be JSON with `null` in place of each number; `InvalidJson` if it
+/// is no JSON for another reason; `OutOfMemory` if an allocation fails. Of `BAD_NUMBER` and
+/// `InvalidJson` the offset is the length in bytes of the longest beginning of the text that begins
+/// some JSON text.
 #[unsafe(no_mangle)]
-pub extern "C" fn kohiblad_text_fault(alloc: Global, text: &[u8], depth: usize) -> KohibladFault
+pub extern "C" fn kohiblad_text_fault(
+    alloc: Global,
+    text: &[u8],
+    depth: usize,
+    exponents: u32,
+) -> KohibladFault
     ensures deep { depth < text_depth text.now → result ≡ no_fault too_deep }
     ensures utf8 { text_depth text.now ≤ depth → (IsUtf8 text.now → ⊥)
         → result ≡ no_fault (code Error.InvalidUtf8) }
-    ensures text { text_depth text.now ≤ depth → IsUtf8 text.now → IsTextFault text.now result }
+    ensures text { text_depth text.now ≤ depth → IsUtf8 text.now
+        → IsTextFault (rule_of exponents) text.now result }
 {
     if !is_text_within(text, depth) {
         return no_fault(TOO_DEEP);
     }
     match str::from_utf8(text) {
-        Ok(text) => fault_of(alloc, text),
+        Ok(text) => fault_of(alloc, text, exponents),
         Err(_) => no_fault(code(Error::InvalidUtf8)),
     }
 }
@@ -58,11 +66,29 @@ fn reason_status(reason: FaultReason) -> u32
     }
 }
 
-// Whether a text is JSON, and where it is none.
-fn fault_of(alloc: Global, text: &str) -> KohibladFault
-    ensures { IsTextFault text.now result }
+// Where a text is no JSON, and why, with or without exponents.
+fn found_fault(alloc: Global, text: &str, exponents: u32) -> Result<Option<Fault>, Error>
+    ensures none { IfOk result
+        (λ found. (found ≡ None) ↔ IsJsonUnder (rule_of exponents) (chars text.now)) }
+    ensures offset { IfOk result (λ found. IfSome found
+        (λ fault. IsFaultUnder (rule_of exponents) (chars text.now) fault.offset)) }
+    ensures reason { IfOk result (λ found. IfSome found
+        (λ fault. (fault.reason ≡ FaultReason.Number)
+        ↔ IsJson (without_numbers (chars text.now)))) }
+    ensures memory { IfErr result (λ e. e ≡ Error.OutOfMemory) }
 {
-    match text_fault(alloc, text) {
+    if exponents == 0 {
+        text_fault(alloc, text)
+    } else {
+        text_fault_with_exponents(alloc, text)
+    }
+}
+
+// Whether a text is JSON, and where it is none.
+fn fault_of(alloc: Global, text: &str, exponents: u32) -> KohibladFault
+    ensures { IsTextFault (rule_of exponents) text.now result }
+{
+    match found_fault(alloc, text, exponents) {
         Ok(None) => KohibladFault {
             status: OK,
             offset: text.len() as u64,

@@ -2,7 +2,7 @@
 
 ghost use Rattle.kohiblad.specs.Words.{compact, pretty, Tree, Doc, display_text, plain_text};
 ghost use Rattle.kohiblad.specs.Words.{pretty_display_text, lined_text, other_text, meaning_within};
-ghost use Rattle.kohiblad.specs.Words.{IsWritten, IsRead, IsReadWithin};
+ghost use Rattle.kohiblad.specs.Words.{IsWritten, IsReadWithin, ParsesUnder, rule_of, bytes_of};
 
 use crate::answer::{TOO_DEEP, code, hand_over, hand_over_made, refuse};
 use bstr::ByteSlice;
@@ -123,20 +123,23 @@ pub extern "C" fn kohiblad_to_pretty_within(
 }
 
 /// Parses a JSON text and copies the canonical document of its value to `out`, and its length in
-/// bytes to `length`. `TOO_DEEP` if more than `depth` brackets outside strings are open at once,
-/// tested before anything else; `InvalidUtf8` if the text is not UTF-8; `InvalidJson` if it is not
-/// accepted JSON; `InvalidJsonb` if a limit of the format is exceeded; `OutOfMemory` if an
-/// allocation fails; `NO_ROOM` if `out` is shorter than the document. If the status is not `OK`,
-/// `out` is unchanged, and `length` is 0, or for `NO_ROOM` the length of the document.
+/// bytes to `length`. With `exponents` 0 a number with an exponent is refused; otherwise it means
+/// exactly its value, as `1e5` means 100000. `TOO_DEEP` if more than `depth` brackets outside
+/// strings are open at once, tested before anything else; `InvalidUtf8` if the text is not UTF-8;
+/// `InvalidJson` if it is not accepted JSON; `InvalidJsonb` if a limit of the format is exceeded;
+/// `OutOfMemory` if an allocation fails; `NO_ROOM` if `out` is shorter than the document. If the
+/// status is not `OK`, `out` is unchanged, and `length` is 0, or for `NO_ROOM` the length of the
+/// document.
 #[unsafe(no_mangle)]
 pub extern "C" fn kohiblad_parse(
     alloc: Global,
     text: &[u8],
     depth: usize,
+    exponents: u32,
     out: &mut [u8],
     length: &mut usize,
 ) -> u32
-    ensures { IsReadWithin depth text.now out.old out.new length.new result }
+    ensures { IsReadWithin (rule_of exponents) depth text.now out.old out.new length.new result }
 {
     if !is_text_within(text, depth) {
         return refuse(TOO_DEEP, out, length);
@@ -144,12 +147,16 @@ pub extern "C" fn kohiblad_parse(
     let Ok(text) = str::from_utf8(text) else {
         return refuse(code(Error::InvalidUtf8), out, length);
     };
-    read_text(alloc, text, out, length)
+    hand_over_made(parsed(alloc, text, exponents), out, length)
 }
 
-// Parses a JSON text and copies out the canonical document of its value.
-fn read_text(alloc: Global, text: &str, out: &mut [u8], length: &mut usize) -> u32
-    ensures { IsRead text.now out.old out.new length.new result }
+// The document of a JSON text, whose numbers have no exponent if `exponents` is 0.
+fn parsed(alloc: Global, text: &str, exponents: u32) -> Result<OwnedJsonb, Error>
+    ensures { ParsesUnder (rule_of exponents) text.now (bytes_of result) }
 {
-    hand_over_made(OwnedJsonb::parse(alloc, text), out, length)
+    if exponents == 0 {
+        OwnedJsonb::parse(alloc, text)
+    } else {
+        OwnedJsonb::parse_with_exponents(alloc, text)
+    }
 }

@@ -56,15 +56,17 @@ class Document:
         return _of_checked(data)
 
     @classmethod
-    def parse(cls, text: Union[str, bytes], depth: int = DEPTH) -> "Document":
+    def parse(cls, text: Union[str, bytes], depth: int = DEPTH, *,
+              exponents: bool = True) -> "Document":
         """The document of a JSON text, as a str or in UTF-8.
 
-        Of a key that comes twice the last value stays. ``depth`` is how deep brackets may nest,
-        from 0 to 1,000. InvalidTextError: the text is no JSON or not UTF-8, or has a number with an
-        exponent or too many digits, and its `offset` says where; TooDeepError;
-        InvalidDocumentError: it is past a limit of the format.
+        Of a key that comes twice the last value stays. A number with an exponent means exactly its
+        value, ``1e5`` the whole number 100000; with ``exponents=False`` it is refused. ``depth`` is
+        how deep brackets may nest, from 0 to 1,000. InvalidTextError: the text is no JSON or not
+        UTF-8, or has a number that is refused or has too many digits, and its `offset` says where;
+        TooDeepError; InvalidDocumentError: it is past a limit of the format.
         """
-        return _of_checked(parse(text, _checked_depth(depth)))
+        return _of_checked(parse(text, _checked_depth(depth), exponents))
 
     @classmethod
     def of(cls, value: Any) -> "Document":

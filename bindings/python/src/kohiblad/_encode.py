@@ -22,27 +22,28 @@ Encoder = Generator[Any, Encoded, Encoded]
 # The JSON text of a str. Not all type checkers know its name.
 _text_of_str: Callable[[str], str] = getattr(json.encoder, "encode_basestring")
 
-# The greatest depth of any document and text: 1,000 levels of a text need 2 MB of stack.
+# The greatest depth of any document and text.
 DEPTH = 1000
 
 
-def parse(text: Union[str, bytes], depth: int = DEPTH) -> bytes:
-    """The document of a JSON text."""
+def parse(text: Union[str, bytes], depth: int = DEPTH, exponents: bool = True) -> bytes:
+    """The document of a JSON text, whose numbers may have exponents or not."""
     if isinstance(text, str):
         data = _utf8(text)
     else:
         data = library.bytes_of(text, "a JSON text is a str or bytes")
     try:
-        return library.result_of(library.parse, 2 * len(data) + 64, data, len(data), depth)
+        return library.result_of(library.parse, 2 * len(data) + 64, data, len(data), depth,
+                                 exponents)
     except InvalidTextError as error:
         if error.status != library.INVALID_JSON:
             raise
-        raise _fault_of(data, depth) from None
+        raise _fault_of(data, depth, exponents) from None
 
 
-def _fault_of(text: bytes, depth: int) -> KohibladError:
+def _fault_of(text: bytes, depth: int, exponents: bool) -> KohibladError:
     """Why a text is no JSON, and where."""
-    fault = library.text_fault(text, len(text), depth)
+    fault = library.text_fault(text, len(text), depth, exponents)
     if fault.status not in (library.INVALID_JSON, library.BAD_NUMBER):
         return library.error_of(fault.status)
     name = library.status_name(fault.status)

@@ -27,7 +27,7 @@ class InvalidDocumentError(KohibladError):
 
 
 class InvalidTextError(KohibladError):
-    """The text is not UTF-8 or no JSON, or has a number with an exponent or too many digits.
+    """The text is not UTF-8 or no JSON, or has a number that is refused or has too many digits.
 
     ``name`` is ``InvalidUtf8``, ``InvalidJson`` or ``BadNumber``: the last if the text would be
     JSON with other numbers. ``offset`` is where it stops being JSON: how many bytes of it in UTF-8
