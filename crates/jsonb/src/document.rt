@@ -131,9 +131,9 @@ impl<'a> Document<'a> {
         kind
     }
 
-    // The single part that the document consists of.
+    /// The single part that the document consists of.
     #[inline(always)]
-    pub(crate) fn part(&self) -> Part<'a>
+    pub fn part(&self) -> Part<'a>
         ensures means { Means result (document_tree self.now) }
         ensures len { length result.payload.now < 2 ^ 64 }
     {

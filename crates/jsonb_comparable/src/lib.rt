@@ -14,7 +14,10 @@ mod walk;
 
 pub use checked_bytes::CheckedBytes;
 pub use comparable_key::ComparableKey;
+pub use escape::append_escaped;
 pub use key::{
     KEY_LAYOUT, append_key, append_key_of, append_key_within, key_len, key_len_of, key_len_within,
 };
 pub use laws::{key_laws, key_laws_of_bytes, key_laws_within};
+pub use sink::Sink;
+pub use walk::append_node;

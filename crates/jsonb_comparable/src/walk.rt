@@ -64,9 +64,9 @@ fn next_member<'a>(members: &mut Members<'a>) -> Option<(&'a str, Node<'a>)>
     members.next()
 }
 
-// Appends the key of a value.
+/// Appends the comparable key of a value inside a document.
 #[cycle(keys)]
-fn append_node<S: Sink>(node: Node<'_>, sink: &mut S)
+pub fn append_node<S: Sink>(node: Node<'_>, sink: &mut S)
     requires value { HoldsNoScalar node }
     requires room { S.room sink.old (tree_key (node_tree node)) }
     ensures { S.appends sink.old sink.new (tree_key (node_tree node.entry)) }
