@@ -13,7 +13,8 @@ ghost use Rattle.jsonb_value.specs.Tree.{Tree};
 ghost use Rattle.jsonb_value.specs.WellFormed.{IsTree};
 ghost use Rattle.jsonb_value.specs.Reader.Resume.{Content, going, Adds};
 ghost use Rattle.jsonb_codec.specs.Canon.{canon, Fits};
-ghost use Rattle.jsonb_codec.specs.Tape.{ArrayIs, ContainerIs, IsMade, IsScalar, tape_is};
+ghost use Rattle.jsonb_codec.specs.Tape.{ArrayIs, ContainerIs, Grows, IsMade, IsScalar};
+ghost use Rattle.jsonb_codec.specs.Tape.{tape_is};
 ghost use Rattle.jsonb_codec.specs.declared.tape.storage.Storage.{Storage};
 
 mod entry;
@@ -111,27 +112,27 @@ impl<'a> Tape<'a> {
         array
     }
 
-    // Keeps a closed array for its memory.
+    // Keeps a closed array for its memory, unless it is the whole value.
     fn keep_array(&mut self, array: OpenArray) -> Result<(), Error>
         ensures storage { self.new.storage ≡ self.old.storage }
         ensures innermost { self.new.innermost ≡ self.old.innermost }
         ensures outer { self.new.outer ≡ self.old.outer }
         ensures memory { IfErr result (λ e. e ≡ OutOfMemory) }
     {
-        if self.spare_arrays.len() < SPARE {
+        if !self.outer.is_empty() && self.spare_arrays.len() < SPARE {
             self.spare_arrays.push(array)?;
         }
         Ok(())
     }
 
-    // Keeps members for their memory.
+    // Keeps members for their memory, unless they are those of the whole value.
     fn keep_members(&mut self, members: Vec<Member<'a>>) -> Result<(), Error>
         ensures storage { self.new.storage ≡ self.old.storage }
         ensures innermost { self.new.innermost ≡ self.old.innermost }
         ensures outer { self.new.outer ≡ self.old.outer }
         ensures memory { IfErr result (λ e. e ≡ OutOfMemory) }
     {
-        if self.spare_members.len() < SPARE {
+        if !self.outer.is_empty() && self.spare_members.len() < SPARE {
             self.spare_members.push(members)?;
         }
         Ok(())
@@ -149,6 +150,20 @@ impl<'a> Tape<'a> {
         }
     }
 
+    // Asks for memory before the first container.
+    #[inline(always)]
+    fn make_room(&mut self) -> Result<(), Error>
+        ensures grows { OnOk result (Grows self.old.storage self.new.storage) }
+        ensures innermost { self.new.innermost ≡ self.old.innermost }
+        ensures outer { self.new.outer ≡ self.old.outer }
+        ensures memory { IfErr result (λ e. e ≡ OutOfMemory) }
+    {
+        if self.outer.is_empty() {
+            self.storage.reserve()?;
+        }
+        Ok(())
+    }
+
     // Begins a container.
     fn begin(&mut self, container: Container<'a>) -> Result<(), Error>
         ensures ok { OnOk result ((content : Content) (cs : List Content)
@@ -156,6 +171,7 @@ impl<'a> Tape<'a> {
             → tape_is self.new (going (content ∷ cs))) }
         ensures memory { IfErr result (λ e. e ≡ OutOfMemory) }
     {
+        self.make_room()?;
         self.outer.push(replace(&mut self.innermost, container))?;
         Ok(())
     }

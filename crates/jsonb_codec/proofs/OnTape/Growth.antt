@@ -4,7 +4,7 @@ use Rattle.std.proofs.Common.{Option, Some, None, length}
 use Rattle.std.specs.Prelude.{reverse}
 use Rattle.jsonb_value.specs.Tree.{Tree}
 use Rattle.jsonb_value.specs.Json.Syntax.{Entries}
-use Rattle.jsonb_value.specs.Reader.Resume.{Adds, Content, items, members, at_key}
+use Rattle.jsonb_value.specs.Reader.Resume.{Adds, Content, at_key, going, items, members}
 use Rattle.jsonb_codec.specs.Shape.{payloads}
 use Rattle.jsonb_codec.specs.Canon.{payload_of}
 use Rattle.jsonb_codec.specs.Tape.{EntryIs, IsMade, HasItems, ArrayIs, shapes_of, Grows}
@@ -98,15 +98,28 @@ open_grows old new (containers.Array a ∷ ds) (c ∷ cs) g h =
 open_grows old new (containers.Object o ∷ ds) (c ∷ cs) g h =
     (container_grows old new (containers.Object o) c g h.0, open_grows old new ds cs g h.1)
 
+pub one_more_open : (s : Storage) (d : Container) (c : Content) (ds : List Container)
+    (cs : List Content) → ContainerIs s d c → AreOpen s ds cs → AreOpen s (d ∷ ds) (c ∷ cs)
+one_more_open s (containers.Whole e) c ds cs is h = absurd is
+one_more_open s (containers.Array a) c ds cs is h = (is, h)
+one_more_open s (containers.Object o) c ds cs is h = (is, h)
+
+-- the containers are open after more was stored
+pub open_after : (old mid : Tape) (cs : List Content) → Grows old.storage mid.storage
+    → mid.innermost ≡ old.innermost → mid.outer ≡ old.outer → tape_is old (going cs)
+    → tape_is mid (going cs)
+open_after old mid cs g innermost outer h =
+    subst (λ ds. AreOpen mid.storage ds cs)
+    (ap (λ d. d ∷ reverse old.outer.items) (sym innermost)
+    ∙ ap (λ ds. mid.innermost ∷ reverse ds.items) (sym outer))
+    (open_grows old.storage mid.storage (old.innermost ∷ reverse old.outer.items) cs g h)
+
 -- a value is added after more was stored
 pub added_after : (old mid new : Tape) (t : Tree) → Grows old.storage mid.storage
     → mid.innermost ≡ old.innermost → mid.outer ≡ old.outer → Adds tape_is mid new t
     → Adds tape_is old new t
 added_after old mid new t g innermost outer adds = λ cs h.
-    adds cs (subst (λ ds. AreOpen mid.storage ds cs)
-    (ap (λ d. d ∷ reverse old.outer.items) (sym innermost)
-    ∙ ap (λ ds. mid.innermost ∷ reverse ds.items) (sym outer))
-    (open_grows old.storage mid.storage (old.innermost ∷ reverse old.outer.items) cs g h))
+    adds cs (open_after old mid cs g innermost outer h)
 
 pub scalar_made : (s : Storage) (e : Entry) (type : ℕ) (p : List ℕ) (t : Tree)
     → IsScalar type p t → e.type_code ≡ type → e.size ≡ length p → PieceIs s e.piece p

@@ -24,6 +24,9 @@ use jsonb_value::{Error, Number};
 use std::alloc::Global;
 use std::mem::replace;
 
+// The bytes of the keys, and of the entry words, of the values in a small object.
+const SMALL: usize = 64;
+
 /// The payloads of scalars, and the headers, entry words and keys of closed containers, as bytes;
 /// and the pieces of the payloads of closed containers.
 #[derive(Drop)]
@@ -44,6 +47,18 @@ impl Storage {
             keys: Vec::new(alloc),
             values: OpenArray::new(alloc),
         }
+    }
+
+    /// Asks at once for the memory that a small text takes.
+    #[inline(never)]
+    pub fn reserve(&mut self) -> Result<(), Error>
+        ensures grows { OnOk result (Grows self.old self.new) }
+        ensures memory { IfErr result (λ e. e ≡ OutOfMemory) }
+    {
+        self.bytes.reserve(2 * SMALL)?;
+        self.keys.reserve(SMALL)?;
+        self.values.words.reserve(SMALL)?;
+        Ok(())
     }
 
     /// Stores a scalar of this type and payload.
@@ -207,12 +222,7 @@ impl Storage {
     }
 
     // Closes a container, whose header, entry words and keys were stored since `start`.
-    fn close(
-        &mut self,
-        start: usize,
-        payloads: &mut Payloads,
-        size: usize,
-    ) -> Result<Entry, Error>
+    fn close(&mut self, start: usize, payloads: &mut Payloads, size: usize) -> Result<Entry, Error>
         requires { start < length self.old.bytes.items }
         ensures grows { IfOk result (λ entry. Grows self.old self.new) }
         ensures tag { IfOk result (λ entry. entry.type_code ≡ CONTAINER_TAG) }
