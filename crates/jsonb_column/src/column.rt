@@ -12,7 +12,7 @@ ghost use Rattle.jsonb_column.specs.Words.{IsDocumentWithin};
 use crate::place::Place;
 use crate::select::has_member;
 use crate::storage::{append_row, split_row};
-use jsonb::{Document, Encoder, Error, MAX_READS, Reads, is_document, nests_deeper, parse_value};
+use jsonb::{Document, Error, MAX_READS, OwnedJsonb, Reads, is_document, nests_deeper};
 use std::alloc::Global;
 use std::marker::Model;
 
@@ -65,6 +65,16 @@ impl Column {
         if !is_document(bytes) {
             return Err(Error::InvalidJsonb);
         }
+        self.append(bytes)
+    }
+
+    // Appends a document as a row.
+    fn append(&mut self, bytes: &[u8]) -> Result<(), Error>
+        requires { IsDocument bytes.now }
+        ensures pushed { OnOk result (self.new ≡ self.old ++ bytes.now ∷ []) }
+        ensures kept { OnErr result (self.new ≡ self.old) }
+        ensures memory { IfErr result (λ e. e ≡ Error.OutOfMemory) }
+    {
         self.places.reserve(1)?;
         let start = self.bytes.len();
         self.bytes.extend_from_slice(bytes)?;
@@ -84,13 +94,8 @@ impl Column {
         ensures kept { OnErr result (self.new ≡ self.old) }
         ensures refused { IfErr result (λ e. ParsesTo text.now (Err e)) }
     {
-        let value = parse_value(alloc, text)?;
-        self.places.reserve(1)?;
-        let start = self.bytes.len();
-        Encoder::new(&mut self.bytes).encode(&value)?;
-        let size = self.bytes.len() - start;
-        self.places.push_reserved(Place { start, size });
-        Ok(())
+        let document = OwnedJsonb::parse(alloc, text)?;
+        self.append(document.as_bytes())
     }
 
     /// The row at an index, counted from 0. `None` if the index is not below the number of rows.

@@ -2,7 +2,7 @@ use Rattle.std.proofs.Common.{rules, ◌∷◌, ◌++◌, [], length, ap, refl, 
 use Rattle.jsonb_codec.specs.Doc.{IsDocument}
 use Rattle.jsonb_column.specs.declared.place.Place.{Place}
 use Rattle.jsonb_column.proofs.RowsLaws.{pushed}
-use Rattle.jsonb_column.proofs.column.Column.push.Goals as goal
+use Rattle.jsonb_column.proofs.column.Column.append.Goals as goal
 
 pub invariant_of-self-2 : goal.invariant_of-self-2
 invariant_of-self-2 c =
