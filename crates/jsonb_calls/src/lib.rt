@@ -28,3 +28,5 @@ mod no_requests;
 mod queue;
 #[cfg(test)]
 mod readers;
+#[cfg(test)]
+mod texts;
