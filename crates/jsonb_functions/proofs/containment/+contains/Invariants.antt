@@ -1,0 +1,67 @@
+-- Each call goes to smaller values, and what is left of a walk decides as the whole does.
+use Rattle.std.proofs.Common.{◌≡◌, ◌+◌, ◌*◌, ◌≤◌, length}
+use Rattle.jsonb_value.specs.Value.{trees_of}
+use Rattle.jsonb_codec.specs.Depth.{size, sizes, pair_sizes}
+use Rattle.jsonb.specs.Document.{document_tree}
+use Rattle.jsonb.specs.EntryTrees.{rest_trees, rest_pairs}
+use Rattle.jsonb_value.specs.Tree.{Ascend}
+use Rattle.jsonb.specs.Node.{node_tree, pairs_of, object_of}
+use Rattle.jsonb_functions.specs.Contains.{contained, items_contained, some_tree, members_contained}
+use Rattle.jsonb_functions.specs.Contains.{items_in}
+use Rattle.jsonb_functions.proofs.containment.+contains.Given as goal
+
+abbrev pub decreases-contains_node : goal.decreases-contains_node
+decreases-contains_node l = 4 * (size (node_tree l.left) + size (node_tree l.right)) + 2
+
+abbrev pub decreases-contains_documents : goal.decreases-contains_documents
+decreases-contains_documents l =
+    4 * (size (document_tree l.left) + size (document_tree l.right)) + 1
+
+abbrev pub decreases-contains_items : goal.decreases-contains_items
+decreases-contains_items l =
+    4 * (size (document_tree l.array) + sizes (trees_of (rest_trees l.wanted))) + 3
+
+abbrev pub decreases-has_item : goal.decreases-has_item
+decreases-has_item l = 4 * (sizes (trees_of (rest_trees l.items)) + size (node_tree l.wanted)) + 3
+
+abbrev pub decreases-contains_members : goal.decreases-contains_members
+decreases-contains_members l =
+    4 * (pair_sizes (pairs_of (rest_pairs l.members)) + pair_sizes (pairs_of (rest_pairs l.wanted)))
+    + 3
+
+abbrev pub invariant-contains_items-loop-item : goal.invariant-contains_items-loop-item
+invariant-contains_items-loop-item l = record {
+  decides : items_contained (trees_of (rest_trees l.fn.wanted))
+      (items_in (document_tree l.fn.array))
+      ≡ items_contained (trees_of (rest_trees l.wanted)) (items_in (document_tree l.fn.array));
+  less : sizes (trees_of (rest_trees l.wanted)) ≤ sizes (trees_of (rest_trees l.fn.wanted));
+}
+
+abbrev pub decreases-contains_items-loop-item : goal.decreases-contains_items-loop-item
+decreases-contains_items-loop-item l = length (rest_trees l.wanted)
+
+abbrev pub invariant-has_item-loop-item : goal.invariant-has_item-loop-item
+invariant-has_item-loop-item l = record {
+  decides : some_tree (λ t. contained (node_tree l.fn.wanted) t) (trees_of (rest_trees l.fn.items))
+      ≡ some_tree (λ t. contained (node_tree l.fn.wanted) t) (trees_of (rest_trees l.items));
+  less : sizes (trees_of (rest_trees l.items)) ≤ sizes (trees_of (rest_trees l.fn.items));
+}
+
+abbrev pub decreases-has_item-loop-item : goal.decreases-has_item-loop-item
+decreases-has_item-loop-item l = length (rest_trees l.items)
+
+abbrev pub invariant-contains_members-loop-name : goal.invariant-contains_members-loop-name
+invariant-contains_members-loop-name l = record {
+  decides : members_contained (pairs_of (rest_pairs l.fn.wanted))
+      (object_of (rest_pairs l.fn.members))
+      ≡ members_contained (pairs_of (rest_pairs l.wanted)) (object_of (rest_pairs l.members));
+  members : Ascend (pairs_of (rest_pairs l.members));
+  wanted : Ascend (pairs_of (rest_pairs l.wanted));
+  less : pair_sizes (pairs_of (rest_pairs l.wanted))
+      ≤ pair_sizes (pairs_of (rest_pairs l.fn.wanted));
+  fewer : pair_sizes (pairs_of (rest_pairs l.members))
+      ≤ pair_sizes (pairs_of (rest_pairs l.fn.members));
+}
+
+abbrev pub decreases-contains_members-loop-name : goal.decreases-contains_members-loop-name
+decreases-contains_members-loop-name l = length (rest_pairs l.wanted)

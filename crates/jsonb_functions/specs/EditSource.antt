@@ -1,0 +1,112 @@
+-- What the parts of a document that is edited are written as: the shapes of the edited trees.
+use Rattle.std.specs.Prelude.{◌+◌, ℕ, suc, ⊤, length}
+use Rattle.std.proofs.Common.{ap, ◌∙◌}
+use Rattle.jsonb_value.specs.Tree.{count, pair_count}
+use Rattle.jsonb_codec.specs.Contents.{Means, AreChildren, AreMembers}
+use Rattle.jsonb_codec.specs.Parts.{IsObject}
+use Rattle.jsonb_codec.specs.Shape.{Shape, Shapes, key_payloads}
+use Rattle.jsonb_codec.specs.Source.{Meaning, Laws}
+use Rattle.jsonb_codec.specs.Canon.{shape_of, items_shapes, pairs_shapes, bare}
+use Rattle.jsonb_codec.specs.PartSource.{Shaped, one_shaped, PartIs}
+use Rattle.jsonb_codec.specs.PartSource as parts
+use Rattle.jsonb.specs.Document.{document_tree}
+use Rattle.jsonb.specs.EntryTrees.{part_tree}
+use Rattle.jsonb_functions.specs.declared.edit.Edit.{Edit}
+use Rattle.jsonb_functions.specs.declared.edit.Edit.TheVariants as edits
+use Rattle.jsonb_functions.specs.declared.edit.Change.{Change}
+use Rattle.jsonb_functions.specs.declared.edit.Change.TheVariants as changes
+use Rattle.jsonb_functions.specs.declared.edit.What.{What}
+use Rattle.jsonb_functions.specs.declared.edit.What.TheVariants as whats
+use Rattle.jsonb_functions.specs.declared.edit.Edited.{Edited}
+use Rattle.jsonb_functions.specs.declared.edit.Edited.TheVariants as children
+use Rattle.jsonb_functions.specs.declared.edit.EditedItems.{EditedItems}
+use Rattle.jsonb_functions.specs.declared.edit.EditedObject.{EditedObject}
+use Rattle.jsonb_functions.specs.declared.edit.EditedMembers.{EditedMembers}
+use Rattle.jsonb_functions.specs.Edited.{Operation, put, insert, remove, Here, nothing}
+use Rattle.jsonb_functions.specs.Edited.{replaced, before, removed, edited, done_after, pairs_done_after, IsWithin}
+
+-- What a change does, by its value's tree.
+abbrev pub operation_of : Change → Operation
+operation_of (changes.Put value) = put (part_tree value)
+operation_of (changes.Insert value) = insert (part_tree value)
+operation_of changes.Remove = remove
+
+-- What an edit does.
+abbrev pub edit_operation : Edit → Operation
+edit_operation (edits.Put value) = put (document_tree value)
+edit_operation (edits.Insert value) = insert (document_tree value)
+edit_operation edits.Remove = remove
+
+-- What is done at a place.
+abbrev pub here_of : What → Here
+here_of whats.Nothing = nothing
+here_of (whats.Put value) = replaced (λ t. part_tree value)
+here_of (whats.Insert value) = before (part_tree value)
+here_of whats.Remove = removed
+here_of (whats.Below plan) = replaced (λ t. edited plan.path.now (operation_of plan.change) t)
+
+-- The shape of a part, or of what it becomes along a path.
+abbrev pub EditedIs : Edited → Shape → Type 0
+EditedIs (children.Kept part) = PartIs part
+EditedIs (children.Along part plan) =
+    Shaped (λ t. Means part t) (λ t. shape_of (edited plan.path.now (operation_of plan.change) t))
+
+-- The shapes of items, after what is done among them.
+abbrev pub ItemsAre : EditedItems → Shapes → Type 0
+ItemsAre x =
+    Shaped (λ ts. AreChildren ts x.items × IsWithin (here_of x.what) x.before (count ts))
+    (λ ts. items_shapes (done_after (here_of x.what) x.before ts))
+
+abbrev pub ObjectIs : EditedObject → Shapes → Type 0
+ObjectIs x =
+    Shaped (λ ps. IsObject x.object.count x.object.body.now ps
+    × IsWithin (here_of x.what) x.before (pair_count ps))
+    (λ ps. pairs_shapes (pairs_done_after x.key.now (here_of x.what) x.before ps))
+
+abbrev pub MembersAre : EditedMembers → Shapes → Type 0
+MembersAre x =
+    Shaped (λ ps. AreMembers ps x.members × IsWithin (here_of x.what) x.before (pair_count ps))
+    (λ ps. pairs_shapes (pairs_done_after x.key.now (here_of x.what) x.before ps))
+
+-- How much the walk has still to go into what is put there.
+abbrev pub change_size : Change → ℕ
+change_size (changes.Put value) = length value.payload.now
+change_size (changes.Insert value) = length value.payload.now
+change_size changes.Remove = 0
+
+abbrev pub what_size : What → ℕ
+what_size whats.Nothing = 0
+what_size (whats.Put value) = suc (length value.payload.now)
+what_size (whats.Insert value) = suc (length value.payload.now)
+what_size whats.Remove = 0
+what_size (whats.Below plan) = suc (change_size plan.change)
+
+abbrev pub edited_size : Edited → ℕ
+edited_size (children.Kept part) = length part.payload.now
+edited_size (children.Along part plan) =
+    length part.payload.now + suc (change_size plan.change)
+
+abbrev pub edit_meaning : Meaning Edited EditedItems EditedObject EditedMembers
+edit_meaning = record {
+  child = EditedIs;
+  child_size = edited_size;
+  child_held = λ child. ⊤;
+  items = ItemsAre;
+  object = ObjectIs;
+  members = MembersAre;
+  items_size = λ x. parts.items_size x.items + what_size x.what;
+  object_size = λ x. length x.object.body.now + what_size x.what;
+  members_size = λ x. parts.items_size x.members.values + what_size x.what;
+  items_held = λ x. ⊤;
+  object_held = λ x. ⊤;
+  members_held = λ x. ⊤;
+}
+
+pub edit_laws : Laws edit_meaning
+edit_laws = record {
+  one_items = λ x. one_shaped _ _;
+  one_object = λ x. one_shaped _ _;
+  one_members = λ x. one_shaped _ _;
+  bare_items = λ x ss h. ap key_payloads (h.1 h.0.0 h.0.1)
+      ∙ bare (done_after (here_of x.what) x.before h.0.0);
+}

@@ -1,0 +1,138 @@
+-- What a tree becomes when it is edited at the end of a path.
+use Rattle.std.specs.Prelude.{◌≤◌, ◌<◌, ℕ, zero, suc, pred, List, [], ◌∷◌, Bool, true, false, ⊤}
+use Rattle.std.specs.Prelude.{Option, None, Some}
+use Rattle.std.specs.Ordering.{nat_cmp}
+use Rattle.std.specs.Cmp.Lexicographic.{slice_cmp}
+use Rattle.std.specs.declared.cmp.Ordering.{Ordering}
+use Rattle.std.specs.declared.cmp.Ordering.TheVariants.{Less, Equal, Greater}
+use Rattle.jsonb_value.specs.Tree.{Tree, array, object}
+use Rattle.jsonb_value.specs.Tree.{Trees, no_trees, tree, Pairs, no_pairs, pair, count}
+use Rattle.jsonb_functions.specs.declared.path.Step.{Step}
+use Rattle.jsonb_functions.specs.Path.{item_place, step_key}
+
+-- What is done at the end of a path: a value is put there, in place of what is there, if anything;
+-- or inserted, before an item, or as a member whose key is not there; or what is there is removed.
+pub data Operation : Type 0 where
+  put : Tree → Operation
+  insert : Tree → Operation
+  remove : Operation
+
+-- What is done at a place among children: nothing; the child there is replaced by a function of it;
+-- a value comes before it; or it is removed.
+pub data Here : Type 0 where
+  nothing : Here
+  replaced : (Tree → Tree) → Here
+  before : Tree → Here
+  removed : Here
+
+-- What is done where the path ends, at a child that is there or not. `items` says whether the child
+-- is an item, which an insertion moves on.
+abbrev pub here_last : Bool → Bool → Operation → Here
+here_last items true (put v) = replaced (λ t. v)
+here_last items false (put v) = before v
+here_last true true (insert v) = before v
+here_last false true (insert v) = nothing
+here_last items false (insert v) = before v
+here_last items true remove = removed
+here_last items false remove = nothing
+
+-- The same where steps may be left, which edit the child by a function of it.
+abbrev pub here_at : Bool → Bool → List Step → Operation → (Tree → Tree) → Here
+here_at items there [] operation below = here_last items there operation
+here_at items true (s ∷ path) operation below = replaced below
+here_at items false (s ∷ path) operation below = nothing
+
+-- Done to the first of these items.
+abbrev pub first_done : Here → Trees → Trees
+first_done nothing ts = ts
+first_done (before v) ts = tree v ts
+first_done (replaced f) (tree t ts) = tree (f t) ts
+first_done removed (tree t ts) = ts
+first_done (replaced f) no_trees = no_trees
+first_done removed no_trees = no_trees
+
+-- Done after n of these items.
+abbrev pub done_after : Here → ℕ → Trees → Trees
+done_after here zero ts = first_done here ts
+done_after here (suc n) (tree t ts) = tree t (done_after here n ts)
+done_after here (suc n) no_trees = no_trees
+
+-- Done to the first of these pairs, where a new one has the key.
+abbrev pub first_pair_done : List ℕ → Here → Pairs → Pairs
+first_pair_done key nothing ps = ps
+first_pair_done key (before v) ps = pair key v ps
+first_pair_done key (replaced f) (pair k t ps) = pair k (f t) ps
+first_pair_done key removed (pair k t ps) = ps
+first_pair_done key (replaced f) no_pairs = no_pairs
+first_pair_done key removed no_pairs = no_pairs
+
+-- Done after n of these pairs.
+abbrev pub pairs_done_after : List ℕ → Here → ℕ → Pairs → Pairs
+pairs_done_after key here zero ps = first_pair_done key here ps
+pairs_done_after key here (suc n) (pair k t ps) = pair k t (pairs_done_after key here n ps)
+pairs_done_after key here (suc n) no_pairs = no_pairs
+
+-- One more than a number if the order is Less, and else 0.
+abbrev pub if_less : Ordering → ℕ → ℕ
+if_less Less n = suc n
+if_less Equal n = 0
+if_less Greater n = 0
+
+-- How many of ascending pairs have lesser keys than this one.
+abbrev pub keys_before : List ℕ → Pairs → ℕ
+keys_before key no_pairs = 0
+keys_before key (pair k t ps) = if_less (slice_cmp nat_cmp k key) (keys_before key ps)
+
+-- Whether the order is Equal, or Less and then something holds.
+abbrev pub equal_or_later : Ordering → Bool → Bool
+equal_or_later Less later = later
+equal_or_later Equal later = true
+equal_or_later Greater later = false
+
+-- Whether a pair of ascending ones has this key.
+abbrev pub has_key : List ℕ → Pairs → Bool
+has_key key no_pairs = false
+has_key key (pair k t ps) = equal_or_later (slice_cmp nat_cmp k key) (has_key key ps)
+
+-- Items, with something done at a place among them, if there is one.
+abbrev pub items_done : Option (ℕ × Bool) → List Step → Operation → (Tree → Tree) → Trees → Trees
+items_done None path operation below ts = ts
+items_done (Some place) path operation below ts =
+    done_after (here_at true place.1 path operation below) place.0 ts
+
+-- Pairs, with something done at the place of a key, if there is one.
+abbrev pub pairs_done : Option (List ℕ) → List Step → Operation → (Tree → Tree) → Pairs → Pairs
+pairs_done None path operation below ps = ps
+pairs_done (Some key) path operation below ps =
+    pairs_done_after key (here_at false (has_key key ps) path operation below)
+    (keys_before key ps) ps
+
+-- The tree, edited at the end of a path that has a step at least. It is unchanged if the path leads
+-- nowhere.
+abbrev pub edited : List Step → Operation → Tree → Tree
+edited [] operation t = t
+edited (s ∷ path) operation (array ts) =
+    array (items_done (item_place s (count ts)) path operation (λ t. edited path operation t) ts)
+edited (s ∷ path) operation (object ps) =
+    object (pairs_done (step_key s) path operation (λ t. edited path operation t) ps)
+edited (s ∷ path) operation t = t
+
+-- The same with any path: at the end of a path of no step is the whole tree, which a value that is
+-- put there replaces.
+abbrev pub edited_whole : List Step → Operation → Tree → Tree
+edited_whole [] (put v) t = v
+edited_whole path operation t = edited path operation t
+
+-- The place is one of c children, or after them if a value is inserted.
+abbrev pub IsWithin : Here → ℕ → ℕ → Type 0
+IsWithin nothing n c = ⊤
+IsWithin (before v) n c = n ≤ c
+IsWithin (replaced f) n c = n < c
+IsWithin removed n c = n < c
+
+-- How many children there are then, of c before.
+abbrev pub count_done : Here → ℕ → ℕ
+count_done nothing c = c
+count_done (before v) c = suc c
+count_done (replaced f) c = c
+count_done removed c = pred c

@@ -1,0 +1,11 @@
+pub mod Contains
+pub mod Edited
+pub mod EditSource
+pub mod Found
+pub mod HashSink
+pub mod IndexHash
+pub mod IndexKeys
+pub mod Joined
+pub mod JoinSource
+pub mod Path
+pub mod Words

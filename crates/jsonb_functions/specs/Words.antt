@@ -1,0 +1,38 @@
+-- The names that the clauses of this crate cite, passed on from one place.
+pub use Rattle.std.specs.Cmp.Lexicographic.{slice_cmp}
+pub use Rattle.std.specs.Iterator.{YieldsFirstBy}
+pub use Rattle.std.specs.Ordering.{nat_cmp}
+pub use Rattle.jsonb_value.specs.Tree.{Ascend, Pairs, Tree, Trees, count, no_pairs, no_trees}
+pub use Rattle.jsonb_value.specs.Tree.{object, pair_count}
+pub use Rattle.jsonb_value.specs.Value.{trees_of}
+pub use Rattle.jsonb_value.specs.WellFormed.{IsTree}
+pub use Rattle.jsonb_codec.specs.Canon.{Fits, canon, shape_of}
+pub use Rattle.jsonb_codec.specs.Code.{code_of}
+pub use Rattle.jsonb_codec.specs.Contents.{AreMembers, Means}
+pub use Rattle.jsonb_codec.specs.Depth.{pair_sizes, size}
+pub use Rattle.jsonb_codec.specs.Doc.{Doc}
+pub use Rattle.jsonb_codec.specs.Made.{MadeIfFit}
+pub use Rattle.jsonb_codec.specs.PartSource.{items_size, part_meaning}
+pub use Rattle.jsonb_codec.specs.Parts.{IsObject}
+pub use Rattle.jsonb_codec.specs.Shape.{Shape}
+pub use Rattle.jsonb_codec.specs.Source.{LevelIs, level_size}
+pub use Rattle.jsonb.specs.Document.{document_tree}
+pub use Rattle.jsonb.specs.EntryTrees.{rest_pairs, rest_trees}
+pub use Rattle.jsonb.specs.Node.{HoldsNoScalar, IsContainer, member_tree, node_tree, object_of}
+pub use Rattle.jsonb.specs.Node.{pairs_of, value_of_key}
+pub use Rattle.jsonb.specs.Owned.{owned_bytes}
+pub use Rattle.jsonb_functions.specs.Contains.{contained, contains_whole, has_top_key}
+pub use Rattle.jsonb_functions.specs.Contains.{items_contained, items_in, members_contained}
+pub use Rattle.jsonb_functions.specs.Contains.{some_tree}
+pub use Rattle.jsonb_functions.specs.EditSource.{change_size, edit_operation, here_of, operation_of}
+pub use Rattle.jsonb_functions.specs.EditSource.{what_size}
+pub use Rattle.jsonb_functions.specs.Edited.{count_done, edited, edited_whole, has_key, here_at}
+pub use Rattle.jsonb_functions.specs.Edited.{keys_before}
+pub use Rattle.jsonb_functions.specs.Found.{child_at, found_at}
+pub use Rattle.jsonb_functions.specs.IndexHash.{AppendsSome, AreAmong, hash_64, items_hashes}
+pub use Rattle.jsonb_functions.specs.IndexHash.{members_hashes, tree_hashes}
+pub use Rattle.jsonb_functions.specs.JoinSource.{FirstMerged, FirstOfRun, IsNoObject, MaybeMembers}
+pub use Rattle.jsonb_functions.specs.JoinSource.{MaybeObject, RunIs, keys_size, maybe_keys_size}
+pub use Rattle.jsonb_functions.specs.JoinSource.{maybe_members_size, maybe_object_size, run_size}
+pub use Rattle.jsonb_functions.specs.Joined.{items_or_one, joined, merged}
+pub use Rattle.jsonb_functions.specs.Path.{item_place, position_view}

@@ -1,0 +1,19 @@
+//! Functions over documents: what is in them, edited and joined copies, and keys for an index. They
+//! work on documents that were checked, and none of them builds a value.
+#![tactic(auto)]
+
+mod containment;
+mod edit;
+mod found;
+mod index;
+mod join;
+mod laws;
+mod path;
+
+pub use containment::{contains, exists};
+pub use edit::{Edit, edit_document};
+pub use found::get_path;
+pub use index::append_index_keys;
+pub use join::concat;
+pub use laws::index_key_laws;
+pub use path::Step;
