@@ -19,6 +19,8 @@ mod errors;
 #[cfg(test)]
 mod faults;
 #[cfg(test)]
+mod functions;
+#[cfg(test)]
 mod items;
 #[cfg(test)]
 mod lookup;

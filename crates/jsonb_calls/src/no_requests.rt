@@ -1,11 +1,12 @@
 // Calls that allocate nothing: tools/refuse_each.py checks that these tests make no allocation.
 use crate::comparable::{BYTES_KEY, KEY, NESTED};
 use jsonb::{
-    ArrayIterator, Document, Encoder, Error, ExtensionItem, JsonbItem, JsonbItemType, Number,
+    ArrayIterator, Document, Encoder, Error, ExtensionItem, JsonbItem, JsonbItemType, Node, Number,
     NumberItem, ObjectIterator, ObjectKeyIterator, ObjectValueIterator, RawJsonb, Reads, Value,
     is_canonical, is_document, is_document_within, nests_deeper, read_header, read_jentry,
 };
 use jsonb_comparable::{key_len, key_len_of, key_len_within};
+use jsonb_functions::{Step, contains, exists, get_path};
 use std::borrow::CowStr;
 use std::cmp::Ordering;
 
@@ -138,4 +139,14 @@ fn keys_are_measured(rt: HostRuntime) {
         return assert!(rt; false);
     };
     assert!(rt; key_len(document) == KEY.len());
+}
+
+#[test]
+fn documents_are_asked(rt: HostRuntime) {
+    let Some(document) = Document::new(OBJECT) else {
+        return assert!(rt; false);
+    };
+    assert!(rt; contains(document, document) && exists(document, "b"));
+    let path = [Step::Key("a")];
+    assert!(rt; get_path(document, &path) == Some(Node::Number(Number::UInt64(1))));
 }

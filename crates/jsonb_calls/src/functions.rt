@@ -1,0 +1,194 @@
+// The functions over documents, on examples of PostgreSQL's documentation of `jsonb`.
+use jsonb::{Document, Error, Node, Number, OwnedJsonb};
+use jsonb_functions::{
+    Edit, Step, append_index_keys, concat, contains, edit_document, exists, get_path,
+};
+use std::alloc::Global;
+use std::test::Fail;
+
+// The document of bytes that are one.
+fn document_of<'a>(owned: &'a OwnedJsonb) -> Result<Document<'a>, Error> {
+    Document::new(owned.as_bytes()).ok_or(Error::InvalidJsonb)
+}
+
+// Two texts, and whether the first one's value contains the second one's.
+const CONTAINED: &[(&str, &str, bool)] = &[
+    ("\"foo\"", "\"foo\"", true),
+    ("[1,2,3]", "[3,1]", true),
+    ("[1,2,3]", "[1,2,2]", true),
+    (
+        "{\"product\":\"PostgreSQL\",\"version\":9.4,\"jsonb\":true}",
+        "{\"version\":9.4}",
+        true,
+    ),
+    ("[1,2,[1,3]]", "[1,3]", false),
+    ("[1,2,[1,3]]", "[[1,3]]", true),
+    ("{\"foo\":{\"bar\":\"baz\"}}", "{\"bar\":\"baz\"}", false),
+    ("{\"foo\":{\"bar\":\"baz\"}}", "{\"foo\":{}}", true),
+    ("[\"foo\",\"bar\"]", "\"bar\"", true),
+    ("\"bar\"", "[\"bar\"]", false),
+];
+
+// Whether the value of one text contains that of another.
+fn is_contained(alloc: Global, left: &str, right: &str) -> Result<bool, Error> {
+    let left = OwnedJsonb::parse(alloc, left)?;
+    let right = OwnedJsonb::parse(alloc, right)?;
+    Ok(contains(document_of(&left)?, document_of(&right)?))
+}
+
+#[test]
+fn documents_that_contain_others(rt: HostRuntime) -> Result<(), Fail> {
+    for &(left, right, is_in) in CONTAINED {
+        assert!(rt;
+            is_contained(rt.alloc(), left, right)? == is_in,
+            "{left} and {right}"
+        );
+    }
+    Ok(())
+}
+
+// A text and a key, and whether the key is there.
+const KEYS: &[(&str, &str, bool)] = &[
+    ("[\"foo\",\"bar\",\"baz\"]", "bar", true),
+    ("{\"foo\":\"bar\"}", "foo", true),
+    ("{\"foo\":\"bar\"}", "bar", false),
+    ("{\"foo\":{\"bar\":\"baz\"}}", "bar", false),
+    ("\"foo\"", "foo", true),
+];
+
+// Whether a key is in the value of a text.
+fn is_there(alloc: Global, text: &str, key: &str) -> Result<bool, Error> {
+    let owned = OwnedJsonb::parse(alloc, text)?;
+    Ok(exists(document_of(&owned)?, key))
+}
+
+#[test]
+fn keys_that_are_there(rt: HostRuntime) -> Result<(), Fail> {
+    for &(text, key, is_key) in KEYS {
+        assert!(rt;
+            is_there(rt.alloc(), text, key)? == is_key,
+            "{key} in {text}"
+        );
+    }
+    Ok(())
+}
+
+// The object {"a":[1,[5]]}, and paths to the number 5 and to nothing.
+const NESTED: &[u8] = b"\x40\0\0\x01\x10\0\0\x01\x50\0\0\x18a\x80\0\0\x02\x20\0\0\x02\x50\0\0\x0a\
+    \x50\x01\x80\0\0\x01\x20\0\0\x02\x50\x05";
+
+const TO_FIVE: &[Step<'static>] = &[Step::Key("a"), Step::FromEnd(0), Step::Index(0)];
+
+const BEYOND: &[Step<'static>] = &[Step::Key("a"), Step::Index(2)];
+
+#[test]
+fn values_at_the_end_of_a_path(rt: HostRuntime) {
+    let Some(document) = Document::new(NESTED) else {
+        return assert!(rt; false);
+    };
+    assert!(rt; get_path(document, TO_FIVE) == Some(Node::Number(Number::UInt64(5))));
+    assert!(rt; get_path(document, BEYOND) == None);
+}
+
+// Whether a document is the canonical one of a text.
+fn is_made_of(alloc: Global, made: OwnedJsonb, text: &str) -> Result<bool, Error> {
+    let owned = OwnedJsonb::parse(alloc, text)?;
+    Ok(made.as_bytes() == owned.as_bytes())
+}
+
+// A text that is edited at the end of a path, with another text's value.
+fn edited(
+    alloc: Global,
+    text: &str,
+    path: &[Step],
+    value: &str,
+    is_put: bool,
+) -> Result<OwnedJsonb, Error> {
+    let owned = OwnedJsonb::parse(alloc, text)?;
+    let value = OwnedJsonb::parse(alloc, value)?;
+    let document = document_of(&value)?;
+    let edit = if is_put {
+        Edit::Put(document)
+    } else {
+        Edit::Insert(document)
+    };
+    edit_document(alloc, document_of(&owned)?, path, edit)
+}
+
+#[test]
+fn a_value_put_at_the_end_of_a_path(rt: HostRuntime) -> Result<(), Fail> {
+    let text = "[{\"f1\":1,\"f2\":null},2,null,3]";
+    let path = [Step::Index(0), Step::Key("f1")];
+    let made = edited(rt.alloc(), text, &path, "[2,3,4]", true)?;
+    let expected = "[{\"f1\":[2,3,4],\"f2\":null},2,null,3]";
+    assert!(rt; is_made_of(rt.alloc(), made, expected)?);
+    Ok(())
+}
+
+#[test]
+fn a_value_inserted_before_an_item(rt: HostRuntime) -> Result<(), Fail> {
+    let path = [Step::Key("a"), Step::Index(1)];
+    let made = edited(rt.alloc(), "{\"a\":[0,1,2]}", &path, "\"new_value\"", false)?;
+    assert!(rt; is_made_of(rt.alloc(), made, "{\"a\":[0,\"new_value\",1,2]}")?);
+    Ok(())
+}
+
+// A text's value without what is at the end of a path.
+fn without(alloc: Global, text: &str, path: &[Step]) -> Result<OwnedJsonb, Error> {
+    let owned = OwnedJsonb::parse(alloc, text)?;
+    edit_document(alloc, document_of(&owned)?, path, Edit::Remove)
+}
+
+#[test]
+fn a_member_removed(rt: HostRuntime) -> Result<(), Fail> {
+    let path = [Step::Index(1), Step::Key("b")];
+    let made = without(rt.alloc(), "[\"a\",{\"b\":1}]", &path)?;
+    assert!(rt; is_made_of(rt.alloc(), made, "[\"a\",{}]")?);
+    Ok(())
+}
+
+// Two texts, and one of their values joined.
+const JOINED: &[(&str, &str, &str)] = &[
+    (
+        "[\"a\",\"b\"]",
+        "[\"a\",\"d\"]",
+        "[\"a\",\"b\",\"a\",\"d\"]",
+    ),
+    (
+        "{\"a\":\"b\"}",
+        "{\"c\":\"d\"}",
+        "{\"a\":\"b\",\"c\":\"d\"}",
+    ),
+    ("{\"a\":1,\"b\":2}", "{\"a\":3}", "{\"a\":3,\"b\":2}"),
+    ("[1,2]", "3", "[1,2,3]"),
+    ("{\"a\":\"b\"}", "42", "[{\"a\":\"b\"},42]"),
+];
+
+// The values of two texts joined.
+fn joined(alloc: Global, left: &str, right: &str) -> Result<OwnedJsonb, Error> {
+    let left = OwnedJsonb::parse(alloc, left)?;
+    let right = OwnedJsonb::parse(alloc, right)?;
+    concat(alloc, document_of(&left)?, document_of(&right)?)
+}
+
+#[test]
+fn documents_joined(rt: HostRuntime) -> Result<(), Fail> {
+    for &(left, right, text) in JOINED {
+        let made = joined(rt.alloc(), left, right)?;
+        assert!(rt; is_made_of(rt.alloc(), made, text)?, "{left} and {right}");
+    }
+    Ok(())
+}
+
+// The index keys of {"a":[1,"x"]}: the hashes of the bytes 61 01 00 82 02 and 61 01 00 a0 78 01,
+// which were computed by another program.
+const INDEX_KEYS: &[u64] = &[0x0C38_4C06_A693_BD15, 0x5C9D_514D_A160_A35C];
+
+#[test]
+fn index_keys(rt: HostRuntime) -> Result<(), Fail> {
+    let owned = OwnedJsonb::parse(rt.alloc(), "{\"a\":[1,\"x\"]}")?;
+    let mut keys = Vec::new(rt.alloc());
+    append_index_keys(document_of(&owned)?, &mut keys)?;
+    assert!(rt; keys.as_slice() == INDEX_KEYS);
+    Ok(())
+}
