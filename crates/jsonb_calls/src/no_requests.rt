@@ -6,7 +6,7 @@ use jsonb::{
     is_canonical, is_document, is_document_within, nests_deeper, read_header, read_jentry,
 };
 use jsonb_comparable::{key_len, key_len_of, key_len_within};
-use jsonb_functions::{Step, contains, exists, get_path};
+use jsonb_functions::{Step, contains, contains_within, exists, get_path};
 use std::borrow::CowStr;
 use std::cmp::Ordering;
 
@@ -147,6 +147,8 @@ fn documents_are_asked(rt: HostRuntime) {
         return assert!(rt; false);
     };
     assert!(rt; contains(document, document) && exists(document, "b"));
+    assert!(rt; contains_within(document, document, 25) == Some(true));
+    assert!(rt; contains_within(document, document, 0) == None);
     let path = [Step::Key("a")];
     assert!(rt; get_path(document, &path) == Some(Node::Number(Number::UInt64(1))));
 }

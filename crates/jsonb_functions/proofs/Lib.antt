@@ -1,3 +1,4 @@
+pub mod StepLaws
 pub mod WalkLaws
 pub mod EditLaws
 pub mod IndexLaws

@@ -8,4 +8,5 @@ pub mod IndexKeys
 pub mod Joined
 pub mod JoinSource
 pub mod Path
+pub mod Steps
 pub mod Words

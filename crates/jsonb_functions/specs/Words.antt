@@ -3,13 +3,13 @@ pub use Rattle.std.specs.Cmp.Lexicographic.{slice_cmp}
 pub use Rattle.std.specs.Iterator.{YieldsFirstBy}
 pub use Rattle.std.specs.Ordering.{nat_cmp}
 pub use Rattle.jsonb_value.specs.Tree.{Ascend, Pairs, Tree, Trees, count, no_pairs, no_trees}
-pub use Rattle.jsonb_value.specs.Tree.{object, pair_count}
+pub use Rattle.jsonb_value.specs.Tree.{object, pair_count, text}
 pub use Rattle.jsonb_value.specs.Value.{trees_of}
 pub use Rattle.jsonb_value.specs.WellFormed.{IsTree}
 pub use Rattle.jsonb_codec.specs.Canon.{Fits, canon, shape_of}
 pub use Rattle.jsonb_codec.specs.Code.{code_of}
 pub use Rattle.jsonb_codec.specs.Contents.{AreMembers, Means}
-pub use Rattle.jsonb_codec.specs.Depth.{pair_sizes, size}
+pub use Rattle.jsonb_codec.specs.Depth.{pair_sizes, size, sizes}
 pub use Rattle.jsonb_codec.specs.Doc.{Doc}
 pub use Rattle.jsonb_codec.specs.Made.{MadeIfFit}
 pub use Rattle.jsonb_codec.specs.PartSource.{items_size, part_meaning}
@@ -36,3 +36,4 @@ pub use Rattle.jsonb_functions.specs.JoinSource.{MaybeObject, RunIs, keys_size, 
 pub use Rattle.jsonb_functions.specs.JoinSource.{maybe_members_size, maybe_object_size, run_size}
 pub use Rattle.jsonb_functions.specs.Joined.{items_or_one, joined, merged}
 pub use Rattle.jsonb_functions.specs.Path.{item_place, position_view}
+pub use Rattle.jsonb_functions.specs.Steps.{FoundIn}

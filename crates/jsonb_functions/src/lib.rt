@@ -10,7 +10,7 @@ mod join;
 mod laws;
 mod path;
 
-pub use containment::{contains, exists};
+pub use containment::{contains, contains_within, exists};
 pub use edit::{Edit, edit_document};
 pub use found::get_path;
 pub use index::append_index_keys;

@@ -1,12 +1,18 @@
-use Rattle.std.proofs.Common.{arith, ap, sym, ◌∙◌, refl}
-use Rattle.jsonb_codec.specs.Depth.{size}
+use Rattle.std.proofs.Common.{arith, ap, sym, ◌∙◌, refl, rules, ◌+◌, ◌*◌}
+use Rattle.jsonb_codec.specs.Depth.{size, pair_sizes}
 use Rattle.jsonb.specs.Document.{document_tree}
 use Rattle.jsonb.specs.EntryTrees.{rest_trees, rest_pairs}
 use Rattle.jsonb.specs.Node.{node_tree, pairs_of, object_of}
+use Rattle.jsonb_functions.specs.Contains.{contained}
 use Rattle.jsonb_functions.proofs.WalkLaws.{array_items, object_members, arrays_contained}
-use Rattle.jsonb_functions.proofs.WalkLaws.{objects_contained, items_sizes, members_sizes}
-use Rattle.jsonb_functions.proofs.WalkLaws.{first_item}
+use Rattle.jsonb_functions.proofs.WalkLaws.{members_within, items_sizes, members_sizes}
+use Rattle.jsonb_functions.proofs.WalkLaws.{first_item, items_within, array_size, some_first}
+use Rattle.jsonb_functions.proofs.WalkLaws.{some_later, some_none, all_none, no_item}
+use Rattle.jsonb_functions.proofs.WalkLaws.{member_lacking, member_differs, members_none}
 use Rattle.jsonb_functions.proofs.KeyOrder.{document_ascends, first_member, ascend_on}
+use Rattle.jsonb_functions.proofs.StepLaws.{found_after, gave_up, one_step, product_more, product_parts}
+use Rattle.jsonb_functions.proofs.StepLaws.{rows_on, rows_end, columns_on, columns_end}
+use Rattle.jsonb_functions.proofs.StepLaws.{members_on, members_end, members_counted}
 use Rattle.jsonb_functions.proofs.containment.+contains.Goals as goal
 
 pub contains_documents-contains_items-requires : goal.contains_documents-contains_items-requires
@@ -15,13 +21,31 @@ contains_documents-contains_items-requires t c =
     c.in-Some-Some.ensures' in
     (omega (arith, ap size whole), tt)
 
+pub contains_documents-returns-in_err-take : goal.contains_documents-returns-in_err-take
+contains_documents-returns-in_err-take t c =
+    let most = one_step (document_tree c.args.left) (document_tree c.args.right) in
+    gave_up _ _ (size (document_tree c.args.left) * size (document_tree c.args.right))
+    c.args.steps.now _ (search rules) (omega (arith, c.in_err-take.ensures, most))
+
 pub contains_documents-returns-in-Some-Some : goal.contains_documents-returns-in-Some-Some
 contains_documents-returns-in-Some-Some t c =
     let left = array_items (document_tree c.args.left) (rest_trees c.in-Some-Some.field-0-0)
     c.in-Some-Some.ensures in
     let right = array_items (document_tree c.args.right) (rest_trees c.in-Some-Some.wanted)
     c.in-Some-Some.ensures' in
-    c.contains_items.ensures ∙ sym (arrays_contained _ _ _ _ left right)
+    found_after _ _ _ 1 _ _ _ _ _ (sym (arrays_contained _ _ _ _ left right)) c.in_ok-take.ensures
+    (product_more _ _ _ _ (array_size _ _ left) (ap size right))
+    c.contains_items.ensures
+
+pub contains_documents-returns-in_default-2 : goal.contains_documents-returns-in_default-2
+contains_documents-returns-in_default-2 t c = (
+  search rules,
+  omega (
+    arith,
+    c.in_ok-take.ensures,
+    one_step (document_tree c.args.left) (document_tree c.args.right),
+  ),
+)
 
 pub contains_items-has_item-requires : goal.contains_items-has_item-requires
 contains_items-has_item-requires t c =
@@ -37,14 +61,39 @@ contains_items-has_item-requires t c =
       tt,
     )
 
-pub contains_items-returns-then-not-has_item : goal.contains_items-returns-then-not-has_item
-contains_items-returns-then-not-has_item t c =
+pub contains_items-returns-in_err-is_there : goal.contains_items-returns-in_err-is_there
+contains_items-returns-in_err-is_there t c =
+    let whole = array_items (document_tree c.args.array) (rest_trees c.in-Some-items.items)
+    c.in-Some-items.ensures in
+    gave_up _ _ _ _ _ (search rules)
+    (rows_end _ _ (size (node_tree c.in-Some.item)) _ _ _ _ _ (items_within _ _ whole)
+    (items_sizes _ _ _ c.in-Some.ensures) c.loop-item.invariant.spent c.in_err-is_there.ensures)
+
+pub contains_items-returns-then-not-is_there : goal.contains_items-returns-then-not-is_there
+contains_items-returns-then-not-is_there t c =
     let whole = array_items (document_tree c.args.array) (rest_trees c.in-Some-items.items)
     c.in-Some-items.ensures in
     let step = first_item (rest_trees c.loop-item.wanted) (rest_trees c.next_item.new.items)
     (node_tree c.in-Some.item) (document_tree c.args.array) (rest_trees c.in-Some-items.items)
     c.in-Some.ensures whole in
-    rw (c.loop-item.invariant.decides, step, ← c.has_item.ensures, c.if-not-has_item.true) refl
+    let found = c.in_ok-is_there.ensures in
+    let on = rows_on _ _ (size (node_tree c.in-Some.item)) _ _ _ _ _ _ (items_within _ _ whole)
+    (items_sizes _ _ _ c.in-Some.ensures) c.loop-item.invariant.spent found.1 in (
+      rw (c.loop-item.invariant.decides, step, ← found.0, c.if-not-is_there.true) refl,
+      omega (arith, on),
+    )
+
+pub contains_items-returns-in_default-items : goal.contains_items-returns-in_default-items
+contains_items-returns-in_default-items t c = (
+  no_item _ _ _ _ _ c.in_default-items.ensures c.in-Some.ensures c.loop-item.invariant.decides,
+  omega (arith, c.loop-item.invariant.spent),
+)
+
+pub contains_items-returns : goal.contains_items-returns
+contains_items-returns t c = (
+  all_none _ _ _ c.loop-item.invariant.decides c.in_default.ensures.0,
+  omega (arith, c.loop-item.invariant.spent),
+)
 
 pub contains_items-loop-item-preserved : goal.contains_items-loop-item-preserved
 contains_items-loop-item-preserved t c =
@@ -53,13 +102,54 @@ contains_items-loop-item-preserved t c =
     let step = first_item (rest_trees c.loop-item.wanted) (rest_trees c.next_item.new.items)
     (node_tree c.in-Some.item) (document_tree c.args.array) (rest_trees c.in-Some-items.items)
     c.in-Some.ensures whole in
+    let found = c.in_ok-is_there.ensures in
     record {
-      decides =
-          rw (c.loop-item.invariant.decides, step, ← c.has_item.ensures, c.if-not-has_item.false)
-          refl;
+      decides = rw (c.loop-item.invariant.decides, step, ← found.0, c.if-not-is_there.false) refl;
+      spent = rows_on _ _ (size (node_tree c.in-Some.item)) _ _ _ _ _ _ (items_within _ _ whole)
+          (items_sizes _ _ _ c.in-Some.ensures) c.loop-item.invariant.spent found.1;
       less = omega (
         arith,
         items_sizes (rest_trees c.loop-item.wanted) (node_tree c.in-Some.item)
+            (rest_trees c.next_item.new.items) c.in-Some.ensures,
+        c.loop-item.invariant.less,
+      );
+    }
+
+pub has_item-returns-in_err-is_contained : goal.has_item-returns-in_err-is_contained
+has_item-returns-in_err-is_contained t c =
+    gave_up _ _ _ _ _ (search rules)
+    (columns_end (size (node_tree c.args.wanted)) (size (node_tree c.in-Some.item)) _ _ _ _ _
+    (items_sizes _ _ _ c.in-Some.ensures) c.loop-item.invariant.spent
+    c.in_err-is_contained.ensures)
+
+pub has_item-returns-then-is_contained : goal.has_item-returns-then-is_contained
+has_item-returns-then-is_contained t c =
+    let found = c.in_ok-is_contained.ensures in
+    let on = columns_on (size (node_tree c.args.wanted)) (size (node_tree c.in-Some.item)) _ _ _ _ _
+    _ (items_sizes _ _ _ c.in-Some.ensures) c.loop-item.invariant.spent found.1 in (
+      some_first (λ x. contained (node_tree c.args.wanted) x) _ _ _ _ _
+          c.loop-item.invariant.decides c.in-Some.ensures found.0 c.if-is_contained.true,
+      omega (arith, on),
+    )
+
+pub has_item-returns : goal.has_item-returns
+has_item-returns t c = (
+  some_none (λ x. contained (node_tree c.args.wanted) x) _ _ c.loop-item.invariant.decides
+      c.in_default.ensures.0,
+  omega (arith, c.loop-item.invariant.spent),
+)
+
+pub has_item-loop-item-preserved : goal.has_item-loop-item-preserved
+has_item-loop-item-preserved t c =
+    let found = c.in_ok-is_contained.ensures in
+    record {
+      decides = some_later (λ x. contained (node_tree c.args.wanted) x) _ _ _ _ _
+          c.loop-item.invariant.decides c.in-Some.ensures found.0 c.if-is_contained.false;
+      spent = columns_on (size (node_tree c.args.wanted)) (size (node_tree c.in-Some.item)) _ _ _ _
+          _ _ (items_sizes _ _ _ c.in-Some.ensures) c.loop-item.invariant.spent found.1;
+      less = omega (
+        arith,
+        items_sizes (rest_trees c.loop-item.items) (node_tree c.in-Some.item)
             (rest_trees c.next_item.new.items) c.in-Some.ensures,
         c.loop-item.invariant.less,
       );
@@ -85,10 +175,72 @@ contains_documents-returns-in-Some-Some-2 t c =
     (rest_pairs c.in-Some-Some-2.members) c.in-Some-Some-2.ensures in
     let right = object_members (document_tree c.args.right)
     (rest_pairs c.in-Some-Some-2.wanted) c.in-Some-Some-2.ensures' in
-    rw (
-      objects_contained (document_tree c.args.left) (document_tree c.args.right) _ _ left right,
-      left,
-    ) c.contains_members.ensures
+    found_after _ _ _ 1 _ _ _ _ _ (members_within _ _ _ _ left right) c.in_ok-take.ensures
+    (product_parts _ _ _ _ (ap size left) (ap size right)) c.contains_members.ensures
+
+pub contains_members-returns-in_err-take : goal.contains_members-returns-in_err-take
+contains_members-returns-in_err-take t c =
+    gave_up _ _ (pair_sizes (pairs_of (rest_pairs c.args.members))
+    + pair_sizes (pairs_of (rest_pairs c.args.members))
+    * pair_sizes (pairs_of (rest_pairs c.args.wanted))) c.args.steps.now _ (search rules)
+    (omega (
+      arith,
+      c.in_err-take.ensures,
+      c.len.ensures,
+      members_counted (rest_pairs c.args.members),
+    ))
+
+pub contains_members-loop-name-init : goal.contains_members-loop-name-init
+contains_members-loop-name-init t c = record {
+  decides = refl;
+  spent = omega (
+    arith,
+    c.in_ok-take.ensures,
+    c.len.ensures,
+    members_counted (rest_pairs c.args.members),
+  );
+  members = c.requires.members;
+  wanted = c.requires.wanted;
+  less = omega arith;
+  fewer = omega arith;
+}
+
+pub contains_members-returns-in_default-value_at : goal.contains_members-returns-in_default-value_at
+contains_members-returns-in_default-value_at t c = (
+  member_lacking _ _ _ _ _ _ c.loop-name.invariant.decides c.in-Some.ensures
+      c.in_default-value_at.ensures.value,
+  omega (arith, c.loop-name.invariant.spent),
+)
+
+pub contains_members-returns-in_err-is_contained : goal.contains_members-returns-in_err-is_contained
+contains_members-returns-in_err-is_contained t c =
+    let found = c.in-Some-value_at in
+    gave_up _ _ _ _ _ (search rules)
+    (members_end _ (size (node_tree found.found)) (size (node_tree c.in-Some.value)) _ _ _ _ _
+    (members_sizes _ _ _ _ c.in-Some.ensures)
+    (omega (arith, found.ensures.size, c.loop-name.invariant.fewer))
+    c.loop-name.invariant.spent c.in_err-is_contained.ensures)
+
+pub contains_members-returns-then-not-is_contained :
+    goal.contains_members-returns-then-not-is_contained
+contains_members-returns-then-not-is_contained t c =
+    let found = c.in-Some-value_at in
+    let counted = c.in_ok-is_contained.ensures in
+    let on = members_on (pair_sizes (pairs_of (rest_pairs c.args.members)))
+    (size (node_tree found.found)) (size (node_tree c.in-Some.value)) _ _ _ _ _ _
+    (members_sizes _ _ _ _ c.in-Some.ensures)
+    (omega (arith, found.ensures.size, c.loop-name.invariant.fewer))
+    c.loop-name.invariant.spent counted.1 in (
+      member_differs _ _ _ _ _ _ _ _ c.loop-name.invariant.decides c.in-Some.ensures
+          found.ensures.value counted.0 c.if-not-is_contained.true,
+      omega (arith, on),
+    )
+
+pub contains_members-returns : goal.contains_members-returns
+contains_members-returns t c = (
+  members_none _ _ _ c.loop-name.invariant.decides c.in_default.ensures.0,
+  omega (arith, c.loop-name.invariant.spent),
+)
 
 pub contains_members-loop-name-preserved : goal.contains_members-loop-name-preserved
 contains_members-loop-name-preserved t c =
@@ -97,13 +249,19 @@ contains_members-loop-name-preserved t c =
     let name = c.in-Some.name.now in
     let first = node_tree c.in-Some.value in
     let found = c.in-Some-value_at in
+    let counted = c.in_ok-is_contained.ensures in
     record {
       decides = c.loop-name.invariant.decides
           ∙ first_member wanted others name first (object_of (rest_pairs c.loop-name.members))
           (object_of (rest_pairs c.value_at.new.members)) (node_tree found.found)
-          c.in-Some.ensures found.ensures.value (sym c.if-not-contains_node.ensures)
-          c.loop-name.invariant.wanted
+          c.in-Some.ensures found.ensures.value
+          (sym (counted.0) ∙ c.if-not-is_contained.false) c.loop-name.invariant.wanted
           found.ensures.later;
+      spent = members_on (pair_sizes (pairs_of (rest_pairs c.args.members)))
+          (size (node_tree found.found)) (size first) _ _ _ _ _ _
+          (members_sizes wanted name first others c.in-Some.ensures)
+          (omega (arith, found.ensures.size, c.loop-name.invariant.fewer))
+          c.loop-name.invariant.spent counted.1;
       members = found.ensures.ascend;
       wanted = ascend_on wanted others name first c.in-Some.ensures c.loop-name.invariant.wanted;
       less = omega (

@@ -34,6 +34,10 @@ invariant-contains_items-loop-item l = record {
   decides : items_contained (trees_of (rest_trees l.fn.wanted))
       (items_in (document_tree l.fn.array))
       ≡ items_contained (trees_of (rest_trees l.wanted)) (items_in (document_tree l.fn.array));
+  spent : l.fn.steps
+      + sizes (items_in (document_tree l.fn.array)) * sizes (trees_of (rest_trees l.wanted))
+      ≤ l.steps
+      + sizes (items_in (document_tree l.fn.array)) * sizes (trees_of (rest_trees l.fn.wanted));
   less : sizes (trees_of (rest_trees l.wanted)) ≤ sizes (trees_of (rest_trees l.fn.wanted));
 }
 
@@ -44,6 +48,8 @@ abbrev pub invariant-has_item-loop-item : goal.invariant-has_item-loop-item
 invariant-has_item-loop-item l = record {
   decides : some_tree (λ t. contained (node_tree l.fn.wanted) t) (trees_of (rest_trees l.fn.items))
       ≡ some_tree (λ t. contained (node_tree l.fn.wanted) t) (trees_of (rest_trees l.items));
+  spent : l.fn.steps + sizes (trees_of (rest_trees l.items)) * size (node_tree l.fn.wanted)
+      ≤ l.steps + sizes (trees_of (rest_trees l.fn.items)) * size (node_tree l.fn.wanted);
   less : sizes (trees_of (rest_trees l.items)) ≤ sizes (trees_of (rest_trees l.fn.items));
 }
 
@@ -55,6 +61,11 @@ invariant-contains_members-loop-name l = record {
   decides : members_contained (pairs_of (rest_pairs l.fn.wanted))
       (object_of (rest_pairs l.fn.members))
       ≡ members_contained (pairs_of (rest_pairs l.wanted)) (object_of (rest_pairs l.members));
+  spent : l.fn.steps
+      + pair_sizes (pairs_of (rest_pairs l.fn.members)) * pair_sizes (pairs_of (rest_pairs l.wanted))
+      ≤ l.steps + (pair_sizes (pairs_of (rest_pairs l.fn.members))
+      + pair_sizes (pairs_of (rest_pairs l.fn.members))
+      * pair_sizes (pairs_of (rest_pairs l.fn.wanted)));
   members : Ascend (pairs_of (rest_pairs l.members));
   wanted : Ascend (pairs_of (rest_pairs l.wanted));
   less : pair_sizes (pairs_of (rest_pairs l.wanted))

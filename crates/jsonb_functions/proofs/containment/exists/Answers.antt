@@ -8,5 +8,5 @@ pub returns-in-Some : goal.returns-in-Some
 returns-in-Some c =
     let ts = rest_trees c.in-Some.items in
     let whole = array_items (document_tree c.args.document) ts c.in-Some.ensures in
-    c.has_item.ensures ∙ sym (top_key_of_items c.args.key.now
+    c.has_text.ensures ∙ sym (top_key_of_items c.args.key.now
     (document_tree c.args.document) ts whole)
