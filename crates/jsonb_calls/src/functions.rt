@@ -1,7 +1,8 @@
 // The functions over documents, on examples of PostgreSQL's documentation of `jsonb`.
 use jsonb::{Document, Error, Node, Number, OwnedJsonb};
 use jsonb_functions::{
-    Edit, Step, append_index_keys, concat, contains, edit_document, exists, get_path,
+    Edit, Step, append_index_keys, append_top_keys, concat, contains, edit_document, exists,
+    get_path, top_key,
 };
 use std::alloc::Global;
 use std::test::Fail;
@@ -190,5 +191,18 @@ fn index_keys(rt: HostRuntime) -> Result<(), Fail> {
     let mut keys = Vec::new(rt.alloc());
     append_index_keys(document_of(&owned)?, &mut keys)?;
     assert!(rt; keys.as_slice() == INDEX_KEYS);
+    Ok(())
+}
+
+// The hashes of the keys of {"a":1,"b":2}: of the bytes 00 00 61 and 00 00 62, likewise.
+const TOP_KEYS: &[u64] = &[0xD94C_B118_6C0E_8AE4, 0xD94C_B418_6C0E_8FFD];
+
+#[test]
+fn top_keys(rt: HostRuntime) -> Result<(), Fail> {
+    let owned = OwnedJsonb::parse(rt.alloc(), "{\"a\":1,\"b\":2}")?;
+    let mut keys = Vec::new(rt.alloc());
+    append_top_keys(document_of(&owned)?, &mut keys)?;
+    assert!(rt; keys.as_slice() == TOP_KEYS);
+    assert!(rt; [top_key("a"), top_key("b")].as_slice() == TOP_KEYS);
     Ok(())
 }

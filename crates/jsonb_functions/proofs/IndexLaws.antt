@@ -16,16 +16,16 @@ use Rattle.jsonb_functions.specs.Contains.{contained, items_contained, members_c
 use Rattle.jsonb_functions.specs.Contains.{contains_whole, some_tree, some_value}
 use Rattle.jsonb_functions.specs.IndexKeys.{IsIn, AreIn, index_keys, items_keys, members_keys}
 
-both : (a b : Bool) → (a && b) ≡ true → (a ≡ true) × (b ≡ true)
+pub both : (a b : Bool) → (a && b) ≡ true → (a ≡ true) × (b ≡ true)
 both true true h = (refl, refl)
 both true false h = absurd (cc)
 both false b h = absurd (cc)
 
-one_is : {P Q : Type 0} (a b : Bool) → (a || b) ≡ true → (a ≡ true → P) → (b ≡ true → Q) → P ⊎ Q
+pub one_is : {P Q : Type 0} (a b : Bool) → (a || b) ≡ true → (a ≡ true → P) → (b ≡ true → Q) → P ⊎ Q
 one_is true b h f g = inl (f refl)
 one_is false b h f g = inr (g h)
 
-are_equal : (o : Ordering) → is_eq o ≡ true → o ≡ Equal
+pub are_equal : (o : Ordering) → is_eq o ≡ true → o ≡ Equal
 are_equal Equal h = refl
 are_equal Less h = absurd (cc)
 are_equal Greater h = absurd (cc)

@@ -7,3 +7,4 @@ pub mod FoundLaws
 pub mod HashLaws
 pub mod JoinLaws
 pub mod JoinShapes
+pub mod TopKeyLaws

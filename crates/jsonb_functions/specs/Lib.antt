@@ -9,4 +9,5 @@ pub mod Joined
 pub mod JoinSource
 pub mod Path
 pub mod Steps
+pub mod TopKeys
 pub mod Words

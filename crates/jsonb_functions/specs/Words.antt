@@ -29,11 +29,13 @@ pub use Rattle.jsonb_functions.specs.EditSource.{what_size}
 pub use Rattle.jsonb_functions.specs.Edited.{count_done, edited, edited_whole, has_key, here_at}
 pub use Rattle.jsonb_functions.specs.Edited.{keys_before}
 pub use Rattle.jsonb_functions.specs.Found.{child_at, found_at}
-pub use Rattle.jsonb_functions.specs.IndexHash.{AppendsSome, AreAmong, hash_64, items_hashes}
-pub use Rattle.jsonb_functions.specs.IndexHash.{members_hashes, tree_hashes}
+pub use Rattle.jsonb_functions.specs.IndexHash.{AppendsSome, AreAmong, IsAmong, hash_64}
+pub use Rattle.jsonb_functions.specs.IndexHash.{items_hashes, members_hashes, tree_hashes}
 pub use Rattle.jsonb_functions.specs.JoinSource.{FirstMerged, FirstOfRun, IsNoObject, MaybeMembers}
 pub use Rattle.jsonb_functions.specs.JoinSource.{MaybeObject, RunIs, keys_size, maybe_keys_size}
 pub use Rattle.jsonb_functions.specs.JoinSource.{maybe_members_size, maybe_object_size, run_size}
 pub use Rattle.jsonb_functions.specs.Joined.{items_or_one, joined, merged}
 pub use Rattle.jsonb_functions.specs.Path.{item_place, position_view}
 pub use Rattle.jsonb_functions.specs.Steps.{FoundIn}
+pub use Rattle.jsonb_functions.specs.TopKeys.{hash_of_key, item_hashes, member_hashes, text_hashes}
+pub use Rattle.jsonb_functions.specs.TopKeys.{top_hashes}

@@ -2,14 +2,14 @@
 
 ghost use Rattle.std.specs.Prelude.{◌≡◌, ◌<◌, ◌≤◌, ◌+◌, ◌*◌, ℕ, List, IfSome, IfNone, MatchOption};
 ghost use Rattle.std.specs.Prelude.{option_map};
-ghost use Rattle.jsonb_functions.specs.Words.{Ascend, FoundIn, YieldsFirstBy, contained};
-ghost use Rattle.jsonb_functions.specs.Words.{contains_whole, document_tree, has_top_key};
-ghost use Rattle.jsonb_functions.specs.Words.{items_contained, items_in, member_tree};
-ghost use Rattle.jsonb_functions.specs.Words.{members_contained, nat_cmp, node_tree, object_of};
-ghost use Rattle.jsonb_functions.specs.Words.{pair_sizes, pairs_of, rest_pairs, rest_trees, size};
-ghost use Rattle.jsonb_functions.specs.Words.{sizes, slice_cmp, some_tree, text, trees_of};
-ghost use Rattle.jsonb_functions.specs.Words.{value_of_key};
+ghost use Rattle.jsonb_functions.specs.Words.{Ascend, FoundIn, contained, contains_whole};
+ghost use Rattle.jsonb_functions.specs.Words.{document_tree, has_top_key, items_contained};
+ghost use Rattle.jsonb_functions.specs.Words.{items_in, members_contained, nat_cmp, node_tree};
+ghost use Rattle.jsonb_functions.specs.Words.{object_of, pair_sizes, pairs_of, rest_pairs};
+ghost use Rattle.jsonb_functions.specs.Words.{rest_trees, size, sizes, slice_cmp, some_tree, text};
+ghost use Rattle.jsonb_functions.specs.Words.{trees_of, value_of_key};
 
+use crate::walk::{next_item, next_member};
 use jsonb::{Document, Items, Members, Node};
 use std::cmp::Ordering;
 
@@ -92,22 +92,6 @@ fn has_text(mut items: Items<'_>, wanted: &str) -> bool
         }
     }
     false
-}
-
-// The next item.
-#[inline(always)]
-fn next_item<'a>(items: &mut Items<'a>) -> Option<Node<'a>>
-    ensures { YieldsFirstBy node_tree rest_trees items.old result items.new }
-{
-    items.next()
-}
-
-// The next member.
-#[inline(always)]
-fn next_member<'a>(members: &mut Members<'a>) -> Option<(&'a str, Node<'a>)>
-    ensures { YieldsFirstBy member_tree rest_pairs members.old result members.new }
-{
-    members.next()
 }
 
 // Takes so many steps. `None` if fewer are left.

@@ -1,18 +1,19 @@
 //! The keys under which an inverted index finds documents by what they contain.
 
-ghost use Rattle.std.specs.Prelude.{◌≡◌, ◌++◌, ℕ, List, [], ⊤, OnOk, OnErr, IfErr, IfSome};
+ghost use Rattle.std.specs.Prelude.{◌≡◌, ◌++◌, ℕ, List, [], ⊤, OnOk, OnErr, IfErr};
 ghost use Rattle.jsonb_functions.specs.HashSink.{hash_laws};
 ghost use Rattle.jsonb_functions.specs.IndexHash.{Hashes};
 ghost use Rattle.jsonb_functions.specs.Words.{AppendsSome, HoldsNoScalar, IsContainer};
-ghost use Rattle.jsonb_functions.specs.Words.{YieldsFirstBy, document_tree, hash_64, items_hashes};
-ghost use Rattle.jsonb_functions.specs.Words.{member_tree, members_hashes, node_tree, pairs_of};
-ghost use Rattle.jsonb_functions.specs.Words.{rest_pairs, rest_trees, tree_hashes, trees_of};
+ghost use Rattle.jsonb_functions.specs.Words.{document_tree, hash_64, items_hashes, members_hashes};
+ghost use Rattle.jsonb_functions.specs.Words.{node_tree, pairs_of, rest_pairs, rest_trees};
+ghost use Rattle.jsonb_functions.specs.Words.{tree_hashes, trees_of};
 
+use crate::walk::{next_item, next_member};
 use jsonb::{Document, Error, Items, Members, Node};
 use jsonb_comparable::{Sink, append_escaped, append_node};
 
-// FNV-1a of 64 bits.
-const START: u64 = 14695981039346656037;
+/// The hash of no byte: FNV-1a of 64 bits.
+pub const START: u64 = 14695981039346656037;
 
 const PRIME: u64 = 1099511628211;
 
@@ -55,24 +56,6 @@ pub fn append_index_keys(document: Document<'_>, out: &mut Vec<u64>) -> Result<(
             Err(error)
         }
     }
-}
-
-// The next item.
-#[inline(always)]
-fn next_item<'a>(items: &mut Items<'a>) -> Option<Node<'a>>
-    ensures steps { YieldsFirstBy node_tree rest_trees items.old result items.new }
-    ensures container { IfSome result HoldsNoScalar }
-{
-    items.next()
-}
-
-// The next member.
-#[inline(always)]
-fn next_member<'a>(members: &mut Members<'a>) -> Option<(&'a str, Node<'a>)>
-    ensures steps { YieldsFirstBy member_tree rest_pairs members.old result members.new }
-    ensures container { IfSome result (λ member. HoldsNoScalar member.1) }
-{
-    members.next()
 }
 
 // Appends the keys of a value, on the way to which the path was hashed.

@@ -9,6 +9,8 @@ mod index;
 mod join;
 mod laws;
 mod path;
+mod top_keys;
+mod walk;
 
 pub use containment::{contains, contains_within, exists};
 pub use edit::{Edit, edit_document};
@@ -17,3 +19,4 @@ pub use index::append_index_keys;
 pub use join::concat;
 pub use laws::index_key_laws;
 pub use path::Step;
+pub use top_keys::{append_top_keys, top_key};

@@ -55,7 +55,7 @@ contains_items-has_item-requires t c =
         arith,
         ap size whole,
         items_sizes (rest_trees c.loop-item.wanted) (node_tree c.in-Some.item)
-            (rest_trees c.next_item.new.items) c.in-Some.ensures,
+            (rest_trees c.next_item.new.items) c.in-Some.ensures.steps,
         c.loop-item.invariant.less,
       ),
       tt,
@@ -67,7 +67,7 @@ contains_items-returns-in_err-is_there t c =
     c.in-Some-items.ensures in
     gave_up _ _ _ _ _ (search rules)
     (rows_end _ _ (size (node_tree c.in-Some.item)) _ _ _ _ _ (items_within _ _ whole)
-    (items_sizes _ _ _ c.in-Some.ensures) c.loop-item.invariant.spent c.in_err-is_there.ensures)
+    (items_sizes _ _ _ c.in-Some.ensures.steps) c.loop-item.invariant.spent c.in_err-is_there.ensures)
 
 pub contains_items-returns-then-not-is_there : goal.contains_items-returns-then-not-is_there
 contains_items-returns-then-not-is_there t c =
@@ -75,23 +75,23 @@ contains_items-returns-then-not-is_there t c =
     c.in-Some-items.ensures in
     let step = first_item (rest_trees c.loop-item.wanted) (rest_trees c.next_item.new.items)
     (node_tree c.in-Some.item) (document_tree c.args.array) (rest_trees c.in-Some-items.items)
-    c.in-Some.ensures whole in
+    c.in-Some.ensures.steps whole in
     let found = c.in_ok-is_there.ensures in
     let on = rows_on _ _ (size (node_tree c.in-Some.item)) _ _ _ _ _ _ (items_within _ _ whole)
-    (items_sizes _ _ _ c.in-Some.ensures) c.loop-item.invariant.spent found.1 in (
+    (items_sizes _ _ _ c.in-Some.ensures.steps) c.loop-item.invariant.spent found.1 in (
       rw (c.loop-item.invariant.decides, step, ← found.0, c.if-not-is_there.true) refl,
       omega (arith, on),
     )
 
 pub contains_items-returns-in_default-items : goal.contains_items-returns-in_default-items
 contains_items-returns-in_default-items t c = (
-  no_item _ _ _ _ _ c.in_default-items.ensures c.in-Some.ensures c.loop-item.invariant.decides,
+  no_item _ _ _ _ _ c.in_default-items.ensures c.in-Some.ensures.steps c.loop-item.invariant.decides,
   omega (arith, c.loop-item.invariant.spent),
 )
 
 pub contains_items-returns : goal.contains_items-returns
 contains_items-returns t c = (
-  all_none _ _ _ c.loop-item.invariant.decides c.in_default.ensures.0,
+  all_none _ _ _ c.loop-item.invariant.decides c.in_default.ensures.steps.0,
   omega (arith, c.loop-item.invariant.spent),
 )
 
@@ -101,16 +101,16 @@ contains_items-loop-item-preserved t c =
     c.in-Some-items.ensures in
     let step = first_item (rest_trees c.loop-item.wanted) (rest_trees c.next_item.new.items)
     (node_tree c.in-Some.item) (document_tree c.args.array) (rest_trees c.in-Some-items.items)
-    c.in-Some.ensures whole in
+    c.in-Some.ensures.steps whole in
     let found = c.in_ok-is_there.ensures in
     record {
       decides = rw (c.loop-item.invariant.decides, step, ← found.0, c.if-not-is_there.false) refl;
       spent = rows_on _ _ (size (node_tree c.in-Some.item)) _ _ _ _ _ _ (items_within _ _ whole)
-          (items_sizes _ _ _ c.in-Some.ensures) c.loop-item.invariant.spent found.1;
+          (items_sizes _ _ _ c.in-Some.ensures.steps) c.loop-item.invariant.spent found.1;
       less = omega (
         arith,
         items_sizes (rest_trees c.loop-item.wanted) (node_tree c.in-Some.item)
-            (rest_trees c.next_item.new.items) c.in-Some.ensures,
+            (rest_trees c.next_item.new.items) c.in-Some.ensures.steps,
         c.loop-item.invariant.less,
       );
     }
@@ -119,23 +119,23 @@ pub has_item-returns-in_err-is_contained : goal.has_item-returns-in_err-is_conta
 has_item-returns-in_err-is_contained t c =
     gave_up _ _ _ _ _ (search rules)
     (columns_end (size (node_tree c.args.wanted)) (size (node_tree c.in-Some.item)) _ _ _ _ _
-    (items_sizes _ _ _ c.in-Some.ensures) c.loop-item.invariant.spent
+    (items_sizes _ _ _ c.in-Some.ensures.steps) c.loop-item.invariant.spent
     c.in_err-is_contained.ensures)
 
 pub has_item-returns-then-is_contained : goal.has_item-returns-then-is_contained
 has_item-returns-then-is_contained t c =
     let found = c.in_ok-is_contained.ensures in
     let on = columns_on (size (node_tree c.args.wanted)) (size (node_tree c.in-Some.item)) _ _ _ _ _
-    _ (items_sizes _ _ _ c.in-Some.ensures) c.loop-item.invariant.spent found.1 in (
+    _ (items_sizes _ _ _ c.in-Some.ensures.steps) c.loop-item.invariant.spent found.1 in (
       some_first (λ x. contained (node_tree c.args.wanted) x) _ _ _ _ _
-          c.loop-item.invariant.decides c.in-Some.ensures found.0 c.if-is_contained.true,
+          c.loop-item.invariant.decides c.in-Some.ensures.steps found.0 c.if-is_contained.true,
       omega (arith, on),
     )
 
 pub has_item-returns : goal.has_item-returns
 has_item-returns t c = (
   some_none (λ x. contained (node_tree c.args.wanted) x) _ _ c.loop-item.invariant.decides
-      c.in_default.ensures.0,
+      c.in_default.ensures.steps.0,
   omega (arith, c.loop-item.invariant.spent),
 )
 
@@ -144,13 +144,13 @@ has_item-loop-item-preserved t c =
     let found = c.in_ok-is_contained.ensures in
     record {
       decides = some_later (λ x. contained (node_tree c.args.wanted) x) _ _ _ _ _
-          c.loop-item.invariant.decides c.in-Some.ensures found.0 c.if-is_contained.false;
+          c.loop-item.invariant.decides c.in-Some.ensures.steps found.0 c.if-is_contained.false;
       spent = columns_on (size (node_tree c.args.wanted)) (size (node_tree c.in-Some.item)) _ _ _ _
-          _ _ (items_sizes _ _ _ c.in-Some.ensures) c.loop-item.invariant.spent found.1;
+          _ _ (items_sizes _ _ _ c.in-Some.ensures.steps) c.loop-item.invariant.spent found.1;
       less = omega (
         arith,
         items_sizes (rest_trees c.loop-item.items) (node_tree c.in-Some.item)
-            (rest_trees c.next_item.new.items) c.in-Some.ensures,
+            (rest_trees c.next_item.new.items) c.in-Some.ensures.steps,
         c.loop-item.invariant.less,
       );
     }
@@ -207,7 +207,7 @@ contains_members-loop-name-init t c = record {
 
 pub contains_members-returns-in_default-value_at : goal.contains_members-returns-in_default-value_at
 contains_members-returns-in_default-value_at t c = (
-  member_lacking _ _ _ _ _ _ c.loop-name.invariant.decides c.in-Some.ensures
+  member_lacking _ _ _ _ _ _ c.loop-name.invariant.decides c.in-Some.ensures.steps
       c.in_default-value_at.ensures.value,
   omega (arith, c.loop-name.invariant.spent),
 )
@@ -217,7 +217,7 @@ contains_members-returns-in_err-is_contained t c =
     let found = c.in-Some-value_at in
     gave_up _ _ _ _ _ (search rules)
     (members_end _ (size (node_tree found.found)) (size (node_tree c.in-Some.value)) _ _ _ _ _
-    (members_sizes _ _ _ _ c.in-Some.ensures)
+    (members_sizes _ _ _ _ c.in-Some.ensures.steps)
     (omega (arith, found.ensures.size, c.loop-name.invariant.fewer))
     c.loop-name.invariant.spent c.in_err-is_contained.ensures)
 
@@ -228,17 +228,17 @@ contains_members-returns-then-not-is_contained t c =
     let counted = c.in_ok-is_contained.ensures in
     let on = members_on (pair_sizes (pairs_of (rest_pairs c.args.members)))
     (size (node_tree found.found)) (size (node_tree c.in-Some.value)) _ _ _ _ _ _
-    (members_sizes _ _ _ _ c.in-Some.ensures)
+    (members_sizes _ _ _ _ c.in-Some.ensures.steps)
     (omega (arith, found.ensures.size, c.loop-name.invariant.fewer))
     c.loop-name.invariant.spent counted.1 in (
-      member_differs _ _ _ _ _ _ _ _ c.loop-name.invariant.decides c.in-Some.ensures
+      member_differs _ _ _ _ _ _ _ _ c.loop-name.invariant.decides c.in-Some.ensures.steps
           found.ensures.value counted.0 c.if-not-is_contained.true,
       omega (arith, on),
     )
 
 pub contains_members-returns : goal.contains_members-returns
 contains_members-returns t c = (
-  members_none _ _ _ c.loop-name.invariant.decides c.in_default.ensures.0,
+  members_none _ _ _ c.loop-name.invariant.decides c.in_default.ensures.steps.0,
   omega (arith, c.loop-name.invariant.spent),
 )
 
@@ -254,19 +254,19 @@ contains_members-loop-name-preserved t c =
       decides = c.loop-name.invariant.decides
           ∙ first_member wanted others name first (object_of (rest_pairs c.loop-name.members))
           (object_of (rest_pairs c.value_at.new.members)) (node_tree found.found)
-          c.in-Some.ensures found.ensures.value
+          c.in-Some.ensures.steps found.ensures.value
           (sym (counted.0) ∙ c.if-not-is_contained.false) c.loop-name.invariant.wanted
           found.ensures.later;
       spent = members_on (pair_sizes (pairs_of (rest_pairs c.args.members)))
           (size (node_tree found.found)) (size first) _ _ _ _ _ _
-          (members_sizes wanted name first others c.in-Some.ensures)
+          (members_sizes wanted name first others c.in-Some.ensures.steps)
           (omega (arith, found.ensures.size, c.loop-name.invariant.fewer))
           c.loop-name.invariant.spent counted.1;
       members = found.ensures.ascend;
-      wanted = ascend_on wanted others name first c.in-Some.ensures c.loop-name.invariant.wanted;
+      wanted = ascend_on wanted others name first c.in-Some.ensures.steps c.loop-name.invariant.wanted;
       less = omega (
         arith,
-        members_sizes wanted name first others c.in-Some.ensures,
+        members_sizes wanted name first others c.in-Some.ensures.steps,
         c.loop-name.invariant.less,
       );
       fewer = omega (arith, found.ensures.size, c.loop-name.invariant.fewer);
