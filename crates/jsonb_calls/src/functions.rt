@@ -2,7 +2,7 @@
 use jsonb::{Document, Error, Node, Number, OwnedJsonb};
 use jsonb_functions::{
     Edit, Step, append_index_keys, append_top_keys, concat, contains, edit_document, exists,
-    get_path, top_key,
+    get_path, read_path, top_key,
 };
 use std::alloc::Global;
 use std::test::Fail;
@@ -89,6 +89,41 @@ fn values_at_the_end_of_a_path(rt: HostRuntime) {
     };
     assert!(rt; get_path(document, TO_FIVE) == Some(Node::Number(Number::UInt64(5))));
     assert!(rt; get_path(document, BEYOND) == None);
+}
+
+// Whether the path of a text leads to the number 5 in a document; nothing, if it gives no path.
+fn leads_to_five(alloc: Global, document: Document, text: &str) -> Result<Option<bool>, Error> {
+    let owned = OwnedJsonb::parse(alloc, text)?;
+    let Some(path) = read_path(alloc, document_of(&owned)?)? else {
+        return Ok(None);
+    };
+    let found = get_path(document, &path);
+    Ok(Some(found == Some(Node::Number(Number::UInt64(5)))))
+}
+
+// Texts that give paths, or none, and whether they lead to the number 5 in `NESTED`.
+const PATHS: &[(&str, Option<bool>)] = &[
+    ("[\"a\",1,0]", Some(true)),
+    ("[\"a\",-1,-1]", Some(true)),
+    ("[\"a\",-2]", Some(false)),
+    ("[]", Some(false)),
+    ("[\"a\",null]", None),
+    ("[1.0]", None),
+    ("\"a\"", None),
+];
+
+#[test]
+fn paths_given_as_documents(rt: HostRuntime) -> Result<(), Fail> {
+    let Some(document) = Document::new(NESTED) else {
+        return Ok(assert!(rt; false));
+    };
+    for &(text, is_five) in PATHS {
+        assert!(rt;
+            leads_to_five(rt.alloc(), document, text)? == is_five,
+            "{text}"
+        );
+    }
+    Ok(())
 }
 
 // Whether a document is the canonical one of a text.

@@ -8,3 +8,4 @@ pub mod HashLaws
 pub mod JoinLaws
 pub mod JoinShapes
 pub mod TopKeyLaws
+pub mod StoredPathLaws

@@ -9,5 +9,6 @@ pub mod Joined
 pub mod JoinSource
 pub mod Path
 pub mod Steps
+pub mod StoredPath
 pub mod TopKeys
 pub mod Words

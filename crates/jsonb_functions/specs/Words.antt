@@ -37,5 +37,6 @@ pub use Rattle.jsonb_functions.specs.JoinSource.{maybe_members_size, maybe_objec
 pub use Rattle.jsonb_functions.specs.Joined.{items_or_one, joined, merged}
 pub use Rattle.jsonb_functions.specs.Path.{item_place, position_view}
 pub use Rattle.jsonb_functions.specs.Steps.{FoundIn}
+pub use Rattle.jsonb_functions.specs.StoredPath.{path_in, step_in, step_to, step_view}
 pub use Rattle.jsonb_functions.specs.TopKeys.{hash_of_key, item_hashes, member_hashes, text_hashes}
 pub use Rattle.jsonb_functions.specs.TopKeys.{top_hashes}

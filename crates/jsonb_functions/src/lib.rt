@@ -9,6 +9,7 @@ mod index;
 mod join;
 mod laws;
 mod path;
+mod stored_path;
 mod top_keys;
 mod walk;
 
@@ -19,4 +20,5 @@ pub use index::append_index_keys;
 pub use join::concat;
 pub use laws::index_key_laws;
 pub use path::Step;
+pub use stored_path::read_path;
 pub use top_keys::{append_top_keys, top_key};
