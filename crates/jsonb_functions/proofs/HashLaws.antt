@@ -47,7 +47,8 @@ scalar_hashed p node path first last h is one two =
     ∙ sym (hash_joined p (0 ∷ key) 14695981039346656037) in
     ap (λ x. x ∷ []) whole ∙ sym (scalar_hashes p node h)
 
-pub map_joined : {A B : Type 0} (f : A → B) (xs ys : List A) → map f (xs ++ ys) ≡ map f xs ++ map f ys
+pub map_joined : {A B : Type 0} (f : A → B) (xs ys : List A) → map f (xs ++ ys)
+    ≡ map f xs ++ map f ys
 map_joined f [] ys = refl
 map_joined f (x ∷ xs) ys = ap (λ zs. f x ∷ zs) (map_joined f xs ys)
 

@@ -23,7 +23,8 @@ use Rattle.jsonb_functions.specs.declared.edit.EditedItems.{EditedItems}
 use Rattle.jsonb_functions.specs.declared.edit.EditedObject.{EditedObject}
 use Rattle.jsonb_functions.specs.declared.edit.EditedMembers.{EditedMembers}
 use Rattle.jsonb_functions.specs.Edited.{Operation, put, insert, remove, Here, nothing}
-use Rattle.jsonb_functions.specs.Edited.{replaced, before, removed, edited, done_after, pairs_done_after, IsWithin}
+use Rattle.jsonb_functions.specs.Edited.{replaced, before, removed, edited, done_after}
+use Rattle.jsonb_functions.specs.Edited.{pairs_done_after, IsWithin}
 
 -- What a change does, by its value's tree.
 abbrev pub operation_of : Change → Operation

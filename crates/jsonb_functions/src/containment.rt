@@ -137,7 +137,8 @@ fn contains_documents(left: Document<'_>, right: Document<'_>, steps: &mut u128)
 #[cycle(contains)]
 fn contains_items(array: Document<'_>, mut wanted: Items<'_>, steps: &mut u128) -> Option<bool>
     ensures { FoundIn result
-        (items_contained (trees_of (rest_trees wanted.entry)) (items_in (document_tree array.entry)))
+        (items_contained (trees_of (rest_trees wanted.entry))
+        (items_in (document_tree array.entry)))
         (sizes (items_in (document_tree array.entry)) * sizes (trees_of (rest_trees wanted.entry)))
         steps.old steps.new }
 {
@@ -181,7 +182,8 @@ fn contains_members(
     requires members { Ascend (pairs_of (rest_pairs members)) }
     requires wanted { Ascend (pairs_of (rest_pairs wanted)) }
     ensures { FoundIn result
-        (members_contained (pairs_of (rest_pairs wanted.entry)) (object_of (rest_pairs members.entry)))
+        (members_contained (pairs_of (rest_pairs wanted.entry))
+        (object_of (rest_pairs members.entry)))
         (pair_sizes (pairs_of (rest_pairs members.entry))
         + pair_sizes (pairs_of (rest_pairs members.entry))
         * pair_sizes (pairs_of (rest_pairs wanted.entry))) steps.old steps.new }

@@ -10,7 +10,8 @@ use Rattle.jsonb_functions.proofs.WalkLaws.{first_item, items_within, array_size
 use Rattle.jsonb_functions.proofs.WalkLaws.{some_later, some_none, all_none, no_item}
 use Rattle.jsonb_functions.proofs.WalkLaws.{member_lacking, member_differs, members_none}
 use Rattle.jsonb_functions.proofs.KeyOrder.{document_ascends, first_member, ascend_on}
-use Rattle.jsonb_functions.proofs.StepLaws.{found_after, gave_up, one_step, product_more, product_parts}
+use Rattle.jsonb_functions.proofs.StepLaws.{found_after, gave_up, one_step, product_more}
+use Rattle.jsonb_functions.proofs.StepLaws.{product_parts}
 use Rattle.jsonb_functions.proofs.StepLaws.{rows_on, rows_end, columns_on, columns_end}
 use Rattle.jsonb_functions.proofs.StepLaws.{members_on, members_end, members_counted}
 use Rattle.jsonb_functions.proofs.containment.+contains.Goals as goal
@@ -67,7 +68,8 @@ contains_items-returns-in_err-is_there t c =
     c.in-Some-items.ensures in
     gave_up _ _ _ _ _ (search rules)
     (rows_end _ _ (size (node_tree c.in-Some.item)) _ _ _ _ _ (items_within _ _ whole)
-    (items_sizes _ _ _ c.in-Some.ensures.steps) c.loop-item.invariant.spent c.in_err-is_there.ensures)
+    (items_sizes _ _ _ c.in-Some.ensures.steps) c.loop-item.invariant.spent
+    c.in_err-is_there.ensures)
 
 pub contains_items-returns-then-not-is_there : goal.contains_items-returns-then-not-is_there
 contains_items-returns-then-not-is_there t c =
@@ -85,7 +87,8 @@ contains_items-returns-then-not-is_there t c =
 
 pub contains_items-returns-in_default-items : goal.contains_items-returns-in_default-items
 contains_items-returns-in_default-items t c = (
-  no_item _ _ _ _ _ c.in_default-items.ensures c.in-Some.ensures.steps c.loop-item.invariant.decides,
+  no_item _ _ _ _ _ c.in_default-items.ensures c.in-Some.ensures.steps
+      c.loop-item.invariant.decides,
   omega (arith, c.loop-item.invariant.spent),
 )
 
@@ -263,7 +266,8 @@ contains_members-loop-name-preserved t c =
           (omega (arith, found.ensures.size, c.loop-name.invariant.fewer))
           c.loop-name.invariant.spent counted.1;
       members = found.ensures.ascend;
-      wanted = ascend_on wanted others name first c.in-Some.ensures.steps c.loop-name.invariant.wanted;
+      wanted = ascend_on wanted others name first c.in-Some.ensures.steps
+          c.loop-name.invariant.wanted;
       less = omega (
         arith,
         members_sizes wanted name first others c.in-Some.ensures.steps,

@@ -62,7 +62,8 @@ invariant-contains_members-loop-name l = record {
       (object_of (rest_pairs l.fn.members))
       ≡ members_contained (pairs_of (rest_pairs l.wanted)) (object_of (rest_pairs l.members));
   spent : l.fn.steps
-      + pair_sizes (pairs_of (rest_pairs l.fn.members)) * pair_sizes (pairs_of (rest_pairs l.wanted))
+      + pair_sizes (pairs_of (rest_pairs l.fn.members))
+      * pair_sizes (pairs_of (rest_pairs l.wanted))
       ≤ l.steps + (pair_sizes (pairs_of (rest_pairs l.fn.members))
       + pair_sizes (pairs_of (rest_pairs l.fn.members))
       * pair_sizes (pairs_of (rest_pairs l.fn.wanted)));
