@@ -22,7 +22,8 @@ def root_names(crate):
 def exported():
     """What the upper libraries and `json_fault` export at their roots, by the library it is of."""
     names = {}
-    crates = ("jsonb", "jsonb_composition", "jsonb_column", "jsonb_comparable", "json_fault")
+    crates = ("jsonb", "jsonb_composition", "jsonb_column", "jsonb_comparable", "jsonb_functions",
+              "json_fault")
     for crate in crates:
         for source, name in root_names(crate):
             library = source if source.startswith("jsonb_") else crate
