@@ -70,6 +70,13 @@ extern "C" {
 /* Whether kohiblad_parse and kohiblad_text_fault take numbers with an exponent. */
 enum kohiblad_exponents { KOHIBLAD_EXPONENTS_FORBIDDEN = 0, KOHIBLAD_EXPONENTS_ALLOWED = 1 };
 
+/* What kohiblad_edit does at the end of a path. */
+enum kohiblad_edit_kind {
+    KOHIBLAD_PUT = 0,    /* the value comes in place of what is there, or is added */
+    KOHIBLAD_INSERT = 1, /* the value comes before an item, or as a member with a new key */
+    KOHIBLAD_REMOVE = 2  /* what is there goes; no value is read */
+};
+
 /* What a call returns. */
 enum kohiblad_status {
     KOHIBLAD_OK = 0,
@@ -89,7 +96,8 @@ enum kohiblad_status {
     KOHIBLAD_OTHER_KIND = 14,             /* the value is of another kind */
     KOHIBLAD_PAST_RANGE = 15,             /* the number is no whole one of 64 bits */
     KOHIBLAD_OVERLAP = 16,                /* what a call writes overlaps something else */
-    KOHIBLAD_BAD_NUMBER = 17              /* the text would be JSON but for its numbers */
+    KOHIBLAD_BAD_NUMBER = 17,             /* the text would be JSON but for its numbers */
+    KOHIBLAD_TOO_MANY_STEPS = 18          /* the call took more steps than it may */
 };
 
 /* The kinds of values, as kohiblad_kind returns them. */
@@ -505,6 +513,71 @@ static inline uint32_t kohiblad_sort_within(const uint8_t *bytes, size_t size,
     const size_t *offsets, size_t count, size_t depth, size_t *order, size_t room)
     KOHIBLAD_INLINE("kohiblad_sort_within");
 
+/* Whether a document contains another. An object contains the objects whose keys it has, with values
+ * that contain theirs; an array those arrays for each of whose items it has one that contains it; a
+ * scalar what equals it; and at the top an array also a scalar that is one of its items.
+ * TOO_MANY_STEPS: that takes more than `steps` steps, one for each pair of values that are compared
+ * and each member that is passed over; it does not if they are at least the product of the numbers
+ * of values and keys in both, so SIZE_MAX is no limit. INVALID_JSONB: one of them is not a document
+ * of at most this depth. A scalar has depth 0, an array or object one more than its deepest child,
+ * and at least 1. Looks no deeper. */
+static inline struct kohiblad_truth kohiblad_contains(const uint8_t *left, size_t left_size,
+    const uint8_t *right, size_t right_size, size_t depth, size_t steps)
+    KOHIBLAD_INLINE("kohiblad_contains");
+
+/* Whether a document is an object with this key, an array with this text among its items, or this
+ * text. INVALID_UTF8: the key is not UTF-8. INVALID_JSONB: the bytes are not a document of at most
+ * this depth. A scalar has depth 0, an array or object one more than its deepest child, and at
+ * least 1. Looks no deeper. */
+static inline struct kohiblad_truth kohiblad_exists(const uint8_t *bytes, size_t size,
+    const uint8_t *key, size_t key_size, size_t depth) KOHIBLAD_INLINE("kohiblad_exists");
+
+/* Copies the canonical document of two documents put together to `out`: of two objects the object
+ * of all members, with the value of `right` for a key of both; of all others the array of the items
+ * of both, to which a value that is not an array adds itself. INVALID_JSONB: one of them is not a
+ * document of at most this depth, or the result is past a limit of the format. A scalar has depth
+ * 0, an array or object one more than its deepest child, and at least 1. Looks no deeper. NO_ROOM
+ * if `out` has no room for the document. OUT_OF_MEMORY if an allocation fails. Takes memory. */
+static inline uint32_t kohiblad_concat(const uint8_t *left, size_t left_size,
+    const uint8_t *right, size_t right_size, size_t depth, uint8_t *out, size_t room,
+    size_t *length) KOHIBLAD_INLINE("kohiblad_concat");
+
+/* Copies the canonical document of a document that is edited at the end of a path to `out`. `path`
+ * is the document of an array: a text for the value of a key, a whole number for an item of an
+ * array, counted from 0, or from -1 at the end. `edit` is one of enum kohiblad_edit_kind, and
+ * `value` the document that is put or inserted. An item that is put past the last comes after it,
+ * and one before the first comes before it. Nothing changes if a step before the last leads
+ * nowhere, if a member is inserted whose key is there, or what is removed is not there.
+ * INVALID_JSONB: the bytes or the value are not a document of at most this depth, the path is not a
+ * document, or the result is past a limit of the format. OTHER_KIND: the path is not an array of
+ * texts and whole numbers, or there is no such edit. A scalar has depth 0, an array or object one
+ * more than its deepest child, and at least 1. Looks no deeper. NO_ROOM if `out` has no room for
+ * the document. OUT_OF_MEMORY if an allocation fails. Takes memory. */
+static inline uint32_t kohiblad_edit(const uint8_t *bytes, size_t size, const uint8_t *path,
+    size_t path_size, uint32_t edit, const uint8_t *value, size_t value_size, size_t depth,
+    uint8_t *out, size_t room, size_t *length) KOHIBLAD_INLINE("kohiblad_edit");
+
+/* Copies the index keys of a document to `out`, which has room for `room` of them, and how many they
+ * are to `count`: one for each scalar, a hash of the keys of the objects around it and of itself. A
+ * document that contains another has each of its index keys, so an index over them misses none; two
+ * scalars may have the same key. A document of `size` bytes has at most size / 4. INVALID_JSONB:
+ * the bytes are not a document of at most this depth. A scalar has depth 0, an array or object one
+ * more than its deepest child, and at least 1. Looks no deeper. NO_ROOM if there are more keys.
+ * OUT_OF_MEMORY if an allocation fails. Takes memory. */
+static inline uint32_t kohiblad_index_keys(const uint8_t *bytes, size_t size, size_t depth,
+    uint64_t *out, size_t room, size_t *count) KOHIBLAD_INLINE("kohiblad_index_keys");
+
+/* Copies the top keys of a document to `out`, which has room for `room` of them, and how many they
+ * are to `count`: a hash of each key of an object, of each text among the items of an array, or of
+ * the text itself. They are apart from the index keys, so one index holds both: if a key exists in
+ * a document, the one top key of the key's own document is one of the document's. A document of
+ * `size` bytes has at most size / 4. INVALID_JSONB: the bytes are not a document of at most this
+ * depth. A scalar has depth 0, an array or object one more than its deepest child, and at least 1.
+ * Looks no deeper. NO_ROOM if there are more keys. OUT_OF_MEMORY if an allocation fails. Takes
+ * memory. */
+static inline uint32_t kohiblad_top_keys(const uint8_t *bytes, size_t size, size_t depth,
+    uint64_t *out, size_t room, size_t *count) KOHIBLAD_INLINE("kohiblad_top_keys");
+
 /* The exports of the library. */
 uint32_t kohiblad_export_version(void) KOHIBLAD_EXPORT("kohiblad_version");
 uint32_t kohiblad_export_status_name(uint32_t status, uint8_t *out, size_t room, size_t *length)
@@ -599,6 +672,21 @@ uint32_t kohiblad_export_sort(const uint8_t *bytes, size_t size, const size_t *o
     count, size_t *order, size_t room) KOHIBLAD_EXPORT("kohiblad_sort");
 uint32_t kohiblad_export_sort_within(const uint8_t *bytes, size_t size, const size_t *offsets,
     size_t count, size_t depth, size_t *order, size_t room) KOHIBLAD_EXPORT("kohiblad_sort_within");
+struct kohiblad_truth kohiblad_export_contains(const uint8_t *left, size_t left_size,
+    const uint8_t *right, size_t right_size, size_t depth, size_t steps)
+    KOHIBLAD_EXPORT("kohiblad_contains");
+struct kohiblad_truth kohiblad_export_exists(const uint8_t *bytes, size_t size,
+    const uint8_t *key, size_t key_size, size_t depth) KOHIBLAD_EXPORT("kohiblad_exists");
+uint32_t kohiblad_export_concat(const uint8_t *left, size_t left_size, const uint8_t *right,
+    size_t right_size, size_t depth, uint8_t *out, size_t room, size_t *length)
+    KOHIBLAD_EXPORT("kohiblad_concat");
+uint32_t kohiblad_export_edit(const uint8_t *bytes, size_t size, const uint8_t *path,
+    size_t path_size, uint32_t edit, const uint8_t *value, size_t value_size, size_t depth,
+    uint8_t *out, size_t room, size_t *length) KOHIBLAD_EXPORT("kohiblad_edit");
+uint32_t kohiblad_export_index_keys(const uint8_t *bytes, size_t size, size_t depth,
+    uint64_t *out, size_t room, size_t *count) KOHIBLAD_EXPORT("kohiblad_index_keys");
+uint32_t kohiblad_export_top_keys(const uint8_t *bytes, size_t size, size_t depth,
+    uint64_t *out, size_t room, size_t *count) KOHIBLAD_EXPORT("kohiblad_top_keys");
 
 /* Null with length 0 becomes a pointer to something that is never read or written. */
 static inline const uint8_t *kohiblad_in(const uint8_t *bytes) {
@@ -616,6 +704,10 @@ static inline const size_t *kohiblad_offsets_in(const size_t *offsets) {
 static inline size_t *kohiblad_order_out(size_t *order) {
     static size_t none;
     return order ? order : &none;
+}
+static inline uint64_t *kohiblad_keys_out(uint64_t *out) {
+    static uint64_t none;
+    return out ? out : &none;
 }
 
 /* Whether two blocks have a byte in common. */
@@ -905,6 +997,57 @@ static inline uint32_t kohiblad_sort_within(const uint8_t *bytes, size_t size,
         return KOHIBLAD_OVERLAP;
     return kohiblad_export_sort_within(kohiblad_in(bytes), size, kohiblad_offsets_in(offsets),
         count, depth, kohiblad_order_out(order), room);
+}
+static inline struct kohiblad_truth kohiblad_contains(const uint8_t *left, size_t left_size,
+    const uint8_t *right, size_t right_size, size_t depth, size_t steps) {
+    return kohiblad_export_contains(kohiblad_in(left), left_size, kohiblad_in(right), right_size,
+        depth, steps);
+}
+static inline struct kohiblad_truth kohiblad_exists(const uint8_t *bytes, size_t size,
+    const uint8_t *key, size_t key_size, size_t depth) {
+    return kohiblad_export_exists(kohiblad_in(bytes), size, kohiblad_in(key), key_size, depth);
+}
+static inline uint32_t kohiblad_concat(const uint8_t *left, size_t left_size,
+    const uint8_t *right, size_t right_size, size_t depth, uint8_t *out, size_t room,
+    size_t *length) {
+    if (!kohiblad_is_room(out, room, length)
+        || !kohiblad_is_apart(out, room, length, left, left_size)
+        || !kohiblad_is_apart(out, room, length, right, right_size))
+        return KOHIBLAD_OVERLAP;
+    return kohiblad_export_concat(kohiblad_in(left), left_size, kohiblad_in(right), right_size,
+        depth, kohiblad_out(out), room, length);
+}
+static inline uint32_t kohiblad_edit(const uint8_t *bytes, size_t size, const uint8_t *path,
+    size_t path_size, uint32_t edit, const uint8_t *value, size_t value_size, size_t depth,
+    uint8_t *out, size_t room, size_t *length) {
+    if (!kohiblad_is_room(out, room, length)
+        || !kohiblad_is_apart(out, room, length, bytes, size)
+        || !kohiblad_is_apart(out, room, length, path, path_size)
+        || !kohiblad_is_apart(out, room, length, value, value_size))
+        return KOHIBLAD_OVERLAP;
+    return kohiblad_export_edit(kohiblad_in(bytes), size, kohiblad_in(path), path_size, edit,
+        kohiblad_in(value), value_size, depth, kohiblad_out(out), room, length);
+}
+/* Whether keys and their count lie apart from each other, and from what goes in. */
+static inline bool kohiblad_are_keys_apart(const uint64_t *out, size_t room, const size_t *count,
+                                           const void *in, size_t size) {
+    size_t bytes = room * sizeof *out;
+    return !kohiblad_meet(out, bytes, count, sizeof *count) && !kohiblad_meet(out, bytes, in, size)
+        && !kohiblad_meet(count, sizeof *count, in, size);
+}
+static inline uint32_t kohiblad_index_keys(const uint8_t *bytes, size_t size, size_t depth,
+    uint64_t *out, size_t room, size_t *count) {
+    if (!kohiblad_are_keys_apart(out, room, count, bytes, size))
+        return KOHIBLAD_OVERLAP;
+    return kohiblad_export_index_keys(kohiblad_in(bytes), size, depth, kohiblad_keys_out(out), room,
+        count);
+}
+static inline uint32_t kohiblad_top_keys(const uint8_t *bytes, size_t size, size_t depth,
+    uint64_t *out, size_t room, size_t *count) {
+    if (!kohiblad_are_keys_apart(out, room, count, bytes, size))
+        return KOHIBLAD_OVERLAP;
+    return kohiblad_export_top_keys(kohiblad_in(bytes), size, depth, kohiblad_keys_out(out), room,
+        count);
 }
 
 #ifdef __cplusplus

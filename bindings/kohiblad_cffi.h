@@ -5,6 +5,12 @@
 enum kohiblad_exponents { KOHIBLAD_EXPONENTS_FORBIDDEN = 0, KOHIBLAD_EXPONENTS_ALLOWED = 1 };
 
 
+enum kohiblad_edit_kind {
+    KOHIBLAD_PUT = 0,
+    KOHIBLAD_INSERT = 1,
+    KOHIBLAD_REMOVE = 2
+};
+
 enum kohiblad_status {
     KOHIBLAD_OK = 0,
     KOHIBLAD_INVALID_EOF = 1,
@@ -23,7 +29,8 @@ enum kohiblad_status {
     KOHIBLAD_OTHER_KIND = 14,
     KOHIBLAD_PAST_RANGE = 15,
     KOHIBLAD_OVERLAP = 16,
-    KOHIBLAD_BAD_NUMBER = 17
+    KOHIBLAD_BAD_NUMBER = 17,
+    KOHIBLAD_TOO_MANY_STEPS = 18
 };
 
 enum kohiblad_kind_number {
@@ -176,3 +183,16 @@ uint32_t kohiblad_sort(const uint8_t *bytes, size_t size, const size_t *offsets,
     size_t *order, size_t room);
 uint32_t kohiblad_sort_within(const uint8_t *bytes, size_t size, const size_t *offsets,
     size_t count, size_t depth, size_t *order, size_t room);
+struct kohiblad_truth kohiblad_contains(const uint8_t *left, size_t left_size, const uint8_t *right,
+    size_t right_size, size_t depth, size_t steps);
+struct kohiblad_truth kohiblad_exists(const uint8_t *bytes, size_t size, const uint8_t *key,
+    size_t key_size, size_t depth);
+uint32_t kohiblad_concat(const uint8_t *left, size_t left_size, const uint8_t *right,
+    size_t right_size, size_t depth, uint8_t *out, size_t room, size_t *length);
+uint32_t kohiblad_edit(const uint8_t *bytes, size_t size, const uint8_t *path, size_t path_size,
+    uint32_t edit, const uint8_t *value, size_t value_size, size_t depth, uint8_t *out, size_t room,
+    size_t *length);
+uint32_t kohiblad_index_keys(const uint8_t *bytes, size_t size, size_t depth, uint64_t *out,
+    size_t room, size_t *count);
+uint32_t kohiblad_top_keys(const uint8_t *bytes, size_t size, size_t depth, uint64_t *out,
+    size_t room, size_t *count);

@@ -10,4 +10,5 @@ pub mod Output
 pub mod Children
 pub mod BoundedMeaning
 pub mod Scalars
+pub mod Functions
 pub mod Words

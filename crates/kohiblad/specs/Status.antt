@@ -54,6 +54,10 @@ overlap = 16
 abbrev pub bad_number : ℕ
 bad_number = 17
 
+-- The status of a call that took more steps than it may.
+abbrev pub too_many_steps : ℕ
+too_many_steps = 18
+
 -- The name of a status.
 abbrev pub status_name : ℕ → List ℕ
 status_name status =
@@ -75,6 +79,7 @@ status_name status =
     else if status == past_range then codes "PastRange"
     else if status == overlap then codes "Overlap"
     else if status == bad_number then codes "BadNumber"
+    else if status == too_many_steps then codes "TooManySteps"
     else codes "Unknown"
 
 -- The result was copied to the start of the buffer, and the rest is unchanged.

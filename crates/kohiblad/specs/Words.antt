@@ -2,7 +2,7 @@
 pub use Rattle.std.specs.Map.{values_of}
 pub use Rattle.jsonb_value.specs.ExtCode.{extension_of}
 pub use Rattle.jsonb_value.specs.Json.Numeral.{number_of}
-pub use Rattle.jsonb_value.specs.Meaning.{meaning_cmp}
+pub use Rattle.jsonb_value.specs.Meaning.{Meaning, meaning_cmp}
 pub use Rattle.jsonb_value.specs.Text.{compact, pretty}
 pub use Rattle.jsonb_value.specs.TextDepth.{text_depth}
 pub use Rattle.jsonb_value.specs.Tree.{Extension, Tree, boolean, extension, null, number, text}
@@ -18,6 +18,7 @@ pub use Rattle.jsonb_codec.specs.Depth.{IsDocumentWithin, depth}
 pub use Rattle.jsonb_codec.specs.Doc.{Doc, IsDocument}
 pub use Rattle.jsonb_codec.specs.Parts.{IsPayloadOf}
 pub use Rattle.jsonb.specs.Code.{scalar_bytes}
+pub use Rattle.jsonb.specs.Document.{document_tree}
 pub use Rattle.jsonb.specs.ItemMeaning.{meaning_of}
 pub use Rattle.jsonb.specs.Kind.{kind, kind_of_tree}
 pub use Rattle.jsonb.specs.Owned.{bytes_of}
@@ -28,9 +29,13 @@ pub use Rattle.jsonb.specs.declared.reads.lookup.Place.{Place}
 pub use Rattle.jsonb_comparable.specs.CheckedBytes.{checked_meaning}
 pub use Rattle.jsonb_comparable.specs.TreeKey.{meaning_key}
 pub use Rattle.jsonb_comparable.specs.Within.{meaning_within}
+pub use Rattle.jsonb_functions.specs.IndexHash.{tree_hashes}
+pub use Rattle.jsonb_functions.specs.TopKeys.{top_hashes}
 pub use Rattle.kohiblad.specs.BoundedMeaning.{bounded_meaning}
 pub use Rattle.kohiblad.specs.Children.{CanMove, IsBegun, child_at, cursor_after, cursor_at}
 pub use Rattle.kohiblad.specs.Children.{key_answer, numbered_child, value_answer}
+pub use Rattle.kohiblad.specs.Functions.{AreKeysWritten, IsContainedAnswer, IsEdited, JoinsTo}
+pub use Rattle.kohiblad.specs.Functions.{exists_answer, operation_in, operation_of}
 pub use Rattle.kohiblad.specs.KindAnswer.{kind_answer}
 pub use Rattle.kohiblad.specs.Output.{IsReadWithin, IsRewritten, IsRewrittenWithin}
 pub use Rattle.kohiblad.specs.Output.{IsWritten, rule_of}
@@ -51,5 +56,5 @@ pub use Rattle.kohiblad.specs.Scalars.{no_extension, no_integer, no_place, no_tr
 pub use Rattle.kohiblad.specs.Scalars.{text_place, truth_of, why_none}
 pub use Rattle.kohiblad.specs.SortOrder.{AreRowsOrdered, IsOrderOf}
 pub use Rattle.kohiblad.specs.Status.{IsAnswered, IsHandedOver, IsRefused, code, sign, status_name}
-pub use Rattle.kohiblad.specs.Status.{too_deep}
+pub use Rattle.kohiblad.specs.Status.{IsOneAnswered, too_deep}
 pub use Rattle.kohiblad.specs.TextFaults.{IsTextFault, no_fault, reason_status}

@@ -31,6 +31,9 @@ pub const PAST_RANGE: u32 = 15;
 /// The status of a text that would be JSON but for its numbers.
 pub const BAD_NUMBER: u32 = 17;
 
+/// The status of a call that took more steps than it may.
+pub const TOO_MANY_STEPS: u32 = 18;
+
 /// The first length that the payload of a scalar may not have.
 pub const PAYLOAD_LIMIT: usize = 1 << 28;
 
@@ -68,6 +71,7 @@ pub extern "C" fn kohiblad_status_name(status: u32, out: &mut [u8], length: &mut
         15 => "PastRange",
         16 => "Overlap",
         17 => "BadNumber",
+        18 => "TooManySteps",
         _ => "Unknown",
     };
     hand_over(name.as_bytes(), out, length)

@@ -8,6 +8,7 @@ mod building;
 mod canonical;
 mod children;
 mod documents;
+mod functions;
 mod key;
 mod places;
 mod rows;

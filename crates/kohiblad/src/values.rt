@@ -281,8 +281,8 @@ fn boolean_in(bytes: &[u8]) -> Option<bool>
     }
 }
 
-// A truth value as C receives it: 0 or 1.
-fn truth_of(value: bool) -> KohibladTruth
+/// A truth value as C receives it: 0 or 1.
+pub fn truth_of(value: bool) -> KohibladTruth
     ensures { result ≡ truth_of value }
 {
     if value {
@@ -296,6 +296,13 @@ fn truth_of(value: bool) -> KohibladTruth
             value: 0,
         }
     }
+}
+
+/// A result with this status, and with the value 0.
+pub fn no_truth(status: u32) -> KohibladTruth
+    ensures { result ≡ no_truth status }
+{
+    KohibladTruth { status, value: 0 }
 }
 
 // The entry of a scalar's document. `None` for all other bytes, without examining the children of

@@ -1,0 +1,98 @@
+-- The results of the functions over documents, as C receives them.
+use Rattle.std.specs.Prelude.{◌≡◌, ◌⊎◌, ◌<◌, ◌*◌, ℕ, zero, suc, List, map, Option, None, Some}
+use Rattle.std.specs.Prelude.{Result, Ok, Err}
+use Rattle.jsonb_value.specs.declared.error.Error.{Error}
+use Rattle.jsonb_value.specs.declared.error.Error.TheVariants.{InvalidJsonb}
+use Rattle.jsonb_value.specs.declared.error.Error.TheVariants.{OutOfMemory}
+use Rattle.jsonb_value.specs.Meaning.{Meaning, document, other_bytes}
+use Rattle.jsonb_value.specs.Tree.{Tree}
+use Rattle.jsonb_codec.specs.Canon.{canon, Fits}
+use Rattle.jsonb_codec.specs.Depth.{size}
+use Rattle.jsonb_functions.specs.Contains.{contains_whole, has_top_key}
+use Rattle.jsonb_functions.specs.Edited.{Operation, edited_whole, insert, put, remove}
+use Rattle.jsonb_functions.specs.EditSource.{edit_operation}
+use Rattle.jsonb_functions.specs.Joined.{joined}
+use Rattle.kohiblad.specs.Scalars.{no_truth, truth_of}
+use Rattle.jsonb_functions.specs.StoredPath.{StepView, path_in, step_view}
+use Rattle.jsonb_functions.specs.declared.edit.Edit.{Edit}
+use Rattle.jsonb_functions.specs.declared.path.Step.{Step}
+use Rattle.kohiblad.specs.Status.{code, other_kind, too_many_steps, IsHandedOver, IsOneAnswered}
+use Rattle.kohiblad.specs.Status.{IsRefused}
+use Rattle.kohiblad.specs.declared.values.KohibladTruth.{KohibladTruth}
+
+-- Whether the first document contains the second, unless that takes more than so many steps, which
+-- it does only if there are fewer than the product of the sizes of both trees; bytes that are not a
+-- document are refused.
+abbrev pub IsContainedAnswer : ℕ → Meaning → Meaning → KohibladTruth → Type 0
+IsContainedAnswer steps (document t) (document u) answer =
+    (answer ≡ truth_of (contains_whole t u))
+    ⊎ ((answer ≡ no_truth too_many_steps) × (steps < size t * size u))
+IsContainedAnswer steps m n answer = answer ≡ no_truth (code InvalidJsonb)
+
+-- Whether the document has the key; bytes that are not a document are refused.
+abbrev pub exists_answer : Meaning → List ℕ → KohibladTruth
+exists_answer (document t) key = truth_of (has_top_key key t)
+exists_answer (other_bytes b) key = no_truth (code InvalidJsonb)
+
+-- The result of writing a tree: its canonical document, or why there is none. Memory is asked for
+-- only where there is one.
+abbrev pub WritesTo : Tree → Result (List ℕ) Error → Type 0
+WritesTo t (Ok answer) = Fits t × (answer ≡ canon t)
+WritesTo t (Err InvalidJsonb) = Fits t → ⊥
+WritesTo t (Err OutOfMemory) = Fits t
+WritesTo t (Err e) = ⊥
+
+-- The result of joining two documents; bytes that are not a document are refused.
+abbrev pub JoinsTo : Meaning → Meaning → Result (List ℕ) Error → Type 0
+JoinsTo (document t) (document u) r = WritesTo (joined t u) r
+JoinsTo m n r = r ≡ Err InvalidJsonb
+
+-- The index keys of a document are handed over, or there is not enough memory; bytes that are not a
+-- document are refused.
+abbrev pub AreKeysWritten : (Tree → List ℕ) → Meaning → List ℕ → List ℕ → ℕ → ℕ → Type 0
+AreKeysWritten keys (document t) before after size status =
+    IsHandedOver (keys t) before after size status
+    ⊎ IsRefused (code OutOfMemory) before after size status
+AreKeysWritten keys (other_bytes b) before after size status =
+    IsRefused (code InvalidJsonb) before after size status
+
+-- What an edit does, by its number and the meaning of the value: 0 puts it, 1 inserts it, 2
+-- removes. Or the status that refuses it.
+abbrev pub operation_of : ℕ → Meaning → Result Operation ℕ
+operation_of zero (document u) = Ok (put u)
+operation_of zero (other_bytes b) = Err (code InvalidJsonb)
+operation_of (suc zero) (document u) = Ok (insert u)
+operation_of (suc zero) (other_bytes b) = Err (code InvalidJsonb)
+operation_of (suc (suc zero)) m = Ok remove
+operation_of (suc (suc (suc n))) m = Err other_kind
+
+-- The tree is edited at the end of a path, if there is one, or the edit is refused.
+abbrev pub IsTreeEdited : Tree → Option (List StepView) → Result Operation ℕ → List ℕ → List ℕ → ℕ
+    → ℕ → Type 0
+IsTreeEdited t path (Err refusal) before after size status =
+    IsRefused refusal before after size status
+IsTreeEdited t None (Ok operation) before after size status =
+    IsRefused other_kind before after size status
+IsTreeEdited t (Some path) (Ok operation) before after size status =
+    (steps : List Step) × ((map step_view steps ≡ path)
+    × IsOneAnswered (WritesTo (edited_whole steps operation t)) before after size status)
+
+-- The document is edited at the end of the path that a document gives; bytes that are not a
+-- document are refused.
+abbrev pub IsDocumentEdited : Meaning → Meaning → Result Operation ℕ → List ℕ → List ℕ → ℕ → ℕ
+    → Type 0
+IsDocumentEdited (document t) (document p) operation before after size status =
+    IsTreeEdited t (path_in p) operation before after size status
+IsDocumentEdited m n operation before after size status =
+    IsRefused (code InvalidJsonb) before after size status
+
+-- The document is edited, or there is not enough memory.
+abbrev pub IsEdited : Meaning → Meaning → Result Operation ℕ → List ℕ → List ℕ → ℕ → ℕ → Type 0
+IsEdited m n operation before after size status =
+    IsDocumentEdited m n operation before after size status
+    ⊎ IsRefused (code OutOfMemory) before after size status
+
+-- What an edit does, or the status that refuses it.
+abbrev pub operation_in : Result Edit ℕ → Result Operation ℕ
+operation_in (Ok edit) = Ok (edit_operation edit)
+operation_in (Err refusal) = Err refusal

@@ -1,0 +1,288 @@
+//! What is in documents, joined and edited copies of them, and keys for an index.
+
+ghost use Rattle.std.specs.Prelude.{◌≡◌, [], IsUtf8};
+ghost use Rattle.kohiblad.specs.Words.{AreKeysWritten, Error, IsContainedAnswer, IsEdited};
+ghost use Rattle.kohiblad.specs.Words.{IsHandedOver, IsOneAnswered, IsRefused, JoinsTo, Meaning};
+ghost use Rattle.kohiblad.specs.Words.{bytes_of, checked_meaning, code, document_tree};
+ghost use Rattle.kohiblad.specs.Words.{exists_answer, meaning_within, no_truth, operation_in};
+ghost use Rattle.kohiblad.specs.Words.{operation_of, top_hashes, tree_hashes};
+
+use crate::answer::{NO_ROOM, OK, OTHER_KIND, TOO_MANY_STEPS, code, hand_over_made, refuse};
+use crate::values::{KohibladTruth, no_truth, truth_of};
+use jsonb::{Document, Error, OwnedJsonb, RawJsonb};
+use jsonb_comparable::CheckedBytes;
+use jsonb_functions::{
+    Edit, append_index_keys, append_top_keys, concat, contains_within, edit_document, exists,
+    read_path,
+};
+use std::alloc::Global;
+use std::str;
+
+/// Whether the document `left` contains `right`, as 0 or 1. An object contains the objects whose
+/// keys it has, with values that contain those; an array contains the arrays for each of whose
+/// items it has one that contains it; a scalar contains what equals it; and at the top an array
+/// also contains a scalar that is one of its items. `TOO_MANY_STEPS` if that takes more than
+/// `steps` steps, one for each pair of values that are compared and each member that is passed
+/// over: it does not if they are at least the product of the numbers of values and keys in both.
+/// `InvalidJsonb` if `left` or `right` is not a document of at most this depth. If the status is
+/// not `OK`, the value is 0. A scalar has depth 0, an array or object one more than its deepest
+/// child, and at least 1. Deeper levels are not examined.
+#[unsafe(no_mangle)]
+pub extern "C" fn kohiblad_contains(
+    left: &[u8],
+    right: &[u8],
+    depth: usize,
+    steps: usize,
+) -> KohibladTruth
+    ensures { IsContainedAnswer steps (meaning_within depth left.now)
+        (meaning_within depth right.now) result }
+{
+    let left = CheckedBytes::within(RawJsonb::new(left), depth);
+    let right = CheckedBytes::within(RawJsonb::new(right), depth);
+    match (left, right) {
+        (CheckedBytes::Document(left), CheckedBytes::Document(right)) => {
+            match contains_within(left, right, steps) {
+                Some(is_contained) => truth_of(is_contained),
+                None => no_truth(TOO_MANY_STEPS),
+            }
+        }
+        _ => no_truth(code(Error::InvalidJsonb)),
+    }
+}
+
+/// Whether the document is an object with this key, an array with this text among its items, or the
+/// text itself, as 0 or 1. `InvalidUtf8` if the key is not UTF-8; `InvalidJsonb` if the bytes are
+/// not a document of at most this depth; the value is then 0. A scalar has depth 0, an array or
+/// object one more than its deepest child, and at least 1. Deeper levels are not examined.
+#[unsafe(no_mangle)]
+pub extern "C" fn kohiblad_exists(bytes: &[u8], key: &[u8], depth: usize) -> KohibladTruth
+    ensures utf8 { (IsUtf8 key.now → ⊥) → result ≡ no_truth (code Error.InvalidUtf8) }
+    ensures answer { IsUtf8 key.now
+        → result ≡ exists_answer (meaning_within depth bytes.now) key.now }
+{
+    let Ok(key) = str::from_utf8(key) else {
+        return no_truth(code(Error::InvalidUtf8));
+    };
+    match CheckedBytes::within(RawJsonb::new(bytes), depth) {
+        CheckedBytes::Document(document) => truth_of(exists(document, key)),
+        CheckedBytes::Other(_) => no_truth(code(Error::InvalidJsonb)),
+    }
+}
+
+/// Copies the canonical document of two documents put together to `out`, and its length in bytes to
+/// `length`: of two objects the object of all members, with the value of `right` for a key of both;
+/// of all others the array of the items of both, to which a value that is not an array adds itself.
+/// `InvalidJsonb` if `left` or `right` is not a document of at most this depth, or the result
+/// exceeds a limit of the format; `OutOfMemory` if an allocation fails; `NO_ROOM` if `out` is
+/// shorter than the document. If the status is not `OK`, `out` is unchanged, and `length` is 0, or
+/// for `NO_ROOM` the length of the document. A scalar has depth 0, an array or object one more than
+/// its deepest child, and at least 1. Deeper levels are not examined.
+#[unsafe(no_mangle)]
+pub extern "C" fn kohiblad_concat(
+    alloc: Global,
+    left: &[u8],
+    right: &[u8],
+    depth: usize,
+    out: &mut [u8],
+    length: &mut usize,
+) -> u32
+    ensures { IsOneAnswered (JoinsTo (meaning_within depth left.now)
+        (meaning_within depth right.now)) out.old out.new length.new result }
+{
+    let left = CheckedBytes::within(RawJsonb::new(left), depth);
+    let right = CheckedBytes::within(RawJsonb::new(right), depth);
+    hand_over_made(joined(alloc, left, right), out, length)
+}
+
+// Two documents put together.
+fn joined(
+    alloc: Global,
+    left: CheckedBytes<'_>,
+    right: CheckedBytes<'_>,
+) -> Result<OwnedJsonb, Error>
+    ensures { JoinsTo (checked_meaning left.entry) (checked_meaning right.entry)
+        (bytes_of result) }
+{
+    match (left, right) {
+        (CheckedBytes::Document(left), CheckedBytes::Document(right)) => concat(alloc, left, right),
+        _ => Err(Error::InvalidJsonb),
+    }
+}
+
+/// Copies the index keys of a document to `out`, and how many they are to `count`: one for each
+/// scalar, a 64-bit hash of the keys of the objects around it and of the scalar itself. A document
+/// that contains another has each of its index keys, so an index over them misses no document; two
+/// scalars may have the same key. There are at most as many as a quarter of `size`. `InvalidJsonb`
+/// if the bytes are not a document of at most this depth; `OutOfMemory` if an allocation fails;
+/// `NO_ROOM` if `out` is too short. If the status is not `OK`, `out` is unchanged, and `count` is
+/// 0, or for `NO_ROOM` the number of keys. A scalar has depth 0, an array or object one more than
+/// its deepest child, and at least 1. Deeper levels are not examined.
+#[unsafe(no_mangle)]
+pub extern "C" fn kohiblad_index_keys(
+    alloc: Global,
+    bytes: &[u8],
+    depth: usize,
+    out: &mut [u64],
+    count: &mut usize,
+) -> u32
+    ensures { AreKeysWritten (tree_hashes []) (meaning_within depth bytes.now)
+        out.old out.new count.new result }
+{
+    match CheckedBytes::within(RawJsonb::new(bytes), depth) {
+        CheckedBytes::Document(document) => write_index_keys(alloc, document, out, count),
+        CheckedBytes::Other(_) => refuse_keys(code(Error::InvalidJsonb), out, count),
+    }
+}
+
+// Copies out the index keys of a document.
+fn write_index_keys(
+    alloc: Global,
+    document: Document<'_>,
+    out: &mut [u64],
+    count: &mut usize,
+) -> u32
+    ensures { AreKeysWritten (tree_hashes []) (Meaning.document (document_tree document.entry))
+        out.old out.new count.new result }
+{
+    let mut keys = Vec::new(alloc);
+    match append_index_keys(document, &mut keys) {
+        Ok(()) => hand_over_keys(&keys, out, count),
+        Err(error) => refuse_keys(code(error), out, count),
+    }
+}
+
+/// Copies the top keys of a document to `out`, and how many they are to `count`: a 64-bit hash of
+/// each key of an object, of each text among an array's items, or of the text itself. They are
+/// apart from the index keys, so one index holds both. If a key exists in a document, the one top
+/// key of the key's own document is one of the document's. There are at most as many as a quarter
+/// of `size`. `InvalidJsonb` if the bytes are not a document of at most this depth; `OutOfMemory`
+/// if an allocation fails; `NO_ROOM` if `out` is too short. If the status is not `OK`, `out` is
+/// unchanged, and `count` is 0, or for `NO_ROOM` the number of keys. A scalar has depth 0, an array
+/// or object one more than its deepest child, and at least 1. Deeper levels are not examined.
+#[unsafe(no_mangle)]
+pub extern "C" fn kohiblad_top_keys(
+    alloc: Global,
+    bytes: &[u8],
+    depth: usize,
+    out: &mut [u64],
+    count: &mut usize,
+) -> u32
+    ensures { AreKeysWritten top_hashes (meaning_within depth bytes.now)
+        out.old out.new count.new result }
+{
+    match CheckedBytes::within(RawJsonb::new(bytes), depth) {
+        CheckedBytes::Document(document) => write_top_keys(alloc, document, out, count),
+        CheckedBytes::Other(_) => refuse_keys(code(Error::InvalidJsonb), out, count),
+    }
+}
+
+// Copies out the top keys of a document.
+fn write_top_keys(alloc: Global, document: Document<'_>, out: &mut [u64], count: &mut usize) -> u32
+    ensures { AreKeysWritten top_hashes (Meaning.document (document_tree document.entry))
+        out.old out.new count.new result }
+{
+    let mut keys = Vec::new(alloc);
+    match append_top_keys(document, &mut keys) {
+        Ok(()) => hand_over_keys(&keys, out, count),
+        Err(error) => refuse_keys(code(error), out, count),
+    }
+}
+
+// Copies the keys to the start of `out` if they fit, and stores their number.
+fn hand_over_keys(keys: &[u64], out: &mut [u64], count: &mut usize) -> u32
+    ensures { IsHandedOver keys.now out.old out.new count.new result }
+{
+    *count = keys.len();
+    if out.len() < keys.len() {
+        return NO_ROOM;
+    }
+    out[..keys.len()].copy_from_slice(keys);
+    OK
+}
+
+// Returns this status, with the count 0 and no keys.
+fn refuse_keys(status: u32, out: &mut [u64], count: &mut usize) -> u32
+    ensures { IsRefused status out.old out.new count.new result }
+{
+    *count = 0;
+    status
+}
+
+/// Copies the canonical document of a document that is edited at the end of a path to `out`, and
+/// its length in bytes to `length`. `path` is the document of an array: a text is the key of a
+/// member, and a whole number the index of an item, counted from 0, or from -1 at the end. With
+/// `edit` 0 the value is put there, in place of what is there; with 1 it is inserted before an
+/// item, or as a member whose key is not there; with 2 what is there is removed, and no value is
+/// read. Past the last item a value comes after it, and before the first one in front of it. If a
+/// step before the last leads nowhere nothing is edited, and neither is the whole document but by
+/// putting a value. `InvalidJsonb` if the bytes, the path or the value are not a document of at
+/// most this depth, or the result exceeds a limit of the format; `OTHER_KIND` if there is no such
+/// edit, or the path is not an array of texts and whole numbers of 64 bits; `OutOfMemory` if an
+/// allocation fails; `NO_ROOM` if `out` is shorter than the document. If the status is not `OK`,
+/// `out` is unchanged, and `length` is 0, or for `NO_ROOM` the length of the document. A scalar has
+/// depth 0, an array or object one more than its deepest child, and at least 1. Deeper levels are
+/// not examined.
+#[unsafe(no_mangle)]
+pub extern "C" fn kohiblad_edit(
+    alloc: Global,
+    bytes: &[u8],
+    path: &[u8],
+    edit: u32,
+    value: &[u8],
+    depth: usize,
+    out: &mut [u8],
+    length: &mut usize,
+) -> u32
+    ensures { IsEdited (meaning_within depth bytes.now) (meaning_within depth path.now)
+        (operation_of edit (meaning_within depth value.now))
+        out.old out.new length.new result }
+{
+    let document = CheckedBytes::within(RawJsonb::new(bytes), depth);
+    let path = CheckedBytes::within(RawJsonb::new(path), depth);
+    let edit = edit_of(edit, CheckedBytes::within(RawJsonb::new(value), depth));
+    match (document, path) {
+        (CheckedBytes::Document(document), CheckedBytes::Document(path)) => {
+            write_edited(alloc, document, path, edit, out, length)
+        }
+        _ => refuse(code(Error::InvalidJsonb), out, length),
+    }
+}
+
+// The edit of this number with this value, or the status that refuses it.
+fn edit_of<'a>(number: u32, value: CheckedBytes<'a>) -> Result<Edit<'a>, u32>
+    ensures { operation_in result ≡ operation_of number (checked_meaning value.entry) }
+{
+    match (number, value) {
+        (0, CheckedBytes::Document(value)) => Ok(Edit::Put(value)),
+        (1, CheckedBytes::Document(value)) => Ok(Edit::Insert(value)),
+        (0 | 1, CheckedBytes::Other(_)) => Err(code(Error::InvalidJsonb)),
+        (2, _) => Ok(Edit::Remove),
+        _ => Err(OTHER_KIND),
+    }
+}
+
+// Copies out an edited document.
+fn write_edited(
+    alloc: Global,
+    document: Document<'_>,
+    path: Document<'_>,
+    edit: Result<Edit<'_>, u32>,
+    out: &mut [u8],
+    length: &mut usize,
+) -> u32
+    ensures { IsEdited (Meaning.document (document_tree document.entry))
+        (Meaning.document (document_tree path.entry)) (operation_in edit.entry)
+        out.old out.new length.new result }
+{
+    let edit = match edit {
+        Ok(edit) => edit,
+        Err(status) => return refuse(status, out, length),
+    };
+    match read_path(alloc, path) {
+        Ok(Some(steps)) => {
+            hand_over_made(edit_document(alloc, document, &steps, edit), out, length)
+        }
+        Ok(None) => refuse(OTHER_KIND, out, length),
+        Err(error) => refuse(code(error), out, length),
+    }
+}
