@@ -30,11 +30,11 @@
  * handler.
  *
  * STACK: calls on documents recurse as deep as a document nests. KOHIBLAD_LEVEL_STACK bytes for
- * each level, and KOHIBLAD_CALL_STACK beside them, are enough: 64 levels need 48 KB, and 1,000
- * levels 633 KB. So pass untrusted bytes through kohiblad_check. kohiblad_key and each call whose
- * name ends in _within look no deeper than their depth: to them a document that nests deeper is no
- * document. parse and text_fault do not recurse, but the depth given to kohiblad_parse is also how
- * deep its document nests. kind, get, find, part, begin, next, of_part, array_item, object_member,
+ * each level, and KOHIBLAD_CALL_STACK beside them, are enough: 64 levels need 72 KB, and 1,000
+ * levels 1,008 KB. So pass untrusted bytes through kohiblad_check. kohiblad_key, contains, exists,
+ * concat, edit, index_keys, top_keys and each call whose name ends in _within look no deeper than
+ * their depth: to them a document that nests deeper is no document. parse and text_fault do not
+ * recurse, but the depth given to kohiblad_parse is also how deep its document nests. kind, get, find, part, begin, next, of_part, array_item, object_member,
  * and the calls on scalars do not recurse either.
  *
  * NULL is allowed for bytes, texts, offsets, out and order whose length is 0, and for `key` of
@@ -55,7 +55,7 @@
 #define KOHIBLAD_VERSION 7000
 
 /* The stack that is enough, in bytes: see STACK above. These were measured, on x86-64. */
-#define KOHIBLAD_LEVEL_STACK 640
+#define KOHIBLAD_LEVEL_STACK 1024
 #define KOHIBLAD_CALL_STACK 8192
 
 /* How the functions of this header are named to the assembler: an inline function must not have its

@@ -98,7 +98,7 @@ build depths -pthread
 for kilobytes in 64 256 1024; do
     for shape in a o; do
         for call in check is_document is_canonical compare compare_within sort_within to_string \
-            to_pretty to_canonical build_array; do
+            to_pretty to_canonical build_array contains concat index_keys; do
             levels=$(((kilobytes * 1024 - call_stack) / document_level))
             # Deep lines are indented, so their text grows with the square of the depth.
             [ $call = to_pretty ] && [ $levels -gt 3000 ] && levels=3000

@@ -48,6 +48,15 @@ static void *work(void *unused) {
             != KOHIBLAD_INVALID_JSONB;
         status |= kohiblad_build_object_within(in, in_size, offsets, 3, 64, out, room, &length)
             != KOHIBLAD_INVALID_JSONB;
+        status |= kohiblad_contains(in, in_size, in, in_size, 64, 1).status != KOHIBLAD_INVALID_JSONB;
+        status |= kohiblad_exists(in, in_size, (const uint8_t *)"a", 1, 64).status
+            != KOHIBLAD_INVALID_JSONB;
+        status |= kohiblad_concat(in, in_size, in, in_size, 64, out, room, &length)
+            != KOHIBLAD_INVALID_JSONB;
+        status |= kohiblad_edit(in, in_size, in, in_size, KOHIBLAD_REMOVE, NULL, 0, 64, out, room,
+                                &length) != KOHIBLAD_INVALID_JSONB;
+        status |= kohiblad_index_keys(in, in_size, 64, NULL, 0, &length) != KOHIBLAD_INVALID_JSONB;
+        status |= kohiblad_top_keys(in, in_size, 64, NULL, 0, &length) != KOHIBLAD_INVALID_JSONB;
         status |= kohiblad_kind(in, in_size).status;
         status |= kohiblad_part(in, in_size, 0).status;
         status |= kohiblad_begin(in, in_size, &cursor);
@@ -65,6 +74,12 @@ static void *work(void *unused) {
         status = kohiblad_to_pretty(in, in_size, out, 0, &length);
     else if (!strcmp(name, "to_canonical"))
         status = kohiblad_to_canonical(in, in_size, out, room, &length);
+    else if (!strcmp(name, "contains"))
+        status = kohiblad_contains(in, in_size, in, in_size, levels, SIZE_MAX).value != 1;
+    else if (!strcmp(name, "concat"))
+        status = kohiblad_concat(in, in_size, in, in_size, levels, out, 0, &length);
+    else if (!strcmp(name, "index_keys"))
+        status = kohiblad_index_keys(in, in_size, levels, NULL, 0, &length);
     else if (!strcmp(name, "build_array"))
         status = kohiblad_build_array(in, in_size, (size_t[]){ 0, in_size }, 2, out, room, &length);
     else if (!strcmp(name, "parse"))

@@ -419,6 +419,124 @@ static void build_within(struct block rows, const size_t *offsets, size_t depth,
     drop(other);
 }
 
+/* Whether each key on the right is one on the left. */
+static bool are_among(const uint64_t *left, size_t count, const uint64_t *right, size_t wanted) {
+    for (size_t i = 0; i < wanted; i++) {
+        size_t at = 0;
+        while (at < count && left[at] != right[i]) at++;
+        if (at == count) return false;
+    }
+    return true;
+}
+
+/* Keys of an index: those of what is contained are among those of what contains it. */
+static void index_within(struct block b, struct block other, bool shallow, size_t depth,
+                         bool is_contained, bool has_a) {
+    enum { ROOM = 256 };
+    static uint64_t left[ROOM], right[ROOM];
+    static const uint8_t a[] = { 0x20, 0, 0, 0, 0x10, 0, 0, 1, 'a' };
+    size_t count, wanted;
+    uint32_t status = kohiblad_index_keys(b.at, b.size, depth, left, ROOM, &count);
+    assert(status == (shallow ? KOHIBLAD_OK : KOHIBLAD_INVALID_JSONB));
+    assert(count <= b.size / 4);
+    if (is_contained) {
+        assert(!kohiblad_index_keys(other.at, other.size, depth, right, ROOM, &wanted));
+        assert(are_among(left, count, right, wanted));
+    }
+    if (count > 0) {
+        assert(kohiblad_index_keys(b.at, b.size, depth, right, count - 1, &wanted)
+               == KOHIBLAD_NO_ROOM);
+        assert(wanted == count);
+    }
+    status = kohiblad_top_keys(b.at, b.size, depth, left, ROOM, &count);
+    assert(status == (shallow ? KOHIBLAD_OK : KOHIBLAD_INVALID_JSONB));
+    assert(count <= b.size / 4);
+    assert(!kohiblad_top_keys(a, sizeof a, 0, right, ROOM, &wanted) && wanted == 1);
+    if (has_a) assert(are_among(left, count, right, wanted));
+}
+
+/* The value of the key a, put and removed. */
+static void edit_within(struct block b, struct block other, bool shallow, bool is_other,
+                        size_t depth, struct block out) {
+    static const uint8_t a[] = { 0x80, 0, 0, 1, 0x10, 0, 0, 1, 'a' };
+    static uint8_t canonical[1 << 16], got[1 << 16];
+    uint32_t status, edit = below(4);
+    size_t length, needed, found;
+    ANSWER(status, out, length,
+           kohiblad_edit(b.at, b.size, a, sizeof a, edit, other.at, other.size, depth + 1, out.at,
+                         out.size, &length));
+    if (!shallow && !kohiblad_check(b.at, b.size, depth + 1)) {
+        assert(status == KOHIBLAD_INVALID_JSONB);
+        return;
+    }
+    if (edit > KOHIBLAD_REMOVE) {
+        assert(status == KOHIBLAD_OTHER_KIND);
+        return;
+    }
+    if (edit < KOHIBLAD_REMOVE && !is_other && !kohiblad_check(other.at, other.size, depth + 1)) {
+        assert(status == KOHIBLAD_INVALID_JSONB);
+        return;
+    }
+    assert(status == KOHIBLAD_OK || status == KOHIBLAD_NO_ROOM);
+    if (status != KOHIBLAD_OK) return;
+    assert(kohiblad_is_canonical(out.at, length));
+    if (kohiblad_kind(b.at, b.size).kind != KOHIBLAD_OBJECT) {
+        assert(!kohiblad_to_canonical(b.at, b.size, got, sizeof got, &found));
+        assert(found == length && !memcmp(got, out.at, length));
+        return;
+    }
+    bool had = kohiblad_find(b.at, b.size, (const uint8_t *)"a", 1).status == KOHIBLAD_OK;
+    status = kohiblad_get(out.at, length, (const uint8_t *)"a", 1, got, sizeof got, &found);
+    if (edit == KOHIBLAD_REMOVE) {
+        assert(status == KOHIBLAD_NONE);
+    } else if (edit == KOHIBLAD_PUT || !had) {
+        assert(!kohiblad_to_canonical(other.at, other.size, canonical, sizeof canonical, &needed));
+        assert(status == KOHIBLAD_OK && found == needed && !memcmp(got, canonical, found));
+    } else {
+        assert(status == KOHIBLAD_OK);
+    }
+}
+
+/* The functions over documents, by their laws. */
+static void answer_functions(struct block b, struct block other, size_t depth, struct block out) {
+    bool shallow = kohiblad_check(b.at, b.size, depth);
+    bool is_other = kohiblad_check(other.at, other.size, depth), are = shallow && is_other;
+    struct kohiblad_truth contained =
+        kohiblad_contains(b.at, b.size, other.at, other.size, depth, SIZE_MAX);
+    assert(contained.status == (are ? KOHIBLAD_OK : KOHIBLAD_INVALID_JSONB));
+    assert(contained.value <= are);
+    struct kohiblad_truth few =
+        kohiblad_contains(b.at, b.size, other.at, other.size, depth, below(20));
+    if (few.status == KOHIBLAD_TOO_MANY_STEPS) assert(are && few.value == 0);
+    else assert(few.status == contained.status && few.value == contained.value);
+    if (shallow) assert(kohiblad_contains(b.at, b.size, b.at, b.size, depth, SIZE_MAX).value == 1);
+    struct kohiblad_truth has =
+        kohiblad_exists(b.at, b.size, (const uint8_t *)"a", 1, depth);
+    assert(has.status == (shallow ? KOHIBLAD_OK : KOHIBLAD_INVALID_JSONB));
+    uint32_t kind = kohiblad_kind(b.at, b.size).kind;
+    if (shallow && kind == KOHIBLAD_OBJECT)
+        assert(has.value
+               == (kohiblad_find(b.at, b.size, (const uint8_t *)"a", 1).status == KOHIBLAD_OK));
+    index_within(b, other, shallow, depth, contained.value, has.value);
+    uint32_t status;
+    size_t length;
+    ANSWER(status, out, length,
+           kohiblad_concat(b.at, b.size, other.at, other.size, depth, out.at, out.size, &length));
+    if (!are) {
+        assert(status == KOHIBLAD_INVALID_JSONB);
+    } else if (status == KOHIBLAD_OK) {
+        assert(kohiblad_is_canonical(out.at, length));
+        bool is_object = kohiblad_kind(out.at, length).kind == KOHIBLAD_OBJECT;
+        if (is_object || kind == KOHIBLAD_ARRAY)
+            assert(kohiblad_contains(out.at, length, other.at, other.size, depth + 1, SIZE_MAX)
+                       .value
+                   || kohiblad_kind(other.at, other.size).kind == KOHIBLAD_OBJECT);
+    } else {
+        assert(status == KOHIBLAD_NO_ROOM);
+    }
+    edit_within(b, other, shallow, is_other, depth, out);
+}
+
 int main(int argc, char **argv) {
     long rounds = argc > 1 ? atol(argv[1]) : 20000;
     static uint8_t docs[TEXTS][ROOM];
@@ -538,6 +656,10 @@ int main(int argc, char **argv) {
         assert(kohiblad_is_canonical_within(b.at, b.size, depth)
                == (shallow && kohiblad_is_canonical(b.at, b.size)));
         answer_within(b, shallow, depth, out);
+        struct block asked = copy_of(docs[other], sizes[other]), wide = make(below(256));
+        answer_functions(b, asked, depth, wide);
+        drop(wide);
+        drop(asked);
 
         /* Rows: the bytes once more behind a document, with offsets that may be wrong, or begin
          * behind the document. */

@@ -57,6 +57,22 @@ int main(void) {
     assert(kohiblad_build_object_within(NULL, 0, NULL, 0, 0, NULL, 0, &length)
            == KOHIBLAD_NO_ROOM);
     assert(length == 4);
+    assert(kohiblad_contains(NULL, 0, null, sizeof null, 9, 9).status == KOHIBLAD_INVALID_JSONB);
+    assert(kohiblad_contains(null, sizeof null, NULL, 0, 9, 9).status == KOHIBLAD_INVALID_JSONB);
+    assert(kohiblad_contains(null, sizeof null, null, sizeof null, 0, 0).status
+           == KOHIBLAD_TOO_MANY_STEPS);
+    assert(kohiblad_exists(NULL, 0, NULL, 0, 9).status == KOHIBLAD_INVALID_JSONB);
+    assert(kohiblad_exists(null, sizeof null, NULL, 0, 0).status == KOHIBLAD_OK);
+    assert(kohiblad_concat(NULL, 0, NULL, 0, 9, NULL, 0, &length) == KOHIBLAD_INVALID_JSONB);
+    assert(length == 0);
+    assert(kohiblad_edit(NULL, 0, NULL, 0, KOHIBLAD_REMOVE, NULL, 0, 9, NULL, 0, &length)
+           == KOHIBLAD_INVALID_JSONB);
+    assert(kohiblad_edit(null, sizeof null, null, sizeof null, KOHIBLAD_REMOVE, NULL, 0, 9, NULL, 0,
+                         &length) == KOHIBLAD_OTHER_KIND);
+    assert(kohiblad_index_keys(null, sizeof null, 0, NULL, 0, &length) == KOHIBLAD_NO_ROOM);
+    assert(length == 1);
+    assert(kohiblad_top_keys(null, sizeof null, 0, NULL, 0, &length) == KOHIBLAD_OK);
+    assert(length == 0);
     assert(kohiblad_number(NULL, 0).status == KOHIBLAD_INVALID_EOF);
     assert(kohiblad_int64(NULL, 0).status == KOHIBLAD_INVALID_EOF);
     assert(kohiblad_text(NULL, 0).status == KOHIBLAD_INVALID_EOF);
@@ -78,6 +94,15 @@ int main(void) {
     assert(kohiblad_of_part(KOHIBLAD_TYPE_STRING, block, 8, block + 7, 57, &length)
            == KOHIBLAD_OVERLAP);
     assert(kohiblad_to_canonical_within(block, 8, 0, block, 64, &length) == KOHIBLAD_OVERLAP);
+    assert(kohiblad_concat(block, 8, null, 8, 0, block, 64, &length) == KOHIBLAD_OVERLAP);
+    assert(kohiblad_concat(null, 8, block, 8, 0, block, 64, &length) == KOHIBLAD_OVERLAP);
+    assert(kohiblad_edit(null, 8, block, 8, KOHIBLAD_PUT, null, 8, 0, block, 64, &length)
+           == KOHIBLAD_OVERLAP);
+    assert(kohiblad_edit(null, 8, null, 8, KOHIBLAD_PUT, block, 8, 0, block, 64, &length)
+           == KOHIBLAD_OVERLAP);
+    uint64_t keys[8] = { 0 };
+    assert(kohiblad_index_keys((uint8_t *)keys, 8, 0, keys, 8, &length) == KOHIBLAD_OVERLAP);
+    assert(kohiblad_top_keys(null, 8, 0, keys, 8, (size_t *)keys) == KOHIBLAD_OVERLAP);
     assert(kohiblad_build_array_within(block, 8, numbers, 2, 0, block, 64, &length)
            == KOHIBLAD_OVERLAP);
     assert(kohiblad_build_object_within(block, 8, numbers, 2, 0, (uint8_t *)numbers, 8, &length)

@@ -26,12 +26,15 @@ void *__wrap_realloc(void *block, size_t size) {
 
 static const char text[] = "{\"a\":1,\"b\":[true,\"\\u00e9\"],"
                            "\"c\":{\"d\":\"e\",\"f\":-12.5,\"g\":[[],{}]}}";
-enum { ROOM = 1024, CALLS = 25 };
+enum { ROOM = 1024, CALLS = 31 };
 static uint8_t document[ROOM], pairs[ROOM];
 static size_t size, offsets[5], pairs_size, order[4];
+static uint64_t keys[ROOM / 8];
+static uint8_t path[ROOM];
+static size_t path_size;
 
 static bool takes_memory(int which) {
-    return which < 7 || (which > 13 && which < 21) || which == 23;
+    return which < 7 || (which > 13 && which < 21) || (which > 22 && which < 28);
 }
 
 static uint32_t call(int which, uint8_t *out, size_t *length) {
@@ -73,6 +76,14 @@ static uint32_t call(int which, uint8_t *out, size_t *length) {
         *length = fault.offset;
         return fault.status;
     }
+    case 24: return kohiblad_concat(document, size, document, size, 8, out, ROOM, length);
+    case 25:
+        return kohiblad_edit(document, size, path, path_size, KOHIBLAD_PUT, document, size, 8, out,
+                             ROOM, length);
+    case 26: return kohiblad_index_keys(document, size, 8, keys, ROOM / 8, length);
+    case 27: return kohiblad_top_keys(document, size, 8, keys, ROOM / 8, length);
+    case 28: return kohiblad_contains(document, size, document, size, 8, SIZE_MAX).status;
+    case 29: return kohiblad_exists(document, size, (const uint8_t *)"b", 1, 8).status;
     default: return kohiblad_is_canonical(document, size) ? KOHIBLAD_OK : KOHIBLAD_INVALID_JSONB;
     }
 }
@@ -89,11 +100,15 @@ int main(void) {
         offsets[2 * i + 1] = pairs_size + 1;
         offsets[2 * i + 2] = pairs_size += 1 + size;
     }
+    static const char steps[] = "[\"c\",\"g\",-1]";
+    assert(kohiblad_parse((const uint8_t *)steps, sizeof steps - 1, 8, 0, path, ROOM, &path_size)
+           == KOHIBLAD_OK);
     long runs = 0;
     for (int which = 0; which < CALLS; which++) {
         for (long nth = 0;; nth++) {
             memset(out, 0xA5, ROOM);
             memset(order, 0xA5, sizeof order);
+            memset(keys, 0xA5, sizeof keys);
             left = nth;
             refused = false;
             uint32_t status = call(which, out, &length);
@@ -107,6 +122,7 @@ int main(void) {
             }
             assert(takes_memory(which) && status == KOHIBLAD_OUT_OF_MEMORY);
             assert(!memcmp(out, clean, ROOM) && !memcmp(order, clean, sizeof order));
+            assert(!memcmp(keys, clean, sizeof keys));
             assert(which == 6 || length == 0);
         }
     }
