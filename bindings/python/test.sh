@@ -4,8 +4,9 @@
 #     PREFIX=/usr/local bindings/python/test.sh
 #     PKG_CONFIG_PATH=/usr/local/lib/pkgconfig bindings/python/test.sh
 #
-# PYTHON names another Python than python3. The last line says how many tests passed, and lines
-# before it which were passed over; the status is 0, 1 after a failure, or 77 if a tool is missing.
+# All tests run twice: without the extension module, and with it if it can be compiled. PYTHON names
+# another Python than python3. The last line says how many tests passed, and lines before it which
+# were passed over; the status is 0, 1 after a failure, or 77 if a tool is missing.
 set -euo pipefail
 name=bindings/python
 python=${PYTHON:-python3}
@@ -48,9 +49,30 @@ export PYTHONPATH=$scratch/python/src PYTHONWARNINGS=error::SyntaxWarning
 
 run "$python" --version
 run "$python" -m compileall -q src tests build_backend bench.py || fail "a file has a wrong syntax"
-cd tests
-run "$python" -m unittest -v 2>&1 | tee "$scratch/log" || fail "the tests failed"
-ran=$(sed -n 's/^Ran \([0-9]*\) test.*/\1/p' "$scratch/log")
-skipped=$(sed -n 's/^OK.*skipped=\([0-9]*\).*/\1/p' "$scratch/log")
-sed -n "s|.*\.\.\. skipped ['\"]\(.*\)['\"]$|$name: passed over: \1|p" "$scratch/log" | sort -u
-echo "$name: $((ran - ${skipped:-0})) tests passed"
+
+# Runs the tests with or without the extension module, and counts those that passed in $passed.
+run_tests() {
+    local ran skipped
+    echo "+ KOHIBLAD_NATIVE=$1"
+    (cd tests && KOHIBLAD_NATIVE=$1 run "$python" -m unittest -v) 2>&1 | tee "$scratch/log" ||
+        fail "the tests failed with KOHIBLAD_NATIVE=$1"
+    ran=$(sed -n 's/^Ran \([0-9]*\) test.*/\1/p' "$scratch/log")
+    skipped=$(sed -n 's/^OK.*skipped=\([0-9]*\).*/\1/p' "$scratch/log")
+    sed -n "s|.*\.\.\. skipped ['\"]\(.*\)['\"]$|$name: passed over: \1|p" "$scratch/log" |
+        sort -u >> "$scratch/skipped"
+    passed=$((ran - ${skipped:-0}))
+}
+
+rm -f src/kohiblad/_native.*.so
+build=("$python" build_backend/kohiblad_build.py --extension src/kohiblad)
+if KOHIBLAD_NATIVE=1 run "${build[@]}"; then has_module=1; else has_module=; fi
+run_tests 0
+told="$passed tests passed without the extension module"
+if [ "$has_module" ]; then
+    # What was passed over without the module is not, with it.
+    : > "$scratch/skipped"
+    run_tests 1
+    told="$told, $passed with it"
+fi
+sort -u "$scratch/skipped"
+echo "$name: $told"

@@ -6,6 +6,7 @@ import re
 import shutil
 import subprocess
 import sys
+import sysconfig
 import tarfile
 import tempfile
 import unittest
@@ -24,9 +25,23 @@ print(importlib.metadata.version("kohiblad"))
 """
 
 
+PRINTS_NATIVE = "import kohiblad; print(kohiblad.IS_NATIVE)"
+
+
+def can_compile():
+    with tempfile.TemporaryDirectory() as folder:
+        return subprocess.run([sys.executable, BACKEND, "--extension", folder],
+                              env=dict(os.environ, KOHIBLAD_NATIVE="1"), stdout=subprocess.DEVNULL,
+                              stderr=subprocess.DEVNULL).returncode == 0
+
+
 def has_pip():
     return subprocess.run([sys.executable, "-m", "pip", "--version"], stdout=subprocess.DEVNULL,
                           stderr=subprocess.DEVNULL).returncode == 0
+
+
+CAN_COMPILE = can_compile()
+NEEDS_COMPILER = "the extension module: needs the Debian packages gcc and python3-dev"
 
 
 class ReadmeTest(unittest.TestCase):
@@ -49,7 +64,8 @@ class PackageTest(unittest.TestCase):
         self.path = os.environ["KOHIBLAD_LIBRARY"]
         prefix = os.path.dirname(os.path.dirname(self.path))
         self.environment = {name: value for name, value in os.environ.items()
-                            if name not in ("KOHIBLAD_LIBRARY", "PYTHONPATH", "PKG_CONFIG_PATH")}
+                            if name not in ("KOHIBLAD_LIBRARY", "KOHIBLAD_NATIVE", "PYTHONPATH",
+                                            "PKG_CONFIG_PATH")}
         self.environment["PREFIX"] = prefix
 
     def run_python(self, *arguments, **more):
@@ -79,7 +95,7 @@ class PackageTest(unittest.TestCase):
 
 class WheelTest(PackageTest):
     def test_the_backend_puts_the_library_in(self):
-        self.run_python(BACKEND, self.folder)
+        self.run_python(BACKEND, self.folder, KOHIBLAD_NATIVE="0")
         wheel = self.wheel()
         self.assertRegex(wheel, r"kohiblad-[\d.]+-py3-none-linux_\w+\.whl$")
         with zipfile.ZipFile(wheel) as files:
@@ -94,6 +110,29 @@ class WheelTest(PackageTest):
         output = self.run_python("-c", PROGRAM, PYTHONPATH="site")
         self.assertTrue(output.endswith("[1.50]\n"))
         self.assertIn("site", output)
+        self.assertEqual(self.run_python("-c", PRINTS_NATIVE, PYTHONPATH="site"), "False\n")
+
+    @unittest.skipUnless(CAN_COMPILE, NEEDS_COMPILER)
+    def test_the_backend_puts_the_extension_in(self):
+        self.run_python(BACKEND, self.folder, KOHIBLAD_NATIVE="1")
+        wheel, version = self.wheel(), "{}{}".format(*sys.version_info)
+        self.assertRegex(wheel, rf"-cp{version}-cp{version}\w*-linux_\w+\.whl$")
+        with zipfile.ZipFile(wheel) as files:
+            suffix = sysconfig.get_config_var("EXT_SUFFIX")
+            self.assertIn(f"kohiblad/_native{suffix}", files.namelist())
+            self.assertIn("kohiblad/libkohiblad.so.0", files.namelist())
+            files.extractall(os.path.join(self.folder, "site"))
+        self.assertEqual(self.run_python("-c", PRINTS_NATIVE, PYTHONPATH="site"), "True\n")
+        self.run_python("-c", PROGRAM, PYTHONPATH="site", KOHIBLAD_NATIVE="1")
+
+    def test_without_a_compiler_the_wheel_has_no_extension(self):
+        output = self.run_python(BACKEND, self.folder, CC="false")
+        self.assertIn("kohiblad: built without its extension module", output)
+        self.assertRegex(self.wheel(), r"-py3-none-linux_\w+\.whl$")
+        done = subprocess.run([sys.executable, BACKEND, self.folder], stdout=subprocess.DEVNULL,
+                              stderr=subprocess.DEVNULL,
+                              env=dict(self.environment, CC="false", KOHIBLAD_NATIVE="1"))
+        self.assertEqual(done.returncode, 1)
 
     def test_without_the_library_the_wheel_is_for_all(self):
         self.environment.pop("PREFIX")
@@ -149,9 +188,12 @@ class SourceTest(PackageTest):
         found = {os.path.relpath(os.path.join(folder, name), top)
                  for folder, _, names in os.walk(top) for name in names}
         package = {f"src/kohiblad/{name}" for name in os.listdir(os.path.dirname(kohiblad.__file__))
-                   if name.endswith(".py") or name == "py.typed"}
-        self.assertEqual(found, package | {"PKG-INFO", "LICENSE", "README.md", "pyproject.toml",
-                                           "build_backend/kohiblad_build.py"})
+                   if name.endswith((".py", ".pyi")) or name == "py.typed"}
+        native = {f"src/native/{name}" for name in os.listdir(os.path.join(TOP, "src", "native"))}
+        self.assertIn("src/native/module.c", native)
+        self.assertEqual(found, package | native | {
+            "PKG-INFO", "LICENSE", "README.md", "pyproject.toml", "kohiblad.h",
+            "build_backend/kohiblad_build.py"})
         self.run_python(os.path.join(top, "build_backend", "kohiblad_build.py"), self.folder)
         with open(self.wheel(), "rb") as file:
             from_sources = file.read()
@@ -202,6 +244,15 @@ class EditableTest(PackageTest):
         self.build()
         self.assertEqual(os.readlink(self.link), self.path)
         self.assert_is_installed("site")
+
+    @unittest.skipUnless(CAN_COMPILE, NEEDS_COMPILER)
+    def test_the_hook_compiles_the_extension(self):
+        self.build()
+        self.assertEqual(self.run_python("-c", EDITABLE + PRINTS_NATIVE, "site").splitlines()[-1],
+                         "True")
+        self.build(CC="false")
+        self.assertEqual(self.run_python("-c", EDITABLE + PRINTS_NATIVE, "site").splitlines()[-1],
+                         "False")
 
     def test_without_the_library_no_link_is_left(self):
         self.build()

@@ -1,15 +1,22 @@
 """Documents: checked bytes, read in place."""
+import operator
 import re
 from decimal import Decimal
 from functools import lru_cache, total_ordering
 from json import JSONDecoder
 from typing import (TYPE_CHECKING, Any, Callable, Dict, Generator, ItemsView, Iterator, List,
                     Mapping, Optional, Pattern, Sequence, SupportsIndex, Tuple, Type, Union,
-                    ValuesView, overload)
+                    ValuesView, cast, overload)
 
 from . import _library as library
-from ._encode import DEPTH, encode, parse
+from . import _scalars as scalars
+from ._encode import DEPTH, bytes_of_text, encode, fault_of, parse
+from ._errors import KohibladError
+from ._library import IS_NATIVE
 from ._scalars import Scalar, scalar_of
+
+if IS_NATIVE:
+    from . import _native as native
 
 _KINDS = ("null", "boolean", "number", "string", "extension", "array", "object")
 _MOST_SHOWN = 70
@@ -50,9 +57,11 @@ class Document:
         one more than its deepest child, and at least 1. InvalidDocumentError: the bytes are no
         document of that depth.
         """
-        data = library.bytes_of(data, "Document takes stored bytes (Document.parse: a text)")
+        if IS_NATIVE:
+            return native.check(data, depth)
+        data = _bytes_of_stored(data)
         if not library.check(data, len(data), _checked_depth(depth)):
-            raise library.error_of(library.INVALID_JSONB, f"no document of depth {depth} or less")
+            raise _no_document(depth)
         return _of_checked(data)
 
     @classmethod
@@ -66,7 +75,9 @@ class Document:
         UTF-8, or has a number that is refused or has too many digits, and its `offset` says where;
         TooDeepError; InvalidDocumentError: it is past a limit of the format.
         """
-        return _of_checked(parse(text, _checked_depth(depth), exponents))
+        if IS_NATIVE:
+            return native.parse(text, depth, exponents)
+        return _of_checked(parse(text, _checked_depth(depth), bool(exponents)))
 
     @classmethod
     def of(cls, value: Any) -> "Document":
@@ -78,11 +89,17 @@ class Document:
         InvalidTextError: half of a surrogate pair; TooDeepError: it nests more than 1,000 deep;
         TypeError: a value of another type.
         """
+        if IS_NATIVE:
+            document = native.of(value)
+            if document is not None:
+                return document
         return _of_checked(encode(value, Document))
 
     @property
     def kind(self) -> str:
         """null, boolean, number, string, extension, array or object."""
+        if IS_NATIVE:
+            return _KINDS[native.kind(self._data)]
         return _KINDS[library.kind(self._data, len(self._data)).kind]
 
     def value(self) -> Value:
@@ -92,6 +109,8 @@ class Document:
         extension values as bytes, date, datetime, Interval or Opaque, or as Date, Timestamp or
         TimestampTz where Python has no such date.
         """
+        if IS_NATIVE:
+            return native.value(self._data)
         # Without extension values the JSON text says all, and Python's reader of it is quicker.
         if not _may_have_extensions(self._data):
             try:
@@ -103,9 +122,12 @@ class Document:
     def key(self) -> bytes:
         """The comparable key: keys compare by their bytes as documents do, and hash alike."""
         if self._key is None:
-            # A document of n bytes is less than n deep, so this depth excludes none.
-            size = len(self._data)
-            self._key = library.result_of(library.key, 2 * size + 64, self._data, size, size)
+            if IS_NATIVE:
+                self._key = native.key(self._data)
+            else:
+                # A document of n bytes is less than n deep, so this depth excludes none.
+                size = len(self._data)
+                self._key = library.result_of(library.key, 2 * size + 64, self._data, size, size)
         return self._key
 
     def canonical(self) -> "Document":
@@ -113,14 +135,20 @@ class Document:
 
         InvalidDocumentError: that form is past a limit of the format.
         """
+        if IS_NATIVE:
+            return _of_checked(native.to_canonical(self._data))
         return _of_checked(self._written(library.to_canonical))
 
     def pretty(self) -> str:
         """The JSON text on lines, indented by two spaces."""
+        if IS_NATIVE:
+            return native.to_pretty(self._data)
         return self._written(library.to_pretty).decode()
 
     def __str__(self) -> str:
         """The JSON text without white space; members are sorted by their keys."""
+        if IS_NATIVE:
+            return native.to_string(self._data)
         return self._written(library.to_string).decode()
 
     def _written(self, call: Any) -> bytes:
@@ -158,6 +186,8 @@ class ScalarDocument(Document):
 
     def value(self) -> Scalar:
         """The scalar as a Python value."""
+        if IS_NATIVE:
+            return cast(Scalar, native.value(self._data))
         return scalar_of(*library.scalar_parts(self._data))
 
 
@@ -169,15 +199,29 @@ class _Container(Document):
     __slots__ = ()
 
     def __len__(self) -> int:
+        if IS_NATIVE:
+            return native.count(self._data)
         count: int = library.kind(self._data, len(self._data)).count
         return count
 
     def _child(self, place: library.Place) -> Child:
         return _child_of(place.type, library.payload_of(self._data, place))
 
+    def _names(self) -> Iterator[str]:
+        if IS_NATIVE:
+            return native.names(self._data)
+        return (name for name, _ in self._members())
+
+    def _values(self) -> Iterator[Child]:
+        if IS_NATIVE:
+            return native.values(self._data)
+        return (_child_of(type_, payload) for _, type_, payload in library.children(self._data))
+
     def _members(self) -> Iterator[Tuple[str, Child]]:
-        for key, type_, payload in library.children(self._data):
-            yield key.decode(), _child_of(type_, payload)
+        if IS_NATIVE:
+            return native.pairs(self._data)
+        return ((key.decode(), _child_of(type_, payload))
+                for key, type_, payload in library.children(self._data))
 
 
 class ArrayDocument(_Container, Sequence[Child]):
@@ -191,6 +235,8 @@ class ArrayDocument(_Container, Sequence[Child]):
     def __getitem__(self, index: slice) -> List[Child]: ...
 
     def __getitem__(self, index: Union[SupportsIndex, slice]) -> Union[Child, List[Child]]:
+        if IS_NATIVE and type(index) is int:
+            return native.item(self._data, index)
         if isinstance(index, slice):
             return list(self)[index]
         place = library.part(self._data, len(self._data), self._number_of(index))
@@ -207,7 +253,7 @@ class ArrayDocument(_Container, Sequence[Child]):
             raise IndexError("array index out of range") from None
 
     def __iter__(self) -> Iterator[Child]:
-        return (item for _, item in self._members())
+        return self._values()
 
     def __reversed__(self) -> Iterator[Child]:
         return reversed(list(self))
@@ -222,16 +268,20 @@ class ObjectDocument(_Container, Mapping[str, Child]):
     __slots__ = ()
 
     def __getitem__(self, name: str) -> Child:
+        if IS_NATIVE and type(name) is str:
+            return native.member(self._data, name)
         place = self._find(name)
         if place is None:
             raise KeyError(name)
         return self._child(place)
 
     def __contains__(self, name: object) -> bool:
+        if IS_NATIVE and type(name) is str:
+            return native.contains(self._data, name)
         return self._find(name) is not None
 
     def __iter__(self) -> Iterator[str]:
-        return (name for name, _ in self._members())
+        return self._names()
 
     def items(self) -> "_Items":
         return _Items(self)
@@ -266,7 +316,7 @@ class _Values(ValuesView[Child]):
     _mapping: ObjectDocument
 
     def __iter__(self) -> Iterator[Child]:
-        return (value for _, value in self._mapping._members())
+        return self._mapping._values()
 
 
 _CLASSES: Dict[int, Type[Document]] = {
@@ -284,9 +334,18 @@ def _of_checked(data: bytes) -> Document:
 
 
 def _checked_depth(depth: int) -> int:
+    depth = operator.index(depth)
     if not 0 <= depth <= DEPTH:
         raise ValueError(f"the depth is to be from 0 to {DEPTH}")
     return depth
+
+
+def _bytes_of_stored(data: Any) -> bytes:
+    return library.bytes_of(data, "Document takes stored bytes (Document.parse: a text)")
+
+
+def _no_document(depth: int) -> KohibladError:
+    return library.error_of(library.INVALID_JSONB, f"no document of depth {depth} or less")
 
 
 def _child_of(type_: int, payload: bytes) -> Child:
@@ -338,3 +397,41 @@ def _decoder(data: bytes) -> _Decoder:
     if data[0] & library.HEADER_TAG_MASK == library.ARRAY:
         return values
     return {key.decode(): value for key, value in zip(keys, values)}
+
+
+def loads(text: Union[str, bytes]) -> Value:
+    """The Python values of a JSON text: ``json.loads`` with each decimal as a ``Decimal``.
+
+    Members are sorted by their keys. Raises as ``Document.parse``.
+    """
+    if IS_NATIVE:
+        return native.loads(text)
+    return Document.parse(text).value()
+
+
+def dumps(value: Any) -> str:
+    """The JSON text of a Python value, as of ``str(Document.of(value))``.
+
+    It is that of ``json.dumps`` with ``separators=(",", ":")`` and ``ensure_ascii=False``, with the
+    members sorted by the bytes of their keys. Extension values become strings, as README says.
+    Raises as ``Document.of``.
+    """
+    if IS_NATIVE:
+        text = native.dumps(value)
+        if text is not None:
+            return text
+    return str(_of_checked(encode(value, Document)))
+
+
+if IS_NATIVE:
+    native.bind(
+        library.addresses("begin", "boolean", "check", "find", "key", "kind", "next", "number",
+                          "of_part", "parse", "part", "text", "to_canonical", "to_pretty",
+                          "to_string"),
+        {"scalar_document": ScalarDocument, "object_document": ObjectDocument,
+         "array_document": ArrayDocument, "data_slot": vars(Document)["_data"],
+         "key_slot": vars(Document)["_key"], "decimal": Decimal, "bytes_of_text": bytes_of_text,
+         "bytes_of_stored": _bytes_of_stored, "checked_depth": _checked_depth,
+         "error_of": library.error_of, "fault_of": fault_of, "no_document": _no_document,
+         "scalar_of": scalar_of, "text_of_int": scalars.text_of_int,
+         "text_of_decimal": scalars.text_of_decimal})

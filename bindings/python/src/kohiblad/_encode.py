@@ -14,6 +14,9 @@ from . import _library as library
 from . import _scalars as scalars
 from ._errors import FloatError, InvalidTextError, KohibladError
 
+if library.IS_NATIVE:
+    from . import _native as native
+
 # A JSON text, or a document.
 Encoded = Union[str, bytes]
 # Encodes a container: yields each child that is no plain scalar, and is sent what it became.
@@ -28,20 +31,26 @@ DEPTH = 1000
 
 def parse(text: Union[str, bytes], depth: int = DEPTH, exponents: bool = True) -> bytes:
     """The document of a JSON text, whose numbers may have exponents or not."""
-    if isinstance(text, str):
-        data = _utf8(text)
-    else:
-        data = library.bytes_of(text, "a JSON text is a str or bytes")
+    if library.IS_NATIVE:
+        return bytes(native.parse(text, depth, exponents))
+    data = bytes_of_text(text)
     try:
         return library.result_of(library.parse, 2 * len(data) + 64, data, len(data), depth,
                                  exponents)
     except InvalidTextError as error:
         if error.status != library.INVALID_JSON:
             raise
-        raise _fault_of(data, depth, exponents) from None
+        raise fault_of(data, depth, exponents) from None
 
 
-def _fault_of(text: bytes, depth: int, exponents: bool) -> KohibladError:
+def bytes_of_text(text: Union[str, bytes]) -> bytes:
+    """The UTF-8 of a JSON text."""
+    if isinstance(text, str):
+        return _utf8(text)
+    return library.bytes_of(text, "a JSON text is a str or bytes")
+
+
+def fault_of(text: bytes, depth: int, exponents: bool) -> KohibladError:
     """Why a text is no JSON, and where."""
     fault = library.text_fault(text, len(text), depth, exponents)
     if fault.status not in (library.INVALID_JSON, library.BAD_NUMBER):

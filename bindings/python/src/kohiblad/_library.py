@@ -2,6 +2,9 @@
 
 ctypes releases Python's lock during each call. No export may get a null pointer, and ``bytes``
 never are one, also when they are empty.
+
+The extension module ``_native`` makes the calls of most programs in C, if it was built. It is
+handed the addresses of the same exports.
 """
 import ctypes
 import os
@@ -10,6 +13,7 @@ from ctypes import c_bool, c_char_p, c_int32, c_int64, c_size_t, c_uint32, c_uin
 from functools import lru_cache
 from typing import Any, Callable, Dict, Iterator, List, Sequence, Tuple, Type
 
+from . import __version__
 from ._errors import (ExtensionError, InvalidDocumentError, InvalidTextError, KohibladError,
                       NumberError, OutOfMemoryError, TooDeepError)
 
@@ -112,6 +116,37 @@ def _export(name: str, result: Any, *arguments: Any) -> Callable[..., Any]:
 version = _export("version", c_uint32)
 if version() < OLDEST_VERSION:
     raise ImportError(f"kohiblad needs {FILE_NAME} of version {OLDEST_VERSION}, not {version()}")
+
+
+def _has_native() -> bool:
+    """Whether the extension module is to be used: it is there, and KOHIBLAD_NATIVE is not 0.
+
+    ImportError: KOHIBLAD_NATIVE is 1, and the module is missing or of another version.
+    """
+    wish = os.environ.get("KOHIBLAD_NATIVE")
+    if wish == "0":
+        return False
+    try:
+        from . import _native
+    except ImportError as error:
+        if wish == "1":
+            raise ImportError(f"KOHIBLAD_NATIVE is 1, but there is no extension module: {error}")
+        return False
+    if _native.VERSION == __version__:
+        return True
+    if wish == "1":
+        raise ImportError(f"KOHIBLAD_NATIVE is 1, but the extension module {_native.__file__} is "
+                          f"of version {_native.VERSION}, not {__version__}")
+    return False
+
+
+IS_NATIVE: bool = _has_native()
+
+
+def addresses(*names: str) -> Dict[str, int]:
+    """The addresses of some exports, by their names without kohiblad_."""
+    return {name: ctypes.cast(_library["kohiblad_" + name], c_void_p).value or 0 for name in names}
+
 
 _BYTES = (c_char_p, c_size_t)
 _OUT = (c_void_p, c_size_t, c_void_p)

@@ -1,0 +1,155 @@
+/* What the files of the extension module kohiblad._native share.
+ *
+ * The module does in C what the package does by ctypes where the module is missing: the same calls
+ * of the same library, with the same answers. It links no library: the package hands it the
+ * addresses of the exports. Each error is made by the package's own code, which the module calls. */
+#ifndef NATIVE_H
+#define NATIVE_H
+
+#define PY_SSIZE_T_CLEAN
+#include <Python.h>
+
+#include <kohiblad.h>
+#include <stdbool.h>
+#include <stddef.h>
+#include <stdint.h>
+
+#if KOHIBLAD_VERSION < 7000
+#error "the module needs kohiblad.h of version 7000 or newer"
+#endif
+
+#if PY_VERSION_HEX < 0x030A0000
+static inline PyObject *Py_NewRef(PyObject *object)
+{
+    Py_INCREF(object);
+    return object;
+}
+#endif
+
+/* The greatest depth of any document and text: DEPTH of the package. */
+#define MOST_DEPTH 1000
+
+/* Python's lock is released for calls over so many bytes or more. */
+#define LONG_SIZE (1 << 14)
+
+/* The exports of the library that are called, each of the header's type. */
+struct library {
+    __typeof__(kohiblad_export_begin) *begin;
+    __typeof__(kohiblad_export_check) *check;
+    __typeof__(kohiblad_export_find) *find;
+    __typeof__(kohiblad_export_key) *key;
+    __typeof__(kohiblad_export_kind) *kind;
+    __typeof__(kohiblad_export_next) *next;
+    __typeof__(kohiblad_export_number) *number;
+    __typeof__(kohiblad_export_of_part) *of_part;
+    __typeof__(kohiblad_export_parse) *parse;
+    __typeof__(kohiblad_export_part) *part;
+    __typeof__(kohiblad_export_text) *text;
+    __typeof__(kohiblad_export_boolean) *boolean;
+    __typeof__(kohiblad_export_to_canonical) *to_canonical;
+    __typeof__(kohiblad_export_to_pretty) *to_pretty;
+    __typeof__(kohiblad_export_to_string) *to_string;
+};
+
+/* Names that were read lately, each at the place that its bytes choose. */
+#define NAME_PLACES 256
+#define LONGEST_KEPT_NAME 64
+
+struct state {
+    struct library library;
+    bool is_bound;
+    PyTypeObject *walk; /* the type of iterators */
+    /* What the package hands over. */
+    PyObject *scalar_document, *object_document, *array_document; /* classes */
+    PyObject *data_slot, *key_slot;   /* what sets the fields of a document */
+    PyObject *decimal;                /* the class Decimal */
+    PyObject *bytes_of_text, *bytes_of_stored, *checked_depth;
+    PyObject *error_of, *fault_of, *no_document;
+    PyObject *scalar_of, *text_of_int, *text_of_decimal;
+    PyObject *names[NAME_PLACES];
+};
+
+/* The state of the module. NULL with an exception: bind has not been called. */
+struct state *state_of(PyObject *module);
+
+/* Bytes that go into a call, and the object that keeps them. */
+struct input {
+    PyObject *owner;
+    const uint8_t *at;
+    size_t size;
+};
+
+/* Memory for a result, which is inside it while it is short. Takes no memory until it is used. */
+#define NEAR_SIZE 1024
+struct room {
+    PyObject *bytes; /* where a long result is, or NULL */
+    uint8_t *at;
+    size_t size, length;
+    uint8_t near[NEAR_SIZE];
+};
+
+/* The calls whose results are bytes. */
+enum call { CALL_KEY, CALL_PARSE, CALL_TO_CANONICAL, CALL_TO_PRETTY, CALL_TO_STRING };
+
+/* Makes a call over some bytes into a room. `depth` and `exponents` are those of parse. Returns
+ * the status, or OK with *failed set: Python was refused memory, and has an exception. */
+uint32_t call_into(struct state *state, enum call call, const uint8_t *bytes, size_t size,
+                   size_t depth, bool exponents, struct room *room, bool *failed);
+void close_room(struct room *room);
+
+/* Parses a text into a room. False with the exception that Document.parse raises: it is refused. */
+bool parse_into(struct state *state, const struct input *text, size_t depth, bool exponents,
+                struct room *room);
+
+/* The result in a room as bytes and as a str, and the document of it. They close the room. */
+PyObject *bytes_of_room(struct room *room);
+PyObject *str_of_room(struct room *room);
+PyObject *document_of_room(struct state *state, struct room *room);
+
+/* Raises the exception of a status, and returns NULL. */
+PyObject *raise_status(struct state *state, uint32_t status);
+/* Raises an exception that a function of the package returns, and returns NULL. */
+PyObject *raise_made(PyObject *exception);
+
+/* The document of checked bytes. */
+PyObject *document_of(struct state *state, PyObject *data);
+/* The whole value of checked bytes. */
+PyObject *value_of(struct state *state, const uint8_t *bytes, size_t size);
+/* A child at a place of a document. */
+PyObject *child_of(struct state *state, const uint8_t *bytes, const struct kohiblad_place *place);
+/* The name of a member. */
+PyObject *name_of(struct state *state, const uint8_t *bytes, size_t size);
+
+/* Opens the UTF-8 of a text that a caller gave. False with an exception: it is no text. */
+bool open_text(struct state *state, PyObject *text, struct input *input);
+/* The depth that a caller gave. False with an exception: it is none. */
+bool depth_of(struct state *state, PyObject *given, size_t *depth);
+
+extern PyType_Spec walk_spec;
+
+/* The functions of the module, as _native.pyi lists them. */
+PyObject *native_check(PyObject *module, PyObject *const *arguments, Py_ssize_t count);
+PyObject *native_contains(PyObject *module, PyObject *const *arguments, Py_ssize_t count);
+PyObject *native_count(PyObject *module, PyObject *data);
+PyObject *native_dumps(PyObject *module, PyObject *value);
+PyObject *native_item(PyObject *module, PyObject *const *arguments, Py_ssize_t count);
+PyObject *native_key(PyObject *module, PyObject *data);
+PyObject *native_kind(PyObject *module, PyObject *data);
+PyObject *native_loads(PyObject *module, PyObject *text);
+PyObject *native_member(PyObject *module, PyObject *const *arguments, Py_ssize_t count);
+PyObject *native_names(PyObject *module, PyObject *data);
+PyObject *native_of(PyObject *module, PyObject *value);
+PyObject *native_pairs(PyObject *module, PyObject *data);
+PyObject *native_parse(PyObject *module, PyObject *const *arguments, Py_ssize_t count);
+PyObject *native_to_canonical(PyObject *module, PyObject *data);
+PyObject *native_to_pretty(PyObject *module, PyObject *data);
+PyObject *native_to_string(PyObject *module, PyObject *data);
+PyObject *native_value(PyObject *module, PyObject *data);
+PyObject *native_values(PyObject *module, PyObject *data);
+
+/* Whether a function got as many arguments as it takes; if not, with an exception. */
+bool has_count(Py_ssize_t count, Py_ssize_t expected);
+/* The stored bytes that are an argument. False with an exception: it is no bytes object. */
+bool open_data(PyObject *data, struct input *input);
+
+#endif
