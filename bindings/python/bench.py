@@ -1,13 +1,17 @@
-"""Prints README's table of times: kohiblad beside Python's json.
+"""Prints README's table of times: kohiblad, with and without its extension module, and json.
 
     python3 bench.py
 
-Each time is the median of 21 rounds, in which all rows of the table take turns. json reads decimals
-as Decimal, and writes them as floats.
+Each time is the median of 21 rounds, in which all rows and columns of the table take turns. json
+reads decimals as Decimal, and writes them as floats.
 """
 import json
+import os
 import statistics
+import subprocess
+import sys
 import time
+from datetime import datetime
 from decimal import Decimal
 
 from kohiblad import Document, dumps, loads
@@ -36,6 +40,7 @@ def cases():
     stored = bytes(document)
     texts = rows_of(10_000)
     array = "[" + ",".join(texts[:1_000]) + "]"
+    dated = dict(value, at=datetime(2026, 11, 27, 2, 30))
     stored_rows = [bytes(Document.parse(text)) for text in texts]
     json_options = {"separators": (",", ":"), "ensure_ascii": False, "default": float}
     return [
@@ -45,10 +50,13 @@ def cases():
          lambda: json.dumps(value, **json_options)),
         ("`Document.parse(text)`", 1_000, lambda: Document.parse(ROW), None),
         ("`Document.of(value)`", 1_000, lambda: Document.of(value), None),
+        ("`Document.of(value)` with a `datetime`", 1_000, lambda: Document.of(dated), None),
         ("`Document(stored)`", 1_000, lambda: Document(stored), None),
         ("`Document(stored)[\"price\"]`, `loads(text)[\"price\"]`", 1_000,
          lambda: Document(stored)["price"], lambda: exact(ROW)["price"]),
         ("`document[\"price\"]`", 1_000, lambda: document["price"], None),
+        ("`dict(document)`", 1_000, lambda: dict(document), None),
+        ("`document.value()`", 1_000, document.value, None),
         ("10,000 stored rows: `sorted(documents)`", 1,
          lambda: sorted(map(Document, stored_rows)), None),
         ("10,000 stored rows: `sorted(documents, key=Document.key)`", 1,
@@ -74,17 +82,47 @@ def shown(measured):
     return f"{micros:,.1f} µs" if micros < 1_000 else f"{micros / 1_000:,.1f} ms"
 
 
+def times_of(measured, which):
+    """The times of one round, by names: of the package's programs (0) or of json's (1)."""
+    return {name: seconds(programs[which], times)
+            for name, times, *programs in measured if programs[which]}
+
+
+def answer_rounds():
+    """Measures the package each time that a line is read."""
+    measured = cases()
+    for _ in sys.stdin:
+        print(json.dumps(times_of(measured, 0)), flush=True)
+
+
+class Way:
+    """A process that measures the package with the extension module, or without it."""
+
+    def __init__(self, wish):
+        self._process = subprocess.Popen(
+            [sys.executable, __file__, "--answer"], stdin=subprocess.PIPE, stdout=subprocess.PIPE,
+            env=dict(os.environ, KOHIBLAD_NATIVE=wish), text=True)
+
+    def times(self):
+        self._process.stdin.write("\n")
+        self._process.stdin.flush()
+        return json.loads(self._process.stdout.readline())
+
+    def end(self):
+        self._process.stdin.close()
+        self._process.wait()
+
+
 def main():
-    measured = [(name, times, ours, other, [], []) for name, times, ours, other in cases()]
-    for _ in range(ROUNDS):
-        for _, times, ours, other, our_times, other_times in measured:
-            our_times.append(seconds(ours, times))
-            if other:
-                other_times.append(seconds(other, times))
-    print("| | kohiblad | json |\n|---|---|---|")
-    for name, _, _, _, our_times, other_times in measured:
-        print(f"| {name} | {shown(our_times)} | {shown(other_times)} |")
+    module, by_ctypes, measured = Way("1"), Way("0"), cases()
+    rounds = [(module.times(), by_ctypes.times(), times_of(measured, 1)) for _ in range(ROUNDS)]
+    module.end()
+    by_ctypes.end()
+    print("| | kohiblad | by ctypes | json |\n|---|---|---|---|")
+    for name in rounds[0][0]:
+        columns = [shown([it[name] for it in column if name in it]) for column in zip(*rounds)]
+        print(f"| {name} | {' | '.join(columns)} |")
 
 
 if __name__ == "__main__":
-    main()
+    answer_rounds() if "--answer" in sys.argv else main()

@@ -12,8 +12,9 @@ HERE = os.path.dirname(os.path.abspath(__file__))
 
 def run(*arguments, **environment):
     """The output of a program of Python, and of its errors the last line."""
-    done = subprocess.run([sys.executable, *arguments], cwd=HERE, stdout=subprocess.PIPE,
-                          stderr=subprocess.PIPE, env=dict(os.environ, PYTHONHASHSEED="0", **environment))
+    environment = dict(os.environ, PYTHONHASHSEED="0", **environment)
+    done = subprocess.run([sys.executable, *arguments], cwd=HERE, env=environment,
+                          stdout=subprocess.PIPE, stderr=subprocess.PIPE)
     errors = done.stderr.decode().splitlines()
     return done.returncode, done.stdout.decode(), errors[-1] if errors else ""
 
@@ -36,7 +37,8 @@ class NativeTest(unittest.TestCase):
             self.assertEqual(one, other, f"line {number}")
 
     def test_it_is_chosen_by_the_environment(self):
-        program = "import kohiblad, sys; print(kohiblad.IS_NATIVE, 'kohiblad._native' in sys.modules)"
+        program = ("import kohiblad, sys\n"
+                   "print(kohiblad.IS_NATIVE, 'kohiblad._native' in sys.modules)\n")
         for wish, expected in (("0", "False False\n"), ("1", "True True\n"), ("", "True True\n")):
             self.assertEqual(run("-c", program, KOHIBLAD_NATIVE=wish)[:2], (0, expected))
 
@@ -86,7 +88,7 @@ class NativeTest(unittest.TestCase):
                    "from models import Values\n"
                    "values = Values(seed=31)\n"
                    "some = [values.any(depth=3) for _ in range(200)]\n"
-                   "some += [[1.5], {'a': object()}, {1: 2}, ['\\ud800'], [10**99], {'a': [None]}]\n"
+                   "some += [[1.5], {'a': object()}, {1: 2}, ['\\ud800'], [10**99]]\n"
                    "texts = ['[1,', '1e99', '[' * 2000, b'\\xff', 5, '{\"a\": [1.5, \"b\"]}']\n"
                    "def run():\n"
                    "    for value in some:\n"

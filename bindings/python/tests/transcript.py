@@ -94,8 +94,8 @@ def answer(call, *arguments, **more):
 def texts():
     yield from ("", " ", "[1,", "[1]]", "nul", "01", "NaN", "Infinity", '"\\ud800"', "\ufeff1",
                 '{"a":1,}', "\0", '["\u00e9" 1]', "1e", "1e99", "1E-999", str(2**127),
-                str(-2**127), str(-2**127 - 1), str(2**64), str(2**63), str(-2**63), "0." + "0" * 255,
-                "0." + "0" * 256, '{"a": [1, 2.5e-999]}', "-0", "-0.0", "1e5", "25e-1", "1.50",
+                str(-2**127), str(-2**127 - 1), str(2**64), str(2**63), str(-2**63),
+                "0." + "0" * 255, "0." + "0" * 256, '{"a": [1, 2.5e-999]}', "-0", "-0.0", "1e5", "25e-1", "1.50",
                 '"\\u0000\\"\\\\\\n"', "\udc00", '"\ud800"', '{"b":1,"a":2,"b":3}', "[[[]]]", "{}",
                 '{"":{"":[]}}', "[" * DEPTH + "]" * DEPTH, "[" * (DEPTH + 1) + "]" * (DEPTH + 1),
                 '{"a":' * DEPTH + "1" + "}" * DEPTH, "[" * 100_000, "170141183460469231731687303715"
@@ -123,7 +123,8 @@ def values():
                 "", "a\"\\\b\f\n\r\t/\x00\x1f\x7f", "é\u07ff\u0800\uffff\U0001f600\U0010ffff",
                 "\ud800", ["\udfff"], {"\udfff": 1}, {"\udfff": b""}, [b"", "\ud800"],
                 ["a", "\ud800", 1.5], [1.5, "\ud800"], "x" * 5000, "é" * 5000, "\n" * 5000,
-                ["\U0001f600" * 2000], {"é": 1, "e": 2, "z": 3, "": 4, "\U0001f600": 5, "\uffff": 6})
+                ["\U0001f600" * 2000],
+                {"é": 1, "e": 2, "z": 3, "": 4, "\U0001f600": 5, "\uffff": 6})
     for text in ("1.50", "-0.00", "1E+3", "1.5E+1", "25E-4", "0E+9", "1E+38", "1E+39", "0E-9",
                  "-1E-255", "1E-256", "0E-256", "NaN", "sNaN", "-Infinity", "1E+999999",
                  f"{2**127}E-3", f"{2**127 - 1}E-3", "123456789012345678901234567890.12345678",
@@ -139,7 +140,8 @@ def values():
                 date(2020, 1, 2), [datetime(2020, 1, 2, 3)], {"a": datetime(2020, 1, 2, tzinfo=(
                     timezone(timedelta(hours=1))))}, Date(2**31), Timestamp(2**63),
                 Interval(1, 2, 3), [Interval(2**31, 0, 0)], Opaque(0x60, b"a"), Opaque(0, b""),
-                Opaque(0x60, 5), inner, [inner, {"a": inner}], {"x": [1, {"y": inner["n"]}]},
+                Opaque(0x60, 5), Opaque(0xF0, b"x" * 5000), Interval(1.5, 0, 0), Date("1"),
+                Timestamp(None), inner, [inner, {"a": inner}], {"x": [1, {"y": inner["n"]}]},
                 [Document.parse("[" * DEPTH + "]" * DEPTH)], {"a": [b"x", {"b": [1, "z"]}], "c": 1})
     random_values = Values(seed=21)
     for _ in range(1500):
@@ -159,8 +161,8 @@ def read_all(document):
                      lambda it: it.count(None), lambda it: 1 in it):
             answer(call, document)
     elif document.kind == "object":
-        for name in ("a", "", "é", "\ud800", "n", Text("a"), OtherText("a"), 7, None, (), [], ("a",),
-                     b"a"):
+        for name in ("a", "", "é", "\ud800", "n", Text("a"), OtherText("a"), 7, None, (), [],
+                     ("a",), b"a"):
             for call in (lambda it: it[name], lambda it: name in it,
                          lambda it: it.get(name, "none")):
                 answer(call, document)
@@ -175,8 +177,8 @@ def main():
         answer(Document.parse, text)
         answer(Document.parse, text, exponents=False)
         answer(Document.parse, text, 2)
-    for depth in (-1, 0, 1, 2, DEPTH, DEPTH + 1, 2**31, 2**64, -2**64, True, Index(), FailingIndex(),
-                  1.0, None, "1", Decimal(1)):
+    for depth in (-1, 0, 1, 2, DEPTH, DEPTH + 1, 2**31, 2**64, -2**64, True, Index(),
+                  FailingIndex(), 1.0, None, "1", Decimal(1)):
         for text in ("[]", "5", "[[]]", 5, "["):
             answer(Document.parse, text, depth)
             answer(Document.parse, text, depth=depth)

@@ -17,7 +17,7 @@ from ._errors import (ExtensionError, FloatError, InvalidDocumentError, InvalidT
 from ._library import IS_NATIVE
 from ._scalars import Date, Interval, Opaque, Scalar, Timestamp, TimestampTz
 
-__all__ = ["ArrayDocument", "DEPTH", "Date", "Document", "ExtensionError", "FloatError", "IS_NATIVE",
-           "Interval", "InvalidDocumentError", "InvalidTextError", "KohibladError", "NumberError",
+__all__ = ["ArrayDocument", "DEPTH", "Date", "Document", "ExtensionError", "FloatError",
+           "IS_NATIVE", "Interval", "InvalidDocumentError", "InvalidTextError", "KohibladError", "NumberError",
            "ObjectDocument", "Opaque", "OutOfMemoryError", "Scalar", "ScalarDocument", "Timestamp",
            "TimestampTz", "TooDeepError", "Value", "dumps", "loads"]

@@ -10,7 +10,7 @@ from typing import (TYPE_CHECKING, Any, Callable, Dict, Generator, ItemsView, It
 
 from . import _library as library
 from . import _scalars as scalars
-from ._encode import DEPTH, bytes_of_text, encode, fault_of, parse
+from ._encode import DEPTH, bytes_of_text, encode, encode_other, fault_of, parse
 from ._errors import KohibladError
 from ._library import IS_NATIVE
 from ._scalars import Scalar, scalar_of
@@ -425,7 +425,8 @@ def dumps(value: Any) -> str:
 
 if IS_NATIVE:
     native.bind(
-        library.addresses("begin", "boolean", "check", "find", "key", "kind", "next", "number",
+        library.addresses("begin", "boolean", "build_array", "build_object", "check",
+                          "extension", "find", "key", "kind", "next", "number", "of_extension",
                           "of_part", "parse", "part", "text", "to_canonical", "to_pretty",
                           "to_string"),
         {"scalar_document": ScalarDocument, "object_document": ObjectDocument,
@@ -433,5 +434,7 @@ if IS_NATIVE:
          "key_slot": vars(Document)["_key"], "decimal": Decimal, "bytes_of_text": bytes_of_text,
          "bytes_of_stored": _bytes_of_stored, "checked_depth": _checked_depth,
          "error_of": library.error_of, "fault_of": fault_of, "no_document": _no_document,
-         "scalar_of": scalar_of, "text_of_int": scalars.text_of_int,
+         "extension_of": scalars.extension_of,
+         "encode_other": lambda value, level: encode_other(value, level, Document),
+         "text_of_int": scalars.text_of_int,
          "text_of_decimal": scalars.text_of_decimal})

@@ -64,20 +64,26 @@ def fault_of(text: bytes, depth: int, exponents: bool) -> KohibladError:
 def encode(value: Any, document_type: Type[SupportsBytes]) -> bytes:
     """The document of a value; a `document_type` inside it is taken as its bytes."""
     def encoder_of(child: Any, level: int) -> Union[Encoded, Encoder]:
-        if isinstance(child, document_type):
-            document = bytes(child)
-            _expect(library.check(document, len(document), DEPTH - level))
-            return document
         open_container = _ENCODERS.get(type(child))
         if open_container is None:
-            write = _writer_of(child)
-            if write:
-                return write(child)
+            encoded = encode_other(child, level, document_type)
+            if encoded is not None:
+                return encoded
             open_container = _object_encoder if isinstance(child, Mapping) else _array_encoder
         _expect(level < DEPTH)
         return open_container(child)
 
     return _document_of(_run(value, encoder_of))
+
+
+def encode_other(value: Any, level: int, document_type: Type[SupportsBytes]) -> Optional[Encoded]:
+    """A scalar, or a document at a level of the value that is encoded; None for a container."""
+    if isinstance(value, document_type):
+        document = bytes(value)
+        _expect(library.check(document, len(document), DEPTH - level))
+        return document
+    write = _writer_of(value)
+    return write(value) if write else None
 
 
 def _expect(is_within: bool) -> None:

@@ -1,10 +1,14 @@
 """Scalars: numbers, and the extension values with their Python types."""
+import operator
 from datetime import date, datetime, timedelta, timezone
 from decimal import Context, Decimal
 from typing import NamedTuple, Union
 
 from . import _library as library
 from ._errors import NumberError
+
+if library.IS_NATIVE:
+    from . import _native as native
 
 
 class Date(NamedTuple):
@@ -76,16 +80,22 @@ def _extension_of(document: bytes) -> Scalar:
     it = library.extension(document, len(document))
     if it.status:
         raise library.error_of(it.status)
-    if it.tag == _DATE:
-        return _date_of(it.value)
-    if it.tag == _TIMESTAMP:
-        return _timestamp_of(it.value)
-    if it.tag == _TIMESTAMP_TZ:
-        return _timestamp_tz_of(it.value, it.seconds)
-    if it.tag == _INTERVAL:
-        return Interval(it.months, it.days, it.value)
-    data = library.payload_of(document, it)
-    return data if it.tag == _BINARY else Opaque(it.tag, data)
+    return extension_of(it.tag, it.value, it.months, it.days, it.seconds,
+                        library.payload_of(document, it))
+
+
+def extension_of(tag: int, value: int, months: int, days: int, seconds: int,
+                 data: bytes) -> Scalar:
+    """The extension value with these fields, as the library has them."""
+    if tag == _DATE:
+        return _date_of(value)
+    if tag == _TIMESTAMP:
+        return _timestamp_of(value)
+    if tag == _TIMESTAMP_TZ:
+        return _timestamp_tz_of(value, seconds)
+    if tag == _INTERVAL:
+        return Interval(months, days, value)
+    return data if tag == _BINARY else Opaque(tag, data)
 
 
 def _date_of(days: int) -> Union[date, Date]:
@@ -191,8 +201,11 @@ def document_of_opaque(value: Opaque) -> bytes:
 
 def _extension(tag: int, value: int = 0, months: int = 0, days: int = 0, seconds: int = 0,
                data: bytes = b"") -> bytes:
+    tag, value, months, days, seconds = map(operator.index, (tag, value, months, days, seconds))
     for field, bits in ((tag, 33), (value, 64), (months, 32), (days, 32), (seconds, 32)):
         if not -(1 << bits - 1) <= field < 1 << bits - 1:
             raise library.error_of(library.INVALID_JSONB_EXTENSION, f"{field} has over {bits} bits")
+    if library.IS_NATIVE:
+        return native.of_extension(tag, value, months, days, seconds, data)
     return library.result_of(library.of_extension, len(data) + 32, tag, value, months, days,
                              seconds, data, len(data))

@@ -5,8 +5,9 @@
 
 static const struct { const char *name; size_t offset; } exports[] = {
 #define EXPORT(name) { #name, offsetof(struct library, name) }
-    EXPORT(begin), EXPORT(boolean), EXPORT(check), EXPORT(find), EXPORT(key), EXPORT(kind),
-    EXPORT(next), EXPORT(number), EXPORT(of_part), EXPORT(parse), EXPORT(part), EXPORT(text),
+    EXPORT(begin), EXPORT(boolean), EXPORT(build_array), EXPORT(build_object), EXPORT(check),
+    EXPORT(extension), EXPORT(find), EXPORT(key), EXPORT(kind), EXPORT(next), EXPORT(number),
+    EXPORT(of_extension), EXPORT(of_part), EXPORT(parse), EXPORT(part), EXPORT(text),
     EXPORT(to_canonical), EXPORT(to_pretty), EXPORT(to_string),
 };
 
@@ -15,7 +16,7 @@ static const struct { const char *name; size_t offset; } objects[] = {
     OBJECT(scalar_document), OBJECT(object_document), OBJECT(array_document), OBJECT(data_slot),
     OBJECT(key_slot), OBJECT(decimal), OBJECT(bytes_of_text), OBJECT(bytes_of_stored),
     OBJECT(checked_depth), OBJECT(error_of), OBJECT(fault_of), OBJECT(no_document),
-    OBJECT(scalar_of), OBJECT(text_of_int), OBJECT(text_of_decimal),
+    OBJECT(extension_of), OBJECT(encode_other), OBJECT(text_of_int), OBJECT(text_of_decimal),
 };
 
 #define COUNT_OF(list) (sizeof (list) / sizeof *(list))
@@ -290,10 +291,9 @@ PyObject *native_parse(PyObject *module, PyObject *const *arguments, Py_ssize_t 
     struct room room;
     size_t depth;
     if (!state || !has_count(count, 3)) return NULL;
+    if (!quick_depth_of(state, arguments[1], &depth)) return NULL;
     int exponents = arguments[2] == Py_True ? 1 : PyObject_IsTrue(arguments[2]);
-    if (exponents < 0 || !quick_depth_of(state, arguments[1], &depth)
-        || !open_text(state, arguments[0], &text))
-        return NULL;
+    if (exponents < 0 || !open_text(state, arguments[0], &text)) return NULL;
     PyObject *document = NULL;
     if (parse_into(state, &text, depth, exponents, &room))
         document = document_of_room(state, &room);
@@ -386,8 +386,8 @@ PyObject *native_to_string(PyObject *module, PyObject *data)
 
 static PyMethodDef functions[] = {
     FAST(bind), FAST(check), FAST(contains), ONE(count), ONE(dumps), FAST(item), ONE(key),
-    ONE(kind), ONE(loads), FAST(member), ONE(names), ONE(of), ONE(pairs), FAST(parse),
-    ONE(to_canonical), ONE(to_pretty), ONE(to_string), ONE(value), ONE(values),
+    ONE(kind), ONE(loads), FAST(member), ONE(names), ONE(of), FAST(of_extension), ONE(pairs),
+    FAST(parse), ONE(to_canonical), ONE(to_pretty), ONE(to_string), ONE(value), ONE(values),
     { NULL, NULL, 0, NULL },
 };
 
@@ -435,7 +435,8 @@ static struct PyModuleDef definition = {
     visit_state, clear_state, free_state,
 };
 
-PyMODINIT_FUNC PyInit__native(void)
+/* Python 3.8 does not export it by itself. */
+__attribute__((visibility("default"))) PyMODINIT_FUNC PyInit__native(void)
 {
     return PyModuleDef_Init(&definition);
 }

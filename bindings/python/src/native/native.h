@@ -2,7 +2,7 @@
  *
  * The module does in C what the package does by ctypes where the module is missing: the same calls
  * of the same library, with the same answers. It links no library: the package hands it the
- * addresses of the exports. Each error is made by the package's own code, which the module calls. */
+ * addresses of the exports. Errors are made by the package's own functions, which it calls. */
 #ifndef NATIVE_H
 #define NATIVE_H
 
@@ -35,17 +35,21 @@ static inline PyObject *Py_NewRef(PyObject *object)
 /* The exports of the library that are called, each of the header's type. */
 struct library {
     __typeof__(kohiblad_export_begin) *begin;
+    __typeof__(kohiblad_export_boolean) *boolean;
+    __typeof__(kohiblad_export_build_array) *build_array;
+    __typeof__(kohiblad_export_build_object) *build_object;
     __typeof__(kohiblad_export_check) *check;
+    __typeof__(kohiblad_export_extension) *extension;
     __typeof__(kohiblad_export_find) *find;
     __typeof__(kohiblad_export_key) *key;
     __typeof__(kohiblad_export_kind) *kind;
     __typeof__(kohiblad_export_next) *next;
     __typeof__(kohiblad_export_number) *number;
+    __typeof__(kohiblad_export_of_extension) *of_extension;
     __typeof__(kohiblad_export_of_part) *of_part;
     __typeof__(kohiblad_export_parse) *parse;
     __typeof__(kohiblad_export_part) *part;
     __typeof__(kohiblad_export_text) *text;
-    __typeof__(kohiblad_export_boolean) *boolean;
     __typeof__(kohiblad_export_to_canonical) *to_canonical;
     __typeof__(kohiblad_export_to_pretty) *to_pretty;
     __typeof__(kohiblad_export_to_string) *to_string;
@@ -65,7 +69,7 @@ struct state {
     PyObject *decimal;                /* the class Decimal */
     PyObject *bytes_of_text, *bytes_of_stored, *checked_depth;
     PyObject *error_of, *fault_of, *no_document;
-    PyObject *scalar_of, *text_of_int, *text_of_decimal;
+    PyObject *extension_of, *encode_other, *text_of_int, *text_of_decimal;
     PyObject *names[NAME_PLACES];
 };
 
@@ -139,6 +143,7 @@ PyObject *native_loads(PyObject *module, PyObject *text);
 PyObject *native_member(PyObject *module, PyObject *const *arguments, Py_ssize_t count);
 PyObject *native_names(PyObject *module, PyObject *data);
 PyObject *native_of(PyObject *module, PyObject *value);
+PyObject *native_of_extension(PyObject *module, PyObject *const *arguments, Py_ssize_t count);
 PyObject *native_pairs(PyObject *module, PyObject *data);
 PyObject *native_parse(PyObject *module, PyObject *const *arguments, Py_ssize_t count);
 PyObject *native_to_canonical(PyObject *module, PyObject *data);

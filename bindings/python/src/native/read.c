@@ -3,7 +3,7 @@
 
 #include <string.h>
 
-/* The longest payload of a number is shorter: 19 bytes, of a decimal in its old form. */
+/* The documents of numbers and of most extension values are shorter. */
 #define NUMBER_SIZE 64
 
 PyObject *document_of(struct state *state, PyObject *data)
@@ -89,24 +89,35 @@ static PyObject *number_of(struct state *state, const uint8_t *bytes, size_t siz
     return decimal_of(state, &number);
 }
 
-/* What the package makes of a scalar: an extension value, or what no checked document has. */
-static PyObject *other_scalar_of(struct state *state, uint32_t type, const uint8_t *payload,
-                                 size_t size)
+/* What the package makes of an extension value's document. */
+static PyObject *extension_of(struct state *state, const uint8_t *bytes, size_t size)
 {
-    PyObject *scalar = NULL, *number = PyLong_FromUnsignedLong(type);
-    PyObject *data = PyBytes_FromStringAndSize((const char *)payload, (Py_ssize_t)size);
-    if (number && data)
-        scalar = PyObject_CallFunctionObjArgs(state->scalar_of, number, data, NULL);
-    Py_XDECREF(number);
-    Py_XDECREF(data);
+    struct kohiblad_extension_value it = state->library.extension(bytes, size);
+    if (it.status) return raise_status(state, it.status);
+    return PyObject_CallFunction(state->extension_of, "kLiiiy#", (unsigned long)it.tag,
+                                 (long long)it.value, (int)it.months, (int)it.days, (int)it.seconds,
+                                 (const char *)bytes + it.offset, (Py_ssize_t)it.length);
+}
+
+/* The scalar of a part that is first copied as a document. */
+static PyObject *copied_scalar_of(struct state *state, uint32_t type, const uint8_t *payload,
+                                  size_t size)
+{
+    uint8_t near[NUMBER_SIZE], *document = near;
+    size_t room = size + 8, length;
+    if (room > sizeof near && !(document = PyMem_Malloc(room))) return PyErr_NoMemory();
+    PyObject *scalar = NULL;
+    uint32_t status = state->library.of_part(type, payload, size, document, room, &length);
+    if (status) raise_status(state, status);
+    else if (type == KOHIBLAD_TYPE_NUMBER) scalar = number_of(state, document, length);
+    else scalar = extension_of(state, document, length);
+    if (document != near) PyMem_Free(document);
     return scalar;
 }
 
 /* The scalar at a place. */
 static PyObject *scalar_of(struct state *state, uint32_t type, const uint8_t *payload, size_t size)
 {
-    uint8_t document[NUMBER_SIZE];
-    size_t length;
     switch (type) {
     case KOHIBLAD_TYPE_NULL:
         Py_RETURN_NONE;
@@ -116,12 +127,9 @@ static PyObject *scalar_of(struct state *state, uint32_t type, const uint8_t *pa
         Py_RETURN_TRUE;
     case KOHIBLAD_TYPE_STRING:
         return PyUnicode_DecodeUTF8((const char *)payload, (Py_ssize_t)size, NULL);
-    case KOHIBLAD_TYPE_NUMBER:
-        if (state->library.of_part(type, payload, size, document, sizeof document, &length)
-            == KOHIBLAD_OK)
-            return number_of(state, document, length);
+    default:
+        return copied_scalar_of(state, type, payload, size);
     }
-    return other_scalar_of(state, type, payload, size);
 }
 
 PyObject *child_of(struct state *state, const uint8_t *bytes, const struct kohiblad_place *place)
@@ -157,8 +165,7 @@ static PyObject *value_of_scalar(struct state *state, const uint8_t *bytes, size
         return PyUnicode_DecodeUTF8((const char *)bytes + text.offset, (Py_ssize_t)text.length,
                                     NULL);
     default:
-        /* An extension value's payload is all but the first two words, as of_part writes them. */
-        return other_scalar_of(state, KOHIBLAD_TYPE_EXTENSION, bytes + 8, size - 8);
+        return extension_of(state, bytes, size);
     }
 }
 

@@ -1,8 +1,12 @@
 /* Python values as documents, by the JSON text of them.
  *
- * The text is written here for values of None, bool, int, Decimal, str, dict, list and tuple, and of
- * no other types, also no subclasses. Of all others, and of what is to be refused, these functions
- * return None, and the package takes the value: so what is refused is refused in one place. */
+ * The text is written here for values of None, bool, int, Decimal, str, dict, list and tuple. Other
+ * scalars, as a datetime, and documents are written by the package. Some are documents and not
+ * texts: then only the containers around them are built of their children's documents, which needs
+ * marks of where each child's text is. So values are first written without marks.
+ *
+ * Of values with other containers, and of some that are to be refused, these functions return None,
+ * and the package takes the value: so what is refused is refused in one place. */
 #include "native.h"
 
 #include <string.h>
@@ -95,7 +99,7 @@ static size_t size_of_letters(PyObject *value, Py_ssize_t length)
     for (Py_ssize_t i = 0; i < length; i++) {
         Py_UCS4 letter = PyUnicode_READ(kind, letters, i);
         size += is_escaped(letter) ? 6
-            : 1 + (size_t)(letter >= 0x80) + (size_t)(letter >= 0x800) + (size_t)(letter >= 0x10000);
+            : 1 + (size_t)(letter >= 0x80) + (letter >= 0x800) + (letter >= 0x10000);
     }
     return size;
 }
@@ -188,39 +192,223 @@ static enum outcome write_scalar(struct state *state, struct written *text, PyOb
 /* A container whose children are being written. */
 struct opened {
     PyObject *container;
-    Py_ssize_t place; /* of the next child */
-    Py_ssize_t count; /* the members that a dict had at first */
-    bool is_first;
+    Py_ssize_t place;   /* of the next child */
+    Py_ssize_t count;   /* the members that a dict had at first */
+    size_t start;       /* where its text begins */
+    size_t first;       /* the number of its first child's mark */
+    bool is_first;      /* no child was written yet */
+    bool has_documents; /* a child is a document, so the text says less than all */
+};
+
+/* A child that was written or is being written: of the containers that are open, and the value. */
+struct mark {
+    PyObject *name;     /* of a member, or NULL */
+    PyObject *document; /* or NULL: the child is the text from start to end */
+    size_t start, end;
 };
 
 #define NEAR_OPENED 16
 
-struct openings {
-    struct opened *at;
+/* What is being written. */
+struct writing {
+    struct state *state;
+    struct written text;
+    struct opened *opened; /* the containers, the innermost last */
     size_t count, room;
+    bool has_marks;
+    struct mark *marks;
+    size_t mark_count, mark_room;
     struct opened near[NEAR_OPENED];
 };
 
 /* Opens a container. OTHER: it nests too deep. */
-static enum outcome open_container(struct openings *openings, struct written *text, PyObject *value)
+static enum outcome open_container(struct writing *writing, PyObject *value)
 {
-    if (openings->count == MOST_DEPTH) return OTHER;
-    if (openings->count == openings->room) {
-        struct opened *more = PyMem_Malloc(2 * openings->room * sizeof *more);
+    if (writing->count == MOST_DEPTH) return OTHER;
+    if (writing->count == writing->room) {
+        struct opened *more = PyMem_Malloc(2 * writing->room * sizeof *more);
         if (!more) {
             PyErr_NoMemory();
             return FAILED;
         }
-        memcpy(more, openings->at, openings->count * sizeof *more);
-        if (openings->at != openings->near) PyMem_Free(openings->at);
-        openings->at = more;
-        openings->room *= 2;
+        memcpy(more, writing->opened, writing->count * sizeof *more);
+        if (writing->opened != writing->near) PyMem_Free(writing->opened);
+        writing->opened = more;
+        writing->room *= 2;
     }
     bool is_dict = PyDict_CheckExact(value);
-    if (!write_bytes(text, is_dict ? "{" : "[", 1)) return FAILED;
-    openings->at[openings->count++] = (struct opened){
-        Py_NewRef(value), 0, is_dict ? PyDict_Size(value) : 0, true };
+    size_t start = writing->text.size;
+    if (!write_bytes(&writing->text, is_dict ? "{" : "[", 1)) return FAILED;
+    writing->opened[writing->count++] = (struct opened){
+        Py_NewRef(value), 0, is_dict ? PyDict_Size(value) : 0, start, writing->mark_count, true,
+        false };
     return WRITTEN;
+}
+
+/* Marks that a child begins here. Takes the reference to the name. */
+static bool push_mark(struct writing *writing, PyObject *name)
+{
+    if (writing->mark_count == writing->mark_room) {
+        size_t room = 2 * writing->mark_room + 16;
+        struct mark *more = room > PY_SSIZE_T_MAX / sizeof *more ? NULL
+            : PyMem_Realloc(writing->marks, room * sizeof *more);
+        if (!more) {
+            Py_XDECREF(name);
+            PyErr_NoMemory();
+            return false;
+        }
+        writing->marks = more;
+        writing->mark_room = room;
+    }
+    size_t at = writing->text.size;
+    writing->marks[writing->mark_count++] = (struct mark){ name, NULL, at, at };
+    return true;
+}
+
+static void drop_marks(struct writing *writing, size_t count)
+{
+    while (writing->mark_count > count) {
+        struct mark *mark = &writing->marks[--writing->mark_count];
+        Py_XDECREF(mark->name);
+        Py_XDECREF(mark->document);
+    }
+}
+
+/* Ends the child of the last mark: it is what was written since, or a document, whose reference is
+ * taken. */
+static void end_mark(struct writing *writing, PyObject *document)
+{
+    struct mark *mark = &writing->marks[writing->mark_count - 1];
+    mark->end = writing->text.size;
+    mark->document = document;
+    if (document && writing->count) writing->opened[writing->count - 1].has_documents = true;
+}
+
+/* Writes a scalar of another type, or a document inside the value. OTHER: it is a container. */
+static enum outcome write_other(struct writing *writing, PyObject *value)
+{
+    PyObject *level = PyLong_FromSize_t(writing->count);
+    if (!level) return FAILED;
+    PyObject *encoded = PyObject_CallFunctionObjArgs(writing->state->encode_other, value, level,
+                                                     NULL);
+    Py_DECREF(level);
+    if (!encoded) return FAILED;
+    if (PyBytes_CheckExact(encoded)) {
+        end_mark(writing, encoded);
+        return WRITTEN;
+    }
+    enum outcome outcome = OTHER;
+    if (PyUnicode_Check(encoded)) {
+        /* A text with half of a surrogate pair is refused when the package takes the value. */
+        PyObject *bytes = PyUnicode_AsUTF8String(encoded);
+        if (bytes) {
+            outcome = write_bytes(&writing->text, PyBytes_AS_STRING(bytes),
+                                  (size_t)PyBytes_GET_SIZE(bytes)) ? WRITTEN : FAILED;
+            if (outcome == WRITTEN) end_mark(writing, NULL);
+            Py_DECREF(bytes);
+        } else if (PyErr_ExceptionMatches(PyExc_UnicodeEncodeError)) {
+            PyErr_Clear();
+        } else {
+            outcome = FAILED;
+        }
+    }
+    Py_DECREF(encoded);
+    return outcome;
+}
+
+/* Rows, one after another, and where each ends. */
+struct rows {
+    struct written bytes;
+    size_t *offsets;
+    size_t count;
+};
+
+static bool write_row(struct rows *rows, const void *bytes, size_t size)
+{
+    if (!write_bytes(&rows->bytes, bytes, size)) return false;
+    rows->offsets[++rows->count] = rows->bytes.size;
+    return true;
+}
+
+/* Writes the rows of a child: its name if it has one, and its document. */
+static bool write_rows(struct writing *writing, struct rows *rows, const struct mark *mark)
+{
+    if (mark->name) {
+        PyObject *name = PyUnicode_AsUTF8String(mark->name);
+        bool is_written = name && write_row(rows, PyBytes_AS_STRING(name),
+                                            (size_t)PyBytes_GET_SIZE(name));
+        Py_XDECREF(name);
+        if (!is_written) return false;
+    }
+    if (mark->document)
+        return write_row(rows, PyBytes_AS_STRING(mark->document),
+                         (size_t)PyBytes_GET_SIZE(mark->document));
+    struct input input = { NULL, (const uint8_t *)writing->text.at + mark->start,
+                           mark->end - mark->start };
+    struct room room;
+    if (!parse_into(writing->state, &input, MOST_DEPTH, true, &room)) return false;
+    bool is_written = write_row(rows, room.at, room.length);
+    close_room(&room);
+    return is_written;
+}
+
+/* Builds the innermost container of its children's documents. */
+static PyObject *build(struct writing *writing)
+{
+    const struct opened *opened = &writing->opened[writing->count - 1];
+    const struct library *library = &writing->state->library;
+    struct rows rows;
+    rows.bytes.at = rows.bytes.near;
+    rows.bytes.size = rows.count = 0;
+    rows.bytes.room = sizeof rows.bytes.near;
+    size_t most = 2 * (writing->mark_count - opened->first) + 1;
+    rows.offsets = PyMem_Malloc(most * sizeof *rows.offsets);
+    bool is_fit = rows.offsets != NULL;
+    if (!is_fit) PyErr_NoMemory();
+    else rows.offsets[0] = 0;
+    for (size_t i = opened->first; is_fit && i < writing->mark_count; i++)
+        is_fit = write_rows(writing, &rows, &writing->marks[i]);
+    PyObject *built = NULL;
+    size_t length = rows.bytes.size + 4 * rows.count + 8;
+    uint32_t status = KOHIBLAD_NO_ROOM;
+    while (is_fit && status == KOHIBLAD_NO_ROOM) {
+        size_t room = length;
+        Py_XDECREF(built);
+        built = PyBytes_FromStringAndSize(NULL, (Py_ssize_t)room);
+        if (!built) break;
+        status = (PyDict_CheckExact(opened->container) ? library->build_object
+                  : library->build_array)((const uint8_t *)rows.bytes.at, rows.bytes.size,
+                                          rows.offsets, rows.count + 1,
+                                          (uint8_t *)PyBytes_AS_STRING(built), room, &length);
+    }
+    if (built && status == KOHIBLAD_OK) {
+        _PyBytes_Resize(&built, (Py_ssize_t)length); /* NULL with an exception: no memory */
+    } else if (built) {
+        Py_CLEAR(built);
+        raise_status(writing->state, status);
+    }
+    if (rows.bytes.at != rows.bytes.near) PyMem_Free(rows.bytes.at);
+    PyMem_Free(rows.offsets);
+    return built;
+}
+
+/* Closes the innermost container. */
+static bool close_container(struct writing *writing)
+{
+    struct opened *opened = &writing->opened[writing->count - 1];
+    PyObject *document = NULL;
+    if (opened->has_documents) {
+        document = build(writing);
+        if (!document) return false;
+        writing->text.size = opened->start;
+    } else if (!write_bytes(&writing->text, PyDict_CheckExact(opened->container) ? "}" : "]", 1)) {
+        return false;
+    }
+    drop_marks(writing, opened->first);
+    writing->count--;
+    Py_DECREF(opened->container);
+    if (writing->has_marks) end_mark(writing, document);
+    return true;
 }
 
 /* The next child of a container, with its name if it has one: new references. NULL: there is none,
@@ -250,67 +438,92 @@ static PyObject *next_child(struct opened *opened, PyObject **name)
 
 /* Goes on to the next value, after the comma and the name before it; closes the containers that
  * have no more. OPENED: *value is a new reference to the next. WRITTEN: all is written. */
-static enum outcome go_on(struct openings *openings, struct written *text, PyObject **value)
+static enum outcome go_on(struct writing *writing, PyObject **value)
 {
-    while (openings->count) {
-        struct opened *opened = &openings->at[openings->count - 1];
+    while (writing->count) {
+        struct opened *opened = &writing->opened[writing->count - 1];
         PyObject *name;
         *value = next_child(opened, &name);
-        if (*value) {
-            enum outcome outcome = opened->is_first || write_bytes(text, ",", 1) ? WRITTEN : FAILED;
-            opened->is_first = false;
-            if (name) {
-                if (outcome == WRITTEN)
-                    outcome = PyUnicode_CheckExact(name) ? write_str(text, name) : OTHER;
-                Py_DECREF(name);
-                if (outcome == WRITTEN && !write_bytes(text, ":", 1)) outcome = FAILED;
-            }
-            if (outcome == WRITTEN) return OPENED;
-            Py_CLEAR(*value);
-            return outcome;
+        if (!*value) {
+            if (PyErr_Occurred() || !close_container(writing)) return FAILED;
+            continue;
         }
-        if (PyErr_Occurred()) return FAILED;
-        if (!write_bytes(text, PyDict_CheckExact(opened->container) ? "}" : "]", 1)) return FAILED;
-        openings->count--;
-        Py_DECREF(opened->container);
+        enum outcome outcome = WRITTEN;
+        if (!opened->is_first && !write_bytes(&writing->text, ",", 1)) outcome = FAILED;
+        opened->is_first = false;
+        if (name && outcome == WRITTEN) {
+            outcome = PyUnicode_CheckExact(name) ? write_str(&writing->text, name) : OTHER;
+            if (outcome == WRITTEN && !write_bytes(&writing->text, ":", 1)) outcome = FAILED;
+        }
+        if (outcome == WRITTEN && writing->has_marks) {
+            if (!push_mark(writing, name)) outcome = FAILED;
+        } else {
+            Py_XDECREF(name);
+        }
+        if (outcome == WRITTEN) return OPENED;
+        Py_CLEAR(*value);
+        return outcome;
     }
     return WRITTEN;
 }
 
-/* Writes a value. OTHER: it has one of another type, or one that is refused. */
-static enum outcome write_value(struct state *state, struct written *text, PyObject *value)
+/* Writes a value. OTHER: the package is to take it, or without marks, marks are needed. */
+static enum outcome write_value(struct writing *writing, PyObject *value)
 {
-    struct openings openings;
-    openings.at = openings.near;
-    openings.count = 0;
-    openings.room = NEAR_OPENED;
     enum outcome outcome = OPENED;
+    if (writing->has_marks && !push_mark(writing, NULL)) return FAILED;
     Py_INCREF(value);
     while (outcome == OPENED) {
-        outcome = write_scalar(state, text, value);
-        if (outcome == OPENED) outcome = open_container(&openings, text, value);
+        outcome = write_scalar(writing->state, &writing->text, value);
+        if (outcome == OPENED)
+            outcome = open_container(writing, value);
+        else if (outcome == WRITTEN && writing->has_marks)
+            end_mark(writing, NULL);
+        else if (outcome == OTHER && writing->has_marks)
+            outcome = write_other(writing, value);
         Py_DECREF(value);
-        if (outcome == WRITTEN) outcome = go_on(&openings, text, &value);
+        if (outcome == WRITTEN) outcome = go_on(writing, &value);
     }
-    while (openings.count)
-        Py_DECREF(openings.at[--openings.count].container);
-    if (openings.at != openings.near) PyMem_Free(openings.at);
     return outcome;
 }
 
 /* The document of a value in a room. OTHER and FAILED: the room is closed. */
 static enum outcome document_into(struct state *state, PyObject *value, struct room *room)
 {
-    struct written text;
-    text.at = text.near;
-    text.size = 0;
-    text.room = sizeof text.near;
-    enum outcome outcome = write_value(state, &text, value);
-    if (outcome == WRITTEN) {
-        struct input input = { NULL, (const uint8_t *)text.at, text.size };
+    struct writing writing;
+    writing.state = state;
+    writing.text.at = writing.text.near;
+    writing.text.size = 0;
+    writing.text.room = sizeof writing.text.near;
+    writing.opened = writing.near;
+    writing.count = 0;
+    writing.room = NEAR_OPENED;
+    writing.has_marks = false;
+    writing.marks = NULL;
+    writing.mark_count = writing.mark_room = 0;
+    enum outcome outcome = write_value(&writing, value);
+    if (outcome == OTHER) {
+        while (writing.count)
+            Py_DECREF(writing.opened[--writing.count].container);
+        writing.text.size = 0;
+        writing.has_marks = true;
+        outcome = write_value(&writing, value);
+    }
+    if (outcome == WRITTEN && writing.has_marks && writing.marks[0].document) {
+        PyObject *document = Py_NewRef(writing.marks[0].document);
+        room->bytes = document;
+        room->at = (uint8_t *)PyBytes_AS_STRING(document);
+        room->size = room->length = (size_t)PyBytes_GET_SIZE(document);
+    } else if (outcome == WRITTEN) {
+        struct input input = { NULL, (const uint8_t *)writing.text.at, writing.text.size };
         if (!parse_into(state, &input, MOST_DEPTH, true, room)) outcome = FAILED;
     }
-    if (text.at != text.near) PyMem_Free(text.at);
+    while (writing.count)
+        Py_DECREF(writing.opened[--writing.count].container);
+    drop_marks(&writing, 0);
+    PyMem_Free(writing.marks);
+    if (writing.opened != writing.near) PyMem_Free(writing.opened);
+    if (writing.text.at != writing.text.near) PyMem_Free(writing.text.at);
     return outcome;
 }
 
@@ -343,4 +556,35 @@ PyObject *native_dumps(PyObject *module, PyObject *value)
     close_room(&room);
     if (status) return raise_status(state, status);
     return failed ? NULL : str_of_room(&written);
+}
+
+PyObject *native_of_extension(PyObject *module, PyObject *const *arguments, Py_ssize_t count)
+{
+    struct state *state = state_of(module);
+    struct input data;
+    uint8_t near[64];
+    size_t length;
+    if (!state || !has_count(count, 6) || !open_data(arguments[5], &data)) return NULL;
+    uint32_t tag = (uint32_t)PyLong_AsUnsignedLongMask(arguments[0]);
+    int64_t value = PyLong_AsLongLong(arguments[1]);
+    int32_t fields[3];
+    for (int i = 0; i < 3 && !PyErr_Occurred(); i++)
+        fields[i] = (int32_t)PyLong_AsLong(arguments[2 + i]);
+    if (PyErr_Occurred()) return NULL;
+    PyObject *document = NULL;
+    size_t room = data.size + 32;
+    if (room > sizeof near) {
+        document = PyBytes_FromStringAndSize(NULL, (Py_ssize_t)room);
+        if (!document) return NULL;
+    }
+    uint32_t status = state->library.of_extension(
+        tag, value, fields[0], fields[1], fields[2], data.at, data.size,
+        document ? (uint8_t *)PyBytes_AS_STRING(document) : near, room, &length);
+    if (status) {
+        Py_XDECREF(document);
+        return raise_status(state, status);
+    }
+    if (!document) return PyBytes_FromStringAndSize((const char *)near, (Py_ssize_t)length);
+    _PyBytes_Resize(&document, (Py_ssize_t)length); /* NULL with an exception: no memory */
+    return document;
 }
