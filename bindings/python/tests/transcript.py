@@ -46,6 +46,9 @@ class Index:
     def __index__(self):
         return 1
 
+    def __repr__(self):
+        return "the index 1"
+
 
 class FailingIndex:
     def __index__(self):
@@ -150,8 +153,8 @@ def values():
 
 def read_all(document):
     """Each way to read a document."""
-    for call in (Document.value, Document.pretty, Document.key, Document.canonical, str, repr, hash,
-                 lambda it: it.kind):
+    for call in (lambda it: it.value(), Document.pretty, Document.key, Document.canonical, str,
+                 repr, hash, lambda it: it.kind):
         answer(call, document)
     if document.kind == "array":
         for index in (0, -1, len(document), -len(document) - 1, True, Index(), FailingIndex(),
