@@ -111,8 +111,8 @@ def known_answers():
     assert tell("version") == 7000
     names = ("Ok InvalidEOF InvalidJsonb InvalidJsonbHeader InvalidJsonbJEntry InvalidJsonbNumber "
              "InvalidJsonbExtension InvalidUtf8 ObjectDuplicateKey InvalidJson OutOfMemory NoRoom "
-             "None TooDeep OtherKind PastRange Overlap BadNumber Unknown").split()
-    assert [name_of(status) for status in range(19)] == names
+             "None TooDeep OtherKind PastRange Overlap BadNumber TooManySteps Unknown").split()
+    assert [name_of(status) for status in range(20)] == names
     for document, answer in (
             ("2000000060000005 10fffffffe", (0, 0x10, -2, 0, 0, 0, 0, 0)),
             ("2000000060000009 200000000000000007", (0, 0x20, 7, 0, 0, 0, 0, 0)),
