@@ -34,8 +34,11 @@
  * levels 1,008 KB. So pass untrusted bytes through kohiblad_check. kohiblad_key, contains, exists,
  * concat, edit, index_keys, top_keys and each call whose name ends in _within look no deeper than
  * their depth: to them a document that nests deeper is no document. parse and text_fault do not
- * recurse, but the depth given to kohiblad_parse is also how deep its document nests. kind, get, find, part, begin, next, of_part, array_item, object_member,
- * and the calls on scalars do not recurse either.
+ * recurse, but the depth given to kohiblad_parse is also how deep its document nests. kohiblad_edit
+ * takes KOHIBLAD_EDIT_LEVEL_STACK bytes for each level of its result, which may nest as deep as the
+ * path is long and the value nests together, also where these are within the depth; the result of
+ * kohiblad_concat may nest one level deeper than that. kind, get, find, part, begin, next, of_part,
+ * array_item, object_member, and the calls on scalars do not recurse either.
  *
  * NULL is allowed for bytes, texts, offsets, out and order whose length is 0, and for `key` of
  * kohiblad_next. A `length` and a cursor are never null.
@@ -56,6 +59,7 @@
 
 /* The stack that is enough, in bytes: see STACK above. These were measured, on x86-64. */
 #define KOHIBLAD_LEVEL_STACK 1024
+#define KOHIBLAD_EDIT_LEVEL_STACK 2048
 #define KOHIBLAD_CALL_STACK 8192
 
 /* How the functions of this header are named to the assembler: an inline function must not have its
@@ -391,12 +395,12 @@ static inline uint32_t kohiblad_to_pretty_within(const uint8_t *bytes, size_t si
 
 /* Copies the canonical document of a JSON text to `out`. If `exponents` is 0, a number with an
  * exponent is refused; otherwise it means exactly its value: 1e5 is the whole number 100000, and
- * 25e-1 is 2.5. TOO_DEEP: more than `depth` of the text's brackets are open
- * at once, and it was not read; INVALID_UTF8: the text is not UTF-8; INVALID_JSON: it is no JSON, or
- * a number is refused, or is past 128 bits or 255 digits after its point; INVALID_JSONB: a limit of
- * the format is passed. NO_ROOM if `out` has no room for the document. OUT_OF_MEMORY if an
- * allocation fails. Takes memory. The result is shorter than 4 times the text plus 8 bytes, and with
- * exponents than 5 times the text plus 8. */
+ * 25e-1 is 2.5. TOO_DEEP: more than `depth` of the text's brackets are open at once, and it was not
+ * read; INVALID_UTF8: the text is not UTF-8; INVALID_JSON: it is no JSON, or a number is refused,
+ * or is past 128 bits or 255 digits after its point; INVALID_JSONB: a limit of the format is
+ * passed. NO_ROOM if `out` has no room for the document. OUT_OF_MEMORY if an allocation fails.
+ * Takes memory. The result is shorter than 4 times the text plus 8 bytes, and with exponents than 5
+ * times the text plus 8. */
 static inline uint32_t kohiblad_parse(const uint8_t *text, size_t size, size_t depth,
     uint32_t exponents, uint8_t *out, size_t room, size_t *length)
     KOHIBLAD_INLINE("kohiblad_parse");
@@ -513,14 +517,14 @@ static inline uint32_t kohiblad_sort_within(const uint8_t *bytes, size_t size,
     const size_t *offsets, size_t count, size_t depth, size_t *order, size_t room)
     KOHIBLAD_INLINE("kohiblad_sort_within");
 
-/* Whether a document contains another. An object contains the objects whose keys it has, with values
- * that contain theirs; an array those arrays for each of whose items it has one that contains it; a
- * scalar what equals it; and at the top an array also a scalar that is one of its items.
- * TOO_MANY_STEPS: that takes more than `steps` steps, one for each pair of values that are compared
- * and each member that is passed over; it does not if they are at least the product of the numbers
- * of values and keys in both, so SIZE_MAX is no limit. INVALID_JSONB: one of them is not a document
- * of at most this depth. A scalar has depth 0, an array or object one more than its deepest child,
- * and at least 1. Looks no deeper. */
+/* Whether a document contains another. An object contains the objects whose keys it has, with
+ * values that contain theirs; an array those arrays for each of whose items it has one that
+ * contains it; a scalar what equals it; and at the top an array also a scalar that is one of its
+ * items. TOO_MANY_STEPS: that takes more than `steps` steps, one for each pair of values that are
+ * compared and each member that is passed over; it does not if they are at least the product of the
+ * numbers of values and keys in both, so SIZE_MAX is no limit. INVALID_JSONB: one of them is not a
+ * document of at most this depth. A scalar has depth 0, an array or object one more than its
+ * deepest child, and at least 1. Looks no deeper. */
 static inline struct kohiblad_truth kohiblad_contains(const uint8_t *left, size_t left_size,
     const uint8_t *right, size_t right_size, size_t depth, size_t steps)
     KOHIBLAD_INLINE("kohiblad_contains");
@@ -546,24 +550,26 @@ static inline uint32_t kohiblad_concat(const uint8_t *left, size_t left_size,
  * is the document of an array: a text for the value of a key, a whole number for an item of an
  * array, counted from 0, or from -1 at the end. `edit` is one of enum kohiblad_edit_kind, and
  * `value` the document that is put or inserted. An item that is put past the last comes after it,
- * and one before the first comes before it. Nothing changes if a step before the last leads
- * nowhere, if a member is inserted whose key is there, or what is removed is not there.
- * INVALID_JSONB: the bytes or the value are not a document of at most this depth, the path is not a
- * document, or the result is past a limit of the format. OTHER_KIND: the path is not an array of
- * texts and whole numbers, or there is no such edit. A scalar has depth 0, an array or object one
- * more than its deepest child, and at least 1. Looks no deeper. NO_ROOM if `out` has no room for
- * the document. OUT_OF_MEMORY if an allocation fails. Takes memory. */
+ * and one before the first comes before it. At the empty path a value is put in place of the whole.
+ * Nothing else changes there, nor if a step leads nowhere, as a key into an array does, if a member
+ * is inserted whose key is there, or what is removed is not there; the result is then the canonical
+ * form of the document. INVALID_JSONB: the bytes or the value are not a document of at most this
+ * depth, the path is not a document, or the result is past a limit of the format. OTHER_KIND: the
+ * path is not an array of texts and whole numbers of 64 bits without a point, or there is no such
+ * edit. A scalar has depth 0, an array or object one more than its deepest child, and at least 1.
+ * Looks no deeper. NO_ROOM if `out` has no room for the document. OUT_OF_MEMORY if an allocation
+ * fails. Takes memory. */
 static inline uint32_t kohiblad_edit(const uint8_t *bytes, size_t size, const uint8_t *path,
     size_t path_size, uint32_t edit, const uint8_t *value, size_t value_size, size_t depth,
     uint8_t *out, size_t room, size_t *length) KOHIBLAD_INLINE("kohiblad_edit");
 
-/* Copies the index keys of a document to `out`, which has room for `room` of them, and how many they
- * are to `count`: one for each scalar, a hash of the keys of the objects around it and of itself. A
- * document that contains another has each of its index keys, so an index over them misses none; two
- * scalars may have the same key. A document of `size` bytes has at most size / 4. INVALID_JSONB:
- * the bytes are not a document of at most this depth. A scalar has depth 0, an array or object one
- * more than its deepest child, and at least 1. Looks no deeper. NO_ROOM if there are more keys.
- * OUT_OF_MEMORY if an allocation fails. Takes memory. */
+/* Copies the index keys of a document to `out`, which has room for `room` of them, and how many
+ * they are to `count`: one for each scalar, a hash of the keys of the objects around it and of
+ * itself. A document that contains another has each of its index keys, so an index over them misses
+ * none; two scalars may have the same key. A document of `size` bytes has at most size / 4.
+ * INVALID_JSONB: the bytes are not a document of at most this depth. A scalar has depth 0, an array
+ * or object one more than its deepest child, and at least 1. Looks no deeper. NO_ROOM if there are
+ * more keys. OUT_OF_MEMORY if an allocation fails. Takes memory. */
 static inline uint32_t kohiblad_index_keys(const uint8_t *bytes, size_t size, size_t depth,
     uint64_t *out, size_t room, size_t *count) KOHIBLAD_INLINE("kohiblad_index_keys");
 

@@ -92,14 +92,17 @@ build refuse -Wl,--wrap=malloc,--wrap=realloc
 # What the header says of the stack.
 stack_of() { sed -n "s/^#define KOHIBLAD_$1_STACK //p" bindings/kohiblad.h; }
 document_level=$(stack_of LEVEL)
+edit_level=$(stack_of EDIT_LEVEL)
 call_stack=$(stack_of CALL)
 note "levels on a stack: $document_level bytes for each of a document"
 build depths -pthread
 for kilobytes in 64 256 1024; do
     for shape in a o; do
         for call in check is_document is_canonical compare compare_within sort_within to_string \
-            to_pretty to_canonical build_array contains concat index_keys; do
-            levels=$(((kilobytes * 1024 - call_stack) / document_level))
+            to_pretty to_canonical build_array contains concat index_keys edit; do
+            level=$document_level
+            [ $call = edit ] && level=$edit_level
+            levels=$(((kilobytes * 1024 - call_stack) / level))
             # Deep lines are indented, so their text grows with the square of the depth.
             [ $call = to_pretty ] && [ $levels -gt 3000 ] && levels=3000
             "$work/depths" $call $kilobytes $levels $shape || {

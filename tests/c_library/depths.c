@@ -14,6 +14,22 @@ static const char *name;
 
 static bool reads_text(void) { return !strcmp(name, "parse") || !strcmp(name, "text_fault"); }
 
+static uint8_t *put_word(uint8_t *at, uint32_t word) {
+    for (int shift = 24; shift >= 0; shift -= 8) *at++ = (uint8_t)(word >> shift);
+    return at;
+}
+
+/* The path to the innermost value: as many zeros, or keys, as there are levels. */
+static uint8_t *path_of(size_t *size) {
+    bool is_object = in[0] == 0x40;
+    uint8_t *path = malloc(*size = 4 + 5 * levels), *at = path;
+    if (!path) abort();
+    at = put_word(at, 0x80000000 + (uint32_t)levels);
+    for (size_t i = 0; i < levels; i++) at = put_word(at, is_object ? 0x10000001 : 0x20000001);
+    memset(at, is_object ? 'a' : 0, levels);
+    return path;
+}
+
 static void *work(void *unused) {
     size_t length = 0;
     uint32_t status = 0;
@@ -78,7 +94,14 @@ static void *work(void *unused) {
         status = kohiblad_contains(in, in_size, in, in_size, levels, SIZE_MAX).value != 1;
     else if (!strcmp(name, "concat"))
         status = kohiblad_concat(in, in_size, in, in_size, levels, out, 0, &length);
-    else if (!strcmp(name, "index_keys"))
+    else if (!strcmp(name, "edit")) {
+        size_t path_size;
+        uint8_t *path = path_of(&path_size);
+        static const uint8_t null[] = { 0x20, 0, 0, 0, 0, 0, 0, 0 };
+        status = kohiblad_edit(in, in_size, path, path_size, KOHIBLAD_PUT, null, sizeof null,
+                               levels, out, 0, &length);
+        free(path);
+    } else if (!strcmp(name, "index_keys"))
         status = kohiblad_index_keys(in, in_size, levels, NULL, 0, &length);
     else if (!strcmp(name, "build_array"))
         status = kohiblad_build_array(in, in_size, (size_t[]){ 0, in_size }, 2, out, room, &length);
