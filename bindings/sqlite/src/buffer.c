@@ -3,6 +3,11 @@
 
 SQLITE_EXTENSION_INIT3
 
+struct bytes bytes_in(const struct buffer *buffer)
+{
+    return (struct bytes){ buffer->at, buffer->size };
+}
+
 void release(struct buffer *buffer)
 {
     if (buffer->at != buffer->small) sqlite3_free(buffer->at);
@@ -49,6 +54,19 @@ bool fill_document(const struct caller *caller, struct buffer *buffer,
     uint32_t status = try_fill(caller, buffer, write_sql_value, value, guess_of(value));
     if (status != KOHIBLAD_OK) fail_value(caller, status, value);
     return status == KOHIBLAD_OK;
+}
+
+bool make_document(const struct caller *caller, sqlite3_value *value, struct buffer *buffer,
+                   struct bytes *document)
+{
+    struct sql_value sql_value;
+    buffer->at = buffer->small;
+    if (sqlite3_value_type(value) == SQLITE_BLOB) return get_document(caller, value, document);
+    if (!get_sql_value(caller, value, true, &sql_value)
+        || !fill_document(caller, buffer, &sql_value))
+        return false;
+    *document = bytes_in(buffer);
+    return true;
 }
 
 static void (*owner(struct buffer *buffer))(void *)

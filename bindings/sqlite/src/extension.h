@@ -94,6 +94,8 @@ bool get_sql_value(const struct caller *caller, sqlite3_value *value, bool is_js
 
 /* A copy of struct bytes. */
 writer write_bytes;
+/* The document of a JSON text in struct bytes, and the string of such a text. */
+writer write_parsed, write_string;
 /* The document of struct sql_value. */
 writer write_sql_value;
 /* The room that the document of such a value mostly needs. */
@@ -106,6 +108,31 @@ writer write_compact, write_pretty, write_canonical, write_key;
 /* The document of struct bytes as binary data. */
 writer write_binary;
 
+/* rows.c */
+
+/* The rows of a document that is built: documents, and before each the text of its name if it is an
+ * object, one after another. All zeros are no rows. */
+struct rows {
+    uint8_t *bytes;
+    size_t size, room;
+    size_t *offsets; /* of the rows, and the end of the last; null before the first row */
+    size_t count, offsets_room;
+    size_t gone;     /* how many of the first rows are no longer wanted */
+};
+
+/* Appends what the writer writes; `guess` is the room that it mostly needs. */
+uint32_t append(struct rows *rows, writer *write, const void *input, size_t guess);
+/* Append a name, and the document of a value. Where they return false, they have reported why. */
+bool append_name(const struct caller *caller, struct rows *rows, sqlite3_value *value);
+bool append_value(const struct caller *caller, struct rows *rows, sqlite3_value *value);
+/* The first so many rows are no longer wanted. */
+void drop_first(struct rows *rows, size_t count);
+/* Frees the memory; then there are no rows. */
+void forget(struct rows *rows);
+/* The array and the object of struct rows, and the room that they mostly need. */
+writer write_array, write_object;
+size_t guess_of_rows(const struct rows *rows);
+
 /* buffer.c */
 
 /* Calls the writer with room for `guess` bytes, and again if it needs more. After `false` it has
@@ -115,6 +142,12 @@ bool fill(const struct caller *caller, struct buffer *buffer, writer *write, con
 /* The same with the document of a value. */
 bool fill_document(const struct caller *caller, struct buffer *buffer,
                    const struct sql_value *value);
+/* The document that jb makes of a value: TEXT is JSON; a BLOB is taken as it is, and not checked.
+ * After `true` the caller releases the buffer. */
+bool make_document(const struct caller *caller, sqlite3_value *value, struct buffer *buffer,
+                   struct bytes *document);
+/* What is in the buffer. */
+struct bytes bytes_in(const struct buffer *buffer);
 void release(struct buffer *buffer);
 /* These hand the buffer's memory to SQLite. */
 void give_blob(const struct caller *caller, struct buffer *buffer);
@@ -139,14 +172,39 @@ void give_kind(const struct caller *caller, const struct part *part);
 
 /* path.c */
 
+enum step_kind { NAME, INDEX, FROM_END };
+
+struct step {
+    enum step_kind kind;
+    struct bytes name;
+    uint64_t index;
+    struct bytes text; /* as the path has it */
+};
+
+/* The part of a path that is not yet read. */
+struct reader {
+    const uint8_t *at, *end;
+};
+
+/* Reads the `$` that a path begins with. */
+bool read_start(struct reader *reader);
+/* Reads a step. After `false` the reader is at the character that is wrong. */
+bool read_step(struct reader *reader, struct step *step);
+/* Follows a step from a part. A step from the end becomes an INDEX if the part is an array that is
+ * so long. KOHIBLAD_NONE: nothing is there. */
+uint32_t take_step(struct step *step, struct part *part);
+/* The error of a path that is wrong there. Null if memory was refused. */
+char *path_message(const char *name, struct bytes path, const uint8_t *wrong);
 /* Follows a path from the whole document. KOHIBLAD_OK, or KOHIBLAD_NONE: nothing is there. After
  * another status *message is what to report. */
 uint32_t follow_path(const char *name, struct bytes document, struct bytes path, struct part *part,
                      char **message);
 
-/* functions.c, aggregates.c, each.c: these return codes of SQLite. */
-int register_functions(sqlite3 *database);
-int register_aggregates(sqlite3 *database);
-int register_each(sqlite3 *database);
+/* These return codes of SQLite. */
+int register_functions(sqlite3 *database);  /* functions.c */
+int register_builders(sqlite3 *database);   /* builders.c */
+int register_edits(sqlite3 *database);      /* edits.c */
+int register_aggregates(sqlite3 *database); /* aggregates.c */
+int register_each(sqlite3 *database);       /* each.c */
 
 #endif

@@ -80,21 +80,6 @@ static void jb_key(const struct caller *caller, sqlite3_value **arguments)
         give_blob(caller, &buffer);
 }
 
-/* The document that jb makes of a value; a BLOB is taken as it is, and not checked. After `true`
- * the caller releases the buffer. */
-static bool make_document(const struct caller *caller, sqlite3_value *value, struct buffer *buffer,
-                          struct bytes *document)
-{
-    struct sql_value sql_value;
-    buffer->at = buffer->small;
-    if (sqlite3_value_type(value) == SQLITE_BLOB) return get_document(caller, value, document);
-    if (!get_sql_value(caller, value, true, &sql_value)
-        || !fill_document(caller, buffer, &sql_value))
-        return false;
-    *document = (struct bytes){ buffer->at, buffer->size };
-    return true;
-}
-
 static void jb_compare(const struct caller *caller, sqlite3_value **arguments)
 {
     struct buffer left_buffer, right_buffer;

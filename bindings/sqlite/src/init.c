@@ -10,6 +10,8 @@ int sqlite3_kohiblad_init(sqlite3 *database, char **message, const sqlite3_api_r
     (void)message;
     SQLITE_EXTENSION_INIT2(api);
     code = register_functions(database);
+    if (code == SQLITE_OK) code = register_builders(database);
+    if (code == SQLITE_OK) code = register_edits(database);
     if (code == SQLITE_OK) code = register_aggregates(database);
     if (code == SQLITE_OK) code = register_each(database);
     return code;

@@ -3,19 +3,6 @@
 
 SQLITE_EXTENSION_INIT3
 
-enum step_kind { NAME, INDEX, FROM_END };
-
-struct step {
-    enum step_kind kind;
-    struct bytes name;
-    uint64_t index;
-};
-
-/* The part of a path that is not yet read. */
-struct reader {
-    const uint8_t *at, *end;
-};
-
 static bool next_is(const struct reader *reader, char character)
 {
     return reader->at < reader->end && *reader->at == (uint8_t)character;
@@ -63,32 +50,43 @@ static bool read_index(struct reader *reader, struct step *step)
     return skip(reader, ']');
 }
 
-/* After `false` the reader is at the character that is wrong. */
-static bool read_step(struct reader *reader, struct step *step)
+static bool read_any_step(struct reader *reader, struct step *step)
 {
-    *step = (struct step){ .kind = NAME };
     if (skip(reader, '[')) return read_index(reader, step);
     if (!skip(reader, '.')) return false;
     return skip(reader, '"') ? read_quoted_name(reader, &step->name)
                              : read_plain_name(reader, &step->name);
 }
 
+bool read_start(struct reader *reader)
+{
+    return skip(reader, '$');
+}
+
+bool read_step(struct reader *reader, struct step *step)
+{
+    *step = (struct step){ .kind = NAME, .text.at = reader->at };
+    if (!read_any_step(reader, step)) return false;
+    step->text.size = (size_t)(reader->at - step->text.at);
+    return true;
+}
+
 /* Finds an item of an array only: the parts of an object are its keys and values. */
-static struct kohiblad_place find_item(struct bytes document, const struct step *step)
+static struct kohiblad_place find_item(struct bytes document, struct step *step)
 {
     struct kohiblad_place none = { .status = KOHIBLAD_NONE };
     struct kohiblad_value_kind kind = kohiblad_kind(document.at, document.size);
-    uint64_t index = step->index;
     if (kind.status != KOHIBLAD_OK) return (struct kohiblad_place){ .status = kind.status };
     if (kind.kind != KOHIBLAD_ARRAY) return none;
     if (step->kind == FROM_END) {
-        if (index > kind.count) return none;
-        index = kind.count - index;
+        if (step->index > kind.count) return none;
+        step->index = kind.count - step->index;
+        step->kind = INDEX;
     }
-    return kohiblad_part(document.at, document.size, index);
+    return kohiblad_part(document.at, document.size, step->index);
 }
 
-static uint32_t take_step(const struct step *step, struct part *part)
+uint32_t take_step(struct step *step, struct part *part)
 {
     struct bytes document = part->payload;
     struct kohiblad_place place;
@@ -102,7 +100,7 @@ static uint32_t take_step(const struct step *step, struct part *part)
 }
 
 /* Characters are counted from 1, as substr does. */
-static char *path_message(const char *name, struct bytes path, const uint8_t *wrong)
+char *path_message(const char *name, struct bytes path, const uint8_t *wrong)
 {
     sqlite3_int64 character = 1;
     for (const uint8_t *at = path.at; at < wrong; at++) character += (*at & 0xC0) != 0x80;
@@ -116,7 +114,7 @@ uint32_t follow_path(const char *name, struct bytes document, struct bytes path,
     struct reader reader = { path.at, path.at + path.size };
     struct step step;
     uint32_t status = KOHIBLAD_OK;
-    bool is_right = skip(&reader, '$');
+    bool is_right = read_start(&reader);
     *part = (struct part){ KOHIBLAD_TYPE_CONTAINER, document };
     while (is_right && reader.at < reader.end) {
         is_right = read_step(&reader, &step);

@@ -66,7 +66,7 @@ static void give_by(giver *give, const struct caller *caller, const struct part 
     if (part->type == KOHIBLAD_TYPE_CONTAINER) {
         give(caller, part->payload);
     } else if (fill(caller, &buffer, write_part, part, SCALAR_FRONT + part->payload.size)) {
-        give(caller, (struct bytes){ buffer.at, buffer.size });
+        give(caller, bytes_in(&buffer));
         release(&buffer);
     }
 }

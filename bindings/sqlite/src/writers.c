@@ -14,14 +14,14 @@ uint32_t write_bytes(const void *input, uint8_t *out, size_t room, size_t *lengt
     return KOHIBLAD_OK;
 }
 
-static uint32_t write_parsed(const void *input, uint8_t *out, size_t room, size_t *length)
+uint32_t write_parsed(const void *input, uint8_t *out, size_t room, size_t *length)
 {
     const struct bytes *text = input;
     return kohiblad_parse(text->at, text->size, KOHIBLAD_SQLITE_DEPTH,
                           KOHIBLAD_EXPONENTS_ALLOWED, out, room, length);
 }
 
-static uint32_t write_string(const void *input, uint8_t *out, size_t room, size_t *length)
+uint32_t write_string(const void *input, uint8_t *out, size_t room, size_t *length)
 {
     const struct bytes *text = input;
     return kohiblad_of_text(text->at, text->size, out, room, length);

@@ -111,6 +111,17 @@ static const struct { const char *sql, *answer; } statements[] = {
     { "SELECT jb_value(jb_group_array(jb_binary(x'00FF')), '$[0]')", "00ff" },
     { "SELECT hex(jb_blob(jb_group_array(jb_binary(x'00FF')), '$[0]'))", "00FF" },
     { "SELECT length(jb_blob(jb_binary(zeroblob(5000)), '$'))", "5000" },
+    { "SELECT jb_text(jb_set(jb('{\"a\":[1]}'), '$.a[#]', 2, '$.b.c[0]', 'x'))",
+      "{\"a\":[1,2],\"b\":{\"c\":[\"x\"]}}" },
+    { "SELECT length(jb_set(jb('{}'), '$.a.b', hex(zeroblob(4000)), '$.c', json('[1]')))", "8045" },
+    { "SELECT jb_text(jb_insert(jb('{\"a\":1}'), '$.a', 2, '$.b', 2))", "{\"a\":1,\"b\":2}" },
+    { "SELECT jb_text(jb_remove(jb('{\"a\":[1],\"b\":2}'), '$.a[0]', '$.b'))", "{\"a\":[]}" },
+    { "SELECT jb_text(jb_replace(jb('[1]'), '$', jb('{}')))", "{}" },
+    { "SELECT jb_text(jb_array(1, json('[2]'), jb_object('a', 'x')))", "[1,[2],{\"a\":\"x\"}]" },
+    { "SELECT jb_text(jb_group_array(value) OVER (ROWS BETWEEN 1 FOLLOWING AND 2 FOLLOWING))"
+      " FROM json_each('[1,\"x\",[2],null]')", "[\"x\",\"[2]\"]" },
+    { "SELECT jb_text(jb_group_object('k' || key, value) OVER (ROWS 1 PRECEDING))"
+      " FROM json_each('[1,\"x\",[2],null]') LIMIT 1 OFFSET 3", "{\"k2\":\"[2]\",\"k3\":null}" },
     { "SELECT jb_version() LIKE '%.%.%'", "1" },
 };
 
@@ -123,6 +134,9 @@ static const struct { const char *sql, *error, *unplaced; } faults[] = {
       "jb_compare: InvalidJson" },
     { "SELECT jb_compare('\"' || hex(zeroblob(4000)) || '\"', '1x')",
       "jb_compare: InvalidJson at byte 1", "jb_compare: InvalidJson" },
+    { "SELECT jb_set(jb('[]'), '$[0]', json('1e99'))", "jb_set: BadNumber at byte 3",
+      "jb_set: InvalidJson" },
+    { "SELECT jb_array(json('1e99'))", "jb_array: BadNumber at byte 3", "jb_array: InvalidJson" },
     { "SELECT jb_group_array(json('1e99'))", "jb_group_array: BadNumber at byte 3",
       "jb_group_array: InvalidJson" },
 };
@@ -182,6 +196,12 @@ static const struct { const char *sql; int code; const char *answer; } hostile[]
     { "SELECT jb_value(?, '$')", SQLITE_ERROR, "jb_value: InvalidJsonb" },
     { "SELECT jb_group_array(?)", SQLITE_ERROR, "jb_group_array: InvalidJsonb" },
     { "SELECT jb_group_object('a', ?)", SQLITE_ERROR, "jb_group_object: InvalidJsonb" },
+    { "SELECT jb_set(?, '$', 1)", SQLITE_ERROR, "jb_set: InvalidJsonb" },
+    { "SELECT jb_insert(?, '$[0]', 1)", SQLITE_ERROR, "jb_insert: InvalidJsonb" },
+    { "SELECT jb_set(jb('[]'), '$[#]', ?)", SQLITE_ERROR, "jb_set: InvalidJsonb" },
+    { "SELECT jb_remove(?, '$[0][0]')", SQLITE_ERROR, "jb_remove: InvalidJsonb" },
+    { "SELECT jb_array(?)", SQLITE_ERROR, "jb_array: InvalidJsonb" },
+    { "SELECT jb_object('a', ?)", SQLITE_ERROR, "jb_object: InvalidJsonb" },
     { "SELECT value FROM jb_each(?)", SQLITE_ERROR, "jb_each: InvalidJsonb" },
     { "SELECT kind FROM jb_each(?)", SQLITE_ROW, "array" },
     { "SELECT jb_key(?) > jb_key(jb('null'))", SQLITE_ROW, "1" },
@@ -217,6 +237,11 @@ static const struct { const char *sql; bool is_checked; } broken[] = {
     { "SELECT jb_canonical(?)", true },
     { "SELECT jb_group_array(?)", true },
     { "SELECT jb_group_object('a', ?)", true },
+    { "SELECT jb_set(?, '$.a[#]', 1, '$.b.c', 'x')", true },
+    { "SELECT jb_set(jb('{}'), '$.a.b', ?)", true },
+    { "SELECT jb_replace(?, '$', 1)", true },
+    { "SELECT jb_remove(?, '$.a[1]', '$.b.d')", true },
+    { "SELECT jb_array(?, ?)", true },
     { "SELECT jb_value(?, '$')", false },
     { "SELECT jb_value(?, '$.a[#-1]')", false },
     { "SELECT jb_value(?, '$.e')", false },
@@ -287,6 +312,9 @@ static const char *const too_big[] = {
     "SELECT jb_group_array(hex(zeroblob(400))) FROM json_each('[1,2,3]')",
     "SELECT jb_compare('[' || replace(hex(zeroblob(400)), '0', '1,') || '1]', 'null')",
     "SELECT jb_binary(zeroblob(1995))",
+    "SELECT jb_set(jb('{}'), '$.a', hex(zeroblob(700)), '$.b', hex(zeroblob(700)))",
+    "SELECT jb_set(jb('{}'), '$.' || hex(zeroblob(900)) || '.a', hex(zeroblob(100)))",
+    "SELECT jb_array(hex(zeroblob(700)), hex(zeroblob(700)))",
 };
 
 static void pass_limit(void)

@@ -68,7 +68,7 @@ SELECT group_concat(name) FROM pragma_function_list WHERE name LIKE 'jb%' AND NO
 -- These read subtypes.
 SELECT group_concat(name, ' ') FROM (SELECT name FROM pragma_function_list
     WHERE name LIKE 'jb%' AND flags & 0x100000 ORDER BY name);
---> jb_group_array jb_group_object jb_of
+--> jb_array jb_group_array jb_group_object jb_insert jb_object jb_of jb_remove jb_replace jb_set
 -- An index refuses what its function refuses, and nothing is stored.
 CREATE TABLE plain(doc);
 CREATE INDEX plain_id ON plain(jb_value(doc, '$.id'));

@@ -1,0 +1,350 @@
+/* Documents changed at paths: jb_set, jb_insert, jb_replace and jb_remove. */
+#include "extension.h"
+
+#include <string.h>
+
+SQLITE_EXTENSION_INIT3
+
+struct edit_function {
+    const char *name;
+    bool has_values; /* after each path */
+    bool creates;    /* what is not there */
+    bool overwrites; /* what is there */
+};
+
+/* Where a path leads. */
+struct target {
+    bool is_there;
+    bool can_be_made;   /* it is not there, and the containers that it needs can be made */
+    struct bytes made;  /* the steps after the first that leads nowhere */
+    size_t steps;
+    sqlite3_str *path;  /* to the edit, as JSON without the bracket that ends it */
+};
+
+/* A JSON string of the name. A byte that is no UTF-8 stays, so that it is refused. */
+static void append_string(sqlite3_str *text, struct bytes name)
+{
+    const uint8_t *end = name.at + name.size, *start = name.at;
+    sqlite3_str_appendchar(text, 1, '"');
+    for (const uint8_t *at = start; at < end; at++) {
+        if (*at >= ' ' && *at != '"' && *at != '\\') continue;
+        sqlite3_str_append(text, (const char *)start, (int)(at - start));
+        sqlite3_str_appendf(text, "\\u%04x", *at);
+        start = at + 1;
+    }
+    sqlite3_str_append(text, (const char *)start, (int)(end - start));
+    sqlite3_str_appendchar(text, 1, '"');
+}
+
+/* The step as an item of the array that a path is to the library. */
+static void append_step(sqlite3_str *path, const struct step *step)
+{
+    sqlite3_str_appendchar(path, 1, sqlite3_str_length(path) ? ',' : '[');
+    if (step->kind == NAME) append_string(path, step->name);
+    else sqlite3_str_appendf(path, "%llu", (sqlite3_uint64)step->index);
+}
+
+static void discard(sqlite3_str *text)
+{
+    sqlite3_free(sqlite3_str_finish(text));
+}
+
+/* Whether a step that leads nowhere can be made in a part: a member of an object, or an item after
+ * the last. */
+static bool can_make(const struct step *step, const struct part *part)
+{
+    struct kohiblad_value_kind kind = kind_of_part(part);
+    if (kind.status != KOHIBLAD_OK) return false;
+    if (step->kind == NAME) return kind.kind == KOHIBLAD_OBJECT;
+    return step->kind == INDEX && kind.kind == KOHIBLAD_ARRAY && step->index == kind.count;
+}
+
+/* Whether a step makes the container that it leads into: SQLite reads [0] there, and no other
+ * index. */
+static bool makes_container(const struct step *step)
+{
+    return step->kind == NAME
+        || (step->kind == INDEX && step->index == 0 && step->text.size == strlen("[0]"));
+}
+
+/* Follows a path to its end, as follow_path does. After another status than KOHIBLAD_OK *message is
+ * what to report. The caller discards target->path. */
+static uint32_t find_target(const struct caller *caller, struct bytes document, struct bytes path,
+                            struct target *target, char **message)
+{
+    struct reader reader = { path.at, path.at + path.size };
+    struct part part = { KOHIBLAD_TYPE_CONTAINER, document };
+    struct step step;
+    uint32_t status = KOHIBLAD_OK;
+    bool is_right = read_start(&reader);
+    for (; is_right && reader.at < reader.end; target->steps++) {
+        is_right = read_step(&reader, &step);
+        if (!is_right) break;
+        if (status == KOHIBLAD_NONE) {
+            target->can_be_made = target->can_be_made && makes_container(&step);
+        } else if (status == KOHIBLAD_OK) {
+            status = take_step(&step, &part);
+            append_step(target->path, &step);
+            target->can_be_made = status == KOHIBLAD_NONE && can_make(&step, &part);
+            target->made.at = reader.at;
+        }
+    }
+    target->is_there = status == KOHIBLAD_OK;
+    target->made.size = (size_t)(reader.end - target->made.at);
+    if (!is_right) {
+        *message = path_message(caller->name, path, reader.at);
+        return KOHIBLAD_OTHER_KIND;
+    }
+    if (status == KOHIBLAD_OK || status == KOHIBLAD_NONE) return KOHIBLAD_OK;
+    *message = status_message(caller->name, status, NULL);
+    return status;
+}
+
+/* Whether all that was appended is there; reports why not. */
+static bool is_whole(const struct caller *caller, sqlite3_str *text)
+{
+    int code = sqlite3_str_errcode(text);
+    if (code == SQLITE_OK) return true;
+    fail(caller, code == SQLITE_TOOBIG ? RESULT_TOO_BIG : KOHIBLAD_OUT_OF_MEMORY);
+    return false;
+}
+
+/* The document of a JSON text, which is discarded. */
+static bool fill_parsed(const struct caller *caller, struct buffer *buffer, sqlite3_str *text)
+{
+    struct bytes bytes = { (const uint8_t *)sqlite3_str_value(text),
+                           (size_t)sqlite3_str_length(text) };
+    bool is_made = is_whole(caller, text)
+        && fill(caller, buffer, write_parsed, &bytes, 2 * bytes.size);
+    discard(text);
+    return is_made;
+}
+
+/* The document of a path, whose text is discarded. */
+static bool fill_path(const struct caller *caller, struct buffer *buffer, sqlite3_str *path)
+{
+    sqlite3_str_appendall(path, sqlite3_str_length(path) ? "]" : "[]");
+    return fill_parsed(caller, buffer, path);
+}
+
+struct edit {
+    struct bytes document, path, value;
+    uint32_t kind; /* enum kohiblad_edit_kind */
+};
+
+static uint32_t write_edited(const void *input, uint8_t *out, size_t room, size_t *length)
+{
+    const struct edit *edit = input;
+    return kohiblad_edit(edit->document.at, edit->document.size, edit->path.at, edit->path.size,
+                         edit->kind, edit->value.at, edit->value.size, KOHIBLAD_SQLITE_DEPTH, out,
+                         room, length);
+}
+
+/* The document edited at the path, whose text is discarded. */
+static bool fill_edited(const struct caller *caller, struct buffer *buffer, struct edit edit,
+                        sqlite3_str *path_text)
+{
+    struct buffer path;
+    bool is_made;
+    if (!fill_path(caller, &path, path_text)) return false;
+    edit.path = bytes_in(&path);
+    is_made = fill(caller, buffer, write_edited, &edit,
+                   edit.document.size + edit.path.size + edit.value.size);
+    release(&path);
+    return is_made;
+}
+
+/* Containers inside one another, as the steps need them, around null, and the path to it. */
+static bool fill_containers(const struct caller *caller, struct buffer *buffer, struct bytes steps,
+                            sqlite3_str *path)
+{
+    sqlite3 *database = sqlite3_context_db_handle(caller->context);
+    sqlite3_str *text = sqlite3_str_new(database), *closed = sqlite3_str_new(database);
+    struct reader reader = { steps.at, steps.at + steps.size };
+    struct step step;
+    bool is_made;
+    while (reader.at < reader.end && read_step(&reader, &step)) {
+        bool is_name = step.kind == NAME;
+        append_step(path, &step);
+        sqlite3_str_appendchar(text, 1, is_name ? '{' : '[');
+        if (is_name) append_string(text, step.name);
+        if (is_name) sqlite3_str_appendchar(text, 1, ':');
+        sqlite3_str_appendchar(closed, 1, is_name ? '}' : ']');
+    }
+    sqlite3_str_appendall(text, "null");
+    for (int i = sqlite3_str_length(closed); i > 0; i--)
+        sqlite3_str_appendchar(text, 1, sqlite3_str_value(closed)[i - 1]);
+    is_made = is_whole(caller, closed);
+    discard(closed);
+    if (is_made) return fill_parsed(caller, buffer, text);
+    discard(text);
+    return false;
+}
+
+/* The value, inside the containers that are made for it. */
+static bool fill_made(const struct caller *caller, struct buffer *buffer, struct bytes steps,
+                      struct bytes value)
+{
+    struct buffer containers;
+    sqlite3_str *path = sqlite3_str_new(sqlite3_context_db_handle(caller->context));
+    bool is_made;
+    if (!fill_containers(caller, &containers, steps, path)) {
+        discard(path);
+        return false;
+    }
+    is_made = fill_edited(caller, buffer,
+                          (struct edit){ bytes_in(&containers), { 0 }, value, KOHIBLAD_PUT }, path);
+    release(&containers);
+    return is_made;
+}
+
+/* Whether the value may be so many levels below the top. */
+static bool is_shallow(const struct caller *caller, struct bytes value, size_t steps)
+{
+    if (steps <= KOHIBLAD_SQLITE_DEPTH
+        && kohiblad_check(value.at, value.size, KOHIBLAD_SQLITE_DEPTH - steps))
+        return true;
+    fail(caller, KOHIBLAD_INVALID_JSONB);
+    return false;
+}
+
+/* The document with the value at the target, whose path is discarded. */
+static bool fill_put(const struct caller *caller, struct buffer *buffer, struct bytes document,
+                     const struct target *target, struct bytes value)
+{
+    struct edit edit = { document, { 0 }, value, KOHIBLAD_PUT };
+    struct buffer made;
+    bool is_made;
+    if (target->is_there || target->made.size == 0)
+        return fill_edited(caller, buffer, edit, target->path);
+    if (!fill_made(caller, &made, target->made, value)) {
+        discard(target->path);
+        return false;
+    }
+    edit.value = bytes_in(&made);
+    is_made = fill_edited(caller, buffer, edit, target->path);
+    release(&made);
+    return is_made;
+}
+
+static bool put(const struct caller *caller, struct buffer *buffer, struct bytes document,
+                const struct target *target, sqlite3_value *argument)
+{
+    struct buffer value;
+    struct sql_value sql_value;
+    bool is_made = false;
+    if (get_sql_value(caller, argument, has_json_subtype(argument), &sql_value)
+        && fill_document(caller, &value, &sql_value)) {
+        if (is_shallow(caller, bytes_in(&value), target->steps))
+            is_made = fill_put(caller, buffer, document, target, bytes_in(&value));
+        else discard(target->path);
+        release(&value);
+    } else {
+        discard(target->path);
+    }
+    return is_made;
+}
+
+enum outcome { FAILED, UNCHANGED, CHANGED, REMOVED };
+
+/* Edits once. `value` is null if the function has no values. */
+static enum outcome edit_at(const struct caller *caller, const struct edit_function *function,
+                            struct buffer *buffer, struct bytes document, sqlite3_value *argument,
+                            sqlite3_value *value)
+{
+    sqlite3 *database = sqlite3_context_db_handle(caller->context);
+    struct target target = { .path = sqlite3_str_new(database) };
+    struct edit removal = { .document = document, .kind = KOHIBLAD_REMOVE };
+    struct bytes path;
+    char *message;
+    bool is_wanted;
+    if (!get_text(caller, argument, &path)) {
+        discard(target.path);
+        return FAILED;
+    }
+    if (find_target(caller, document, path, &target, &message) != KOHIBLAD_OK) {
+        discard(target.path);
+        fail_with(caller, message);
+        return FAILED;
+    }
+    is_wanted = target.is_there ? function->overwrites : function->creates && target.can_be_made;
+    if (!is_wanted) {
+        discard(target.path);
+        return UNCHANGED;
+    }
+    if (function->has_values)
+        return put(caller, buffer, document, &target, value) ? CHANGED : FAILED;
+    if (target.steps > 0)
+        return fill_edited(caller, buffer, removal, target.path) ? CHANGED : FAILED;
+    discard(target.path);
+    return REMOVED;
+}
+
+/* Edits in turn: each finds what those before it left. Two buffers take turns, and
+ * buffers[*last] has the result. */
+static enum outcome edit_all(const struct caller *caller, const struct edit_function *function,
+                             struct buffer *buffers, int *last, struct bytes document, int count,
+                             sqlite3_value **arguments)
+{
+    enum outcome all = UNCHANGED;
+    int each = function->has_values ? 2 : 1;
+    for (int i = 0; i < count; i += each) {
+        sqlite3_value *value = function->has_values ? arguments[i + 1] : NULL;
+        enum outcome outcome = edit_at(caller, function, &buffers[1 - *last], document,
+                                       arguments[i], value);
+        if (outcome == UNCHANGED) continue;
+        if (all == CHANGED) release(&buffers[*last]);
+        if (outcome != CHANGED) return outcome;
+        all = CHANGED;
+        *last = 1 - *last;
+        document = bytes_in(&buffers[*last]);
+    }
+    return all;
+}
+
+static bool has_null(const struct edit_function *function, int count, sqlite3_value **arguments)
+{
+    for (int i = 0; i < count; i++) {
+        bool is_value = function->has_values && i > 0 && i % 2 == 0;
+        if (!is_value && sqlite3_value_type(arguments[i]) == SQLITE_NULL) return true;
+    }
+    return false;
+}
+
+/* Without arguments the result is NULL, as that of SQLite's functions. */
+static void run(sqlite3_context *context, int count, sqlite3_value **arguments)
+{
+    const struct edit_function *function = sqlite3_user_data(context);
+    struct caller caller = { context, function->name };
+    struct buffer buffers[2];
+    struct bytes document;
+    int last = 0;
+    if (count > 0 && function->has_values && count % 2 == 0) {
+        fail_with(&caller, sqlite3_mprintf("%s: a path has no value", function->name));
+        return;
+    }
+    if (count == 0 || has_null(function, count, arguments)) return;
+    if (!get_checked(&caller, arguments[0], &document)) return;
+    switch (edit_all(&caller, function, buffers, &last, document, count - 1, arguments + 1)) {
+    case UNCHANGED: sqlite3_result_value(context, arguments[0]); break;
+    case CHANGED: give_blob(&caller, &buffers[last]); break;
+    case FAILED: case REMOVED: break;
+    }
+}
+
+static const struct edit_function functions[] = {
+    { "jb_set", true, true, true },
+    { "jb_insert", true, true, false },
+    { "jb_replace", true, false, true },
+    { "jb_remove", false, false, true },
+};
+
+int register_edits(sqlite3 *database)
+{
+    int flags = SQLITE_UTF8 | SQLITE_DETERMINISTIC | SQLITE_INNOCUOUS | SQLITE_SUBTYPE;
+    int code = SQLITE_OK;
+    for (size_t i = 0; i < sizeof functions / sizeof *functions && code == SQLITE_OK; i++)
+        code = sqlite3_create_function_v2(database, functions[i].name, -1, flags,
+                                          (void *)&functions[i], run, NULL, NULL, NULL);
+    return code;
+}
