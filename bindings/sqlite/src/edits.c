@@ -127,19 +127,6 @@ static bool fill_path(const struct caller *caller, struct buffer *buffer, sqlite
     return fill_parsed(caller, buffer, path);
 }
 
-struct edit {
-    struct bytes document, path, value;
-    uint32_t kind; /* enum kohiblad_edit_kind */
-};
-
-static uint32_t write_edited(const void *input, uint8_t *out, size_t room, size_t *length)
-{
-    const struct edit *edit = input;
-    return kohiblad_edit(edit->document.at, edit->document.size, edit->path.at, edit->path.size,
-                         edit->kind, edit->value.at, edit->value.size, KOHIBLAD_SQLITE_DEPTH, out,
-                         room, length);
-}
-
 /* The document edited at the path, whose text is discarded. */
 static bool fill_edited(const struct caller *caller, struct buffer *buffer, struct edit edit,
                         sqlite3_str *path_text)

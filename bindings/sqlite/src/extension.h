@@ -107,6 +107,17 @@ writer write_part;
 writer write_compact, write_pretty, write_canonical, write_key;
 /* The document of struct bytes as binary data. */
 writer write_binary;
+/* Two documents put together, struct documents. */
+struct documents {
+    struct bytes left, right;
+};
+writer write_concat;
+/* A document edited at a path, struct edit. */
+struct edit {
+    struct bytes document, path, value;
+    uint32_t kind; /* enum kohiblad_edit_kind */
+};
+writer write_edited;
 
 /* rows.c */
 
@@ -169,6 +180,16 @@ void give_data(const struct caller *caller, const struct part *part);
 struct kohiblad_value_kind kind_of_part(const struct part *part);
 /* The name of a part's kind. */
 void give_kind(const struct caller *caller, const struct part *part);
+
+/* The type of a part as json_type names it; of an extension value `extension`. */
+void give_type(const struct caller *caller, const struct part *part);
+/* The number of an array's items, and 0 of all others. */
+void give_array_length(const struct caller *caller, const struct part *part);
+
+/* patch.c */
+
+/* The target with the patch merged into it; both are checked. */
+void give_patched(const struct caller *caller, struct bytes target, struct bytes patch);
 
 /* path.c */
 

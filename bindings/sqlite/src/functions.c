@@ -80,18 +80,86 @@ static void jb_key(const struct caller *caller, sqlite3_value **arguments)
         give_blob(caller, &buffer);
 }
 
+/* Calls `use` with the documents that jb makes of both arguments. */
+static void with_both(const struct caller *caller, sqlite3_value **arguments,
+                      void (*use)(const struct caller *, const struct documents *))
+{
+    struct buffer left, right;
+    struct documents both;
+    if (!make_document(caller, arguments[0], &left, &both.left)) return;
+    if (make_document(caller, arguments[1], &right, &both.right)) {
+        use(caller, &both);
+        release(&right);
+    }
+    release(&left);
+}
+
+static void give_order(const struct caller *caller, const struct documents *both)
+{
+    sqlite3_result_int(caller->context,
+                       kohiblad_compare_within(both->left.at, both->left.size, both->right.at,
+                                               both->right.size, KOHIBLAD_SQLITE_DEPTH));
+}
+
 static void jb_compare(const struct caller *caller, sqlite3_value **arguments)
 {
-    struct buffer left_buffer, right_buffer;
-    struct bytes left, right;
-    if (!make_document(caller, arguments[0], &left_buffer, &left)) return;
-    if (make_document(caller, arguments[1], &right_buffer, &right)) {
-        sqlite3_result_int(caller->context,
-                           kohiblad_compare_within(left.at, left.size, right.at, right.size,
-                                                   KOHIBLAD_SQLITE_DEPTH));
-        release(&right_buffer);
+    with_both(caller, arguments, give_order);
+}
+
+static void give_truth(const struct caller *caller, struct kohiblad_truth truth)
+{
+    if (truth.status == KOHIBLAD_OK) sqlite3_result_int(caller->context, (int)truth.value);
+    else fail(caller, truth.status);
+}
+
+static void give_contains(const struct caller *caller, const struct documents *both)
+{
+    give_truth(caller, kohiblad_contains(both->left.at, both->left.size, both->right.at,
+                                         both->right.size, KOHIBLAD_SQLITE_DEPTH));
+}
+
+static void jb_contains(const struct caller *caller, sqlite3_value **arguments)
+{
+    with_both(caller, arguments, give_contains);
+}
+
+/* An object beside a value that is none becomes an item, one level deeper. */
+static void give_concat(const struct caller *caller, const struct documents *both)
+{
+    struct buffer buffer;
+    if (!fill(caller, &buffer, write_concat, both, both->left.size + both->right.size + 12)) return;
+    if (kohiblad_check(buffer.at, buffer.size, KOHIBLAD_SQLITE_DEPTH)) {
+        give_blob(caller, &buffer);
+    } else {
+        release(&buffer);
+        fail(caller, KOHIBLAD_INVALID_JSONB);
     }
-    release(&left_buffer);
+}
+
+static void jb_concat(const struct caller *caller, sqlite3_value **arguments)
+{
+    with_both(caller, arguments, give_concat);
+}
+
+static void patch_checked(const struct caller *caller, const struct documents *both)
+{
+    if (kohiblad_check(both->left.at, both->left.size, KOHIBLAD_SQLITE_DEPTH)
+        && kohiblad_check(both->right.at, both->right.size, KOHIBLAD_SQLITE_DEPTH))
+        give_patched(caller, both->left, both->right);
+    else fail(caller, KOHIBLAD_INVALID_JSONB);
+}
+
+static void jb_patch(const struct caller *caller, sqlite3_value **arguments)
+{
+    with_both(caller, arguments, patch_checked);
+}
+
+static void jb_exists(const struct caller *caller, sqlite3_value **arguments)
+{
+    struct bytes document, key;
+    if (get_document(caller, arguments[0], &document) && get_text(caller, arguments[1], &key))
+        give_truth(caller, kohiblad_exists(document.at, document.size, key.at, key.size,
+                                           KOHIBLAD_SQLITE_DEPTH));
 }
 
 static void jb_valid(const struct caller *caller, sqlite3_value **arguments)
@@ -104,11 +172,29 @@ static void jb_valid(const struct caller *caller, sqlite3_value **arguments)
                            kohiblad_check(bytes.at, bytes.size, KOHIBLAD_SQLITE_DEPTH));
 }
 
-static void jb_kind(const struct caller *caller, sqlite3_value **arguments)
+/* Makes a part, in some form, the result. */
+typedef void part_giver(const struct caller *caller, const struct part *part);
+
+static void give_whole(const struct caller *caller, sqlite3_value **arguments, part_giver *give)
 {
     struct bytes document;
     if (!get_document(caller, *arguments, &document)) return;
-    give_kind(caller, &(struct part){ KOHIBLAD_TYPE_CONTAINER, document });
+    give(caller, &(struct part){ KOHIBLAD_TYPE_CONTAINER, document });
+}
+
+static void jb_kind(const struct caller *caller, sqlite3_value **arguments)
+{
+    give_whole(caller, arguments, give_kind);
+}
+
+static void jb_type(const struct caller *caller, sqlite3_value **arguments)
+{
+    give_whole(caller, arguments, give_type);
+}
+
+static void jb_array_length(const struct caller *caller, sqlite3_value **arguments)
+{
+    give_whole(caller, arguments, give_array_length);
 }
 
 static void jb_length(const struct caller *caller, sqlite3_value **arguments)
@@ -135,8 +221,7 @@ static void jb_get(const struct caller *caller, sqlite3_value **arguments)
     else if (place.status != KOHIBLAD_NONE) fail(caller, place.status);
 }
 
-static void give_at(const struct caller *caller, sqlite3_value **arguments,
-                    void (*give)(const struct caller *, const struct part *))
+static void give_at(const struct caller *caller, sqlite3_value **arguments, part_giver *give)
 {
     struct bytes document, path;
     struct part part;
@@ -169,6 +254,16 @@ static void jb_blob(const struct caller *caller, sqlite3_value **arguments)
     give_at(caller, arguments, give_data);
 }
 
+static void jb_type_at(const struct caller *caller, sqlite3_value **arguments)
+{
+    give_at(caller, arguments, give_type);
+}
+
+static void jb_array_length_at(const struct caller *caller, sqlite3_value **arguments)
+{
+    give_at(caller, arguments, give_array_length);
+}
+
 /* The library's version in digits: millions, thousands and ones. */
 static void jb_version(const struct caller *caller, sqlite3_value **arguments)
 {
@@ -196,9 +291,17 @@ static const struct function functions[] = {
     { "jb_canonical", 1, SAME, false, jb_canonical },
     { "jb_key", 1, SAME, false, jb_key },
     { "jb_compare", 2, SAME, false, jb_compare },
+    { "jb_contains", 2, SAME, false, jb_contains },
+    { "jb_exists", 2, SAME, false, jb_exists },
+    { "jb_concat", 2, SAME, false, jb_concat },
+    { "jb_patch", 2, SAME, false, jb_patch },
     { "jb_valid", 1, SAME, false, jb_valid },
     { "jb_kind", 1, SAME, false, jb_kind },
+    { "jb_type", 1, SAME, false, jb_type },
+    { "jb_type", 2, SAME, false, jb_type_at },
     { "jb_length", 1, SAME, false, jb_length },
+    { "jb_array_length", 1, SAME, false, jb_array_length },
+    { "jb_array_length", 2, SAME, false, jb_array_length_at },
     { "jb_get", 2, SAME, false, jb_get },
     { "jb_at", 2, SAME, false, jb_at },
     { "jb_value", 2, SETS_SUBTYPE, false, jb_value },

@@ -36,11 +36,16 @@ struct kohiblad_value_kind kind_of_part(const struct part *part)
     return kind;
 }
 
+static void give_name(const struct caller *caller, const char *name)
+{
+    sqlite3_result_text(caller->context, name, -1, SQLITE_STATIC);
+}
+
 void give_kind(const struct caller *caller, const struct part *part)
 {
     struct kohiblad_value_kind kind = kind_of_part(part);
     if (kind.status != KOHIBLAD_OK) fail(caller, kind.status);
-    else sqlite3_result_text(caller->context, kind_names[kind.kind], -1, SQLITE_STATIC);
+    else give_name(caller, kind_names[kind.kind]);
 }
 
 void give_compact(const struct caller *caller, struct bytes document)
@@ -197,6 +202,37 @@ static void give_if(uint32_t wanted, giver *give, const struct caller *caller,
     struct kohiblad_value_kind kind = kind_of_part(part);
     if (kind.status != KOHIBLAD_OK) fail(caller, kind.status);
     else if (kind.kind == wanted) give_by(give, caller, part);
+}
+
+static void give_type_of_boolean(const struct caller *caller, struct bytes document)
+{
+    struct kohiblad_truth truth = kohiblad_boolean(document.at, document.size);
+    if (truth.status == KOHIBLAD_OK) give_name(caller, truth.value ? "true" : "false");
+    else fail(caller, truth.status);
+}
+
+static void give_type_of_number(const struct caller *caller, struct bytes document)
+{
+    struct kohiblad_decimal number = kohiblad_number(document.at, document.size);
+    if (number.status == KOHIBLAD_OK) give_name(caller, number.scale ? "real" : "integer");
+    else fail(caller, number.status);
+}
+
+void give_type(const struct caller *caller, const struct part *part)
+{
+    struct kohiblad_value_kind kind = kind_of_part(part);
+    if (kind.status != KOHIBLAD_OK) fail(caller, kind.status);
+    else if (kind.kind == KOHIBLAD_BOOLEAN) give_by(give_type_of_boolean, caller, part);
+    else if (kind.kind == KOHIBLAD_NUMBER) give_by(give_type_of_number, caller, part);
+    else give_name(caller, kind.kind == KOHIBLAD_STRING ? "text" : kind_names[kind.kind]);
+}
+
+void give_array_length(const struct caller *caller, const struct part *part)
+{
+    struct kohiblad_value_kind kind = kind_of_part(part);
+    if (kind.status != KOHIBLAD_OK) fail(caller, kind.status);
+    else sqlite3_result_int64(caller->context,
+                              kind.kind == KOHIBLAD_ARRAY ? (sqlite3_int64)kind.count : 0);
 }
 
 void give_number(const struct caller *caller, const struct part *part)

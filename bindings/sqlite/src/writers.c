@@ -77,6 +77,21 @@ uint32_t write_key(const void *input, uint8_t *out, size_t room, size_t *length)
     return kohiblad_key(document->at, document->size, KOHIBLAD_SQLITE_DEPTH, out, room, length);
 }
 
+uint32_t write_concat(const void *input, uint8_t *out, size_t room, size_t *length)
+{
+    const struct documents *both = input;
+    return kohiblad_concat(both->left.at, both->left.size, both->right.at, both->right.size,
+                           KOHIBLAD_SQLITE_DEPTH, out, room, length);
+}
+
+uint32_t write_edited(const void *input, uint8_t *out, size_t room, size_t *length)
+{
+    const struct edit *edit = input;
+    return kohiblad_edit(edit->document.at, edit->document.size, edit->path.at, edit->path.size,
+                         edit->kind, edit->value.at, edit->value.size, KOHIBLAD_SQLITE_DEPTH, out,
+                         room, length);
+}
+
 uint32_t write_binary(const void *input, uint8_t *out, size_t room, size_t *length)
 {
     const struct bytes *data = input;

@@ -122,6 +122,14 @@ static const struct { const char *sql, *answer; } statements[] = {
       " FROM json_each('[1,\"x\",[2],null]')", "[\"x\",\"[2]\"]" },
     { "SELECT jb_text(jb_group_object('k' || key, value) OVER (ROWS 1 PRECEDING))"
       " FROM json_each('[1,\"x\",[2],null]') LIMIT 1 OFFSET 3", "{\"k2\":\"[2]\",\"k3\":null}" },
+    { "SELECT jb_contains(jb('{\"a\":[1,2]}'), '{\"a\":[2]}')", "1" },
+    { "SELECT jb_exists(jb('{\"a\":1}'), 'a')", "1" },
+    { "SELECT jb_text(jb_concat(jb('{\"a\":1}'), '{\"b\":2}'))", "{\"a\":1,\"b\":2}" },
+    { "SELECT jb_text(jb_patch(jb('{\"a\":{\"b\":1,\"c\":2},\"d\":3}'),"
+      " '{\"a\":{\"b\":null,\"e\":{\"f\":4}},\"d\":null}'))",
+      "{\"a\":{\"c\":2,\"e\":{\"f\":4}}}" },
+    { "SELECT length(jb_patch('{\"a\":1}', jb_object('b', hex(zeroblob(3000)))))", "6024" },
+    { "SELECT jb_type(jb('[true]'), '$[0]') || jb_array_length(jb('[1]'))", "true1" },
     { "SELECT jb_version() LIKE '%.%.%'", "1" },
 };
 
@@ -200,6 +208,13 @@ static const struct { const char *sql; int code; const char *answer; } hostile[]
     { "SELECT jb_insert(?, '$[0]', 1)", SQLITE_ERROR, "jb_insert: InvalidJsonb" },
     { "SELECT jb_set(jb('[]'), '$[#]', ?)", SQLITE_ERROR, "jb_set: InvalidJsonb" },
     { "SELECT jb_remove(?, '$[0][0]')", SQLITE_ERROR, "jb_remove: InvalidJsonb" },
+    { "SELECT jb_contains(?, '[]')", SQLITE_ERROR, "jb_contains: InvalidJsonb" },
+    { "SELECT jb_contains('[]', ?)", SQLITE_ERROR, "jb_contains: InvalidJsonb" },
+    { "SELECT jb_exists(?, 'a')", SQLITE_ERROR, "jb_exists: InvalidJsonb" },
+    { "SELECT jb_concat(?, 1)", SQLITE_ERROR, "jb_concat: InvalidJsonb" },
+    { "SELECT jb_patch(?, '{}')", SQLITE_ERROR, "jb_patch: InvalidJsonb" },
+    { "SELECT jb_patch('{}', ?)", SQLITE_ERROR, "jb_patch: InvalidJsonb" },
+    { "SELECT jb_type(?)", SQLITE_ROW, "array" },
     { "SELECT jb_array(?)", SQLITE_ERROR, "jb_array: InvalidJsonb" },
     { "SELECT jb_object('a', ?)", SQLITE_ERROR, "jb_object: InvalidJsonb" },
     { "SELECT value FROM jb_each(?)", SQLITE_ERROR, "jb_each: InvalidJsonb" },
@@ -242,6 +257,13 @@ static const struct { const char *sql; bool is_checked; } broken[] = {
     { "SELECT jb_replace(?, '$', 1)", true },
     { "SELECT jb_remove(?, '$.a[1]', '$.b.d')", true },
     { "SELECT jb_array(?, ?)", true },
+    { "SELECT jb_contains(?, '{\"a\":[\"x\"]}')", true },
+    { "SELECT jb_contains('[]', ?)", true },
+    { "SELECT jb_exists(?, 'e')", true },
+    { "SELECT jb_concat(?, '{\"a\":1}')", true },
+    { "SELECT jb_patch(?, '{\"b\":{\"c\":null,\"d\":{\"x\":1}}}')", true },
+    { "SELECT jb_patch('{\"b\":{\"c\":1}}', ?)", true },
+    { "SELECT jb_type(?, '$.b.c')", false },
     { "SELECT jb_value(?, '$')", false },
     { "SELECT jb_value(?, '$.a[#-1]')", false },
     { "SELECT jb_value(?, '$.e')", false },
@@ -315,6 +337,8 @@ static const char *const too_big[] = {
     "SELECT jb_set(jb('{}'), '$.a', hex(zeroblob(700)), '$.b', hex(zeroblob(700)))",
     "SELECT jb_set(jb('{}'), '$.' || hex(zeroblob(900)) || '.a', hex(zeroblob(100)))",
     "SELECT jb_array(hex(zeroblob(700)), hex(zeroblob(700)))",
+    "SELECT jb_concat(jb_of(hex(zeroblob(700))), jb_of(hex(zeroblob(700))))",
+    "SELECT jb_patch(jb_object('a', hex(zeroblob(700))), jb_object('b', hex(zeroblob(700))))",
 };
 
 static void pass_limit(void)
