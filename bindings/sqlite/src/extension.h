@@ -217,9 +217,10 @@ uint32_t take_step(struct step *step, struct part *part);
 /* The error of a path that is wrong there. Null if memory was refused. */
 char *path_message(const char *name, struct bytes path, const uint8_t *wrong);
 /* Follows a path from the whole document. KOHIBLAD_OK, or KOHIBLAD_NONE: nothing is there. After
- * another status *message is what to report. */
+ * another status *message is what to report. `last`, if it is not null, becomes the last step; it
+ * has no text if there is none. */
 uint32_t follow_path(const char *name, struct bytes document, struct bytes path, struct part *part,
-                     char **message);
+                     struct step *last, char **message);
 
 /* These return codes of SQLite. */
 int register_functions(sqlite3 *database);  /* functions.c */

@@ -229,7 +229,7 @@ static void give_at(const struct caller *caller, sqlite3_value **arguments, part
     uint32_t status;
     if (!get_document(caller, arguments[0], &document) || !get_text(caller, arguments[1], &path))
         return;
-    status = follow_path(caller->name, document, path, &part, &message);
+    status = follow_path(caller->name, document, path, &part, NULL, &message);
     if (status == KOHIBLAD_OK) give(caller, &part);
     else if (status != KOHIBLAD_NONE) fail_with(caller, message);
 }

@@ -109,10 +109,10 @@ char *path_message(const char *name, struct bytes path, const uint8_t *wrong)
 
 /* Reads the path to its end, also where nothing is there, so that a bad path is always reported. */
 uint32_t follow_path(const char *name, struct bytes document, struct bytes path, struct part *part,
-                     char **message)
+                     struct step *last, char **message)
 {
     struct reader reader = { path.at, path.at + path.size };
-    struct step step;
+    struct step step = { .kind = NAME };
     uint32_t status = KOHIBLAD_OK;
     bool is_right = read_start(&reader);
     *part = (struct part){ KOHIBLAD_TYPE_CONTAINER, document };
@@ -120,6 +120,7 @@ uint32_t follow_path(const char *name, struct bytes document, struct bytes path,
         is_right = read_step(&reader, &step);
         if (is_right && status == KOHIBLAD_OK) status = take_step(&step, part);
     }
+    if (last) *last = step;
     if (!is_right) {
         *message = path_message(name, path, reader.at);
         return KOHIBLAD_OTHER_KIND;

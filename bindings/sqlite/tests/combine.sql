@@ -48,8 +48,9 @@ CREATE TABLE deep AS WITH made AS (
     SELECT replace(hex(zeroblob(900)), '00', '{"b":1,"a":') AS opened,
     replace(hex(zeroblob(900)), '00', '}') AS closed, hex(zeroblob(100000)) AS long)
 SELECT jb(opened || '["' || long || '"]' || closed) AS low,
-    jb(replace(opened, '1', '2') || '{"n":1}' || closed) AS patch, jb(opened || '1' || replace(closed, '}', ',"c":"' || substr(long, 1, 500)
-    || '"}')) AS wide FROM made;
+    jb(replace(opened, '1', '2') || '{"n":1}' || closed) AS patch,
+    jb(opened || '1' || replace(closed, '}', ',"c":"' || substr(long, 1, 500) || '"}')) AS wide
+FROM made;
 SELECT jb_patch(low, patch) = jb(json_patch(jb_text(low), jb_text(patch))),
     jb_patch(wide, patch) = jb(json_patch(jb_text(wide), jb_text(patch))),
     jb_patch(patch, patch) = patch FROM deep;

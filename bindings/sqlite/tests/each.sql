@@ -47,11 +47,11 @@ SELECT rowid, root FROM jb_each(jb('[4,5]'));
 CREATE TABLE t(id INTEGER PRIMARY KEY, doc BLOB);
 INSERT INTO t VALUES (1, jb('{"tags":["a","b"]}')), (2, jb('{"tags":[]}')), (3, jb('{}')),
     (4, jb('{"tags":["b"]}'));
-SELECT id, tag.value FROM t, jb_each(t.doc, '$.tags') tag ORDER BY id, tag.key;
+SELECT t.id, tag.value FROM t, jb_each(t.doc, '$.tags') tag ORDER BY t.id, tag.key;
 --> 1|a
 --> 1|b
 --> 4|b
-SELECT id, tag.value FROM t LEFT JOIN jb_each(t.doc, '$.tags') tag WHERE id > 1;
+SELECT t.id, tag.value FROM t LEFT JOIN jb_each(t.doc, '$.tags') tag WHERE t.id > 1;
 --> 2|NULL
 --> 3|NULL
 --> 4|b
