@@ -58,6 +58,7 @@ for name in $scripts; do
     for encoding in UTF-8 UTF-16le UTF-16be; do run_script "$name" "$encoding"; done
 done
 run_script utf8 UTF-8
+run_script json1 UTF-8
 run_script many UTF-8
 
 echo 'tests/deepest.sql with 2.5 MB of stack'
@@ -86,6 +87,25 @@ else echo 'without a decimal comma, which needs the Debian package locales'; fi
 LOCPATH="$scratch" LC_ALL=$locale "$scratch/refuse" "$scratch/out/kohiblad" > "$scratch/count" \
     || fail 'tests/refuse.c'
 tests=$((tests + $(cat "$scratch/count")))
+
+# RANDOM_STATEMENTS sets how many, and RANDOM_SEED which.
+if command -v python3 > "$scratch/found" && echo 'int main(void) { return 0; }' \
+    | cc -fsanitize=address,undefined -x c - -o "$scratch/sanitized" 2> "$scratch/found"; then
+    count=${RANDOM_STATEMENTS:-3000}
+    echo "$count random statements under the address and undefined-behaviour sanitizers"
+    make -s OUT="$scratch/sanitized.out" CFLAGS='-O1 -g -fno-sanitize-recover=all' \
+        EXTRA_CFLAGS='-Werror -fsanitize=address,undefined' || fail 'the build with sanitizers'
+    python3 tests/random.py "$count" "${RANDOM_SEED:-1}" > "$scratch/random.sql"
+    LD_PRELOAD="$(cc -print-file-name=libasan.so) $(cc -print-file-name=libubsan.so)" \
+        ASAN_OPTIONS=detect_leaks=1:exitcode=99 UBSAN_OPTIONS=print_stacktrace=1:exitcode=99 \
+        sqlite3 -batch -cmd ".load $scratch/sanitized.out/kohiblad" :memory: \
+        < "$scratch/random.sql" > "$scratch/printed" 2> "$scratch/reported" || [ $? -eq 1 ] \
+        || fail "sanitizers: $(grep -A 12 'ERROR: \|runtime error' "$scratch/reported")"
+    [ "$(tail -n 1 "$scratch/printed")" = 'done' ] || fail 'the random statements do not end'
+    tests=$((tests + 1))
+else
+    echo 'without random statements, which need python3 and the sanitizers of gcc'
+fi
 
 under_valgrind() {
     valgrind -q --error-exitcode=9 --leak-check=full --main-stacksize=16777216 "$@" \
