@@ -1,4 +1,4 @@
-use kohiblad::OwnedJsonb;
+use kohiblad::{OwnedJsonb, Path};
 
 fn main() -> Result<(), kohiblad::Error> {
     let mut rows = Vec::new();
@@ -11,6 +11,11 @@ fn main() -> Result<(), kohiblad::Error> {
         if let Some(price) = row.as_raw().get("price")? {
             println!("{row} costs {price}");
         }
+    }
+    let cheaper = rows[0].as_raw().set(&Path::new().key("price"), 9)?;
+    let wanted = OwnedJsonb::object_of([("price", 9)])?;
+    if cheaper.as_raw().contains(wanted.as_raw()) {
+        println!("{cheaper}");
     }
     if let Err(refused) = OwnedJsonb::parse(r#"{"id": 1e5}"#, 64) {
         println!("{refused}");

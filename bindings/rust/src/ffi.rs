@@ -277,6 +277,51 @@ extern "C" {
         order: *mut usize,
         room: usize,
     ) -> u32;
+    fn kohiblad_contains(
+        left: *const u8,
+        left_size: usize,
+        right: *const u8,
+        right_size: usize,
+        depth: usize,
+    ) -> Truth;
+    fn kohiblad_exists(
+        bytes: *const u8,
+        size: usize,
+        key: *const u8,
+        key_size: usize,
+        depth: usize,
+    ) -> Truth;
+    fn kohiblad_concat(
+        left: *const u8,
+        left_size: usize,
+        right: *const u8,
+        right_size: usize,
+        depth: usize,
+        out: *mut u8,
+        room: usize,
+        length: *mut usize,
+    ) -> u32;
+    fn kohiblad_edit(
+        bytes: *const u8,
+        size: usize,
+        path: *const u8,
+        path_size: usize,
+        edit: u32,
+        value: *const u8,
+        value_size: usize,
+        depth: usize,
+        out: *mut u8,
+        room: usize,
+        length: *mut usize,
+    ) -> u32;
+    fn kohiblad_index_keys(
+        bytes: *const u8,
+        size: usize,
+        depth: usize,
+        out: *mut u64,
+        room: usize,
+        count: *mut usize,
+    ) -> u32;
 }
 
 /// A child's payload, with the type of its entry.
@@ -319,7 +364,7 @@ impl Rows {
         Ok(())
     }
 
-    fn len(&self) -> usize {
+    pub(crate) fn len(&self) -> usize {
         self.offsets.len().saturating_sub(1)
     }
 }
@@ -760,6 +805,114 @@ pub(crate) fn build_array(rows: &Rows) -> Result<Vec<u8>, Error> {
 
 pub(crate) fn build_object(rows: &Rows) -> Result<Vec<u8>, Error> {
     built(kohiblad_build_object_within, rows)
+}
+
+pub(crate) fn contains(left: &[u8], right: &[u8]) -> Result<bool, Error> {
+    // SAFETY: as above, of both.
+    let truth = unsafe {
+        kohiblad_contains(
+            left.as_ptr(),
+            left.len(),
+            right.as_ptr(),
+            right.len(),
+            MAX_DEPTH,
+        )
+    };
+    tested(truth.status)?;
+    Ok(truth.value != 0)
+}
+
+pub(crate) fn exists(bytes: &[u8], key: &str) -> Result<bool, Error> {
+    // SAFETY: as above, of the bytes and the key.
+    let truth = unsafe {
+        kohiblad_exists(
+            bytes.as_ptr(),
+            bytes.len(),
+            key.as_ptr(),
+            key.len(),
+            MAX_DEPTH,
+        )
+    };
+    tested(truth.status)?;
+    Ok(truth.value != 0)
+}
+
+/// The result may nest one level deeper than [`MAX_DEPTH`].
+pub(crate) fn concat(left: &[u8], right: &[u8]) -> Result<Vec<u8>, Error> {
+    // A header, and entries of values that become items.
+    let first_room = left.len() + right.len() + 12;
+    all_written(first_room, |out, room, length| {
+        // SAFETY: as above, of both; the call writes `length` bytes.
+        unsafe {
+            kohiblad_concat(
+                left.as_ptr(),
+                left.len(),
+                right.as_ptr(),
+                right.len(),
+                MAX_DEPTH,
+                out,
+                room,
+                length,
+            )
+        }
+    })
+}
+
+/// What is done at the end of a path.
+#[derive(Clone, Copy)]
+pub(crate) enum Edit {
+    Put = 0,
+    Insert = 1,
+    Remove = 2,
+}
+
+/// The result may nest deeper than [`MAX_DEPTH`]. No value is read to remove.
+pub(crate) fn edit(bytes: &[u8], path: &[u8], edit: Edit, value: &[u8]) -> Result<Vec<u8>, Error> {
+    let first_room = bytes.len() + path.len() + value.len();
+    all_written(first_room, |out, room, length| {
+        // SAFETY: as above, of the bytes, the path and the value; the call writes `length` bytes.
+        unsafe {
+            kohiblad_edit(
+                bytes.as_ptr(),
+                bytes.len(),
+                path.as_ptr(),
+                path.len(),
+                edit as u32,
+                value.as_ptr(),
+                value.len(),
+                MAX_DEPTH,
+                out,
+                room,
+                length,
+            )
+        }
+    })
+}
+
+pub(crate) fn index_keys(bytes: &[u8]) -> Result<Vec<u64>, Error> {
+    // There is at most one for each four bytes.
+    let mut keys = with_room(bytes.len() / 4)?;
+    let mut count = 0;
+    // SAFETY: as above, of the bytes and the buffer for the keys.
+    let status = unsafe {
+        kohiblad_index_keys(
+            bytes.as_ptr(),
+            bytes.len(),
+            MAX_DEPTH,
+            keys.as_mut_ptr(),
+            keys.capacity(),
+            &mut count,
+        )
+    };
+    tested(status)?;
+    assert!(
+        count <= keys.capacity(),
+        "keys are not more than their room"
+    );
+    // SAFETY: the call wrote so many keys.
+    unsafe { keys.set_len(count) };
+    keys.shrink_to_fit();
+    Ok(keys)
 }
 
 pub(crate) fn sort(rows: &Rows) -> Result<Vec<usize>, Error> {

@@ -19,6 +19,20 @@
 //! which nothing is known are a `&[u8]`: check them by [`RawJsonb::new`], or use the calls of the
 //! module [`bytes`].
 //!
+//! Documents are changed without unpacking, by [`RawJsonb::set`], [`insert`](RawJsonb::insert),
+//! [`remove`](RawJsonb::remove) and [`concat`](RawJsonb::concat), and asked what they contain:
+//!
+//! ```
+//! use kohiblad::{OwnedJsonb, Path};
+//!
+//! let row = OwnedJsonb::parse(r#"{"name": "Ada", "tags": ["a"]}"#, 64)?;
+//! let row = row.as_raw().set(&Path::new().key("tags").index(1), "b")?;
+//! assert_eq!(row.to_string(), r#"{"name":"Ada","tags":["a","b"]}"#);
+//! let wanted = OwnedJsonb::parse(r#"{"tags": ["b"]}"#, 64)?;
+//! assert!(row.as_raw().contains(wanted.as_raw()));
+//! # Ok::<(), kohiblad::Error>(())
+//! ```
+//!
 //! There is no floating point: a document with a double is refused as [`Error::InvalidJsonb`]. A
 //! JSON number with an exponent, as `1e5`, is refused by [`OwnedJsonb::parse`] as
 //! [`Error::BadNumber`], and means exactly its value to [`OwnedJsonb::parse_with_exponents`].
@@ -40,6 +54,7 @@ mod ffi;
 mod key;
 mod node;
 mod owned;
+mod path;
 mod raw;
 
 pub use children::{Items, Members};
@@ -47,6 +62,7 @@ pub use error::Error;
 pub use key::ComparableKey;
 pub use node::{ExtensionValue, Kind, Node, Number};
 pub use owned::OwnedJsonb;
+pub use path::Path;
 pub use raw::RawJsonb;
 
 /// How deep a document or a text may nest. A scalar has depth 0, an array or object one more than

@@ -7,7 +7,7 @@ use core::hash::{Hash, Hasher};
 use crate::node::text_of;
 use crate::{
     ffi, ComparableKey, Error, ExtensionValue, Items, Kind, Members, Node, Number, OwnedJsonb,
-    MAX_DEPTH,
+    Path, MAX_DEPTH,
 };
 
 /// The result of a call that can only fail for bytes that are no document.
@@ -284,6 +284,181 @@ impl<'a> RawJsonb<'a> {
     /// - [`Error::OutOfMemory`]: an allocation failed.
     pub fn to_canonical(&self) -> Result<OwnedJsonb, Error> {
         ffi::to_canonical(self.bytes).map(OwnedJsonb::of_checked)
+    }
+
+    /// Whether the document contains another: an object those objects whose keys it has, with
+    /// values that contain theirs; an array those arrays for each of whose items it has one that
+    /// contains it; a scalar what equals it; and at the top an array also its scalar items.
+    ///
+    /// This takes as many steps as the product of the sizes if long arrays are in both.
+    ///
+    /// ```
+    /// use kohiblad::OwnedJsonb;
+    ///
+    /// let row = OwnedJsonb::parse(r#"{"city": "Oslo", "tags": ["a", "b"], "price": 1.50}"#, 64)?;
+    /// let contains = |text| Ok::<_, kohiblad::Error>(
+    ///     row.as_raw().contains(OwnedJsonb::parse(text, 64)?.as_raw()));
+    /// assert!(contains(r#"{"price": 1.5, "tags": ["b"]}"#)?);
+    /// assert!(!contains(r#"{"tags": ["c"]}"#)?);
+    /// # Ok::<(), kohiblad::Error>(())
+    /// ```
+    pub fn contains(&self, other: RawJsonb<'_>) -> bool {
+        known(ffi::contains(self.bytes, other.bytes))
+    }
+
+    /// Whether the document is an object with this key, an array with this text among its items, or
+    /// this text.
+    ///
+    /// ```
+    /// let row = kohiblad::OwnedJsonb::parse(r#"{"city": "Oslo"}"#, 64)?;
+    /// assert!(row.as_raw().exists("city") && !row.as_raw().exists("Oslo"));
+    /// # Ok::<(), kohiblad::Error>(())
+    /// ```
+    pub fn exists(&self, key: &str) -> bool {
+        known(ffi::exists(self.bytes, key))
+    }
+
+    /// The document of both put together: of two objects all members, with the value of `other` for
+    /// a key of both; of all others an array of the items of both, to which a value that is no array
+    /// adds itself.
+    ///
+    /// ```
+    /// use kohiblad::OwnedJsonb;
+    ///
+    /// let row = OwnedJsonb::parse(r#"{"id": 7, "price": 1.50}"#, 64)?;
+    /// let more = OwnedJsonb::object_of([("price", 2), ("seen", 1)])?;
+    /// let row = row.as_raw().concat(more.as_raw())?;
+    /// assert_eq!(row.to_string(), r#"{"id":7,"price":2,"seen":1}"#);
+    /// # Ok::<(), kohiblad::Error>(())
+    /// ```
+    ///
+    /// # Errors
+    ///
+    /// - [`Error::InvalidJsonb`]: a limit of the format is passed, or the result nests deeper than
+    ///   [`MAX_DEPTH`].
+    /// - [`Error::OutOfMemory`]: an allocation failed.
+    pub fn concat(&self, other: RawJsonb<'_>) -> Result<OwnedJsonb, Error> {
+        let joined = ffi::concat(self.bytes, other.bytes)?;
+        match (self.kind(), other.kind()) {
+            // No value becomes an item.
+            (Kind::Array(_), Kind::Array(_)) | (Kind::Object(_), Kind::Object(_)) => {
+                Ok(OwnedJsonb::of_checked(joined))
+            }
+            _ => OwnedJsonb::new(joined),
+        }
+    }
+
+    /// The document with a value at a path, in place of what is there, or as a new member or item.
+    /// An item past the last comes after it, and one before the first comes before it.
+    ///
+    /// Nothing changes if a step before the last leads nowhere, or a key is in no object, or an
+    /// index in no array.
+    ///
+    /// ```
+    /// use kohiblad::{OwnedJsonb, Path};
+    ///
+    /// let row = OwnedJsonb::parse(r#"{"price": 1.50, "tags": ["a"]}"#, 64)?;
+    /// let row = row.as_raw().set(&Path::new().key("price"), 2)?;
+    /// let row = row.as_raw().set(&Path::new().key("tags").index(1), "b")?;
+    /// assert_eq!(row.to_string(), r#"{"price":2,"tags":["a","b"]}"#);
+    /// let moved = OwnedJsonb::of(5)?.as_raw().set(&Path::new(), row.as_raw())?;
+    /// assert_eq!(moved, row);
+    /// # Ok::<(), kohiblad::Error>(())
+    /// ```
+    ///
+    /// # Errors
+    ///
+    /// - [`Error::InvalidJsonb`]: a limit of the format is passed, or the result nests deeper than
+    ///   [`MAX_DEPTH`].
+    /// - [`Error::InvalidJsonbExtension`]: there is no opaque value of that tag.
+    /// - [`Error::OutOfMemory`]: an allocation failed.
+    pub fn set<'v>(&self, path: &Path, value: impl Into<Node<'v>>) -> Result<OwnedJsonb, Error> {
+        self.edit(path, ffi::Edit::Put, value.into())
+    }
+
+    /// The document with a value inserted at a path: before the item that is there, or after the
+    /// last, or as a member with a new key.
+    ///
+    /// Nothing changes where [`set`](Self::set) changes nothing, or if the key is there.
+    ///
+    /// ```
+    /// use kohiblad::{OwnedJsonb, Path};
+    ///
+    /// let row = OwnedJsonb::parse("[1, 2]", 64)?;
+    /// assert_eq!(row.as_raw().insert(&Path::new().index(0), 0)?.to_string(), "[0,1,2]");
+    /// assert_eq!(row.as_raw().insert(&Path::new().index(-1), 0)?.to_string(), "[1,0,2]");
+    /// # Ok::<(), kohiblad::Error>(())
+    /// ```
+    ///
+    /// # Errors
+    ///
+    /// Those of [`set`](Self::set).
+    pub fn insert<'v>(&self, path: &Path, value: impl Into<Node<'v>>) -> Result<OwnedJsonb, Error> {
+        self.edit(path, ffi::Edit::Insert, value.into())
+    }
+
+    /// The document without what is at a path. Nothing changes if nothing is there, or by the path
+    /// of the whole document.
+    ///
+    /// ```
+    /// use kohiblad::{OwnedJsonb, Path};
+    ///
+    /// let row = OwnedJsonb::parse(r#"{"id": 7, "tags": ["a", "b"]}"#, 64)?;
+    /// let row = row.as_raw().remove(&Path::new().key("tags").index(-1))?;
+    /// assert_eq!(row.to_string(), r#"{"id":7,"tags":["a"]}"#);
+    /// # Ok::<(), kohiblad::Error>(())
+    /// ```
+    ///
+    /// # Errors
+    ///
+    /// - [`Error::InvalidJsonb`]: the result is past a limit of the format.
+    /// - [`Error::OutOfMemory`]: an allocation failed.
+    pub fn remove(&self, path: &Path) -> Result<OwnedJsonb, Error> {
+        let path = path.to_document()?;
+        ffi::edit(self.bytes, path.as_bytes(), ffi::Edit::Remove, &[]).map(OwnedJsonb::of_checked)
+    }
+
+    fn edit(&self, path: &Path, edit: ffi::Edit, value: Node<'_>) -> Result<OwnedJsonb, Error> {
+        let made; // which lives as long as the bytes
+        let value = match value {
+            Node::Container(document) => document.bytes,
+            scalar => {
+                made = OwnedJsonb::of(scalar)?;
+                made.as_bytes()
+            }
+        };
+        let steps = path.len();
+        let path = path.to_document()?;
+        let edited = ffi::edit(self.bytes, path.as_bytes(), edit, value)?;
+        // Else the result nests no deeper than the document, or than the path and the value.
+        let is_shallow = steps <= MAX_DEPTH && ffi::check(value, MAX_DEPTH - steps);
+        match is_shallow {
+            true => Ok(OwnedJsonb::of_checked(edited)),
+            false => OwnedJsonb::new(edited),
+        }
+    }
+
+    /// The keys by which an inverted index finds the document: one for each scalar, a hash of the
+    /// keys of the objects around it and of itself. A document that [`contains`](Self::contains)
+    /// another has each of its index keys, so an index over them misses none. Two scalars may have
+    /// the same key: ask `contains` of what the index finds.
+    ///
+    /// ```
+    /// use kohiblad::OwnedJsonb;
+    ///
+    /// let row = OwnedJsonb::parse(r#"{"city": "Oslo", "tags": ["a", "b"]}"#, 64)?;
+    /// let wanted = OwnedJsonb::parse(r#"{"tags": ["b"]}"#, 64)?;
+    /// let keys = row.as_raw().index_keys()?;
+    /// assert_eq!(keys.len(), 3);
+    /// assert!(wanted.as_raw().index_keys()?.iter().all(|key| keys.contains(key)));
+    /// # Ok::<(), kohiblad::Error>(())
+    /// ```
+    ///
+    /// # Errors
+    ///
+    /// - [`Error::OutOfMemory`]: an allocation failed.
+    pub fn index_keys(&self) -> Result<Vec<u64>, Error> {
+        ffi::index_keys(self.bytes)
     }
 
     /// The key whose order by bytes is that of the documents.

@@ -5,7 +5,7 @@ use std::alloc::{GlobalAlloc, Layout, System};
 use std::cell::Cell;
 use std::ptr;
 
-use kohiblad::{bytes, Error, OwnedJsonb};
+use kohiblad::{bytes, Error, OwnedJsonb, Path};
 
 thread_local! {
     /// How many allocations succeed before one is refused; `None` if all succeed.
@@ -96,5 +96,12 @@ fn refused_allocations_are_named() {
     refuse_each("pretty_text", || row.pretty_text());
     refuse_each("to_canonical", || row.to_canonical());
     refuse_each("key", || row.key());
+    refuse_each("concat", || row.concat(list));
+    refuse_each("a path", || Path::new().key("list").index(-1).to_document());
+    let path = || Path::new().key("list").index(-1);
+    refuse_each("set", || row.set(&path(), long.as_str()));
+    refuse_each("insert", || row.insert(&path(), 7));
+    refuse_each("remove", || row.remove(&path()));
+    refuse_each("index_keys", || row.index_keys());
     refuse_each("sorted_order", || bytes::sorted_order([row, list]));
 }

@@ -1,0 +1,359 @@
+//! Containment, edits by path, concatenation and index keys.
+
+#[allow(dead_code)]
+mod model;
+
+use kohiblad::{Error, ExtensionValue, Node, OwnedJsonb, Path, RawJsonb, MAX_DEPTH};
+use model::{Generator, Tree};
+
+fn parsed(text: &str) -> OwnedJsonb {
+    OwnedJsonb::parse(text, MAX_DEPTH).unwrap()
+}
+
+fn nested(levels: usize, open: &str, close: &str) -> OwnedJsonb {
+    parsed(&(open.repeat(levels) + "0" + &close.repeat(levels)))
+}
+
+#[test]
+fn containment_is_by_value() {
+    let contains = |left, right| parsed(left).as_raw().contains(parsed(right).as_raw());
+    for (left, right) in [
+        (r#"{"a":1,"b":[1,2]}"#, r#"{"b":[2]}"#),
+        (r#"{"a":1}"#, "{}"),
+        ("[1,[2,3]]", "[[3]]"),
+        ("[1,2]", "2"),
+        ("5", "5.0"),
+        ("[1]", "[1,1]"),
+    ] {
+        assert!(contains(left, right), "{left} {right}");
+    }
+    for (left, right) in [
+        (r#"{"a":1}"#, r#"{"a":2}"#),
+        ("[[1,2]]", "[1]"),
+        ("2", "[2]"),
+        ("[]", "{}"),
+        (r#"{"a":[1]}"#, r#"{"a":1}"#),
+    ] {
+        assert!(!contains(left, right), "{left} {right}");
+    }
+}
+
+#[test]
+fn existence_is_of_keys_and_texts() {
+    let exists = |text, key| parsed(text).as_raw().exists(key);
+    assert!(exists(r#"{"a":1}"#, "a") && exists(r#"["a"]"#, "a") && exists(r#""a""#, "a"));
+    assert!(!exists(r#"{"b":"a"}"#, "a") && !exists(r#"[["a"]]"#, "a") && !exists("1", "1"));
+    assert!(exists(r#"{"":0,"é":1}"#, "é") && exists(r#"{"":0}"#, ""));
+}
+
+#[test]
+fn edits_change_what_is_at_the_path() {
+    let row = parsed(r#"{"a":{"b":[1,2,3]},"c":1.50}"#);
+    let row = row.as_raw();
+    let b = || Path::new().key("a").key("b");
+    for (edited, text) in [
+        (
+            row.set(&Path::new().key("c"), "x"),
+            r#"{"a":{"b":[1,2,3]},"c":"x"}"#,
+        ),
+        (
+            row.set(&Path::new().key("d"), Node::Null),
+            r#"{"a":{"b":[1,2,3]},"c":1.50,"d":null}"#,
+        ),
+        (
+            row.set(&b().index(-1), 9),
+            r#"{"a":{"b":[1,2,9]},"c":1.50}"#,
+        ),
+        (
+            row.set(&b().index(7), 9),
+            r#"{"a":{"b":[1,2,3,9]},"c":1.50}"#,
+        ),
+        (
+            row.set(&b().index(-7), 9),
+            r#"{"a":{"b":[9,1,2,3]},"c":1.50}"#,
+        ),
+        (
+            row.insert(&b().index(1), true),
+            r#"{"a":{"b":[1,true,2,3]},"c":1.50}"#,
+        ),
+        (
+            row.insert(&b().index(3), 4),
+            r#"{"a":{"b":[1,2,3,4]},"c":1.50}"#,
+        ),
+        (row.remove(&b().index(0)), r#"{"a":{"b":[2,3]},"c":1.50}"#),
+        (row.remove(&Path::new().key("a")), r#"{"c":1.50}"#),
+        (row.set(&Path::new(), 5), "5"),
+    ] {
+        assert_eq!(edited.unwrap().to_string(), text);
+    }
+    for unchanged in [
+        row.set(&Path::new().key("x").key("y"), 1),
+        row.set(&Path::new().index(0), 1),
+        row.set(&b().key("x"), 1),
+        row.set(&Path::new().key("c").key("x"), 1),
+        row.insert(&Path::new().key("c"), 1),
+        row.insert(&Path::new(), 1),
+        row.remove(&b().index(3)),
+        row.remove(&Path::new().key("x")),
+        row.remove(&Path::new()),
+    ] {
+        assert_eq!(unchanged.unwrap().as_bytes(), row.as_bytes());
+    }
+}
+
+#[test]
+fn values_keep_what_they_are() {
+    let date = ExtensionValue::Date(20_000);
+    let row = parsed("{}")
+        .as_raw()
+        .set(&Path::new().key("born"), date)
+        .unwrap();
+    let born = row.as_raw().get("born").unwrap().unwrap();
+    assert_eq!(born.as_raw().as_extension(), Ok(date));
+    let row = row.as_raw().set(&Path::new().key("again"), &born).unwrap();
+    assert!(matches!(
+        row.as_raw().find("again"),
+        Some(Node::Extension(_))
+    ));
+}
+
+#[test]
+fn concatenation_joins_members_and_items() {
+    let concat = |left, right| {
+        let joined = parsed(left).as_raw().concat(parsed(right).as_raw());
+        joined.unwrap().to_string()
+    };
+    assert_eq!(concat(r#"{"a":1}"#, r#"{"a":2,"b":3}"#), r#"{"a":2,"b":3}"#);
+    assert_eq!(concat("[1]", "[2]"), "[1,2]");
+    assert_eq!(concat("1", "[2]"), "[1,2]");
+    assert_eq!(concat(r#"{"a":1}"#, "null"), r#"[{"a":1},null]"#);
+}
+
+#[test]
+fn results_nest_no_deeper_than_documents() {
+    let arrays = nested(MAX_DEPTH, "[", "]");
+    let objects = nested(MAX_DEPTH, "{\"a\":", "}");
+    let less = nested(MAX_DEPTH - 1, "{\"a\":", "}");
+    let empty = parsed("{}");
+    let at = Path::new().key("a");
+    let set = |value: RawJsonb<'_>| empty.as_raw().set(&at, value);
+    assert_eq!(set(less.as_raw()).unwrap(), objects);
+    assert_eq!(set(objects.as_raw()), Err(Error::InvalidJsonb));
+    // Nothing is put there, so nothing is too deep.
+    let nowhere = Path::new().key("x").key("y");
+    assert_eq!(
+        empty.as_raw().set(&nowhere, objects.as_raw()).unwrap(),
+        empty
+    );
+    assert_eq!(
+        arrays.as_raw().concat(objects.as_raw()),
+        Err(Error::InvalidJsonb)
+    );
+    assert!(arrays.as_raw().concat(less.as_raw()).is_ok());
+    assert!(arrays.as_raw().concat(arrays.as_raw()).is_ok());
+    let bottom = (0..MAX_DEPTH).fold(Path::new(), |path, _| path.key("a"));
+    let edited = objects.as_raw().set(&bottom, 1).unwrap();
+    assert!(RawJsonb::new(edited.as_bytes()).is_ok() && edited != objects);
+    assert_eq!(
+        objects.as_raw().set(&bottom, &empty),
+        Err(Error::InvalidJsonb)
+    );
+    assert!(objects.as_raw().contains(objects.as_raw()));
+    assert_eq!(objects.as_raw().index_keys().unwrap().len(), 1);
+    assert!(objects.as_raw().remove(&bottom).is_ok());
+}
+
+#[test]
+fn paths_are_documents() {
+    let path = Path::new().key("a\"b").index(-1).index(i64::MAX).key("");
+    assert_eq!(path.to_string(), r#"["a\"b",-1,9223372036854775807,""]"#);
+    assert_eq!(format!("{path:?}"), format!("Path({path})"));
+    assert_eq!(Path::default().to_string(), "[]");
+    // A path of many steps leads nowhere.
+    let long = (0..5000).fold(Path::new(), |path, _| path.index(0));
+    let row = parsed("[0]");
+    assert_eq!(row.as_raw().set(&long, 1).unwrap(), row);
+}
+
+fn document(tree: &Tree) -> OwnedJsonb {
+    OwnedJsonb::new(tree.document()).expect("the model's document is one")
+}
+
+fn is_contained(wanted: &Tree, tree: &Tree) -> bool {
+    match (wanted, tree) {
+        (Tree::Array(wanted), Tree::Array(items)) => wanted
+            .iter()
+            .all(|one| items.iter().any(|item| is_contained(one, item))),
+        (Tree::Object(wanted), Tree::Object(members)) => wanted
+            .iter()
+            .all(|(key, one)| members.get(key).map_or(false, |it| is_contained(one, it))),
+        _ => wanted == tree,
+    }
+}
+
+/// Some of the tree, which mostly is contained in it.
+fn some_of(tree: &Tree, generator: &mut Generator) -> Tree {
+    match tree {
+        _ if generator.below(20) == 0 => generator.tree(1),
+        Tree::Array(items) => {
+            let mut kept = Vec::new();
+            for item in items.iter().rev() {
+                if generator.below(3) > 0 {
+                    kept.push(some_of(item, generator));
+                }
+            }
+            Tree::Array(kept)
+        }
+        Tree::Object(members) => {
+            let mut kept = members.clone();
+            kept.retain(|_, _| generator.below(3) > 0);
+            for value in kept.values_mut() {
+                *value = some_of(value, generator);
+            }
+            Tree::Object(kept)
+        }
+        scalar => scalar.clone(),
+    }
+}
+
+#[test]
+fn random_documents_contain_what_the_model_contains() {
+    let mut generator = Generator(51);
+    let mut found = 0;
+    for _ in 0..4000 {
+        let tree = generator.tree(4);
+        let wanted = match generator.below(3) {
+            0 => generator.tree(3),
+            _ => some_of(&tree, &mut generator),
+        };
+        let is_scalar = !matches!(wanted, Tree::Array(_) | Tree::Object(_));
+        let is_item = matches!(&tree, Tree::Array(items) if is_scalar && items.contains(&wanted));
+        let (row, part) = (document(&tree), document(&wanted));
+        let is_found = row.as_raw().contains(part.as_raw());
+        assert_eq!(
+            is_found,
+            is_item || is_contained(&wanted, &tree),
+            "{row} {part}"
+        );
+        if is_found {
+            let keys = row.as_raw().index_keys().unwrap();
+            let wanted = part.as_raw().index_keys().unwrap();
+            assert!(wanted.iter().all(|key| keys.contains(key)), "{row} {part}");
+            found += 1;
+        }
+    }
+    assert!(found > 1000, "{found}");
+}
+
+/// A step of a path: a key or an index.
+#[derive(Clone, Debug)]
+enum Step {
+    Key(String),
+    Index(i64),
+}
+
+/// A path that mostly leads somewhere.
+fn some_path(tree: &Tree, generator: &mut Generator) -> Vec<Step> {
+    let mut steps = Vec::new();
+    let mut tree = tree;
+    while generator.below(4) > 0 {
+        match tree {
+            Tree::Array(items) => {
+                let count = items.len() as i64;
+                let index = generator.below(2 * items.len() + 3) as i64 - count - 1;
+                steps.push(Step::Index(index));
+                let place = if index < 0 { count + index } else { index };
+                match items.get(place as usize) {
+                    Some(item) if place >= 0 => tree = item,
+                    _ => break,
+                }
+            }
+            Tree::Object(members) if !members.is_empty() && generator.below(5) > 0 => {
+                let number = generator.below(members.len());
+                let (key, value) = members.iter().nth(number).expect("there are so many");
+                steps.push(Step::Key(key.clone()));
+                tree = value;
+            }
+            _ => {
+                steps.push(match generator.below(2) {
+                    0 => Step::Key("new".into()),
+                    _ => Step::Index(0),
+                });
+                break;
+            }
+        }
+    }
+    steps
+}
+
+/// The edit of the model: `None` removes.
+fn edit(tree: &mut Tree, steps: &[Step], value: Option<&Tree>, inserts: bool) {
+    let (first, rest) = match (steps.split_first(), value) {
+        (Some(split), _) => split,
+        (None, Some(value)) if !inserts => return *tree = value.clone(),
+        (None, _) => return,
+    };
+    match (tree, first) {
+        (Tree::Object(members), Step::Key(key)) => match (members.get_mut(key), value) {
+            (Some(member), _) if !rest.is_empty() => edit(member, rest, value, inserts),
+            (Some(_), None) => drop(members.remove(key)),
+            (Some(member), Some(value)) if !inserts => *member = value.clone(),
+            (None, Some(value)) if rest.is_empty() => {
+                members.insert(key.clone(), value.clone());
+            }
+            _ => {}
+        },
+        (Tree::Array(items), Step::Index(index)) => {
+            let count = items.len() as i64;
+            let place = if *index < 0 { count + index } else { *index };
+            let is_there = (0..count).contains(&place);
+            let place = place.clamp(0, count) as usize;
+            match value {
+                _ if !rest.is_empty() && is_there => edit(&mut items[place], rest, value, inserts),
+                None if is_there => drop(items.remove(place)),
+                Some(value) if rest.is_empty() && is_there && !inserts => {
+                    items[place] = value.clone();
+                }
+                Some(value) if rest.is_empty() => items.insert(place, value.clone()),
+                _ => {}
+            }
+        }
+        _ => {}
+    }
+}
+
+#[test]
+fn random_edits_are_those_of_the_model() {
+    let mut generator = Generator(52);
+    let mut changed = 0;
+    for _ in 0..6000 {
+        let tree = generator.tree(4);
+        let steps = some_path(&tree, &mut generator);
+        let path = steps.iter().fold(Path::new(), |path, step| match step {
+            Step::Key(key) => path.key(key),
+            Step::Index(index) => path.index(*index),
+        });
+        let value = generator.tree(2);
+        let (row, new) = (document(&tree), document(&value));
+        let mut wanted = tree.clone();
+        let edited = match generator.below(3) {
+            0 => {
+                edit(&mut wanted, &steps, Some(&value), false);
+                row.as_raw().set(&path, &new)
+            }
+            1 => {
+                edit(&mut wanted, &steps, Some(&value), true);
+                row.as_raw().insert(&path, &new)
+            }
+            _ => {
+                edit(&mut wanted, &steps, None, false);
+                row.as_raw().remove(&path)
+            }
+        };
+        let edited = edited.unwrap();
+        assert_eq!(edited, document(&wanted), "{row} {path} {new}");
+        assert!(edited.as_raw().is_canonical());
+        changed += usize::from(edited != row);
+    }
+    assert!(changed > 1000, "{changed}");
+}
