@@ -319,8 +319,8 @@ impl<'a> RawJsonb<'a> {
     }
 
     /// The document of both put together: of two objects all members, with the value of `other` for
-    /// a key of both; of all others an array of the items of both, to which a value that is no array
-    /// adds itself.
+    /// a key of both; of all others an array of the items of both, to which a value that is no
+    /// array adds itself.
     ///
     /// ```
     /// use kohiblad::OwnedJsonb;
