@@ -68,8 +68,8 @@ pub use raw::RawJsonb;
 /// How deep a document or a text may nest. A scalar has depth 0, an array or object one more than
 /// its deepest child, and at least 1.
 ///
-/// Calls on documents of this depth need less than 1,010 KB of stack, and a parse needs none for the
-/// depth of its text.
+/// Calls on documents of this depth need less than 1,010 KB of stack, and those that change them
+/// less than 1.9 MB. A parse needs none for the depth of its text.
 pub const MAX_DEPTH: usize = 1000;
 
 /// The version of the library: millions, thousands and ones. 7000 is 0.7.0.

@@ -6,7 +6,7 @@
 #include <sqlite3ext.h>
 
 /* How deep texts and documents may nest. The stack that this needs is KOHIBLAD_CALL_STACK and
- * KOHIBLAD_LEVEL_STACK for each level: 1,008 KB. */
+ * KOHIBLAD_LEVEL_STACK for each level, 1,008 KB; for changes KOHIBLAD_EDIT_LEVEL_STACK, 1.9 MB. */
 #ifndef KOHIBLAD_SQLITE_DEPTH
 #define KOHIBLAD_SQLITE_DEPTH 1000
 #endif

@@ -11,3 +11,19 @@ SELECT jb(replace(hex(zeroblob(500)), '0', '[') || '}');
 --! jb: InvalidJson at byte 1000
 SELECT length(jb_group_array(jb_at(doc, '$[0]'))) - length(doc) FROM deep;
 --> 0
+-- Changes and containment, at the bottom and of the whole.
+SELECT jb_valid(jb_remove(doc, '$' || replace(hex(zeroblob(999)), '00', '[0]'))),
+    jb_contains(doc, doc), jb_exists(doc, 'x'), jb_length(jb_concat(doc, doc)) FROM deep;
+--> 1|1|0|2
+SELECT jb_set(doc, '$' || replace(hex(zeroblob(999)), '00', '[0]'), 1) =
+    jb(replace(hex(zeroblob(999)), '00', '[') || 1 || replace(hex(zeroblob(999)), '00', ']'))
+FROM deep;
+--> 1
+SELECT count(*), max(length(path)) FROM deep, jb_tree(doc);
+--> 1000|2995
+CREATE TABLE objects AS SELECT jb(replace(hex(zeroblob(1000)), '00', '{"a":')
+    || 1 || replace(hex(zeroblob(1000)), '00', '}')) AS doc;
+SELECT jb_patch(doc, doc) = doc, jb_patch(jb('{}'), doc) = doc, jb_contains(doc, doc) FROM objects;
+--> 1|1|1
+SELECT jb_set(jb('{}'), '$' || replace(hex(zeroblob(1000)), '00', '.a'), 1) = doc FROM objects;
+--> 1
