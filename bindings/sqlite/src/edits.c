@@ -18,7 +18,7 @@ struct target {
     bool can_be_made;   /* it is not there, and the containers that it needs can be made */
     struct bytes made;  /* the steps after the first that leads nowhere */
     size_t steps;
-    sqlite3_str *path;  /* to the edit, as JSON without the bracket that ends it */
+    struct rows path;   /* the documents of the steps to the edit */
 };
 
 /* A JSON string of the name. A byte that is no UTF-8 stays, so that it is refused. */
@@ -37,11 +37,12 @@ static void append_string(sqlite3_str *text, struct bytes name)
 }
 
 /* The step as an item of the array that a path is to the library. */
-static void append_step(sqlite3_str *path, const struct step *step)
+static uint32_t append_step(struct rows *path, const struct step *step)
 {
-    sqlite3_str_appendchar(path, 1, sqlite3_str_length(path) ? ',' : '[');
-    if (step->kind == NAME) append_string(path, step->name);
-    else sqlite3_str_appendf(path, "%llu", (sqlite3_uint64)step->index);
+    struct sql_value index = { .type = SQLITE_INTEGER, .integer = (int64_t)step->index };
+    if (step->kind == NAME)
+        return append(path, write_string, &step->name, SCALAR_FRONT + step->name.size);
+    return append(path, write_sql_value, &index, guess_of(&index));
 }
 
 static void discard(sqlite3_str *text)
@@ -67,8 +68,16 @@ static bool makes_container(const struct step *step)
         || (step->kind == INDEX && step->index == 0 && step->text.size == strlen("[0]"));
 }
 
+/* Follows a step from the part, and adds it to the path. */
+static uint32_t follow(struct target *target, struct step *step, struct part *part)
+{
+    uint32_t status = take_step(step, part), appended = append_step(&target->path, step);
+    target->can_be_made = status == KOHIBLAD_NONE && can_make(step, part);
+    return appended == KOHIBLAD_OK ? status : appended;
+}
+
 /* Follows a path to its end, as follow_path does. After another status than KOHIBLAD_OK *message is
- * what to report. The caller discards target->path. */
+ * what to report. The caller forgets target->path. */
 static uint32_t find_target(const struct caller *caller, struct bytes document, struct bytes path,
                             struct target *target, char **message)
 {
@@ -83,9 +92,7 @@ static uint32_t find_target(const struct caller *caller, struct bytes document, 
         if (status == KOHIBLAD_NONE) {
             target->can_be_made = target->can_be_made && makes_container(&step);
         } else if (status == KOHIBLAD_OK) {
-            status = take_step(&step, &part);
-            append_step(target->path, &step);
-            target->can_be_made = status == KOHIBLAD_NONE && can_make(&step, &part);
+            status = follow(target, &step, &part);
             target->made.at = reader.at;
         }
     }
@@ -96,7 +103,9 @@ static uint32_t find_target(const struct caller *caller, struct bytes document, 
         return KOHIBLAD_OTHER_KIND;
     }
     if (status == KOHIBLAD_OK || status == KOHIBLAD_NONE) return KOHIBLAD_OK;
-    *message = status_message(caller->name, status, NULL);
+    *message = NULL;
+    if (status != KOHIBLAD_OUT_OF_MEMORY)
+        *message = status_message(caller->name, status, NULL);
     return status;
 }
 
@@ -120,20 +129,13 @@ static bool fill_parsed(const struct caller *caller, struct buffer *buffer, sqli
     return is_made;
 }
 
-/* The document of a path, whose text is discarded. */
-static bool fill_path(const struct caller *caller, struct buffer *buffer, sqlite3_str *path)
-{
-    sqlite3_str_appendall(path, sqlite3_str_length(path) ? "]" : "[]");
-    return fill_parsed(caller, buffer, path);
-}
-
-/* The document edited at the path, whose text is discarded. */
+/* The document edited at the path. */
 static bool fill_edited(const struct caller *caller, struct buffer *buffer, struct edit edit,
-                        sqlite3_str *path_text)
+                        const struct rows *steps)
 {
     struct buffer path;
     bool is_made;
-    if (!fill_path(caller, &path, path_text)) return false;
+    if (!fill(caller, &path, write_array, steps, guess_of_rows(steps))) return false;
     edit.path = bytes_in(&path);
     is_made = fill(caller, buffer, write_edited, &edit,
                    edit.document.size + edit.path.size + edit.value.size);
@@ -143,16 +145,17 @@ static bool fill_edited(const struct caller *caller, struct buffer *buffer, stru
 
 /* Containers inside one another, as the steps need them, around null, and the path to it. */
 static bool fill_containers(const struct caller *caller, struct buffer *buffer, struct bytes steps,
-                            sqlite3_str *path)
+                            struct rows *path)
 {
     sqlite3 *database = sqlite3_context_db_handle(caller->context);
     sqlite3_str *text = sqlite3_str_new(database), *closed = sqlite3_str_new(database);
     struct reader reader = { steps.at, steps.at + steps.size };
     struct step step;
+    uint32_t status = KOHIBLAD_OK;
     bool is_made;
-    while (reader.at < reader.end && read_step(&reader, &step)) {
+    while (status == KOHIBLAD_OK && reader.at < reader.end && read_step(&reader, &step)) {
         bool is_name = step.kind == NAME;
-        append_step(path, &step);
+        status = append_step(path, &step);
         sqlite3_str_appendchar(text, 1, is_name ? '{' : '[');
         if (is_name) append_string(text, step.name);
         if (is_name) sqlite3_str_appendchar(text, 1, ':');
@@ -161,7 +164,8 @@ static bool fill_containers(const struct caller *caller, struct buffer *buffer, 
     sqlite3_str_appendall(text, "null");
     for (int i = sqlite3_str_length(closed); i > 0; i--)
         sqlite3_str_appendchar(text, 1, sqlite3_str_value(closed)[i - 1]);
-    is_made = is_whole(caller, closed);
+    if (status != KOHIBLAD_OK) fail(caller, status);
+    is_made = status == KOHIBLAD_OK && is_whole(caller, closed);
     discard(closed);
     if (is_made) return fill_parsed(caller, buffer, text);
     discard(text);
@@ -173,15 +177,15 @@ static bool fill_made(const struct caller *caller, struct buffer *buffer, struct
                       struct bytes value)
 {
     struct buffer containers;
-    sqlite3_str *path = sqlite3_str_new(sqlite3_context_db_handle(caller->context));
-    bool is_made;
-    if (!fill_containers(caller, &containers, steps, path)) {
-        discard(path);
-        return false;
+    struct rows path = { 0 };
+    struct edit edit = { .value = value, .kind = KOHIBLAD_PUT };
+    bool is_made = fill_containers(caller, &containers, steps, &path);
+    if (is_made) {
+        edit.document = bytes_in(&containers);
+        is_made = fill_edited(caller, buffer, edit, &path);
+        release(&containers);
     }
-    is_made = fill_edited(caller, buffer,
-                          (struct edit){ bytes_in(&containers), { 0 }, value, KOHIBLAD_PUT }, path);
-    release(&containers);
+    forget(&path);
     return is_made;
 }
 
@@ -195,21 +199,18 @@ static bool is_shallow(const struct caller *caller, struct bytes value, size_t s
     return false;
 }
 
-/* The document with the value at the target, whose path is discarded. */
+/* The document with the value at the target. */
 static bool fill_put(const struct caller *caller, struct buffer *buffer, struct bytes document,
                      const struct target *target, struct bytes value)
 {
-    struct edit edit = { document, { 0 }, value, KOHIBLAD_PUT };
+    struct edit edit = { .document = document, .value = value, .kind = KOHIBLAD_PUT };
     struct buffer made;
     bool is_made;
     if (target->is_there || target->made.size == 0)
-        return fill_edited(caller, buffer, edit, target->path);
-    if (!fill_made(caller, &made, target->made, value)) {
-        discard(target->path);
-        return false;
-    }
+        return fill_edited(caller, buffer, edit, &target->path);
+    if (!fill_made(caller, &made, target->made, value)) return false;
     edit.value = bytes_in(&made);
-    is_made = fill_edited(caller, buffer, edit, target->path);
+    is_made = fill_edited(caller, buffer, edit, &target->path);
     release(&made);
     return is_made;
 }
@@ -219,52 +220,48 @@ static bool put(const struct caller *caller, struct buffer *buffer, struct bytes
 {
     struct buffer value;
     struct sql_value sql_value;
-    bool is_made = false;
-    if (get_sql_value(caller, argument, has_json_subtype(argument), &sql_value)
-        && fill_document(caller, &value, &sql_value)) {
-        if (is_shallow(caller, bytes_in(&value), target->steps))
-            is_made = fill_put(caller, buffer, document, target, bytes_in(&value));
-        else discard(target->path);
-        release(&value);
-    } else {
-        discard(target->path);
-    }
+    bool is_made;
+    if (!get_sql_value(caller, argument, has_json_subtype(argument), &sql_value)
+        || !fill_document(caller, &value, &sql_value))
+        return false;
+    is_made = is_shallow(caller, bytes_in(&value), target->steps)
+        && fill_put(caller, buffer, document, target, bytes_in(&value));
+    release(&value);
     return is_made;
 }
 
 enum outcome { FAILED, UNCHANGED, CHANGED, REMOVED };
 
-/* Edits once. `value` is null if the function has no values. */
+/* Edits at a target. `value` is null if the function has no values. */
+static enum outcome edit_target(const struct caller *caller, const struct edit_function *function,
+                                struct buffer *buffer, struct bytes document,
+                                const struct target *target, sqlite3_value *value)
+{
+    struct edit removal = { .document = document, .kind = KOHIBLAD_REMOVE };
+    bool is_wanted = target->is_there ? function->overwrites
+        : function->creates && target->can_be_made;
+    if (!is_wanted) return UNCHANGED;
+    if (function->has_values)
+        return put(caller, buffer, document, target, value) ? CHANGED : FAILED;
+    if (target->steps == 0) return REMOVED;
+    return fill_edited(caller, buffer, removal, &target->path) ? CHANGED : FAILED;
+}
+
+/* Edits once, at the path that an argument is. */
 static enum outcome edit_at(const struct caller *caller, const struct edit_function *function,
                             struct buffer *buffer, struct bytes document, sqlite3_value *argument,
                             sqlite3_value *value)
 {
-    sqlite3 *database = sqlite3_context_db_handle(caller->context);
-    struct target target = { .path = sqlite3_str_new(database) };
-    struct edit removal = { .document = document, .kind = KOHIBLAD_REMOVE };
+    struct target target = { .steps = 0 };
     struct bytes path;
     char *message;
-    bool is_wanted;
-    if (!get_text(caller, argument, &path)) {
-        discard(target.path);
-        return FAILED;
-    }
-    if (find_target(caller, document, path, &target, &message) != KOHIBLAD_OK) {
-        discard(target.path);
-        fail_with(caller, message);
-        return FAILED;
-    }
-    is_wanted = target.is_there ? function->overwrites : function->creates && target.can_be_made;
-    if (!is_wanted) {
-        discard(target.path);
-        return UNCHANGED;
-    }
-    if (function->has_values)
-        return put(caller, buffer, document, &target, value) ? CHANGED : FAILED;
-    if (target.steps > 0)
-        return fill_edited(caller, buffer, removal, target.path) ? CHANGED : FAILED;
-    discard(target.path);
-    return REMOVED;
+    enum outcome outcome = FAILED;
+    if (!get_text(caller, argument, &path)) return FAILED;
+    if (find_target(caller, document, path, &target, &message) == KOHIBLAD_OK)
+        outcome = edit_target(caller, function, buffer, document, &target, value);
+    else fail_with(caller, message);
+    forget(&target.path);
+    return outcome;
 }
 
 /* Edits in turn: each finds what those before it left. Two buffers take turns, and

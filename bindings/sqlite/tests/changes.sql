@@ -1,4 +1,4 @@
--- A document is changed by its JSON text and SQLite's functions, or built anew from its members.
+-- A document can also be changed by its JSON text, which is lossy, or built anew from its members.
 CREATE TABLE person(doc BLOB CHECK (jb_valid(doc)));
 INSERT INTO person SELECT jb_group_object(column1, column2) FROM (VALUES
     ('name', jb_of('Ada')), ('height', jb('1.650')), ('born', x'20000000600000051000004E20'));
