@@ -4,7 +4,7 @@
 
 use std::time::Instant;
 
-use kohiblad::{bytes, Error, OwnedJsonb, RawJsonb};
+use kohiblad::{bytes, Error, OwnedJsonb, Path, RawJsonb};
 
 const ROUNDS: usize = 21;
 const ROWS: usize = 2000;
@@ -55,6 +55,9 @@ fn main() -> Result<(), Error> {
     let parsed: Result<Vec<_>, _> = texts.iter().map(|it| OwnedJsonb::parse(it, 64)).collect();
     let documents = parsed?;
     let rows: Vec<_> = documents.iter().map(OwnedJsonb::as_raw).collect();
+    let wanted = OwnedJsonb::parse(r#"{"city":"Oslo","tags":["red"]}"#, 64)?;
+    let more = OwnedJsonb::parse(r#"{"price":3,"stock":7}"#, 64)?;
+    let (price, second_tag) = (Path::new().key("price"), Path::new().key("tags").index(1));
     let mut table = [
         each("parse", &texts, |text| OwnedJsonb::parse(text, 64)),
         each("print", &rows, |row| row.compact_text()),
@@ -72,6 +75,17 @@ fn main() -> Result<(), Error> {
             Ok(row.members().map(Iterator::count))
         }),
         each("make the comparable key", &rows, |row| row.key()),
+        each("contains two members", &rows, |row| {
+            Ok(row.contains(wanted.as_raw()))
+        }),
+        each("set a member", &rows, |row| row.set(&price, 3)),
+        each("remove an item of a member", &rows, |row| {
+            row.remove(&second_tag)
+        }),
+        each("concatenate with two members", &rows, |row| {
+            row.concat(more.as_raw())
+        }),
+        each("index keys", &rows, |row| row.index_keys()),
         timed("sort: `bytes::sorted_order`", || {
             bytes::sorted_order(&rows).map(drop)
         }),
