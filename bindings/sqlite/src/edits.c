@@ -86,6 +86,7 @@ static uint32_t find_target(const struct caller *caller, struct bytes document, 
     struct step step;
     uint32_t status = KOHIBLAD_OK;
     bool is_right = read_start(&reader);
+    target->made.at = reader.end;
     for (; is_right && reader.at < reader.end; target->steps++) {
         is_right = read_step(&reader, &step);
         if (!is_right) break;
