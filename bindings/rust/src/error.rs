@@ -49,6 +49,8 @@ pub enum Error {
     OtherKind,
     /// The number does not fit the type: it is too large, or has digits after its point.
     PastRange,
+    /// The call took more steps than it may.
+    TooManySteps,
     /// A status that this version of the crate does not know.
     Unknown(u32),
 }
@@ -76,6 +78,7 @@ impl Error {
             14 => Error::OtherKind,
             15 => Error::PastRange,
             17 => Error::BadNumber { offset },
+            18 => Error::TooManySteps,
             _ => Error::Unknown(status),
         }
     }
@@ -102,6 +105,7 @@ impl Error {
             Error::TooDeep => "TooDeep",
             Error::OtherKind => "OtherKind",
             Error::PastRange => "PastRange",
+            Error::TooManySteps => "TooManySteps",
             Error::Unknown(_) => "Unknown",
         }
     }
@@ -161,7 +165,7 @@ mod tests {
 
     #[test]
     fn only_three_statuses_are_no_errors() {
-        let others: Vec<_> = (1..=17)
+        let others: Vec<_> = (1..=18)
             .filter(|&status| matches!(Error::of_status(status), Error::Unknown(_)))
             .map(ffi::status_name)
             .collect();

@@ -283,6 +283,7 @@ extern "C" {
         right: *const u8,
         right_size: usize,
         depth: usize,
+        steps: usize,
     ) -> Truth;
     fn kohiblad_exists(
         bytes: *const u8,
@@ -807,7 +808,7 @@ pub(crate) fn build_object(rows: &Rows) -> Result<Vec<u8>, Error> {
     built(kohiblad_build_object_within, rows)
 }
 
-pub(crate) fn contains(left: &[u8], right: &[u8]) -> Result<bool, Error> {
+pub(crate) fn contains(left: &[u8], right: &[u8], steps: usize) -> Result<bool, Error> {
     // SAFETY: as above, of both.
     let truth = unsafe {
         kohiblad_contains(
@@ -816,6 +817,7 @@ pub(crate) fn contains(left: &[u8], right: &[u8]) -> Result<bool, Error> {
             right.as_ptr(),
             right.len(),
             MAX_DEPTH,
+            steps,
         )
     };
     tested(truth.status)?;
@@ -866,7 +868,8 @@ pub(crate) enum Edit {
     Remove = 2,
 }
 
-/// The result may nest deeper than [`MAX_DEPTH`]. No value is read to remove.
+/// The result may nest as deep as the path is long and the value nests together. No value is read
+/// to remove.
 pub(crate) fn edit(bytes: &[u8], path: &[u8], edit: Edit, value: &[u8]) -> Result<Vec<u8>, Error> {
     let first_room = bytes.len() + path.len() + value.len();
     all_written(first_room, |out, room, length| {

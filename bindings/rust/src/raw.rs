@@ -290,7 +290,8 @@ impl<'a> RawJsonb<'a> {
     /// values that contain theirs; an array those arrays for each of whose items it has one that
     /// contains it; a scalar what equals it; and at the top an array also its scalar items.
     ///
-    /// This takes as many steps as the product of the sizes if long arrays are in both.
+    /// This takes as many steps as the product of the sizes if long arrays are in both: of documents
+    /// that others chose ask [`contains_within`](Self::contains_within).
     ///
     /// ```
     /// use kohiblad::OwnedJsonb;
@@ -303,7 +304,27 @@ impl<'a> RawJsonb<'a> {
     /// # Ok::<(), kohiblad::Error>(())
     /// ```
     pub fn contains(&self, other: RawJsonb<'_>) -> bool {
-        known(ffi::contains(self.bytes, other.bytes))
+        known(ffi::contains(self.bytes, other.bytes, usize::MAX))
+    }
+
+    /// The same, or `None` if it takes more than so many steps, one for each pair of values that
+    /// are compared and each member that is passed over. The product of the numbers of values and
+    /// keys in both is always enough.
+    ///
+    /// ```
+    /// use kohiblad::OwnedJsonb;
+    ///
+    /// let row = OwnedJsonb::parse("[1, 2, 3, 4, 5, 6, 7, 8, 9]", 64)?;
+    /// let last = OwnedJsonb::parse("[9]", 64)?;
+    /// assert_eq!(row.as_raw().contains_within(last.as_raw(), 100), Some(true));
+    /// assert_eq!(row.as_raw().contains_within(last.as_raw(), 5), None);
+    /// # Ok::<(), kohiblad::Error>(())
+    /// ```
+    pub fn contains_within(&self, other: RawJsonb<'_>, steps: usize) -> Option<bool> {
+        match ffi::contains(self.bytes, other.bytes, steps) {
+            Err(Error::TooManySteps) => None,
+            answer => Some(known(answer)),
+        }
     }
 
     /// Whether the document is an object with this key, an array with this text among its items, or
@@ -334,8 +355,8 @@ impl<'a> RawJsonb<'a> {
     ///
     /// # Errors
     ///
-    /// - [`Error::InvalidJsonb`]: a limit of the format is passed, or the result nests deeper than
-    ///   [`MAX_DEPTH`].
+    /// - [`Error::InvalidJsonb`]: a limit of the format is passed, or the value would nest deeper
+    ///   than [`MAX_DEPTH`] at the end of the path, also of one that leads nowhere.
     /// - [`Error::OutOfMemory`]: an allocation failed.
     pub fn concat(&self, other: RawJsonb<'_>) -> Result<OwnedJsonb, Error> {
         let joined = ffi::concat(self.bytes, other.bytes)?;
@@ -368,8 +389,8 @@ impl<'a> RawJsonb<'a> {
     ///
     /// # Errors
     ///
-    /// - [`Error::InvalidJsonb`]: a limit of the format is passed, or the result nests deeper than
-    ///   [`MAX_DEPTH`].
+    /// - [`Error::InvalidJsonb`]: a limit of the format is passed, or the value would nest deeper
+    ///   than [`MAX_DEPTH`] at the end of the path, also of one that leads nowhere.
     /// - [`Error::InvalidJsonbExtension`]: there is no opaque value of that tag.
     /// - [`Error::OutOfMemory`]: an allocation failed.
     pub fn set<'v>(&self, path: &Path, value: impl Into<Node<'v>>) -> Result<OwnedJsonb, Error> {
@@ -428,14 +449,16 @@ impl<'a> RawJsonb<'a> {
             }
         };
         let steps = path.len();
-        let path = path.to_document()?;
-        let edited = ffi::edit(self.bytes, path.as_bytes(), edit, value)?;
-        // Else the result nests no deeper than the document, or than the path and the value.
-        let is_shallow = steps <= MAX_DEPTH && ffi::check(value, MAX_DEPTH - steps);
-        match is_shallow {
-            true => Ok(OwnedJsonb::of_checked(edited)),
-            false => OwnedJsonb::new(edited),
+        if steps > MAX_DEPTH {
+            return self.to_canonical(); // such a path leads nowhere
         }
+        // The result nests no deeper than the document, or than the path and the value. It is
+        // bounded before the edit, which takes stack for each level of it.
+        if !ffi::check(value, MAX_DEPTH - steps) {
+            return Err(Error::InvalidJsonb);
+        }
+        let path = path.to_document()?;
+        ffi::edit(self.bytes, path.as_bytes(), edit, value).map(OwnedJsonb::of_checked)
     }
 
     /// The keys by which an inverted index finds the document: one for each scalar, a hash of the

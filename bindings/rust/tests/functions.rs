@@ -139,11 +139,11 @@ fn results_nest_no_deeper_than_documents() {
     let set = |value: RawJsonb<'_>| empty.as_raw().set(&at, value);
     assert_eq!(set(less.as_raw()).unwrap(), objects);
     assert_eq!(set(objects.as_raw()), Err(Error::InvalidJsonb));
-    // Nothing is put there, so nothing is too deep.
+    // The value is looked at before the path.
     let nowhere = Path::new().key("x").key("y");
     assert_eq!(
-        empty.as_raw().set(&nowhere, objects.as_raw()).unwrap(),
-        empty
+        empty.as_raw().set(&nowhere, objects.as_raw()),
+        Err(Error::InvalidJsonb)
     );
     assert_eq!(
         arrays.as_raw().concat(objects.as_raw()),

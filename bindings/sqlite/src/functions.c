@@ -115,7 +115,7 @@ static void give_truth(const struct caller *caller, struct kohiblad_truth truth)
 static void give_contains(const struct caller *caller, const struct documents *both)
 {
     give_truth(caller, kohiblad_contains(both->left.at, both->left.size, both->right.at,
-                                         both->right.size, KOHIBLAD_SQLITE_DEPTH));
+                                         both->right.size, KOHIBLAD_SQLITE_DEPTH, SIZE_MAX));
 }
 
 static void jb_contains(const struct caller *caller, sqlite3_value **arguments)
