@@ -89,12 +89,6 @@ CREATE CAST (bool AS kohiblad) WITH FUNCTION kohiblad(bool);
 CREATE FUNCTION kohiblad_version() RETURNS text
 AS 'MODULE_PATHNAME', 'pg_kohiblad_version' LANGUAGE C STRICT STABLE PARALLEL SAFE;
 
--- It raises an error, where the server's || would join the texts of the documents.
-CREATE FUNCTION kohiblad_concat(kohiblad, kohiblad) RETURNS kohiblad
-AS 'MODULE_PATHNAME', 'pg_kohiblad_concat' LANGUAGE C STRICT IMMUTABLE PARALLEL SAFE;
-
-CREATE OPERATOR || (LEFTARG = kohiblad, RIGHTARG = kohiblad, FUNCTION = kohiblad_concat);
-
 -- Order
 
 CREATE FUNCTION kohiblad_smaller(kohiblad, kohiblad) RETURNS kohiblad
@@ -119,3 +113,314 @@ CREATE OPERATOR CLASS kohiblad_minmax_ops DEFAULT FOR TYPE kohiblad USING brin A
     FUNCTION 2 brin_minmax_add_value(internal, internal, internal, internal),
     FUNCTION 3 brin_minmax_consistent(internal, internal, internal),
     FUNCTION 4 brin_minmax_union(internal, internal, internal);
+
+-- Containment, and keys that exist
+
+CREATE FUNCTION kohiblad_contains(kohiblad, kohiblad) RETURNS bool
+AS 'MODULE_PATHNAME', 'pg_kohiblad_contains' LANGUAGE C STRICT IMMUTABLE PARALLEL SAFE COST 10;
+
+CREATE FUNCTION kohiblad_contained(kohiblad, kohiblad) RETURNS bool
+AS 'MODULE_PATHNAME', 'pg_kohiblad_contained' LANGUAGE C STRICT IMMUTABLE PARALLEL SAFE COST 10;
+
+CREATE FUNCTION kohiblad_exists(kohiblad, text) RETURNS bool
+AS 'MODULE_PATHNAME', 'pg_kohiblad_exists' LANGUAGE C STRICT IMMUTABLE PARALLEL SAFE;
+
+CREATE FUNCTION kohiblad_exists_any(kohiblad, text[]) RETURNS bool
+AS 'MODULE_PATHNAME', 'pg_kohiblad_exists_any' LANGUAGE C STRICT IMMUTABLE PARALLEL SAFE;
+
+CREATE FUNCTION kohiblad_exists_all(kohiblad, text[]) RETURNS bool
+AS 'MODULE_PATHNAME', 'pg_kohiblad_exists_all' LANGUAGE C STRICT IMMUTABLE PARALLEL SAFE;
+
+CREATE OPERATOR @> (
+    LEFTARG = kohiblad, RIGHTARG = kohiblad, FUNCTION = kohiblad_contains,
+    COMMUTATOR = <@, RESTRICT = matchingsel, JOIN = matchingjoinsel
+);
+
+CREATE OPERATOR <@ (
+    LEFTARG = kohiblad, RIGHTARG = kohiblad, FUNCTION = kohiblad_contained,
+    COMMUTATOR = @>, RESTRICT = matchingsel, JOIN = matchingjoinsel
+);
+
+CREATE OPERATOR ? (
+    LEFTARG = kohiblad, RIGHTARG = text, FUNCTION = kohiblad_exists,
+    RESTRICT = matchingsel, JOIN = matchingjoinsel
+);
+
+CREATE OPERATOR ?| (
+    LEFTARG = kohiblad, RIGHTARG = text[], FUNCTION = kohiblad_exists_any,
+    RESTRICT = matchingsel, JOIN = matchingjoinsel
+);
+
+CREATE OPERATOR ?& (
+    LEFTARG = kohiblad, RIGHTARG = text[], FUNCTION = kohiblad_exists_all,
+    RESTRICT = matchingsel, JOIN = matchingjoinsel
+);
+
+-- Indexes for them: of all four operators, or of @> alone, which takes less room.
+
+CREATE FUNCTION kohiblad_gin_extract(kohiblad, internal, internal) RETURNS internal
+AS 'MODULE_PATHNAME', 'pg_kohiblad_gin_extract' LANGUAGE C STRICT IMMUTABLE PARALLEL SAFE;
+
+CREATE FUNCTION kohiblad_gin_extract_values(kohiblad, internal, internal) RETURNS internal
+AS 'MODULE_PATHNAME', 'pg_kohiblad_gin_extract_values' LANGUAGE C STRICT IMMUTABLE PARALLEL SAFE;
+
+CREATE FUNCTION kohiblad_gin_extract_query(kohiblad, internal, int2, internal, internal, internal,
+    internal) RETURNS internal
+AS 'MODULE_PATHNAME', 'pg_kohiblad_gin_extract_query' LANGUAGE C STRICT IMMUTABLE PARALLEL SAFE;
+
+CREATE FUNCTION kohiblad_gin_consistent(internal, int2, kohiblad, int4, internal, internal,
+    internal, internal) RETURNS bool
+AS 'MODULE_PATHNAME', 'pg_kohiblad_gin_consistent' LANGUAGE C STRICT IMMUTABLE PARALLEL SAFE;
+
+CREATE FUNCTION kohiblad_gin_triconsistent(internal, int2, kohiblad, int4, internal, internal,
+    internal) RETURNS "char"
+AS 'MODULE_PATHNAME', 'pg_kohiblad_gin_triconsistent' LANGUAGE C STRICT IMMUTABLE PARALLEL SAFE;
+
+CREATE OPERATOR CLASS kohiblad_ops DEFAULT FOR TYPE kohiblad USING gin AS
+    OPERATOR 7 @>, OPERATOR 9 ?(kohiblad, text), OPERATOR 10 ?|(kohiblad, text[]),
+    OPERATOR 11 ?&(kohiblad, text[]),
+    FUNCTION 1 btint8cmp(int8, int8),
+    FUNCTION 2 kohiblad_gin_extract(kohiblad, internal, internal),
+    FUNCTION 3 kohiblad_gin_extract_query(kohiblad, internal, int2, internal, internal, internal,
+        internal),
+    FUNCTION 4 kohiblad_gin_consistent(internal, int2, kohiblad, int4, internal, internal,
+        internal, internal),
+    FUNCTION 6 kohiblad_gin_triconsistent(internal, int2, kohiblad, int4, internal, internal,
+        internal),
+    STORAGE int8;
+
+CREATE OPERATOR CLASS kohiblad_path_ops FOR TYPE kohiblad USING gin AS
+    OPERATOR 7 @>,
+    FUNCTION 1 btint8cmp(int8, int8),
+    FUNCTION 2 kohiblad_gin_extract_values(kohiblad, internal, internal),
+    FUNCTION 3 kohiblad_gin_extract_query(kohiblad, internal, int2, internal, internal, internal,
+        internal),
+    FUNCTION 4 kohiblad_gin_consistent(internal, int2, kohiblad, int4, internal, internal,
+        internal, internal),
+    FUNCTION 6 kohiblad_gin_triconsistent(internal, int2, kohiblad, int4, internal, internal,
+        internal),
+    STORAGE int8;
+
+-- Changed copies
+
+CREATE FUNCTION kohiblad_concat(kohiblad, kohiblad) RETURNS kohiblad
+AS 'MODULE_PATHNAME', 'pg_kohiblad_concat' LANGUAGE C STRICT IMMUTABLE PARALLEL SAFE COST 10;
+
+CREATE FUNCTION kohiblad_delete(kohiblad, text) RETURNS kohiblad
+AS 'MODULE_PATHNAME', 'pg_kohiblad_delete' LANGUAGE C STRICT IMMUTABLE PARALLEL SAFE COST 10;
+
+CREATE FUNCTION kohiblad_delete(kohiblad, int4) RETURNS kohiblad
+AS 'MODULE_PATHNAME', 'pg_kohiblad_delete_index' LANGUAGE C STRICT IMMUTABLE PARALLEL SAFE COST 10;
+
+CREATE FUNCTION kohiblad_delete(from_kohiblad kohiblad, VARIADIC keys text[]) RETURNS kohiblad
+AS 'MODULE_PATHNAME', 'pg_kohiblad_delete_array' LANGUAGE C STRICT IMMUTABLE PARALLEL SAFE COST 10;
+
+CREATE FUNCTION kohiblad_delete_path(kohiblad, text[]) RETURNS kohiblad
+AS 'MODULE_PATHNAME', 'pg_kohiblad_delete_path' LANGUAGE C STRICT IMMUTABLE PARALLEL SAFE COST 10;
+
+CREATE OPERATOR || (LEFTARG = kohiblad, RIGHTARG = kohiblad, FUNCTION = kohiblad_concat);
+CREATE OPERATOR - (LEFTARG = kohiblad, RIGHTARG = text, FUNCTION = kohiblad_delete);
+CREATE OPERATOR - (LEFTARG = kohiblad, RIGHTARG = int4, FUNCTION = kohiblad_delete);
+CREATE OPERATOR - (LEFTARG = kohiblad, RIGHTARG = text[], FUNCTION = kohiblad_delete);
+CREATE OPERATOR #- (LEFTARG = kohiblad, RIGHTARG = text[], FUNCTION = kohiblad_delete_path);
+
+CREATE FUNCTION kohiblad_set(kohiblad_in kohiblad, path text[], replacement kohiblad,
+    create_if_missing bool DEFAULT true) RETURNS kohiblad
+AS 'MODULE_PATHNAME', 'pg_kohiblad_set' LANGUAGE C STRICT IMMUTABLE PARALLEL SAFE COST 10;
+
+CREATE FUNCTION kohiblad_set_lax(kohiblad_in kohiblad, path text[], replacement kohiblad,
+    create_if_missing bool DEFAULT true, null_value_treatment text DEFAULT 'use_json_null')
+RETURNS kohiblad
+AS 'MODULE_PATHNAME', 'pg_kohiblad_set_lax' LANGUAGE C IMMUTABLE PARALLEL SAFE COST 10;
+
+CREATE FUNCTION kohiblad_insert(kohiblad_in kohiblad, path text[], replacement kohiblad,
+    insert_after bool DEFAULT false) RETURNS kohiblad
+AS 'MODULE_PATHNAME', 'pg_kohiblad_insert' LANGUAGE C STRICT IMMUTABLE PARALLEL SAFE COST 10;
+
+CREATE FUNCTION kohiblad_strip_nulls(kohiblad) RETURNS kohiblad
+AS 'MODULE_PATHNAME', 'pg_kohiblad_strip_nulls' LANGUAGE C STRICT IMMUTABLE PARALLEL SAFE COST 10;
+
+CREATE FUNCTION kohiblad_subscript(internal) RETURNS internal
+AS 'MODULE_PATHNAME', 'pg_kohiblad_subscript' LANGUAGE C STRICT IMMUTABLE PARALLEL SAFE;
+
+ALTER TYPE kohiblad SET (SUBSCRIPT = kohiblad_subscript);
+
+-- Parts
+
+CREATE FUNCTION kohiblad_extract_path(from_kohiblad kohiblad,
+    VARIADIC path_elems text[]) RETURNS kohiblad
+AS 'MODULE_PATHNAME', 'pg_kohiblad_path' LANGUAGE C STRICT IMMUTABLE PARALLEL SAFE;
+
+CREATE FUNCTION kohiblad_extract_path_text(from_kohiblad kohiblad,
+    VARIADIC path_elems text[]) RETURNS text
+AS 'MODULE_PATHNAME', 'pg_kohiblad_path_text' LANGUAGE C STRICT IMMUTABLE PARALLEL SAFE;
+
+CREATE FUNCTION kohiblad_typeof(kohiblad) RETURNS text
+AS 'MODULE_PATHNAME', 'pg_kohiblad_kind' LANGUAGE C STRICT IMMUTABLE PARALLEL SAFE;
+
+CREATE FUNCTION kohiblad_array_length(kohiblad) RETURNS int4
+AS 'MODULE_PATHNAME', 'pg_kohiblad_array_length' LANGUAGE C STRICT IMMUTABLE PARALLEL SAFE;
+
+CREATE FUNCTION kohiblad_object_keys(kohiblad) RETURNS SETOF text
+AS 'MODULE_PATHNAME',
+    'pg_kohiblad_object_keys' LANGUAGE C STRICT IMMUTABLE PARALLEL SAFE COST 10 ROWS 100;
+
+CREATE FUNCTION kohiblad_array_elements(from_kohiblad kohiblad,
+    OUT value kohiblad) RETURNS SETOF kohiblad
+AS 'MODULE_PATHNAME',
+    'pg_kohiblad_array_elements' LANGUAGE C STRICT IMMUTABLE PARALLEL SAFE COST 10 ROWS 100;
+
+CREATE FUNCTION kohiblad_array_elements_text(from_kohiblad kohiblad,
+    OUT value text) RETURNS SETOF text
+AS 'MODULE_PATHNAME',
+    'pg_kohiblad_array_elements_text' LANGUAGE C STRICT IMMUTABLE PARALLEL SAFE COST 10 ROWS 100;
+
+CREATE FUNCTION kohiblad_each_text(kohiblad, OUT key text, OUT value text) RETURNS SETOF record
+AS 'MODULE_PATHNAME',
+    'pg_kohiblad_each_text' LANGUAGE C STRICT IMMUTABLE PARALLEL SAFE COST 10 ROWS 100;
+
+-- Documents of values. These depend on the time zone and other settings of the server.
+
+CREATE FUNCTION to_kohiblad(anyelement) RETURNS kohiblad
+AS 'MODULE_PATHNAME', 'pg_kohiblad_of_any' LANGUAGE C STRICT STABLE PARALLEL SAFE COST 10;
+
+CREATE FUNCTION kohiblad_build_array(VARIADIC "any") RETURNS kohiblad
+AS 'MODULE_PATHNAME', 'pg_kohiblad_build_array' LANGUAGE C STABLE PARALLEL SAFE COST 10;
+
+CREATE FUNCTION kohiblad_build_array() RETURNS kohiblad
+AS 'MODULE_PATHNAME', 'pg_kohiblad_build_empty_array' LANGUAGE C STABLE PARALLEL SAFE;
+
+CREATE FUNCTION kohiblad_build_object(VARIADIC "any") RETURNS kohiblad
+AS 'MODULE_PATHNAME', 'pg_kohiblad_build_object' LANGUAGE C STABLE PARALLEL SAFE COST 10;
+
+CREATE FUNCTION kohiblad_build_object() RETURNS kohiblad
+AS 'MODULE_PATHNAME', 'pg_kohiblad_build_empty_object' LANGUAGE C STABLE PARALLEL SAFE;
+
+CREATE FUNCTION kohiblad_object(text[]) RETURNS kohiblad
+AS 'MODULE_PATHNAME', 'pg_kohiblad_object' LANGUAGE C STRICT IMMUTABLE PARALLEL SAFE COST 10;
+
+CREATE FUNCTION kohiblad_object(text[], text[]) RETURNS kohiblad
+AS 'MODULE_PATHNAME', 'pg_kohiblad_object_two' LANGUAGE C STRICT IMMUTABLE PARALLEL SAFE COST 10;
+
+-- Records
+
+CREATE FUNCTION kohiblad_populate_record(base anyelement,
+    from_kohiblad kohiblad) RETURNS anyelement
+AS 'MODULE_PATHNAME', 'pg_kohiblad_populate_record' LANGUAGE C STABLE PARALLEL SAFE COST 10;
+
+CREATE FUNCTION kohiblad_populate_recordset(base anyelement,
+    from_kohiblad kohiblad) RETURNS SETOF anyelement
+AS 'MODULE_PATHNAME',
+    'pg_kohiblad_populate_recordset' LANGUAGE C STABLE PARALLEL SAFE COST 10 ROWS 100;
+
+CREATE FUNCTION kohiblad_to_record(from_kohiblad kohiblad) RETURNS record
+AS 'MODULE_PATHNAME', 'pg_kohiblad_to_record' LANGUAGE C STRICT STABLE PARALLEL SAFE COST 10;
+
+CREATE FUNCTION kohiblad_to_recordset(from_kohiblad kohiblad) RETURNS SETOF record
+AS 'MODULE_PATHNAME',
+    'pg_kohiblad_to_recordset' LANGUAGE C STRICT STABLE PARALLEL SAFE COST 10 ROWS 100;
+
+-- Paths of SQL/JSON, by the server's functions over a jsonb of the document.
+
+CREATE FUNCTION kohiblad_path_exists(target kohiblad, path jsonpath, vars kohiblad DEFAULT '{}',
+    silent bool DEFAULT false) RETURNS bool
+AS 'MODULE_PATHNAME', 'pg_kohiblad_path_exists' LANGUAGE C STRICT IMMUTABLE PARALLEL SAFE COST 20;
+
+CREATE FUNCTION kohiblad_path_exists_tz(target kohiblad, path jsonpath,
+    vars kohiblad DEFAULT '{}', silent bool DEFAULT false) RETURNS bool
+AS 'MODULE_PATHNAME', 'pg_kohiblad_path_exists_tz' LANGUAGE C STRICT STABLE PARALLEL SAFE COST 20;
+
+CREATE FUNCTION kohiblad_path_match(target kohiblad, path jsonpath, vars kohiblad DEFAULT '{}',
+    silent bool DEFAULT false) RETURNS bool
+AS 'MODULE_PATHNAME', 'pg_kohiblad_path_match' LANGUAGE C STRICT IMMUTABLE PARALLEL SAFE COST 20;
+
+CREATE FUNCTION kohiblad_path_match_tz(target kohiblad, path jsonpath,
+    vars kohiblad DEFAULT '{}', silent bool DEFAULT false) RETURNS bool
+AS 'MODULE_PATHNAME', 'pg_kohiblad_path_match_tz' LANGUAGE C STRICT STABLE PARALLEL SAFE COST 20;
+
+CREATE FUNCTION kohiblad_path_query(target kohiblad, path jsonpath, vars kohiblad DEFAULT '{}',
+    silent bool DEFAULT false) RETURNS SETOF kohiblad
+AS 'MODULE_PATHNAME', 'pg_kohiblad_path_query' LANGUAGE C STRICT IMMUTABLE PARALLEL SAFE COST 20;
+
+CREATE FUNCTION kohiblad_path_query_tz(target kohiblad, path jsonpath,
+    vars kohiblad DEFAULT '{}', silent bool DEFAULT false) RETURNS SETOF kohiblad
+AS 'MODULE_PATHNAME', 'pg_kohiblad_path_query_tz' LANGUAGE C STRICT STABLE PARALLEL SAFE COST 20;
+
+CREATE FUNCTION kohiblad_path_query_array(target kohiblad, path jsonpath,
+    vars kohiblad DEFAULT '{}', silent bool DEFAULT false) RETURNS kohiblad
+AS 'MODULE_PATHNAME',
+    'pg_kohiblad_path_query_array' LANGUAGE C STRICT IMMUTABLE PARALLEL SAFE COST 20;
+
+CREATE FUNCTION kohiblad_path_query_array_tz(target kohiblad, path jsonpath,
+    vars kohiblad DEFAULT '{}', silent bool DEFAULT false) RETURNS kohiblad
+AS 'MODULE_PATHNAME',
+    'pg_kohiblad_path_query_array_tz' LANGUAGE C STRICT STABLE PARALLEL SAFE COST 20;
+
+CREATE FUNCTION kohiblad_path_query_first(target kohiblad, path jsonpath,
+    vars kohiblad DEFAULT '{}', silent bool DEFAULT false) RETURNS kohiblad
+AS 'MODULE_PATHNAME',
+    'pg_kohiblad_path_query_first' LANGUAGE C STRICT IMMUTABLE PARALLEL SAFE COST 20;
+
+CREATE FUNCTION kohiblad_path_query_first_tz(target kohiblad, path jsonpath,
+    vars kohiblad DEFAULT '{}', silent bool DEFAULT false) RETURNS kohiblad
+AS 'MODULE_PATHNAME',
+    'pg_kohiblad_path_query_first_tz' LANGUAGE C STRICT STABLE PARALLEL SAFE COST 20;
+
+CREATE FUNCTION kohiblad_path_exists_opr(kohiblad, jsonpath) RETURNS bool
+AS 'MODULE_PATHNAME',
+    'pg_kohiblad_path_exists_opr' LANGUAGE C STRICT IMMUTABLE PARALLEL SAFE COST 20;
+
+CREATE FUNCTION kohiblad_path_match_opr(kohiblad, jsonpath) RETURNS bool
+AS 'MODULE_PATHNAME',
+    'pg_kohiblad_path_match_opr' LANGUAGE C STRICT IMMUTABLE PARALLEL SAFE COST 20;
+
+CREATE OPERATOR @? (
+    LEFTARG = kohiblad, RIGHTARG = jsonpath, FUNCTION = kohiblad_path_exists_opr,
+    RESTRICT = matchingsel, JOIN = matchingjoinsel
+);
+
+CREATE OPERATOR @@ (
+    LEFTARG = kohiblad, RIGHTARG = jsonpath, FUNCTION = kohiblad_path_match_opr,
+    RESTRICT = matchingsel, JOIN = matchingjoinsel
+);
+
+-- Aggregates of any values, whose workers join their rows.
+
+CREATE FUNCTION kohiblad_rows_combine(internal, internal) RETURNS internal
+AS 'MODULE_PATHNAME', 'pg_kohiblad_rows_combine' LANGUAGE C IMMUTABLE PARALLEL SAFE;
+
+CREATE FUNCTION kohiblad_rows_serialize(internal) RETURNS bytea
+AS 'MODULE_PATHNAME', 'pg_kohiblad_rows_serialize' LANGUAGE C STRICT IMMUTABLE PARALLEL SAFE;
+
+CREATE FUNCTION kohiblad_rows_deserialize(bytea, internal) RETURNS internal
+AS 'MODULE_PATHNAME', 'pg_kohiblad_rows_deserialize' LANGUAGE C STRICT IMMUTABLE PARALLEL SAFE;
+
+CREATE FUNCTION kohiblad_agg_step(internal, anyelement) RETURNS internal
+AS 'MODULE_PATHNAME', 'pg_kohiblad_agg_step' LANGUAGE C STABLE PARALLEL SAFE;
+
+CREATE FUNCTION kohiblad_object_agg_step(internal, "any", "any") RETURNS internal
+AS 'MODULE_PATHNAME', 'pg_kohiblad_object_agg_step' LANGUAGE C STABLE PARALLEL SAFE;
+
+CREATE OR REPLACE AGGREGATE kohiblad_agg(kohiblad) (
+    SFUNC = kohiblad_agg_step, STYPE = internal, FINALFUNC = kohiblad_agg_final,
+    COMBINEFUNC = kohiblad_rows_combine, SERIALFUNC = kohiblad_rows_serialize,
+    DESERIALFUNC = kohiblad_rows_deserialize, PARALLEL = SAFE
+);
+
+CREATE AGGREGATE kohiblad_agg(anyelement) (
+    SFUNC = kohiblad_agg_step, STYPE = internal, FINALFUNC = kohiblad_agg_final,
+    COMBINEFUNC = kohiblad_rows_combine, SERIALFUNC = kohiblad_rows_serialize,
+    DESERIALFUNC = kohiblad_rows_deserialize, PARALLEL = SAFE
+);
+
+CREATE OR REPLACE AGGREGATE kohiblad_object_agg(text, kohiblad) (
+    SFUNC = kohiblad_object_agg_step, STYPE = internal, FINALFUNC = kohiblad_object_agg_final,
+    COMBINEFUNC = kohiblad_rows_combine, SERIALFUNC = kohiblad_rows_serialize,
+    DESERIALFUNC = kohiblad_rows_deserialize, PARALLEL = SAFE
+);
+
+CREATE AGGREGATE kohiblad_object_agg("any", "any") (
+    SFUNC = kohiblad_object_agg_step, STYPE = internal, FINALFUNC = kohiblad_object_agg_final,
+    COMBINEFUNC = kohiblad_rows_combine, SERIALFUNC = kohiblad_rows_serialize,
+    DESERIALFUNC = kohiblad_rows_deserialize, PARALLEL = SAFE
+);

@@ -1,132 +1,175 @@
-/* The aggregates: rows are gathered one after another, and built at the end. And what is not built:
- * documents are not joined yet. */
-#include "document.h"
+/* Documents of SQL values: to_kohiblad, the functions that build arrays and objects, and the
+ * aggregates, which gather rows one after another and build at the end. */
+#include "values.h"
 
-#include "lib/stringinfo.h"
-#include "miscadmin.h"
+#include "catalog/pg_type.h"
+#include "funcapi.h"
+#include "libpq/pqformat.h"
+#include "port/pg_bswap.h"
+#include "utils/builtins.h"
+#include "utils/fmgrprotos.h"
+#include "utils/lsyscache.h"
 
-/* The rows so far, as the library takes them: their bytes, and one offset more than there are. */
-typedef struct Rows {
-    StringInfoData bytes;
-    size_t *offsets;
-    size_t count, room;
-} Rows;
+/* The type of an argument, which a caller by another function may not say. */
+static Oid argument_type(FunctionCallInfo fcinfo, int argument) {
+    Oid type = get_fn_expr_argtype(fcinfo->flinfo, argument);
+    if (!OidIsValid(type))
+        ereport(ERROR, (errcode(ERRCODE_INVALID_PARAMETER_VALUE),
+                        errmsg("kohiblad: could not determine input data type")));
+    return type;
+}
 
-/* The library's calls over rows, which differ in nothing but their name. */
-typedef uint32_t (*BuildCall)(const uint8_t *bytes, size_t size, const size_t *offsets,
-                              size_t count, size_t depth, uint8_t *out, size_t room,
-                              size_t *length);
+/* A document of the only row. */
+static struct varlena *only_row(const Rows *rows) {
+    return (struct varlena *)cstring_to_text_with_len(rows->bytes.data, rows->bytes.len);
+}
 
-#define FIRST_ROOM 64
+PG_FUNCTION_INFO_V1(pg_kohiblad_of_any);
+Datum pg_kohiblad_of_any(PG_FUNCTION_ARGS) {
+    Rows *rows = new_rows();
+    add_value(rows, PG_GETARG_DATUM(0), PG_ARGISNULL(0), argument_type(fcinfo, 0),
+              type_of_documents(fcinfo));
+    PG_RETURN_POINTER(only_row(rows));
+}
 
-static Rows *rows_of(FunctionCallInfo fcinfo) {
+PG_FUNCTION_INFO_V1(pg_kohiblad_build_array);
+Datum pg_kohiblad_build_array(PG_FUNCTION_ARGS) {
+    Datum *values;
+    bool *nulls;
+    Oid *types;
+    int count = extract_variadic_args(fcinfo, 0, true, &values, &types, &nulls);
+    if (count < 0) PG_RETURN_NULL();
+    Oid documents = type_of_documents(fcinfo);
+    Rows *rows = new_rows();
+    for (int i = 0; i < count; i++) add_value(rows, values[i], nulls[i], types[i], documents);
+    PG_RETURN_POINTER(array_of_rows(rows));
+}
+
+PG_FUNCTION_INFO_V1(pg_kohiblad_build_object);
+Datum pg_kohiblad_build_object(PG_FUNCTION_ARGS) {
+    Datum *values;
+    bool *nulls;
+    Oid *types;
+    int count = extract_variadic_args(fcinfo, 0, true, &values, &types, &nulls);
+    if (count < 0) PG_RETURN_NULL();
+    if (count % 2 != 0)
+        ereport(ERROR, (errcode(ERRCODE_INVALID_PARAMETER_VALUE),
+                        errmsg("kohiblad: argument list must have even number of elements")));
+    Oid documents = type_of_documents(fcinfo);
+    Rows *rows = new_rows();
+    for (int i = 0; i < count; i += 2) {
+        add_key(rows, values[i], nulls[i], types[i], documents);
+        add_value(rows, values[i + 1], nulls[i + 1], types[i + 1], documents);
+    }
+    PG_RETURN_POINTER(object_of_rows(rows));
+}
+
+PG_FUNCTION_INFO_V1(pg_kohiblad_build_empty_array);
+Datum pg_kohiblad_build_empty_array(PG_FUNCTION_ARGS) {
+    PG_RETURN_POINTER(array_of_rows(new_rows()));
+}
+
+PG_FUNCTION_INFO_V1(pg_kohiblad_build_empty_object);
+Datum pg_kohiblad_build_empty_object(PG_FUNCTION_ARGS) {
+    PG_RETURN_POINTER(object_of_rows(new_rows()));
+}
+
+/* The object of texts, as the server makes it; it holds nothing but strings and nulls. */
+static Datum document_of_jsonb(Datum jsonb) {
+    char *json = DatumGetCString(DirectFunctionCall1(jsonb_out, jsonb));
+    return PointerGetDatum(document_of_json(utf8_of_server(json, strlen(json))));
+}
+
+PG_FUNCTION_INFO_V1(pg_kohiblad_object);
+Datum pg_kohiblad_object(PG_FUNCTION_ARGS) {
+    return document_of_jsonb(DirectFunctionCall1(jsonb_object, PG_GETARG_DATUM(0)));
+}
+
+PG_FUNCTION_INFO_V1(pg_kohiblad_object_two);
+Datum pg_kohiblad_object_two(PG_FUNCTION_ARGS) {
+    return document_of_jsonb(DirectFunctionCall2(jsonb_object_two_arg, PG_GETARG_DATUM(0),
+                                                 PG_GETARG_DATUM(1)));
+}
+
+/* The rows of an aggregate, in the memory that lives as long as it. */
+static Rows *state_of(FunctionCallInfo fcinfo) {
     MemoryContext context;
     if (!AggCheckCallContext(fcinfo, &context))
         elog(ERROR, "kohiblad: an aggregate's function was called outside of an aggregate");
     if (!PG_ARGISNULL(0)) return (Rows *)PG_GETARG_POINTER(0);
     MemoryContext caller = MemoryContextSwitchTo(context);
-    Rows *rows = palloc0(sizeof *rows);
-    initStringInfo(&rows->bytes);
-    rows->room = FIRST_ROOM;
-    rows->offsets = palloc(rows->room * sizeof *rows->offsets);
-    rows->offsets[0] = 0;
+    Rows *rows = new_rows();
     MemoryContextSwitchTo(caller);
     return rows;
 }
 
-static void add_row(Rows *rows, Bytes row) {
-    appendBinaryStringInfo(&rows->bytes, (const char *)row.at, row.size);
-    if (rows->count + 1 == rows->room) {
-        rows->room *= 2;
-        rows->offsets = repalloc_huge(rows->offsets, rows->room * sizeof *rows->offsets);
-    }
-    rows->offsets[++rows->count] = rows->bytes.len;
-}
-
-/* The document of an argument; null of SQL is null of JSON. */
-static void add_document(Rows *rows, FunctionCallInfo fcinfo, int argument) {
-    if (PG_ARGISNULL(argument)) {
-        uint8_t null[SCALAR_FRONT];
-        size_t length;
-        uint32_t status = kohiblad_of_null(null, sizeof null, &length);
-        if (status != KOHIBLAD_OK) refuse(status, ERRCODE_INTERNAL_ERROR);
-        add_row(rows, (Bytes){null, length});
-        return;
-    }
-    struct varlena *document = PG_GETARG_VARLENA_PP(argument);
-    add_row(rows, bytes_of(document));
-    PG_FREE_IF_COPY(document, argument);
-}
-
 PG_FUNCTION_INFO_V1(pg_kohiblad_agg_step);
 Datum pg_kohiblad_agg_step(PG_FUNCTION_ARGS) {
-    Rows *rows = rows_of(fcinfo);
-    add_document(rows, fcinfo, 1);
+    Rows *rows = state_of(fcinfo);
+    add_value(rows, PG_GETARG_DATUM(1), PG_ARGISNULL(1), argument_type(fcinfo, 1),
+              type_of_documents(fcinfo));
     PG_RETURN_POINTER(rows);
 }
 
 PG_FUNCTION_INFO_V1(pg_kohiblad_object_agg_step);
 Datum pg_kohiblad_object_agg_step(PG_FUNCTION_ARGS) {
-    Rows *rows = rows_of(fcinfo);
-    if (PG_ARGISNULL(1))
-        ereport(ERROR, (errcode(ERRCODE_NULL_VALUE_NOT_ALLOWED),
-                        errmsg("kohiblad: a key must not be null")));
-    add_row(rows, utf8_of_text(PG_GETARG_TEXT_PP(1)));
-    add_document(rows, fcinfo, 2);
+    Rows *rows = state_of(fcinfo);
+    Oid documents = type_of_documents(fcinfo);
+    add_key(rows, PG_GETARG_DATUM(1), PG_ARGISNULL(1), argument_type(fcinfo, 1), documents);
+    add_value(rows, PG_GETARG_DATUM(2), PG_ARGISNULL(2), argument_type(fcinfo, 2), documents);
     PG_RETURN_POINTER(rows);
-}
-
-/* The error where the library takes the rows for none: a document may be too deep for a child. */
-static uint32_t row_status(const Rows *rows, size_t step, uint32_t status) {
-    if (status != KOHIBLAD_INVALID_JSONB) return status;
-    const uint8_t *at = (const uint8_t *)rows->bytes.data;
-    for (size_t i = step - 1; i < rows->count; i += step) {
-        CHECK_FOR_INTERRUPTS();
-        size_t start = rows->offsets[i];
-        if (!kohiblad_check(at + start, rows->offsets[i + 1] - start, MAX_DEPTH - 1))
-            return KOHIBLAD_TOO_DEEP;
-    }
-    return status;
-}
-
-/* Builds the rows, of which each `step` belong to one child. */
-static Datum build(FunctionCallInfo fcinfo, BuildCall call, size_t step) {
-    if (PG_ARGISNULL(0)) PG_RETURN_NULL();
-    const Rows *rows = (Rows *)PG_GETARG_POINTER(0);
-    const uint8_t *bytes = (const uint8_t *)rows->bytes.data;
-    check_stack_for(DOCUMENT_STACK);
-    size_t length;
-    uint32_t status = call(bytes, rows->bytes.len, rows->offsets, rows->count + 1, MAX_DEPTH - 1,
-                           NULL, 0, &length);
-    if (status != KOHIBLAD_NO_ROOM)
-        refuse(row_status(rows, step, status), status == KOHIBLAD_OBJECT_DUPLICATE_KEY
-                                                   ? ERRCODE_DUPLICATE_JSON_OBJECT_KEY_VALUE
-                                                   : ERRCODE_PROGRAM_LIMIT_EXCEEDED);
-    struct varlena *built = palloc(VARHDRSZ + length);
-    status = call(bytes, rows->bytes.len, rows->offsets, rows->count + 1, MAX_DEPTH - 1,
-                  (uint8_t *)VARDATA(built), length, &length);
-    if (status != KOHIBLAD_OK) refuse(status, ERRCODE_PROGRAM_LIMIT_EXCEEDED);
-    SET_VARSIZE(built, VARHDRSZ + length);
-    PG_RETURN_POINTER(built);
 }
 
 PG_FUNCTION_INFO_V1(pg_kohiblad_agg_final);
 Datum pg_kohiblad_agg_final(PG_FUNCTION_ARGS) {
-    return build(fcinfo, kohiblad_build_array_within, 1);
+    if (PG_ARGISNULL(0)) PG_RETURN_NULL();
+    PG_RETURN_POINTER(array_of_rows((Rows *)PG_GETARG_POINTER(0)));
 }
 
 PG_FUNCTION_INFO_V1(pg_kohiblad_object_agg_final);
 Datum pg_kohiblad_object_agg_final(PG_FUNCTION_ARGS) {
-    return build(fcinfo, kohiblad_build_object_within, 2);
+    if (PG_ARGISNULL(0)) PG_RETURN_NULL();
+    PG_RETURN_POINTER(object_of_unique_rows((Rows *)PG_GETARG_POINTER(0)));
 }
 
-/* Without this function of an operator of its own, || would be the server's: it joins any value and
- * a text, and so the texts of documents. */
-PG_FUNCTION_INFO_V1(pg_kohiblad_concat);
-Datum pg_kohiblad_concat(PG_FUNCTION_ARGS) {
-    ereport(ERROR, (errcode(ERRCODE_FEATURE_NOT_SUPPORTED),
-                    errmsg("kohiblad: documents cannot be joined by ||"),
-                    errhint("Join them as jsonb, (a::jsonb || b::jsonb)::kohiblad, or their texts, "
-                            "a::text || b::text.")));
-    PG_RETURN_NULL();
+/* The rows of two workers, those of the first before those of the second. */
+PG_FUNCTION_INFO_V1(pg_kohiblad_rows_combine);
+Datum pg_kohiblad_rows_combine(PG_FUNCTION_ARGS) {
+    if (PG_ARGISNULL(0) && PG_ARGISNULL(1)) PG_RETURN_NULL();
+    Rows *rows = state_of(fcinfo);
+    if (!PG_ARGISNULL(1)) add_rows(rows, (Rows *)PG_GETARG_POINTER(1));
+    PG_RETURN_POINTER(rows);
+}
+
+/* The number of rows, their lengths, and their bytes. */
+PG_FUNCTION_INFO_V1(pg_kohiblad_rows_serialize);
+Datum pg_kohiblad_rows_serialize(PG_FUNCTION_ARGS) {
+    const Rows *rows = (Rows *)PG_GETARG_POINTER(0);
+    StringInfoData out;
+    pq_begintypsend(&out);
+    pq_sendint64(&out, rows->count);
+    for (size_t i = 0; i < rows->count; i++)
+        pq_sendint32(&out, rows->offsets[i + 1] - rows->offsets[i]);
+    pq_sendbytes(&out, rows->bytes.data, rows->bytes.len);
+    PG_RETURN_BYTEA_P(pq_endtypsend(&out));
+}
+
+PG_FUNCTION_INFO_V1(pg_kohiblad_rows_deserialize);
+Datum pg_kohiblad_rows_deserialize(PG_FUNCTION_ARGS) {
+    bytea *sent = PG_GETARG_BYTEA_PP(0);
+    StringInfoData in;
+    initStringInfo(&in);
+    appendBinaryStringInfo(&in, VARDATA_ANY(sent), VARSIZE_ANY_EXHDR(sent));
+    size_t count = pq_getmsgint64(&in);
+    const char *lengths = pq_getmsgbytes(&in, count * sizeof(uint32));
+    Rows *rows = new_rows();
+    for (size_t i = 0; i < count; i++) {
+        uint32 length;
+        memcpy(&length, lengths + i * sizeof length, sizeof length);
+        length = pg_ntoh32(length);
+        add_row(rows, (Bytes){(const uint8_t *)pq_getmsgbytes(&in, length), length});
+    }
+    pq_getmsgend(&in);
+    pfree(in.data);
+    PG_RETURN_POINTER(rows);
 }

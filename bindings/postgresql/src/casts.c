@@ -6,9 +6,6 @@
 #include "utils/fmgrprotos.h"
 #include "utils/numeric.h"
 
-/* The largest document of a number, a decimal of 128 bits. */
-#define NUMBER_ROOM (SCALAR_FRONT + 18)
-
 /* The JSON of an argument. It is checked first, since type json must not hold anything else. */
 static text *json_of_argument(FunctionCallInfo fcinfo) {
     struct varlena *value = PG_GETARG_VARLENA_PP(0);

@@ -19,8 +19,18 @@
 /* The stack that a call of the library over a stored document needs. */
 #define DOCUMENT_STACK (MAX_DEPTH * KOHIBLAD_LEVEL_STACK + KOHIBLAD_CALL_STACK)
 
+/* What kohiblad_contains, kohiblad_edit and kohiblad_concat need for each level: measured, as the
+ * others' in kohiblad.h. */
+#define FUNCTION_LEVEL_STACK (2 * KOHIBLAD_LEVEL_STACK)
+
 /* The bytes before the payload in the document of a scalar. */
 #define SCALAR_FRONT 8
+
+/* The largest document of a number, a decimal of 128 bits. */
+#define NUMBER_ROOM (SCALAR_FRONT + 18)
+
+/* Each level but the last takes 8 bytes: a header, and the entry word of the next. */
+#define LEVEL_SIZE 8
 
 typedef struct Bytes {
     const uint8_t *at;
@@ -41,6 +51,19 @@ typedef uint32_t (*WriteCall)(const uint8_t *bytes, size_t size, size_t depth, u
 
 static inline Bytes bytes_of(const struct varlena *value) {
     return (Bytes){(const uint8_t *)VARDATA_ANY(value), VARSIZE_ANY_EXHDR(value)};
+}
+
+/* No document of so many bytes nests deeper, and none that is stored. */
+static inline size_t depth_of_size(size_t size) {
+    return Min(MAX_DEPTH, size / LEVEL_SIZE + 1);
+}
+
+/* The stack that a call takes over documents of this depth, and a call of those above. */
+static inline size_t stack_of_depth(size_t depth) {
+    return depth * KOHIBLAD_LEVEL_STACK + KOHIBLAD_CALL_STACK;
+}
+static inline size_t function_stack_of_depth(size_t depth) {
+    return depth * FUNCTION_LEVEL_STACK + KOHIBLAD_CALL_STACK;
 }
 
 /* Raises an error that names the library's status, with what it means or with another detail. */
@@ -87,8 +110,22 @@ extern Bytes write_part(Part part, uint8_t *out, size_t room);
 extern text *compact_text(Bytes document);
 extern text *plain_text(Part part);
 
+/* The document of a JSON text in UTF-8, which is refused as the text of a column is. */
+extern struct varlena *document_of_json(Bytes utf8);
+
 /* Whether the part is an array, and not an object. */
 extern bool is_array(Part container);
+
+/* Whether a part is an array or an object, and which. */
+static inline bool is_container(Part part) {
+    return part.type == KOHIBLAD_TYPE_CONTAINER;
+}
+static inline bool is_object_part(Part part) {
+    return is_container(part) && !is_array(part);
+}
+static inline bool is_array_part(Part part) {
+    return is_container(part) && is_array(part);
+}
 
 #pragma GCC visibility pop
 

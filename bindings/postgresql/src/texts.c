@@ -37,6 +37,11 @@ static uint32_t parse(const uint8_t *given, size_t size, size_t depth, uint8_t *
     return status;
 }
 
+struct varlena *document_of_json(Bytes utf8) {
+    return write_value(parse, utf8, 4 * utf8.size + SCALAR_FRONT,
+                       ERRCODE_INVALID_TEXT_REPRESENTATION);
+}
+
 /* Texts are seldom longer than twice their documents. */
 static size_t text_guess(Bytes document) {
     return 2 * document.size + 64;
@@ -140,9 +145,7 @@ PG_FUNCTION_INFO_V1(pg_kohiblad_in);
 Datum pg_kohiblad_in(PG_FUNCTION_ARGS) {
     const char *given = PG_GETARG_CSTRING(0);
     if (strncmp(given, HEX_MARK, HEX_MARK_SIZE) == 0) PG_RETURN_POINTER(document_of_hex(given));
-    Bytes utf8 = utf8_of_server(given, strlen(given));
-    PG_RETURN_POINTER(write_value(parse, utf8, 4 * utf8.size + SCALAR_FRONT,
-                                  ERRCODE_INVALID_TEXT_REPRESENTATION));
+    PG_RETURN_POINTER(document_of_json(utf8_of_server(given, strlen(given))));
 }
 
 PG_FUNCTION_INFO_V1(pg_kohiblad_out);

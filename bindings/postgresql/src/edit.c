@@ -1,0 +1,305 @@
+/* Changed copies of documents: what comes out is canonical, and nests at most MAX_DEPTH levels. */
+#include "edit.h"
+
+#include "catalog/pg_type.h"
+#include "miscadmin.h"
+#include "utils/builtins.h"
+
+/* Copies of a document differ little in size from what they are made of. */
+#define EDIT_SLACK 64
+
+/* Refuses a document that nests too deep to be put below so many levels. */
+static void check_depth_below(Bytes document, size_t levels) {
+    size_t depth = depth_of_size(document.size);
+    if (depth + levels <= MAX_DEPTH) return;
+    check_stack_for(stack_of_depth(depth));
+    if (levels > MAX_DEPTH || !kohiblad_check(document.at, document.size, MAX_DEPTH - levels))
+        refuse(KOHIBLAD_TOO_DEEP, ERRCODE_PROGRAM_LIMIT_EXCEEDED);
+}
+
+/* Takes what a call wrote into a new value of so much room, or says how much it needs. */
+static struct varlena *taken(struct varlena *value, uint32_t status, size_t length, size_t *room) {
+    if (status == KOHIBLAD_OK) {
+        SET_VARSIZE(value, VARHDRSZ + length);
+        return value;
+    }
+    pfree(value);
+    if (status != KOHIBLAD_NO_ROOM) refuse(status, ERRCODE_PROGRAM_LIMIT_EXCEEDED);
+    check_room(length);
+    *room = length;
+    return NULL;
+}
+
+struct varlena *edited(Bytes document, const Rows *steps, enum kohiblad_edit_kind kind,
+                       Bytes value) {
+    if (kind != KOHIBLAD_REMOVE) check_depth_below(value, steps->count);
+    struct varlena *path_value = array_of_rows(steps), *result = NULL;
+    Bytes path = bytes_of(path_value);
+    size_t depth = depth_of_size(Max(document.size, value.size)), length;
+    size_t room = Min(document.size + value.size + path.size + EDIT_SLACK, MaxAllocSize - VARHDRSZ);
+    check_stack_for(function_stack_of_depth(Min(MAX_DEPTH, depth + steps->count)));
+    while (!result) {
+        struct varlena *out = palloc(VARHDRSZ + room);
+        uint32_t status =
+            kohiblad_edit(document.at, document.size, path.at, path.size, kind, value.at,
+                          value.size, depth, (uint8_t *)VARDATA(out), room, &length);
+        result = taken(out, status, length, &room);
+    }
+    pfree(path_value);
+    return result;
+}
+
+/* A value that is put into an array lies one level deeper. */
+static void check_joined_depth(Bytes left, Bytes right) {
+    uint32_t left_kind = kind_of(left).kind, right_kind = kind_of(right).kind;
+    if (left_kind == KOHIBLAD_OBJECT && right_kind == KOHIBLAD_OBJECT) return;
+    if (left_kind != KOHIBLAD_ARRAY) check_depth_below(left, 1);
+    if (right_kind != KOHIBLAD_ARRAY) check_depth_below(right, 1);
+}
+
+struct varlena *joined(Bytes left, Bytes right) {
+    check_joined_depth(left, right);
+    struct varlena *result = NULL;
+    size_t depth = depth_of_size(Max(left.size, right.size)), length;
+    size_t room = Min(left.size + right.size + EDIT_SLACK, MaxAllocSize - VARHDRSZ);
+    check_stack_for(function_stack_of_depth(depth));
+    while (!result) {
+        struct varlena *out = palloc(VARHDRSZ + room);
+        uint32_t status = kohiblad_concat(left.at, left.size, right.at, right.size, depth,
+                                          (uint8_t *)VARDATA(out), room, &length);
+        result = taken(out, status, length, &room);
+    }
+    return result;
+}
+
+PG_FUNCTION_INFO_V1(pg_kohiblad_concat);
+Datum pg_kohiblad_concat(PG_FUNCTION_ARGS) {
+    struct varlena *left = PG_GETARG_VARLENA_PP(0), *right = PG_GETARG_VARLENA_PP(1);
+    PG_RETURN_POINTER(joined(bytes_of(left), bytes_of(right)));
+}
+
+static void pg_attribute_noreturn() refuse_edit(const char *reason) {
+    ereport(ERROR, (errcode(ERRCODE_INVALID_PARAMETER_VALUE), errmsg("kohiblad: %s", reason)));
+}
+
+static bool is_scalar(Bytes document) {
+    uint32_t kind = kind_of(document).kind;
+    return kind != KOHIBLAD_ARRAY && kind != KOHIBLAD_OBJECT;
+}
+
+/* The path of an argument, to change a document that is no scalar. */
+static TextPath path_to_change(FunctionCallInfo fcinfo, Bytes document, const char *reason) {
+    TextPath path = path_of_array(PG_GETARG_ARRAYTYPE_P(1));
+    if (is_scalar(document)) refuse_edit(reason);
+    return path;
+}
+
+/* Ends the steps of a path by what its last element names, or another index in its place. */
+static const Rows *all_steps(PathEnd *end, int64 index) {
+    if (end->is_array)
+        add_int64(end->steps, index);
+    else
+        add_text(end->steps, end->key);
+    return end->steps;
+}
+
+static Datum set_at_path(FunctionCallInfo fcinfo, Bytes value) {
+    struct varlena *given = PG_GETARG_VARLENA_PP(0);
+    Bytes document = bytes_of(given);
+    TextPath path = path_to_change(fcinfo, document, "cannot set path in scalar");
+    bool may_add = PG_GETARG_BOOL(3);
+    PathEnd end;
+    if (path.count == 0 || (kind_of(document).count == 0 && !may_add)) PG_RETURN_POINTER(given);
+    if (!follow_path(document, path, &end)) PG_RETURN_POINTER(given);
+    if (end.level < path.count - 1 || !(end.is_there || may_add)) PG_RETURN_POINTER(given);
+    PG_RETURN_POINTER(edited(document, all_steps(&end, end.index), KOHIBLAD_PUT, value));
+}
+
+PG_FUNCTION_INFO_V1(pg_kohiblad_set);
+Datum pg_kohiblad_set(PG_FUNCTION_ARGS) {
+    return set_at_path(fcinfo, bytes_of(PG_GETARG_VARLENA_PP(2)));
+}
+
+PG_FUNCTION_INFO_V1(pg_kohiblad_delete_path);
+Datum pg_kohiblad_delete_path(PG_FUNCTION_ARGS) {
+    struct varlena *given = PG_GETARG_VARLENA_PP(0);
+    Bytes document = bytes_of(given);
+    TextPath path = path_to_change(fcinfo, document, "cannot delete path in scalar");
+    PathEnd end;
+    if (path.count == 0 || kind_of(document).count == 0) PG_RETURN_POINTER(given);
+    if (!follow_path(document, path, &end) || !end.is_there) PG_RETURN_POINTER(given);
+    PG_RETURN_POINTER(edited(document, all_steps(&end, end.index), KOHIBLAD_REMOVE, (Bytes){0}));
+}
+
+#define TREATMENTS "\"delete_key\", \"return_target\", \"use_json_null\", or \"raise_exception\""
+
+/* What is done where the new value is null of SQL. */
+static Datum set_null(FunctionCallInfo fcinfo, const char *treatment) {
+    if (strcmp(treatment, "use_json_null") == 0) {
+        Rows *null = new_rows();
+        add_null(null);
+        return set_at_path(fcinfo, (Bytes){(uint8_t *)null->bytes.data, null->bytes.len});
+    }
+    if (strcmp(treatment, "delete_key") == 0) return pg_kohiblad_delete_path(fcinfo);
+    if (strcmp(treatment, "return_target") == 0) PG_RETURN_POINTER(PG_GETARG_VARLENA_PP(0));
+    if (strcmp(treatment, "raise_exception") == 0)
+        ereport(ERROR, (errcode(ERRCODE_NULL_VALUE_NOT_ALLOWED),
+                        errmsg("kohiblad: the new value must not be null"),
+                        errdetail("null_value_treatment is \"raise_exception\".")));
+    refuse_edit("null_value_treatment must be " TREATMENTS);
+}
+
+PG_FUNCTION_INFO_V1(pg_kohiblad_set_lax);
+Datum pg_kohiblad_set_lax(PG_FUNCTION_ARGS) {
+    if (PG_ARGISNULL(0) || PG_ARGISNULL(1) || PG_ARGISNULL(3)) PG_RETURN_NULL();
+    if (PG_ARGISNULL(4)) refuse_edit("null_value_treatment must be " TREATMENTS);
+    if (!PG_ARGISNULL(2)) return pg_kohiblad_set(fcinfo);
+    return set_null(fcinfo, text_to_cstring(PG_GETARG_TEXT_PP(4)));
+}
+
+/* Where an item is inserted, from 0 to the number of items: an index past them is at their end, and
+ * one before the first at the front. */
+static int64 place_of_item(const PathEnd *end, bool is_after) {
+    int64 index = end->index < 0 ? end->index + end->count : end->index;
+    if (index < 0) return 0;
+    return Min(index + (is_after && end->is_there), end->count);
+}
+
+PG_FUNCTION_INFO_V1(pg_kohiblad_insert);
+Datum pg_kohiblad_insert(PG_FUNCTION_ARGS) {
+    struct varlena *given = PG_GETARG_VARLENA_PP(0);
+    Bytes document = bytes_of(given), value = bytes_of(PG_GETARG_VARLENA_PP(2));
+    TextPath path = path_to_change(fcinfo, document, "cannot set path in scalar");
+    PathEnd end;
+    if (path.count == 0 || !follow_path(document, path, &end)) PG_RETURN_POINTER(given);
+    if (end.level < path.count - 1) PG_RETURN_POINTER(given);
+    if (!end.is_array && end.is_there)
+        ereport(ERROR, (errcode(ERRCODE_INVALID_PARAMETER_VALUE),
+                        errmsg("kohiblad: cannot replace existing key"),
+                        errhint("kohiblad_set replaces the value of a key.")));
+    const Rows *steps = all_steps(&end, place_of_item(&end, PG_GETARG_BOOL(3)));
+    PG_RETURN_POINTER(edited(document, steps, KOHIBLAD_INSERT, value));
+}
+
+/* Names that go, sorted. */
+typedef struct Names {
+    Bytes *at;
+    size_t count;
+} Names;
+
+static int compare_names(const void *left, const void *right) {
+    const Bytes *l = left, *r = right;
+    int order = memcmp(l->at, r->at, Min(l->size, r->size));
+    return order ? order : (l->size > r->size) - (l->size < r->size);
+}
+
+static bool is_among(Names names, Bytes name) {
+    return names.count && bsearch(&name, names.at, names.count, sizeof name, compare_names);
+}
+
+/* Whether a child goes: by its key, or as an item that is a text. */
+static bool is_named(Names names, Bytes document, struct kohiblad_place key, Part value) {
+    if (key.status == KOHIBLAD_OK) return is_among(names, part_at(document, key).payload);
+    return value.type == KOHIBLAD_TYPE_STRING && is_among(names, value.payload);
+}
+
+/* Gathers the children that stay; whether any goes. */
+static bool gather_others(Bytes document, Names names, Rows *rows) {
+    struct kohiblad_cursor cursor;
+    struct kohiblad_place key, place;
+    bool any_goes = false;
+    uint32_t status = kohiblad_begin(document.at, document.size, &cursor);
+    while (status == KOHIBLAD_OK) {
+        CHECK_FOR_INTERRUPTS();
+        status = kohiblad_next(document.at, document.size, &cursor, &key, &place);
+        if (status != KOHIBLAD_OK) break;
+        Part value = part_at(document, place);
+        if (is_named(names, document, key, value)) {
+            any_goes = true;
+            continue;
+        }
+        if (key.status == KOHIBLAD_OK) add_row(rows, part_at(document, key).payload);
+        add_part(rows, value);
+    }
+    if (status != KOHIBLAD_NONE) refuse(status, ERRCODE_DATA_CORRUPTED);
+    return any_goes;
+}
+
+static Datum without(struct varlena *given, Names names) {
+    Bytes document = bytes_of(given);
+    if (is_scalar(document)) refuse_edit("cannot delete from scalar");
+    if (names.count) qsort(names.at, names.count, sizeof *names.at, compare_names);
+    Rows *rows = new_rows();
+    if (!gather_others(document, names, rows)) PG_RETURN_POINTER(given);
+    bool is_list = kind_of(document).kind == KOHIBLAD_ARRAY;
+    PG_RETURN_POINTER(is_list ? array_of_rows(rows) : object_of_unique_rows(rows));
+}
+
+PG_FUNCTION_INFO_V1(pg_kohiblad_delete);
+Datum pg_kohiblad_delete(PG_FUNCTION_ARGS) {
+    Bytes name = utf8_of_text(PG_GETARG_TEXT_PP(1));
+    return without(PG_GETARG_VARLENA_PP(0), (Names){&name, 1});
+}
+
+PG_FUNCTION_INFO_V1(pg_kohiblad_delete_array);
+Datum pg_kohiblad_delete_array(PG_FUNCTION_ARGS) {
+    TextPath given = path_of_array(PG_GETARG_ARRAYTYPE_P(1));
+    Names names = {palloc(Max(given.count, 1) * sizeof(Bytes)), 0};
+    for (int i = 0; i < given.count; i++) {
+        if (!given.nulls[i])
+            names.at[names.count++] = utf8_of_text(DatumGetTextPP(given.elements[i]));
+    }
+    return without(PG_GETARG_VARLENA_PP(0), names);
+}
+
+PG_FUNCTION_INFO_V1(pg_kohiblad_delete_index);
+Datum pg_kohiblad_delete_index(PG_FUNCTION_ARGS) {
+    struct varlena *given = PG_GETARG_VARLENA_PP(0);
+    Bytes document = bytes_of(given);
+    int index = PG_GETARG_INT32(1);
+    Part item;
+    if (is_scalar(document)) refuse_edit("cannot delete from scalar");
+    if (kind_of(document).kind == KOHIBLAD_OBJECT)
+        refuse_edit("cannot delete from object using integer index");
+    if (!find_index(document, index, &item)) PG_RETURN_POINTER(given);
+    Rows *steps = new_rows();
+    add_int64(steps, index);
+    PG_RETURN_POINTER(edited(document, steps, KOHIBLAD_REMOVE, (Bytes){0}));
+}
+
+/* Adds a value without the members that are null, at any depth. */
+static void add_stripped(Rows *rows, Part part) {
+    if (!is_container(part)) {
+        add_part(rows, part);
+        return;
+    }
+    check_stack_depth();
+    Bytes container = part.payload;
+    struct kohiblad_cursor cursor;
+    struct kohiblad_place key, place;
+    Rows *children = new_rows();
+    uint32_t status = kohiblad_begin(container.at, container.size, &cursor);
+    while (status == KOHIBLAD_OK) {
+        CHECK_FOR_INTERRUPTS();
+        status = kohiblad_next(container.at, container.size, &cursor, &key, &place);
+        if (status != KOHIBLAD_OK) break;
+        if (key.status == KOHIBLAD_OK) {
+            if (place.type == KOHIBLAD_TYPE_NULL) continue;
+            add_row(children, part_at(container, key).payload);
+        }
+        add_stripped(children, part_at(container, place));
+    }
+    if (status != KOHIBLAD_NONE) refuse(status, ERRCODE_DATA_CORRUPTED);
+    struct varlena *stripped =
+        is_array(part) ? array_of_rows(children) : object_of_unique_rows(children);
+    add_row(rows, bytes_of(stripped));
+    pfree(stripped);
+    free_rows(children);
+}
+
+PG_FUNCTION_INFO_V1(pg_kohiblad_strip_nulls);
+Datum pg_kohiblad_strip_nulls(PG_FUNCTION_ARGS) {
+    Rows *rows = new_rows();
+    add_stripped(rows, part_of_document(bytes_of(PG_GETARG_VARLENA_PP(0))));
+    PG_RETURN_POINTER(cstring_to_text_with_len(rows->bytes.data, rows->bytes.len));
+}

@@ -1,0 +1,142 @@
+/* The operator classes of GIN indexes. Their keys are whole numbers of 64 bits.
+ *
+ * Keys of values are those of kohiblad_index_keys, of which it is proved that a document has those
+ * of each document that it contains. Keys of names are for ?, ?| and ?&: a hash of each key of an
+ * object, and of each text among the items of an array, at the top. The last bit of a key says which
+ * of the two it is. So no index misses a document; those that it finds are always checked. */
+#include "paths.h"
+
+#include "access/gin.h"
+#include "access/stratnum.h"
+#include "miscadmin.h"
+
+/* The numbers of the operators, which are those of jsonb's operator classes. */
+enum { CONTAINS = 7, EXISTS = 9, EXISTS_ANY = 10, EXISTS_ALL = 11 };
+
+/* Each value takes an entry word, so a document of so many bytes has no more keys of a kind. */
+#define ENTRY_SIZE 4
+
+#define FNV_BASIS UINT64CONST(0xcbf29ce484222325)
+#define FNV_PRIME UINT64CONST(0x100000001b3)
+
+/* What is hashed before a name. No text in UTF-8 has this byte. */
+#define NAME_MARK 0xFF
+
+typedef struct Keys {
+    Datum *at;
+    size_t count;
+} Keys;
+
+StaticAssertDecl(sizeof(Datum) == sizeof(uint64_t), "an index key is a Datum");
+
+static Datum key_of_value(uint64_t hash) {
+    return UInt64GetDatum(hash & ~UINT64CONST(1));
+}
+
+/* FNV-1a of the mark and the name. */
+static Datum key_of_name(Bytes name) {
+    uint64 hash = (FNV_BASIS ^ NAME_MARK) * FNV_PRIME;
+    for (size_t i = 0; i < name.size; i++) hash = (hash ^ name.at[i]) * FNV_PRIME;
+    return UInt64GetDatum(hash | 1);
+}
+
+/* The keys of a document's values, with room for so many more. */
+static Keys keys_of_values(Bytes document, size_t more) {
+    size_t room = document.size / ENTRY_SIZE, depth = depth_of_size(document.size), count;
+    Datum *keys = MemoryContextAllocHuge(CurrentMemoryContext, (room + more) * sizeof *keys);
+    check_stack_for(stack_of_depth(depth));
+    uint32_t status = kohiblad_index_keys(document.at, document.size, depth, (uint64_t *)keys,
+                                          room, &count);
+    if (status != KOHIBLAD_OK) refuse(status, ERRCODE_DATA_CORRUPTED);
+    for (size_t i = 0; i < count; i++) keys[i] = key_of_value(keys[i]);
+    return (Keys){keys, count};
+}
+
+/* Appends a key for each key of an object, each text of an array, and a text itself. */
+static void append_names(Keys *keys, Bytes document) {
+    Part whole = part_of_document(document);
+    if (whole.type == KOHIBLAD_TYPE_STRING) keys->at[keys->count++] = key_of_name(whole.payload);
+    if (!is_container(whole)) return;
+    struct kohiblad_cursor cursor;
+    struct kohiblad_place key, value;
+    uint32_t status = kohiblad_begin(document.at, document.size, &cursor);
+    while (status == KOHIBLAD_OK) {
+        status = kohiblad_next(document.at, document.size, &cursor, &key, &value);
+        if (status != KOHIBLAD_OK) break;
+        if (key.status != KOHIBLAD_OK && value.type != KOHIBLAD_TYPE_STRING) continue;
+        Part name = part_at(document, key.status == KOHIBLAD_OK ? key : value);
+        keys->at[keys->count++] = key_of_name(name.payload);
+    }
+    if (status != KOHIBLAD_NONE) refuse(status, ERRCODE_DATA_CORRUPTED);
+}
+
+static Datum answer(Keys keys, int32 *count) {
+    *count = (int32)keys.count;
+    PG_RETURN_POINTER(keys.at);
+}
+
+PG_FUNCTION_INFO_V1(pg_kohiblad_gin_extract);
+Datum pg_kohiblad_gin_extract(PG_FUNCTION_ARGS) {
+    Bytes document = bytes_of(PG_GETARG_VARLENA_PP(0));
+    Keys keys = keys_of_values(document, document.size / ENTRY_SIZE);
+    append_names(&keys, document);
+    return answer(keys, (int32 *)PG_GETARG_POINTER(1));
+}
+
+PG_FUNCTION_INFO_V1(pg_kohiblad_gin_extract_values);
+Datum pg_kohiblad_gin_extract_values(PG_FUNCTION_ARGS) {
+    Bytes document = bytes_of(PG_GETARG_VARLENA_PP(0));
+    return answer(keys_of_values(document, 0), (int32 *)PG_GETARG_POINTER(1));
+}
+
+static Keys keys_of_names(ArrayType *array) {
+    TextPath names = elements_of_array(array);
+    Keys keys = {palloc(Max(names.count, 1) * sizeof(Datum)), 0};
+    for (int i = 0; i < names.count; i++) {
+        if (!names.nulls[i])
+            keys.at[keys.count++] = key_of_name(utf8_of_text(DatumGetTextPP(names.elements[i])));
+    }
+    return keys;
+}
+
+static Keys keys_of_query(FunctionCallInfo fcinfo, StrategyNumber strategy) {
+    if (strategy == CONTAINS) return keys_of_values(bytes_of(PG_GETARG_VARLENA_PP(0)), 0);
+    if (strategy != EXISTS) return keys_of_names(PG_GETARG_ARRAYTYPE_P(0));
+    Keys keys = {palloc(sizeof(Datum)), 1};
+    keys.at[0] = key_of_name(utf8_of_text(PG_GETARG_TEXT_PP(0)));
+    return keys;
+}
+
+/* What has no key, as {} or no name of all, may be in every document. */
+PG_FUNCTION_INFO_V1(pg_kohiblad_gin_extract_query);
+Datum pg_kohiblad_gin_extract_query(PG_FUNCTION_ARGS) {
+    StrategyNumber strategy = PG_GETARG_UINT16(2);
+    int32 *search_mode = (int32 *)PG_GETARG_POINTER(6);
+    Keys keys = keys_of_query(fcinfo, strategy);
+    if (keys.count == 0 && strategy != EXISTS_ANY) *search_mode = GIN_SEARCH_MODE_ALL;
+    return answer(keys, (int32 *)PG_GETARG_POINTER(1));
+}
+
+/* Whether a document may match that has some of the keys, by what is known of each: it needs one of
+ * them for ?|, and else all. */
+static bool may_match(const GinTernaryValue *has, int32 count, StrategyNumber strategy) {
+    bool needs_one = strategy == EXISTS_ANY;
+    for (int32 i = 0; i < count; i++)
+        if ((has[i] != GIN_FALSE) == needs_one) return needs_one;
+    return !needs_one;
+}
+
+PG_FUNCTION_INFO_V1(pg_kohiblad_gin_consistent);
+Datum pg_kohiblad_gin_consistent(PG_FUNCTION_ARGS) {
+    StaticAssertStmt(sizeof(bool) == sizeof(GinTernaryValue), "false and true are ternary values");
+    *(bool *)PG_GETARG_POINTER(5) = true;
+    PG_RETURN_BOOL(may_match((GinTernaryValue *)PG_GETARG_POINTER(0), PG_GETARG_INT32(3),
+                             PG_GETARG_UINT16(1)));
+}
+
+PG_FUNCTION_INFO_V1(pg_kohiblad_gin_triconsistent);
+Datum pg_kohiblad_gin_triconsistent(PG_FUNCTION_ARGS) {
+    bool matches = may_match((GinTernaryValue *)PG_GETARG_POINTER(0), PG_GETARG_INT32(3),
+                             PG_GETARG_UINT16(1));
+    PG_RETURN_GIN_TERNARY_VALUE(matches ? GIN_MAYBE : GIN_FALSE);
+}

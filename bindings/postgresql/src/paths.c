@@ -1,0 +1,115 @@
+#include "paths.h"
+
+#include "catalog/pg_type.h"
+#include "common/string.h"
+#include "utils/builtins.h"
+
+TextPath elements_of_array(ArrayType *array) {
+    TextPath path;
+    deconstruct_array(array, TEXTOID, -1, false, TYPALIGN_INT, &path.elements, &path.nulls,
+                      &path.count);
+    return path;
+}
+
+TextPath path_of_array(ArrayType *array) {
+    if (ARR_NDIM(array) > 1)
+        ereport(ERROR, (errcode(ERRCODE_ARRAY_SUBSCRIPT_ERROR),
+                        errmsg("kohiblad: a path has one dimension")));
+    return elements_of_array(array);
+}
+
+static bool is_null(TextPath path, int level) {
+    return path.nulls && path.nulls[level];
+}
+
+bool index_of_text(const text *element, int *index) {
+    char *digits = text_to_cstring(element), *end;
+    errno = 0;
+    *index = strtoint(digits, &end, 10);
+    bool is_index = end != digits && *end == 0 && errno == 0;
+    pfree(digits);
+    return is_index;
+}
+
+static bool is_found(struct kohiblad_place place, Bytes document, Part *child) {
+    if (place.status == KOHIBLAD_NONE) return false;
+    if (place.status != KOHIBLAD_OK) refuse(place.status, ERRCODE_DATA_CORRUPTED);
+    *child = part_at(document, place);
+    return true;
+}
+
+bool find_key(Bytes document, Bytes key, Part *child) {
+    return is_found(kohiblad_find(document.at, document.size, key.at, key.size), document, child);
+}
+
+bool find_index(Bytes document, int64 index, Part *child) {
+    struct kohiblad_value_kind kind = kind_of(document);
+    if (kind.kind != KOHIBLAD_ARRAY) return false;
+    if (index < 0) index += kind.count;
+    if (index < 0) return false;
+    return is_found(kohiblad_part(document.at, document.size, index), document, child);
+}
+
+/* Finds what an element of a path names. */
+static bool find_step(Bytes container, const text *element, Part *child) {
+    if (kind_of(container).kind != KOHIBLAD_ARRAY)
+        return find_key(container, utf8_of_text(element), child);
+    int index;
+    return index_of_text(element, &index) && find_index(container, index, child);
+}
+
+bool find_path(Bytes document, TextPath path, Part *child) {
+    *child = part_of_document(document);
+    for (int i = 0; i < path.count; i++) {
+        if (is_null(path, i) || !is_container(*child)) return false;
+        if (!find_step(child->payload, DatumGetTextPP(path.elements[i]), child)) return false;
+    }
+    return true;
+}
+
+static int needed_index(const text *element, int level) {
+    int index;
+    if (!index_of_text(element, &index))
+        ereport(ERROR, (errcode(ERRCODE_INVALID_TEXT_REPRESENTATION),
+                        errmsg("kohiblad: path element at position %d is not an integer: \"%s\"",
+                               level + 1, text_to_cstring(element))));
+    return index;
+}
+
+/* Looks up the element at the end in its container. */
+static void look_up(TextPath path, PathEnd *end) {
+    const text *element = DatumGetTextPP(path.elements[end->level]);
+    Bytes container = end->container.payload;
+    struct kohiblad_value_kind kind = kind_of(container);
+    end->is_array = kind.kind == KOHIBLAD_ARRAY;
+    end->count = kind.count;
+    if (end->is_array) {
+        end->index = needed_index(element, end->level);
+        end->is_there = find_index(container, end->index, &end->child);
+    } else {
+        end->key = utf8_of_text(element);
+        end->is_there = find_key(container, end->key, &end->child);
+    }
+}
+
+static void add_step(PathEnd *end) {
+    if (end->is_array)
+        add_int64(end->steps, end->index);
+    else
+        add_text(end->steps, end->key);
+}
+
+bool follow_path(Bytes document, TextPath path, PathEnd *end) {
+    *end = (PathEnd){.container = part_of_document(document), .steps = new_rows()};
+    for (;; end->level++) {
+        if (is_null(path, end->level))
+            ereport(ERROR, (errcode(ERRCODE_NULL_VALUE_NOT_ALLOWED),
+                            errmsg("kohiblad: path element at position %d is null",
+                                   end->level + 1)));
+        if (!is_container(end->container)) return false;
+        look_up(path, end);
+        if (end->level == path.count - 1 || !end->is_there) return true;
+        add_step(end);
+        end->container = end->child;
+    }
+}

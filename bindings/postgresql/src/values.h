@@ -1,0 +1,18 @@
+/* SQL values as documents, as to_jsonb has them. */
+#ifndef PG_KOHIBLAD_VALUES_H
+#define PG_KOHIBLAD_VALUES_H
+
+#include "rows.h"
+
+#pragma GCC visibility push(hidden)
+
+/* The SQL type of documents: it is in the schema of the extension's functions. */
+extern Oid type_of_documents(FunctionCallInfo fcinfo);
+
+/* Adds the document of a value of a type, or a value as a key. Null is null of JSON, and no key. */
+extern void add_value(Rows *rows, Datum value, bool is_null, Oid type, Oid documents);
+extern void add_key(Rows *rows, Datum value, bool is_null, Oid type, Oid documents);
+
+#pragma GCC visibility pop
+
+#endif

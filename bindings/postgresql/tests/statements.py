@@ -1,0 +1,205 @@
+#!/usr/bin/env python3
+"""Asks PostgreSQL's own statements on jsonb of the type kohiblad, and compares the answers.
+
+    bindings/postgresql/tests/statements.sh [FOLDER]
+
+The statements are those of src/test/regress/sql/jsonb.sql in Debian's source package of the server,
+which tests/peers/run.py downloads into FOLDER, or into a scratch folder; without it they are passed
+over. Each is run in a session that has jsonb, and with `kohiblad` in place of `jsonb`, in another;
+the server is the one that PGHOST and PGUSER name, and PSQL is its client.
+
+Two answers are the same if both are errors with one SQLSTATE, or have the same rows in any order.
+Values are compared as JSON where both are JSON, also inside of arrays and records. Statements whose
+answers cannot be the same are left out by name (LEFT_OUT). The last line has the counts.
+
+    --list    prints each statement whose answers differ, with both
+"""
+import collections
+import csv
+import decimal
+import glob
+import io
+import json
+import os
+import re
+import subprocess
+import sys
+import tarfile
+import tempfile
+
+sys.path.insert(0, os.path.join(os.path.dirname(__file__), "../../../tests/peers"))
+import run as peers  # noqa: E402
+
+# What a statement that is left out has in it, and why it is.
+LEFT_OUT = {
+    r"tsvector|tsquery": "full text search",
+    r"'1(\.3)?e100'|'12345\.0{45}5'": "a number past the format's 128 bits",
+}
+REGRESS = "src/test/regress"
+MARK = "-- statement"
+FIELD_ENDS = {"(": ")", "{": "}"}
+
+
+def statements_of(text):
+    """The statements of a script, without psql's own commands, which stand on lines."""
+    token = re.compile(
+        r"--[^\n]*|'(?:[^']|'')*'|\"[^\"]*\"|\$(\w*)\$.*?\$\1\$|^\\[^\n]*|;|.", re.S | re.M)
+    found, now = [], ""
+    for match in token.finditer(text):
+        part = match[0]
+        if part.startswith("--") or (part.startswith("\\") and not now.strip()):
+            continue
+        if part == ";":
+            found.append(now.strip())
+            now = ""
+        else:
+            now += part
+    return found
+
+
+def fields_of(text):
+    """The fields of a record or an array in text, or `None` if it is neither."""
+    if len(text) < 2 or FIELD_ENDS.get(text[0]) != text[-1]:
+        return None
+    fields, now, quoted, in_quotes, i = [], "", False, False, 1
+    while i < len(text) - 1:
+        char = text[i]
+        if char == "\\" and i + 1 < len(text) - 1:
+            now += text[i + 1]
+            i += 1
+        elif char == '"' and in_quotes and text[0] == "(" and text[i + 1] == '"':
+            now += '"'
+            i += 1
+        elif char == '"':
+            in_quotes = not in_quotes
+            quoted = True
+        elif char == "," and not in_quotes:
+            fields.append((quoted, now))
+            now, quoted = "", False
+        else:
+            now += char
+        i += 1
+    return fields + [(quoted, now)]
+
+
+def frozen(value):
+    """A value of JSON in a form that can be compared: numbers by their value, objects unordered."""
+    if isinstance(value, dict):
+        return ("object", tuple(sorted((key, frozen(it)) for key, it in value.items())))
+    if isinstance(value, list):
+        return ("array", tuple(frozen(it) for it in value))
+    if isinstance(value, bool) or value is None:
+        return ("word", str(value))
+    if isinstance(value, str):
+        return ("string", value)
+    return ("number", str(decimal.Decimal(value).normalize()))
+
+
+def meaning(text, depth=0):
+    """What is compared of a value: its JSON, else its fields, else its text."""
+    try:
+        return frozen(json.loads(text, parse_float=decimal.Decimal, parse_int=decimal.Decimal))
+    except (ValueError, decimal.DecimalException):
+        fields = fields_of(text) if depth < 9 else None
+        if fields is None:
+            return ("text", text)
+        return ("fields", text[0], tuple((q, meaning(it, depth + 1)) for q, it in fields))
+
+
+class Answer:
+    """What the server says to a statement."""
+
+    def __init__(self, state, output):
+        self.state = state
+        self.output = output
+        rows = csv.reader(io.StringIO(output))
+        self.rows = collections.Counter(repr(tuple(meaning(it) for it in row)) for row in rows)
+
+    def is_same(self, other):
+        """Whether both are the same error, or the same rows."""
+        if self.state != "00000" or other.state != "00000":
+            return self.state == other.state
+        return self.rows == other.rows
+
+    def __str__(self):
+        return self.state if self.state != "00000" else self.output.strip()
+
+
+def ask(statements, data, database):
+    """The answers to statements, in one session."""
+    lines = ["\\set VERBOSITY sqlstate", "\\pset null <NULL>"]
+    for number, statement in enumerate(statements):
+        lines.append(statement.replace(":'filename'", "STDIN") + ";")
+        if statement.startswith("COPY"):
+            lines.append(data.rstrip("\n") + "\n\\.")
+        lines.append(f"\\echo '{MARK}' {number} :SQLSTATE")
+    run = subprocess.run(
+        [os.environ.get("PSQL", "psql"), "-XqAt", "--csv", "-d", database],
+        input="\n".join(lines) + "\n", capture_output=True, check=False, encoding="utf-8",
+        env={**os.environ, "PGOPTIONS": "-c datestyle=postgres,mdy -c timezone=PST8PDT",
+             "PGCLIENTENCODING": "UTF8"})
+    answers, output = [], ""
+    for line in io.StringIO(run.stdout):
+        if line.startswith(MARK):
+            answers.append(Answer(line.split()[-1], output))
+            output = ""
+        else:
+            output += line
+    if len(answers) != len(statements):
+        raise SystemExit(f"the server broke down after {statements[len(answers)]}\n{run.stderr}")
+    return answers
+
+
+def reason_of(statement):
+    """Why a statement is left out, or `None`."""
+    return next((why for what, why in LEFT_OUT.items() if re.search(what, statement)), None)
+
+
+def files_of(folder):
+    """The script and its data, or `None` if the package cannot be had."""
+    for archive in peers.download("postgresql-15", folder):
+        with tarfile.open(archive) as tar:
+            wanted = {}
+            for member in tar:
+                for name in ("sql/jsonb.sql", "data/jsonb.data"):
+                    if member.name.endswith(f"{REGRESS}/{name}"):
+                        wanted[name] = tar.extractfile(member).read().decode()
+                if len(wanted) == 2:
+                    return wanted["sql/jsonb.sql"], wanted["data/jsonb.data"]
+    return None
+
+
+def compare(folder, lists):
+    """Prints what differs, and the counts."""
+    files = files_of(folder)
+    if not files:
+        print("passed over: Debian's source package postgresql-15 cannot be had")
+        return 77
+    statements = statements_of(files[0])
+    of_jsonb = ask(statements, files[1], "of_jsonb")
+    changed = [it.replace("jsonb", "kohiblad") for it in statements]
+    of_kohiblad = ask(changed, files[1], "of_kohiblad")
+    counts = collections.Counter()
+    for statement, wanted, given in zip(changed, of_jsonb, of_kohiblad):
+        reason = reason_of(statement)
+        wanted = Answer(wanted.state, wanted.output.replace("jsonb", "kohiblad"))
+        kind = f"left out: {reason}" if reason else "same" if wanted.is_same(given) else "differ"
+        counts[kind] += 1
+        if lists and kind == "differ":
+            print(f"-- {statement}\n   jsonb:    {wanted}\n   kohiblad: {given}")
+    for kind in sorted(counts):
+        if kind.startswith("left out"):
+            print(f"{counts[kind]} {kind}")
+    print(f"{len(statements)} statements, {counts['same']} the same, {counts['differ']} differ")
+    return 0
+
+
+def main():
+    """Takes the arguments."""
+    given = [it for it in sys.argv[1:] if it != "--list"]
+    with tempfile.TemporaryDirectory() as scratch:
+        return compare(given[0] if given else scratch, "--list" in sys.argv)
+
+
+if __name__ == "__main__":
+    sys.exit(main())
