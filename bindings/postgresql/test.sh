@@ -203,6 +203,11 @@ run_script access
 run_script order
 run_script casts
 run_script minmax
+run_script functions
+run_script subscripts
+run_script records
+run_script random
+run_script gin
 run_script damaged
 run_copies
 run_partitions

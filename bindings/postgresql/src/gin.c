@@ -2,8 +2,8 @@
  *
  * Keys of values are those of kohiblad_index_keys, of which it is proved that a document has those
  * of each document that it contains. Keys of names are for ?, ?| and ?&: a hash of each key of an
- * object, and of each text among the items of an array, at the top. The last bit of a key says which
- * of the two it is. So no index misses a document; those that it finds are always checked. */
+ * object, and of each text among the items of an array, at the top. The last bit of a key says
+ * which of the two it is. So no index misses a document; those that it finds are all checked. */
 #include "paths.h"
 
 #include "access/gin.h"
