@@ -156,7 +156,71 @@ CREATE OPERATOR ?& (
     RESTRICT = matchingsel, JOIN = matchingjoinsel
 );
 
--- Indexes for them: of all four operators, or of @> alone, which takes less room.
+-- Paths of SQL/JSON, by the server's functions over a jsonb of the document.
+
+CREATE FUNCTION kohiblad_path_exists(target kohiblad, path jsonpath, vars kohiblad DEFAULT '{}',
+    silent bool DEFAULT false) RETURNS bool
+AS 'MODULE_PATHNAME', 'pg_kohiblad_path_exists' LANGUAGE C STRICT IMMUTABLE PARALLEL SAFE COST 20;
+
+CREATE FUNCTION kohiblad_path_exists_tz(target kohiblad, path jsonpath,
+    vars kohiblad DEFAULT '{}', silent bool DEFAULT false) RETURNS bool
+AS 'MODULE_PATHNAME', 'pg_kohiblad_path_exists_tz' LANGUAGE C STRICT STABLE PARALLEL SAFE COST 20;
+
+CREATE FUNCTION kohiblad_path_match(target kohiblad, path jsonpath, vars kohiblad DEFAULT '{}',
+    silent bool DEFAULT false) RETURNS bool
+AS 'MODULE_PATHNAME', 'pg_kohiblad_path_match' LANGUAGE C STRICT IMMUTABLE PARALLEL SAFE COST 20;
+
+CREATE FUNCTION kohiblad_path_match_tz(target kohiblad, path jsonpath,
+    vars kohiblad DEFAULT '{}', silent bool DEFAULT false) RETURNS bool
+AS 'MODULE_PATHNAME', 'pg_kohiblad_path_match_tz' LANGUAGE C STRICT STABLE PARALLEL SAFE COST 20;
+
+CREATE FUNCTION kohiblad_path_query(target kohiblad, path jsonpath, vars kohiblad DEFAULT '{}',
+    silent bool DEFAULT false) RETURNS SETOF kohiblad
+AS 'MODULE_PATHNAME', 'pg_kohiblad_path_query' LANGUAGE C STRICT IMMUTABLE PARALLEL SAFE COST 20;
+
+CREATE FUNCTION kohiblad_path_query_tz(target kohiblad, path jsonpath,
+    vars kohiblad DEFAULT '{}', silent bool DEFAULT false) RETURNS SETOF kohiblad
+AS 'MODULE_PATHNAME', 'pg_kohiblad_path_query_tz' LANGUAGE C STRICT STABLE PARALLEL SAFE COST 20;
+
+CREATE FUNCTION kohiblad_path_query_array(target kohiblad, path jsonpath,
+    vars kohiblad DEFAULT '{}', silent bool DEFAULT false) RETURNS kohiblad
+AS 'MODULE_PATHNAME',
+    'pg_kohiblad_path_query_array' LANGUAGE C STRICT IMMUTABLE PARALLEL SAFE COST 20;
+
+CREATE FUNCTION kohiblad_path_query_array_tz(target kohiblad, path jsonpath,
+    vars kohiblad DEFAULT '{}', silent bool DEFAULT false) RETURNS kohiblad
+AS 'MODULE_PATHNAME',
+    'pg_kohiblad_path_query_array_tz' LANGUAGE C STRICT STABLE PARALLEL SAFE COST 20;
+
+CREATE FUNCTION kohiblad_path_query_first(target kohiblad, path jsonpath,
+    vars kohiblad DEFAULT '{}', silent bool DEFAULT false) RETURNS kohiblad
+AS 'MODULE_PATHNAME',
+    'pg_kohiblad_path_query_first' LANGUAGE C STRICT IMMUTABLE PARALLEL SAFE COST 20;
+
+CREATE FUNCTION kohiblad_path_query_first_tz(target kohiblad, path jsonpath,
+    vars kohiblad DEFAULT '{}', silent bool DEFAULT false) RETURNS kohiblad
+AS 'MODULE_PATHNAME',
+    'pg_kohiblad_path_query_first_tz' LANGUAGE C STRICT STABLE PARALLEL SAFE COST 20;
+
+CREATE FUNCTION kohiblad_path_exists_opr(kohiblad, jsonpath) RETURNS bool
+AS 'MODULE_PATHNAME',
+    'pg_kohiblad_path_exists_opr' LANGUAGE C STRICT IMMUTABLE PARALLEL SAFE COST 20;
+
+CREATE FUNCTION kohiblad_path_match_opr(kohiblad, jsonpath) RETURNS bool
+AS 'MODULE_PATHNAME',
+    'pg_kohiblad_path_match_opr' LANGUAGE C STRICT IMMUTABLE PARALLEL SAFE COST 20;
+
+CREATE OPERATOR @? (
+    LEFTARG = kohiblad, RIGHTARG = jsonpath, FUNCTION = kohiblad_path_exists_opr,
+    RESTRICT = matchingsel, JOIN = matchingjoinsel
+);
+
+CREATE OPERATOR @@ (
+    LEFTARG = kohiblad, RIGHTARG = jsonpath, FUNCTION = kohiblad_path_match_opr,
+    RESTRICT = matchingsel, JOIN = matchingjoinsel
+);
+
+-- Indexes for them: of all operators, or without those of keys that exist, which takes less room.
 
 CREATE FUNCTION kohiblad_gin_extract(kohiblad, internal, internal) RETURNS internal
 AS 'MODULE_PATHNAME', 'pg_kohiblad_gin_extract' LANGUAGE C STRICT IMMUTABLE PARALLEL SAFE;
@@ -178,7 +242,8 @@ AS 'MODULE_PATHNAME', 'pg_kohiblad_gin_triconsistent' LANGUAGE C STRICT IMMUTABL
 
 CREATE OPERATOR CLASS kohiblad_ops DEFAULT FOR TYPE kohiblad USING gin AS
     OPERATOR 7 @>, OPERATOR 9 ?(kohiblad, text), OPERATOR 10 ?|(kohiblad, text[]),
-    OPERATOR 11 ?&(kohiblad, text[]),
+    OPERATOR 11 ?&(kohiblad, text[]), OPERATOR 15 @?(kohiblad, jsonpath),
+    OPERATOR 16 @@(kohiblad, jsonpath),
     FUNCTION 1 btint8cmp(int8, int8),
     FUNCTION 2 kohiblad_gin_extract(kohiblad, internal, internal),
     FUNCTION 3 kohiblad_gin_extract_query(kohiblad, internal, int2, internal, internal, internal,
@@ -190,7 +255,7 @@ CREATE OPERATOR CLASS kohiblad_ops DEFAULT FOR TYPE kohiblad USING gin AS
     STORAGE int8;
 
 CREATE OPERATOR CLASS kohiblad_path_ops FOR TYPE kohiblad USING gin AS
-    OPERATOR 7 @>,
+    OPERATOR 7 @>, OPERATOR 15 @?(kohiblad, jsonpath), OPERATOR 16 @@(kohiblad, jsonpath),
     FUNCTION 1 btint8cmp(int8, int8),
     FUNCTION 2 kohiblad_gin_extract_values(kohiblad, internal, internal),
     FUNCTION 3 kohiblad_gin_extract_query(kohiblad, internal, int2, internal, internal, internal,
@@ -319,70 +384,6 @@ AS 'MODULE_PATHNAME', 'pg_kohiblad_to_record' LANGUAGE C STRICT STABLE PARALLEL 
 CREATE FUNCTION kohiblad_to_recordset(from_kohiblad kohiblad) RETURNS SETOF record
 AS 'MODULE_PATHNAME',
     'pg_kohiblad_to_recordset' LANGUAGE C STRICT STABLE PARALLEL SAFE COST 10 ROWS 100;
-
--- Paths of SQL/JSON, by the server's functions over a jsonb of the document.
-
-CREATE FUNCTION kohiblad_path_exists(target kohiblad, path jsonpath, vars kohiblad DEFAULT '{}',
-    silent bool DEFAULT false) RETURNS bool
-AS 'MODULE_PATHNAME', 'pg_kohiblad_path_exists' LANGUAGE C STRICT IMMUTABLE PARALLEL SAFE COST 20;
-
-CREATE FUNCTION kohiblad_path_exists_tz(target kohiblad, path jsonpath,
-    vars kohiblad DEFAULT '{}', silent bool DEFAULT false) RETURNS bool
-AS 'MODULE_PATHNAME', 'pg_kohiblad_path_exists_tz' LANGUAGE C STRICT STABLE PARALLEL SAFE COST 20;
-
-CREATE FUNCTION kohiblad_path_match(target kohiblad, path jsonpath, vars kohiblad DEFAULT '{}',
-    silent bool DEFAULT false) RETURNS bool
-AS 'MODULE_PATHNAME', 'pg_kohiblad_path_match' LANGUAGE C STRICT IMMUTABLE PARALLEL SAFE COST 20;
-
-CREATE FUNCTION kohiblad_path_match_tz(target kohiblad, path jsonpath,
-    vars kohiblad DEFAULT '{}', silent bool DEFAULT false) RETURNS bool
-AS 'MODULE_PATHNAME', 'pg_kohiblad_path_match_tz' LANGUAGE C STRICT STABLE PARALLEL SAFE COST 20;
-
-CREATE FUNCTION kohiblad_path_query(target kohiblad, path jsonpath, vars kohiblad DEFAULT '{}',
-    silent bool DEFAULT false) RETURNS SETOF kohiblad
-AS 'MODULE_PATHNAME', 'pg_kohiblad_path_query' LANGUAGE C STRICT IMMUTABLE PARALLEL SAFE COST 20;
-
-CREATE FUNCTION kohiblad_path_query_tz(target kohiblad, path jsonpath,
-    vars kohiblad DEFAULT '{}', silent bool DEFAULT false) RETURNS SETOF kohiblad
-AS 'MODULE_PATHNAME', 'pg_kohiblad_path_query_tz' LANGUAGE C STRICT STABLE PARALLEL SAFE COST 20;
-
-CREATE FUNCTION kohiblad_path_query_array(target kohiblad, path jsonpath,
-    vars kohiblad DEFAULT '{}', silent bool DEFAULT false) RETURNS kohiblad
-AS 'MODULE_PATHNAME',
-    'pg_kohiblad_path_query_array' LANGUAGE C STRICT IMMUTABLE PARALLEL SAFE COST 20;
-
-CREATE FUNCTION kohiblad_path_query_array_tz(target kohiblad, path jsonpath,
-    vars kohiblad DEFAULT '{}', silent bool DEFAULT false) RETURNS kohiblad
-AS 'MODULE_PATHNAME',
-    'pg_kohiblad_path_query_array_tz' LANGUAGE C STRICT STABLE PARALLEL SAFE COST 20;
-
-CREATE FUNCTION kohiblad_path_query_first(target kohiblad, path jsonpath,
-    vars kohiblad DEFAULT '{}', silent bool DEFAULT false) RETURNS kohiblad
-AS 'MODULE_PATHNAME',
-    'pg_kohiblad_path_query_first' LANGUAGE C STRICT IMMUTABLE PARALLEL SAFE COST 20;
-
-CREATE FUNCTION kohiblad_path_query_first_tz(target kohiblad, path jsonpath,
-    vars kohiblad DEFAULT '{}', silent bool DEFAULT false) RETURNS kohiblad
-AS 'MODULE_PATHNAME',
-    'pg_kohiblad_path_query_first_tz' LANGUAGE C STRICT STABLE PARALLEL SAFE COST 20;
-
-CREATE FUNCTION kohiblad_path_exists_opr(kohiblad, jsonpath) RETURNS bool
-AS 'MODULE_PATHNAME',
-    'pg_kohiblad_path_exists_opr' LANGUAGE C STRICT IMMUTABLE PARALLEL SAFE COST 20;
-
-CREATE FUNCTION kohiblad_path_match_opr(kohiblad, jsonpath) RETURNS bool
-AS 'MODULE_PATHNAME',
-    'pg_kohiblad_path_match_opr' LANGUAGE C STRICT IMMUTABLE PARALLEL SAFE COST 20;
-
-CREATE OPERATOR @? (
-    LEFTARG = kohiblad, RIGHTARG = jsonpath, FUNCTION = kohiblad_path_exists_opr,
-    RESTRICT = matchingsel, JOIN = matchingjoinsel
-);
-
-CREATE OPERATOR @@ (
-    LEFTARG = kohiblad, RIGHTARG = jsonpath, FUNCTION = kohiblad_path_match_opr,
-    RESTRICT = matchingsel, JOIN = matchingjoinsel
-);
 
 -- Aggregates of any values, whose workers join their rows.
 

@@ -105,6 +105,9 @@ static inline size_t room_of_part(Part part) {
 }
 extern Bytes write_part(Part part, uint8_t *out, size_t room);
 
+/* Whether a document is an extension value or holds one. */
+extern bool holds_extension(Bytes document);
+
 /* The compact text of a document. That of a part is that of a string without its quotes, and NULL
  * for null. */
 extern text *compact_text(Bytes document);

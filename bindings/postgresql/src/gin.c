@@ -4,14 +4,21 @@
  * of each document that it contains. Keys of names are for ?, ?| and ?&: a hash of each key of an
  * object, and of each text among the items of an array, at the top. The last bit of a key says
  * which of the two it is. So no index misses a document; those that it finds are all checked. */
+#include "gin.h"
 #include "paths.h"
 
 #include "access/gin.h"
 #include "access/stratnum.h"
-#include "miscadmin.h"
 
 /* The numbers of the operators, which are those of jsonb's operator classes. */
-enum { CONTAINS = 7, EXISTS = 9, EXISTS_ANY = 10, EXISTS_ALL = 11 };
+enum {
+    CONTAINS = 7,
+    EXISTS = 9,
+    EXISTS_ANY = 10,
+    EXISTS_ALL = 11,
+    PATH_EXISTS = 15,
+    PATH_MATCHES = 16
+};
 
 /* Each value takes an entry word, so a document of so many bytes has no more keys of a kind. */
 #define ENTRY_SIZE 4
@@ -21,11 +28,6 @@ enum { CONTAINS = 7, EXISTS = 9, EXISTS_ANY = 10, EXISTS_ALL = 11 };
 
 /* What is hashed before a name. No text in UTF-8 has this byte. */
 #define NAME_MARK 0xFF
-
-typedef struct Keys {
-    Datum *at;
-    size_t count;
-} Keys;
 
 StaticAssertDecl(sizeof(Datum) == sizeof(uint64_t), "an index key is a Datum");
 
@@ -40,22 +42,48 @@ static Datum key_of_name(Bytes name) {
     return UInt64GetDatum(hash | 1);
 }
 
-/* The keys of a document's values, with room for so many more. */
-static Keys keys_of_values(Bytes document, size_t more) {
+/* Makes room for so many keys more. */
+static void make_room(Keys *keys, size_t more) {
+    size_t room = keys->count + more;
+    if (keys->at && room <= keys->room) return;
+    keys->room = Max(room, 2 * keys->room);
+    size_t size = Max(keys->room, 1) * sizeof *keys->at;
+    keys->at = keys->at ? repalloc_huge(keys->at, size)
+                        : MemoryContextAllocHuge(CurrentMemoryContext, size);
+}
+
+void append_values(Keys *keys, Bytes document) {
     size_t room = document.size / ENTRY_SIZE, depth = depth_of_size(document.size), count;
-    Datum *keys = MemoryContextAllocHuge(CurrentMemoryContext, (room + more) * sizeof *keys);
+    make_room(keys, room);
+    Datum *out = keys->at + keys->count;
     check_stack_for(stack_of_depth(depth));
-    uint32_t status = kohiblad_index_keys(document.at, document.size, depth, (uint64_t *)keys,
-                                          room, &count);
+    uint32_t status = kohiblad_index_keys(document.at, document.size, depth, (uint64_t *)out, room,
+                                          &count);
     if (status != KOHIBLAD_OK) refuse(status, ERRCODE_DATA_CORRUPTED);
-    for (size_t i = 0; i < count; i++) keys[i] = key_of_value(keys[i]);
-    return (Keys){keys, count};
+    for (size_t i = 0; i < count; i++) out[i] = key_of_value(out[i]);
+    keys->count += count;
+}
+
+/* Appends the keys of a document's values, and those of extension values as the texts that they are
+ * to a path of SQL/JSON. */
+static void append_shown_values(Keys *keys, Bytes document) {
+    append_values(keys, document);
+    if (!holds_extension(document)) return;
+    size_t length;
+    char *shown = write_after(0, kohiblad_to_string_within, document, 2 * document.size,
+                              ERRCODE_DATA_CORRUPTED, &length);
+    append_values(keys, bytes_of(document_of_json((Bytes){(uint8_t *)shown, length})));
+}
+
+static void append_name(Keys *keys, Bytes name) {
+    make_room(keys, 1);
+    keys->at[keys->count++] = key_of_name(name);
 }
 
 /* Appends a key for each key of an object, each text of an array, and a text itself. */
 static void append_names(Keys *keys, Bytes document) {
     Part whole = part_of_document(document);
-    if (whole.type == KOHIBLAD_TYPE_STRING) keys->at[keys->count++] = key_of_name(whole.payload);
+    if (whole.type == KOHIBLAD_TYPE_STRING) append_name(keys, whole.payload);
     if (!is_container(whole)) return;
     struct kohiblad_cursor cursor;
     struct kohiblad_place key, value;
@@ -64,46 +92,48 @@ static void append_names(Keys *keys, Bytes document) {
         status = kohiblad_next(document.at, document.size, &cursor, &key, &value);
         if (status != KOHIBLAD_OK) break;
         if (key.status != KOHIBLAD_OK && value.type != KOHIBLAD_TYPE_STRING) continue;
-        Part name = part_at(document, key.status == KOHIBLAD_OK ? key : value);
-        keys->at[keys->count++] = key_of_name(name.payload);
+        append_name(keys, part_at(document, key.status == KOHIBLAD_OK ? key : value).payload);
     }
     if (status != KOHIBLAD_NONE) refuse(status, ERRCODE_DATA_CORRUPTED);
 }
 
-static Datum answer(Keys keys, int32 *count) {
-    *count = (int32)keys.count;
-    PG_RETURN_POINTER(keys.at);
+static Datum answer(const Keys *keys, int32 *count) {
+    *count = (int32)keys->count;
+    PG_RETURN_POINTER(keys->at);
 }
 
 PG_FUNCTION_INFO_V1(pg_kohiblad_gin_extract);
 Datum pg_kohiblad_gin_extract(PG_FUNCTION_ARGS) {
     Bytes document = bytes_of(PG_GETARG_VARLENA_PP(0));
-    Keys keys = keys_of_values(document, document.size / ENTRY_SIZE);
+    Keys keys = {0};
+    append_shown_values(&keys, document);
     append_names(&keys, document);
-    return answer(keys, (int32 *)PG_GETARG_POINTER(1));
+    return answer(&keys, (int32 *)PG_GETARG_POINTER(1));
 }
 
 PG_FUNCTION_INFO_V1(pg_kohiblad_gin_extract_values);
 Datum pg_kohiblad_gin_extract_values(PG_FUNCTION_ARGS) {
-    Bytes document = bytes_of(PG_GETARG_VARLENA_PP(0));
-    return answer(keys_of_values(document, 0), (int32 *)PG_GETARG_POINTER(1));
+    Keys keys = {0};
+    append_shown_values(&keys, bytes_of(PG_GETARG_VARLENA_PP(0)));
+    return answer(&keys, (int32 *)PG_GETARG_POINTER(1));
 }
 
-static Keys keys_of_names(ArrayType *array) {
+static void append_given_names(Keys *keys, ArrayType *array) {
     TextPath names = elements_of_array(array);
-    Keys keys = {palloc(Max(names.count, 1) * sizeof(Datum)), 0};
-    for (int i = 0; i < names.count; i++) {
+    for (int i = 0; i < names.count; i++)
         if (!names.nulls[i])
-            keys.at[keys.count++] = key_of_name(utf8_of_text(DatumGetTextPP(names.elements[i])));
-    }
-    return keys;
+            append_name(keys, utf8_of_text(DatumGetTextPP(names.elements[i])));
 }
 
 static Keys keys_of_query(FunctionCallInfo fcinfo, StrategyNumber strategy) {
-    if (strategy == CONTAINS) return keys_of_values(bytes_of(PG_GETARG_VARLENA_PP(0)), 0);
-    if (strategy != EXISTS) return keys_of_names(PG_GETARG_ARRAYTYPE_P(0));
-    Keys keys = {palloc(sizeof(Datum)), 1};
-    keys.at[0] = key_of_name(utf8_of_text(PG_GETARG_TEXT_PP(0)));
+    Keys keys = {0};
+    switch (strategy) {
+        case CONTAINS: append_values(&keys, bytes_of(PG_GETARG_VARLENA_PP(0))); break;
+        case EXISTS: append_name(&keys, utf8_of_text(PG_GETARG_TEXT_PP(0))); break;
+        case PATH_EXISTS: append_keys_of_path(&keys, PG_GETARG_JSONPATH_P(0)); break;
+        case PATH_MATCHES: append_keys_of_predicate(&keys, PG_GETARG_JSONPATH_P(0)); break;
+        default: append_given_names(&keys, PG_GETARG_ARRAYTYPE_P(0)); break;
+    }
     return keys;
 }
 
@@ -114,7 +144,7 @@ Datum pg_kohiblad_gin_extract_query(PG_FUNCTION_ARGS) {
     int32 *search_mode = (int32 *)PG_GETARG_POINTER(6);
     Keys keys = keys_of_query(fcinfo, strategy);
     if (keys.count == 0 && strategy != EXISTS_ANY) *search_mode = GIN_SEARCH_MODE_ALL;
-    return answer(keys, (int32 *)PG_GETARG_POINTER(1));
+    return answer(&keys, (int32 *)PG_GETARG_POINTER(1));
 }
 
 /* Whether a document may match that has some of the keys, by what is known of each: it needs one of

@@ -43,7 +43,8 @@ extern bool find_index(Bytes document, int64 index, Part *child);
 extern bool find_path(Bytes document, TextPath path, Part *child);
 
 /* Follows a path, which has an element, as far as it leads but for its last element. False if it
- * leads to a scalar before its end. Refuses a null element, and in an array one that is no index. */
+ * leads to a scalar before its end. Refuses a null element, and for an array one that is no
+ * index. */
 extern bool follow_path(Bytes document, TextPath path, PathEnd *end);
 
 #pragma GCC visibility pop

@@ -88,7 +88,7 @@ static bool finds_extension(Part part) {
 
 /* Few documents need the walk: unless there are payloads of 2^24 bytes, the entry word of an
  * extension value begins with the byte of its type, which is rare in texts and small numbers. */
-static bool holds_extension(Bytes document) {
+bool holds_extension(Bytes document) {
     if (document.size < 1 << 24 &&
         !memchr(document.at, KOHIBLAD_TYPE_EXTENSION >> 24, document.size))
         return false;

@@ -3,7 +3,9 @@
 CREATE TABLE found AS SELECT i, random_text(3)::kohiblad AS d FROM generate_series(1, 4000) i;
 INSERT INTO found VALUES (0, NULL), (-1, '\x20000000600000051000000001'),
     (-2, '[1,"2026"]'::kohiblad || '\x20000000600000051000000001'::kohiblad),
-    (-3, ('["' || repeat('long ', 100000) || '"]')::kohiblad);
+    (-3, ('["' || repeat('long ', 100000) || '"]')::kohiblad),
+    (-4, kohiblad_build_object('a', '\x20000000600000051000000001'::kohiblad)),
+    (-5, kohiblad_build_array('\x20000000600000051000000001'::kohiblad));
 CREATE INDEX found_d ON found USING gin (d);
 CREATE INDEX found_path ON found USING gin ((d -> 'a') kohiblad_path_ops);
 ANALYZE found;
@@ -33,12 +35,38 @@ BEGIN
     EXECUTE 'SELECT array_agg(i ORDER BY i)::text FROM found WHERE ' || condition INTO result;
     RETURN result;
 END $$;
+-- A random predicate of SQL/JSON over $ or @, and a path with such a filter.
+CREATE FUNCTION random_predicate(start text, depth int) RETURNS text LANGUAGE plpgsql VOLATILE AS $$
+DECLARE
+    steps text := start || one_of('{.a,.b,.a.b,.a[*],[0],[*],.\"é\",.*,.\"0\","",.a[0].b,.**}');
+    scalar text := one_of('{1,1.0,2,null,true,\"a\",\"\",\"1\",-3,1.5,1e200}');
+BEGIN
+    RETURN CASE floor(random() * CASE WHEN depth = 0 THEN 3 ELSE 9 END)::int
+        WHEN 0 THEN steps || ' == ' || scalar
+        WHEN 1 THEN scalar || ' == ' || steps
+        WHEN 2 THEN steps || one_of('{.type() == \"number\",.size() == 1," > 1"," != 1"}')
+        WHEN 3 THEN random_predicate(start, 0) || ' && ' || random_predicate(start, 0)
+        WHEN 4 THEN random_predicate(start, 0) || ' || ' || random_predicate(start, 0)
+        WHEN 5 THEN '!(' || random_predicate(start, 0) || ')'
+        WHEN 6 THEN 'exists(' || steps || ')'
+        WHEN 7 THEN 'exists(' || steps || ' ? (' || random_predicate('@', depth - 1) || '))'
+        ELSE 'exists(' || steps || ' ? (' || random_predicate('@', depth - 1) || ').a)'
+    END;
+END $$;
+CREATE FUNCTION random_jsonpath() RETURNS text LANGUAGE sql VOLATILE AS $$
+    SELECT one_of('{lax,strict}') || ' $' || one_of('{.a,.b,[*],.*,"",.a[0]}')
+        || ' ? (' || random_predicate('@', 2) || ')' || one_of('{"",.a,[*],.**}')
+$$;
 CREATE TABLE conditions AS
     SELECT 1 AS number, format('d @> %L', part) AS condition FROM searched
     UNION ALL SELECT 2, format('d -> ''a'' @> %L', part) FROM searched
     UNION ALL SELECT 3, format('d ? %L', it) FROM unnest('{a,b,0,-1,"",é,x,c,1}'::text[]) it
     UNION ALL SELECT 4, format('d ?| %L', random_path()) FROM generate_series(1, 60)
     UNION ALL SELECT 5, format('d ?& %L', random_path()) FROM generate_series(1, 60)
+    UNION ALL SELECT 7, format('d @@ %L', random_predicate('$', 2)) FROM generate_series(1, 150)
+    UNION ALL SELECT 8, format('d @? %L', random_jsonpath()) FROM generate_series(1, 150)
+    UNION ALL SELECT 9, format('d -> ''a'' @@ %L', random_predicate('$', 1))
+              FROM generate_series(1, 60)
     UNION ALL SELECT 6, format('d ? %L AND d @> %L', one_of('{a,b,c,0,é}'), part) FROM searched;
 SET jit = off;
 SET enable_seqscan = off;
@@ -48,6 +76,9 @@ SELECT plan_has('SELECT FROM found WHERE d @> ''{"a":1}''', 'Bitmap Index Scan o
 SELECT plan_has('SELECT FROM found WHERE d ? ''a''', 'Bitmap Index Scan on found_d'),
     plan_has('SELECT FROM found WHERE d ?| ''{a,b}''', 'Bitmap Index Scan on found_d'),
     plan_has('SELECT FROM found WHERE d ?& ''{a,b}''', 'Bitmap Index Scan on found_d');
+SELECT plan_has('SELECT FROM found WHERE d @@ ''$.a == 1''', 'Bitmap Index Scan on found_d'),
+    plan_has('SELECT FROM found WHERE d @? ''$ ? (@.a == 1)''', 'Bitmap Index Scan on found_d'),
+    plan_has('SELECT FROM found WHERE d -> ''a'' @@ ''$ == 1''', 'Bitmap Index Scan on found_path');
 SET enable_seqscan = on;
 SET enable_bitmapscan = off;
 SELECT plan_has('SELECT FROM found WHERE d @> ''{"a":1}''', 'Seq Scan on found');
@@ -84,4 +115,10 @@ SELECT count(*) FROM named WHERE d ? 'name';
 SELECT rechecked($$ SELECT FROM named WHERE d ? 'name' $$),
     rechecked($$ SELECT FROM named WHERE d @> '{"x":"name"}' $$);
 SELECT rechecked($$ SELECT FROM named WHERE d @> '{"x":[]}' $$);
+-- What a path must find is searched for by its keys; a date is the text that a path finds it as.
+SELECT rechecked($$ SELECT FROM named WHERE d @@ '$.x.name == 1 && exists($.x)' $$),
+    rechecked($$ SELECT FROM named WHERE d @? '$.x ? (@ == "name")' $$);
+SELECT rechecked($$ SELECT FROM named WHERE d @@ 'exists($.x)' $$);
+SELECT array_agg(i ORDER BY i) FROM found WHERE d @@ '$.a == "1"' AND i < 0;
+SELECT array_agg(i ORDER BY i) FROM found WHERE d @? '$[0] ? (@ == "1")' AND i < 0;
 RESET enable_seqscan;
