@@ -232,7 +232,7 @@ static Datum without(struct varlena *given, Names names) {
     Rows *rows = new_rows();
     if (!gather_others(document, names, rows)) PG_RETURN_POINTER(given);
     bool is_list = kind_of(document).kind == KOHIBLAD_ARRAY;
-    PG_RETURN_POINTER(is_list ? array_of_rows(rows) : object_of_unique_rows(rows));
+    PG_RETURN_POINTER(is_list ? array_of_rows(rows) : object_of_rows(rows));
 }
 
 PG_FUNCTION_INFO_V1(pg_kohiblad_delete);
@@ -291,7 +291,7 @@ static void add_stripped(Rows *rows, Part part) {
     }
     if (status != KOHIBLAD_NONE) refuse(status, ERRCODE_DATA_CORRUPTED);
     struct varlena *stripped =
-        is_array(part) ? array_of_rows(children) : object_of_unique_rows(children);
+        is_array(part) ? array_of_rows(children) : object_of_rows(children);
     add_row(rows, bytes_of(stripped));
     pfree(stripped);
     free_rows(children);

@@ -4,6 +4,7 @@
 
 #include "catalog/pg_type.h"
 #include "executor/execExpr.h"
+#include "miscadmin.h"
 #include "nodes/nodeFuncs.h"
 #include "nodes/subscripting.h"
 #include "parser/parse_coerce.h"
@@ -109,7 +110,11 @@ static void fetch_old(ExprState *state pg_attribute_unused(), ExprEvalStep *step
 
 /* Adds so many nulls, and then a value. */
 static void add_after_nulls(Rows *rows, int64 nulls, Bytes value) {
-    while (nulls-- > 0) add_null(rows);
+    if (nulls > 0) check_room(nulls * SCALAR_FRONT);
+    for (; nulls > 0; nulls--) {
+        CHECK_FOR_INTERRUPTS();
+        add_null(rows);
+    }
     add_row(rows, value);
 }
 

@@ -43,3 +43,4 @@ BEGIN
     RETURN d;
 END $$;
 SELECT made();
+SELECT refusal($$ SELECT write('[]', '[2147483647]', '1') $$);
