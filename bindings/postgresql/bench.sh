@@ -65,4 +65,20 @@ measure "\`ORDER BY doc -> 'name'\`" \
 measure "\`GROUP BY doc -> 'city'\`" \
     "SELECT count(*) FROM (SELECT doc -> 'city', count(*) FROM in_TYPE GROUP BY 1) s"
 measure '`SELECT DISTINCT doc`' 'SELECT count(*) FROM (SELECT DISTINCT doc FROM in_TYPE) s'
+in_all() { echo "SELECT count(it) FROM (SELECT $1 AS it FROM in_TYPE OFFSET 0) s"; }
+measure "\`doc @> '{\"city\": \"city 7\"}'\`" "$(in_all "doc @> '{\"city\": \"city 7\"}'")"
+measure "\`doc @> '{\"tags\": [\"t3\"]}'\`" "$(in_all "doc @> '{\"tags\": [\"t3\"]}'")"
+measure "\`doc ? 'name'\`" "$(in_all "doc ? 'name'")"
+measure "\`doc \|\| '{\"sold\": 1}'\`" "$(in_all "doc || '{\"sold\": 1}'")"
+measure "\`doc - 'name'\`" "$(in_all "doc - 'name'")"
+measure "\`TYPE_set(doc, '{tags,0}', '1')\`" "$(in_all "TYPE_set(doc, '{tags,0}', '1')")"
+measure "\`doc @@ '\$.price > 100'\`" "$(in_all "doc @@ '\$.price > 100'")"
+measure 'GIN index built' 'CREATE INDEX built ON in_TYPE USING gin (doc)' 'DROP INDEX built'
+measure 'GIN index built, `TYPE_path_ops`' \
+    'CREATE INDEX built ON in_TYPE USING gin (doc TYPE_path_ops)' 'DROP INDEX built'
+for type in jsonb kohiblad; do
+    psql -c "CREATE INDEX ON in_$type USING gin (doc)"
+done
+measure "\`count(*)\` of 7,692 rows with a tag, by GIN" \
+    "SELECT count(*) FROM in_TYPE WHERE doc @> '{\"tags\": [\"t3\"]}'"
 echo "| bytes a row | $sizes |"

@@ -29,7 +29,9 @@
 /* The largest document of a number, a decimal of 128 bits. */
 #define NUMBER_ROOM (SCALAR_FRONT + 18)
 
-/* Each level but the last takes 8 bytes: a header, and the entry word of the next. */
+/* An entry word, of which each value and each key has one; and what each level but the last takes
+ * at least: a header, and the entry word of the next. */
+#define ENTRY_SIZE 4
 #define LEVEL_SIZE 8
 
 typedef struct Bytes {

@@ -20,9 +20,6 @@ enum {
     PATH_MATCHES = 16
 };
 
-/* Each value takes an entry word, so a document of so many bytes has no more keys of a kind. */
-#define ENTRY_SIZE 4
-
 #define FNV_BASIS UINT64CONST(0xcbf29ce484222325)
 #define FNV_PRIME UINT64CONST(0x100000001b3)
 
@@ -52,6 +49,7 @@ static void make_room(Keys *keys, size_t more) {
                         : MemoryContextAllocHuge(CurrentMemoryContext, size);
 }
 
+/* Each value takes an entry word, so there are no more keys than these. */
 void append_values(Keys *keys, Bytes document) {
     size_t room = document.size / ENTRY_SIZE, depth = depth_of_size(document.size), count;
     make_room(keys, room);

@@ -107,23 +107,24 @@ static uint32_t row_status(const Rows *rows, size_t step, uint32_t status) {
     return status;
 }
 
-/* Builds the rows, of which each `step` belong to one child. NULL if a key comes twice. */
+/* Builds the rows, of which each `step` belong to one child. NULL if a key comes twice. Each row
+ * takes an entry word and at most its bytes, after the header. */
 static struct varlena *build(const Rows *rows, BuildCall call, size_t step) {
     const uint8_t *bytes = (const uint8_t *)rows->bytes.data;
     size_t depth = Min(MAX_DEPTH - 1, depth_of_size(rows->bytes.len)), length;
+    size_t room = rows->bytes.len + (rows->count + 1) * ENTRY_SIZE;
     check_stack_for(stack_of_depth(depth));
-    uint32_t status =
-        call(bytes, rows->bytes.len, rows->offsets, rows->count + 1, depth, NULL, 0, &length);
+    check_room(room);
+    struct varlena *built = palloc(VARHDRSZ + room);
+    uint32_t status = call(bytes, rows->bytes.len, rows->offsets, rows->count + 1, depth,
+                           (uint8_t *)VARDATA(built), room, &length);
+    if (status == KOHIBLAD_OK) {
+        SET_VARSIZE(built, VARHDRSZ + length);
+        return built;
+    }
+    pfree(built);
     if (status == KOHIBLAD_OBJECT_DUPLICATE_KEY) return NULL;
-    if (status != KOHIBLAD_NO_ROOM)
-        refuse(row_status(rows, step, status), ERRCODE_PROGRAM_LIMIT_EXCEEDED);
-    check_room(length);
-    struct varlena *built = palloc(VARHDRSZ + length);
-    status = call(bytes, rows->bytes.len, rows->offsets, rows->count + 1, depth,
-                  (uint8_t *)VARDATA(built), length, &length);
-    if (status != KOHIBLAD_OK) refuse(status, ERRCODE_PROGRAM_LIMIT_EXCEEDED);
-    SET_VARSIZE(built, VARHDRSZ + length);
-    return built;
+    refuse(row_status(rows, step, status), ERRCODE_PROGRAM_LIMIT_EXCEEDED);
 }
 
 struct varlena *array_of_rows(const Rows *rows) {
