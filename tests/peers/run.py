@@ -41,6 +41,13 @@ QUOTED = re.compile(r"'(\s*[\[{\"](?:[^'\\]|'')*)'")
 LONGEST = 4_000_000
 
 
+def versions(name, options):
+    """The versions of a source package in the lists: the newest may be gone from a mirror."""
+    shown = subprocess.run(
+        ["apt-cache", *options, "showsrc", name], check=False, capture_output=True, text=True)
+    return [f"{name}={it}" for it in re.findall(r"(?m)^Version: (\S+)", shown.stdout)]
+
+
 def download(name, folder):
     """The archives of a source package, downloaded unless they are there."""
     found = glob.glob(f"{folder}/{name}_*.orig.tar.*") + glob.glob(f"{folder}/{name}_*.tar.*")
@@ -62,12 +69,16 @@ def download(name, folder):
             with open(f"{lists}/parts/{os.path.basename(path)}", "w", encoding="utf-8") as file:
                 file.write(text)
         subprocess.run(["apt-get", *options, "-qq", "update"], check=False, capture_output=True)
-    subprocess.run(
-        ["apt-get", *options, "-qq", "source", "--download-only", name],
-        check=False, capture_output=True, cwd=folder,
-    )
-    found = glob.glob(f"{folder}/{name}_*.tar.*")
-    return [it for it in found if not it.endswith(".asc") and ".debian." not in it][:1]
+    for package in [name, *versions(name, options)]:
+        subprocess.run(
+            ["apt-get", *options, "-qq", "source", "--download-only", package],
+            check=False, capture_output=True, cwd=folder,
+        )
+        found = glob.glob(f"{folder}/{name}_*.tar.*")
+        archives = [it for it in found if not it.endswith(".asc") and ".debian." not in it]
+        if archives:
+            return archives[:1]
+    return []
 
 
 def texts_of(name, folder):
