@@ -1,13 +1,25 @@
 /* Whether a document contains another, and whether keys exist. */
 #include "paths.h"
 
+#include "miscadmin.h"
+
+/* So many steps take some milliseconds. */
+#define FIRST_STEPS 1000000
+
+/* Nested arrays may take a product of steps. So the call gives up after some and begins anew with
+ * twice as many, which takes twice the time at most, and between two calls a query can be
+ * cancelled. */
 static bool contains(Bytes left, Bytes right) {
-    size_t depth = depth_of_size(Max(left.size, right.size));
-    check_stack_for(function_stack_of_depth(depth));
-    struct kohiblad_truth truth =
-        kohiblad_contains(left.at, left.size, right.at, right.size, depth);
-    if (truth.status != KOHIBLAD_OK) refuse(truth.status, ERRCODE_DATA_CORRUPTED);
-    return truth.value;
+    size_t depth = depth_of_size(Max(left.size, right.size)), steps = FIRST_STEPS;
+    check_stack_for(stack_of_depth(depth));
+    for (;;) {
+        struct kohiblad_truth truth =
+            kohiblad_contains(left.at, left.size, right.at, right.size, depth, steps);
+        if (truth.status == KOHIBLAD_OK) return truth.value;
+        if (truth.status != KOHIBLAD_TOO_MANY_STEPS) refuse(truth.status, ERRCODE_DATA_CORRUPTED);
+        CHECK_FOR_INTERRUPTS();
+        steps = steps > SIZE_MAX / 2 ? SIZE_MAX : 2 * steps;
+    }
 }
 
 /* One argument contains the other. */

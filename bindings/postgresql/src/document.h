@@ -19,10 +19,6 @@
 /* The stack that a call of the library over a stored document needs. */
 #define DOCUMENT_STACK (MAX_DEPTH * KOHIBLAD_LEVEL_STACK + KOHIBLAD_CALL_STACK)
 
-/* What kohiblad_contains, kohiblad_edit and kohiblad_concat need for each level: measured, as the
- * others' in kohiblad.h. */
-#define FUNCTION_LEVEL_STACK (2 * KOHIBLAD_LEVEL_STACK)
-
 /* The bytes before the payload in the document of a scalar. */
 #define SCALAR_FRONT 8
 
@@ -60,12 +56,12 @@ static inline size_t depth_of_size(size_t size) {
     return Min(MAX_DEPTH, size / LEVEL_SIZE + 1);
 }
 
-/* The stack that a call takes over documents of this depth, and a call of those above. */
+/* The stack that a call takes over documents of this depth, and an edit whose result has it. */
 static inline size_t stack_of_depth(size_t depth) {
     return depth * KOHIBLAD_LEVEL_STACK + KOHIBLAD_CALL_STACK;
 }
-static inline size_t function_stack_of_depth(size_t depth) {
-    return depth * FUNCTION_LEVEL_STACK + KOHIBLAD_CALL_STACK;
+static inline size_t edit_stack_of_depth(size_t depth) {
+    return depth * KOHIBLAD_EDIT_LEVEL_STACK + KOHIBLAD_CALL_STACK;
 }
 
 /* Raises an error that names the library's status, with what it means or with another detail. */

@@ -37,7 +37,7 @@ struct varlena *edited(Bytes document, const Rows *steps, enum kohiblad_edit_kin
     Bytes path = bytes_of(path_value);
     size_t depth = depth_of_size(Max(document.size, value.size)), length;
     size_t room = Min(document.size + value.size + path.size + EDIT_SLACK, MaxAllocSize - VARHDRSZ);
-    check_stack_for(function_stack_of_depth(Min(MAX_DEPTH, depth + steps->count)));
+    check_stack_for(edit_stack_of_depth(Min(MAX_DEPTH, depth + steps->count)));
     while (!result) {
         struct varlena *out = palloc(VARHDRSZ + room);
         uint32_t status =
@@ -62,7 +62,7 @@ struct varlena *joined(Bytes left, Bytes right) {
     struct varlena *result = NULL;
     size_t depth = depth_of_size(Max(left.size, right.size)), length;
     size_t room = Min(left.size + right.size + EDIT_SLACK, MaxAllocSize - VARHDRSZ);
-    check_stack_for(function_stack_of_depth(depth));
+    check_stack_for(stack_of_depth(depth));
     while (!result) {
         struct varlena *out = palloc(VARHDRSZ + room);
         uint32_t status = kohiblad_concat(left.at, left.size, right.at, right.size, depth,
