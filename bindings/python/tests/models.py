@@ -1,4 +1,5 @@
 """Models of the format's pages that share no code with the package."""
+import copy
 import random
 from datetime import date, datetime, timedelta, timezone
 from decimal import Decimal
@@ -67,6 +68,77 @@ def _name(pair):
 order_key = cmp_to_key(compare)
 
 
+def contains(left, right, is_top=True):
+    """Whether a value contains another, as "Containment" of docs/FUNCTIONS.md says it."""
+    if isinstance(left, dict) and isinstance(right, dict):
+        return all(name in left and contains(left[name], it, False) for name, it in right.items())
+    if isinstance(left, list) and isinstance(right, list):
+        return all(any(contains(one, other, False) for one in left) for other in right)
+    if isinstance(left, list) and not isinstance(right, dict) and is_top:
+        return any(contains(one, right, False) for one in left)
+    return compare(left, right) == 0
+
+
+def has_key(value, name):
+    if isinstance(value, dict):
+        return name in value
+    return any(isinstance(it, str) and it == name
+               for it in (value if isinstance(value, list) else [value]))
+
+
+def scalars(value):
+    """How many scalars a value has."""
+    if isinstance(value, (dict, list)):
+        return sum(map(scalars, value.values() if isinstance(value, dict) else value))
+    return 1
+
+
+def at_path(value, path):
+    """A list of what is at the end of a path, or an empty one if the path leads nowhere."""
+    for step in path:
+        if isinstance(value, dict) and isinstance(step, str) and step in value:
+            value = value[step]
+        elif (isinstance(value, list) and isinstance(step, int)
+              and -len(value) <= step < len(value)):
+            value = value[step]
+        else:
+            return []
+    return [value]
+
+
+def edited(value, path, edit, new=None):
+    """A copy after an edit, as "Edits" of docs/FUNCTIONS.md says it: put, insert or remove."""
+    if not path:
+        return new if edit == "put" else value
+    value, last = copy.deepcopy(value), path[-1]
+    for around in at_path(value, path[:-1]):
+        if isinstance(around, dict) and isinstance(last, str):
+            if edit == "remove":
+                around.pop(last, None)
+            elif edit == "put" or last not in around:
+                around[last] = new
+        elif isinstance(around, list) and isinstance(last, int):
+            is_there = -len(around) <= last < len(around)
+            if is_there and edit != "insert":
+                around[last:last + 1 or None] = [new] if edit == "put" else []
+            elif edit != "remove":
+                around.insert(last, new)
+    return value
+
+
+def merged(value, patch):
+    """The function of RFC 7396, section 2."""
+    if not isinstance(patch, dict):
+        return patch
+    value = dict(value) if isinstance(value, dict) else {}
+    for name, it in patch.items():
+        if it is not None:
+            value[name] = merged(value.get(name), it)
+        elif name in value:
+            del value[name]
+    return value
+
+
 class Values:
     """Random values, the same for the same seed."""
 
@@ -120,3 +192,48 @@ class Values:
 
     def _zone(self):
         return timezone(timedelta(seconds=self._random.choice((-3600, 0, 1, 3600))))
+
+
+class FewNames(Values):
+    """Random values in which the same texts, names and numbers come again."""
+
+    def text(self):
+        return self._random.choice(("", "a", "b", "ab", "é", "\uffff", "\U0001f600"))
+
+    def number(self):
+        return self._random.choice((0, 1, -1, 300, 2**64, Decimal("1.0"), Decimal("1.50")))
+
+    def part(self, value):
+        """Some of a value, which contains it if no scalar was changed."""
+        if isinstance(value, dict):
+            return {name: self.part(it) for name, it in value.items() if self._random.random() < .7}
+        if isinstance(value, list):
+            some = [self.part(it) for it in value if self._random.random() < .7]
+            self._random.shuffle(some)
+            return some
+        return value if self._random.random() < .95 else self._any_scalar()
+
+    def path(self, value):
+        """A path that mostly leads to something in a value."""
+        path = []
+        while self._random.random() < .8:
+            if isinstance(value, dict) and self._random.random() < .95:
+                step = self._random.choice((*value, self.text()))
+            elif isinstance(value, list) and self._random.random() < .95:
+                step = self._random.randint(-len(value) - 1, len(value))
+            elif self._random.random() < .2:
+                step = self._random.choice((0, -1, "a"))
+            else:
+                break
+            path.append(step)
+            found = at_path(value, [step])
+            value = found[0] if found else None
+        return path
+
+    def patch(self, value):
+        """A merge patch that has names of a value."""
+        if not isinstance(value, dict) or self._random.random() < .1:
+            return self.any(depth=3)
+        names = [*value, self.text(), self.text()]
+        return {name: None if self._random.random() < .3 else self.patch(value.get(name))
+                for name in names if self._random.random() < .7}

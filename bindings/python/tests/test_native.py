@@ -31,7 +31,7 @@ class NativeTest(unittest.TestCase):
         self.assertEqual((by_ctypes[0], by_ctypes[2]), (0, ""))
         self.assertEqual((by_module[0], by_module[2]), (0, ""))
         lines = by_ctypes[1].splitlines()
-        self.assertGreater(len(lines), 40_000)
+        self.assertGreater(len(lines), 80_000)
         self.assertEqual(len(lines), len(by_module[1].splitlines()))
         for number, (one, other) in enumerate(zip(lines, by_module[1].splitlines())):
             self.assertEqual(one, other, f"line {number}")
@@ -109,7 +109,8 @@ class NativeTest(unittest.TestCase):
                    "def blocks():\n"
                    "    gc.collect()\n"
                    "    return sys.getallocatedblocks()\n"
-                   "run(), run()\n"
+                   "for _ in range(20):\n"
+                   "    run()\n"
                    "before = blocks()\n"
                    "for _ in range(20):\n"
                    "    run()\n"

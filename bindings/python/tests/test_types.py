@@ -11,17 +11,25 @@ TOP = os.path.dirname(os.path.dirname(os.path.abspath(__file__)))
 SOURCE = os.path.join(TOP, "src")
 # A program that uses what README says of types. Its last line is wrong.
 CALLER = """\
-from typing import Iterator, Mapping, Sequence
-from kohiblad import ArrayDocument, Document, ObjectDocument, dumps, loads
+from typing import Iterator, List, Mapping, Sequence
+from kohiblad import ArrayDocument, Document, DocumentPath, ObjectDocument, dumps, loads
 
 document = Document.parse(b"{}", depth=3)
 if isinstance(document, ObjectDocument):
     mapping: Mapping[str, object] = document
     names: Iterator[str] = iter(document)
+    joined: ObjectDocument = document | {"a": 1}
 if isinstance(document, ArrayDocument):
     sequence: Sequence[object] = document
     some: Sequence[object] = document[1:]
+    longer: ArrayDocument = document + [1]
 text: str = dumps([loads("1"), document, document["a"][0]]) + str(document) + document.pretty()
+path: DocumentPath = ["tags", -1]
+changed: Document = document.set(path, 1).insert("a", {}).without("a", 0, ("b", 1)).merge({"a": 1})
+other: Document = (changed | {"a": None} | document).member("a").item(0) + [changed]
+held: bool = other.contains(changed, steps=100) and other.has_key("a")
+child: object = other.get_path("tags", 0, default="none")
+keys: List[int] = other.index_keys() + other.top_keys()
 ordered = sorted([document, Document.of(None)])
 Document.parse(5)
 """
@@ -73,7 +81,7 @@ class TypesTest(unittest.TestCase):
 
     def test_the_example_of_readme(self):
         with open(os.path.join(TOP, "README.md"), encoding="utf-8") as file:
-            example = re.search("```python\n(.*?)```", file.read(), re.S).group(1)
+            example = "".join(re.findall("```python\n(.*?)```", file.read(), re.S))
         lines = re.findall(r"^(?:>>>|\.\.\.) (.*\n)", example, re.M)
         self.assertGreater(len(lines), 8)
         self.assertEqual(self.complaints(self.caller("".join(lines))), [])

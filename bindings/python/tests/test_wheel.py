@@ -45,13 +45,13 @@ NEEDS_COMPILER = "the extension module: needs the Debian packages gcc and python
 
 
 class ReadmeTest(unittest.TestCase):
-    def test_the_example_of_readme(self):
+    def test_the_examples_of_readme(self):
         with open(os.path.join(TOP, "README.md"), encoding="utf-8") as file:
-            example = re.search("```python\n(.*?)```", file.read(), re.S).group(1)
+            example = "".join(re.findall("```python\n(.*?)```", file.read(), re.S))
         test = doctest.DocTestParser().get_doctest(example, {}, "README.md", None, 0)
         result = doctest.DocTestRunner(verbose=False).run(test)
         self.assertEqual(result.failed, 0)
-        self.assertGreater(result.attempted, 8)
+        self.assertGreater(result.attempted, 16)
 
 
 class PackageTest(unittest.TestCase):

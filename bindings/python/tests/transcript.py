@@ -174,6 +174,30 @@ def read_all(document):
             answer(call, document)
 
 
+def ask(document):
+    """The functions over a document."""
+    for call in (Document.index_keys, Document.top_keys, lambda it: it.contains(it),
+                 lambda it: it.contains(it, 5), lambda it: it.without("a", 0), lambda it: it | it,
+                 lambda it: {"a": 1} | it, lambda it: it + it, lambda it: [1.50] + it,
+                 lambda it: it.merge(it), lambda it: it.merge({"a": None, "n": {"a": 1}})):
+        answer(call, document)
+    for other in (5, "a", [1], {}, None, b"x", 1.5, object()):
+        answer(document.contains, other)
+        answer(document.set, ["n", 0], other)
+        answer(document.merge, other)
+    for path in (0, "a", -1, [], ["a", 0], "\ud800", [5, "a"], Text("a"), None, 1.5, b"a", Index(),
+                 FailingIndex(), True, 2**70, ["n", "\ud800"]):
+        for call in (document.without, lambda it: document.set(it, [1]),
+                     lambda it: document.insert(it, {"a": Decimal("1.50")})):
+            answer(call, path)
+        answer(lambda it: document.get_path(*it) if type(it) is list else document.get_path(it),
+               path)
+    for name in ("a", "", "\ud800", 0, -1, 5, None, Text("n")):
+        for call in (document.has_key, lambda it: document.member(it),
+                     lambda it: document.item(it)):
+            answer(call, name)
+
+
 def main():
     for text in texts():
         answer(loads, text)
@@ -193,7 +217,7 @@ def main():
     answer(Document.parse, "1", 2, 3)
     for data in (None, 5, "[]", [1], b"\0", Bytes(b"\x80\0\0\0"), memoryview(b"\x80\0\0\0")):
         answer(Document, data)
-    for value in values():
+    for number, value in enumerate(values()):
         answer(Document.of, value)
         answer(dumps, value)
         try:
@@ -202,6 +226,8 @@ def main():
             continue
         if len(bytes(document)) < 2000:
             read_all(document)
+            if number % 4 == 0:
+                ask(document)
         else:
             answer(document.value)
             answer(list, document.items() if document.kind == "object" else [])

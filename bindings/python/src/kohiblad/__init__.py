@@ -9,15 +9,18 @@ Numbers are exact: whole ones and decimals of 128 bits. There is no floating poi
 """
 __version__ = "0.7.0"  # before the imports, since a module that is imported reads it
 
+from ._changes import DocumentPath
 from ._document import (ArrayDocument, Document, ObjectDocument, ScalarDocument, Value, dumps,
                         loads)
 from ._encode import DEPTH
 from ._errors import (ExtensionError, FloatError, InvalidDocumentError, InvalidTextError,
-                      KohibladError, NumberError, OutOfMemoryError, TooDeepError)
+                      KohibladError, NumberError, OutOfMemoryError, TooDeepError,
+                      TooManyStepsError)
 from ._library import IS_NATIVE
 from ._scalars import Date, Interval, Opaque, Scalar, Timestamp, TimestampTz
 
-__all__ = ["ArrayDocument", "DEPTH", "Date", "Document", "ExtensionError", "FloatError",
-           "IS_NATIVE", "Interval", "InvalidDocumentError", "InvalidTextError", "KohibladError", "NumberError",
-           "ObjectDocument", "Opaque", "OutOfMemoryError", "Scalar", "ScalarDocument", "Timestamp",
-           "TimestampTz", "TooDeepError", "Value", "dumps", "loads"]
+__all__ = ["ArrayDocument", "DEPTH", "Date", "Document", "DocumentPath", "ExtensionError",
+           "FloatError", "IS_NATIVE", "Interval", "InvalidDocumentError", "InvalidTextError",
+           "KohibladError", "NumberError", "ObjectDocument", "Opaque", "OutOfMemoryError",
+           "Scalar", "ScalarDocument", "Timestamp", "TimestampTz", "TooDeepError",
+           "TooManyStepsError", "Value", "dumps", "loads"]

@@ -8,8 +8,10 @@ from typing import (TYPE_CHECKING, Any, Callable, Dict, Generator, ItemsView, It
                     Mapping, Optional, Pattern, Sequence, SupportsIndex, Tuple, Type, Union,
                     ValuesView, cast, overload)
 
+from . import _changes as changes
 from . import _library as library
 from . import _scalars as scalars
+from ._changes import DocumentPath, Step
 from ._encode import DEPTH, bytes_of_text, encode, encode_other, fault_of, parse
 from ._errors import KohibladError
 from ._library import IS_NATIVE
@@ -20,6 +22,8 @@ if IS_NATIVE:
 
 _KINDS = ("null", "boolean", "number", "string", "extension", "array", "object")
 _MOST_SHOWN = 70
+# A path is followed by copies, which the extension module makes, in documents that are no longer.
+_MOST_COPIED = 4096
 
 Value = Union[Scalar, List[Any], Dict[str, Any]]
 # A child of an array or object, as it is read.
@@ -49,6 +53,12 @@ class Document:
         def __iter__(self) -> Iterator[Any]: ...
         def __len__(self) -> int: ...
         def __contains__(self, it: object) -> bool: ...
+        def __or__(self, other: Any) -> "Document": ...
+        def __ror__(self, other: Any) -> "Document": ...
+        def __add__(self, other: Any) -> "Document": ...
+        def __radd__(self, other: Any) -> "Document": ...
+        def member(self, name: str) -> "Document": ...
+        def item(self, index: SupportsIndex) -> "Document": ...
 
     def __new__(cls, data: Union[bytes, bytearray, memoryview], depth: int = DEPTH) -> "Document":
         """The document of stored bytes.
@@ -117,7 +127,7 @@ class Document:
                 return _value_of_json(str(self))
             except RecursionError:
                 pass
-        return _decode(self._data)
+        return library.run_nested(_decoder, self._data)
 
     def key(self) -> bytes:
         """The comparable key: keys compare by their bytes as documents do, and hash alike."""
@@ -138,6 +148,172 @@ class Document:
         if IS_NATIVE:
             return _of_checked(native.to_canonical(self._data))
         return _of_checked(self._written(library.to_canonical))
+
+    def contains(self, other: Any, steps: Optional[int] = None) -> bool:
+        """Whether this document contains another, or a Python value.
+
+        >>> row = Document.parse('{"id": 7, "tags": ["a", "b"]}')
+        >>> row.contains({"tags": ["b"]}), row.contains({"tags": ["c"]})
+        (True, False)
+
+        An object contains the objects whose keys it has, with values that contain theirs; an array
+        those arrays for each of whose items it has one that contains it, in any order; a scalar
+        what equals it; and this document, if it is an array, also a scalar among its items.
+
+        For arrays in arrays this may take a step for each pair of values. TooManyStepsError: it
+        takes more than ``steps``. It never does if they are at least the product of the numbers of
+        values and keys in both.
+        """
+        other_data = _data_of(other)
+        size, other_size = len(self._data), len(other_data)
+        truth = library.contains(self._data, size, other_data, other_size, DEPTH, _budget_of(steps))
+        if truth.status != library.OK:
+            raise library.error_of(truth.status)
+        return bool(truth.value)
+
+    def has_key(self, name: str) -> bool:
+        """Whether an object has this key, an array this text among its items, or it is this text.
+
+        >>> [Document.of(it).has_key("a") for it in ({"a": 1}, ["a", 1], "a", {"b": "a"})]
+        [True, True, True, False]
+        """
+        if not isinstance(name, str):
+            raise TypeError(f"a key is a str, not {type(name).__name__}")
+        data = _utf8_of_name(name)
+        if data is None:
+            return False
+        truth = library.exists(self._data, len(self._data), data, len(data), DEPTH)
+        return bool(truth.value)
+
+    def get_path(self, *steps: Step, default: Any = None) -> Any:
+        """The value at the end of a path, or the default if the path leads nowhere.
+
+        >>> row = Document.parse('{"id": 7, "tags": ["a", {"of": null}]}')
+        >>> row.get_path("tags", -1, "of", default="none"), row.get_path("tags", 5, default="none")
+        (None, 'none')
+        >>> row.get_path("tags", 1)
+        <ObjectDocument {"of":null}>
+
+        A str leads to the value of a key of an object, an int to an item of an array, from the end
+        if it is negative. A scalar comes as a Python value, and an array or object as a document.
+        """
+        path = tuple(map(changes.step_of, steps))
+        if not path:
+            return self.value() if isinstance(self, ScalarDocument) else self
+        if IS_NATIVE and len(self._data) <= _MOST_COPIED:
+            return self._child_at(path, default)
+        found: List[Union[bytes, int]] = []
+        for step in path:
+            data = _utf8_of_name(step) if isinstance(step, str) else step
+            if data is None:
+                return default
+            found.append(data)
+        place = library.place_of_path(self._data, found)
+        if place is None:
+            return default
+        type_, at, size = place
+        return _child_of(type_, self._data[at:at + size])
+
+    def _child_at(self, path: Sequence[Step], default: Any) -> Any:
+        """As ``get_path``, by a copy of each array and object on the way."""
+        child: Child = self
+        try:
+            for step in path:
+                if isinstance(child, ObjectDocument) and isinstance(step, str):
+                    child = native.member(child._data, step)
+                elif isinstance(child, ArrayDocument) and isinstance(step, int):
+                    child = native.item(child._data, step)
+                else:
+                    return default
+        except LookupError:
+            return default
+        return child
+
+    def set(self, path: DocumentPath, value: Any) -> "Document":
+        """A new document with a value, or another document, at the end of a path.
+
+        >>> row = Document.parse('{"id": 7, "tags": ["a", "b"]}')
+        >>> row.set("id", 8), row.set(["tags", 5], "c").get_path("tags")
+        (<ObjectDocument {"id":8,"tags":["a","b"]}>, <ArrayDocument ["a","b","c"]>)
+
+        A path is a str, the key of an object; an int, the index of an item in an array, from the
+        end if it is negative; or a sequence of these. What is there is replaced. A key that is not
+        there is added; an index past the last item adds the value at the end, and one before the
+        first at the front. At the empty path the value itself is the result. If a step before the
+        last leads nowhere, or the last one is of the wrong kind, nothing changes: ``get_path`` says
+        whether it leads somewhere.
+
+        The result is in the one form that is written today, as of ``canonical``. Raises as
+        ``Document.of`` for the value. TypeError: a step is no str and no int; InvalidTextError: a
+        step has half of a surrogate pair; TooDeepError: the result would nest more than 1,000
+        deep; InvalidDocumentError: it is past a limit of the format.
+        """
+        return _of_checked(changes.edited(self._data, changes.steps_of(path), library.PUT,
+                                          _data_of(value)))
+
+    def insert(self, path: DocumentPath, value: Any) -> "Document":
+        """A new document with a value, or another document, put in at a path.
+
+        >>> Document.parse("[1,2]").insert(0, 5), Document.parse("[1,2]").insert(-1, 5)
+        (<ArrayDocument [5,1,2]>, <ArrayDocument [1,5,2]>)
+        >>> Document.parse('{"a": 1}').insert("b", 2).insert("a", 3)
+        <ObjectDocument {"a":1,"b":2}>
+
+        Into an array the value comes before the item at the index, as by the ``insert`` of a list.
+        To an object the member is added; a key that is there keeps its value. At the empty path
+        nothing changes. Otherwise as ``set``.
+        """
+        return _of_checked(changes.edited(self._data, changes.steps_of(path), library.INSERT,
+                                          _data_of(value)))
+
+    def without(self, *paths: DocumentPath) -> "Document":
+        """A new document without what is at some paths, of which each is one as for ``set``.
+
+        >>> row = Document.parse('{"id": 7, "ok": true, "tags": ["a", "b"]}')
+        >>> row.without("id", "ok"), row.without(["tags", -1], "none")
+        (<ObjectDocument {"tags":["a","b"]}>, <ObjectDocument {"id":7,"ok":true,"tags":["a"]}>)
+
+        They are removed in turn, so an index counts the items that are left. A path that leads
+        nowhere removes nothing. Otherwise as ``set``.
+        """
+        return _of_checked(changes.without(self._data, paths))
+
+    def merge(self, patch: Any) -> "Document":
+        """A new document, changed by a merge patch: a Python value or a document, as in RFC 7396.
+
+        >>> row = Document.parse('{"id": 7, "at": {"town": "Oslo", "zip": "0150"}}')
+        >>> row.merge({"id": 8, "at": {"zip": None}})
+        <ObjectDocument {"at":{"town":"Oslo"},"id":8}>
+
+        A member that is null in the patch is removed, one that is an object is patched by it, and
+        another value is put. A patch that is no object replaces the whole. Raises as ``set``.
+        """
+        return _of_checked(changes.merged(self._data, _data_of(patch)))
+
+    def index_keys(self) -> List[int]:
+        """For each scalar a hash of it and of the keys around it, from 0 to 2**64 - 1.
+
+        >>> row = Document.parse('{"id": 7, "tags": ["a", "b"]}')
+        >>> set(row.index_keys()) >= set(Document.of({"tags": ["b"]}).index_keys())
+        True
+
+        A document that contains another has each of its keys. So an index that lists the documents
+        of each key finds all that contain a given one; two scalars may have one hash, so ask
+        ``contains`` of what is found. A document without scalars has no key, as ``{"a": []}``.
+        """
+        return library.keys_of(library.index_keys, self._data)
+
+    def top_keys(self) -> List[int]:
+        """A hash of each key of an object, of each text among an array's items, or of a text.
+
+        >>> row = Document.parse('{"id": 7, "tags": ["a", "b"]}')
+        >>> Document.of("id").top_keys()[0] in row.top_keys()
+        True
+
+        If ``has_key(name)`` is true, the document has the one top key of ``Document.of(name)``.
+        They are apart from those of ``index_keys``, so one index can hold both.
+        """
+        return library.keys_of(library.top_keys, self._data)
 
     def pretty(self) -> str:
         """The JSON text on lines, indented by two spaces."""
@@ -207,6 +383,12 @@ class _Container(Document):
     def _child(self, place: library.Place) -> Child:
         return _child_of(place.type, library.payload_of(self._data, place))
 
+    def _document_at(self, place: library.Place) -> Document:
+        payload = library.payload_of(self._data, place)
+        if place.type != library.TYPE_CONTAINER:
+            payload = library.scalar_document(place.type, payload)
+        return _of_checked(payload)
+
     def _names(self) -> Iterator[str]:
         if IS_NATIVE:
             return native.names(self._data)
@@ -252,6 +434,29 @@ class ArrayDocument(_Container, Sequence[Child]):
         except IndexError:
             raise IndexError("array index out of range") from None
 
+    def item(self, index: SupportsIndex) -> Document:
+        """An item as a document, also if it is a scalar.
+
+        >>> Document.parse("[1.50, null]").item(0)
+        <ScalarDocument 1.50>
+        """
+        return self._document_at(library.part(self._data, len(self._data), self._number_of(index)))
+
+    def __add__(self, other: Any) -> "ArrayDocument":
+        """The items of both: of this array, and of another or of a list or tuple.
+
+        >>> Document.parse("[1, 2]") + ["a"]
+        <ArrayDocument [1,2,"a"]>
+        """
+        if not isinstance(other, (ArrayDocument, list, tuple)):
+            return NotImplemented
+        return cast(ArrayDocument, _of_checked(changes.concat(self._data, _data_of(other))))
+
+    def __radd__(self, other: Any) -> "ArrayDocument":
+        if not isinstance(other, (list, tuple)):
+            return NotImplemented
+        return cast(ArrayDocument, _of_checked(changes.concat(_data_of(other), self._data)))
+
     def __iter__(self) -> Iterator[Child]:
         return self._values()
 
@@ -275,6 +480,32 @@ class ObjectDocument(_Container, Mapping[str, Child]):
             raise KeyError(name)
         return self._child(place)
 
+    def member(self, name: str) -> Document:
+        """The value of a member as a document, also if it is a scalar.
+
+        >>> Document.parse('{"price": 1.50}').member("price")
+        <ScalarDocument 1.50>
+        """
+        place = self._find(name)
+        if place is None:
+            raise KeyError(name)
+        return self._document_at(place)
+
+    def __or__(self, other: Any) -> "ObjectDocument":
+        """The members of both: of this object, and of another or of a mapping, whose values stay.
+
+        >>> Document.parse('{"a": 1, "b": 2}') | {"b": 3}
+        <ObjectDocument {"a":1,"b":3}>
+        """
+        if not isinstance(other, Mapping):
+            return NotImplemented
+        return cast(ObjectDocument, _of_checked(changes.concat(self._data, _data_of(other))))
+
+    def __ror__(self, other: Any) -> "ObjectDocument":
+        if not isinstance(other, Mapping):
+            return NotImplemented
+        return cast(ObjectDocument, _of_checked(changes.concat(_data_of(other), self._data)))
+
     def __contains__(self, name: object) -> bool:
         if IS_NATIVE and type(name) is str:
             return native.contains(self._data, name)
@@ -295,9 +526,8 @@ class ObjectDocument(_Container, Mapping[str, Child]):
             # As of a dict: TypeError for a list, which has no hash.
             hash(name)
             return None
-        try:
-            data = name.encode()
-        except UnicodeEncodeError:
+        data = _utf8_of_name(name)
+        if data is None:
             return None
         place = library.find(self._data, len(self._data), data, len(data))
         return place if place.status == library.OK else None
@@ -333,6 +563,29 @@ def _of_checked(data: bytes) -> Document:
     return document
 
 
+def _data_of(value: Any) -> bytes:
+    """The bytes of a document, or of that of a Python value."""
+    return (value if isinstance(value, Document) else Document.of(value))._data
+
+
+def _utf8_of_name(name: str) -> Optional[bytes]:
+    """The name in UTF-8. None: it has half of a surrogate pair, so it is no member's."""
+    try:
+        return name.encode()
+    except UnicodeEncodeError:
+        return None
+
+
+def _budget_of(steps: Optional[int]) -> int:
+    """The number of steps that the library is given, of which the greatest is no limit."""
+    if steps is None:
+        return library.NO_LIMIT
+    steps = operator.index(steps)
+    if steps < 0:
+        raise ValueError("the steps are to be 0 or more")
+    return min(steps, library.NO_LIMIT)
+
+
 def _checked_depth(depth: int) -> int:
     depth = operator.index(depth)
     if not 0 <= depth <= DEPTH:
@@ -366,29 +619,8 @@ def _extension_entry(most: int) -> Pattern[bytes]:
     return re.compile(b"\x60[\0-" + re.escape(bytes([most])) + b"]")
 
 
-_Decoder = Generator[bytes, Any, Value]
-
-
-def _decode(data: bytes) -> Value:
-    """The value of a document. It does not recurse, for documents nest deeper than Python's calls.
-
-    A container's decoder yields each container inside it, and is sent the value of that.
-    """
-    opened: List[_Decoder] = [_decoder(data)]
-    sent: Any = None
-    while True:
-        try:
-            opened.append(_decoder(opened[-1].send(sent)))
-            sent = None
-        except StopIteration as finished:
-            opened.pop()
-            value: Value = finished.value
-            if not opened:
-                return value
-            sent = value
-
-
-def _decoder(data: bytes) -> _Decoder:
+def _decoder(data: bytes) -> Generator[bytes, Any, Value]:
+    """Reads the value of an array or object. It yields each one inside it, to be sent its value."""
     keys, values = [], []
     for key, type_, payload in library.children(data):
         keys.append(key)

@@ -23,7 +23,7 @@ Encoded = Union[str, bytes]
 Encoder = Generator[Any, Encoded, Encoded]
 
 # The JSON text of a str. Not all type checkers know its name.
-_text_of_str: Callable[[str], str] = getattr(json.encoder, "encode_basestring")
+text_of_str: Callable[[str], str] = getattr(json.encoder, "encode_basestring")
 
 # The greatest depth of any document and text.
 DEPTH = 1000
@@ -132,7 +132,7 @@ def _object_encoder(members: "Mapping[Any, Any]") -> Encoder:
         encoded.append(write(value) if write else (yield value))
     texts = _texts_of(encoded)
     if texts is not None:
-        pairs = zip(map(_text_of_str, names), texts)
+        pairs = zip(map(text_of_str, names), texts)
         return "{" + ",".join([f"{name}:{value}" for name, value in pairs]) + "}"
     rows: List[bytes] = []
     for name, value in zip(names, encoded):
@@ -166,7 +166,7 @@ _WRITERS: Dict[type, Callable[[Any], Encoded]] = {
     int: scalars.text_of_int,
     float: _refuse_float,
     Decimal: scalars.text_of_decimal,
-    str: _text_of_str,
+    str: text_of_str,
     bytes: scalars.document_of_bytes,
     bytearray: scalars.document_of_bytes,
     memoryview: scalars.document_of_bytes,

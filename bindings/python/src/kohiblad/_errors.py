@@ -48,6 +48,10 @@ class TooDeepError(KohibladError):
     """A text or a value nests deeper than is allowed."""
 
 
+class TooManyStepsError(KohibladError):
+    """The answer takes more steps than were allowed, so it is not known."""
+
+
 class OutOfMemoryError(KohibladError, MemoryError):
     """The library was refused memory."""
 

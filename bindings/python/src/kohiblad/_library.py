@@ -11,11 +11,12 @@ import os
 import struct
 from ctypes import c_bool, c_char_p, c_int32, c_int64, c_size_t, c_uint32, c_uint64, c_void_p
 from functools import lru_cache
-from typing import Any, Callable, Dict, Iterator, List, Sequence, Tuple, Type
+from typing import (Any, Callable, Dict, Generator, Iterator, List, Mapping, Optional, Sequence,
+                    Tuple, Type, TypeVar, Union)
 
 from . import __version__
 from ._errors import (ExtensionError, InvalidDocumentError, InvalidTextError, KohibladError,
-                      NumberError, OutOfMemoryError, TooDeepError)
+                      NumberError, OutOfMemoryError, TooDeepError, TooManyStepsError)
 
 FILE_NAME = "libkohiblad.so.0"
 OLDEST_VERSION = 7000
@@ -32,6 +33,15 @@ NO_ROOM = 11
 NONE = 12
 TOO_DEEP = 13
 BAD_NUMBER = 17
+TOO_MANY_STEPS = 18
+
+# What `edit` does at the end of a path.
+PUT = 0
+INSERT = 1
+REMOVE = 2
+
+# Of steps.
+NO_LIMIT = 2**64 - 1
 
 # The tags of headers.
 HEADER_TAG_MASK = 0xE0
@@ -46,7 +56,10 @@ TYPE_TRUE = 0x40000000
 TYPE_CONTAINER = 0x50000000
 TYPE_EXTENSION = 0x60000000
 
+_ARRAY_KIND = 5
 _TYPE_MASK = 0x70000000
+# The most bytes that a child may have.
+MOST_CHILD_BYTES = 0x0FFFFFFF
 # The bytes of a document before the payload of its scalar.
 SCALAR_FRONT = 8
 # The longest payload of a number: a decimal of 128 bits in its old form.
@@ -62,6 +75,7 @@ _ERRORS: Dict[int, Type[KohibladError]] = {
     OUT_OF_MEMORY: OutOfMemoryError,
     TOO_DEEP: TooDeepError,
     BAD_NUMBER: InvalidTextError,
+    TOO_MANY_STEPS: TooManyStepsError,
 }
 
 
@@ -72,6 +86,10 @@ class Kind(ctypes.Structure):
 class Place(ctypes.Structure):
     _fields_ = [("status", c_uint32), ("type", c_uint32), ("offset", c_uint64),
                 ("length", c_uint64)]
+
+
+class Truth(ctypes.Structure):
+    _fields_ = [("status", c_uint32), ("value", c_uint32)]
 
 
 class Fault(ctypes.Structure):
@@ -169,8 +187,21 @@ of_extension = _export("of_extension", c_uint32, c_uint32, c_int64, c_int32, c_i
                        *_BYTES, *_OUT)
 build_array = _export("build_array", c_uint32, *_ROWS, *_OUT)
 build_object = _export("build_object", c_uint32, *_ROWS, *_OUT)
+contains = _export("contains", Truth, *_BYTES, *_BYTES, c_size_t, c_size_t)
+exists = _export("exists", Truth, *_BYTES, *_BYTES, c_size_t)
+concat = _export("concat", c_uint32, *_BYTES, *_BYTES, c_size_t, *_OUT)
+edit = _export("edit", c_uint32, *_BYTES, *_BYTES, c_uint32, *_BYTES, c_size_t, *_OUT)
+index_keys = _export("index_keys", c_uint32, *_BYTES, c_size_t, *_OUT)
+top_keys = _export("top_keys", c_uint32, *_BYTES, c_size_t, *_OUT)
 _begin = _export("begin", c_uint32, *_BYTES, c_void_p)
 _next = _export("next", c_uint32, *_BYTES, c_void_p, c_void_p, c_void_p)
+# The same of a document inside another, by its address.
+_INNER = (c_void_p, c_size_t)
+_kind_at = _export("kind", Kind, *_INNER)
+_find_at = _export("find", Place, *_INNER, *_BYTES)
+_part_at = _export("part", Place, *_INNER, c_size_t)
+_begin_at = _export("begin", c_uint32, *_INNER, c_void_p)
+_next_at = _export("next", c_uint32, *_INNER, c_void_p, c_void_p, c_void_p)
 _status_name = _export("status_name", c_uint32, c_uint32, *_OUT)
 
 
@@ -234,6 +265,20 @@ def result_of(call: Callable[..., int], guess: int, *arguments: Any) -> bytes:
     return result
 
 
+def keys_of(call: Callable[..., int], document: bytes) -> List[int]:
+    """The keys of an index that a call writes for a document."""
+    size = len(document)
+    # There are at most size / 4, each of eight bytes.
+    room = _room_of(2 * size)
+    status = call(document, size, size, room.address, room.size // 8, room.length_address)
+    if status != OK:
+        raise error_of(status)
+    keys = memoryview(ctypes.string_at(room.address, 8 * room.length.value)).cast("Q").tolist()
+    if room.size == _Room.USUAL_SIZE:
+        _spare_rooms.append(room)
+    return keys
+
+
 def status_name(status: int) -> str:
     """The library's name of a status."""
     return result_of(_status_name, 0, status).decode()
@@ -261,6 +306,80 @@ def children(document: bytes) -> Iterator[Tuple[bytes, int, bytes]]:
         raise error_of(status)
 
 
+_Result = TypeVar("_Result")
+
+
+def run_nested(open_one: Callable[[Any], Generator[Any, Any, _Result]], outermost: Any) -> _Result:
+    """What the generator of the outermost value returns, with no recursion.
+
+    A generator yields each value inside it that has a generator too, and is sent its result.
+    Documents nest deeper than Python's calls.
+    """
+    opened = [open_one(outermost)]
+    sent: Any = None
+    while True:
+        try:
+            opened.append(open_one(opened[-1].send(sent)))
+            sent = None
+        except StopIteration as finished:
+            opened.pop()
+            result: _Result = finished.value
+            if not opened:
+                return result
+            sent = result
+
+
+def _address_of(document: bytes) -> int:
+    """Where bytes are in memory. They stay there as long as anything refers to them."""
+    return ctypes.cast(c_char_p(document), c_void_p).value or 0
+
+
+def places(document: bytes, at: int, size: int) -> Iterator[Tuple[bytes, int, int, int]]:
+    """The key, type, offset and length of each child of the array or object at an offset.
+
+    Nothing but the keys is copied. The offsets are those in the whole document.
+    """
+    address = _address_of(document) + at
+    state = ctypes.create_string_buffer(_STATE_SIZE)
+    cursor = ctypes.addressof(state)
+    key_place = cursor + ctypes.sizeof(Cursor)
+    place = key_place + ctypes.sizeof(Place)
+    status = _begin_at(address, size, cursor)
+    while status == OK:
+        status = _next_at(address, size, cursor, key_place, place)
+        if status == OK:
+            key_at, key_size, type_, child_at, length = _STATE.unpack_from(state)
+            key_at += at
+            yield document[key_at:key_at + key_size], type_, at + child_at, length
+    if status != NONE:
+        raise error_of(status)
+
+
+def place_of_path(document: bytes, steps: Sequence[Union[bytes, int]]) \
+        -> Optional[Tuple[int, int, int]]:
+    """The type, offset and length at the end of a path; None: it leads nowhere.
+
+    A text among the steps is given in UTF-8.
+    """
+    front = _address_of(document)
+    type_, at, size = TYPE_CONTAINER, 0, len(document)
+    for step in steps:
+        if type_ != TYPE_CONTAINER:
+            return None
+        if isinstance(step, bytes):
+            place = _find_at(front + at, size, step, len(step))
+        else:
+            it = _kind_at(front + at, size)
+            number = step if step >= 0 else it.count + step
+            if it.kind != _ARRAY_KIND or not 0 <= number < it.count:
+                return None
+            place = _part_at(front + at, size, number)
+        if place.status != OK:
+            return None
+        type_, at, size = place.type, at + place.offset, place.length
+    return type_, at, size
+
+
 def payload_of(document: bytes, place: Place) -> bytes:
     """The bytes at a place."""
     offset = place.offset
@@ -277,6 +396,45 @@ def build(call: Callable[..., int], rows: Sequence[bytes]) -> bytes:
     guess = end + 4 * len(rows) + 8
     count = len(offsets)
     return result_of(call, guess, b"".join(rows), end, ctypes.addressof(offsets), count)
+
+
+# A part of a result: bytes, or the parts that it is made of.
+Parts = Union[bytes, memoryview, List[Any]]
+
+
+def object_of(members: Mapping[bytes, Tuple[int, int, Parts]]) -> Tuple[int, Parts]:
+    """The length and the parts of an object, given each member's type, length and parts.
+
+    Nothing is copied, so objects in one another cost no more than their members. What is made of
+    the parts is to be passed to `to_canonical`, which checks it. InvalidDocumentError: a member is
+    too long.
+    """
+    names = sorted(members)
+    parts: List[Parts] = [b"", b"".join(names)]
+    end = 4 + 8 * len(names) + sum(map(len, names))
+    words = [OBJECT << 24 | len(names), *(TYPE_STRING | len(name) for name in names)]
+    for name in names:
+        type_, length, part = members[name]
+        if length > MOST_CHILD_BYTES:
+            raise error_of(INVALID_JSONB)
+        words.append(type_ | length)
+        parts.append(part)
+        end += length
+    parts[0] = struct.pack(f">{len(words)}I", *words)
+    return end, parts
+
+
+def joined(parts: Parts) -> bytes:
+    """The bytes of parts."""
+    found: List[Union[bytes, memoryview]] = []
+    left = [parts]
+    while left:
+        part = left.pop()
+        if isinstance(part, list):
+            left += reversed(part)
+        else:
+            found.append(part)
+    return b"".join(found)
 
 
 def _document_of_part(type_: int, payload: bytes) -> bytes:

@@ -1,0 +1,427 @@
+"""Documents that are asked and changed without being unpacked."""
+import doctest
+import unittest
+from collections import OrderedDict, UserDict
+from decimal import Decimal
+from enum import IntEnum
+from types import MappingProxyType
+
+import kohiblad
+from kohiblad import (ArrayDocument, DEPTH, Document, FloatError, InvalidTextError, KohibladError,
+                      NumberError, ObjectDocument, ScalarDocument, TooDeepError, TooManyStepsError,
+                      _changes, _document, _library)
+from models import FewNames, at_path, contains, edited, has_key, merged, scalars
+
+ROUNDS = 3000
+# The deepest array.
+DEEPEST = Document.parse("[" * DEPTH + "]" * DEPTH)
+NO_STEPS = (None, 1.5, True, b"a", bytearray(b"a"), memoryview(b"a"), Decimal(1), {"a"}, {"a": 1},
+            object(), [None], ["a", b"b"], [["a"]], ("a", False), [1.0])
+
+
+class Size(IntEnum):
+    LARGE = 1
+
+
+class Name(str):
+    def encode(self, *arguments):
+        return b"x"
+
+
+def value_of(it):
+    return it.value() if isinstance(it, Document) else it
+
+
+class FunctionTest(unittest.TestCase):
+    def assert_is(self, document, value):
+        """It is the document of the value, in the form that is written today."""
+        self.assertEqual(bytes(document), bytes(Document.of(value)))
+        self.assertIs(type(document), type(Document.of(value)))
+
+
+class ExampleTest(unittest.TestCase):
+    def test_the_examples_of_the_methods(self):
+        result = doctest.testmod(_document)
+        self.assertEqual(result.failed, 0)
+        self.assertGreater(result.attempted, 20)
+
+
+class ContainsTest(FunctionTest):
+    def test_known_answers(self):
+        for left, right, expected in (
+                ([1, 2], [2, 2, 1], True), ([1, 2], 2, True), (2, [2], False),
+                ([[1, 2]], 2, False), ([[1, 2]], [2], False), ([[1, 2]], [[2]], True),
+                ({"a": [1, 2]}, {"a": 2}, False), ({"a": 1, "b": 2}, {"b": 2}, True),
+                (5, Decimal("5.0"), True), (1, True, False), ([], [], True), ({}, [], False),
+                ([{}], [[]], False), (None, None, True), ([None], None, True),
+                ({"a": {"b": [{"c": 1, "d": 2}]}}, {"a": {"b": [{"d": 2}]}}, True)):
+            with self.subTest(left=left, right=right):
+                self.assertIs(Document.of(left).contains(right), expected)
+                self.assertIs(Document.of(left).contains(Document.of(right)), expected)
+
+    def test_answers_as_the_model(self):
+        values, found = FewNames(seed=41), 0
+        for _ in range(ROUNDS):
+            left = values.any(depth=4)
+            right = values.part(left)
+            expected = contains(left, right)
+            document = Document.of(left)
+            self.assertIs(document.contains(right), expected, (left, right))
+            if expected:
+                found += 1
+                self.assertLessEqual(set(Document.of(right).index_keys()),
+                                     set(document.index_keys()))
+        self.assertTrue(ROUNDS / 2 < found < ROUNDS)
+
+    def test_a_budget_of_steps(self):
+        left = Document.of([[number] for number in range(100)])
+        right = Document.of([[number] for number in range(99, -1, -1)])
+        for steps in (0, 1, 100):
+            with self.assertRaises(TooManyStepsError) as refused:
+                left.contains(right, steps)
+            self.assertIsInstance(refused.exception, KohibladError)
+            self.assertEqual((refused.exception.status, refused.exception.name),
+                             (18, "TooManySteps"))
+        for steps in (201 * 201, 2**63, 2**64, 2**80, None):
+            self.assertTrue(left.contains(right, steps=steps))
+        for steps in (-1, -2**80):
+            with self.assertRaisesRegex(ValueError, "steps"):
+                left.contains(right, steps)
+        for steps in ("1", 1.5):
+            with self.assertRaises(TypeError):
+                left.contains(right, steps)
+
+    def test_what_is_no_value_is_refused(self):
+        with self.assertRaises(FloatError):
+            DEEPEST.contains([1.5])
+        with self.assertRaises(TypeError):
+            DEEPEST.contains(object())
+
+
+class KeyTest(FunctionTest):
+    def test_has_key_as_the_model(self):
+        values = FewNames(seed=42)
+        for _ in range(ROUNDS):
+            value, name = values.any(depth=2), values.text()
+            document = Document.of(value)
+            is_there = has_key(value, name)
+            self.assertIs(document.has_key(name), is_there)
+            top, = Document.of(name).top_keys()
+            self.assertIs(top in document.top_keys(), is_there)
+            if document.kind in ("array", "object"):
+                self.assertIs(name in document, is_there)
+
+    def test_what_is_no_key(self):
+        self.assertFalse(Document.of({"\ufffd": 1}).has_key("\ud800"))
+        for name in (None, 1, b"a", ["a"]):
+            with self.assertRaisesRegex(TypeError, "a key is a str"):
+                Document.of({"a": 1}).has_key(name)
+
+    def test_index_keys(self):
+        values = FewNames(seed=43)
+        for _ in range(300):
+            value = values.any(depth=4)
+            keys = Document.of(value).index_keys()
+            self.assertEqual(len(keys), scalars(value))
+            self.assertTrue(all(type(it) is int and 0 <= it < 2**64 for it in keys))
+        self.assertEqual(Document.of(5).index_keys(), Document.parse("[[5.0]]").index_keys())
+        self.assertNotEqual(Document.of({"a": 5}).index_keys(), Document.of(5).index_keys())
+        for value in ([], {}, {"a": [{}]}):
+            self.assertEqual(Document.of(value).index_keys(), [])
+        self.assertEqual(Document.of([1, {"a": "b"}]).top_keys(), [])
+
+    def test_more_keys_than_the_usual_room_holds(self):
+        numbers = Document.of(list(range(50_000)))
+        self.assertEqual(len(set(numbers.index_keys())), 50_000)
+        names = Document.of({f"n{number}": None for number in range(50_000)})
+        self.assertEqual(len(set(names.top_keys())), 50_000)
+
+
+class PathTest(FunctionTest):
+    def test_get_path_as_the_model(self):
+        values, found = FewNames(seed=44), 0
+        for _ in range(ROUNDS):
+            value = values.any(depth=4)
+            path = values.path(value)
+            expected = at_path(value, path)
+            missing = object()
+            child = Document.of(value).get_path(*path, default=missing)
+            # In a long document the way is another one.
+            long = Document.of([0, {"": value, "long": "x" * 5000}])
+            other = long.get_path(1, "", *path, default=missing)
+            self.assertEqual(type(other), type(child))
+            if expected:
+                self.assertEqual(bytes(Document.of(other)), bytes(Document.of(child)))
+                found += 1
+                self.assert_is(Document.of(child), expected[0])
+                self.assertIs(isinstance(child, Document), isinstance(expected[0], (list, dict)))
+                self.assertIs(type(value_of(child)), type(expected[0]))
+            else:
+                self.assertIs(child, missing)
+        self.assertTrue(ROUNDS / 2 < found < ROUNDS)
+
+    def test_paths_that_lead_nowhere(self):
+        row = Document.parse('{"a": [1, {"b": null}], "\ufffd": 2}')
+        for path in (("x",), ("a", 2), ("a", -3), ("a", 2**64), ("a", -2**64), ("a", "0"), (0,),
+                     ("a", 0, 0), ("a", 1, "b", "c"), ("\ud800",), ("a",) * 5000):
+            self.assertIsNone(row.get_path(*path))
+            self.assertEqual(row.get_path(*path, default="none"), "none")
+        self.assertIs(row.get_path(), row)
+        self.assertEqual(Document.of(5).get_path(), 5)
+        self.assertIsNone(Document.of(5).get_path("a"))
+        self.assertEqual(row.get_path("a", Size.LARGE), Document.of({"b": None}))
+        self.assertEqual(len(DEEPEST.get_path(*[0] * (DEPTH - 1), default="none")), 0)
+
+    def test_a_child_as_a_document(self):
+        values = FewNames(seed=45)
+        for _ in range(300):
+            items, members = ([values.any(depth=2) for _ in range(4)] for _ in range(2))
+            array, row = Document.of(items), Document.of(dict(zip("abcd", members)))
+            for index in range(-4, 4):
+                self.assert_is(array.item(index), items[index])
+            for name, value in zip("abcd", members):
+                self.assert_is(row.member(name), value)
+        long = Document.of(["x" * 300, b"y" * 300])
+        self.assertIsInstance(long.item(0), ScalarDocument)
+        self.assertEqual([it.value() for it in map(long.item, (0, 1))], ["x" * 300, b"y" * 300])
+        with self.assertRaises(IndexError):
+            long.item(2)
+        with self.assertRaises(TypeError):
+            long.item("a")
+        for name in ("x", "\ud800", 5):
+            with self.assertRaises(KeyError):
+                row.member(name)
+        with self.assertRaises(AttributeError):
+            long.member("a")
+
+    def test_steps_that_are_none_are_refused_by_each_call(self):
+        row = Document.parse('{"a": [1]}')
+        for path in NO_STEPS:
+            for call in (lambda it: row.set(it, 1), lambda it: row.insert(it, 1), row.without,
+                         lambda it: row.without("a", it),
+                         lambda it: row.without(*["a"] * 20, it)):
+                with self.subTest(path=path):
+                    with self.assertRaisesRegex(TypeError, "a step of a path is a str or an int"):
+                        call(path)
+        for step in (None, 1.5, True, b"a", ["a"]):
+            with self.assertRaisesRegex(TypeError, "a step of a path is a str or an int"):
+                row.get_path(step)
+        for path in ("\ud800", ["a", "\udfff"]):
+            for call in (lambda it: row.set(it, 1), row.without):
+                with self.assertRaises(InvalidTextError):
+                    call(path)
+        with self.assertRaises(InvalidTextError):
+            row.without(*["a"] * 20, "\ud800")
+
+
+class EditTest(FunctionTest):
+    def test_edits_as_the_model(self):
+        values = FewNames(seed=46)
+        for _ in range(ROUNDS):
+            value, new = values.any(depth=4), values.any(depth=2)
+            path = values.path(value)
+            document = Document.of(value)
+            self.assert_is(document.set(path, new), edited(value, path, "put", new))
+            self.assert_is(document.insert(path, Document.of(new)),
+                           edited(value, path, "insert", new))
+            self.assert_is(document.without(path), edited(value, path, "remove"))
+            self.assert_is(document, value)
+
+    def test_forms_of_a_path(self):
+        row = Document.parse('{"a": [1, 2], "x": 0}')
+        for path in (["a", 1], ("a", -1), Document.of(["a", 1]), ("a", Size.LARGE),
+                     [Name("a"), 1], ("a", 1)):
+            self.assert_is(row.set(path, 5), {"a": [1, 5], "x": 0})
+        self.assert_is(row.set(Name("a"), 5), {"a": 5, "x": 0})
+        self.assert_is(row.set("a\"\n\0", 5), {"a": [1, 2], "a\"\n\0": 5, "x": 0})
+        self.assert_is(row.set("", 5), {"": 5, "a": [1, 2], "x": 0})
+        long = "n" * 5000
+        self.assert_is(row.set(long, 5).set([long, 1], 6).without("a"), {long: 5, "x": 0})
+        self.assert_is(row.set([], 5), 5)
+        self.assert_is(row.insert([], 5), row)
+        self.assert_is(row.without([]), row)
+        self.assert_is(row.without(), row)
+        array = Document.parse("[1, 2]")
+        for far in (2, 2**31, 2**63, 2**64, 10**50):
+            self.assert_is(array.set(far, 5), [1, 2, 5])
+            self.assert_is(array.insert(-far - 1, 5), [5, 1, 2])
+            self.assert_is(array.without(far, -far - 1), [1, 2])
+
+    def test_paths_that_lead_nowhere_change_nothing(self):
+        row = Document.parse('{"a": [1, 2], "x": 0}')
+        for path in (["b", "c"], ["x", "y"], [0], ["a", "b"], ["a", 5, 0], ["a"] * 5000):
+            self.assert_is(row.set(path, DEEPEST), row)
+            self.assert_is(row.insert(path, DEEPEST), row)
+            self.assert_is(row.without(path), row)
+        self.assert_is(row.insert("a", DEEPEST), row)
+        self.assert_is(Document.of(5).set("a", 1), 5)
+
+    def test_without_many_names(self):
+        names = [f"n{number}" for number in range(40)]
+        row = {name: [number, {"a": b"x"}] for number, name in enumerate(names)}
+        document = Document.of(row)
+        for count in range(0, 40, 3):
+            left = {name: row[name] for name in names[count:]}
+            self.assert_is(document.without(*names[:count]), left)
+            self.assert_is(document.without(*names[:count], "x", "\0", *names[:count]), left)
+        self.assert_is(document.without(*names), {})
+        self.assert_is(document.without(*map(Name, names)), {})
+        self.assert_is(Document.of(names).without(*names), names)
+        self.assert_is(Document.of(names).without(*[0] * 39), names[39:])
+
+    def test_old_forms_are_rewritten(self):
+        """A whole number in more bytes than it needs is not kept, also where nothing changes."""
+        wide = bytes.fromhex("80000001" "20000003" "500005")
+        old = Document(wide)
+        self.assertNotEqual(wide, bytes(Document.of([5])))
+        for document in (old.set(1, 6).without(1), old.insert("x", 0), old.without(7), old + [],
+                         Document.of([[]]).set(0, old).get_path(0)):
+            self.assert_is(document, [5])
+        inner = Document(bytes.fromhex("40000001" "10000001" "5000000b" "61") + wide)
+        for document in (inner | {}, inner.merge({}), inner.merge({"b": None}),
+                         inner.merge({"b": {}}).without("b"), inner.without(*"bcdefghijklm"),
+                         Document.of({}).merge(inner), Document.of(1).merge(inner)):
+            self.assert_is(document, {"a": [5]})
+        self.assert_is(Document.of({}).merge(old), [5])
+
+    def test_values_that_are_refused(self):
+        row = Document.parse('{"a": 1}')
+        for error, value in ((FloatError, 1.5), (TypeError, object()), (NumberError, 2**127),
+                             (InvalidTextError, "\ud800"), (TypeError, {1: 2})):
+            for call in (lambda: row.set("a", value), lambda: row.insert("a", value),
+                         lambda: row | {"a": value}, lambda: row.merge({"b": value}),
+                         lambda: Document.of([]) + [value]):
+                with self.assertRaises(error):
+                    call()
+
+    def test_as_deep_as_is_allowed(self):
+        inside = DEEPEST.get_path(0)
+        for document in (Document.of([5]).set(0, inside), Document.of([]).insert(0, inside),
+                         Document.of([5]).set([], DEEPEST), DEEPEST.set([0] * (DEPTH - 1), []),
+                         Document.of([5]) + [inside], Document.of({}) | {"a": inside},
+                         Document.of({}).merge({"a": inside})):
+            self.assertEqual(bytes(Document(bytes(document))), bytes(document))
+        self.assertEqual(DEEPEST.set([0] * DEPTH, 5).get_path(*[0] * DEPTH), 5)
+        long = Document.of(["x" * 100_000])
+        self.assertEqual(DEEPEST.set([0] * (DEPTH - 1), long).get_path(*[0] * DEPTH), "x" * 100_000)
+        for call in (lambda: Document.of([5]).set(0, DEEPEST),
+                     lambda: Document.of([5]).set(0, [DEEPEST]),
+                     lambda: Document.of({}).insert("a", DEEPEST),
+                     lambda: DEEPEST.set([0] * DEPTH, []),
+                     lambda: DEEPEST.set([0] * DEPTH, long),
+                     lambda: DEEPEST.insert([0] * DEPTH, {}),
+                     lambda: Document.of({}) | {"a": DEEPEST},
+                     lambda: Document.of({}).merge({"a": DEEPEST})):
+            with self.assertRaises(TooDeepError) as refused:
+                call()
+            self.assertIn("1000 deep", str(refused.exception))
+
+
+class JoinTest(FunctionTest):
+    def test_objects(self):
+        values = FewNames(seed=47)
+        for _ in range(500):
+            left, right = ({values.text(): values.any(depth=2) for _ in range(4)}
+                           for _ in range(2))
+            document = Document.of(left)
+            for other in (right, Document.of(right), OrderedDict(right), UserDict(right),
+                          MappingProxyType(right)):
+                self.assert_is(document | other, {**left, **right})
+                self.assert_is(other | document, {**right, **left})
+        changed = before = Document.of({"a": 1})
+        changed |= {"b": 2}
+        self.assertIsInstance(changed, ObjectDocument)
+        self.assert_is(changed, {"a": 1, "b": 2})
+        self.assert_is(before, {"a": 1})
+
+    def test_arrays(self):
+        values = FewNames(seed=48)
+        for _ in range(500):
+            left, right = ([values.any(depth=2) for _ in range(size)] for size in (3, 2))
+            array = Document.of(left)
+            self.assertIsInstance(array + right, ArrayDocument)
+            for other in (right, tuple(right), Document.of(right)):
+                self.assert_is(array + other, left + right)
+                self.assert_is(other + array, right + left)
+
+    def test_others_are_refused(self):
+        row, array, scalar = map(Document.of, ({"a": 1}, [1], 5))
+        for left in (row, array, scalar):
+            for right in (row, array, scalar, {"a": 1}, [1], (1,), 5, "a", None):
+                if left is not row or right is not row and right != {"a": 1}:
+                    with self.assertRaises(TypeError):
+                        left | right
+                if left is not array or right is not array and right not in ([1], (1,)):
+                    with self.assertRaises(TypeError):
+                        left + right
+        with self.assertRaisesRegex(TypeError, "is no str"):
+            row | {1: 2}
+
+
+class MergeTest(FunctionTest):
+    def test_the_cases_of_the_rfc(self):
+        """RFC 7396, appendix A."""
+        for line in ('{"a":"b"}|{"a":"c"}|{"a":"c"}', '{"a":"b"}|{"b":"c"}|{"a":"b","b":"c"}',
+                     '{"a":"b"}|{"a":null}|{}', '{"a":"b","b":"c"}|{"a":null}|{"b":"c"}',
+                     '{"a":["b"]}|{"a":"c"}|{"a":"c"}', '{"a":"c"}|{"a":["b"]}|{"a":["b"]}',
+                     '{"a":{"b":"c"}}|{"a":{"b":"d","c":null}}|{"a":{"b":"d"}}',
+                     '{"a":[{"b":"c"}]}|{"a":[1]}|{"a":[1]}', '["a","b"]|["c","d"]|["c","d"]',
+                     '{"a":"b"}|["c"]|["c"]', '{"a":"foo"}|null|null', '{"a":"foo"}|"bar"|"bar"',
+                     '{"e":null}|{"a":1}|{"a":1,"e":null}', '[1,2]|{"a":"b","c":null}|{"a":"b"}',
+                     '{}|{"a":{"bb":{"ccc":null}}}|{"a":{"bb":{}}}'):
+            target, patch, result = line.split("|")
+            self.assertEqual(str(Document.parse(target).merge(Document.parse(patch))), result)
+            self.assertEqual(str(Document.parse(target).merge(kohiblad.loads(patch))), result)
+
+    def test_patches_as_the_model(self):
+        values = FewNames(seed=49)
+        for _ in range(ROUNDS):
+            value = values.any(depth=5)
+            patch = values.patch(value)
+            self.assert_is(Document.of(value).merge(patch), merged(value, patch))
+            if isinstance(patch, dict):
+                data = _changes._merged_anew(bytes(Document.of(value)), bytes(Document.of(patch)))
+                self.assert_is(Document(data), merged(value, patch))
+
+    def test_deep_patches(self):
+        for name, bottom in (("a", b"x" * 5000), ("é", 5)):
+            target = patch = None
+            for _ in range(DEPTH - 1):
+                target, patch = {name: target, "t": 1, "u": 2}, {name: patch, "p": 3, "t": None}
+            target, patch = Document.of({name: target, "z": bottom}), Document.of({name: patch})
+            expected = bottom
+            result = target.merge(patch)
+            self.assertEqual(result["z"], expected)
+            self.assertEqual(bytes(Document(bytes(result))), bytes(result))
+            inner = result
+            for _ in range(DEPTH - 1):
+                inner = inner[name]
+                self.assertEqual((inner["p"], inner["u"], "t" in inner), (3, 2, False))
+            self.assertNotIn(name, inner)
+
+    def test_many_members(self):
+        row = {f"n{number}": {"a": number, "b": Decimal(number) / 4} for number in range(5000)}
+        patch = {name: None if number % 3 else {"a": None, "c": [number]}
+                 for number, name in enumerate(row)}
+        self.assert_is(Document.of(row).merge(patch), merged(row, patch))
+
+
+class LimitTest(unittest.TestCase):
+    def test_members_that_are_too_long(self):
+        """What is too long for a member is refused before it is made."""
+        with self.assertRaises(kohiblad.InvalidDocumentError):
+            _library.object_of({b"a": (_library.TYPE_CONTAINER, 2**28, b"")})
+
+    def test_few_and_short_paths_are_kept(self):
+        row = Document.of({"a": 1})
+        before = dict(_changes._kept_paths)
+        for number in range(300):
+            row.set(["x" * 300, number], 1)
+        self.assertEqual(_changes._kept_paths, before)
+        for number in range(1000):
+            row.set(["x", number], 1)
+        self.assertLessEqual(len(_changes._kept_paths), 256)
+
+
+if __name__ == "__main__":
+    unittest.main()
