@@ -30,6 +30,29 @@ def exact(text):
     return json.loads(text, parse_float=Decimal)
 
 
+def as_text(value):
+    return json.dumps(value, separators=(",", ":"), ensure_ascii=False, default=float)
+
+
+def set_in_text(text):
+    row = exact(text)
+    row["count"] = 18
+    return as_text(row)
+
+
+def merge_in_text(text):
+    row = exact(text)
+    row.update(count=18, ok=False)
+    del row["note"]
+    return as_text(row)
+
+
+def set_in_rows(text):
+    rows = exact(text)
+    rows[500]["count"] = 18
+    return as_text(rows)
+
+
 def number_of(row):
     return row["id"]
 
@@ -42,12 +65,12 @@ def cases():
     array = "[" + ",".join(texts[:1_000]) + "]"
     dated = dict(value, at=datetime(2026, 11, 27, 2, 30))
     stored_rows = [bytes(Document.parse(text)) for text in texts]
-    json_options = {"separators": (",", ":"), "ensure_ascii": False, "default": float}
+    stored_array = bytes(Document.parse(array))
+    part, patch = Document.of({"tags": ["red"]}), {"count": 18, "ok": False, "note": None}
     return [
         ("`loads` of a row", 1_000, lambda: loads(ROW), lambda: exact(ROW)),
         ("`loads` of 1,000 rows in an array", 1, lambda: loads(array), lambda: exact(array)),
-        ("`dumps` of a row", 1_000, lambda: dumps(value),
-         lambda: json.dumps(value, **json_options)),
+        ("`dumps` of a row", 1_000, lambda: dumps(value), lambda: as_text(value)),
         ("`Document.parse(text)`", 1_000, lambda: Document.parse(ROW), None),
         ("`Document.of(value)`", 1_000, lambda: Document.of(value), None),
         ("`Document.of(value)` with a `datetime`", 1_000, lambda: Document.of(dated), None),
@@ -57,6 +80,20 @@ def cases():
         ("`document[\"price\"]`", 1_000, lambda: document["price"], None),
         ("`dict(document)`", 1_000, lambda: dict(document), None),
         ("`document.value()`", 1_000, document.value, None),
+        ("stored row: `set(\"count\", 18)`", 1_000,
+         lambda: bytes(Document(stored).set("count", 18)), lambda: set_in_text(ROW)),
+        ("stored row: `merge` of three members, one null", 1_000,
+         lambda: bytes(Document(stored).merge(patch)), lambda: merge_in_text(ROW)),
+        ("stored row: `without(\"note\")`", 1_000,
+         lambda: bytes(Document(stored).without("note")), None),
+        ("stored row: `contains` of a document", 1_000, lambda: Document(stored).contains(part),
+         lambda: "red" in exact(ROW)["tags"]),
+        ("stored row: `get_path(\"tags\", 0)`", 1_000,
+         lambda: Document(stored).get_path("tags", 0), lambda: exact(ROW)["tags"][0]),
+        ("stored row: `index_keys()`", 1_000, lambda: Document(stored).index_keys(), None),
+        ("1,000 stored rows in an array: `set([500, \"count\"], 18)`", 1,
+         lambda: bytes(Document(stored_array).set([500, "count"], 18)),
+         lambda: set_in_rows(array)),
         ("10,000 stored rows: `sorted(documents)`", 1,
          lambda: sorted(map(Document, stored_rows)), None),
         ("10,000 stored rows: `sorted(documents, key=Document.key)`", 1,

@@ -73,13 +73,21 @@ class NativeTest(unittest.TestCase):
                    "            refused += 1\n"
                    "for call in (lambda: native.parse('[]'), lambda: native.member(b'', 5),\n"
                    "             lambda: type(native.names(b'\\x80\\0\\0\\0'))(),\n"
+                   "             lambda: native.edit(b'', b'', 0),\n"
+                   "             lambda: native.edit(5, b'', 0, b''),\n"
+                   "             lambda: native.edit(b'', b'', 'a', b''),\n"
+                   "             lambda: native.edit(b'', b'', 2**80, b''),\n"
+                   "             lambda: native.concat(5, 5), lambda: native.concat(b'', b''),\n"
+                   "             lambda: native.places(b'', 0, 1),\n"
+                   "             lambda: native.places(b'\\x80\\0\\0\\0', 2**70, 0),\n"
+                   "             lambda: native.places(b'\\x80\\0\\0\\1', 0, 4),\n"
                    "             lambda: native.bind(1, 2), lambda: native.bind({}, {}),\n"
                    "             lambda: native.value(b'\\x80\\0\\0\\0')):\n"
                    "    try:\n"
                    "        call()\n"
-                   "    except (TypeError, ValueError, RuntimeError):\n"
+                   "    except (TypeError, ValueError, RuntimeError, OverflowError):\n"
                    "        refused += 1\n"
-                   "print(refused >= 20)\n")
+                   "print(refused >= 35)\n")
         self.assertEqual(run("-c", program, KOHIBLAD_NATIVE="1"), (0, "True\n", ""))
 
     def test_no_memory_is_kept(self):
@@ -101,6 +109,9 @@ class NativeTest(unittest.TestCase):
                    "            if call is Document.of:\n"
                    "                it.value(), it.key(), list(it) if it.kind == 'array' else 0\n"
                    "                dict(it) if it.kind == 'object' else 0, it.canonical()\n"
+                   "                it.set('a', 1), it.without(0), it.merge({'a': {'b': None}})\n"
+                   "                it.get_path('a', 0), it.contains(1), it.index_keys()\n"
+                   "                it | it if it.kind == 'object' else 0\n"
                    "    for text in texts:\n"
                    "        try:\n"
                    "            loads(text)\n"

@@ -4,10 +4,13 @@ The library makes each copy, in the one form that is written today.
 """
 import operator
 from collections.abc import Sequence as AnySequence
-from typing import Any, Dict, Generator, List, Optional, Sequence, Tuple, Union
+from typing import Any, Dict, Generator, Iterable, List, Optional, Sequence, Tuple, Union
 
 from . import _library as library
 from ._encode import DEPTH, bytes_of_text, parse, text_of_str
+
+if library.IS_NATIVE:
+    from . import _native as native
 
 Step = Union[str, int]
 DocumentPath = Union[Step, Sequence[Step]]
@@ -57,8 +60,11 @@ def edited(data: bytes, steps: Tuple[Step, ...], edit: int, value: bytes = b"") 
     TooDeepError: it would nest too deep. InvalidDocumentError: it is past a limit of the format.
     """
     path = _document_of_path(steps)
-    result = library.result_of(library.edit, len(data) + len(path) + len(value) + 64, data,
-                               len(data), path, len(path), edit, value, len(value), DEPTH)
+    if library.IS_NATIVE:
+        result = native.edit(data, path, edit, value)
+    else:
+        result = library.result_of(library.edit, len(data) + len(path) + len(value) + 64, data,
+                                   len(data), path, len(path), edit, value, len(value), DEPTH)
     # Each level of the value takes four bytes, so that most documents need no look at them.
     if len(steps) + len(value) // 4 > DEPTH and not library.check(result, len(result), DEPTH):
         raise library.error_of(library.TOO_DEEP,
@@ -80,6 +86,8 @@ def without(data: bytes, paths: Sequence[Any]) -> bytes:
 
 def concat(left: bytes, right: bytes) -> bytes:
     """Two objects or two arrays as one."""
+    if library.IS_NATIVE:
+        return native.concat(left, right)
     return library.result_of(library.concat, len(left) + len(right) + 64, left, len(left), right,
                              len(right), DEPTH)
 
@@ -96,7 +104,7 @@ def merged(target: bytes, patch: bytes) -> bytes:
         return _canonical(patch)
     if not _is_object(target, 0):
         return _merged_anew(target, patch)
-    members = list(library.places(patch, 0, len(patch)))
+    members = list(_places(patch, 0, len(patch)))
     if all(_is_put(patch, type_, at) for _, type_, at, _ in members):
         return concat(target, patch)
     edits = _edits_of(target, patch, members) if len(members) <= _FEW else None
@@ -137,7 +145,7 @@ def _edits_of(target: bytes, patch: bytes, members: Sequence[Tuple[bytes, int, i
             if not before or before[0] != library.TYPE_CONTAINER \
                     or not _is_object(target, before[1]):
                 return None
-            for name, inner_type, inner_at, inner_length in library.places(patch, at, length):
+            for name, inner_type, inner_at, inner_length in _places(patch, at, length):
                 count += 1
                 if count > _FEW:
                     return None
@@ -156,7 +164,7 @@ def _merged_anew(target: bytes, patch: bytes) -> bytes:
     def merger(places: _Patched) -> Generator[_Patched, Any, Tuple[int, library.Parts]]:
         before, place = places
         members, offsets = _members_of(target, before) if before else ({}, {})
-        for name, type_, at, length in library.places(patch, *place):
+        for name, type_, at, length in _places(patch, *place):
             if type_ == library.TYPE_NULL:
                 members.pop(name, None)
             elif type_ == library.TYPE_CONTAINER and _is_object(patch, at):
@@ -179,10 +187,15 @@ def _members_of(data: bytes, place: Tuple[int, int]) -> Tuple[_Members, Dict[byt
     members: _Members = {}
     offsets: Dict[bytes, int] = {}
     view = memoryview(data)
-    for name, type_, at, length in library.places(data, *place):
+    for name, type_, at, length in _places(data, *place):
         members[name] = type_, length, view[at:at + length]
         offsets[name] = at
     return members, offsets
+
+
+def _places(data: bytes, at: int, size: int) -> Iterable[Tuple[bytes, int, int, int]]:
+    """The key, type, offset and length of each child of the array or object at an offset."""
+    return native.places(data, at, size) if library.IS_NATIVE else library.places(data, at, size)
 
 
 def _is_object(data: bytes, at: int) -> bool:
@@ -191,4 +204,6 @@ def _is_object(data: bytes, at: int) -> bool:
 
 
 def _canonical(data: bytes) -> bytes:
+    if library.IS_NATIVE:
+        return native.to_canonical(data)
     return library.result_of(library.to_canonical, len(data) + 64, data, len(data))

@@ -657,10 +657,10 @@ def dumps(value: Any) -> str:
 
 if IS_NATIVE:
     native.bind(
-        library.addresses("begin", "boolean", "build_array", "build_object", "check",
-                          "extension", "find", "key", "kind", "next", "number", "of_extension",
-                          "of_part", "parse", "part", "text", "to_canonical", "to_pretty",
-                          "to_string"),
+        library.addresses("begin", "boolean", "build_array", "build_object", "check", "concat",
+                          "edit", "extension", "find", "key", "kind", "next", "number",
+                          "of_extension", "of_part", "parse", "part", "text", "to_canonical",
+                          "to_pretty", "to_string"),
         {"scalar_document": ScalarDocument, "object_document": ObjectDocument,
          "array_document": ArrayDocument, "data_slot": vars(Document)["_data"],
          "key_slot": vars(Document)["_key"], "decimal": Decimal, "bytes_of_text": bytes_of_text,

@@ -6,9 +6,9 @@
 static const struct { const char *name; size_t offset; } exports[] = {
 #define EXPORT(name) { #name, offsetof(struct library, name) }
     EXPORT(begin), EXPORT(boolean), EXPORT(build_array), EXPORT(build_object), EXPORT(check),
-    EXPORT(extension), EXPORT(find), EXPORT(key), EXPORT(kind), EXPORT(next), EXPORT(number),
-    EXPORT(of_extension), EXPORT(of_part), EXPORT(parse), EXPORT(part), EXPORT(text),
-    EXPORT(to_canonical), EXPORT(to_pretty), EXPORT(to_string),
+    EXPORT(concat), EXPORT(edit), EXPORT(extension), EXPORT(find), EXPORT(key), EXPORT(kind),
+    EXPORT(next), EXPORT(number), EXPORT(of_extension), EXPORT(of_part), EXPORT(parse),
+    EXPORT(part), EXPORT(text), EXPORT(to_canonical), EXPORT(to_pretty), EXPORT(to_string),
 };
 
 static const struct { const char *name; size_t offset; } objects[] = {
@@ -137,8 +137,7 @@ void close_room(struct room *room)
     Py_CLEAR(room->bytes);
 }
 
-/* Makes a room of this size. False with an exception: no memory. */
-static bool open_room(struct room *room, size_t size)
+bool open_room(struct room *room, size_t size)
 {
     close_room(room);
     room->size = size > NEAR_SIZE ? size : NEAR_SIZE;
@@ -385,9 +384,10 @@ PyObject *native_to_string(PyObject *module, PyObject *data)
 #define ONE(name) { #name, native_##name, METH_O, NULL }
 
 static PyMethodDef functions[] = {
-    FAST(bind), FAST(check), FAST(contains), ONE(count), ONE(dumps), FAST(item), ONE(key),
-    ONE(kind), ONE(loads), FAST(member), ONE(names), ONE(of), FAST(of_extension), ONE(pairs),
-    FAST(parse), ONE(to_canonical), ONE(to_pretty), ONE(to_string), ONE(value), ONE(values),
+    FAST(bind), FAST(check), FAST(concat), FAST(contains), ONE(count), ONE(dumps), FAST(edit),
+    FAST(item), ONE(key), ONE(kind), ONE(loads), FAST(member), ONE(names), ONE(of),
+    FAST(of_extension), ONE(pairs), FAST(parse), FAST(places), ONE(to_canonical), ONE(to_pretty),
+    ONE(to_string), ONE(value), ONE(values),
     { NULL, NULL, 0, NULL },
 };
 

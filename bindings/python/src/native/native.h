@@ -39,6 +39,8 @@ struct library {
     __typeof__(kohiblad_export_build_array) *build_array;
     __typeof__(kohiblad_export_build_object) *build_object;
     __typeof__(kohiblad_export_check) *check;
+    __typeof__(kohiblad_export_concat) *concat;
+    __typeof__(kohiblad_export_edit) *edit;
     __typeof__(kohiblad_export_extension) *extension;
     __typeof__(kohiblad_export_find) *find;
     __typeof__(kohiblad_export_key) *key;
@@ -99,6 +101,8 @@ enum call { CALL_KEY, CALL_PARSE, CALL_TO_CANONICAL, CALL_TO_PRETTY, CALL_TO_STR
  * the status, or OK with *failed set: Python was refused memory, and has an exception. */
 uint32_t call_into(struct state *state, enum call call, const uint8_t *bytes, size_t size,
                    size_t depth, bool exponents, struct room *room, bool *failed);
+/* Makes a room of this size. False with an exception: no memory. */
+bool open_room(struct room *room, size_t size);
 void close_room(struct room *room);
 
 /* Parses a text into a room. False with the exception that Document.parse raises: it is refused. */
@@ -133,9 +137,11 @@ extern PyType_Spec walk_spec;
 
 /* The functions of the module, as _native.pyi lists them. */
 PyObject *native_check(PyObject *module, PyObject *const *arguments, Py_ssize_t count);
+PyObject *native_concat(PyObject *module, PyObject *const *arguments, Py_ssize_t count);
 PyObject *native_contains(PyObject *module, PyObject *const *arguments, Py_ssize_t count);
 PyObject *native_count(PyObject *module, PyObject *data);
 PyObject *native_dumps(PyObject *module, PyObject *value);
+PyObject *native_edit(PyObject *module, PyObject *const *arguments, Py_ssize_t count);
 PyObject *native_item(PyObject *module, PyObject *const *arguments, Py_ssize_t count);
 PyObject *native_key(PyObject *module, PyObject *data);
 PyObject *native_kind(PyObject *module, PyObject *data);
@@ -146,6 +152,7 @@ PyObject *native_of(PyObject *module, PyObject *value);
 PyObject *native_of_extension(PyObject *module, PyObject *const *arguments, Py_ssize_t count);
 PyObject *native_pairs(PyObject *module, PyObject *data);
 PyObject *native_parse(PyObject *module, PyObject *const *arguments, Py_ssize_t count);
+PyObject *native_places(PyObject *module, PyObject *const *arguments, Py_ssize_t count);
 PyObject *native_to_canonical(PyObject *module, PyObject *data);
 PyObject *native_to_pretty(PyObject *module, PyObject *data);
 PyObject *native_to_string(PyObject *module, PyObject *data);
