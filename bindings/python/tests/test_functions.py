@@ -283,6 +283,10 @@ class EditTest(FunctionTest):
                          Document.of({}).merge(inner), Document.of(1).merge(inner)):
             self.assert_is(document, {"a": [5]})
         self.assert_is(Document.of({}).merge(old), [5])
+        outer = Document(bytes.fromhex("40000001" "10000001" "50000018" "6f") + bytes(inner))
+        for document in (outer.merge({"o": {}}), outer.merge({"o": {"b": None}}),
+                         outer.merge({"o": {"b": {}}}).without(["o", "b"])):
+            self.assert_is(document, {"o": {"a": [5]}})
 
     def test_values_that_are_refused(self):
         row = Document.parse('{"a": 1}')

@@ -92,6 +92,8 @@ def concat(left: bytes, right: bytes) -> bytes:
                              len(right), DEPTH)
 
 
+# The steps, the edit and the value.
+_Edit = Tuple[Tuple[str, ...], int, bytes]
 # By the names of members: the type, the length and the parts of each.
 _Members = Dict[bytes, Tuple[int, int, library.Parts]]
 # An object that is patched, if it is one, and the object of its patch: their offsets and lengths.
@@ -105,29 +107,33 @@ def merged(target: bytes, patch: bytes) -> bytes:
     if not _is_object(target, 0):
         return _merged_anew(target, patch)
     members = list(_places(patch, 0, len(patch)))
-    if all(_is_put(patch, type_, at) for _, type_, at, _ in members):
-        return concat(target, patch)
+    nulls = [name for name, type_, _, _ in members if type_ == library.TYPE_NULL]
+    if len(nulls) <= _FEW and not any(_has_object(patch, type_, at) for _, type_, at, _ in members):
+        result = concat(target, patch)
+        for name in nulls:
+            result = edited(result, (name.decode(),), library.REMOVE)
+        return result
     edits = _edits_of(target, patch, members) if len(members) <= _FEW else None
     if edits is None:
         return _merged_anew(target, patch)
+    result = target
     for steps, edit, value in edits:
-        target = edited(target, steps, edit, value)
-    return target if edits else _canonical(target)
+        result = edited(result, steps, edit, value)
+    return result if edits else _canonical(target)
 
 
-def _is_put(patch: bytes, type_: int, at: int) -> bool:
-    """Whether a member of a patch replaces what is there: it is neither null nor an object."""
-    return not _is_object(patch, at) if type_ == library.TYPE_CONTAINER \
-        else type_ != library.TYPE_NULL
+def _has_object(data: bytes, type_: int, at: int) -> bool:
+    """Whether the child at an offset is an object."""
+    return type_ == library.TYPE_CONTAINER and _is_object(data, at)
 
 
 def _edits_of(target: bytes, patch: bytes, members: Sequence[Tuple[bytes, int, int, int]]) \
-        -> Optional[List[Tuple[Tuple[str, ...], int, bytes]]]:
-    """The edits of a merge patch, given its members: the steps, the edit and the value of each.
+        -> Optional[List[_Edit]]:
+    """The edits of a merge patch, given its members.
 
     None: there are many, or the patch has an object for what is none.
     """
-    edits: List[Tuple[Tuple[str, ...], int, bytes]] = []
+    edits: List[_Edit] = []
     left: List[Tuple[Tuple[str, ...], int, int, int]] = [
         ((name.decode(),), type_, at, length) for name, type_, at, length in members]
     count = len(left)
@@ -135,15 +141,14 @@ def _edits_of(target: bytes, patch: bytes, members: Sequence[Tuple[bytes, int, i
         steps, type_, at, length = left.pop()
         if type_ == library.TYPE_NULL:
             edits.append((steps, library.REMOVE, b""))
-        elif _is_put(patch, type_, at):
+        elif not _has_object(patch, type_, at):
             value = patch[at:at + length]
             if type_ != library.TYPE_CONTAINER:
                 value = library.scalar_document(type_, value)
             edits.append((steps, library.PUT, value))
         else:
             before = library.place_of_path(target, [it.encode() for it in steps])
-            if not before or before[0] != library.TYPE_CONTAINER \
-                    or not _is_object(target, before[1]):
+            if not before or not _has_object(target, *before[:2]):
                 return None
             for name, inner_type, inner_at, inner_length in _places(patch, at, length):
                 count += 1
@@ -167,10 +172,9 @@ def _merged_anew(target: bytes, patch: bytes) -> bytes:
         for name, type_, at, length in _places(patch, *place):
             if type_ == library.TYPE_NULL:
                 members.pop(name, None)
-            elif type_ == library.TYPE_CONTAINER and _is_object(patch, at):
+            elif _has_object(patch, type_, at):
                 old = None
-                if name in members and members[name][0] == library.TYPE_CONTAINER \
-                        and _is_object(target, offsets[name]):
+                if name in members and _has_object(target, members[name][0], offsets[name]):
                     old = offsets[name], members[name][1]
                 length, parts = yield old, (at, length)
                 members[name] = type_, length, parts
