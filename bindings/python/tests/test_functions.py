@@ -172,6 +172,14 @@ class PathTest(FunctionTest):
         self.assertEqual(row.get_path("a", Size.LARGE), Document.of({"b": None}))
         self.assertEqual(len(DEEPEST.get_path(*[0] * (DEPTH - 1), default="none")), 0)
 
+    def test_a_text_that_looks_like_a_document_is_none(self):
+        text = bytes(Document.of({"b": None})).decode()
+        for row in ({"a": text}, {"a": text, "long": "x" * 5000}):
+            document = Document.of(row)
+            self.assertEqual(document.get_path("a", "b", default="none"), "none")
+            self.assert_is(document.set(["a", "b"], 1), row)
+            self.assert_is(document.merge({"a": {"b": 1}}), {**row, "a": {"b": 1}})
+
     def test_a_child_as_a_document(self):
         values = FewNames(seed=45)
         for _ in range(300):
@@ -411,6 +419,15 @@ class MergeTest(FunctionTest):
 
 
 class LimitTest(unittest.TestCase):
+    def test_a_patch_of_many_members_is_no_list_of_edits(self):
+        for count, depth in ((1, 8), (8, 1), (9, 1), (1, 9), (3, 3)):
+            target = patch = {f"n{number}": 1 for number in range(count)}
+            for _ in range(depth - 1):
+                target = patch = {"a": patch}
+            data = bytes(Document.of(target))
+            edits = _changes._edits_of(data, data, list(_library.places(data, 0, len(data))))
+            self.assertEqual(edits is None, count + depth - 1 > 8)
+
     def test_members_that_are_too_long(self):
         """What is too long for a member is refused before it is made."""
         with self.assertRaises(kohiblad.InvalidDocumentError):

@@ -113,7 +113,7 @@ def merged(target: bytes, patch: bytes) -> bytes:
         for name in nulls:
             result = edited(result, (name.decode(),), library.REMOVE)
         return result
-    edits = _edits_of(target, patch, members) if len(members) <= _FEW else None
+    edits = _edits_of(target, patch, members)
     if edits is None:
         return _merged_anew(target, patch)
     result = target
@@ -138,6 +138,8 @@ def _edits_of(target: bytes, patch: bytes, members: Sequence[Tuple[bytes, int, i
         ((name.decode(),), type_, at, length) for name, type_, at, length in members]
     count = len(left)
     while left:
+        if count > _FEW:
+            return None
         steps, type_, at, length = left.pop()
         if type_ == library.TYPE_NULL:
             edits.append((steps, library.REMOVE, b""))
@@ -151,10 +153,8 @@ def _edits_of(target: bytes, patch: bytes, members: Sequence[Tuple[bytes, int, i
             if not before or not _has_object(target, *before[:2]):
                 return None
             for name, inner_type, inner_at, inner_length in _places(patch, at, length):
-                count += 1
-                if count > _FEW:
-                    return None
                 left.append(((*steps, name.decode()), inner_type, inner_at, inner_length))
+                count += 1
     return edits
 
 

@@ -166,10 +166,8 @@ class Document:
         """
         other_data = _data_of(other)
         size, other_size = len(self._data), len(other_data)
-        truth = library.contains(self._data, size, other_data, other_size, DEPTH, _budget_of(steps))
-        if truth.status != library.OK:
-            raise library.error_of(truth.status)
-        return bool(truth.value)
+        return library.is_true(library.contains(self._data, size, other_data, other_size, DEPTH,
+                                                _budget_of(steps)))
 
     def has_key(self, name: str) -> bool:
         """Whether an object has this key, an array this text among its items, or it is this text.
@@ -182,8 +180,7 @@ class Document:
         data = _utf8_of_name(name)
         if data is None:
             return False
-        truth = library.exists(self._data, len(self._data), data, len(data), DEPTH)
-        return bool(truth.value)
+        return library.is_true(library.exists(self._data, len(self._data), data, len(data), DEPTH))
 
     def get_path(self, *steps: Step, default: Any = None) -> Any:
         """The value at the end of a path, or the default if the path leads nowhere.

@@ -289,6 +289,13 @@ def error_of(status: int, message: str = "") -> KohibladError:
     return _ERRORS.get(status, KohibladError)(status, status_name(status), message)
 
 
+def is_true(truth: Truth) -> bool:
+    """What a call says of a document."""
+    if truth.status != OK:
+        raise error_of(truth.status)
+    return bool(truth.value)
+
+
 def children(document: bytes) -> Iterator[Tuple[bytes, int, bytes]]:
     """The key, type and payload of each child of an array or object; an item's key is empty."""
     size = len(document)
