@@ -1,10 +1,13 @@
 """Documents that are asked and changed without being unpacked."""
 import doctest
+import subprocess
+import sys
 import unittest
 from collections import OrderedDict, UserDict
 from decimal import Decimal
 from enum import IntEnum
 from types import MappingProxyType
+from unittest import mock
 
 import kohiblad
 from kohiblad import (ArrayDocument, DEPTH, Document, FloatError, InvalidTextError, KohibladError,
@@ -416,6 +419,53 @@ class MergeTest(FunctionTest):
         patch = {name: None if number % 3 else {"a": None, "c": [number]}
                  for number, name in enumerate(row)}
         self.assert_is(Document.of(row).merge(patch), merged(row, patch))
+
+
+class StackTest(unittest.TestCase):
+    def test_a_value_that_is_too_deep_is_refused_before_it_is_put(self):
+        with mock.patch.object(_changes, "_edited", wraps=_changes._edited) as call:
+            for path in ([0] * DEPTH, ["a"], 0):
+                try:
+                    DEEPEST.set(path, DEEPEST)
+                except TooDeepError:
+                    pass
+            self.assertEqual(call.call_count, 6)
+            self.assertTrue(all(len(it.args[3]) == 8 for it in call.call_args_list))
+
+    def run_in_thread(self, size, program):
+        """Runs a program in a thread with a stack of this size; a smaller one ends by a signal."""
+        whole = ("import threading\n"
+                 "from kohiblad import DEPTH, Document, TooDeepError\n"
+                 "def run():\n" + program +
+                 f"threading.stack_size({size})\n"
+                 "thread = threading.Thread(target=run)\n"
+                 "thread.start()\n"
+                 "thread.join()\n")
+        done = subprocess.run([sys.executable, "-c", whole], stdout=subprocess.PIPE)
+        self.assertEqual((done.returncode, done.stdout), (0, b"done\n"))
+
+    def test_readme_s_64_levels(self):
+        self.run_in_thread(256 << 10, (
+            "    for open, close, step in (('[', ']', 0), ('{\"a\":', '}', 'a')):\n"
+            "        row = Document.parse(open * 64 + '0' + close * 64, depth=64)\n"
+            "        inner = row.set([step] * 64, 1).insert([step] * 64, 2).without([step] * 64)\n"
+            "        assert inner.get_path(*[step] * 63).kind in ('array', 'object')\n"
+            "        assert row.contains(row) and len(row.index_keys()) == 1\n"
+            "        row.merge(row), row.top_keys(), row.has_key('a')\n"
+            "    print('done')\n"))
+
+    def test_readme_s_1000_levels(self):
+        self.run_in_thread(2_200 << 10, (
+            "    deepest = Document.parse('[' * DEPTH + ']' * DEPTH)\n"
+            "    for call in (deepest.set, deepest.insert):\n"
+            "        try:\n"
+            "            call([0] * DEPTH, deepest)\n"
+            "        except TooDeepError:\n"
+            "            continue\n"
+            "        print('put')\n"
+            "    assert deepest.set([0] * DEPTH, 5).without([0] * DEPTH) == deepest\n"
+            "    assert deepest.contains(deepest)\n"
+            "    print('done')\n"))
 
 
 class LimitTest(unittest.TestCase):

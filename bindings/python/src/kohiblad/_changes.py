@@ -60,16 +60,32 @@ def edited(data: bytes, steps: Tuple[Step, ...], edit: int, value: bytes = b"") 
     TooDeepError: it would nest too deep. InvalidDocumentError: it is past a limit of the format.
     """
     path = _document_of_path(steps)
-    if library.IS_NATIVE:
-        result = native.edit(data, path, edit, value)
-    else:
-        result = library.result_of(library.edit, len(data) + len(path) + len(value) + 64, data,
-                                   len(data), path, len(path), edit, value, len(value), DEPTH)
     # Each level of the value takes four bytes, so that most documents need no look at them.
-    if len(steps) + len(value) // 4 > DEPTH and not library.check(result, len(result), DEPTH):
+    if len(steps) + len(value) // 4 > DEPTH \
+            and not library.check(value, len(value), max(DEPTH - len(steps), 0)):
+        return _unchanged(data, path, edit)
+    return _edited(data, path, edit, value)
+
+
+def _unchanged(data: bytes, path: bytes, edit: int) -> bytes:
+    """A document after an edit whose value is too deep for the end of the path.
+
+    TooDeepError: the value would be put there, so that another value gives another document. The
+    library is not asked to put it: the deeper its result, the more stack it needs.
+    """
+    document, other = (_edited(data, path, edit, library.scalar_document(type_, b""))
+                       for type_ in (library.TYPE_NULL, library.TYPE_TRUE))
+    if document != other:
         raise library.error_of(library.TOO_DEEP,
                                f"the document would nest more than {DEPTH} deep")
-    return result
+    return document
+
+
+def _edited(data: bytes, path: bytes, edit: int, value: bytes) -> bytes:
+    if library.IS_NATIVE:
+        return native.edit(data, path, edit, value)
+    return library.result_of(library.edit, len(data) + len(path) + len(value) + 64, data,
+                             len(data), path, len(path), edit, value, len(value), DEPTH)
 
 
 def without(data: bytes, paths: Sequence[Any]) -> bytes:
