@@ -91,7 +91,7 @@ class NativeTest(unittest.TestCase):
         self.assertEqual(run("-c", program, KOHIBLAD_NATIVE="1"), (0, "True\n", ""))
 
     def test_no_memory_is_kept(self):
-        """The count of references to what goes in and comes out, after many calls of each kind."""
+        """What a run keeps in each of its turns; Python's own stores grow in some of them only."""
         program = ("import gc, sys\n"
                    "from kohiblad import Document, dumps, loads\n"
                    "from models import Values\n"
@@ -106,7 +106,7 @@ class NativeTest(unittest.TestCase):
                    "                it = call(value)\n"
                    "            except (TypeError, ValueError):\n"
                    "                continue\n"
-                   "            if call is Document.of:\n"
+                   "            if isinstance(it, Document):\n"
                    "                it.value(), it.key(), list(it) if it.kind == 'array' else 0\n"
                    "                dict(it) if it.kind == 'object' else 0, it.canonical()\n"
                    "                it.set('a', 1), it.without(0), it.merge({'a': {'b': None}})\n"
@@ -120,12 +120,12 @@ class NativeTest(unittest.TestCase):
                    "def blocks():\n"
                    "    gc.collect()\n"
                    "    return sys.getallocatedblocks()\n"
-                   "for _ in range(20):\n"
-                   "    run()\n"
-                   "before = blocks()\n"
-                   "for _ in range(20):\n"
-                   "    run()\n"
-                   "print(blocks() - before < 100)\n")
+                   "def growth():\n"
+                   "    before = blocks()\n"
+                   "    for _ in range(10):\n"
+                   "        run()\n"
+                   "    return blocks() - before\n"
+                   "print(min(growth() for _ in range(8)) < 10)\n")
         self.assertEqual(run("-c", program, KOHIBLAD_NATIVE="1"), (0, "True\n", ""))
 
 
