@@ -9,3 +9,4 @@ pub mod JoinLaws
 pub mod JoinShapes
 pub mod TopKeyLaws
 pub mod StoredPathLaws
+pub mod SelectLaws

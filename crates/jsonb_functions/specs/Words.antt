@@ -19,7 +19,7 @@ pub use Rattle.jsonb_codec.specs.Source.{LevelIs, level_size}
 pub use Rattle.jsonb.specs.Document.{document_tree}
 pub use Rattle.jsonb.specs.EntryTrees.{rest_pairs, rest_trees}
 pub use Rattle.jsonb.specs.Node.{HoldsNoScalar, IsContainer, member_tree, node_tree, object_of}
-pub use Rattle.jsonb.specs.Node.{pairs_of, value_of_key}
+pub use Rattle.jsonb.specs.Node.{pairs_of, tree_list, value_of_key}
 pub use Rattle.jsonb.specs.Owned.{owned_bytes}
 pub use Rattle.jsonb_functions.specs.Contains.{contained, contains_whole, has_top_key}
 pub use Rattle.jsonb_functions.specs.Contains.{items_contained, items_in, members_contained}
@@ -36,6 +36,9 @@ pub use Rattle.jsonb_functions.specs.JoinSource.{MaybeObject, RunIs, keys_size, 
 pub use Rattle.jsonb_functions.specs.JoinSource.{maybe_members_size, maybe_object_size, run_size}
 pub use Rattle.jsonb_functions.specs.Joined.{items_or_one, joined, merged}
 pub use Rattle.jsonb_functions.specs.Path.{item_place, position_view}
+pub use Rattle.jsonb_functions.specs.Selected.{between, children_at, chosen_trees, first_tree}
+pub use Rattle.jsonb_functions.specs.Selected.{first_trees, items_before, items_through}
+pub use Rattle.jsonb_functions.specs.Selected.{member_trees, selected}
 pub use Rattle.jsonb_functions.specs.Steps.{FoundIn}
 pub use Rattle.jsonb_functions.specs.StoredPath.{path_in, step_in, step_to, step_view}
 pub use Rattle.jsonb_functions.specs.TopKeys.{hash_of_key, item_hashes, member_hashes, text_hashes}

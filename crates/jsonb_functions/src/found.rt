@@ -19,8 +19,8 @@ pub fn get_path<'a>(document: Document<'a>, path: &[Step<'_>]) -> Option<Node<'a
     Some(node)
 }
 
-// The child that a step leads to.
-fn child_of<'a>(node: Node<'a>, step: Step<'_>) -> Option<Node<'a>>
+/// The child that a step leads to.
+pub fn child_of<'a>(node: Node<'a>, step: Step<'_>) -> Option<Node<'a>>
     ensures { option_map node_tree result ≡ child_at step.entry (node_tree node.entry) }
 {
     let Node::Container(document) = node else {

@@ -1,0 +1,67 @@
+-- What a path with wildcards selects.
+use Rattle.std.specs.Prelude.{ℕ, suc, ◌-◌, min, List, [], ◌∷◌, length, map, take, drop, flat_map}
+use Rattle.std.specs.Prelude.{Option, None, Some, option_to_list}
+use Rattle.jsonb_value.specs.Tree.{Tree, object}
+use Rattle.jsonb.specs.EntryTrees.{rest_trees, rest_pairs}
+use Rattle.jsonb.specs.Node.{node_tree, pair_list, tree_list}
+use Rattle.jsonb_functions.specs.declared.path.Step.TheVariants as steps
+use Rattle.jsonb_functions.specs.declared.selection.Bound.{Bound}
+use Rattle.jsonb_functions.specs.declared.selection.Bound.TheVariants as bounds
+use Rattle.jsonb_functions.specs.declared.selection.Chosen.{Chosen}
+use Rattle.jsonb_functions.specs.declared.selection.Chosen.TheVariants as walks
+use Rattle.jsonb_functions.specs.declared.selection.FirstItems.{FirstItems}
+use Rattle.jsonb_functions.specs.declared.selection.Selector.{Selector}
+use Rattle.jsonb_functions.specs.declared.selection.Selector.TheVariants.{AllItems, AllMembers}
+use Rattle.jsonb_functions.specs.declared.selection.Selector.TheVariants.{FromEnd, Index, Key}
+use Rattle.jsonb_functions.specs.declared.selection.Selector.TheVariants.{Range}
+use Rattle.jsonb_functions.specs.Contains.{items_in}
+use Rattle.jsonb_functions.specs.Found.{child_at}
+
+-- How many of n items are before a bound.
+abbrev pub items_before : Bound → ℕ → ℕ
+items_before (bounds.FromStart i) n = min i n
+items_before (bounds.FromEnd i) n = n - suc i
+
+-- How many of n items are up to a bound, with the item there.
+abbrev pub items_through : Bound → ℕ → ℕ
+items_through (bounds.FromStart i) n = min (suc i) n
+items_through (bounds.FromEnd i) n = n - i
+
+-- The items from the first bound to the last one.
+abbrev pub between : Bound → Bound → List Tree → List Tree
+between first last ts =
+    drop (items_before first (length ts)) (take (items_through last (length ts)) ts)
+
+-- The values of an object's members; none of any other tree.
+abbrev pub member_trees : Tree → List Tree
+member_trees (object ps) = map (λ p. p.1) (pair_list ps)
+member_trees t = []
+
+-- The children that a selector leads to, in the order in which they are stored.
+abbrev pub children_at : Selector → Tree → List Tree
+children_at (Key k) t = option_to_list (child_at (steps.Key k) t)
+children_at (Index i) t = option_to_list (child_at (steps.Index i) t)
+children_at (FromEnd i) t = option_to_list (child_at (steps.FromEnd i) t)
+children_at AllItems t = tree_list (items_in t)
+children_at AllMembers t = member_trees t
+children_at (Range first last) t = between first last (tree_list (items_in t))
+
+-- What is at the ends of all ways that a path allows, in the order in which it is stored.
+abbrev pub selected : List Selector → Tree → List Tree
+selected [] t = t ∷ []
+selected (s ∷ path) t = flat_map (λ u. selected path u) (children_at s t)
+
+-- The first tree, if there is one.
+abbrev pub first_tree : List Tree → Option Tree
+first_tree [] = None
+first_tree (t ∷ ts) = Some t
+
+-- So many of the items that are left in a walk over them.
+abbrev pub first_trees : FirstItems → List Tree
+first_trees first = take first.count (rest_trees first.items)
+
+-- The children that are left in a walk over them.
+abbrev pub chosen_trees : Chosen → List Tree
+chosen_trees (walks.Child child) = map node_tree (option_to_list child)
+chosen_trees (walks.Items first) = first_trees first
+chosen_trees (walks.Members members) = map (λ p. p.1) (rest_pairs members)

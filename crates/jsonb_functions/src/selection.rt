@@ -1,0 +1,226 @@
+//! The values that paths with wildcards select.
+
+ghost use Rattle.std.specs.Prelude.{◌≡◌, ◌++◌, IfErr, IfOk, OnOk, drop, length, map, option_map};
+ghost use Rattle.std.specs.Prelude.{is_some};
+ghost use Rattle.jsonb_functions.specs.Words.{YieldsFirstBy, between, children_at, chosen_trees};
+ghost use Rattle.jsonb_functions.specs.Words.{document_tree, first_tree, first_trees, items_before};
+ghost use Rattle.jsonb_functions.specs.Words.{items_in, items_through, member_trees, node_tree};
+ghost use Rattle.jsonb_functions.specs.Words.{rest_trees, selected, tree_list};
+
+use crate::found::child_of;
+use crate::path::Step;
+use crate::walk::{next_item, next_member};
+use jsonb::{Document, Error, Items, Members, Node};
+use std::alloc::Global;
+
+/// An end of a range of items: an index, counted from 0, from the start or from the end:
+/// `FromEnd(0)` is the last item.
+#[derive(Clone, Copy, Debug)]
+pub enum Bound {
+    FromStart(usize),
+    FromEnd(usize),
+}
+
+/// A step of a path with wildcards: the value of a key, an item of an array from the start or the
+/// end, each item of an array, each member's value of an object, or the items of an array from one
+/// to another, both included.
+#[derive(Clone, Copy, Debug)]
+pub enum Selector<'a> {
+    Key(&'a str),
+    Index(usize),
+    FromEnd(usize),
+    AllItems,
+    AllMembers,
+    Range { first: Bound, last: Bound },
+}
+
+/// So many of the items that are left in a walk over them.
+#[derive(Drop)]
+pub struct FirstItems<'a> {
+    pub items: Items<'a>,
+    pub count: usize,
+}
+
+/// The children that a selector leads to, in a walk over them: a child or none, items, or the
+/// values of members.
+#[derive(Drop)]
+pub enum Chosen<'a> {
+    Child(Option<Node<'a>>),
+    Items(FirstItems<'a>),
+    Members(Members<'a>),
+}
+
+/// The values at the ends of all ways that a path allows, in the order in which they are stored.
+/// `OutOfMemory` is the only error.
+pub fn select<'a>(
+    alloc: Global,
+    document: Document<'a>,
+    path: &[Selector<'_>],
+) -> Result<Vec<Node<'a>>, Error>
+    ensures ok { IfOk result (λ nodes. map node_tree nodes.items
+        ≡ selected path.now (document_tree document.entry)) }
+    ensures memory { IfErr result (λ e. e ≡ Error.OutOfMemory) }
+{
+    let mut found = Vec::new(alloc);
+    append_selected(document.value(), path, &mut found)?;
+    Ok(found)
+}
+
+/// The first of the values that `select` returns. `None` if the path leads nowhere.
+pub fn select_first<'a>(document: Document<'a>, path: &[Selector<'_>]) -> Option<Node<'a>>
+    ensures { option_map node_tree result
+        ≡ first_tree (selected path.now (document_tree document.entry)) }
+{
+    first_selected(document.value(), path)
+}
+
+/// Whether a path leads to some value.
+pub fn exists_path(document: Document<'_>, path: &[Selector<'_>]) -> bool
+    ensures { result ≡ is_some (first_tree (selected path.now (document_tree document.entry))) }
+{
+    select_first(document, path).is_some()
+}
+
+// Appends the values to which a path leads from a value.
+fn append_selected<'a>(
+    node: Node<'a>,
+    path: &[Selector<'_>],
+    found: &mut Vec<Node<'a>>,
+) -> Result<(), Error>
+    ensures appended { OnOk result (map node_tree found.new.items
+        ≡ map node_tree found.old.items ++ selected path.now (node_tree node.entry)) }
+    ensures memory { IfErr result (λ e. e ≡ Error.OutOfMemory) }
+{
+    let [selector, rest @ ..] = path else {
+        found.push(node)?;
+        return Ok(());
+    };
+    let mut children = children_of(node, *selector);
+    while let Some(child) = next_child(&mut children) {
+        append_selected(child, rest, found)?;
+    }
+    Ok(())
+}
+
+// The first value to which a path leads from a value.
+fn first_selected<'a>(node: Node<'a>, path: &[Selector<'_>]) -> Option<Node<'a>>
+    ensures { option_map node_tree result
+        ≡ first_tree (selected path.now (node_tree node.entry)) }
+{
+    let [selector, rest @ ..] = path else {
+        return Some(node);
+    };
+    let mut children = children_of(node, *selector);
+    while let Some(child) = next_child(&mut children) {
+        if let Some(found) = first_selected(child, rest) {
+            return Some(found);
+        }
+    }
+    None
+}
+
+// The children that a selector leads to.
+fn children_of<'a>(node: Node<'a>, selector: Selector<'_>) -> Chosen<'a>
+    ensures { chosen_trees result ≡ children_at selector.entry (node_tree node.entry) }
+{
+    match selector {
+        Selector::Key(name) => Chosen::Child(child_of(node, Step::Key(name))),
+        Selector::Index(index) => Chosen::Child(child_of(node, Step::Index(index))),
+        Selector::FromEnd(index) => Chosen::Child(child_of(node, Step::FromEnd(index))),
+        Selector::AllItems => items_between(node, Bound::FromStart(0), Bound::FromEnd(0)),
+        Selector::AllMembers => values_of(node),
+        Selector::Range { first, last } => items_between(node, first, last),
+    }
+}
+
+// The items of an array between two bounds.
+fn items_between<'a>(node: Node<'a>, first: Bound, last: Bound) -> Chosen<'a>
+    ensures { chosen_trees result
+        ≡ between first last (tree_list (items_in (node_tree node.entry))) }
+{
+    let Node::Container(document) = node else {
+        return Chosen::Child(None);
+    };
+    let Some(mut items) = document.items() else {
+        return Chosen::Child(None);
+    };
+    let count = items.len();
+    let before = count_before(first, count);
+    let through = count_through(last, count);
+    skip_items(&mut items, before);
+    Chosen::Items(FirstItems {
+        items,
+        count: through.saturating_sub(before),
+    })
+}
+
+// The values of an object's members.
+fn values_of<'a>(node: Node<'a>) -> Chosen<'a>
+    ensures { chosen_trees result ≡ member_trees (node_tree node.entry) }
+{
+    let Node::Container(document) = node else {
+        return Chosen::Child(None);
+    };
+    match document.members() {
+        Some(members) => Chosen::Members(members),
+        None => Chosen::Child(None),
+    }
+}
+
+// How many of so many items are before a bound.
+fn count_before(bound: Bound, count: usize) -> usize
+    ensures { result ≡ items_before bound count }
+{
+    match bound {
+        Bound::FromStart(index) => index.min(count),
+        Bound::FromEnd(index) => count.saturating_sub(index.saturating_add(1)),
+    }
+}
+
+// How many of so many items are up to a bound, with the item there.
+fn count_through(bound: Bound, count: usize) -> usize
+    ensures { result ≡ items_through bound count }
+{
+    match bound {
+        Bound::FromStart(index) => index.saturating_add(1).min(count),
+        Bound::FromEnd(index) => count.saturating_sub(index),
+    }
+}
+
+// Passes over so many items, if there are so many.
+fn skip_items(items: &mut Items<'_>, count: usize)
+    ensures { rest_trees items.new ≡ drop count (rest_trees items.old) }
+{
+    let mut left = count;
+    while left > 0 {
+        if next_item(items).is_none() {
+            return;
+        }
+        left -= 1;
+    }
+}
+
+// The next of the items.
+fn next_first<'a>(first: &mut FirstItems<'a>) -> Option<Node<'a>>
+    ensures { YieldsFirstBy node_tree first_trees first.old result first.new }
+{
+    if first.count == 0 {
+        return None;
+    }
+    first.count -= 1;
+    next_item(&mut first.items)
+}
+
+// The next of the children.
+fn next_child<'a>(children: &mut Chosen<'a>) -> Option<Node<'a>>
+    ensures { YieldsFirstBy node_tree chosen_trees children.old result children.new }
+{
+    match children {
+        Chosen::Child(child) => child.take(),
+        Chosen::Items(first) => next_first(first),
+        Chosen::Members(members) => {
+            let (_, value) = next_member(members)?;
+            Some(value)
+        }
+    }
+}
