@@ -1,8 +1,8 @@
 // The functions over documents, on examples of PostgreSQL's documentation of `jsonb`.
 use jsonb::{Document, Error, Node, Number, OwnedJsonb};
 use jsonb_functions::{
-    Edit, Step, append_index_keys, append_top_keys, concat, contains, edit_document, exists,
-    get_path, read_path, top_key,
+    Bound, Edit, Selector, Step, append_index_keys, append_top_keys, concat, contains,
+    edit_document, exists, exists_path, get_path, read_path, select, select_first, top_key,
 };
 use std::alloc::Global;
 use std::test::Fail;
@@ -122,6 +122,75 @@ fn paths_given_as_documents(rt: HostRuntime) -> Result<(), Fail> {
             leads_to_five(rt.alloc(), document, text)? == is_five,
             "{text}"
         );
+    }
+    Ok(())
+}
+
+// A part of PostgreSQL's example of a track, and paths with wildcards with the numbers to which
+// they lead.
+const TRACK: &str = "{\"segments\":[{\"HR\":73,\"at\":[47,13]},{\"HR\":135,\"at\":[46,12]}]}";
+
+const SELECTED: &[(&[Selector<'static>], &[u64])] = &[
+    (
+        &[
+            Selector::Key("segments"),
+            Selector::AllItems,
+            Selector::Key("HR"),
+        ],
+        &[73, 135],
+    ),
+    (
+        &[
+            Selector::AllMembers,
+            Selector::FromEnd(0),
+            Selector::AllMembers,
+            Selector::AllItems,
+        ],
+        &[46, 12],
+    ),
+    (
+        &[
+            Selector::Key("segments"),
+            Selector::Range {
+                first: Bound::FromStart(1),
+                last: Bound::FromEnd(0),
+            },
+            Selector::Key("at"),
+            Selector::Index(1),
+        ],
+        &[12],
+    ),
+    (&[Selector::AllItems], &[]),
+];
+
+// The node of a number.
+fn number_node(number: u64) -> Node<'static> {
+    Node::Number(Number::UInt64(number))
+}
+
+// Whether nodes are these numbers.
+fn are_numbers(nodes: &[Node], numbers: &[u64]) -> bool {
+    if nodes.len() != numbers.len() {
+        return false;
+    }
+    for (node, number) in nodes.iter().zip(numbers) {
+        if *node != number_node(*number) {
+            return false;
+        }
+    }
+    true
+}
+
+#[test]
+fn values_selected_by_paths_with_wildcards(rt: HostRuntime) -> Result<(), Fail> {
+    let owned = OwnedJsonb::parse(rt.alloc(), TRACK)?;
+    let document = document_of(&owned)?;
+    for &(path, numbers) in SELECTED {
+        let nodes = select(rt.alloc(), document, path)?;
+        assert!(rt; are_numbers(&nodes, numbers));
+        assert!(rt; exists_path(document, path) != numbers.is_empty());
+        let first = numbers.first().map(|number| number_node(*number));
+        assert!(rt; select_first(document, path) == first);
     }
     Ok(())
 }
