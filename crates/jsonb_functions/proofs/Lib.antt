@@ -10,3 +10,6 @@ pub mod JoinShapes
 pub mod TopKeyLaws
 pub mod StoredPathLaws
 pub mod SelectLaws
+pub mod PathTextLaws
+pub mod PathStepLaws
+pub mod PathLaws

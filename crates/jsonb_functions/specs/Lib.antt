@@ -8,6 +8,7 @@ pub mod IndexKeys
 pub mod Joined
 pub mod JoinSource
 pub mod Path
+pub mod PathText
 pub mod Selected
 pub mod Steps
 pub mod StoredPath

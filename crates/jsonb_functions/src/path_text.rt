@@ -1,0 +1,202 @@
+//! Paths that are given as texts.
+
+ghost use Rattle.std.specs.Prelude.{◌≡◌, ◌↔◌, ◌∷◌, ◌++◌, ◌<◌, List, IfErr, IfOk, MatchOption};
+ghost use Rattle.std.specs.Prelude.{Some, map, option_map, slice_index, true};
+ghost use Rattle.std.specs.List.{prefix_len};
+ghost use Rattle.jsonb_functions.specs.Words.{PathText, ReadsStep, SelectorView, StopsAt, all_are};
+ghost use Rattle.jsonb_functions.specs.Words.{from_end_of, is_in_name, is_not, member_of};
+ghost use Rattle.jsonb_functions.specs.Words.{number_in, place_in, selector_view};
+
+use crate::selection::Selector;
+use jsonb::Error;
+use std::alloc::Global;
+
+/// The path that a text gives: `$`, and then its steps. `.name` is the value of a key, and so is
+/// `."any name"`, if there are points or brackets in it; `[7]` is an item, `[#-1]` the last one and
+/// `[#]` none, past the last one; `[*]` is each item and `.*` each member's value. The keys are the
+/// text's bytes, without escapes. An index past 64 bits is the greatest of 64 bits. `None` for any
+/// other text; `OutOfMemory`, the only error, if an allocation fails.
+pub fn read_path_text<'a>(alloc: Global, text: &'a str) -> Result<Option<Vec<Selector<'a>>>, Error>
+    ensures ok { IfOk result (λ path. (steps : List SelectorView) → PathText text.now steps
+        ↔ (option_map (λ selectors. map selector_view selectors.items) path ≡ Some steps)) }
+    ensures memory { IfErr result (λ e. e ≡ Error.OutOfMemory) }
+{
+    let [first, ..] = text.as_bytes() else {
+        return Ok(None);
+    };
+    if *first != b'$' {
+        return Ok(None);
+    }
+    let mut path = Vec::new(alloc);
+    let mut left = &text[1..];
+    while !left.is_empty() {
+        let Some((selector, rest)) = read_step(left) else {
+            return Ok(None);
+        };
+        path.push(selector)?;
+        left = rest;
+    }
+    Ok(Some(path))
+}
+
+// The first step of a text, and what is after it.
+fn read_step<'a>(text: &'a str) -> Option<(Selector<'a>, &'a str)>
+    ensures { ReadsStep text.now result }
+{
+    let [first, ..] = text.as_bytes() else {
+        return None;
+    };
+    if *first == b'.' {
+        read_member(&text[1..])
+    } else if *first == b'[' {
+        read_bracketed(&text[1..])
+    } else {
+        None
+    }
+}
+
+// A step after a point, and what is after it.
+fn read_member<'a>(text: &'a str) -> Option<(Selector<'a>, &'a str)>
+    ensures { ReadsStep (46 ∷ text.now) result }
+{
+    let [first, ..] = text.as_bytes() else {
+        return None;
+    };
+    if *first == b'"' {
+        read_quoted(&text[1..])
+    } else {
+        read_plain(text)
+    }
+}
+
+// A key up to a quote, and what is after that.
+fn read_quoted<'a>(text: &'a str) -> Option<(Selector<'a>, &'a str)>
+    ensures { ReadsStep (46 ∷ (34 ∷ text.now)) result }
+{
+    match split_at(text, '"') {
+        Some((name, rest)) => Some((Selector::Key(name), rest)),
+        None => None,
+    }
+}
+
+// A key up to a point, a bracket or the end, or the step to each member, and what is after it.
+fn read_plain<'a>(text: &'a str) -> Option<(Selector<'a>, &'a str)>
+    requires { slice_index text.now 0 ≡ 34 → ⊥ }
+    ensures { ReadsStep (46 ∷ text.now) result }
+{
+    let (name, rest) = split_name(text);
+    if name.is_empty() {
+        None
+    } else {
+        Some((member_of(name), rest))
+    }
+}
+
+// The step to a key, or to each member.
+fn member_of<'a>(name: &'a str) -> Selector<'a>
+    ensures { selector_view result ≡ member_of name.now }
+{
+    if name == "*" {
+        Selector::AllMembers
+    } else {
+        Selector::Key(name)
+    }
+}
+
+// What is before the first point or bracket, and the rest.
+fn split_name(text: &str) -> (&str, &str)
+    ensures whole { text.now ≡ result.0.now ++ result.1.now }
+    ensures name { all_are is_in_name result.0.now ≡ true }
+    ensures rest { StopsAt is_in_name result.1.now }
+{
+    let end = name_len(text);
+    (&text[..end], &text[end..])
+}
+
+// How many bytes are before the first point or bracket.
+fn name_len(text: &str) -> usize
+    ensures { result ≡ prefix_len is_in_name text.now }
+{
+    let bytes = text.as_bytes();
+    bytes.iter().take_while(|byte| is_in_name(**byte)).count()
+}
+
+// Whether a byte is neither a point nor an opening bracket.
+fn is_in_name(byte: u8) -> bool
+    ensures { result ≡ is_in_name byte }
+{
+    byte != b'.' && byte != b'['
+}
+
+// What is before the first such character, and what is after it.
+fn split_at(text: &str, end: char) -> Option<(&str, &str)>
+    requires { end < 128 }
+    ensures { MatchOption result (all_are (is_not end) text.now ≡ true)
+        (λ parts. (text.now ≡ parts.0.now ++ (end ∷ parts.1.now))
+        × (all_are (is_not end) parts.0.now ≡ true)) }
+{
+    text.split_once(end)
+}
+
+// A step up to a closing bracket, and what is after that.
+fn read_bracketed<'a>(text: &'a str) -> Option<(Selector<'a>, &'a str)>
+    ensures { ReadsStep (91 ∷ text.now) result }
+{
+    match split_at(text, ']') {
+        Some((place, rest)) => match read_place(place.as_bytes()) {
+            Some(selector) => Some((selector, rest)),
+            None => None,
+        },
+        None => None,
+    }
+}
+
+// The step between brackets.
+fn read_place<'a>(place: &[u8]) -> Option<Selector<'a>>
+    ensures { option_map selector_view result ≡ place_in place.now }
+{
+    match place {
+        [b'*'] => Some(Selector::AllItems),
+        [b'#'] => Some(Selector::Index(usize::MAX)),
+        [b'#', b'-', digits @ ..] => {
+            let number = read_number(digits)?;
+            Some(item_from_end(number))
+        }
+        digits => {
+            let number = read_number(digits)?;
+            Some(Selector::Index(number))
+        }
+    }
+}
+
+// The item so far from the end, where 1 is the last item, and 0 is past it.
+fn item_from_end<'a>(number: usize) -> Selector<'a>
+    ensures { selector_view result ≡ from_end_of number }
+{
+    if number == 0 {
+        Selector::Index(usize::MAX)
+    } else {
+        Selector::FromEnd(number - 1)
+    }
+}
+
+// The number of decimal digits, or the greatest of 64 bits if it exceeds that.
+fn read_number(digits: &[u8]) -> Option<usize>
+    ensures { result ≡ number_in digits.now }
+{
+    if digits.is_empty() {
+        return None;
+    }
+    let mut number: usize = 0;
+    let mut left = digits;
+    while let [digit, rest @ ..] = left {
+        if !digit.is_ascii_digit() {
+            return None;
+        }
+        number = number
+            .saturating_mul(10)
+            .saturating_add((*digit - b'0') as usize);
+        left = rest;
+    }
+    Some(number)
+}
