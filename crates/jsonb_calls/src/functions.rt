@@ -2,7 +2,8 @@
 use jsonb::{Document, Error, Node, Number, OwnedJsonb};
 use jsonb_functions::{
     Bound, Edit, Selector, Step, append_index_keys, append_top_keys, concat, contains,
-    edit_document, exists, exists_path, get_path, read_path, select, select_first, top_key,
+    edit_document, exists, exists_path, get_path, read_path, read_path_text, select, select_first,
+    top_key,
 };
 use std::alloc::Global;
 use std::test::Fail;
@@ -191,6 +192,48 @@ fn values_selected_by_paths_with_wildcards(rt: HostRuntime) -> Result<(), Fail> 
         assert!(rt; exists_path(document, path) != numbers.is_empty());
         let first = numbers.first().map(|number| number_node(*number));
         assert!(rt; select_first(document, path) == first);
+    }
+    Ok(())
+}
+
+// Texts that give paths, with the numbers that these select in `TRACK`, or that give none.
+const PATH_TEXTS: &[(&str, Option<&[u64]>)] = &[
+    ("$.segments[*].HR", Some(&[73, 135])),
+    ("$.*[#-1].*[*]", Some(&[46, 12])),
+    ("$.\"segments\"[1].at[1]", Some(&[12])),
+    ("$.\"*\"[0]", Some(&[])),
+    ("$.segments[#]", Some(&[])),
+    ("$.segments[99999999999999999999]", Some(&[])),
+    ("segments", None),
+    ("$.", None),
+    ("$..HR", None),
+    ("$.\"segments", None),
+    ("$.segments[1", None),
+    ("$.segments[-1]", None),
+    ("$.segments[0] ", None),
+];
+
+// Whether the path of a text selects these numbers; nothing, if it gives no path.
+fn text_selects(
+    alloc: Global,
+    document: Document,
+    text: &str,
+    numbers: &[u64],
+) -> Result<Option<bool>, Error> {
+    let Some(path) = read_path_text(alloc, text)? else {
+        return Ok(None);
+    };
+    let nodes = select(alloc, document, &path)?;
+    Ok(Some(are_numbers(&nodes, numbers)))
+}
+
+#[test]
+fn paths_given_as_texts(rt: HostRuntime) -> Result<(), Fail> {
+    let owned = OwnedJsonb::parse(rt.alloc(), TRACK)?;
+    let document = document_of(&owned)?;
+    for &(text, numbers) in PATH_TEXTS {
+        let selects = text_selects(rt.alloc(), document, text, numbers.unwrap_or(&[]))?;
+        assert!(rt; selects == numbers.map(|_| true), "{text}");
     }
     Ok(())
 }
