@@ -9,7 +9,7 @@ use Rattle.jsonb_value.specs.Json.Numeral.{are_digits}
 use Rattle.jsonb_functions.specs.declared.selection.Bound.{Bound}
 use Rattle.jsonb_functions.specs.declared.selection.Selector.{Selector}
 use Rattle.jsonb_functions.specs.declared.selection.Selector.TheVariants as selectors
-use Rattle.jsonb_functions.specs.StoredPath.{StepView, key, index, from_end}
+use Rattle.jsonb_functions.specs.StoredPath.{StepView, key, index, from_end, step_then}
 
 -- A step of a path with wildcards, without where its key is stored.
 pub data SelectorView : Type 0 where
@@ -25,6 +25,18 @@ selector_view (selectors.FromEnd i) = step (from_end i)
 selector_view selectors.AllItems = all_items
 selector_view selectors.AllMembers = all_members
 selector_view (selectors.Range first last) = range first last
+
+-- The step that leads to one value, if it is one.
+abbrev pub single_step : SelectorView → Option StepView
+single_step (step s) = Some s
+single_step all_items = None
+single_step all_members = None
+single_step (range first last) = None
+
+-- The steps of a path that each lead to one value, if each does.
+abbrev pub single_steps : List SelectorView → Option (List StepView)
+single_steps [] = Some []
+single_steps (s ∷ path) = step_then (single_step s) (single_steps path)
 
 -- A step as it is written: a key as it is, a key between quotes, or a place between brackets.
 pub data Written : Type 0 where

@@ -22,7 +22,7 @@ pub use index::append_index_keys;
 pub use join::concat;
 pub use laws::index_key_laws;
 pub use path::Step;
-pub use path_text::read_path_text;
+pub use path_text::{read_path_text, steps_of_path};
 pub use selection::{Bound, Selector, exists_path, select, select_first};
 pub use stored_path::read_path;
 pub use top_keys::{append_top_keys, top_key};

@@ -5,8 +5,10 @@ ghost use Rattle.std.specs.Prelude.{Some, map, option_map, slice_index, true};
 ghost use Rattle.std.specs.List.{prefix_len};
 ghost use Rattle.jsonb_functions.specs.Words.{PathText, ReadsStep, SelectorView, StopsAt, all_are};
 ghost use Rattle.jsonb_functions.specs.Words.{from_end_of, is_in_name, is_not, member_of};
-ghost use Rattle.jsonb_functions.specs.Words.{number_in, place_in, selector_view};
+ghost use Rattle.jsonb_functions.specs.Words.{number_in, place_in, selector_view, single_step};
+ghost use Rattle.jsonb_functions.specs.Words.{single_steps, step_view};
 
+use crate::path::Step;
 use crate::selection::Selector;
 use jsonb::Error;
 use std::alloc::Global;
@@ -37,6 +39,40 @@ pub fn read_path_text<'a>(alloc: Global, text: &'a str) -> Result<Option<Vec<Sel
         left = rest;
     }
     Ok(Some(path))
+}
+
+/// The steps of a path without wildcards and ranges, as `get_path` and `edit_document` take them.
+/// `None` if it has any; `OutOfMemory`, the only error, if an allocation fails.
+pub fn steps_of_path<'a>(
+    alloc: Global,
+    path: &[Selector<'a>],
+) -> Result<Option<Vec<Step<'a>>>, Error>
+    ensures ok { IfOk result (λ steps. option_map (λ steps. map step_view steps.items) steps
+        ≡ single_steps (map selector_view path.now)) }
+    ensures memory { IfErr result (λ e. e ≡ Error.OutOfMemory) }
+{
+    let mut steps = Vec::with_capacity(alloc, path.len())?;
+    let mut left = path;
+    while let [selector, rest @ ..] = left {
+        let Some(step) = step_of(*selector) else {
+            return Ok(None);
+        };
+        steps.push(step)?;
+        left = rest;
+    }
+    Ok(Some(steps))
+}
+
+// The step of a path without wildcards and ranges.
+fn step_of<'a>(selector: Selector<'a>) -> Option<Step<'a>>
+    ensures { option_map step_view result ≡ single_step (selector_view selector.entry) }
+{
+    match selector {
+        Selector::Key(name) => Some(Step::Key(name)),
+        Selector::Index(index) => Some(Step::Index(index)),
+        Selector::FromEnd(index) => Some(Step::FromEnd(index)),
+        _ => None,
+    }
 }
 
 // The first step of a text, and what is after it.
