@@ -3,7 +3,7 @@ use jsonb::{Document, Error, Node, Number, OwnedJsonb};
 use jsonb_functions::{
     Bound, Edit, Selector, Step, append_index_keys, append_top_keys, concat, contains,
     edit_document, exists, exists_path, get_path, read_path, read_path_text, select, select_first,
-    top_key,
+    steps_of_path, top_key,
 };
 use std::alloc::Global;
 use std::test::Fail;
@@ -235,6 +235,31 @@ fn paths_given_as_texts(rt: HostRuntime) -> Result<(), Fail> {
         let selects = text_selects(rt.alloc(), document, text, numbers.unwrap_or(&[]))?;
         assert!(rt; selects == numbers.map(|_| true), "{text}");
     }
+    Ok(())
+}
+
+// The value to which the path of a text leads, if it gives a path without wildcards.
+fn value_at_text<'a>(
+    alloc: Global,
+    document: Document<'a>,
+    text: &str,
+) -> Result<Option<Node<'a>>, Error> {
+    let Some(path) = read_path_text(alloc, text)? else {
+        return Ok(None);
+    };
+    let Some(steps) = steps_of_path(alloc, &path)? else {
+        return Ok(None);
+    };
+    Ok(get_path(document, &steps))
+}
+
+#[test]
+fn steps_of_paths_without_wildcards(rt: HostRuntime) -> Result<(), Fail> {
+    let owned = OwnedJsonb::parse(rt.alloc(), TRACK)?;
+    let document = document_of(&owned)?;
+    let last = value_at_text(rt.alloc(), document, "$.segments[#-1].HR")?;
+    assert!(rt; last == Some(number_node(135)));
+    assert!(rt; value_at_text(rt.alloc(), document, "$.segments[*].HR")? == None);
     Ok(())
 }
 
