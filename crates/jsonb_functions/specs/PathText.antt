@@ -6,7 +6,10 @@ use Rattle.std.specs.Prelude.{Option, Some, None, option_map, IfSome, MatchOptio
 use Rattle.std.specs.Borrow.{Bor}
 use Rattle.std.specs.Str.Parse.{digits_value}
 use Rattle.jsonb_value.specs.Json.Numeral.{are_digits}
+use Rattle.std.specs.List.{after_first, before_first}
+use Rattle.std.specs.Option.{option_or}
 use Rattle.jsonb_functions.specs.declared.selection.Bound.{Bound}
+use Rattle.jsonb_functions.specs.declared.selection.Bound.TheVariants as bounds
 use Rattle.jsonb_functions.specs.declared.selection.Selector.{Selector}
 use Rattle.jsonb_functions.specs.declared.selection.Selector.TheVariants as selectors
 use Rattle.jsonb_functions.specs.StoredPath.{StepView, key, index, from_end, step_then}
@@ -75,28 +78,48 @@ member_of name = if bytes_eq name (codes "*") then all_members else step (key na
 abbrev pub number_in : List ℕ → Option ℕ
 number_in ds = if are_digits ds then Some (min (digits_value 10 ds) (2 ^ 64 - 1)) else None
 
--- No item: past the last one of any array.
-abbrev pub past_end : SelectorView
-past_end = step (index (2 ^ 64 - 1))
+-- The item so far from the end, where 1 is the last item, and 0 is past the last one of any array.
+abbrev pub from_end_of : ℕ → Bound
+from_end_of zero = bounds.FromStart (2 ^ 64 - 1)
+from_end_of (suc n) = bounds.FromEnd n
 
--- The item so far from the end, where 1 is the last item.
-abbrev pub from_end_of : ℕ → SelectorView
-from_end_of zero = past_end
-from_end_of (suc n) = step (from_end n)
-
--- The item at an index.
-abbrev pub index_in : List ℕ → Option SelectorView
-index_in ds = option_map (λ n. step (index n)) (number_in ds)
-
--- What is between brackets: `*` is each item, `#` none, `#-` and a number an item from the end, and
--- a number an item from the start.
-abbrev pub place_in : List ℕ → Option SelectorView
-place_in [] = None
-place_in (c ∷ []) =
-    if c == 42 then Some all_items else if c == 35 then Some past_end else index_in (c ∷ [])
-place_in (c ∷ (d ∷ ds)) =
+-- An item: a number from the start, `#-` and a number from the end, or `#`, past the last one.
+abbrev pub bound_in : List ℕ → Option Bound
+bound_in [] = None
+bound_in (c ∷ []) =
+    if c == 35 then Some (from_end_of 0)
+    else option_map (λ n. bounds.FromStart n) (number_in (c ∷ []))
+bound_in (c ∷ (d ∷ ds)) =
     if (c == 35) && (d == 45) then option_map from_end_of (number_in ds)
-    else index_in (c ∷ (d ∷ ds))
+    else option_map (λ n. bounds.FromStart n) (number_in (c ∷ (d ∷ ds)))
+
+-- The step to an item.
+abbrev pub item_at : Bound → SelectorView
+item_at (bounds.FromStart i) = step (index i)
+item_at (bounds.FromEnd i) = step (from_end i)
+
+abbrev pub is_space : ℕ → Bool
+is_space c = c == 32
+
+-- The range of two items, if both are there.
+abbrev pub range_of : Option Bound → Option Bound → Option SelectorView
+range_of (Some first) (Some last) = Some (range first last)
+range_of (Some first) None = None
+range_of None last = None
+
+-- The items from one to another: `first to last`, with single spaces.
+abbrev pub range_in : List ℕ → Option SelectorView
+range_in place =
+    let rest = after_first is_space place in
+    if bytes_eq (before_first is_space rest) (codes "to")
+    then range_of (bound_in (before_first is_space place)) (bound_in (after_first is_space rest))
+    else None
+
+-- What is between brackets: `*` is each item, and else an item or a range.
+abbrev pub place_in : List ℕ → Option SelectorView
+place_in place =
+    if bytes_eq place (codes "*") then Some all_items
+    else option_or (option_map item_at (bound_in place)) (range_in place)
 
 -- The step that is written so, if it is one. There is no quote between quotes, and no bracket
 -- between brackets.

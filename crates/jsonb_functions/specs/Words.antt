@@ -37,9 +37,9 @@ pub use Rattle.jsonb_functions.specs.JoinSource.{maybe_members_size, maybe_objec
 pub use Rattle.jsonb_functions.specs.Joined.{items_or_one, joined, merged}
 pub use Rattle.jsonb_functions.specs.Path.{item_place, position_view}
 pub use Rattle.jsonb_functions.specs.PathText.{PathText, ReadsStep, SelectorView, StopsAt}
-pub use Rattle.jsonb_functions.specs.PathText.{all_are, from_end_of, is_in_name, is_not, member_of}
-pub use Rattle.jsonb_functions.specs.PathText.{number_in, place_in, selector_view, single_step}
-pub use Rattle.jsonb_functions.specs.PathText.{single_steps}
+pub use Rattle.jsonb_functions.specs.PathText.{all_are, bound_in, from_end_of, is_in_name, is_not}
+pub use Rattle.jsonb_functions.specs.PathText.{is_space, item_at, member_of, number_in, place_in}
+pub use Rattle.jsonb_functions.specs.PathText.{range_in, selector_view, single_step, single_steps}
 pub use Rattle.jsonb_functions.specs.Selected.{between, children_at, chosen_trees, first_tree}
 pub use Rattle.jsonb_functions.specs.Selected.{first_trees, items_before, items_through}
 pub use Rattle.jsonb_functions.specs.Selected.{member_trees, selected}

@@ -2,22 +2,23 @@
 
 ghost use Rattle.std.specs.Prelude.{◌≡◌, ◌↔◌, ◌∷◌, ◌++◌, ◌<◌, List, IfErr, IfOk, MatchOption};
 ghost use Rattle.std.specs.Prelude.{Some, map, option_map, slice_index, true};
-ghost use Rattle.std.specs.List.{prefix_len};
+ghost use Rattle.std.specs.List.{after_first, before_first, prefix_len};
 ghost use Rattle.jsonb_functions.specs.Words.{PathText, ReadsStep, SelectorView, StopsAt, all_are};
-ghost use Rattle.jsonb_functions.specs.Words.{from_end_of, is_in_name, is_not, member_of};
-ghost use Rattle.jsonb_functions.specs.Words.{number_in, place_in, selector_view, single_step};
-ghost use Rattle.jsonb_functions.specs.Words.{single_steps, step_view};
+ghost use Rattle.jsonb_functions.specs.Words.{bound_in, from_end_of, is_in_name, is_not, is_space};
+ghost use Rattle.jsonb_functions.specs.Words.{item_at, member_of, number_in, place_in, range_in};
+ghost use Rattle.jsonb_functions.specs.Words.{selector_view, single_step, single_steps, step_view};
 
 use crate::path::Step;
-use crate::selection::Selector;
+use crate::selection::{Bound, Selector};
 use jsonb::Error;
 use std::alloc::Global;
 
 /// The path that a text gives: `$`, and then its steps. `.name` is the value of a key, and so is
 /// `."any name"`, if there are points or brackets in it; `[7]` is an item, `[#-1]` the last one and
-/// `[#]` none, past the last one; `[*]` is each item and `.*` each member's value. The keys are the
-/// text's bytes, without escapes. An index past 64 bits is the greatest of 64 bits. `None` for any
-/// other text; `OutOfMemory`, the only error, if an allocation fails.
+/// `[#]` none, past the last one; `[*]` is each item, `[0 to #-2]` the items from one to another,
+/// and `.*` each member's value. The keys are the text's bytes, without escapes. An index past 64
+/// bits is the greatest of 64 bits. `None` for any other text; `OutOfMemory`, the only error, if an
+/// allocation fails.
 pub fn read_path_text<'a>(alloc: Global, text: &'a str) -> Result<Option<Vec<Selector<'a>>>, Error>
     ensures ok { IfOk result (λ path. (steps : List SelectorView) → PathText text.now steps
         ↔ (option_map (λ selectors. map selector_view selectors.items) path ≡ Some steps)) }
@@ -179,7 +180,7 @@ fn read_bracketed<'a>(text: &'a str) -> Option<(Selector<'a>, &'a str)>
     ensures { ReadsStep (91 ∷ text.now) result }
 {
     match split_at(text, ']') {
-        Some((place, rest)) => match read_place(place.as_bytes()) {
+        Some((place, rest)) => match read_place(place) {
             Some(selector) => Some((selector, rest)),
             None => None,
         },
@@ -188,31 +189,75 @@ fn read_bracketed<'a>(text: &'a str) -> Option<(Selector<'a>, &'a str)>
 }
 
 // The step between brackets.
-fn read_place<'a>(place: &[u8]) -> Option<Selector<'a>>
+fn read_place<'a>(place: &str) -> Option<Selector<'a>>
     ensures { option_map selector_view result ≡ place_in place.now }
 {
-    match place {
-        [b'*'] => Some(Selector::AllItems),
-        [b'#'] => Some(Selector::Index(usize::MAX)),
+    if place == "*" {
+        return Some(Selector::AllItems);
+    }
+    match read_bound(place.as_bytes()) {
+        Some(bound) => Some(item_at(bound)),
+        None => read_range(place),
+    }
+}
+
+// The step to an item.
+fn item_at<'a>(bound: Bound) -> Selector<'a>
+    ensures { selector_view result ≡ item_at bound }
+{
+    match bound {
+        Bound::FromStart(index) => Selector::Index(index),
+        Bound::FromEnd(index) => Selector::FromEnd(index),
+    }
+}
+
+// The step to the items from one to another.
+fn read_range<'a>(place: &str) -> Option<Selector<'a>>
+    ensures { option_map selector_view result ≡ range_in place.now }
+{
+    let (first, rest) = split_space(place);
+    let (word, last) = split_space(rest);
+    if word != "to" {
+        return None;
+    }
+    let first = read_bound(first.as_bytes())?;
+    let last = read_bound(last.as_bytes())?;
+    Some(Selector::Range { first, last })
+}
+
+// What is before the first space, and what is after it.
+fn split_space(text: &str) -> (&str, &str)
+    ensures before { result.0.now ≡ before_first is_space text.now }
+    ensures after { result.1.now ≡ after_first is_space text.now }
+{
+    text.split_once(' ').unwrap_or((text, ""))
+}
+
+// An item from the start or from the end.
+fn read_bound(bytes: &[u8]) -> Option<Bound>
+    ensures { result ≡ bound_in bytes.now }
+{
+    match bytes {
+        [b'#'] => Some(Bound::FromStart(usize::MAX)),
         [b'#', b'-', digits @ ..] => {
             let number = read_number(digits)?;
-            Some(item_from_end(number))
+            Some(bound_from_end(number))
         }
         digits => {
             let number = read_number(digits)?;
-            Some(Selector::Index(number))
+            Some(Bound::FromStart(number))
         }
     }
 }
 
 // The item so far from the end, where 1 is the last item, and 0 is past it.
-fn item_from_end<'a>(number: usize) -> Selector<'a>
-    ensures { selector_view result ≡ from_end_of number }
+fn bound_from_end(number: usize) -> Bound
+    ensures { result ≡ from_end_of number }
 {
     if number == 0 {
-        Selector::Index(usize::MAX)
+        Bound::FromStart(usize::MAX)
     } else {
-        Selector::FromEnd(number - 1)
+        Bound::FromEnd(number - 1)
     }
 }
 
