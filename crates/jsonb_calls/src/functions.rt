@@ -202,6 +202,8 @@ const PATH_TEXTS: &[(&str, Option<&[u64]>)] = &[
     ("$.*[#-1].*[*]", Some(&[46, 12])),
     ("$.\"segments\"[1].at[1]", Some(&[12])),
     ("$.\"*\"[0]", Some(&[])),
+    ("$.segments[0].at[0 to #-1]", Some(&[47, 13])),
+    ("$.segments[0].at[1 to 0]", Some(&[])),
     ("$.segments[#]", Some(&[])),
     ("$.segments[99999999999999999999]", Some(&[])),
     ("segments", None),
@@ -210,6 +212,8 @@ const PATH_TEXTS: &[(&str, Option<&[u64]>)] = &[
     ("$.\"segments", None),
     ("$.segments[1", None),
     ("$.segments[-1]", None),
+    ("$.segments[0 to ]", None),
+    ("$.segments[0  to 1]", None),
     ("$.segments[0] ", None),
 ];
 
