@@ -79,7 +79,7 @@ def shown(value):
     return f"{type(value).__name__}({inner})"
 
 
-def told(error):
+def described(error):
     cause = type(error.__cause__).__name__
     more = (error.status, error.name, getattr(error, "offset", "")) \
         if isinstance(error, KohibladError) else ()
@@ -90,7 +90,7 @@ def answer(call, *arguments, **more):
     try:
         line = shown(call(*arguments, **more))
     except Exception as error:
-        line = told(error)
+        line = described(error)
     print(line.encode("utf-8", "backslashreplace").decode()[:4000])
 
 
