@@ -213,6 +213,14 @@ impl<'a> Children<'a> {
             },
         })
     }
+
+    /// The length of the entry words and the payloads in bytes.
+    #[inline(always)]
+    pub fn stored_len(self) -> usize
+        ensures { result ≡ length self.entry.entries.now + length self.entry.payloads.now }
+    {
+        self.entries.len() + self.payloads.len()
+    }
 }
 
 impl<'a> Object<'a> {

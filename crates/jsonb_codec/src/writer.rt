@@ -9,5 +9,5 @@ pub(crate) mod stored;
 
 pub use append::append_document;
 pub use code::{Payload, StoredEntry};
-pub use source::{Leaf, Level, Source};
+pub use source::{Leaf, Level, Side, Source};
 pub use stored::{Stored, part_code};

@@ -12,7 +12,7 @@ use crate::document::DocumentBytes;
 use crate::parts::{Child, Children, Contents, Member, Members, Object, Part};
 use crate::writer::append::append_document;
 use crate::writer::code::{Payload, StoredEntry};
-use crate::writer::source::{Level, Source};
+use crate::writer::source::{Level, Side, Source};
 use jsonb_value::Error;
 
 /// Appends the canonical document of the value that the bytes mean, with a single growth of the
@@ -97,10 +97,14 @@ impl<'a> Source for Part<'a> {
         part_level(child)
     }
 
-    // The canonical payload is about as long as the present one.
     #[inline(always)]
-    fn size_hint(child: Part<'a>) -> Option<usize> {
-        Some(child.payload.len())
+    fn item_side(item: Part<'a>, later: Children<'a>) -> Option<Side> {
+        Some(Side::shorter(item.payload.len(), later.stored_len()))
+    }
+
+    #[inline(always)]
+    fn value_side(value: Part<'a>, later: &Members<'a>) -> Option<Side> {
+        Some(Side::shorter(value.payload.len(), later.values.stored_len()))
     }
 
     #[inline(always)]

@@ -61,11 +61,6 @@ impl<'s, 'a> Source for &'s JsonAst<'a> {
     }
 
     #[inline(always)]
-    fn size_hint(_: &'s JsonAst<'a>) -> Option<usize> {
-        None
-    }
-
-    #[inline(always)]
     fn count(items: &'s [JsonAst<'a>]) -> usize {
         items.len()
     }

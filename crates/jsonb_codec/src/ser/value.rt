@@ -61,11 +61,6 @@ impl<'s, 'a> Source for &'s Value<'a> {
     }
 
     #[inline(always)]
-    fn size_hint(_: &'s Value<'a>) -> Option<usize> {
-        None
-    }
-
-    #[inline(always)]
     fn count(items: &'s [Value<'a>]) -> usize {
         items.len()
     }

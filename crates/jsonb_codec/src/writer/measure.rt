@@ -3,10 +3,11 @@
 //! A measure continues from a start, and ends before a container whose children would begin past a
 //! limit. An object's members are located only within the limit, since that may take a step for
 //! each of them. To find a container child's length, the child or its later siblings are measured:
-//! with a size hint whichever is shorter by it, without one both in turn, up to limits that grow.
-//! Before that a few later siblings are measured up to a small limit, since they are often short.
-//! The length of what is not measured is what remains of the whole. So at each level the work is at
-//! most a fixed multiple of all children but the largest, and a document takes time n log n.
+//! the side of which less is read, where the source says which that is, and otherwise both in turn,
+//! up to limits that grow. Before that a few later siblings are measured up to a small limit, since
+//! they are often short. The length of what is not measured is what remains of the whole. So at
+//! each level the work is at most a fixed multiple of all children but the largest, and a document
+//! takes time n log n.
 
 ghost use Rattle.std.specs.Prelude.{◌≡◌, ◌≤◌, ◌<◌, ◌+◌, ◌^◌, length, IfSome, IfNone, OnSome, IfOk};
 ghost use Rattle.std.specs.Prelude.{IfErr, OnOk, OnErr};
@@ -16,7 +17,7 @@ ghost use Rattle.jsonb_codec.specs.Words.{Shape, Shapes, count, body, payload, d
 ghost use Rattle.jsonb_codec.specs.Words.{FitsInside, FitsEntry, LevelIs, LevelHeld, AreFew};
 ghost use Rattle.jsonb_codec.specs.Words.{TakesLeft};
 
-use super::source::{Leaf, Level, Source};
+use super::source::{Leaf, Level, Side, Source};
 use jsonb_value::Error;
 
 /// The greatest length of a payload that an entry word can hold.
@@ -205,8 +206,8 @@ pub fn item_size<S: Source>(
     if S::count(later) == 0 {
         return left;
     }
-    match S::size_hint(item) {
-        Some(size_hint) => item_size_by_hint::<S>(container, later, left, size_hint),
+    match S::item_side(item, later) {
+        Some(side) => item_size_by_side::<S>(container, later, left, side),
         None => item_size_by_limits::<S>(container, later, left, first_limit(unlimited_levels)),
     }
 }
@@ -231,8 +232,8 @@ pub fn value_size<S: Source>(
         return left;
     }
     let others = S::fork(later);
-    match S::size_hint(value) {
-        Some(size_hint) => value_size_by_hint::<S>(container, others, left, size_hint),
+    match S::value_side(value, later) {
+        Some(side) => value_size_by_side::<S>(container, others, left, side),
         None => value_size_by_limits::<S>(container, others, left, first_limit(unlimited_levels)),
     }
 }
@@ -248,40 +249,39 @@ fn first_limit(unlimited_levels: usize) -> usize
     }
 }
 
-// The payload length of a container, by measuring it or its later siblings, whichever is shorter by
-// the size hint.
+// The payload length of a container, by measuring this side of it.
 #[inline(never)]
-fn item_size_by_hint<S: Source>(
+fn item_size_by_side<S: Source>(
     item: Level<S::Leaf, S::Items, S::Object>,
     later: S::Items,
     left: usize,
-    size_hint: usize,
+    side: Side,
 ) -> usize
     requires { (s : Shape) × (LevelIs S.Leaf.code S.meaning item s
         × TakesLeft S.meaning.items later s left) }
     ensures { (s : Shape) → LevelIs S.Leaf.code S.meaning item s → result ≡ length (payload s) }
 {
-    if size_hint > left / 2 {
-        return left - items_size::<S>(later);
+    match side {
+        Side::Child => child_size::<S>(item),
+        Side::Later => left - items_size::<S>(later),
     }
-    child_size::<S>(item)
 }
 
 #[inline(never)]
-fn value_size_by_hint<S: Source>(
+fn value_size_by_side<S: Source>(
     value: Level<S::Leaf, S::Items, S::Object>,
     later: S::Members,
     left: usize,
-    size_hint: usize,
+    side: Side,
 ) -> usize
     requires { (s : Shape) × (LevelIs S.Leaf.code S.meaning value s
         × TakesLeft S.meaning.members later s left) }
     ensures { (s : Shape) → LevelIs S.Leaf.code S.meaning value s → result ≡ length (payload s) }
 {
-    if size_hint > left / 2 {
-        return left - members_size::<S>(later);
+    match side {
+        Side::Child => child_size::<S>(value),
+        Side::Later => left - members_size::<S>(later),
     }
-    child_size::<S>(value)
 }
 
 // The payload length of a container: by a few short later siblings, or else by measuring it and its

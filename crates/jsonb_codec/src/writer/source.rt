@@ -35,6 +35,28 @@ pub enum Level<L, I, O> {
     Object(O),
 }
 
+/// A child, or its later siblings.
+#[derive(Clone, Copy)]
+pub enum Side {
+    Child,
+    Later,
+}
+
+impl Side {
+    /// The shorter side, by the length of the child and of its later siblings.
+    #[inline(always)]
+    pub fn shorter(child: usize, later: usize) -> Side
+        ensures child { child ≤ later → result ≡ Side.Child }
+        ensures later { later < child → result ≡ Side.Later }
+    {
+        if child > later {
+            Side::Later
+        } else {
+            Side::Child
+        }
+    }
+}
+
 /// Values of one type, which the writer visits level by level.
 pub trait Source {
     type Leaf: Leaf;
@@ -58,10 +80,19 @@ pub trait Source {
         ensures size { level_size meaning result ≤ meaning.child_size child }
         ensures held { LevelHeld meaning result → meaning.child_held child };
 
-    /// The approximate length of a child's payload, if it is known without measuring. Only a hint,
-    /// by which the writer chooses what to measure: the time stays within n log n if the hint is
-    /// within a fixed factor of the length.
-    fn size_hint(child: Self::Child) -> Option<usize>;
+    /// Whether an item or its later siblings are read in less time, if that is known without
+    /// reading them. Only a hint, by which the writer chooses what to measure: the time stays within
+    /// n log n of all that is read if the other side is not shorter by more than a fixed factor.
+    #[inline(always)]
+    fn item_side(_: Self::Child, _: Self::Items) -> Option<Side> {
+        None
+    }
+
+    /// The same of a member's value.
+    #[inline(always)]
+    fn value_side(_: Self::Child, _: &Self::Members) -> Option<Side> {
+        None
+    }
 
     /// The number of items.
     fn count(items: Self::Items) -> usize

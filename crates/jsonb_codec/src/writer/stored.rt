@@ -57,11 +57,6 @@ impl<'s, 'k, T: Stored> Source for &'s BTreeMap<&'k str, T> {
     }
 
     #[inline(always)]
-    fn size_hint(_: &'s T) -> Option<usize> {
-        None
-    }
-
-    #[inline(always)]
     fn count(items: &'s [T]) -> usize {
         items.len()
     }
