@@ -100,7 +100,7 @@ enum kohiblad_status {
     KOHIBLAD_OTHER_KIND = 14,             /* the value is of another kind */
     KOHIBLAD_PAST_RANGE = 15,             /* the number is no whole one of 64 bits */
     KOHIBLAD_OVERLAP = 16,                /* what a call writes overlaps something else */
-    KOHIBLAD_BAD_NUMBER = 17,             /* the text would be JSON but for its numbers */
+    KOHIBLAD_BAD_NUMBER = 17,             /* the text has an unfinished or too large number */
     KOHIBLAD_TOO_MANY_STEPS = 18          /* the call took more steps than it may */
 };
 
@@ -149,7 +149,7 @@ struct kohiblad_place {
     uint64_t length; /* of the payload */
 };
 
-/* Where a text is no JSON. */
+/* Where a text is not JSON. */
 struct kohiblad_fault {
     uint32_t status;
     uint64_t offset; /* after the longest beginning of the text that begins some JSON text */
@@ -406,13 +406,13 @@ static inline uint32_t kohiblad_parse(const uint8_t *text, size_t size, size_t d
     KOHIBLAD_INLINE("kohiblad_parse");
 
 /* Whether kohiblad_parse takes a text, with the same `exponents`, and where the text stops being
- * JSON. OK: it takes it, and the offset is the text's size. BAD_NUMBER: it would with null in place
- * of each number; a number has an exponent that is refused, or is past 128 bits or 255 digits.
- * INVALID_JSON: it is no JSON for another reason. Of both the offset is the length of the longest
- * beginning of the text that begins some JSON text: 3 of [1,], and 2 of [1, which only ends too
- * early. TOO_DEEP: more than `depth` brackets are open at once, and it was not read; INVALID_UTF8:
- * the text is not UTF-8. OUT_OF_MEMORY if an allocation fails. Of these the offset is 0. Takes
- * memory. */
+ * JSON. OK: it takes it, and the offset is the text's size. BAD_NUMBER or INVALID_JSON: it does
+ * not, and the offset is the length of the longest beginning of the text that begins some JSON
+ * text: 3 of [1,], and 2 of [1, which only ends too early. BAD_NUMBER exactly if that ends in an
+ * unfinished number, as 1., or in a number that goes on, and so has an exponent that is refused, or
+ * is past 128 bits or 255 digits. TOO_DEEP: more than `depth` brackets are open at once, and it was
+ * not read; INVALID_UTF8: the text is not UTF-8. OUT_OF_MEMORY if an allocation fails. Of these the
+ * offset is 0. Takes memory. */
 static inline struct kohiblad_fault kohiblad_text_fault(const uint8_t *text, size_t size,
     size_t depth, uint32_t exponents) KOHIBLAD_INLINE("kohiblad_text_fault");
 

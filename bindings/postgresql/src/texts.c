@@ -13,7 +13,7 @@
 #define HEX_MARK "\\x"
 #define HEX_MARK_SIZE 2
 
-/* Refuses a text that was read within a depth, and says where it is no JSON. */
+/* Refuses a text that was read within a depth, and says where it is not JSON. */
 static void pg_attribute_noreturn() refuse_text(const uint8_t *given, size_t size, size_t depth) {
     struct kohiblad_fault fault =
         kohiblad_text_fault(given, size, depth, KOHIBLAD_EXPONENTS_ALLOWED);
@@ -21,14 +21,14 @@ static void pg_attribute_noreturn() refuse_text(const uint8_t *given, size_t siz
         refuse(fault.status, ERRCODE_INVALID_TEXT_REPRESENTATION);
     const char *reason = fault.status == KOHIBLAD_INVALID_JSON
                              ? ""
-                             : ": a number is past 128 bits, or has more than 255 digits after its "
-                               "point";
+                             : ": a number is unfinished, past 128 bits, or has more than 255 "
+                               "digits after its point";
     refuse_because(KOHIBLAD_INVALID_JSON, ERRCODE_INVALID_TEXT_REPRESENTATION,
                    psprintf("The text stops being JSON at byte " UINT64_FORMAT "%s.", fault.offset,
                             reason));
 }
 
-/* Parses a text, which takes no stack for its depth, and says where it is no JSON. */
+/* Parses a text, which takes no stack for its depth, and says where it is not JSON. */
 static uint32_t parse(const uint8_t *given, size_t size, size_t depth, uint8_t *out, size_t room,
                       size_t *length) {
     uint32_t status =

@@ -16,11 +16,12 @@ SELECT detail_of($$ SELECT '{"a":'::kohiblad $$);
 SELECT detail_of($$ SELECT '{"é":x}'::kohiblad $$);
 SELECT detail_of($$ SELECT '[1.5, 1e5, ]'::kohiblad $$);
 SELECT detail_of($$ SELECT (repeat('[', 1000) || 'x')::kohiblad $$);
--- Numbers: a great exponent, more than 128 bits, and 256 digits after the point.
+-- Numbers: a great exponent, more than 128 bits, 256 digits after the point, and none.
 SELECT detail_of($$ SELECT '[1.5, 1e99]'::kohiblad $$);
 SELECT detail_of($$ SELECT '170141183460469231731687303715884105728'::kohiblad $$);
 SELECT detail_of($$ SELECT ('0.' || repeat('0', 256))::kohiblad $$);
 SELECT detail_of($$ SELECT '1e40'::jsonb::kohiblad $$);
+SELECT detail_of($$ SELECT '[1.]'::kohiblad $$);
 -- Depth.
 SELECT nested_text(1000)::kohiblad::text = nested_text(1000);
 SELECT refusal($$ SELECT nested_text(1001)::kohiblad $$);

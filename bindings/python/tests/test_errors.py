@@ -32,13 +32,14 @@ class ErrorTest(unittest.TestCase):
             self.assertEqual(str(refused.exception), f"{name}: at byte {offset}")
 
     def test_texts(self):
-        for text, offset in (("", 0), (" ", 1), ("[1,", 3), ("[1]]", 3), ("nul", 3), ("[1.]", 3),
-                             ("01", 1), ("NaN", 0), ("Infinity", 0), ('"\\ud800"', 7),
+        for text, offset in (("", 0), (" ", 1), ("[1,", 3), ("[1]]", 3), ("nul", 3), ("01", 1),
+                             ("NaN", 0), ("Infinity", 0), ('"\\ud800"', 7),
                              ("\ufeff1", 0), ("'a'", 0), ('{"a":1,}', 7), ('{1:2}', 1), ("\0", 0),
-                             ('["\u00e9" 1]', 6), ("1e", 2)):
+                             ('["\u00e9" 1]', 6), ("[1e5,]", 5)):
             self.assert_fault(9, "InvalidJson", offset, text)
         for text, offset in (("1e99", 3), ("1E-999", 5), (str(2**127), 38), (str(-2**127 - 1), 39),
-                             ("0." + "0" * 256, 258), ('{"a": [1, 2.5e-999]}', 17)):
+                             ("0." + "0" * 256, 258), ('{"a": [1, 2.5e-999]}', 17),
+                             ("[1.]", 3), ("1e", 2), ("-", 1), ("[1e99,]", 4)):
             self.assert_fault(17, "BadNumber", offset, text)
         for text in (b'"\xff"', b"\xc3", '"\udc00"'):
             self.assert_refused(InvalidTextError, 7, "InvalidUtf8", kohiblad.loads, text)

@@ -30,13 +30,13 @@ pub enum Error {
     InvalidUtf8,
     /// A key comes twice.
     ObjectDuplicateKey,
-    /// The text is no JSON.
+    /// The text is not JSON.
     InvalidJson {
         /// How many bytes of the text begin some JSON text.
         offset: usize,
     },
-    /// The text would be JSON with other numbers: one has too many digits, or an exponent that is
-    /// not taken.
+    /// The text stops being JSON in a number: it is unfinished, has too many digits, or has an
+    /// exponent that is not taken.
     BadNumber {
         /// How many bytes of the text begin some JSON text.
         offset: usize,

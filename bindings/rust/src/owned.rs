@@ -59,9 +59,9 @@ impl OwnedJsonb {
     ///
     /// - [`Error::TooDeep`]: more brackets are open at once than the depth or [`MAX_DEPTH`].
     /// - [`Error::InvalidUtf8`]: the text is not UTF-8.
-    /// - [`Error::InvalidJson`]: it is no JSON, and the offset says where.
-    /// - [`Error::BadNumber`]: it would be JSON with other numbers: one has an exponent or too many
-    ///   digits, and the offset says where.
+    /// - [`Error::InvalidJson`]: it is not JSON, and the offset says where.
+    /// - [`Error::BadNumber`]: it stops being JSON in a number that is unfinished, or has an
+    ///   exponent or too many digits, and the offset says where.
     /// - [`Error::InvalidJsonb`]: a limit of the format is passed.
     /// - [`Error::OutOfMemory`]: an allocation failed.
     pub fn parse(text: impl AsRef<[u8]>, depth: usize) -> Result<Self, Error> {

@@ -116,8 +116,10 @@ fn refused_texts_are_named() {
         (r#"{"a":1e5}"#, number(6), "BadNumber at byte 6"),
         (r#"{"a": [1, 2.5e-7]}"#, number(13), "BadNumber at byte 13"),
         (past_128_bits, number(38), "BadNumber at byte 38"),
-        // With another number the comma would still be one too many.
-        ("[1e5,]", json(2), "InvalidJson at byte 2"),
+        ("[1.]", number(3), "BadNumber at byte 3"),
+        ("01", json(1), "InvalidJson at byte 1"),
+        // The exponent comes before the comma that is one too many.
+        ("[1e5,]", number(2), "BadNumber at byte 2"),
         ("[[[0]]]", Error::TooDeep, "TooDeep"),
     ] {
         assert_eq!(OwnedJsonb::parse(text, 2), Err(error), "{text}");

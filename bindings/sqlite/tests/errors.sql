@@ -24,7 +24,7 @@ SELECT jb('["é" 1]');
 --! jb: InvalidJson at byte 6
 SELECT jb('["' || char(0x1F600) || '" 1]');
 --! jb: InvalidJson at byte 8
--- Only a number is at fault: great exponents, 39 digits past 128 bits, and 256 after the point.
+-- A number is at fault: great exponents, 39 digits past 128 bits, and 256 after the point.
 SELECT jb('1e99');
 --! jb: BadNumber at byte 3
 SELECT jb('{"a": 1e999}');
@@ -37,9 +37,16 @@ SELECT jb('170141183460469231731687303715884105728');
 --! jb: BadNumber at byte 38
 SELECT jb('0.' || hex(zeroblob(128)));
 --! jb: BadNumber at byte 258
--- A number and something else.
+-- Unfinished numbers.
+SELECT jb('[1.]');
+--! jb: BadNumber at byte 3
+SELECT jb('-');
+--! jb: BadNumber at byte 1
+-- A number and something else: the first of both is reported.
 SELECT jb('[1e5,]');
 --! jb: InvalidJson at byte 5
+SELECT jb('[1e99,]');
+--! jb: BadNumber at byte 4
 SELECT jb_compare(jb('[]'), '[1');
 --! jb_compare: InvalidJson at byte 2
 SELECT jb_compare('1e99', '[1');

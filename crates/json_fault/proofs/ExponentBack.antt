@@ -29,7 +29,7 @@ some_digits : (ds : List ℕ) → all_digits ds ≡ true → (false || is_filled
 some_digits [] all e = absurd (let h : ⊥ = cc in h)
 some_digits (d ∷ ds) all e = all
 
-or_first : (a b : Bool) → a ≡ true → (a || b) ≡ true
+pub or_first : (a b : Bool) → a ≡ true → (a || b) ≡ true
 or_first a b e = grind arith
 
 capped_held : (v l : ℕ) (ds : List ℕ)

@@ -38,10 +38,10 @@ use Rattle.json_fault.proofs.Going.{Going, step}
 use Rattle.json_fault.proofs.NumberGoes.{digit_is, other_than, no_digit, not_continued, none_bound}
 use Rattle.json_fault.proofs.NumberGoes.{none_test, number_stops}
 
-mark_no_digit : (c : ℕ) → is_exponent_mark c ≡ true → is_digit c 10 ≡ false
+pub mark_no_digit : (c : ℕ) → is_exponent_mark c ≡ true → is_digit c 10 ≡ false
 mark_no_digit c e = grind (arith, nat_tests)
 
-mark_no_point : (c : ℕ) → is_exponent_mark c ≡ true → (c == point) ≡ false
+pub mark_no_point : (c : ℕ) → is_exponent_mark c ≡ true → (c == point) ≡ false
 mark_no_point c e = grind (arith, nat_tests)
 
 or_none : (a : Bool) → (a || false) ≡ true → a ≡ true

@@ -13,6 +13,8 @@ mod NumberGoes
 mod ExponentGoes
 mod ValueGoes
 mod OpenBrackets
+mod NumberTails
+mod NumberSteps
 mod Scanning
-mod NumbersLeftOut
+mod Stopping
 mod Offsets

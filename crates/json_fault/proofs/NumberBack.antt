@@ -140,7 +140,7 @@ module _ (R : ℕ → ℕ → List ℕ → Type 0) where
         (omega arith);
   }
 
-  point_zero : (m k c : ℕ) (w : List ℕ) → c ≡ point → PointEnd m k R w → ZeroEnd m k R (c ∷ w)
+  pub point_zero : (m k c : ℕ) (w : List ℕ) → c ≡ point → PointEnd m k R w → ZeroEnd m k R (c ∷ w)
   point_zero m k c w is end = record {
     fraction = end.first ∷ end.digits;
     is_fraction = end.are_digits;
@@ -149,7 +149,7 @@ module _ (R : ℕ → ℕ → List ℕ → Type 0) where
     ends = end.ends;
   }
 
-  point_tail : (m k c : ℕ) (w : List ℕ) → c ≡ point → PointEnd m k R w → TailEnd m k R (c ∷ w)
+  pub point_tail : (m k c : ℕ) (w : List ℕ) → c ≡ point → PointEnd m k R w → TailEnd m k R (c ∷ w)
   point_tail m k c w is end = record {
     digits = [];
     fraction = end.first ∷ end.digits;
@@ -160,7 +160,7 @@ module _ (R : ℕ → ℕ → List ℕ → Type 0) where
     ends = end.ends;
   }
 
-  digit_tail : (m k c : ℕ) (w : List ℕ) → is_digit c 10 ≡ true
+  pub digit_tail : (m k c : ℕ) (w : List ℕ) → is_digit c 10 ≡ true
       → TailEnd (m * 10 + digit_value c) (k + 0) R w → TailEnd m k R (c ∷ w)
   digit_tail m k c w is end = record {
     digits = c ∷ end.digits;
@@ -172,7 +172,7 @@ module _ (R : ℕ → ℕ → List ℕ → Type 0) where
     ends = rest_same _ _ _ _ end.rest end.ends refl (omega arith);
   }
 
-  digit_point : (m k c : ℕ) (w : List ℕ) → is_digit c 10 ≡ true
+  pub digit_point : (m k c : ℕ) (w : List ℕ) → is_digit c 10 ≡ true
       → DigitsEnd (m * 10 + digit_value c) (k + 1) R w → PointEnd m k R (c ∷ w)
   digit_point m k c w is end = record {
     first = c;
@@ -183,7 +183,7 @@ module _ (R : ℕ → ℕ → List ℕ → Type 0) where
     ends = rest_same _ _ _ _ end.rest end.ends refl (omega arith);
   }
 
-  digit_digits : (m k c : ℕ) (w : List ℕ) → is_digit c 10 ≡ true
+  pub digit_digits : (m k c : ℕ) (w : List ℕ) → is_digit c 10 ≡ true
       → DigitsEnd (m * 10 + digit_value c) (k + 1) R w → DigitsEnd m k R (c ∷ w)
   digit_digits m k c w is end = record {
     digits = c ∷ end.digits;

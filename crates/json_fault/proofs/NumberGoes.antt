@@ -38,7 +38,7 @@ digit_is c e = grind (arith, nat_tests)
 pub other_than : (c k : ℕ) → (k < 48) ⊎ (58 ≤ k) → is_ascii_digit c ≡ true → (c == k) ≡ false
 other_than c k h e = grind (arith, nat_tests)
 
-no_blank : (c : ℕ) → is_ascii_digit c ≡ true → is_blank c ≡ false
+pub no_blank : (c : ℕ) → is_ascii_digit c ≡ true → is_blank c ≡ false
 no_blank c e = grind (arith, nat_tests)
 
 pub no_digit : (c : ℕ) → is_ascii_digit c ≡ false → is_digit c 10 ≡ false
@@ -100,7 +100,7 @@ none_bound o f e = grind arith
 pub none_test : (b : Bool) → not b ≡ true → b ≡ false
 none_test b e = grind arith
 
-and_none : (a b : Bool) → b ≡ false → (a && b) ≡ false
+pub and_none : (a b : Bool) → b ≡ false → (a && b) ≡ false
 and_none a b e = grind arith
 
 -- a number that ends here, without an exponent
@@ -256,7 +256,7 @@ module _ (rule : Exponents) (bs : List Bracket) (b : Bool) (magnitude scale : �
       (begun b c Whole digits.0 (ap (λ t. cond t Zero Whole) (none_test _ both.0))))
       (whole_goes (d ∷ ds) f (digit_value c) 0 digits.1 all first (omega arith))
 
-value_is_number : (c : ℕ) → is_ascii_digit c ≡ true
+pub value_is_number : (c : ℕ) → is_ascii_digit c ≡ true
     → value_begun c ≡ (number_begun false c >>= λ n. keep (Digits n))
 value_is_number c e =
     by_false _ _ _ _ (other_than c 34 (inl (omega arith)) e)

@@ -1,4 +1,3 @@
 pub mod Fault
 pub mod Scan
-pub mod WithoutNumbers
 pub mod Words

@@ -1,8 +1,8 @@
 -- What may come next in a JSON text, character by character.
 use Rattle.std.specs.Prelude.{ℕ, zero, suc, ◌+◌, ◌-◌, ◌*◌, ◌/◌, ◌^◌, min, Bool, true, false, cond}
 use Rattle.std.specs.Prelude.{◌&&◌, ◌||◌, ◌==◌, nat_lt, nat_le, List, [], ◌∷◌, Option, Some, None}
-use Rattle.std.specs.Prelude.{is_some, option_map}
-use Rattle.std.specs.Char.{digit_value, is_digit}
+use Rattle.std.specs.Prelude.{is_some, option_map, not}
+use Rattle.std.specs.Char.{digit_value, is_digit, is_ascii_digit}
 use Rattle.std.specs.Option.{option_or}
 use Rattle.jsonb_value.specs.declared.parser.number.Exponents.{Exponents}
 use Rattle.jsonb_value.specs.declared.parser.number.Exponents.TheVariants.{Forbidden, Allowed}
@@ -29,6 +29,8 @@ use Rattle.json_fault.specs.declared.expected.Expected.TheVariants.{Value, First
 use Rattle.json_fault.specs.declared.expected.Expected.TheVariants.{Key, Colon, Rest, Letters}
 use Rattle.json_fault.specs.declared.expected.Expected.TheVariants.{Digits, ExponentSign}
 use Rattle.json_fault.specs.declared.expected.Expected.TheVariants.{ExponentDigits, Content, Name}
+use Rattle.json_fault.specs.declared.fault.FaultReason.{FaultReason}
+use Rattle.json_fault.specs.declared.fault.FaultReason.TheVariants.{Syntax, Number}
 use Rattle.json_fault.specs.declared.expected.Change.{Change}
 use Rattle.json_fault.specs.declared.expected.Change.TheVariants.{Keep, Open, Close}
 
@@ -113,6 +115,14 @@ is_complete n = is_end n.part && nat_lt n.scale 256
 abbrev pub takes_exponent : Exponents → Numeral → Bool
 takes_exponent Forbidden n = false
 takes_exponent Allowed n = is_end n.part
+
+-- A number of any size, with an exponent or without, may go on with the character after this part.
+abbrev pub part_goes_on : Part → ℕ → Bool
+part_goes_on Sign c = is_ascii_digit c
+part_goes_on Zero c = (c == point) || is_exponent_mark c
+part_goes_on Whole c = is_ascii_digit c || (c == point) || is_exponent_mark c
+part_goes_on Point c = is_ascii_digit c
+part_goes_on Fraction c = is_ascii_digit c || is_exponent_mark c
 
 -- ---- exponents
 
@@ -357,6 +367,28 @@ token_begun rule (Name place) top c = in_name place c
 -- may come; `top` is the innermost open bracket.
 abbrev pub followed : Exponents → Expected → Option Bracket → ℕ → Option Move
 followed rule e top c = cond (skips e && is_blank c) (keep e) (token_begun rule e top c)
+
+-- A number is expected to go on, which may not end here.
+abbrev pub is_unfinished : Expected → Bool
+is_unfinished (Digits n) = not (is_complete n)
+is_unfinished (ExponentSign n) = true
+is_unfinished (ExponentDigits x) = not (is_final x)
+is_unfinished _ = false
+
+-- A number of any size that is expected to go on goes on with this character.
+abbrev pub goes_on : Expected → ℕ → Bool
+goes_on (Digits n) c = part_goes_on n.part c
+goes_on (ExponentDigits x) c = is_ascii_digit c
+goes_on _ c = false
+
+-- A number is expected to go on, which may not end here or goes on with the next character.
+abbrev pub stops_in_number : Expected → Option ℕ → Bool
+stops_in_number e None = is_unfinished e
+stops_in_number e (Some c) = is_unfinished e || goes_on e c
+
+-- Why the scan stopped.
+abbrev pub reason_at : Expected → Option ℕ → FaultReason
+reason_at e next = cond (stops_in_number e next) Number Syntax
 
 -- The innermost open bracket.
 abbrev pub innermost : List Bracket → Option Bracket

@@ -1,7 +1,6 @@
 -- The names that the clauses of this crate cite, passed on from one place.
 pub use Rattle.jsonb_value.specs.Json.Characters.{is_blank, is_exponent_mark}
 pub use Rattle.jsonb_value.specs.Json.Piece.{escape_value}
-pub use Rattle.jsonb_value.specs.Reader.Reading.{after_digits}
 pub use Rattle.json_fault.specs.Fault.{IsFaultAt, IsFaultAtWithExponents, IsFaultUnder, IsJson}
 pub use Rattle.json_fault.specs.Fault.{IsJsonUnder, IsJsonWithExponents}
 pub use Rattle.json_fault.specs.Scan.{after_backslash, after_digit, after_digit_of_d}
@@ -15,7 +14,5 @@ pub use Rattle.json_fault.specs.Scan.{number_first, raising, reaches, rest_begun
 pub use Rattle.json_fault.specs.Scan.{scale_of, skips, string_continued, takes_exponent}
 pub use Rattle.json_fault.specs.Scan.{token_begun, value_begun, viable_only, with_digit, with_point}
 pub use Rattle.json_fault.specs.Scan.{with_value, without_digits, word_continued, zeros}
-pub use Rattle.json_fault.specs.WithoutNumbers.{after_exponent, after_fraction}
-pub use Rattle.json_fault.specs.WithoutNumbers.{after_minus, after_number, after_sign}
-pub use Rattle.json_fault.specs.WithoutNumbers.{after_some_digits, after_whole, number_here}
-pub use Rattle.json_fault.specs.WithoutNumbers.{scan_after, without_numbers}
+pub use Rattle.json_fault.specs.Scan.{part_goes_on, is_unfinished, goes_on, stops_in_number}
+pub use Rattle.json_fault.specs.Scan.{reason_at}

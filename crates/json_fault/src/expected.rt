@@ -3,12 +3,16 @@
 ghost use Rattle.std.specs.Prelude.{◌≡◌, ◌+◌, ◌<◌, ◌^◌};
 ghost use Rattle.json_fault.specs.Words.{is_blank, value_begun, number_first, mark_begun, in_name};
 ghost use Rattle.json_fault.specs.Words.{closed_or, rest_begun, rest_followed, word_continued};
-ghost use Rattle.json_fault.specs.Words.{is_exponent_mark, mark_after, number_ended, in_number};
+ghost use Rattle.json_fault.specs.Words.{mark_after, number_ended, in_number};
 ghost use Rattle.json_fault.specs.Words.{mark_followed, in_exponent, in_content, skips, scale_of};
-ghost use Rattle.json_fault.specs.Words.{token_begun, followed};
+ghost use Rattle.json_fault.specs.Words.{token_begun, followed, goes_on, stops_in_number};
+ghost use Rattle.json_fault.specs.Words.{is_unfinished};
 
 use crate::exponent::{Exponent, exponent_begun, exponent_continued, is_final};
-use crate::number::{Numeral, Part, is_complete, number_begun, number_continued, takes_exponent};
+use crate::number::{
+    Numeral, Part, is_complete, is_exponent_mark, number_begun, number_continued, part_goes_on,
+    takes_exponent,
+};
 use crate::string::{Place, is_closed, string_continued};
 use jsonb_value::Exponents;
 
@@ -178,13 +182,6 @@ fn word_continued(word: Word, letter: char) -> Option<(Expected, Change)>
     }
 }
 
-// Whether the character begins an exponent.
-fn is_exponent_mark(character: char) -> bool
-    ensures { result ≡ is_exponent_mark character }
-{
-    matches!(character, 'E' | 'e')
-}
-
 // The mark of an exponent, if one may follow.
 fn mark_after(exponents: Exponents, numeral: Numeral, character: char) -> Option<(Expected, Change)>
     ensures { result ≡ mark_after exponents numeral character }
@@ -334,5 +331,39 @@ pub fn followed(
         Some((expected, Change::Keep))
     } else {
         token_begun(exponents, expected, top, character)
+    }
+}
+
+// Whether a number of any size may go on with this character.
+fn goes_on(expected: Expected, character: char) -> bool
+    ensures { result ≡ goes_on expected character }
+{
+    match expected {
+        Expected::Digits(numeral) => part_goes_on(numeral.part, character),
+        Expected::ExponentDigits(_) => character.is_ascii_digit(),
+        _ => false,
+    }
+}
+
+// Whether a number is expected to go on, which may not end here.
+fn is_unfinished(expected: Expected) -> bool
+    ensures { result ≡ is_unfinished expected }
+{
+    match expected {
+        Expected::Digits(numeral) => !is_complete(numeral),
+        Expected::ExponentSign(_) => true,
+        Expected::ExponentDigits(exponent) => !is_final(exponent),
+        _ => false,
+    }
+}
+
+/// Whether a number is expected to go on, which may not end here, or goes on with the next
+/// character, if there is one, where no number of the format does.
+pub fn stops_in_number(expected: Expected, next: Option<char>) -> bool
+    ensures { result ≡ stops_in_number expected next }
+{
+    match next {
+        Some(character) => is_unfinished(expected) || goes_on(expected, character),
+        None => is_unfinished(expected),
     }
 }

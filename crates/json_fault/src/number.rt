@@ -3,7 +3,8 @@
 ghost use Rattle.std.specs.Prelude.{◌≡◌, ◌+◌, ◌<◌, ◌^◌};
 ghost use Rattle.json_fault.specs.Words.{limit, has_scale, is_viable, viable_only, with_digit};
 ghost use Rattle.json_fault.specs.Words.{with_point, number_begun, number_continued, is_end};
-ghost use Rattle.json_fault.specs.Words.{is_complete, takes_exponent};
+ghost use Rattle.json_fault.specs.Words.{is_complete, takes_exponent, part_goes_on};
+ghost use Rattle.json_fault.specs.Words.{is_exponent_mark};
 
 use jsonb_value::Exponents;
 
@@ -179,5 +180,26 @@ pub fn takes_exponent(exponents: Exponents, numeral: Numeral) -> bool
     match exponents {
         Exponents::Forbidden => false,
         Exponents::Allowed => is_end(numeral.part),
+    }
+}
+
+/// Whether the character begins an exponent.
+pub fn is_exponent_mark(character: char) -> bool
+    ensures { result ≡ is_exponent_mark character }
+{
+    matches!(character, 'E' | 'e')
+}
+
+/// Whether the character may follow this part in a number of any size, with an exponent or without.
+pub fn part_goes_on(part: Part, character: char) -> bool
+    ensures { result ≡ part_goes_on part character }
+{
+    match part {
+        Part::Sign | Part::Point => character.is_ascii_digit(),
+        Part::Zero => character == '.' || is_exponent_mark(character),
+        Part::Whole => {
+            character.is_ascii_digit() || character == '.' || is_exponent_mark(character)
+        }
+        Part::Fraction => character.is_ascii_digit() || is_exponent_mark(character),
     }
 }

@@ -50,7 +50,7 @@ past_range = 15
 abbrev pub overlap : ℕ
 overlap = 16
 
--- The status of a text that would be JSON but for its numbers.
+-- The status of a text that stops being JSON in an unfinished or too large number.
 abbrev pub bad_number : ℕ
 bad_number = 17
 

@@ -1,11 +1,11 @@
--- Where a text is no JSON, as C receives it.
+-- Where a text is not JSON, as C receives it.
 use Rattle.std.specs.Prelude.{◌≡◌, ◌⊎◌, ℕ, List, chars, length}
 use Rattle.jsonb_value.specs.declared.error.Error.TheVariants.{InvalidJson, OutOfMemory}
+use Rattle.json_fault.specs.declared.fault.Fault.{Fault}
 use Rattle.json_fault.specs.declared.fault.FaultReason.{FaultReason}
 use Rattle.json_fault.specs.declared.fault.FaultReason.TheVariants.{Syntax, Number}
 use Rattle.jsonb_value.specs.declared.parser.number.Exponents.{Exponents}
-use Rattle.json_fault.specs.Fault.{IsJson, IsJsonUnder, IsFaultUnder}
-use Rattle.json_fault.specs.WithoutNumbers.{without_numbers}
+use Rattle.json_fault.specs.Fault.{IsJsonUnder, IsFaultUnder}
 use Rattle.kohiblad.specs.declared.text_fault.KohibladFault.{KohibladFault}
 use Rattle.kohiblad.specs.Status.{code, bad_number}
 
@@ -18,15 +18,15 @@ reason_status Number = bad_number
 abbrev pub no_fault : ℕ → KohibladFault
 no_fault status = record { status = status; offset = 0 }
 
--- The text is no JSON under a rule for exponents. The offset is that of the fault, and the status
--- that of numbers exactly where the text is JSON with `null` in place of each number.
+-- The text is not JSON under a rule for exponents; the offset and the status are those of its
+-- fault.
 pub record IsFaultAnswer (rule : Exponents) (text : List ℕ) (answer : KohibladFault) : Type 0 where
   pub is_none : IsJsonUnder rule (chars text) → ⊥
-  pub is_there : IsFaultUnder rule (chars text) answer.offset
-  pub is_reason : ((answer.status ≡ bad_number) × IsJson (without_numbers (chars text)))
-      ⊎ ((answer.status ≡ code InvalidJson) × (IsJson (without_numbers (chars text)) → ⊥))
+  pub fault : Fault
+  pub is_fault : IsFaultUnder rule (chars text) fault
+  pub is_answer : answer ≡ record { status = reason_status fault.reason; offset = fault.offset }
 
--- The text is JSON, and the offset its length; or it is none; or memory ran out.
+-- The text is JSON, and the offset its length; or it is not; or memory ran out.
 abbrev pub IsTextFault : Exponents → List ℕ → KohibladFault → Type 0
 IsTextFault rule text answer =
     (IsJsonUnder rule (chars text) × (answer ≡ record { status = 0; offset = length text }))

@@ -9,8 +9,7 @@ pub use Rattle.jsonb_value.specs.Tree.{Extension, Tree, boolean, extension, null
 pub use Rattle.jsonb_value.specs.WellFormed.{IsExtension}
 pub use Rattle.jsonb_value.specs.declared.error.Error.{Error}
 pub use Rattle.jsonb_value.specs.declared.number.Number.{Number}
-pub use Rattle.json_fault.specs.Fault.{IsFaultUnder, IsJson, IsJsonUnder}
-pub use Rattle.json_fault.specs.WithoutNumbers.{without_numbers}
+pub use Rattle.json_fault.specs.Fault.{IsFaultUnder, IsJsonUnder}
 pub use Rattle.jsonb_codec.specs.Canon.{canon}
 pub use Rattle.jsonb_codec.specs.Canonical.{IsCanonical}
 pub use Rattle.jsonb_codec.specs.Contents.{Means}

@@ -28,7 +28,7 @@ pub const OTHER_KIND: u32 = 14;
 /// The status of a number that is not a whole number of 64 bits.
 pub const PAST_RANGE: u32 = 15;
 
-/// The status of a text that would be JSON but for its numbers.
+/// The status of a text that stops being JSON in an unfinished or too large number.
 pub const BAD_NUMBER: u32 = 17;
 
 /// The status of a call that took more steps than it may.

@@ -1,9 +1,8 @@
-//! Where a text is no JSON.
+//! Where a text is not JSON.
 
 ghost use Rattle.std.specs.Prelude.{◌≡◌, ◌<◌, ◌≤◌, ◌↔◌, chars, IsUtf8, IfOk, IfErr, IfSome};
 ghost use Rattle.kohiblad.specs.Words.{text_depth, code, too_deep, reason_status, no_fault};
-ghost use Rattle.kohiblad.specs.Words.{IsTextFault, IsJson, IsJsonUnder, IsFaultUnder, rule_of};
-ghost use Rattle.kohiblad.specs.Words.{without_numbers};
+ghost use Rattle.kohiblad.specs.Words.{IsTextFault, IsJsonUnder, IsFaultUnder, rule_of};
 
 use crate::answer::{BAD_NUMBER, OK, TOO_DEEP, code};
 use json_fault::{Fault, FaultReason, text_fault, text_fault_with_exponents};
@@ -11,7 +10,7 @@ use jsonb::{Error, is_text_within};
 use std::alloc::Global;
 use std::str;
 
-/// Whether a text is JSON, and where it is none, as C receives it. The offset is 0 if the status is
+/// Whether a text is JSON, and where it is not, as C receives it. The offset is 0 if the status is
 /// neither `OK`, `InvalidJson` nor `BAD_NUMBER`.
 #[repr(C)]
 #[derive(Clone, Copy)]
@@ -20,13 +19,12 @@ pub struct KohibladFault {
     pub offset: u64,
 }
 
-/// Whether a text is JSON, and where it is none. With `exponents` 0 no number has an exponent.
-/// `OK`, with the length of the text, if it is JSON; `TOO_DEEP` if more than `depth` brackets
-/// outside strings are open at once, tested before anything else; `InvalidUtf8` if the text is not
-/// UTF-8; `BAD_NUMBER` if it would be JSON with `null` in place of each number; `InvalidJson` if it
-/// is no JSON for another reason; `OutOfMemory` if an allocation fails. Of `BAD_NUMBER` and
-/// `InvalidJson` the offset is the length in bytes of the longest beginning of the text that begins
-/// some JSON text.
+/// Whether a text is JSON, and where it is not. With `exponents` 0 no number has an exponent. `OK`,
+/// with the length of the text, if it is JSON; `TOO_DEEP` if more than `depth` brackets outside
+/// strings are open at once, tested before anything else; `InvalidUtf8` if the text is not UTF-8;
+/// `BAD_NUMBER` if its longest beginning that begins some JSON text ends in an unfinished or too
+/// large number; `InvalidJson` if it is not JSON for another reason; `OutOfMemory` if an allocation
+/// fails. Of `BAD_NUMBER` and `InvalidJson` the offset is the length in bytes of that beginning.
 #[unsafe(no_mangle)]
 pub extern "C" fn kohiblad_text_fault(
     alloc: Global,
@@ -66,15 +64,12 @@ fn reason_status(reason: FaultReason) -> u32
     }
 }
 
-// Where a text is no JSON, and why, with or without exponents.
+// Where a text is not JSON, and why, with or without exponents.
 fn found_fault(alloc: Global, text: &str, exponents: u32) -> Result<Option<Fault>, Error>
     ensures none { IfOk result
         (λ found. (found ≡ None) ↔ IsJsonUnder (rule_of exponents) (chars text.now)) }
-    ensures offset { IfOk result (λ found. IfSome found
-        (λ fault. IsFaultUnder (rule_of exponents) (chars text.now) fault.offset)) }
-    ensures reason { IfOk result (λ found. IfSome found
-        (λ fault. (fault.reason ≡ FaultReason.Number)
-        ↔ IsJson (without_numbers (chars text.now)))) }
+    ensures fault { IfOk result (λ found. IfSome found
+        (IsFaultUnder (rule_of exponents) (chars text.now))) }
     ensures memory { IfErr result (λ e. e ≡ Error.OutOfMemory) }
 {
     if exponents == 0 {
@@ -84,7 +79,7 @@ fn found_fault(alloc: Global, text: &str, exponents: u32) -> Result<Option<Fault
     }
 }
 
-// Whether a text is JSON, and where it is none.
+// Whether a text is JSON, and where it is not.
 fn fault_of(alloc: Global, text: &str, exponents: u32) -> KohibladFault
     ensures { IsTextFault (rule_of exponents) text.now result }
 {

@@ -27,11 +27,11 @@ class InvalidDocumentError(KohibladError):
 
 
 class InvalidTextError(KohibladError):
-    """The text is not UTF-8 or no JSON, or has a number that is refused or has too many digits.
+    """The text is not UTF-8 or not JSON, or has a number that is unfinished or has too many digits.
 
-    ``name`` is ``InvalidUtf8``, ``InvalidJson`` or ``BadNumber``: the last if the text would be
-    JSON with other numbers. ``offset`` is where it stops being JSON: how many bytes of it in UTF-8
-    begin some JSON text. It is None for ``InvalidUtf8``.
+    ``name`` is ``InvalidUtf8``, ``InvalidJson`` or ``BadNumber``: the last if the text stops being
+    JSON in such a number. ``offset`` is where it stops: how many bytes of it in UTF-8 begin some
+    JSON text. It is None for ``InvalidUtf8``.
     """
     offset: Optional[int] = None
 

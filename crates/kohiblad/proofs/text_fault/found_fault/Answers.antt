@@ -9,11 +9,11 @@ returns-then-exponents-eq0-clause-none c =
     (λ found. (found ≡ None) ↔ IsJsonUnder rule (chars c.args.text.now)))
     c.args.exponents (omega (arith, c.if-exponents-eq0.true)) c.text_fault.ensures.none
 
-pub returns-then-exponents-eq0-clause-offset : goal.returns-then-exponents-eq0-clause-offset
-returns-then-exponents-eq0-clause-offset c =
+pub returns-then-exponents-eq0-clause-fault : goal.returns-then-exponents-eq0-clause-fault
+returns-then-exponents-eq0-clause-fault c =
     forbidden (λ rule. IfOk c.text_fault.result
-    (λ found. IfSome found (λ fault. IsFaultUnder rule (chars c.args.text.now) fault.offset)))
-    c.args.exponents (omega (arith, c.if-exponents-eq0.true)) c.text_fault.ensures.offset
+    (λ found. IfSome found (IsFaultUnder rule (chars c.args.text.now))))
+    c.args.exponents (omega (arith, c.if-exponents-eq0.true)) c.text_fault.ensures.fault
 
 pub returns-else-exponents-eq0-clause-none : goal.returns-else-exponents-eq0-clause-none
 returns-else-exponents-eq0-clause-none c =
@@ -22,9 +22,9 @@ returns-else-exponents-eq0-clause-none c =
     c.args.exponents (omega (arith, c.if-exponents-eq0.false))
     c.text_fault_with_exponents.ensures.none
 
-pub returns-else-exponents-eq0-clause-offset : goal.returns-else-exponents-eq0-clause-offset
-returns-else-exponents-eq0-clause-offset c =
+pub returns-else-exponents-eq0-clause-fault : goal.returns-else-exponents-eq0-clause-fault
+returns-else-exponents-eq0-clause-fault c =
     allowed (λ rule. IfOk c.text_fault_with_exponents.result
-    (λ found. IfSome found (λ fault. IsFaultUnder rule (chars c.args.text.now) fault.offset)))
+    (λ found. IfSome found (IsFaultUnder rule (chars c.args.text.now))))
     c.args.exponents (omega (arith, c.if-exponents-eq0.false))
-    c.text_fault_with_exponents.ensures.offset
+    c.text_fault_with_exponents.ensures.fault
