@@ -1,17 +1,22 @@
 #!/usr/bin/env bash
 # Gives the lines of each file tests/lines/PROGRAM/NAME.in to that program, and compares its answers
-# with NAME.out, which an independent reading of the format made.
+# with NAME.out, which an independent reading of the format made. Of the documents and texts of
+# tests/lines/pairs.tsv it asks jsonb_cli for each by the other.
 #
-#     tools/answer_lines.sh
+#     tools/answer_lines.sh           # both programs that `rt ci` leaves
+#     tools/answer_lines.sh PROBE     # the probe of another port of the format
 #
-# It runs both programs that `rt ci` leaves: crates/PROGRAM/out/PROGRAM, which LLVM compiled, and
-# PROGRAM.by-rattle, which Rattle's own compiler did. The first line that is answered otherwise is
-# shown. The status is 1 where there is one, where a program does not end well, and where one is not
-# there.
+# Those of `rt ci` are crates/PROGRAM/out/PROGRAM, which LLVM compiled, and PROGRAM.by-rattle, which
+# Rattle's own compiler did. PROBE gets the lines of jsonb_probe on its standard input. The first
+# line that is answered otherwise is shown. The status is 1 where there is one, where a program does
+# not end well, and where one is not there.
 set -uo pipefail
+probe=''
+[ $# = 0 ] || probe=$(realpath -- "$1") || exit 1
 cd "$(dirname "$0")/.." || exit 1
-answers=$(mktemp)
-trap 'rm -f "$answers"' EXIT
+work=$(mktemp -d)
+trap 'rm -rf "$work"' EXIT
+answers=$work/answers
 failed=0
 
 # Compares the answers of file $3 to the lines of file $1 with those of file $2.
@@ -36,9 +41,18 @@ compare() {
     ' "$@"
 }
 
-for given in tests/lines/*/*.in; do
+mkdir "$work/jsonb_cli"
+awk -F '\t' '{ print "dec " $1 "\nenc " $2 }' tests/lines/pairs.tsv > "$work/jsonb_cli/pairs.in"
+awk -F '\t' '{ print "ok " $2 "\nok " $1 }' tests/lines/pairs.tsv > "$work/jsonb_cli/pairs.out"
+
+for given in tests/lines/*/*.in "$work"/*/*.in; do
     name=$(basename "$(dirname "$given")")
-    for program in "crates/$name/out/$name" "crates/$name/out/$name.by-rattle"; do
+    programs=("crates/$name/out/$name" "crates/$name/out/$name.by-rattle")
+    if [ "$probe" ]; then
+        [ "$name" = jsonb_probe ] || continue
+        programs=("$probe")
+    fi
+    for program in "${programs[@]}"; do
         echo "$program on $given"
         if [ ! -x "$program" ]; then
             echo '  is not there: run rt ci first'
