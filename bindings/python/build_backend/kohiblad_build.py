@@ -100,7 +100,7 @@ def package_files():
     """The files of the package, by their paths in a wheel."""
     names = sorted(os.listdir(os.path.join(SOURCE, "kohiblad")))
     return {f"kohiblad/{name}": read(os.path.join(SOURCE, "kohiblad", name))
-            for name in names if name.endswith((".py", ".pyi", ".typed"))}
+            for name in names if name.endswith((".html", ".py", ".pyi", ".typed"))}
 
 
 def build_extension(folder):

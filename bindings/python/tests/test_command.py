@@ -125,7 +125,7 @@ class CommandTest(unittest.TestCase):
     def test_help_and_version(self):
         status, output, _ = run("--help")
         self.assertEqual(status, 0)
-        for command in (b"encode", b"decode", b"sort", b"get"):
+        for command in (b"encode", b"decode", b"sort", b"get", b"show"):
             self.assertIn(command, output)
         self.assertEqual(run("--version")[1].decode().strip(), f"kohiblad {kohiblad.__version__}")
         self.assertEqual(run()[0], 2)

@@ -188,7 +188,7 @@ class SourceTest(PackageTest):
         found = {os.path.relpath(os.path.join(folder, name), top)
                  for folder, _, names in os.walk(top) for name in names}
         package = {f"src/kohiblad/{name}" for name in os.listdir(os.path.dirname(kohiblad.__file__))
-                   if name.endswith((".py", ".pyi")) or name == "py.typed"}
+                   if name.endswith((".html", ".py", ".pyi")) or name == "py.typed"}
         native = {f"src/native/{name}" for name in os.listdir(os.path.join(TOP, "src", "native"))}
         self.assertIn("src/native/module.c", native)
         self.assertEqual(found, package | native | {

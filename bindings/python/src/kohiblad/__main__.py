@@ -2,16 +2,25 @@
 import argparse
 import contextlib
 import os
+import re
 import sys
 import time
-from typing import IO, Callable, ContextManager, Dict, Iterator, List, Optional, TypeVar
+from typing import (IO, Any, Callable, ContextManager, Dict, Iterator, List, Optional, Tuple,
+                    TypeVar)
 
 from . import Document, KohibladError, __version__
+from ._fault import fault_of
+from ._show import lines_of, page_of
 
 _DESCRIPTION = """\
-Converts files of JSON lines (NDJSON) to files of binary documents and back, sorts documents, and
-prints one member of each. A file of documents has each document after its length: eight bytes, the
-most significant first. Two such files joined are a file of both."""
+Converts files of JSON lines (NDJSON) to files of binary documents and back, sorts documents, prints
+one member of each, and shows the bytes of one. A file of documents has each document after its
+length: eight bytes, the most significant first. Two such files joined are a file of both."""
+
+_SHOW = """\
+Prints one document as a tree beside its bytes. Each line has an entry word, the bytes that belong
+to it, and what they mean, each with its place. For bytes that are not a document it says where
+their first fault is and what, and the status is 1."""
 
 _LENGTH_BYTES = 8
 _READ_AT_ONCE = 1 << 20
@@ -131,7 +140,25 @@ def _parser() -> argparse.ArgumentParser:
                              help="the output; standard output if none or -")
         command.add_argument("--progress", action="store_true",
                              help="count on standard error, as is done on a terminal")
+    _add_show(commands)
     return parser
+
+
+def _add_show(commands: Any) -> None:
+    command = commands.add_parser("show", help="one document as a tree beside its bytes",
+                                  description=_SHOW)
+    command.add_argument("input", metavar="FILE|HEX|-",
+                         help="a file with the bytes of the document alone, or these bytes in "
+                              "hexadecimal; - is standard input")
+    command.add_argument("--json", action="store_true",
+                         help="take a JSON text, and show its document: a file, the text, or -")
+    command.add_argument("--html", metavar="OUT",
+                         help="write a page instead, in which a part lights up in the tree and in "
+                              "the bytes")
+    command.add_argument("--whole", action="store_true",
+                         help="print the bytes of long texts and data whole")
+    command.add_argument("--color", choices=("auto", "always", "never"), default="auto",
+                         help="auto: on a terminal, unless the variable NO_COLOR is set")
 
 
 def _run(options: argparse.Namespace, source: IO[bytes], target: IO[bytes]) -> None:
@@ -151,6 +178,58 @@ def _run(options: argparse.Namespace, source: IO[bytes], target: IO[bytes]) -> N
     target.flush()
 
 
+def _shown_input(given: str, is_json: bool) -> Tuple[bytes, str]:
+    """The bytes that are to be shown, or the JSON text, and a name for them."""
+    if given == "-":
+        return sys.stdin.buffer.read(), "standard input"
+    if os.path.exists(given):
+        with open(given, "rb") as file:
+            return file.read(), given
+    if is_json:
+        return given.encode("utf-8", "surrogateescape"), "the text"
+    try:
+        # As PostgreSQL and others print bytes.
+        return bytes.fromhex(re.sub(r"^(\\x|0x)", "", given)), "the bytes"
+    except ValueError:
+        raise InputError(f"{given}: there is no such file, and it is not hexadecimal") from None
+
+
+def _shown_document(options: argparse.Namespace) -> Tuple[bytes, str]:
+    """The document that is to be shown, and a name for it."""
+    data, name = _shown_input(options.input, options.json)
+    try:
+        return bytes(Document.parse(data) if options.json else Document(data)), name
+    except KohibladError as error:
+        reason = str(error)
+    if not options.json:
+        fault = fault_of(data)
+        reason = f"not a document: {fault.name} at byte {fault.offset}: {fault.reason}"
+    raise InputError(f"{name}: {reason}")
+
+
+def _is_colored(wish: str) -> bool:
+    if wish != "auto":
+        return wish == "always"
+    return sys.stdout.isatty() and not os.environ.get("NO_COLOR") \
+        and os.environ.get("TERM") != "dumb"
+
+
+def _show(options: argparse.Namespace) -> None:
+    document, name = _shown_document(options)
+    if options.html is not None:
+        _expect_two_files(options.input, options.html)
+        try:
+            page = page_of(document, os.path.basename(name)).encode()
+        except ValueError as error:
+            raise InputError(f"{name}: {error}") from None
+        with _opened(options.html, "wb", sys.stdout.buffer) as target:
+            target.write(page)
+        return
+    for line in lines_of(document, options.whole, _is_colored(options.color)):
+        sys.stdout.buffer.write(f"{line}\n".encode())
+    sys.stdout.buffer.flush()
+
+
 def _opened(path: str, mode: str, standard: IO[bytes]) -> ContextManager[IO[bytes]]:
     if path == "-":
         return contextlib.nullcontext(standard)
@@ -163,13 +242,17 @@ def _expect_two_files(input_path: str, output_path: str) -> None:
         raise InputError(f"{output_path} is the input: write to another file")
 
 
+def _convert(options: argparse.Namespace) -> None:
+    _expect_two_files(options.input, options.output)
+    with _opened(options.input, "rb", sys.stdin.buffer) as source, \
+            _opened(options.output, "wb", sys.stdout.buffer) as target:
+        _run(options, source, target)
+
+
 def main(arguments: Optional[List[str]] = None) -> int:
     options = _parser().parse_args(arguments)
     try:
-        _expect_two_files(options.input, options.output)
-        with _opened(options.input, "rb", sys.stdin.buffer) as source, \
-                _opened(options.output, "wb", sys.stdout.buffer) as target:
-            _run(options, source, target)
+        (_show if options.command == "show" else _convert)(options)
     except BrokenPipeError:
         # Nobody reads on, as after `| head`. Python would fail once more at its end.
         os.dup2(os.open(os.devnull, os.O_WRONLY), sys.stdout.fileno())

@@ -52,11 +52,13 @@ ARRAY = 0x80
 TYPE_NULL = 0x00000000
 TYPE_STRING = 0x10000000
 TYPE_NUMBER = 0x20000000
+TYPE_FALSE = 0x30000000
 TYPE_TRUE = 0x40000000
 TYPE_CONTAINER = 0x50000000
 TYPE_EXTENSION = 0x60000000
 
-_ARRAY_KIND = 5
+ARRAY_KIND = 5
+OBJECT_KIND = 6
 _TYPE_MASK = 0x70000000
 # The most bytes that a child may have.
 MOST_CHILD_BYTES = 0x0FFFFFFF
@@ -341,10 +343,11 @@ def _address_of(document: bytes) -> int:
     return ctypes.cast(c_char_p(document), c_void_p).value or 0
 
 
-def places(document: bytes, at: int, size: int) -> Iterator[Tuple[bytes, int, int, int]]:
-    """The key, type, offset and length of each child of the array or object at an offset.
+def member_places(document: bytes, at: int, size: int) -> Iterator[Tuple[int, int, int, int, int]]:
+    """The offset and length of each child's key, and the type, offset and length of the child.
 
-    Nothing but the keys is copied. The offsets are those in the whole document.
+    The children are those of the array or object at an offset. Nothing is copied, and all offsets
+    are those in the whole document. The key of an array's item has the length 0.
     """
     address = _address_of(document) + at
     state = ctypes.create_string_buffer(_STATE_SIZE)
@@ -356,10 +359,31 @@ def places(document: bytes, at: int, size: int) -> Iterator[Tuple[bytes, int, in
         status = _next_at(address, size, cursor, key_place, place)
         if status == OK:
             key_at, key_size, type_, child_at, length = _STATE.unpack_from(state)
-            key_at += at
-            yield document[key_at:key_at + key_size], type_, at + child_at, length
+            yield at + key_at, key_size, type_, at + child_at, length
     if status != NONE:
         raise error_of(status)
+
+
+def places(document: bytes, at: int, size: int) -> Iterator[Tuple[bytes, int, int, int]]:
+    """The key, type, offset and length of each child of the array or object at an offset.
+
+    Nothing but the keys is copied. The offsets are those in the whole document.
+    """
+    for key_at, key_size, type_, child_at, length in member_places(document, at, size):
+        yield document[key_at:key_at + key_size], type_, child_at, length
+
+
+def kind_at(document: bytes, at: int, size: int) -> Kind:
+    """The kind of the document at an offset in another one, and how many children it has."""
+    it: Kind = _kind_at(_address_of(document) + at, size)
+    return it
+
+
+def header_status(data: bytes) -> int:
+    """OK if the first word is of an array or object, NONE if of a scalar, or an error's status."""
+    cursor = Cursor()
+    status: int = _begin(data, len(data), ctypes.addressof(cursor))
+    return status
 
 
 def place_of_path(document: bytes, steps: Sequence[Union[bytes, int]]) \
@@ -378,7 +402,7 @@ def place_of_path(document: bytes, steps: Sequence[Union[bytes, int]]) \
         else:
             it = _kind_at(front + at, size)
             number = step if step >= 0 else it.count + step
-            if it.kind != _ARRAY_KIND or not 0 <= number < it.count:
+            if it.kind != ARRAY_KIND or not 0 <= number < it.count:
                 return None
             place = _part_at(front + at, size, number)
         if place.status != OK:
