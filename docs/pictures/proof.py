@@ -55,8 +55,8 @@ def draw(read):
     boxes.arrow(f"M{LEFT + 80} {clause_end}V{lines_at - 2}")
     boxes.text(LEFT + 92, clause_end + 26, "cites what a reader has to believe", "dim", "start")
     lines_end = box(LEFT, lines_at, half, "amber", "The definition", lines, about="specs/Kind.antt")
-    boxes.text(LEFT + 12, lines_end + 18, f"“{sentence}” It cites others, down to bytes.", "dim small",
-               "start")
+    boxes.text(LEFT + 12, lines_end + 18, f"“{sentence}” It cites others, down to bytes.",
+               "dim small", "start")
     x = LEFT + half + gap
     width = wide - half - gap
     boxes.arrow(f"M{x + 80} {clause_end}V{lines_at - 2}")
