@@ -150,6 +150,14 @@ def speed_table(found, speeds):
                   for row, name in SPEEDS if row in speeds])
 
 
+# The colors of the picture, in light and in dark.
+STYLE = """\
+<style>.ground{fill:#ffffff}text{fill:#1f2328}.grid{stroke:#d1d9e0}.one{stroke:#444444}
+.faster{fill:#2b7a4b}.slower{fill:#b5542b}
+@media (prefers-color-scheme:dark){.ground{fill:#0d1117}text{fill:#e6edf3}.grid{stroke:#3d444d}
+.one{stroke:#9198a1}.faster{fill:#3fb950}.slower{fill:#e5804d}}</style>"""
+
+
 def picture(found):
     """Bars from 1, the crate's time: faster calls to the left, slower ones to the right."""
     left, width, high, top = 300, 560, 26, 40
@@ -158,20 +166,20 @@ def picture(found):
     foot = top + high * len(CHOICE)
     parts = [f'<svg xmlns="http://www.w3.org/2000/svg" width="{left + width + 60}" '
              f'height="{foot + 40}" font-family="sans-serif" font-size="13">',
-             '<rect width="100%" height="100%" fill="#ffffff"/>',
+             STYLE, '<rect class="ground" width="100%" height="100%" rx="8"/>',
              f'<text x="{at(1):.0f}" y="20" text-anchor="middle">the time of the crate</text>']
     for power in range(-5, 4):
         x, share = at(2.0 ** power), (f"1/{2 ** -power}" if power < 0 else str(2 ** power))
-        colour = "#444444" if power == 0 else "#dddddd"
-        parts.append(f'<path d="M{x:.0f} {top - 8}V{foot}" stroke="{colour}"/>')
+        kind = "one" if power == 0 else "grid"
+        parts.append(f'<path class="{kind}" d="M{x:.0f} {top - 8}V{foot}"/>')
         parts.append(f'<text x="{x:.0f}" y="{foot + 18}" text-anchor="middle">{share}</text>')
     for number, (row, name) in enumerate(CHOICE):
         share, y = statistics.median(found[row]), top + high * number
         start, end = sorted([at(1), at(share)])
-        colour = "#2b7a4b" if share <= 1 else "#b5542b"
+        kind = "faster" if share <= 1 else "slower"
         parts.append(f'<text x="{left - 10}" y="{y + 15}" text-anchor="end">{name}</text>')
-        parts.append(f'<rect x="{start:.1f}" y="{y + 2}" width="{end - start:.1f}" '
-                     f'height="{high - 8}" fill="{colour}"/>')
+        parts.append(f'<rect class="{kind}" x="{start:.1f}" y="{y + 2}" '
+                     f'width="{end - start:.1f}" height="{high - 8}"/>')
         parts.append(f'<text x="{end + 5:.1f}" y="{y + 15}">{share:.2f}</text>')
     return "\n".join(parts) + "\n</svg>\n"
 
