@@ -239,9 +239,9 @@ def cli(line, answer):
 
 def agreement(folder):
     for program, judge, files in (
-        ("jsonb_probe", probe, "sample rows-builders rows-canonical rows-documents rows-items "
-                               "rows-lookup rows-texts"),
-        ("jsonb_cli", cli, "sample rows-texts"),
+        ("jsonb_probe", probe, "sample byte-order rows-builders rows-canonical rows-documents "
+                               "rows-items rows-lookup rows-texts"),
+        ("jsonb_cli", cli, "sample byte-order rows-texts"),
     ):
         asked = 0
         for file in files.split():
