@@ -161,6 +161,19 @@ class CommandTest(unittest.TestCase):
             self.assertEqual(output + message, re.sub("^    ", "", printed, flags=re.M))
         self.assertEqual(len(sessions), 2)
 
+    def test_rows_of_files(self):
+        stored = b"".join(len(it).to_bytes(8, "big") + it for it in
+                          (bytes.fromhex("80000000"), bytes.fromhex(PAGE)))
+        lines = b'[]\n\n[false,10,{"k":"v"}]\n'
+        self.assertEqual(run("--row", "2", "-", given=stored), (0, SHOWN, ""))
+        self.assertEqual(run("--row", "2", "--json", "-", given=lines), (0, SHOWN, ""))
+        self.assertEqual(run("--row", "3", "-", given=stored),
+                         (1, "", "kohiblad: standard input: there is no document 3\n"))
+        status, _, message = run("--row", "2", "-", given=stored[:-1])
+        self.assertEqual((status, message),
+                         (1, "kohiblad: standard input: document 2: the file ends within it\n"))
+        self.assertEqual(run("--row", "0", "-")[0], 2)
+
     def test_what_cannot_be_shown(self):
         for arguments, message in (
                 (["none"], "none: there is no such file, and it is not hexadecimal"),

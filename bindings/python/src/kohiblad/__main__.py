@@ -5,6 +5,7 @@ import os
 import re
 import sys
 import time
+from itertools import islice
 from typing import (IO, Any, Callable, ContextManager, Dict, Iterator, List, Optional, Tuple,
                     TypeVar)
 
@@ -144,6 +145,13 @@ def _parser() -> argparse.ArgumentParser:
     return parser
 
 
+def _row_number(text: str) -> int:
+    number = int(text)
+    if number < 1:
+        raise ValueError
+    return number
+
+
 def _add_show(commands: Any) -> None:
     command = commands.add_parser("show", help="one document as a tree beside its bytes",
                                   description=_SHOW)
@@ -152,6 +160,9 @@ def _add_show(commands: Any) -> None:
                               "hexadecimal; - is standard input")
     command.add_argument("--json", action="store_true",
                          help="take a JSON text, and show its document: a file, the text, or -")
+    command.add_argument("--row", metavar="N", type=_row_number,
+                         help="take a file of documents, with --json of JSON lines, and show the "
+                              "one of this number, from 1")
     command.add_argument("--html", metavar="OUT",
                          help="write a page instead, in which a part lights up in the tree and in "
                               "the bytes")
@@ -161,8 +172,12 @@ def _add_show(commands: Any) -> None:
                          help="auto: on a terminal, unless the variable NO_COLOR is set")
 
 
+def _input_name(path: str) -> str:
+    return "standard input" if path == "-" else path
+
+
 def _run(options: argparse.Namespace, source: IO[bytes], target: IO[bytes]) -> None:
-    name = "standard input" if options.input == "-" else options.input
+    name = _input_name(options.input)
     is_encode = options.command == "encode"
     rows = documents_of_lines(source, name) if is_encode else stored_documents(source, name)
     is_shown = options.progress or sys.stderr.isatty()
@@ -181,7 +196,7 @@ def _run(options: argparse.Namespace, source: IO[bytes], target: IO[bytes]) -> N
 def _shown_input(given: str, is_json: bool) -> Tuple[bytes, str]:
     """The bytes that are to be shown, or the JSON text, and a name for them."""
     if given == "-":
-        return sys.stdin.buffer.read(), "standard input"
+        return sys.stdin.buffer.read(), _input_name(given)
     if os.path.exists(given):
         with open(given, "rb") as file:
             return file.read(), given
@@ -194,8 +209,20 @@ def _shown_input(given: str, is_json: bool) -> Tuple[bytes, str]:
         raise InputError(f"{given}: there is no such file, and it is not hexadecimal") from None
 
 
+def _row(options: argparse.Namespace) -> Tuple[bytes, str]:
+    """The document of a row, and a name for it."""
+    name = _input_name(options.input)
+    with _opened(options.input, "rb", sys.stdin.buffer) as file:
+        rows = (documents_of_lines if options.json else stored_documents)(file, name)
+        for document in islice(rows, options.row - 1, None):
+            return bytes(document), f"{name}, {options.row}"
+    raise InputError(f"{name}: there is no document {options.row}")
+
+
 def _shown_document(options: argparse.Namespace) -> Tuple[bytes, str]:
     """The document that is to be shown, and a name for it."""
+    if options.row is not None:
+        return _row(options)
     data, name = _shown_input(options.input, options.json)
     try:
         return bytes(Document.parse(data) if options.json else Document(data)), name
