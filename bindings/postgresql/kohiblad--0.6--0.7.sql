@@ -310,11 +310,22 @@ AS 'MODULE_PATHNAME', 'pg_kohiblad_subscript' LANGUAGE C STRICT IMMUTABLE PARALL
 
 ALTER TYPE kohiblad SET (SUBSCRIPT = kohiblad_subscript);
 
--- Parts
+-- Parts. Of -> and #>, whose paths are texts with a collation, postgres_fdw sends nothing: so the
+-- planner turns them into kohiblad_at, whose path is a document.
+
+CREATE FUNCTION kohiblad_at(kohiblad, kohiblad) RETURNS kohiblad
+AS 'MODULE_PATHNAME', 'pg_kohiblad_at' LANGUAGE C STRICT IMMUTABLE PARALLEL SAFE;
+
+CREATE FUNCTION kohiblad_at_support(internal) RETURNS internal
+AS 'MODULE_PATHNAME', 'pg_kohiblad_at_support' LANGUAGE C STRICT IMMUTABLE PARALLEL SAFE;
 
 CREATE FUNCTION kohiblad_extract_path(from_kohiblad kohiblad,
     VARIADIC path_elems text[]) RETURNS kohiblad
 AS 'MODULE_PATHNAME', 'pg_kohiblad_path' LANGUAGE C STRICT IMMUTABLE PARALLEL SAFE;
+
+ALTER FUNCTION kohiblad_member(kohiblad, text) SUPPORT kohiblad_at_support;
+ALTER FUNCTION kohiblad_path(kohiblad, text[]) SUPPORT kohiblad_at_support;
+ALTER FUNCTION kohiblad_extract_path(kohiblad, text[]) SUPPORT kohiblad_at_support;
 
 CREATE FUNCTION kohiblad_extract_path_text(from_kohiblad kohiblad,
     VARIADIC path_elems text[]) RETURNS text

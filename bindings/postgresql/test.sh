@@ -3,8 +3,9 @@
 #
 #     PKG_CONFIG_PATH=/usr/local/lib/pkgconfig bindings/postgresql/test.sh
 #
-# tests/server.sh has the settings. Each line of tests/NAME.out is the answer that tests/NAME.sql
-# must print there, and counts as a test, as does each line that tests/catalogue.sql prints.
+# tests/server.sh has the settings. Each line of expected/NAME.out is the answer that sql/NAME.sql
+# must print, by `make installcheck`, and counts as a test. So does each line of tests/NAME.out, and
+# each that tests/catalogue.sql prints. tests/cluster.sh has those of several servers.
 set -Eeuo pipefail
 folder=$(cd "$(dirname "$0")" && pwd)
 . "$folder/tests/server.sh"
@@ -18,7 +19,7 @@ passed() { tests=$((tests + ${1:-1})); }
 run_script() {
     local name=$1
     note "tests/$name.sql"
-    psql -At -d "${2:-postgres}" -f "$folder/tests/$name.sql" > "$scratch/$name.out" 2> \
+    psql -At -d "${2:-$PGDATABASE}" -f "$folder/tests/$name.sql" > "$scratch/$name.out" 2> \
         "$scratch/$name.err" || { cat "$scratch/$name.err" >&2; fail "tests/$name.sql"; }
     sed 's/^psql:[^:]*:[0-9]*: //' "$scratch/$name.err" >> "$scratch/$name.out"
     diff -u "$folder/tests/$name.out" "$scratch/$name.out" >&2 || fail "tests/$name.sql"
@@ -31,7 +32,23 @@ expect() {
     passed
 }
 
-query() { psql -At -c "$1" "${2:-postgres}"; }
+query() { psql -At -c "$1" "${2:-$PGDATABASE}"; }
+
+# The scripts that a user has too. The rest of the tests use what they made.
+run_installcheck() {
+    note "make installcheck"
+    local result
+    [ "$(id -u)" != 0 ] || chown -R "$user" "$scratch/build"
+    as_user make -C "$scratch/build" PG_CONFIG="$bin/pg_config" PGUSER=tester \
+        installcheck > "$scratch/installcheck.log" 2>&1 || {
+        cat "$scratch/installcheck.log" "$scratch/build/regression.diffs" >&2
+        fail "make installcheck"
+    }
+    for result in "$scratch/build/results"/*.out; do
+        passed $(($(wc -l < "$result") - 1))
+    done
+    export PGDATABASE=contrib_regression
+}
 
 # Copies the answer of a query into a table, in a format.
 copy() {
@@ -102,7 +119,7 @@ run_latin() {
 run_dump() {
     note "pg_dump and restore"
     psql -c "CREATE DATABASE restored"
-    "$bin/pg_dump" --no-sync postgres > "$scratch/dump.sql"
+    "$bin/pg_dump" --no-sync "$PGDATABASE" > "$scratch/dump.sql"
     psql -d restored -f "$scratch/dump.sql" > "$scratch/restored"
     local rows="SELECT md5(string_agg(d::bytea::text, ' ' ORDER BY d::bytea)) FROM ranked"
     expect "the rows restored" "$(query "$rows")" "$(query "$rows" restored)"
@@ -149,7 +166,7 @@ run_replication() {
     query "SELECT pg_create_logical_replication_slot('replica', 'pgoutput')" > "$scratch/slot"
     query "INSERT INTO published SELECT d FROM ranked"
     psql -d replica -c "CREATE EXTENSION kohiblad" -c "CREATE TABLE published (d kohiblad)" \
-        -c "CREATE SUBSCRIPTION documents CONNECTION 'host=$scratch user=tester dbname=postgres'
+        -c "CREATE SUBSCRIPTION documents CONNECTION 'host=$scratch user=tester dbname=$PGDATABASE'
             PUBLICATION documents
             WITH (create_slot = false, slot_name = 'replica', copy_data = false)"
     local waited
@@ -180,35 +197,37 @@ run_update() {
     query "ALTER EXTENSION kohiblad UPDATE" updated
     expect "the version" 0.7 "$(query "SELECT extversion FROM pg_extension
         WHERE extname = 'kohiblad'" updated)"
+    expect "the version in META.json" "$(pkg-config --modversion kohiblad)" \
+        "$(sed -n 's/^    "version": "\(.*\)",$/\1/p' "$folder/META.json")"
     expect "the library's version" "$(pkg-config --modversion kohiblad)" \
         "$(query "SELECT kohiblad_version()" updated)"
     expect "a row" '{"doc":[7]}' "$(query "SELECT row_to_json(goods) FROM goods" updated)"
     expect "a view" '[7]' "$(query "TABLE shown" updated)"
     local database
-    for database in postgres updated; do
+    for database in "$PGDATABASE" updated; do
         psql -At -d "$database" -f "$folder/tests/catalogue.sql" > "$scratch/$database.catalogue"
     done
-    diff -u "$scratch/postgres.catalogue" "$scratch/updated.catalogue" >&2 || fail "the update"
+    diff -u "$scratch/$PGDATABASE.catalogue" "$scratch/updated.catalogue" >&2 || fail "the update"
     passed "$(wc -l < "$scratch/updated.catalogue")"
+}
+
+# Several servers, with the programs and the extension that are installed.
+run_cluster() {
+    note "several servers"
+    local status=0 last
+    SERVER_BIN=$bin "$folder/tests/cluster.sh" > "$scratch/cluster.log" 2>&1 || status=$?
+    last=$(tail -n 1 "$scratch/cluster.log")
+    case $status in
+        0) passed "$(echo "$last" | sed 's/.*: \([0-9]*\) tests.*/\1/')" ;;
+        77) note "$last" ;;
+        *) cat "$scratch/cluster.log" >&2; fail "tests/cluster.sh" ;;
+    esac
 }
 
 # The least stack that the server allows at this setting: nothing may reach its end.
 ulimit -S -s 2560
 open_server max_stack_depth=2MB wal_level=logical
-run_script prepare
-run_script documents
-run_script texts
-run_script json
-run_script access
-run_script order
-run_script casts
-run_script minmax
-run_script functions
-run_script subscripts
-run_script records
-run_script random
-run_script gin
-run_script damaged
+run_installcheck
 run_copies
 run_partitions
 run_refusals
@@ -220,5 +239,6 @@ run_servers
 run_replication
 run_trusted
 run_update
+run_cluster
 ! grep -E 'PANIC|terminated by signal' "$scratch/server.log" || fail "the server broke down"
 echo "$binding: $tests tests passed"

@@ -22,13 +22,17 @@ static bool is_null(TextPath path, int level) {
     return path.nulls && path.nulls[level];
 }
 
-bool index_of_text(const text *element, int *index) {
-    char *digits = text_to_cstring(element), *end;
+static bool index_of_bytes(Bytes element, int *index) {
+    char *digits = pnstrdup((const char *)element.at, element.size), *end;
     errno = 0;
     *index = strtoint(digits, &end, 10);
-    bool is_index = end != digits && *end == 0 && errno == 0;
+    bool is_index = element.size > 0 && end == digits + element.size && errno == 0;
     pfree(digits);
     return is_index;
+}
+
+bool index_of_text(const text *element, int *index) {
+    return index_of_bytes(bytes_of(element), index);
 }
 
 static bool is_found(struct kohiblad_place place, Bytes document, Part *child) {
@@ -50,19 +54,18 @@ bool find_index(Bytes document, int64 index, Part *child) {
     return is_found(kohiblad_part(document.at, document.size, index), document, child);
 }
 
-/* Finds what an element of a path names. */
-static bool find_step(Bytes container, const text *element, Part *child) {
-    if (kind_of(container).kind != KOHIBLAD_ARRAY)
-        return find_key(container, utf8_of_text(element), child);
+bool find_step(Bytes container, Bytes element, Part *child) {
     int index;
-    return index_of_text(element, &index) && find_index(container, index, child);
+    if (kind_of(container).kind != KOHIBLAD_ARRAY) return find_key(container, element, child);
+    return index_of_bytes(element, &index) && find_index(container, index, child);
 }
 
 bool find_path(Bytes document, TextPath path, Part *child) {
     *child = part_of_document(document);
     for (int i = 0; i < path.count; i++) {
         if (is_null(path, i) || !is_container(*child)) return false;
-        if (!find_step(child->payload, DatumGetTextPP(path.elements[i]), child)) return false;
+        Bytes element = utf8_of_text(DatumGetTextPP(path.elements[i]));
+        if (!find_step(child->payload, element, child)) return false;
     }
     return true;
 }

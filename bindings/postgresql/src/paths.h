@@ -39,6 +39,9 @@ extern bool index_of_text(const text *element, int *index);
 extern bool find_key(Bytes document, Bytes key, Part *child);
 extern bool find_index(Bytes document, int64 index, Part *child);
 
+/* Finds what an element of a path names: a member, or in an array the item at an index. */
+extern bool find_step(Bytes container, Bytes element, Part *child);
+
 /* Finds what a path leads to. */
 extern bool find_path(Bytes document, TextPath path, Part *child);
 

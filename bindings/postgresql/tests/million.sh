@@ -22,9 +22,9 @@ time_of() {
 
 open_server max_parallel_workers_per_gather=0 max_parallel_maintenance_workers=0 jit=off \
     maintenance_work_mem=256MB
-psql -f "$folder/tests/prepare.sql"
+psql -f "$folder/sql/prepare.sql"
 # The functions of random.sql, which come before its table of commands.
-sed '/^-- A command with/,$d' "$folder/tests/random.sql" > "$scratch/random.sql"
+sed '/^-- A command with/,$d' "$folder/sql/random.sql" > "$scratch/random.sql"
 psql -At -f "$scratch/random.sql" > "$scratch/answer"
 note "$rows random documents"
 time_of "CREATE TABLE found AS

@@ -67,7 +67,7 @@ copy_server() {
 
 build_extension() {
     mkdir "$scratch/build"
-    cp -r "$folder/Makefile" "$folder"/kohiblad* "$folder/src" "$scratch/build"
+    cp -r "$folder/Makefile" "$folder"/kohiblad* "$folder"/{src,sql,expected} "$scratch/build"
     make -C "$scratch/build" PG_CONFIG="$bin/pg_config" includedir_server="$headers" COPT=-Werror \
         install > "$scratch/build.log" 2>&1 || { cat "$scratch/build.log" >&2; fail "make"; }
 }

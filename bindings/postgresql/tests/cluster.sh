@@ -1,0 +1,271 @@
+#!/usr/bin/env bash
+# Tests the extension over several servers: a coordinator, three servers with a part of each table,
+# and a standby of one of them. They listen on loopback addresses, and are removed at the end.
+#
+#     PKG_CONFIG_PATH=/usr/local/lib/pkgconfig bindings/postgresql/tests/cluster.sh [ROWS]
+#
+# tests/server.sh has the settings; ROWS are 20000 if not given. SERVER_BIN names the programs of a
+# server with the extension, which is then not built. The last line has the number of tests.
+# docs/DISTRIBUTED.md says how such tables are made; tests/cluster/ makes them.
+set -Eeuo pipefail
+folder=$(cd "$(dirname "$0")/.." && pwd)
+. "$folder/tests/server.sh"
+trap 'fail "line $LINENO of cluster.sh"' ERR
+rows=${1:-20000}
+tests=0
+tables=(by_hash by_id by_doc keyed)
+standby=9
+
+stop_all() {
+    local data
+    for data in "$scratch"/data*; do
+        [ ! -f "$data/postmaster.pid" ] ||
+            as_user "$bin/pg_ctl" -D "$data" -m immediate -w stop > "$scratch/stop.log" 2>&1 ||
+            cat "$scratch/stop.log" >&2
+    done
+    rm -rf "$scratch"
+}
+
+start_one() {
+    local settings="-c fsync=off -c jit=off -c shared_buffers=32MB -c autovacuum=off"
+    as_user "$bin/pg_ctl" -D "$scratch/data$1" -l "$scratch/log$1" -w start > "$scratch/start.log" \
+        -o "-k $scratch -p 543$1 -c listen_addresses=$net.$1 $settings" 2>&1 ||
+        { cat "$scratch/start.log" "$scratch/log$1" >&2; fail "server $1 did not start"; }
+}
+
+make_one() {
+    as_user "$bin/initdb" -D "$scratch/data$1" -U tester -E UTF8 --locale=C -A trust -N \
+        > "$scratch/initdb.log" 2>&1 || { cat "$scratch/initdb.log" >&2; fail "initdb"; }
+    start_one "$1"
+}
+
+kill_one() {
+    as_user "$bin/pg_ctl" -D "$scratch/data$1" -m immediate -w stop > "$scratch/kill.log"
+}
+
+# Runs psql at a server; ask returns the lines of an answer, or the first of an error.
+psql_at() { local server=$1; shift; psql -At -h "$net.$server" -p "543$server" "$@"; }
+ask() { psql_at "$1" -c "$2" 2> "$scratch/error" || head -n 1 "$scratch/error"; }
+
+# Compares two texts, the one that must be and the one that is.
+expect() {
+    [ "$2" = "$3" ] || fail "$1: expected $2, got $3"
+    tests=$((tests + 1))
+}
+
+# What a query sends to the servers, one line for each, and how many of these have a text.
+remote_sql() { ask 0 "EXPLAIN (VERBOSE, COSTS OFF) $1" | sed -n 's/ *Remote SQL: //p'; }
+expect_sent() {
+    expect "servers that get $3 of $2" "$1" "$(remote_sql "$2" | grep -cF -- "$3" || true)"
+}
+
+make_cluster() {
+    note "four servers at $net"
+    local server
+    for server in 0 1 2 3; do make_one "$server"; done
+    for server in 1 2 3; do
+        psql_at "$server" -v part="$server" -f "$folder/tests/cluster/part.sql"
+        psql_at 0 -v part="$server" -v host="$net.$server" -v port="543$server" \
+            -v remainder=$((server - 1)) -v from="$(bound "$server")" \
+            -v to="$(bound $((server + 1)))" -v doc_from="$(doc_bound "$server")" \
+            -v doc_to="$(doc_bound $((server + 1)))" -f "$folder/tests/cluster/coordinator.sql"
+    done
+    psql_at 0 -v rows="$rows" -f "$folder/tests/cluster/rows.sql"
+    for server in 1 2 3; do ask "$server" "ANALYZE"; done
+    ask 0 "ANALYZE here, by_hash, by_id, by_doc, keyed"
+}
+
+# Where the part of a server begins, in the order of doc -> 'id' and in that of doc.
+bound() {
+    case $1 in
+        1) echo MINVALUE ;;
+        4) echo MAXVALUE ;;
+        *) echo "'$((rows * ($1 - 1) / 3))'" ;;
+    esac
+}
+doc_bound() {
+    local cities=(0 0 25 400)
+    case $1 in
+        1) echo MINVALUE ;;
+        4) echo MAXVALUE ;;
+        *) echo "'{\"city\":\"city ${cities[$1]}\"}'" ;;
+    esac
+}
+
+# All rows came, to three servers, each into the part whose bounds it is in.
+run_parts() {
+    note "rows in their parts"
+    local table part outside
+    for table in "${tables[@]}"; do
+        expect "rows of $table" "$rows" "$(ask 0 "SELECT count(*) FROM $table")"
+        expect "servers of $table" 3 "$(ask 0 "SELECT count(DISTINCT tableoid) FROM $table")"
+        for part in 1 2 3; do
+            outside=$(ask 0 "SELECT pg_get_partition_constraintdef('${table}_$part'::regclass)")
+            expect "rows outside of ${table}_$part" 0 \
+                "$(ask 0 "SELECT count(*) FROM (TABLE ${table}_$part OFFSET 0) t
+                    WHERE NOT ($outside)")"
+        done
+    done
+}
+
+# The same answers as of one table.
+run_answers() {
+    note "answers"
+    local query table
+    while read -r -d ';' query; do
+        for table in here by_hash by_id by_doc; do
+            ask 0 "${query//ROWS/$table}" > "$scratch/$table.answer"
+            ! grep '^ERROR' "$scratch/$table.answer" || fail "$table: $query"
+            cmp "$scratch/here.answer" "$scratch/$table.answer" || fail "$table: $query"
+        done
+        tests=$((tests + 3))
+    done < "$folder/tests/cluster/queries.sql"
+}
+
+run_sent() {
+    note "what is sent"
+    expect_sent 3 "SELECT doc FROM by_hash WHERE doc -> 'id' = '5'" \
+        "WHERE ((public.kohiblad_at(doc, '\"id\"'::public.kohiblad) OPERATOR(public.=) '5'"
+    expect_sent 3 "SELECT doc FROM by_hash WHERE doc #> '{tags,1}' = '\"t3\"'" \
+        "WHERE ((public.kohiblad_at(doc, '[\"tags\",\"1\"]'"
+    expect_sent 3 "SELECT doc FROM by_hash WHERE doc -> 'tags' -> 1 = '\"t3\"'" "WHERE"
+    expect_sent 3 "SELECT doc FROM by_hash WHERE doc -> 'seen' IS NOT NULL" "IS NOT NULL"
+    expect_sent 3 "SELECT doc FROM by_hash WHERE (doc -> 'price')::numeric > 100" "WHERE"
+    expect_sent 3 "SELECT doc FROM by_hash WHERE doc @> '{\"city\": \"city 7\"}'" "WHERE"
+    expect_sent 3 "SELECT doc FROM by_hash WHERE doc < '{\"city\": \"city 7\"}'" "WHERE"
+    expect_sent 1 "SELECT doc FROM by_id WHERE doc -> 'id' = '5'" "WHERE"
+    expect_sent 1 "SELECT doc FROM keyed WHERE id < '5'" "WHERE"
+    expect_sent 3 "SELECT doc FROM by_hash ORDER BY doc DESC LIMIT 3" "ORDER BY doc DESC"
+    expect_sent 3 "SELECT doc FROM by_hash ORDER BY doc -> 'price' LIMIT 3" \
+        "ORDER BY public.kohiblad_at"
+    expect_sent 3 "SELECT max(doc -> 'price') FROM by_hash" "ORDER BY public.kohiblad_at"
+    expect_sent 1 "SELECT min(doc -> 'price'), count(*) FROM by_hash_1" "min(public.kohiblad_at"
+    expect_sent 3 "SELECT doc -> 'id', count(*) FROM by_id GROUP BY 1" "GROUP BY"
+    expect_sent 3 "SELECT id, max(doc -> 'price') FROM keyed GROUP BY 1" "GROUP BY"
+    expect_sent 1 "SELECT doc -> 'city', count(*) FROM by_hash_1 GROUP BY 1" "GROUP BY"
+    expect_sent 3 "SELECT * FROM cities" "GROUP BY"
+    expect_sent 3 "SELECT a.doc FROM by_id a JOIN by_id b ON a.doc -> 'id' = b.doc -> 'id'
+        WHERE a.doc -> 'city' = '\"city 7\"'" "INNER JOIN"
+    expect_sent 3 "DELETE FROM by_hash WHERE doc -> 'id' = '5'" "DELETE FROM public.by_hash"
+    expect_sent 3 "UPDATE by_id SET doc = doc WHERE doc -> 'city' = '\"none\"'" \
+        "UPDATE public.by_id"
+    expect_sent 1 "SELECT kohiblad_agg(doc) FROM keyed_1" "kohiblad_agg"
+    expect_sent 0 "SELECT doc FROM by_hash WHERE doc ->> 'city' = 'city 7'" "WHERE"
+    ask 0 "PREPARE by_name(text) AS SELECT doc FROM by_hash WHERE doc -> \$1 = '5';
+        EXPLAIN (VERBOSE, COSTS OFF) EXECUTE by_name('id')" > "$scratch/prepared"
+    expect "a prepared name" 3 "$(grep -cF "WHERE ((public.kohiblad_at(doc" "$scratch/prepared")"
+    local sent
+    sent=$(remote_sql "SELECT doc FROM by_hash_1 WHERE doc -> 'id' = '5'")
+    expect "the index of the other server" 1 \
+        "$(ask 1 "EXPLAIN (COSTS OFF) $sent" | grep -c 'Index Scan .*by_member_1')"
+}
+
+# With the servers' own estimates, joins of all rows of two parts are sent too.
+run_joins() {
+    note "joins, by the servers' estimates"
+    local server
+    for server in 1 2 3; do
+        ask 0 "ALTER SERVER s$server OPTIONS (ADD use_remote_estimate 'true')"
+    done
+    expect_sent 3 "SELECT count(*) FROM by_id a JOIN by_id b ON a.doc -> 'id' = b.doc -> 'id'" \
+        "INNER JOIN"
+    expect_sent 3 "SELECT a.doc FROM keyed a JOIN keyed b ON a.id = b.id" "INNER JOIN"
+    expect "rows that are joined" "$rows" \
+        "$(ask 0 "SELECT count(*) FROM by_id a JOIN by_id b ON a.doc -> 'id' = b.doc -> 'id'")"
+    for server in 1 2 3; do
+        ask 0 "ALTER SERVER s$server OPTIONS (DROP use_remote_estimate)"
+    done
+}
+
+# Dates, which JSON has not, are sent, found and sorted as they are.
+run_extension_values() {
+    note "extension values"
+    local date="'\\x20000000600000051000000001'" table part
+    for table in by_hash by_doc; do
+        ask 0 "INSERT INTO $table VALUES ($date), ('{\"id\":1,\"on\":1}')"
+        expect "a date in $table" 1 "$(ask 0 "SELECT count(*) FROM $table WHERE doc = $date")"
+        expect "its kind in $table" extension \
+            "$(ask 0 "SELECT kohiblad_kind(doc) FROM $table ORDER BY doc LIMIT 1")"
+        expect "its text in $table" 0 "$(ask 0 "SELECT count(*) FROM $table WHERE doc = '\"1\"'")"
+        ask 0 "DELETE FROM $table WHERE doc = $date OR doc -> 'on' = '1'"
+        expect "the rows of $table" "$rows" "$(ask 0 "SELECT count(*) FROM $table")"
+    done
+}
+
+# A row that an UPDATE would take out of its part is refused by the server that has it.
+run_keys_kept() {
+    note "keys that are changed"
+    ask 1 "ALTER TABLE keyed_1 ADD CHECK (id < $(bound 2))"
+    expect "an update out of a part" \
+        'ERROR:  new row for relation "keyed_1" violates check constraint "keyed_1_id_check"' \
+        "$(ask 0 "UPDATE keyed SET id = '$rows' WHERE id = '1'")"
+}
+
+run_killed() {
+    note "a server killed"
+    local down='ERROR:  could not connect to server "s3"'
+    kill_one 3
+    expect "rows of another part" 1 "$(ask 0 "SELECT count(*) FROM keyed WHERE id = '1'")"
+    expect "rows of all parts" "$down" "$(ask 0 "SELECT count(*) FROM keyed")"
+    expect "rows of the part" "$down" "$(ask 0 "SELECT count(*) FROM keyed WHERE id = '$rows'")"
+    expect "rows for two parts" "$down" \
+        "$(ask 0 "INSERT INTO keyed VALUES ('1', '\"new\"'), ('$rows', '\"new\"')")"
+    expect "rows for the other part" 0 \
+        "$(ask 0 "SELECT count(*) FROM keyed_1 WHERE doc = '\"new\"'")"
+    start_one 3
+    expect "rows of all parts again" "$rows" "$(ask 0 "SELECT count(*) FROM keyed")"
+}
+
+run_standby() {
+    note "a standby promoted"
+    as_user "$bin/pg_basebackup" -h "$net.2" -p 5432 -U tester -D "$scratch/data$standby" -R \
+        -X stream -c fast > "$scratch/backup.log" 2>&1 || { cat "$scratch/backup.log" >&2; false; }
+    start_one "$standby"
+    ask 0 "ALTER SERVER s2 OPTIONS (SET host '$net.2,$net.$standby', SET port '5432,543$standby',
+        ADD target_session_attrs 'read-write')"
+    ask 0 "INSERT INTO keyed SELECT id, '\"late\"' FROM keyed_2 LIMIT 100"
+    local place waited
+    place=$(ask 2 "SELECT pg_current_wal_lsn()")
+    for ((waited = 0; waited < 600; waited++)); do
+        [ "$(ask "$standby" "SELECT pg_last_wal_replay_lsn() >= '$place'")" != t ] || break
+        sleep 0.1
+    done
+    kill_one 2
+    expect "rows, with the server killed" 'ERROR:  could not connect to server "s2"' \
+        "$(ask 0 "SELECT count(*) FROM keyed")"
+    as_user "$bin/pg_ctl" -D "$scratch/data$standby" -w promote > "$scratch/promote.log"
+    expect "rows, with the standby" $((rows + 100)) "$(ask 0 "SELECT count(*) FROM keyed")"
+    ask 0 "DELETE FROM keyed WHERE doc = '\"late\"'"
+    expect "rows, after a change" "$rows" "$(ask 0 "SELECT count(*) FROM keyed")"
+}
+
+find_tools
+scratch=$(mktemp -d)
+trap stop_all EXIT
+if [ -n "${SERVER_BIN:-}" ]; then
+    bin=$SERVER_BIN
+else
+    note "copy the server of $("$pg_config" --version), and build the extension"
+    copy_server
+    build_extension
+fi
+[ -f "$("$bin/pg_config" --sharedir)/extension/postgres_fdw.control" ] ||
+    pass_over "postgresql-contrib, for postgres_fdw"
+chmod 755 "$scratch"
+[ "$(id -u)" != 0 ] || chown "$user" "$scratch"
+export PGUSER=tester PGDATABASE=postgres PGCONNECT_TIMEOUT=20
+export PGOPTIONS="-c client_min_messages=warning -c enable_partitionwise_aggregate=on"
+PGOPTIONS+=" -c enable_partitionwise_join=on"
+unset PGHOST PGPORT PGSERVICE PGPASSWORD
+net=127.$((RANDOM % 200 + 20)).$((RANDOM % 250 + 1))
+make_cluster
+run_parts
+run_answers
+run_sent
+run_joins
+run_extension_values
+run_keys_kept
+run_killed
+run_standby
+! grep -E 'PANIC|terminated by signal' "$scratch"/log* || fail "a server broke down"
+echo "$binding over several servers: $tests tests passed"

@@ -1,0 +1,7 @@
+-- The tables of a data server. :part is its number.
+CREATE EXTENSION kohiblad;
+CREATE TABLE by_hash_:part (doc kohiblad NOT NULL);
+CREATE TABLE by_id_:part (doc kohiblad NOT NULL);
+CREATE TABLE by_doc_:part (doc kohiblad NOT NULL);
+CREATE TABLE keyed_:part (id kohiblad NOT NULL, doc kohiblad NOT NULL);
+CREATE INDEX by_member_:part ON by_hash_:part ((doc -> 'id'));
