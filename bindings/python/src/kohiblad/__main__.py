@@ -1,6 +1,7 @@
 """Files of JSON lines as files of documents, and back: ``python -m kohiblad --help``."""
 import argparse
 import contextlib
+import heapq
 import os
 import re
 import sys
@@ -11,12 +12,14 @@ from typing import (IO, Any, Callable, ContextManager, Dict, Iterator, List, Opt
 
 from . import Document, KohibladError, __version__
 from ._fault import fault_of
+from ._key_lines import add_key_options, add_range_options, key_line, key_row, range_lines
 from ._show import lines_of, page_of
 
 _DESCRIPTION = """\
-Converts files of JSON lines (NDJSON) to files of binary documents and back, sorts documents, prints
-one member of each, and shows the bytes of one. A file of documents has each document after its
-length: eight bytes, the most significant first. Two such files joined are a file of both."""
+Converts files of JSON lines (NDJSON) to files of binary documents and back, sorts and merges
+documents, prints one member of each or the key of some, and shows the bytes of one. A file of
+documents has each document after its length: eight bytes, the most significant first. Two such
+files joined are a file of both."""
 
 _SHOW = """\
 Prints one document as a tree beside its bytes. Each line has an entry word, the bytes that belong
@@ -122,6 +125,21 @@ def member_line(document: Document, name: str) -> bytes:
     return line_of(member if isinstance(member, Document) else Document.of(member))
 
 
+def merged(sources: List[Iterator[Document]]) -> Iterator[Document]:
+    """The documents of sorted sources in their order; of equal ones that of the first source."""
+    return iter(heapq.merge(*sources, key=Document.key))
+
+
+def in_order(documents: Iterator[Document], name: str) -> Iterator[Document]:
+    """The same documents. InputError: one of them is less than the one before it."""
+    previous = None
+    for number, document in enumerate(documents, 1):
+        if previous is not None and document < previous:
+            raise InputError(f"{name}: document {number} is less than the one before it")
+        previous = document
+        yield document
+
+
 def _parser() -> argparse.ArgumentParser:
     parser = argparse.ArgumentParser(prog="python -m kohiblad", description=_DESCRIPTION)
     parser.add_argument("--version", action="version", version=f"kohiblad {__version__}")
@@ -130,17 +148,27 @@ def _parser() -> argparse.ArgumentParser:
     helps = {"encode": "JSON lines to documents; empty lines are left out",
              "decode": "documents to JSON lines",
              "sort": "documents to documents in their order; all are kept in memory",
-             "get": "documents to the JSON lines of a member, empty where there is none"}
+             "get": "documents to the JSON lines of a member, empty where there is none",
+             "keys": "documents to lines of hexadecimal: keys that sort as the documents do, or as "
+                     "some of their members",
+             "merge": "sorted documents of several files to one, with one of each file in memory"}
     for name, text in helps.items():
         command = commands.add_parser(name, help=text, description=text)
         if name == "get":
             command.add_argument("name", metavar="NAME", help="the member's key")
-        command.add_argument("input", nargs="?", default="-", metavar="FILE",
-                             help="the input; standard input if none or -")
+        if name == "keys":
+            add_key_options(command)
+        if name == "merge":
+            command.add_argument("inputs", nargs="+", metavar="FILE", help="a sorted file")
+        else:
+            command.add_argument("input", nargs="?", default="-", metavar="FILE",
+                                 help="the input; standard input if none or -")
         command.add_argument("-o", "--output", default="-", metavar="FILE",
                              help="the output; standard output if none or -")
         command.add_argument("--progress", action="store_true",
                              help="count on standard error, as is done on a terminal")
+    text = "the bounds of a half-open range of keys, in hexadecimal: the first, and that after it"
+    add_range_options(commands.add_parser("range", help=text, description=text))
     _add_show(commands)
     return parser
 
@@ -176,18 +204,21 @@ def _input_name(path: str) -> str:
     return "standard input" if path == "-" else path
 
 
-def _run(options: argparse.Namespace, source: IO[bytes], target: IO[bytes]) -> None:
-    name = _input_name(options.input)
+def _run(options: argparse.Namespace, sources: List[IO[bytes]], target: IO[bytes]) -> None:
+    names = list(map(_input_name, options.inputs))
     is_encode = options.command == "encode"
-    rows = documents_of_lines(source, name) if is_encode else stored_documents(source, name)
+    read = documents_of_lines if is_encode else stored_documents
+    inputs = list(map(read, sources, names))
+    rows = merged(list(map(in_order, inputs, names))) if options.command == "merge" else inputs[0]
     is_shown = options.progress or sys.stderr.isatty()
     progress = Progress(is_shown, "line" if is_encode else "document")
     documents = progress.count(rows)
     if options.command == "sort":
         documents = iter(sorted(documents, key=Document.key))
     written: Dict[str, Callable[[Document], bytes]] = {
-        "encode": stored, "decode": line_of, "sort": stored,
-        "get": lambda document: member_line(document, options.name)}
+        "encode": stored, "decode": line_of, "sort": stored, "merge": stored,
+        "get": lambda document: member_line(document, options.name),
+        "keys": lambda document: (key_row if options.rowbinary else key_line)(document, options)}
     for document in documents:
         target.write(written[options.command](document))
     target.flush()
@@ -270,16 +301,27 @@ def _expect_two_files(input_path: str, output_path: str) -> None:
 
 
 def _convert(options: argparse.Namespace) -> None:
-    _expect_two_files(options.input, options.output)
-    with _opened(options.input, "rb", sys.stdin.buffer) as source, \
-            _opened(options.output, "wb", sys.stdout.buffer) as target:
-        _run(options, source, target)
+    with contextlib.ExitStack() as files:
+        for it in options.inputs:
+            _expect_two_files(it, options.output)
+        sources = [files.enter_context(_opened(it, "rb", sys.stdin.buffer))
+                   for it in options.inputs]
+        target = files.enter_context(_opened(options.output, "wb", sys.stdout.buffer))
+        _run(options, sources, target)
 
 
 def main(arguments: Optional[List[str]] = None) -> int:
     options = _parser().parse_args(arguments)
+    if options.command == "range":
+        sys.stdout.buffer.write(range_lines(options.low, options.high))
+        return 0
+    if options.command != "merge":
+        options.inputs = [options.input]
     try:
-        (_show if options.command == "show" else _convert)(options)
+        if options.command == "show":
+            _show(options)
+        else:
+            _convert(options)
     except BrokenPipeError:
         # Nobody reads on, as after `| head`. Python would fail once more at its end.
         os.dup2(os.open(os.devnull, os.O_WRONLY), sys.stdout.fileno())
