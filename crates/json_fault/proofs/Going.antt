@@ -38,39 +38,39 @@ blanks_go rule e bs skip (c ∷ b) w all more =
 -- ---- where the scan arrives
 
 -- What is expected, and the open brackets.
-abbrev pub Place : Type 0
-Place = Expected × List Bracket
+abbrev pub Position : Type 0
+Position = Expected × List Bracket
 
 -- Where the scan is after the characters, if each may come.
-abbrev pub arrives : Exponents → Place → List ℕ → Option Place
+abbrev pub arrives : Exponents → Position → List ℕ → Option Position
 arrives rule x [] = Some x
 arrives rule x (c ∷ w) =
     followed rule x.0 (innermost x.1) c >>= λ m. arrives rule (m.0, changed m.1 x.1) w
 
-pub goes_on_after : (rule : Exponents) (x y : Place) (front w : List ℕ)
+pub goes_on_after : (rule : Exponents) (x y : Position) (front w : List ℕ)
     → arrives rule x front ≡ Some y → Going rule x.0 x.1 (front ++ w) → Going rule y.0 y.1 w
 unfolding Going
 goes_on_after rule x y [] w e go =
-    subst (λ (z : Place). Going rule z.0 z.1 w) (some_same x y e) go
+    subst (λ (z : Position). Going rule z.0 z.1 w) (some_same x y e) go
 goes_on_after rule x y (c ∷ front) w e go =
     bind_then (followed rule x.0 (innermost x.1) c) _ _ e (λ m is last.
     goes_on_after rule (m.0, changed m.1 x.1) y front w last
     (subst (λ (n : Move). Going rule n.0 (changed n.1 x.1) (front ++ w))
     (some_same go.0 m (sym go.1 ∙ is)) go.2))
 
-pub arrives_on : (rule : Exponents) (x y : Place) (front : List ℕ) (m : Move) (c : ℕ)
+pub arrives_on : (rule : Exponents) (x y : Position) (front : List ℕ) (m : Move) (c : ℕ)
     → arrives rule x front ≡ Some y → followed rule y.0 (innermost y.1) c ≡ Some m
     → arrives rule x (front ++ c ∷ []) ≡ Some (m.0, changed m.1 y.1)
 arrives_on rule x y [] m c e is =
-    subst (λ (z : Place). arrives rule z (c ∷ []) ≡ Some (m.0, changed m.1 y.1))
+    subst (λ (z : Position). arrives rule z (c ∷ []) ≡ Some (m.0, changed m.1 y.1))
     (sym (some_same x y e)) (bound _ _ _ m is refl)
 arrives_on rule x y (d ∷ front) m c e is =
     bind_then (followed rule x.0 (innermost x.1) d) _ _ e (λ n first last.
     bound _ _ _ n first (arrives_on rule (n.0, changed n.1 x.1) y front m c last is))
 
-pub arrives_first : (rule : Exponents) (x y : Place) (front w : List ℕ)
+pub arrives_first : (rule : Exponents) (x y : Position) (front w : List ℕ)
     → arrives rule x (front ++ w) ≡ Some y
-    → (z : Place) × ((arrives rule x front ≡ Some z) × (arrives rule z w ≡ Some y))
+    → (z : Position) × ((arrives rule x front ≡ Some z) × (arrives rule z w ≡ Some y))
 arrives_first rule x y [] w e = (x, (refl, e))
 arrives_first rule x y (c ∷ front) w e =
     bind_then (followed rule x.0 (innermost x.1) c) _ _ e (λ m is last.

@@ -37,7 +37,7 @@ use Rattle.json_fault.proofs.NumberTails.{AnyExponent, MarkTail, Tail, Spelled, 
 use Rattle.json_fault.proofs.NumberGoes.{digit_is, none_test, other_than, no_blank}
 use Rattle.json_fault.proofs.NumberGoes.{value_is_number}
 use Rattle.json_fault.proofs.ExponentGoes.{mark_no_digit, mark_no_point}
-use Rattle.json_fault.proofs.Going.{Place, arrives}
+use Rattle.json_fault.proofs.Going.{Position, arrives}
 
 -- ---- the next character, and what completes the number after it
 
@@ -135,58 +135,56 @@ fraction_next c r (d ∷ ds) w m k digits x is =
       },
     )
 
+clash : {A : Type 0} (b : Bool) → b ≡ true → b ≡ false → A
+clash b e h = absurd (let h : ⊥ = cc in h)
+
+-- `0` alone, or digits that do not begin with it
+whole_parts : (d : ℕ) (ds : List ℕ) → is_whole (d ∷ ds) ≡ true → (is_ascii_digit d ≡ true)
+    × ((all_digits ds ≡ true) × ((d == zero_digit) ≡ true → ds ≡ []))
+whole_parts d [] e = (e, (refl, λ zero. refl))
+whole_parts d (c ∷ ds) e =
+    let both = and_true (not (d == zero_digit)) (all_digits (d ∷ c ∷ ds)) e in
+    let digits = and_true (is_ascii_digit d) (all_digits (c ∷ ds)) both.1 in
+    let other = none_test (d == zero_digit) both.0 in
+    (digits.0, (digits.1, λ zero. clash (d == zero_digit) zero other))
+
+abbrev AfterFirst : Bool → List ℕ → Type 0
+AfterFirst zero r = (m k : ℕ) → NumberEnd (cond zero Zero Whole) m k AnyExponent r
+
 -- the first digit of a number
 sign_next : (c : ℕ) (r whole f w : List ℕ) (m k : ℕ) → is_whole whole ≡ true
     → all_digits f ≡ true → AnyExponent m k w → c ∷ r ≡ whole ++ (fraction_text f ++ w)
     → AtDigit Sign c r
 sign_next c r [] f w m k whole all x is = absurd (let h : ⊥ = cc in h)
-sign_next c r (d ∷ []) f w m k whole all x is =
+sign_next c r (d ∷ ds) f w m k whole all x is =
     let same = heads_same c d r _ is in
-    let digit : is_digit c 10 ≡ true = ap (λ y. is_digit y 10) same.0 ∙ digit_is d whole in
-    elim (bool_cases (c == zero_digit)) [
+    let parts = whole_parts d ds whole in
+    let digit = ap (λ y. is_digit y 10) same.0 ∙ digit_is d parts.0 in
+    let test : (c == zero_digit) ≡ (d == zero_digit) = ap (λ y. y == zero_digit) same.0 in
+    elim (bool_cases (d == zero_digit)) [
       | inl zero ↦ (
         digit,
-        λ m k. subst
-            (λ (t : Bool). NumberEnd (cond t Zero Whole) m k AnyExponent r) (sym zero) (record {
-              fraction = f;
-              is_fraction = all;
-              rest = w;
-              is_spelled = same.1;
-              ends = x;
-            }),
+        subst (λ (t : Bool). AfterFirst t r) (sym (test ∙ zero)) (λ m k. record {
+          fraction = f;
+          is_fraction = all;
+          rest = w;
+          is_spelled = same.1 ∙ ap (λ s. s ++ (fraction_text f ++ w)) (parts.1.1 zero);
+          ends = x;
+        }),
       )
       | inr other ↦ (
         digit,
-        λ m k. subst
-            (λ (t : Bool). NumberEnd (cond t Zero Whole) m k AnyExponent r) (sym other) (record {
-              digits = [];
-              fraction = f;
-              are_digits = refl;
-              is_fraction = all;
-              rest = w;
-              is_spelled = same.1;
-              ends = x;
-            }),
+        subst (λ (t : Bool). AfterFirst t r) (sym (test ∙ other)) (λ m k. record {
+          digits = ds;
+          fraction = f;
+          are_digits = parts.1.0;
+          is_fraction = all;
+          rest = w;
+          is_spelled = same.1;
+          ends = x;
+        }),
       )
     ]
-sign_next c r (d ∷ e ∷ ds) f w m k whole all x is =
-    let same = heads_same c d r _ is in
-    let both = and_true (not (d == zero_digit)) (all_digits (d ∷ e ∷ ds)) whole in
-    let digits = and_true (is_ascii_digit d) (all_digits (e ∷ ds)) both.1 in
-    let other : (c == zero_digit) ≡ false =
-    ap (λ y. y == zero_digit) same.0 ∙ none_test (d == zero_digit) both.0 in (
-      ap (λ y. is_digit y 10) same.0 ∙ digit_is d digits.0,
-      λ m k. subst
-          (λ (t : Bool). NumberEnd (cond t Zero Whole) m k AnyExponent r) (sym other) (record {
-            digits = e ∷ ds;
-            fraction = f;
-            are_digits = digits.1;
-            is_fraction = all;
-            rest = w;
-            is_spelled = same.1;
-            ends = x;
-          }),
-    )
 
 next : (p : Part) (m k c : ℕ) (r : List ℕ) → NumberEnd p m k AnyExponent (c ∷ r) → Next p c r
 next Sign m k c r end =
@@ -242,9 +240,6 @@ part_goes Fraction m k c r end =
     ]
 
 -- ---- after a step
-
-clash : {A : Type 0} (b : Bool) → b ≡ true → b ≡ false → A
-clash b e h = absurd (let h : ⊥ = cc in h)
 
 at_test : (c k : ℕ) → c ≡ k → (c == k) ≡ true
 at_test c k e = grind (arith, nat_tests)
@@ -489,15 +484,15 @@ module _ (rule : Exponents) where
   tail_step _ top m c r e tail = absurd tail
 
   -- after any characters of the number
-  tail_after : (x y : Place) (s r : List ℕ) → arrives rule x s ≡ Some y → Tail x.0 (s ++ r)
+  tail_after : (x y : Position) (s r : List ℕ) → arrives rule x s ≡ Some y → Tail x.0 (s ++ r)
       → Tail y.0 r
-  tail_after x y [] r e tail = subst (λ (z : Place). Tail z.0 r) (some_same x y e) tail
+  tail_after x y [] r e tail = subst (λ (z : Position). Tail z.0 r) (some_same x y e) tail
   tail_after x y (c ∷ s) r e tail =
       bind_then (followed rule x.0 (innermost x.1) c) _ _ e (λ m is last.
       tail_after (m.0, changed m.1 x.1) y s r last
       (tail_step x.0 (innermost x.1) m c (s ++ r) is tail))
 
-  pub tail_of_number : (x y : Place) (c : ℕ) (s r : List ℕ) → is_first x.0 ≡ true
+  pub tail_of_number : (x y : Position) (c : ℕ) (s r : List ℕ) → is_first x.0 ≡ true
       → arrives rule x (c ∷ s) ≡ Some y → Spelled (c ∷ (s ++ r)) → Tail y.0 r
   tail_of_number x y c s r first e spelled =
       bind_then (followed rule x.0 (innermost x.1) c) _ _ e (λ m is last.

@@ -41,7 +41,7 @@ use Rattle.json_fault.proofs.ExponentBack.{exponent_at}
 use Rattle.json_fault.proofs.StepBack.{can_end, is_live, exponent_taken, viable_magnitude}
 use Rattle.json_fault.proofs.StepBack.{step_back, whole_text}
 use Rattle.json_fault.proofs.Completions.{completes}
-use Rattle.json_fault.proofs.Going.{Going, Place, arrives, arrives_on, goes_on_after}
+use Rattle.json_fault.proofs.Going.{Going, Position, arrives, arrives_on, goes_on_after}
 use Rattle.json_fault.proofs.ValueGoes.{text_goes}
 use Rattle.json_fault.proofs.NumberBack.{numeral_at}
 use Rattle.json_fault.proofs.NumberTails.{Tail, Spelled, spelled_of_sign, begun_tail, digits_tail}
@@ -362,26 +362,26 @@ module _ (rule : Exponents) (front : List ℕ) (c : ℕ) where
 -- ---- the scan
 
 -- What completes a text after these characters.
-abbrev pub Completed : Exponents → List ℕ → Place → Type 0
+abbrev pub Completed : Exponents → List ℕ → Position → Type 0
 Completed rule front x =
     (w : List ℕ) → Completes rule x.0 x.1 w → Completes rule Value [] (front ++ w)
 
 module _ (rule : Exponents) where
-  pub completed_on : (front : List ℕ) (x : Place) (m : Move) (c : ℕ)
+  pub completed_on : (front : List ℕ) (x : Position) (m : Move) (c : ℕ)
       → followed rule x.0 (innermost x.1) c ≡ Some m → is_live rule x.0 ≡ true
       → Completed rule front x → Completed rule (front ++ c ∷ []) (m.0, changed m.1 x.1)
   completed_on front x m c is live completed w end =
       subst (λ (s : List ℕ). Completes rule Value [] s) (sym (append_assoc front (c ∷ []) w))
       (completed (c ∷ w) (step_back rule x.0 x.1 m c w is live end))
 
-  pub begins_at : (front : List ℕ) (x : Place) → is_live rule x.0 ≡ true
+  pub begins_at : (front : List ℕ) (x : Position) → is_live rule x.0 ≡ true
       → Completed rule front x → Begins rule front
   begins_at front x live completed =
       let end = completes rule x.0 x.1 live in
       (end.0, whole_text rule (front ++ end.0) (completed end.0 end.1))
 
   -- a new line and a number may come
-  expects : (front : List ℕ) (x : Place) → is_live rule x.0 ≡ true → Completed rule front x
+  expects : (front : List ℕ) (x : Position) → is_live rule x.0 ≡ true → Completed rule front x
       → followed rule x.0 (innermost x.1) new_line ≡ Some (x.0, Keep)
       → followed rule x.0 (innermost x.1) zero_digit
       ≡ Some (Digits (numeral_at false Zero 0 0), Keep)
@@ -439,14 +439,14 @@ unfolding Going
 stuck rule e bs c w none go = no_error (sym none ∙ go.1)
 
 -- after these characters a text goes on as the scan does
-pub text_goes_on : (rule : Exponents) (front w : List ℕ) (x : Place)
+pub text_goes_on : (rule : Exponents) (front w : List ℕ) (x : Position)
     → arrives rule (Value, []) front ≡ Some x → IsJsonUnder rule (front ++ w)
     → Going rule x.0 x.1 w
 text_goes_on rule front w x arrived json =
     goes_on_after rule (Value, []) x front w arrived (text_goes rule (front ++ w) json.0 json.1)
 
 -- the next character may not come
-pub refused : (rule : Exponents) (front : List ℕ) (x : Place) (c : ℕ)
+pub refused : (rule : Exponents) (front : List ℕ) (x : Position) (c : ℕ)
     → arrives rule (Value, []) front ≡ Some x → followed rule x.0 (innermost x.1) c ≡ None
     → Begins rule (front ++ c ∷ []) → ⊥
 refused rule front x c arrived none begins =

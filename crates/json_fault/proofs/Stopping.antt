@@ -11,7 +11,7 @@ use Rattle.json_fault.specs.declared.number.Part.{Part}
 use Rattle.json_fault.specs.declared.number.Part.TheVariants.{Sign, Zero, Whole, Point, Fraction}
 use Rattle.json_fault.specs.declared.number.Numeral.{Numeral}
 use Rattle.json_fault.specs.declared.exponent.Exponent.{Exponent}
-use Rattle.json_fault.specs.declared.string.Place as code
+use Rattle.json_fault.specs.declared.string.Place.{Place}
 use Rattle.json_fault.specs.declared.string.Place.TheVariants.{Inside, Escaped, Four, ThreeOfD}
 use Rattle.json_fault.specs.declared.string.Place.TheVariants.{Three, Two, One, HighTwo, HighOne}
 use Rattle.json_fault.specs.declared.string.Place.TheVariants.{Low, LowLetter, LowUnit, LowOfD}
@@ -40,7 +40,7 @@ use Rattle.json_fault.proofs.NumberGoes.{none_test, none_bound, and_none}
 use Rattle.json_fault.proofs.NumberTails.{Tail, is_first, either_true, tail_on, digits_some}
 use Rattle.json_fault.proofs.NumberTails.{sign_some, power_some}
 use Rattle.json_fault.proofs.NumberSteps.{part_goes, first_comes, tail_of_number}
-use Rattle.json_fault.proofs.Going.{Going, Place, arrives, arrives_first}
+use Rattle.json_fault.proofs.Going.{Going, Position, arrives, arrives_first}
 use Rattle.json_fault.proofs.Scanning.{NumberAt, IsNumberAt, Completed, completed_on}
 use Rattle.json_fault.proofs.Scanning.{begins_at, text_goes_on, refused, IsReached}
 
@@ -83,7 +83,7 @@ module _ (rule : Exponents) where
   power_line x top e = by_true _ _ _ _ (not_unfinished (is_final x) e) refl
 
   -- a new line may come
-  abbrev TakesLine : Place → Type 0
+  abbrev TakesLine : Position → Type 0
   TakesLine x = (m : Move) × ((followed rule x.0 (innermost x.1) new_line ≡ Some m)
       × (is_live rule m.0 ≡ true))
 
@@ -113,7 +113,7 @@ no_letter Ull = refl
 no_letter Ll = refl
 no_letter L = refl
 
-no_line_inside : (place : code.Place) → string_continued place new_line ≡ None
+no_line_inside : (place : Place) → string_continued place new_line ≡ None
 no_line_inside Inside = refl
 no_line_inside Escaped = refl
 no_line_inside Four = refl
@@ -213,7 +213,7 @@ tail_stops (ExponentDigits x) c r tail =
 tail_stops _ c r tail = absurd tail
 
 module _ (rule : Exponents) (front rest : List ℕ) where
-  abbrev Arrived : Place → Type 0
+  abbrev Arrived : Position → Type 0
   Arrived x = arrives rule (Value, []) front ≡ Some x
 
   -- the scan stops in a number: the text so far ends in one that is at fault
@@ -254,21 +254,22 @@ module _ (rule : Exponents) (front rest : List ℕ) where
   stops_at_fault _ bs arrived at (Some c) is stops = absurd (let h : ⊥ = cc in h)
 
   -- and the converse
-  line_at : (z x : Place) (number : List ℕ) → is_first z.0 ≡ true → arrives rule z number ≡ Some x
-      → BeginsNumber number → is_unfinished x.0 ≡ false → TakesLine rule x
+  line_at : (z x : Position) (number : List ℕ) → is_first z.0 ≡ true
+      → arrives rule z number ≡ Some x → BeginsNumber number → is_unfinished x.0 ≡ false
+      → TakesLine rule x
   line_at z x [] first e begins done =
       subst (TakesLine rule) (some_same z x e) (first_line rule z.0 z.1 first)
   line_at z x (c ∷ s) first e begins done =
       number_line rule x.0 x.1 begins.1.1.0 done (tail_of_number rule z x c s begins.1.1.0 first e
       (begins.0, (begins.1.0, begins.1.1.1)))
 
-  more_at : (z x : Place) (number : List ℕ) (c : ℕ) → is_first z.0 ≡ true
+  more_at : (z x : Position) (number : List ℕ) (c : ℕ) → is_first z.0 ≡ true
       → arrives rule z number ≡ Some x → BeginsNumber (number ++ c ∷ [])
       → followed rule x.0 (innermost x.1) c ≡ None → stops_in_number x.0 (Some c) ≡ true
   more_at z x [] c first e begins none =
       absurd (first_comes rule z.0 (innermost z.1) c begins.1.1.0 first
       (begins.0, (begins.1.0, begins.1.1.1))
-      (subst (λ (y : Place). followed rule y.0 (innermost y.1) c ≡ None) (sym (some_same z x e))
+      (subst (λ (y : Position). followed rule y.0 (innermost y.1) c ≡ None) (sym (some_same z x e))
       none))
   more_at z x (d ∷ s) c first e begins none =
       tail_stops x.0 c begins.1.1.0 (tail_of_number rule z x d s (c ∷ begins.1.1.0) first e
@@ -279,7 +280,7 @@ module _ (rule : Exponents) (front rest : List ℕ) where
   next_is None c after is cut = absurd (let h : ⊥ = cc in h)
   next_is (Some d) c after is cut = ap Some (let h : d ≡ c = let e = is.1 in cc in h)
 
-  fault_stops : (x : Place) → Arrived x → is_live rule x.0 ≡ true → Completed rule front x
+  fault_stops : (x : Position) → Arrived x → is_live rule x.0 ≡ true → Completed rule front x
       → EndsInNumber rule front rest → (next : Option ℕ) → IsNext next rest
       → ((c : ℕ) → next ≡ Some c → followed rule x.0 (innermost x.1) c ≡ None)
       → stops_in_number x.0 next ≡ true

@@ -2,7 +2,7 @@
 use Rattle.std.proofs.Common.{◌≡◌, ℕ, inl, inr, Bool, true, false, refl, sym, ◌∙◌}
 use Rattle.std.proofs.Common.{subst, arith, List, [], ◌∷◌, ◌++◌, append_assoc, append-nil}
 use Rattle.std.proofs.Common.{length, Option, Some, None, eqb-true, ap}
-use Rattle.std.specs.Prelude.{◌&&◌, ◌==◌, codes, option_map}
+use Rattle.std.specs.Prelude.{◌&&◌, ◌==◌, cond, codes, option_map}
 use Rattle.std.specs.Str.Parse.{digits_value}
 use Rattle.std.proofs.lemmas.Bool.Decides.{nat_tests}
 use Rattle.jsonb_value.specs.Tree.{Tree, number, text}
@@ -33,7 +33,9 @@ use Rattle.json_fault.specs.declared.expected.Expected.TheVariants.{Value, First
 use Rattle.json_fault.specs.declared.expected.Expected.TheVariants.{Key, Colon, Rest, Letters}
 use Rattle.json_fault.specs.declared.expected.Expected.TheVariants.{Content, Name}
 use Rattle.json_fault.specs.declared.expected.Change.TheVariants.{Keep, Open, Close}
-use Rattle.json_fault.specs.Scan.{Move, value_begun, mark_begun, changed}
+use Rattle.json_fault.specs.Scan.{Move, keep, value_begun, mark_begun, closed_or, changed, skips}
+use Rattle.json_fault.specs.Scan.{followed, innermost}
+use Rattle.json_fault.specs.declared.expected.Expected.{Expected}
 use Rattle.json_fault.proofs.Going.{Going, arrived, step, blanks_go}
 use Rattle.json_fault.proofs.StringGoes.{pieces_go}
 use Rattle.json_fault.proofs.NumberGoes.{number_goes}
@@ -103,34 +105,33 @@ module _ (rule : Exponents) where
 
   -- ---- the beginnings of arrays and objects
 
-  first_item : (bs : List Bracket) (w : List ℕ) → Going rule Value bs w → Going rule FirstItem bs w
+  -- where a container may end, whatever may begin otherwise goes
+  first_goes : (e first : Expected) (close : ℕ) (begun : ℕ → Option Move) (bs : List Bracket)
+      → ((c : ℕ) → followed rule e (innermost bs) c ≡ cond (is_blank c) (keep e) (begun c))
+      → ((c : ℕ) → followed rule first (innermost bs) c
+      ≡ cond (is_blank c) (keep first) (closed_or c close (begun c)))
+      → begun close ≡ None → (w : List ℕ) → Going rule e bs w → Going rule first bs w
   unfolding Going
-  first_item bs [] go = tt
-  first_item bs (c ∷ w) go = elim (chosen (is_blank c) _ _ _ go.1) [
-    | inl is ↦
-        let same : (Value, Keep) ≡ go.0 = some_same _ go.0 is.1 in
-        let rest : Going rule Value bs w =
-        subst (λ (m : Move). Going rule m.0 (changed m.1 bs) w) (sym same) go.2 in
-        ((FirstItem, Keep), by_true _ _ _ _ is.0 refl, first_item bs w rest)
-    | inr other ↦
-        let other_mark = not_closed value_begun close_bracket c go.0 refl other.1 in
-        (go.0, by_false _ _ _ _ other.0 (by_false _ _ _ _ other_mark other.1), go.2)
-  ]
+  first_goes e first close begun bs is at none [] go = tt
+  first_goes e first close begun bs is at none (c ∷ w) go =
+      elim (chosen (is_blank c) _ _ _ (sym (is c) ∙ go.1)) [
+        | inl blank ↦
+            let rest = subst (λ (m : Move). Going rule m.0 (changed m.1 bs) w)
+            (sym (some_same (e, Keep) go.0 blank.1)) go.2 in
+            step rule first bs (first, Keep) c w (at c ∙ by_true _ _ _ _ blank.0 refl)
+            (first_goes e first close begun bs is at none w rest)
+        | inr other ↦ step rule first bs go.0 c w (at c ∙ by_false _ _ _ _ other.0
+            (by_false _ _ _ _ (not_closed begun close c go.0 none other.1) other.1)) go.2
+      ]
+
+  first_item : (bs : List Bracket) (w : List ℕ) → Going rule Value bs w → Going rule FirstItem bs w
+  first_item bs =
+      first_goes Value FirstItem close_bracket value_begun bs (λ c. refl) (λ c. refl) refl
 
   first_key : (bs : List Bracket) (w : List ℕ) → Going rule Key bs w → Going rule FirstKey bs w
-  unfolding Going
-  first_key bs [] go = tt
-  first_key bs (c ∷ w) go = elim (chosen (is_blank c) _ _ _ go.1) [
-    | inl is ↦
-        let same : (Key, Keep) ≡ go.0 = some_same _ go.0 is.1 in
-        let rest : Going rule Key bs w =
-        subst (λ (m : Move). Going rule m.0 (changed m.1 bs) w) (sym same) go.2 in
-        ((FirstKey, Keep), by_true _ _ _ _ is.0 refl, first_key bs w rest)
-    | inr other ↦
-        let other_mark = not_closed (λ d. mark_begun d quote (Name Inside)) close_brace c go.0 refl
-        other.1 in
-        (go.0, by_false _ _ _ _ other.0 (by_false _ _ _ _ other_mark other.1), go.2)
-  ]
+  first_key bs =
+      first_goes Key FirstKey close_brace (λ c. mark_begun c quote (Name Inside)) bs (λ c. refl)
+      (λ c. refl) refl
 
   -- ---- values
 
@@ -179,20 +180,16 @@ module _ (rule : Exponents) where
       (number_goes rule bs n.is_negative n.whole n.fraction (exponent_text n.exponent ++ w) digits.0
       digits.1 goes.0 goes.1)
 
-  empty_array_goes : (bs : List Bracket) (blank w : List ℕ) → all_blank blank ≡ true
-      → Going rule Rest bs w
-      → Going rule Value bs ((open_bracket ∷ (blank ++ close_bracket ∷ [])) ++ w)
-  empty_array_goes bs blank w all more =
-      step rule Value bs (FirstItem, Open Array) open_bracket _ refl
-      (rw append_assoc (blanks_go rule FirstItem (Array ∷ bs) refl blank (close_bracket ∷ w) all
-      (step rule FirstItem (Array ∷ bs) (Rest, Close) close_bracket w refl more)))
-
-  empty_object_goes : (bs : List Bracket) (blank w : List ℕ) → all_blank blank ≡ true
-      → Going rule Rest bs w → Going rule Value bs ((open_brace ∷ (blank ++ close_brace ∷ [])) ++ w)
-  empty_object_goes bs blank w all more =
-      step rule Value bs (FirstKey, Open Object) open_brace _ refl
-      (rw append_assoc (blanks_go rule FirstKey (Object ∷ bs) refl blank (close_brace ∷ w) all
-      (step rule FirstKey (Object ∷ bs) (Rest, Close) close_brace w refl more)))
+  -- an array or object without items or members
+  empty_goes : (first : Expected) (b : Bracket) (k j : ℕ) (bs : List Bracket)
+      (blank w : List ℕ) → followed rule Value (innermost bs) k ≡ Some (first, Open b)
+      → skips first ≡ true → followed rule first (Some b) j ≡ Some (Rest, Close)
+      → all_blank blank ≡ true → Going rule Rest bs w
+      → Going rule Value bs ((k ∷ (blank ++ j ∷ [])) ++ w)
+  empty_goes first b k j bs blank w opens skip closes all more =
+      step rule Value bs (first, Open b) k _ opens
+      (rw append_assoc (blanks_go rule first (b ∷ bs) skip blank (j ∷ w) all
+      (step rule first (b ∷ bs) (Rest, Close) j w closes more)))
 
   mutual
     syntax_goes : (x : Syntax) (t : Tree) (bs : List Bracket) (w : List ℕ)
@@ -205,9 +202,11 @@ module _ (rule : Exponents) where
         let is = option_was text (pieces_meaning pieces) t e in
         string_goes bs pieces is.0 w is.1 more
     syntax_goes (empty_array blank) t bs w e stop more =
-        empty_array_goes bs blank w (and_true _ _ (cond_some _ _ _ e).0).0 more
+        empty_goes FirstItem Array open_bracket close_bracket bs blank w refl refl refl
+        (and_true _ _ (cond_some _ _ _ e).0).0 more
     syntax_goes (empty_object blank) t bs w e stop more =
-        empty_object_goes bs blank w (and_true _ _ (cond_some _ _ _ e).0).0 more
+        empty_goes FirstKey Object open_brace close_brace bs blank w refl refl refl
+        (and_true _ _ (cond_some _ _ _ e).0).0 more
     syntax_goes (items x xs) t bs w e stop more =
         bind_then (element_meaning rule x) _ _ e (λ y is last.
         bind_then (items_meaning rule xs) _ _ last (λ ys are end.
