@@ -51,6 +51,7 @@ SELECT plan_has($$ SELECT i FROM rows_of WHERE d -> concat('i', i) = '7' $$, 'd 
     plan_has($$ SELECT i FROM rows_of WHERE d #> '{id,NULL}' = '7' $$, 'd #> '),
     plan_has($$ SELECT i FROM rows_of WHERE d ->> 'id' = '7' $$, 'd ->> ');
 SELECT refusal($$ SELECT d #> '{{a},{b}}' FROM looked_in $$);
+DROP INDEX by_path;
 -- A unique index on a member, its statistics, a partial index, and partitions by a member.
 CREATE TABLE kept (d kohiblad);
 CREATE UNIQUE INDEX kept_id ON kept ((d -> 'id')) WHERE d -> 'id' IS NOT NULL;

@@ -1,4 +1,5 @@
 \set ECHO none \a \t
+SET datestyle = ISO;
 -- Records of objects.
 CREATE TYPE point_of AS (x int, y numeric(6, 2));
 CREATE DOMAIN positive AS int CHECK (VALUE > 0);

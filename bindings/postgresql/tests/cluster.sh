@@ -4,48 +4,18 @@
 #
 #     PKG_CONFIG_PATH=/usr/local/lib/pkgconfig bindings/postgresql/tests/cluster.sh [ROWS]
 #
-# tests/server.sh has the settings; ROWS are 20000 if not given. SERVER_BIN names the programs of a
+# tests/server.sh has the settings; ROWS are 10000 if not given. SERVER_BIN names the programs of a
 # server with the extension, which is then not built. The last line has the number of tests.
 # docs/DISTRIBUTED.md says how such tables are made; tests/cluster/ makes them.
 set -Eeuo pipefail
 folder=$(cd "$(dirname "$0")/.." && pwd)
 . "$folder/tests/server.sh"
+. "$folder/tests/cluster/servers.sh"
 trap 'fail "line $LINENO of cluster.sh"' ERR
-rows=${1:-20000}
+rows=${1:-10000}
 tests=0
 tables=(by_hash by_id by_doc keyed)
 standby=9
-
-stop_all() {
-    local data
-    for data in "$scratch"/data*; do
-        [ ! -f "$data/postmaster.pid" ] ||
-            as_user "$bin/pg_ctl" -D "$data" -m immediate -w stop > "$scratch/stop.log" 2>&1 ||
-            cat "$scratch/stop.log" >&2
-    done
-    rm -rf "$scratch"
-}
-
-start_one() {
-    local settings="-c fsync=off -c jit=off -c shared_buffers=32MB -c autovacuum=off"
-    as_user "$bin/pg_ctl" -D "$scratch/data$1" -l "$scratch/log$1" -w start > "$scratch/start.log" \
-        -o "-k $scratch -p 543$1 -c listen_addresses=$net.$1 $settings" 2>&1 ||
-        { cat "$scratch/start.log" "$scratch/log$1" >&2; fail "server $1 did not start"; }
-}
-
-make_one() {
-    as_user "$bin/initdb" -D "$scratch/data$1" -U tester -E UTF8 --locale=C -A trust -N \
-        > "$scratch/initdb.log" 2>&1 || { cat "$scratch/initdb.log" >&2; fail "initdb"; }
-    start_one "$1"
-}
-
-kill_one() {
-    as_user "$bin/pg_ctl" -D "$scratch/data$1" -m immediate -w stop > "$scratch/kill.log"
-}
-
-# Runs psql at a server; ask returns the lines of an answer, or the first of an error.
-psql_at() { local server=$1; shift; psql -At -h "$net.$server" -p "543$server" "$@"; }
-ask() { psql_at "$1" -c "$2" 2> "$scratch/error" || head -n 1 "$scratch/error"; }
 
 # Compares two texts, the one that must be and the one that is.
 expect() {
@@ -144,8 +114,6 @@ run_sent() {
     expect_sent 3 "SELECT id, max(doc -> 'price') FROM keyed GROUP BY 1" "GROUP BY"
     expect_sent 1 "SELECT doc -> 'city', count(*) FROM by_hash_1 GROUP BY 1" "GROUP BY"
     expect_sent 3 "SELECT * FROM cities" "GROUP BY"
-    expect_sent 3 "SELECT a.doc FROM by_id a JOIN by_id b ON a.doc -> 'id' = b.doc -> 'id'
-        WHERE a.doc -> 'city' = '\"city 7\"'" "INNER JOIN"
     expect_sent 3 "DELETE FROM by_hash WHERE doc -> 'id' = '5'" "DELETE FROM public.by_hash"
     expect_sent 3 "UPDATE by_id SET doc = doc WHERE doc -> 'city' = '\"none\"'" \
         "UPDATE public.by_id"
@@ -160,7 +128,7 @@ run_sent() {
         "$(ask 1 "EXPLAIN (COSTS OFF) $sent" | grep -c 'Index Scan .*by_member_1')"
 }
 
-# With the servers' own estimates, joins of all rows of two parts are sent too.
+# Joins of two parts are sent where the servers' own estimates are asked.
 run_joins() {
     note "joins, by the servers' estimates"
     local server
@@ -239,25 +207,7 @@ run_standby() {
     expect "rows, after a change" "$rows" "$(ask 0 "SELECT count(*) FROM keyed")"
 }
 
-find_tools
-scratch=$(mktemp -d)
-trap stop_all EXIT
-if [ -n "${SERVER_BIN:-}" ]; then
-    bin=$SERVER_BIN
-else
-    note "copy the server of $("$pg_config" --version), and build the extension"
-    copy_server
-    build_extension
-fi
-[ -f "$("$bin/pg_config" --sharedir)/extension/postgres_fdw.control" ] ||
-    pass_over "postgresql-contrib, for postgres_fdw"
-chmod 755 "$scratch"
-[ "$(id -u)" != 0 ] || chown "$user" "$scratch"
-export PGUSER=tester PGDATABASE=postgres PGCONNECT_TIMEOUT=20
-export PGOPTIONS="-c client_min_messages=warning -c enable_partitionwise_aggregate=on"
-PGOPTIONS+=" -c enable_partitionwise_join=on"
-unset PGHOST PGPORT PGSERVICE PGPASSWORD
-net=127.$((RANDOM % 200 + 20)).$((RANDOM % 250 + 1))
+open_servers
 make_cluster
 run_parts
 run_answers

@@ -1,0 +1,123 @@
+#!/usr/bin/env bash
+# Times queries over one table, and over parts on 1, 2 and 3 servers: the table of
+# docs/DISTRIBUTED.md.
+#
+#     bindings/postgresql/bench_cluster.sh [ROWS [ROUNDS]]
+#
+# ROWS are 1000000 and ROUNDS 3 if not given; the least time counts. tests/server.sh has the
+# settings. All servers are on this machine, and share its cores.
+set -Eeuo pipefail
+folder=$(cd "$(dirname "$0")" && pwd)
+. "$folder/tests/server.sh"
+. "$folder/tests/cluster/servers.sh"
+trap 'fail "line $LINENO of bench_cluster.sh"' ERR
+rows=${1:-1000000}
+rounds=${2:-3}
+SETTINGS="-c shared_buffers=256MB -c work_mem=64MB -c maintenance_work_mem=256MB"
+SETTINGS+=" -c max_parallel_workers_per_gather=0"
+
+# The milliseconds of a command: the least of the rounds.
+milliseconds() {
+    local round
+    for ((round = 0; round < ${2:-$rounds}; round++)); do
+        psql_at 0 -c '\timing on' -c "$1" | sed -n 's/^Time: \([0-9.]*\) ms.*/\1/p'
+    done | sort -n | head -n 1
+}
+
+# Makes the tables over the first servers: by ranges of doc -> 'id', and by the hash of a document.
+make_tables() {
+    local count=$1 part from to views=
+    ask 0 "CREATE TABLE by_id_$count (doc kohiblad NOT NULL) PARTITION BY RANGE ((doc -> 'id'))"
+    ask 0 "CREATE TABLE by_hash_$count (doc kohiblad NOT NULL) PARTITION BY HASH (doc)"
+    for ((part = 1; part <= count; part++)); do
+        from=MINVALUE to=MAXVALUE
+        [ "$part" = 1 ] || from="'$((rows * (part - 1) / count + 1))'"
+        [ "$part" = "$count" ] || to="'$((rows * part / count + 1))'"
+        for table in by_id by_hash; do
+            ask "$part" "CREATE TABLE ${table}_$count (doc kohiblad NOT NULL)"
+        done
+        ask 0 "CREATE FOREIGN TABLE by_id_${count}_$part PARTITION OF by_id_$count
+            FOR VALUES FROM ($from) TO ($to) SERVER s$part OPTIONS (table_name 'by_id_$count')"
+        ask 0 "CREATE FOREIGN TABLE by_hash_${count}_$part PARTITION OF by_hash_$count
+            FOR VALUES WITH (MODULUS $count, REMAINDER $((part - 1))) SERVER s$part
+            OPTIONS (table_name 'by_hash_$count')"
+        views+="${views:+ UNION ALL }SELECT doc -> 'city' AS city, count(*) AS n,
+            max(doc -> 'price') AS highest FROM by_id_${count}_$part GROUP BY 1"
+    done
+    ask 0 "CREATE VIEW cities_$count AS
+        SELECT city, sum(n) AS n, max(highest) AS highest FROM ($views) parts GROUP BY 1"
+}
+
+make_indexes() {
+    local count=$1 part
+    for ((part = 1; part <= count; part++)); do
+        for table in by_id by_hash; do
+            ask "$part" "CREATE INDEX ON ${table}_$count ((doc -> 'id'))"
+            ask "$part" "VACUUM ANALYZE ${table}_$count"
+        done
+    done
+    ask 0 "ANALYZE by_id_$count, by_hash_$count"
+}
+
+# One line of the table: ROWS, HASH and CITIES in the query are those of one table, and of 1 to 3
+# servers.
+measure() {
+    local name=$1 query=$2 count line
+    line="| $name | $(milliseconds "$(of_tables "$query" here here cities)")"
+    for count in 1 2 3; do
+        line+=" | $(milliseconds "$(of_tables "$query" "by_id_$count" "by_hash_$count" \
+            "cities_$count")")"
+    done
+    echo "$line |"
+}
+
+of_tables() { local query=${1//ROWS/$2}; query=${query//HASH/$3}; echo "${query//CITIES/$4}"; }
+
+open_servers >&2
+for server in 0 1 2 3; do make_one "$server"; done
+ask 0 "CREATE EXTENSION postgres_fdw"
+for server in 0 1 2 3; do ask "$server" "CREATE EXTENSION kohiblad"; done
+for server in 1 2 3; do
+    ask 0 "CREATE SERVER s$server FOREIGN DATA WRAPPER postgres_fdw
+        OPTIONS (host '$net.$server', port '543$server', dbname 'postgres', extensions 'kohiblad',
+                 async_capable 'true', fetch_size '10000', batch_size '1000')"
+    ask 0 "CREATE USER MAPPING FOR tester SERVER s$server OPTIONS (user 'tester')"
+done
+ask 0 "CREATE TABLE texts AS
+    SELECT format('{\"id\":%s,\"name\":\"customer %s\",\"city\":\"city %s\",\"price\":%s.%s,'
+                  '\"tags\":[\"new\",\"t%s\"],\"seen\":%s}', i, i * 7919 % 100003, i * 31 % 500,
+                  i * 17 % 900, 10 + i % 90, i % 13,
+                  CASE WHEN i % 3 = 0 THEN 'null' ELSE 'true' END) AS line
+    FROM generate_series(1, $rows) i ORDER BY md5(i::text)"
+ask 0 "CREATE TABLE here (doc kohiblad NOT NULL)"
+ask 0 "CREATE VIEW cities AS SELECT doc -> 'city' AS city, count(*) AS n,
+    max(doc -> 'price') AS highest FROM here GROUP BY 1"
+for count in 1 2 3; do make_tables "$count"; done
+
+echo "| $rows rows, ms | one table | 1 server | 2 servers | 3 servers |"
+echo "|---|---|---|---|---|"
+line="| load, by \`INSERT\` of texts"
+for table in here by_id_1 by_id_2 by_id_3; do
+    line+=" | $(milliseconds "INSERT INTO $table SELECT line::kohiblad FROM texts" 1)"
+done
+echo "$line |"
+for count in 1 2 3; do ask 0 "INSERT INTO by_hash_$count SELECT doc FROM here"; done
+ask 0 "CREATE INDEX ON here ((doc -> 'id'))"
+ask 0 "VACUUM ANALYZE here"
+for count in 1 2 3; do make_indexes "$count"; done
+measure "\`doc -> 'id' = '777'\`, parts by that member" \
+    "SELECT doc FROM ROWS WHERE doc -> 'id' = '777'"
+measure "\`doc -> 'id' = '777'\`, parts by hash" "SELECT doc FROM HASH WHERE doc -> 'id' = '777'"
+measure "\`doc ->> 'id' = '777'\`, which is not sent" \
+    "SELECT doc FROM ROWS WHERE doc ->> 'id' = '777'"
+measure "500 rows by \`doc -> 'price'\`, no index" \
+    "SELECT count(doc) FROM ROWS WHERE doc -> 'price' BETWEEN '100' AND '100.50'"
+measure "\`ORDER BY doc -> 'price' LIMIT 10\`" \
+    "SELECT doc FROM ROWS ORDER BY doc -> 'price' LIMIT 10"
+measure "\`max(doc -> 'id')\`, an index" "SELECT max(doc -> 'id') FROM ROWS"
+measure "groups of \`doc -> 'city'\`, each server its own" "SELECT count(*) FROM CITIES"
+measure "groups of \`doc -> 'city'\`, of the table" \
+    "SELECT count(*) FROM (SELECT doc -> 'city', count(*) FROM ROWS GROUP BY 1) s"
+measure "\`count(*)\`" "SELECT count(*) FROM ROWS"
+measure 'all documents, by `doc -> '"'id'"'`' \
+    "SELECT count(*) FROM (SELECT doc FROM ROWS ORDER BY doc -> 'id' OFFSET 1) s"
