@@ -12,7 +12,7 @@ ghost use Rattle.jsonb_functions.specs.Words.{position_view, shape_of, what_size
 use crate::path::{Position, Step, item_position};
 use jsonb::constants::CONTAINER_TAG;
 use jsonb::parts::{Child, Children, Contents, Member, Members, Object, Part};
-use jsonb::writer::{Level, Source, StoredEntry, append_document};
+use jsonb::writer::{Level, Side, Source, StoredEntry, append_document};
 use jsonb::{Document, Error, OwnedJsonb};
 use std::alloc::Global;
 use std::cmp::Ordering;
@@ -311,11 +311,13 @@ impl<'a> Source for Edited<'a> {
     }
 
     #[inline(always)]
-    fn size_hint(child: Edited<'a>) -> Option<usize> {
-        match child {
-            Edited::Kept(part) => Some(part.payload.len()),
-            Edited::Along(_, _) => Some(usize::MAX),
-        }
+    fn item_side(item: Edited<'a>, later: EditedItems<'a>) -> Option<Side> {
+        Some(side_of(item, later.items))
+    }
+
+    #[inline(always)]
+    fn value_side(value: Edited<'a>, later: &EditedMembers<'a>) -> Option<Side> {
+        Some(side_of(value, later.members.values))
     }
 
     #[inline(always)]
@@ -441,6 +443,16 @@ impl<'a> Source for Edited<'a> {
                 ))
             }
         }
+    }
+}
+
+// The side of a child that is measured: never a child on the path, since its later siblings are
+// different bytes at each level, but the child itself holds those of the levels below.
+#[inline(always)]
+fn side_of(child: Edited<'_>, later: Children<'_>) -> Side {
+    match child {
+        Edited::Kept(part) => Side::shorter(part.payload.len(), later.stored_len()),
+        Edited::Along(_, _) => Side::Later,
     }
 }
 

@@ -14,7 +14,7 @@ ghost use Rattle.jsonb_functions.specs.Words.{part_meaning, run_size, shape_of};
 
 use jsonb::constants::CONTAINER_TAG;
 use jsonb::parts::{Child, Children, Contents, Member, Members, Object, Part};
-use jsonb::writer::{Level, Source, StoredEntry, append_document};
+use jsonb::writer::{Level, Side, Source, StoredEntry, append_document};
 use jsonb::{Document, Error, OwnedJsonb};
 use std::alloc::Global;
 use std::cmp::Ordering;
@@ -93,6 +93,16 @@ fn run_len(run: Run<'_>) -> usize
         Run::Nothing => 0,
         Run::One(_) => 1,
         Run::Many(items) => items.entries.len() / 4,
+    }
+}
+
+// How many bytes of a run are stored.
+#[inline(always)]
+fn run_stored_len(run: Run<'_>) -> usize {
+    match run {
+        Run::Nothing => 0,
+        Run::One(part) => part.payload.len(),
+        Run::Many(items) => items.stored_len(),
     }
 }
 
@@ -180,10 +190,11 @@ fn run_of<'a>(part: Part<'a>) -> Run<'a>
     }
 }
 
-// The object that a part is.
-fn object_of<'a>(part: Part<'a>) -> Option<Object<'a>>
-    ensures { (t : Tree) → Means part.entry t → MatchOption result (IsNoObject t)
+/// The object that a part is.
+pub fn object_of<'a>(part: Part<'a>) -> Option<Object<'a>>
+    ensures object { (t : Tree) → Means part.entry t → MatchOption result (IsNoObject t)
         (λ o. (ps : Pairs) × ((t ≡ object ps) × IsObject o.count o.body.now ps)) }
+    ensures size { IfSome result (λ o. length o.body.now < length part.entry.payload.now) }
 {
     if part.type_code != CONTAINER_TAG {
         return None;
@@ -285,8 +296,16 @@ impl<'a> Source for Joined<'a> {
     }
 
     #[inline(always)]
-    fn size_hint(child: Joined<'a>) -> Option<usize> {
-        Some(child.part.payload.len())
+    fn item_side(item: Joined<'a>, later: JoinedItems<'a>) -> Option<Side> {
+        let later = run_stored_len(later.first).saturating_add(run_stored_len(later.second));
+        Some(Side::shorter(item.part.payload.len(), later))
+    }
+
+    #[inline(always)]
+    fn value_side(value: Joined<'a>, later: &JoinedMembers<'a>) -> Option<Side> {
+        let right = maybe_stored_len(later.right);
+        let later = later.left.values.stored_len().saturating_add(right);
+        Some(Side::shorter(value.part.payload.len(), later))
     }
 
     #[inline(always)]
@@ -355,14 +374,23 @@ impl<'a> Source for Joined<'a> {
     }
 }
 
-// The members of an object, if there is one.
+/// The members of an object, if there is one.
 #[inline(always)]
-fn members_of<'a>(object: Option<Object<'a>>) -> Option<Members<'a>>
+pub fn members_of<'a>(object: Option<Object<'a>>) -> Option<Members<'a>>
     ensures members { (ps : Pairs) → MaybeObject object.entry ps → MaybeMembers result ps }
     ensures size { maybe_members_size result ≤ maybe_object_size object.entry }
 {
     match object {
         Some(object) => Some(object.members()),
         None => None,
+    }
+}
+
+/// How many bytes of members and their entry words are stored, if there are any.
+#[inline(always)]
+pub fn maybe_stored_len(members: Option<Members<'_>>) -> usize {
+    match members {
+        Some(members) => members.values.stored_len(),
+        None => 0,
     }
 }
