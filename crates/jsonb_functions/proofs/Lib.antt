@@ -1,6 +1,9 @@
 pub mod StepLaws
 pub mod WalkLaws
 pub mod EditLaws
+pub mod ChosenLaws
+pub mod PickLaws
+pub mod MemoryLaws
 pub mod IndexLaws
 pub mod KeyOrder
 pub mod FoundLaws

@@ -1,3 +1,4 @@
+pub mod ChosenSource
 pub mod Contains
 pub mod Edited
 pub mod EditSource
@@ -7,8 +8,10 @@ pub mod IndexHash
 pub mod IndexKeys
 pub mod Joined
 pub mod JoinSource
+pub mod MadeWithMemory
 pub mod Path
 pub mod PathText
+pub mod Picked
 pub mod Selected
 pub mod Steps
 pub mod StoredPath

@@ -21,6 +21,7 @@ pub use Rattle.jsonb.specs.EntryTrees.{rest_pairs, rest_trees}
 pub use Rattle.jsonb.specs.Node.{HoldsNoScalar, IsContainer, member_tree, node_tree, object_of}
 pub use Rattle.jsonb.specs.Node.{pairs_of, tree_list, value_of_key}
 pub use Rattle.jsonb.specs.Owned.{owned_bytes}
+pub use Rattle.jsonb_functions.specs.ChosenSource.{FirstKept, kept_pairs}
 pub use Rattle.jsonb_functions.specs.Contains.{contained, contains_whole, has_top_key}
 pub use Rattle.jsonb_functions.specs.Contains.{items_contained, items_in, members_contained}
 pub use Rattle.jsonb_functions.specs.Contains.{some_tree}
@@ -35,11 +36,13 @@ pub use Rattle.jsonb_functions.specs.JoinSource.{FirstMerged, FirstOfRun, IsNoOb
 pub use Rattle.jsonb_functions.specs.JoinSource.{MaybeObject, RunIs, keys_size, maybe_keys_size}
 pub use Rattle.jsonb_functions.specs.JoinSource.{maybe_members_size, maybe_object_size, run_size}
 pub use Rattle.jsonb_functions.specs.Joined.{items_or_one, joined, merged}
+pub use Rattle.jsonb_functions.specs.MadeWithMemory.{MadeWithMemory}
 pub use Rattle.jsonb_functions.specs.Path.{item_place, position_view}
 pub use Rattle.jsonb_functions.specs.PathText.{PathText, ReadsStep, SelectorView, StopsAt}
 pub use Rattle.jsonb_functions.specs.PathText.{all_are, bound_in, from_end_of, is_in_name, is_not}
 pub use Rattle.jsonb_functions.specs.PathText.{is_space, item_at, member_of, number_in, place_in}
 pub use Rattle.jsonb_functions.specs.PathText.{range_in, selector_view, single_step, single_steps}
+pub use Rattle.jsonb_functions.specs.Picked.{AreSorted, is_named, keeps, picked}
 pub use Rattle.jsonb_functions.specs.Selected.{between, children_at, chosen_trees, first_tree}
 pub use Rattle.jsonb_functions.specs.Selected.{first_trees, items_before, items_through}
 pub use Rattle.jsonb_functions.specs.Selected.{member_trees, selected}

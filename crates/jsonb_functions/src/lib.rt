@@ -2,6 +2,8 @@
 //! work on documents that were checked, and none of them builds a value.
 #![tactic(auto)]
 
+mod choice;
+mod chosen;
 mod containment;
 mod edit;
 mod found;
@@ -10,11 +12,13 @@ mod join;
 mod laws;
 mod path;
 mod path_text;
+mod picked;
 mod selection;
 mod stored_path;
 mod top_keys;
 mod walk;
 
+pub use choice::Kept;
 pub use containment::{contains, contains_within, exists};
 pub use edit::{Edit, edit_document};
 pub use found::get_path;
@@ -23,6 +27,7 @@ pub use join::concat;
 pub use laws::index_key_laws;
 pub use path::Step;
 pub use path_text::{read_path_text, steps_of_path};
+pub use picked::pick;
 pub use selection::{Bound, Selector, exists_path, select, select_first};
 pub use stored_path::read_path;
 pub use top_keys::{append_top_keys, top_key};

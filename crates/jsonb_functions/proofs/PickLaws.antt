@@ -1,0 +1,100 @@
+-- Names in order, and the members that they pick.
+use Rattle.std.proofs.Common.{◌≡◌, ◌<◌, ◌≤◌, ℕ, List, [], ◌∷◌, length, refl, sym, ap, ◌∙◌, Bor}
+use Rattle.std.proofs.Common.{Bool, true, false, arith, nat_lt, get_or}
+use Rattle.std.specs.Prelude.{Result, Ok, Err, is_ok, IsPermutation, if◌then◌else◌}
+use Rattle.std.specs.Cmp.Lexicographic.{slice_cmp, nat_list_cmp_total, texts_ties}
+use Rattle.std.specs.declared.cmp.Ordering.{Ordering}
+use Rattle.std.specs.declared.cmp.Ordering.TheVariants.{Less, Equal, Greater}
+use Rattle.std.specs.List.Sorted.{IsBinarySearchResult, IsSearchInRange}
+use Rattle.std.specs.Ordering.{nat_cmp, is_eq}
+use Rattle.std.specs.Str.{bytes_eq}
+use Rattle.std.proofs.lemmas.Bool.{ltb-true, ltb-false}
+use Rattle.std.proofs.lemmas.List.Folds.{list_any_at, list_any_none}
+use Rattle.std.proofs.lemmas.List.Sorted.{list_any-IsPermutation, searchable_from_sorted}
+use Rattle.jsonb_value.specs.Tree.{Tree, Trees, Pairs, no_pairs, pair, null, boolean, number, text}
+use Rattle.jsonb_value.specs.Tree.{extension, array, object, pair_count}
+use Rattle.jsonb_codec.specs.declared.constants.TheConstants.{CONTAINER_TAG}
+use Rattle.jsonb_codec.specs.Canon.{shape_of, pairs_shapes}
+use Rattle.jsonb_codec.specs.Doc.{type_of}
+use Rattle.jsonb_codec.specs.Parts.{IsObject}
+use Rattle.jsonb_codec.specs.Shape as shapes
+use Rattle.jsonb_codec.specs.Shape.{Shapes}
+use Rattle.jsonb_functions.specs.declared.choice.Kept.{Kept}
+use Rattle.jsonb_functions.specs.declared.chosen.ChosenObject.{ChosenObject}
+use Rattle.jsonb_functions.specs.ChosenSource.{ObjectIs, kept_pairs}
+use Rattle.jsonb_functions.specs.Picked.{AreSorted, is_named, keeps, picked, picked_pairs}
+use Rattle.jsonb_functions.proofs.ChosenLaws.{object_chosen}
+
+-- What is less before a place and greater from there on is nowhere the same.
+not_same : (o : Ordering) (i j : ℕ) (b : Bool) → nat_lt j i ≡ b → (j < i → o ≡ Less)
+    → (i ≤ j → o ≡ Greater) → is_eq o ≡ false
+not_same o i j true e less more = ap is_eq (less (ltb-true j i e))
+not_same o i j false e less more = ap is_eq (more (ltb-false j i e))
+
+-- A search among names in order finds a key exactly if it is one of them.
+pub search_finds : (names : List (Bor (List ℕ))) (k : Bor (List ℕ)) (r : Result ℕ ℕ)
+    → AreSorted names → IsSearchInRange r (length names)
+    → IsBinarySearchResult (λ y. slice_cmp nat_cmp y.now k.now) names r
+    → is_ok r ≡ is_named names k.now
+search_finds names k (Ok i) sorted range found =
+    sym (list_any_at (λ name. bytes_eq name.now k.now) names i k range
+    (texts_ties (get_or names i k).now k.now ∙ ap is_eq (found k)))
+search_finds names k (Err i) sorted range found =
+    let (less, more) = found (searchable_from_sorted nat_list_cmp_total (λ (y : Bor (List ℕ)). y.now)
+    names k.now sorted) in
+    sym (list_any_none (λ name. bytes_eq name.now k.now) names
+    (λ j d low. texts_ties (get_or names j d).now k.now
+    ∙ not_same _ i j (nat_lt j i) refl (λ before. less j d (omega arith) before)
+    (λ from. more j d from low)))
+
+-- The order of names does not matter.
+same_pairs : (names sorted : List (Bor (List ℕ))) (which : Kept) (ps : Pairs)
+    → IsPermutation names sorted → picked_pairs names which ps ≡ picked_pairs sorted which ps
+same_pairs names sorted which no_pairs h = refl
+same_pairs names sorted which (pair k t ps) h = rw (
+  list_any-IsPermutation (λ name. bytes_eq name.now k) names sorted h,
+  same_pairs names sorted which ps h,
+) refl
+
+pub same_picked : (names sorted : List (Bor (List ℕ))) (which : Kept) (t : Tree)
+    → IsPermutation names sorted → picked names which t ≡ picked sorted which t
+same_picked names sorted which (object ps) h = ap object (same_pairs names sorted which ps h)
+same_picked names sorted which null h = refl
+same_picked names sorted which (boolean b) h = refl
+same_picked names sorted which (number x) h = refl
+same_picked names sorted which (text s) h = refl
+same_picked names sorted which (extension e) h = refl
+same_picked names sorted which (array ts) h = refl
+
+-- A member that is kept comes first, and one that is not is passed over.
+pub kept_first : (names : List (Bor (List ℕ))) (which : Kept) (k : List ℕ) (t : Tree) (ps : Pairs)
+    → keeps which (is_named names k) ≡ true
+    → picked_pairs names which (pair k t ps) ≡ pair k t (picked_pairs names which ps)
+kept_first names which k t ps e = rw e refl
+
+pub passed_over : (names : List (Bor (List ℕ))) (which : Kept) (k : List ℕ) (t : Tree) (ps : Pairs)
+    → keeps which (is_named names k) ≡ false
+    → picked_pairs names which (pair k t ps) ≡ picked_pairs names which ps
+passed_over names which k t ps e = rw e refl
+
+-- What is not an object is kept whole.
+pub picked_other : (names : List (Bor (List ℕ))) (which : Kept) (t : Tree)
+    → (type_of t ≡ CONTAINER_TAG → ⊥) → picked names which t ≡ t
+picked_other names which (object ps) h = absurd (h refl)
+picked_other names which null h = refl
+picked_other names which (boolean b) h = refl
+picked_other names which (number x) h = refl
+picked_other names which (text s) h = refl
+picked_other names which (extension e) h = refl
+picked_other names which (array ts) h = refl
+
+pub picked_array : (names : List (Bor (List ℕ))) (which : Kept) (t : Tree) (ts : Trees)
+    → t ≡ array ts → picked names which t ≡ t
+picked_array names which t ts e = rw e refl
+
+pub picked_object : (x : ChosenObject) (t : Tree) (ps : Pairs) → t ≡ object ps
+    → IsObject x.object.count x.object.body.now ps → x.count ≡ pair_count (kept_pairs x.choice ps)
+    → (ss : Shapes) × ((shape_of (picked x.choice.names.now x.choice.which t) ≡ shapes.object ss)
+    × ObjectIs x ss)
+picked_object x t ps e h n =
+    (pairs_shapes (kept_pairs x.choice ps), (rw e refl, object_chosen x ps h n))

@@ -1,0 +1,70 @@
+//! Copies of objects with some of their members.
+
+ghost use Rattle.std.specs.Prelude.{◌≡◌, IfOk};
+ghost use Rattle.jsonb_functions.specs.ChosenSource.{chosen_meaning};
+ghost use Rattle.jsonb_functions.specs.Words.{Fits, LevelIs, MadeIfFit, MadeWithMemory, Means, Tree};
+ghost use Rattle.jsonb_functions.specs.Words.{canon, code_of, document_tree, owned_bytes, picked};
+ghost use Rattle.jsonb_functions.specs.Words.{shape_of};
+
+use crate::choice::{Choice, Kept, sorted};
+use crate::chosen::{Chosen, ChosenLevel, ChosenObject, count_kept, lifted};
+use jsonb::constants::CONTAINER_TAG;
+use jsonb::parts::{Contents, Part};
+use jsonb::writer::{Level, Source, append_document};
+use jsonb::{Document, Error, OwnedJsonb};
+use std::alloc::Global;
+
+/// The canonical document of an object with only those of its members whose keys are among the
+/// names, or only those whose keys are not. It does not matter how often or in which order names
+/// are listed. What is not an object is kept whole. `InvalidJsonb`, before the document is
+/// allocated, if there is none; `OutOfMemory` if an allocation fails, that of a sorted list of the
+/// names or that of the document.
+pub fn pick(
+    alloc: Global,
+    document: Document<'_>,
+    names: &[&str],
+    which: Kept,
+) -> Result<OwnedJsonb, Error>
+    ensures ok { IfOk result (λ owned. owned_bytes owned
+        ≡ canon (picked names.now which (document_tree document.entry))) }
+    ensures limits { MadeWithMemory
+        (Fits (picked names.now which (document_tree document.entry))) result }
+{
+    let names = sorted(alloc, names)?;
+    let choice = Choice {
+        names: &names,
+        which,
+    };
+    pick_by(alloc, document, choice)
+}
+
+// The canonical document of a value, of whose members some are kept if it is an object.
+fn pick_by(alloc: Global, document: Document<'_>, choice: Choice<'_>) -> Result<OwnedJsonb, Error>
+    ensures ok { IfOk result (λ owned. owned_bytes owned ≡ canon
+        (picked choice.entry.names.now choice.entry.which (document_tree document.entry))) }
+    ensures limits { MadeIfFit (Fits
+        (picked choice.entry.names.now choice.entry.which (document_tree document.entry)))
+        result }
+{
+    let mut bytes = Vec::new(alloc);
+    append_document::<Chosen>(&mut bytes, picked_level(document.part(), choice))?;
+    Ok(OwnedJsonb::new(bytes))
+}
+
+// The level of a value, of whose members some are kept if it is an object.
+fn picked_level<'a>(part: Part<'a>, choice: Choice<'a>) -> ChosenLevel<'a>
+    ensures { (t : Tree) → Means part.entry t → LevelIs code_of chosen_meaning result
+        (shape_of (picked choice.entry.names.now choice.entry.which t)) }
+{
+    if part.type_code != CONTAINER_TAG {
+        return lifted(Part::level(part));
+    }
+    match part.contents() {
+        Contents::Array(_) => lifted(Part::level(part)),
+        Contents::Object(object) => Level::Object(ChosenObject {
+            object,
+            choice,
+            count: count_kept(object.members(), choice),
+        }),
+    }
+}
