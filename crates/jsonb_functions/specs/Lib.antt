@@ -8,6 +8,7 @@ pub mod IndexHash
 pub mod IndexKeys
 pub mod Joined
 pub mod JoinSource
+pub mod Keys
 pub mod MadeWithMemory
 pub mod Path
 pub mod PathText

@@ -3,7 +3,7 @@ pub use Rattle.std.specs.Cmp.Lexicographic.{slice_cmp}
 pub use Rattle.std.specs.Iterator.{YieldsFirstBy}
 pub use Rattle.std.specs.Ordering.{nat_cmp}
 pub use Rattle.jsonb_value.specs.Tree.{Ascend, Pairs, Tree, Trees, count, no_pairs, no_trees}
-pub use Rattle.jsonb_value.specs.Tree.{object, pair_count, text}
+pub use Rattle.jsonb_value.specs.Tree.{array, object, pair_count, text}
 pub use Rattle.jsonb_value.specs.Value.{trees_of}
 pub use Rattle.jsonb_value.specs.WellFormed.{IsTree}
 pub use Rattle.jsonb_codec.specs.Canon.{Fits, canon, shape_of}
@@ -36,6 +36,7 @@ pub use Rattle.jsonb_functions.specs.JoinSource.{FirstMerged, FirstOfRun, IsNoOb
 pub use Rattle.jsonb_functions.specs.JoinSource.{MaybeObject, RunIs, keys_size, maybe_keys_size}
 pub use Rattle.jsonb_functions.specs.JoinSource.{maybe_members_size, maybe_object_size, run_size}
 pub use Rattle.jsonb_functions.specs.Joined.{items_or_one, joined, merged}
+pub use Rattle.jsonb_functions.specs.Keys.{key_array, key_texts}
 pub use Rattle.jsonb_functions.specs.MadeWithMemory.{MadeWithMemory}
 pub use Rattle.jsonb_functions.specs.Path.{item_place, position_view}
 pub use Rattle.jsonb_functions.specs.PathText.{PathText, ReadsStep, SelectorView, StopsAt}

@@ -1,7 +1,5 @@
-use Rattle.std.proofs.Common.{◌≡◌}
 use Rattle.std.specs.Prelude.{IsPermutation}
 use Rattle.jsonb.specs.Document.{document_tree}
-use Rattle.jsonb_functions.specs.Picked.{picked}
 use Rattle.jsonb_functions.proofs.MemoryLaws.{with_memory}
 use Rattle.jsonb_functions.proofs.PickLaws.{same_picked}
 use Rattle.jsonb_functions.proofs.picked.pick.Goals as goal
