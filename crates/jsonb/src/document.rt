@@ -374,7 +374,7 @@ impl<'a> Node<'a> {
 
     /// The value that a part holds.
     #[inline(always)]
-    pub(crate) fn of_part(part: Part<'a>) -> Node<'a>
+    pub fn of_part(part: Part<'a>) -> Node<'a>
         ensures means { (t : Tree) → Means part.entry t → node_tree result ≡ t }
         ensures container { HoldsNoScalar result }
     {

@@ -3,6 +3,7 @@ pub mod WalkLaws
 pub mod EditLaws
 pub mod ChosenLaws
 pub mod PickLaws
+pub mod ArraySetLaws
 pub mod KeyTextLaws
 pub mod MemoryLaws
 pub mod IndexLaws

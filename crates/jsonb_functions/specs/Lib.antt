@@ -1,3 +1,4 @@
+pub mod ArraySets
 pub mod ChosenSource
 pub mod Contains
 pub mod Edited
@@ -6,6 +7,7 @@ pub mod Found
 pub mod HashSink
 pub mod IndexHash
 pub mod IndexKeys
+pub mod ItemCounts
 pub mod Joined
 pub mod JoinSource
 pub mod Keys

@@ -8,7 +8,7 @@ pub use Rattle.jsonb_value.specs.Value.{trees_of}
 pub use Rattle.jsonb_value.specs.WellFormed.{IsTree}
 pub use Rattle.jsonb_codec.specs.Canon.{Fits, canon, shape_of}
 pub use Rattle.jsonb_codec.specs.Code.{code_of}
-pub use Rattle.jsonb_codec.specs.Contents.{AreMembers, Means}
+pub use Rattle.jsonb_codec.specs.Contents.{AreChildren, AreMembers, Means}
 pub use Rattle.jsonb_codec.specs.Depth.{pair_sizes, size, sizes}
 pub use Rattle.jsonb_codec.specs.Doc.{Doc}
 pub use Rattle.jsonb_codec.specs.Made.{MadeIfFit}
@@ -17,11 +17,13 @@ pub use Rattle.jsonb_codec.specs.Parts.{IsObject}
 pub use Rattle.jsonb_codec.specs.Shape.{Shape}
 pub use Rattle.jsonb_codec.specs.Source.{LevelIs, level_size}
 pub use Rattle.jsonb.specs.Document.{document_tree}
-pub use Rattle.jsonb.specs.EntryTrees.{rest_pairs, rest_trees}
+pub use Rattle.jsonb.specs.EntryTrees.{part_tree, rest_pairs, rest_trees}
 pub use Rattle.jsonb.specs.Node.{HoldsNoScalar, IsContainer, member_tree, node_tree, object_of}
 pub use Rattle.jsonb.specs.Node.{pairs_of, tree_list, value_of_key}
 pub use Rattle.jsonb.specs.Owned.{owned_bytes}
-pub use Rattle.jsonb_functions.specs.ChosenSource.{FirstKept, kept_pairs}
+pub use Rattle.jsonb_functions.specs.ArraySets.{difference, distinct, distinct_items, intersection}
+pub use Rattle.jsonb_functions.specs.ArraySets.{matched_items, overlaps, some_shared}
+pub use Rattle.jsonb_functions.specs.ChosenSource.{FirstKept, kept_pairs, listed_trees}
 pub use Rattle.jsonb_functions.specs.Contains.{contained, contains_whole, has_top_key}
 pub use Rattle.jsonb_functions.specs.Contains.{items_contained, items_in, members_contained}
 pub use Rattle.jsonb_functions.specs.Contains.{some_tree}
@@ -32,6 +34,7 @@ pub use Rattle.jsonb_functions.specs.Edited.{keys_before}
 pub use Rattle.jsonb_functions.specs.Found.{child_at, found_at}
 pub use Rattle.jsonb_functions.specs.IndexHash.{AppendsSome, AreAmong, IsAmong, hash_64}
 pub use Rattle.jsonb_functions.specs.IndexHash.{items_hashes, members_hashes, tree_hashes}
+pub use Rattle.jsonb_functions.specs.ItemCounts.{Counts, SetsCount, count_at}
 pub use Rattle.jsonb_functions.specs.JoinSource.{FirstMerged, FirstOfRun, IsNoObject, MaybeMembers}
 pub use Rattle.jsonb_functions.specs.JoinSource.{MaybeObject, RunIs, keys_size, maybe_keys_size}
 pub use Rattle.jsonb_functions.specs.JoinSource.{maybe_members_size, maybe_object_size, run_size}

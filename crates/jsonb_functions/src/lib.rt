@@ -2,6 +2,7 @@
 //! work on documents that were checked, and none of them builds a value.
 #![tactic(auto)]
 
+mod array_sets;
 mod choice;
 mod chosen;
 mod containment;
@@ -19,6 +20,7 @@ mod stored_path;
 mod top_keys;
 mod walk;
 
+pub use array_sets::{array_distinct, array_except, array_intersection, array_overlap};
 pub use choice::Kept;
 pub use containment::{contains, contains_within, exists};
 pub use edit::{Edit, edit_document};
