@@ -3,15 +3,24 @@
 # from a clean tree, made first; then the libraries that tools/install makes of it, in a directory
 # that is removed at the end.
 #
-#     tools/c_library.sh
+#     tools/c_library.sh [--archive FILE]
+#
+# With --archive it takes this archive, which `rt lib` wrote before, and does not run `rt lib`.
 #
 # It compares the header with the exports, and runs tools/install_test.sh and the tests of
 # tests/c_library: null pointers; any bytes, with an inaccessible page after and before each block,
 # under the sanitizers and under valgrind; each allocation failing in turn; the depths that the
-# header names; std::sort; known answers, and the lines of tests/lines, called from Python. A test
-# whose tool is missing is skipped, and the package that has the tool is named. The status is 1 if
-# something differs or is refused.
+# header names; std::sort; and, called from Python, known answers, the lines of tests/lines, and
+# random documents beside a model of the functions over them. A test whose tool is missing is
+# skipped, and the package that has the tool is named. The status is 1 if something differs or is
+# refused.
 set -euo pipefail
+archive=''
+case "$#$*" in
+    0) ;;
+    2--archive\ *) archive=$(realpath "$2") ;;
+    *) echo 'usage: tools/c_library.sh [--archive FILE]' >&2 && exit 2 ;;
+esac
 cd "$(dirname "$0")/.."
 work=$(mktemp -d)
 library=$work/prefix/lib/libkohiblad
@@ -39,9 +48,12 @@ build() {
 
 has "$cc" gcc || exit 1
 note 'the libraries'
-(cd crates/kohiblad && rt lib) | tail -n 1
+if [ -z "$archive" ]; then
+    (cd crates/kohiblad && rt lib) | tail -n 1
+    archive=crates/kohiblad/out/libkohiblad.a
+fi
 tools/c_header
-tools/install --archive crates/kohiblad/out/libkohiblad.a "$work/prefix" > "$work/installed"
+tools/install --archive "$archive" "$work/prefix" > "$work/installed"
 
 note 'the header, with all warnings'
 for language in c99 c++17; do
@@ -59,7 +71,7 @@ if has python3 python3 && python3 -c 'import cffi' 2> "$work/errors"; then
 fi
 
 note 'the library, installed'
-tools/install_test.sh crates/kohiblad/out/libkohiblad.a
+tools/install_test.sh "$archive"
 
 note 'null pointers'
 build null
@@ -128,5 +140,7 @@ fi
 note 'known answers, from Python'
 if has python3 python3; then
     python3 tests/c_library/border.py "$library.so" tests/lines
+    note 'a million questions on documents, answered by a model too'
+    python3 tests/c_library/model.py "$library.so" 1000000
 fi
 note "all passed, $passed_over skipped"

@@ -1,0 +1,390 @@
+"""Asks the functions over documents of the shared library, on random documents, and compares each
+answer with that of a model on Python values.
+
+    python3 model.py libkohiblad.so QUESTIONS [SEED]
+
+The model writes its documents itself, by docs/FORMAT.md, also in old forms; results of the library
+must be the canonical documents of the model's results, byte by byte.
+"""
+import collections
+import ctypes
+import random
+import struct
+import sys
+from fractions import Fraction
+
+LIBRARY = ctypes.CDLL(sys.argv[1])
+SIZE = ctypes.c_size_t
+OK, INVALID_JSONB, NO_ROOM, OTHER_KIND, TOO_MANY_STEPS = 0, 2, 11, 14, 18
+NO_LIMIT = 2**64 - 1
+ROOM = 1 << 16
+KEYS = ["", "a", "b", "c", "aa", "ab", "\u00e9", "z"]
+
+NULL, STRING, NUMBER, FALSE, TRUE, CONTAINER, EXTENSION = (
+    0x00000000, 0x10000000, 0x20000000, 0x30000000, 0x40000000, 0x50000000, 0x60000000)
+SCALAR_HEADER, ARRAY_HEADER, OBJECT_HEADER = 0x20000000, 0x80000000, 0x40000000
+
+
+class Truth(ctypes.Structure):
+    _fields_ = [("status", ctypes.c_uint32), ("value", ctypes.c_uint32)]
+
+
+LIBRARY.kohiblad_contains.restype = LIBRARY.kohiblad_exists.restype = Truth
+
+# A number or an extension value: what it is compared by, its stored payload, and the written one.
+Scalar = collections.namedtuple("Scalar", "tag meaning stored written")
+
+
+def number(value, scale, stored, written=None):
+    """The number `value / 10**scale`."""
+    return Scalar(NUMBER, Fraction(value, 10**scale), stored, written or stored)
+
+
+def whole(value, width=None):
+    """A whole number in the fewest bytes, or stored in the old form of this width."""
+    if value == 0:
+        written = b"\0"
+        stored = written if width is None else b"\x40" + bytes(width)
+        return number(0, 0, stored, written)
+    first, signed = (b"\x50", False) if value > 0 else (b"\x40", True)
+
+    def payload(width):
+        return first + value.to_bytes(width, "big", signed=signed)
+
+    for fewest in (1, 2, 4, 8):
+        try:
+            written = payload(fewest)
+            break
+        except OverflowError:
+            pass
+    return number(value, 0, payload(max(width or 0, fewest)), written)
+
+
+def decimal(value, scale, width=8, gap=b""):
+    """A decimal of 64 or 128 bits; with a byte between value and scale in its old form."""
+    digits = b"\x70" + value.to_bytes(width, "big", signed=True)
+    return number(value, scale, digits + gap + bytes([scale]), digits + bytes([scale]))
+
+
+def extension(stored, written=None):
+    written = written or stored
+    return Scalar(EXTENSION, written, stored, written)
+
+
+SCALARS = [
+    None, True, False, "", "a", "xyz", "\u00e9", "long" * 30,
+    whole(0), whole(0, 1), whole(1), whole(5), whole(5, 8), whole(-7), whole(-7, 4), whole(300),
+    whole(300, 4), whole(2**63), whole(2**64 - 1), whole(-2**63),
+    decimal(50, 1), decimal(150, 2), decimal(0, 2), decimal(5, 0, 16), decimal(500, 2, 16, b"\x26"),
+    decimal(10**30, 0, 16), decimal(-150, 2),
+    extension(b"\x00\xab"), extension(b"\x10" + bytes(4)), extension(b"\x20" + bytes(8)),
+    extension(b"\x30" + bytes(8) + struct.pack(">i", 3600)),
+    extension(b"\x30" + bytes(8) + b"\x01", b"\x30" + bytes(8) + struct.pack(">i", 3600)),
+    extension(b"\x40" + bytes(16)), extension(b"\x50\x01"), extension(b"\xf0"),
+]
+
+
+def entry(value, stored):
+    """The tag and the payload of a value, in its stored or its written form."""
+    if value is None:
+        return NULL, b""
+    if isinstance(value, bool):
+        return TRUE if value else FALSE, b""
+    if isinstance(value, str):
+        return STRING, value.encode()
+    if isinstance(value, Scalar):
+        return value.tag, value.stored if stored else value.written
+    return CONTAINER, container(value, stored)
+
+
+def container(value, stored):
+    if isinstance(value, list):
+        header, keys, values = ARRAY_HEADER, [], value
+    else:
+        header, keys = OBJECT_HEADER, sorted(value, key=str.encode)
+        values = [value[key] for key in keys]
+    entries = [(STRING, key.encode()) for key in keys] + [entry(it, stored) for it in values]
+    return b"".join([struct.pack(">I", header + len(values)),
+                     *(struct.pack(">I", tag + len(payload)) for tag, payload in entries),
+                     *(payload for _, payload in entries)])
+
+
+def document(value, stored=True):
+    tag, payload = entry(value, stored)
+    if tag == CONTAINER:
+        return payload
+    return struct.pack(">II", SCALAR_HEADER, tag + len(payload)) + payload
+
+
+def depth_of(value):
+    if isinstance(value, list):
+        return 1 + max(map(depth_of, value), default=0)
+    if isinstance(value, dict):
+        return 1 + max(map(depth_of, value.values()), default=0)
+    return 0
+
+
+def size_of(value):
+    """How many values and keys there are."""
+    if isinstance(value, list):
+        return 1 + sum(map(size_of, value))
+    if isinstance(value, dict):
+        return 1 + sum(1 + size_of(it) for it in value.values())
+    return 1
+
+
+def is_container(value):
+    return isinstance(value, (list, dict))
+
+
+# The model.
+
+def are_equal(left, right):
+    """Whether two scalars are equal."""
+    if isinstance(left, Scalar) and isinstance(right, Scalar):
+        return (left.tag, left.meaning) == (right.tag, right.meaning)
+    return type(left) is type(right) and left == right
+
+
+def contained(left, right):
+    if isinstance(left, list) and isinstance(right, list):
+        return all(any(contained(it, wanted) for it in left) for wanted in right)
+    if isinstance(left, dict) and isinstance(right, dict):
+        return all(key in left and contained(left[key], right[key]) for key in right)
+    return not is_container(left) and not is_container(right) and are_equal(left, right)
+
+
+def contains(left, right):
+    if isinstance(left, list) and not is_container(right):
+        return any(contained(it, right) for it in left)
+    return contained(left, right)
+
+
+def exists(value, key):
+    if isinstance(value, (list, dict)):
+        return any(type(it) is str and it == key for it in value)
+    return type(value) is str and value == key
+
+
+def place(index, count):
+    """How many items are before an index, and whether there is one."""
+    if index >= 0:
+        return min(index, count), index < count
+    return max(count + index, 0), -index <= count
+
+
+def edited(value, path, edit, new):
+    """The value after an edit at the end of a path that has a step."""
+    step, rest = path[0], path[1:]
+    if isinstance(value, list) and isinstance(step, int):
+        before, is_there = place(step, len(value))
+        first, last = value[:before], value[before:]
+        if rest:
+            return first + [edited(last[0], rest, edit, new)] + last[1:] if is_there else value
+        if edit == "remove":
+            return first + last[1:] if is_there else value
+        return first + [new] + (last[1:] if edit == "put" and is_there else last)
+    if isinstance(value, dict) and isinstance(step, str):
+        if rest:
+            if step not in value:
+                return value
+            return {**value, step: edited(value[step], rest, edit, new)}
+        if edit == "remove":
+            return {key: it for key, it in value.items() if key != step}
+        return value if edit == "insert" and step in value else {**value, step: new}
+    return value
+
+
+def joined(left, right):
+    if isinstance(left, dict) and isinstance(right, dict):
+        return {**left, **right}
+    return sum((it if isinstance(it, list) else [it] for it in (left, right)), [])
+
+
+def scalars_in(value):
+    if isinstance(value, list):
+        return sum(map(scalars_in, value))
+    if isinstance(value, dict):
+        return sum(map(scalars_in, value.values()))
+    return 1
+
+
+def top_keys_in(value):
+    if isinstance(value, dict):
+        return len(value)
+    return sum(isinstance(it, str) for it in (value if isinstance(value, list) else [value]))
+
+
+# The library.
+
+def call(name, *values):
+    export = getattr(LIBRARY, "kohiblad_" + name)
+    crossed = []
+    for it in values:
+        crossed += [it, SIZE(len(it))] if isinstance(it, bytes) else [it]
+    return export, crossed
+
+
+OUT = ctypes.create_string_buffer(ROOM)
+
+
+def bytes_of(name, *values):
+    """The status of a call whose result is bytes, and those."""
+    export, crossed = call(name, *values)
+    length = SIZE()
+    status = export(*crossed, OUT, SIZE(ROOM), ctypes.byref(length))
+    return status, OUT.raw[:length.value] if status == OK else b""
+
+
+def keys_of(name, *values):
+    """The status of a call whose result is keys, and those."""
+    export, crossed = call(name, *values)
+    keys, count = (ctypes.c_uint64 * (len(values[0]) // 4))(), SIZE()
+    status = export(*crossed, keys, SIZE(len(keys)), ctypes.byref(count))
+    return status, collections.Counter(keys[:count.value])
+
+
+def truth_of(name, *values):
+    export, crossed = call(name, *values)
+    answer = export(*crossed)
+    return answer.status, bool(answer.value)
+
+
+# The questions: each is asked of random values, and asserts what the model says.
+
+def any_value(chance, depth):
+    kind = chance.random()
+    if depth == 0 or kind < 0.35:
+        return chance.choice(SCALARS)
+    count = chance.choice([0, 1, 1, 2, 2, 3, 4, 6])
+    if kind < 0.65:
+        return [any_value(chance, depth - 1) for _ in range(count)]
+    return {key: any_value(chance, depth - 1) for key in chance.sample(KEYS, count)}
+
+
+def part_of(chance, value):
+    """What the value is likely to contain."""
+    if isinstance(value, list):
+        items = [part_of(chance, it) for it in value if chance.random() < 0.5]
+        chance.shuffle(items)
+        return items
+    if isinstance(value, dict):
+        return {key: part_of(chance, it) for key, it in value.items() if chance.random() < 0.5}
+    return chance.choice(SCALARS) if chance.random() < 0.05 else value
+
+
+def any_path(chance, value):
+    """A path that is likely to lead somewhere."""
+    path = []
+    while chance.random() < 0.8:
+        if isinstance(value, list) and chance.random() < 0.95:
+            path.append(chance.randint(-len(value) - 1, len(value)))
+            before, is_there = place(path[-1], len(value))
+            value = value[before] if is_there else None
+        elif isinstance(value, dict) and chance.random() < 0.95:
+            path.append(chance.choice(list(value) + KEYS))
+            value = value.get(path[-1])
+        elif chance.random() < 0.3:
+            path.append(chance.choice([0, -1, "a", ""]))
+            value = None
+        else:
+            break
+    return path
+
+
+def path_document(path):
+    return document([it if isinstance(it, str) else whole(it) for it in path])
+
+
+def asks_contains(chance, left, right):
+    wanted = contains(left, right)
+    product = size_of(left) * size_of(right)
+    steps = chance.choice([NO_LIMIT, product, chance.randint(0, product)])
+    depth = max(depth_of(left), depth_of(right))
+    stored = document(left), document(right)
+    status, answer = truth_of("contains", *stored, SIZE(depth), SIZE(steps))
+    if status == TOO_MANY_STEPS:
+        assert steps < product
+    else:
+        assert (status, answer) == (OK, wanted)
+    if depth > 0:
+        status, answer = truth_of("contains", *stored, SIZE(depth - 1), SIZE(steps))
+        assert (status, answer) == (INVALID_JSONB, False)
+
+
+def asks_exists(chance, left, right):
+    key = chance.choice(KEYS + ["xyz"])
+    status, answer = truth_of("exists", document(left), key.encode(), SIZE(depth_of(left)))
+    assert (status, answer) == (OK, exists(left, key))
+
+
+def asks_concat(chance, left, right):
+    depth = max(depth_of(left), depth_of(right))
+    answer = bytes_of("concat", document(left), document(right), SIZE(depth))
+    assert answer == (OK, document(joined(left, right), stored=False))
+
+
+def asks_edit(chance, left, right):
+    number = chance.randrange(3)
+    edit, path = ("put", "insert", "remove")[number], any_path(chance, left)
+    if path:
+        wanted = edited(left, path, edit, right)
+    else:
+        wanted = right if edit == "put" else left
+    value = b"" if edit == "remove" else document(right)
+    depth = max(depth_of(left), depth_of(right), 1)
+    answer = bytes_of("edit", document(left), path_document(path), ctypes.c_uint32(number), value,
+                      SIZE(depth))
+    assert answer == (OK, document(wanted, stored=False)), (path, edit)
+
+
+def asks_no_path(chance, left, right):
+    """A document that is not a path."""
+    is_path = isinstance(right, list) and all(
+        isinstance(it, str)
+        or isinstance(it, Scalar) and it.tag == NUMBER and it.stored[0] != 0x70 for it in right)
+    if not is_path:
+        answer = bytes_of("edit", document(left), document(right), ctypes.c_uint32(2), b"",
+                          SIZE(9))
+        assert answer == (OTHER_KIND, b"")
+
+
+def asks_keys(chance, left, right):
+    for name, count in (("index_keys", scalars_in), ("top_keys", top_keys_in)):
+        status, keys = keys_of(name, document(left), SIZE(depth_of(left)))
+        assert status == OK and sum(keys.values()) == count(left), name
+        assert keys_of(name, document(left, stored=False), SIZE(9)) == (OK, keys), name
+    if contains(left, right):
+        keys = keys_of("index_keys", document(left), SIZE(9))[1]
+        assert keys_of("index_keys", document(right), SIZE(9))[1].keys() <= keys.keys()
+    for key in KEYS:
+        if exists(left, key):
+            top_key, = keys_of("top_keys", document(key), SIZE(0))[1]
+            assert top_key in keys_of("top_keys", document(left), SIZE(9))[1]
+
+
+QUESTIONS = [asks_contains, asks_contains, asks_exists, asks_concat, asks_edit, asks_edit,
+             asks_edit, asks_no_path, asks_keys]
+
+
+def main():
+    questions = int(sys.argv[2])
+    seed = int(sys.argv[3]) if len(sys.argv) > 3 else random.randrange(2**32)
+    chance = random.Random(seed)
+    asked = collections.Counter()
+    for number in range(questions):
+        left = any_value(chance, chance.randint(0, 5))
+        right = part_of(chance, left) if chance.random() < 0.5 else any_value(chance, 3)
+        question = chance.choice(QUESTIONS)
+        asked[question.__name__.removeprefix("asks_")] += 1
+        try:
+            question(chance, left, right)
+        except AssertionError:
+            print(f"model.py: question {number} of seed {seed} differs: {question.__name__}",
+                  document(left).hex(), document(right).hex(), file=sys.stderr)
+            raise
+    counts = ", ".join(f"{count} {name}" for name, count in sorted(asked.items()))
+    print(f"model.py: {questions} questions of seed {seed}, 0 differ: {counts}")
+
+
+main()
