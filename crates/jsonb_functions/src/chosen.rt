@@ -9,7 +9,7 @@ ghost use Rattle.jsonb_functions.specs.Words.{pair_count, part_meaning};
 
 use crate::choice::{Choice, is_kept, keep_all};
 use jsonb::parts::{Child, Children, Member, Members, Object, Part};
-use jsonb::writer::{Level, Source, StoredEntry};
+use jsonb::writer::{Level, Side, Source, StoredEntry};
 
 /// A part that is kept whole.
 #[derive(Clone, Copy)]
@@ -117,9 +117,20 @@ impl<'a> Source for Chosen<'a> {
         lifted(Part::level(child.part))
     }
 
+    // The length of a list is not known without a walk.
     #[inline(always)]
-    fn size_hint(child: Chosen<'a>) -> Option<usize> {
-        Some(child.part.payload.len())
+    fn item_side(item: Chosen<'a>, later: ChosenItems<'a>) -> Option<Side> {
+        match later {
+            ChosenItems::Stored(items) => {
+                Some(Side::shorter(item.part.payload.len(), items.stored_len()))
+            }
+            ChosenItems::Listed(_) => None,
+        }
+    }
+
+    #[inline(always)]
+    fn value_side(value: Chosen<'a>, later: &ChosenMembers<'a>) -> Option<Side> {
+        Some(Side::shorter(value.part.payload.len(), later.members.values.stored_len()))
     }
 
     #[inline(always)]
