@@ -99,6 +99,10 @@ run_sent() {
     expect_sent 3 "SELECT doc FROM by_hash WHERE doc #> '{tags,1}' = '\"t3\"'" \
         "WHERE ((public.kohiblad_at(doc, '[\"tags\",\"1\"]'"
     expect_sent 3 "SELECT doc FROM by_hash WHERE doc -> 'tags' -> 1 = '\"t3\"'" "WHERE"
+    expect_sent 3 "SELECT doc FROM by_hash WHERE doc -> 'id' IN ('3', '5')" "WHERE"
+    expect_sent 3 "SELECT doc FROM by_hash WHERE doc['id'] = '5'" "WHERE"
+    expect_sent 3 "SELECT doc FROM by_hash WHERE doc @? '\$.id'" "WHERE"
+    expect_sent 0 "SELECT doc FROM by_hash WHERE doc ? 'id'" "WHERE"
     expect_sent 3 "SELECT doc FROM by_hash WHERE doc -> 'seen' IS NOT NULL" "IS NOT NULL"
     expect_sent 3 "SELECT doc FROM by_hash WHERE (doc -> 'price')::numeric > 100" "WHERE"
     expect_sent 3 "SELECT doc FROM by_hash WHERE doc @> '{\"city\": \"city 7\"}'" "WHERE"
