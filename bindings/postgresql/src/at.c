@@ -24,6 +24,7 @@ static void pg_attribute_noreturn() refuse_path(void) {
 
 static int64 index_of_number(Part number) {
     uint8_t room[NUMBER_ROOM];
+    if (room_of_part(number) > sizeof room) refuse_path();
     Bytes document = write_part(number, room, sizeof room);
     struct kohiblad_integer index = kohiblad_int64(document.at, document.size);
     if (index.status != KOHIBLAD_OK) refuse_path();
