@@ -1,10 +1,10 @@
 -- Counting equal items, and the items that are kept by their counts.
-use Rattle.std.proofs.Common.{◌≡◌, ◌+◌, ◌-◌, ◌≤◌, ℕ, suc, List, [], ◌∷◌, ◌++◌, map, refl, sym, ap}
+use Rattle.std.proofs.Common.{◌≡◌, ◌+◌, ◌-◌, ◌≤◌, ℕ, suc, List, [], ◌∷◌, ◌++◌, refl, sym, ap}
 use Rattle.std.proofs.Common.{◌∙◌, ◌<◌, Bool, true, false, arith, nat_lt, get_or, drop, add-one}
 use Rattle.std.proofs.Common.{drop-cons, length, zero}
 use Rattle.std.proofs.lemmas.List.{drop_all}
 use mathlib.Core.Bool.{beq}
-use Rattle.std.specs.Prelude.{not, if◌then◌else◌, ◌==◌, Option, Some, unwrap_or}
+use Rattle.std.specs.Prelude.{not, if◌then◌else◌, ◌==◌, Some, unwrap_or}
 use Rattle.std.specs.Map.{lookup}
 use Rattle.std.specs.Cmp.{IsEquivalence}
 use Rattle.std.proofs.lemmas.Bool.{ltb-true, ltb-false, lt-ltb, le-ltb}

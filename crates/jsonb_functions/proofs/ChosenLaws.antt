@@ -1,8 +1,8 @@
 -- What chosen items and members are written as.
-use Rattle.std.proofs.Common.{◌≡◌, ◌+◌, ◌-◌, ℕ, List, [], ◌∷◌, length, map, refl, sym, ap, ◌∙◌}
+use Rattle.std.proofs.Common.{◌≡◌, ◌-◌, ℕ, List, [], ◌∷◌, length, refl, sym, ap, ◌∙◌}
 use Rattle.std.proofs.Common.{subst, arith, Bor}
 use Rattle.jsonb_value.specs.Tree as trees
-use Rattle.jsonb_value.specs.Tree.{Tree, Trees, no_trees, tree, Pairs, no_pairs, pair, pair_count}
+use Rattle.jsonb_value.specs.Tree.{Tree, Trees, Pairs, no_pairs, pair, pair_count}
 use Rattle.jsonb_codec.specs.declared.parts.Children as declared
 use Rattle.jsonb_codec.specs.declared.parts.Member.{Member}
 use Rattle.jsonb_codec.specs.declared.parts.Members.{Members}
@@ -11,14 +11,12 @@ use Rattle.jsonb_codec.specs.declared.parts.Part.{Part}
 use Rattle.jsonb_codec.specs.Contents.{AreChildren, AreMembers}
 use Rattle.jsonb_codec.specs.Parts.{IsObject}
 use Rattle.jsonb_codec.specs.Rewriting.{FirstChild}
-use Rattle.jsonb_codec.specs.Shape as shapes
-use Rattle.jsonb_codec.specs.Shape.{Shape, Shapes, count}
+use Rattle.jsonb_codec.specs.Shape.{Shapes, count}
 use Rattle.jsonb_codec.specs.Source.{AreSplit}
-use Rattle.jsonb_codec.specs.Canon.{shape_of, items_shapes, pairs_shapes}
+use Rattle.jsonb_codec.specs.Canon.{items_shapes, pairs_shapes}
 use Rattle.jsonb_codec.specs.PartSource as parts
 use Rattle.jsonb_codec.proofs.TreeShapes.{count-items_shapes, count-pairs_shapes}
 use Rattle.jsonb_codec.proofs.Unique.{Children-unique, pairs_unique, object_unique}
-use Rattle.jsonb.specs.EntryTrees.{part_tree}
 use Rattle.jsonb_functions.specs.declared.choice.Choice.{Choice}
 use Rattle.jsonb_functions.specs.declared.choice.Kept.TheVariants.{Others}
 use Rattle.jsonb_functions.specs.declared.chosen.Chosen.{Chosen}

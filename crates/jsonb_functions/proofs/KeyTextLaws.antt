@@ -1,9 +1,9 @@
 -- The keys of an object are the items of an array of texts.
-use Rattle.std.proofs.Common.{◌≡◌, ◌<◌, ◌^◌, ℕ, List, length, refl, sym, ap, subst, arith, None, Some}
+use Rattle.std.proofs.Common.{◌≡◌, ◌<◌, ◌^◌, ℕ, List, length, refl, ap, subst, arith, None, Some}
 use Rattle.std.proofs.Common.{◌⊎◌, inl, inr}
 use Rattle.jsonb_value.specs.declared.error.Error.{Error}
 use Rattle.jsonb_value.specs.declared.error.Error.TheVariants.{InvalidJsonb, OutOfMemory}
-use Rattle.jsonb_value.specs.Tree.{Tree, Trees, no_trees, tree, Pairs, no_pairs, pair, pair_count}
+use Rattle.jsonb_value.specs.Tree.{Tree, Trees, Pairs, no_pairs, pair, pair_count}
 use Rattle.jsonb_value.specs.Tree.{null, boolean, number, text, extension, array, object}
 use Rattle.jsonb_codec.specs.declared.constants.TheConstants.{CONTAINER_TAG}
 use Rattle.jsonb_codec.specs.declared.parts.Members.{Members}

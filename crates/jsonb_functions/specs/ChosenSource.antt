@@ -3,7 +3,6 @@ use Rattle.std.specs.Prelude.{◌≡◌, ◌+◌, ℕ, suc, List, [], ◌∷◌,
 use Rattle.std.proofs.Common.{ap, ◌∙◌}
 use Rattle.jsonb_value.specs.Tree.{Tree, Trees, Pairs, pair, pair_count}
 use Rattle.jsonb_value.specs.Value.{trees_of}
-use Rattle.jsonb_codec.specs.declared.parts.Object.{Object}
 use Rattle.jsonb_codec.specs.declared.parts.Member.{Member}
 use Rattle.jsonb_codec.specs.declared.parts.Part.{Part}
 use Rattle.jsonb_codec.specs.Contents.{Means, AreChildren, AreMembers}

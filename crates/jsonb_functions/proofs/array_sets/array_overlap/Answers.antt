@@ -1,5 +1,4 @@
-use Rattle.std.proofs.Common.{◌≡◌, ap, subst, ◌∙◌}
-use Rattle.jsonb_value.specs.Tree.{Trees}
+use Rattle.std.proofs.Common.{ap, subst, ◌∙◌}
 use Rattle.jsonb.specs.Document.{document_tree}
 use Rattle.jsonb_functions.specs.ArraySets.{some_shared}
 use Rattle.jsonb_functions.specs.ChosenSource.{listed_trees}
