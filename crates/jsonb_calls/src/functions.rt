@@ -2,8 +2,8 @@
 use jsonb::{Document, Error, Node, Number, OwnedJsonb};
 use jsonb_functions::{
     Bound, Edit, Selector, Step, append_index_keys, append_top_keys, concat, contains,
-    edit_document, exists, exists_path, get_path, read_path, read_path_text, select, select_first,
-    steps_of_path, top_key,
+    edit_document, exists, exists_path, get_path, merge_patch, read_path, read_path_text, select,
+    select_first, steps_of_path, strip_nulls, top_key,
 };
 use std::alloc::Global;
 use std::test::Fail;
@@ -353,6 +353,77 @@ fn documents_joined(rt: HostRuntime) -> Result<(), Fail> {
     for &(left, right, text) in JOINED {
         let made = joined(rt.alloc(), left, right)?;
         assert!(rt; is_made_of(rt.alloc(), made, text)?, "{left} and {right}");
+    }
+    Ok(())
+}
+
+// The examples of RFC 7396: a target, a patch and the result.
+const PATCHED: &[(&str, &str, &str)] = &[
+    ("{\"a\":\"b\"}", "{\"a\":\"c\"}", "{\"a\":\"c\"}"),
+    (
+        "{\"a\":\"b\"}",
+        "{\"b\":\"c\"}",
+        "{\"a\":\"b\",\"b\":\"c\"}",
+    ),
+    ("{\"a\":\"b\"}", "{\"a\":null}", "{}"),
+    ("{\"a\":\"b\",\"b\":\"c\"}", "{\"a\":null}", "{\"b\":\"c\"}"),
+    ("{\"a\":[\"b\"]}", "{\"a\":\"c\"}", "{\"a\":\"c\"}"),
+    ("{\"a\":\"c\"}", "{\"a\":[\"b\"]}", "{\"a\":[\"b\"]}"),
+    (
+        "{\"a\":{\"b\":\"c\"}}",
+        "{\"a\":{\"b\":\"d\",\"c\":null}}",
+        "{\"a\":{\"b\":\"d\"}}",
+    ),
+    ("{\"a\":[{\"b\":\"c\"}]}", "{\"a\":[1]}", "{\"a\":[1]}"),
+    ("[\"a\",\"b\"]", "[\"c\",\"d\"]", "[\"c\",\"d\"]"),
+    ("{\"a\":\"b\"}", "[\"c\"]", "[\"c\"]"),
+    ("{\"a\":\"foo\"}", "null", "null"),
+    ("{\"a\":\"foo\"}", "\"bar\"", "\"bar\""),
+    ("{\"e\":null}", "{\"a\":1}", "{\"e\":null,\"a\":1}"),
+    ("[1,2]", "{\"a\":\"b\",\"c\":null}", "{\"a\":\"b\"}"),
+    (
+        "{}",
+        "{\"a\":{\"bb\":{\"ccc\":null}}}",
+        "{\"a\":{\"bb\":{}}}",
+    ),
+];
+
+// The value of one text patched by that of another.
+fn patched(alloc: Global, target: &str, patch: &str) -> Result<OwnedJsonb, Error> {
+    let target = OwnedJsonb::parse(alloc, target)?;
+    let patch = OwnedJsonb::parse(alloc, patch)?;
+    merge_patch(alloc, document_of(&target)?, document_of(&patch)?)
+}
+
+#[test]
+fn documents_patched(rt: HostRuntime) -> Result<(), Fail> {
+    for &(target, patch, text) in PATCHED {
+        let made = patched(rt.alloc(), target, patch)?;
+        assert!(rt; is_made_of(rt.alloc(), made, text)?, "{target} and {patch}");
+    }
+    Ok(())
+}
+
+// Texts, and their values without the members that are null.
+const STRIPPED: &[(&str, &str)] = &[
+    ("[{\"f1\":1,\"f2\":null},2,null,3]", "[{\"f1\":1},2,null,3]"),
+    ("{\"a\":{\"b\":null},\"c\":null}", "{\"a\":{}}"),
+    ("[[{\"a\":[{\"b\":null}]}]]", "[[{\"a\":[{}]}]]"),
+    ("null", "null"),
+    ("1.50", "1.50"),
+];
+
+// The value of a text without the members that are null.
+fn stripped(alloc: Global, text: &str) -> Result<OwnedJsonb, Error> {
+    let owned = OwnedJsonb::parse(alloc, text)?;
+    strip_nulls(alloc, document_of(&owned)?)
+}
+
+#[test]
+fn members_that_are_null_left_out(rt: HostRuntime) -> Result<(), Fail> {
+    for &(text, expected) in STRIPPED {
+        let made = stripped(rt.alloc(), text)?;
+        assert!(rt; is_made_of(rt.alloc(), made, expected)?, "{text}");
     }
     Ok(())
 }

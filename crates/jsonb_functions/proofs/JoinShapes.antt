@@ -37,12 +37,12 @@ run_unique (runs.One part) ts us h k =
     ∙ sym k.1.1
 run_unique (runs.Many items) ts us h k = Children-unique _ _ h k
 
-maybe_unique : (x : Option Members) (ps qs : Pairs) → MaybeMembers x ps → MaybeMembers x qs
+pub maybe_unique : (x : Option Members) (ps qs : Pairs) → MaybeMembers x ps → MaybeMembers x qs
     → ps ≡ qs
 maybe_unique None ps qs h k = h ∙ sym k
 maybe_unique (Some x) ps qs h k = pairs_unique ps qs _ _ _ _ h k
 
-maybe_object_unique : (x : Option Object) (ps qs : Pairs) → MaybeObject x ps → MaybeObject x qs
+pub maybe_object_unique : (x : Option Object) (ps qs : Pairs) → MaybeObject x ps → MaybeObject x qs
     → ps ≡ qs
 maybe_object_unique None ps qs h k = h ∙ sym k
 maybe_object_unique (Some x) ps qs h k = object_unique _ _ ps qs h k
@@ -155,7 +155,7 @@ item_of_second x part rest none second ss h =
     ∙ ap items_shapes f.are))
     (refl, (part_is part f.first f.is, items_joined later no_trees f.others refl f.later))
 
-one_fewer : (n m : ℕ) (ps rest : Pairs) (k : List ℕ) (t : Tree) → n ≡ pair_count ps
+pub one_fewer : (n m : ℕ) (ps rest : Pairs) (k : List ℕ) (t : Tree) → n ≡ pair_count ps
     → ps ≡ pair k t rest → m ≡ n - 1 → m ≡ pair_count rest
 one_fewer n m ps rest k t e is fewer = omega (arith, e, ap pair_count is, fewer)
 

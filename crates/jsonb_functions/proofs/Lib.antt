@@ -12,6 +12,9 @@ pub mod FoundLaws
 pub mod HashLaws
 pub mod JoinLaws
 pub mod JoinShapes
+pub mod PatchLaws
+pub mod PatchShapes
+pub mod StripLaws
 pub mod TopKeyLaws
 pub mod StoredPathLaws
 pub mod SelectLaws

@@ -12,11 +12,15 @@ pub mod Joined
 pub mod JoinSource
 pub mod Keys
 pub mod MadeWithMemory
+pub mod Patched
+pub mod PatchSource
 pub mod Path
 pub mod PathText
 pub mod Picked
 pub mod Selected
 pub mod Steps
 pub mod StoredPath
+pub mod Stripped
+pub mod StripSource
 pub mod TopKeys
 pub mod Words

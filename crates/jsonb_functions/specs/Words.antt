@@ -3,7 +3,7 @@ pub use Rattle.std.specs.Cmp.Lexicographic.{slice_cmp}
 pub use Rattle.std.specs.Iterator.{YieldsFirstBy}
 pub use Rattle.std.specs.Ordering.{nat_cmp}
 pub use Rattle.jsonb_value.specs.Tree.{Ascend, Pairs, Tree, Trees, count, no_pairs, no_trees}
-pub use Rattle.jsonb_value.specs.Tree.{array, object, pair_count, text}
+pub use Rattle.jsonb_value.specs.Tree.{array, object, pair, pair_count, text}
 pub use Rattle.jsonb_value.specs.Value.{trees_of}
 pub use Rattle.jsonb_value.specs.WellFormed.{IsTree}
 pub use Rattle.jsonb_codec.specs.Canon.{Fits, canon, shape_of}
@@ -14,7 +14,7 @@ pub use Rattle.jsonb_codec.specs.Doc.{Doc}
 pub use Rattle.jsonb_codec.specs.Made.{MadeIfFit}
 pub use Rattle.jsonb_codec.specs.PartSource.{items_size, part_meaning}
 pub use Rattle.jsonb_codec.specs.Parts.{IsObject}
-pub use Rattle.jsonb_codec.specs.Shape.{Shape}
+pub use Rattle.jsonb_codec.specs.Shape.{Shape, leaf}
 pub use Rattle.jsonb_codec.specs.Source.{LevelIs, level_size}
 pub use Rattle.jsonb.specs.Document.{document_tree}
 pub use Rattle.jsonb.specs.EntryTrees.{part_tree, rest_pairs, rest_trees}
@@ -41,6 +41,11 @@ pub use Rattle.jsonb_functions.specs.JoinSource.{maybe_members_size, maybe_objec
 pub use Rattle.jsonb_functions.specs.Joined.{items_or_one, joined, merged}
 pub use Rattle.jsonb_functions.specs.Keys.{key_array, key_texts}
 pub use Rattle.jsonb_functions.specs.MadeWithMemory.{MadeWithMemory}
+pub use Rattle.jsonb_functions.specs.PatchSource.{AreBoth, AreChanged, FirstPatched, IsFirstOf}
+pub use Rattle.jsonb_functions.specs.PatchSource.{IsNextOf}
+pub use Rattle.jsonb_functions.specs.PatchSource.{MaybeMeans, both_keys_size, both_size, maybe_size}
+pub use Rattle.jsonb_functions.specs.PatchSource.{next_keys_size, next_size, patched_size}
+pub use Rattle.jsonb_functions.specs.Patched.{pairs_or_none, pairs_patched, patched}
 pub use Rattle.jsonb_functions.specs.Path.{item_place, position_view}
 pub use Rattle.jsonb_functions.specs.PathText.{PathText, ReadsStep, SelectorView, StopsAt}
 pub use Rattle.jsonb_functions.specs.PathText.{all_are, bound_in, from_end_of, is_in_name, is_not}
@@ -52,5 +57,7 @@ pub use Rattle.jsonb_functions.specs.Selected.{first_trees, items_before, items_
 pub use Rattle.jsonb_functions.specs.Selected.{member_trees, selected}
 pub use Rattle.jsonb_functions.specs.Steps.{FoundIn}
 pub use Rattle.jsonb_functions.specs.StoredPath.{path_in, step_in, step_to, step_view}
+pub use Rattle.jsonb_functions.specs.StripSource.{FirstStripped}
+pub use Rattle.jsonb_functions.specs.Stripped.{members_stripped, stripped}
 pub use Rattle.jsonb_functions.specs.TopKeys.{hash_of_key, item_hashes, member_hashes, text_hashes}
 pub use Rattle.jsonb_functions.specs.TopKeys.{top_hashes}
