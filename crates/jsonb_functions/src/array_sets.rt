@@ -8,7 +8,8 @@ ghost use Rattle.jsonb_functions.specs.Words.{MadeWithMemory, SetsCount, Trees, 
 ghost use Rattle.jsonb_functions.specs.Words.{count_at, difference, distinct, distinct_items};
 ghost use Rattle.jsonb_functions.specs.Words.{document_tree, intersection, items_or_one};
 ghost use Rattle.jsonb_functions.specs.Words.{listed_trees, matched_items, node_tree, overlaps};
-ghost use Rattle.jsonb_functions.specs.Words.{code_of, owned_bytes, part_tree, shape_of, some_shared};
+ghost use Rattle.jsonb_functions.specs.Words.{code_of, owned_bytes, part_tree, shape_of};
+ghost use Rattle.jsonb_functions.specs.Words.{some_shared};
 
 use crate::chosen::{Chosen, ChosenItems, ChosenLevel};
 use jsonb::constants::CONTAINER_TAG;

@@ -2,9 +2,9 @@
 
 ghost use Rattle.std.specs.Prelude.{◌≡◌, IfOk};
 ghost use Rattle.jsonb_functions.specs.ChosenSource.{chosen_meaning};
-ghost use Rattle.jsonb_functions.specs.Words.{Fits, LevelIs, MadeIfFit, MadeWithMemory, Means, Tree};
-ghost use Rattle.jsonb_functions.specs.Words.{canon, code_of, document_tree, owned_bytes, picked};
-ghost use Rattle.jsonb_functions.specs.Words.{shape_of};
+ghost use Rattle.jsonb_functions.specs.Words.{Fits, LevelIs, MadeIfFit, MadeWithMemory, Means};
+ghost use Rattle.jsonb_functions.specs.Words.{Tree, canon, code_of, document_tree, owned_bytes};
+ghost use Rattle.jsonb_functions.specs.Words.{picked, shape_of};
 
 use crate::choice::{Choice, Kept, sorted};
 use crate::chosen::{Chosen, ChosenLevel, ChosenObject, count_kept, lifted};

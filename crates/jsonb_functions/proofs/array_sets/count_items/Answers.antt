@@ -1,5 +1,6 @@
 use Rattle.std.proofs.Common.{◌≤◌, arith, length}
-use Rattle.jsonb_functions.proofs.ArraySetLaws.{counted_all, counted_few, counted_next, counted_none}
+use Rattle.jsonb_functions.proofs.ArraySetLaws.{counted_all, counted_few, counted_next}
+use Rattle.jsonb_functions.proofs.ArraySetLaws.{counted_none}
 use Rattle.jsonb_functions.proofs.array_sets.count_items.Goals as goal
 
 pub loop-part-init : goal.loop-part-init

@@ -4,7 +4,8 @@ use Rattle.jsonb_functions.proofs.ArraySetLaws.{distinct_none}
 use Rattle.jsonb_functions.proofs.array_sets.distinct_of.Goals as goal
 
 pub loop-part-init : goal.loop-part-init
-loop-part-init c = distinct_none _ _ c.args.items.now c.new-counts.ensures.empty c.new-list.ensures.items
+loop-part-init c =
+    distinct_none _ _ c.args.items.now c.new-counts.ensures.empty c.new-list.ensures.items
 
 pub raise_count-requires : goal.raise_count-requires
 raise_count-requires c =
