@@ -46,7 +46,7 @@ length-AreParts bytes (suc left) place start h =
     (length-AreParts bytes left (place + 4) (start + length_at bytes place start)) h
 
 -- the tree of an entry is the one that it means
-view_tree-is : (x : ItemView) (t : Tree) → Means x t → view_tree x ≡ t
+pub view_tree-is : (x : ItemView) (t : Tree) → Means x t → view_tree x ≡ t
 view_tree-is (items.raw b) t h = tree_in-is b t h
 view_tree-is (items.owned b) t h = tree_in-is b t h
 view_tree-is x t h = sym h
@@ -63,7 +63,7 @@ entry_tree-is type payload t h =
 abbrev Entries : Type 0
 Entries = List (Result Entry Error)
 
-means_trees : (cs : List Entry) (ts : Trees) → AreCodesOf cs ts
+pub means_trees : (cs : List Entry) (ts : Trees) → AreCodesOf cs ts
     → AreParts (map Ok cs) × (rest_trees (map Ok cs) ≡ tree_list ts)
 means_trees [] ts h = (tt, rw h)
 means_trees (c ∷ cs) no_trees h = absurd h
@@ -88,7 +88,7 @@ pub array_entries-Doc : (b : List ℕ) (t : Tree) → Doc b t → FindsItems t (
 array_entries-Doc b t doc = rw (count_under-Doc b t 2147483648 doc) (finds_items b t doc)
 
 -- The entries of keys and values mean the pairs of an object.
-means_pairs : (ms : List (List ℕ × Entry)) (ps : Pairs) → ArePairsOf (keys_of ms) (values_of ms) ps
+pub means_pairs : (ms : List (List ℕ × Entry)) (ps : Pairs) → ArePairsOf (keys_of ms) (values_of ms) ps
     → AreTexts (keys_of ms)
     → AreMembers (map Ok (key_codes (keys_of ms)), map Ok (values_of ms))
     × (rest_pairs (map Ok (key_codes (keys_of ms)), map Ok (values_of ms)) ≡ pair_list ps)

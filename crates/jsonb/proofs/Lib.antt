@@ -28,6 +28,7 @@ pub mod ResultMeanings
 pub mod Classes
 pub mod DocumentLaws
 pub mod EntryTreeLaws
+pub mod NodeLaws
 pub mod StableLaws
 pub mod PutLaws
 pub mod DocumentInputLaws

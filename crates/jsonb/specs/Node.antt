@@ -7,22 +7,40 @@ use Rattle.jsonb_value.specs.Tree as trees
 use Rattle.jsonb_value.specs.Tree.{Tree, Trees, no_trees, tree, Pairs, no_pairs, pair, array}
 use Rattle.jsonb_value.specs.Tree.{object}
 use Rattle.jsonb_value.specs.Value.{trees_of}
-use Rattle.jsonb_value.specs.ExtCode.{extension_of}
 use Rattle.jsonb_codec.specs.declared.constants.TheConstants.{CONTAINER_TAG}
 use Rattle.jsonb_codec.specs.Doc.{type_of}
 use Rattle.jsonb.specs.declared.document.Node.{Node}
 use Rattle.jsonb.specs.declared.document.Node.TheVariants as nodes
-use Rattle.jsonb.specs.Document.{document_tree}
+use Rattle.jsonb.specs.declared.document.Document.{Document}
+use Rattle.jsonb.specs.Document.{document_bytes, document_tree}
+use Rattle.jsonb.specs.ItemValues.{number_source, number_of_item, extension_source}
+use Rattle.jsonb.specs.ItemValues.{extension_of_item}
+use Rattle.jsonb.specs.ItemView.{ItemView}
+use Rattle.jsonb.specs.ItemView as items
 use Rattle.jsonb.specs.Lookup.{find, words_read}
 
 -- The tree of a value.
 abbrev pub node_tree : Node → Tree
 node_tree nodes.Null = trees.null
 node_tree (nodes.Boolean b) = trees.boolean b
-node_tree (nodes.Number x) = trees.number x
+node_tree (nodes.Number item) = trees.number (number_of_item item)
 node_tree (nodes.String s) = trees.text s.now
-node_tree (nodes.Extension e) = trees.extension (extension_of e)
+node_tree (nodes.Extension item) = trees.extension (extension_of_item item)
 node_tree (nodes.Container d) = document_tree d
+
+-- The contents of the item that holds a value.
+abbrev pub node_view : Node → ItemView
+node_view nodes.Null = items.null
+node_view (nodes.Boolean b) = items.boolean b
+node_view (nodes.Number item) = items.number (number_source item) (number_of_item item)
+node_view (nodes.String s) = items.text s.now
+node_view (nodes.Extension item) = items.extension (extension_source item) (extension_of_item item)
+node_view (nodes.Container d) = items.raw (document_bytes d)
+
+-- The document of an array or object; none for a scalar.
+abbrev pub container_of : Node → Option Document
+container_of (nodes.Container d) = Some d
+container_of node = None
 
 -- The value of the first key that equals the name.
 abbrev pub value_of_key : List ℕ → Tree → Option Tree

@@ -1,6 +1,6 @@
 -- The entries in the document of an array or an object, and their items.
 use Rattle.std.specs.Prelude.{◌≡◌, ◌<◌, ◌^◌, ◌==◌, ◌&&◌, ℕ, Bool, List, [], ◌∷◌, length, Option}
-use Rattle.std.specs.Prelude.{None, option_map, Result, Ok}
+use Rattle.std.specs.Prelude.{None, map, option_map, Result, Ok}
 use Rattle.std.specs.Map.{keys_of, values_of, lookup}
 use Rattle.jsonb_value.specs.declared.error.Error.{Error}
 use Rattle.jsonb_value.specs.Tree.{Tree, object, Trees, no_trees, tree, Pairs, no_pairs, pair}
@@ -40,6 +40,12 @@ pub record HasMembers (b : List ℕ) (ps : Pairs) (members : List (List ℕ × E
   pub short : AreShort (values_of members)
   pub few : length members < 2 ^ 29
   pub written : b ≡ object_of (keys_of members) (values_of members)
+
+-- What was read of the keys' and of the values' entry words are the entries of these members.
+abbrev pub AreEntriesOf : List (List ℕ × Entry)
+    → List (Result Entry Error) × List (Result Entry Error) → Type 0
+AreEntriesOf members left =
+    (left.0 ≡ map Ok (key_codes (keys_of members))) × (left.1 ≡ map Ok (values_of members))
 
 -- The item of an entry.
 abbrev pub entry_item : Entry → Result ItemView Error

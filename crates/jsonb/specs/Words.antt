@@ -39,7 +39,8 @@ pub use Rattle.jsonb_codec.specs.JEntry.{jentry_at}
 pub use Rattle.jsonb_codec.specs.Reread.{MeansAgain}
 pub use Rattle.jsonb_codec.specs.Stored.{code_of_some}
 pub use Rattle.jsonb_codec.specs.Word.{word_at}
-pub use Rattle.jsonb_codec.specs.declared.constants.TheConstants.{CONTAINER_TAG}
+pub use Rattle.jsonb_codec.specs.declared.constants.TheConstants.{CONTAINER_TAG, EXTENSION_TAG}
+pub use Rattle.jsonb_codec.specs.declared.constants.TheConstants.{NUMBER_TAG}
 pub use Rattle.jsonb_codec.specs.declared.constants.TheConstants.{OBJECT_CONTAINER_TAG}
 pub use Rattle.jsonb.specs.Building.{AreKeys, FitArray, FitObject, IsArrayOf, IsObjectOf, has_key}
 pub use Rattle.jsonb.specs.Building.{with_pair}
@@ -48,7 +49,7 @@ pub use Rattle.jsonb.specs.Children.{AreShown, AreShownAt, HasSameEntry, ItemPai
 pub use Rattle.jsonb.specs.Children.{raw_view}
 pub use Rattle.jsonb.specs.Code.{CanBeStored, extension_bytes, item_document, number_bytes}
 pub use Rattle.jsonb.specs.Code.{scalar_bytes}
-pub use Rattle.jsonb.specs.Contents.{contents_tree}
+pub use Rattle.jsonb.specs.Contents.{AreStoredIn, contents_tree}
 pub use Rattle.jsonb.specs.CutKeys.{IsFirstUnread, NoneOfSize}
 pub use Rattle.jsonb.specs.Document.{document_bytes, document_tree}
 pub use Rattle.jsonb.specs.DocumentWalk.{IsItemIn, IsItemOf, WalksChildren, WalksEntries}
@@ -67,9 +68,9 @@ pub use Rattle.jsonb.specs.Lines.{HasRoom, pair_text}
 pub use Rattle.jsonb.specs.Lookup.{AnswersBy, IsItemFound, IsRefusal, LooksUp, LooksUpBytes}
 pub use Rattle.jsonb.specs.Lookup.{LooksUpIn, LooksUpInBytes, find, find_pair, header_count}
 pub use Rattle.jsonb.specs.Lookup.{FindsEntry, FindsKey, found_view, value_view}
-pub use Rattle.jsonb.specs.Node.{HoldsNoScalar, IsContainer, array_of, first_key_of, item_at_index}
-pub use Rattle.jsonb.specs.Node.{items_of, members_of, node_tree, object_of, value_of_key}
-pub use Rattle.jsonb.specs.Node.{words_for_key}
+pub use Rattle.jsonb.specs.Node.{HoldsNoScalar, IsContainer, array_of, container_of, first_key_of}
+pub use Rattle.jsonb.specs.Node.{item_at_index, items_of, members_of, node_tree, node_view}
+pub use Rattle.jsonb.specs.Node.{object_of, value_of_key, words_for_key}
 pub use Rattle.jsonb.specs.Owned.{bytes_of, owned_bytes}
 pub use Rattle.jsonb.specs.Parts.{HasParts, IsPlaceOf, part_length, part_start}
 pub use Rattle.jsonb.specs.Payloads.{extension_error}

@@ -1,23 +1,27 @@
 //! Documents that were checked once and are not checked again by any later call.
 
 use crate::entries::{Cursor, count_under};
+use crate::extension_item::ExtensionItem;
+use crate::item::JsonbItem;
 use crate::item_type::JsonbItemType;
 use crate::nodes::{Items, Members};
+use crate::number_item::NumberItem;
 use crate::owned::OwnedJsonb;
 use crate::raw::RawJsonb;
 use crate::reads::Reads;
 use crate::reads::lookup::{MAX_READS, count_pairs, find_value};
-use crate::text::{Layout, document_text, write_document};
+use crate::text::{Layout, document_text, node_text, write_document, write_value};
 use jsonb_codec::constants::{
-    CONTAINER_TAG, EXTENSION_TAG, FALSE_TAG, NULL_TAG, NUMBER_TAG, OBJECT_CONTAINER_TAG,
-    STRING_TAG, TRUE_TAG,
+    ARRAY_CONTAINER_TAG, CONTAINER_TAG, EXTENSION_TAG, FALSE_TAG, NULL_TAG, NUMBER_TAG,
+    OBJECT_CONTAINER_TAG, STRING_TAG, TRUE_TAG,
 };
 use jsonb_codec::parts::Part;
 use jsonb_codec::{
-    DocumentBytes, append_canonical_document, is_canonical_document, parts, value_of_document,
+    DocumentBytes, append_canonical_document, is_canonical_document, read_header, value_of_document,
 };
-use jsonb_value::{Error, ExtensionValue, Number, Value};
+use jsonb_value::{Error, Value};
 use std::alloc::Global;
+use std::borrow::CowStr;
 use std::fmt;
 
 /// The borrowed bytes of a document. They were checked on construction, so no method fails because
@@ -27,14 +31,15 @@ pub struct Document<'a> {
     bytes: DocumentBytes<'a>,
 }
 
-/// A value in a document: a scalar, or an array or object, which is a document itself.
+/// A value in a document: a scalar, or an array or object, which is a document itself. A number or
+/// an extension value keeps the bytes of its payload.
 #[derive(Clone, Copy, Debug)]
 pub enum Node<'a> {
     Null,
     Boolean(bool),
-    Number(Number),
+    Number(NumberItem<'a>),
     String(&'a str),
-    Extension(ExtensionValue<'a>),
+    Extension(ExtensionItem<'a>),
     Container(Document<'a>),
 }
 
@@ -51,12 +56,12 @@ impl<'a> Document<'a> {
     ghost use Rattle.std.specs.Prelude.{MatchOption, option_map, string_bytes};
     ghost use Rattle.jsonb_codec.specs.Contents.{Means};
     ghost use Rattle.jsonb.specs.Lookup.{pairs_in};
-    ghost use Rattle.jsonb.specs.Words.{pointwise, compact, pretty, Tree, Pairs, tree_of, canon};
-    ghost use Rattle.jsonb.specs.Words.{Fits, IsCanonical, CONTAINER_TAG, AreMembers, depth, Doc};
-    ghost use Rattle.jsonb.specs.Words.{MadeIfFit};
+    ghost use Rattle.jsonb.specs.Words.{pointwise, compact, pretty, Tree, tree_of, canon};
+    ghost use Rattle.jsonb.specs.Words.{Fits, IsCanonical, CONTAINER_TAG, depth, Doc};
+    ghost use Rattle.jsonb.specs.Words.{MadeIfFit, AreStoredIn, IsFoundIn, node_view};
     ghost use Rattle.jsonb.specs.Words.{IsDocumentWithin, IsDocument, contents_tree, document_tree};
     ghost use Rattle.jsonb.specs.Words.{document_bytes, kind_of_tree, rest_trees, rest_pairs};
-    ghost use Rattle.jsonb.specs.Words.{find_pair, node_tree, value_of_key, words_for_key};
+    ghost use Rattle.jsonb.specs.Words.{node_tree, value_of_key, words_for_key};
     ghost use Rattle.jsonb.specs.Words.{items_of, item_at_index, members_of, first_key_of};
     ghost use Rattle.jsonb.specs.Words.{IsContainer, HoldsNoScalar, owned_bytes, raw_bytes};
 
@@ -98,7 +103,8 @@ impl<'a> Document<'a> {
     // An array or object inside another one is a document itself.
     fn of_container(part: Part<'a>) -> Self
         requires { part.type_code ≡ CONTAINER_TAG }
-        ensures { (t : Tree) → Means part.entry t → document_tree result ≡ t }
+        ensures tree { (t : Tree) → Means part.entry t → document_tree result ≡ t }
+        ensures bytes { document_bytes result ≡ part.entry.payload.now }
     {
         Document {
             bytes: DocumentBytes::of_container(part),
@@ -158,19 +164,45 @@ impl<'a> Document<'a> {
         Node::of_part(self.part())
     }
 
-    // The content of an array or object.
+    /// The content of an array or object, by the kind that is in its header. `None` if the document
+    /// is a scalar's.
     #[inline(always)]
-    pub(crate) fn contents(&self) -> Contents<'a>
+    pub fn contents(&self) -> Option<Contents<'a>>
+        ensures tree { MatchOption result (IsContainer (document_tree self.now) → ⊥)
+            (λ contents. contents_tree contents ≡ document_tree self.now) }
+        ensures entries { IfSome result
+            (AreStoredIn (document_bytes self.now) (document_tree self.now)) }
+    {
+        let bytes = self.as_bytes();
+        let Ok((kind, count)) = read_header(bytes, 0) else {
+            unreachable!();
+        };
+        match kind {
+            ARRAY_CONTAINER_TAG => {
+                let items = Cursor::over_items(bytes, count);
+                Some(Contents::Array(Items::new(items)))
+            }
+            OBJECT_CONTAINER_TAG => {
+                let Ok(values) = Cursor::over_values(bytes, count) else {
+                    unreachable!();
+                };
+                let keys = Cursor::over_keys(bytes, count);
+                Some(Contents::Object(Members::new(keys, values)))
+            }
+            _ => None,
+        }
+    }
+
+    // The content of what is known to be an array or object.
+    #[inline(always)]
+    pub(crate) fn container_contents(&self) -> Contents<'a>
         requires { IsContainer (document_tree self.now) }
         ensures { contents_tree result ≡ document_tree self.now }
     {
-        if let Some(items) = self.items() {
-            return Contents::Array(items);
-        }
-        match self.members() {
-            Some(members) => Contents::Object(members),
-            None => unreachable!(),
-        }
+        let Some(contents) = self.contents() else {
+            unreachable!();
+        };
+        contents
     }
 
     /// The items of an array, in order. `None` if the document is not an array.
@@ -223,19 +255,18 @@ impl<'a> Document<'a> {
 
     /// The value of a key. `None` if there is no such key, or the document is not an object.
     pub fn get(&self, name: &str) -> Option<Node<'a>>
-        ensures { option_map node_tree result ≡ value_of_key name.now (document_tree self.now) }
+        ensures value { option_map node_tree result
+            ≡ value_of_key name.now (document_tree self.now) }
+
+        // It has the type and payload of the key's entry.
+        ensures entry { IsFoundIn (pointwise nat_eq name.now) (length name.now)
+            (document_bytes self.now) (document_tree self.now) (option_map node_view result) }
     {
-        let whole = self.part();
-        if whole.type_code != CONTAINER_TAG {
+        let Contents::Object(members) = self.contents()? else {
             return None;
-        }
-        match whole.contents() {
-            parts::Contents::Array(_) => None,
-            parts::Contents::Object(object) => match Document::find_member(object.members(), name) {
-                Some(part) => Some(Node::of_part(part)),
-                None => None,
-            },
-        }
+        };
+        let part = members.find(name)?;
+        Some(Node::of_part(part))
     }
 
     /// The value of a key, as `get` returns it. Each word of the document that is read is counted:
@@ -322,30 +353,45 @@ impl<'a> Document<'a> {
         append_canonical_document(&mut bytes, self.bytes)?;
         Ok(OwnedJsonb::new(bytes))
     }
-
-    // The value of a key among members.
-    fn find_member(members: parts::Members<'a>, name: &str) -> Option<Part<'a>>
-        ensures { (ps : Pairs) → AreMembers ps members.entry
-            → MatchOption result (find_pair (pointwise nat_eq name.now) (length name.now) ps ≡ None)
-            (λ part. (t : Tree)
-            × ((find_pair (pointwise nat_eq name.now) (length name.now) ps ≡ Some t)
-            × Means part t)) }
-    {
-        let mut left = members;
-        while let Some(first) = left.split_first() {
-            if name == first.key {
-                return Some(first.value);
-            }
-            left = first.later;
-        }
-        None
-    }
 }
 
 impl<'a> Node<'a> {
-    ghost use Rattle.std.specs.Prelude.{◌≡◌};
+    ghost use Rattle.std.specs.Prelude.{◌≡◌, ◌↔◌, Ok, Some, IfOk, IfErr, IsSome, string_bytes};
     ghost use Rattle.jsonb_codec.specs.Contents.{Means};
-    ghost use Rattle.jsonb.specs.Words.{Tree, kind_of_tree, node_tree, HoldsNoScalar};
+    ghost use Rattle.jsonb.specs.Words.{Tree, compact, kind_of_tree, node_tree, HoldsNoScalar};
+    ghost use Rattle.jsonb.specs.Words.{IsContainer, MadeIfFit, CanBeStored, container_of};
+    ghost use Rattle.jsonb.specs.Words.{node_view, item_of, item_document, owned_bytes};
+
+    /// The array or object as a document. `None` if the value is a scalar.
+    pub fn as_document(&self) -> Option<Document<'a>>
+        ensures document { result ≡ container_of self.now }
+        ensures container { HoldsNoScalar self.now
+            → IsSome result ↔ IsContainer (node_tree self.now) }
+    {
+        match self {
+            Node::Container(document) => Some(*document),
+            _ => None,
+        }
+    }
+
+    /// The value as a document of its own: the bytes of an array or object, or the document of the
+    /// scalar, with the payload that it has in its document. `InvalidJsonb`, before any allocation,
+    /// if the payload of a scalar exceeds 268,435,455 bytes, as none does that is in a document;
+    /// `OutOfMemory` if an allocation fails.
+    pub fn to_owned(&self, alloc: Global) -> Result<OwnedJsonb, Error>
+        ensures ok { IfOk result (λ owned. owned_bytes owned ≡ item_document (node_view self.now)) }
+        ensures limits { MadeIfFit (CanBeStored (node_view self.now)) result }
+    {
+        OwnedJsonb::from_item(alloc, JsonbItem::from(*self))
+    }
+
+    /// The compact text, without white space. `OutOfMemory` is the only error.
+    pub fn to_string(&self, alloc: Global) -> Result<String, Error>
+        ensures text { IfOk result (λ text. string_bytes text ≡ compact (node_tree self.now)) }
+        ensures memory { IfErr result (λ e. e ≡ Error.OutOfMemory) }
+    {
+        node_text(alloc, self.opened())
+    }
 
     // The same value, where a container is known to be one: not a scalar's document.
     pub(crate) fn opened(self) -> Node<'a>
@@ -374,18 +420,42 @@ impl<'a> Node<'a> {
 
     /// The value that a part holds.
     #[inline(always)]
+    #[tactic(auto, unfolding(crate::specs::Item::item_of))]
     pub fn of_part(part: Part<'a>) -> Node<'a>
         ensures means { (t : Tree) → Means part.entry t → node_tree result ≡ t }
+        ensures item { item_of part.entry.type_code part.entry.payload.now
+            ≡ Ok (node_view result) }
         ensures container { HoldsNoScalar result }
     {
         match part.type_code {
             NULL_TAG => Node::Null,
             TRUE_TAG => Node::Boolean(true),
             FALSE_TAG => Node::Boolean(false),
-            NUMBER_TAG => Node::Number(part.number()),
+            NUMBER_TAG => Node::Number(NumberItem::of_part(part)),
             STRING_TAG => Node::String(part.text()),
-            EXTENSION_TAG => Node::Extension(part.extension()),
+            EXTENSION_TAG => Node::Extension(ExtensionItem::of_part(part)),
             _ => Node::Container(Document::of_container(part)),
+        }
+    }
+}
+
+/// A value as an item: an array or object by its bytes, a number or an extension value with those
+/// of its payload.
+impl<'a> From<Node<'a>> for JsonbItem<'a> {
+    ghost use Rattle.std.specs.Prelude.{◌≡◌};
+    ghost use Rattle.jsonb.specs.ItemView.{item_view};
+    ghost use Rattle.jsonb.specs.Node.{node_view};
+
+    ghost from_gives = { λ node item. item_view item ≡ node_view node };
+
+    fn from(node: Node<'a>) -> Self {
+        match node {
+            Node::Null => JsonbItem::Null,
+            Node::Boolean(value) => JsonbItem::Boolean(value),
+            Node::Number(number) => JsonbItem::Number(number),
+            Node::String(text) => JsonbItem::String(CowStr::Borrowed(text)),
+            Node::Extension(value) => JsonbItem::Extension(value),
+            Node::Container(document) => JsonbItem::Raw(document.as_raw()),
         }
     }
 }
@@ -402,5 +472,20 @@ impl fmt::Display for Document<'_> {
 
     fn fmt<W: fmt::Write>(&self, f: &mut fmt::Formatter<W>) -> fmt::Result {
         write_document(*self, Layout::InOneLine, f)
+    }
+}
+
+/// Writes the compact text, without white space. Width and fill are ignored.
+impl fmt::Display for Node<'_> {
+    ghost use Rattle.std.specs.Prelude.{Some};
+    ghost use Rattle.jsonb_value.specs.Text.{compact};
+    ghost use Rattle.jsonb.specs.Node.{node_tree};
+
+    ghost output = { λ node. Some (compact (node_tree node)) };
+
+    ghost styled_output = { λ node _. Some (compact (node_tree node)) };
+
+    fn fmt<W: fmt::Write>(&self, f: &mut fmt::Formatter<W>) -> fmt::Result {
+        write_value(self.opened(), f)
     }
 }

@@ -5,6 +5,7 @@ ghost use Rattle.std.specs.Option.{ForSome};
 ghost use Rattle.jsonb_value.specs.ExtCode.{extension_of};
 ghost use Rattle.jsonb.specs.Payloads.{extension_in};
 
+use jsonb_codec::parts::Part;
 use jsonb_codec::writer::Payload;
 use jsonb_value::{Error, ExtensionValue};
 
@@ -21,7 +22,10 @@ impl<'a> ExtensionItem<'a> {
     ghost use Rattle.std.specs.Prelude.{IfOk, IfErr, OnErr, None};
     ghost use Rattle.jsonb.specs.Words.{Extension, ExtCode, extension_source, extension_of_item};
     ghost use Rattle.jsonb.specs.Words.{extension_error, extension, IsHeld, payload_bytes};
-    ghost use Rattle.jsonb.specs.Words.{extension_bytes};
+    ghost use Rattle.jsonb.specs.Words.{extension_bytes, Tree, EXTENSION_TAG, extension_item};
+    ghost use Rattle.jsonb_value.specs.Tree as trees;
+    ghost use Rattle.jsonb_codec.specs.Contents.{Means};
+    ghost use Rattle.std.specs.Prelude.{Ok};
 
     /// The extension value of these payload bytes, which are kept. `InvalidJsonbNumber` if the
     /// first byte is a known tag and the length is wrong for it, `InvalidJsonbExtension` if the
@@ -37,6 +41,21 @@ impl<'a> ExtensionItem<'a> {
             value,
             payload: Some(bytes),
         })
+    }
+
+    // The extension value that a part holds, with its payload.
+    #[inline(always)]
+    pub(crate) fn of_part(part: Part<'a>) -> ExtensionItem<'a>
+        requires { part.type_code ≡ EXTENSION_TAG }
+        ensures means { (t : Tree) → Means part.entry t
+            → t ≡ trees.extension (extension_of_item result) }
+        ensures item { extension_item part.entry.payload.now
+            ≡ Ok (extension (extension_source result) (extension_of_item result)) }
+    {
+        ExtensionItem {
+            value: part.extension(),
+            payload: Some(part.payload),
+        }
     }
 
     /// An item that holds this extension value by value.

@@ -21,7 +21,7 @@ mod sorting;
 mod text;
 
 pub use builder::{ArrayBuilder, ArrayDistinctBuilder, ObjectBuilder};
-pub use document::{Document, Node};
+pub use document::{Contents, Document, Node};
 pub use extension_item::ExtensionItem;
 pub use item::JsonbItem;
 pub use item_type::JsonbItemType;

@@ -1,11 +1,14 @@
 //! The children of a document's arrays and objects, one by one.
 
-ghost use Rattle.std.specs.Prelude.{◌≡◌, List, length, Result, IfSome, slice_get, option_map};
+ghost use Rattle.std.specs.Prelude.{◌≡◌, ℕ, List, length, nat_eq, Result, IfSome, slice_get};
+ghost use Rattle.std.specs.Prelude.{option_map};
+ghost use Rattle.std.specs.Cmp.Lexicographic.{pointwise};
 ghost use Rattle.std.specs.Iterator.{YieldsFirstBy, MakesProgress, item_count};
 ghost use Rattle.jsonb_value.specs.declared.error.Error.{Error};
 ghost use Rattle.jsonb.specs.Item.{Entry};
 ghost use Rattle.jsonb.specs.EntryTrees.{AreParts, AreMembers, rest_trees, rest_pairs, part_tree};
-ghost use Rattle.jsonb.specs.EntryTrees.{member_part_tree};
+ghost use Rattle.jsonb.specs.EntryTrees.{member_part_tree, entry_of_part};
+ghost use Rattle.jsonb.specs.StoredEntries.{AreEntriesOf, find_entry};
 ghost use Rattle.jsonb.specs.Node.{node_tree, member_tree, HoldsNoScalar};
 
 use crate::document::Node;
@@ -119,6 +122,28 @@ impl<'a> Members<'a> {
             unreachable!();
         };
         Some((key.text(), value))
+    }
+
+    // The value of the first key that is this name, as a part.
+    #[inline(always)]
+    pub(crate) fn find(self, name: &str) -> Option<Part<'a>>
+        ensures { (members : List (List ℕ × Entry)) → AreEntriesOf members self.entry
+            → option_map entry_of_part result
+            ≡ find_entry (pointwise nat_eq name.now) (length name.now) members }
+    {
+        let Members {
+            mut keys,
+            mut values,
+        } = self;
+        while let Some(key) = keys.next_part() {
+            let Some(value) = values.next_part() else {
+                unreachable!();
+            };
+            if name == key.text() {
+                return Some(value);
+            }
+        }
+        None
     }
 
     /// The number of members left.

@@ -4,6 +4,7 @@ ghost use Rattle.std.specs.Prelude.{◌≡◌, Some};
 ghost use Rattle.std.specs.Option.{ForSome};
 ghost use Rattle.jsonb.specs.Payloads.{number_in};
 
+use jsonb_codec::parts::Part;
 use jsonb_codec::writer::Payload;
 use jsonb_value::{Error, Number};
 
@@ -19,7 +20,10 @@ impl<'a> NumberItem<'a> {
     ghost use Rattle.std.specs.Prelude.{IfOk, IfErr, OnErr, None};
     ghost use Rattle.jsonb.specs.ItemView.{number};
     ghost use Rattle.jsonb.specs.Words.{Number, NumCode, number_source, number_of_item, IsHeld};
-    ghost use Rattle.jsonb.specs.Words.{payload_bytes, number_bytes};
+    ghost use Rattle.jsonb.specs.Words.{payload_bytes, number_bytes, Tree, NUMBER_TAG, number_item};
+    ghost use Rattle.jsonb_value.specs.Tree as trees;
+    ghost use Rattle.jsonb_codec.specs.Contents.{Means};
+    ghost use Rattle.std.specs.Prelude.{Ok};
 
     /// The number of these payload bytes, which are kept. `InvalidJsonbNumber` if they are not the
     /// payload of a number.
@@ -34,6 +38,21 @@ impl<'a> NumberItem<'a> {
             number,
             payload: Some(bytes),
         })
+    }
+
+    // The number that a part holds, with its payload.
+    #[inline(always)]
+    pub(crate) fn of_part(part: Part<'a>) -> NumberItem<'a>
+        requires { part.type_code ≡ NUMBER_TAG }
+        ensures means { (t : Tree) → Means part.entry t
+            → t ≡ trees.number (number_of_item result) }
+        ensures item { number_item part.entry.payload.now
+            ≡ Ok (number (number_source result) (number_of_item result)) }
+    {
+        NumberItem {
+            number: part.number(),
+            payload: Some(part.payload),
+        }
     }
 
     /// An item that holds this number by value.

@@ -106,9 +106,9 @@ fn node_of<'i>(item: &'i JsonbItem<'_>) -> Option<Node<'i>>
     match item {
         JsonbItem::Null => Some(Node::Null),
         JsonbItem::Boolean(value) => Some(Node::Boolean(*value)),
-        JsonbItem::Number(number) => Some(Node::Number(number.as_number())),
+        JsonbItem::Number(number) => Some(Node::Number(*number)),
         JsonbItem::String(text) => Some(Node::String(text_of(text))),
-        JsonbItem::Extension(extension) => Some(Node::Extension(extension.as_extension_value())),
+        JsonbItem::Extension(extension) => Some(Node::Extension(*extension)),
         JsonbItem::Raw(raw) => node_in(raw.as_bytes()),
         JsonbItem::Owned(owned) => node_in(owned.as_bytes()),
     }

@@ -146,6 +146,26 @@ pub fn write_document<W: fmt::Write>(
     write_node(document.node(), layout, f)
 }
 
+/// The compact text of a value. `OutOfMemory` is the only error.
+pub fn node_text(alloc: Global, node: Node) -> Result<String, Error>
+    requires { HoldsNoScalar node }
+    ensures text { IfOk result (λ text. string_bytes text ≡ compact (node_tree node.entry)) }
+    ensures memory { IfErr result (λ e. e ≡ Error.OutOfMemory) }
+{
+    let mut f = fmt::Formatter::new(String::new(alloc));
+    let answer = write_value(node, &mut f);
+    finish_text(answer, f)
+}
+
+/// Writes the compact text of a value.
+pub fn write_value<W: fmt::Write>(node: Node, f: &mut fmt::Formatter<W>) -> fmt::Result
+    requires { HoldsNoScalar node }
+    ensures { WritesStyledOnOk W.write_str_gives f.old result
+        (compact (node_tree node.entry)) f.new }
+{
+    write_node(node, Layout::InOneLine, f)
+}
+
 // Writes the text of a value.
 #[cycle(text)]
 #[inline(always)]
@@ -163,9 +183,9 @@ fn write_node<W: fmt::Write>(
         Node::Null => f.write_str("null"),
         Node::Boolean(true) => f.write_str("true"),
         Node::Boolean(false) => f.write_str("false"),
-        Node::Number(number) => write_number(&number, f),
+        Node::Number(number) => write_number(&number.as_number(), f),
         Node::String(text) => write_string(text, f),
-        Node::Extension(value) => write_quotes(&value, f),
+        Node::Extension(value) => write_quotes(&value.as_extension_value(), f),
         Node::Container(document) => write_container(document, layout, f),
     }
 }
@@ -181,7 +201,7 @@ fn write_container<W: fmt::Write>(
     ensures { WritesStyledOnOk W.write_str_gives f.old result
         (laid_out (layout_of layout) (document_tree document.entry)) f.new }
 {
-    match document.contents() {
+    match document.container_contents() {
         Contents::Array(items) => write_items(items, layout, f),
         Contents::Object(members) => write_members(members, layout, f),
     }

@@ -1,5 +1,5 @@
 // The functions over documents, on examples of PostgreSQL's documentation of `jsonb`.
-use jsonb::{Document, Error, Node, Number, OwnedJsonb};
+use jsonb::{Document, Error, Node, Number, NumberItem, OwnedJsonb};
 use jsonb_functions::{
     Bound, Edit, Selector, Step, append_index_keys, append_top_keys, concat, contains,
     edit_document, exists, exists_path, get_path, merge_patch, read_path, read_path_text, select,
@@ -88,7 +88,7 @@ fn values_at_the_end_of_a_path(rt: HostRuntime) {
     let Some(document) = Document::new(NESTED) else {
         return assert!(rt; false);
     };
-    assert!(rt; get_path(document, TO_FIVE) == Some(Node::Number(Number::UInt64(5))));
+    assert!(rt; get_path(document, TO_FIVE) == Some(number_node(5)));
     assert!(rt; get_path(document, BEYOND) == None);
 }
 
@@ -99,7 +99,7 @@ fn leads_to_five(alloc: Global, document: Document, text: &str) -> Result<Option
         return Ok(None);
     };
     let found = get_path(document, &path);
-    Ok(Some(found == Some(Node::Number(Number::UInt64(5)))))
+    Ok(Some(found == Some(number_node(5))))
 }
 
 // Texts that give paths, or none, and whether they lead to the number 5 in `NESTED`.
@@ -166,7 +166,7 @@ const SELECTED: &[(&[Selector<'static>], &[u64])] = &[
 
 // The node of a number.
 fn number_node(number: u64) -> Node<'static> {
-    Node::Number(Number::UInt64(number))
+    Node::Number(NumberItem::from_number(Number::UInt64(number)))
 }
 
 // Whether nodes are these numbers.

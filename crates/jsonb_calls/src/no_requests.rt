@@ -150,5 +150,6 @@ fn documents_are_asked(rt: HostRuntime) {
     assert!(rt; contains_within(document, document, 25) == Some(true));
     assert!(rt; contains_within(document, document, 0) == None);
     let path = [Step::Key("a")];
-    assert!(rt; get_path(document, &path) == Some(Node::Number(Number::UInt64(1))));
+    let one = NumberItem::from_number(Number::UInt64(1));
+    assert!(rt; get_path(document, &path) == Some(Node::Number(one)));
 }

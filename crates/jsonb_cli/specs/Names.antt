@@ -1,6 +1,5 @@
 -- The names that the clauses of this crate cite, passed on from one place.
 pub use Rattle.hex.specs.Hex.{encode_lower}
-pub use Rattle.std.specs.Cmp.Lexicographic.{pointwise}
 pub use Rattle.std.specs.Io.KnownBytes.{IsAtEnd}
 pub use Rattle.jsonb_value.specs.Text.{compact, pretty}
 pub use Rattle.jsonb_value.specs.Tree.{Tree}
@@ -9,9 +8,8 @@ pub use Rattle.jsonb_codec.specs.Depth.{IsDocumentWithin}
 pub use Rattle.jsonb_codec.specs.Doc.{Doc, IsDocument}
 pub use Rattle.jsonb.specs.Code.{CanBeStored, item_document}
 pub use Rattle.jsonb.specs.Document.{document_bytes}
-pub use Rattle.jsonb.specs.ItemView.{item_view, owned}
-pub use Rattle.jsonb.specs.Lookup.{IsItemFound, find}
-pub use Rattle.jsonb.specs.StoredEntries.{IsFoundIn}
+pub use Rattle.jsonb.specs.ItemView.{owned}
+pub use Rattle.jsonb.specs.Node.{node_view}
 pub use Rattle.answer_lines.specs.Session.{AppendsBeginning, AppendsReplies, AppendsWhole}
 pub use Rattle.answer_lines.specs.Session.{AreAnswers}
 pub use Rattle.jsonb_cli.specs.AnswerLine.{answer_words, ok_line, outcome_line, refusal_name}

@@ -1,10 +1,10 @@
 //! The calls of the library that the commands make.
 
-ghost use Rattle.std.specs.Prelude.{◌≡◌, ◌⊎◌, ◌++◌, ◌∷◌, [], ℕ, List, nat_eq, length, option_map};
-ghost use Rattle.std.specs.Prelude.{IfOk, IfErr, OnOk, IsOkAnd, IsErrOf, string_bytes};
-ghost use Rattle.jsonb_cli.specs.Names.{pointwise, encode_lower, OutOfMemory, compact, pretty, Doc};
-ghost use Rattle.jsonb_cli.specs.Names.{Tree, IsDocument, item_document, CanBeStored, find, owned};
-ghost use Rattle.jsonb_cli.specs.Names.{document_bytes, IsItemFound, IsFoundIn, item_view, ok_line};
+ghost use Rattle.std.specs.Prelude.{◌≡◌, ◌⊎◌, ◌++◌, ◌∷◌, [], ℕ, List};
+ghost use Rattle.std.specs.Prelude.{IfOk, IfErr, OnOk, IsErrOf, string_bytes};
+ghost use Rattle.jsonb_cli.specs.Names.{encode_lower, OutOfMemory, compact, pretty, Doc};
+ghost use Rattle.jsonb_cli.specs.Names.{Tree, IsDocument, item_document, CanBeStored, owned};
+ghost use Rattle.jsonb_cli.specs.Names.{document_bytes, node_view, ok_line};
 ghost use Rattle.jsonb_cli.specs.Names.{answer_words, outcome_line, IsEncAnswer, IsDecAnswer};
 ghost use Rattle.jsonb_cli.specs.Names.{IsPrettyAnswer, IsTypeAnswer, IsGetAnswer, IsCmpAnswer};
 ghost use Rattle.jsonb_cli.specs.Names.{IsArrAnswer, IsCanonAnswer, IsReply, IsHexOf, kind_words};
@@ -14,7 +14,7 @@ use crate::answer::{Answer, Refusal};
 use crate::command::{decode_shallow, decode_word};
 use crate::words::Words;
 use jsonb::{
-    ArrayBuilder, Document, Error, JsonbItem, JsonbItemType, OwnedJsonb, RawJsonb, parse_string,
+    ArrayBuilder, Document, Error, JsonbItemType, Node, OwnedJsonb, RawJsonb, parse_string,
 };
 use std::alloc::Global;
 use std::cmp::Ordering;
@@ -185,38 +185,25 @@ pub fn answer_get(alloc: Global, word: &[u8], key: &[u8]) -> Result<Answer, Refu
         Ok(name) => name,
         Err(error) => return Err(Refusal::Call(error)),
     };
-    match value_of_name(&bytes, &name) {
-        Ok(Some(item)) => item_answer(alloc, item),
-        Ok(None) => Ok(Answer::Word("none")),
-        Err(error) => Err(Refusal::Call(error)),
+    let document = match document_in(&bytes) {
+        Ok(document) => document,
+        Err(error) => return Err(Refusal::Call(error)),
+    };
+    match document.get(&name) {
+        Some(value) => value_answer(alloc, value),
+        None => Ok(Answer::Word("none")),
     }
 }
 
-// The outcome with the document of an item.
-fn item_answer(alloc: Global, item: JsonbItem) -> Result<Answer, Refusal>
+// The outcome with the document of a value.
+fn value_answer(alloc: Global, value: Node) -> Result<Answer, Refusal>
     ensures ok { OnOk result
-        (outcome_line result ≡ ok_line (encode_lower (item_document (item_view item.entry)))) }
-    ensures memory { CanBeStored (item_view item.entry)
+        (outcome_line result ≡ ok_line (encode_lower (item_document (node_view value.entry)))) }
+    ensures memory { CanBeStored (node_view value.entry)
         → IfErr result (λ refusal. refusal ≡ Refusal.Call OutOfMemory) }
 {
-    match OwnedJsonb::from_item(alloc, item) {
+    match value.to_owned(alloc) {
         Ok(document) => Ok(Answer::Hex(document.to_vec())),
         Err(error) => Err(Refusal::Call(error)),
     }
-}
-
-// The value of the key with this name. `InvalidJsonb` if the bytes are not a document.
-fn value_of_name<'a>(bytes: &'a [u8], name: &str) -> Result<Option<JsonbItem<'a>>, Error>
-    ensures found { (t : Tree) → Doc bytes.now t
-        → IsOkAnd result (λ item. IsItemFound (find (pointwise nat_eq name.now) (length name.now) t)
-        (option_map item_view item)) }
-    ensures entry { (t : Tree) → Doc bytes.now t
-        → IsOkAnd result
-        (λ item. IsFoundIn (pointwise nat_eq name.now) (length name.now) bytes.now t
-        (option_map item_view item)) }
-    ensures none { IfErr result (λ e. (e ≡ Error.InvalidJsonb) × (IsDocument bytes.now → ⊥)) }
-    ensures some { IfOk result (λ item. IsDocument bytes.now) }
-{
-    let raw = document_in(bytes)?.as_raw();
-    raw.get_object_value_by_key_name(name, |wanted, key| wanted == key)
 }

@@ -75,9 +75,9 @@ pub fn append_node<S: Sink>(node: Node<'_>, sink: &mut S)
         Node::Null => sink.append(&[NULL]),
         Node::Boolean(true) => sink.append(&[TRUE]),
         Node::Boolean(false) => sink.append(&[FALSE]),
-        Node::Number(number) => append_number(number, sink),
+        Node::Number(number) => append_number(number.as_number(), sink),
         Node::String(text) => append_marked(TEXT, text.as_bytes(), sink),
-        Node::Extension(value) => append_extension(value, sink),
+        Node::Extension(value) => append_extension(value.as_extension_value(), sink),
         Node::Container(document) => append_container(document, sink),
     }
 }

@@ -1,6 +1,7 @@
 //! Paths that are given as documents.
 
 ghost use Rattle.std.specs.Prelude.{◌≡◌, IfOk, IfErr, map, option_map};
+ghost use Rattle.jsonb_value.specs.Tree as trees;
 ghost use Rattle.jsonb_functions.specs.Words.{HoldsNoScalar, document_tree, node_tree, path_in};
 ghost use Rattle.jsonb_functions.specs.Words.{step_in, step_to, step_view};
 
@@ -38,8 +39,18 @@ fn step_of<'a>(node: Node<'a>) -> Option<Step<'a>>
 {
     match node {
         Node::String(key) => Some(Step::Key(key)),
-        Node::Number(Number::UInt64(index)) => Some(Step::Index(index as usize)),
-        Node::Number(Number::Int64(index)) => Some(step_at(index)),
+        Node::Number(index) => step_of_number(index.as_number()),
+        _ => None,
+    }
+}
+
+// The step that a number gives.
+fn step_of_number<'a>(number: Number) -> Option<Step<'a>>
+    ensures { option_map step_view result ≡ step_in (trees.number number) }
+{
+    match number {
+        Number::UInt64(index) => Some(Step::Index(index as usize)),
+        Number::Int64(index) => Some(step_at(index)),
         _ => None,
     }
 }

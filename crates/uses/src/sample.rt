@@ -18,11 +18,10 @@ pub fn prices(alloc: Global, texts: &[&str]) -> Result<Vec<String>, Error>
     rows.sort()?;
     let mut prices = Vec::new(alloc);
     for row in rows.iter() {
-        let raw = row.as_raw();
-        let price = raw.get_object_value_by_key_name("price", |name, key| name == key)?;
-        if let Some(item) = price {
-            let price = OwnedJsonb::from_item(alloc, item)?;
-            prices.push(price.as_raw().to_string(alloc)?)?;
+        if let Some(document) = row.as_document() {
+            if let Some(price) = document.get("price") {
+                prices.push(price.to_string(alloc)?)?;
+            }
         }
     }
     Ok(prices)

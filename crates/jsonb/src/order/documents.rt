@@ -38,9 +38,12 @@ pub fn cmp_nodes(left: Node<'_>, right: Node<'_>) -> Ordering
 {
     match (left, right) {
         (Node::Boolean(left), Node::Boolean(right)) => left.cmp(&right),
-        (Node::Number(left), Node::Number(right)) => left.cmp_value(&right),
+        (Node::Number(left), Node::Number(right)) => left.as_number().cmp_value(&right.as_number()),
         (Node::String(left), Node::String(right)) => left.cmp(right),
-        (Node::Extension(left), Node::Extension(right)) => left.cmp_value(&right),
+        (Node::Extension(left), Node::Extension(right)) => {
+            left.as_extension_value()
+                .cmp_value(&right.as_extension_value())
+        }
         (Node::Container(left), Node::Container(right)) => cmp_containers(left, right),
         (left, right) => cmp_kinds(left, right),
     }
@@ -84,7 +87,7 @@ fn cmp_containers(left: Document<'_>, right: Document<'_>) -> Ordering
             return first_keys;
         }
     }
-    match (left.contents(), right.contents()) {
+    match (left.container_contents(), right.container_contents()) {
         (Contents::Array(left), Contents::Array(right)) => cmp_items(left, right),
         (Contents::Array(_), Contents::Object(_)) => Ordering::Greater,
         (Contents::Object(_), Contents::Array(_)) => Ordering::Less,

@@ -1,8 +1,13 @@
-use Rattle.std.proofs.Common.{rules, ◌≡◌, ap, refl, inl}
-use Rattle.jsonb.specs.ItemView.{item_view}
+use Rattle.std.proofs.Common.{rules, ◌≡◌, ◌∙◌, Some, length, nat_eq, sym, ap, subst, refl, inl}
+use Rattle.std.specs.Cmp.Lexicographic.{pointwise}
+use Rattle.jsonb.specs.Document.{document_tree}
+use Rattle.jsonb.specs.StoredEntries.{IsFoundIn}
+use Rattle.jsonb.specs.Node.{node_view}
+use Rattle.jsonb.proofs.DocumentLaws.{tree_of_bytes}
 use Rattle.jsonb.proofs.ItemLaws.{IsItemOf-CanBeStored}
+use Rattle.jsonb.proofs.NodeLaws.{found_item_of}
 use Rattle.jsonb_cli.specs.Answers.{not_text, no_name, no_document, none, found}
-use Rattle.jsonb_cli.proofs.Answering.{failed, come_out, key_named, item_found, nothing_found}
+use Rattle.jsonb_cli.proofs.Answering.{failed, come_out, key_named, item_found}
 use Rattle.jsonb_cli.proofs.Answering.{said_of}
 use Rattle.jsonb_cli.proofs.calls.answer_get.Goals as goal
 
@@ -16,35 +21,36 @@ returns-in-Err c =
     (λ is. no_name _ c.in_ok-bytes.ensures.ok c.in-Ok.ensures.cases.1
     (λ name named. c.in-Err.ensures.invalid is name (rw same named.1)) (ap said_of is))
 
-pub returns-in-Ok-Some : goal.returns-in-Ok-Some
-returns-in-Ok-Some c =
-    let named = key_named c.in-Ok-parse_string.name (search rules) c.in-Ok.ensures.cases.1
-    c.deref-2.ensures.value
+pub returns-in-Err-document_in : goal.returns-in-Err-document_in
+returns-in-Err-document_in c =
+    let named = key_named c.in-Ok-parse_string.name (search rules) c.in-Ok.ensures.cases.1 refl
     c.in-Ok-parse_string.ensures.ok in
-    let (t, means) = c.in-Ok-Some.ensures.some in
-    let (u, (is, item)) =
-    item_found (rw c.in-Ok-Some.field-0-is at (c.in-Ok-Some.ensures.found t means)) in
-    let stored = rw (c.in-Ok-Some.field-0-is, c.deref.ensures.value) at
-    (c.in-Ok-Some.ensures.entry t means) in
-    come_out c.item_answer.result c.item_answer.ensures.ok
-    (c.item_answer.ensures.memory (IsItemOf-CanBeStored u (item_view c.in-Ok-Some.item) item))
-    (found _ _ t u (item_view c.in-Ok-Some.item) c.in_ok-bytes.ensures.ok named
-    (rw c.deref.ensures.value at means) is item stored)
+    let (is, not) = c.in-Err-document_in.ensures.none in
+    inl (no_document _ _ c.in_ok-bytes.ensures.ok named (rw c.deref.ensures.value at not)
+    (ap said_of is))
 
-pub returns-in-Ok-None : goal.returns-in-Ok-None
-returns-in-Ok-None c =
+pub returns-in-Some : goal.returns-in-Some
+returns-in-Some c =
     let named = key_named c.in-Ok-parse_string.name (search rules) c.in-Ok.ensures.cases.1
     c.deref-2.ensures.value
     c.in-Ok-parse_string.ensures.ok in
-    let (t, means) = c.in-Ok-None.ensures.some in
-    inl (none _ _ t c.in_ok-bytes.ensures.ok named (rw c.deref.ensures.value at means)
-    (nothing_found (rw c.in-Ok-None.field-0-is at (c.in-Ok-None.ensures.found t means))) refl)
+    let name = c.deref-2.result.now in
+    let d = c.in-Ok-document_in.document in
+    let same = c.in-Ok-document_in.ensures.ok ∙ c.deref.ensures.value in
+    let stored = subst (λ b. IsFoundIn (pointwise nat_eq name) (length name) b (document_tree d)
+    (Some (node_view c.in-Some.value))) same c.in-Some.ensures.entry in
+    let (u, (is, item)) = item_found (found_item_of _ _ _ _ _ stored) in
+    come_out c.value_answer.result c.value_answer.ensures.ok
+    (c.value_answer.ensures.memory (IsItemOf-CanBeStored u (node_view c.in-Some.value) item))
+    (found _ _ (document_tree d) u (node_view c.in-Some.value) c.in_ok-bytes.ensures.ok named
+    (tree_of_bytes _ d same) is item stored)
 
 pub returns : goal.returns
 returns c =
     let named = key_named c.in-Ok-parse_string.name (search rules) c.in-Ok.ensures.cases.1
     c.deref-2.ensures.value
     c.in-Ok-parse_string.ensures.ok in
-    let (is, not) = c.in-Err-value_of_name.ensures.none in
-    inl (no_document _ _ c.in_ok-bytes.ensures.ok named (rw c.deref.ensures.value at not)
-    (ap said_of is))
+    let d = c.in-Ok-document_in.document in
+    let same = c.in-Ok-document_in.ensures.ok ∙ c.deref.ensures.value in
+    inl (none _ _ (document_tree d) c.in_ok-bytes.ensures.ok named (tree_of_bytes _ d same)
+    (sym c.in-None.ensures.value) refl)

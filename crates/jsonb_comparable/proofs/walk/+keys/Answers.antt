@@ -210,7 +210,8 @@ append_node-append-requires-in-Boolean-false g t c =
 
 pub append_node-append_number-requires : goal.append_node-append_number-requires
 unfolding tree_key
-append_node-append_number-requires g t c = rw c.in-Number.is at c.requires.room
+append_node-append_number-requires g t c =
+    rw c.as_number.ensures (rw c.in-Number.is at c.requires.room)
 
 pub append_node-append_marked-requires : goal.append_node-append_marked-requires
 unfolding tree_key
@@ -219,7 +220,8 @@ append_node-append_marked-requires g t c =
 
 pub append_node-append_extension-requires : goal.append_node-append_extension-requires
 unfolding tree_key
-append_node-append_extension-requires g t c = rw c.in-Extension.is at c.requires.room
+append_node-append_extension-requires g t c =
+    rw c.as_extension_value.ensures (rw c.in-Extension.is at c.requires.room)
 
 pub append_node-returns-in-Null : goal.append_node-returns-in-Null
 unfolding tree_key
@@ -241,7 +243,8 @@ append_node-returns-in-Boolean-false g t c =
 
 pub append_node-returns-in-Number : goal.append_node-returns-in-Number
 unfolding tree_key
-append_node-returns-in-Number g t c = rw c.in-Number.is c.append_number.ensures
+append_node-returns-in-Number g t c =
+    rw c.in-Number.is (rw c.as_number.ensures at c.append_number.ensures)
 
 pub append_node-returns-in-String : goal.append_node-returns-in-String
 unfolding tree_key
@@ -250,4 +253,5 @@ append_node-returns-in-String g t c =
 
 pub append_node-returns-in-Extension : goal.append_node-returns-in-Extension
 unfolding tree_key
-append_node-returns-in-Extension g t c = rw c.in-Extension.is c.append_extension.ensures
+append_node-returns-in-Extension g t c =
+    rw c.in-Extension.is (rw c.as_extension_value.ensures at c.append_extension.ensures)
