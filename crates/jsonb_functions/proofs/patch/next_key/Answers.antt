@@ -36,7 +36,8 @@ returns-in-Greater-clause-first c ps qs h =
 pub returns-in_default-first_of-clause-first : goal.returns-in_default-first_of-clause-first
 returns-in_default-first_of-clause-first c ps qs h =
     let g = c.in-Some.ensures.first qs h.1 in
-    let all = none_beyond ps c.in-Some.change.key.now (c.in_default-first_of.ensures.first ps h.0) in
+    let none = c.in_default-first_of.ensures.first ps h.0 in
+    let all = none_beyond ps c.in-Some.change.key.now none in
     c.changed.ensures.next (pairs_patched ps qs) ps g.others null g.value refl g.is h.0 g.left
     (right_changed ps qs g.others c.in-Some.change.key.now g.value all g.are
     (maybe_ascend _ qs h.1))
