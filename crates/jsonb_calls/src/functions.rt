@@ -2,8 +2,8 @@
 use jsonb::{Document, Error, Node, Number, NumberItem, OwnedJsonb};
 use jsonb_functions::{
     Bound, Edit, Selector, Step, append_index_keys, append_top_keys, concat, contains,
-    edit_document, exists, exists_path, get_path, merge_patch, read_path, read_path_text, select,
-    select_first, steps_of_path, strip_nulls, top_key,
+    document_of_path, edit_document, exists, exists_path, get_path, merge_patch, read_path,
+    read_path_text, select, select_first, steps_of_path, strip_nulls, top_key,
 };
 use std::alloc::Global;
 use std::test::Fail;
@@ -271,6 +271,18 @@ fn steps_of_paths_without_wildcards(rt: HostRuntime) -> Result<(), Fail> {
 fn is_made_of(alloc: Global, made: OwnedJsonb, text: &str) -> Result<bool, Error> {
     let owned = OwnedJsonb::parse(alloc, text)?;
     Ok(made.as_bytes() == owned.as_bytes())
+}
+
+#[test]
+fn documents_of_paths(rt: HostRuntime) -> Result<(), Fail> {
+    let path = [Step::Key("a"), Step::Index(7), Step::FromEnd(0)];
+    let made = document_of_path(rt.alloc(), &path)?;
+    assert!(rt; is_made_of(rt.alloc(), made, "[\"a\",7,-1]")?);
+    let far = [Step::Index(usize::MAX), Step::FromEnd(usize::MAX)];
+    let made = document_of_path(rt.alloc(), &far)?;
+    let text = "[18446744073709551615,-9223372036854775808]";
+    assert!(rt; is_made_of(rt.alloc(), made, text)?);
+    Ok(())
 }
 
 // A text that is edited at the end of a path, with another text's value.

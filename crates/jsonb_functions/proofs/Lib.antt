@@ -20,4 +20,5 @@ pub mod StoredPathLaws
 pub mod SelectLaws
 pub mod PathTextLaws
 pub mod PathStepLaws
+pub mod PathDocumentLaws
 pub mod PathLaws

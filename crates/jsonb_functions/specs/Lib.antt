@@ -15,6 +15,7 @@ pub mod MadeWithMemory
 pub mod Patched
 pub mod PatchSource
 pub mod Path
+pub mod PathDocument
 pub mod PathText
 pub mod Picked
 pub mod Selected

@@ -4,7 +4,7 @@ pub use Rattle.std.specs.Iterator.{YieldsFirstBy}
 pub use Rattle.std.specs.Ordering.{nat_cmp}
 pub use Rattle.jsonb_value.specs.Tree.{Ascend, Pairs, Tree, Trees, count, no_pairs, no_trees}
 pub use Rattle.jsonb_value.specs.Tree.{array, object, pair, pair_count, text}
-pub use Rattle.jsonb_value.specs.Value.{trees_of}
+pub use Rattle.jsonb_value.specs.Value.{tree_of, trees_of}
 pub use Rattle.jsonb_value.specs.WellFormed.{IsTree}
 pub use Rattle.jsonb_codec.specs.Canon.{Fits, canon, shape_of}
 pub use Rattle.jsonb_codec.specs.Code.{code_of}
@@ -47,6 +47,7 @@ pub use Rattle.jsonb_functions.specs.PatchSource.{MaybeMeans, both_keys_size, bo
 pub use Rattle.jsonb_functions.specs.PatchSource.{next_keys_size, next_size, patched_size}
 pub use Rattle.jsonb_functions.specs.Patched.{pairs_or_none, pairs_patched, patched}
 pub use Rattle.jsonb_functions.specs.Path.{item_place, position_view}
+pub use Rattle.jsonb_functions.specs.PathDocument.{path_tree, step_tree, stored_step}
 pub use Rattle.jsonb_functions.specs.PathText.{PathText, ReadsStep, SelectorView, StopsAt}
 pub use Rattle.jsonb_functions.specs.PathText.{all_are, bound_in, from_end_of, is_in_name, is_not}
 pub use Rattle.jsonb_functions.specs.PathText.{is_space, item_at, member_of, number_in, place_in}
@@ -56,7 +57,7 @@ pub use Rattle.jsonb_functions.specs.Selected.{between, children_at, chosen_tree
 pub use Rattle.jsonb_functions.specs.Selected.{first_trees, items_before, items_through}
 pub use Rattle.jsonb_functions.specs.Selected.{member_trees, selected}
 pub use Rattle.jsonb_functions.specs.Steps.{FoundIn}
-pub use Rattle.jsonb_functions.specs.StoredPath.{path_in, step_in, step_to, step_view}
+pub use Rattle.jsonb_functions.specs.StoredPath.{StepView, path_in, step_in, step_to, step_view}
 pub use Rattle.jsonb_functions.specs.StripSource.{FirstStripped}
 pub use Rattle.jsonb_functions.specs.Stripped.{members_stripped, stripped}
 pub use Rattle.jsonb_functions.specs.TopKeys.{hash_of_key, item_hashes, member_hashes, text_hashes}

@@ -1,9 +1,11 @@
 //! Laws that callers' proofs can cite.
 
-ghost use Rattle.std.specs.Prelude.{◌≡◌, ℕ, List, [], true};
+ghost use Rattle.std.specs.Prelude.{◌≡◌, ℕ, List, [], Some, map, true};
 ghost use Rattle.jsonb_value.proofs.BigEndian.{AreBytes};
-ghost use Rattle.jsonb_functions.specs.Words.{AreAmong, Doc, IsAmong, IsTree, Tree, contains_whole};
-ghost use Rattle.jsonb_functions.specs.Words.{has_top_key, hash_of_key, top_hashes, tree_hashes};
+ghost use Rattle.jsonb_functions.specs.Words.{AreAmong, Doc, Fits, IsAmong, IsTree, StepView, Tree};
+ghost use Rattle.jsonb_functions.specs.Words.{canon, contains_whole, has_top_key, hash_of_key};
+ghost use Rattle.jsonb_functions.specs.Words.{path_in, path_tree, stored_step, top_hashes};
+ghost use Rattle.jsonb_functions.specs.Words.{tree_hashes};
 
 /// The index keys of what a document contains are among those of the document, so an index that
 /// looks for documents by these keys misses none that contains what is asked for. `exists` says the
@@ -15,4 +17,12 @@ pub fn index_key_laws()
     ensures exists { (t : Tree) (k : List ℕ) → has_top_key k t ≡ true
         → IsAmong (hash_of_key k) (top_hashes t) }
     ensures documents { (b : List ℕ) (t : Tree) → AreBytes b → Doc b t → IsTree t }
+{}
+
+/// The document of a path means its steps, and the path that `read_path` reads in it is that path,
+/// with each index from the end as it is stored.
+pub fn path_document_laws()
+    ensures means { (path : List StepView) → IsTree (path_tree path) → Fits (path_tree path)
+        → Doc (canon (path_tree path)) (path_tree path) }
+    ensures read { (path : List StepView) → path_in (path_tree path) ≡ Some (map stored_step path) }
 {}

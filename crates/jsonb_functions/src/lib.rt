@@ -14,6 +14,7 @@ mod keys;
 mod laws;
 mod patch;
 mod path;
+mod path_document;
 mod path_text;
 mod picked;
 mod selection;
@@ -30,12 +31,15 @@ pub use found::get_path;
 pub use index::append_index_keys;
 pub use join::concat;
 pub use keys::object_keys;
-pub use laws::index_key_laws;
+pub use laws::{index_key_laws, path_document_laws};
 pub use patch::merge_patch;
 pub use path::Step;
+pub use path_document::document_of_path;
 pub use path_text::{read_path_text, steps_of_path};
 pub use picked::pick;
-pub use selection::{Bound, Selector, exists_path, select, select_first};
+pub use selection::{
+    Bound, Selector, count_before, count_through, exists_path, select, select_first,
+};
 pub use stored_path::read_path;
 pub use strip::strip_nulls;
 pub use top_keys::{append_top_keys, top_key};

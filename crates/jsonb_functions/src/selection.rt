@@ -167,8 +167,8 @@ fn values_of<'a>(node: Node<'a>) -> Chosen<'a>
     }
 }
 
-// How many of so many items are before a bound.
-fn count_before(bound: Bound, count: usize) -> usize
+/// How many of so many items are before a bound.
+pub fn count_before(bound: Bound, count: usize) -> usize
     ensures { result ≡ items_before bound count }
 {
     match bound {
@@ -177,8 +177,8 @@ fn count_before(bound: Bound, count: usize) -> usize
     }
 }
 
-// How many of so many items are up to a bound, with the item there.
-fn count_through(bound: Bound, count: usize) -> usize
+/// How many of so many items are up to a bound, with the item there.
+pub fn count_through(bound: Bound, count: usize) -> usize
     ensures { result ≡ items_through bound count }
 {
     match bound {
