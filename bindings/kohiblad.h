@@ -32,13 +32,14 @@
  * STACK: calls on documents recurse as deep as a document nests. KOHIBLAD_LEVEL_STACK bytes for
  * each level, and KOHIBLAD_CALL_STACK beside them, are enough: 64 levels need 72 KB, and 1,000
  * levels 1,008 KB. So pass untrusted bytes through kohiblad_check. kohiblad_key, contains, exists,
- * concat, edit, index_keys, top_keys and each call whose name ends in _within look no deeper than
- * their depth: to them a document that nests deeper is no document. parse and text_fault do not
- * recurse, but the depth given to kohiblad_parse is also how deep its document nests. kohiblad_edit
- * takes KOHIBLAD_EDIT_LEVEL_STACK bytes for each level of its result, which may nest as deep as the
- * path is long and the value nests together, also where these are within the depth; the result of
- * kohiblad_concat may nest one level deeper than that. kind, get, find, part, begin, next, of_part,
- * array_item, object_member, and the calls on scalars do not recurse either.
+ * concat, edit, get_path, select, index_keys, top_keys and each call whose name ends in _within
+ * look no deeper than their depth: to them a document that nests deeper is no document. parse and
+ * text_fault do not recurse, but the depth given to kohiblad_parse is also how deep its document
+ * nests. kohiblad_edit takes KOHIBLAD_EDIT_LEVEL_STACK bytes for each level of its result, which
+ * may nest as deep as the path is long and the value nests together, also where these are within
+ * the depth; the result of kohiblad_concat may nest one level deeper than that. kind, get, find,
+ * part, begin, next, of_part, array_item, object_member, and the calls on scalars do not recurse
+ * either.
  *
  * NULL is allowed for bytes, texts, offsets, out and order whose length is 0, and for `key` of
  * kohiblad_next. A `length` and a cursor are never null.
@@ -563,6 +564,39 @@ static inline uint32_t kohiblad_edit(const uint8_t *bytes, size_t size, const ui
     size_t path_size, uint32_t edit, const uint8_t *value, size_t value_size, size_t depth,
     uint8_t *out, size_t room, size_t *length) KOHIBLAD_INLINE("kohiblad_edit");
 
+/* Copies the document of the path that a text gives to `out`, as kohiblad_edit and
+ * kohiblad_get_path take it. The text is `$`, and then its steps: `.name` is the value of a key,
+ * and so is `."any name"`, where the key has points or brackets; `[7]` is an item, `[#-1]` the last
+ * one, and `[#]` none, past the last one. Keys are the text's bytes, without escapes. An index past
+ * 2^64 - 1 counts as that, and one from the end past 2^63 as 2^63. INVALID_UTF8: the text is not
+ * UTF-8. OTHER_KIND: it is not a path, or one with wildcards or ranges, which lead to many values.
+ * INVALID_JSONB: a key or the path is past a limit of the format. NO_ROOM if `out` has no room for
+ * the document. OUT_OF_MEMORY if an allocation fails. Takes memory. */
+static inline uint32_t kohiblad_path_of_text(const uint8_t *text, size_t size, uint8_t *out,
+    size_t room, size_t *length) KOHIBLAD_INLINE("kohiblad_path_of_text");
+
+/* The place of the value at the end of a path, with nothing copied. `path` is a document as
+ * kohiblad_edit takes it. At the end of the empty path is the whole value: all bytes of an array or
+ * object, the payload of a scalar. NONE: the path leads nowhere. INVALID_JSONB: the bytes or the
+ * path are not a document of at most this depth. OTHER_KIND: the path is not an array of texts and
+ * whole numbers of 64 bits. OUT_OF_MEMORY if an allocation fails. With every status but OK, type,
+ * offset and length are 0. A scalar has depth 0, an array or object one more than its deepest
+ * child, and at least 1. Looks no deeper. Takes memory. */
+static inline struct kohiblad_place kohiblad_get_path(const uint8_t *bytes, size_t size,
+    const uint8_t *path, size_t path_size, size_t depth) KOHIBLAD_INLINE("kohiblad_get_path");
+
+/* Copies the places of the values that a path selects to `out`, which has room for `room` of them,
+ * in the order in which they are stored, and how many they are to `count`; the status of each is
+ * OK. The path is a text as kohiblad_path_of_text reads it, in which `[*]` is each item of an
+ * array, `[0 to #-2]` the items from one to another, and `.*` each member's value of an object.
+ * INVALID_UTF8: the text is not UTF-8. INVALID_JSONB: the bytes are not a document of at most this
+ * depth. OTHER_KIND: the text is not a path. A scalar has depth 0, an array or object one more than
+ * its deepest child, and at least 1. Looks no deeper. NO_ROOM if there are more places.
+ * OUT_OF_MEMORY if an allocation fails. Takes memory. */
+static inline uint32_t kohiblad_select(const uint8_t *bytes, size_t size, const uint8_t *path,
+    size_t path_size, size_t depth, struct kohiblad_place *out, size_t room, size_t *count)
+    KOHIBLAD_INLINE("kohiblad_select");
+
 /* Copies the index keys of a document to `out`, which has room for `room` of them, and how many
  * they are to `count`: one for each scalar, a hash of the keys of the objects around it and of
  * itself. A document that contains another has each of its index keys, so an index over them misses
@@ -689,6 +723,13 @@ uint32_t kohiblad_export_concat(const uint8_t *left, size_t left_size, const uin
 uint32_t kohiblad_export_edit(const uint8_t *bytes, size_t size, const uint8_t *path,
     size_t path_size, uint32_t edit, const uint8_t *value, size_t value_size, size_t depth,
     uint8_t *out, size_t room, size_t *length) KOHIBLAD_EXPORT("kohiblad_edit");
+uint32_t kohiblad_export_path_of_text(const uint8_t *text, size_t size, uint8_t *out,
+    size_t room, size_t *length) KOHIBLAD_EXPORT("kohiblad_path_of_text");
+struct kohiblad_place kohiblad_export_get_path(const uint8_t *bytes, size_t size,
+    const uint8_t *path, size_t path_size, size_t depth) KOHIBLAD_EXPORT("kohiblad_get_path");
+uint32_t kohiblad_export_select(const uint8_t *bytes, size_t size, const uint8_t *path,
+    size_t path_size, size_t depth, struct kohiblad_place *out, size_t room, size_t *count)
+    KOHIBLAD_EXPORT("kohiblad_select");
 uint32_t kohiblad_export_index_keys(const uint8_t *bytes, size_t size, size_t depth,
     uint64_t *out, size_t room, size_t *count) KOHIBLAD_EXPORT("kohiblad_index_keys");
 uint32_t kohiblad_export_top_keys(const uint8_t *bytes, size_t size, size_t depth,
@@ -713,6 +754,10 @@ static inline size_t *kohiblad_order_out(size_t *order) {
 }
 static inline uint64_t *kohiblad_keys_out(uint64_t *out) {
     static uint64_t none;
+    return out ? out : &none;
+}
+static inline struct kohiblad_place *kohiblad_places_out(struct kohiblad_place *out) {
+    static struct kohiblad_place none;
     return out ? out : &none;
 }
 
@@ -1034,23 +1079,42 @@ static inline uint32_t kohiblad_edit(const uint8_t *bytes, size_t size, const ui
     return kohiblad_export_edit(kohiblad_in(bytes), size, kohiblad_in(path), path_size, edit,
         kohiblad_in(value), value_size, depth, kohiblad_out(out), room, length);
 }
-/* Whether keys and their count lie apart from each other, and from what goes in. */
-static inline bool kohiblad_are_keys_apart(const uint64_t *out, size_t room, const size_t *count,
-                                           const void *in, size_t size) {
-    size_t bytes = room * sizeof *out;
+static inline uint32_t kohiblad_path_of_text(const uint8_t *text, size_t size, uint8_t *out,
+    size_t room, size_t *length) {
+    if (!kohiblad_is_room(out, room, length)
+        || !kohiblad_is_apart(out, room, length, text, size))
+        return KOHIBLAD_OVERLAP;
+    return kohiblad_export_path_of_text(kohiblad_in(text), size, kohiblad_out(out), room, length);
+}
+static inline struct kohiblad_place kohiblad_get_path(const uint8_t *bytes, size_t size,
+    const uint8_t *path, size_t path_size, size_t depth) {
+    return kohiblad_export_get_path(kohiblad_in(bytes), size, kohiblad_in(path), path_size, depth);
+}
+/* Whether keys or places of this size and their count lie apart from each other, and from what goes
+ * in. */
+static inline bool kohiblad_are_apart(const void *out, size_t bytes, const size_t *count,
+                                      const void *in, size_t size) {
     return !kohiblad_meet(out, bytes, count, sizeof *count) && !kohiblad_meet(out, bytes, in, size)
         && !kohiblad_meet(count, sizeof *count, in, size);
 }
+static inline uint32_t kohiblad_select(const uint8_t *bytes, size_t size, const uint8_t *path,
+    size_t path_size, size_t depth, struct kohiblad_place *out, size_t room, size_t *count) {
+    if (!kohiblad_are_apart(out, room * sizeof *out, count, bytes, size)
+        || !kohiblad_are_apart(out, room * sizeof *out, count, path, path_size))
+        return KOHIBLAD_OVERLAP;
+    return kohiblad_export_select(kohiblad_in(bytes), size, kohiblad_in(path), path_size, depth,
+        kohiblad_places_out(out), room, count);
+}
 static inline uint32_t kohiblad_index_keys(const uint8_t *bytes, size_t size, size_t depth,
     uint64_t *out, size_t room, size_t *count) {
-    if (!kohiblad_are_keys_apart(out, room, count, bytes, size))
+    if (!kohiblad_are_apart(out, room * sizeof *out, count, bytes, size))
         return KOHIBLAD_OVERLAP;
     return kohiblad_export_index_keys(kohiblad_in(bytes), size, depth, kohiblad_keys_out(out), room,
         count);
 }
 static inline uint32_t kohiblad_top_keys(const uint8_t *bytes, size_t size, size_t depth,
     uint64_t *out, size_t room, size_t *count) {
-    if (!kohiblad_are_keys_apart(out, room, count, bytes, size))
+    if (!kohiblad_are_apart(out, room * sizeof *out, count, bytes, size))
         return KOHIBLAD_OVERLAP;
     return kohiblad_export_top_keys(kohiblad_in(bytes), size, depth, kohiblad_keys_out(out), room,
         count);

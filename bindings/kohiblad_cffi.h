@@ -192,6 +192,12 @@ uint32_t kohiblad_concat(const uint8_t *left, size_t left_size, const uint8_t *r
 uint32_t kohiblad_edit(const uint8_t *bytes, size_t size, const uint8_t *path, size_t path_size,
     uint32_t edit, const uint8_t *value, size_t value_size, size_t depth, uint8_t *out, size_t room,
     size_t *length);
+uint32_t kohiblad_path_of_text(const uint8_t *text, size_t size, uint8_t *out, size_t room,
+    size_t *length);
+struct kohiblad_place kohiblad_get_path(const uint8_t *bytes, size_t size, const uint8_t *path,
+    size_t path_size, size_t depth);
+uint32_t kohiblad_select(const uint8_t *bytes, size_t size, const uint8_t *path, size_t path_size,
+    size_t depth, struct kohiblad_place *out, size_t room, size_t *count);
 uint32_t kohiblad_index_keys(const uint8_t *bytes, size_t size, size_t depth, uint64_t *out,
     size_t room, size_t *count);
 uint32_t kohiblad_top_keys(const uint8_t *bytes, size_t size, size_t depth, uint64_t *out,

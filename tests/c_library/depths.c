@@ -71,6 +71,9 @@ static void *work(void *unused) {
             != KOHIBLAD_INVALID_JSONB;
         status |= kohiblad_edit(in, in_size, in, in_size, KOHIBLAD_REMOVE, NULL, 0, 64, out, room,
                                 &length) != KOHIBLAD_INVALID_JSONB;
+        status |= kohiblad_get_path(in, in_size, in, in_size, 64).status != KOHIBLAD_INVALID_JSONB;
+        status |= kohiblad_select(in, in_size, (const uint8_t *)"$", 1, 64, NULL, 0, &length)
+            != KOHIBLAD_INVALID_JSONB;
         status |= kohiblad_index_keys(in, in_size, 64, NULL, 0, &length) != KOHIBLAD_INVALID_JSONB;
         status |= kohiblad_top_keys(in, in_size, 64, NULL, 0, &length) != KOHIBLAD_INVALID_JSONB;
         status |= kohiblad_kind(in, in_size).status;
@@ -100,6 +103,24 @@ static void *work(void *unused) {
         static const uint8_t null[] = { 0x20, 0, 0, 0, 0, 0, 0, 0 };
         status = kohiblad_edit(in, in_size, path, path_size, KOHIBLAD_PUT, null, sizeof null,
                                levels, out, 0, &length);
+        free(path);
+    } else if (!strcmp(name, "get_path")) {
+        size_t path_size;
+        uint8_t *path = path_of(&path_size);
+        status = kohiblad_get_path(in, in_size, path, path_size, levels).status;
+        free(path);
+    } else if (!strcmp(name, "select")) {
+        /* A path to the innermost value, with wildcards. */
+        bool is_object = in[0] == 0x40;
+        size_t each = is_object ? 2 : 3;
+        char *path = malloc(1 + each * levels);
+        if (!path) abort();
+        path[0] = '$';
+        for (size_t i = 0; i < levels; i++)
+            memcpy(path + 1 + each * i, is_object ? ".*" : "[*]", each);
+        status = kohiblad_select(in, in_size, (const uint8_t *)path, 1 + each * levels, levels,
+                                 NULL, 0, &length);
+        status |= (uint32_t)(length != 1) << 8;
         free(path);
     } else if (!strcmp(name, "index_keys"))
         status = kohiblad_index_keys(in, in_size, levels, NULL, 0, &length);

@@ -497,6 +497,92 @@ static void edit_within(struct block b, struct block other, bool shallow, bool i
     }
 }
 
+/* Texts that are paths without wildcards, with the path as JSON. */
+static const char *const paths[][2] = {
+    { "$", "[]" }, { "$.a", "[\"a\"]" }, { "$.\"a\"", "[\"a\"]" }, { "$[0]", "[0]" },
+    { "$[#-1]", "[-1]" }, { "$.c.d", "[\"c\",\"d\"]" }, { "$[1][1].a", "[1,1,\"a\"]" },
+    { "$.b[#-3]", "[\"b\",-3]" }, { "$.\"\".\"\"", "[\"\",\"\"]" },
+    { "$[007]", "[7]" }, { "$[#-9999999999999999999]", "[-9223372036854775808]" },
+    { "$[99999999999999999999]", "[18446744073709551615]" },
+};
+enum { PATHS = sizeof paths / sizeof *paths };
+
+/* A path as a text, and as the document that is made of it: both lead to the same place. */
+static void path_within(struct block b, bool shallow, size_t depth) {
+    static uint8_t wanted[ROOM], path[ROOM];
+    uint32_t which = below(PATHS);
+    const char *text = paths[which][0], *json = paths[which][1];
+    size_t size, length, count = 9;
+    uint32_t status;
+    struct block t = copy_of(text, strlen(text)), out = make(below(64));
+    assert(!kohiblad_parse((const uint8_t *)json, strlen(json), 1, 0, wanted, ROOM, &size));
+    ANSWER(status, out, length, kohiblad_path_of_text(t.at, t.size, out.at, out.size, &length));
+    assert(length == size && status == (size > out.size ? KOHIBLAD_NO_ROOM : KOHIBLAD_OK));
+    assert(!kohiblad_path_of_text(t.at, t.size, path, ROOM, &length));
+    assert(length == size && !memcmp(path, wanted, size));
+    struct block p = copy_of(path, size);
+    struct kohiblad_place place = kohiblad_get_path(b.at, b.size, p.at, p.size, depth), one;
+    memset(&one, 0, sizeof one);
+    status = kohiblad_select(b.at, b.size, t.at, t.size, depth, &one, 1, &count);
+    if (!shallow || depth < 1) {
+        assert(place.status == KOHIBLAD_INVALID_JSONB);
+        assert(status == (shallow ? KOHIBLAD_OK : KOHIBLAD_INVALID_JSONB));
+    } else if (place.status == KOHIBLAD_OK) {
+        assert(status == KOHIBLAD_OK && count == 1 && !memcmp(&place, &one, sizeof one));
+        assert(place.offset <= b.size && place.length <= b.size - place.offset);
+        if (!strcmp(text, "$.a")) {
+            one = kohiblad_find(b.at, b.size, (const uint8_t *)"a", 1);
+            assert(!memcmp(&place, &one, sizeof one));
+        }
+    } else {
+        assert(place.status == KOHIBLAD_NONE && status == KOHIBLAD_OK && count == 0);
+        assert(place.type == 0 && place.offset == 0 && place.length == 0);
+    }
+    drop(p); drop(out); drop(t);
+}
+
+/* The children of a document are what wildcards select, in order. */
+static void select_within(struct block b, bool shallow, size_t depth,
+                          struct kohiblad_value_kind kind) {
+    enum { MANY = 64, GOOD = 6 };
+    static struct kohiblad_place out[MANY], before[MANY];
+    static const char *const tried[] = { "$[*]", "$.*", "$[1 to #-1]", "$[*][*]", "$.*.*",
+                                         "$[0 to 0].*", "a", "$[", "$.", "$[1 to]", "" };
+    uint32_t which = below(sizeof tried / sizeof *tried);
+    struct block t = copy_of(tried[which], strlen(tried[which]));
+    size_t count = 9, again = 9, room = below(4) ? MANY : below(3);
+    memset(out, 0xA5, sizeof out);
+    memset(before, 0xA5, sizeof before);
+    uint32_t status = kohiblad_select(b.at, b.size, t.at, t.size, depth, out, room, &count);
+    if (status == KOHIBLAD_NO_ROOM) {
+        assert(count > room && !memcmp(out, before, sizeof out));
+        assert(!kohiblad_select(b.at, b.size, t.at, t.size, depth, out, MANY, &again));
+        assert(count == again);
+        status = KOHIBLAD_OK;
+    }
+    if (!shallow) assert(status == KOHIBLAD_INVALID_JSONB);
+    else assert(status == (which < GOOD ? KOHIBLAD_OK : KOHIBLAD_OTHER_KIND));
+    if (status != KOHIBLAD_OK) assert(count == 0);
+    for (size_t i = 0; i < count; i++) {
+        assert(out[i].status == KOHIBLAD_OK);
+        assert(out[i].offset <= b.size && out[i].length <= b.size - out[i].offset);
+        assert(i == 0 || out[i - 1].offset + out[i - 1].length <= out[i].offset);
+    }
+    assert(count == MANY || !memcmp(out + count, before, (MANY - count) * sizeof *out));
+    if (status == KOHIBLAD_OK && which < 3) {
+        uint64_t first = which == 2, wanted = 0;
+        if (which == 1 && kind.kind == KOHIBLAD_OBJECT) first = wanted = kind.count;
+        if (which != 1 && kind.kind == KOHIBLAD_ARRAY)
+            wanted = kind.count < first ? 0 : kind.count - first;
+        assert(count == wanted);
+        for (size_t i = 0; i < count; i++) {
+            struct kohiblad_place part = kohiblad_part(b.at, b.size, first + i);
+            assert(!memcmp(&part, &out[i], sizeof part));
+        }
+    }
+    drop(t);
+}
+
 /* The functions over documents, by their laws. */
 static void answer_functions(struct block b, struct block other, size_t depth, struct block out) {
     bool shallow = kohiblad_check(b.at, b.size, depth);
@@ -535,6 +621,8 @@ static void answer_functions(struct block b, struct block other, size_t depth, s
         assert(status == KOHIBLAD_NO_ROOM);
     }
     edit_within(b, other, shallow, is_other, depth, out);
+    path_within(b, shallow, depth);
+    select_within(b, shallow, depth, kohiblad_kind(b.at, b.size));
 }
 
 int main(int argc, char **argv) {

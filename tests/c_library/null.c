@@ -69,6 +69,19 @@ int main(void) {
            == KOHIBLAD_INVALID_JSONB);
     assert(kohiblad_edit(null, sizeof null, null, sizeof null, KOHIBLAD_REMOVE, NULL, 0, 9, NULL, 0,
                          &length) == KOHIBLAD_OTHER_KIND);
+    assert(kohiblad_path_of_text(NULL, 0, NULL, 0, &length) == KOHIBLAD_OTHER_KIND && length == 0);
+    assert(kohiblad_path_of_text((const uint8_t *)"$", 1, NULL, 0, &length) == KOHIBLAD_NO_ROOM);
+    assert(length == 4);
+    assert(kohiblad_get_path(NULL, 0, NULL, 0, 9).status == KOHIBLAD_INVALID_JSONB);
+    assert(kohiblad_get_path(null, sizeof null, NULL, 0, 9).status == KOHIBLAD_INVALID_JSONB);
+    assert(kohiblad_get_path(null, sizeof null, null, sizeof null, 0).status
+           == KOHIBLAD_OTHER_KIND);
+    assert(kohiblad_select(null, sizeof null, NULL, 0, 0, NULL, 0, &length) == KOHIBLAD_OTHER_KIND);
+    assert(length == 0);
+    assert(kohiblad_select(NULL, 0, NULL, 0, 0, NULL, 0, &length) == KOHIBLAD_INVALID_JSONB);
+    assert(kohiblad_select(null, sizeof null, (const uint8_t *)"$", 1, 0, NULL, 0, &length)
+           == KOHIBLAD_NO_ROOM);
+    assert(length == 1);
     assert(kohiblad_index_keys(null, sizeof null, 0, NULL, 0, &length) == KOHIBLAD_NO_ROOM);
     assert(length == 1);
     assert(kohiblad_top_keys(null, sizeof null, 0, NULL, 0, &length) == KOHIBLAD_OK);
@@ -103,6 +116,13 @@ int main(void) {
     uint64_t keys[8] = { 0 };
     assert(kohiblad_index_keys((uint8_t *)keys, 8, 0, keys, 8, &length) == KOHIBLAD_OVERLAP);
     assert(kohiblad_top_keys(null, 8, 0, keys, 8, (size_t *)keys) == KOHIBLAD_OVERLAP);
+    assert(kohiblad_path_of_text(block, 8, block, 64, &length) == KOHIBLAD_OVERLAP);
+    struct kohiblad_place places[2] = { { 0, 0, 0, 0 }, { 0, 0, 0, 0 } };
+    assert(kohiblad_select((uint8_t *)places, 8, null, 8, 0, places, 2, &length)
+           == KOHIBLAD_OVERLAP);
+    assert(kohiblad_select(null, 8, (uint8_t *)places + 40, 8, 0, places, 2, &length)
+           == KOHIBLAD_OVERLAP);
+    assert(kohiblad_select(null, 8, null, 8, 0, places, 2, (size_t *)places) == KOHIBLAD_OVERLAP);
     assert(kohiblad_build_array_within(block, 8, numbers, 2, 0, block, 64, &length)
            == KOHIBLAD_OVERLAP);
     assert(kohiblad_build_object_within(block, 8, numbers, 2, 0, (uint8_t *)numbers, 8, &length)

@@ -26,15 +26,17 @@ void *__wrap_realloc(void *block, size_t size) {
 
 static const char text[] = "{\"a\":1,\"b\":[true,\"\\u00e9\"],"
                            "\"c\":{\"d\":\"e\",\"f\":-12.5,\"g\":[[],{}]}}";
-enum { ROOM = 1024, CALLS = 31 };
+enum { ROOM = 1024, CALLS = 34 };
 static uint8_t document[ROOM], pairs[ROOM];
 static size_t size, offsets[5], pairs_size, order[4];
 static uint64_t keys[ROOM / 8];
+static struct kohiblad_place places[ROOM / 8];
 static uint8_t path[ROOM];
 static size_t path_size;
 
 static bool takes_memory(int which) {
-    return which < 7 || (which > 13 && which < 21) || (which > 22 && which < 28);
+    return which < 7 || (which > 13 && which < 21) || (which > 22 && which < 28)
+        || (which > 29 && which < 33);
 }
 
 static uint32_t call(int which, uint8_t *out, size_t *length) {
@@ -84,6 +86,15 @@ static uint32_t call(int which, uint8_t *out, size_t *length) {
     case 27: return kohiblad_top_keys(document, size, 8, keys, ROOM / 8, length);
     case 28: return kohiblad_contains(document, size, document, size, 8, SIZE_MAX).status;
     case 29: return kohiblad_exists(document, size, (const uint8_t *)"b", 1, 8).status;
+    case 30: return kohiblad_path_of_text((const uint8_t *)"$.c.g[0]", 8, out, ROOM, length);
+    case 31: {
+        struct kohiblad_place place = kohiblad_get_path(document, size, path, path_size, 8);
+        *length = place.length;
+        return place.status;
+    }
+    case 32:
+        return kohiblad_select(document, size, (const uint8_t *)"$.*", 3, 8, places, ROOM / 8,
+                               length);
     default: return kohiblad_is_canonical(document, size) ? KOHIBLAD_OK : KOHIBLAD_INVALID_JSONB;
     }
 }
@@ -109,6 +120,7 @@ int main(void) {
             memset(out, 0xA5, ROOM);
             memset(order, 0xA5, sizeof order);
             memset(keys, 0xA5, sizeof keys);
+            memset(places, 0xA5, sizeof places);
             left = nth;
             refused = false;
             uint32_t status = call(which, out, &length);
@@ -122,7 +134,7 @@ int main(void) {
             }
             assert(takes_memory(which) && status == KOHIBLAD_OUT_OF_MEMORY);
             assert(!memcmp(out, clean, ROOM) && !memcmp(order, clean, sizeof order));
-            assert(!memcmp(keys, clean, sizeof keys));
+            assert(!memcmp(keys, clean, sizeof keys) && !memcmp(places, clean, ROOM));
             assert(which == 6 || length == 0);
         }
     }

@@ -1,3 +1,4 @@
+pub mod ChildWalkLaws
 pub mod ExponentRules
 pub mod FoundPlaces
 pub mod Lookups
@@ -6,6 +7,8 @@ pub mod NumberLengths
 pub mod Objects
 pub mod Orders
 pub mod PartLaws
+pub mod PathCallLaws
+pub mod PathPlaceLaws
 pub mod PlaceLaws
 pub mod ResultLaws
 pub mod Scalars

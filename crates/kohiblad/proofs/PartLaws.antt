@@ -79,23 +79,23 @@ part_made type p t h fits =
     (subst (λ (n : ℕ). is_entry_type n ≡ true) h.0 (is_type t)) fits
 
 -- entries with the trees that they mean
-record EntryMeans (c : Entry) (t : Tree) : Type 0 where
-  means : IsPayloadOf c.type c.payload t
-  short : length c.payload < 2 ^ 28
+pub record EntryMeans (c : Entry) (t : Tree) : Type 0 where
+  pub means : IsPayloadOf c.type c.payload t
+  pub short : length c.payload < 2 ^ 28
 
-abbrev EntriesMean : List Entry → List Tree → Type 0
+abbrev pub EntriesMean : List Entry → List Tree → Type 0
 EntriesMean [] [] = Unit {0}
 EntriesMean [] (t ∷ ts) = ⊥
 EntriesMean (c ∷ cs) [] = ⊥
 EntriesMean (c ∷ cs) (t ∷ ts) = EntryMeans c t × EntriesMean cs ts
 
 -- an entry of some of these trees
-record IsAmong (ts : List Tree) (nth : ℕ) (c : Entry) : Type 0 where
-  tree : Tree
-  there : slice_get ts nth ≡ Some tree
-  entry : EntryMeans c tree
+pub record IsAmong (ts : List Tree) (nth : ℕ) (c : Entry) : Type 0 where
+  pub tree : Tree
+  pub there : slice_get ts nth ≡ Some tree
+  pub entry : EntryMeans c tree
 
-entry_among : (cs : List Entry) (ts : List Tree) (nth : ℕ) (c : Entry) → EntriesMean cs ts
+pub entry_among : (cs : List Entry) (ts : List Tree) (nth : ℕ) (c : Entry) → EntriesMean cs ts
     → slice_get cs nth ≡ Some c → IsAmong ts nth c
 entry_among [] ts zero c h there = let never : ⊥ = cc in absurd never
 entry_among [] ts (suc nth) c h there = let never : ⊥ = cc in absurd never
@@ -115,7 +115,7 @@ EntriesMean-append (c ∷ cs) ds [] us h k = absurd h
 EntriesMean-append (c ∷ cs) ds (t ∷ ts) us h k =
     (h.0, EntriesMean-append cs ds ts us h.1 k)
 
-EntriesMean-items : (cs : List Entry) (ts : Trees) → AreCodesOf cs ts → AreShort cs
+pub EntriesMean-items : (cs : List Entry) (ts : Trees) → AreCodesOf cs ts → AreShort cs
     → EntriesMean cs (tree_list ts)
 EntriesMean-items [] no_trees h short = tt
 EntriesMean-items [] (tree t ts) h short = let never : ⊥ = cc in absurd never

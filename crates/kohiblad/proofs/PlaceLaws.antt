@@ -28,7 +28,7 @@ use Rattle.jsonb.proofs.StoredEntryLaws.{AreEntries-pairs, HasItems-Payload, Has
 use Rattle.jsonb.proofs.StoredEntryLaws.{first_entry, items_at, members_at}
 use Rattle.jsonb.proofs.StorageLaws.{length-code_entries}
 use Rattle.jsonb.specs.declared.reads.lookup.Place.{Place}
-use Rattle.kohiblad.specs.Places.{start_after, place_at, part_place, item_under, item_place}
+use Rattle.kohiblad.specs.Places.{start_after, place_at, part_place, item_under, place_of_item}
 use Rattle.kohiblad.specs.Places.{member_under, member_places, entry_there, member_there}
 use Rattle.kohiblad.specs.Places.{place_in, place_under, place_among, all_entries}
 use Rattle.kohiblad.specs.Places.{IsItemPlace, IsPartPlace, AreMemberPlaces}
@@ -45,7 +45,7 @@ abbrev pub IsItemAt : List ℕ → Result Place Error → Entry → Type 0
 IsItemAt bytes found entry =
     (place : Place) × ((found ≡ Ok place) × (entry_there bytes place ≡ entry))
 
-place_stored : (bytes : List ℕ) (i j : ℕ) (c : Entry) (cs : List Entry) → AreEntries (c ∷ cs)
+pub place_stored : (bytes : List ℕ) (i j : ℕ) (c : Entry) (cs : List Entry) → AreEntries (c ∷ cs)
     → At bytes i (code_entries (c ∷ cs)) → At bytes j (code_payloads (c ∷ cs))
     → IsItemAt bytes (place_at bytes i j) c
 place_stored bytes i j c cs is a b =
@@ -128,7 +128,7 @@ by_kind P b a o n c d e f (text x) (inr (is, h)) = absurd (omega arith)
 by_kind P b a o n c d e f (extension x) (inr (is, h)) = absurd (omega arith)
 
 item_stored : (b : List ℕ) (ts : Trees) (index : ℕ) → Payload (array ts) b
-    → IsItemPlace b (array ts) index (item_place b index)
+    → IsItemPlace b (array ts) index (place_of_item b index)
 item_stored b ts index h =
     let m = HasItems-Payload b ts h in
     let at = items_at b m.0 m.1.few m.1.written in
@@ -150,14 +150,14 @@ item_stored b ts index h =
       ),
     )
 
-no_item : (b : List ℕ) (t : Tree) (index : ℕ) → Scalar t b → item_place b index ≡ Ok None
+no_item : (b : List ℕ) (t : Tree) (index : ℕ) → Scalar t b → place_of_item b index ≡ Ok None
 no_item b t index h =
     ap (λ (r : Result (ℕ × ℕ) Error). r >>= item_under b index) (header_at-Scalar b t h)
 
-pub item_place_stored : (b : List ℕ) (t : Tree) (index : ℕ) → Doc b t
-    → IsItemPlace b t index (item_place b index)
-item_place_stored b t index =
-    by_kind (λ (u : Tree). IsItemPlace b u index (item_place b index)) b
+pub place_of_item_stored : (b : List ℕ) (t : Tree) (index : ℕ) → Doc b t
+    → IsItemPlace b t index (place_of_item b index)
+place_of_item_stored b t index =
+    by_kind (λ (u : Tree). IsItemPlace b u index (place_of_item b index)) b
     (λ ts h. item_stored b ts index h)
     (λ ps h. ap (λ (r : Result (ℕ × ℕ) Error). r >>= item_under b index) (header_at-object b ps h))
     (no_item b null index) (λ x. no_item b (boolean x) index) (λ x. no_item b (number x) index)

@@ -18,8 +18,10 @@ use Rattle.kohiblad.specs.Places.{start_after, part_start, place_at, part_place,
 use Rattle.kohiblad.specs.Places.{both_places}
 use Rattle.kohiblad.specs.Children.{item_cursor, member_cursor}
 use Rattle.kohiblad.specs.Children.{cursor_under, cursor_at, item_child, member_child}
-use Rattle.kohiblad.specs.Children.{numbered_under, numbered_child, item_there, member_there}
-use Rattle.kohiblad.specs.Children.{child_under, child_at, end_of, cursor_after, value_answer}
+use Rattle.kohiblad.specs.Children.{numbered_under, numbered_child, item_at_cursor}
+use Rattle.kohiblad.specs.Children.{member_at_cursor}
+use Rattle.kohiblad.specs.Children.{child_under, child_at_cursor, end_of, cursor_after}
+use Rattle.kohiblad.specs.Children.{value_answer}
 use Rattle.kohiblad.specs.Status.{code}
 
 -- one entry more
@@ -116,7 +118,7 @@ member_of (Err e) q = refl
 
 module _ (bytes : List ℕ) (i count v : ℕ) (here : part_start bytes count i ≡ Ok v) where
   item_same : (b : Bool)
-      → (if b then Ok None else item_there bytes (record { index = i; key = 0; value = v }))
+      → (if b then Ok None else item_at_cursor bytes (record { index = i; key = 0; value = v }))
       ≡ item_child (if b then Ok None else some_place (part_place bytes count i))
   item_same true = refl
   item_same false =
@@ -140,7 +142,7 @@ module _ (bytes : List ℕ) (i count v : ℕ) (here : part_start bytes count i �
   item_next_of child (Err e) next found = let never : ⊥ = cc in absurd never
 
   item_next : (child : Child) (b : Bool)
-      → (if b then Ok None else item_there bytes (record { index = i; key = 0; value = v }))
+      → (if b then Ok None else item_at_cursor bytes (record { index = i; key = 0; value = v }))
       ≡ Ok (Some child)
       → item_cursor bytes (suc i) count
       ≡ Ok (Some (cursor_after (Ok (Some child)) (record { index = i; key = 0; value = v })))
@@ -153,7 +155,7 @@ module _ (bytes : List ℕ) (i count k v : ℕ) (keys : part_start bytes (2 * co
     (values : part_start bytes (2 * count) (count + i) ≡ Ok v) where
   member_same : (b : Bool)
       → (if b then Ok None
-      else member_there bytes (record { index = i; key = k; value = v }) count)
+      else member_at_cursor bytes (record { index = i; key = k; value = v }) count)
       ≡ member_child (if b then Ok None else both_places bytes count i)
   member_same true = refl
   member_same false =
@@ -186,7 +188,8 @@ module _ (bytes : List ℕ) (i count k v : ℕ) (keys : part_start bytes (2 * co
 
   member_next : (child : Child) (b : Bool)
       → (if b then Ok None
-      else member_there bytes (record { index = i; key = k; value = v }) count) ≡ Ok (Some child)
+      else member_at_cursor bytes (record { index = i; key = k; value = v }) count)
+      ≡ Ok (Some child)
       → member_cursor bytes (suc i) count
       ≡ Ok (Some (cursor_after (Ok (Some child)) (record { index = i; key = k; value = v })))
   member_next child true found = let never : ⊥ = cc in absurd never
@@ -266,11 +269,11 @@ next_by bytes i cursor child (Ok header) is found =
 next_by bytes i cursor child (Err e) is found = let never : ⊥ = cc in absurd never
 
 pub same_child : (bytes : List ℕ) (i : ℕ) (cursor : KohibladCursor)
-    → cursor_at bytes i ≡ Ok (Some cursor) → child_at bytes cursor ≡ numbered_child bytes i
+    → cursor_at bytes i ≡ Ok (Some cursor) → child_at_cursor bytes cursor ≡ numbered_child bytes i
 same_child bytes i cursor is = same_by bytes i cursor (header_at bytes 0) is
 
 pub next_child : (bytes : List ℕ) (i : ℕ) (cursor : KohibladCursor) (child : Child)
-    → cursor_at bytes i ≡ Ok (Some cursor) → child_at bytes cursor ≡ Ok (Some child)
+    → cursor_at bytes i ≡ Ok (Some cursor) → child_at_cursor bytes cursor ≡ Ok (Some child)
     → cursor_at bytes (suc i) ≡ Ok (Some (cursor_after (Ok (Some child)) cursor))
 next_child bytes i cursor child is found = next_by bytes i cursor child (header_at bytes 0) is found
 
@@ -295,11 +298,12 @@ child_found (Err e) is = absurd (no_code e is)
 
 -- the walk's step, by what the call wrote
 pub walked : (bytes : List ℕ) (i : ℕ) (before after : KohibladCursor)
-    → cursor_at bytes i ≡ Ok (Some before) → (value_answer (child_at bytes before)).status ≡ 0
-    → after ≡ cursor_after (child_at bytes before) before
+    → cursor_at bytes i ≡ Ok (Some before)
+    → (value_answer (child_at_cursor bytes before)).status ≡ 0
+    → after ≡ cursor_after (child_at_cursor bytes before) before
     → cursor_at bytes (suc i) ≡ Ok (Some after)
 walked bytes i before after is well moved =
-    let found = child_found (child_at bytes before) well in
+    let found = child_found (child_at_cursor bytes before) well in
     next_child bytes i before found.0 is found.1
     ∙ ap (λ (r : Result (Option Child) Error). Ok (Some (cursor_after r before))) (sym found.1)
     ∙ ap (λ (c : KohibladCursor). Ok (Some c)) (sym moved)

@@ -11,6 +11,7 @@ use Rattle.kohiblad.specs.declared.children.KohibladCursor.{KohibladCursor}
 use Rattle.jsonb.specs.declared.reads.lookup.Place.{Place}
 use Rattle.kohiblad.specs.declared.places.KohibladPlace.{KohibladPlace}
 use Rattle.kohiblad.specs.Places.{part_start, place_at, place_answer, item_under, member_under}
+use Rattle.kohiblad.specs.Places.{IsPlaceIn}
 use Rattle.kohiblad.specs.Status.{code, none}
 
 -- The cursor before the item of an array at an index.
@@ -70,15 +71,15 @@ numbered_child bytes index = header_at bytes 0 >>= numbered_under bytes index
 
 -- The item at any cursor: its entry word is found by the index, its payload by the offset in the
 -- cursor.
-abbrev pub item_there : List ℕ → KohibladCursor → Result (Option Child) Error
-item_there bytes cursor = do
+abbrev pub item_at_cursor : List ℕ → KohibladCursor → Result (Option Child) Error
+item_at_cursor bytes cursor = do
   value ← place_at bytes (4 + 4 * cursor.index) cursor.value
   Ok (Some (record { key = None; value = value }))
 
 -- The member at any cursor: its entry words are found by the index, its payloads by the offsets in
 -- the cursor.
-abbrev pub member_there : List ℕ → KohibladCursor → ℕ → Result (Option Child) Error
-member_there bytes cursor count = do
+abbrev pub member_at_cursor : List ℕ → KohibladCursor → ℕ → Result (Option Child) Error
+member_at_cursor bytes cursor count = do
   key ← place_at bytes (4 + 4 * cursor.index) cursor.key
   value ← place_at bytes (4 + 4 * (count + cursor.index)) cursor.value
   Ok (Some (record { key = Some key; value = value }))
@@ -87,14 +88,14 @@ member_there bytes cursor count = do
 abbrev pub child_under : List ℕ → KohibladCursor → ℕ × ℕ → Result (Option Child) Error
 child_under bytes cursor header =
     if header.0 == ARRAY_CONTAINER_TAG
-    then (if nat_le header.1 cursor.index then Ok None else item_there bytes cursor)
+    then (if nat_le header.1 cursor.index then Ok None else item_at_cursor bytes cursor)
     else if header.0 == OBJECT_CONTAINER_TAG
-    then (if nat_le header.1 cursor.index then Ok None else member_there bytes cursor header.1)
+    then (if nat_le header.1 cursor.index then Ok None else member_at_cursor bytes cursor header.1)
     else Ok None
 
 -- The child at any cursor.
-abbrev pub child_at : List ℕ → KohibladCursor → Result (Option Child) Error
-child_at bytes cursor = header_at bytes 0 >>= child_under bytes cursor
+abbrev pub child_at_cursor : List ℕ → KohibladCursor → Result (Option Child) Error
+child_at_cursor bytes cursor = header_at bytes 0 >>= child_under bytes cursor
 
 -- The offset at which a place ends.
 abbrev pub end_of : Place → ℕ
@@ -120,6 +121,11 @@ abbrev pub CanMove : Result (Option Child) Error → KohibladCursor → Type 0
 CanMove found cursor = IfOk found (λ o. IfSome o (λ child.
     (suc cursor.index < 2 ^ 64)
     × ((key_end child.key 0 < 2 ^ 64) × (end_of child.value < 2 ^ 64))))
+
+-- The places of a child that was found satisfy `IsPlaceIn`.
+abbrev pub IsChildIn : List ℕ → Result (Option Child) Error → Type 0
+IsChildIn bytes found = IfOk found (λ o. IfSome o (λ child.
+    IfSome child.key (IsPlaceIn bytes) × IsPlaceIn bytes child.value))
 
 -- The position of a child's key as C receives it: `NONE` for an array's item.
 abbrev pub key_answer : Result (Option Child) Error → KohibladPlace

@@ -58,13 +58,13 @@ AreKeysWritten keys (other_bytes b) before after size status =
 
 -- What an edit does, by its number and the meaning of the value: 0 puts it, 1 inserts it, 2
 -- removes. Or the status that refuses it.
-abbrev pub operation_of : ℕ → Meaning → Result Operation ℕ
-operation_of zero (document u) = Ok (put u)
-operation_of zero (other_bytes b) = Err (code InvalidJsonb)
-operation_of (suc zero) (document u) = Ok (insert u)
-operation_of (suc zero) (other_bytes b) = Err (code InvalidJsonb)
-operation_of (suc (suc zero)) m = Ok remove
-operation_of (suc (suc (suc n))) m = Err other_kind
+abbrev pub operation_asked : ℕ → Meaning → Result Operation ℕ
+operation_asked zero (document u) = Ok (put u)
+operation_asked zero (other_bytes b) = Err (code InvalidJsonb)
+operation_asked (suc zero) (document u) = Ok (insert u)
+operation_asked (suc zero) (other_bytes b) = Err (code InvalidJsonb)
+operation_asked (suc (suc zero)) m = Ok remove
+operation_asked (suc (suc (suc n))) m = Err other_kind
 
 -- The tree is edited at the end of a path, if there is one, or the edit is refused.
 abbrev pub IsTreeEdited : Tree → Option (List StepView) → Result Operation ℕ → List ℕ → List ℕ → ℕ

@@ -11,4 +11,7 @@ pub mod Children
 pub mod BoundedMeaning
 pub mod Scalars
 pub mod Functions
+pub mod PathPlaces
+pub mod ChildWalks
+pub mod PathCalls
 pub mod Words

@@ -80,8 +80,8 @@ item_under bytes index header =
     if header.0 == ARRAY_CONTAINER_TAG then place_under bytes index header else Ok None
 
 -- The position of an item of an array.
-abbrev pub item_place : List ℕ → ℕ → Result (Option Place) Error
-item_place bytes index = header_at bytes 0 >>= item_under bytes index
+abbrev pub place_of_item : List ℕ → ℕ → Result (Option Place) Error
+place_of_item bytes index = header_at bytes 0 >>= item_under bytes index
 
 -- The positions of an object's key and its value, by index.
 abbrev pub both_places : List ℕ → ℕ → ℕ → Result (Option (Place × Place)) Error

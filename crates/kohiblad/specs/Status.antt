@@ -83,20 +83,20 @@ status_name status =
     else codes "Unknown"
 
 -- The result was copied to the start of the buffer, and the rest is unchanged.
-abbrev pub IsCopied : List ℕ → List ℕ → List ℕ → Type 0
+abbrev pub IsCopied : {A : Type 0} → List A → List A → List A → Type 0
 IsCopied answer before after =
     (length answer ≤ length before) × (after ≡ answer ++ drop (length answer) before)
 
 -- The whole result was copied, or the buffer is too small and unchanged; in any case its length is
 -- stored.
-abbrev pub IsHandedOver : List ℕ → List ℕ → List ℕ → ℕ → ℕ → Type 0
+abbrev pub IsHandedOver : {A : Type 0} → List A → List A → List A → ℕ → ℕ → Type 0
 IsHandedOver answer before after size status =
     (size ≡ length answer)
     × (((status ≡ 0) × IsCopied answer before after)
     ⊎ ((status ≡ no_room) × ((length before < length answer) × (after ≡ before))))
 
 -- Only this status is returned: the buffer is unchanged, and the length is 0.
-abbrev pub IsRefused : ℕ → List ℕ → List ℕ → ℕ → ℕ → Type 0
+abbrev pub IsRefused : {A : Type 0} → ℕ → List A → List A → ℕ → ℕ → Type 0
 IsRefused reason before after size status = (status ≡ reason) × ((size ≡ 0) × (after ≡ before))
 
 -- The bytes are handed over, or the status of the error is returned.

@@ -31,10 +31,11 @@ pub use Rattle.jsonb_comparable.specs.Within.{meaning_within}
 pub use Rattle.jsonb_functions.specs.IndexHash.{tree_hashes}
 pub use Rattle.jsonb_functions.specs.TopKeys.{top_hashes}
 pub use Rattle.kohiblad.specs.BoundedMeaning.{bounded_meaning}
-pub use Rattle.kohiblad.specs.Children.{CanMove, IsBegun, child_at, cursor_after, cursor_at}
+pub use Rattle.kohiblad.specs.Children.{CanMove, IsBegun, IsChildIn, child_at_cursor}
+pub use Rattle.kohiblad.specs.Children.{cursor_after, cursor_at}
 pub use Rattle.kohiblad.specs.Children.{key_answer, numbered_child, value_answer}
 pub use Rattle.kohiblad.specs.Functions.{AreKeysWritten, IsContainedAnswer, IsEdited, JoinsTo}
-pub use Rattle.kohiblad.specs.Functions.{exists_answer, operation_in, operation_of}
+pub use Rattle.kohiblad.specs.Functions.{exists_answer, operation_in, operation_asked}
 pub use Rattle.kohiblad.specs.KindAnswer.{kind_answer}
 pub use Rattle.kohiblad.specs.Output.{IsReadWithin, IsRewritten, IsRewrittenWithin}
 pub use Rattle.kohiblad.specs.Output.{IsWritten, rule_of}
@@ -42,7 +43,7 @@ pub use Rattle.kohiblad.specs.Parts.{IsPartDocument, is_entry_type, is_too_long,
 pub use Rattle.kohiblad.specs.Places.{AreInside, AreMemberPlaces, IsInside, IsItemPlace}
 pub use Rattle.kohiblad.specs.Places.{IsMemberHandedOver, IsPartPlace, IsPlaceFound}
 pub use Rattle.kohiblad.specs.Places.{IsPlaceHandedOver, IsPlaceIn, IsValuePlace, entry_document}
-pub use Rattle.kohiblad.specs.Places.{entry_there, item_place, member_places, part_place}
+pub use Rattle.kohiblad.specs.Places.{entry_there, place_of_item, member_places, part_place}
 pub use Rattle.kohiblad.specs.Places.{part_start, place_answer, place_at, place_in}
 pub use Rattle.kohiblad.specs.Results.{AreWithin, BuildsArray, BuildsObject}
 pub use Rattle.kohiblad.specs.Results.{IsArrayBuilt, IsArrayOfRows, IsArrayOfRowsWithin}

@@ -1,6 +1,6 @@
 //! Results as C receives them: statuses, and bytes copied into the caller's buffer.
 
-ghost use Rattle.std.specs.Prelude.{◌≡◌, ◌+◌, ◌<◌, ◌^◌, length};
+ghost use Rattle.std.specs.Prelude.{◌≡◌, ◌+◌, ◌<◌, ◌^◌, IfErr, IfOk, length};
 ghost use Rattle.kohiblad.specs.Words.{scalar_bytes, code, status_name, IsHandedOver, IsRefused};
 ghost use Rattle.kohiblad.specs.Words.{IsAnswered, bytes_of};
 
@@ -95,9 +95,9 @@ pub fn code(error: Error) -> u32
     }
 }
 
-/// Copies the result to the start of `out` if it fits, and stores its length in bytes. `OK`, or
-/// `NO_ROOM` if `out` is shorter than the result, and then unchanged.
-pub fn hand_over(answer: &[u8], out: &mut [u8], size: &mut usize) -> u32
+/// Copies the result to the start of `out` if it fits, and stores its length. `OK`, or `NO_ROOM` if
+/// `out` is shorter than the result, and then unchanged.
+pub fn hand_over<T: Copy>(answer: &[T], out: &mut [T], size: &mut usize) -> u32
     ensures { IsHandedOver answer.now out.old out.new size.new result }
 {
     *size = answer.len();
@@ -118,8 +118,19 @@ pub fn hand_over_made(made: Result<OwnedJsonb, Error>, out: &mut [u8], size: &mu
     }
 }
 
-/// Returns this status, with the length 0 and no bytes.
-pub fn refuse(status: u32, out: &mut [u8], size: &mut usize) -> u32
+/// Copies out the items that were made, as `hand_over` does, or returns the status of the error.
+pub fn hand_over_items<T: Copy>(made: Result<Vec<T>, Error>, out: &mut [T], size: &mut usize) -> u32
+    ensures ok { IfOk made (λ items. IsHandedOver items.items out.old out.new size.new result) }
+    ensures err { IfErr made (λ e. IsRefused (code e) out.old out.new size.new result) }
+{
+    match made {
+        Ok(items) => hand_over(&items, out, size),
+        Err(error) => refuse(code(error), out, size),
+    }
+}
+
+/// Returns this status, with the length 0, and writes nothing to `out`.
+pub fn refuse<T>(status: u32, out: &mut [T], size: &mut usize) -> u32
     ensures { IsRefused status out.old out.new size.new result }
 {
     *size = 0;

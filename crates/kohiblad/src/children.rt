@@ -1,8 +1,9 @@
 //! The children of an array or object, one after another in one pass.
 
 ghost use Rattle.std.specs.Prelude.{◌≡◌, ℕ, suc, Ok, Some};
-ghost use Rattle.kohiblad.specs.Words.{cursor_at, child_at, numbered_child, key_answer, CanMove};
-ghost use Rattle.kohiblad.specs.Words.{cursor_after, value_answer, IsBegun};
+ghost use Rattle.kohiblad.specs.Words.{cursor_at, child_at_cursor, numbered_child, key_answer};
+ghost use Rattle.kohiblad.specs.Words.{CanMove};
+ghost use Rattle.kohiblad.specs.Words.{cursor_after, value_answer, IsBegun, IsChildIn};
 
 use crate::answer::{NONE, OK, code};
 use crate::places::{KohibladPlace, part_start, place_answer, place_at};
@@ -59,27 +60,27 @@ pub extern "C" fn kohiblad_next(
     key: &mut KohibladPlace,
     value: &mut KohibladPlace,
 ) -> u32
-    ensures key { key.new ≡ key_answer (child_at bytes.now cursor.old) }
-    ensures value { value.new ≡ value_answer (child_at bytes.now cursor.old) }
+    ensures key { key.new ≡ key_answer (child_at_cursor bytes.now cursor.old) }
+    ensures value { value.new ≡ value_answer (child_at_cursor bytes.now cursor.old) }
     ensures status { result ≡ value.new.status }
-    ensures moved { cursor.new ≡ cursor_after (child_at bytes.now cursor.old) cursor.old }
+    ensures moved { cursor.new ≡ cursor_after (child_at_cursor bytes.now cursor.old) cursor.old }
 
     // At a cursor before the child of an index, that child is returned, and the cursor is then
     // before the next one.
     ensures child { (index : ℕ) → cursor_at bytes.now index ≡ Ok (Some cursor.old)
-        → child_at bytes.now cursor.old ≡ numbered_child bytes.now index }
+        → child_at_cursor bytes.now cursor.old ≡ numbered_child bytes.now index }
     ensures walk { (index : ℕ) → cursor_at bytes.now index ≡ Ok (Some cursor.old) → result ≡ 0
         → cursor_at bytes.now (suc index) ≡ Ok (Some cursor.new) }
 {
-    let found = child_at(bytes, *cursor);
+    let found = child_at_cursor(bytes, *cursor);
     *cursor = cursor_after(found, *cursor);
     *key = key_answer(found);
     *value = value_answer(found);
     value.status
 }
 
-// The cursor before the first child. `None` if the bytes are neither an array nor an object.
-fn first_cursor(bytes: &[u8]) -> Result<Option<KohibladCursor>, Error>
+/// The cursor before the first child. `None` if the bytes are neither an array nor an object.
+pub fn first_cursor(bytes: &[u8]) -> Result<Option<KohibladCursor>, Error>
     ensures { result ≡ cursor_at bytes.now 0 }
 {
     match read_header(bytes, 0)? {
@@ -100,10 +101,11 @@ fn first_cursor(bytes: &[u8]) -> Result<Option<KohibladCursor>, Error>
     }
 }
 
-// The child at the cursor. `None` after the last one.
-fn child_at(bytes: &[u8], cursor: KohibladCursor) -> Result<Option<Child>, Error>
-    ensures value { result ≡ child_at bytes.now cursor }
-    ensures inside { CanMove result cursor }
+/// The child at the cursor. `None` after the last one.
+pub fn child_at_cursor(bytes: &[u8], cursor: KohibladCursor) -> Result<Option<Child>, Error>
+    ensures value { result ≡ child_at_cursor bytes.now cursor }
+    ensures moves { CanMove result cursor }
+    ensures inside { IsChildIn bytes.now result }
 {
     let index = cursor.index as usize;
     match read_header(bytes, 0)? {
@@ -123,8 +125,8 @@ fn child_at(bytes: &[u8], cursor: KohibladCursor) -> Result<Option<Child>, Error
     }
 }
 
-// The cursor after a child that was found, or the unchanged cursor if none was.
-fn cursor_after(found: Result<Option<Child>, Error>, cursor: KohibladCursor) -> KohibladCursor
+/// The cursor after a child that was found, or the unchanged cursor if none was.
+pub fn cursor_after(found: Result<Option<Child>, Error>, cursor: KohibladCursor) -> KohibladCursor
     requires { CanMove found cursor }
     ensures { result ≡ cursor_after found cursor }
 {

@@ -1,13 +1,13 @@
 //! What is in documents, joined and edited copies of them, and keys for an index.
 
-ghost use Rattle.std.specs.Prelude.{◌≡◌, [], IsUtf8};
+ghost use Rattle.std.specs.Prelude.{◌≡◌, [], IfErr, IfOk, IsUtf8};
 ghost use Rattle.kohiblad.specs.Words.{AreKeysWritten, Error, IsContainedAnswer, IsEdited};
-ghost use Rattle.kohiblad.specs.Words.{IsHandedOver, IsOneAnswered, IsRefused, JoinsTo, Meaning};
+ghost use Rattle.kohiblad.specs.Words.{IsOneAnswered, JoinsTo, Meaning};
 ghost use Rattle.kohiblad.specs.Words.{bytes_of, checked_meaning, code, document_tree};
 ghost use Rattle.kohiblad.specs.Words.{exists_answer, meaning_within, no_truth, operation_in};
-ghost use Rattle.kohiblad.specs.Words.{operation_of, top_hashes, tree_hashes};
+ghost use Rattle.kohiblad.specs.Words.{operation_asked, top_hashes, tree_hashes};
 
-use crate::answer::{NO_ROOM, OK, OTHER_KIND, TOO_MANY_STEPS, code, hand_over_made, refuse};
+use crate::answer::{OTHER_KIND, TOO_MANY_STEPS, code, hand_over_items, hand_over_made, refuse};
 use crate::values::{KohibladTruth, no_truth, truth_of};
 use jsonb::{Document, Error, OwnedJsonb, RawJsonb};
 use jsonb_comparable::CheckedBytes;
@@ -129,26 +129,23 @@ pub extern "C" fn kohiblad_index_keys(
         out.old out.new count.new result }
 {
     match CheckedBytes::within(RawJsonb::new(bytes), depth) {
-        CheckedBytes::Document(document) => write_index_keys(alloc, document, out, count),
-        CheckedBytes::Other(_) => refuse_keys(code(Error::InvalidJsonb), out, count),
+        CheckedBytes::Document(document) => {
+            let keys = index_keys(alloc, document);
+            hand_over_items(keys, out, count)
+        }
+        CheckedBytes::Other(_) => refuse(code(Error::InvalidJsonb), out, count),
     }
 }
 
-// Copies out the index keys of a document.
-fn write_index_keys(
-    alloc: Global,
-    document: Document<'_>,
-    out: &mut [u64],
-    count: &mut usize,
-) -> u32
-    ensures { AreKeysWritten (tree_hashes []) (Meaning.document (document_tree document.entry))
-        out.old out.new count.new result }
+// The index keys of a document.
+fn index_keys(alloc: Global, document: Document<'_>) -> Result<Vec<u64>, Error>
+    ensures ok { IfOk result (λ keys. keys.items
+        ≡ tree_hashes [] (document_tree document.entry)) }
+    ensures memory { IfErr result (λ e. e ≡ Error.OutOfMemory) }
 {
     let mut keys = Vec::new(alloc);
-    match append_index_keys(document, &mut keys) {
-        Ok(()) => hand_over_keys(&keys, out, count),
-        Err(error) => refuse_keys(code(error), out, count),
-    }
+    append_index_keys(document, &mut keys)?;
+    Ok(keys)
 }
 
 /// Copies the top keys of a document to `out`, and how many they are to `count`: a 64-bit hash of
@@ -171,41 +168,22 @@ pub extern "C" fn kohiblad_top_keys(
         out.old out.new count.new result }
 {
     match CheckedBytes::within(RawJsonb::new(bytes), depth) {
-        CheckedBytes::Document(document) => write_top_keys(alloc, document, out, count),
-        CheckedBytes::Other(_) => refuse_keys(code(Error::InvalidJsonb), out, count),
+        CheckedBytes::Document(document) => {
+            let keys = top_keys(alloc, document);
+            hand_over_items(keys, out, count)
+        }
+        CheckedBytes::Other(_) => refuse(code(Error::InvalidJsonb), out, count),
     }
 }
 
-// Copies out the top keys of a document.
-fn write_top_keys(alloc: Global, document: Document<'_>, out: &mut [u64], count: &mut usize) -> u32
-    ensures { AreKeysWritten top_hashes (Meaning.document (document_tree document.entry))
-        out.old out.new count.new result }
+// The top keys of a document.
+fn top_keys(alloc: Global, document: Document<'_>) -> Result<Vec<u64>, Error>
+    ensures ok { IfOk result (λ keys. keys.items ≡ top_hashes (document_tree document.entry)) }
+    ensures memory { IfErr result (λ e. e ≡ Error.OutOfMemory) }
 {
     let mut keys = Vec::new(alloc);
-    match append_top_keys(document, &mut keys) {
-        Ok(()) => hand_over_keys(&keys, out, count),
-        Err(error) => refuse_keys(code(error), out, count),
-    }
-}
-
-// Copies the keys to the start of `out` if they fit, and stores their number.
-fn hand_over_keys(keys: &[u64], out: &mut [u64], count: &mut usize) -> u32
-    ensures { IsHandedOver keys.now out.old out.new count.new result }
-{
-    *count = keys.len();
-    if out.len() < keys.len() {
-        return NO_ROOM;
-    }
-    out[..keys.len()].copy_from_slice(keys);
-    OK
-}
-
-// Returns this status, with the count 0 and no keys.
-fn refuse_keys(status: u32, out: &mut [u64], count: &mut usize) -> u32
-    ensures { IsRefused status out.old out.new count.new result }
-{
-    *count = 0;
-    status
+    append_top_keys(document, &mut keys)?;
+    Ok(keys)
 }
 
 /// Copies the canonical document of a document that is edited at the end of a path to `out`, and
@@ -234,7 +212,7 @@ pub extern "C" fn kohiblad_edit(
     length: &mut usize,
 ) -> u32
     ensures { IsEdited (meaning_within depth bytes.now) (meaning_within depth path.now)
-        (operation_of edit (meaning_within depth value.now))
+        (operation_asked edit (meaning_within depth value.now))
         out.old out.new length.new result }
 {
     let document = CheckedBytes::within(RawJsonb::new(bytes), depth);
@@ -250,7 +228,7 @@ pub extern "C" fn kohiblad_edit(
 
 // The edit of this number with this value, or the status that refuses it.
 fn edit_of<'a>(number: u32, value: CheckedBytes<'a>) -> Result<Edit<'a>, u32>
-    ensures { operation_in result ≡ operation_of number (checked_meaning value.entry) }
+    ensures { operation_in result ≡ operation_asked number (checked_meaning value.entry) }
 {
     match (number, value) {
         (0, CheckedBytes::Document(value)) => Ok(Edit::Put(value)),

@@ -10,6 +10,8 @@ mod children;
 mod documents;
 mod functions;
 mod key;
+mod path_places;
+mod paths;
 mod places;
 mod rows;
 mod scalar_documents;

@@ -4,7 +4,7 @@ ghost use Rattle.std.specs.Prelude.{◌≡◌, ◌≢◌, ◌+◌, ◌<◌, ◌^
 ghost use Rattle.std.specs.Prelude.{Some, Result, Ok, Err, IfOk, IsUtf8};
 ghost use Rattle.kohiblad.specs.Words.{Error, Place, code, IsAnswered, IsHandedOver, IsRefused};
 ghost use Rattle.kohiblad.specs.Words.{Tree, Doc, IsPayloadOf, IsItemPlace, AreMemberPlaces};
-ghost use Rattle.kohiblad.specs.Words.{part_place, part_start, place_at, place_in, item_place};
+ghost use Rattle.kohiblad.specs.Words.{part_place, part_start, place_at, place_in, place_of_item};
 ghost use Rattle.kohiblad.specs.Words.{IsPlaceFound, IsPlaceIn};
 ghost use Rattle.kohiblad.specs.Words.{IsInside, AreInside, member_places, IsMemberHandedOver};
 ghost use Rattle.kohiblad.specs.Words.{place_answer, entry_there, IsPartPlace, entry_document};
@@ -134,12 +134,12 @@ pub extern "C" fn kohiblad_array_item(
     out: &mut [u8],
     length: &mut usize,
 ) -> u32
-    ensures handed { IsPlaceHandedOver bytes.now (item_place bytes.now index)
+    ensures handed { IsPlaceHandedOver bytes.now (place_of_item bytes.now index)
         out.old out.new length.new result }
     ensures document { (t : Tree) → Doc bytes.now t
-        → IsItemPlace bytes.now t index (item_place bytes.now index) }
+        → IsItemPlace bytes.now t index (place_of_item bytes.now index) }
 {
-    hand_over_item(bytes, item_place(bytes, index), out, length)
+    hand_over_item(bytes, place_of_item(bytes, index), out, length)
 }
 
 /// Copies the key of an object's pair at an index, counted from 0, to `key`, and its value to
@@ -208,10 +208,10 @@ fn member_places(bytes: &[u8], index: usize) -> Result<Option<(Place, Place)>, E
 }
 
 // The position of an item of an array. `None` if there is none.
-fn item_place(bytes: &[u8], index: usize) -> Result<Option<Place>, Error>
-    ensures value { result ≡ item_place bytes.now index }
+fn place_of_item(bytes: &[u8], index: usize) -> Result<Option<Place>, Error>
+    ensures value { result ≡ place_of_item bytes.now index }
     ensures document { (t : Tree) → Doc bytes.now t
-        → IsItemPlace bytes.now t index (item_place bytes.now index) }
+        → IsItemPlace bytes.now t index (place_of_item bytes.now index) }
     ensures inside { IsInside bytes.now result }
 {
     match read_header(bytes, 0)? {

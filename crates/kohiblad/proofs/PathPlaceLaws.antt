@@ -1,0 +1,691 @@
+-- What is at the places to which paths lead in a document.
+use Rattle.std.proofs.Common.{◌≡◌, ◌⊎◌, ℕ, zero, suc, ◌+◌, ◌-◌, ◌*◌, ◌≤◌, ◌==◌, ◌&&◌, nat_le}
+use Rattle.std.proofs.Common.{if◌then◌else◌, nat_lt, min, Bool, true, false, List, [], ◌∷◌, ◌++◌}
+use Rattle.std.proofs.Common.{length}
+use Rattle.std.proofs.Common.{map, flat_map, take, drop, slice_get, Option, None, Some, option_map}
+use Rattle.std.proofs.Common.{Result, Ok, Err, IfSome, refl, sym, ap, subst, ◌∙◌, inl, inr, arith}
+use Rattle.std.proofs.Common.{length-drop}
+use Rattle.std.specs.Prelude.{is_some, option_to_list, nat_eq}
+use Rattle.std.specs.Cmp.Lexicographic.{pointwise}
+use Rattle.std.specs.Map.{keys_of, values_of}
+use Rattle.std.proofs.Math.Bool.{and-false}
+use Rattle.std.proofs.Math.Seq.{take-length}
+use Rattle.std.proofs.lemmas.Bool.{eq-eqb, leb-true, ltb-false, ltb-true}
+use Rattle.std.proofs.lemmas.Bool.Decides.{Decides-eqb}
+use Rattle.std.proofs.lemmas.List.{append-nil, drop-drop, drop-take, length-take, take-take}
+use Rattle.std.proofs.lemmas.List.{take_all}
+use Rattle.std.proofs.lemmas.Slice.Eq.{slice_eq-Decides}
+use Rattle.jsonb_value.specs.declared.error.Error.{Error}
+use Rattle.jsonb_value.specs.declared.error.Error.TheVariants.{InvalidJsonb}
+use Rattle.jsonb_value.specs.Tree.{Tree, null, boolean, number, text, extension, array, object}
+use Rattle.jsonb_value.specs.Tree.{Trees, no_trees, tree, Pairs, no_pairs, pair, count, pair_count}
+use Rattle.jsonb_codec.specs.declared.constants.TheConstants.{ARRAY_CONTAINER_TAG}
+use Rattle.jsonb_codec.specs.declared.constants.TheConstants.{OBJECT_CONTAINER_TAG, CONTAINER_TAG}
+use Rattle.jsonb_codec.specs.declared.jentry.JEntry.{JEntry}
+use Rattle.jsonb_codec.specs.JEntry.{jentry_at}
+use Rattle.jsonb_codec.specs.Doc.{Doc, Payload, Scalar, type_of}
+use Rattle.jsonb_codec.specs.Parts.{IsPayloadOf}
+use Rattle.jsonb_codec.specs.Word.{header_at, word}
+use Rattle.jsonb.specs.Children.{Pairwise}
+use Rattle.jsonb.specs.Item.{Entry}
+use Rattle.jsonb.specs.Node.{items_of, pair_list, tree_list, value_of_key}
+use Rattle.jsonb.specs.Lookup.{find_pair}
+use Rattle.jsonb.specs.Steps.{◌>>=◌}
+use Rattle.jsonb.specs.StoredEntries.{ArePairsOf}
+use Rattle.jsonb.specs.declared.reads.lookup.Place.{Place}
+use Rattle.jsonb.proofs.KindLaws.{At-entry, IsTag-type_of, header_at-Scalar, header_at-array}
+use Rattle.jsonb.proofs.KindLaws.{header_at-object}
+use Rattle.jsonb.proofs.Places.{At, At-after_word, At-left}
+use Rattle.jsonb_functions.specs.Contains.{items_in}
+use Rattle.jsonb_functions.specs.Found.{child_at, found_at, if_there, item_there}
+use Rattle.jsonb_functions.specs.Selected.{between, children_at, items_before, items_through}
+use Rattle.jsonb_functions.specs.Selected.{member_trees, selected}
+use Rattle.jsonb_functions.specs.declared.path.Step.{Step}
+use Rattle.jsonb_functions.specs.declared.path.Step.TheVariants as steps
+use Rattle.jsonb_functions.specs.declared.selection.Selector.{Selector}
+use Rattle.jsonb_functions.specs.declared.selection.Selector.TheVariants as selectors
+use Rattle.jsonb_functions.proofs.SelectLaws.{drop_take}
+use Rattle.kohiblad.specs.declared.children.Child.{Child}
+use Rattle.kohiblad.specs.ChildWalks.{IsWithin}
+use Rattle.kohiblad.specs.Children.{item_child, member_child, numbered_child, numbered_under}
+use Rattle.kohiblad.specs.PathPlaces.{HoldTrees, HoldsFound, HoldsTree, at_place, child_places}
+use Rattle.kohiblad.specs.PathPlaces.{children_from, chosen_children, chosen_items}
+use Rattle.kohiblad.specs.PathPlaces.{chosen_members, chosen_under, first_child, first_place}
+use Rattle.kohiblad.specs.PathPlaces.{has_key, named_child, path_place, path_place_in, place_from}
+use Rattle.kohiblad.specs.PathPlaces.{selected_from, selected_in, selected_places, step_selector}
+use Rattle.kohiblad.specs.PathPlaces.{value_at, whole_place, whole_under}
+use Rattle.kohiblad.specs.Places.{entry_there, is_name, place_of_item, item_under, member_places}
+use Rattle.kohiblad.specs.Places.{member_there, member_under, part_place, part_start, place_at}
+use Rattle.kohiblad.specs.Places.{some_place}
+use Rattle.kohiblad.proofs.PartLaws.{EntriesMean, EntriesMean-items, entry_among}
+use Rattle.kohiblad.proofs.PlaceLaws.{place_of_item_stored, member_places_stored, place_stored}
+
+-- A place that was found does not run past the end.
+module _ (bytes : List ℕ) (place : Place) where
+  within_if : (v n type : ℕ) (b : Bool) → nat_le (v + n) (length bytes) ≡ b
+      → (if b then Ok (record { type_code = type; start = v; length = n }) else Err InvalidJsonb)
+      ≡ Ok place
+      → IsWithin bytes place
+  within_if v n type true fits here =
+      let same : record { type_code = type; start = v; length = n } ≡ place = cc in
+      subst (IsWithin bytes) same (leb-true (v + n) (length bytes) fits)
+  within_if v n type false fits here = let never : ⊥ = cc in absurd never
+
+  within_by : (v : ℕ) (r : Result JEntry Error)
+      → r >>= (λ (e : JEntry). if nat_le (v + e.length) (length bytes)
+      then Ok (record { type_code = e.type_code; start = v; length = e.length })
+      else Err InvalidJsonb) ≡ Ok place
+      → IsWithin bytes place
+  within_by v (Ok e) here = within_if v e.length e.type_code _ refl here
+  within_by v (Err e) here = let never : ⊥ = cc in absurd never
+
+  pub place_within : (i v : ℕ) → place_at bytes i v ≡ Ok place → IsWithin bytes place
+  place_within i v here = within_by v (jentry_at bytes i) here
+
+  pub start_within : (i : ℕ) (r : Result ℕ Error) → r >>= place_at bytes i ≡ Ok place
+      → IsWithin bytes place
+  start_within i (Ok v) here = place_within i v here
+  start_within i (Err e) here = let never : ⊥ = cc in absurd never
+
+-- A child whose value is inside the bytes, and holds the tree.
+abbrev pub Holds : List ℕ → Child → Tree → Type 0
+Holds bytes child t = IsWithin bytes child.value × HoldsTree bytes child.value t
+
+-- The child at an index, if there is one, is related to the element there.
+abbrev pub IsNumbered : {A : Type 0} → List ℕ → (Child → A → Type 0) → List A → ℕ → Type 0
+IsNumbered {A} bytes R xs i =
+    ((child : Child) × ((x : A)
+    × ((numbered_child bytes i ≡ Ok (Some child)) × ((slice_get xs i ≡ Some x) × R child x))))
+    ⊎ ((numbered_child bytes i ≡ Ok None) × (slice_get xs i ≡ None))
+
+module _ {A : Type 0} where
+  taken_there : (xs : List A) (i n : ℕ) (x : A) → slice_get xs i ≡ Some x
+      → x ∷ take n (drop (suc i) xs) ≡ take (suc n) (drop i xs)
+  taken_there [] zero n x there = let never : ⊥ = cc in absurd never
+  taken_there [] (suc i) n x there = let never : ⊥ = cc in absurd never
+  taken_there (y ∷ xs) zero n x there =
+      let same : x ≡ y = cc in ap (λ (z : A). z ∷ take n xs) same
+  taken_there (y ∷ xs) (suc i) n x there = taken_there xs i n x there
+
+  taken_past : (xs : List A) (i n : ℕ) → slice_get xs i ≡ None → [] ≡ take (suc n) (drop i xs)
+  taken_past [] zero n past = refl
+  taken_past [] (suc i) n past = refl
+  taken_past (y ∷ xs) zero n past = let never : ⊥ = cc in absurd never
+  taken_past (y ∷ xs) (suc i) n past = taken_past xs i n past
+
+-- The children from an index on are related to the elements from there on.
+module _ {A : Type 0} (bytes : List ℕ) (R : Child → A → Type 0) (xs : List A)
+    (numbered : (i : ℕ) → IsNumbered bytes R xs i) where
+  more_related : (i n : ℕ) → IsNumbered bytes R xs i
+      → Pairwise R (children_from bytes (suc i) n) (take n (drop (suc i) xs))
+      → Pairwise R (children_from bytes i (suc n)) (take (suc n) (drop i xs))
+  more_related i n (inl (child, (x, (found, (there, related))))) more =
+      subst (Pairwise R (children_from bytes i (suc n))) (taken_there xs i n x there)
+      (subst
+      (λ (r : Result (Option Child) Error). Pairwise R
+      (first_child r (children_from bytes (suc i) n)) (x ∷ take n (drop (suc i) xs)))
+      (sym found) (related, more))
+  more_related i n (inr (none, past)) more =
+      subst (Pairwise R (children_from bytes i (suc n))) (taken_past xs i n past)
+      (subst
+      (λ (r : Result (Option Child) Error). Pairwise R
+      (first_child r (children_from bytes (suc i) n)) [])
+      (sym none) refl)
+
+  pub children_related : (i n : ℕ)
+      → Pairwise R (children_from bytes i n) (take n (drop i xs))
+  children_related i zero = refl
+  children_related i (suc n) = more_related i n (numbered i) (children_related (suc i) n)
+
+-- the children of an array
+module _ (b : List ℕ) (ts : Trees) (h : Payload (array ts) b) (i : ℕ) where
+  item_number : numbered_child b i ≡ item_child (place_of_item b i)
+  item_number =
+      ap (λ (r : Result (ℕ × ℕ) Error). r >>= numbered_under b i) (header_at-array b ts h)
+      ∙ sym (ap (λ (r : Result (ℕ × ℕ) Error). item_child (r >>= item_under b i))
+      (header_at-array b ts h))
+
+  found_within : (place : Place) (past : Bool) (r : Result Place Error)
+      → (r ≡ Ok place → IsWithin b place)
+      → (if past then Ok None else some_place r) ≡ Ok (Some place) → IsWithin b place
+  found_within place true r inside found = let never : ⊥ = cc in absurd never
+  found_within place false (Ok p) inside found =
+      let same : Ok p ≡ Ok place = cc in inside same
+  found_within place false (Err e) inside found = let never : ⊥ = cc in absurd never
+
+  item_within : (place : Place) → place_of_item b i ≡ Ok (Some place) → IsWithin b place
+  item_within place found =
+      found_within place (nat_le (count ts) i) (part_place b (count ts) i)
+      (λ is. start_within b place (4 + 4 * i) (part_start b (count ts) i) is)
+      (sym (ap (λ (r : Result (ℕ × ℕ) Error). r >>= item_under b i) (header_at-array b ts h))
+      ∙ found)
+
+  past_items : (cs : List Entry) (us : List Tree) (k : ℕ) → EntriesMean cs us
+      → slice_get cs k ≡ None → slice_get us k ≡ None
+  past_items [] [] k mean past = refl
+  past_items [] (u ∷ us) k mean past = absurd mean
+  past_items (c ∷ cs) [] k mean past = absurd mean
+  past_items (c ∷ cs) (u ∷ us) zero mean past = let never : ⊥ = cc in absurd never
+  past_items (c ∷ cs) (u ∷ us) (suc k) mean past = past_items cs us k mean.1 past
+
+  item_holds : (cs : List Entry) (o : Option Place) → EntriesMean cs (tree_list ts)
+      → place_of_item b i ≡ Ok o → option_map (entry_there b) o ≡ slice_get cs i
+      → IsNumbered b (Holds b) (tree_list ts) i
+  item_holds cs (Some place) mean found there =
+      let among = entry_among cs (tree_list ts) i (entry_there b place) mean (sym there) in
+      inl (
+        record { key = None; value = place },
+        (
+          among.tree,
+          (
+            item_number ∙ ap item_child found,
+            (among.there, (item_within place found, among.entry.means)),
+          ),
+        ),
+      )
+  item_holds cs None mean found there =
+      inr (
+        item_number ∙ ap item_child found,
+        past_items cs (tree_list ts) i mean (sym there),
+      )
+
+  pub items_numbered : IsNumbered b (Holds b) (tree_list ts) i
+  items_numbered =
+      let (entries, (stored, (o, (found, there)))) =
+      place_of_item_stored b (array ts) i (inr (refl, h)) in
+      item_holds entries o (EntriesMean-items entries ts stored.mean stored.short) found there
+
+-- A child whose key is that of a pair, and whose value holds the pair's tree.
+abbrev pub HoldsPair : List ℕ → Child → List ℕ × Tree → Type 0
+HoldsPair b child p = IfSome child.key (λ key. (entry_there b key).payload ≡ p.0)
+    × (is_some child.key ≡ true) × Holds b child p.1
+
+-- the children of an object
+module _ (b : List ℕ) (ps : Pairs) (h : Payload (object ps) b) (i : ℕ) where
+  member_number : numbered_child b i ≡ member_child (member_places b i)
+  member_number =
+      ap (λ (r : Result (ℕ × ℕ) Error). r >>= numbered_under b i) (header_at-object b ps h)
+      ∙ sym (ap (λ (r : Result (ℕ × ℕ) Error). member_child (r >>= member_under b i))
+      (header_at-object b ps h))
+
+  both_within : (places : Place × Place) (past : Bool) (r q : Result Place Error)
+      → (q ≡ Ok places.1 → IsWithin b places.1)
+      → (if past then Ok None
+      else (r >>= (λ (key : Place). q >>= (λ (value : Place). Ok (Some (key, value))))))
+      ≡ Ok (Some places)
+      → IsWithin b places.1
+  both_within places true r q inside found = let never : ⊥ = cc in absurd never
+  both_within places false (Ok p) (Ok v) inside found =
+      let same : (p, v) ≡ places = cc in
+      inside (ap (λ (x : Place × Place). Ok x.1) same)
+  both_within places false (Ok p) (Err e) inside found = let never : ⊥ = cc in absurd never
+  both_within places false (Err e) q inside found = let never : ⊥ = cc in absurd never
+
+  value_within : (places : Place × Place) → member_places b i ≡ Ok (Some places)
+      → IsWithin b places.1
+  value_within places found =
+      let n = pair_count ps in
+      both_within places (nat_le n i) (part_place b (2 * n) i) (part_place b (2 * n) (n + i))
+      (λ is. start_within b places.1 (4 + 4 * (n + i)) (part_start b (2 * n) (n + i)) is)
+      (sym (ap (λ (r : Result (ℕ × ℕ) Error). r >>= member_under b i) (header_at-object b ps h))
+      ∙ found)
+
+  -- the pair at the index of a member
+  abbrev IsPairAt : Pairs → ℕ → List ℕ × Entry → Type 0
+  IsPairAt qs k m = (t : Tree)
+      × ((slice_get (pair_list qs) k ≡ Some (m.0, t)) × IsPayloadOf m.1.type m.1.payload t)
+
+  pair_at : (ms : List (List ℕ × Entry)) (qs : Pairs) (k : ℕ) (m : List ℕ × Entry)
+      → ArePairsOf (keys_of ms) (values_of ms) qs → slice_get ms k ≡ Some m → IsPairAt qs k m
+  pair_at [] qs zero m mean there = let never : ⊥ = cc in absurd never
+  pair_at [] qs (suc k) m mean there = let never : ⊥ = cc in absurd never
+  pair_at (x ∷ ms) no_pairs k m mean there = absurd mean
+  pair_at (x ∷ ms) (pair l t qs) zero m mean there =
+      let same : x ≡ m = cc in
+      subst (IsPairAt (pair l t qs) 0) same
+      (t, (ap (λ (k : List ℕ). Some (k, t)) (sym mean.0), mean.1.0))
+  pair_at (x ∷ ms) (pair l t qs) (suc k) m mean there = pair_at ms qs k m mean.1.1 there
+
+  past_pairs : (ms : List (List ℕ × Entry)) (qs : Pairs) (k : ℕ)
+      → ArePairsOf (keys_of ms) (values_of ms) qs → slice_get ms k ≡ None
+      → slice_get (pair_list qs) k ≡ None
+  past_pairs [] no_pairs k mean past = refl
+  past_pairs [] (pair l t qs) k mean past = let never : ⊥ = cc in absurd never
+  past_pairs (x ∷ ms) no_pairs k mean past = absurd mean
+  past_pairs (x ∷ ms) (pair l t qs) zero mean past = let never : ⊥ = cc in absurd never
+  past_pairs (x ∷ ms) (pair l t qs) (suc k) mean past = past_pairs ms qs k mean.1.1 past
+
+  member_holds : (ms : List (List ℕ × Entry)) (o : Option (Place × Place))
+      → ArePairsOf (keys_of ms) (values_of ms) ps
+      → member_places b i ≡ Ok o → option_map (member_there b) o ≡ slice_get ms i
+      → IsNumbered b (HoldsPair b) (pair_list ps) i
+  member_holds ms (Some places) mean found there =
+      let (t, (paired, means)) = pair_at ms ps i (member_there b places) mean (sym there) in
+      inl (
+        record { key = Some places.0; value = places.1 },
+        (
+          ((entry_there b places.0).payload, t),
+          (
+            member_number ∙ ap member_child found,
+            (paired, (refl, refl, (value_within places found, means))),
+          ),
+        ),
+      )
+  member_holds ms None mean found there =
+      inr (member_number ∙ ap member_child found, past_pairs ms ps i mean (sym there))
+
+  pub members_numbered : IsNumbered b (HoldsPair b) (pair_list ps) i
+  members_numbered =
+      let (members, (stored, (o, (found, there)))) =
+      member_places_stored b (object ps) i (inr (refl, h)) in
+      member_holds members o stored.mean found there
+
+-- lists of places, children and trees
+Pairwise-append : {A B : Type 0} (R : A → B → Type 0) (xs : List A) (ys : List B) (us : List A)
+    (vs : List B) → Pairwise R xs ys → Pairwise R us vs → Pairwise R (xs ++ us) (ys ++ vs)
+Pairwise-append R [] ys us vs h k =
+    subst (λ zs. Pairwise R us (zs ++ vs)) (sym h) k
+Pairwise-append R (x ∷ xs) [] us vs h k = absurd h
+Pairwise-append R (x ∷ xs) (y ∷ ys) us vs h k =
+    (h.0, Pairwise-append R xs ys us vs h.1 k)
+
+Pairwise-flat_map : {A B C D : Type 0} (R : A → B → Type 0) (S : C → D → Type 0)
+    (f : A → List C) (g : B → List D) (each : (x : A) (y : B) → R x y → Pairwise S (f x) (g y))
+    (xs : List A) (ys : List B) → Pairwise R xs ys
+    → Pairwise S (flat_map f xs) (flat_map g ys)
+Pairwise-flat_map R S f g each [] ys h = ap (flat_map g) h
+Pairwise-flat_map R S f g each (x ∷ xs) [] h = absurd h
+Pairwise-flat_map R S f g each (x ∷ xs) (y ∷ ys) h =
+    Pairwise-append S (f x) (g y) (flat_map f xs) (flat_map g ys) (each x y h.0)
+    (Pairwise-flat_map R S f g each xs ys h.1)
+
+Pairwise-map : {A B C D : Type 0} (R : A → B → Type 0) (S : C → D → Type 0)
+    (f : A → C) (g : B → D) (each : (x : A) (y : B) → R x y → S (f x) (g y))
+    (xs : List A) (ys : List B) → Pairwise R xs ys → Pairwise S (map f xs) (map g ys)
+Pairwise-map R S f g each [] ys h = ap (map g) h
+Pairwise-map R S f g each (x ∷ xs) [] h = absurd h
+Pairwise-map R S f g each (x ∷ xs) (y ∷ ys) h =
+    (each x y h.0, Pairwise-map R S f g each xs ys h.1)
+
+Pairwise-weaker : {A B : Type 0} (R S : A → B → Type 0)
+    (each : (x : A) (y : B) → R x y → S x y) (xs : List A) (ys : List B) → Pairwise R xs ys
+    → Pairwise S xs ys
+Pairwise-weaker R S each [] ys h = h
+Pairwise-weaker R S each (x ∷ xs) [] h = absurd h
+Pairwise-weaker R S each (x ∷ xs) (y ∷ ys) h =
+    (each x y h.0, Pairwise-weaker R S each xs ys h.1)
+
+-- items of an array by their indexes
+length-tree_list : (ts : Trees) → length (tree_list ts) ≡ count ts
+length-tree_list no_trees = refl
+length-tree_list (tree t ts) = ap suc (length-tree_list ts)
+
+one_taken : (xs : List Tree) (m : ℕ) → take 1 (drop m xs) ≡ option_to_list (slice_get xs m)
+one_taken [] zero = refl
+one_taken [] (suc m) = refl
+one_taken (x ∷ xs) zero = refl
+one_taken (x ∷ xs) (suc m) = one_taken xs m
+
+item_taken : (ts : Trees) (m k : ℕ) (there : Bool) → (there ≡ true → k ≡ 1)
+    → (there ≡ false → k ≡ 0)
+    → take k (drop m (tree_list ts)) ≡ option_to_list (item_there (Some (m, there)) ts)
+item_taken ts m k true one none =
+    ap (λ (n : ℕ). take n (drop m (tree_list ts))) (one refl) ∙ one_taken (tree_list ts) m
+item_taken ts m k false one none =
+    ap (λ (n : ℕ). take n (drop m (tree_list ts))) (none refl)
+
+all_taken : (xs : List Tree) (m k : ℕ) → m ≡ 0 → length xs ≤ k → take k (drop m xs) ≡ xs
+all_taken xs m k none all =
+    ap (λ (n : ℕ). take k (drop n xs)) none ∙ take_all k xs all
+
+-- The items of an array to which a selector leads.
+module _ (b : List ℕ) (ts : Trees) (h : Payload (array ts) b) where
+  abbrev items_from : ℕ → ℕ → Type 0
+  items_from m k = Pairwise (Holds b) (children_from b m k) (take k (drop m (tree_list ts)))
+
+  held_from : (m k : ℕ) → items_from m k
+  held_from m k = children_related b (Holds b) (tree_list ts) (items_numbered b ts h) m k
+
+  held_as : (m k : ℕ) (us : List Tree) → take k (drop m (tree_list ts)) ≡ us
+      → Pairwise (Holds b) (children_from b m k) us
+  held_as m k us same = subst (Pairwise (Holds b) (children_from b m k)) same (held_from m k)
+
+  items_held : (s : Selector)
+      → Pairwise (Holds b) (chosen_items s b (count ts)) (children_at s (array ts))
+  items_held (selectors.Key k) = refl
+  items_held (selectors.Index i) =
+      let n = count ts in
+      held_as (min i n) (min (suc i) n - min i n) _
+      (item_taken ts (min i n) (min (suc i) n - min i n) (nat_lt i n)
+      (λ there. let less = ltb-true i n there in omega arith)
+      (λ past. let more = ltb-false i n past in omega arith))
+  items_held (selectors.FromEnd i) =
+      let n = count ts in
+      held_as (n - suc i) (n - i - (n - suc i)) _
+      (item_taken ts (n - suc i) (n - i - (n - suc i)) (nat_lt i n)
+      (λ there. let less = ltb-true i n there in omega arith)
+      (λ past. let more = ltb-false i n past in omega arith))
+  items_held selectors.AllItems =
+      let n = count ts in
+      let all = length-tree_list ts in
+      held_as (min 0 n) (n - 0 - min 0 n) (tree_list ts)
+      (all_taken (tree_list ts) (min 0 n) (n - 0 - min 0 n) (omega arith) (omega arith))
+  items_held selectors.AllMembers = refl
+  items_held (selectors.Range first last) =
+      held_as (items_before first (count ts))
+      (items_through last (count ts) - items_before first (count ts)) _
+      (drop_take (items_before first (count ts)) (items_through last (count ts)) (tree_list ts)
+      ∙ ap (λ (n : ℕ). drop (items_before first n) (take (items_through last n) (tree_list ts)))
+      (sym (length-tree_list ts)))
+
+  pub array_held : (s : Selector)
+      → Pairwise (Holds b) (chosen_children s b) (children_at s (array ts))
+  array_held s =
+      subst (λ (r : Result (ℕ × ℕ) Error). Pairwise (Holds b) (chosen_under s b r)
+      (children_at s (array ts))) (sym (header_at-array b ts h)) (items_held s)
+
+-- The members of an object to which a selector leads.
+nothing_taken : (m n : ℕ) → ◌≡◌ {A = List Tree} (drop m (take n [])) []
+nothing_taken zero zero = refl
+nothing_taken zero (suc n) = refl
+nothing_taken (suc m) zero = refl
+nothing_taken (suc m) (suc n) = refl
+
+all_pairs : (ps : Pairs) → take (pair_count ps) (drop 0 (pair_list ps)) ≡ pair_list ps
+all_pairs no_pairs = refl
+all_pairs (pair k t ps) = ap (λ (qs : List (List ℕ × Tree)). (k, t) ∷ qs) (all_pairs ps)
+
+-- a key that equals the name has its length
+name_by : (name key : List ℕ) (test : Bool) → test ≡ pointwise nat_eq name key
+    → test ≡ ((length key == length name) && pointwise nat_eq name key)
+name_by name key true is =
+    let same : name ≡ key = (slice_eq-Decides Decides-eqb name key true is).0 refl in
+    rw (← is, eq-eqb (length key) (length name) (ap length (sym same))) refl
+name_by name key false is = rw (← is, and-false) refl
+
+name_test : (name key : List ℕ)
+    → is_name name key ≡ ((length key == length name) && pointwise nat_eq name key)
+name_test name key = name_by name key (pointwise nat_eq name key) refl
+
+module _ (b : List ℕ) (name : List ℕ) where
+  named_by : (test : Bool) (child : Child) (t : Tree) (cs : List Child) (o : Option Tree)
+      → Holds b child t → Pairwise (Holds b) cs (option_to_list o)
+      → Pairwise (Holds b) (if test then child ∷ [] else cs)
+      (option_to_list (if test then Some t else o))
+  named_by true child t cs o held more = (held, refl)
+  named_by false child t cs o held more = more
+
+  same_test : (key : Option Place) (l : List ℕ) → is_some key ≡ true
+      → IfSome key (λ place. (entry_there b place).payload ≡ l)
+      → has_key name b key ≡ ((length l == length name) && pointwise nat_eq name l)
+  same_test None l some is = let never : ⊥ = cc in absurd never
+  same_test (Some place) l some is = ap (is_name name) is ∙ name_test name l
+
+  named_held : (cs : List Child) (ps : Pairs) → Pairwise (HoldsPair b) cs (pair_list ps)
+      → Pairwise (Holds b) (named_child name b cs)
+      (option_to_list (find_pair (pointwise nat_eq name) (length name) ps))
+  named_held [] no_pairs h = refl
+  named_held [] (pair l t ps) h = let never : ⊥ = cc in absurd never
+  named_held (c ∷ cs) no_pairs h = absurd h
+  named_held (c ∷ cs) (pair l t ps) h =
+      let test = same_test c.key l h.0.1 h.0.0 in
+      subst (λ (x : Bool). Pairwise (Holds b) (if x then c ∷ [] else named_child name b cs)
+      (option_to_list (find_pair (pointwise nat_eq name) (length name) (pair l t ps)))) (sym test)
+      (named_by ((length l == length name) && pointwise nat_eq name l) c t
+      (named_child name b cs) (find_pair (pointwise nat_eq name) (length name) ps) h.0.2
+      (named_held cs ps h.1))
+
+module _ (b : List ℕ) (ps : Pairs) (h : Payload (object ps) b) where
+  values_held : (cs : List Child) (qs : List (List ℕ × Tree)) → Pairwise (HoldsPair b) cs qs
+      → Pairwise (Holds b) cs (map (λ q. q.1) qs)
+  values_held [] qs held = ap (map (λ q. q.1)) held
+  values_held (c ∷ cs) [] held = absurd held
+  values_held (c ∷ cs) (q ∷ qs) held = (held.0.2, values_held cs qs held.1)
+
+  all_held : Pairwise (HoldsPair b) (children_from b 0 (pair_count ps)) (pair_list ps)
+  all_held =
+      subst (Pairwise (HoldsPair b) (children_from b 0 (pair_count ps))) (all_pairs ps)
+      (children_related b (HoldsPair b) (pair_list ps) (members_numbered b ps h) 0 (pair_count ps))
+
+  members_held : (s : Selector)
+      → Pairwise (Holds b) (chosen_members s b (pair_count ps)) (children_at s (object ps))
+  members_held (selectors.Key k) = named_held b k.now _ ps all_held
+  members_held (selectors.Index i) = refl
+  members_held (selectors.FromEnd i) = refl
+  members_held selectors.AllItems = refl
+  members_held selectors.AllMembers =
+      values_held (children_from b 0 (pair_count ps)) (pair_list ps) all_held
+  members_held (selectors.Range first last) =
+      nothing_taken (items_before first 0) (items_through last 0)
+
+  pub object_held : (s : Selector)
+      → Pairwise (Holds b) (chosen_children s b) (children_at s (object ps))
+  object_held s =
+      subst (λ (r : Result (ℕ × ℕ) Error). Pairwise (Holds b) (chosen_under s b r)
+      (children_at s (object ps))) (sym (header_at-object b ps h)) (members_held s)
+
+-- A place inside the bytes, where the tree is.
+abbrev pub Held : List ℕ → Place → Tree → Type 0
+Held bytes place t = IsWithin bytes place × HoldsTree bytes place t
+
+-- a child of the array or object at a place, as a place in all bytes
+payload_moved : (bytes : List ℕ) (s l c k : ℕ) → c + k ≤ length (take l (drop s bytes))
+    → take k (drop c (take l (drop s bytes))) ≡ take k (drop (s + c) bytes)
+payload_moved bytes s l c k inside =
+    let n = length-take l (drop s bytes) in
+    let whole : l ≡ c + (l - c) = omega arith in
+    ap (λ (m : ℕ). take k (drop c (take m (drop s bytes)))) whole
+    ∙ ap (take k) (drop-take c (l - c) (drop s bytes))
+    ∙ take-take k (l - c) (drop c (drop s bytes)) (omega arith)
+    ∙ ap (take k) (drop-drop c s bytes)
+
+child_moved : (bytes : List ℕ) (place : Place) (child : Child) (t : Tree) → IsWithin bytes place
+    → Holds (entry_there bytes place).payload child t
+    → Held bytes (value_at place.start child) t
+child_moved bytes place child t inside held =
+    let n = length-take place.length (drop place.start bytes) in
+    let m = length-drop place.start bytes in
+    let within = held.0 in (
+      omega arith,
+      (
+        held.1.0,
+        subst (Payload t)
+            (payload_moved bytes place.start place.length child.value.start child.value.length
+            held.0) held.1.1,
+      ),
+    )
+
+-- Nothing is chosen from a scalar.
+none_at : (s : Selector) (t : Tree) → ((step : Step) → child_at step t ≡ None)
+    → items_in t ≡ no_trees → member_trees t ≡ [] → [] ≡ children_at s t
+none_at (selectors.Key k) t none items members = sym (ap option_to_list (none (steps.Key k)))
+none_at (selectors.Index i) t none items members = sym (ap option_to_list (none (steps.Index i)))
+none_at (selectors.FromEnd i) t none items members =
+    sym (ap option_to_list (none (steps.FromEnd i)))
+none_at selectors.AllItems t none items members = sym (ap tree_list items)
+none_at selectors.AllMembers t none items members = sym members
+none_at (selectors.Range first last) t none items members =
+    sym (ap (λ (us : Trees). between first last (tree_list us)) items
+    ∙ nothing_taken (items_before first 0) (items_through last 0))
+
+no_child : (t : Tree) → ((k : List ℕ) → value_of_key k t ≡ None) → items_of t ≡ None
+    → (step : Step) → child_at step t ≡ None
+no_child null keys items (steps.Key k) = refl
+no_child null keys items (steps.Index i) = refl
+no_child null keys items (steps.FromEnd i) = refl
+no_child (boolean x) keys items (steps.Key k) = refl
+no_child (boolean x) keys items (steps.Index i) = refl
+no_child (boolean x) keys items (steps.FromEnd i) = refl
+no_child (number x) keys items (steps.Key k) = refl
+no_child (number x) keys items (steps.Index i) = refl
+no_child (number x) keys items (steps.FromEnd i) = refl
+no_child (text x) keys items (steps.Key k) = refl
+no_child (text x) keys items (steps.Index i) = refl
+no_child (text x) keys items (steps.FromEnd i) = refl
+no_child (extension x) keys items (steps.Key k) = refl
+no_child (extension x) keys items (steps.Index i) = refl
+no_child (extension x) keys items (steps.FromEnd i) = refl
+no_child (array ts) keys items step = let never : ⊥ = cc in absurd never
+no_child (object ps) keys items (steps.Key k) = keys k.now
+no_child (object ps) keys items (steps.Index i) = refl
+no_child (object ps) keys items (steps.FromEnd i) = refl
+
+-- The children to which a selector leads.
+module _ (bytes : List ℕ) (place : Place) (inside : IsWithin bytes place) where
+  chosen_moved : (cs : List Child) (ts : List Tree)
+      → Pairwise (Holds (entry_there bytes place).payload) cs ts
+      → Pairwise (Held bytes) (map (value_at place.start) cs) ts
+  chosen_moved [] ts h = h
+  chosen_moved (c ∷ cs) [] h = absurd h
+  chosen_moved (c ∷ cs) (t ∷ ts) h =
+      (child_moved bytes place c t inside h.0, chosen_moved cs ts h.1)
+
+  container_held : (s : Selector) (t : Tree) → CONTAINER_TAG ≡ place.type_code
+      → Pairwise (Holds (entry_there bytes place).payload)
+      (chosen_children s (entry_there bytes place).payload) (children_at s t)
+      → Pairwise (Held bytes) (child_places s bytes place) (children_at s t)
+  container_held s t is h =
+      let test = eq-eqb place.type_code CONTAINER_TAG (sym is) in
+      subst
+      (λ (b : Bool). Pairwise (Held bytes) (if b then map (value_at place.start)
+      (chosen_children s (entry_there bytes place).payload) else []) (children_at s t)) (sym test)
+      (chosen_moved (chosen_children s (entry_there bytes place).payload) (children_at s t) h)
+
+  scalar_held : (s : Selector) (t : Tree) (type : ℕ) → type ≡ place.type_code
+      → (type == CONTAINER_TAG) ≡ false → [] ≡ children_at s t
+      → Pairwise (Held bytes) (child_places s bytes place) (children_at s t)
+  scalar_held s t type is other none =
+      subst
+      (λ (b : Bool). Pairwise (Held bytes) (if b then map (value_at place.start)
+      (chosen_children s (entry_there bytes place).payload) else []) (children_at s t))
+      (sym (ap (λ (n : ℕ). n == CONTAINER_TAG) (sym is) ∙ other)) (sym none)
+
+  pub step_held : (s : Selector) (t : Tree) → HoldsTree bytes place t
+      → Pairwise (Held bytes) (child_places s bytes place) (children_at s t)
+  step_held s (array ts) h =
+      container_held s (array ts) h.0 (array_held (entry_there bytes place).payload ts h.1 s)
+  step_held s (object ps) h =
+      container_held s (object ps) h.0 (object_held (entry_there bytes place).payload ps h.1 s)
+  step_held s null h =
+      scalar_held s null _ h.0 refl
+      (none_at s null (no_child null (λ k. refl) refl) refl refl)
+  step_held s (boolean true) h =
+      scalar_held s (boolean true) _ h.0 refl
+      (none_at s (boolean true) (no_child (boolean true) (λ k. refl) refl) refl refl)
+  step_held s (boolean false) h =
+      scalar_held s (boolean false) _ h.0 refl
+      (none_at s (boolean false) (no_child (boolean false) (λ k. refl) refl) refl refl)
+  step_held s (number x) h =
+      scalar_held s (number x) _ h.0 refl
+      (none_at s (number x) (no_child (number x) (λ k. refl) refl) refl refl)
+  step_held s (text x) h =
+      scalar_held s (text x) _ h.0 refl
+      (none_at s (text x) (no_child (text x) (λ k. refl) refl) refl refl)
+  step_held s (extension x) h =
+      scalar_held s (extension x) _ h.0 refl
+      (none_at s (extension x) (no_child (extension x) (λ k. refl) refl) refl refl)
+
+-- What is at the places to which a path with wildcards leads.
+pub selected_held : (path : List Selector) (bytes : List ℕ) (place : Place) (t : Tree)
+    → Held bytes place t → Pairwise (Held bytes) (selected_from path bytes place) (selected path t)
+selected_held [] bytes place t held = (held, refl)
+selected_held (s ∷ path) bytes place t held =
+    Pairwise-flat_map (Held bytes) (Held bytes) (λ p. selected_from path bytes p)
+    (λ u. selected path u) (λ p u h. selected_held path bytes p u h)
+    (child_places s bytes place) (children_at s t) (step_held bytes place held.0 s t held.1)
+
+-- What is at the place to which a path leads.
+single_child : (s : Step) (t : Tree)
+    → children_at (step_selector s) t ≡ option_to_list (child_at s t)
+single_child (steps.Key k) t = refl
+single_child (steps.Index i) t = refl
+single_child (steps.FromEnd i) t = refl
+
+first_held : (bytes : List ℕ) (places : List Place) (o : Option Tree)
+    (f : Place → Option Place) (g : Tree → Option Tree)
+    → ((p : Place) (u : Tree) → Held bytes p u → HoldsFound bytes (f p) (g u))
+    → Pairwise (Held bytes) places (option_to_list o)
+    → HoldsFound bytes (at_place (first_place places) f) (if_there o g)
+first_held bytes [] None f g each h = tt
+first_held bytes [] (Some u) f g each h = let never : ⊥ = cc in absurd never
+first_held bytes (p ∷ places) None f g each h = absurd h
+first_held bytes (p ∷ places) (Some u) f g each h = each p u h.0
+
+pub end_held : (path : List Step) (bytes : List ℕ) (place : Place) (t : Tree)
+    → Held bytes place t → HoldsFound bytes (place_from path bytes place) (found_at path t)
+end_held [] bytes place t held = held.1
+end_held (s ∷ path) bytes place t held =
+    first_held bytes (child_places (step_selector s) bytes place) (child_at s t)
+    (λ p. place_from path bytes p) (λ u. found_at path u)
+    (λ p u h. end_held path bytes p u h)
+    (subst (Pairwise (Held bytes) (child_places (step_selector s) bytes place)) (single_child s t)
+    (step_held bytes place held.0 (step_selector s) t held.1))
+
+-- The place of a whole document.
+abbrev IsWhole : List ℕ → Tree → Type 0
+IsWhole bytes t = (place : Place) × ((whole_place bytes ≡ Ok place) × Held bytes place t)
+
+whole_container : (bytes : List ℕ) (t : Tree) (tag n : ℕ) → header_at bytes 0 ≡ Ok (tag, n)
+    → whole_under bytes (Ok (tag, n))
+    ≡ Ok (record { type_code = CONTAINER_TAG; start = 0; length = length bytes })
+    → type_of t ≡ CONTAINER_TAG → Payload t bytes → IsWhole bytes t
+whole_container bytes t tag n header is type means = (
+  record { type_code = CONTAINER_TAG; start = 0; length = length bytes },
+  (
+    ap (whole_under bytes) header ∙ is,
+    (omega arith, (type, subst (Payload t) (sym (take-length bytes)) means)),
+  ),
+)
+
+whole_scalar : (bytes : List ℕ) (t : Tree) → Scalar t bytes → IsWhole bytes t
+whole_scalar bytes t h =
+    let c : Entry = record { type = type_of t; payload = h.payload } in
+    let at = At-entry bytes t h in
+    let entries = subst (At bytes 4) (sym (append-nil _))
+    (At-left bytes 4 (word (type_of t + length h.payload)) h.payload at) in
+    let payloads = subst (At bytes 8) (sym (append-nil _))
+    (At-after_word bytes 4 8 (type_of t + length h.payload) h.payload refl at) in
+    let found = place_stored bytes 4 8 c []
+    (record { tag = IsTag-type_of t; short = h.short }, tt) entries payloads in (
+      found.0,
+      (
+        ap (whole_under bytes) (header_at-Scalar bytes t h) ∙ found.1.0,
+        (
+          place_within bytes found.0 4 8 found.1.0,
+          subst (λ (e : Entry). IsPayloadOf e.type e.payload t) (sym found.1.1) (refl, h.means),
+        ),
+      ),
+    )
+
+whole_held : (bytes : List ℕ) (t : Tree) → Doc bytes t → IsWhole bytes t
+whole_held bytes (array ts) (inr (is, h)) =
+    whole_container bytes (array ts) ARRAY_CONTAINER_TAG (count ts) (header_at-array bytes ts h)
+    refl refl h
+whole_held bytes (object ps) (inr (is, h)) =
+    whole_container bytes (object ps) OBJECT_CONTAINER_TAG (pair_count ps)
+    (header_at-object bytes ps h) refl refl h
+whole_held bytes null (inr (is, h)) = absurd (omega arith)
+whole_held bytes (boolean true) (inr (is, h)) = absurd (omega arith)
+whole_held bytes (boolean false) (inr (is, h)) = absurd (omega arith)
+whole_held bytes (number x) (inr (is, h)) = absurd (omega arith)
+whole_held bytes (text x) (inr (is, h)) = absurd (omega arith)
+whole_held bytes (extension x) (inr (is, h)) = absurd (omega arith)
+whole_held bytes t (inl (other, h)) = whole_scalar bytes t h
+
+-- What the places of a document that a path selects hold, and the place at the end of a path.
+pub places_hold : (bytes : List ℕ) (t : Tree) (path : List Selector) → Doc bytes t
+    → HoldTrees bytes (selected_places path bytes) (selected path t)
+places_hold bytes t path doc =
+    let (place, (is, held)) = whole_held bytes t doc in
+    subst (λ (r : Result Place Error). HoldTrees bytes (selected_in path bytes r) (selected path t))
+    (sym is)
+    (Pairwise-weaker (Held bytes) (HoldsTree bytes) (λ p u h. h.1) (selected_from path bytes place)
+    (selected path t) (selected_held path bytes place t held))
+
+pub place_holds : (bytes : List ℕ) (t : Tree) (path : List Step) → Doc bytes t
+    → HoldsFound bytes (path_place path bytes) (found_at path t)
+place_holds bytes t path doc =
+    let (place, (is, held)) = whole_held bytes t doc in
+    subst
+    (λ (r : Result Place Error). HoldsFound bytes (path_place_in path bytes r) (found_at path t))
+    (sym is) (end_held path bytes place t held)

@@ -1,0 +1,270 @@
+//! The positions of the values to which paths lead.
+
+ghost use Rattle.std.specs.Prelude.{◌≡◌, ◌++◌, ◌<◌, ◌^◌, [], IfErr, IfOk, IfSome, OnOk, Ok, map};
+ghost use Rattle.std.specs.Iterator.{YieldsFirstBy};
+ghost use Rattle.jsonb_codec.specs.Word.{header_at};
+ghost use Rattle.kohiblad.specs.ChildWalks.{IsWithin, children_left, found_child, places_left};
+ghost use Rattle.kohiblad.specs.PathPlaces.{child_places, children_from, chosen_children};
+ghost use Rattle.kohiblad.specs.PathPlaces.{chosen_items, chosen_members, has_key};
+ghost use Rattle.kohiblad.specs.PathPlaces.{items_between, named_child, place_from, selected_from};
+ghost use Rattle.kohiblad.specs.PathPlaces.{step_selector, whole_place};
+ghost use Rattle.kohiblad.specs.PathCalls.{found_answer};
+ghost use Rattle.kohiblad.specs.Words.{CanMove, Error, IsChildIn, IsPlaceIn, child_at_cursor};
+ghost use Rattle.kohiblad.specs.Words.{entry_there};
+
+use crate::children::{Child, KohibladCursor, child_at_cursor, cursor_after, first_cursor};
+use crate::places::{KohibladPlace, part_start, place_answer, place_at};
+use jsonb::{Error, Place, read_header};
+use jsonb_codec::constants::{ARRAY_CONTAINER_TAG, CONTAINER_TAG, OBJECT_CONTAINER_TAG};
+use jsonb_functions::{Bound, Selector, Step, count_before, count_through};
+
+/// What is left in a walk over children: so many at most, from a cursor on.
+#[derive(Clone, Copy)]
+pub struct ChildWalk {
+    pub cursor: KohibladCursor,
+    pub left: usize,
+}
+
+/// The position of the whole array or object, or of the payload of a scalar. `InvalidEOF` if the
+/// header or a scalar's entry word is cut off, `InvalidJsonb` if the header is of no kind or the
+/// payload runs past the end.
+pub fn whole_place(bytes: &[u8]) -> Result<Place, Error>
+    ensures value { result ≡ whole_place bytes.now }
+    ensures inside { IfOk result (IsWithin bytes.now) }
+{
+    match read_header(bytes, 0)? {
+        (ARRAY_CONTAINER_TAG | OBJECT_CONTAINER_TAG, _) => Ok(Place {
+            type_code: CONTAINER_TAG,
+            start: 0,
+            length: bytes.len(),
+        }),
+        _ => place_at(bytes, 4, 8),
+    }
+}
+
+/// Appends the positions of the values to which a path leads from a position, in the order in which
+/// they are stored. `OutOfMemory` is the only error.
+pub fn append_selected(
+    bytes: &[u8],
+    place: Place,
+    path: &[Selector<'_>],
+    found: &mut Vec<KohibladPlace>,
+) -> Result<(), Error>
+    requires { IsWithin bytes.now place }
+    ensures appended { OnOk result (found.new.items
+        ≡ found.old.items ++ map found_answer (selected_from path.now bytes.now place)) }
+    ensures memory { IfErr result (λ e. e ≡ Error.OutOfMemory) }
+{
+    let [selector, rest @ ..] = path else {
+        found.push(place_answer(Ok(Some(place))))?;
+        return Ok(());
+    };
+    let mut walk = walk_from(bytes, place, *selector);
+    while let Some(child) = next_place(bytes, place, &mut walk) {
+        append_selected(bytes, child, rest, found)?;
+    }
+    Ok(())
+}
+
+/// The position to which a path leads from a position. `None` if the path leads nowhere.
+pub fn place_at_end(bytes: &[u8], from: Place, path: &[Step<'_>]) -> Option<Place>
+    requires { IsWithin bytes.now from }
+    ensures { result ≡ place_from path.now bytes.now from }
+{
+    let mut place = from;
+    let mut left = path;
+    while let [step, rest @ ..] = left {
+        let mut walk = walk_from(bytes, place, selector_of(*step));
+        place = next_place(bytes, place, &mut walk)?;
+        left = rest;
+    }
+    Some(place)
+}
+
+// A step as one of a path with wildcards.
+fn selector_of<'a>(step: Step<'a>) -> Selector<'a>
+    ensures { result ≡ step_selector step.entry }
+{
+    match step {
+        Step::Key(name) => Selector::Key(name),
+        Step::Index(index) => Selector::Index(index),
+        Step::FromEnd(index) => Selector::FromEnd(index),
+    }
+}
+
+// The children to which a selector leads from a position.
+fn walk_from(bytes: &[u8], place: Place, selector: Selector<'_>) -> ChildWalk
+    requires { IsWithin bytes.now place }
+    ensures { places_left bytes.now place result ≡ child_places selector.entry bytes.now place }
+{
+    if place.type_code == CONTAINER_TAG {
+        chosen_children(bytes_at(bytes, place), selector)
+    } else {
+        no_children()
+    }
+}
+
+// The position of the next child's value, in a walk over the children at a position.
+fn next_place(bytes: &[u8], place: Place, walk: &mut ChildWalk) -> Option<Place>
+    requires { IsWithin bytes.now place }
+    ensures steps { YieldsFirstBy (λ it. it) (places_left bytes.now place)
+        walk.old result walk.new }
+    ensures inside { IfSome result (IsWithin bytes.now) }
+{
+    if walk.left == 0 {
+        return None;
+    }
+    let Some(child) = found_child(bytes_at(bytes, place), walk.cursor) else {
+        walk.left = 0;
+        return None;
+    };
+    walk.cursor = cursor_after(Ok(Some(child)), walk.cursor);
+    walk.left -= 1;
+    Some(Place {
+        type_code: child.value.type_code,
+        start: place.start + child.value.start,
+        length: child.value.length,
+    })
+}
+
+// The payload at a position.
+fn bytes_at(bytes: &[u8], place: Place) -> &[u8]
+    requires { IsWithin bytes.now place }
+    ensures { result.now ≡ (entry_there bytes.now place).payload }
+{
+    &bytes[place.start..place.start + place.length]
+}
+
+// The child at the cursor. `None` after the last one, and if none can be read.
+fn found_child(bytes: &[u8], cursor: KohibladCursor) -> Option<Child>
+    ensures value { result ≡ found_child (child_at_cursor bytes.now cursor) }
+    ensures moves { CanMove (Ok result) cursor }
+    ensures inside { IsChildIn bytes.now (Ok result) }
+{
+    match child_at_cursor(bytes, cursor) {
+        Ok(child) => child,
+        Err(_) => None,
+    }
+}
+
+// A walk over no children.
+fn no_children() -> ChildWalk
+    ensures { result.left ≡ 0 }
+{
+    ChildWalk {
+        cursor: KohibladCursor {
+            index: 0,
+            key: 0,
+            value: 0,
+        },
+        left: 0,
+    }
+}
+
+// The children of an array or object to which a selector leads.
+fn chosen_children(bytes: &[u8], selector: Selector<'_>) -> ChildWalk
+    ensures { children_left bytes.now result ≡ chosen_children selector.entry bytes.now }
+{
+    match read_header(bytes, 0) {
+        Ok((ARRAY_CONTAINER_TAG, count)) => chosen_items(bytes, count, selector),
+        Ok((OBJECT_CONTAINER_TAG, count)) => chosen_members(bytes, count, selector),
+        _ => no_children(),
+    }
+}
+
+// The items of an array to which a selector leads.
+fn chosen_items(bytes: &[u8], count: usize, selector: Selector<'_>) -> ChildWalk
+    requires header { header_at bytes.now 0 ≡ Ok (ARRAY_CONTAINER_TAG, count) }
+    requires few { count < 2 ^ 29 }
+    ensures { children_left bytes.now result ≡ chosen_items selector.entry bytes.now count }
+{
+    let (first, last) = match selector {
+        Selector::Index(index) => (Bound::FromStart(index), Bound::FromStart(index)),
+        Selector::FromEnd(index) => (Bound::FromEnd(index), Bound::FromEnd(index)),
+        Selector::AllItems => (Bound::FromStart(0), Bound::FromEnd(0)),
+        Selector::Range { first, last } => (first, last),
+        Selector::Key(_) | Selector::AllMembers => return no_children(),
+    };
+    items_between(bytes, count, first, last)
+}
+
+// The items of an array between two bounds.
+fn items_between(bytes: &[u8], count: usize, first: Bound, last: Bound) -> ChildWalk
+    requires header { header_at bytes.now 0 ≡ Ok (ARRAY_CONTAINER_TAG, count) }
+    requires few { count < 2 ^ 29 }
+    ensures { children_left bytes.now result ≡ items_between bytes.now count first last }
+{
+    let before = count_before(first, count);
+    let through = count_through(last, count);
+    match part_start(bytes, count, before) {
+        Ok(value) => ChildWalk {
+            cursor: KohibladCursor {
+                index: before as u64,
+                key: 0,
+                value: value as u64,
+            },
+            left: through.saturating_sub(before),
+        },
+        Err(_) => no_children(),
+    }
+}
+
+// The members of an object to which a selector leads.
+fn chosen_members(bytes: &[u8], count: usize, selector: Selector<'_>) -> ChildWalk
+    requires { header_at bytes.now 0 ≡ Ok (OBJECT_CONTAINER_TAG, count) }
+    ensures { children_left bytes.now result ≡ chosen_members selector.entry bytes.now count }
+{
+    match selector {
+        Selector::Key(name) => named_member(bytes, count, name),
+        Selector::AllMembers => all_members(bytes, count),
+        _ => no_children(),
+    }
+}
+
+// The members of an object.
+fn all_members(bytes: &[u8], count: usize) -> ChildWalk
+    requires { header_at bytes.now 0 ≡ Ok (OBJECT_CONTAINER_TAG, count) }
+    ensures { children_left bytes.now result ≡ children_from bytes.now 0 count }
+{
+    match first_cursor(bytes) {
+        Ok(Some(cursor)) => ChildWalk {
+            cursor,
+            left: count,
+        },
+        _ => no_children(),
+    }
+}
+
+// The member of an object that has this key, if it has one.
+fn named_member(bytes: &[u8], count: usize, name: &str) -> ChildWalk
+    requires { header_at bytes.now 0 ≡ Ok (OBJECT_CONTAINER_TAG, count) }
+    ensures { children_left bytes.now result
+        ≡ named_child name.now bytes.now (children_from bytes.now 0 count) }
+{
+    let mut walk = all_members(bytes, count);
+    while walk.left > 0 {
+        let Some(child) = found_child(bytes, walk.cursor) else {
+            return no_children();
+        };
+        if has_key(bytes, child.key, name) {
+            return ChildWalk {
+                cursor: walk.cursor,
+                left: 1,
+            };
+        }
+        walk.cursor = cursor_after(Ok(Some(child)), walk.cursor);
+        walk.left -= 1;
+    }
+    walk
+}
+
+// Whether there is a key, and it is this name.
+fn has_key(bytes: &[u8], key: Option<Place>, name: &str) -> bool
+    requires { IfSome key (IsPlaceIn bytes.now) }
+    ensures { result ≡ has_key name.now bytes.now key }
+{
+    match key {
+        Some(key) => name.as_bytes() == &bytes[key.start..key.start + key.length],
+        None => false,
+    }
+}

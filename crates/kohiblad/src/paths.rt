@@ -1,0 +1,182 @@
+//! Paths as texts, and the positions of the values to which paths lead.
+
+ghost use Rattle.std.specs.Prelude.{◌≡◌, ◌↔◌, IfErr, IfOk, List, Some, map, option_map};
+ghost use Rattle.jsonb_functions.specs.Found.{found_at};
+ghost use Rattle.jsonb_functions.specs.Selected.{selected};
+ghost use Rattle.jsonb_functions.specs.StoredPath.{StepView, step_view};
+ghost use Rattle.jsonb_functions.specs.declared.path.Step.{Step as PathStep};
+ghost use Rattle.jsonb_functions.specs.declared.selection.Selector.{Selector as PathSelector};
+ghost use Rattle.kohiblad.specs.PathCalls.{AreSelectedWithin, AreTextPlaces, GivesSteps};
+ghost use Rattle.kohiblad.specs.PathCalls.{IsPathPlace, IsPathPlaceWithin, IsPathTextRead};
+ghost use Rattle.kohiblad.specs.PathCalls.{IsPathWritten, found_answer};
+ghost use Rattle.kohiblad.specs.PathPlaces.{HoldTrees, HoldsFound, path_place, selected_places};
+ghost use Rattle.kohiblad.specs.Words.{Doc, Error, Meaning, Tree, document_tree, meaning_within};
+
+use crate::answer::{OTHER_KIND, code, hand_over_items, hand_over_made, refuse};
+use crate::path_places::{append_selected, place_at_end, whole_place};
+use crate::places::{KohibladPlace, no_place, place_answer};
+use jsonb::{Document, Error, RawJsonb, is_document_within};
+use jsonb_comparable::CheckedBytes;
+use jsonb_functions::{Selector, Step, document_of_path, read_path, read_path_text, steps_of_path};
+use std::alloc::Global;
+use std::str;
+
+/// Copies the document of the path that a text gives to `out`, and its length in bytes to `length`.
+/// The text is `$`, and then the steps: `.name` is the value of a key, and so is `."any name"`, if
+/// there are points or brackets in it; `[7]` is an item, `[#-1]` the last one, and `[#]` none, past
+/// the last one. The keys are the text's bytes, without escapes. The document is what
+/// `kohiblad_edit` and `kohiblad_get_path` take: an array with a text for each key and a whole
+/// number for each item, where -1 is the last one. An index past 2^64 - 1 is stored as that, and
+/// one from the end past 2^63 as -2^63. `InvalidUtf8` if the text is not UTF-8; `OTHER_KIND` if it
+/// is not a path, or one with wildcards or ranges; `InvalidJsonb` if a key has 2^28 bytes or more,
+/// or the path 2^29 steps or more; `OutOfMemory` if an allocation fails; `NO_ROOM` if `out` is
+/// shorter than the document. If the status is not `OK`, `out` is unchanged, and `length` is 0, or
+/// for `NO_ROOM` the length of the document.
+#[unsafe(no_mangle)]
+pub extern "C" fn kohiblad_path_of_text(
+    alloc: Global,
+    text: &[u8],
+    out: &mut [u8],
+    length: &mut usize,
+) -> u32
+    ensures { IsPathWritten text.now out.old out.new length.new result }
+{
+    match str::from_utf8(text) {
+        Ok(text) => write_path(alloc, text, out, length),
+        Err(_) => refuse(code(Error::InvalidUtf8), out, length),
+    }
+}
+
+// Copies out the document of the path that a text gives.
+fn write_path(alloc: Global, text: &str, out: &mut [u8], length: &mut usize) -> u32
+    ensures { IsPathTextRead text.now out.old out.new length.new result }
+{
+    match steps_of_text(alloc, text) {
+        Ok(Some(steps)) => hand_over_made(document_of_path(alloc, &steps), out, length),
+        Ok(None) => refuse(OTHER_KIND, out, length),
+        Err(error) => refuse(code(error), out, length),
+    }
+}
+
+// The steps that a text gives. `None` if it is not a path without wildcards and ranges.
+fn steps_of_text<'a>(alloc: Global, text: &'a str) -> Result<Option<Vec<Step<'a>>>, Error>
+    ensures ok { IfOk result (λ steps. (path : List StepView) → GivesSteps text.now path
+        ↔ (option_map (λ steps. map step_view steps.items) steps ≡ Some path)) }
+    ensures memory { IfErr result (λ e. e ≡ Error.OutOfMemory) }
+{
+    match read_path_text(alloc, text)? {
+        Some(path) => steps_of_path(alloc, &path),
+        None => Ok(None),
+    }
+}
+
+/// The position of the value at the end of a path. `path` is the document of an array: a text is
+/// the key of a member, and a whole number the index of an item, counted from 0, or from -1 at the
+/// end. At the end of an empty path is the whole value: all bytes of an array or object, and the
+/// payload of a scalar. `NONE` if the path leads nowhere; `InvalidJsonb` if the bytes or the path
+/// are not a document of at most this depth; `OTHER_KIND` if the path is not an array of texts and
+/// whole numbers of 64 bits; `OutOfMemory` if an allocation fails. If the status is not `OK`, type,
+/// offset and length are 0. A scalar has depth 0, an array or object one more than its deepest
+/// child, and at least 1. Deeper levels are not examined.
+#[unsafe(no_mangle)]
+pub extern "C" fn kohiblad_get_path(
+    alloc: Global,
+    bytes: &[u8],
+    path: &[u8],
+    depth: usize,
+) -> KohibladPlace
+    ensures place { IsPathPlaceWithin depth bytes.now (meaning_within depth path.now) result }
+
+    // In a document the value at that position is the one at the end of the path.
+    ensures document { (t : Tree) (steps : List PathStep) → Doc bytes.now t
+        → HoldsFound bytes.now (path_place steps bytes.now) (found_at steps t) }
+{
+    if !is_document_within(bytes, depth) {
+        return no_place(code(Error::InvalidJsonb));
+    }
+    match CheckedBytes::within(RawJsonb::new(path), depth) {
+        CheckedBytes::Document(path) => path_place(alloc, bytes, path),
+        CheckedBytes::Other(_) => no_place(code(Error::InvalidJsonb)),
+    }
+}
+
+// The position at the end of the path that a document gives, as C receives it.
+fn path_place(alloc: Global, bytes: &[u8], path: Document<'_>) -> KohibladPlace
+    ensures { IsPathPlace bytes.now (Meaning.document (document_tree path.entry)) result }
+{
+    match read_path(alloc, path) {
+        Ok(Some(steps)) => match whole_place(bytes) {
+            Ok(whole) => place_answer(Ok(place_at_end(bytes, whole, &steps))),
+            Err(_) => place_answer(Ok(None)),
+        },
+        Ok(None) => no_place(OTHER_KIND),
+        Err(error) => no_place(code(error)),
+    }
+}
+
+/// Copies the positions of the values that a path selects to `out`, in the order in which they are
+/// stored, and how many they are to `count`. The path is a text as `kohiblad_path_of_text` reads
+/// it, in which `[*]` is each item of an array, `[0 to #-2]` the items from one to another, and
+/// `.*` each member's value of an object. `InvalidUtf8` if the text is not UTF-8; `InvalidJsonb` if
+/// the bytes are not a document of at most this depth; `OTHER_KIND` if the text is not a path;
+/// `OutOfMemory` if an allocation fails; `NO_ROOM` if `out` is too short. If the status is not
+/// `OK`, `out` is unchanged, and `count` is 0, or for `NO_ROOM` the number of positions. A scalar
+/// has depth 0, an array or object one more than its deepest child, and at least 1. Deeper levels
+/// are not examined.
+#[unsafe(no_mangle)]
+pub extern "C" fn kohiblad_select(
+    alloc: Global,
+    bytes: &[u8],
+    path: &[u8],
+    depth: usize,
+    out: &mut [KohibladPlace],
+    count: &mut usize,
+) -> u32
+    ensures places { AreSelectedWithin depth bytes.now path.now out.old out.new count.new result }
+
+    // In a document the values at these positions are those that the path selects.
+    ensures document { (t : Tree) (path : List PathSelector) → Doc bytes.now t
+        → HoldTrees bytes.now (selected_places path bytes.now) (selected path t) }
+{
+    let Ok(path) = str::from_utf8(path) else {
+        return refuse(code(Error::InvalidUtf8), out, count);
+    };
+    if !is_document_within(bytes, depth) {
+        return refuse(code(Error::InvalidJsonb), out, count);
+    }
+    write_selected(alloc, bytes, path, out, count)
+}
+
+// Copies out the positions of the values that a path selects.
+fn write_selected(
+    alloc: Global,
+    bytes: &[u8],
+    path: &str,
+    out: &mut [KohibladPlace],
+    count: &mut usize,
+) -> u32
+    ensures { AreTextPlaces bytes.now path.now out.old out.new count.new result }
+{
+    match read_path_text(alloc, path) {
+        Ok(Some(path)) => hand_over_items(selected_places(alloc, bytes, &path), out, count),
+        Ok(None) => refuse(OTHER_KIND, out, count),
+        Err(error) => refuse(code(error), out, count),
+    }
+}
+
+// The positions of the values that a path selects.
+fn selected_places(
+    alloc: Global,
+    bytes: &[u8],
+    path: &[Selector<'_>],
+) -> Result<Vec<KohibladPlace>, Error>
+    ensures ok { IfOk result (λ found. found.items
+        ≡ map found_answer (selected_places path.now bytes.now)) }
+    ensures memory { IfErr result (λ e. e ≡ Error.OutOfMemory) }
+{
+    let mut found = Vec::new(alloc);
+    if let Ok(whole) = whole_place(bytes) {
+        append_selected(bytes, whole, path, &mut found)?;
+    }
+    Ok(found)
+}
