@@ -183,7 +183,7 @@ member_split IsKey x m left keyed fewer first ss h =
       ),
     )
 
--- What is no pair of objects becomes an array.
+-- What is not a pair of objects becomes an array.
 pub other_joined : (t u : Tree) → IsNoObject t → joined t u
     ≡ array (append_trees (items_or_one t) (items_or_one u))
 other_joined (object ps) u h = absurd h

@@ -107,7 +107,7 @@ no_text_in (extension x) e = refl
 no_text_in (array ts) e = refl
 no_text_in (object ps) e = refl
 
--- A value that is no text has no hash.
+-- A value that is not a text has no hash.
 pub no_text : (node : Node) → ((s : Bor (List ℕ)) → node ≡ nodes.String s → ⊥)
     → HoldsNoScalar node → [] ≡ text_hashes (node_tree node)
 no_text nodes.Null h c = refl

@@ -177,7 +177,7 @@ fn count_merged(first: Members<'_>, second: Members<'_>) -> usize
     count
 }
 
-// The values of an array, or the one value that is no array.
+// The values of an array, or the one value that is not an array.
 fn run_of<'a>(part: Part<'a>) -> Run<'a>
     ensures { (t : Tree) → Means part.entry t → RunIs result (items_or_one t) }
 {
@@ -262,8 +262,8 @@ fn both_runs<'a>(left: Part<'a>, right: Part<'a>) -> JoinedItems<'a>
 
 /// The canonical document of two documents' values put together: two objects become one, in which
 /// the second's values stay; everything else becomes an array of both sides' items, where a value
-/// that is no array is one item. `InvalidJsonb`, before any allocation, if there is none;
-/// `OutOfMemory` if an allocation fails.
+/// that is not an array is one item. `InvalidJsonb`, before any allocation, if the joined value
+/// does not fit the format; `OutOfMemory` if an allocation fails.
 pub fn concat(alloc: Global, left: Document<'_>, right: Document<'_>) -> Result<OwnedJsonb, Error>
     ensures ok { IfOk result (λ owned. owned_bytes owned
         ≡ canon (joined (document_tree left.entry) (document_tree right.entry))) }

@@ -8,9 +8,9 @@ ghost use Rattle.jsonb_functions.specs.Words.{path_in, path_tree, stored_step, t
 ghost use Rattle.jsonb_functions.specs.Words.{tree_hashes};
 
 /// The index keys of what a document contains are among those of the document, so an index that
-/// looks for documents by these keys misses none that contains what is asked for. `exists` says the
-/// same of the keys that `append_top_keys` appends: if a key exists in a document, its hash is
-/// there. `documents` says that these are laws of the trees of all documents.
+/// looks for documents by the keys of another document misses none that contains it. `exists` says
+/// the same of the keys that `append_top_keys` appends: if a key exists in a document, its hash is
+/// among them. `documents` says that these are laws of the trees of all documents.
 pub fn index_key_laws()
     ensures contained { (t u : Tree) → IsTree t → IsTree u → contains_whole t u ≡ true
         → AreAmong (tree_hashes [] u) (tree_hashes [] t) }
