@@ -1,8 +1,8 @@
 -- What parts, items and members are written as when a document is edited.
 use Rattle.std.proofs.Common.{◌≡◌, ◌≤◌, ◌<◌, ◌/◌, ℕ, zero, suc, List, [], length, refl, sym, ap}
 use Rattle.std.proofs.Common.{subst, ◌∙◌, ◌∷◌, ◌^◌, arith, true, false, Bool, Bor, get_or, Some}
-use Rattle.std.proofs.Common.{None, drop, take, ◌-◌, nat_lt, min}
-use Rattle.std.proofs.lemmas.Bool.{ltb-true}
+use Rattle.std.proofs.Common.{None, drop, take, ◌-◌, nat_lt, min, ◌&&◌, ◌==◌}
+use Rattle.std.proofs.lemmas.Bool.{ltb-true, ne_eqb}
 use Rattle.std.proofs.Math.Seq.{take-length}
 use Rattle.std.proofs.Math.Nat.{min-le_left, min-le_right}
 use Rattle.std.specs.Ordering.{nat_cmp}
@@ -25,7 +25,7 @@ use Rattle.jsonb_codec.specs.Rewriting.{FirstChild}
 use Rattle.jsonb_codec.specs.Shape.{Shape, Shapes, no_shapes, shape, count}
 use Rattle.jsonb_codec.specs.Source.{AreSplit}
 use Rattle.jsonb_codec.specs.Canon.{shape_of, items_shapes, pairs_shapes}
-use Rattle.jsonb_codec.specs.PartSource.{PartIs}
+use Rattle.jsonb_codec.specs.PartSource.{PartIs, Shaped}
 use Rattle.jsonb_codec.proofs.Decision.{known_part, known_object}
 use Rattle.jsonb_codec.proofs.Entries.{length-Children}
 use Rattle.jsonb_codec.proofs.PartLaws.{members_count, members_are}
@@ -35,21 +35,25 @@ use Rattle.jsonb.specs.EntryTrees.{part_tree}
 use Rattle.jsonb.proofs.EntryTreeLaws.{entry_tree-is}
 use Rattle.jsonb_functions.specs.declared.path.Step.{Step}
 use Rattle.jsonb_functions.specs.declared.path.Step.TheVariants.{Key, Index, FromEnd}
-use Rattle.jsonb_functions.specs.Path.{item_place}
+use Rattle.jsonb_functions.specs.Path.{is_next, item_place}
+use Rattle.jsonb_functions.specs.declared.edit.Made.{Made}
 use Rattle.jsonb_functions.specs.declared.edit.Plan.{Plan}
 use Rattle.jsonb_functions.specs.declared.edit.What.{What}
 use Rattle.jsonb_functions.specs.declared.edit.What.TheVariants as whats
 use Rattle.jsonb_functions.specs.declared.edit.Edited.{Edited}
+use Rattle.jsonb_functions.specs.declared.edit.Edited.TheVariants as children
 use Rattle.jsonb_functions.specs.declared.edit.Edited.TheVariants.{Kept, Along}
 use Rattle.jsonb_functions.specs.declared.edit.EditedItems.{EditedItems}
 use Rattle.jsonb_functions.specs.declared.edit.EditedMembers.{EditedMembers}
 use Rattle.jsonb_functions.specs.declared.edit.EditedObject.{EditedObject}
 use Rattle.jsonb_functions.specs.Edited.{Here, nothing, replaced, before, removed, edited}
-use Rattle.jsonb_functions.specs.Edited.{Operation, put, insert, remove, here_at, keys_before}
+use Rattle.jsonb_functions.specs.Edited.{Operation, put, create, insert, remove, here_at}
 use Rattle.jsonb_functions.specs.Edited.{has_key, if_less, equal_or_later, edited_whole}
+use Rattle.jsonb_functions.specs.Edited.{before_if, can_wrap, here_last, here_missing, keys_before}
+use Rattle.jsonb_functions.specs.Edited.{wrapped}
 use Rattle.jsonb_functions.specs.Edited.{done_after, pairs_done_after, IsWithin, count_done}
-use Rattle.jsonb_functions.specs.EditSource.{operation_of, here_of, EditedIs, ItemsAre, MembersAre}
-use Rattle.jsonb_functions.specs.EditSource.{ObjectIs}
+use Rattle.jsonb_functions.specs.EditSource.{here_of, EditedIs, ItemsAre, MembersAre}
+use Rattle.jsonb_functions.specs.EditSource.{ObjectIs, edited_along, made_tree}
 
 -- The place among one child fewer.
 pub within_later : (here : Here) (n c : ℕ) → IsWithin here (suc n) (suc c) → IsWithin here n c
@@ -110,10 +114,10 @@ part_tree_is part =
     rw (entry_tree-is part.type_code part.payload.now t h) (part_is part t h)
 
 pub along_is : (part : Part) (plan : Plan) (t : Tree) → Means part t
-    → EditedIs (Along part plan) (shape_of (edited plan.path.now (operation_of plan.change) t))
+    → EditedIs (Along part plan) (shape_of (edited_along plan t))
 along_is part plan t h = (
   (t, h),
-  λ u k. ap (λ v. shape_of (edited plan.path.now (operation_of plan.change) v))
+  λ u k. ap (λ v. shape_of (edited_along plan v))
       (same_tree t u (h.0 ∙ sym k.0) _ h.1 k.1),
 )
 
@@ -167,16 +171,16 @@ step_within : (here : Here) (m n : ℕ) (ts others : Trees) (t : Tree) → m ≡
 step_within here m n ts others t e are w =
     within_later here n (trees.count others) (rw (e, are) at w)
 
-step_put : (what : What) (m : ℕ) (value : Part) (ts others : Trees) (t : Tree) → m ≡ 0
+step_put : (what : What) (m : ℕ) (value : Bor Part) (ts others : Trees) (t : Tree) → m ≡ 0
     → what ≡ whats.Put value → ts ≡ tree t others
     → items_shapes (done_after (here_of what) m ts)
-    ≡ shape [] (shape_of (part_tree value)) (items_shapes others)
+    ≡ shape [] (shape_of (part_tree value.now)) (items_shapes others)
 step_put what m value ts others t e w are = rw (e, w, are) refl
 
 step_below : (what : What) (m : ℕ) (plan : Plan) (ts others : Trees) (t : Tree) → m ≡ 0
     → what ≡ whats.Below plan → ts ≡ tree t others
     → items_shapes (done_after (here_of what) m ts)
-    ≡ shape [] (shape_of (edited plan.path.now (operation_of plan.change) t)) (items_shapes others)
+    ≡ shape [] (shape_of (edited_along plan t)) (items_shapes others)
 step_below what m plan ts others t e w are = rw (e, w, are) refl
 
 step_remove : (what : What) (m : ℕ) (ts others last : Trees) (t u : Tree) → m ≡ 0
@@ -214,29 +218,29 @@ pub none_before : (x : EditedItems) (n : ℕ) → x.before ≡ suc n
 none_before x n e none ss h = h.1 h.0.0 h.0.1 ∙ rw (e, none h.0.0 h.0.1.0) refl
 
 -- What is done at the place of a change.
-pub insert_first : (x rest : EditedItems) (value : Part) → x.before ≡ 0
-    → x.what ≡ whats.Insert value → rest.items ≡ x.items → rest.before ≡ 0
+pub insert_first : (x rest : EditedItems) (made : Made) → x.before ≡ 0
+    → x.what ≡ whats.Insert made → rest.items ≡ x.items → rest.before ≡ 0
     → here_of rest.what ≡ nothing
     → (ss : Shapes) → ItemsAre x ss
-    → AreSplit (λ key. key ≡ []) EditedIs ItemsAre (Kept value, rest) ss
-insert_first x rest value e w same start none ss h =
+    → AreSplit (λ key. key ≡ []) EditedIs ItemsAre (children.Made made, rest) ss
+insert_first x rest made e w same start none ss h =
     let ts = h.0.0 in
-    split_as (Kept value) rest (shape_of (part_tree value)) (items_shapes ts) ss
-    (h.1 ts h.0.1 ∙ rw (e, w) refl) (part_tree_is value)
+    split_as (children.Made made) rest (shape_of (made_tree made)) (items_shapes ts) ss
+    (h.1 ts h.0.1 ∙ rw (e, w) refl) refl
     (unchanged_are rest x.items ts same start none h.0.1.0)
 
-pub put_first : (x rest : EditedItems) (value part : Part) (later : declared.Children)
+pub put_first : (x rest : EditedItems) (value : Bor Part) (part : Part) (later : declared.Children)
     → x.before ≡ 0 → x.what ≡ whats.Put value → rest.items ≡ later → rest.before ≡ 0
     → here_of rest.what ≡ nothing
     → ((ts : Trees) → AreChildren ts x.items → FirstChild ts part.type_code part.payload.now
     later.entries.now later.payloads.now)
     → (ss : Shapes) → ItemsAre x ss
-    → AreSplit (λ key. key ≡ []) EditedIs ItemsAre (Kept value, rest) ss
+    → AreSplit (λ key. key ≡ []) EditedIs ItemsAre (Kept value.now, rest) ss
 put_first x rest value part later e w same start none first ss h =
     let f = first h.0.0 h.0.1.0 in
-    split_as (Kept value) rest (shape_of (part_tree value)) (items_shapes f.others) ss
+    split_as (Kept value.now) rest (shape_of (part_tree value.now)) (items_shapes f.others) ss
     (h.1 h.0.0 h.0.1 ∙ step_put x.what x.before value h.0.0 f.others f.first e w f.are)
-    (part_tree_is value)
+    (part_tree_is value.now)
     (unchanged_are rest later f.others same start none f.later)
 
 pub below_first : (x rest : EditedItems) (plan : Plan) (part : Part) (later : declared.Children)
@@ -249,7 +253,7 @@ pub below_first : (x rest : EditedItems) (plan : Plan) (part : Part) (later : de
 below_first x rest plan part later e w same start none first ss h =
     let f = first h.0.0 h.0.1.0 in
     split_as (Along part plan) rest
-    (shape_of (edited plan.path.now (operation_of plan.change) f.first)) (items_shapes f.others) ss
+    (shape_of (edited_along plan f.first)) (items_shapes f.others) ss
     (h.1 h.0.0 h.0.1 ∙ step_below x.what x.before plan h.0.0 f.others f.first e w f.are)
     (along_is part plan f.first f.is)
     (unchanged_are rest later f.others same start none f.later)
@@ -366,16 +370,16 @@ module _ (IsKey : List ℕ → Type 0) where
   member_within here m n ps others k t e are w =
       within_later here n (pair_count others) (rw (e, are) at w)
 
-  member_put : (new : List ℕ) (what : What) (m : ℕ) (value : Part) (ps others : Pairs) (k : List ℕ)
-      (t : Tree) → m ≡ 0 → what ≡ whats.Put value → ps ≡ pair k t others
+  member_put : (new : List ℕ) (what : What) (m : ℕ) (value : Bor Part) (ps others : Pairs)
+      (k : List ℕ) (t : Tree) → m ≡ 0 → what ≡ whats.Put value → ps ≡ pair k t others
       → pairs_shapes (pairs_done_after new (here_of what) m ps)
-      ≡ shape k (shape_of (part_tree value)) (pairs_shapes others)
+      ≡ shape k (shape_of (part_tree value.now)) (pairs_shapes others)
   member_put new what m value ps others k t e w are = rw (e, w, are) refl
 
   member_below : (new : List ℕ) (what : What) (m : ℕ) (plan : Plan) (ps others : Pairs)
       (k : List ℕ) (t : Tree) → m ≡ 0 → what ≡ whats.Below plan → ps ≡ pair k t others
       → pairs_shapes (pairs_done_after new (here_of what) m ps)
-      ≡ shape k (shape_of (edited plan.path.now (operation_of plan.change) t)) (pairs_shapes others)
+      ≡ shape k (shape_of (edited_along plan t)) (pairs_shapes others)
   member_below new what m plan ps others k t e w are = rw (e, w, are) refl
 
   member_remove : (new : List ℕ) (what : What) (m : ℕ) (ps others last : Pairs) (k j : List ℕ)
@@ -411,30 +415,31 @@ module _ (IsKey : List ℕ → Type 0) where
       (member_within (here_of x.what) x.before n h.0.0 f.others key f.value e f.are h.0.1.1))
 
   -- What is done at the place of a change.
-  pub insert_member_first : (x rest : EditedMembers) (value : Part) → IsKey x.key.now
-      → x.before ≡ 0 → x.what ≡ whats.Insert value → rest.members ≡ x.members → rest.before ≡ 0
+  pub insert_member_first : (x rest : EditedMembers) (made : Made) → IsKey x.key.now
+      → x.before ≡ 0 → x.what ≡ whats.Insert made → rest.members ≡ x.members → rest.before ≡ 0
       → here_of rest.what ≡ nothing
       → (ss : Shapes) → MembersAre x ss
-      → AreSplit IsKey EditedIs MembersAre (Kept value, rest) ss
-  insert_member_first x rest value keyed e w same start none ss h =
+      → AreSplit IsKey EditedIs MembersAre (children.Made made, rest) ss
+  insert_member_first x rest made keyed e w same start none ss h =
       let ps = h.0.0 in
-      split_member_as (Kept value) rest x.key.now (shape_of (part_tree value)) (pairs_shapes ps) ss
-      (h.1 ps h.0.1 ∙ rw (e, w) refl) keyed (part_tree_is value)
+      split_member_as (children.Made made) rest x.key.now (shape_of (made_tree made))
+      (pairs_shapes ps) ss (h.1 ps h.0.1 ∙ rw (e, w) refl) keyed refl
       (unchanged_members_are rest x.members ps same start none h.0.1.0)
 
-  pub put_member_first : (x rest : EditedMembers) (value part : Part) (key : List ℕ)
+  pub put_member_first : (x rest : EditedMembers) (value : Bor Part) (part : Part) (key : List ℕ)
       (later : Members) → IsKey key → x.before ≡ 0 → x.what ≡ whats.Put value
       → rest.members ≡ later → rest.before ≡ 0 → here_of rest.what ≡ nothing
       → ((ps : Pairs) → AreMembers ps x.members
       → FirstMember ps key part.type_code part.payload.now later)
       → (ss : Shapes) → MembersAre x ss
-      → AreSplit IsKey EditedIs MembersAre (Kept value, rest) ss
+      → AreSplit IsKey EditedIs MembersAre (Kept value.now, rest) ss
   put_member_first x rest value part key later keyed e w same start none first ss h =
       let f = first h.0.0 h.0.1.0 in
-      split_member_as (Kept value) rest key (shape_of (part_tree value)) (pairs_shapes f.others) ss
+      split_member_as (Kept value.now) rest key (shape_of (part_tree value.now))
+      (pairs_shapes f.others) ss
       (h.1 h.0.0 h.0.1
       ∙ member_put x.key.now x.what x.before value h.0.0 f.others key f.value e w f.are)
-      keyed (part_tree_is value)
+      keyed (part_tree_is value.now)
       (unchanged_members_are rest later f.others same start none f.left)
 
   pub below_member_first : (x rest : EditedMembers) (plan : Plan) (part : Part) (key : List ℕ)
@@ -447,7 +452,7 @@ module _ (IsKey : List ℕ → Type 0) where
   below_member_first x rest plan part key later keyed e w same start none first ss h =
       let f = first h.0.0 h.0.1.0 in
       split_member_as (Along part plan) rest key
-      (shape_of (edited plan.path.now (operation_of plan.change) f.value))
+      (shape_of (edited_along plan f.value))
       (pairs_shapes f.others) ss
       (h.1 h.0.0 h.0.1
       ∙ member_below x.key.now x.what x.before plan h.0.0 f.others key f.value e w f.are)
@@ -523,31 +528,46 @@ path_split (r ∷ path) d s h e =
     let all : later_steps (r ∷ path) ≡ path = rw fewer (take-length path) in
     rw (all, ← first) refl
 
-within_at : (items there : Bool) (path : List Step) (operation : Operation) (f : Tree → Tree)
-    (m n : ℕ) → m ≤ n
-    → (there ≡ true → m < n) → IsWithin (here_at items there path operation f) m n
-within_at items true [] (put v) f m n all some = some refl
-within_at items false [] (put v) f m n all some = all
-within_at true true [] (insert v) f m n all some = all
-within_at false true [] (insert v) f m n all some = tt
-within_at true false [] (insert v) f m n all some = all
-within_at false false [] (insert v) f m n all some = all
-within_at items true [] remove f m n all some = some refl
-within_at items false [] remove f m n all some = tt
-within_at items true (s ∷ path) operation f m n all some = some refl
-within_at items false (s ∷ path) operation f m n all some = tt
+within_before : (b : Bool) (v : Tree) (m n : ℕ) → m ≤ n → IsWithin (before_if b v) m n
+within_before true v m n all = all
+within_before false v m n all = tt
 
-within_item : (s : Step) (n : ℕ) (place : ℕ × Bool) (path : List Step) (operation : Operation)
-    (f : Tree → Tree) → Some place ≡ item_place s n
-    → IsWithin (here_at true place.1 path operation f) place.0 n
-within_item (Key k) n place path operation f e = absurd (cc)
-within_item (Index i) n place path operation f e =
+within_last : (items : Bool) (operation : Operation) (m n : ℕ) → m < n
+    → IsWithin (here_last items operation) m n
+within_last items (put v) m n some = some
+within_last items (create v) m n some = some
+within_last true (insert v) m n some = omega (arith, some)
+within_last false (insert v) m n some = tt
+within_last items remove m n some = some
+
+within_missing : (next : Bool) (path : List Step) (operation : Operation) (m n : ℕ) → m ≤ n
+    → IsWithin (here_missing next path operation) m n
+within_missing next path (put v) m n all = within_before (length path == 0) v m n all
+within_missing next path (create v) m n all =
+    within_before (next && can_wrap path) (wrapped path v) m n all
+within_missing next path (insert v) m n all = within_before (length path == 0) v m n all
+within_missing next path remove m n all = tt
+
+within_at : (items there next : Bool) (path : List Step) (operation : Operation)
+    (f : Tree → Tree) (m n : ℕ) → m ≤ n
+    → (there ≡ true → m < n) → IsWithin (here_at items there next path operation f) m n
+within_at items true next [] operation f m n all some =
+    within_last items operation m n (some refl)
+within_at items true next (s ∷ path) operation f m n all some = some refl
+within_at items false next path operation f m n all some =
+    within_missing next path operation m n all
+
+within_item : (s : Step) (n : ℕ) (place : ℕ × Bool) (next : Bool) (path : List Step)
+    (operation : Operation) (f : Tree → Tree) → Some place ≡ item_place s n
+    → IsWithin (here_at true place.1 next path operation f) place.0 n
+within_item (Key k) n place next path operation f e = absurd (cc)
+within_item (Index i) n place next path operation f e =
     let is : place ≡ (min i n, nat_lt i n) = cc in
-    rw is (within_at true (nat_lt i n) path operation f (min i n) n (min-le_right i n)
+    rw is (within_at true (nat_lt i n) next path operation f (min i n) n (min-le_right i n)
     (λ h. let less : i < n = ltb-true i n h in omega (arith, less, min-le_left i n)))
-within_item (FromEnd i) n place path operation f e =
+within_item (FromEnd i) n place next path operation f e =
     let is : place ≡ (n - suc i, nat_lt i n) = cc in
-    rw is (within_at true (nat_lt i n) path operation f (n - suc i) n (omega arith)
+    rw is (within_at true (nat_lt i n) next path operation f (n - suc i) n (omega arith)
     (λ h. let less : i < n = ltb-true i n h in omega (arith, less)))
 
 less_more : (o : Ordering) (m n : ℕ) → m ≤ n → if_less o m ≤ suc n
@@ -575,10 +595,10 @@ key_there key (pair k t ps) e =
 
 within_key : (key : List ℕ) (ps : Pairs) (path : List Step) (operation : Operation)
     (f : Tree → Tree)
-    → IsWithin (here_at false (has_key key ps) path operation f) (keys_before key ps)
+    → IsWithin (here_at false (has_key key ps) true path operation f) (keys_before key ps)
     (pair_count ps)
 within_key key ps path operation f =
-    within_at false (has_key key ps) path operation f (keys_before key ps) (pair_count ps)
+    within_at false (has_key key ps) true path operation f (keys_before key ps) (pair_count ps)
     (keys_within key ps) (key_there key ps)
 
 pub array_edited : (path rest : List Step) (s : Step) (operation : Operation) (t : Tree)
@@ -586,17 +606,19 @@ pub array_edited : (path rest : List Step) (s : Step) (operation : Operation) (t
     (place : ℕ × Bool) → path ≡ s ∷ rest → t ≡ array ts → Some place ≡ item_place s (trees.count ts)
     → shape_of (edited path operation t)
     ≡ shapes.array (items_shapes (done_after
-    (here_at true place.1 rest operation (λ u. edited rest operation u)) place.0 ts))
+    (here_at true place.1 (is_next s (trees.count ts)) rest operation
+    (λ u. edited rest operation u)) place.0 ts))
 array_edited path rest s operation t ts place path_is is e = rw (path_is, is, ← e) refl
 
 pub level_array : (x : EditedItems) (s : Step) (path rest : List Step) (operation : Operation)
     (t : Tree)
     (ts : Trees) (place : ℕ × Bool) → path ≡ s ∷ rest → t ≡ array ts → AreChildren ts x.items
     → Some place ≡ item_place s (trees.count ts) → x.before ≡ place.0
-    → here_of x.what ≡ here_at true place.1 rest operation (λ u. edited rest operation u)
+    → here_of x.what ≡ here_at true place.1 (is_next s (trees.count ts)) rest operation
+    (λ u. edited rest operation u)
     → (ss : Shapes) × ((shape_of (edited path operation t) ≡ shapes.array ss) × ItemsAre x ss)
 level_array x s path rest operation t ts place path_is is are e start what =
-    let within = within_item s (trees.count ts) place rest operation
+    let within = within_item s (trees.count ts) place (is_next s (trees.count ts)) rest operation
     (λ u. edited rest operation u) e in (
       items_shapes (done_after (here_of x.what) x.before ts),
       (
@@ -638,7 +660,7 @@ pub level_object : (x : EditedObject) (key : Bor (List ℕ)) (path rest : List S
     (t : Tree) (ps : Pairs) → path ≡ Key key ∷ rest → t ≡ object ps
     → IsObject x.object.count x.object.body.now ps → x.key.now ≡ key.now
     → x.before ≡ keys_before key.now ps
-    → here_of x.what ≡ here_at false (has_key key.now ps) rest operation
+    → here_of x.what ≡ here_at false (has_key key.now ps) true rest operation
     (λ u. edited rest operation u)
     → (ss : Shapes) × ((shape_of (edited path operation t) ≡ shapes.object ss) × ObjectIs x ss)
 level_object x key path rest operation t ps path_is is are same start what = (
@@ -658,7 +680,136 @@ item_count items ts h = omega (arith, length-Children ts _ _ h)
 pub part_tree_of : (part : Part) (t : Tree) → Means part t → part_tree part ≡ t
 part_tree_of part t h = entry_tree-is part.type_code part.payload.now t h
 
+-- At the end of a path of no step.
 pub whole_put : (path : List Step) (v t : Tree) → length path ≡ 0
     → edited_whole path (put v) t ≡ v
 whole_put [] v t h = refl
 whole_put (s ∷ path) v t h = absurd (omega (arith, h))
+
+pub whole_create : (path : List Step) (v t : Tree) → length path ≡ 0
+    → edited_whole path (create v) t ≡ v
+whole_create [] v t h = refl
+whole_create (s ∷ path) v t h = absurd (omega (arith, h))
+
+pub whole_insert : (path : List Step) (v t : Tree) → length path ≡ 0
+    → edited_whole path (insert v) t ≡ t
+whole_insert [] v t h = refl
+whole_insert (s ∷ path) v t h = absurd (omega (arith, h))
+
+pub whole_remove : (path : List Step) (t : Tree) → length path ≡ 0
+    → edited_whole path remove t ≡ t
+whole_remove [] t h = refl
+whole_remove (s ∷ path) t h = absurd (omega (arith, h))
+
+-- Where steps are left, a value is not put as the whole.
+pub whole_edited : (path : List Step) (operation : Operation) (t : Tree) → (length path ≡ 0 → ⊥)
+    → edited_whole path operation t ≡ edited path operation t
+whole_edited [] operation t h = absurd (h refl)
+whole_edited (s ∷ path) (put v) t h = refl
+whole_edited (s ∷ path) (create v) t h = refl
+whole_edited (s ∷ path) (insert v) t h = refl
+whole_edited (s ∷ path) remove t h = refl
+
+-- ---- a value in containers
+
+pub wrapped_none : (path : List Step) (v : Tree) → length path < 1 → wrapped path v ≡ v
+wrapped_none [] v h = refl
+wrapped_none (s ∷ path) v h = absurd (omega (arith, h))
+
+-- With no step left a value is put without containers.
+pub before_end : (path : List Step) (v : Tree)
+    → before_if (length path == 0) (wrapped path v) ≡ before_if (length path == 0) v
+before_end [] v = refl
+before_end (s ∷ path) v =
+    let some : (length (s ∷ path) == 0) ≡ false = ne_eqb _ _ (λ e. omega (arith, e)) in
+    rw some refl
+
+pub missing_put : (next : Bool) (path : List Step) (v : Tree) (here : Here)
+    → here ≡ before_if (length path == 0) (wrapped path v)
+    → here ≡ here_missing next path (put v)
+missing_put next path v here e = e ∙ before_end path v
+
+pub missing_insert : (next : Bool) (path : List Step) (v : Tree) (here : Here)
+    → here ≡ before_if (length path == 0) (wrapped path v)
+    → here ≡ here_missing next path (insert v)
+missing_insert next path v here e = e ∙ before_end path v
+
+pub last_insert : (items next : Bool) (path : List Step) (v : Tree) (f : Tree → Tree)
+    → length path ≡ 0
+    → before_if items (wrapped path v) ≡ here_at items true next path (insert v) f
+last_insert true next [] v f h = refl
+last_insert false next [] v f h = refl
+last_insert items next (s ∷ path) v f h = absurd (omega (arith, h))
+
+-- An object of no member.
+pub empty_object : IsObject 0 [] no_pairs
+empty_object = (
+  refl,
+  (
+    tt,
+    record {
+      few = omega arith;
+      key_entries = [];
+      value_entries = [];
+      key_payloads = [];
+      value_payloads = [];
+      parts = refl;
+      keys = record { no_entries = refl; no_payloads = refl };
+      values = record { no_entries = refl; no_payloads = refl };
+    },
+  ),
+)
+
+pub made_fewer : (path : List Step) → 1 ≤ length path
+    → suc (length (later_steps path)) ≡ length path
+made_fewer [] h = absurd (omega (arith, h))
+made_fewer (s ∷ path) h =
+    let fewer : length (s ∷ path) - 1 ≡ length path = omega arith in
+    let all : later_steps (s ∷ path) ≡ path = rw fewer (take-length path) in
+    rw all refl
+
+pub level_made_object : (n : ℕ) (body : List ℕ) (key : Bor (List ℕ)) (path later : List Step)
+    (v : Tree) → IsObject n body no_pairs → path ≡ Key key ∷ later
+    → (ss : Shapes) × ((shape_of (wrapped path v) ≡ shapes.object ss)
+    × Shaped (λ ps. IsObject n body ps × 0 ≤ pair_count ps)
+    (λ ps. shape key.now (shape_of (wrapped later v)) (pairs_shapes ps)) ss)
+level_made_object n body key path later v are path_is = (
+  shape key.now (shape_of (wrapped later v)) no_shapes,
+  (
+    rw path_is refl,
+    (
+      (no_pairs, (are, omega arith)),
+      λ us h. ap (λ ps. shape key.now (shape_of (wrapped later v)) (pairs_shapes ps))
+          (object_unique _ _ no_pairs us are h.0),
+    ),
+  ),
+)
+
+array_made : (items : declared.Children) (t v : Tree) → AreChildren no_trees items
+    → t ≡ array (tree v no_trees)
+    → (ss : Shapes) × ((shape_of t ≡ shapes.array ss)
+    × Shaped (λ ts. AreChildren ts items × 0 ≤ trees.count ts)
+    (λ ts. shape [] (shape_of v) (items_shapes ts)) ss)
+array_made items t v are is = (
+  shape [] (shape_of v) no_shapes,
+  (
+    rw is refl,
+    (
+      (no_trees, (are, omega arith)),
+      λ us h.
+          let same : no_trees ≡ us = Children-unique _ _ are h.0 in
+          ap (λ ts. shape [] (shape_of v) (items_shapes ts)) same,
+    ),
+  ),
+)
+
+pub level_made_array : (items : declared.Children) (s : Step) (path later : List Step) (v : Tree)
+    → AreChildren no_trees items → path ≡ s ∷ later → ((k : Bor (List ℕ)) → s ≡ Key k → ⊥)
+    → (ss : Shapes) × ((shape_of (wrapped path v) ≡ shapes.array ss)
+    × Shaped (λ ts. AreChildren ts items × 0 ≤ trees.count ts)
+    (λ ts. shape [] (shape_of (wrapped later v)) (items_shapes ts)) ss)
+level_made_array items (Key k) path later v are path_is other = absurd (other k refl)
+level_made_array items (Index i) path later v are path_is other =
+    array_made items (wrapped path v) (wrapped later v) are (rw path_is refl)
+level_made_array items (FromEnd i) path later v are path_is other =
+    array_made items (wrapped path v) (wrapped later v) are (rw path_is refl)

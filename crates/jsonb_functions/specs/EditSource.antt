@@ -1,7 +1,7 @@
 -- What the parts of a document that is edited are written as: the shapes of the edited trees.
-use Rattle.std.specs.Prelude.{◌+◌, ℕ, suc, ⊤, length}
+use Rattle.std.specs.Prelude.{◌≡◌, ◌+◌, ℕ, suc, ⊤, length}
 use Rattle.std.proofs.Common.{ap, ◌∙◌}
-use Rattle.jsonb_value.specs.Tree.{count, pair_count}
+use Rattle.jsonb_value.specs.Tree.{Tree, count, pair_count}
 use Rattle.jsonb_codec.specs.Contents.{Means, AreChildren, AreMembers}
 use Rattle.jsonb_codec.specs.Parts.{IsObject}
 use Rattle.jsonb_codec.specs.Shape.{Shape, Shapes, key_payloads}
@@ -15,6 +15,8 @@ use Rattle.jsonb_functions.specs.declared.edit.Edit.{Edit}
 use Rattle.jsonb_functions.specs.declared.edit.Edit.TheVariants as edits
 use Rattle.jsonb_functions.specs.declared.edit.Change.{Change}
 use Rattle.jsonb_functions.specs.declared.edit.Change.TheVariants as changes
+use Rattle.jsonb_functions.specs.declared.edit.Made.{Made}
+use Rattle.jsonb_functions.specs.declared.edit.Plan.{Plan}
 use Rattle.jsonb_functions.specs.declared.edit.What.{What}
 use Rattle.jsonb_functions.specs.declared.edit.What.TheVariants as whats
 use Rattle.jsonb_functions.specs.declared.edit.Edited.{Edited}
@@ -22,35 +24,46 @@ use Rattle.jsonb_functions.specs.declared.edit.Edited.TheVariants as children
 use Rattle.jsonb_functions.specs.declared.edit.EditedItems.{EditedItems}
 use Rattle.jsonb_functions.specs.declared.edit.EditedObject.{EditedObject}
 use Rattle.jsonb_functions.specs.declared.edit.EditedMembers.{EditedMembers}
-use Rattle.jsonb_functions.specs.Edited.{Operation, put, insert, remove, Here, nothing}
-use Rattle.jsonb_functions.specs.Edited.{replaced, before, removed, edited, done_after}
+use Rattle.jsonb_functions.specs.Edited.{Operation, put, create, insert, remove, Here, nothing}
+use Rattle.jsonb_functions.specs.Edited.{replaced, before, removed, edited, done_after, wrapped}
 use Rattle.jsonb_functions.specs.Edited.{pairs_done_after, IsWithin}
 
 -- What a change does, by its value's tree.
 abbrev pub operation_of : Change → Operation
 operation_of (changes.Put value) = put (part_tree value)
+operation_of (changes.Create value) = create (part_tree value)
 operation_of (changes.Insert value) = insert (part_tree value)
 operation_of changes.Remove = remove
 
 -- What an edit does.
 abbrev pub edit_operation : Edit → Operation
 edit_operation (edits.Put value) = put (document_tree value)
+edit_operation (edits.Create value) = create (document_tree value)
 edit_operation (edits.Insert value) = insert (document_tree value)
 edit_operation edits.Remove = remove
+
+-- The tree of a value in containers.
+abbrev pub made_tree : Made → Tree
+made_tree made = wrapped made.path.now (part_tree made.value.now)
+
+-- What a plan makes of a tree.
+abbrev pub edited_along : Plan → Tree → Tree
+edited_along plan t = edited plan.path.now (operation_of plan.change.now) t
 
 -- What is done at a place.
 abbrev pub here_of : What → Here
 here_of whats.Nothing = nothing
-here_of (whats.Put value) = replaced (λ t. part_tree value)
-here_of (whats.Insert value) = before (part_tree value)
+here_of (whats.Put value) = replaced (λ t. part_tree value.now)
+here_of (whats.Insert made) = before (made_tree made)
 here_of whats.Remove = removed
-here_of (whats.Below plan) = replaced (λ t. edited plan.path.now (operation_of plan.change) t)
+here_of (whats.Below plan) = replaced (λ t. edited_along plan t)
 
--- The shape of a part, or of what it becomes along a path.
+-- The shape of a part, of what it becomes along a path, or of a value in containers.
 abbrev pub EditedIs : Edited → Shape → Type 0
-EditedIs (children.Kept part) = PartIs part
-EditedIs (children.Along part plan) =
-    Shaped (λ t. Means part t) (λ t. shape_of (edited plan.path.now (operation_of plan.change) t))
+EditedIs (children.Kept part) s = PartIs part s
+EditedIs (children.Along part plan) s =
+    Shaped (λ t. Means part t) (λ t. shape_of (edited_along plan t)) s
+EditedIs (children.Made made) s = s ≡ shape_of (made_tree made)
 
 -- The shapes of items, after what is done among them.
 abbrev pub ItemsAre : EditedItems → Shapes → Type 0
@@ -72,20 +85,27 @@ MembersAre x =
 -- How much the walk has still to go into what is put there.
 abbrev pub change_size : Change → ℕ
 change_size (changes.Put value) = length value.payload.now
+change_size (changes.Create value) = length value.payload.now
 change_size (changes.Insert value) = length value.payload.now
 change_size changes.Remove = 0
 
+abbrev pub plan_size : Plan → ℕ
+plan_size plan = length plan.path.now + change_size plan.change.now
+
+abbrev pub made_size : Made → ℕ
+made_size made = length made.path.now + length made.value.now.payload.now
+
 abbrev pub what_size : What → ℕ
 what_size whats.Nothing = 0
-what_size (whats.Put value) = suc (length value.payload.now)
-what_size (whats.Insert value) = suc (length value.payload.now)
+what_size (whats.Put value) = suc (length value.now.payload.now)
+what_size (whats.Insert made) = suc (made_size made)
 what_size whats.Remove = 0
-what_size (whats.Below plan) = suc (change_size plan.change)
+what_size (whats.Below plan) = suc (plan_size plan)
 
 abbrev pub edited_size : Edited → ℕ
 edited_size (children.Kept part) = length part.payload.now
-edited_size (children.Along part plan) =
-    length part.payload.now + suc (change_size plan.change)
+edited_size (children.Along part plan) = length part.payload.now + suc (plan_size plan)
+edited_size (children.Made made) = made_size made
 
 abbrev pub edit_meaning : Meaning Edited EditedItems EditedObject EditedMembers
 edit_meaning = record {

@@ -1,6 +1,6 @@
 -- What a tree becomes when it is edited at the end of a path.
 use Rattle.std.specs.Prelude.{◌≤◌, ◌<◌, ℕ, zero, suc, pred, List, [], ◌∷◌, Bool, true, false, ⊤}
-use Rattle.std.specs.Prelude.{Option, None, Some}
+use Rattle.std.specs.Prelude.{◌&&◌, ◌==◌, length, Option, None, Some}
 use Rattle.std.specs.Ordering.{nat_cmp}
 use Rattle.std.specs.Cmp.Lexicographic.{slice_cmp}
 use Rattle.std.specs.declared.cmp.Ordering.{Ordering}
@@ -8,12 +8,15 @@ use Rattle.std.specs.declared.cmp.Ordering.TheVariants.{Less, Equal, Greater}
 use Rattle.jsonb_value.specs.Tree.{Tree, array, object}
 use Rattle.jsonb_value.specs.Tree.{Trees, no_trees, tree, Pairs, no_pairs, pair, count}
 use Rattle.jsonb_functions.specs.declared.path.Step.{Step}
-use Rattle.jsonb_functions.specs.Path.{item_place, step_key}
+use Rattle.jsonb_functions.specs.declared.path.Step.TheVariants.{Key, Index, FromEnd}
+use Rattle.jsonb_functions.specs.Path.{is_next, item_place, step_key}
 
 -- What is done at the end of a path: a value is put there, in place of what is there, if anything;
--- or inserted, before an item, or as a member whose key is not there; or what is there is removed.
+-- or put there in containers that are made for the steps that lead nowhere; or inserted, before an
+-- item, or as a member whose key is not there; or what is there is removed.
 pub data Operation : Type 0 where
   put : Tree → Operation
+  create : Tree → Operation
   insert : Tree → Operation
   remove : Operation
 
@@ -25,22 +28,54 @@ pub data Here : Type 0 where
   before : Tree → Here
   removed : Here
 
--- What is done where the path ends, at a child that is there or not. `items` says whether the child
--- is an item, which an insertion moves on.
-abbrev pub here_last : Bool → Bool → Operation → Here
-here_last items true (put v) = replaced (λ t. v)
-here_last items false (put v) = before v
-here_last true true (insert v) = before v
-here_last false true (insert v) = nothing
-here_last items false (insert v) = before v
-here_last items true remove = removed
-here_last items false remove = nothing
+-- A value in a container for each step: an object with the member of a key, or an array of one
+-- item.
+abbrev pub wrapped : List Step → Tree → Tree
+wrapped [] v = v
+wrapped (Key k ∷ path) v = object (pair k.now (wrapped path v) no_pairs)
+wrapped (Index i ∷ path) v = array (tree (wrapped path v) no_trees)
+wrapped (FromEnd i ∷ path) v = array (tree (wrapped path v) no_trees)
 
--- The same where steps may be left, which edit the child by a function of it.
-abbrev pub here_at : Bool → Bool → List Step → Operation → (Tree → Tree) → Here
-here_at items there [] operation below = here_last items there operation
-here_at items true (s ∷ path) operation below = replaced below
-here_at items false (s ∷ path) operation below = nothing
+-- Whether a container is made for a step: for a key, and for the item of an empty array that comes
+-- next.
+abbrev pub makes_container : Step → Bool
+makes_container (Key k) = true
+makes_container (Index i) = is_next (Index i) 0
+makes_container (FromEnd i) = false
+
+-- Whether containers are made for all these steps.
+abbrev pub can_wrap : List Step → Bool
+can_wrap [] = true
+can_wrap (s ∷ path) = makes_container s && can_wrap path
+
+-- What is done to the child at the end of a path. `items` says whether it is an item, which an
+-- insertion moves on.
+abbrev pub here_last : Bool → Operation → Here
+here_last items (put v) = replaced (λ t. v)
+here_last items (create v) = replaced (λ t. v)
+here_last true (insert v) = before v
+here_last false (insert v) = nothing
+here_last items remove = removed
+
+-- A value comes there, if one is wanted.
+abbrev pub before_if : Bool → Tree → Here
+before_if true v = before v
+before_if false v = nothing
+
+-- What is done where no child is and these steps are left. `next` says whether the place is that of
+-- the item after the last one, or that of a member.
+abbrev pub here_missing : Bool → List Step → Operation → Here
+here_missing next path (put v) = before_if (length path == 0) v
+here_missing next path (create v) = before_if (next && can_wrap path) (wrapped path v)
+here_missing next path (insert v) = before_if (length path == 0) v
+here_missing next path remove = nothing
+
+-- What is done where a step leads, to a child that is there or not, and these steps are left, which
+-- edit the child by a function of it.
+abbrev pub here_at : Bool → Bool → Bool → List Step → Operation → (Tree → Tree) → Here
+here_at items true next [] operation below = here_last items operation
+here_at items true next (s ∷ path) operation below = replaced below
+here_at items false next path operation below = here_missing next path operation
 
 -- Done to the first of these items.
 abbrev pub first_done : Here → Trees → Trees
@@ -94,17 +129,19 @@ abbrev pub has_key : List ℕ → Pairs → Bool
 has_key key no_pairs = false
 has_key key (pair k t ps) = equal_or_later (slice_cmp nat_cmp k key) (has_key key ps)
 
--- Items, with something done at a place among them, if there is one.
-abbrev pub items_done : Option (ℕ × Bool) → List Step → Operation → (Tree → Tree) → Trees → Trees
-items_done None path operation below ts = ts
-items_done (Some place) path operation below ts =
-    done_after (here_at true place.1 path operation below) place.0 ts
+-- Items, with something done at a place among them, if there is one. `next` says whether that is
+-- right after them.
+abbrev pub items_done : Option (ℕ × Bool) → Bool → List Step → Operation → (Tree → Tree) → Trees
+    → Trees
+items_done None next path operation below ts = ts
+items_done (Some place) next path operation below ts =
+    done_after (here_at true place.1 next path operation below) place.0 ts
 
 -- Pairs, with something done at the place of a key, if there is one.
 abbrev pub pairs_done : Option (List ℕ) → List Step → Operation → (Tree → Tree) → Pairs → Pairs
 pairs_done None path operation below ps = ps
 pairs_done (Some key) path operation below ps =
-    pairs_done_after key (here_at false (has_key key ps) path operation below)
+    pairs_done_after key (here_at false (has_key key ps) true path operation below)
     (keys_before key ps) ps
 
 -- The tree, edited at the end of a path that has a step at least. It is unchanged if the path leads
@@ -112,7 +149,8 @@ pairs_done (Some key) path operation below ps =
 abbrev pub edited : List Step → Operation → Tree → Tree
 edited [] operation t = t
 edited (s ∷ path) operation (array ts) =
-    array (items_done (item_place s (count ts)) path operation (λ t. edited path operation t) ts)
+    array (items_done (item_place s (count ts)) (is_next s (count ts)) path operation
+    (λ t. edited path operation t) ts)
 edited (s ∷ path) operation (object ps) =
     object (pairs_done (step_key s) path operation (λ t. edited path operation t) ps)
 edited (s ∷ path) operation t = t
@@ -121,6 +159,7 @@ edited (s ∷ path) operation t = t
 -- put there replaces.
 abbrev pub edited_whole : List Step → Operation → Tree → Tree
 edited_whole [] (put v) t = v
+edited_whole [] (create v) t = v
 edited_whole path operation t = edited path operation t
 
 -- The place is one of c children, or after them if a value is inserted.

@@ -27,10 +27,11 @@ pub use Rattle.jsonb_functions.specs.ChosenSource.{FirstKept, kept_pairs, listed
 pub use Rattle.jsonb_functions.specs.Contains.{contained, contains_whole, has_top_key}
 pub use Rattle.jsonb_functions.specs.Contains.{items_contained, items_in, members_contained}
 pub use Rattle.jsonb_functions.specs.Contains.{some_tree}
-pub use Rattle.jsonb_functions.specs.EditSource.{change_size, edit_operation, here_of, operation_of}
-pub use Rattle.jsonb_functions.specs.EditSource.{what_size}
-pub use Rattle.jsonb_functions.specs.Edited.{count_done, edited, edited_whole, has_key, here_at}
-pub use Rattle.jsonb_functions.specs.Edited.{keys_before}
+pub use Rattle.jsonb_functions.specs.EditSource.{edit_operation, edited_along, here_of, made_size}
+pub use Rattle.jsonb_functions.specs.EditSource.{made_tree, operation_of, plan_size, what_size}
+pub use Rattle.jsonb_functions.specs.Edited.{before_if, can_wrap, count_done, edited, edited_whole}
+pub use Rattle.jsonb_functions.specs.Edited.{has_key, here_at, here_missing, keys_before}
+pub use Rattle.jsonb_functions.specs.Edited.{makes_container, wrapped}
 pub use Rattle.jsonb_functions.specs.Found.{child_at, found_at}
 pub use Rattle.jsonb_functions.specs.IndexHash.{AppendsSome, AreAmong, IsAmong, hash_64}
 pub use Rattle.jsonb_functions.specs.IndexHash.{items_hashes, members_hashes, tree_hashes}
@@ -46,7 +47,7 @@ pub use Rattle.jsonb_functions.specs.PatchSource.{IsNextOf}
 pub use Rattle.jsonb_functions.specs.PatchSource.{MaybeMeans, both_keys_size, both_size, maybe_size}
 pub use Rattle.jsonb_functions.specs.PatchSource.{next_keys_size, next_size, patched_size}
 pub use Rattle.jsonb_functions.specs.Patched.{pairs_or_none, pairs_patched, patched}
-pub use Rattle.jsonb_functions.specs.Path.{item_place, position_view}
+pub use Rattle.jsonb_functions.specs.Path.{is_next, item_place, position_view}
 pub use Rattle.jsonb_functions.specs.PathDocument.{path_tree, step_tree, stored_step}
 pub use Rattle.jsonb_functions.specs.PathText.{PathText, ReadsStep, SelectorView, StopsAt}
 pub use Rattle.jsonb_functions.specs.PathText.{all_are, bound_in, from_end_of, is_in_name, is_not}

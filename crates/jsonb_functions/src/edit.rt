@@ -2,14 +2,17 @@
 
 ghost use Rattle.std.specs.Prelude.{◌≡◌, ◌≤◌, ◌<◌, ◌+◌, ◌^◌, length, IfOk, true, false};
 ghost use Rattle.jsonb_functions.specs.EditSource.{edit_laws, edit_meaning};
-ghost use Rattle.jsonb_functions.specs.Words.{AreMembers, Fits, LevelIs, MadeIfFit, Means, Pairs};
-ghost use Rattle.jsonb_functions.specs.Words.{Shape, Tree, canon, change_size, code_of, count_done};
-ghost use Rattle.jsonb_functions.specs.Words.{document_tree, edit_operation, edited, edited_whole};
-ghost use Rattle.jsonb_functions.specs.Words.{has_key, here_at, here_of, keys_before, level_size};
-ghost use Rattle.jsonb_functions.specs.Words.{operation_of, owned_bytes, part_meaning};
-ghost use Rattle.jsonb_functions.specs.Words.{position_view, shape_of, what_size};
+ghost use Rattle.jsonb_functions.specs.Words.{AreChildren, AreMembers, Fits, IsObject, LevelIs};
+ghost use Rattle.jsonb_functions.specs.Words.{MadeIfFit, Means, Pairs, Shape, Tree, before_if};
+ghost use Rattle.jsonb_functions.specs.Words.{can_wrap, canon, code_of, count_done, document_tree};
+ghost use Rattle.jsonb_functions.specs.Words.{edit_operation, edited, edited_along, edited_whole};
+ghost use Rattle.jsonb_functions.specs.Words.{has_key, here_at, here_missing, here_of, items_size};
+ghost use Rattle.jsonb_functions.specs.Words.{keys_before, level_size, made_size, made_tree};
+ghost use Rattle.jsonb_functions.specs.Words.{makes_container, no_pairs, no_trees, operation_of};
+ghost use Rattle.jsonb_functions.specs.Words.{owned_bytes, part_meaning, part_tree, plan_size};
+ghost use Rattle.jsonb_functions.specs.Words.{position_view, shape_of, what_size, wrapped};
 
-use crate::path::{Position, Step, item_position};
+use crate::path::{Position, Step, is_next, item_position};
 use jsonb::constants::CONTAINER_TAG;
 use jsonb::parts::{Child, Children, Contents, Member, Members, Object, Part};
 use jsonb::writer::{Level, Side, Source, StoredEntry, append_document};
@@ -22,6 +25,11 @@ use std::cmp::Ordering;
 pub enum Edit<'a> {
     /// The value is put there, in place of what is there, if anything.
     Put(Document<'a>),
+    /// The value is put there, and the containers that the path lacks are made: an object for a
+    /// key, an array for the index 0. An item is added right after the last one only, at the index
+    /// that is the number of items or at the greatest one, `usize::MAX`. Nothing is done if a step
+    /// leads to another missing item, into a scalar or into a container of the other kind.
+    Create(Document<'a>),
     /// The value is inserted before an item, or as a member whose key is not there.
     Insert(Document<'a>),
     /// What is there is removed.
@@ -32,32 +40,42 @@ pub enum Edit<'a> {
 #[derive(Clone, Copy)]
 pub enum Change<'a> {
     Put(Part<'a>),
+    Create(Part<'a>),
     Insert(Part<'a>),
     Remove,
 }
 
-/// What is still to be done along a path.
+/// What is still to be done along a path. The change is shared, since each child and each list of
+/// children that is left carries a plan.
 #[derive(Clone, Copy)]
 pub struct Plan<'a> {
     pub path: &'a [Step<'a>],
-    pub change: Change<'a>,
+    pub change: &'a Change<'a>,
+}
+
+/// A value in a container for each step of a path.
+#[derive(Clone, Copy)]
+pub struct Made<'a> {
+    pub path: &'a [Step<'a>],
+    pub value: &'a Part<'a>,
 }
 
 /// What is done at a place among children.
 #[derive(Clone, Copy)]
 pub enum What<'a> {
     Nothing,
-    Put(Part<'a>),
-    Insert(Part<'a>),
+    Put(&'a Part<'a>),
+    Insert(Made<'a>),
     Remove,
     Below(Plan<'a>),
 }
 
-/// A part as it is, or edited along a path.
+/// A part as it is, or edited along a path; or a value in containers.
 #[derive(Clone, Copy)]
 pub enum Edited<'a> {
     Kept(Part<'a>),
     Along(Part<'a>, Plan<'a>),
+    Made(Made<'a>),
 }
 
 /// Items that are left, and what is done after some of them.
@@ -91,8 +109,8 @@ type EditedLevel<'a> = Level<StoredEntry<'a>, EditedItems<'a>, EditedObject<'a>>
 type PartLevel<'a> = Level<StoredEntry<'a>, Children<'a>, Object<'a>>;
 
 /// The canonical document of the document's value, edited at the end of a path. It is that of the
-/// value itself if the path leads nowhere. `InvalidJsonb`, before any allocation, if there is none;
-/// `OutOfMemory` if an allocation fails.
+/// value itself if the path leads nowhere and nothing is created. `InvalidJsonb`, before any
+/// allocation, if the edited value does not fit the format; `OutOfMemory` if an allocation fails.
 pub fn edit_document(
     alloc: Global,
     document: Document<'_>,
@@ -105,9 +123,10 @@ pub fn edit_document(
         (edited_whole path.now (edit_operation edit.entry) (document_tree document.entry)))
         result }
 {
+    let change = change_of(edit);
     let plan = Plan {
         path,
-        change: change_of(edit),
+        change: &change,
     };
     let mut bytes = Vec::new(alloc);
     append_document::<Edited>(&mut bytes, whole_level(document.part(), plan))?;
@@ -121,22 +140,27 @@ fn change_of<'a>(edit: Edit<'a>) -> Change<'a>
 {
     match edit {
         Edit::Put(value) => Change::Put(value.part()),
+        Edit::Create(value) => Change::Create(value.part()),
         Edit::Insert(value) => Change::Insert(value.part()),
         Edit::Remove => Change::Remove,
     }
 }
 
 // The level of a whole document that is edited along a path.
+#[tactic(auto, using(crate::proofs::EditLaws::whole_edited))]
 fn whole_level<'a>(part: Part<'a>, plan: Plan<'a>) -> EditedLevel<'a>
     ensures { (t : Tree) → Means part.entry t → LevelIs code_of edit_meaning result
-        (shape_of (edited_whole plan.entry.path.now (operation_of plan.entry.change) t)) }
+        (shape_of (edited_whole plan.entry.path.now (operation_of plan.entry.change.now) t)) }
 {
-    if plan.path.is_empty() {
-        if let Change::Put(value) = plan.change {
-            return lifted(Part::level(value));
-        }
+    if !plan.path.is_empty() {
+        return edited_level(part, plan);
     }
-    edited_level(part, plan)
+    match plan.change {
+        Change::Put(value) => lifted(Part::level(*value)),
+        Change::Create(value) => lifted(Part::level(*value)),
+        Change::Insert(_) => lifted(Part::level(part)),
+        Change::Remove => lifted(Part::level(part)),
+    }
 }
 
 // A level of which nothing is changed.
@@ -165,9 +189,9 @@ fn lifted<'a>(level: PartLevel<'a>) -> EditedLevel<'a>
 // The level of a part that is edited along a path.
 fn edited_level<'a>(part: Part<'a>, plan: Plan<'a>) -> EditedLevel<'a>
     ensures is { (t : Tree) → Means part.entry t → LevelIs code_of edit_meaning result
-        (shape_of (edited plan.entry.path.now (operation_of plan.entry.change) t)) }
+        (shape_of (edited plan.entry.path.now (operation_of plan.entry.change.now) t)) }
     ensures size { level_size edit_meaning result
-        ≤ length part.entry.payload.now + (1 + change_size plan.entry.change) }
+        ≤ length part.entry.payload.now + (1 + plan_size plan.entry) }
 {
     let [step, rest @ ..] = plan.path else {
         return lifted(Part::level(part));
@@ -177,10 +201,16 @@ fn edited_level<'a>(part: Part<'a>, plan: Plan<'a>) -> EditedLevel<'a>
     }
     match part.contents() {
         Contents::Array(items) => {
-            let Some(position) = item_position(*step, items.entries.len() / 4) else {
+            let count = items.entries.len() / 4;
+            let Some(position) = item_position(*step, count) else {
                 return Level::Array(unchanged_items(items));
             };
-            let what = what_at(position.is_there, true, rest, plan.change);
+            let later = Plan {
+                path: rest,
+                change: plan.change,
+            };
+            let is_next = is_next(*step, count);
+            let what = what_at(true, position.is_there, is_next, later);
             Level::Array(EditedItems {
                 items,
                 before: position.before,
@@ -192,7 +222,11 @@ fn edited_level<'a>(part: Part<'a>, plan: Plan<'a>) -> EditedLevel<'a>
                 return lifted(Part::level(part));
             };
             let position = position_of_key(object.members(), key);
-            let what = what_at(position.is_there, false, rest, plan.change);
+            let later = Plan {
+                path: rest,
+                change: plan.change,
+            };
+            let what = what_at(false, position.is_there, true, later);
             Level::Object(EditedObject {
                 object,
                 before: position.before,
@@ -203,42 +237,127 @@ fn edited_level<'a>(part: Part<'a>, plan: Plan<'a>) -> EditedLevel<'a>
     }
 }
 
-// What is done at a child that is there or not, where these steps are left.
-fn what_at<'a>(is_there: bool, is_item: bool, rest: &'a [Step<'a>], change: Change<'a>) -> What<'a>
-    ensures what { here_of result
-        ≡ here_at is_item is_there rest.entry.now (operation_of change.entry)
-        (λ t. edited rest.entry.now (operation_of change.entry) t) }
-    ensures size { what_size result ≤ 1 + change_size change.entry }
+// What is done where a step leads, to a child that is there or not, with a plan for later steps.
+#[tactic(auto, using(crate::proofs::EditLaws::last_insert))]
+fn what_at<'a>(is_item: bool, is_there: bool, is_next: bool, plan: Plan<'a>) -> What<'a>
+    ensures what { here_of result ≡ here_at is_item is_there is_next plan.entry.path.now
+        (operation_of plan.entry.change.now) (λ t. edited_along plan.entry t) }
+    ensures size { what_size result ≤ 1 + plan_size plan.entry }
 {
-    if !rest.is_empty() {
-        return if is_there {
-            What::Below(Plan { path: rest, change })
-        } else {
-            What::Nothing
-        };
+    if !is_there {
+        return what_missing(is_next, plan);
     }
-    match change {
-        Change::Put(value) => {
-            if is_there {
-                What::Put(value)
-            } else {
-                What::Insert(value)
-            }
+    if !plan.path.is_empty() {
+        return What::Below(plan);
+    }
+    match plan.change {
+        Change::Put(value) => What::Put(value),
+        Change::Create(value) => What::Put(value),
+        Change::Insert(value) => insert_if(is_item, plan.path, value),
+        Change::Remove => What::Remove,
+    }
+}
+
+// What is done where no child is, with the steps that are left.
+#[tactic(auto, using(crate::proofs::EditLaws::missing_put, crate::proofs::EditLaws::missing_insert))]
+fn what_missing<'a>(is_next: bool, plan: Plan<'a>) -> What<'a>
+    ensures what { here_of result ≡ here_missing is_next plan.entry.path.now
+        (operation_of plan.entry.change.now) }
+    ensures size { what_size result ≤ 1 + plan_size plan.entry }
+{
+    let path = plan.path;
+    match plan.change {
+        Change::Put(value) => insert_if(path.is_empty(), path, value),
+        Change::Create(value) => insert_if(is_next && can_wrap(path), path, value),
+        Change::Insert(value) => insert_if(path.is_empty(), path, value),
+        Change::Remove => What::Nothing,
+    }
+}
+
+// A value in containers comes there, if it is wanted.
+fn insert_if<'a>(is_wanted: bool, path: &'a [Step<'a>], value: &'a Part<'a>) -> What<'a>
+    ensures what { here_of result
+        ≡ before_if is_wanted (wrapped path.entry.now (part_tree value.entry.now)) }
+    ensures size { what_size result
+        ≤ 1 + (length path.entry.now + length value.entry.now.payload.now) }
+{
+    if is_wanted {
+        What::Insert(Made { path, value })
+    } else {
+        What::Nothing
+    }
+}
+
+// Whether containers are made for all these steps.
+fn can_wrap(path: &[Step<'_>]) -> bool
+    ensures { result ≡ can_wrap path.now }
+{
+    let mut left = path;
+    while let [step, rest @ ..] = left {
+        if !makes_container(*step) {
+            return false;
         }
-        Change::Insert(value) => {
-            if is_there && !is_item {
-                What::Nothing
-            } else {
-                What::Insert(value)
-            }
-        }
-        Change::Remove => {
-            if is_there {
-                What::Remove
-            } else {
-                What::Nothing
-            }
-        }
+        left = rest;
+    }
+    true
+}
+
+// Whether a container is made for a step.
+fn makes_container(step: Step<'_>) -> bool
+    ensures { result ≡ makes_container step.entry }
+{
+    match step {
+        Step::Key(_) => true,
+        _ => is_next(step, 0),
+    }
+}
+
+// The level of a value in containers.
+fn made_level<'a>(made: Made<'a>) -> EditedLevel<'a>
+    ensures is { LevelIs code_of edit_meaning result (shape_of (made_tree made.entry)) }
+    ensures size { level_size edit_meaning result ≤ made_size made.entry }
+{
+    let [step, rest @ ..] = made.path else {
+        return lifted(Part::level(*made.value));
+    };
+    let what = What::Insert(Made {
+        path: rest,
+        value: made.value,
+    });
+    match *step {
+        Step::Key(key) => Level::Object(EditedObject {
+            object: no_members(),
+            before: 0,
+            key,
+            what,
+        }),
+        _ => Level::Array(EditedItems {
+            items: no_items(),
+            before: 0,
+            what,
+        }),
+    }
+}
+
+// An object of no member.
+fn no_members<'a>() -> Object<'a>
+    ensures are { IsObject result.count result.body.now no_pairs }
+    ensures size { length result.body.now ≡ 0 }
+{
+    Object {
+        count: 0,
+        body: &[],
+    }
+}
+
+// The items of an empty array.
+fn no_items<'a>() -> Children<'a>
+    ensures are { AreChildren no_trees result }
+    ensures size { items_size result ≡ 0 }
+{
+    Children {
+        entries: &[],
+        payloads: &[],
     }
 }
 
@@ -307,6 +426,7 @@ impl<'a> Source for Edited<'a> {
         match child {
             Edited::Kept(part) => lifted(Part::level(part)),
             Edited::Along(part, plan) => edited_level(part, plan),
+            Edited::Made(made) => made_level(made),
         }
     }
 
@@ -342,10 +462,10 @@ impl<'a> Source for Edited<'a> {
             return Some((Edited::Kept(part), later));
         }
         match what {
-            What::Insert(value) => Some((Edited::Kept(value), unchanged_items(items))),
+            What::Insert(made) => Some((Edited::Made(made), unchanged_items(items))),
             What::Put(value) => {
                 let Child { later, .. } = items.split_first()?;
-                Some((Edited::Kept(value), unchanged_items(later)))
+                Some((Edited::Kept(*value), unchanged_items(later)))
             }
             What::Below(plan) => {
                 let Child { part, later } = items.split_first()?;
@@ -409,15 +529,15 @@ impl<'a> Source for Edited<'a> {
             return Some((StoredEntry::of_text(key), (Edited::Kept(value), later)));
         }
         match what {
-            What::Insert(value) => Some((
+            What::Insert(made) => Some((
                 StoredEntry::of_text(new_key),
-                (Edited::Kept(value), unchanged_members(members)),
+                (Edited::Made(made), unchanged_members(members)),
             )),
             What::Put(value) => {
                 let Member { key, later, .. } = members.split_first()?;
                 Some((
                     StoredEntry::of_text(key),
-                    (Edited::Kept(value), unchanged_members(later)),
+                    (Edited::Kept(*value), unchanged_members(later)),
                 ))
             }
             What::Below(plan) => {
@@ -453,6 +573,7 @@ fn side_of(child: Edited<'_>, later: Children<'_>) -> Side {
     match child {
         Edited::Kept(part) => Side::shorter(part.payload.len(), later.stored_len()),
         Edited::Along(_, _) => Side::Later,
+        Edited::Made(made) => Side::shorter(made.value.payload.len(), later.stored_len()),
     }
 }
 

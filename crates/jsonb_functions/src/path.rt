@@ -1,7 +1,7 @@
 //! Paths into documents.
 
 ghost use Rattle.std.specs.Prelude.{◌≡◌, option_map};
-ghost use Rattle.jsonb_functions.specs.Words.{item_place, position_view};
+ghost use Rattle.jsonb_functions.specs.Words.{is_next, item_place, position_view};
 
 /// A step of a path: the value of a key, or an item of an array, counted from 0, from the start or
 /// from the end: `FromEnd(0)` is the last item.
@@ -18,6 +18,18 @@ pub enum Step<'a> {
 pub struct Position {
     pub before: usize,
     pub is_there: bool,
+}
+
+/// Whether a step leads to right after the last of so many items: their number does as an index,
+/// and so does the greatest index, which a path text has for `[#]`.
+#[inline(always)]
+pub fn is_next(step: Step<'_>, count: usize) -> bool
+    ensures { result ≡ is_next step.entry count }
+{
+    match step {
+        Step::Index(index) => index == count || index == usize::MAX,
+        _ => false,
+    }
 }
 
 /// The position of an item among so many. An index past the last is there after all items, and one
