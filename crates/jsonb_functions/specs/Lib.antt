@@ -3,6 +3,7 @@ pub mod ChosenSource
 pub mod Contains
 pub mod Edited
 pub mod EditSource
+pub mod Filter
 pub mod Found
 pub mod HashSink
 pub mod IndexHash

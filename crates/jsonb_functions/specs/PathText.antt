@@ -14,12 +14,14 @@ use Rattle.jsonb_functions.specs.declared.selection.Selector.{Selector}
 use Rattle.jsonb_functions.specs.declared.selection.Selector.TheVariants as selectors
 use Rattle.jsonb_functions.specs.StoredPath.{StepView, key, index, from_end, step_then}
 
--- A step of a path with wildcards, without where its key is stored.
+-- A step of a path with wildcards, without where its key is stored, and without the condition of a
+-- filter, which no text gives.
 pub data SelectorView : Type 0 where
   step : StepView → SelectorView
   all_items : SelectorView
   all_members : SelectorView
   range : Bound → Bound → SelectorView
+  filter : SelectorView
 
 abbrev pub selector_view : Selector → SelectorView
 selector_view (selectors.Key k) = step (key k.now)
@@ -28,6 +30,7 @@ selector_view (selectors.FromEnd i) = step (from_end i)
 selector_view selectors.AllItems = all_items
 selector_view selectors.AllMembers = all_members
 selector_view (selectors.Range first last) = range first last
+selector_view (selectors.Filter condition) = filter
 
 -- The step that leads to one value, if it is one.
 abbrev pub single_step : SelectorView → Option StepView
@@ -35,6 +38,7 @@ single_step (step s) = Some s
 single_step all_items = None
 single_step all_members = None
 single_step (range first last) = None
+single_step filter = None
 
 -- The steps of a path that each lead to one value, if each does.
 abbrev pub single_steps : List SelectorView → Option (List StepView)

@@ -13,8 +13,9 @@ use Rattle.jsonb_functions.specs.declared.selection.FirstItems.{FirstItems}
 use Rattle.jsonb_functions.specs.declared.selection.Selector.{Selector}
 use Rattle.jsonb_functions.specs.declared.selection.Selector.TheVariants.{AllItems, AllMembers}
 use Rattle.jsonb_functions.specs.declared.selection.Selector.TheVariants.{FromEnd, Index, Key}
-use Rattle.jsonb_functions.specs.declared.selection.Selector.TheVariants.{Range}
+use Rattle.jsonb_functions.specs.declared.selection.Selector.TheVariants.{Filter, Range}
 use Rattle.jsonb_functions.specs.Contains.{items_in}
+use Rattle.jsonb_functions.specs.Filter.{filtered}
 use Rattle.jsonb_functions.specs.Found.{child_at}
 
 -- How many of n items are before a bound.
@@ -37,7 +38,8 @@ abbrev pub member_trees : Tree → List Tree
 member_trees (object ps) = map (λ p. p.1) (pair_list ps)
 member_trees t = []
 
--- The children that a selector leads to, in the order in which they are stored.
+-- The children that a selector leads to, in the order in which they are stored; a filter leads to
+-- the tree itself.
 abbrev pub children_at : Selector → Tree → List Tree
 children_at (Key k) t = option_to_list (child_at (steps.Key k) t)
 children_at (Index i) t = option_to_list (child_at (steps.Index i) t)
@@ -45,6 +47,7 @@ children_at (FromEnd i) t = option_to_list (child_at (steps.FromEnd i) t)
 children_at AllItems t = tree_list (items_in t)
 children_at AllMembers t = member_trees t
 children_at (Range first last) t = between first last (tree_list (items_in t))
+children_at (Filter condition) t = filtered condition t
 
 -- What is at the ends of all ways that a path allows, in the order in which it is stored.
 abbrev pub selected : List Selector → Tree → List Tree

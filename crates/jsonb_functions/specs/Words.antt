@@ -32,6 +32,7 @@ pub use Rattle.jsonb_functions.specs.EditSource.{made_tree, operation_of, plan_s
 pub use Rattle.jsonb_functions.specs.Edited.{before_if, can_wrap, count_done, edited, edited_whole}
 pub use Rattle.jsonb_functions.specs.Edited.{has_key, here_at, here_missing, keys_before}
 pub use Rattle.jsonb_functions.specs.Edited.{makes_container, wrapped}
+pub use Rattle.jsonb_functions.specs.Filter.{compares, filtered, holds}
 pub use Rattle.jsonb_functions.specs.Found.{child_at, found_at}
 pub use Rattle.jsonb_functions.specs.IndexHash.{AppendsSome, AreAmong, IsAmong, hash_64}
 pub use Rattle.jsonb_functions.specs.IndexHash.{items_hashes, members_hashes, tree_hashes}

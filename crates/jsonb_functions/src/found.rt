@@ -10,7 +10,14 @@ use jsonb::{Document, Node};
 pub fn get_path<'a>(document: Document<'a>, path: &[Step<'_>]) -> Option<Node<'a>>
     ensures { option_map node_tree result ≡ found_at path.now (document_tree document.entry) }
 {
-    let mut node = document.value();
+    node_at(document.value(), path)
+}
+
+/// The value at the end of a path from another value.
+pub fn node_at<'a>(start: Node<'a>, path: &[Step<'_>]) -> Option<Node<'a>>
+    ensures { option_map node_tree result ≡ found_at path.now (node_tree start.entry) }
+{
+    let mut node = start;
     let mut left = path;
     while let [step, rest @ ..] = left {
         node = child_of(node, *step)?;

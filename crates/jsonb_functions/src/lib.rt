@@ -7,6 +7,7 @@ mod choice;
 mod chosen;
 mod containment;
 mod edit;
+mod filter;
 mod found;
 mod index;
 mod join;
@@ -27,6 +28,7 @@ pub use array_sets::{array_distinct, array_except, array_intersection, array_ove
 pub use choice::Kept;
 pub use containment::{contains, contains_within, exists};
 pub use edit::{Edit, edit_document};
+pub use filter::{Comparison, Condition};
 pub use found::get_path;
 pub use index::append_index_keys;
 pub use join::concat;

@@ -42,8 +42,8 @@ pub fn read_path_text<'a>(alloc: Global, text: &'a str) -> Result<Option<Vec<Sel
     Ok(Some(path))
 }
 
-/// The steps of a path without wildcards and ranges, as `get_path` and `edit_document` take them.
-/// `None` if it has any; `OutOfMemory`, the only error, if an allocation fails.
+/// The steps of a path without wildcards, ranges and filters, as `get_path` and `edit_document` take
+/// them. `None` if it has any; `OutOfMemory`, the only error, if an allocation fails.
 pub fn steps_of_path<'a>(
     alloc: Global,
     path: &[Selector<'a>],
@@ -64,7 +64,7 @@ pub fn steps_of_path<'a>(
     Ok(Some(steps))
 }
 
-// The step of a path without wildcards and ranges.
+// The step of a path without wildcards, ranges and filters.
 fn step_of<'a>(selector: Selector<'a>) -> Option<Step<'a>>
     ensures { option_map step_view result ≡ single_step (selector_view selector.entry) }
 {

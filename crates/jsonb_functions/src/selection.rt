@@ -3,10 +3,12 @@
 ghost use Rattle.std.specs.Prelude.{◌≡◌, ◌++◌, IfErr, IfOk, OnOk, drop, length, map, option_map};
 ghost use Rattle.std.specs.Prelude.{is_some};
 ghost use Rattle.jsonb_functions.specs.Words.{YieldsFirstBy, between, children_at, chosen_trees};
-ghost use Rattle.jsonb_functions.specs.Words.{document_tree, first_tree, first_trees, items_before};
+ghost use Rattle.jsonb_functions.specs.Words.{document_tree, filtered, first_tree, first_trees};
+ghost use Rattle.jsonb_functions.specs.Words.{items_before};
 ghost use Rattle.jsonb_functions.specs.Words.{items_in, items_through, member_trees, node_tree};
 ghost use Rattle.jsonb_functions.specs.Words.{rest_trees, selected, tree_list};
 
+use crate::filter::{Condition, holds};
 use crate::found::child_of;
 use crate::path::Step;
 use crate::walk::{next_item, next_member};
@@ -22,8 +24,8 @@ pub enum Bound {
 }
 
 /// A step of a path with wildcards: the value of a key, an item of an array from the start or the
-/// end, each item of an array, each member's value of an object, or the items of an array from one
-/// to another, both included.
+/// end, each item of an array, each member's value of an object, the items of an array from one to
+/// another, both included, or the value itself if a condition on it holds.
 #[derive(Clone, Copy, Debug)]
 pub enum Selector<'a> {
     Key(&'a str),
@@ -32,6 +34,7 @@ pub enum Selector<'a> {
     AllItems,
     AllMembers,
     Range { first: Bound, last: Bound },
+    Filter(Condition<'a>),
 }
 
 /// So many of the items that are left in a walk over them.
@@ -130,6 +133,18 @@ fn children_of<'a>(node: Node<'a>, selector: Selector<'_>) -> Chosen<'a>
         Selector::AllItems => items_between(node, Bound::FromStart(0), Bound::FromEnd(0)),
         Selector::AllMembers => values_of(node),
         Selector::Range { first, last } => items_between(node, first, last),
+        Selector::Filter(condition) => filtered(node, condition),
+    }
+}
+
+// The value itself, if the condition on it holds.
+fn filtered<'a>(node: Node<'a>, condition: Condition<'_>) -> Chosen<'a>
+    ensures { chosen_trees result ≡ filtered condition.entry (node_tree node.entry) }
+{
+    if holds(node, condition) {
+        Chosen::Child(Some(node))
+    } else {
+        Chosen::Child(None)
     }
 }
 
