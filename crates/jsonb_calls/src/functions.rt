@@ -1,9 +1,9 @@
 // The functions over documents, on examples of PostgreSQL's documentation of `jsonb`.
 use jsonb::{Document, Error, Node, Number, NumberItem, OwnedJsonb};
 use jsonb_functions::{
-    Bound, Edit, Selector, Step, append_index_keys, append_top_keys, concat, contains,
-    document_of_path, edit_document, exists, exists_path, get_path, merge_patch, read_path,
-    read_path_text, select, select_first, steps_of_path, strip_nulls, top_key,
+    Bound, Comparison, Condition, Edit, Selector, Step, append_index_keys, append_top_keys, concat,
+    contains, document_of_path, edit_document, exists, exists_path, get_path, merge_patch,
+    read_path, read_path_text, select, select_first, steps_of_path, strip_nulls, top_key,
 };
 use std::alloc::Global;
 use std::test::Fail;
@@ -127,42 +127,8 @@ fn paths_given_as_documents(rt: HostRuntime) -> Result<(), Fail> {
     Ok(())
 }
 
-// A part of PostgreSQL's example of a track, and paths with wildcards with the numbers to which
-// they lead.
+// A part of PostgreSQL's example of a track.
 const TRACK: &str = "{\"segments\":[{\"HR\":73,\"at\":[47,13]},{\"HR\":135,\"at\":[46,12]}]}";
-
-const SELECTED: &[(&[Selector<'static>], &[u64])] = &[
-    (
-        &[
-            Selector::Key("segments"),
-            Selector::AllItems,
-            Selector::Key("HR"),
-        ],
-        &[73, 135],
-    ),
-    (
-        &[
-            Selector::AllMembers,
-            Selector::FromEnd(0),
-            Selector::AllMembers,
-            Selector::AllItems,
-        ],
-        &[46, 12],
-    ),
-    (
-        &[
-            Selector::Key("segments"),
-            Selector::Range {
-                first: Bound::FromStart(1),
-                last: Bound::FromEnd(0),
-            },
-            Selector::Key("at"),
-            Selector::Index(1),
-        ],
-        &[12],
-    ),
-    (&[Selector::AllItems], &[]),
-];
 
 // The node of a number.
 fn number_node(number: u64) -> Node<'static> {
@@ -182,17 +148,44 @@ fn are_numbers(nodes: &[Node], numbers: &[u64]) -> bool {
     true
 }
 
+// Whether a path leads to these numbers in `TRACK`, and to nothing else.
+fn leads_to(alloc: Global, path: &[Selector], numbers: &[u64]) -> Result<bool, Error> {
+    let owned = OwnedJsonb::parse(alloc, TRACK)?;
+    let document = document_of(&owned)?;
+    let nodes = select(alloc, document, path)?;
+    let first = numbers.first().map(|number| number_node(*number));
+    let is_first = select_first(document, path) == first;
+    let exists = exists_path(document, path) != numbers.is_empty();
+    Ok(are_numbers(&nodes, numbers) && is_first && exists)
+}
+
 #[test]
 fn values_selected_by_paths_with_wildcards(rt: HostRuntime) -> Result<(), Fail> {
-    let owned = OwnedJsonb::parse(rt.alloc(), TRACK)?;
-    let document = document_of(&owned)?;
-    for &(path, numbers) in SELECTED {
-        let nodes = select(rt.alloc(), document, path)?;
-        assert!(rt; are_numbers(&nodes, numbers));
-        assert!(rt; exists_path(document, path) != numbers.is_empty());
-        let first = numbers.first().map(|number| number_node(*number));
-        assert!(rt; select_first(document, path) == first);
-    }
+    let rates = [
+        Selector::Key("segments"),
+        Selector::AllItems,
+        Selector::Key("HR"),
+    ];
+    assert!(rt; leads_to(rt.alloc(), &rates, &[73, 135])?);
+    let last = [
+        Selector::AllMembers,
+        Selector::FromEnd(0),
+        Selector::AllMembers,
+        Selector::AllItems,
+    ];
+    assert!(rt; leads_to(rt.alloc(), &last, &[46, 12])?);
+    let range = Selector::Range {
+        first: Bound::FromStart(1),
+        last: Bound::FromEnd(0),
+    };
+    let second = [
+        Selector::Key("segments"),
+        range,
+        Selector::Key("at"),
+        Selector::Index(1),
+    ];
+    assert!(rt; leads_to(rt.alloc(), &second, &[12])?);
+    assert!(rt; leads_to(rt.alloc(), &[Selector::AllItems], &[])?);
     Ok(())
 }
 
@@ -239,6 +232,24 @@ fn paths_given_as_texts(rt: HostRuntime) -> Result<(), Fail> {
         let selects = text_selects(rt.alloc(), document, text, numbers.unwrap_or(&[]))?;
         assert!(rt; selects == numbers.map(|_| true), "{text}");
     }
+    Ok(())
+}
+
+#[test]
+fn values_kept_by_a_filter(rt: HostRuntime) -> Result<(), Fail> {
+    let limit = OwnedJsonb::parse(rt.alloc(), "130")?;
+    let condition = Condition {
+        path: &[Step::Key("HR")],
+        comparison: Comparison::Greater,
+        value: document_of(&limit)?,
+    };
+    let path = [
+        Selector::Key("segments"),
+        Selector::AllItems,
+        Selector::Filter(condition),
+        Selector::Key("HR"),
+    ];
+    assert!(rt; leads_to(rt.alloc(), &path, &[135])?);
     Ok(())
 }
 
@@ -319,6 +330,37 @@ fn a_value_inserted_before_an_item(rt: HostRuntime) -> Result<(), Fail> {
     let path = [Step::Key("a"), Step::Index(1)];
     let made = edited(rt.alloc(), "{\"a\":[0,1,2]}", &path, "\"new_value\"", false)?;
     assert!(rt; is_made_of(rt.alloc(), made, "{\"a\":[0,\"new_value\",1,2]}")?);
+    Ok(())
+}
+
+// A text, the text of a path, and what `json_set` of SQLite makes of them with 9.
+const CREATED: &[(&str, &str, &str)] = &[
+    ("{}", "$.a.b", "{\"a\":{\"b\":9}}"),
+    ("{}", "$.a[0].b", "{\"a\":[{\"b\":9}]}"),
+    ("{}", "$.a[1]", "{}"),
+    ("{\"a\":1}", "$.a.b", "{\"a\":1}"),
+    ("[1]", "$[1].a.b[0].c", "[1,{\"a\":{\"b\":[{\"c\":9}]}}]"),
+    ("[1]", "$[#].a", "[1,{\"a\":9}]"),
+    ("[1]", "$[5]", "[1]"),
+    ("1", "$", "9"),
+];
+
+// A text's value, with 9 created at the end of the path that another text gives.
+fn created(alloc: Global, text: &str, path: &str) -> Result<OwnedJsonb, Error> {
+    let owned = OwnedJsonb::parse(alloc, text)?;
+    let nine = OwnedJsonb::parse(alloc, "9")?;
+    let path = read_path_text(alloc, path)?.ok_or(Error::InvalidJson)?;
+    let steps = steps_of_path(alloc, &path)?.ok_or(Error::InvalidJson)?;
+    let edit = Edit::Create(document_of(&nine)?);
+    edit_document(alloc, document_of(&owned)?, &steps, edit)
+}
+
+#[test]
+fn values_created_in_containers(rt: HostRuntime) -> Result<(), Fail> {
+    for &(text, path, expected) in CREATED {
+        let made = created(rt.alloc(), text, path)?;
+        assert!(rt; is_made_of(rt.alloc(), made, expected)?, "{text} at {path}");
+    }
     Ok(())
 }
 
