@@ -32,14 +32,14 @@
  * STACK: calls on documents recurse as deep as a document nests. KOHIBLAD_LEVEL_STACK bytes for
  * each level, and KOHIBLAD_CALL_STACK beside them, are enough: 64 levels need 72 KB, and 1,000
  * levels 1,008 KB. So pass untrusted bytes through kohiblad_check. kohiblad_key, contains, exists,
- * concat, edit, get_path, select, index_keys, top_keys and each call whose name ends in _within
- * look no deeper than their depth: to them a document that nests deeper is no document. parse and
- * text_fault do not recurse, but the depth given to kohiblad_parse is also how deep its document
- * nests. kohiblad_edit takes KOHIBLAD_EDIT_LEVEL_STACK bytes for each level of its result, which
- * may nest as deep as the path is long and the value nests together, also where these are within
- * the depth; the result of kohiblad_concat may nest one level deeper than that. kind, get, find,
- * part, begin, next, of_part, array_item, object_member, and the calls on scalars do not recurse
- * either.
+ * concat, merge_patch, strip_nulls, edit, get_path, select, index_keys, top_keys and each call
+ * whose name ends in _within look no deeper than their depth: to them a document that nests deeper
+ * is not a document. parse and text_fault do not recurse, but the depth given to kohiblad_parse is
+ * also how deep its document nests. kohiblad_edit takes KOHIBLAD_EDIT_LEVEL_STACK bytes for each
+ * level of its result, which may nest as deep as the path is long and the value nests together,
+ * also where these are within the depth; the result of kohiblad_concat may nest one level deeper
+ * than that. kind, get, find, part, begin, next, of_part, array_item, object_member, and the calls
+ * on scalars do not recurse either.
  *
  * NULL is allowed for bytes, texts, offsets, out and order whose length is 0, and for `key` of
  * kohiblad_next. A `length` and a cursor are never null.
@@ -79,7 +79,8 @@ enum kohiblad_exponents { KOHIBLAD_EXPONENTS_FORBIDDEN = 0, KOHIBLAD_EXPONENTS_A
 enum kohiblad_edit_kind {
     KOHIBLAD_PUT = 0,    /* the value comes in place of what is there, or is added */
     KOHIBLAD_INSERT = 1, /* the value comes before an item, or as a member with a new key */
-    KOHIBLAD_REMOVE = 2  /* what is there goes; no value is read */
+    KOHIBLAD_REMOVE = 2, /* what is there goes; no value is read */
+    KOHIBLAD_CREATE = 3  /* as KOHIBLAD_PUT, and what the path lacks is made */
 };
 
 /* What a call returns. */
@@ -547,6 +548,27 @@ static inline uint32_t kohiblad_concat(const uint8_t *left, size_t left_size,
     const uint8_t *right, size_t right_size, size_t depth, uint8_t *out, size_t room,
     size_t *length) KOHIBLAD_INLINE("kohiblad_concat");
 
+/* Copies the canonical document of a document that is changed by a JSON Merge Patch (RFC 7396) to
+ * `out`. A patch that is not an object takes the place of the target. Each member of one that is an
+ * object removes the member with its key if it is null, and else patches the value of that member,
+ * or an empty object if there is no such member; a target that is not an object counts as an empty
+ * one. INVALID_JSONB: one of them is not a document of at most this depth, or the result is past a
+ * limit of the format. A scalar has depth 0, an array or object one more than its deepest child,
+ * and at least 1. Looks no deeper. NO_ROOM if `out` has no room for the document. OUT_OF_MEMORY if
+ * an allocation fails. Takes memory. */
+static inline uint32_t kohiblad_merge_patch(const uint8_t *target, size_t target_size,
+    const uint8_t *patch, size_t patch_size, size_t depth, uint8_t *out, size_t room,
+    size_t *length) KOHIBLAD_INLINE("kohiblad_merge_patch");
+
+/* Copies the canonical document of a document without the members that are null, in each object in
+ * it, to `out`. Items that are null stay, and so does a document that is null itself.
+ * INVALID_JSONB: the bytes are not a document of at most this depth, or the result is past a limit
+ * of the format. A scalar has depth 0, an array or object one more than its deepest child, and at
+ * least 1. Looks no deeper. NO_ROOM if `out` has no room for the document. OUT_OF_MEMORY if an
+ * allocation fails. Takes memory. */
+static inline uint32_t kohiblad_strip_nulls(const uint8_t *bytes, size_t size, size_t depth,
+    uint8_t *out, size_t room, size_t *length) KOHIBLAD_INLINE("kohiblad_strip_nulls");
+
 /* Copies the canonical document of a document that is edited at the end of a path to `out`. `path`
  * is the document of an array: a text for the value of a key, a whole number for an item of an
  * array, counted from 0, or from -1 at the end. `edit` is one of enum kohiblad_edit_kind, and
@@ -554,12 +576,13 @@ static inline uint32_t kohiblad_concat(const uint8_t *left, size_t left_size,
  * and one before the first comes before it. At the empty path a value is put in place of the whole.
  * Nothing else changes there, nor if a step leads nowhere, as a key into an array does, if a member
  * is inserted whose key is there, or what is removed is not there; the result is then the canonical
- * form of the document. INVALID_JSONB: the bytes or the value are not a document of at most this
- * depth, the path is not a document, or the result is past a limit of the format. OTHER_KIND: the
- * path is not an array of texts and whole numbers of 64 bits without a point, or there is no such
- * edit. A scalar has depth 0, an array or object one more than its deepest child, and at least 1.
- * Looks no deeper. NO_ROOM if `out` has no room for the document. OUT_OF_MEMORY if an allocation
- * fails. Takes memory. */
+ * form of the document. KOHIBLAD_CREATE makes an object for each missing key, and an array for the
+ * index 0; it adds an item right after the last one only, and changes nothing past that.
+ * INVALID_JSONB: the bytes, the path or the value are not a document of at most this depth, or the
+ * result is past a limit of the format. OTHER_KIND: the path is not an array of texts and whole
+ * numbers of 64 bits without a point, or there is no such edit. A scalar has depth 0, an array or
+ * object one more than its deepest child, and at least 1. Looks no deeper. NO_ROOM if `out` has no
+ * room for the document. OUT_OF_MEMORY if an allocation fails. Takes memory. */
 static inline uint32_t kohiblad_edit(const uint8_t *bytes, size_t size, const uint8_t *path,
     size_t path_size, uint32_t edit, const uint8_t *value, size_t value_size, size_t depth,
     uint8_t *out, size_t room, size_t *length) KOHIBLAD_INLINE("kohiblad_edit");
@@ -720,6 +743,11 @@ struct kohiblad_truth kohiblad_export_exists(const uint8_t *bytes, size_t size,
 uint32_t kohiblad_export_concat(const uint8_t *left, size_t left_size, const uint8_t *right,
     size_t right_size, size_t depth, uint8_t *out, size_t room, size_t *length)
     KOHIBLAD_EXPORT("kohiblad_concat");
+uint32_t kohiblad_export_merge_patch(const uint8_t *target, size_t target_size,
+    const uint8_t *patch, size_t patch_size, size_t depth, uint8_t *out, size_t room,
+    size_t *length) KOHIBLAD_EXPORT("kohiblad_merge_patch");
+uint32_t kohiblad_export_strip_nulls(const uint8_t *bytes, size_t size, size_t depth,
+    uint8_t *out, size_t room, size_t *length) KOHIBLAD_EXPORT("kohiblad_strip_nulls");
 uint32_t kohiblad_export_edit(const uint8_t *bytes, size_t size, const uint8_t *path,
     size_t path_size, uint32_t edit, const uint8_t *value, size_t value_size, size_t depth,
     uint8_t *out, size_t room, size_t *length) KOHIBLAD_EXPORT("kohiblad_edit");
@@ -1067,6 +1095,24 @@ static inline uint32_t kohiblad_concat(const uint8_t *left, size_t left_size,
         return KOHIBLAD_OVERLAP;
     return kohiblad_export_concat(kohiblad_in(left), left_size, kohiblad_in(right), right_size,
         depth, kohiblad_out(out), room, length);
+}
+static inline uint32_t kohiblad_merge_patch(const uint8_t *target, size_t target_size,
+    const uint8_t *patch, size_t patch_size, size_t depth, uint8_t *out, size_t room,
+    size_t *length) {
+    if (!kohiblad_is_room(out, room, length)
+        || !kohiblad_is_apart(out, room, length, target, target_size)
+        || !kohiblad_is_apart(out, room, length, patch, patch_size))
+        return KOHIBLAD_OVERLAP;
+    return kohiblad_export_merge_patch(kohiblad_in(target), target_size, kohiblad_in(patch),
+        patch_size, depth, kohiblad_out(out), room, length);
+}
+static inline uint32_t kohiblad_strip_nulls(const uint8_t *bytes, size_t size, size_t depth,
+    uint8_t *out, size_t room, size_t *length) {
+    if (!kohiblad_is_room(out, room, length)
+        || !kohiblad_is_apart(out, room, length, bytes, size))
+        return KOHIBLAD_OVERLAP;
+    return kohiblad_export_strip_nulls(kohiblad_in(bytes), size, depth, kohiblad_out(out), room,
+        length);
 }
 static inline uint32_t kohiblad_edit(const uint8_t *bytes, size_t size, const uint8_t *path,
     size_t path_size, uint32_t edit, const uint8_t *value, size_t value_size, size_t depth,

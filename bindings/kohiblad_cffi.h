@@ -8,7 +8,8 @@ enum kohiblad_exponents { KOHIBLAD_EXPONENTS_FORBIDDEN = 0, KOHIBLAD_EXPONENTS_A
 enum kohiblad_edit_kind {
     KOHIBLAD_PUT = 0,
     KOHIBLAD_INSERT = 1,
-    KOHIBLAD_REMOVE = 2
+    KOHIBLAD_REMOVE = 2,
+    KOHIBLAD_CREATE = 3
 };
 
 enum kohiblad_status {
@@ -189,6 +190,10 @@ struct kohiblad_truth kohiblad_exists(const uint8_t *bytes, size_t size, const u
     size_t key_size, size_t depth);
 uint32_t kohiblad_concat(const uint8_t *left, size_t left_size, const uint8_t *right,
     size_t right_size, size_t depth, uint8_t *out, size_t room, size_t *length);
+uint32_t kohiblad_merge_patch(const uint8_t *target, size_t target_size, const uint8_t *patch,
+    size_t patch_size, size_t depth, uint8_t *out, size_t room, size_t *length);
+uint32_t kohiblad_strip_nulls(const uint8_t *bytes, size_t size, size_t depth, uint8_t *out,
+    size_t room, size_t *length);
 uint32_t kohiblad_edit(const uint8_t *bytes, size_t size, const uint8_t *path, size_t path_size,
     uint32_t edit, const uint8_t *value, size_t value_size, size_t depth, uint8_t *out, size_t room,
     size_t *length);

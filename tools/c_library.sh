@@ -111,8 +111,8 @@ build depths -pthread
 for kilobytes in 64 256 1024; do
     for shape in a o; do
         for call in check is_document is_canonical compare compare_within sort_within to_string \
-            to_pretty to_canonical build_array contains concat index_keys edit get_path \
-            select; do
+            to_pretty to_canonical build_array contains concat merge_patch strip_nulls index_keys \
+            edit get_path select; do
             level=$document_level
             [ $call = edit ] && level=$edit_level
             levels=$(((kilobytes * 1024 - call_stack) / level))

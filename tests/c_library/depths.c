@@ -69,6 +69,10 @@ static void *work(void *unused) {
             != KOHIBLAD_INVALID_JSONB;
         status |= kohiblad_concat(in, in_size, in, in_size, 64, out, room, &length)
             != KOHIBLAD_INVALID_JSONB;
+        status |= kohiblad_merge_patch(in, in_size, in, in_size, 64, out, room, &length)
+            != KOHIBLAD_INVALID_JSONB;
+        status |= kohiblad_strip_nulls(in, in_size, 64, out, room, &length)
+            != KOHIBLAD_INVALID_JSONB;
         status |= kohiblad_edit(in, in_size, in, in_size, KOHIBLAD_REMOVE, NULL, 0, 64, out, room,
                                 &length) != KOHIBLAD_INVALID_JSONB;
         status |= kohiblad_get_path(in, in_size, in, in_size, 64).status != KOHIBLAD_INVALID_JSONB;
@@ -97,6 +101,10 @@ static void *work(void *unused) {
         status = kohiblad_contains(in, in_size, in, in_size, levels, SIZE_MAX).value != 1;
     else if (!strcmp(name, "concat"))
         status = kohiblad_concat(in, in_size, in, in_size, levels, out, 0, &length);
+    else if (!strcmp(name, "merge_patch"))
+        status = kohiblad_merge_patch(in, in_size, in, in_size, levels, out, room, &length);
+    else if (!strcmp(name, "strip_nulls"))
+        status = kohiblad_strip_nulls(in, in_size, levels, out, room, &length);
     else if (!strcmp(name, "edit")) {
         size_t path_size;
         uint8_t *path = path_of(&path_size);

@@ -456,11 +456,46 @@ static void index_within(struct block b, struct block other, bool shallow, size_
 }
 
 /* The value of the key a, put and removed. */
+/* A patch, merged once and once more, and what is left without nulls. */
+static void patch_within(struct block b, struct block other, bool shallow, bool are, size_t depth,
+                         struct block out) {
+    static uint8_t again[1 << 16];
+    uint32_t status;
+    size_t length, found;
+    ANSWER(status, out, length,
+           kohiblad_merge_patch(b.at, b.size, other.at, other.size, depth, out.at, out.size,
+                                &length));
+    if (!are) {
+        assert(status == KOHIBLAD_INVALID_JSONB);
+    } else if (status == KOHIBLAD_OK) {
+        assert(kohiblad_is_canonical(out.at, length));
+        if (kohiblad_kind(other.at, other.size).kind == KOHIBLAD_OBJECT)
+            status = kohiblad_merge_patch(out.at, length, other.at, other.size, depth, again,
+                                          sizeof again, &found);
+        else
+            status = kohiblad_to_canonical(other.at, other.size, again, sizeof again, &found);
+        assert(status == KOHIBLAD_OK && found == length && !memcmp(again, out.at, length));
+    } else {
+        assert(status == KOHIBLAD_NO_ROOM);
+    }
+    ANSWER(status, out, length,
+           kohiblad_strip_nulls(b.at, b.size, depth, out.at, out.size, &length));
+    if (!shallow) {
+        assert(status == KOHIBLAD_INVALID_JSONB);
+    } else if (status == KOHIBLAD_OK) {
+        assert(kohiblad_is_canonical(out.at, length));
+        assert(!kohiblad_strip_nulls(out.at, length, depth, again, sizeof again, &found));
+        assert(found == length && !memcmp(again, out.at, length));
+    } else {
+        assert(status == KOHIBLAD_NO_ROOM);
+    }
+}
+
 static void edit_within(struct block b, struct block other, bool shallow, bool is_other,
                         size_t depth, struct block out) {
     static const uint8_t a[] = { 0x80, 0, 0, 1, 0x10, 0, 0, 1, 'a' };
     static uint8_t canonical[1 << 16], got[1 << 16];
-    uint32_t status, edit = below(4);
+    uint32_t status, edit = below(5);
     size_t length, needed, found;
     ANSWER(status, out, length,
            kohiblad_edit(b.at, b.size, a, sizeof a, edit, other.at, other.size, depth + 1, out.at,
@@ -469,11 +504,11 @@ static void edit_within(struct block b, struct block other, bool shallow, bool i
         assert(status == KOHIBLAD_INVALID_JSONB);
         return;
     }
-    if (edit > KOHIBLAD_REMOVE) {
+    if (edit > KOHIBLAD_CREATE) {
         assert(status == KOHIBLAD_OTHER_KIND);
         return;
     }
-    if (edit < KOHIBLAD_REMOVE && !is_other && !kohiblad_check(other.at, other.size, depth + 1)) {
+    if (edit != KOHIBLAD_REMOVE && !is_other && !kohiblad_check(other.at, other.size, depth + 1)) {
         assert(status == KOHIBLAD_INVALID_JSONB);
         return;
     }
@@ -489,7 +524,7 @@ static void edit_within(struct block b, struct block other, bool shallow, bool i
     status = kohiblad_get(out.at, length, (const uint8_t *)"a", 1, got, sizeof got, &found);
     if (edit == KOHIBLAD_REMOVE) {
         assert(status == KOHIBLAD_NONE);
-    } else if (edit == KOHIBLAD_PUT || !had) {
+    } else if (edit != KOHIBLAD_INSERT || !had) {
         assert(!kohiblad_to_canonical(other.at, other.size, canonical, sizeof canonical, &needed));
         assert(status == KOHIBLAD_OK && found == needed && !memcmp(got, canonical, found));
     } else {
@@ -620,6 +655,7 @@ static void answer_functions(struct block b, struct block other, size_t depth, s
     } else {
         assert(status == KOHIBLAD_NO_ROOM);
     }
+    patch_within(b, other, shallow, are, depth, out);
     edit_within(b, other, shallow, is_other, depth, out);
     path_within(b, shallow, depth);
     select_within(b, shallow, depth, kohiblad_kind(b.at, b.size));

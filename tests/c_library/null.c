@@ -65,6 +65,8 @@ int main(void) {
     assert(kohiblad_exists(null, sizeof null, NULL, 0, 0).status == KOHIBLAD_OK);
     assert(kohiblad_concat(NULL, 0, NULL, 0, 9, NULL, 0, &length) == KOHIBLAD_INVALID_JSONB);
     assert(length == 0);
+    assert(kohiblad_merge_patch(NULL, 0, NULL, 0, 9, NULL, 0, &length) == KOHIBLAD_INVALID_JSONB);
+    assert(kohiblad_strip_nulls(NULL, 0, 9, NULL, 0, &length) == KOHIBLAD_INVALID_JSONB);
     assert(kohiblad_edit(NULL, 0, NULL, 0, KOHIBLAD_REMOVE, NULL, 0, 9, NULL, 0, &length)
            == KOHIBLAD_INVALID_JSONB);
     assert(kohiblad_edit(null, sizeof null, null, sizeof null, KOHIBLAD_REMOVE, NULL, 0, 9, NULL, 0,
@@ -109,6 +111,9 @@ int main(void) {
     assert(kohiblad_to_canonical_within(block, 8, 0, block, 64, &length) == KOHIBLAD_OVERLAP);
     assert(kohiblad_concat(block, 8, null, 8, 0, block, 64, &length) == KOHIBLAD_OVERLAP);
     assert(kohiblad_concat(null, 8, block, 8, 0, block, 64, &length) == KOHIBLAD_OVERLAP);
+    assert(kohiblad_merge_patch(block, 8, null, 8, 0, block, 64, &length) == KOHIBLAD_OVERLAP);
+    assert(kohiblad_merge_patch(null, 8, block, 8, 0, block, 64, &length) == KOHIBLAD_OVERLAP);
+    assert(kohiblad_strip_nulls(block, 8, 0, block, 64, &length) == KOHIBLAD_OVERLAP);
     assert(kohiblad_edit(null, 8, block, 8, KOHIBLAD_PUT, null, 8, 0, block, 64, &length)
            == KOHIBLAD_OVERLAP);
     assert(kohiblad_edit(null, 8, null, 8, KOHIBLAD_PUT, block, 8, 0, block, 64, &length)

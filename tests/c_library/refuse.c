@@ -26,7 +26,7 @@ void *__wrap_realloc(void *block, size_t size) {
 
 static const char text[] = "{\"a\":1,\"b\":[true,\"\\u00e9\"],"
                            "\"c\":{\"d\":\"e\",\"f\":-12.5,\"g\":[[],{}]}}";
-enum { ROOM = 1024, CALLS = 34 };
+enum { ROOM = 1024, CALLS = 36 };
 static uint8_t document[ROOM], pairs[ROOM];
 static size_t size, offsets[5], pairs_size, order[4];
 static uint64_t keys[ROOM / 8];
@@ -36,7 +36,7 @@ static size_t path_size;
 
 static bool takes_memory(int which) {
     return which < 7 || (which > 13 && which < 21) || (which > 22 && which < 28)
-        || (which > 29 && which < 33);
+        || (which > 29 && which < 35);
 }
 
 static uint32_t call(int which, uint8_t *out, size_t *length) {
@@ -95,6 +95,9 @@ static uint32_t call(int which, uint8_t *out, size_t *length) {
     case 32:
         return kohiblad_select(document, size, (const uint8_t *)"$.*", 3, 8, places, ROOM / 8,
                                length);
+    case 33:
+        return kohiblad_merge_patch(document, size, document, size, 8, out, ROOM, length);
+    case 34: return kohiblad_strip_nulls(document, size, 8, out, ROOM, length);
     default: return kohiblad_is_canonical(document, size) ? KOHIBLAD_OK : KOHIBLAD_INVALID_JSONB;
     }
 }

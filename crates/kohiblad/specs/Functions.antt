@@ -9,9 +9,8 @@ use Rattle.jsonb_value.specs.Tree.{Tree}
 use Rattle.jsonb_codec.specs.Canon.{canon, Fits}
 use Rattle.jsonb_codec.specs.Depth.{size}
 use Rattle.jsonb_functions.specs.Contains.{contains_whole, has_top_key}
-use Rattle.jsonb_functions.specs.Edited.{Operation, edited_whole, insert, put, remove}
+use Rattle.jsonb_functions.specs.Edited.{Operation, create, edited_whole, insert, put, remove}
 use Rattle.jsonb_functions.specs.EditSource.{edit_operation}
-use Rattle.jsonb_functions.specs.Joined.{joined}
 use Rattle.kohiblad.specs.Scalars.{no_truth, truth_of}
 use Rattle.jsonb_functions.specs.StoredPath.{StepView, path_in, step_view}
 use Rattle.jsonb_functions.specs.declared.edit.Edit.{Edit}
@@ -42,10 +41,15 @@ WritesTo t (Err InvalidJsonb) = Fits t → ⊥
 WritesTo t (Err OutOfMemory) = Fits t
 WritesTo t (Err e) = ⊥
 
--- The result of joining two documents; bytes that are not a document are refused.
-abbrev pub JoinsTo : Meaning → Meaning → Result (List ℕ) Error → Type 0
-JoinsTo (document t) (document u) r = WritesTo (joined t u) r
-JoinsTo m n r = r ≡ Err InvalidJsonb
+-- The result of making a document of another one; bytes that are not a document are refused.
+abbrev pub MakesOfOne : (Tree → Tree) → Meaning → Result (List ℕ) Error → Type 0
+MakesOfOne f (document t) r = WritesTo (f t) r
+MakesOfOne f (other_bytes b) r = r ≡ Err InvalidJsonb
+
+-- The result of making a document of two; bytes that are not a document are refused.
+abbrev pub MakesOfTwo : (Tree → Tree → Tree) → Meaning → Meaning → Result (List ℕ) Error → Type 0
+MakesOfTwo f (document t) (document u) r = WritesTo (f t u) r
+MakesOfTwo f m n r = r ≡ Err InvalidJsonb
 
 -- The index keys of a document are handed over, or there is not enough memory; bytes that are not a
 -- document are refused.
@@ -57,14 +61,16 @@ AreKeysWritten keys (other_bytes b) before after size status =
     IsRefused (code InvalidJsonb) before after size status
 
 -- What an edit does, by its number and the meaning of the value: 0 puts it, 1 inserts it, 2
--- removes. Or the status that refuses it.
+-- removes, 3 puts it and makes what the path lacks. Or the status that refuses it.
 abbrev pub operation_asked : ℕ → Meaning → Result Operation ℕ
 operation_asked zero (document u) = Ok (put u)
 operation_asked zero (other_bytes b) = Err (code InvalidJsonb)
 operation_asked (suc zero) (document u) = Ok (insert u)
 operation_asked (suc zero) (other_bytes b) = Err (code InvalidJsonb)
 operation_asked (suc (suc zero)) m = Ok remove
-operation_asked (suc (suc (suc n))) m = Err other_kind
+operation_asked (suc (suc (suc zero))) (document u) = Ok (create u)
+operation_asked (suc (suc (suc zero))) (other_bytes b) = Err (code InvalidJsonb)
+operation_asked (suc (suc (suc (suc n)))) m = Err other_kind
 
 -- The tree is edited at the end of a path, if there is one, or the edit is refused.
 abbrev pub IsTreeEdited : Tree → Option (List StepView) → Result Operation ℕ → List ℕ → List ℕ → ℕ

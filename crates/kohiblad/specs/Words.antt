@@ -29,12 +29,16 @@ pub use Rattle.jsonb_comparable.specs.CheckedBytes.{checked_meaning}
 pub use Rattle.jsonb_comparable.specs.TreeKey.{meaning_key}
 pub use Rattle.jsonb_comparable.specs.Within.{meaning_within}
 pub use Rattle.jsonb_functions.specs.IndexHash.{tree_hashes}
+pub use Rattle.jsonb_functions.specs.Joined.{joined}
+pub use Rattle.jsonb_functions.specs.Patched.{patched}
+pub use Rattle.jsonb_functions.specs.Stripped.{stripped}
 pub use Rattle.jsonb_functions.specs.TopKeys.{top_hashes}
 pub use Rattle.kohiblad.specs.BoundedMeaning.{bounded_meaning}
 pub use Rattle.kohiblad.specs.Children.{CanMove, IsBegun, IsChildIn, child_at_cursor}
 pub use Rattle.kohiblad.specs.Children.{cursor_after, cursor_at}
 pub use Rattle.kohiblad.specs.Children.{key_answer, numbered_child, value_answer}
-pub use Rattle.kohiblad.specs.Functions.{AreKeysWritten, IsContainedAnswer, IsEdited, JoinsTo}
+pub use Rattle.kohiblad.specs.Functions.{AreKeysWritten, IsContainedAnswer, IsEdited}
+pub use Rattle.kohiblad.specs.Functions.{MakesOfOne, MakesOfTwo}
 pub use Rattle.kohiblad.specs.Functions.{exists_answer, operation_in, operation_asked}
 pub use Rattle.kohiblad.specs.KindAnswer.{kind_answer}
 pub use Rattle.kohiblad.specs.Output.{IsReadWithin, IsRewritten, IsRewrittenWithin}

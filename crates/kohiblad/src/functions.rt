@@ -2,10 +2,11 @@
 
 ghost use Rattle.std.specs.Prelude.{◌≡◌, [], IfErr, IfOk, IsUtf8};
 ghost use Rattle.kohiblad.specs.Words.{AreKeysWritten, Error, IsContainedAnswer, IsEdited};
-ghost use Rattle.kohiblad.specs.Words.{IsOneAnswered, JoinsTo, Meaning};
+ghost use Rattle.kohiblad.specs.Words.{IsOneAnswered, MakesOfOne, MakesOfTwo, Meaning};
 ghost use Rattle.kohiblad.specs.Words.{bytes_of, checked_meaning, code, document_tree};
-ghost use Rattle.kohiblad.specs.Words.{exists_answer, meaning_within, no_truth, operation_in};
-ghost use Rattle.kohiblad.specs.Words.{operation_asked, top_hashes, tree_hashes};
+ghost use Rattle.kohiblad.specs.Words.{exists_answer, joined, meaning_within, no_truth};
+ghost use Rattle.kohiblad.specs.Words.{operation_asked, operation_in, patched, stripped};
+ghost use Rattle.kohiblad.specs.Words.{top_hashes, tree_hashes};
 
 use crate::answer::{OTHER_KIND, TOO_MANY_STEPS, code, hand_over_items, hand_over_made, refuse};
 use crate::values::{KohibladTruth, no_truth, truth_of};
@@ -13,7 +14,7 @@ use jsonb::{Document, Error, OwnedJsonb, RawJsonb};
 use jsonb_comparable::CheckedBytes;
 use jsonb_functions::{
     Edit, append_index_keys, append_top_keys, concat, contains_within, edit_document, exists,
-    read_path,
+    merge_patch, read_path, strip_nulls,
 };
 use std::alloc::Global;
 use std::str;
@@ -86,26 +87,102 @@ pub extern "C" fn kohiblad_concat(
     out: &mut [u8],
     length: &mut usize,
 ) -> u32
-    ensures { IsOneAnswered (JoinsTo (meaning_within depth left.now)
+    ensures { IsOneAnswered (MakesOfTwo joined (meaning_within depth left.now)
         (meaning_within depth right.now)) out.old out.new length.new result }
 {
     let left = CheckedBytes::within(RawJsonb::new(left), depth);
     let right = CheckedBytes::within(RawJsonb::new(right), depth);
-    hand_over_made(joined(alloc, left, right), out, length)
+    hand_over_made(both_joined(alloc, left, right), out, length)
 }
 
 // Two documents put together.
-fn joined(
+fn both_joined(
     alloc: Global,
     left: CheckedBytes<'_>,
     right: CheckedBytes<'_>,
 ) -> Result<OwnedJsonb, Error>
-    ensures { JoinsTo (checked_meaning left.entry) (checked_meaning right.entry)
+    ensures { MakesOfTwo joined (checked_meaning left.entry) (checked_meaning right.entry)
         (bytes_of result) }
 {
     match (left, right) {
         (CheckedBytes::Document(left), CheckedBytes::Document(right)) => concat(alloc, left, right),
         _ => Err(Error::InvalidJsonb),
+    }
+}
+
+/// Copies the canonical document of a document that is changed by a JSON Merge Patch (RFC 7396) to
+/// `out`, and its length in bytes to `length`. A `patch` that is not an object takes the place of
+/// `target`. Each member of one that is an object removes the member with its key if it is null,
+/// and else patches the value of that member, or an empty object if there is no such member; a
+/// `target` that is not an object counts as an empty one. `InvalidJsonb` if `target` or `patch` is
+/// not a document of at most this depth, or the result exceeds a limit of the format; `OutOfMemory`
+/// if an allocation fails; `NO_ROOM` if `out` is shorter than the document. If the status is not
+/// `OK`, `out` is unchanged, and `length` is 0, or for `NO_ROOM` the length of the document. A
+/// scalar has depth 0, an array or object one more than its deepest child, and at least 1. Deeper
+/// levels are not examined.
+#[unsafe(no_mangle)]
+pub extern "C" fn kohiblad_merge_patch(
+    alloc: Global,
+    target: &[u8],
+    patch: &[u8],
+    depth: usize,
+    out: &mut [u8],
+    length: &mut usize,
+) -> u32
+    ensures { IsOneAnswered (MakesOfTwo patched (meaning_within depth target.now)
+        (meaning_within depth patch.now)) out.old out.new length.new result }
+{
+    let target = CheckedBytes::within(RawJsonb::new(target), depth);
+    let patch = CheckedBytes::within(RawJsonb::new(patch), depth);
+    hand_over_made(target_patched(alloc, target, patch), out, length)
+}
+
+// A document that a patch is merged into.
+fn target_patched(
+    alloc: Global,
+    target: CheckedBytes<'_>,
+    patch: CheckedBytes<'_>,
+) -> Result<OwnedJsonb, Error>
+    ensures { MakesOfTwo patched (checked_meaning target.entry) (checked_meaning patch.entry)
+        (bytes_of result) }
+{
+    match (target, patch) {
+        (CheckedBytes::Document(target), CheckedBytes::Document(patch)) => {
+            merge_patch(alloc, target, patch)
+        }
+        _ => Err(Error::InvalidJsonb),
+    }
+}
+
+/// Copies the canonical document of a document without the members that are null, in each object
+/// in it, to `out`, and its length in bytes to `length`. Items that are null stay, and so does a
+/// document that is null itself. `InvalidJsonb` if the bytes are not a document of at most this
+/// depth, or the result exceeds a limit of the format; `OutOfMemory` if an allocation fails;
+/// `NO_ROOM` if `out` is shorter than the document. If the status is not `OK`, `out` is unchanged,
+/// and `length` is 0, or for `NO_ROOM` the length of the document. A scalar has depth 0, an array
+/// or object one more than its deepest child, and at least 1. Deeper levels are not examined.
+#[unsafe(no_mangle)]
+pub extern "C" fn kohiblad_strip_nulls(
+    alloc: Global,
+    bytes: &[u8],
+    depth: usize,
+    out: &mut [u8],
+    length: &mut usize,
+) -> u32
+    ensures { IsOneAnswered (MakesOfOne stripped (meaning_within depth bytes.now))
+        out.old out.new length.new result }
+{
+    let bytes = CheckedBytes::within(RawJsonb::new(bytes), depth);
+    hand_over_made(without_nulls(alloc, bytes), out, length)
+}
+
+// A document without the members that are null.
+fn without_nulls(alloc: Global, bytes: CheckedBytes<'_>) -> Result<OwnedJsonb, Error>
+    ensures { MakesOfOne stripped (checked_meaning bytes.entry) (bytes_of result) }
+{
+    match bytes {
+        CheckedBytes::Document(document) => strip_nulls(alloc, document),
+        CheckedBytes::Other(_) => Err(Error::InvalidJsonb),
     }
 }
 
@@ -193,13 +270,14 @@ fn top_keys(alloc: Global, document: Document<'_>) -> Result<Vec<u64>, Error>
 /// item, or as a member whose key is not there; with 2 what is there is removed, and no value is
 /// read. Past the last item a value comes after it, and before the first one in front of it. If a
 /// step before the last leads nowhere nothing is edited, and neither is the whole document but by
-/// putting a value. `InvalidJsonb` if the bytes, the path or the value are not a document of at
-/// most this depth, or the result exceeds a limit of the format; `OTHER_KIND` if there is no such
-/// edit, or the path is not an array of texts and whole numbers of 64 bits; `OutOfMemory` if an
-/// allocation fails; `NO_ROOM` if `out` is shorter than the document. If the status is not `OK`,
-/// `out` is unchanged, and `length` is 0, or for `NO_ROOM` the length of the document. A scalar has
-/// depth 0, an array or object one more than its deepest child, and at least 1. Deeper levels are
-/// not examined.
+/// putting a value. With 3 the value is put there, and what the path lacks is made: an object for
+/// each missing key, an array for the index 0; an item is added right after the last one only.
+/// `InvalidJsonb` if the bytes, the path or the value are not a document of at most this depth, or
+/// the result exceeds a limit of the format; `OTHER_KIND` if there is no such edit, or the path is
+/// not an array of texts and whole numbers of 64 bits; `OutOfMemory` if an allocation fails;
+/// `NO_ROOM` if `out` is shorter than the document. If the status is not `OK`, `out` is unchanged,
+/// and `length` is 0, or for `NO_ROOM` the length of the document. A scalar has depth 0, an array
+/// or object one more than its deepest child, and at least 1. Deeper levels are not examined.
 #[unsafe(no_mangle)]
 pub extern "C" fn kohiblad_edit(
     alloc: Global,
@@ -233,8 +311,9 @@ fn edit_of<'a>(number: u32, value: CheckedBytes<'a>) -> Result<Edit<'a>, u32>
     match (number, value) {
         (0, CheckedBytes::Document(value)) => Ok(Edit::Put(value)),
         (1, CheckedBytes::Document(value)) => Ok(Edit::Insert(value)),
-        (0 | 1, CheckedBytes::Other(_)) => Err(code(Error::InvalidJsonb)),
         (2, _) => Ok(Edit::Remove),
+        (3, CheckedBytes::Document(value)) => Ok(Edit::Create(value)),
+        (0 | 1 | 3, CheckedBytes::Other(_)) => Err(code(Error::InvalidJsonb)),
         _ => Err(OTHER_KIND),
     }
 }
