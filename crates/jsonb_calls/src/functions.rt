@@ -9,7 +9,7 @@ use std::alloc::Global;
 use std::test::Fail;
 
 // The document of bytes that are one.
-fn document_of<'a>(owned: &'a OwnedJsonb) -> Result<Document<'a>, Error> {
+pub fn document_of<'a>(owned: &'a OwnedJsonb) -> Result<Document<'a>, Error> {
     Document::new(owned.as_bytes()).ok_or(Error::InvalidJsonb)
 }
 
@@ -279,7 +279,7 @@ fn steps_of_paths_without_wildcards(rt: HostRuntime) -> Result<(), Fail> {
 }
 
 // Whether a document is the canonical one of a text.
-fn is_made_of(alloc: Global, made: OwnedJsonb, text: &str) -> Result<bool, Error> {
+pub fn is_made_of(alloc: Global, made: OwnedJsonb, text: &str) -> Result<bool, Error> {
     let owned = OwnedJsonb::parse(alloc, text)?;
     Ok(made.as_bytes() == owned.as_bytes())
 }

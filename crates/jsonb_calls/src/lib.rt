@@ -31,4 +31,6 @@ mod queue;
 #[cfg(test)]
 mod readers;
 #[cfg(test)]
+mod sets;
+#[cfg(test)]
 mod texts;
