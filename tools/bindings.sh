@@ -17,9 +17,12 @@ at the end; it builds the library by `rt lib`, which proves it if no proofs are 
     --prefix PREFIX   use the library that is installed below PREFIX, and install nothing
     --help            print this text
 
-The last line of each test is printed, and all of its output if it fails. A test that lacks a tool
-is passed over, and its last line names the Debian package. tools/c_library.sh tests the library
-itself, and its callers in C, C++, Rust and Python.
+The last line of each test is printed, and all of its output if it fails. What lacks a tool is
+passed over, and a line names the Debian package. All of these are needed for all tests: gcc, make,
+pkg-config, cargo, python3-dev, mypy, postgresql-server-dev-15, libsqlite3-dev, sqlite3, and for the
+examples of stores and sorts python3-lmdb, redis-server, python3-redis, etcd-server,
+clickhouse-server and python3-distributed. tools/c_library.sh tests the library itself, and its
+callers in C, C++, Rust and Python.
 
 The status is 0 if no test failed, 1 if one failed or the library cannot be installed, and 2 if the
 arguments are wrong.
@@ -98,7 +101,7 @@ try_binding() {
             return
             ;;
     esac
-    tail -n 1 "$work/output"
+    sed -n '/: passed over: /{p;b};$p' "$work/output"
 }
 
 for name in "${bindings[@]}"; do

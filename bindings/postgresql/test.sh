@@ -215,7 +215,8 @@ run_update() {
 run_cluster() {
     note "several servers"
     local status=0 last
-    SERVER_BIN=$bin "$folder/tests/cluster.sh" > "$scratch/cluster.log" 2>&1 || status=$?
+    PG_CONFIG=$pg_config SERVER_BIN=$bin "$folder/tests/cluster.sh" \
+        > "$scratch/cluster.log" 2>&1 || status=$?
     last=$(tail -n 1 "$scratch/cluster.log")
     case $status in
         0) passed "$(echo "$last" | sed 's/.*: \([0-9]*\) tests.*/\1/')" ;;

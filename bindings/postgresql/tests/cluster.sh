@@ -99,7 +99,7 @@ run_sent() {
     expect_sent 3 "SELECT doc FROM by_hash WHERE doc #> '{tags,1}' = '\"t3\"'" \
         "WHERE ((public.kohiblad_at(doc, '[\"tags\",\"1\"]'"
     expect_sent 3 "SELECT doc FROM by_hash WHERE doc -> 'tags' -> 1 = '\"t3\"'" "WHERE"
-    expect_sent 3 "SELECT doc FROM by_hash WHERE doc -> 'id' IN ('3', '5')" "WHERE"
+    expect_sent 3 "SELECT doc FROM by_hash WHERE doc -> 'id' = '3' OR doc -> 'id' = '5'" "WHERE"
     expect_sent 3 "SELECT doc FROM by_hash WHERE doc['id'] = '5'" "WHERE"
     expect_sent 3 "SELECT doc FROM by_hash WHERE doc @? '\$.id'" "WHERE"
     expect_sent 0 "SELECT doc FROM by_hash WHERE doc ? 'id'" "WHERE"

@@ -1,6 +1,6 @@
-# Sourced by cluster.sh and bench_cluster.sh, after server.sh: several servers on loopback addresses,
-# of which number 0 is the coordinator. SERVER_BIN names the programs of a server with the extension,
-# which is then not built; SETTINGS has more words for each server.
+# Sourced by cluster.sh and bench_cluster.sh, after server.sh: several servers on loopback
+# addresses, of which number 0 is the coordinator. SERVER_BIN names the programs of a server with
+# the extension, which is then not built; SETTINGS has more words for each server.
 
 stop_all() {
     local data
@@ -33,8 +33,8 @@ kill_one() {
 psql_at() { local server=$1; shift; psql -At -h "$net.$server" -p "543$server" "$@"; }
 ask() { psql_at "$1" -c "$2" 2> "$scratch/error" || head -n 1 "$scratch/error"; }
 
-# Finds or builds the programs, and stops the servers at the end. All of 127.0.0.0/8 is this machine:
-# no other server listens at an address of three numbers that were drawn.
+# Finds or builds the programs, and stops the servers at the end. All of 127.0.0.0/8 is this
+# machine: no other server listens at an address of which two numbers were drawn.
 open_servers() {
     find_tools
     scratch=$(mktemp -d)
