@@ -13,4 +13,5 @@ pub mod PlaceLaws
 pub mod ResultLaws
 pub mod Scalars
 pub mod ScalarValues
+pub mod Unfiltered
 pub mod Walks

@@ -45,6 +45,7 @@ use Rattle.jsonb_functions.specs.declared.path.Step.TheVariants as steps
 use Rattle.jsonb_functions.specs.declared.selection.Selector.{Selector}
 use Rattle.jsonb_functions.specs.declared.selection.Selector.TheVariants as selectors
 use Rattle.jsonb_functions.proofs.SelectLaws.{drop_take}
+use Rattle.kohiblad.proofs.Unfiltered.{AreUnfiltered, IsUnfiltered}
 use Rattle.kohiblad.specs.declared.children.Child.{Child}
 use Rattle.kohiblad.specs.ChildWalks.{IsWithin}
 use Rattle.kohiblad.specs.Children.{item_child, member_child, numbered_child, numbered_under}
@@ -350,39 +351,40 @@ module _ (b : List ℕ) (ts : Trees) (h : Payload (array ts) b) where
       → Pairwise (Holds b) (children_from b m k) us
   held_as m k us same = subst (Pairwise (Holds b) (children_from b m k)) same (held_from m k)
 
-  items_held : (s : Selector)
+  items_held : (s : Selector) → IsUnfiltered s
       → Pairwise (Holds b) (chosen_items s b (count ts)) (children_at s (array ts))
-  items_held (selectors.Key k) = refl
-  items_held (selectors.Index i) =
+  items_held (selectors.Key k) plain = refl
+  items_held (selectors.Index i) plain =
       let n = count ts in
       held_as (min i n) (min (suc i) n - min i n) _
       (item_taken ts (min i n) (min (suc i) n - min i n) (nat_lt i n)
       (λ there. let less = ltb-true i n there in omega arith)
       (λ past. let more = ltb-false i n past in omega arith))
-  items_held (selectors.FromEnd i) =
+  items_held (selectors.FromEnd i) plain =
       let n = count ts in
       held_as (n - suc i) (n - i - (n - suc i)) _
       (item_taken ts (n - suc i) (n - i - (n - suc i)) (nat_lt i n)
       (λ there. let less = ltb-true i n there in omega arith)
       (λ past. let more = ltb-false i n past in omega arith))
-  items_held selectors.AllItems =
+  items_held selectors.AllItems plain =
       let n = count ts in
       let all = length-tree_list ts in
       held_as (min 0 n) (n - 0 - min 0 n) (tree_list ts)
       (all_taken (tree_list ts) (min 0 n) (n - 0 - min 0 n) (omega arith) (omega arith))
-  items_held selectors.AllMembers = refl
-  items_held (selectors.Range first last) =
+  items_held selectors.AllMembers plain = refl
+  items_held (selectors.Filter condition) plain = absurd (plain refl)
+  items_held (selectors.Range first last) plain =
       held_as (items_before first (count ts))
       (items_through last (count ts) - items_before first (count ts)) _
       (drop_take (items_before first (count ts)) (items_through last (count ts)) (tree_list ts)
       ∙ ap (λ (n : ℕ). drop (items_before first n) (take (items_through last n) (tree_list ts)))
       (sym (length-tree_list ts)))
 
-  pub array_held : (s : Selector)
+  pub array_held : (s : Selector) → IsUnfiltered s
       → Pairwise (Holds b) (chosen_children s b) (children_at s (array ts))
-  array_held s =
+  array_held s plain =
       subst (λ (r : Result (ℕ × ℕ) Error). Pairwise (Holds b) (chosen_under s b r)
-      (children_at s (array ts))) (sym (header_at-array b ts h)) (items_held s)
+      (children_at s (array ts))) (sym (header_at-array b ts h)) (items_held s plain)
 
 -- The members of an object to which a selector leads.
 nothing_taken : (m n : ℕ) → ◌≡◌ {A = List Tree} (drop m (take n [])) []
@@ -447,22 +449,23 @@ module _ (b : List ℕ) (ps : Pairs) (h : Payload (object ps) b) where
       subst (Pairwise (HoldsPair b) (children_from b 0 (pair_count ps))) (all_pairs ps)
       (children_related b (HoldsPair b) (pair_list ps) (members_numbered b ps h) 0 (pair_count ps))
 
-  members_held : (s : Selector)
+  members_held : (s : Selector) → IsUnfiltered s
       → Pairwise (Holds b) (chosen_members s b (pair_count ps)) (children_at s (object ps))
-  members_held (selectors.Key k) = named_held b k.now _ ps all_held
-  members_held (selectors.Index i) = refl
-  members_held (selectors.FromEnd i) = refl
-  members_held selectors.AllItems = refl
-  members_held selectors.AllMembers =
+  members_held (selectors.Key k) plain = named_held b k.now _ ps all_held
+  members_held (selectors.Index i) plain = refl
+  members_held (selectors.FromEnd i) plain = refl
+  members_held selectors.AllItems plain = refl
+  members_held selectors.AllMembers plain =
       values_held (children_from b 0 (pair_count ps)) (pair_list ps) all_held
-  members_held (selectors.Range first last) =
+  members_held (selectors.Filter condition) plain = absurd (plain refl)
+  members_held (selectors.Range first last) plain =
       nothing_taken (items_before first 0) (items_through last 0)
 
-  pub object_held : (s : Selector)
+  pub object_held : (s : Selector) → IsUnfiltered s
       → Pairwise (Holds b) (chosen_children s b) (children_at s (object ps))
-  object_held s =
+  object_held s plain =
       subst (λ (r : Result (ℕ × ℕ) Error). Pairwise (Holds b) (chosen_under s b r)
-      (children_at s (object ps))) (sym (header_at-object b ps h)) (members_held s)
+      (children_at s (object ps))) (sym (header_at-object b ps h)) (members_held s plain)
 
 -- A place inside the bytes, where the tree is.
 abbrev pub Held : List ℕ → Place → Tree → Type 0
@@ -496,15 +499,19 @@ child_moved bytes place child t inside held =
     )
 
 -- Nothing is chosen from a scalar.
-none_at : (s : Selector) (t : Tree) → ((step : Step) → child_at step t ≡ None)
+none_at : (s : Selector) → IsUnfiltered s → (t : Tree)
+    → ((step : Step) → child_at step t ≡ None)
     → items_in t ≡ no_trees → member_trees t ≡ [] → [] ≡ children_at s t
-none_at (selectors.Key k) t none items members = sym (ap option_to_list (none (steps.Key k)))
-none_at (selectors.Index i) t none items members = sym (ap option_to_list (none (steps.Index i)))
-none_at (selectors.FromEnd i) t none items members =
+none_at (selectors.Key k) plain t none items members =
+    sym (ap option_to_list (none (steps.Key k)))
+none_at (selectors.Index i) plain t none items members =
+    sym (ap option_to_list (none (steps.Index i)))
+none_at (selectors.FromEnd i) plain t none items members =
     sym (ap option_to_list (none (steps.FromEnd i)))
-none_at selectors.AllItems t none items members = sym (ap tree_list items)
-none_at selectors.AllMembers t none items members = sym members
-none_at (selectors.Range first last) t none items members =
+none_at selectors.AllItems plain t none items members = sym (ap tree_list items)
+none_at selectors.AllMembers plain t none items members = sym members
+none_at (selectors.Filter condition) plain t none items members = absurd (plain refl)
+none_at (selectors.Range first last) plain t none items members =
     sym (ap (λ (us : Trees). between first last (tree_list us)) items
     ∙ nothing_taken (items_before first 0) (items_through last 0))
 
@@ -560,39 +567,47 @@ module _ (bytes : List ℕ) (place : Place) (inside : IsWithin bytes place) wher
       (chosen_children s (entry_there bytes place).payload) else []) (children_at s t))
       (sym (ap (λ (n : ℕ). n == CONTAINER_TAG) (sym is) ∙ other)) (sym none)
 
-  pub step_held : (s : Selector) (t : Tree) → HoldsTree bytes place t
+  pub step_held : (s : Selector) → IsUnfiltered s → (t : Tree) → HoldsTree bytes place t
       → Pairwise (Held bytes) (child_places s bytes place) (children_at s t)
-  step_held s (array ts) h =
-      container_held s (array ts) h.0 (array_held (entry_there bytes place).payload ts h.1 s)
-  step_held s (object ps) h =
-      container_held s (object ps) h.0 (object_held (entry_there bytes place).payload ps h.1 s)
-  step_held s null h =
+  step_held s plain (array ts) h =
+      container_held s (array ts) h.0 (array_held (entry_there bytes place).payload ts h.1 s plain)
+  step_held s plain (object ps) h =
+      container_held s (object ps) h.0 (object_held (entry_there bytes place).payload ps h.1 s plain)
+  step_held s plain null h =
       scalar_held s null _ h.0 refl
-      (none_at s null (no_child null (λ k. refl) refl) refl refl)
-  step_held s (boolean true) h =
+      (none_at s plain null (no_child null (λ k. refl) refl) refl refl)
+  step_held s plain (boolean true) h =
       scalar_held s (boolean true) _ h.0 refl
-      (none_at s (boolean true) (no_child (boolean true) (λ k. refl) refl) refl refl)
-  step_held s (boolean false) h =
+      (none_at s plain (boolean true) (no_child (boolean true) (λ k. refl) refl) refl refl)
+  step_held s plain (boolean false) h =
       scalar_held s (boolean false) _ h.0 refl
-      (none_at s (boolean false) (no_child (boolean false) (λ k. refl) refl) refl refl)
-  step_held s (number x) h =
+      (none_at s plain (boolean false) (no_child (boolean false) (λ k. refl) refl) refl refl)
+  step_held s plain (number x) h =
       scalar_held s (number x) _ h.0 refl
-      (none_at s (number x) (no_child (number x) (λ k. refl) refl) refl refl)
-  step_held s (text x) h =
+      (none_at s plain (number x) (no_child (number x) (λ k. refl) refl) refl refl)
+  step_held s plain (text x) h =
       scalar_held s (text x) _ h.0 refl
-      (none_at s (text x) (no_child (text x) (λ k. refl) refl) refl refl)
-  step_held s (extension x) h =
+      (none_at s plain (text x) (no_child (text x) (λ k. refl) refl) refl refl)
+  step_held s plain (extension x) h =
       scalar_held s (extension x) _ h.0 refl
-      (none_at s (extension x) (no_child (extension x) (λ k. refl) refl) refl refl)
+      (none_at s plain (extension x) (no_child (extension x) (λ k. refl) refl) refl refl)
 
 -- What is at the places to which a path with wildcards leads.
-pub selected_held : (path : List Selector) (bytes : List ℕ) (place : Place) (t : Tree)
-    → Held bytes place t → Pairwise (Held bytes) (selected_from path bytes place) (selected path t)
-selected_held [] bytes place t held = (held, refl)
-selected_held (s ∷ path) bytes place t held =
+pub selected_held : (path : List Selector) → AreUnfiltered path → (bytes : List ℕ)
+    (place : Place) (t : Tree) → Held bytes place t
+    → Pairwise (Held bytes) (selected_from path bytes place) (selected path t)
+selected_held [] plain bytes place t held = (held, refl)
+selected_held (s ∷ path) plain bytes place t held =
     Pairwise-flat_map (Held bytes) (Held bytes) (λ p. selected_from path bytes p)
-    (λ u. selected path u) (λ p u h. selected_held path bytes p u h)
-    (child_places s bytes place) (children_at s t) (step_held bytes place held.0 s t held.1)
+    (λ u. selected path u) (λ p u h. selected_held path plain.1 bytes p u h)
+    (child_places s bytes place) (children_at s t)
+    (step_held bytes place held.0 s plain.0 t held.1)
+
+-- A step is no filter.
+step_unfiltered : (s : Step) → IsUnfiltered (step_selector s)
+step_unfiltered (steps.Key k) = λ is. let never : ⊥ = cc in never
+step_unfiltered (steps.Index i) = λ is. let never : ⊥ = cc in never
+step_unfiltered (steps.FromEnd i) = λ is. let never : ⊥ = cc in never
 
 -- What is at the place to which a path leads.
 single_child : (s : Step) (t : Tree)
@@ -619,7 +634,7 @@ end_held (s ∷ path) bytes place t held =
     (λ p. place_from path bytes p) (λ u. found_at path u)
     (λ p u h. end_held path bytes p u h)
     (subst (Pairwise (Held bytes) (child_places (step_selector s) bytes place)) (single_child s t)
-    (step_held bytes place held.0 (step_selector s) t held.1))
+    (step_held bytes place held.0 (step_selector s) (step_unfiltered s) t held.1))
 
 -- The place of a whole document.
 abbrev IsWhole : List ℕ → Tree → Type 0
@@ -673,14 +688,14 @@ whole_held bytes (extension x) (inr (is, h)) = absurd (omega arith)
 whole_held bytes t (inl (other, h)) = whole_scalar bytes t h
 
 -- What the places of a document that a path selects hold, and the place at the end of a path.
-pub places_hold : (bytes : List ℕ) (t : Tree) (path : List Selector) → Doc bytes t
-    → HoldTrees bytes (selected_places path bytes) (selected path t)
-places_hold bytes t path doc =
+pub places_hold : (bytes : List ℕ) (t : Tree) (path : List Selector) → AreUnfiltered path
+    → Doc bytes t → HoldTrees bytes (selected_places path bytes) (selected path t)
+places_hold bytes t path plain doc =
     let (place, (is, held)) = whole_held bytes t doc in
     subst (λ (r : Result Place Error). HoldTrees bytes (selected_in path bytes r) (selected path t))
     (sym is)
     (Pairwise-weaker (Held bytes) (HoldsTree bytes) (λ p u h. h.1) (selected_from path bytes place)
-    (selected path t) (selected_held path bytes place t held))
+    (selected path t) (selected_held path plain bytes place t held))
 
 pub place_holds : (bytes : List ℕ) (t : Tree) (path : List Step) → Doc bytes t
     → HoldsFound bytes (path_place path bytes) (found_at path t)

@@ -49,7 +49,7 @@ abbrev pub items_between : List ℕ → ℕ → Bound → Bound → List Child
 items_between bytes n first last =
     children_from bytes (items_before first n) (items_through last n - items_before first n)
 
--- The items of an array of n items to which a selector leads.
+-- The items of an array of n items to which a selector leads. No text of a path gives a filter.
 abbrev pub chosen_items : Selector → List ℕ → ℕ → List Child
 chosen_items (selectors.Key k) bytes n = []
 chosen_items (selectors.Index i) bytes n = items_between bytes n (FromStart i) (FromStart i)
@@ -57,6 +57,7 @@ chosen_items (selectors.FromEnd i) bytes n = items_between bytes n (FromEnd i) (
 chosen_items selectors.AllItems bytes n = items_between bytes n (FromStart 0) (FromEnd 0)
 chosen_items selectors.AllMembers bytes n = []
 chosen_items (selectors.Range first last) bytes n = items_between bytes n first last
+chosen_items (selectors.Filter condition) bytes n = []
 
 -- The members of an object of n members to which a selector leads.
 abbrev pub chosen_members : Selector → List ℕ → ℕ → List Child
@@ -66,6 +67,7 @@ chosen_members (selectors.FromEnd i) bytes n = []
 chosen_members selectors.AllItems bytes n = []
 chosen_members selectors.AllMembers bytes n = children_from bytes 0 n
 chosen_members (selectors.Range first last) bytes n = []
+chosen_members (selectors.Filter condition) bytes n = []
 
 -- The children to which a selector leads, given the header of their array or object.
 abbrev pub chosen_under : Selector → List ℕ → Result (ℕ × ℕ) Error → List Child

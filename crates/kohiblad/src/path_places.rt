@@ -183,7 +183,8 @@ fn chosen_items(bytes: &[u8], count: usize, selector: Selector<'_>) -> ChildWalk
         Selector::FromEnd(index) => (Bound::FromEnd(index), Bound::FromEnd(index)),
         Selector::AllItems => (Bound::FromStart(0), Bound::FromEnd(0)),
         Selector::Range { first, last } => (first, last),
-        Selector::Key(_) | Selector::AllMembers => return no_children(),
+        // No text of a path gives a filter.
+        Selector::Key(_) | Selector::AllMembers | Selector::Filter(_) => return no_children(),
     };
     items_between(bytes, count, first, last)
 }

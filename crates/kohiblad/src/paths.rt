@@ -2,6 +2,7 @@
 
 ghost use Rattle.std.specs.Prelude.{◌≡◌, ◌↔◌, IfErr, IfOk, List, Some, map, option_map};
 ghost use Rattle.jsonb_functions.specs.Found.{found_at};
+ghost use Rattle.jsonb_functions.specs.PathText.{PathText, selector_view};
 ghost use Rattle.jsonb_functions.specs.Selected.{selected};
 ghost use Rattle.jsonb_functions.specs.StoredPath.{StepView, step_view};
 ghost use Rattle.jsonb_functions.specs.declared.path.Step.{Step as PathStep};
@@ -135,8 +136,9 @@ pub extern "C" fn kohiblad_select(
     ensures places { AreSelectedWithin depth bytes.now path.now out.old out.new count.new result }
 
     // In a document the values at these positions are those that the path selects.
-    ensures document { (t : Tree) (path : List PathSelector) → Doc bytes.now t
-        → HoldTrees bytes.now (selected_places path bytes.now) (selected path t) }
+    ensures document { (t : Tree) (selectors : List PathSelector) → Doc bytes.now t
+        → PathText path.now (map selector_view selectors)
+        → HoldTrees bytes.now (selected_places selectors bytes.now) (selected selectors t) }
 {
     let Ok(path) = str::from_utf8(path) else {
         return refuse(code(Error::InvalidUtf8), out, count);
