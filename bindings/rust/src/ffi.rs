@@ -25,6 +25,9 @@ const NONE: u32 = 12;
 /// The room that is tried first for a result of unknown length.
 const FIRST_ROOM: usize = 64;
 
+/// The room that is tried first for places of unknown number.
+const FIRST_PLACES: usize = 16;
+
 /// Whether numbers may have an exponent.
 #[derive(Clone, Copy)]
 pub(crate) enum Exponents {
@@ -314,6 +317,23 @@ extern "C" {
         out: *mut u8,
         room: usize,
         length: *mut usize,
+    ) -> u32;
+    fn kohiblad_get_path(
+        bytes: *const u8,
+        size: usize,
+        path: *const u8,
+        path_size: usize,
+        depth: usize,
+    ) -> Place;
+    fn kohiblad_select(
+        bytes: *const u8,
+        size: usize,
+        path: *const u8,
+        path_size: usize,
+        depth: usize,
+        out: *mut Place,
+        room: usize,
+        count: *mut usize,
     ) -> u32;
     fn kohiblad_index_keys(
         bytes: *const u8,
@@ -890,6 +910,60 @@ pub(crate) fn edit(bytes: &[u8], path: &[u8], edit: Edit, value: &[u8]) -> Resul
             )
         }
     })
+}
+
+/// The value at the end of a path, which is a document.
+pub(crate) fn get_path<'a>(bytes: &'a [u8], path: &[u8]) -> Result<Option<Part<'a>>, Error> {
+    // SAFETY: as above, of the bytes and the path.
+    let place = unsafe {
+        kohiblad_get_path(
+            bytes.as_ptr(),
+            bytes.len(),
+            path.as_ptr(),
+            path.len(),
+            MAX_DEPTH,
+        )
+    };
+    optional(place.status, || part_at(bytes, &place))
+}
+
+/// What is made of the values that the path of a text selects.
+pub(crate) fn select<'a, T>(
+    bytes: &'a [u8],
+    path: &str,
+    made_of: impl Fn(Part<'a>) -> T,
+) -> Result<Vec<T>, Error> {
+    let mut places: Vec<Place> = with_room(FIRST_PLACES)?;
+    let mut count = 0;
+    loop {
+        // SAFETY: as above, of the bytes, the path and the buffer for the places.
+        let status = unsafe {
+            kohiblad_select(
+                bytes.as_ptr(),
+                bytes.len(),
+                path.as_ptr(),
+                path.len(),
+                MAX_DEPTH,
+                places.as_mut_ptr(),
+                places.capacity(),
+                &mut count,
+            )
+        };
+        if status != NO_ROOM {
+            tested(status)?;
+            break;
+        }
+        places = with_room(count)?;
+    }
+    assert!(
+        count <= places.capacity(),
+        "places are not more than their room"
+    );
+    // SAFETY: the call wrote so many places.
+    unsafe { places.set_len(count) };
+    let mut values = with_room(count)?;
+    values.extend(places.iter().map(|place| made_of(part_at(bytes, place))));
+    Ok(values)
 }
 
 pub(crate) fn index_keys(bytes: &[u8]) -> Result<Vec<u64>, Error> {

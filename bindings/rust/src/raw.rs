@@ -127,6 +127,50 @@ impl<'a> RawJsonb<'a> {
         Ok(ffi::get(self.bytes, name)?.map(OwnedJsonb::of_checked))
     }
 
+    /// The value at the end of a path, in place; `None` if the path leads nowhere.
+    ///
+    /// ```
+    /// use kohiblad::{Node, OwnedJsonb, Path};
+    ///
+    /// let row = OwnedJsonb::parse(r#"{"tags": ["new", {"of": "x"}]}"#, 64)?;
+    /// let path = Path::new().key("tags").index(-1).key("of");
+    /// assert!(matches!(row.as_raw().get_path(&path)?, Some(Node::String("x"))));
+    /// # Ok::<(), kohiblad::Error>(())
+    /// ```
+    ///
+    /// # Errors
+    ///
+    /// - [`Error::InvalidJsonb`]: a limit of the format is passed by the path.
+    /// - [`Error::OutOfMemory`]: an allocation failed.
+    pub fn get_path(&self, path: &Path) -> Result<Option<Node<'a>>, Error> {
+        let path = path.to_document()?;
+        Ok(ffi::get_path(self.bytes, path.as_bytes())?.map(Node::of_part))
+    }
+
+    /// The values that the path of a text selects, in place and in the order in which they are
+    /// stored.
+    ///
+    /// The text is `$` and then its steps: `.name` or `."any name"` for a key, `[0]` for an item,
+    /// `[#-1]` for the last one, `[*]` for all items, `[0 to #-2]` for those from one to another,
+    /// and `.*` for all values of an object.
+    ///
+    /// ```
+    /// use kohiblad::{Node, OwnedJsonb};
+    ///
+    /// let row = OwnedJsonb::parse(r#"{"tags": [{"of": "x"}, {"of": "y"}]}"#, 64)?;
+    /// let all = row.as_raw().select("$.tags[*].of")?;
+    /// assert!(matches!(all[..], [Node::String("x"), Node::String("y")]));
+    /// # Ok::<(), kohiblad::Error>(())
+    /// ```
+    ///
+    /// # Errors
+    ///
+    /// - [`Error::OtherKind`]: the text is not a path.
+    /// - [`Error::OutOfMemory`]: an allocation failed.
+    pub fn select(&self, path: &str) -> Result<Vec<Node<'a>>, Error> {
+        ffi::select(self.bytes, path, Node::of_part)
+    }
+
     /// The item of an array at an index, from 0, as a document of its own; `None` if there is no
     /// such item or the value is no array. For all items take [`items`](Self::items).
     ///

@@ -46,6 +46,60 @@ fn existence_is_of_keys_and_texts() {
     assert!(exists(r#"{"":0,"é":1}"#, "é") && exists(r#"{"":0}"#, ""));
 }
 
+fn text_of(node: Node<'_>) -> String {
+    OwnedJsonb::of(node).unwrap().to_string()
+}
+
+#[test]
+fn paths_lead_to_values_in_place() {
+    let row = parsed(r#"{"a":{"b":[1,"x",[2,3]]},"":null}"#);
+    let at = |path: &Path| row.as_raw().get_path(path).unwrap().map(text_of);
+    let b = || Path::new().key("a").key("b");
+    assert_eq!(at(&Path::new()), Some(row.to_string()));
+    for (path, text) in [
+        (b().index(1), r#""x""#),
+        (b().index(-1), "[2,3]"),
+        (b().index(-1).index(0), "2"),
+        (Path::new().key(""), "null"),
+    ] {
+        assert_eq!(at(&path).as_deref(), Some(text), "{path}");
+    }
+    for nowhere in [
+        b().index(3),
+        b().index(-4),
+        b().key("b"),
+        b().index(1).index(0),
+    ] {
+        assert_eq!(at(&nowhere), None, "{nowhere}");
+    }
+}
+
+#[test]
+fn selection_is_of_all_values_in_stored_order() {
+    let row = parsed(r#"{"b":[1,[2,3],{"c":4}],"a":{"c":5}}"#);
+    let selected = |path| -> Result<Vec<String>, Error> {
+        let nodes = row.as_raw().select(path)?;
+        Ok(nodes.into_iter().map(text_of).collect())
+    };
+    for (path, texts) in [
+        ("$", &[r#"{"a":{"c":5},"b":[1,[2,3],{"c":4}]}"#][..]),
+        ("$.*", &[r#"{"c":5}"#, r#"[1,[2,3],{"c":4}]"#]),
+        ("$.b[*]", &["1", "[2,3]", r#"{"c":4}"#]),
+        ("$.b[0 to #-2]", &["1", "[2,3]"]),
+        ("$.b[#-2][*]", &["2", "3"]),
+        ("$.*.c", &["5"]),
+        ("$.b[*].c", &["4"]),
+        ("$.\"b\"[7]", &[]),
+    ] {
+        assert_eq!(selected(path).unwrap(), texts, "{path}");
+    }
+    for path in ["", "b", "$.", "$[", "$[x]", "$[0 to]", "$.\"b"] {
+        assert_eq!(selected(path), Err(Error::OtherKind), "{path}");
+    }
+    let many = parsed(&format!("[{}0]", "0,".repeat(999)));
+    assert_eq!(many.as_raw().select("$[*]").unwrap().len(), 1000);
+}
+
 #[test]
 fn edits_change_what_is_at_the_path() {
     let row = parsed(r#"{"a":{"b":[1,2,3]},"c":1.50}"#);
