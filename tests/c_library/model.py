@@ -15,7 +15,7 @@ from fractions import Fraction
 
 LIBRARY = ctypes.CDLL(sys.argv[1])
 SIZE = ctypes.c_size_t
-OK, INVALID_JSONB, NO_ROOM, OTHER_KIND, TOO_MANY_STEPS = 0, 2, 11, 14, 18
+OK, INVALID_JSONB, NO_ROOM, NONE, OTHER_KIND, TOO_MANY_STEPS = 0, 2, 11, 12, 14, 18
 NO_LIMIT = 2**64 - 1
 ROOM = 1 << 16
 KEYS = ["", "a", "b", "c", "aa", "ab", "\u00e9", "z"]
@@ -29,7 +29,13 @@ class Truth(ctypes.Structure):
     _fields_ = [("status", ctypes.c_uint32), ("value", ctypes.c_uint32)]
 
 
+class Place(ctypes.Structure):
+    _fields_ = [("status", ctypes.c_uint32), ("type", ctypes.c_uint32),
+                ("offset", ctypes.c_uint64), ("length", ctypes.c_uint64)]
+
+
 LIBRARY.kohiblad_contains.restype = LIBRARY.kohiblad_exists.restype = Truth
+LIBRARY.kohiblad_get_path.restype = Place
 
 # A number or an extension value: what it is compared by, its stored payload, and the written one.
 Scalar = collections.namedtuple("Scalar", "tag meaning stored written")
@@ -195,6 +201,89 @@ def edited(value, path, edit, new):
     return value
 
 
+def can_wrap(path):
+    """Whether containers are made for these steps."""
+    return all(isinstance(step, str) or step in (0, NO_LIMIT) for step in path)
+
+
+def wrapped(path, new):
+    """The value in a container for each step."""
+    for step in reversed(path):
+        new = {step: new} if isinstance(step, str) else [new]
+    return new
+
+
+def created(value, path, new):
+    """The value after one was put at the end of a path, with the containers that it lacks."""
+    if not path:
+        return new
+    step, rest = path[0], path[1:]
+    if isinstance(value, list) and isinstance(step, int):
+        before, is_there = place(step, len(value))
+        if is_there:
+            return value[:before] + [created(value[before], rest, new)] + value[before + 1:]
+        is_next = step in (len(value), NO_LIMIT)
+        return value + [wrapped(rest, new)] if is_next and can_wrap(rest) else value
+    if isinstance(value, dict) and isinstance(step, str):
+        if step in value:
+            return {**value, step: created(value[step], rest, new)}
+        return {**value, step: wrapped(rest, new)} if can_wrap(rest) else value
+    return value
+
+
+def patched(target, patch):
+    """The target after a JSON Merge Patch."""
+    if not isinstance(patch, dict):
+        return patch
+    merged = dict(target) if isinstance(target, dict) else {}
+    for key, value in patch.items():
+        if value is None:
+            merged.pop(key, None)
+        else:
+            merged[key] = patched(merged.get(key), value)
+    return merged
+
+
+def stripped(value):
+    """The value without the members that are null."""
+    if isinstance(value, list):
+        return [stripped(it) for it in value]
+    if isinstance(value, dict):
+        return {key: stripped(it) for key, it in value.items() if it is not None}
+    return value
+
+
+def in_order(value):
+    return [value[key] for key in sorted(value, key=str.encode)]
+
+
+def children(value, step):
+    """The children to which a step of a path with wildcards leads: a key, an index, `*` for all
+    items, `.*` for all members, or the first and the last index of a range."""
+    kind, *rest = step
+    if isinstance(value, dict):
+        if kind == "key":
+            return [value[rest[0]]] if rest[0] in value else []
+        return in_order(value) if kind == ".*" else []
+    if not isinstance(value, list):
+        return []
+    if kind == "*":
+        return value
+    if kind == "index":
+        before, is_there = place(rest[0], len(value))
+        return [value[before]] if is_there else []
+    if kind == "range":
+        (first, _), (last, is_there) = (place(it, len(value)) for it in rest)
+        return value[first:last + is_there]
+    return []
+
+
+def selected(value, path):
+    if not path:
+        return [value]
+    return [it for child in children(value, path[0]) for it in selected(child, path[1:])]
+
+
 def joined(left, right):
     if isinstance(left, dict) and isinstance(right, dict):
         return {**left, **right}
@@ -242,6 +331,20 @@ def keys_of(name, *values):
     keys, count = (ctypes.c_uint64 * (len(values[0]) // 4))(), SIZE()
     status = export(*crossed, keys, SIZE(len(keys)), ctypes.byref(count))
     return status, collections.Counter(keys[:count.value])
+
+
+def entry_at(stored, found):
+    """The tag and the bytes at a place."""
+    assert found.offset + found.length <= len(stored)
+    return found.type, stored[found.offset:found.offset + found.length]
+
+
+def places_of(stored, text, depth):
+    """The status of a selection, and the places that it found."""
+    export, crossed = call("select", stored, text, SIZE(depth))
+    places, count = (Place * (len(stored) // 4 + 1))(), SIZE()
+    status = export(*crossed, places, SIZE(len(places)), ctypes.byref(count))
+    return status, places[:count.value]
 
 
 def truth_of(name, *values):
@@ -292,8 +395,35 @@ def any_path(chance, value):
     return path
 
 
-def path_document(path):
-    return document([it if isinstance(it, str) else whole(it) for it in path])
+def path_document(path, stored=True):
+    return document([it if isinstance(it, str) else whole(it) for it in path], stored)
+
+
+def written(chance, step):
+    """A step of a path with wildcards as a text."""
+    kind, *rest = step
+    bound = ["[%d]" % it if it >= 0 else "[#%d]" % it for it in rest if kind != "key"]
+    if kind == "key":
+        is_plain = rest[0] and rest[0] != "*" and chance.random() < 0.5
+        return f".{rest[0]}" if is_plain else f'."{rest[0]}"'
+    if kind == "range":
+        return f"{bound[0][:-1]} to {bound[1][1:]}"
+    return {"*": "[*]", ".*": ".*"}.get(kind) or bound[0]
+
+
+def any_step(chance):
+    kind = chance.choice(["key", "key", "index", "index", "*", ".*", "range"])
+    if kind == "key":
+        return kind, chance.choice(KEYS)
+    if kind == "index":
+        return kind, chance.randint(-3, 3)
+    if kind == "range":
+        return kind, chance.randint(-3, 3), chance.randint(-3, 3)
+    return kind,
+
+
+def path_text(chance, path):
+    return ("$" + "".join(written(chance, step) for step in path)).encode()
 
 
 def asks_contains(chance, left, right):
@@ -324,10 +454,48 @@ def asks_concat(chance, left, right):
     assert answer == (OK, document(joined(left, right), stored=False))
 
 
+def asks_merge_patch(chance, left, right):
+    if isinstance(right, dict):
+        right = {key: chance.choice([None, it]) for key, it in right.items()}
+    depth = max(depth_of(left), depth_of(right))
+    answer = bytes_of("merge_patch", document(left), document(right), SIZE(depth))
+    assert answer == (OK, document(patched(left, right), stored=False))
+
+
+def asks_strip_nulls(chance, left, right):
+    answer = bytes_of("strip_nulls", document(left), SIZE(depth_of(left)))
+    assert answer == (OK, document(stripped(left), stored=False))
+
+
+def asks_select(chance, left, right):
+    path = [any_step(chance) for _ in range(chance.randint(0, 4))]
+    stored, text = document(left), path_text(chance, path)
+    status, places = places_of(stored, text, depth_of(left))
+    assert status == OK
+    wanted = [entry(it, stored=True) for it in selected(left, path)]
+    assert [entry_at(stored, it) for it in places] == wanted, text
+    assert all(it.offset <= after.offset for it, after in zip(places, places[1:])), text
+
+
+def asks_get_path(chance, left, right):
+    path, stored = any_path(chance, left), document(left)
+    steps = [("key" if isinstance(it, str) else "index", it) for it in path]
+    export, crossed = call("get_path", stored, path_document(path), SIZE(max(depth_of(left), 1)))
+    found, wanted = export(*crossed), selected(left, steps)
+    assert found.status == (OK if wanted else NONE)
+    if wanted:
+        assert entry_at(stored, found) == entry(wanted[0], stored=True)
+    answer = bytes_of("path_of_text", path_text(chance, steps))
+    assert answer == (OK, path_document(path, stored=False))
+
+
 def asks_edit(chance, left, right):
-    number = chance.randrange(3)
-    edit, path = ("put", "insert", "remove")[number], any_path(chance, left)
-    if path:
+    number = chance.randrange(4)
+    edit, path = ("put", "insert", "remove", "create")[number], any_path(chance, left)
+    if edit == "create":
+        path += chance.choices(["a", "z", 0, 0, 1, -1, NO_LIMIT], k=chance.randint(0, 2))
+        wanted = created(left, path, right)
+    elif path:
         wanted = edited(left, path, edit, right)
     else:
         wanted = right if edit == "put" else left
@@ -363,7 +531,8 @@ def asks_keys(chance, left, right):
             assert top_key in keys_of("top_keys", document(left), SIZE(9))[1]
 
 
-QUESTIONS = [asks_contains, asks_contains, asks_exists, asks_concat, asks_edit, asks_edit,
+QUESTIONS = [asks_contains, asks_contains, asks_exists, asks_concat, asks_merge_patch,
+             asks_strip_nulls, asks_select, asks_select, asks_get_path, asks_edit, asks_edit,
              asks_edit, asks_no_path, asks_keys]
 
 
