@@ -11,9 +11,9 @@ from unittest import mock
 
 import kohiblad
 from kohiblad import (ArrayDocument, DEPTH, Document, FloatError, InvalidTextError, KohibladError,
-                      NumberError, ObjectDocument, ScalarDocument, TooDeepError, TooManyStepsError,
-                      _changes, _document, _library)
-from models import FewNames, at_path, contains, edited, has_key, merged, scalars
+                      NumberError, ObjectDocument, PathError, ScalarDocument, TooDeepError,
+                      TooManyStepsError, _changes, _document, _library)
+from models import FewNames, at_path, contains, edited, has_key, merged, scalars, selected
 
 ROUNDS = 3000
 # The deepest array.
@@ -174,6 +174,35 @@ class PathTest(FunctionTest):
         self.assertIsNone(Document.of(5).get_path("a"))
         self.assertEqual(row.get_path("a", Size.LARGE), Document.of({"b": None}))
         self.assertEqual(len(DEEPEST.get_path(*[0] * (DEPTH - 1), default="none")), 0)
+
+    def test_select_as_the_model(self):
+        values, found = FewNames(seed=45), 0
+        for _ in range(ROUNDS):
+            value = values.any(depth=3)
+            path = values.wild_path(3)
+            expected = selected(value, path)
+            children = Document.of(value).select("$" + "".join(path))
+            self.assertEqual([bytes(Document.of(it)) for it in children],
+                             [bytes(Document.of(it)) for it in expected])
+            self.assertEqual([isinstance(it, Document) for it in children],
+                             [isinstance(it, (list, dict)) for it in expected])
+            found += len(expected)
+        self.assertGreater(found, ROUNDS / 4)
+
+    def test_many_values_and_texts_that_are_no_paths(self):
+        numbers = list(range(50_000))
+        self.assertEqual(Document.of(numbers).select("$[*]"), numbers)
+        self.assertEqual(Document.of([[n] for n in numbers]).select(b"$[*][0]"), numbers)
+        self.assertEqual(len(DEEPEST.select("$" + "[*]" * (DEPTH - 1))), 1)
+        self.assertEqual(DEEPEST.select("$" + "[*]" * 10 * DEPTH), [])
+        for text in ("", "a", "$.", "$[", "$[x]", "$[1 to]", '$."a', "$a", " $", "$ "):
+            with self.assertRaises(PathError) as refused:
+                Document.of(5).select(text)
+            self.assertEqual(refused.exception.name, "OtherKind")
+            self.assertIn("not a path", str(refused.exception))
+        self.assertRaises(InvalidTextError, Document.of(5).select, b"$.\xff")
+        self.assertRaises(InvalidTextError, Document.of(5).select, "$.\ud800")
+        self.assertRaises(TypeError, Document.of(5).select, 5)
 
     def test_a_text_that_looks_like_a_document_is_none(self):
         text = bytes(Document.of({"b": None})).decode()

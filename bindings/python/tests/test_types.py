@@ -29,6 +29,7 @@ changed: Document = document.set(path, 1).insert("a", {}).without("a", 0, ("b", 
 other: Document = (changed | {"a": None} | document).member("a").item(0) + [changed]
 held: bool = other.contains(changed, steps=100) and other.has_key("a")
 child: object = other.get_path("tags", 0, default="none")
+chosen: List[object] = [*other.select("$.tags[*]"), *other.select(b"$")]
 keys: List[int] = other.index_keys() + other.top_keys()
 ordered = sorted([document, Document.of(None)])
 Document.parse(5)

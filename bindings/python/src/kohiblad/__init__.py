@@ -14,7 +14,7 @@ from ._document import (ArrayDocument, Document, ObjectDocument, ScalarDocument,
                         loads)
 from ._encode import DEPTH
 from ._errors import (ExtensionError, FloatError, InvalidDocumentError, InvalidTextError,
-                      KohibladError, NumberError, OutOfMemoryError, TooDeepError,
+                      KohibladError, NumberError, OutOfMemoryError, PathError, TooDeepError,
                       TooManyStepsError)
 from ._library import IS_NATIVE
 from ._scalars import Date, Interval, Opaque, Scalar, Timestamp, TimestampTz
@@ -22,5 +22,5 @@ from ._scalars import Date, Interval, Opaque, Scalar, Timestamp, TimestampTz
 __all__ = ["ArrayDocument", "DEPTH", "Date", "Document", "DocumentPath", "ExtensionError",
            "FloatError", "IS_NATIVE", "Interval", "InvalidDocumentError", "InvalidTextError",
            "KohibladError", "NumberError", "ObjectDocument", "Opaque", "OutOfMemoryError",
-           "Scalar", "ScalarDocument", "Timestamp", "TimestampTz", "TooDeepError",
+           "PathError", "Scalar", "ScalarDocument", "Timestamp", "TimestampTz", "TooDeepError",
            "TooManyStepsError", "Value", "dumps", "loads"]

@@ -211,6 +211,23 @@ class Document:
         type_, at, size = place
         return _child_of(type_, self._data[at:at + size])
 
+    def select(self, path: Union[str, bytes]) -> List["Child"]:
+        """All values that a path with wildcards selects, in the order in which they are stored.
+
+        >>> row = Document.parse('{"tags": [{"of": 1}, {"of": null}, {}]}')
+        >>> row.select("$.tags[*].of"), row.select("$.tags[#-1]"), row.select("$.none[*]")
+        ([1, None], [<ObjectDocument {}>], [])
+
+        The path is a text: ``$``, and then ``.name`` or ``."any name"`` for the value of a key,
+        ``[0]`` for an item, ``[#-1]`` for the last one, ``[*]`` for each item, ``[0 to #-2]`` for
+        those from one to another, and ``.*`` for each value of an object. PathError: it is none.
+        Scalars come as Python values, and arrays and objects as documents.
+        """
+        if IS_NATIVE:
+            return native.select(self._data, path)
+        places = library.places_of(self._data, bytes_of_text(path))
+        return [_child_of(type_, self._data[at:at + size]) for type_, at, size in places]
+
     def _child_at(self, path: Sequence[Step], default: Any) -> Any:
         """As ``get_path``, by a copy of each array and object on the way."""
         child: Child = self
@@ -656,8 +673,8 @@ if IS_NATIVE:
     native.bind(
         library.addresses("begin", "boolean", "build_array", "build_object", "check", "concat",
                           "edit", "extension", "find", "key", "kind", "next", "number",
-                          "of_extension", "of_part", "parse", "part", "text", "to_canonical",
-                          "to_pretty", "to_string"),
+                          "of_extension", "of_part", "parse", "part", "select", "text",
+                          "to_canonical", "to_pretty", "to_string"),
         {"scalar_document": ScalarDocument, "object_document": ObjectDocument,
          "array_document": ArrayDocument, "data_slot": vars(Document)["_data"],
          "key_slot": vars(Document)["_key"], "decimal": Decimal, "bytes_of_text": bytes_of_text,

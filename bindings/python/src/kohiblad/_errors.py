@@ -36,6 +36,10 @@ class InvalidTextError(KohibladError):
     offset: Optional[int] = None
 
 
+class PathError(KohibladError):
+    """The text is not a path."""
+
+
 class NumberError(KohibladError):
     """The number is not finite, or has more than 128 bits or 255 digits after its point."""
 

@@ -16,7 +16,7 @@ from typing import (Any, Callable, Dict, Generator, Iterator, List, Mapping, Opt
 
 from . import __version__
 from ._errors import (ExtensionError, InvalidDocumentError, InvalidTextError, KohibladError,
-                      NumberError, OutOfMemoryError, TooDeepError, TooManyStepsError)
+                      NumberError, OutOfMemoryError, PathError, TooDeepError, TooManyStepsError)
 
 FILE_NAME = "libkohiblad.so.0"
 OLDEST_VERSION = 7000
@@ -32,6 +32,7 @@ OUT_OF_MEMORY = 10
 NO_ROOM = 11
 NONE = 12
 TOO_DEEP = 13
+OTHER_KIND = 14
 BAD_NUMBER = 17
 TOO_MANY_STEPS = 18
 
@@ -76,6 +77,7 @@ _ERRORS: Dict[int, Type[KohibladError]] = {
     INVALID_JSON: InvalidTextError,
     OUT_OF_MEMORY: OutOfMemoryError,
     TOO_DEEP: TooDeepError,
+    OTHER_KIND: PathError,
     BAD_NUMBER: InvalidTextError,
     TOO_MANY_STEPS: TooManyStepsError,
 }
@@ -193,6 +195,7 @@ contains = _export("contains", Truth, *_BYTES, *_BYTES, c_size_t, c_size_t)
 exists = _export("exists", Truth, *_BYTES, *_BYTES, c_size_t)
 concat = _export("concat", c_uint32, *_BYTES, *_BYTES, c_size_t, *_OUT)
 edit = _export("edit", c_uint32, *_BYTES, *_BYTES, c_uint32, *_BYTES, c_size_t, *_OUT)
+select = _export("select", c_uint32, *_BYTES, *_BYTES, c_size_t, *_OUT)
 index_keys = _export("index_keys", c_uint32, *_BYTES, c_size_t, *_OUT)
 top_keys = _export("top_keys", c_uint32, *_BYTES, c_size_t, *_OUT)
 _begin = _export("begin", c_uint32, *_BYTES, c_void_p)
@@ -220,6 +223,7 @@ def bytes_of(data: Any, expected: str) -> bytes:
 # A cursor, the place of a key and the place of a value: one unpack is quicker than five fields.
 _STATE = struct.Struct("=24x 8xQQ 4xIQQ")
 _STATE_SIZE = ctypes.sizeof(Cursor) + 2 * ctypes.sizeof(Place)
+_PLACE = struct.Struct("=4xIQQ")
 
 
 class _Room:
@@ -279,6 +283,27 @@ def keys_of(call: Callable[..., int], document: bytes) -> List[int]:
     if room.size == _Room.USUAL_SIZE:
         _spare_rooms.append(room)
     return keys
+
+
+def places_of(document: bytes, path: bytes) -> List[Tuple[int, int, int]]:
+    """The type, offset and length of each value that the path of a text selects.
+
+    PathError: the text is not a path.
+    """
+    size, each = len(document), ctypes.sizeof(Place)
+    room = _room_of(0)
+    status = select(document, size, path, len(path), size, room.address, room.size // each,
+                    room.length_address)
+    if status == NO_ROOM:
+        room = _Room(each * room.length.value)
+        status = select(document, size, path, len(path), size, room.address, room.size // each,
+                        room.length_address)
+    if status != OK:
+        raise error_of(status, "the text is not a path" if status == OTHER_KIND else "")
+    found = ctypes.string_at(room.address, each * room.length.value)
+    if room.size == _Room.USUAL_SIZE:
+        _spare_rooms.append(room)
+    return [(type_, at, length) for type_, at, length in _PLACE.iter_unpack(found)]
 
 
 def status_name(status: int) -> str:

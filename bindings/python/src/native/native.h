@@ -51,6 +51,7 @@ struct library {
     __typeof__(kohiblad_export_of_part) *of_part;
     __typeof__(kohiblad_export_parse) *parse;
     __typeof__(kohiblad_export_part) *part;
+    __typeof__(kohiblad_export_select) *select;
     __typeof__(kohiblad_export_text) *text;
     __typeof__(kohiblad_export_to_canonical) *to_canonical;
     __typeof__(kohiblad_export_to_pretty) *to_pretty;
@@ -153,6 +154,7 @@ PyObject *native_of_extension(PyObject *module, PyObject *const *arguments, Py_s
 PyObject *native_pairs(PyObject *module, PyObject *data);
 PyObject *native_parse(PyObject *module, PyObject *const *arguments, Py_ssize_t count);
 PyObject *native_places(PyObject *module, PyObject *const *arguments, Py_ssize_t count);
+PyObject *native_select(PyObject *module, PyObject *const *arguments, Py_ssize_t count);
 PyObject *native_to_canonical(PyObject *module, PyObject *data);
 PyObject *native_to_pretty(PyObject *module, PyObject *data);
 PyObject *native_to_string(PyObject *module, PyObject *data);
