@@ -39,6 +39,8 @@ struct each {
     sqlite3_vtab_cursor base;
     sqlite3_value *source, *root, *wanted; /* copies of the arguments, and of a key to be found */
     struct bytes document, path;
+    struct buffer steps;  /* the document of the path, if it is open */
+    bool has_steps;
     struct step last;     /* of the path */
     struct part top;      /* what is at the path */
     struct level *levels; /* from the top to the child at hand; of jb_each there is one */
@@ -131,6 +133,8 @@ static void forget_arguments(struct each *each)
     sqlite3_value_free(each->root);
     sqlite3_value_free(each->wanted);
     each->source = each->root = each->wanted = NULL;
+    if (each->has_steps) release(&each->steps);
+    each->has_steps = false;
 }
 
 static int close_each(sqlite3_vtab_cursor *cursor)
@@ -251,7 +255,10 @@ static int find_top(struct each *each)
     if (!bytes_of(each->source, &each->document)
         || (each->root && !bytes_of(each->root, &each->path)))
         return fail_each(each, NULL);
-    status = follow_path(name, each->document, each->path, &each->top, &each->last, &message);
+    status = open_path(name, each->path, &each->steps, &message);
+    each->has_steps = status == KOHIBLAD_OK;
+    if (each->has_steps)
+        status = follow_path(name, each->document, &each->steps, &each->top, &each->last, &message);
     if (status == KOHIBLAD_NONE) return SQLITE_DONE;
     if (status != KOHIBLAD_OK) return fail_each(each, message);
     if (function_of(each)->is_tree
@@ -366,7 +373,7 @@ static void give_key(const struct caller *caller, const struct each *each)
         const struct level *level = deepest(each);
         if (level->kind.kind == KOHIBLAD_OBJECT) give_value(caller, &level->key);
         else sqlite3_result_int64(caller->context, (sqlite3_int64)level->index);
-    } else if (function_of(each)->is_tree && last->text.at) {
+    } else if (function_of(each)->is_tree && last->value.payload.at) {
         if (last->kind == NAME)
             give_value(caller, &(struct part){ KOHIBLAD_TYPE_STRING, last->name });
         else sqlite3_result_int64(caller->context, (sqlite3_int64)last->index);
@@ -453,12 +460,26 @@ static void give_path(const struct caller *caller, const struct each *each, stru
     }
 }
 
+/* How long the text of a path's last step is. A name between quotes has no quote in it. */
+static size_t size_of_step(struct bytes text, const struct step *step)
+{
+    struct bytes name = step->name;
+    size_t size = 1;
+    if (step->kind == NAME) {
+        bool is_quoted = name.size == 0
+            || (text.at[text.size - 1] == '"' && name.at[name.size - 1] != '"');
+        return name.size + (is_quoted ? 3 : 1);
+    }
+    while (text.at[text.size - size] != '[') size++;
+    return size;
+}
+
 /* The path to the container that holds the row: of the top that is without its last step. */
 static void give_path_of_parent(const struct caller *caller, const struct each *each)
 {
     struct bytes top = each->path;
-    if (each->is_at_top && function_of(each)->is_tree && each->last.text.at)
-        top.size = (size_t)(each->last.text.at - top.at);
+    if (each->is_at_top && function_of(each)->is_tree && each->last.value.payload.at)
+        top.size -= size_of_step(top, &each->last);
     give_path(caller, each, top, each->is_at_top ? 0 : each->depth - 1);
 }
 

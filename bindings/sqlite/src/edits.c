@@ -16,9 +16,9 @@ struct edit_function {
 struct target {
     bool is_there;
     bool can_be_made;   /* it is not there, and the containers that it needs can be made */
-    struct bytes made;  /* the steps after the first that leads nowhere */
-    size_t steps;
-    struct rows path;   /* the documents of the steps to the edit */
+    struct buffer path; /* the document of its steps */
+    struct reader made; /* the steps after the first that leads nowhere */
+    size_t steps, followed;
 };
 
 /* A JSON string of the name. A byte that is no UTF-8 stays, so that it is refused. */
@@ -39,10 +39,7 @@ static void append_string(sqlite3_str *text, struct bytes name)
 /* The step as an item of the array that a path is to the library. */
 static uint32_t append_step(struct rows *path, const struct step *step)
 {
-    struct sql_value index = { .type = SQLITE_INTEGER, .integer = (int64_t)step->index };
-    if (step->kind == NAME)
-        return append(path, write_string, &step->name, SCALAR_FRONT + step->name.size);
-    return append(path, write_sql_value, &index, guess_of(&index));
+    return append(path, write_part, &step->value, SCALAR_FRONT + step->value.payload.size);
 }
 
 static void discard(sqlite3_str *text)
@@ -64,50 +61,36 @@ static bool can_make(const struct step *step, const struct part *part)
  * index. */
 static bool makes_container(const struct step *step)
 {
-    return step->kind == NAME
-        || (step->kind == INDEX && step->index == 0 && step->text.size == strlen("[0]"));
+    return step->kind == NAME || (step->kind == INDEX && step->index == 0);
 }
 
-/* Follows a step from the part, and adds it to the path. */
-static uint32_t follow(struct target *target, struct step *step, struct part *part)
-{
-    uint32_t status = take_step(step, part), appended = append_step(&target->path, step);
-    target->can_be_made = status == KOHIBLAD_NONE && can_make(step, part);
-    return appended == KOHIBLAD_OK ? status : appended;
-}
-
-/* Follows a path to its end, as follow_path does. After another status than KOHIBLAD_OK *message is
- * what to report. The caller forgets target->path. */
-static uint32_t find_target(const struct caller *caller, struct bytes document, struct bytes path,
+/* Follows a path as far as it leads. After another status than KOHIBLAD_OK *message is what to
+ * report; otherwise the caller releases target->path. */
+static uint32_t find_target(const struct caller *caller, struct bytes document, struct bytes text,
                             struct target *target, char **message)
 {
-    struct reader reader = { path.at, path.at + path.size };
     struct part part = { KOHIBLAD_TYPE_CONTAINER, document };
     struct step step;
-    uint32_t status = KOHIBLAD_OK;
-    bool is_right = read_start(&reader);
-    target->made.at = reader.end;
-    for (; is_right && reader.at < reader.end; target->steps++) {
-        is_right = read_step(&reader, &step);
-        if (!is_right) break;
+    struct reader reader;
+    uint32_t status = open_path(caller->name, text, &target->path, message);
+    if (status != KOHIBLAD_OK) return status;
+    for (reader = steps_of(&target->path); read_step(&reader, &step); target->steps++) {
         if (status == KOHIBLAD_NONE) {
             target->can_be_made = target->can_be_made && makes_container(&step);
-        } else if (status == KOHIBLAD_OK) {
-            status = follow(target, &step, &part);
-            target->made.at = reader.at;
+            continue;
+        }
+        status = take_step(&step, &part);
+        target->can_be_made = status == KOHIBLAD_NONE && can_make(&step, &part);
+        target->followed++;
+        target->made = reader;
+        if (status != KOHIBLAD_OK && status != KOHIBLAD_NONE) {
+            release(&target->path);
+            *message = status_message(caller->name, status, NULL);
+            return status;
         }
     }
     target->is_there = status == KOHIBLAD_OK;
-    target->made.size = (size_t)(reader.end - target->made.at);
-    if (!is_right) {
-        *message = path_message(caller->name, path, reader.at);
-        return KOHIBLAD_OTHER_KIND;
-    }
-    if (status == KOHIBLAD_OK || status == KOHIBLAD_NONE) return KOHIBLAD_OK;
-    *message = NULL;
-    if (status != KOHIBLAD_OUT_OF_MEMORY)
-        *message = status_message(caller->name, status, NULL);
-    return status;
+    return KOHIBLAD_OK;
 }
 
 /* Whether all that was appended is there; reports why not. */
@@ -130,31 +113,36 @@ static bool fill_parsed(const struct caller *caller, struct buffer *buffer, sqli
     return is_made;
 }
 
-/* The document edited at the path. */
-static bool fill_edited(const struct caller *caller, struct buffer *buffer, struct edit edit,
-                        const struct rows *steps)
+/* The document edited at the end of its path. */
+static bool fill_edited(const struct caller *caller, struct buffer *buffer, struct edit edit)
+{
+    return fill(caller, buffer, write_edited, &edit,
+                edit.document.size + edit.path.size + edit.value.size);
+}
+
+/* The document edited at the end of these steps. */
+static bool fill_edited_at(const struct caller *caller, struct buffer *buffer, struct edit edit,
+                           const struct rows *steps)
 {
     struct buffer path;
     bool is_made;
     if (!fill(caller, &path, write_array, steps, guess_of_rows(steps))) return false;
     edit.path = bytes_in(&path);
-    is_made = fill(caller, buffer, write_edited, &edit,
-                   edit.document.size + edit.path.size + edit.value.size);
+    is_made = fill_edited(caller, buffer, edit);
     release(&path);
     return is_made;
 }
 
 /* Containers inside one another, as the steps need them, around null, and the path to it. */
-static bool fill_containers(const struct caller *caller, struct buffer *buffer, struct bytes steps,
-                            struct rows *path)
+static bool fill_containers(const struct caller *caller, struct buffer *buffer,
+                            struct reader reader, struct rows *path)
 {
     sqlite3 *database = sqlite3_context_db_handle(caller->context);
     sqlite3_str *text = sqlite3_str_new(database), *closed = sqlite3_str_new(database);
-    struct reader reader = { steps.at, steps.at + steps.size };
     struct step step;
     uint32_t status = KOHIBLAD_OK;
     bool is_made;
-    while (status == KOHIBLAD_OK && reader.at < reader.end && read_step(&reader, &step)) {
+    while (status == KOHIBLAD_OK && read_step(&reader, &step)) {
         bool is_name = step.kind == NAME;
         status = append_step(path, &step);
         sqlite3_str_appendchar(text, 1, is_name ? '{' : '[');
@@ -174,7 +162,7 @@ static bool fill_containers(const struct caller *caller, struct buffer *buffer, 
 }
 
 /* The value, inside the containers that are made for it. */
-static bool fill_made(const struct caller *caller, struct buffer *buffer, struct bytes steps,
+static bool fill_made(const struct caller *caller, struct buffer *buffer, struct reader steps,
                       struct bytes value)
 {
     struct buffer containers;
@@ -183,7 +171,7 @@ static bool fill_made(const struct caller *caller, struct buffer *buffer, struct
     bool is_made = fill_containers(caller, &containers, steps, &path);
     if (is_made) {
         edit.document = bytes_in(&containers);
-        is_made = fill_edited(caller, buffer, edit, &path);
+        is_made = fill_edited_at(caller, buffer, edit, &path);
         release(&containers);
     }
     forget(&path);
@@ -200,18 +188,35 @@ static bool is_shallow(const struct caller *caller, struct bytes value, size_t s
     return false;
 }
 
+/* The steps that were followed. Reports why not. */
+static bool append_followed(const struct caller *caller, const struct target *target,
+                            struct rows *path)
+{
+    struct reader reader = steps_of(&target->path);
+    struct step step;
+    for (size_t i = 0; i < target->followed && read_step(&reader, &step); i++) {
+        uint32_t status = append_step(path, &step);
+        if (status == KOHIBLAD_OK) continue;
+        fail(caller, status);
+        return false;
+    }
+    return true;
+}
+
 /* The document with the value at the target. */
 static bool fill_put(const struct caller *caller, struct buffer *buffer, struct bytes document,
                      const struct target *target, struct bytes value)
 {
-    struct edit edit = { .document = document, .value = value, .kind = KOHIBLAD_PUT };
+    struct edit edit = { .document = document, .path = bytes_in(&target->path), .value = value,
+                         .kind = KOHIBLAD_PUT };
+    struct rows path = { 0 };
     struct buffer made;
     bool is_made;
-    if (target->is_there || target->made.size == 0)
-        return fill_edited(caller, buffer, edit, &target->path);
+    if (target->followed == target->steps) return fill_edited(caller, buffer, edit);
     if (!fill_made(caller, &made, target->made, value)) return false;
     edit.value = bytes_in(&made);
-    is_made = fill_edited(caller, buffer, edit, &target->path);
+    is_made = append_followed(caller, target, &path) && fill_edited_at(caller, buffer, edit, &path);
+    forget(&path);
     release(&made);
     return is_made;
 }
@@ -238,14 +243,15 @@ static enum outcome edit_target(const struct caller *caller, const struct edit_f
                                 struct buffer *buffer, struct bytes document,
                                 const struct target *target, sqlite3_value *value)
 {
-    struct edit removal = { .document = document, .kind = KOHIBLAD_REMOVE };
+    struct edit removal = { .document = document, .path = bytes_in(&target->path),
+                            .kind = KOHIBLAD_REMOVE };
     bool is_wanted = target->is_there ? function->overwrites
         : function->creates && target->can_be_made;
     if (!is_wanted) return UNCHANGED;
     if (function->has_values)
         return put(caller, buffer, document, target, value) ? CHANGED : FAILED;
     if (target->steps == 0) return REMOVED;
-    return fill_edited(caller, buffer, removal, &target->path) ? CHANGED : FAILED;
+    return fill_edited(caller, buffer, removal) ? CHANGED : FAILED;
 }
 
 /* Edits once, at the path that an argument is. */
@@ -258,10 +264,12 @@ static enum outcome edit_at(const struct caller *caller, const struct edit_funct
     char *message;
     enum outcome outcome = FAILED;
     if (!get_text(caller, argument, &path)) return FAILED;
-    if (find_target(caller, document, path, &target, &message) == KOHIBLAD_OK)
+    if (find_target(caller, document, path, &target, &message) == KOHIBLAD_OK) {
         outcome = edit_target(caller, function, buffer, document, &target, value);
-    else fail_with(caller, message);
-    forget(&target.path);
+        release(&target.path);
+    } else {
+        fail_with(caller, message);
+    }
     return outcome;
 }
 

@@ -199,28 +199,29 @@ struct step {
     enum step_kind kind;
     struct bytes name;
     uint64_t index;
-    struct bytes text; /* as the path has it */
+    struct part value; /* in the document of the path; its payload is null if there is no step */
 };
 
-/* The part of a path that is not yet read. */
+/* The steps of a path that are not yet read. */
 struct reader {
-    const uint8_t *at, *end;
+    struct bytes path;
+    struct kohiblad_cursor next;
 };
 
-/* Reads the `$` that a path begins with. */
-bool read_start(struct reader *reader);
-/* Reads a step. After `false` the reader is at the character that is wrong. */
+/* Reads the text of a path into the document of its steps. KOHIBLAD_OK: the caller releases it.
+ * After another status *message is what to report; null if memory was refused. */
+uint32_t open_path(const char *name, struct bytes text, struct buffer *path, char **message);
+/* The steps of such a document, from the first on. */
+struct reader steps_of(const struct buffer *path);
+/* Reads the next step, if there is one. */
 bool read_step(struct reader *reader, struct step *step);
 /* Follows a step from a part. A step from the end becomes an INDEX if the part is an array that is
  * so long. KOHIBLAD_NONE: nothing is there. */
 uint32_t take_step(struct step *step, struct part *part);
-/* The error of a path that is wrong there. Null if memory was refused. */
-char *path_message(const char *name, struct bytes path, const uint8_t *wrong);
 /* Follows a path from the whole document. KOHIBLAD_OK, or KOHIBLAD_NONE: nothing is there. After
- * another status *message is what to report. `last`, if it is not null, becomes the last step; it
- * has no text if there is none. */
-uint32_t follow_path(const char *name, struct bytes document, struct bytes path, struct part *part,
-                     struct step *last, char **message);
+ * another status *message is what to report. `last` becomes the last step that was followed. */
+uint32_t follow_path(const char *name, struct bytes document, const struct buffer *path,
+                     struct part *part, struct step *last, char **message);
 
 /* These return codes of SQLite. */
 int register_functions(sqlite3 *database);  /* functions.c */

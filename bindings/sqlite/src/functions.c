@@ -223,13 +223,19 @@ static void jb_get(const struct caller *caller, sqlite3_value **arguments)
 
 static void give_at(const struct caller *caller, sqlite3_value **arguments, part_giver *give)
 {
-    struct bytes document, path;
+    struct bytes document, text;
+    struct buffer path;
+    struct step last;
     struct part part;
     char *message;
     uint32_t status;
-    if (!get_document(caller, arguments[0], &document) || !get_text(caller, arguments[1], &path))
+    if (!get_document(caller, arguments[0], &document) || !get_text(caller, arguments[1], &text))
         return;
-    status = follow_path(caller->name, document, path, &part, NULL, &message);
+    status = open_path(caller->name, text, &path, &message);
+    if (status == KOHIBLAD_OK) {
+        status = follow_path(caller->name, document, &path, &part, &last, &message);
+        release(&path);
+    }
     if (status == KOHIBLAD_OK) give(caller, &part);
     else if (status != KOHIBLAD_NONE) fail_with(caller, message);
 }

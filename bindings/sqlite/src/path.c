@@ -1,73 +1,65 @@
-/* Paths as SQLite's JSON functions write them: $, $.name, $."a name", $[0], $[#-1]. */
+/* Paths as SQLite's JSON functions write them: $, $.name, $."a name", $[0], $[#-1]. The library
+ * reads them, into a document of their steps. */
 #include "extension.h"
 
 SQLITE_EXTENSION_INIT3
 
-static bool next_is(const struct reader *reader, char character)
+/* The error of a text that is no path. Null if memory was refused. */
+static char *path_message(const char *name, struct bytes text)
 {
-    return reader->at < reader->end && *reader->at == (uint8_t)character;
+    return sqlite3_mprintf("%s: bad path '%.*s'", name, (int)text.size, (const char *)text.at);
 }
 
-static bool skip(struct reader *reader, char character)
+uint32_t open_path(const char *name, struct bytes text, struct buffer *path, char **message)
 {
-    if (!next_is(reader, character)) return false;
-    reader->at++;
-    return true;
-}
-
-static bool read_quoted_name(struct reader *reader, struct bytes *name)
-{
-    name->at = reader->at;
-    while (reader->at < reader->end && *reader->at != '"') reader->at++;
-    name->size = (size_t)(reader->at - name->at);
-    return skip(reader, '"');
-}
-
-static bool read_plain_name(struct reader *reader, struct bytes *name)
-{
-    name->at = reader->at;
-    while (reader->at < reader->end && *reader->at != '.' && *reader->at != '[') reader->at++;
-    name->size = (size_t)(reader->at - name->at);
-    return name->size > 0;
-}
-
-/* Digits past 2^32 are read and not counted: no array has so many items. */
-static bool read_digits(struct reader *reader, uint64_t *number)
-{
-    const uint8_t *start = reader->at;
-    for (*number = 0; reader->at < reader->end; reader->at++) {
-        if (*reader->at < '0' || *reader->at > '9') break;
-        if (*number <= UINT32_MAX) *number = 10 * *number + (*reader->at - '0');
+    uint32_t status;
+    path->at = path->small;
+    status = kohiblad_path_of_text(text.at, text.size, path->at, sizeof path->small, &path->size);
+    if (status == KOHIBLAD_NO_ROOM) {
+        size_t room = path->size;
+        path->at = sqlite3_malloc64(room);
+        status = path->at
+            ? kohiblad_path_of_text(text.at, text.size, path->at, room, &path->size)
+            : KOHIBLAD_OUT_OF_MEMORY;
     }
-    return reader->at > start;
+    if (status == KOHIBLAD_OK) return status;
+    release(path);
+    *message = NULL;
+    if (status == KOHIBLAD_OTHER_KIND) *message = path_message(name, text);
+    else if (status != KOHIBLAD_OUT_OF_MEMORY) *message = status_message(name, status, NULL);
+    return status;
 }
 
-static bool read_index(struct reader *reader, struct step *step)
+struct reader steps_of(const struct buffer *path)
 {
-    step->kind = skip(reader, '#') ? FROM_END : INDEX;
-    if (step->kind == INDEX || skip(reader, '-'))
-        if (!read_digits(reader, &step->index)) return false;
-    return skip(reader, ']');
+    struct reader reader = { bytes_in(path), { 0, 0, 0 } };
+    kohiblad_begin(reader.path.at, reader.path.size, &reader.next);
+    return reader;
 }
 
-static bool read_any_step(struct reader *reader, struct step *step)
+/* A number below 0 counts from the end, and the greatest of 64 bits is `[#]`, past the last. */
+static void read_index(struct step *step)
 {
-    if (skip(reader, '[')) return read_index(reader, step);
-    if (!skip(reader, '.')) return false;
-    return skip(reader, '"') ? read_quoted_name(reader, &step->name)
-                             : read_plain_name(reader, &step->name);
-}
-
-bool read_start(struct reader *reader)
-{
-    return skip(reader, '$');
+    uint8_t document[32];
+    size_t length;
+    struct kohiblad_decimal number = { .status = KOHIBLAD_OTHER_KIND };
+    if (kohiblad_of_part(step->value.type, step->value.payload.at, step->value.payload.size,
+                         document, sizeof document, &length) == KOHIBLAD_OK)
+        number = kohiblad_number(document, length);
+    step->kind = number.high < 0 || number.low == UINT64_MAX ? FROM_END : INDEX;
+    step->index = number.high < 0 ? -number.low : step->kind == INDEX ? number.low : 0;
 }
 
 bool read_step(struct reader *reader, struct step *step)
 {
-    *step = (struct step){ .kind = NAME, .text.at = reader->at };
-    if (!read_any_step(reader, step)) return false;
-    step->text.size = (size_t)(reader->at - step->text.at);
+    struct kohiblad_place place;
+    if (kohiblad_next(reader->path.at, reader->path.size, &reader->next, NULL, &place)
+        != KOHIBLAD_OK)
+        return false;
+    *step = (struct step){ .kind = NAME };
+    step->value = (struct part){ place.type, { reader->path.at + place.offset, place.length } };
+    if (place.type == KOHIBLAD_TYPE_STRING) step->name = step->value.payload;
+    else read_index(step);
     return true;
 }
 
@@ -99,33 +91,15 @@ uint32_t take_step(struct step *step, struct part *part)
     return place.status;
 }
 
-/* Characters are counted from 1, as substr does. */
-char *path_message(const char *name, struct bytes path, const uint8_t *wrong)
+uint32_t follow_path(const char *name, struct bytes document, const struct buffer *path,
+                     struct part *part, struct step *last, char **message)
 {
-    sqlite3_int64 character = 1;
-    for (const uint8_t *at = path.at; at < wrong; at++) character += (*at & 0xC0) != 0x80;
-    return sqlite3_mprintf("%s: bad path at character %lld", name, character);
-}
-
-/* Reads the path to its end, also where nothing is there, so that a bad path is always reported. */
-uint32_t follow_path(const char *name, struct bytes document, struct bytes path, struct part *part,
-                     struct step *last, char **message)
-{
-    struct reader reader = { path.at, path.at + path.size };
-    struct step step = { .kind = NAME };
+    struct reader reader = steps_of(path);
     uint32_t status = KOHIBLAD_OK;
-    bool is_right = read_start(&reader);
     *part = (struct part){ KOHIBLAD_TYPE_CONTAINER, document };
-    while (is_right && reader.at < reader.end) {
-        is_right = read_step(&reader, &step);
-        if (is_right && status == KOHIBLAD_OK) status = take_step(&step, part);
-    }
-    if (last) *last = step;
-    if (!is_right) {
-        *message = path_message(name, path, reader.at);
-        return KOHIBLAD_OTHER_KIND;
-    }
-    if (status != KOHIBLAD_OK && status != KOHIBLAD_NONE)
-        *message = status_message(name, status, NULL);
+    *last = (struct step){ .kind = NAME };
+    while (status == KOHIBLAD_OK && read_step(&reader, last)) status = take_step(last, part);
+    *message = status != KOHIBLAD_OK && status != KOHIBLAD_NONE
+        ? status_message(name, status, NULL) : NULL;
     return status;
 }

@@ -12,7 +12,7 @@ INSERT INTO paths VALUES ('$.a'), ('$.a.b'), ('$.a.b[0]'), ('$.a.b[1].c'), ('$.a
     ('$.a[1]'), ('$.a[1].a'), ('$.a[#]'), ('$.a[#-1]'), ('$.a[#-2].x'), ('$."e f"'), ('$.e f'),
     ('$[0]'), ('$[1]'), ('$[1][1]'), ('$[1][#-1][0]'), ('$[#]'), ('$[#-1]'), ('$[#-9]'), ('$[3]'),
     ('$[5]'), ('$[#].a'), ('$[#][0]'), ('$[#][1]'), ('$[#].a.b[0].c'), ('$.new.er[0][0].est'),
-    ('$.new[1]'), ('$.new[#]'), ('$.new[00]'), ('$.b.a.a'), ('$.b.a.a.a'), ('$.b[0]'), ('$.b[#]'),
+    ('$.new[1]'), ('$.new[#]'), ('$.new[0]'), ('$.b.a.a'), ('$.b.a.a.a'), ('$.b[0]'), ('$.b[#]'),
     ('$.c.x'), ('$.é'), ('$.1'), ('$.a1.x[#-2]'), ('$.a1.x[4]'), ('$.a1.x[5]'), ('$[0][0][0][0]'),
     ('$[2].z'), ('$."new x"."y z"');
 CREATE TABLE vals(id INTEGER PRIMARY KEY, text, is_json);
@@ -122,7 +122,7 @@ SELECT name, count(*), sum(jb_key(ours) IS NOT jb_key(jb(theirs))) FROM results
 --> json_tree|16|0
 -- How many are NULL, and how many have the same text, too.
 SELECT count(*), sum(theirs IS NULL), sum(jb_text(ours) IS theirs) FROM results;
---> 46242|713|42997
+--> 46242|713|42963
 -- All functions of json1 were asked.
 SELECT group_concat(DISTINCT f.name) FROM pragma_function_list f
     WHERE (f.name LIKE 'json%' OR f.name LIKE '->%') AND NOT EXISTS (SELECT 1 FROM results

@@ -37,30 +37,30 @@ WHERE jb_value(doc, path) IS (jb_text(doc) ->> path);
 
 -- A bad path is an error at its first wrong character, also where nothing is there.
 SELECT jb_at(doc, '') FROM t;
---! jb_at: bad path at character 1
+--! jb_at: bad path ''
 SELECT jb_at(doc, 'a.b') FROM t;
---! jb_at: bad path at character 1
+--! jb_at: bad path 'a.b'
 SELECT jb_value(doc, '$a') FROM t;
---! jb_value: bad path at character 2
+--! jb_value: bad path '$a'
 SELECT jb_at(doc, '$.') FROM t;
---! jb_at: bad path at character 3
+--! jb_at: bad path '$.'
 SELECT jb_at(doc, '$.é..a') FROM t;
---! jb_at: bad path at character 5
+--! jb_at: bad path '$.é..a'
 SELECT jb_at(doc, '$."a') FROM t;
---! jb_at: bad path at character 5
+--! jb_at: bad path '$."a'
 SELECT jb_at(doc, '$."a"b') FROM t;
---! jb_at: bad path at character 6
+--! jb_at: bad path '$."a"b'
 SELECT jb_at(doc, '$.a[x]') FROM t;
---! jb_at: bad path at character 5
+--! jb_at: bad path '$.a[x]'
 SELECT jb_at(doc, '$.a[]') FROM t;
---! jb_at: bad path at character 5
+--! jb_at: bad path '$.a[]'
 SELECT jb_at(doc, '$.a[1') FROM t;
---! jb_at: bad path at character 6
+--! jb_at: bad path '$.a[1'
 SELECT jb_at(doc, '$.a[-1]') FROM t;
---! jb_at: bad path at character 5
+--! jb_at: bad path '$.a[-1]'
 SELECT jb_at(doc, '$.a[#-]') FROM t;
---! jb_at: bad path at character 7
+--! jb_at: bad path '$.a[#-]'
 SELECT jb_at(doc, '$.a[#1]') FROM t;
---! jb_at: bad path at character 6
+--! jb_at: bad path '$.a[#1]'
 SELECT jb_at(doc, '$.none.none[') FROM t;
---! jb_at: bad path at character 13
+--! jb_at: bad path '$.none.none['

@@ -111,7 +111,7 @@ SELECT * FROM jb_tree(x'00');
 SELECT * FROM jb_tree('[]');
 --! jb_tree: InvalidJsonb: a document is a BLOB
 SELECT * FROM jb_tree(jb('[]'), 'a');
---! jb_tree: bad path at character 1
+--! jb_tree: bad path 'a'
 SELECT * FROM jb_tree(jb('[]'), 5);
 --! jb_tree: OtherKind: names and paths are TEXT
 -- It checks the whole document.
