@@ -115,7 +115,7 @@ measure "\`doc -> 'id' = '777'\`, parts by hash" "SELECT doc FROM HASH WHERE doc
 measure "\`doc ->> 'id' = '777'\`, which is not sent" \
     "SELECT doc FROM ROWS WHERE doc ->> 'id' = '777'"
 measure "a range of \`doc -> 'price'\`, no index" \
-    "SELECT count(doc) FROM ROWS WHERE doc -> 'price' BETWEEN '100' AND '100.50'"
+    "SELECT doc FROM ROWS WHERE doc -> 'price' BETWEEN '100' AND '100.50'"
 measure "\`ORDER BY doc -> 'price' LIMIT 10\`" \
     "SELECT doc FROM ROWS ORDER BY doc -> 'price' LIMIT 10"
 measure "\`max(doc -> 'id')\`, an index" "SELECT max(doc -> 'id') FROM ROWS"
