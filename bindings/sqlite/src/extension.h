@@ -107,11 +107,12 @@ writer write_part;
 writer write_compact, write_pretty, write_canonical, write_key;
 /* The document of struct bytes as binary data. */
 writer write_binary;
-/* Two documents put together, struct documents. */
+/* Two documents put together, or one patched by the other, struct documents. */
 struct documents {
     struct bytes left, right;
 };
 writer write_concat;
+writer write_patched;
 /* A document edited at a path, struct edit. */
 struct edit {
     struct bytes document, path, value;
@@ -185,11 +186,6 @@ void give_kind(const struct caller *caller, const struct part *part);
 void give_type(const struct caller *caller, const struct part *part);
 /* The number of an array's items, and 0 of all others. */
 void give_array_length(const struct caller *caller, const struct part *part);
-
-/* patch.c */
-
-/* The target with the patch merged into it; both are checked. */
-void give_patched(const struct caller *caller, struct bytes target, struct bytes patch);
 
 /* path.c */
 

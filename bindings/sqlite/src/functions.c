@@ -141,17 +141,16 @@ static void jb_concat(const struct caller *caller, sqlite3_value **arguments)
     with_both(caller, arguments, give_concat);
 }
 
-static void patch_checked(const struct caller *caller, const struct documents *both)
+static void give_patched(const struct caller *caller, const struct documents *both)
 {
-    if (kohiblad_check(both->left.at, both->left.size, KOHIBLAD_SQLITE_DEPTH)
-        && kohiblad_check(both->right.at, both->right.size, KOHIBLAD_SQLITE_DEPTH))
-        give_patched(caller, both->left, both->right);
-    else fail(caller, KOHIBLAD_INVALID_JSONB);
+    struct buffer buffer;
+    if (fill(caller, &buffer, write_patched, both, both->left.size + both->right.size))
+        give_blob(caller, &buffer);
 }
 
 static void jb_patch(const struct caller *caller, sqlite3_value **arguments)
 {
-    with_both(caller, arguments, patch_checked);
+    with_both(caller, arguments, give_patched);
 }
 
 static void jb_exists(const struct caller *caller, sqlite3_value **arguments)

@@ -84,6 +84,13 @@ uint32_t write_concat(const void *input, uint8_t *out, size_t room, size_t *leng
                            KOHIBLAD_SQLITE_DEPTH, out, room, length);
 }
 
+uint32_t write_patched(const void *input, uint8_t *out, size_t room, size_t *length)
+{
+    const struct documents *both = input;
+    return kohiblad_merge_patch(both->left.at, both->left.size, both->right.at, both->right.size,
+                                KOHIBLAD_SQLITE_DEPTH, out, room, length);
+}
+
 uint32_t write_edited(const void *input, uint8_t *out, size_t room, size_t *length)
 {
     const struct edit *edit = input;
