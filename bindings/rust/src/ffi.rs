@@ -305,6 +305,24 @@ extern "C" {
         room: usize,
         length: *mut usize,
     ) -> u32;
+    fn kohiblad_merge_patch(
+        target: *const u8,
+        target_size: usize,
+        patch: *const u8,
+        patch_size: usize,
+        depth: usize,
+        out: *mut u8,
+        room: usize,
+        length: *mut usize,
+    ) -> u32;
+    fn kohiblad_strip_nulls(
+        bytes: *const u8,
+        size: usize,
+        depth: usize,
+        out: *mut u8,
+        room: usize,
+        length: *mut usize,
+    ) -> u32;
     fn kohiblad_edit(
         bytes: *const u8,
         size: usize,
@@ -877,6 +895,33 @@ pub(crate) fn concat(left: &[u8], right: &[u8]) -> Result<Vec<u8>, Error> {
                 length,
             )
         }
+    })
+}
+
+/// The result nests no deeper than the deeper of both.
+pub(crate) fn merge_patch(target: &[u8], patch: &[u8]) -> Result<Vec<u8>, Error> {
+    all_written(target.len() + patch.len(), |out, room, length| {
+        // SAFETY: as above, of both; the call writes `length` bytes.
+        unsafe {
+            kohiblad_merge_patch(
+                target.as_ptr(),
+                target.len(),
+                patch.as_ptr(),
+                patch.len(),
+                MAX_DEPTH,
+                out,
+                room,
+                length,
+            )
+        }
+    })
+}
+
+/// The result nests no deeper than the document.
+pub(crate) fn strip_nulls(bytes: &[u8]) -> Result<Vec<u8>, Error> {
+    all_written(bytes.len(), |out, room, length| {
+        // SAFETY: as above; the call writes `length` bytes.
+        unsafe { kohiblad_strip_nulls(bytes.as_ptr(), bytes.len(), MAX_DEPTH, out, room, length) }
     })
 }
 

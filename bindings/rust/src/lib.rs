@@ -20,7 +20,9 @@
 //! module [`bytes`].
 //!
 //! Documents are changed without unpacking, by [`RawJsonb::set`], [`insert`](RawJsonb::insert),
-//! [`remove`](RawJsonb::remove) and [`concat`](RawJsonb::concat), and asked what they contain:
+//! [`remove`](RawJsonb::remove), [`concat`](RawJsonb::concat),
+//! [`merge_patch`](RawJsonb::merge_patch) and [`strip_nulls`](RawJsonb::strip_nulls), and asked
+//! what they contain:
 //!
 //! ```
 //! use kohiblad::{OwnedJsonb, Path};

@@ -413,6 +413,49 @@ impl<'a> RawJsonb<'a> {
         }
     }
 
+    /// The document changed by a JSON Merge Patch (RFC 7396). A patch that is not an object takes
+    /// its place. Each member of one that is an object removes the member with its key if it is
+    /// null, and else patches the value of that member, or an empty object if there is no such
+    /// member; a document that is not an object counts as an empty one.
+    ///
+    /// ```
+    /// use kohiblad::OwnedJsonb;
+    ///
+    /// let row = OwnedJsonb::parse(r#"{"id": 7, "at": {"town": "Oslo", "zip": "0150"}}"#, 64)?;
+    /// let patch = OwnedJsonb::parse(r#"{"id": 8, "at": {"zip": null}}"#, 64)?;
+    /// let row = row.as_raw().merge_patch(patch.as_raw())?;
+    /// assert_eq!(row.to_string(), r#"{"at":{"town":"Oslo"},"id":8}"#);
+    /// # Ok::<(), kohiblad::Error>(())
+    /// ```
+    ///
+    /// # Errors
+    ///
+    /// - [`Error::InvalidJsonb`]: the result is past a limit of the format.
+    /// - [`Error::OutOfMemory`]: an allocation failed.
+    pub fn merge_patch(&self, patch: RawJsonb<'_>) -> Result<OwnedJsonb, Error> {
+        ffi::merge_patch(self.bytes, patch.bytes).map(OwnedJsonb::of_checked)
+    }
+
+    /// The document without the members that are null, in each object in it. Items that are null
+    /// stay, and so does a document that is null itself.
+    ///
+    /// ```
+    /// use kohiblad::OwnedJsonb;
+    ///
+    /// let row = OwnedJsonb::parse(r#"{"id": 7, "seen": null, "all": [null]}"#, 64)?;
+    /// let row = row.as_raw().strip_nulls()?;
+    /// assert_eq!(row.to_string(), r#"{"all":[null],"id":7}"#);
+    /// # Ok::<(), kohiblad::Error>(())
+    /// ```
+    ///
+    /// # Errors
+    ///
+    /// - [`Error::InvalidJsonb`]: the result is past a limit of the format.
+    /// - [`Error::OutOfMemory`]: an allocation failed.
+    pub fn strip_nulls(&self) -> Result<OwnedJsonb, Error> {
+        ffi::strip_nulls(self.bytes).map(OwnedJsonb::of_checked)
+    }
+
     /// The document with a value at a path, in place of what is there, or as a new member or item.
     /// An item past the last comes after it, and one before the first comes before it.
     ///

@@ -1,4 +1,4 @@
-//! Containment, edits by path, concatenation and index keys.
+//! Containment, edits by path, concatenation, merge patches, nulls taken out and index keys.
 
 #[allow(dead_code)]
 mod model;
@@ -183,6 +183,51 @@ fn concatenation_joins_members_and_items() {
     assert_eq!(concat(r#"{"a":1}"#, "null"), r#"[{"a":1},null]"#);
 }
 
+/// RFC 7396, appendix A.
+#[test]
+fn merge_patches_are_those_of_the_rfc() {
+    for (target, patch, result) in [
+        (r#"{"a":"b"}"#, r#"{"a":"c"}"#, r#"{"a":"c"}"#),
+        (r#"{"a":"b"}"#, r#"{"b":"c"}"#, r#"{"a":"b","b":"c"}"#),
+        (r#"{"a":"b"}"#, r#"{"a":null}"#, "{}"),
+        (r#"{"a":"b","b":"c"}"#, r#"{"a":null}"#, r#"{"b":"c"}"#),
+        (r#"{"a":["b"]}"#, r#"{"a":"c"}"#, r#"{"a":"c"}"#),
+        (r#"{"a":"c"}"#, r#"{"a":["b"]}"#, r#"{"a":["b"]}"#),
+        (
+            r#"{"a":{"b":"c"}}"#,
+            r#"{"a":{"b":"d","c":null}}"#,
+            r#"{"a":{"b":"d"}}"#,
+        ),
+        (r#"{"a":[{"b":"c"}]}"#, r#"{"a":[1]}"#, r#"{"a":[1]}"#),
+        (r#"["a","b"]"#, r#"["c","d"]"#, r#"["c","d"]"#),
+        (r#"{"a":"b"}"#, r#"["c"]"#, r#"["c"]"#),
+        (r#"{"a":"foo"}"#, "null", "null"),
+        (r#"{"a":"foo"}"#, r#""bar""#, r#""bar""#),
+        (r#"{"e":null}"#, r#"{"a":1}"#, r#"{"a":1,"e":null}"#),
+        ("[1,2]", r#"{"a":"b","c":null}"#, r#"{"a":"b"}"#),
+        ("{}", r#"{"a":{"bb":{"ccc":null}}}"#, r#"{"a":{"bb":{}}}"#),
+    ] {
+        let merged = parsed(target).as_raw().merge_patch(parsed(patch).as_raw());
+        assert_eq!(merged.unwrap().to_string(), result, "{target} {patch}");
+    }
+}
+
+#[test]
+fn members_that_are_null_are_taken_out() {
+    for (text, result) in [
+        (r#"{"a":null,"b":1}"#, r#"{"b":1}"#),
+        (
+            r#"{"a":{"b":null,"c":[null,{"d":null}]}}"#,
+            r#"{"a":{"c":[null,{}]}}"#,
+        ),
+        ("[null]", "[null]"),
+        ("null", "null"),
+    ] {
+        let stripped = parsed(text).as_raw().strip_nulls().unwrap();
+        assert_eq!(stripped.to_string(), result, "{text}");
+    }
+}
+
 #[test]
 fn results_nest_no_deeper_than_documents() {
     let arrays = nested(MAX_DEPTH, "[", "]");
@@ -215,6 +260,13 @@ fn results_nest_no_deeper_than_documents() {
     assert!(objects.as_raw().contains(objects.as_raw()));
     assert_eq!(objects.as_raw().index_keys().unwrap().len(), 1);
     assert!(objects.as_raw().remove(&bottom).is_ok());
+    for deepest in [&arrays, &objects] {
+        assert_eq!(deepest.as_raw().strip_nulls().unwrap(), *deepest);
+        for target in [deepest, &empty] {
+            let merged = target.as_raw().merge_patch(deepest.as_raw()).unwrap();
+            assert_eq!(merged, *deepest);
+        }
+    }
 }
 
 #[test]
@@ -410,4 +462,75 @@ fn random_edits_are_those_of_the_model() {
         changed += usize::from(edited != row);
     }
     assert!(changed > 1000, "{changed}");
+}
+
+/// The function of RFC 7396, section 2.
+fn merged(target: &Tree, patch: &Tree) -> Tree {
+    let changes = match patch {
+        Tree::Object(changes) => changes,
+        _ => return patch.clone(),
+    };
+    let mut members = match target {
+        Tree::Object(members) => members.clone(),
+        _ => Default::default(),
+    };
+    for (key, change) in changes {
+        let before = members.remove(key).unwrap_or(Tree::Null);
+        if *change != Tree::Null {
+            members.insert(key.clone(), merged(&before, change));
+        }
+    }
+    Tree::Object(members)
+}
+
+/// A merge patch that has keys of the tree.
+fn some_patch(tree: &Tree, generator: &mut Generator) -> Tree {
+    let mut changes = match tree {
+        Tree::Object(members) => members.clone(),
+        _ => return generator.tree(2),
+    };
+    changes.retain(|_, _| generator.below(3) > 0);
+    for change in changes.values_mut() {
+        *change = match generator.below(3) {
+            0 => Tree::Null,
+            _ => some_patch(change, generator),
+        };
+    }
+    changes.insert("new".into(), generator.tree(2));
+    Tree::Object(changes)
+}
+
+/// The tree without the members that are null.
+fn stripped(tree: &Tree) -> Tree {
+    match tree {
+        Tree::Array(items) => Tree::Array(items.iter().map(stripped).collect()),
+        Tree::Object(members) => Tree::Object(
+            members
+                .iter()
+                .filter(|(_, value)| **value != Tree::Null)
+                .map(|(key, value)| (key.clone(), stripped(value)))
+                .collect(),
+        ),
+        scalar => scalar.clone(),
+    }
+}
+
+#[test]
+fn random_merges_and_nulls_taken_out_are_those_of_the_model() {
+    let mut generator = Generator(53);
+    let (mut changed, mut shorter) = (0, 0);
+    for _ in 0..4000 {
+        let tree = generator.tree(4);
+        let patch = some_patch(&tree, &mut generator);
+        let (row, change) = (document(&tree), document(&patch));
+        let result = row.as_raw().merge_patch(change.as_raw()).unwrap();
+        assert_eq!(result, document(&merged(&tree, &patch)), "{row} {change}");
+        assert!(result.as_raw().is_canonical());
+        changed += usize::from(result != row && result != change);
+        let result = change.as_raw().strip_nulls().unwrap();
+        assert_eq!(result, document(&stripped(&patch)), "{change}");
+        assert!(result.as_raw().is_canonical());
+        shorter += usize::from(result != change);
+    }
+    assert!(changed > 500 && shorter > 500, "{changed} {shorter}");
 }

@@ -97,6 +97,8 @@ fn refused_allocations_are_named() {
     refuse_each("to_canonical", || row.to_canonical());
     refuse_each("key", || row.key());
     refuse_each("concat", || row.concat(list));
+    refuse_each("merge_patch", || row.merge_patch(row));
+    refuse_each("strip_nulls", || row.strip_nulls());
     refuse_each("a path", || Path::new().key("list").index(-1).to_document());
     let path = || Path::new().key("list").index(-1);
     refuse_each("set", || row.set(&path(), long.as_str()));
