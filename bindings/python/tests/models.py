@@ -166,6 +166,13 @@ def merged(value, patch):
     return value
 
 
+def stripped(value):
+    """A value without members that are None, as "Nulls taken out" of docs/FUNCTIONS.md says it."""
+    if isinstance(value, dict):
+        return {name: stripped(it) for name, it in value.items() if it is not None}
+    return list(map(stripped, value)) if isinstance(value, list) else value
+
+
 class Values:
     """Random values, the same for the same seed."""
 

@@ -12,8 +12,9 @@ from unittest import mock
 import kohiblad
 from kohiblad import (ArrayDocument, DEPTH, Document, FloatError, InvalidTextError, KohibladError,
                       NumberError, ObjectDocument, PathError, ScalarDocument, TooDeepError,
-                      TooManyStepsError, _changes, _document, _library)
-from models import FewNames, at_path, contains, edited, has_key, merged, scalars, selected
+                      TooManyStepsError, _changes, _document)
+from models import (FewNames, at_path, contains, edited, has_key, merged, scalars, selected,
+                    stripped)
 
 ROUNDS = 3000
 # The deepest array.
@@ -315,7 +316,7 @@ class EditTest(FunctionTest):
         old = Document(wide)
         self.assertNotEqual(wide, bytes(Document.of([5])))
         for document in (old.set(1, 6).without(1), old.insert("x", 0), old.without(7), old + [],
-                         Document.of([[]]).set(0, old).get_path(0)):
+                         old.without_nulls(), Document.of([[]]).set(0, old).get_path(0)):
             self.assert_is(document, [5])
         inner = Document(bytes.fromhex("40000001" "10000001" "5000000b" "61") + wide)
         for document in (inner | {}, inner.merge({}), inner.merge({"b": None}),
@@ -423,9 +424,6 @@ class MergeTest(FunctionTest):
             value = values.any(depth=5)
             patch = values.patch(value)
             self.assert_is(Document.of(value).merge(patch), merged(value, patch))
-            if isinstance(patch, dict):
-                data = _changes._merged_anew(bytes(Document.of(value)), bytes(Document.of(patch)))
-                self.assert_is(Document(data), merged(value, patch))
 
     def test_deep_patches(self):
         for name, bottom in (("a", b"x" * 5000), ("é", 5)):
@@ -448,6 +446,39 @@ class MergeTest(FunctionTest):
         patch = {name: None if number % 3 else {"a": None, "c": [number]}
                  for number, name in enumerate(row)}
         self.assert_is(Document.of(row).merge(patch), merged(row, patch))
+
+
+class NullsTest(FunctionTest):
+    def test_known_answers(self):
+        for text, result in (('{"a":null}', "{}"), ("null", "null"), ("[null]", "[null]"),
+                             ('{"a":null,"b":1}', '{"b":1}'), ("5", "5"), ("[]", "[]"),
+                             ('{"a":{"b":null,"c":[null,{"d":null}]}}', '{"a":{"c":[null,{}]}}')):
+            self.assertEqual(str(Document.parse(text).without_nulls()), result)
+
+    def test_answers_as_the_model(self):
+        values, changed = FewNames(seed=50), 0
+        for _ in range(ROUNDS):
+            value = values.any(depth=5)
+            document = Document.of(value)
+            result = document.without_nulls()
+            self.assert_is(result, stripped(value))
+            self.assert_is(document, value)
+            changed += result != document
+        self.assertGreater(changed, 50)
+
+    def test_deep_and_long_documents(self):
+        value = None
+        for _ in range(DEPTH):
+            value = {"a": value, "n": None, "z": 1}
+        result = Document.of(value).without_nulls()
+        self.assertEqual(bytes(Document(bytes(result))), bytes(result))
+        for _ in range(DEPTH - 1):
+            self.assertEqual(list(result), ["a", "z"])
+            result = result["a"]
+        self.assert_is(result, {"z": 1})
+        self.assertEqual(bytes(DEEPEST.without_nulls()), bytes(DEEPEST))
+        row = {f"n{number}": number if number % 3 else None for number in range(50_000)}
+        self.assert_is(Document.of(row).without_nulls(), stripped(row))
 
 
 class StackTest(unittest.TestCase):
@@ -480,7 +511,7 @@ class StackTest(unittest.TestCase):
             "        inner = row.set([step] * 64, 1).insert([step] * 64, 2).without([step] * 64)\n"
             "        assert inner.get_path(*[step] * 63).kind in ('array', 'object')\n"
             "        assert row.contains(row) and len(row.index_keys()) == 1\n"
-            "        row.merge(row), row.top_keys(), row.has_key('a')\n"
+            "        row.merge(row), row.without_nulls(), row.top_keys(), row.has_key('a')\n"
             "    print('done')\n"))
 
     def test_readme_s_1000_levels(self):
@@ -493,25 +524,14 @@ class StackTest(unittest.TestCase):
             "            continue\n"
             "        print('put')\n"
             "    assert deepest.set([0] * DEPTH, 5).without([0] * DEPTH) == deepest\n"
-            "    assert deepest.contains(deepest)\n"
+            "    assert deepest.contains(deepest) and deepest.without_nulls() == deepest\n"
+            "    objects = Document.parse('{\"a\":' * DEPTH + '0' + '}' * DEPTH)\n"
+            "    assert objects.merge(objects) == objects.without_nulls() == objects\n"
+            "    assert Document.of({}).merge(objects) == objects\n"
             "    print('done')\n"))
 
 
 class LimitTest(unittest.TestCase):
-    def test_a_patch_of_many_members_is_no_list_of_edits(self):
-        for count, depth in ((1, 8), (8, 1), (9, 1), (1, 9), (3, 3)):
-            target = patch = {f"n{number}": 1 for number in range(count)}
-            for _ in range(depth - 1):
-                target = patch = {"a": patch}
-            data = bytes(Document.of(target))
-            edits = _changes._edits_of(data, data, list(_library.places(data, 0, len(data))))
-            self.assertEqual(edits is None, count + depth - 1 > 8)
-
-    def test_members_that_are_too_long(self):
-        """What is too long for a member is refused before it is made."""
-        with self.assertRaises(kohiblad.InvalidDocumentError):
-            _library.object_of({b"a": (_library.TYPE_CONTAINER, 2**28, b"")})
-
     def test_few_and_short_paths_are_kept(self):
         row = Document.of({"a": 1})
         before = dict(_changes._kept_paths)

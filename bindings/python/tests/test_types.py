@@ -26,6 +26,7 @@ if isinstance(document, ArrayDocument):
 text: str = dumps([loads("1"), document, document["a"][0]]) + str(document) + document.pretty()
 path: DocumentPath = ["tags", -1]
 changed: Document = document.set(path, 1).insert("a", {}).without("a", 0, ("b", 1)).merge({"a": 1})
+changed = changed.without_nulls()
 other: Document = (changed | {"a": None} | document).member("a").item(0) + [changed]
 held: bool = other.contains(changed, steps=100) and other.has_key("a")
 child: object = other.get_path("tags", 0, default="none")

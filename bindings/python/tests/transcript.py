@@ -179,7 +179,8 @@ def ask(document):
     for call in (Document.index_keys, Document.top_keys, lambda it: it.contains(it),
                  lambda it: it.contains(it, 5), lambda it: it.without("a", 0), lambda it: it | it,
                  lambda it: {"a": 1} | it, lambda it: it + it, lambda it: [1.50] + it,
-                 lambda it: it.merge(it), lambda it: it.merge({"a": None, "n": {"a": 1}})):
+                 lambda it: it.merge(it), lambda it: it.merge({"a": None, "n": {"a": 1}}),
+                 lambda it: it.without(*"abcdefghijklmn"), Document.without_nulls):
         answer(call, document)
     for other in (5, "a", [1], {}, None, b"x", 1.5, object()):
         answer(document.contains, other)

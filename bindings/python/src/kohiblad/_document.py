@@ -304,6 +304,19 @@ class Document:
         """
         return _of_checked(changes.merged(self._data, _data_of(patch)))
 
+    def without_nulls(self) -> "Document":
+        """A new document without the members that are null, in each object in it.
+
+        >>> Document.parse('{"id": 7, "seen": null, "at": {"zip": null}}').without_nulls()
+        <ObjectDocument {"at":{},"id":7}>
+        >>> Document.parse('[null, {"a": null}]').without_nulls()
+        <ArrayDocument [null,{}]>
+
+        Items of arrays that are null stay, and so does a document that is null itself. The result
+        is in the one form that is written today, as of ``canonical``.
+        """
+        return _of_checked(changes.without_nulls(self._data))
+
     def index_keys(self) -> List[int]:
         """For each scalar a hash of it and of the keys around it, from 0 to 2**64 - 1.
 
@@ -672,9 +685,9 @@ def dumps(value: Any) -> str:
 if IS_NATIVE:
     native.bind(
         library.addresses("begin", "boolean", "build_array", "build_object", "check", "concat",
-                          "edit", "extension", "find", "key", "kind", "next", "number",
-                          "of_extension", "of_part", "parse", "part", "select", "text",
-                          "to_canonical", "to_pretty", "to_string"),
+                          "edit", "extension", "find", "key", "kind", "merge_patch", "next",
+                          "number", "of_extension", "of_part", "parse", "part", "select",
+                          "strip_nulls", "text", "to_canonical", "to_pretty", "to_string"),
         {"scalar_document": ScalarDocument, "object_document": ObjectDocument,
          "array_document": ArrayDocument, "data_slot": vars(Document)["_data"],
          "key_slot": vars(Document)["_key"], "decimal": Decimal, "bytes_of_text": bytes_of_text,

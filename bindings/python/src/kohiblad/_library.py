@@ -11,8 +11,8 @@ import os
 import struct
 from ctypes import c_bool, c_char_p, c_int32, c_int64, c_size_t, c_uint32, c_uint64, c_void_p
 from functools import lru_cache
-from typing import (Any, Callable, Dict, Generator, Iterator, List, Mapping, Optional, Sequence,
-                    Tuple, Type, TypeVar, Union)
+from typing import (Any, Callable, Dict, Generator, Iterator, List, Optional, Sequence, Tuple, Type,
+                    TypeVar, Union)
 
 from . import __version__
 from ._errors import (ExtensionError, InvalidDocumentError, InvalidTextError, KohibladError,
@@ -194,6 +194,8 @@ build_object = _export("build_object", c_uint32, *_ROWS, *_OUT)
 contains = _export("contains", Truth, *_BYTES, *_BYTES, c_size_t, c_size_t)
 exists = _export("exists", Truth, *_BYTES, *_BYTES, c_size_t)
 concat = _export("concat", c_uint32, *_BYTES, *_BYTES, c_size_t, *_OUT)
+merge_patch = _export("merge_patch", c_uint32, *_BYTES, *_BYTES, c_size_t, *_OUT)
+strip_nulls = _export("strip_nulls", c_uint32, *_BYTES, c_size_t, *_OUT)
 edit = _export("edit", c_uint32, *_BYTES, *_BYTES, c_uint32, *_BYTES, c_size_t, *_OUT)
 select = _export("select", c_uint32, *_BYTES, *_BYTES, c_size_t, *_OUT)
 index_keys = _export("index_keys", c_uint32, *_BYTES, c_size_t, *_OUT)
@@ -389,15 +391,6 @@ def member_places(document: bytes, at: int, size: int) -> Iterator[Tuple[int, in
         raise error_of(status)
 
 
-def places(document: bytes, at: int, size: int) -> Iterator[Tuple[bytes, int, int, int]]:
-    """The key, type, offset and length of each child of the array or object at an offset.
-
-    Nothing but the keys is copied. The offsets are those in the whole document.
-    """
-    for key_at, key_size, type_, child_at, length in member_places(document, at, size):
-        yield document[key_at:key_at + key_size], type_, child_at, length
-
-
 def kind_at(document: bytes, at: int, size: int) -> Kind:
     """The kind of the document at an offset in another one, and how many children it has."""
     it: Kind = _kind_at(_address_of(document) + at, size)
@@ -452,45 +445,6 @@ def build(call: Callable[..., int], rows: Sequence[bytes]) -> bytes:
     guess = end + 4 * len(rows) + 8
     count = len(offsets)
     return result_of(call, guess, b"".join(rows), end, ctypes.addressof(offsets), count)
-
-
-# A part of a result: bytes, or the parts that it is made of.
-Parts = Union[bytes, memoryview, List[Any]]
-
-
-def object_of(members: Mapping[bytes, Tuple[int, int, Parts]]) -> Tuple[int, Parts]:
-    """The length and the parts of an object, given each member's type, length and parts.
-
-    Nothing is copied, so objects in one another cost no more than their members. What is made of
-    the parts is to be passed to `to_canonical`, which checks it. InvalidDocumentError: a member is
-    too long.
-    """
-    names = sorted(members)
-    parts: List[Parts] = [b"", b"".join(names)]
-    end = 4 + 8 * len(names) + sum(map(len, names))
-    words = [OBJECT << 24 | len(names), *(TYPE_STRING | len(name) for name in names)]
-    for name in names:
-        type_, length, part = members[name]
-        if length > MOST_CHILD_BYTES:
-            raise error_of(INVALID_JSONB)
-        words.append(type_ | length)
-        parts.append(part)
-        end += length
-    parts[0] = struct.pack(f">{len(words)}I", *words)
-    return end, parts
-
-
-def joined(parts: Parts) -> bytes:
-    """The bytes of parts."""
-    found: List[Union[bytes, memoryview]] = []
-    left = [parts]
-    while left:
-        part = left.pop()
-        if isinstance(part, list):
-            left += reversed(part)
-        else:
-            found.append(part)
-    return b"".join(found)
 
 
 def _document_of_part(type_: int, payload: bytes) -> bytes:

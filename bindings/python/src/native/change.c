@@ -1,22 +1,34 @@
 /* Documents that are changed: the calls that make a document out of others. */
 #include "native.h"
 
+/* What a document is made by. */
+enum change_call { CHANGE_CONCAT, CHANGE_EDIT, CHANGE_MERGE_PATCH, CHANGE_STRIP_NULLS };
+
 /* What a call is made of: documents, and of an edit its number. */
 struct change {
+    enum change_call call;
     struct input data, other, value;
     uint32_t edit;
-    bool is_edit;
 };
 
 static uint32_t make_change(const struct library *library, const struct change *it,
                             struct room *room)
 {
-    if (it->is_edit)
-        return library->edit(it->data.at, it->data.size, it->other.at, it->other.size, it->edit,
-                             it->value.at, it->value.size, MOST_DEPTH, room->at, room->size,
-                             &room->length);
-    return library->concat(it->data.at, it->data.size, it->other.at, it->other.size, MOST_DEPTH,
-                           room->at, room->size, &room->length);
+    const struct input *data = &it->data, *other = &it->other, *value = &it->value;
+    switch (it->call) {
+    case CHANGE_EDIT:
+        return library->edit(data->at, data->size, other->at, other->size, it->edit, value->at,
+                             value->size, MOST_DEPTH, room->at, room->size, &room->length);
+    case CHANGE_MERGE_PATCH:
+        return library->merge_patch(data->at, data->size, other->at, other->size, MOST_DEPTH,
+                                    room->at, room->size, &room->length);
+    case CHANGE_STRIP_NULLS:
+        return library->strip_nulls(data->at, data->size, MOST_DEPTH, room->at, room->size,
+                                    &room->length);
+    default:
+        return library->concat(data->at, data->size, other->at, other->size, MOST_DEPTH, room->at,
+                               room->size, &room->length);
+    }
 }
 
 /* The bytes of the result. */
@@ -45,7 +57,7 @@ static PyObject *changed(struct state *state, const struct change *it)
 PyObject *native_edit(PyObject *module, PyObject *const *arguments, Py_ssize_t count)
 {
     struct state *state = state_of(module);
-    struct change it = { .is_edit = true };
+    struct change it = { .call = CHANGE_EDIT };
     if (!state || !has_count(count, 4) || !open_data(arguments[0], &it.data)
         || !open_data(arguments[1], &it.other) || !open_data(arguments[3], &it.value))
         return NULL;
@@ -55,52 +67,32 @@ PyObject *native_edit(PyObject *module, PyObject *const *arguments, Py_ssize_t c
     return changed(state, &it);
 }
 
-PyObject *native_concat(PyObject *module, PyObject *const *arguments, Py_ssize_t count)
+/* What a call makes of two documents. */
+static PyObject *made_of_two(PyObject *module, PyObject *const *arguments, Py_ssize_t count,
+                             enum change_call call)
 {
     struct state *state = state_of(module);
-    struct change it = { .is_edit = false };
+    struct change it = { .call = call };
     if (!state || !has_count(count, 2) || !open_data(arguments[0], &it.data)
         || !open_data(arguments[1], &it.other))
         return NULL;
     return changed(state, &it);
 }
 
-/* A tuple of a child's key, type, offset and length. */
-static PyObject *tuple_of_places(const uint8_t *bytes, size_t at, const struct kohiblad_place *key,
-                                 const struct kohiblad_place *value)
+PyObject *native_concat(PyObject *module, PyObject *const *arguments, Py_ssize_t count)
 {
-    return Py_BuildValue("y#kKK", (const char *)bytes + key->offset, (Py_ssize_t)key->length,
-                         (unsigned long)value->type, (unsigned long long)(at + value->offset),
-                         (unsigned long long)value->length);
+    return made_of_two(module, arguments, count, CHANGE_CONCAT);
 }
 
-PyObject *native_places(PyObject *module, PyObject *const *arguments, Py_ssize_t count)
+PyObject *native_merge_patch(PyObject *module, PyObject *const *arguments, Py_ssize_t count)
+{
+    return made_of_two(module, arguments, count, CHANGE_MERGE_PATCH);
+}
+
+PyObject *native_strip_nulls(PyObject *module, PyObject *data)
 {
     struct state *state = state_of(module);
-    struct input data;
-    struct kohiblad_cursor cursor;
-    struct kohiblad_place key, value;
-    if (!state || !has_count(count, 3) || !open_data(arguments[0], &data)) return NULL;
-    size_t at = PyLong_AsSize_t(arguments[1]), size = PyLong_AsSize_t(arguments[2]);
-    if (PyErr_Occurred()) return NULL;
-    if (at > data.size || size > data.size - at) {
-        PyErr_SetString(PyExc_ValueError, "the place is not in the bytes");
-        return NULL;
-    }
-    const uint8_t *bytes = data.at + at;
-    PyObject *places = PyList_New(0);
-    if (!places) return NULL;
-    uint32_t status = state->library.begin(bytes, size, &cursor);
-    while (!status && !(status = state->library.next(bytes, size, &cursor, &key, &value))) {
-        PyObject *place = tuple_of_places(bytes, at, &key, &value);
-        bool is_put = place && PyList_Append(places, place) == 0;
-        Py_XDECREF(place);
-        if (!is_put) {
-            Py_DECREF(places);
-            return NULL;
-        }
-    }
-    if (status == KOHIBLAD_NONE) return places;
-    Py_DECREF(places);
-    return raise_status(state, status);
+    struct change it = { .call = CHANGE_STRIP_NULLS };
+    if (!state || !open_data(data, &it.data)) return NULL;
+    return changed(state, &it);
 }

@@ -7,9 +7,9 @@ static const struct { const char *name; size_t offset; } exports[] = {
 #define EXPORT(name) { #name, offsetof(struct library, name) }
     EXPORT(begin), EXPORT(boolean), EXPORT(build_array), EXPORT(build_object), EXPORT(check),
     EXPORT(concat), EXPORT(edit), EXPORT(extension), EXPORT(find), EXPORT(key), EXPORT(kind),
-    EXPORT(next), EXPORT(number), EXPORT(of_extension), EXPORT(of_part), EXPORT(parse),
-    EXPORT(part), EXPORT(select), EXPORT(text), EXPORT(to_canonical), EXPORT(to_pretty),
-    EXPORT(to_string),
+    EXPORT(merge_patch), EXPORT(next), EXPORT(number), EXPORT(of_extension), EXPORT(of_part),
+    EXPORT(parse), EXPORT(part), EXPORT(select), EXPORT(strip_nulls), EXPORT(text),
+    EXPORT(to_canonical), EXPORT(to_pretty), EXPORT(to_string),
 };
 
 static const struct { const char *name; size_t offset; } objects[] = {
@@ -386,9 +386,9 @@ PyObject *native_to_string(PyObject *module, PyObject *data)
 
 static PyMethodDef functions[] = {
     FAST(bind), FAST(check), FAST(concat), FAST(contains), ONE(count), ONE(dumps), FAST(edit),
-    FAST(item), ONE(key), ONE(kind), ONE(loads), FAST(member), ONE(names), ONE(of),
-    FAST(of_extension), ONE(pairs), FAST(parse), FAST(places), FAST(select), ONE(to_canonical),
-    ONE(to_pretty), ONE(to_string), ONE(value), ONE(values),
+    FAST(item), ONE(key), ONE(kind), ONE(loads), FAST(member), FAST(merge_patch), ONE(names),
+    ONE(of), FAST(of_extension), ONE(pairs), FAST(parse), FAST(select), ONE(strip_nulls),
+    ONE(to_canonical), ONE(to_pretty), ONE(to_string), ONE(value), ONE(values),
     { NULL, NULL, 0, NULL },
 };
 
