@@ -45,6 +45,7 @@ SELECT refusal($$ SELECT kohiblad_set_lax('{}', '{a}', NULL, true, NULL) $$);
 SELECT kohiblad_strip_nulls('{"a":null,"b":[null,{"c":null}],"d":{}}'),
     kohiblad_strip_nulls('null');
 SELECT kohiblad_strip_nulls('[1]'::kohiblad || day) = '[1]'::kohiblad || day FROM dated;
+SELECT kohiblad_strip_nulls('\x200000006000000a30000640d6b723800008')::bytea;
 -- Depth: a result nests at most 1,000 levels.
 SELECT kohiblad_set(nested_text(999)::kohiblad, '{0}', '1') = '[1]';
 SELECT kohiblad_set('[0]', '{0}', nested_text(999)::kohiblad) = nested_text(1000)::kohiblad;

@@ -267,39 +267,9 @@ Datum pg_kohiblad_delete_index(PG_FUNCTION_ARGS) {
     PG_RETURN_POINTER(edited(document, steps, KOHIBLAD_REMOVE, (Bytes){0}));
 }
 
-/* Adds a value without the members that are null, at any depth. */
-static void add_stripped(Rows *rows, Part part) {
-    if (!is_container(part)) {
-        add_part(rows, part);
-        return;
-    }
-    check_stack_depth();
-    Bytes container = part.payload;
-    struct kohiblad_cursor cursor;
-    struct kohiblad_place key, place;
-    Rows *children = new_rows();
-    uint32_t status = kohiblad_begin(container.at, container.size, &cursor);
-    while (status == KOHIBLAD_OK) {
-        CHECK_FOR_INTERRUPTS();
-        status = kohiblad_next(container.at, container.size, &cursor, &key, &place);
-        if (status != KOHIBLAD_OK) break;
-        if (key.status == KOHIBLAD_OK) {
-            if (place.type == KOHIBLAD_TYPE_NULL) continue;
-            add_row(children, part_at(container, key).payload);
-        }
-        add_stripped(children, part_at(container, place));
-    }
-    if (status != KOHIBLAD_NONE) refuse(status, ERRCODE_DATA_CORRUPTED);
-    struct varlena *stripped =
-        is_array(part) ? array_of_rows(children) : object_of_rows(children);
-    add_row(rows, bytes_of(stripped));
-    pfree(stripped);
-    free_rows(children);
-}
-
 PG_FUNCTION_INFO_V1(pg_kohiblad_strip_nulls);
 Datum pg_kohiblad_strip_nulls(PG_FUNCTION_ARGS) {
-    Rows *rows = new_rows();
-    add_stripped(rows, part_of_document(bytes_of(PG_GETARG_VARLENA_PP(0))));
-    PG_RETURN_POINTER(cstring_to_text_with_len(rows->bytes.data, rows->bytes.len));
+    Bytes document = bytes_of(PG_GETARG_VARLENA_PP(0));
+    PG_RETURN_POINTER(write_value(kohiblad_strip_nulls, document, document.size,
+                                  ERRCODE_PROGRAM_LIMIT_EXCEEDED));
 }
