@@ -305,6 +305,9 @@ AS 'MODULE_PATHNAME', 'pg_kohiblad_insert' LANGUAGE C STRICT IMMUTABLE PARALLEL 
 CREATE FUNCTION kohiblad_strip_nulls(kohiblad) RETURNS kohiblad
 AS 'MODULE_PATHNAME', 'pg_kohiblad_strip_nulls' LANGUAGE C STRICT IMMUTABLE PARALLEL SAFE COST 10;
 
+CREATE FUNCTION kohiblad_merge_patch(target kohiblad, patch kohiblad) RETURNS kohiblad
+AS 'MODULE_PATHNAME', 'pg_kohiblad_merge_patch' LANGUAGE C STRICT IMMUTABLE PARALLEL SAFE COST 10;
+
 CREATE FUNCTION kohiblad_subscript(internal) RETURNS internal
 AS 'MODULE_PATHNAME', 'pg_kohiblad_subscript' LANGUAGE C STRICT IMMUTABLE PARALLEL SAFE;
 

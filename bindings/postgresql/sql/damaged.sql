@@ -48,6 +48,8 @@ SELECT bad_ends($$ d #- '{a,3,k}' $$, '22023', '22P02'),
     bad_ends($$ kohiblad_insert(d, '{a,0}', '1') $$, '22023', '22P02');
 SELECT bad_ends($$ kohiblad_set('{"a":1}', '{a}', d) $$), bad_ends('kohiblad_strip_nulls(d)'),
     bad_ends($$ d['a'][0] $$);
+SELECT bad_ends($$ kohiblad_merge_patch(d, '{"a":null,"c":{"x":1}}') $$),
+    bad_ends($$ kohiblad_merge_patch('{"a":1}', d) $$), bad_ends('kohiblad_merge_patch(d, d)');
 SELECT bad_ends('(SELECT count(*) FROM kohiblad_array_elements(d))', '22023'),
     bad_ends('(SELECT count(*) FROM kohiblad_object_keys(d))', '22023'),
     bad_ends('(SELECT count(*) FROM kohiblad_each_text(d))');

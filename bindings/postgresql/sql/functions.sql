@@ -46,6 +46,20 @@ SELECT kohiblad_strip_nulls('{"a":null,"b":[null,{"c":null}],"d":{}}'),
     kohiblad_strip_nulls('null');
 SELECT kohiblad_strip_nulls('[1]'::kohiblad || day) = '[1]'::kohiblad || day FROM dated;
 SELECT kohiblad_strip_nulls('\x200000006000000a30000640d6b723800008')::bytea;
+-- Merge patches, by the rules of RFC 7396.
+SELECT kohiblad_merge_patch('{"a":1,"b":2}', '{"a":3.50}'),
+    kohiblad_merge_patch('{"a":1}', '{"b":2}'),
+    kohiblad_merge_patch('{"a":1,"b":2}', '{"a":null,"x":null}');
+SELECT kohiblad_merge_patch('{"a":{"b":1,"c":2}}', '{"a":{"b":null,"d":3}}'),
+    kohiblad_merge_patch('{"a":[{"b":1}]}', '{"a":[null]}');
+SELECT kohiblad_merge_patch('{"a":1}', '[{"b":null}]'), kohiblad_merge_patch('{"a":1}', 'null'),
+    kohiblad_merge_patch('[1]', '{"a":2,"b":null}'), kohiblad_merge_patch('{"a":null}', '{}');
+SELECT kohiblad_merge_patch('{}', '{"a":{"b":{"c":null}}}'),
+    kohiblad_merge_patch('{"a":"x"}', '{"a":{"b":{"c":null}}}');
+SELECT kohiblad_merge_patch('{}', kohiblad_build_object('a', day)) -> 'a' = day,
+    kohiblad_merge_patch(day, '{}'), kohiblad_merge_patch('{"a":1}', day) = day FROM dated;
+SELECT kohiblad_merge_patch('{}', '\x200000006000000a30000640d6b723800008')::bytea;
+SELECT kohiblad_merge_patch(NULL, '{}') IS NULL, kohiblad_merge_patch('{}', NULL) IS NULL;
 -- Depth: a result nests at most 1,000 levels.
 SELECT kohiblad_set(nested_text(999)::kohiblad, '{0}', '1') = '[1]';
 SELECT kohiblad_set('[0]', '{0}', nested_text(999)::kohiblad) = nested_text(1000)::kohiblad;
@@ -56,7 +70,16 @@ SELECT nested_text(1000)::kohiblad || nested_text(1000)::kohiblad
     = ('[' || nested_text(999) || ',' || nested_text(999) || ']')::kohiblad;
 SELECT nested_text(1000)::kohiblad @> nested_text(1000)::kohiblad;
 SELECT nested_text(1000)::kohiblad #- array_fill('0'::text, '{999}')
-    = nested_text(999)::kohiblad, kohiblad_strip_nulls(nested_text(1000)::kohiblad) IS NOT NULL;
+    = nested_text(999)::kohiblad;
+CREATE TABLE deep AS
+    SELECT (repeat('{"a":', 999) || '{}' || repeat('}', 999))::kohiblad AS d;
+SELECT kohiblad_merge_patch(d, d) = d, kohiblad_merge_patch('[]', d) = d,
+    kohiblad_merge_patch(d, '{"a":null}'), kohiblad_strip_nulls(d) = d,
+    kohiblad_strip_nulls(nested_text(1000)::kohiblad) = nested_text(1000)::kohiblad FROM deep;
+SET max_stack_depth = '100kB';
+SELECT refusal('SELECT kohiblad_strip_nulls(d) FROM deep'),
+    refusal('SELECT kohiblad_merge_patch(d, d) FROM deep');
+RESET max_stack_depth;
 SELECT refusal($$ SELECT kohiblad_build_array(nested_text(1000)::kohiblad) $$);
 -- Parts, and rows of them.
 SELECT kohiblad_typeof('1'), kohiblad_typeof(day), kohiblad_array_length('[1,2]') FROM dated;

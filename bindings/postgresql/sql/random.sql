@@ -36,6 +36,24 @@ $$;
 CREATE FUNCTION squeezed(shown text) RETURNS text LANGUAGE sql AS $$
     SELECT CASE WHEN shown ~ '^[[{]' THEN shown::jsonb::kohiblad::text ELSE shown END
 $$;
+-- A merge patch as RFC 7396 describes it, which the server does not have.
+CREATE FUNCTION jsonb_merge_patch(target jsonb, patch jsonb) RETURNS jsonb LANGUAGE plpgsql AS $$
+DECLARE
+    name text;
+    part jsonb;
+BEGIN
+    IF jsonb_typeof(patch) <> 'object' THEN
+        RETURN patch;
+    END IF;
+    IF target IS NULL OR jsonb_typeof(target) <> 'object' THEN
+        target := '{}';
+    END IF;
+    FOR name, part IN SELECT key, value FROM jsonb_each(patch) LOOP
+        target := CASE part WHEN 'null' THEN target - name
+            ELSE jsonb_set(target, ARRAY[name], jsonb_merge_patch(target -> name, part)) END;
+    END LOOP;
+    RETURN target;
+END $$;
 -- What a command returns, or the SQLSTATE of its error.
 CREATE FUNCTION answer_of(command text) RETURNS text LANGUAGE plpgsql AS $$
 DECLARE
@@ -75,7 +93,8 @@ INSERT INTO commands VALUES
     (23, false, 'SELECT %1$L::TYPE @@ ''$.a[*] == 1'''),
     (24, false, 'SELECT TYPE_typeof(%1$L)'),
     (25, true, 'SELECT d -> %4$L FROM (SELECT %1$L::TYPE AS d OFFSET 0) s'),
-    (26, true, 'SELECT d #> %3$L::text[] FROM (SELECT %1$L::TYPE AS d OFFSET 0) s');
+    (26, true, 'SELECT d #> %3$L::text[] FROM (SELECT %1$L::TYPE AS d OFFSET 0) s'),
+    (27, true, 'SELECT TYPE_merge_patch(%1$L, %2$L)');
 CREATE TABLE one_jsonb (d jsonb);
 CREATE TABLE one_kohiblad (d kohiblad);
 INSERT INTO one_jsonb VALUES (NULL);

@@ -8,6 +8,11 @@
 /* Copies of a document differ little in size from what they are made of. */
 #define EDIT_SLACK 64
 
+/* A library call that makes a document of two. */
+typedef uint32_t (*PairCall)(const uint8_t *left, size_t left_size, const uint8_t *right,
+                             size_t right_size, size_t depth, uint8_t *out, size_t room,
+                             size_t *length);
+
 /* Refuses a document that nests too deep to be put below so many levels. */
 static void check_depth_below(Bytes document, size_t levels) {
     size_t depth = depth_of_size(document.size);
@@ -49,6 +54,20 @@ struct varlena *edited(Bytes document, const Rows *steps, enum kohiblad_edit_kin
     return result;
 }
 
+static struct varlena *made_of_two(PairCall call, Bytes left, Bytes right) {
+    struct varlena *result = NULL;
+    size_t depth = depth_of_size(Max(left.size, right.size)), length;
+    size_t room = Min(left.size + right.size + EDIT_SLACK, MaxAllocSize - VARHDRSZ);
+    check_stack_for(stack_of_depth(depth));
+    while (!result) {
+        struct varlena *out = palloc(VARHDRSZ + room);
+        uint32_t status = call(left.at, left.size, right.at, right.size, depth,
+                               (uint8_t *)VARDATA(out), room, &length);
+        result = taken(out, status, length, &room);
+    }
+    return result;
+}
+
 /* A value that is put into an array lies one level deeper. */
 static void check_joined_depth(Bytes left, Bytes right) {
     uint32_t left_kind = kind_of(left).kind, right_kind = kind_of(right).kind;
@@ -59,23 +78,20 @@ static void check_joined_depth(Bytes left, Bytes right) {
 
 struct varlena *joined(Bytes left, Bytes right) {
     check_joined_depth(left, right);
-    struct varlena *result = NULL;
-    size_t depth = depth_of_size(Max(left.size, right.size)), length;
-    size_t room = Min(left.size + right.size + EDIT_SLACK, MaxAllocSize - VARHDRSZ);
-    check_stack_for(stack_of_depth(depth));
-    while (!result) {
-        struct varlena *out = palloc(VARHDRSZ + room);
-        uint32_t status = kohiblad_concat(left.at, left.size, right.at, right.size, depth,
-                                          (uint8_t *)VARDATA(out), room, &length);
-        result = taken(out, status, length, &room);
-    }
-    return result;
+    return made_of_two(kohiblad_concat, left, right);
 }
 
 PG_FUNCTION_INFO_V1(pg_kohiblad_concat);
 Datum pg_kohiblad_concat(PG_FUNCTION_ARGS) {
     struct varlena *left = PG_GETARG_VARLENA_PP(0), *right = PG_GETARG_VARLENA_PP(1);
     PG_RETURN_POINTER(joined(bytes_of(left), bytes_of(right)));
+}
+
+/* The result nests no deeper than the deeper of target and patch. */
+PG_FUNCTION_INFO_V1(pg_kohiblad_merge_patch);
+Datum pg_kohiblad_merge_patch(PG_FUNCTION_ARGS) {
+    struct varlena *target = PG_GETARG_VARLENA_PP(0), *patch = PG_GETARG_VARLENA_PP(1);
+    PG_RETURN_POINTER(made_of_two(kohiblad_merge_patch, bytes_of(target), bytes_of(patch)));
 }
 
 static void pg_attribute_noreturn() refuse_edit(const char *reason) {
