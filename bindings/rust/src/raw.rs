@@ -399,8 +399,8 @@ impl<'a> RawJsonb<'a> {
     ///
     /// # Errors
     ///
-    /// - [`Error::InvalidJsonb`]: a limit of the format is passed, or the value would nest deeper
-    ///   than [`MAX_DEPTH`] at the end of the path, also of one that leads nowhere.
+    /// - [`Error::InvalidJsonb`]: a limit of the format is passed, or the array would nest deeper
+    ///   than [`MAX_DEPTH`].
     /// - [`Error::OutOfMemory`]: an allocation failed.
     pub fn concat(&self, other: RawJsonb<'_>) -> Result<OwnedJsonb, Error> {
         let joined = ffi::concat(self.bytes, other.bytes)?;
