@@ -37,7 +37,8 @@ CREATE FUNCTION squeezed(shown text) RETURNS text LANGUAGE sql AS $$
     SELECT CASE WHEN shown ~ '^[[{]' THEN shown::jsonb::kohiblad::text ELSE shown END
 $$;
 -- A merge patch as RFC 7396 describes it, which the server does not have.
-CREATE FUNCTION jsonb_merge_patch(target jsonb, patch jsonb) RETURNS jsonb LANGUAGE plpgsql AS $$
+CREATE FUNCTION jsonb_merge_patch(target jsonb, patch jsonb) RETURNS jsonb
+LANGUAGE plpgsql STRICT AS $$
 DECLARE
     name text;
     part jsonb;
@@ -45,12 +46,13 @@ BEGIN
     IF jsonb_typeof(patch) <> 'object' THEN
         RETURN patch;
     END IF;
-    IF target IS NULL OR jsonb_typeof(target) <> 'object' THEN
+    IF jsonb_typeof(target) <> 'object' THEN
         target := '{}';
     END IF;
     FOR name, part IN SELECT key, value FROM jsonb_each(patch) LOOP
         target := CASE part WHEN 'null' THEN target - name
-            ELSE jsonb_set(target, ARRAY[name], jsonb_merge_patch(target -> name, part)) END;
+            ELSE jsonb_set(target, ARRAY[name],
+                           jsonb_merge_patch(coalesce(target -> name, '{}'), part)) END;
     END LOOP;
     RETURN target;
 END $$;
