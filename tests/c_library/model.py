@@ -353,7 +353,7 @@ def truth_of(name, *values):
     return answer.status, bool(answer.value)
 
 
-# The questions: each is asked of random values, and asserts what the model says.
+# The questions: each calls the library with random values, and compares with the model.
 
 def any_value(chance, depth):
     kind = chance.random()

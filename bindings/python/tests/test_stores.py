@@ -21,7 +21,7 @@ SECONDS = 60
 CLICKHOUSE_CONFIG = """<yandex>
 <logger><level>warning</level><log>{folder}/log</log><errorlog>{folder}/errors</errorlog></logger>
 <http_port>8123</http_port><tcp_port>9000</tcp_port><listen_host>{host}</listen_host>
-<path>{folder}/data/</path><tmp_path>{folder}/tmp/</tmp_path>
+<path>{folder}/data/</path><tmp_path>{folder}/scratch/</tmp_path>
 <users_config>users.xml</users_config><default_profile>default</default_profile>
 <default_database>default</default_database><mark_cache_size>5368709120</mark_cache_size>
 </yandex>"""
