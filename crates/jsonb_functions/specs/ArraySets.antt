@@ -49,13 +49,18 @@ some_shared (tree t ts) us = nat_lt 0 (equals t us) || some_shared ts us
 abbrev pub distinct : Tree → Tree
 distinct t = array (distinct_items (items_or_one t))
 
+-- The array of the first tree's items for which the second has an equal that no item before them
+-- took, or of the others.
+abbrev pub matched_array : Bool → Tree → Tree → Tree
+matched_array matched t u = array (matched_items matched (items_or_one t) (items_or_one u))
+
 -- What both have of equal items, in the order of the first.
 abbrev pub intersection : Tree → Tree → Tree
-intersection t u = array (matched_items true (items_or_one t) (items_or_one u))
+intersection t u = matched_array true t u
 
 -- What the first has without one item for each equal item of the second.
 abbrev pub difference : Tree → Tree → Tree
-difference t u = array (matched_items false (items_or_one t) (items_or_one u))
+difference t u = matched_array false t u
 
 -- Both have an item that is equal.
 abbrev pub overlaps : Tree → Tree → Bool

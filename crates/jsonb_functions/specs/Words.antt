@@ -22,7 +22,7 @@ pub use Rattle.jsonb.specs.Node.{HoldsNoScalar, IsContainer, member_tree, node_t
 pub use Rattle.jsonb.specs.Node.{pairs_of, tree_list, value_of_key}
 pub use Rattle.jsonb.specs.Owned.{owned_bytes}
 pub use Rattle.jsonb_functions.specs.ArraySets.{difference, distinct, distinct_items, intersection}
-pub use Rattle.jsonb_functions.specs.ArraySets.{matched_items, overlaps, some_shared}
+pub use Rattle.jsonb_functions.specs.ArraySets.{matched_array, matched_items, overlaps, some_shared}
 pub use Rattle.jsonb_functions.specs.ChosenSource.{FirstKept, kept_pairs, listed_trees}
 pub use Rattle.jsonb_functions.specs.Contains.{contained, contains_whole, has_top_key}
 pub use Rattle.jsonb_functions.specs.Contains.{items_contained, items_in, members_contained}

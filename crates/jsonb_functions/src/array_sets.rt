@@ -7,9 +7,9 @@ ghost use Rattle.jsonb_functions.specs.Words.{AreChildren, Counts, Fits, LevelIs
 ghost use Rattle.jsonb_functions.specs.Words.{MadeWithMemory, SetsCount, Trees, array, canon};
 ghost use Rattle.jsonb_functions.specs.Words.{count_at, difference, distinct, distinct_items};
 ghost use Rattle.jsonb_functions.specs.Words.{document_tree, intersection, items_or_one};
-ghost use Rattle.jsonb_functions.specs.Words.{listed_trees, matched_items, node_tree, overlaps};
-ghost use Rattle.jsonb_functions.specs.Words.{code_of, owned_bytes, part_tree, shape_of};
-ghost use Rattle.jsonb_functions.specs.Words.{some_shared};
+ghost use Rattle.jsonb_functions.specs.Words.{listed_trees, matched_array, matched_items};
+ghost use Rattle.jsonb_functions.specs.Words.{code_of, node_tree, overlaps, owned_bytes, part_tree};
+ghost use Rattle.jsonb_functions.specs.Words.{shape_of, some_shared};
 
 use crate::chosen::{Chosen, ChosenItems, ChosenLevel};
 use jsonb::constants::CONTAINER_TAG;
@@ -20,8 +20,8 @@ use std::alloc::Global;
 use std::collections::BTreeMap;
 
 /// The canonical document of the array's items without those that are equal to one before them. A
-/// value that is not an array is the one item. `InvalidJsonb` if there is none; `OutOfMemory` if an
-/// allocation fails.
+/// value that is not an array is the one item. `InvalidJsonb` if it does not fit the format;
+/// `OutOfMemory` if an allocation fails.
 pub fn array_distinct(alloc: Global, document: Document<'_>) -> Result<OwnedJsonb, Error>
     ensures ok { IfOk result (λ owned. owned_bytes owned
         ≡ canon (distinct (document_tree document.entry))) }
@@ -47,7 +47,7 @@ pub fn array_overlap(alloc: Global, left: Document<'_>, right: Document<'_>) -> 
 
 /// The canonical document of the items that both arrays have, in the order of the first. Of equal
 /// items there are as many as both have: the first ones of the first. A value that is not an array
-/// is one item. `InvalidJsonb` if there is none; `OutOfMemory` if an allocation fails.
+/// is one item. `InvalidJsonb` if it does not fit the format; `OutOfMemory` if an allocation fails.
 pub fn array_intersection(
     alloc: Global,
     left: Document<'_>,
@@ -58,15 +58,12 @@ pub fn array_intersection(
     ensures limits { MadeWithMemory
         (Fits (intersection (document_tree left.entry) (document_tree right.entry))) result }
 {
-    let items = items_of(alloc, left)?;
-    let others = items_of(alloc, right)?;
-    let common = matched_of(alloc, &items, &others, true)?;
-    array_document(alloc, &common)
+    matched_document(alloc, left, right, true)
 }
 
 /// The canonical document of the first array's items without one for each equal item of the second:
-/// of equal items the first ones go. A value that is not an array is one item. `InvalidJsonb` if
-/// there is none; `OutOfMemory` if an allocation fails.
+/// of equal items the first ones go. A value that is not an array is one item. `InvalidJsonb` if it
+/// does not fit the format; `OutOfMemory` if an allocation fails.
 pub fn array_except(
     alloc: Global,
     left: Document<'_>,
@@ -77,10 +74,26 @@ pub fn array_except(
     ensures limits { MadeWithMemory
         (Fits (difference (document_tree left.entry) (document_tree right.entry))) result }
 {
+    matched_document(alloc, left, right, false)
+}
+
+// The canonical document of the first array's items for which the second has an equal that no item
+// before them took, or of those for which it has not.
+fn matched_document(
+    alloc: Global,
+    left: Document<'_>,
+    right: Document<'_>,
+    matched: bool,
+) -> Result<OwnedJsonb, Error>
+    ensures ok { IfOk result (λ owned. owned_bytes owned ≡ canon
+        (matched_array matched (document_tree left.entry) (document_tree right.entry))) }
+    ensures limits { MadeWithMemory
+        (Fits (matched_array matched (document_tree left.entry) (document_tree right.entry))) result }
+{
     let items = items_of(alloc, left)?;
     let others = items_of(alloc, right)?;
-    let unmatched = matched_of(alloc, &items, &others, false)?;
-    array_document(alloc, &unmatched)
+    let found = matched_of(alloc, &items, &others, matched)?;
+    array_document(alloc, &found)
 }
 
 // The items of an array, or the one value that is not an array.

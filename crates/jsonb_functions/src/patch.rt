@@ -72,7 +72,8 @@ type PartLevel<'a> = Level<StoredEntry<'a>, Children<'a>, Object<'a>>;
 /// The canonical document of the target's value with the patch merged into it, as JSON Merge Patch
 /// says: a member of the patch that is null removes the member with its key; any other patches the
 /// member's value, or is added; a patch that is not an object takes the target's place.
-/// `InvalidJsonb`, before any allocation, if there is none; `OutOfMemory` if an allocation fails.
+/// `InvalidJsonb`, before any allocation, if it does not fit the format; `OutOfMemory` if an
+/// allocation fails.
 pub fn merge_patch(
     alloc: Global,
     target: Document<'_>,

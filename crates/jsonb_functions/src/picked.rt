@@ -17,8 +17,8 @@ use std::alloc::Global;
 /// The canonical document of an object with only those of its members whose keys are among the
 /// names, or only those whose keys are not. It does not matter how often or in which order names
 /// are listed. What is not an object is kept whole. `InvalidJsonb`, before the document is
-/// allocated, if there is none; `OutOfMemory` if an allocation fails, that of a sorted list of the
-/// names or that of the document.
+/// allocated, if it does not fit the format; `OutOfMemory` if an allocation fails, that of a sorted
+/// list of the names or that of the document.
 pub fn pick(
     alloc: Global,
     document: Document<'_>,

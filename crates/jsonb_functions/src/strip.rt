@@ -37,8 +37,8 @@ pub struct StrippedMembers<'a> {
 type StrippedLevel<'a> = Level<StoredEntry<'a>, Children<'a>, StrippedObject<'a>>;
 
 /// The canonical document of the document's value without the members that are null, in each object
-/// in it. Items of arrays that are null stay. `InvalidJsonb`, before any allocation, if there is
-/// none; `OutOfMemory` if an allocation fails.
+/// in it. Items of arrays that are null stay. `InvalidJsonb`, before any allocation, if it does not
+/// fit the format; `OutOfMemory` if an allocation fails.
 pub fn strip_nulls(alloc: Global, document: Document<'_>) -> Result<OwnedJsonb, Error>
     ensures ok { IfOk result (λ owned. owned_bytes owned
         ≡ canon (stripped (document_tree document.entry))) }
