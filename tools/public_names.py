@@ -3,6 +3,9 @@ import os
 import re
 
 TOP = os.path.dirname(os.path.dirname(os.path.abspath(__file__)))
+# The crates that callers name: `jsonb` exports what the two below it do.
+CRATES = ("jsonb", "jsonb_functions", "jsonb_comparable", "jsonb_column", "json_fault",
+          "jsonb_composition")
 
 
 def text_of(path):
@@ -22,9 +25,7 @@ def root_names(crate):
 def exported():
     """What the upper libraries and `json_fault` export at their roots, by the library it is of."""
     names = {}
-    crates = ("jsonb", "jsonb_composition", "jsonb_column", "jsonb_comparable", "jsonb_functions",
-              "json_fault")
-    for crate in crates:
+    for crate in CRATES:
         for source, name in root_names(crate):
             library = source if source.startswith("jsonb_") else crate
             names.setdefault(library, set()).add(name)
