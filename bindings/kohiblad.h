@@ -7,9 +7,12 @@
  *         sizeof row, &length);
  *
  * BYTES go in as a pointer and a length. Any bytes may be given: no call reads outside them, and
- * each says what it returns if they are no document. But a call may recurse as deep as the bytes
+ * each says what it returns if they are not a document. But a call may recurse as deep as the bytes
  * nest, and needs stack for that (see STACK): check untrusted bytes with kohiblad_check first,
  * which takes a limit. Checked bytes need no further check: no call writes to its input.
+ *
+ * DEPTH: a scalar has depth 0, an array or object one more than its deepest child, and at least 1.
+ * A call that takes a depth looks no deeper: to it a document that nests deeper is not a document.
  *
  * RESULTS that are bytes are written as snprintf writes: `out` has room for `room` bytes, and
  * `*length` is set to the number of bytes that the result has, also if they do not fit. Then the
@@ -21,9 +24,11 @@
  * What a call writes must lie apart from its input, and from all else that it writes. If it does
  * not, the functions below return KOHIBLAD_OVERLAP and write nothing, `*length` neither.
  *
- * MEMORY: calls that say so allocate by malloc and realloc, and free all of it before they return.
- * If an allocation fails, the status is KOHIBLAD_OUT_OF_MEMORY. All other calls allocate nothing.
- * Beside malloc, realloc and free the library needs memcpy, memmove and memset, and nothing else.
+ * MEMORY: calls that name OUT_OF_MEMORY below allocate by malloc and realloc, and free all of it
+ * before they return. All other calls allocate nothing. Beside malloc, realloc and free the library
+ * needs memcpy, memmove and memset, and nothing else.
+ *
+ * STATUSES are named below without their KOHIBLAD_.
  *
  * THREADS: the library is reentrant: it has no state. Any call may run in any thread, beside any
  * other, also over the same bytes, as long as nobody writes them. Do not call it in a signal
@@ -31,15 +36,13 @@
  *
  * STACK: calls on documents recurse as deep as a document nests. KOHIBLAD_LEVEL_STACK bytes for
  * each level, and KOHIBLAD_CALL_STACK beside them, are enough: 64 levels need 72 KB, and 1,000
- * levels 1,008 KB. So pass untrusted bytes through kohiblad_check. kohiblad_key, contains, exists,
- * concat, merge_patch, strip_nulls, edit, get_path, select, index_keys, top_keys and each call
- * whose name ends in _within look no deeper than their depth: to them a document that nests deeper
- * is not a document. parse and text_fault do not recurse, but the depth given to kohiblad_parse is
- * also how deep its document nests. kohiblad_edit takes KOHIBLAD_EDIT_LEVEL_STACK bytes for each
- * level of its result, which may nest as deep as the path is long and the value nests together,
- * also where these are within the depth; the result of kohiblad_concat may nest one level deeper
- * than that. kind, get, find, part, begin, next, of_part, array_item, object_member, and the calls
- * on scalars do not recurse either.
+ * levels 1,008 KB. So pass untrusted bytes through kohiblad_check, or use a call that takes a
+ * depth. parse and text_fault do not recurse, but the depth given to kohiblad_parse is also how
+ * deep its document nests. kohiblad_edit takes KOHIBLAD_EDIT_LEVEL_STACK bytes for each level of
+ * its result, which may nest as deep as the path is long and the value nests together, also where
+ * these are within the depth; the result of kohiblad_concat may nest one level deeper than that.
+ * kind, get, find, part, begin, next, of_part, array_item, object_member, and the calls on scalars
+ * do not recurse either.
  *
  * NULL is allowed for bytes, texts, offsets, out and order whose length is 0, and for `key` of
  * kohiblad_next. A `length` and a cursor are never null.
@@ -87,20 +90,20 @@ enum kohiblad_edit_kind {
 enum kohiblad_status {
     KOHIBLAD_OK = 0,
     KOHIBLAD_INVALID_EOF = 1,             /* the bytes are cut, or rows are outside them */
-    KOHIBLAD_INVALID_JSONB = 2,           /* no document, or past a limit of the format */
+    KOHIBLAD_INVALID_JSONB = 2,           /* not a document, or past a limit */
     KOHIBLAD_INVALID_JSONB_HEADER = 3,
     KOHIBLAD_INVALID_JSONB_JENTRY = 4,
     KOHIBLAD_INVALID_JSONB_NUMBER = 5,
     KOHIBLAD_INVALID_JSONB_EXTENSION = 6,
     KOHIBLAD_INVALID_UTF8 = 7,
     KOHIBLAD_OBJECT_DUPLICATE_KEY = 8,
-    KOHIBLAD_INVALID_JSON = 9,            /* the text is no JSON */
+    KOHIBLAD_INVALID_JSON = 9,            /* the text is not JSON */
     KOHIBLAD_OUT_OF_MEMORY = 10,
     KOHIBLAD_NO_ROOM = 11,
     KOHIBLAD_NONE = 12,                   /* no such item, member or key */
     KOHIBLAD_TOO_DEEP = 13,
     KOHIBLAD_OTHER_KIND = 14,             /* the value is of another kind */
-    KOHIBLAD_PAST_RANGE = 15,             /* the number is no whole one of 64 bits */
+    KOHIBLAD_PAST_RANGE = 15,             /* the number is not a whole one of 64 bits */
     KOHIBLAD_OVERLAP = 16,                /* what a call writes overlaps something else */
     KOHIBLAD_BAD_NUMBER = 17,             /* the text has an unfinished or too large number */
     KOHIBLAD_TOO_MANY_STEPS = 18          /* the call took more steps than it may */
@@ -194,16 +197,16 @@ struct kohiblad_extension_value {
     uint64_t length; /* of the data */
 };
 
-/* The version of the library. KOHIBLAD_VERSION is that of the header. */
+/* The version number of the library: a million per major, a thousand per minor and one per patch
+ * version. */
 static inline uint32_t kohiblad_version(void) KOHIBLAD_INLINE("kohiblad_version");
 
-/* Copies the name of a status to `out`, "Unknown" for other numbers; at most 21 bytes. NO_ROOM if
- * `out` has no room for the name. */
+/* Copies the name of a status, or `Unknown` for other numbers, to `out`. NO_ROOM if `out` is
+ * shorter. A name has at most 21 bytes. */
 static inline uint32_t kohiblad_status_name(uint32_t status, uint8_t *out, size_t room,
     size_t *length) KOHIBLAD_INLINE("kohiblad_status_name");
 
-/* Whether the bytes are a document of at most this depth. A scalar has depth 0, an array or object
- * one more than its deepest child, and at least 1. Looks no deeper. */
+/* Whether the bytes are a document of at most this depth. */
 static inline bool kohiblad_check(const uint8_t *bytes, size_t size, size_t depth)
     KOHIBLAD_INLINE("kohiblad_check");
 
@@ -211,86 +214,92 @@ static inline bool kohiblad_check(const uint8_t *bytes, size_t size, size_t dept
 static inline bool kohiblad_is_document(const uint8_t *bytes, size_t size)
     KOHIBLAD_INLINE("kohiblad_is_document");
 
-/* The order of any two byte strings by what they mean: -1, 0 or 1. Documents are less than all
- * other bytes, and those are ordered as bytes. 5 and 5.0 are equal. The order is total. */
+/* Compares byte strings by their meaning, with the result -1, 0 or 1: documents compare by their
+ * values and are less than all other bytes, which compare as bytes. 5 and 5.0 are equal. The order
+ * is total. */
 static inline int32_t kohiblad_compare(const uint8_t *left, size_t left_size,
     const uint8_t *right, size_t right_size) KOHIBLAD_INLINE("kohiblad_compare");
 
-/* The order of any two byte strings by what they mean: -1, 0 or 1. Documents of at most this depth
- * are less than all other bytes, and those are ordered as bytes, also documents that nest deeper.
- * The order is total. A scalar has depth 0, an array or object one more than its deepest child, and
- * at least 1. Looks no deeper. */
+/* Compares byte strings by their meaning, with the result -1, 0 or 1: documents of at most this
+ * depth compare by their values and are less than all other bytes, which compare as bytes. So a
+ * document that nests deeper than `depth` levels counts as no document. The order is total. */
 static inline int32_t kohiblad_compare_within(const uint8_t *left, size_t left_size,
     const uint8_t *right, size_t right_size, size_t depth)
     KOHIBLAD_INLINE("kohiblad_compare_within");
 
-/* The kind of a value and the number of its children, by the first two words; nothing else is
- * checked. INVALID_EOF: one of them is cut off; INVALID_JSONB: they are of no kind. Kind and count
- * are then 0. */
+/* The kind of a value, read from the first two words, with the number of an array's items or an
+ * object's pairs; nothing else is checked. INVALID_EOF if one of these words is cut off,
+ * INVALID_JSONB if they are of no kind; kind and count are then 0. */
 static inline struct kohiblad_value_kind kohiblad_kind(const uint8_t *bytes, size_t size)
     KOHIBLAD_INLINE("kohiblad_kind");
 
-/* Copies the value of a key to `out`, as a document of its own. NONE: there is no such key, or the
- * value is no object. INVALID_UTF8: the name is not UTF-8. Bytes that are no document give some
- * value, NONE or an error's status. NO_ROOM if `out` has no room for the document. */
+/* Copies the value of a key to `out`, as a document of its own. NONE if the object has no such key,
+ * or the bytes are not an object; INVALID_UTF8 if the name is not UTF-8; for bytes that are not a
+ * document, the error of looking up the key in them; NO_ROOM if `out` is shorter than the document.
+ * Bytes that are not a document can also give some value. */
 static inline uint32_t kohiblad_get(const uint8_t *bytes, size_t size, const uint8_t *name,
     size_t name_size, uint8_t *out, size_t room, size_t *length) KOHIBLAD_INLINE("kohiblad_get");
 
-/* The place of a key's value, with nothing copied. NONE: there is no such key, or the value is no
- * object. INVALID_UTF8: the name is not UTF-8. Bytes that are no document give some place, NONE or
- * an error's status. With every status but OK, type, offset and length are 0. */
+/* The place of the value of a key. NONE if the object has no such key, or the bytes are not an
+ * object; INVALID_UTF8 if the name is not UTF-8; for bytes that are not a document, the error of
+ * looking up the key in them. If the status is not OK, type, offset and length are 0. Bytes that
+ * are not a document can also give some place. */
 static inline struct kohiblad_place kohiblad_find(const uint8_t *bytes, size_t size,
     const uint8_t *name, size_t name_size) KOHIBLAD_INLINE("kohiblad_find");
 
-/* The place of a part: of an array of n the items, 0 to n - 1; of an object of n pairs the keys, 0
- * to n - 1, and the values, n to 2n - 1. NONE: there is no such part. INVALID_EOF: the header or an
- * entry word that is read is cut off; INVALID_JSONB: the header is of no kind, or the part runs
- * past the end. Type, offset and length are then 0. Reads one word for each earlier part. */
+/* The place of a part of an array or object, by number: the items of an array from 0; for an object
+ * of n pairs the keys from 0 and the values from n. NONE if there is no such part; INVALID_EOF if
+ * the header or an entry word that is read is cut off; INVALID_JSONB if the header is of no kind,
+ * or the payload runs past the end. If the status is not OK, type, offset and length are 0. Reads
+ * one word for each earlier part. */
 static inline struct kohiblad_place kohiblad_part(const uint8_t *bytes, size_t size,
     size_t number) KOHIBLAD_INLINE("kohiblad_part");
 
-/* Puts the cursor before the first child of an array or object. NONE: the bytes are neither.
- * INVALID_EOF: the header or an entry word that is read is cut off; INVALID_JSONB: the header is of
- * no kind. With every status but OK the cursor is untouched. A walk over all children costs as much
- * as kohiblad_part for the last one alone. */
+/* Puts the cursor before the first child of an array or object. NONE if the bytes are neither;
+ * INVALID_EOF if the header or an entry word that is read is cut off; INVALID_JSONB if the header
+ * is of no kind. If the status is not OK, the cursor is unchanged. A walk over all children costs
+ * as much as kohiblad_part for the last one. */
 static inline uint32_t kohiblad_begin(const uint8_t *bytes, size_t size,
     struct kohiblad_cursor *cursor) KOHIBLAD_INLINE("kohiblad_begin");
 
-/* The place of the child at the cursor, in `*value`, and that of its key, in `*key`; the cursor is
- * then moved after the child. In a walk from kohiblad_begin on, child i of an array is the part i
- * that kohiblad_part returns, and of an object of n pairs the key is part i and the value part n +
- * i. NONE: there are no more, or the bytes are neither an array nor an object. INVALID_EOF: the
- * header or an entry word that is read is cut off; INVALID_JSONB: the header is of no kind, or a
- * part runs past the end. With every status but OK the cursor is untouched. `*value` and `*key`
- * have the same status, but the key of an array's item has NONE; a place without OK has zeros. Any
- * cursor may be given, also one that no call made: a place with OK is inside the bytes. */
+/* Stores the place of the child at the cursor in `*value`, and that of an object's key in `*key`,
+ * and moves the cursor after the child. In a walk from kohiblad_begin on, these are the places that
+ * kohiblad_part returns. NONE if there are no more children, or the bytes are neither an array nor
+ * an object; INVALID_EOF if the header or an entry word that is read is cut off; INVALID_JSONB if
+ * the header is of no kind, or the key or value runs past the end. Both places have the status that
+ * is returned, except that the key of an array's item has NONE; a place whose status is not OK has
+ * zeros. If the status that is returned is not OK, the cursor is unchanged. Any cursor may be
+ * given: a place with OK is inside the bytes. Child i of an array is part i; of an object of n
+ * pairs the key is part i and the value part n + i. */
 static inline uint32_t kohiblad_next(const uint8_t *bytes, size_t size,
     struct kohiblad_cursor *cursor, struct kohiblad_place *key, struct kohiblad_place *value)
     KOHIBLAD_INLINE("kohiblad_next");
 
-/* Copies the part at a place to `out`, as a document of its own; `type` is that of the place, and
- * `payload` are the bytes at its offset. An array or object is copied as it is, and a scalar's
- * document has 8 bytes more than the payload. At a place in a document, as kohiblad_part,
- * kohiblad_find and kohiblad_next return it, this is what kohiblad_array_item and kohiblad_get
- * copy. The payload is not checked: other bytes than those of a document may give none.
- * INVALID_JSONB_JENTRY: the type is none of enum kohiblad_type. INVALID_JSONB: a scalar's payload
- * has 2^28 bytes or more. NO_ROOM if `out` has no room for the document. */
+/* Copies the document of a part to `out`. The part is given by the type of its entry and its
+ * payload: an array or object is copied as it is, and a scalar is written as a document of its own.
+ * At a place in a document, as kohiblad_part, kohiblad_find and kohiblad_next return it, this is
+ * what kohiblad_array_item and kohiblad_get copy. The payload is not checked: null, true and false
+ * are also written with the one that is given, which in a document has no bytes.
+ * INVALID_JSONB_JENTRY if entries have no such type; INVALID_JSONB if the payload of a scalar has
+ * 2^28 bytes or more; NO_ROOM if `out` is shorter than the document. A scalar's document has 8
+ * bytes more than its payload. */
 static inline uint32_t kohiblad_of_part(uint32_t type, const uint8_t *payload, size_t size,
     uint8_t *out, size_t room, size_t *length) KOHIBLAD_INLINE("kohiblad_of_part");
 
-/* Copies the item of an array at an index, from 0, to `out`, as a document of its own. NONE: there
- * is no such item, or the bytes are no array. INVALID_EOF: the header or an entry word that is read
- * is cut off; INVALID_JSONB: the header is of no kind, or the item runs past the end. NO_ROOM if
- * `out` has no room for the document. */
+/* Copies the item of an array at an index, counted from 0, to `out`, as a document of its own. NONE
+ * if the index is not below the number of items, or the bytes are not an array; INVALID_EOF if the
+ * header or an entry word that is read is cut off; INVALID_JSONB if the header is of no kind, or
+ * the item runs past the end; NO_ROOM if `out` is shorter than the document. */
 static inline uint32_t kohiblad_array_item(const uint8_t *bytes, size_t size, size_t index,
     uint8_t *out, size_t room, size_t *length) KOHIBLAD_INLINE("kohiblad_array_item");
 
-/* Copies the key of an object at an index, from 0 in ascending order of the keys, to `key` as its
- * text, and its value to `out` as a document of its own. NONE: there is no such pair, or the bytes
- * are no object. INVALID_EOF: the header or an entry word that is read is cut off; INVALID_JSONB:
- * the header is of no kind, or the key or the value runs past the end. NO_ROOM: `key` or `out` has
- * too little room. Both are written or neither; with NO_ROOM both lengths are those that are
- * needed. */
+/* Copies the key of an object's pair at an index, counted from 0, to `key`, and its value to `out`,
+ * as a document of its own, and their lengths in bytes to `*key_length` and `*length`. NONE if the
+ * index is not below the number of pairs, or the bytes are not an object; INVALID_EOF if the header
+ * or an entry word that is read is cut off; INVALID_JSONB if the header is of no kind, or the key
+ * or value runs past the end; NO_ROOM if `key` or `out` is too short. If the status is not OK,
+ * `key` and `out` are unchanged, and both lengths are 0, or for NO_ROOM the lengths of the key and
+ * the document. The pairs are in ascending order of their keys. */
 static inline uint32_t kohiblad_object_member(const uint8_t *bytes, size_t size, size_t index,
     uint8_t *key, size_t key_room, size_t *key_length, uint8_t *out, size_t room, size_t *length)
     KOHIBLAD_INLINE("kohiblad_object_member");
@@ -299,122 +308,129 @@ static inline uint32_t kohiblad_object_member(const uint8_t *bytes, size_t size,
  * of values. The first two words of a document show its kind, as kohiblad_kind returns it. With
  * every status but OK, all fields are 0. */
 
-/* A number: its digits as a whole number of 128 bits in two halves, and its scale. 1.50 is 150 with
- * scale 2. OTHER_KIND: the bytes begin as another kind. INVALID_JSONB: they begin as a number but
- * are no document, or as no kind; INVALID_EOF: one of the first two words is cut off. */
+/* The number in the document of a number, as a whole number of 128 bits in two halves and a scale,
+ * the count of its digits after the point. INVALID_EOF if one of the first two words is cut off;
+ * INVALID_JSONB if these are of no kind, or the bytes begin like a number but are not a document;
+ * OTHER_KIND if they begin like a value of another kind. If the status is not OK, the fields are 0.
+ * */
 static inline struct kohiblad_decimal kohiblad_number(const uint8_t *bytes, size_t size)
     KOHIBLAD_INLINE("kohiblad_number");
 
-/* A number that is whole and of 64 bits, signed. PAST_RANGE: it is larger, or has digits after its
- * point, also where these are zeros. OTHER_KIND: the bytes begin as another kind. INVALID_JSONB:
- * they begin as a number but are no document, or as no kind; INVALID_EOF: one of the first two
- * words is cut off. */
+/* The number in the document of a number, if it is a whole number of 64 bits, signed. PAST_RANGE if
+ * it does not fit or has digits after its point, even zeros; INVALID_EOF if one of the first two
+ * words is cut off; INVALID_JSONB if these are of no kind, or the bytes begin like a number but are
+ * not a document; OTHER_KIND if they begin like a value of another kind. If the status is not OK,
+ * the value is 0. */
 static inline struct kohiblad_integer kohiblad_int64(const uint8_t *bytes, size_t size)
     KOHIBLAD_INLINE("kohiblad_int64");
 
-/* The place of a text: its bytes, with neither quotes nor escapes. OTHER_KIND: the bytes begin as
- * another kind. INVALID_JSONB: they begin as a text but are no document, or as no kind;
- * INVALID_EOF: one of the first two words is cut off. */
+/* The place of the text in the document of a text: its bytes in UTF-8, without quotes and escapes.
+ * INVALID_EOF if one of the first two words is cut off; INVALID_JSONB if these are of no kind, or
+ * the bytes begin like a text but are not a document; OTHER_KIND if they begin like a value of
+ * another kind. If the status is not OK, type, offset and length are 0. */
 static inline struct kohiblad_place kohiblad_text(const uint8_t *bytes, size_t size)
     KOHIBLAD_INLINE("kohiblad_text");
 
-/* A truth value, 0 or 1. OTHER_KIND: the bytes begin as another kind. INVALID_JSONB: they begin as
- * a truth value but are no document, or as no kind; INVALID_EOF: one of the first two words is cut
- * off. */
+/* The truth value in the document of a truth value, as 0 or 1. INVALID_EOF if one of the first two
+ * words is cut off; INVALID_JSONB if these are of no kind, or the bytes begin like a truth value
+ * but are not a document; OTHER_KIND if they begin like a value of another kind. If the status is
+ * not OK, the value is 0. */
 static inline struct kohiblad_truth kohiblad_boolean(const uint8_t *bytes, size_t size)
     KOHIBLAD_INLINE("kohiblad_boolean");
 
-/* An extension value, by its tag and fields. OTHER_KIND: the bytes begin as another kind.
- * INVALID_JSONB: they begin as an extension value but are no document, or as no kind; INVALID_EOF:
- * one of the first two words is cut off. */
+/* The tag and fields of the extension value in the document of one. INVALID_EOF if one of the first
+ * two words is cut off; INVALID_JSONB if these are of no kind, or the bytes begin like an extension
+ * value but are not a document; OTHER_KIND if they begin like a value of another kind. If the
+ * status is not OK, the fields are 0. */
 static inline struct kohiblad_extension_value kohiblad_extension(const uint8_t *bytes,
     size_t size) KOHIBLAD_INLINE("kohiblad_extension");
 
 /* DOCUMENTS OF SCALARS. */
 
-/* Copies the document of null to `out`. NO_ROOM if `out` has no room for the document. */
+/* Copies the canonical document of null to `out`. NO_ROOM if `out` is shorter than the document. */
 static inline uint32_t kohiblad_of_null(uint8_t *out, size_t room, size_t *length)
     KOHIBLAD_INLINE("kohiblad_of_null");
 
-/* Copies the document of a truth value to `out`: of false for 0, of true for all other numbers.
- * NO_ROOM if `out` has no room for the document. */
+/* Copies the canonical document of a truth value to `out`. The value is false if `value` is 0, and
+ * true for every other number. NO_ROOM if `out` is shorter than the document. */
 static inline uint32_t kohiblad_of_boolean(uint32_t value, uint8_t *out, size_t room,
     size_t *length) KOHIBLAD_INLINE("kohiblad_of_boolean");
 
-/* Copies the document of a text to `out`. INVALID_UTF8: the bytes are not UTF-8. INVALID_JSONB:
- * there are 2^28 or more. NO_ROOM if `out` has no room for the document. */
+/* Copies the canonical document of a text, given as its bytes, to `out`. INVALID_UTF8 if the bytes
+ * are not UTF-8; INVALID_JSONB if there are 2^28 or more; NO_ROOM if `out` is shorter than the
+ * document. */
 static inline uint32_t kohiblad_of_text(const uint8_t *text, size_t size, uint8_t *out,
     size_t room, size_t *length) KOHIBLAD_INLINE("kohiblad_of_text");
 
-/* Copies the document of a whole number to `out`: the same bytes as kohiblad_parse makes of its
- * digits. NO_ROOM if `out` has no room for the document. OUT_OF_MEMORY if an allocation fails.
- * Takes memory. */
+/* Copies the canonical document of a whole number to `out`. It is the document that kohiblad_parse
+ * makes of the number's digits. OUT_OF_MEMORY if an allocation fails; NO_ROOM if `out` is shorter
+ * than the document. */
 static inline uint32_t kohiblad_of_int64(int64_t value, uint8_t *out, size_t room, size_t *length)
     KOHIBLAD_INLINE("kohiblad_of_int64");
 
-/* Copies the document of the number high * 2^64 + low with `scale` of its digits after the point to
- * `out`: 150 with scale 2 is 1.50. The same bytes as kohiblad_parse makes of the number.
- * INVALID_JSONB: the scale is past 255. NO_ROOM if `out` has no room for the document.
- * OUT_OF_MEMORY if an allocation fails. Takes memory. */
+/* Copies the canonical document of the number `high` times 2 to the power of 64, plus `low`, with
+ * `scale` of its digits after the point, to `out`. It is the document that kohiblad_parse makes of
+ * the number: 150 with scale 2 is 1.50. INVALID_JSONB if the scale is above 255; OUT_OF_MEMORY if
+ * an allocation fails; NO_ROOM if `out` is shorter than the document. */
 static inline uint32_t kohiblad_of_decimal(int64_t high, uint64_t low, uint32_t scale,
     uint8_t *out, size_t room, size_t *length) KOHIBLAD_INLINE("kohiblad_of_decimal");
 
-/* Copies the document of an extension value to `out`, given by its tag and fields as
- * kohiblad_extension returns them; `data` are the bytes at its offset. What the tag does not have
- * must be 0, and its data empty. INVALID_JSONB_EXTENSION: there is no such value, also where a date
- * has more than 32 bits; INVALID_JSONB: the data have 2^28 - 1 bytes or more. NO_ROOM if `out` has
- * no room for the document. OUT_OF_MEMORY if an allocation fails. Takes memory. */
+/* Copies the canonical document of an extension value to `out`. The value is given by its tag and
+ * fields as kohiblad_extension returns them, and by its data; fields that the tag does not have
+ * must be 0, and the data empty. INVALID_JSONB_EXTENSION if no extension value has this tag, these
+ * fields and this data, so also if a date does not fit in 32 bits; INVALID_JSONB if the data have
+ * 2^28 - 1 bytes or more; OUT_OF_MEMORY if an allocation fails; NO_ROOM if `out` is shorter than
+ * the document. */
 static inline uint32_t kohiblad_of_extension(uint32_t tag, int64_t value, int32_t months,
     int32_t days, int32_t seconds, const uint8_t *data, size_t size, uint8_t *out, size_t room,
     size_t *length) KOHIBLAD_INLINE("kohiblad_of_extension");
 
-/* Copies the JSON text to `out`, with no white space: for bytes that are no document these bytes as
- * text, with U+FFFD in place of invalid UTF-8, and "null" for no bytes. NO_ROOM if `out` has no
- * room for the text. OUT_OF_MEMORY if an allocation fails. Takes memory. */
+/* Copies the text of the bytes to `out`: the compact text of a document, `null` for no bytes, and
+ * for all other bytes their own text, with U+FFFD in place of invalid UTF-8. OUT_OF_MEMORY if an
+ * allocation fails; NO_ROOM if `out` is shorter than the text. */
 static inline uint32_t kohiblad_to_string(const uint8_t *bytes, size_t size, uint8_t *out,
     size_t room, size_t *length) KOHIBLAD_INLINE("kohiblad_to_string");
 
-/* Copies the JSON text to `out`, with no white space: for bytes that are no document of at most
- * this depth these bytes as text, with U+FFFD in place of invalid UTF-8, and "null" for no bytes. A
- * scalar has depth 0, an array or object one more than its deepest child, and at least 1. Looks no
- * deeper. NO_ROOM if `out` has no room for the text. OUT_OF_MEMORY if an allocation fails. Takes
- * memory. */
+/* Copies the text of the bytes to `out`: the compact text of a document, `null` for no bytes, and
+ * for all other bytes their own text, with U+FFFD in place of invalid UTF-8. A document that nests
+ * deeper than `depth` levels counts as no document, so its text is that of its bytes. OUT_OF_MEMORY
+ * if an allocation fails; NO_ROOM if `out` is shorter than the text. */
 static inline uint32_t kohiblad_to_string_within(const uint8_t *bytes, size_t size, size_t depth,
     uint8_t *out, size_t room, size_t *length) KOHIBLAD_INLINE("kohiblad_to_string_within");
 
-/* Copies the JSON text to `out`, on lines, indented by two spaces; "null" for bytes that are no
- * document. NO_ROOM if `out` has no room for the text. OUT_OF_MEMORY if an allocation fails. Takes
- * memory. */
+/* Copies the pretty text of the bytes to `out`: that of a document with each item or pair on its
+ * own line, indented by two spaces for each enclosing container, and `null` for all other bytes.
+ * OUT_OF_MEMORY if an allocation fails; NO_ROOM if `out` is shorter than the text. */
 static inline uint32_t kohiblad_to_pretty(const uint8_t *bytes, size_t size, uint8_t *out,
     size_t room, size_t *length) KOHIBLAD_INLINE("kohiblad_to_pretty");
 
-/* Copies the JSON text to `out`, on lines, indented by two spaces; "null" for bytes that are no
- * document of at most this depth. A scalar has depth 0, an array or object one more than its
- * deepest child, and at least 1. Looks no deeper. NO_ROOM if `out` has no room for the text.
- * OUT_OF_MEMORY if an allocation fails. Takes memory. */
+/* Copies the pretty text of the bytes to `out`: that of a document with each item or pair on its
+ * own line, indented by two spaces for each enclosing container, and `null` for all other bytes. A
+ * document that nests deeper than `depth` levels counts as no document, so its text is `null`.
+ * OUT_OF_MEMORY if an allocation fails; NO_ROOM if `out` is shorter than the text. */
 static inline uint32_t kohiblad_to_pretty_within(const uint8_t *bytes, size_t size, size_t depth,
     uint8_t *out, size_t room, size_t *length) KOHIBLAD_INLINE("kohiblad_to_pretty_within");
 
-/* Copies the canonical document of a JSON text to `out`. If `exponents` is 0, a number with an
- * exponent is refused; otherwise it means exactly its value: 1e5 is the whole number 100000, and
- * 25e-1 is 2.5. TOO_DEEP: more than `depth` of the text's brackets are open at once, and it was not
- * read; INVALID_UTF8: the text is not UTF-8; INVALID_JSON: it is no JSON, or a number is refused,
- * or is past 128 bits or 255 digits after its point; INVALID_JSONB: a limit of the format is
- * passed. NO_ROOM if `out` has no room for the document. OUT_OF_MEMORY if an allocation fails.
- * Takes memory. The result is shorter than 4 times the text plus 8 bytes, and with exponents than 5
- * times the text plus 8. */
+/* Parses a JSON text and copies the canonical document of its value to `out`. With
+ * KOHIBLAD_EXPONENTS_FORBIDDEN a number with an exponent is refused; otherwise it means exactly its
+ * value, as `1e5` means 100000. TOO_DEEP if more than `depth` brackets outside strings are open at
+ * once, tested before anything else; INVALID_UTF8 if the text is not UTF-8; INVALID_JSON if it is
+ * not accepted JSON; INVALID_JSONB if a limit of the format is exceeded; OUT_OF_MEMORY if an
+ * allocation fails; NO_ROOM if `out` is shorter than the document. The document is shorter than 4
+ * times the text plus 8 bytes, and with exponents than 5 times the text plus 8: 1e5 is 100000,
+ * 25e-1 is 2.5. */
 static inline uint32_t kohiblad_parse(const uint8_t *text, size_t size, size_t depth,
     uint32_t exponents, uint8_t *out, size_t room, size_t *length)
     KOHIBLAD_INLINE("kohiblad_parse");
 
-/* Whether kohiblad_parse takes a text, with the same `exponents`, and where the text stops being
- * JSON. OK: it takes it, and the offset is the text's size. BAD_NUMBER or INVALID_JSON: it does
- * not, and the offset is the length of the longest beginning of the text that begins some JSON
- * text: 3 of [1,], and 2 of [1, which only ends too early. BAD_NUMBER exactly if that ends in an
- * unfinished number, as 1., or in a number that goes on, and so has an exponent that is refused, or
- * is past 128 bits or 255 digits. TOO_DEEP: more than `depth` brackets are open at once, and it was
- * not read; INVALID_UTF8: the text is not UTF-8. OUT_OF_MEMORY if an allocation fails. Of these the
- * offset is 0. Takes memory. */
+/* Whether a text is JSON, and where it is not. With KOHIBLAD_EXPONENTS_FORBIDDEN no number has an
+ * exponent. OK, with the length of the text, if it is JSON; TOO_DEEP if more than `depth` brackets
+ * outside strings are open at once, tested before anything else; INVALID_UTF8 if the text is not
+ * UTF-8; BAD_NUMBER if its longest beginning that begins some JSON text ends in an unfinished or
+ * too large number; INVALID_JSON if it is not JSON for another reason; OUT_OF_MEMORY if an
+ * allocation fails. Of BAD_NUMBER and INVALID_JSON the offset is the length in bytes of that
+ * beginning. It is 3 of [1,], and 2 of [1, which only ends too early. With every other status but
+ * OK it is 0. */
 static inline struct kohiblad_fault kohiblad_text_fault(const uint8_t *text, size_t size,
     size_t depth, uint32_t exponents) KOHIBLAD_INLINE("kohiblad_text_fault");
 
@@ -425,219 +441,208 @@ static inline struct kohiblad_fault kohiblad_text_fault(const uint8_t *text, siz
  * the rows of those together first. No offset and one offset are no rows. INVALID_EOF: an offset is
  * less than the one before it, or past the bytes. */
 
-/* Copies the array of the documents in these rows to `out`. INVALID_EOF: an offset is less than the
- * one before it, or past the bytes. INVALID_JSONB: a row is no document, or a limit of the format
- * is passed. NO_ROOM if `out` has no room for the array. OUT_OF_MEMORY if an allocation fails.
- * Takes memory. */
+/* Builds the array of the documents in the rows, and copies it to `out`. INVALID_EOF if an offset
+ * is below the previous one or beyond the bytes; INVALID_JSONB if a row is not a document, or a
+ * limit of the format is exceeded; OUT_OF_MEMORY if an allocation fails; NO_ROOM if `out` is
+ * shorter than the array. */
 static inline uint32_t kohiblad_build_array(const uint8_t *bytes, size_t size,
     const size_t *offsets, size_t count, uint8_t *out, size_t room, size_t *length)
     KOHIBLAD_INLINE("kohiblad_build_array");
 
-/* Copies the array of the documents in these rows to `out`. INVALID_EOF: an offset is less than the
- * one before it, or past the bytes. INVALID_JSONB: a row is no document of at most this depth,
- * which is tested before anything is built, or a limit of the format is passed. A scalar has depth
- * 0, an array or object one more than its deepest child, and at least 1. Looks no deeper. NO_ROOM
- * if `out` has no room for the array. OUT_OF_MEMORY if an allocation fails. Takes memory. */
+/* Builds the array of the documents in the rows, and copies it to `out`. INVALID_EOF if an offset
+ * is below the previous one or beyond the bytes; then, before anything is built, INVALID_JSONB if a
+ * row is not a document of at most this depth. INVALID_JSONB also if a limit of the format is
+ * exceeded; OUT_OF_MEMORY if an allocation fails; NO_ROOM if `out` is shorter than the array. */
 static inline uint32_t kohiblad_build_array_within(const uint8_t *bytes, size_t size,
     const size_t *offsets, size_t count, size_t depth, uint8_t *out, size_t room, size_t *length)
     KOHIBLAD_INLINE("kohiblad_build_array_within");
 
-/* Copies the object of these rows to `out`: a key's text, then its document, and so on; keys in any
- * order. INVALID_EOF: an offset is less than the one before it, or past the bytes, or the last key
- * has no document. INVALID_UTF8: a key is not UTF-8; OBJECT_DUPLICATE_KEY: a key comes twice;
- * INVALID_JSONB: a value is no document, or a limit of the format is passed. NO_ROOM if `out` has
- * no room for the object. OUT_OF_MEMORY if an allocation fails. Takes memory. */
+/* Builds the object of the pairs in the rows: a key, then its document, and so on. It is copied to
+ * `out`. INVALID_EOF if an offset is below the previous one or beyond the bytes, or the number of
+ * rows is odd; INVALID_UTF8 if a key is not UTF-8; OBJECT_DUPLICATE_KEY if a key occurs twice;
+ * INVALID_JSONB if a document is not one, or a limit of the format is exceeded; OUT_OF_MEMORY if an
+ * allocation fails; NO_ROOM if `out` is shorter than the object. */
 static inline uint32_t kohiblad_build_object(const uint8_t *bytes, size_t size,
     const size_t *offsets, size_t count, uint8_t *out, size_t room, size_t *length)
     KOHIBLAD_INLINE("kohiblad_build_object");
 
-/* Copies the object of these rows to `out`: a key's text, then its document, and so on; keys in any
- * order. INVALID_EOF: an offset is less than the one before it, or past the bytes, or the last key
- * has no document. INVALID_JSONB: a value is no document of at most this depth, which is tested
- * before the keys, or a limit of the format is passed. INVALID_UTF8: a key is not UTF-8;
- * OBJECT_DUPLICATE_KEY: a key comes twice. A scalar has depth 0, an array or object one more than
- * its deepest child, and at least 1. Looks no deeper. NO_ROOM if `out` has no room for the object.
- * OUT_OF_MEMORY if an allocation fails. Takes memory. */
+/* Builds the object of the pairs in the rows: a key, then its document, and so on. It is copied to
+ * `out`. INVALID_EOF if an offset is below the previous one or beyond the bytes, or the number of
+ * rows is odd; then, before the keys are looked at, INVALID_JSONB if a document is not one of at
+ * most this depth. INVALID_UTF8 if a key is not UTF-8; OBJECT_DUPLICATE_KEY if a key occurs twice;
+ * INVALID_JSONB also if a limit of the format is exceeded; OUT_OF_MEMORY if an allocation fails;
+ * NO_ROOM if `out` is shorter than the object. */
 static inline uint32_t kohiblad_build_object_within(const uint8_t *bytes, size_t size,
     const size_t *offsets, size_t count, size_t depth, uint8_t *out, size_t room, size_t *length)
     KOHIBLAD_INLINE("kohiblad_build_object_within");
 
-/* Whether the bytes are a canonical document: each value in the one form that is written today. */
+/* Whether the bytes are canonical: those that the encoder writes for some value. */
 static inline bool kohiblad_is_canonical(const uint8_t *bytes, size_t size)
     KOHIBLAD_INLINE("kohiblad_is_canonical");
 
-/* Whether the bytes are a canonical document, each value in the one form that is written today, of
- * at most this depth. A scalar has depth 0, an array or object one more than its deepest child, and
- * at least 1. Looks no deeper. */
+/* Whether the bytes are a document of at most this depth, and canonical: those that the encoder
+ * writes for some value. */
 static inline bool kohiblad_is_canonical_within(const uint8_t *bytes, size_t size, size_t depth)
     KOHIBLAD_INLINE("kohiblad_is_canonical_within");
 
-/* Copies the canonical document of the same value to `out`; it compares equal to the bytes.
- * INVALID_JSONB: they are no document, or its canonical form is past a limit of the format. NO_ROOM
- * if `out` has no room for the document. OUT_OF_MEMORY if an allocation fails. Takes memory. */
+/* Copies the canonical document of the value that the bytes mean to `out`. INVALID_JSONB if the
+ * bytes are not a document, or a payload in an older form exceeds its limit in its newer form;
+ * OUT_OF_MEMORY if an allocation fails; NO_ROOM if `out` is shorter than the document. */
 static inline uint32_t kohiblad_to_canonical(const uint8_t *bytes, size_t size, uint8_t *out,
     size_t room, size_t *length) KOHIBLAD_INLINE("kohiblad_to_canonical");
 
-/* Copies the canonical document of the same value to `out`; it compares equal to the bytes.
- * INVALID_JSONB: they are no document of at most this depth, or its canonical form is past a limit
- * of the format. A scalar has depth 0, an array or object one more than its deepest child, and at
- * least 1. Looks no deeper. NO_ROOM if `out` has no room for the document. OUT_OF_MEMORY if an
- * allocation fails. Takes memory. */
+/* Copies the canonical document of the value that the bytes mean to `out`. INVALID_JSONB if the
+ * bytes are not a document of at most this depth, or a payload in an older form exceeds its limit
+ * in its newer form; OUT_OF_MEMORY if an allocation fails; NO_ROOM if `out` is shorter than the
+ * document. */
 static inline uint32_t kohiblad_to_canonical_within(const uint8_t *bytes, size_t size,
     size_t depth, uint8_t *out, size_t room, size_t *length)
     KOHIBLAD_INLINE("kohiblad_to_canonical_within");
 
-/* The number of the layout of comparable keys. It changes only if the key of some bytes does, and
- * then with the soname of the library: keys that are to be compared must be of libraries with the
- * same number. */
+/* The number of the layout of keys. It changes only with the major version of the library: keys
+ * that are to be compared must be of libraries with the same number. So it changes with the soname
+ * alone. */
 static inline uint32_t kohiblad_key_layout(void) KOHIBLAD_INLINE("kohiblad_key_layout");
 
-/* Copies the comparable key of any bytes to `out`, for an engine that sorts byte strings. The order
- * of two keys by memcmp, and then the shorter first, is that of kohiblad_compare_within at the same
- * depth; keys are equal exactly where it returns 0, and no key begins another. A scalar has depth
- * 0, an array or object one more than its deepest child, and at least 1. Looks no deeper. NO_ROOM
- * if `out` has no room for the key. OUT_OF_MEMORY if an allocation fails. Takes memory. */
+/* Copies the comparable key of any bytes to `out`. Keys compare by their bytes, a prefix before
+ * what continues it, as kohiblad_compare_within compares the bytes at this depth; no key begins
+ * another. A document that nests deeper than `depth` levels counts as no document. OUT_OF_MEMORY if
+ * an allocation fails; NO_ROOM if `out` is shorter than the key. Compare keys by memcmp, and then
+ * the shorter first. */
 static inline uint32_t kohiblad_key(const uint8_t *bytes, size_t size, size_t depth, uint8_t *out,
     size_t room, size_t *length) KOHIBLAD_INLINE("kohiblad_key");
 
-/* The numbers of the rows, from 0, sorted by kohiblad_compare; equal rows keep their order. They
- * are written to the start of `order`, which has room for `room` numbers. NO_ROOM: there are more
- * rows. INVALID_EOF: an offset is less than the one before it, or past the bytes. With every status
- * but OK `order` is untouched. Each row is checked once. OUT_OF_MEMORY if an allocation fails.
- * Takes memory. */
+/* Writes the numbers of the rows, counted from 0, to the start of `order`, sorted by the meaning of
+ * the rows, as kohiblad_compare compares them; equal rows keep their order. Each row is checked
+ * once. INVALID_EOF if an offset is below the previous one or beyond the bytes; NO_ROOM if `order`
+ * has fewer numbers than there are rows; OUT_OF_MEMORY if an allocation fails. If the status is not
+ * OK, `order` is unchanged. */
 static inline uint32_t kohiblad_sort(const uint8_t *bytes, size_t size, const size_t *offsets,
     size_t count, size_t *order, size_t room) KOHIBLAD_INLINE("kohiblad_sort");
 
-/* The numbers of the rows, from 0, sorted by kohiblad_compare_within at this depth: documents that
- * nest deeper come after all others, in the order of their bytes; equal rows keep their order. They
- * are written to the start of `order`, which has room for `room` numbers. NO_ROOM: there are more
- * rows. INVALID_EOF: an offset is less than the one before it, or past the bytes. With every status
- * but OK `order` is untouched. Each row is checked once. A scalar has depth 0, an array or object
- * one more than its deepest child, and at least 1. Looks no deeper. OUT_OF_MEMORY if an allocation
- * fails. Takes memory. */
+/* Writes the numbers of the rows, counted from 0, to the start of `order`, sorted as
+ * kohiblad_compare_within compares the rows at this depth; equal rows keep their order. A document
+ * that nests deeper than `depth` levels counts as no document, and sorts by its bytes after all
+ * documents. Each row is checked once, and deeper levels are not examined. INVALID_EOF if an offset
+ * is below the previous one or beyond the bytes; NO_ROOM if `order` has fewer numbers than there
+ * are rows; OUT_OF_MEMORY if an allocation fails. If the status is not OK, `order` is unchanged. */
 static inline uint32_t kohiblad_sort_within(const uint8_t *bytes, size_t size,
     const size_t *offsets, size_t count, size_t depth, size_t *order, size_t room)
     KOHIBLAD_INLINE("kohiblad_sort_within");
 
-/* Whether a document contains another. An object contains the objects whose keys it has, with
- * values that contain theirs; an array those arrays for each of whose items it has one that
- * contains it; a scalar what equals it; and at the top an array also a scalar that is one of its
- * items. TOO_MANY_STEPS: that takes more than `steps` steps, one for each pair of values that are
- * compared and each member that is passed over; it does not if they are at least the product of the
- * numbers of values and keys in both, so SIZE_MAX is no limit. INVALID_JSONB: one of them is not a
- * document of at most this depth. A scalar has depth 0, an array or object one more than its
- * deepest child, and at least 1. Looks no deeper. */
+/* Whether the document `left` contains `right`, as 0 or 1. An object contains the objects whose
+ * keys it has, with values that contain those; an array contains the arrays for each of whose items
+ * it has one that contains it; a scalar contains what equals it; and at the top an array also
+ * contains a scalar that is one of its items. TOO_MANY_STEPS if that takes more than `steps` steps,
+ * one for each pair of values that are compared and each member that is passed over: it does not if
+ * they are at least the product of the numbers of values and keys in both. INVALID_JSONB if `left`
+ * or `right` is not a document of at most this depth. If the status is not OK, the value is 0.
+ * SIZE_MAX is no limit. */
 static inline struct kohiblad_truth kohiblad_contains(const uint8_t *left, size_t left_size,
     const uint8_t *right, size_t right_size, size_t depth, size_t steps)
     KOHIBLAD_INLINE("kohiblad_contains");
 
-/* Whether a document is an object with this key, an array with this text among its items, or this
- * text. INVALID_UTF8: the key is not UTF-8. INVALID_JSONB: the bytes are not a document of at most
- * this depth. A scalar has depth 0, an array or object one more than its deepest child, and at
- * least 1. Looks no deeper. */
+/* Whether the document is an object with this key, an array with this text among its items, or the
+ * text itself, as 0 or 1. INVALID_UTF8 if the key is not UTF-8; INVALID_JSONB if the bytes are not
+ * a document of at most this depth; the value is then 0. */
 static inline struct kohiblad_truth kohiblad_exists(const uint8_t *bytes, size_t size,
     const uint8_t *key, size_t key_size, size_t depth) KOHIBLAD_INLINE("kohiblad_exists");
 
 /* Copies the canonical document of two documents put together to `out`: of two objects the object
  * of all members, with the value of `right` for a key of both; of all others the array of the items
- * of both, to which a value that is not an array adds itself. INVALID_JSONB: one of them is not a
- * document of at most this depth, or the result is past a limit of the format. A scalar has depth
- * 0, an array or object one more than its deepest child, and at least 1. Looks no deeper. NO_ROOM
- * if `out` has no room for the document. OUT_OF_MEMORY if an allocation fails. Takes memory. */
+ * of both, to which a value that is not an array adds itself. INVALID_JSONB if `left` or `right` is
+ * not a document of at most this depth, or the result exceeds a limit of the format; OUT_OF_MEMORY
+ * if an allocation fails; NO_ROOM if `out` is shorter than the document. */
 static inline uint32_t kohiblad_concat(const uint8_t *left, size_t left_size,
     const uint8_t *right, size_t right_size, size_t depth, uint8_t *out, size_t room,
     size_t *length) KOHIBLAD_INLINE("kohiblad_concat");
 
 /* Copies the canonical document of a document that is changed by a JSON Merge Patch (RFC 7396) to
- * `out`. A patch that is not an object takes the place of the target. Each member of one that is an
+ * `out`. A `patch` that is not an object takes the place of `target`. Each member of one that is an
  * object removes the member with its key if it is null, and else patches the value of that member,
- * or an empty object if there is no such member; a target that is not an object counts as an empty
- * one. INVALID_JSONB: one of them is not a document of at most this depth, or the result is past a
- * limit of the format. A scalar has depth 0, an array or object one more than its deepest child,
- * and at least 1. Looks no deeper. NO_ROOM if `out` has no room for the document. OUT_OF_MEMORY if
- * an allocation fails. Takes memory. */
+ * or an empty object if there is no such member; a `target` that is not an object counts as an
+ * empty one. INVALID_JSONB if `target` or `patch` is not a document of at most this depth, or the
+ * result exceeds a limit of the format; OUT_OF_MEMORY if an allocation fails; NO_ROOM if `out` is
+ * shorter than the document. */
 static inline uint32_t kohiblad_merge_patch(const uint8_t *target, size_t target_size,
     const uint8_t *patch, size_t patch_size, size_t depth, uint8_t *out, size_t room,
     size_t *length) KOHIBLAD_INLINE("kohiblad_merge_patch");
 
 /* Copies the canonical document of a document without the members that are null, in each object in
- * it, to `out`. Items that are null stay, and so does a document that is null itself.
- * INVALID_JSONB: the bytes are not a document of at most this depth, or the result is past a limit
- * of the format. A scalar has depth 0, an array or object one more than its deepest child, and at
- * least 1. Looks no deeper. NO_ROOM if `out` has no room for the document. OUT_OF_MEMORY if an
- * allocation fails. Takes memory. */
+ * it, to `out`. Items that are null stay, and so does a document that is null itself. INVALID_JSONB
+ * if the bytes are not a document of at most this depth, or the result exceeds a limit of the
+ * format; OUT_OF_MEMORY if an allocation fails; NO_ROOM if `out` is shorter than the document. */
 static inline uint32_t kohiblad_strip_nulls(const uint8_t *bytes, size_t size, size_t depth,
     uint8_t *out, size_t room, size_t *length) KOHIBLAD_INLINE("kohiblad_strip_nulls");
 
 /* Copies the canonical document of a document that is edited at the end of a path to `out`. `path`
- * is the document of an array: a text for the value of a key, a whole number for an item of an
- * array, counted from 0, or from -1 at the end. `edit` is one of enum kohiblad_edit_kind, and
- * `value` the document that is put or inserted. An item that is put past the last comes after it,
- * and one before the first comes before it. At the empty path a value is put in place of the whole.
- * Nothing else changes there, nor if a step leads nowhere, as a key into an array does, if a member
- * is inserted whose key is there, or what is removed is not there; the result is then the canonical
- * form of the document. KOHIBLAD_CREATE makes an object for each missing key, and an array for the
- * index 0; it adds an item right after the last one only, and changes nothing past that.
- * INVALID_JSONB: the bytes, the path or the value are not a document of at most this depth, or the
- * result is past a limit of the format. OTHER_KIND: the path is not an array of texts and whole
- * numbers of 64 bits without a point, or there is no such edit. A scalar has depth 0, an array or
- * object one more than its deepest child, and at least 1. Looks no deeper. NO_ROOM if `out` has no
- * room for the document. OUT_OF_MEMORY if an allocation fails. Takes memory. */
+ * is the document of an array: a text is the key of a member, and a whole number the index of an
+ * item, counted from 0, or from -1 at the end. With KOHIBLAD_PUT the value is put there, in place
+ * of what is there; with KOHIBLAD_INSERT it is inserted before an item, or as a member whose key is
+ * not there; with KOHIBLAD_REMOVE what is there is removed, and no value is read. Past the last
+ * item a value comes after it, and before the first one in front of it. If a step before the last
+ * leads nowhere nothing is edited, and neither is the whole document but by putting a value. With
+ * KOHIBLAD_CREATE the value is put there, and what the path lacks is made: an object for each
+ * missing key, an array for the index 0; an item is added right after the last one only.
+ * INVALID_JSONB if the bytes, the path or the value are not a document of at most this depth, or
+ * the result exceeds a limit of the format; OTHER_KIND if there is no such edit, or the path is not
+ * an array of texts and whole numbers of 64 bits; OUT_OF_MEMORY if an allocation fails; NO_ROOM if
+ * `out` is shorter than the document. `edit` is one of enum kohiblad_edit_kind. Where nothing is
+ * edited, the result is the canonical form of the document. */
 static inline uint32_t kohiblad_edit(const uint8_t *bytes, size_t size, const uint8_t *path,
     size_t path_size, uint32_t edit, const uint8_t *value, size_t value_size, size_t depth,
     uint8_t *out, size_t room, size_t *length) KOHIBLAD_INLINE("kohiblad_edit");
 
-/* Copies the document of the path that a text gives to `out`, as kohiblad_edit and
- * kohiblad_get_path take it. The text is `$`, and then its steps: `.name` is the value of a key,
- * and so is `."any name"`, where the key has points or brackets; `[7]` is an item, `[#-1]` the last
- * one, and `[#]` none, past the last one. Keys are the text's bytes, without escapes. An index past
- * 2^64 - 1 counts as that, and one from the end past 2^63 as 2^63. INVALID_UTF8: the text is not
- * UTF-8. OTHER_KIND: it is not a path, or one with wildcards or ranges, which lead to many values.
- * INVALID_JSONB: a key or the path is past a limit of the format. NO_ROOM if `out` has no room for
- * the document. OUT_OF_MEMORY if an allocation fails. Takes memory. */
+/* Copies the document of the path that a text gives to `out`. The text is `$`, and then the steps:
+ * `.name` is the value of a key, and so is `."any name"`, if there are points or brackets in it;
+ * `[7]` is an item, `[#-1]` the last one, and `[#]` none, past the last one. The keys are the
+ * text's bytes, without escapes. The document is what kohiblad_edit and kohiblad_get_path take: an
+ * array with a text for each key and a whole number for each item, where -1 is the last one. An
+ * index past 2^64 - 1 is stored as that, and one from the end past 2^63 as -2^63. INVALID_UTF8 if
+ * the text is not UTF-8; OTHER_KIND if it is not a path, or one with wildcards or ranges;
+ * INVALID_JSONB if a key has 2^28 bytes or more, or the path 2^29 steps or more; OUT_OF_MEMORY if
+ * an allocation fails; NO_ROOM if `out` is shorter than the document. */
 static inline uint32_t kohiblad_path_of_text(const uint8_t *text, size_t size, uint8_t *out,
     size_t room, size_t *length) KOHIBLAD_INLINE("kohiblad_path_of_text");
 
-/* The place of the value at the end of a path, with nothing copied. `path` is a document as
- * kohiblad_edit takes it. At the end of the empty path is the whole value: all bytes of an array or
- * object, the payload of a scalar. NONE: the path leads nowhere. INVALID_JSONB: the bytes or the
- * path are not a document of at most this depth. OTHER_KIND: the path is not an array of texts and
- * whole numbers of 64 bits. OUT_OF_MEMORY if an allocation fails. With every status but OK, type,
- * offset and length are 0. A scalar has depth 0, an array or object one more than its deepest
- * child, and at least 1. Looks no deeper. Takes memory. */
+/* The place of the value at the end of a path. `path` is the document of an array: a text is the
+ * key of a member, and a whole number the index of an item, counted from 0, or from -1 at the end.
+ * At the end of an empty path is the whole value: all bytes of an array or object, and the payload
+ * of a scalar. NONE if the path leads nowhere; INVALID_JSONB if the bytes or the path are not a
+ * document of at most this depth; OTHER_KIND if the path is not an array of texts and whole numbers
+ * of 64 bits; OUT_OF_MEMORY if an allocation fails. If the status is not OK, type, offset and
+ * length are 0. */
 static inline struct kohiblad_place kohiblad_get_path(const uint8_t *bytes, size_t size,
     const uint8_t *path, size_t path_size, size_t depth) KOHIBLAD_INLINE("kohiblad_get_path");
 
-/* Copies the places of the values that a path selects to `out`, which has room for `room` of them,
- * in the order in which they are stored, and how many they are to `count`; the status of each is
- * OK. The path is a text as kohiblad_path_of_text reads it, in which `[*]` is each item of an
- * array, `[0 to #-2]` the items from one to another, and `.*` each member's value of an object.
- * INVALID_UTF8: the text is not UTF-8. INVALID_JSONB: the bytes are not a document of at most this
- * depth. OTHER_KIND: the text is not a path. A scalar has depth 0, an array or object one more than
- * its deepest child, and at least 1. Looks no deeper. NO_ROOM if there are more places.
- * OUT_OF_MEMORY if an allocation fails. Takes memory. */
+/* Copies the places of the values that a path selects to `out`, in the order in which they are
+ * stored, and how many they are to `*count`. The path is a text as kohiblad_path_of_text reads it,
+ * in which `[*]` is each item of an array, `[0 to #-2]` the items from one to another, and `.*`
+ * each member's value of an object. INVALID_UTF8 if the text is not UTF-8; INVALID_JSONB if the
+ * bytes are not a document of at most this depth; OTHER_KIND if the text is not a path;
+ * OUT_OF_MEMORY if an allocation fails; NO_ROOM if `out` is too short. If the status is not OK,
+ * `out` is unchanged, and `*count` is 0, or for NO_ROOM the number of places. */
 static inline uint32_t kohiblad_select(const uint8_t *bytes, size_t size, const uint8_t *path,
     size_t path_size, size_t depth, struct kohiblad_place *out, size_t room, size_t *count)
     KOHIBLAD_INLINE("kohiblad_select");
 
-/* Copies the index keys of a document to `out`, which has room for `room` of them, and how many
- * they are to `count`: one for each scalar, a hash of the keys of the objects around it and of
- * itself. A document that contains another has each of its index keys, so an index over them misses
- * none; two scalars may have the same key. A document of `size` bytes has at most size / 4.
- * INVALID_JSONB: the bytes are not a document of at most this depth. A scalar has depth 0, an array
- * or object one more than its deepest child, and at least 1. Looks no deeper. NO_ROOM if there are
- * more keys. OUT_OF_MEMORY if an allocation fails. Takes memory. */
+/* Copies the index keys of a document to `out`, and how many they are to `*count`: one for each
+ * scalar, a 64-bit hash of the keys of the objects around it and of the scalar itself. A document
+ * that contains another has each of its index keys, so an index over them misses no document; two
+ * scalars may have the same key. There are at most as many as a quarter of `size`. INVALID_JSONB if
+ * the bytes are not a document of at most this depth; OUT_OF_MEMORY if an allocation fails; NO_ROOM
+ * if `out` is too short. If the status is not OK, `out` is unchanged, and `*count` is 0, or for
+ * NO_ROOM the number of keys. */
 static inline uint32_t kohiblad_index_keys(const uint8_t *bytes, size_t size, size_t depth,
     uint64_t *out, size_t room, size_t *count) KOHIBLAD_INLINE("kohiblad_index_keys");
 
-/* Copies the top keys of a document to `out`, which has room for `room` of them, and how many they
- * are to `count`: a hash of each key of an object, of each text among the items of an array, or of
- * the text itself. They are apart from the index keys, so one index holds both: if a key exists in
- * a document, the one top key of the key's own document is one of the document's. A document of
- * `size` bytes has at most size / 4. INVALID_JSONB: the bytes are not a document of at most this
- * depth. A scalar has depth 0, an array or object one more than its deepest child, and at least 1.
- * Looks no deeper. NO_ROOM if there are more keys. OUT_OF_MEMORY if an allocation fails. Takes
- * memory. */
+/* Copies the top keys of a document to `out`, and how many they are to `*count`: a 64-bit hash of
+ * each key of an object, of each text among an array's items, or of the text itself. They are apart
+ * from the index keys, so one index holds both. If a key exists in a document, the one top key of
+ * the key's own document is one of the document's. There are at most as many as a quarter of
+ * `size`. INVALID_JSONB if the bytes are not a document of at most this depth; OUT_OF_MEMORY if an
+ * allocation fails; NO_ROOM if `out` is too short. If the status is not OK, `out` is unchanged, and
+ * `*count` is 0, or for NO_ROOM the number of keys. */
 static inline uint32_t kohiblad_top_keys(const uint8_t *bytes, size_t size, size_t depth,
     uint64_t *out, size_t room, size_t *count) KOHIBLAD_INLINE("kohiblad_top_keys");
 
