@@ -1,8 +1,8 @@
 #!/usr/bin/env bash
 # Runs the programs jsonb_cli and jsonb_column_cli with their standard streams closed, full or
-# broken, or failing once after some bytes, with memory refused, with documents that nest deep, and
-# with input that waits for the answers to the lines before, and compares the status, the line on
-# standard error and what was written with what they must be.
+# broken, or failing once after some bytes; with memory refused; with documents that nest deep; and
+# with input that waits for the answers to the lines before. Then it compares the status, the line
+# on standard error and what was written with what they must be.
 #
 #     tools/main_faults.sh
 #
