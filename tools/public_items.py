@@ -89,27 +89,23 @@ def joined(head):
 def call_at(lines, at):
     """A signature with its `requires` clauses; the lines from here on, without their indent."""
     indent = len(lines[at]) - len(lines[at].lstrip())
-    head, owed, clause = "", [], None
+    kind, head, owed = "head", "", []
     for line in lines[at:]:
-        text = line[indent:]
-        if re.match(r"\s+(ensures|requires)\*? ", text):
-            clause = text.strip()
-            if clause.startswith("requires"):
-                owed.append("    " + clause)
-        elif text == "{" or text == "}" or re.match(r"\s*//", text):
-            if text == "{":
-                break
-            clause = ""
-        elif clause is None:
-            head += " " + text
-            if text.endswith(" {") or text.endswith(";"):
-                break
-        elif clause.startswith("requires") and text.startswith("        "):
-            owed.append(text)
-        if line.endswith(";"):
+        text = line[indent:].removesuffix(";")
+        clause = re.match(r"\s+(ensures|requires)\*? ", text)
+        if text == "{":
             break
-    head = re.sub(r"(?: \{|;)$", "", head.strip())
-    return joined(head) + [re.sub(r";$", "", it) for it in owed]
+        if clause:
+            kind = clause[1]
+        elif re.match(r"\s*//", text):
+            kind = "comment"
+        if kind == "head":
+            head += " " + text.removesuffix(" {")
+        elif kind == "requires":
+            owed.append("    " + text.strip() if clause else text)
+        if line.endswith(";") or kind == "head" and line.endswith(" {"):
+            break
+    return joined(head.strip()) + owed
 
 
 def body_at(lines, at):
