@@ -150,16 +150,36 @@ for _ in range(int(sys.argv[1]) - 1):
 print("".join(reversed(words)))' "$1"
 }
 
+# The document of $1 objects, each the value of `k` in the one before, in hexadecimal.
+nested_objects() {
+    python3 -c '
+import sys
+words, size = ["40000000"], 4
+for _ in range(int(sys.argv[1]) - 1):
+    words.append(f"4000000110000001{0x50000000 + size:08x}6b")
+    size += 13
+print("".join(reversed(words)))' "$1"
+}
+
 # The stored form of one row, a document in hexadecimal.
 stored() {
     printf '%016x%s' $((${#1} / 2)) "$1"
 }
 
-# Runs both builds of the program on the lines $2, whose answers are $3, or begin so in $4 bytes.
+# Makes the document of $1 arrays, the limit, with its text, and deeper ones.
+deepest() {
+    text=$(printf '[%.0s' $(seq "$1"))$(printf ']%.0s' $(seq "$1"))
+    least=$(nested "$1") over=$(nested $(($1 + 1))) deep=$(nested 40000)
+}
+
+# The builds of a program, by the ends of their names: by LLVM, and by Rattle's own compiler.
+builds=('' .by-rattle)
+
+# Runs these builds of the program on the lines $2, whose answers are $3, or begin so in $4 bytes.
 run_deep() {
     local built
     printf '%s\n' "$2" > "$work/lines"
-    for built in "$program" "$program.by-rattle"; do
+    for built in "${builds[@]/#/$program}"; do
         [ -x "$built" ] || continue
         "$built" < "$work/lines" 2> "$work/errors" | cut -b "1-${4:-}" > "$work/output"
         expect "$1" "${PIPESTATUS[0]}" 0 '' "$3"$'\n'
@@ -173,9 +193,7 @@ run_in_pieces "$top"/tests/lines/jsonb_cli/each-command.{in,out}
 expect 'arguments are ignored' $? 0 '' "$answer"
 
 # The deepest document that is walked, one that nests one deeper, and a far deeper one.
-limit=4096
-text=$(printf '[%.0s' $(seq $limit))$(printf ']%.0s' $(seq $limit))
-least=$(nested $limit) over=$(nested $((limit + 1))) deep=$(nested 40000)
+deepest 10000
 run_deep 'a document at the limit' "dec $least
 cmp $least $least
 arr $least
@@ -185,6 +203,16 @@ ok equal
 ok 8000000150$(printf '%06x' $((${#least} / 2)))$least
 ok $least
 ok none"
+# Rattle's own compiler takes more stack for objects than 8 MB hold at the limit.
+builds=('')
+objects=$(nested_objects 10000)
+run_deep 'objects at the limit' "canon $objects
+cmp $objects $objects
+arr $objects" "ok $objects
+ok equal
+ok 8000000150$(printf '%06x' $((${#objects} / 2)))$objects"
+run_deep 'a text of objects at the limit' "dec $objects"$'\ndec 80000000' $'ok {"k":{"k"\nok []' 12
+builds=('' .by-rattle)
 run_deep 'a long text at the limit' "pretty $least"$'\ndec 80000000' $'ok 5b0a20205b0a20\nok []' 17
 for given in "$over" "$deep"; do
     for line in "dec $given" "pretty $given" "cmp $given 80000000" "cmp 80000000 $given" \
@@ -200,6 +228,7 @@ run_deep 'a fault before a deep item' "dec 8000000270000000$entry$deep" 'error I
 run_deep 'a fault after a deep item' "dec 80000002${entry}70000000$deep" 'error OutOfMemory'
 
 run_faults jsonb_column_cli 'find a 1' 'ok'
+deepest 4096
 run_deep 'a row at the limit' "load $(stored "$least")
 sort
 load $(stored 80000000)$(stored "$over")

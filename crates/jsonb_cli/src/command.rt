@@ -16,9 +16,9 @@ use hex::FromHexError;
 use jsonb::{Error, nests_deeper};
 use std::alloc::Global;
 
-/// How deep the bytes of a word may nest if a command walks them. A level took at most 823 bytes of
-/// stack where it was measured, so this takes less than half of the usual 8 MB.
-pub const MAX_DEPTH: usize = 4096;
+/// How deep the bytes of a word may nest if a command walks them. As LLVM builds the program a level
+/// took at most 410 bytes of stack where it was measured, so this takes half of the usual 8 MB.
+pub const MAX_DEPTH: usize = 10_000;
 
 /// A command with its arguments: a text, or words.
 #[derive(Drop)]
