@@ -594,14 +594,14 @@ static inline uint32_t kohiblad_edit(const uint8_t *bytes, size_t size, const ui
     uint8_t *out, size_t room, size_t *length) KOHIBLAD_INLINE("kohiblad_edit");
 
 /* Copies the document of the path that a text gives to `out`. The text is `$`, and then the steps:
- * `.name` is the value of a key, and so is `."any name"`, if there are points or brackets in it;
- * `[7]` is an item, `[#-1]` the last one, and `[#]` none, past the last one. The keys are the
- * text's bytes, without escapes. The document is what kohiblad_edit and kohiblad_get_path take: an
- * array with a text for each key and a whole number for each item, where -1 is the last one. An
- * index past 2^64 - 1 is stored as that, and one from the end past 2^63 as -2^63. INVALID_UTF8 if
- * the text is not UTF-8; OTHER_KIND if it is not a path, or one with wildcards or ranges;
- * INVALID_JSONB if a key has 2^28 bytes or more, or the path 2^29 steps or more; OUT_OF_MEMORY if
- * an allocation fails; NO_ROOM if `out` is shorter than the document. */
+ * `.name` is the value of a key, and so is `."any name"`, if there are points, brackets or question
+ * marks in it; `[7]` is an item, `[#-1]` the last one, and `[#]` none, past the last one. The keys
+ * are the text's bytes, without escapes. The document is what kohiblad_edit and kohiblad_get_path
+ * take: an array with a text for each key and a whole number for each item, where -1 is the last
+ * one. An index past 2^64 - 1 is stored as that, and one from the end past 2^63 as -2^63.
+ * INVALID_UTF8 if the text is not UTF-8; OTHER_KIND if it is not a path, or one with wildcards,
+ * ranges or filters; INVALID_JSONB if a key has 2^28 bytes or more, or the path 2^29 steps or more;
+ * OUT_OF_MEMORY if an allocation fails; NO_ROOM if `out` is shorter than the document. */
 static inline uint32_t kohiblad_path_of_text(const uint8_t *text, size_t size, uint8_t *out,
     size_t room, size_t *length) KOHIBLAD_INLINE("kohiblad_path_of_text");
 
@@ -617,11 +617,16 @@ static inline struct kohiblad_place kohiblad_get_path(const uint8_t *bytes, size
 
 /* Copies the places of the values that a path selects to `out`, in the order in which they are
  * stored, and how many they are to `*count`. The path is a text as kohiblad_path_of_text reads it,
- * in which `[*]` is each item of an array, `[0 to #-2]` the items from one to another, and `.*`
- * each member's value of an object. INVALID_UTF8 if the text is not UTF-8; INVALID_JSONB if the
- * bytes are not a document of at most this depth; OTHER_KIND if the text is not a path;
- * OUT_OF_MEMORY if an allocation fails; NO_ROOM if `out` is too short. If the status is not OK,
- * `out` is unchanged, and `*count` is 0, or for NO_ROOM the number of places. */
+ * in which `[*]` is each item of an array, `[0 to #-2]` the items from one to another, `.*` each
+ * member's value of an object, and `?(@.price < 3)` keeps a value if what is at the end of the path
+ * that begins with `@` compares so with a literal, by the order of documents. That path has no
+ * wildcards, ranges and filters, and a key with a space in it is written between quotes. The
+ * comparison is `==`, `!=` or `<>`, `<`, `<=`, `>` or `>=`, with one space before and after it, and
+ * the literal `null`, `true`, `false`, a JSON number, which is read exactly, or a string without
+ * quotes and escapes in it. INVALID_UTF8 if the text is not UTF-8; INVALID_JSONB if the bytes are
+ * not a document of at most this depth; OTHER_KIND if the text is not a path; OUT_OF_MEMORY if an
+ * allocation fails; NO_ROOM if `out` is too short. If the status is not OK, `out` is unchanged, and
+ * `*count` is 0, or for NO_ROOM the number of places. */
 static inline uint32_t kohiblad_select(const uint8_t *bytes, size_t size, const uint8_t *path,
     size_t path_size, size_t depth, struct kohiblad_place *out, size_t room, size_t *count)
     KOHIBLAD_INLINE("kohiblad_select");

@@ -579,10 +579,12 @@ static void path_within(struct block b, bool shallow, size_t depth) {
 /* The children of a document are what wildcards select, in order. */
 static void select_within(struct block b, bool shallow, size_t depth,
                           struct kohiblad_value_kind kind) {
-    enum { MANY = 64, GOOD = 6 };
+    enum { MANY = 64, GOOD = 8 };
     static struct kohiblad_place out[MANY], before[MANY];
     static const char *const tried[] = { "$[*]", "$.*", "$[1 to #-1]", "$[*][*]", "$.*.*",
-                                         "$[0 to 0].*", "a", "$[", "$.", "$[1 to]", "" };
+                                         "$[0 to 0].*", "$?(@ == null)", "$[*]?(@[0] != 5)",
+                                         "a", "$[", "$.", "$[1 to]", "", "$?(@ == )",
+                                         "$[*]?(@[*] < 5)", "$[*]?(@ < 5" };
     uint32_t which = below(sizeof tried / sizeof *tried);
     struct block t = copy_of(tried[which], strlen(tried[which]));
     size_t count = 9, again = 9, room = below(4) ? MANY : below(3);

@@ -8,6 +8,7 @@ must be the canonical documents of the model's results, byte by byte.
 """
 import collections
 import ctypes
+import operator
 import random
 import struct
 import sys
@@ -259,8 +260,13 @@ def in_order(value):
 
 def children(value, step):
     """The children to which a step of a path with wildcards leads: a key, an index, `*` for all
-    items, `.*` for all members, or the first and the last index of a range."""
+    items, `.*` for all members, or the first and the last index of a range. A filter leads to the
+    value itself, or to nothing."""
     kind, *rest = step
+    if kind == "filter":
+        steps, comparison, literal = rest
+        return [value for it in selected(value, steps)
+                if COMPARISONS[comparison](in_rank(it), in_rank(LITERALS[literal]))]
     if isinstance(value, dict):
         if kind == "key":
             return [value[rest[0]]] if rest[0] in value else []
@@ -282,6 +288,33 @@ def selected(value, path):
     if not path:
         return [value]
     return [it for child in children(value, path[0]) for it in selected(child, path[1:])]
+
+
+# What filters may compare with, as it is written, and how.
+LITERALS = {
+    "null": None, "true": True, "false": False, '"a"': "a", '""': "", '"b) == "': "b) == ",
+    '"\u00e9"': "\u00e9", "0": whole(0), "-0": whole(0), "1.00": whole(1), "5": whole(5),
+    "5e0": whole(5), "5.0": decimal(50, 1), "1.5": decimal(150, 2), "15E-1": decimal(150, 2),
+    "-7": whole(-7), "9223372036854775808": whole(2**63),
+    "1000000000000000000000000000000": decimal(10**30, 0, 16),
+}
+COMPARISONS = {"==": operator.eq, "!=": operator.ne, "<>": operator.ne, "<": operator.lt,
+               "<=": operator.le, ">": operator.gt, ">=": operator.ge}
+
+
+def in_rank(value):
+    """The rank of a value's kind, and by what a literal of that kind is compared."""
+    if value is None:
+        return 7, 0
+    if isinstance(value, list):
+        return 6, 0
+    if isinstance(value, dict):
+        return 5, 0
+    if isinstance(value, str):
+        return 4, value.encode()
+    if isinstance(value, bool):
+        return 2, value
+    return (3, value.meaning) if value.tag == NUMBER else (1, 0)
 
 
 def joined(left, right):
@@ -402,6 +435,10 @@ def path_document(path, stored=True):
 def written(chance, step):
     """A step of a path with wildcards as a text."""
     kind, *rest = step
+    if kind == "filter":
+        steps, comparison, literal = rest
+        path = "".join(written(chance, it) for it in steps)
+        return f"?(@{path} {comparison} {literal})"
     bound = ["[%d]" % it if it >= 0 else "[#%d]" % it for it in rest if kind != "key"]
     if kind == "key":
         is_plain = rest[0] and rest[0] != "*" and chance.random() < 0.5
@@ -411,8 +448,15 @@ def written(chance, step):
     return {"*": "[*]", ".*": ".*"}.get(kind) or bound[0]
 
 
-def any_step(chance):
-    kind = chance.choice(["key", "key", "index", "index", "*", ".*", "range"])
+def any_filter(chance):
+    steps = [any_step(chance, ["key", "index"]) for _ in range(chance.randint(0, 2))]
+    return "filter", steps, chance.choice(list(COMPARISONS)), chance.choice(list(LITERALS))
+
+
+def any_step(chance, kinds=("key", "key", "index", "index", "*", ".*", "range", "filter")):
+    kind = chance.choice(kinds)
+    if kind == "filter":
+        return any_filter(chance)
     if kind == "key":
         return kind, chance.choice(KEYS)
     if kind == "index":

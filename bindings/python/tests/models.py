@@ -111,12 +111,25 @@ def _number_of(bound, count):
     return count + int(bound[1:] or 0) if bound.startswith("#") else int(bound)
 
 
+# Filters, with the path of each and whether what is at its end is to be null.
+_FILTERS = {
+    "?(@ == null)": ([], True),
+    "?(@ != null)": ([], False),
+    '?(@."a" == null)': (['."a"'], True),
+    "?(@[0] <> null)": (["[0]"], False),
+    '?(@."b"[#-1] < null)': (['."b"', "[#-1]"], False),
+}
+
+
 def selected(value, path):
     """All values to which a path leads, whose steps are written as in the path's text."""
     if not path:
         return [value]
     step, inside = path[0], []
-    if isinstance(value, dict):
+    if step in _FILTERS:
+        steps, is_null = _FILTERS[step]
+        inside = [value for it in selected(value, steps) if (it is None) == is_null]
+    elif isinstance(value, dict):
         if step == ".*":
             inside = [value[name] for name in sorted(value, key=str.encode)]
         elif step.startswith('."'):
@@ -250,7 +263,7 @@ class FewNames(Values):
     def wild_path(self, depth):
         """The steps of a path with wildcards, as they are written."""
         steps = (".*", "[*]", "[0]", "[#-1]", "[#]", "[1 to #-1]", "[0 to 0]", "[#-2 to 7]",
-                 *(f'."{name}"' for name in ("", "a", "b", "é")))
+                 *(f'."{name}"' for name in ("", "a", "b", "é")), *_FILTERS)
         return [self._random.choice(steps) for _ in range(self._random.randint(0, depth))]
 
     def path(self, value):

@@ -152,7 +152,8 @@ impl<'a> RawJsonb<'a> {
     ///
     /// The text is `$` and then its steps: `.name` or `."any name"` for a key, `[0]` for an item,
     /// `[#-1]` for the last one, `[*]` for all items, `[0 to #-2]` for those from one to another,
-    /// and `.*` for all values of an object.
+    /// and `.*` for all values of an object. `?(@.price < 3)` keeps a value if what is at the path
+    /// after `@` compares so with a literal.
     ///
     /// ```
     /// use kohiblad::{Node, OwnedJsonb};
@@ -160,6 +161,8 @@ impl<'a> RawJsonb<'a> {
     /// let row = OwnedJsonb::parse(r#"{"tags": [{"of": "x"}, {"of": "y"}]}"#, 64)?;
     /// let all = row.as_raw().select("$.tags[*].of")?;
     /// assert!(matches!(all[..], [Node::String("x"), Node::String("y")]));
+    /// let kept = row.as_raw().select("$.tags[*]?(@.of > \"x\").of")?;
+    /// assert!(matches!(kept[..], [Node::String("y")]));
     /// # Ok::<(), kohiblad::Error>(())
     /// ```
     ///

@@ -208,6 +208,35 @@ const PATH_TEXTS: &[(&str, Option<&[u64]>)] = &[
     ("$.segments[0 to ]", None),
     ("$.segments[0  to 1]", None),
     ("$.segments[0] ", None),
+    ("$.segments[*]?(@.HR > 73).at[0]", Some(&[46])),
+    ("$.segments[*]?(@.HR >= 73).at[0]", Some(&[47, 46])),
+    ("$.segments[*]?(@.HR < 135).HR", Some(&[73])),
+    ("$.segments[*]?(@.HR <= 7.3e1).HR", Some(&[73])),
+    ("$.segments[*]?(@.HR == 135.00).HR", Some(&[135])),
+    ("$.segments[*]?(@.HR != 135).HR", Some(&[73])),
+    ("$.segments[*]?(@.HR <> 73).HR", Some(&[135])),
+    ("$.segments[*].at[*]?(@ > 40)?(@ < 47)", Some(&[46])),
+    ("$.segments[*]?(@.\"at\"[#-1] == 12).HR", Some(&[135])),
+    ("$.segments[*]?(@.none == null).HR", Some(&[])),
+    ("$.segments[*]?(@.at[2] != null).HR", Some(&[])),
+    ("$?(@.segments[1].HR == 135).*[0].HR", Some(&[73])),
+    ("$?(@.segments[0] != \"a b)\").*[0].HR", Some(&[73])),
+    ("$?(@.segments == true).*[0].HR", Some(&[])),
+    ("$.segments[*]?(@.HR > 73", None),
+    ("$.segments[*]?(@.HR >  73)", None),
+    ("$.segments[*]?(@.HR > 73 )", None),
+    ("$.segments[*]? (@.HR > 73)", None),
+    ("$.segments[*]?(@.HR>73)", None),
+    ("$.segments[*]?(@.HR = 73)", None),
+    ("$.segments[*]?(@.HR === 73)", None),
+    ("$.segments[*]?(@.HR > 073)", None),
+    ("$.segments[*]?(@.HR > [73])", None),
+    ("$.segments[*]?(@.HR > \"73)", None),
+    ("$.segments[*]?(@.HR > 73) ", None),
+    ("$.segments[*]?(@.at[*] > 40)", None),
+    ("$.segments[*]?(@.* > 40)", None),
+    ("$.segments[*]?($.HR > 73)", None),
+    ("$.segments?", None),
 ];
 
 // Whether the path of a text selects these numbers; nothing, if it gives no path.
@@ -238,10 +267,12 @@ fn paths_given_as_texts(rt: HostRuntime) -> Result<(), Fail> {
 #[test]
 fn values_kept_by_a_filter(rt: HostRuntime) -> Result<(), Fail> {
     let limit = OwnedJsonb::parse(rt.alloc(), "130")?;
+    let mut rate = Vec::new(rt.alloc());
+    rate.push(Step::Key("HR"))?;
     let condition = Condition {
-        path: &[Step::Key("HR")],
+        path: rate,
         comparison: Comparison::Greater,
-        value: document_of(&limit)?,
+        value: document_of(&limit)?.value(),
     };
     let path = [
         Selector::Key("segments"),

@@ -20,5 +20,6 @@ pub mod StoredPathLaws
 pub mod SelectLaws
 pub mod PathTextLaws
 pub mod PathStepLaws
+pub mod FilterTextLaws
 pub mod PathDocumentLaws
 pub mod PathLaws

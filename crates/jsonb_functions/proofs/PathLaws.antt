@@ -1,109 +1,244 @@
 -- A path of which some steps were read.
-use Rattle.std.proofs.Common.{◌≡◌, ℕ, List, [], ◌∷◌, ◌++◌, get_or, map, refl, sym}
-use Rattle.std.proofs.Common.{ap, ◌∙◌, subst, arith, Bor, drop, append_assoc, inl, inr}
+use Rattle.std.proofs.Common.{◌≡◌, ℕ, List, [], ◌∷◌, ◌++◌, map, refl, sym, Bool, true, false}
+use Rattle.std.proofs.Common.{ap, ◌∙◌, subst, arith, Bor, append_assoc, inl, inr}
 use Rattle.std.proofs.lemmas.List.{append-nil}
 use Rattle.std.specs.Prelude.{Option, None, Some, ◌↔◌}
+use Rattle.std.specs.Global.{Vec}
 use Rattle.jsonb_functions.specs.declared.selection.Selector.{Selector}
-use Rattle.jsonb_functions.specs.PathText.{SelectorView, selector_view, AreSteps}
-use Rattle.jsonb_functions.specs.PathText.{GoesOn, PathText, ReadsStep}
+use Rattle.jsonb_functions.specs.PathText.{SelectorView, selector_view, AreSteps, BeginsWith}
+use Rattle.jsonb_functions.specs.PathText.{IsFilterPath, IsStep, IsWritten, PathText, Reads}
+use Rattle.jsonb_functions.specs.PathText.{ReadsStep, StopsAt, is_in_name, path_view}
 use Rattle.jsonb_functions.proofs.HashLaws.{map_joined}
-use Rattle.jsonb_functions.proofs.PathStepLaws.{begins}
+use Rattle.jsonb_functions.proofs.PathStepLaws.{written_begins}
+
+-- What may come after all steps.
+abbrev pub EndsAs : Bool → List ℕ → Type 0
+EndsAs true end = (rest : List ℕ) × (end ≡ 32 ∷ rest)
+EndsAs false end = end ≡ []
 
 -- What follows the steps that were read leads on, and each path of the text begins with them.
-pub record IsRead (text left : List ℕ) (path : List Selector) : Type 0 where
-  pub going : (q : List SelectorView) → AreSteps left q
-      → PathText text (map selector_view path ++ q)
-  pub only : (p : List SelectorView) → PathText text p
-      → (q : List SelectorView) × ((p ≡ map selector_view path ++ q) × AreSteps left q)
+pub record IsRead (IsOne : List ℕ → SelectorView → Type 0) (in_filter : Bool)
+    (text left : List ℕ) (path : List Selector) : Type 0 where
+  pub going : (end : List ℕ) (q : List SelectorView) → AreSteps IsOne end left q
+      → AreSteps IsOne end text (map selector_view path ++ q)
+  pub only : (end : List ℕ) → EndsAs in_filter end → (p : List SelectorView)
+      → AreSteps IsOne end text p
+      → (q : List SelectorView) × ((p ≡ map selector_view path ++ q) × AreSteps IsOne end left q)
 
-goes_on : (rest : List ℕ) (path : List SelectorView) → AreSteps rest path → GoesOn rest
-goes_on [] path steps = tt
-goes_on (c ∷ rest) [] steps = absurd (cc)
-goes_on (c ∷ rest) (s ∷ path) steps = begins (c ∷ rest) steps.1 steps.0 steps.2
+end_stops : (in_filter : Bool) (end : List ℕ) → EndsAs in_filter end
+    → StopsAt (is_in_name in_filter) end
+end_stops true end (rest, e) = subst (StopsAt (is_in_name true)) (sym e) refl
+end_stops false end e = subst (StopsAt (is_in_name false)) (sym e) tt
 
-no_steps : (q : List SelectorView) → AreSteps [] q → q ≡ []
-no_steps [] steps = refl
-no_steps (s ∷ q) steps =
-    elim (begins [] steps.1 steps.0 steps.2) [
-      | inl e ↦ absurd (omega (arith, e))
-      | inr e ↦ absurd (omega (arith, e))
+-- Steps that begin as steps do.
+module _ (IsOne : List ℕ → SelectorView → Type 0) (in_filter : Bool)
+    (begins : (text : List ℕ) (s : SelectorView) (rest : List ℕ) → BeginsWith IsOne text s rest
+    → StopsAt (is_in_name in_filter) text × (EndsAs in_filter text → ⊥)) where
+  steps_stop : (end rest : List ℕ) (path : List SelectorView) → EndsAs in_filter end
+      → AreSteps IsOne end rest path → StopsAt (is_in_name in_filter) rest
+  steps_stop end rest [] ends steps =
+      subst (StopsAt (is_in_name in_filter)) (sym steps) (end_stops in_filter end ends)
+  steps_stop end rest (s ∷ path) ends steps =
+      (begins rest s steps.1 (steps.0, steps.2, steps.3)).0
+
+  -- At the first byte.
+  pub first_read : (text : List ℕ) → IsRead IsOne in_filter text text []
+  first_read text = record {
+    going = λ end q steps. steps;
+    only = λ end ends p h. (p, (refl, h));
+  }
+
+  -- One more step was read.
+  next_only : (end : List ℕ) → EndsAs in_filter end → (left : List ℕ) (rest : Bor (List ℕ))
+      (views others : List SelectorView) (selector : Selector) → (left ≡ end → ⊥)
+      → ReadsStep IsOne in_filter left (Some (selector, rest))
+      → ((q : List SelectorView) → others ++ q ≡ views ++ (selector_view selector ∷ q))
+      → (p q : List SelectorView) → p ≡ views ++ q → AreSteps IsOne end left q
+      → (r : List SelectorView) × ((p ≡ others ++ r) × AreSteps IsOne end rest.now r)
+  next_only end ends left rest views others selector some step more p [] e steps =
+      absurd (some steps)
+  next_only end ends left rest views others selector some step more p (s ∷ q) e steps =
+      let is = step.only s steps.1 (steps.0, steps.2, steps.3)
+      (steps_stop end steps.1 q ends steps.4) in (
+        q,
+        (
+          e ∙ ap (λ x. views ++ (x ∷ q)) (sym is.0) ∙ sym (more q),
+          subst (λ xs. AreSteps IsOne end xs q) (sym is.1) steps.4,
+        ),
+      )
+
+  pub read_on : (text left : List ℕ) (rest : Bor (List ℕ)) (read new : List Selector)
+      (selector : Selector) → (EndsAs in_filter left → ⊥)
+      → ReadsStep IsOne in_filter left (Some (selector, rest))
+      → new ≡ read ++ (selector ∷ []) → IsRead IsOne in_filter text left read
+      → IsRead IsOne in_filter text rest.now new
+  read_on text left rest read new selector some step e h =
+      let views = map selector_view read in
+      let first = selector_view selector in
+      let more : (q : List SelectorView) → map selector_view new ++ q ≡ views ++ (first ∷ q) =
+      λ q. ap (λ xs. map selector_view xs ++ q) e
+      ∙ ap (λ xs. xs ++ q) (map_joined selector_view read (selector ∷ []))
+      ∙ append_assoc views (first ∷ []) q in
+      record {
+        going = λ end q steps.
+            subst (λ p. AreSteps IsOne end text p) (sym (more q)) (h.going end (first ∷ q)
+            (step.is.0, rest.now, step.is.1, step.is.2, steps));
+        only = λ end ends p is.
+            let was = h.only end ends p is in
+            next_only end ends left rest views (map selector_view new) selector
+            (λ same. some (subst (EndsAs in_filter) (sym same) ends)) step more p was.0 was.1.0
+            was.1.1;
+      }
+
+  no_next : (end left : List ℕ) → EndsAs in_filter end → (EndsAs in_filter left → ⊥)
+      → ReadsStep IsOne in_filter left None → (q : List SelectorView)
+      → AreSteps IsOne end left q → ⊥
+  no_next end left ends some step [] steps = some (subst (EndsAs in_filter) (sym steps) ends)
+  no_next end left ends some step (s ∷ q) steps =
+      step.only s steps.1 (steps.0, steps.2, steps.3) (steps_stop end steps.1 q ends steps.4)
+
+  pub none_read : (text left : List ℕ) (read : List Selector) → (EndsAs in_filter left → ⊥)
+      → ReadsStep IsOne in_filter left None → IsRead IsOne in_filter text left read
+      → (end : List ℕ) → EndsAs in_filter end → (p : List SelectorView)
+      → AreSteps IsOne end text p → ⊥
+  none_read text left read some step h end ends p is =
+      let was = h.only end ends p is in no_next end left ends some step was.0 was.1.1
+
+  -- All steps were read.
+  last_steps : (end left : List ℕ) → EndsAs in_filter left → (views : List SelectorView)
+      → (p q : List SelectorView) → p ≡ views ++ q → AreSteps IsOne end left q
+      → (views ≡ p) × (left ≡ end)
+  last_steps end left ends views p [] e steps = (sym (e ∙ append-nil views), steps)
+  last_steps end left ends views p (s ∷ q) e steps =
+      absurd ((begins left s steps.1 (steps.0, steps.2, steps.3)).1 ends)
+
+  pub read_only : (text left : List ℕ) (read : List Selector) → EndsAs in_filter left
+      → IsRead IsOne in_filter text left read → (end : List ℕ) → EndsAs in_filter end
+      → (p : List SelectorView) → AreSteps IsOne end text p
+      → (map selector_view read ≡ p) × (left ≡ end)
+  read_only text left read here h end ends p is =
+      let was = h.only end ends p is in
+      last_steps end left here (map selector_view read) p was.0 was.1.0 was.1.1
+
+  pub all_steps : (text left : List ℕ) (read : List Selector)
+      → IsRead IsOne in_filter text left read
+      → AreSteps IsOne left text (map selector_view read)
+  all_steps text left read h =
+      subst (AreSteps IsOne left text) (append-nil (map selector_view read)) (h.going left [] refl)
+
+-- A byte that begins a step.
+written_step_begins : (in_filter : Bool) (text : List ℕ) (s : SelectorView) (rest : List ℕ)
+    → BeginsWith (IsWritten in_filter) text s rest
+    → StopsAt (is_in_name in_filter) text
+written_step_begins true text s rest h =
+    elim (written_begins true text s rest h) [
+      | inl e ↦ subst (StopsAt (is_in_name true)) (sym e.1) refl
+      | inr e ↦ subst (StopsAt (is_in_name true)) (sym e.1) refl
+    ]
+written_step_begins false text s rest h =
+    elim (written_begins false text s rest h) [
+      | inl e ↦ subst (StopsAt (is_in_name false)) (sym e.1) refl
+      | inr e ↦ subst (StopsAt (is_in_name false)) (sym e.1) refl
     ]
 
--- At the first byte.
-pub first_read : (text : List ℕ) → text ≡ 36 ∷ drop 1 text → IsRead text (drop 1 text) []
-first_read text e = record {
-  going = λ q steps. (drop 1 text, e, steps);
-  only = λ p h.
-      let all : 36 ∷ drop 1 text ≡ 36 ∷ h.0 = sym e ∙ h.1 in
-      let tail : h.0 ≡ drop 1 text = cc in
-      (p, (refl, subst (λ xs. AreSteps xs p) tail h.2));
-}
+other_bytes : (c d : ℕ) (text xs ys : List ℕ) → text ≡ c ∷ xs → text ≡ d ∷ ys → (c ≡ d → ⊥) → ⊥
+other_bytes c d text xs ys x y differ =
+    let both : c ∷ xs ≡ d ∷ ys = sym x ∙ y in differ (cc)
 
-pub other_text : (text : List ℕ) → (get_or text 0 0 ≡ 36 → ⊥) → (p : List SelectorView)
-    → PathText text p → ⊥
-other_text text other p h = other (ap (λ xs. get_or xs 0 0) h.1)
+no_bytes_begin : (c : ℕ) (text xs : List ℕ) → text ≡ c ∷ xs → text ≡ [] → ⊥
+no_bytes_begin c text xs x y = let both : c ∷ xs ≡ [] = sym x ∙ y in absurd (cc)
 
--- One more step was read.
-next_only : (left : List ℕ) (rest : Bor (List ℕ)) (views others : List SelectorView)
-    (selector : Selector) → (left ≡ [] → ⊥) → ReadsStep left (Some (selector, rest))
-    → ((q : List SelectorView) → others ++ q ≡ views ++ (selector_view selector ∷ q))
-    → (p q : List SelectorView) → p ≡ views ++ q → AreSteps left q
-    → (r : List SelectorView) × ((p ≡ others ++ r) × AreSteps rest.now r)
-next_only left rest views others selector some step more p [] e steps = absurd (some steps)
-next_only left rest views others selector some step more p (s ∷ q) e steps =
-    let is = step.only s steps.1 (steps.0, steps.2, steps.3) (goes_on steps.1 q steps.4) in (
-      q,
-      (
-        e ∙ ap (λ x. views ++ (x ∷ q)) (sym is.0) ∙ sym (more q),
-        subst (λ xs. AreSteps xs q) (sym is.1) steps.4,
-      ),
+pub path_begins : (text : List ℕ) (s : SelectorView) (rest : List ℕ)
+    → BeginsWith (IsWritten true) text s rest
+    → StopsAt (is_in_name true) text × (EndsAs true text → ⊥)
+path_begins text s rest h = (
+  written_step_begins true text s rest h,
+  λ ends. elim (written_begins true text s rest h) [
+    | inl e ↦ other_bytes 46 32 text e.0 ends.0 e.1 ends.1 (λ same. absurd (omega (arith, same)))
+    | inr e ↦ other_bytes 91 32 text e.0 ends.0 e.1 ends.1 (λ same. absurd (omega (arith, same)))
+  ],
+)
+
+step_begins_by : (text front : List ℕ) (s : SelectorView) (rest : List ℕ) → text ≡ front ++ rest
+    → IsStep front s → StopsAt (is_in_name false) text × (text ≡ [] → ⊥)
+step_begins_by text front s rest e (inl is) =
+    let h : BeginsWith (IsWritten false) text s rest = (front, e, is) in (
+      written_step_begins false text s rest h,
+      λ none. elim (written_begins false text s rest h) [
+        | inl w ↦ no_bytes_begin 46 text w.0 w.1 none
+        | inr w ↦ no_bytes_begin 91 text w.0 w.1 none
+      ],
+    )
+step_begins_by text front s rest e (inr (f, is, means)) =
+    let first = e ∙ ap (λ b. b ++ rest) is in (
+      subst (StopsAt (is_in_name false)) (sym first) refl,
+      λ none. no_bytes_begin 63 text _ first none,
     )
 
-pub read_on : (text left : List ℕ) (rest : Bor (List ℕ)) (read new : List Selector)
-    (selector : Selector) → (left ≡ [] → ⊥) → ReadsStep left (Some (selector, rest))
-    → new ≡ read ++ (selector ∷ []) → IsRead text left read → IsRead text rest.now new
-read_on text left rest read new selector some step e h =
-    let views = map selector_view read in
-    let first = selector_view selector in
-    let more : (q : List SelectorView) → map selector_view new ++ q ≡ views ++ (first ∷ q) =
-    λ q. ap (λ xs. map selector_view xs ++ q) e
-    ∙ ap (λ xs. xs ++ q) (map_joined selector_view read (selector ∷ []))
-    ∙ append_assoc views (first ∷ []) q in
-    record {
-      going = λ q steps.
-          subst (λ p. PathText text p) (sym (more q)) (h.going (first ∷ q)
-          (step.is.0, rest.now, step.is.1, step.is.2, steps));
-      only = λ p is.
-          let was = h.only p is in
-          next_only left rest views (map selector_view new) selector some step more p was.0
-          was.1.0 was.1.1;
-    }
+pub step_begins : (text : List ℕ) (s : SelectorView) (rest : List ℕ)
+    → BeginsWith IsStep text s rest
+    → StopsAt (is_in_name false) text × (EndsAs false text → ⊥)
+step_begins text s rest h = step_begins_by text h.0 s rest h.1 h.2
 
-no_next : (left : List ℕ) → (left ≡ [] → ⊥) → ReadsStep left None → (q : List SelectorView)
-    → AreSteps left q → ⊥
-no_next left some step [] steps = some steps
-no_next left some step (s ∷ q) steps =
-    step.only s steps.1 (steps.0, steps.2, steps.3) (goes_on steps.1 q steps.4)
+-- The path of a text.
+pub other_text : (text : List ℕ) → ((rest : List ℕ) → text ≡ 36 ∷ rest → ⊥)
+    → (p : List SelectorView) → PathText text p ↔ ◌≡◌ {A = Option (List SelectorView)} None (Some p)
+other_text text other p = (λ h. absurd (other h.0 h.1), λ e. absurd (cc))
 
-none_read : (text left : List ℕ) (read : List Selector) → (left ≡ [] → ⊥)
-    → ReadsStep left None → IsRead text left read → (p : List SelectorView) → PathText text p → ⊥
-none_read text left read some step h p is =
-    let was = h.only p is in no_next left some step was.0 was.1.1
+starts_same : (text start : List ℕ) (p : List SelectorView) → text ≡ 36 ∷ start → PathText text p
+    → AreSteps IsStep [] start p
+starts_same text start p e (rest, is, steps) =
+    let both : 36 ∷ rest ≡ 36 ∷ start = sym is ∙ e in
+    let same : rest ≡ start = cc in
+    subst (λ xs. AreSteps IsStep [] xs p) same steps
 
-pub none_text : (text left : List ℕ) (read : List Selector) → (left ≡ [] → ⊥)
-    → ReadsStep left None → IsRead text left read → (p : List SelectorView)
+pub none_text : (text start left : List ℕ) (read : List Selector) → text ≡ 36 ∷ start
+    → (left ≡ [] → ⊥) → ReadsStep IsStep false left None → IsRead IsStep false start left read
+    → (p : List SelectorView)
     → PathText text p ↔ ◌≡◌ {A = Option (List SelectorView)} None (Some p)
-none_text text left read some step h p =
-    (λ is. absurd (none_read text left read some step h p is), λ e. absurd (cc))
-
--- The whole text was read.
-pub all_read : (text left : List ℕ) (read : List Selector) → left ≡ [] → IsRead text left read
-    → (p : List SelectorView) → PathText text p ↔ (Some (map selector_view read) ≡ Some p)
-all_read text left read end h p = (
-  λ is. let was = h.only p is in
-      let last : was.0 ≡ [] = no_steps was.0 (subst (λ xs. AreSteps xs was.0) end was.1.1) in
-      ap (λ x. Some x) (sym (was.1.0 ∙ ap (λ q. map selector_view read ++ q) last
-      ∙ append-nil (map selector_view read))),
-  λ e. let same : map selector_view read ≡ p = cc in
-      subst (λ x. PathText text x) (append-nil (map selector_view read) ∙ same) (h.going [] end),
+none_text text start left read e some step h p = (
+  λ is. absurd (none_read IsStep false step_begins start left read some step h [] refl p
+      (starts_same text start p e is)),
+  λ none. absurd (cc),
 )
+
+pub all_read : (text start left : List ℕ) (read : List Selector) → text ≡ 36 ∷ start → left ≡ []
+    → IsRead IsStep false start left read
+    → (p : List SelectorView) → PathText text p ↔ (Some (map selector_view read) ≡ Some p)
+all_read text start left read e end h p = (
+  λ is. let same = read_only IsStep false step_begins start left read end h [] refl p
+      (starts_same text start p e is) in
+      ap (λ x. Some x) same.0,
+  λ found. let same : map selector_view read ≡ p = cc in (
+    start,
+    e,
+    subst (λ xs. AreSteps IsStep [] start xs) same
+        (subst (λ xs. AreSteps IsStep xs start (map selector_view read)) end
+        (all_steps IsStep false step_begins start left read h)),
+  ),
+)
+
+-- The path of a filter.
+pub filter_path_read : (text left : List ℕ) (rest : Bor (List ℕ)) (read : Vec Selector)
+    → left ≡ 32 ∷ rest.now → IsRead (IsWritten true) true text left read.items
+    → Reads path_view (IsFilterPath text) (Some (read, rest))
+filter_path_read text left rest read e h = record {
+  is = subst (λ xs. AreSteps (IsWritten true) xs text (path_view read)) e
+      (all_steps (IsWritten true) true path_begins text left read.items h);
+  only = λ p later is.
+      let same = read_only (IsWritten true) true path_begins text left read.items (rest.now, e) h
+      (32 ∷ later) (later, refl) p is in
+      let tail : 32 ∷ rest.now ≡ 32 ∷ later = sym e ∙ same.1 in
+      (same.0, cc);
+}
+
+pub filter_path_none : (text left : List ℕ) (read : List Selector)
+    → ((rest : List ℕ) → left ≡ 32 ∷ rest → ⊥)
+    → ReadsStep (IsWritten true) true left None → IsRead (IsWritten true) true text left read
+    → Reads {A = Vec Selector} path_view (IsFilterPath text) None
+filter_path_none text left read other step h = record {
+  is = tt;
+  only = λ p later is.
+      none_read (IsWritten true) true path_begins text left read (λ ends. other ends.0 ends.1)
+      step h (32 ∷ later) (later, refl) p is;
+}

@@ -13,7 +13,8 @@ use Rattle.std.proofs.Math.Seq.{take-length}
 use Rattle.std.proofs.lemmas.Bool.Decides.{nat_tests}
 use Rattle.std.proofs.lemmas.List.Sums.{prefix_len-le-length, prefix_len_stops}
 use Rattle.jsonb_value.specs.Json.Characters.{all_digits}
-use Rattle.jsonb_functions.specs.PathText.{all_are, is_in_name, is_not, number_in, StopsAt}
+use Rattle.jsonb_functions.specs.PathText.{all_are, is_in_name, is_in_word, is_not, number_in}
+use Rattle.jsonb_functions.specs.PathText.{StopsAt}
 
 -- The bytes after the first one, as a pattern gives them.
 abbrev pub later_bytes : List ℕ → List ℕ
@@ -73,20 +74,23 @@ number_read (d ∷ ds) [] n some none are value fits =
     sym (ap (λ b. if b then Some (min (digits_value_after 10 0 (d ∷ ds)) (2 ^ 64 - 1)) else None)
     are ∙ ap (λ x. Some x) (value ∙ whole))
 
--- Where a name ends, the text may be cut.
-ends_low : (c : ℕ) → is_in_name c ≡ false → c < 128
-ends_low c h = grind (arith, nat_tests)
-
-pub name_boundary : (text : List ℕ) (n : ℕ) → n ≡ prefix_len is_in_name text
-    → IsCharBoundary text n
-name_boundary text n e = (
-  rw e (prefix_len-le-length is_in_name text),
-  λ low high.
-      let within : prefix_len is_in_name text < length text = rw (← e) low in
-      let last : get_or text n 0 < 128 =
-      rw e (ends_low _ (prefix_len_stops is_in_name text 0 within)) in
+-- Where the bytes that pass a test end, the text may be cut, if all other bytes pass it.
+pub front_boundary : (q : ℕ → Bool) → ((c : ℕ) → q c ≡ false → c < 128) → (text : List ℕ) (n : ℕ)
+    → n ≡ prefix_len q text → IsCharBoundary text n
+front_boundary q low text n e = (
+  rw e (prefix_len-le-length q text),
+  λ here high.
+      let within : prefix_len q text < length text = rw (← e) here in
+      let last : get_or text n 0 < 128 = rw e (low _ (prefix_len_stops q text 0 within)) in
       absurd (omega (arith, high, last)),
 )
+
+pub name_low : (in_filter : Bool) (c : ℕ) → is_in_name in_filter c ≡ false → c < 128
+name_low true c h = grind (arith, nat_tests)
+name_low false c h = grind (arith, nat_tests)
+
+pub word_low : (c : ℕ) → is_in_word c ≡ false → c < 128
+word_low c h = grind (arith, nat_tests)
 
 -- What is before the first byte that does not pass the test.
 pass_more : (q : ℕ → Bool) (c : ℕ) (cs : List ℕ) (b : Bool) → q c ≡ b
@@ -109,15 +113,14 @@ back_stops : (q : ℕ → Bool) (cs : List ℕ) → StopsAt q (drop (prefix_len 
 back_stops q [] = tt
 back_stops q (c ∷ cs) = stop_more q c cs (q c) refl (back_stops q cs)
 
-pub name_front : (text r : List ℕ) (n : ℕ) → n ≡ prefix_len is_in_name text
-    → r ≡ slice_range text 0 n → all_are is_in_name r ≡ true
-name_front text r n e is =
-    ap (all_are is_in_name) (is ∙ ap (λ k. take k text) (sub-zero n ∙ e))
-    ∙ front_passes is_in_name text
+pub front_all : (q : ℕ → Bool) (text r : List ℕ) (n : ℕ) → n ≡ prefix_len q text
+    → r ≡ slice_range text 0 n → all_are q r ≡ true
+front_all q text r n e is =
+    ap (all_are q) (is ∙ ap (λ k. take k text) (sub-zero n ∙ e)) ∙ front_passes q text
 
-pub name_back : (text r : List ℕ) (n : ℕ) → n ≡ prefix_len is_in_name text → r ≡ drop n text
-    → StopsAt is_in_name r
-name_back text r n e is = rw (is, e) (back_stops is_in_name text)
+pub back_stop : (q : ℕ → Bool) (text r : List ℕ) (n : ℕ) → n ≡ prefix_len q text → r ≡ drop n text
+    → StopsAt q r
+back_stop q text r n e is = rw (is, e) (back_stops q text)
 
 -- A text that is split at a byte.
 none_there : (c : ℕ) (cs : List ℕ) → ((i : ℕ) → i < length cs → get_or cs i 0 ≡ c → ⊥)

@@ -4,7 +4,7 @@ use Rattle.std.specs.Ordering.{is_eq, is_ge, is_gt, is_le, is_lt, is_ne}
 use Rattle.std.specs.declared.cmp.Ordering.{Ordering}
 use Rattle.jsonb_value.specs.Tree.{Tree}
 use Rattle.jsonb_value.specs.TreeOrder.{tree_cmp}
-use Rattle.jsonb.specs.Document.{document_tree}
+use Rattle.jsonb.specs.Node.{node_tree}
 use Rattle.jsonb_functions.specs.declared.filter.Comparison.{Comparison}
 use Rattle.jsonb_functions.specs.declared.filter.Comparison.TheVariants as comparisons
 use Rattle.jsonb_functions.specs.declared.filter.Condition.{Condition}
@@ -27,8 +27,8 @@ found_compares comparison (Some t) u = compares comparison (tree_cmp t u)
 -- Whether a condition holds: what is at the end of its path compares so with its value.
 abbrev pub holds : Condition → Tree → Bool
 holds condition t =
-    found_compares condition.comparison (found_at condition.path.now t)
-    (document_tree condition.value)
+    found_compares condition.comparison (found_at condition.path.items t)
+    (node_tree condition.value)
 
 -- The tree itself if a condition on it holds.
 abbrev pub filtered : Condition → Tree → List Tree

@@ -1,27 +1,34 @@
 -- The paths that texts give.
 use Rattle.std.specs.Prelude.{◌≡◌, ◌⊎◌, ⊤, ℕ, zero, suc, ◌-◌, ◌^◌, min, List, [], ◌∷◌, ◌++◌}
 use Rattle.std.specs.Prelude.{Bool, true, false, not, ◌&&◌, ◌==◌, if◌then◌else◌, bytes_eq}
-use Rattle.std.specs.Prelude.{codes}
+use Rattle.std.specs.Prelude.{codes, chars, map, nat_lt}
 use Rattle.std.specs.Prelude.{Option, Some, None, option_map, IfSome, MatchOption}
 use Rattle.std.specs.Borrow.{Bor}
+use Rattle.std.specs.Global.{Vec}
 use Rattle.std.specs.Str.Parse.{digits_value}
 use Rattle.jsonb_value.specs.Json.Numeral.{are_digits}
+use Rattle.jsonb_value.specs.Json.Syntax.{JsonWithExponents}
+use Rattle.jsonb_value.specs.Tree as trees
+use Rattle.jsonb_value.specs.Tree.{Tree}
+use Rattle.jsonb.specs.Node.{node_tree}
 use Rattle.std.specs.List.{after_first, before_first}
 use Rattle.std.specs.Option.{option_or}
+use Rattle.jsonb_functions.specs.declared.filter.Comparison.{Comparison}
+use Rattle.jsonb_functions.specs.declared.filter.Comparison.TheVariants as comparisons
 use Rattle.jsonb_functions.specs.declared.selection.Bound.{Bound}
 use Rattle.jsonb_functions.specs.declared.selection.Bound.TheVariants as bounds
 use Rattle.jsonb_functions.specs.declared.selection.Selector.{Selector}
 use Rattle.jsonb_functions.specs.declared.selection.Selector.TheVariants as selectors
-use Rattle.jsonb_functions.specs.StoredPath.{StepView, key, index, from_end, step_then}
+use Rattle.jsonb_functions.specs.StoredPath.{StepView, key, index, from_end, step_then, step_view}
 
--- A step of a path with wildcards, without where its key is stored, and without the condition of a
--- filter, which no text gives.
+-- A step of a path with wildcards, without where its key is stored; a filter has the steps of its
+-- path, the comparison and the tree to compare with.
 pub data SelectorView : Type 0 where
   step : StepView → SelectorView
   all_items : SelectorView
   all_members : SelectorView
   range : Bound → Bound → SelectorView
-  filter : SelectorView
+  filter : List StepView → Comparison → Tree → SelectorView
 
 abbrev pub selector_view : Selector → SelectorView
 selector_view (selectors.Key k) = step (key k.now)
@@ -30,7 +37,8 @@ selector_view (selectors.FromEnd i) = step (from_end i)
 selector_view selectors.AllItems = all_items
 selector_view selectors.AllMembers = all_members
 selector_view (selectors.Range first last) = range first last
-selector_view (selectors.Filter condition) = filter
+selector_view (selectors.Filter condition) =
+    filter (map step_view condition.path.items) condition.comparison (node_tree condition.value)
 
 -- The step that leads to one value, if it is one.
 abbrev pub single_step : SelectorView → Option StepView
@@ -38,7 +46,7 @@ single_step (step s) = Some s
 single_step all_items = None
 single_step all_members = None
 single_step (range first last) = None
-single_step filter = None
+single_step (filter path comparison t) = None
 
 -- The steps of a path that each lead to one value, if each does.
 abbrev pub single_steps : List SelectorView → Option (List StepView)
@@ -62,17 +70,18 @@ abbrev pub all_are : (ℕ → Bool) → List ℕ → Bool
 all_are test [] = true
 all_are test (c ∷ cs) = test c && all_are test cs
 
--- A key as it is has no `.` and no `[`.
-abbrev pub is_in_name : ℕ → Bool
-is_in_name c = not (c == 46) && not (c == 91)
+-- A key as it is has no `.`, no `[` and no `?`, and in a filter no space.
+abbrev pub is_in_name : Bool → ℕ → Bool
+is_in_name in_filter c =
+    not (c == 46) && not (c == 91) && not (c == 63) && not (in_filter && (c == 32))
 
 abbrev pub is_not : ℕ → ℕ → Bool
 is_not end c = not (c == end)
 
 -- A key can be written as it is: it is not empty and does not begin with a quote.
-abbrev pub is_plain : List ℕ → Bool
-is_plain [] = false
-is_plain (c ∷ name) = is_not 34 c && all_are is_in_name (c ∷ name)
+abbrev pub is_plain : Bool → List ℕ → Bool
+is_plain in_filter [] = false
+is_plain in_filter (c ∷ name) = is_not 34 c && all_are (is_in_name in_filter) (c ∷ name)
 
 -- `*` is each member, and any other name a key.
 abbrev pub member_of : List ℕ → SelectorView
@@ -127,38 +136,138 @@ place_in place =
 
 -- The step that is written so, if it is one. There is no quote between quotes, and no bracket
 -- between brackets.
-abbrev pub written_step : Written → Option SelectorView
-written_step (plain name) = if is_plain name then Some (member_of name) else None
-written_step (quoted name) = if all_are (is_not 34) name then Some (step (key name)) else None
-written_step (bracketed place) = if all_are (is_not 93) place then place_in place else None
+abbrev pub written_step : Bool → Written → Option SelectorView
+written_step in_filter (plain name) =
+    if is_plain in_filter name then Some (member_of name) else None
+written_step in_filter (quoted name) =
+    if all_are (is_not 34) name then Some (step (key name)) else None
+written_step in_filter (bracketed place) =
+    if all_are (is_not 93) place then place_in place else None
 
--- The bytes are those of these steps.
-abbrev pub AreSteps : List ℕ → List SelectorView → Type 0
-AreSteps bytes [] = bytes ≡ []
-AreSteps bytes (s ∷ path) = (w : Written) × (rest : List ℕ)
-    × (bytes ≡ written_bytes w ++ rest) × (written_step w ≡ Some s) × AreSteps rest path
+-- The bytes are those of this step, which is no filter.
+abbrev pub IsWritten : Bool → List ℕ → SelectorView → Type 0
+IsWritten in_filter bytes s =
+    (w : Written) × (bytes ≡ written_bytes w) × (written_step in_filter w ≡ Some s)
+
+-- The bytes are these steps, each as `IsOne` says, and then the end.
+abbrev pub AreSteps : (List ℕ → SelectorView → Type 0) → List ℕ → List ℕ → List SelectorView
+    → Type 0
+AreSteps IsOne end bytes [] = bytes ≡ end
+AreSteps IsOne end bytes (s ∷ path) = (front : List ℕ) × (rest : List ℕ)
+    × (bytes ≡ front ++ rest) × IsOne front s × AreSteps IsOne end rest path
+
+-- A literal as it is written: a string between quotes, or a word.
+pub data Literal : Type 0 where
+  string : List ℕ → Literal
+  word : List ℕ → Literal
+
+-- Its bytes: `"text"`, or the word.
+abbrev pub literal_bytes : Literal → List ℕ
+literal_bytes (string s) = 34 ∷ (s ++ (34 ∷ []))
+literal_bytes (word w) = w
+
+-- A word has no control character, no space, no quote and no closing parenthesis.
+abbrev pub is_in_word : ℕ → Bool
+is_in_word c = nat_lt 32 c && not (c == 34) && not (c == 41)
+
+-- Null, a truth value or a number.
+abbrev pub scalar_tree : Tree → Option Tree
+scalar_tree trees.null = Some trees.null
+scalar_tree (trees.boolean b) = Some (trees.boolean b)
+scalar_tree (trees.number x) = Some (trees.number x)
+scalar_tree t = None
+
+-- The word is null, a truth value or a number, with or without an exponent, as JSON spells it.
+abbrev pub IsWord : List ℕ → Tree → Type 0
+IsWord w t = JsonWithExponents (chars w) t × (scalar_tree t ≡ Some t)
+
+-- The literal means the tree. There is no quote in a string.
+abbrev pub IsLiteral : Literal → Tree → Type 0
+IsLiteral (string s) t = (all_are (is_not 34) s ≡ true) × (t ≡ trees.text s)
+IsLiteral (word w) t = (all_are is_in_word w ≡ true) × IsWord w t
+
+-- The comparison that is written so, if it is one.
+abbrev pub comparison_in : List ℕ → Option Comparison
+comparison_in c =
+    if bytes_eq c (codes "==") then Some comparisons.Equal
+    else if bytes_eq c (codes "!=") then Some comparisons.NotEqual
+    else if bytes_eq c (codes "<>") then Some comparisons.NotEqual
+    else if bytes_eq c (codes "<") then Some comparisons.Less
+    else if bytes_eq c (codes "<=") then Some comparisons.LessOrEqual
+    else if bytes_eq c (codes ">") then Some comparisons.Greater
+    else if bytes_eq c (codes ">=") then Some comparisons.GreaterOrEqual
+    else None
+
+-- A filter as it is written: the bytes of its path and of its comparison, and its literal.
+pub record WrittenFilter : Type 0 where
+  pub path : List ℕ
+  pub comparison : List ℕ
+  pub literal : Literal
+
+-- Its bytes: `?(@`, the path, a space, the comparison, a space, the literal and `)`.
+abbrev pub filter_bytes : WrittenFilter → List ℕ
+filter_bytes f = 63 ∷ (40 ∷ (64 ∷ (f.path
+    ++ (32 ∷ (f.comparison ++ (32 ∷ (literal_bytes f.literal ++ (41 ∷ []))))))))
+
+-- The filter means this step. There are no wildcards, ranges and filters in its path.
+pub record IsFilter (f : WrittenFilter) (s : SelectorView) : Type 0 where
+  pub path : List SelectorView
+  pub steps : List StepView
+  pub comparison : Comparison
+  pub value : Tree
+  pub is_path : AreSteps (IsWritten true) [] f.path path
+  pub is_single : single_steps path ≡ Some steps
+  pub is_comparison : comparison_in f.comparison ≡ Some comparison
+  pub is_value : IsLiteral f.literal value
+  pub is : s ≡ filter steps comparison value
+
+-- The bytes are those of this step.
+abbrev pub IsStep : List ℕ → SelectorView → Type 0
+IsStep bytes s = IsWritten false bytes s
+    ⊎ ((f : WrittenFilter) × (bytes ≡ filter_bytes f) × IsFilter f s)
 
 -- The text is `$` and these steps.
 abbrev pub PathText : List ℕ → List SelectorView → Type 0
-PathText text path = (rest : List ℕ) × (text ≡ 36 ∷ rest) × AreSteps rest path
+PathText text path = (rest : List ℕ) × (text ≡ 36 ∷ rest) × AreSteps IsStep [] rest path
 
 -- The text begins with this step.
-abbrev pub BeginsWith : List ℕ → SelectorView → List ℕ → Type 0
-BeginsWith text s rest =
-    (w : Written) × (text ≡ written_bytes w ++ rest) × (written_step w ≡ Some s)
+abbrev pub BeginsWith : (List ℕ → SelectorView → Type 0) → List ℕ → SelectorView → List ℕ → Type 0
+BeginsWith IsOne text s rest = (front : List ℕ) × (text ≡ front ++ rest) × IsOne front s
 
 -- The bytes are none, or begin with one that does not pass the test.
 abbrev pub StopsAt : (ℕ → Bool) → List ℕ → Type 0
 StopsAt test [] = ⊤
 StopsAt test (c ∷ cs) = test c ≡ false
 
--- A step may come next, or nothing.
-abbrev pub GoesOn : List ℕ → Type 0
-GoesOn [] = ⊤
-GoesOn (c ∷ rest) = (c ≡ 46) ⊎ (c ≡ 91)
-
--- The first step was read, and there is no other where steps go on.
-pub record ReadsStep (text : List ℕ) (read : Option (Selector × Bor (List ℕ))) : Type 0 where
-  pub is : IfSome read (λ r. BeginsWith text (selector_view r.0) r.1.now)
-  pub only : (s : SelectorView) (rest : List ℕ) → BeginsWith text s rest → GoesOn rest
+-- The first step was read, and there is no other where a name as it is ends.
+pub record ReadsStep (IsOne : List ℕ → SelectorView → Type 0) (in_filter : Bool) (text : List ℕ)
+    (read : Option (Selector × Bor (List ℕ))) : Type 0 where
+  pub is : IfSome read (λ r. BeginsWith IsOne text (selector_view r.0) r.1.now)
+  pub only : (s : SelectorView) (rest : List ℕ) → BeginsWith IsOne text s rest
+      → StopsAt (is_in_name in_filter) rest
       → MatchOption read ⊥ (λ r. (selector_view r.0 ≡ s) × (r.1.now ≡ rest))
+
+-- The beginning of a text was read, and there is no other reading.
+pub record Reads {A B : Type 0} (view : A → B) (Begins : B → List ℕ → Type 0)
+    (read : Option (A × Bor (List ℕ))) : Type 0 where
+  pub is : IfSome read (λ r. Begins (view r.0) r.1.now)
+  pub only : (x : B) (rest : List ℕ) → Begins x rest
+      → MatchOption read ⊥ (λ r. (view r.0 ≡ x) × (r.1.now ≡ rest))
+
+-- The steps of a path, without where their keys are stored.
+abbrev pub path_view : Vec Selector → List SelectorView
+path_view path = map selector_view path.items
+
+-- The text begins with a filter's path and a space.
+abbrev pub IsFilterPath : List ℕ → List SelectorView → List ℕ → Type 0
+IsFilterPath text path rest = AreSteps (IsWritten true) (32 ∷ rest) text path
+
+-- The text begins with a comparison and a space.
+abbrev pub IsComparison : List ℕ → Comparison → List ℕ → Type 0
+IsComparison text comparison rest = (c : List ℕ)
+    × (text ≡ c ++ (32 ∷ rest)) × (comparison_in c ≡ Some comparison)
+
+-- The text begins with a literal and a closing parenthesis.
+abbrev pub BeginsWithLiteral : List ℕ → Tree → List ℕ → Type 0
+BeginsWithLiteral text t rest = (l : Literal)
+    × (text ≡ literal_bytes l ++ (41 ∷ rest)) × IsLiteral l t

@@ -50,10 +50,13 @@ pub use Rattle.jsonb_functions.specs.PatchSource.{next_keys_size, next_size, pat
 pub use Rattle.jsonb_functions.specs.Patched.{pairs_or_none, pairs_patched, patched}
 pub use Rattle.jsonb_functions.specs.Path.{is_next, item_place, position_view}
 pub use Rattle.jsonb_functions.specs.PathDocument.{path_tree, step_tree, stored_step}
-pub use Rattle.jsonb_functions.specs.PathText.{PathText, ReadsStep, SelectorView, StopsAt}
-pub use Rattle.jsonb_functions.specs.PathText.{all_are, bound_in, from_end_of, is_in_name, is_not}
-pub use Rattle.jsonb_functions.specs.PathText.{is_space, item_at, member_of, number_in, place_in}
-pub use Rattle.jsonb_functions.specs.PathText.{range_in, selector_view, single_step, single_steps}
+pub use Rattle.jsonb_functions.specs.PathText.{BeginsWithLiteral, IsComparison, IsFilterPath}
+pub use Rattle.jsonb_functions.specs.PathText.{IsStep, IsWord, IsWritten, PathText, Reads}
+pub use Rattle.jsonb_functions.specs.PathText.{ReadsStep, SelectorView, StopsAt, all_are, bound_in}
+pub use Rattle.jsonb_functions.specs.PathText.{comparison_in, from_end_of, is_in_name, is_in_word}
+pub use Rattle.jsonb_functions.specs.PathText.{is_not, is_space, item_at, member_of, number_in}
+pub use Rattle.jsonb_functions.specs.PathText.{path_view, place_in, range_in, scalar_tree}
+pub use Rattle.jsonb_functions.specs.PathText.{selector_view, single_step, single_steps}
 pub use Rattle.jsonb_functions.specs.Picked.{AreSorted, is_named, keeps, picked}
 pub use Rattle.jsonb_functions.specs.Selected.{between, children_at, chosen_trees, first_tree}
 pub use Rattle.jsonb_functions.specs.Selected.{first_trees, items_before, items_through}

@@ -5,7 +5,7 @@ ghost use Rattle.jsonb_functions.specs.Words.{compares, holds, node_tree};
 
 use crate::found::node_at;
 use crate::path::Step;
-use jsonb::{Document, Node};
+use jsonb::Node;
 use std::cmp::Ordering;
 
 /// How a value is to compare with another one.
@@ -20,20 +20,21 @@ pub enum Comparison {
 }
 
 /// A condition on a value: the value at the end of the path from it compares so with this one, by
-/// the order of documents. It does not hold if the path leads nowhere.
-#[derive(Clone, Copy, Debug)]
+/// the order of documents. It does not hold if the path leads nowhere. The value to compare with is
+/// that of a document, by `Document::value`, or any other `Node`.
+#[derive(Debug, Drop)]
 pub struct Condition<'a> {
-    pub path: &'a [Step<'a>],
+    pub path: Vec<Step<'a>>,
     pub comparison: Comparison,
-    pub value: Document<'a>,
+    pub value: Node<'a>,
 }
 
 /// Whether a condition on a value holds.
-pub fn holds(node: Node<'_>, condition: Condition<'_>) -> bool
-    ensures { result ≡ holds condition.entry (node_tree node.entry) }
+pub fn holds(node: Node<'_>, condition: &Condition<'_>) -> bool
+    ensures { result ≡ holds condition.now (node_tree node.entry) }
 {
-    match node_at(node, condition.path) {
-        Some(found) => compares(condition.comparison, found.cmp(&condition.value.value())),
+    match node_at(node, &condition.path) {
+        Some(found) => compares(condition.comparison, found.cmp(&condition.value)),
         None => false,
     }
 }

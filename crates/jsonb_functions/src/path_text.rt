@@ -1,39 +1,48 @@
 //! Paths that are given as texts.
 
-ghost use Rattle.std.specs.Prelude.{◌≡◌, ◌↔◌, ◌∷◌, ◌++◌, ◌<◌, List, IfErr, IfOk, MatchOption};
-ghost use Rattle.std.specs.Prelude.{Some, map, option_map, slice_index, true};
+ghost use Rattle.std.specs.Prelude.{◌≡◌, ◌↔◌, ◌∷◌, ◌++◌, ◌<◌, ℕ, List, IfErr, IfOk, MatchOption};
+ghost use Rattle.std.specs.Prelude.{Some, map, option_map, true, false};
 ghost use Rattle.std.specs.List.{after_first, before_first, prefix_len};
-ghost use Rattle.jsonb_functions.specs.Words.{PathText, ReadsStep, SelectorView, StopsAt, all_are};
-ghost use Rattle.jsonb_functions.specs.Words.{bound_in, from_end_of, is_in_name, is_not, is_space};
-ghost use Rattle.jsonb_functions.specs.Words.{item_at, member_of, number_in, place_in, range_in};
-ghost use Rattle.jsonb_functions.specs.Words.{selector_view, single_step, single_steps, step_view};
+ghost use Rattle.jsonb_functions.specs.Words.{BeginsWithLiteral, IsComparison, IsFilterPath};
+ghost use Rattle.jsonb_functions.specs.Words.{IsStep, IsWord, IsWritten, PathText, Reads};
+ghost use Rattle.jsonb_functions.specs.Words.{ReadsStep, SelectorView, StopsAt, Tree, all_are};
+ghost use Rattle.jsonb_functions.specs.Words.{bound_in, comparison_in, from_end_of, is_in_name};
+ghost use Rattle.jsonb_functions.specs.Words.{is_in_word, is_not, is_space, item_at, member_of};
+ghost use Rattle.jsonb_functions.specs.Words.{node_tree, number_in, path_view, place_in, range_in};
+ghost use Rattle.jsonb_functions.specs.Words.{scalar_tree, selector_view, single_step};
+ghost use Rattle.jsonb_functions.specs.Words.{single_steps, step_view, tree_of};
 
+use crate::filter::{Comparison, Condition};
 use crate::path::Step;
 use crate::selection::{Bound, Selector};
-use jsonb::Error;
+use jsonb::{Error, Node, NumberItem, Value, parse_value_with_exponents};
 use std::alloc::Global;
 
 /// The path that a text gives: `$`, and then its steps. `.name` is the value of a key, and so is
-/// `."any name"`, if there are points or brackets in it; `[7]` is an item, `[#-1]` the last one and
-/// `[#]` none, past the last one; `[*]` is each item, `[0 to #-2]` the items from one to another,
-/// and `.*` each member's value. The keys are the text's bytes, without escapes. An index past 64
-/// bits is the greatest of 64 bits. `None` for any other text; `OutOfMemory`, the only error, if an
-/// allocation fails.
+/// `."any name"`, if there are points, brackets or question marks in it; `[7]` is an item, `[#-1]`
+/// the last one and `[#]` none, past the last one; `[*]` is each item, `[0 to #-2]` the items from
+/// one to another, and `.*` each member's value. The keys are the text's bytes, without escapes. An
+/// index past 64 bits is the greatest of 64 bits.
+///
+/// `?(@.price < 3)` keeps a value if what is at the end of the path that begins with `@` compares
+/// so with a literal, by the order of documents. The path has no wildcards, ranges and filters, and
+/// a key with a space is written between quotes. The comparison is `==`, `!=` or `<>`, `<`, `<=`,
+/// `>` or `>=`, with one space before and after it. The literal is `null`, `true`, `false`, a JSON
+/// number, read exactly, with or without an exponent, or a string without quotes and escapes in it.
+///
+/// `None` for any other text; `OutOfMemory`, the only error, if an allocation fails.
 pub fn read_path_text<'a>(alloc: Global, text: &'a str) -> Result<Option<Vec<Selector<'a>>>, Error>
     ensures ok { IfOk result (λ path. (steps : List SelectorView) → PathText text.now steps
         ↔ (option_map (λ selectors. map selector_view selectors.items) path ≡ Some steps)) }
     ensures memory { IfErr result (λ e. e ≡ Error.OutOfMemory) }
 {
-    let [first, ..] = text.as_bytes() else {
+    let Some(start) = after_char(text, '$') else {
         return Ok(None);
     };
-    if *first != b'$' {
-        return Ok(None);
-    }
     let mut path = Vec::new(alloc);
-    let mut left = &text[1..];
+    let mut left = start;
     while !left.is_empty() {
-        let Some((selector, rest)) = read_step(left) else {
+        let Some((selector, rest)) = read_step(alloc, left)? else {
             return Ok(None);
         };
         path.push(selector)?;
@@ -55,7 +64,7 @@ pub fn steps_of_path<'a>(
     let mut steps = Vec::with_capacity(alloc, path.len())?;
     let mut left = path;
     while let [selector, rest @ ..] = left {
-        let Some(step) = step_of(*selector) else {
+        let Some(step) = step_of(selector) else {
             return Ok(None);
         };
         steps.push(step)?;
@@ -65,50 +74,53 @@ pub fn steps_of_path<'a>(
 }
 
 // The step of a path without wildcards, ranges and filters.
-fn step_of<'a>(selector: Selector<'a>) -> Option<Step<'a>>
-    ensures { option_map step_view result ≡ single_step (selector_view selector.entry) }
+fn step_of<'a>(selector: &Selector<'a>) -> Option<Step<'a>>
+    ensures { option_map step_view result ≡ single_step (selector_view selector.now) }
 {
     match selector {
         Selector::Key(name) => Some(Step::Key(name)),
-        Selector::Index(index) => Some(Step::Index(index)),
-        Selector::FromEnd(index) => Some(Step::FromEnd(index)),
+        Selector::Index(index) => Some(Step::Index(*index)),
+        Selector::FromEnd(index) => Some(Step::FromEnd(*index)),
         _ => None,
     }
 }
 
 // The first step of a text, and what is after it.
-fn read_step<'a>(text: &'a str) -> Option<(Selector<'a>, &'a str)>
-    ensures { ReadsStep text.now result }
+fn read_step<'a>(alloc: Global, text: &'a str) -> Result<Option<(Selector<'a>, &'a str)>, Error>
+    ensures ok { IfOk result (ReadsStep IsStep false text.now) }
+    ensures memory { IfErr result (λ e. e ≡ Error.OutOfMemory) }
 {
-    let [first, ..] = text.as_bytes() else {
-        return None;
-    };
-    if *first == b'.' {
-        read_member(&text[1..])
-    } else if *first == b'[' {
-        read_bracketed(&text[1..])
-    } else {
-        None
+    match after_char(text, '?') {
+        Some(condition) => read_filter(alloc, condition),
+        None => Ok(read_written(text, false)),
     }
 }
 
-// A step after a point, and what is after it.
-fn read_member<'a>(text: &'a str) -> Option<(Selector<'a>, &'a str)>
-    ensures { ReadsStep (46 ∷ text.now) result }
+// A step that is no filter, and what is after it. In a filter, a name as it is ends before a space
+// too.
+fn read_written<'a>(text: &'a str, in_filter: bool) -> Option<(Selector<'a>, &'a str)>
+    ensures { ReadsStep (IsWritten in_filter) in_filter text.now result }
 {
-    let [first, ..] = text.as_bytes() else {
-        return None;
-    };
-    if *first == b'"' {
-        read_quoted(&text[1..])
-    } else {
-        read_plain(text)
+    if let Some(name) = after_char(text, '.') {
+        return read_member(name, in_filter);
+    }
+    let place = after_char(text, '[')?;
+    read_bracketed(place, in_filter)
+}
+
+// A step after a point, and what is after it.
+fn read_member<'a>(text: &'a str, in_filter: bool) -> Option<(Selector<'a>, &'a str)>
+    ensures { ReadsStep (IsWritten in_filter) in_filter (46 ∷ text.now) result }
+{
+    match after_char(text, '"') {
+        Some(quoted) => read_quoted(quoted, in_filter),
+        None => read_plain(text, in_filter),
     }
 }
 
 // A key up to a quote, and what is after that.
-fn read_quoted<'a>(text: &'a str) -> Option<(Selector<'a>, &'a str)>
-    ensures { ReadsStep (46 ∷ (34 ∷ text.now)) result }
+fn read_quoted<'a>(text: &'a str, in_filter: bool) -> Option<(Selector<'a>, &'a str)>
+    ensures { ReadsStep (IsWritten in_filter) in_filter (46 ∷ (34 ∷ text.now)) result }
 {
     match split_at(text, '"') {
         Some((name, rest)) => Some((Selector::Key(name), rest)),
@@ -116,12 +128,12 @@ fn read_quoted<'a>(text: &'a str) -> Option<(Selector<'a>, &'a str)>
     }
 }
 
-// A key up to a point, a bracket or the end, or the step to each member, and what is after it.
-fn read_plain<'a>(text: &'a str) -> Option<(Selector<'a>, &'a str)>
-    requires { slice_index text.now 0 ≡ 34 → ⊥ }
-    ensures { ReadsStep (46 ∷ text.now) result }
+// A key as it is, or the step to each member, and what is after it.
+fn read_plain<'a>(text: &'a str, in_filter: bool) -> Option<(Selector<'a>, &'a str)>
+    requires { (rest : List ℕ) → text.now ≡ 34 ∷ rest → ⊥ }
+    ensures { ReadsStep (IsWritten in_filter) in_filter (46 ∷ text.now) result }
 {
-    let (name, rest) = split_name(text);
+    let (name, rest) = split_name(text, in_filter);
     if name.is_empty() {
         None
     } else {
@@ -140,29 +152,42 @@ fn member_of<'a>(name: &'a str) -> Selector<'a>
     }
 }
 
-// What is before the first point or bracket, and the rest.
-fn split_name(text: &str) -> (&str, &str)
+// A name as it is, and the rest.
+fn split_name(text: &str, in_filter: bool) -> (&str, &str)
     ensures whole { text.now ≡ result.0.now ++ result.1.now }
-    ensures name { all_are is_in_name result.0.now ≡ true }
-    ensures rest { StopsAt is_in_name result.1.now }
+    ensures name { all_are (is_in_name in_filter) result.0.now ≡ true }
+    ensures rest { StopsAt (is_in_name in_filter) result.1.now }
 {
-    let end = name_len(text);
+    let end = name_len(text, in_filter);
     (&text[..end], &text[end..])
 }
 
-// How many bytes are before the first point or bracket.
-fn name_len(text: &str) -> usize
-    ensures { result ≡ prefix_len is_in_name text.now }
+// The length of a name as it is.
+fn name_len(text: &str, in_filter: bool) -> usize
+    ensures { result ≡ prefix_len (is_in_name in_filter) text.now }
 {
     let bytes = text.as_bytes();
-    bytes.iter().take_while(|byte| is_in_name(**byte)).count()
+    bytes
+        .iter()
+        .take_while(|byte| is_in_name(in_filter, **byte))
+        .count()
 }
 
-// Whether a byte is neither a point nor an opening bracket.
-fn is_in_name(byte: u8) -> bool
-    ensures { result ≡ is_in_name byte }
+// Whether a byte can be in a name as it is: a point, a bracket or a question mark cannot, and in a
+// filter a space cannot.
+fn is_in_name(in_filter: bool, byte: u8) -> bool
+    ensures { result ≡ is_in_name in_filter byte }
 {
-    byte != b'.' && byte != b'['
+    byte != b'.' && byte != b'[' && byte != b'?' && !(in_filter && byte == b' ')
+}
+
+// What is after a character, if it is the first one.
+fn after_char(text: &str, first: char) -> Option<&str>
+    requires { first < 128 }
+    ensures { MatchOption result ((rest : List ℕ) → text.now ≡ first ∷ rest → ⊥)
+        (λ rest. text.now ≡ first ∷ rest.now) }
+{
+    text.strip_prefix(first)
 }
 
 // What is before the first such character, and what is after it.
@@ -176,8 +201,8 @@ fn split_at(text: &str, end: char) -> Option<(&str, &str)>
 }
 
 // A step up to a closing bracket, and what is after that.
-fn read_bracketed<'a>(text: &'a str) -> Option<(Selector<'a>, &'a str)>
-    ensures { ReadsStep (91 ∷ text.now) result }
+fn read_bracketed<'a>(text: &'a str, in_filter: bool) -> Option<(Selector<'a>, &'a str)>
+    ensures { ReadsStep (IsWritten in_filter) in_filter (91 ∷ text.now) result }
 {
     match split_at(text, ']') {
         Some((place, rest)) => match read_place(place) {
@@ -280,4 +305,182 @@ fn read_number(digits: &[u8]) -> Option<usize>
         left = rest;
     }
     Some(number)
+}
+
+// A filter after its question mark, and what is after it.
+fn read_filter<'a>(alloc: Global, text: &'a str) -> Result<Option<(Selector<'a>, &'a str)>, Error>
+    ensures ok { IfOk result (ReadsStep IsStep false (63 ∷ text.now)) }
+    ensures memory { IfErr result (λ e. e ≡ Error.OutOfMemory) }
+{
+    let Some(condition) = after_beginning(text) else {
+        return Ok(None);
+    };
+    let Some((path, rest)) = read_filter_path(alloc, condition)? else {
+        return Ok(None);
+    };
+    let Some(steps) = steps_of_path(alloc, &path)? else {
+        return Ok(None);
+    };
+    let Some((comparison, rest)) = read_comparison(rest) else {
+        return Ok(None);
+    };
+    let Some((value, rest)) = read_literal(alloc, rest)? else {
+        return Ok(None);
+    };
+    let condition = Condition {
+        path: steps,
+        comparison,
+        value,
+    };
+    Ok(Some((Selector::Filter(condition), rest)))
+}
+
+// What is after the beginning of a filter.
+fn after_beginning(text: &str) -> Option<&str>
+    ensures { MatchOption result ((rest : List ℕ) → text.now ≡ 40 ∷ (64 ∷ rest) → ⊥)
+        (λ rest. text.now ≡ 40 ∷ (64 ∷ rest.now)) }
+{
+    let rest = after_char(text, '(')?;
+    after_char(rest, '@')
+}
+
+// The steps before a space, and what is after that.
+fn read_filter_path<'a>(
+    alloc: Global,
+    text: &'a str,
+) -> Result<Option<(Vec<Selector<'a>>, &'a str)>, Error>
+    ensures ok { IfOk result (Reads path_view (IsFilterPath text.now)) }
+    ensures memory { IfErr result (λ e. e ≡ Error.OutOfMemory) }
+{
+    let mut steps = Vec::new(alloc);
+    let mut left = text;
+    loop {
+        if let Some(rest) = after_char(left, ' ') {
+            return Ok(Some((steps, rest)));
+        }
+        let Some((selector, rest)) = read_written(left, true) else {
+            return Ok(None);
+        };
+        steps.push(selector)?;
+        left = rest;
+    }
+}
+
+// A comparison before a space, and what is after that.
+fn read_comparison(text: &str) -> Option<(Comparison, &str)>
+    ensures { Reads (λ c. c) (IsComparison text.now) result }
+{
+    match split_at(text, ' ') {
+        Some((word, rest)) => match comparison_in(word) {
+            Some(comparison) => Some((comparison, rest)),
+            None => None,
+        },
+        None => None,
+    }
+}
+
+// The comparison that is written so.
+fn comparison_in(word: &str) -> Option<Comparison>
+    ensures { result ≡ comparison_in word.now }
+{
+    match word {
+        "==" => Some(Comparison::Equal),
+        "!=" | "<>" => Some(Comparison::NotEqual),
+        "<" => Some(Comparison::Less),
+        "<=" => Some(Comparison::LessOrEqual),
+        ">" => Some(Comparison::Greater),
+        ">=" => Some(Comparison::GreaterOrEqual),
+        _ => None,
+    }
+}
+
+// A literal before a closing parenthesis, and what is after that.
+fn read_literal<'a>(alloc: Global, text: &'a str) -> Result<Option<(Node<'a>, &'a str)>, Error>
+    ensures ok { IfOk result (Reads node_tree (BeginsWithLiteral text.now)) }
+    ensures memory { IfErr result (λ e. e ≡ Error.OutOfMemory) }
+{
+    match after_char(text, '"') {
+        Some(quoted) => Ok(read_string(quoted)),
+        None => read_word(alloc, text),
+    }
+}
+
+// A string before a quote and a closing parenthesis, and what is after these.
+fn read_string<'a>(text: &'a str) -> Option<(Node<'a>, &'a str)>
+    ensures { Reads node_tree (BeginsWithLiteral (34 ∷ text.now)) result }
+{
+    match split_at(text, '"') {
+        Some((value, rest)) => match after_char(rest, ')') {
+            Some(rest) => Some((Node::String(value), rest)),
+            None => None,
+        },
+        None => None,
+    }
+}
+
+// A word before a closing parenthesis, and what is after that.
+fn read_word<'a>(alloc: Global, text: &'a str) -> Result<Option<(Node<'a>, &'a str)>, Error>
+    requires { (rest : List ℕ) → text.now ≡ 34 ∷ rest → ⊥ }
+    ensures ok { IfOk result (Reads node_tree (BeginsWithLiteral text.now)) }
+    ensures memory { IfErr result (λ e. e ≡ Error.OutOfMemory) }
+{
+    let (word, rest) = split_word(text);
+    let Some(rest) = after_char(rest, ')') else {
+        return Ok(None);
+    };
+    match read_scalar(alloc, word)? {
+        Some(value) => Ok(Some((value, rest))),
+        None => Ok(None),
+    }
+}
+
+// A word, and the rest.
+fn split_word(text: &str) -> (&str, &str)
+    ensures whole { text.now ≡ result.0.now ++ result.1.now }
+    ensures word { all_are is_in_word result.0.now ≡ true }
+    ensures rest { StopsAt is_in_word result.1.now }
+{
+    let end = word_len(text);
+    (&text[..end], &text[end..])
+}
+
+// The length of a word.
+fn word_len(text: &str) -> usize
+    ensures { result ≡ prefix_len is_in_word text.now }
+{
+    let bytes = text.as_bytes();
+    bytes.iter().take_while(|byte| is_in_word(**byte)).count()
+}
+
+// Whether a byte can be in a word: a control character, a space, a quote or a closing parenthesis
+// cannot.
+fn is_in_word(byte: u8) -> bool
+    ensures { result ≡ is_in_word byte }
+{
+    byte > b' ' && byte != b'"' && byte != b')'
+}
+
+// The value of a word: null, a truth value or a number, as JSON spells it.
+fn read_scalar<'a>(alloc: Global, word: &str) -> Result<Option<Node<'a>>, Error>
+    ensures ok { IfOk result (λ value. MatchOption value ((t : Tree) → IsWord word.now t → ⊥)
+        (λ node. IsWord word.now (node_tree node))) }
+    ensures memory { IfErr result (λ e. e ≡ Error.OutOfMemory) }
+{
+    match parse_value_with_exponents(alloc, word) {
+        Ok(value) => Ok(scalar_node(value)),
+        Err(Error::InvalidJson) => Ok(None),
+        Err(error) => Err(error),
+    }
+}
+
+// Null, a truth value or a number, in place.
+fn scalar_node<'a>(value: Value<'_>) -> Option<Node<'a>>
+    ensures { option_map node_tree result ≡ scalar_tree (tree_of value.entry) }
+{
+    match value {
+        Value::Null => Some(Node::Null),
+        Value::Bool(truth) => Some(Node::Boolean(truth)),
+        Value::Number(number) => Some(Node::Number(NumberItem::from_number(number))),
+        _ => None,
+    }
 }

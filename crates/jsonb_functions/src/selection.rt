@@ -26,7 +26,7 @@ pub enum Bound {
 /// A step of a path with wildcards: the value of a key, an item of an array from the start or the
 /// end, each item of an array, each member's value of an object, the items of an array from one to
 /// another, both included, or the value itself if a condition on it holds.
-#[derive(Clone, Copy, Debug)]
+#[derive(Debug, Drop)]
 pub enum Selector<'a> {
     Key(&'a str),
     Index(usize),
@@ -98,7 +98,7 @@ fn append_selected<'a>(
         found.push(node)?;
         return Ok(());
     };
-    let mut children = children_of(node, *selector);
+    let mut children = children_of(node, selector);
     while let Some(child) = next_child(&mut children) {
         append_selected(child, rest, found)?;
     }
@@ -113,7 +113,7 @@ fn first_selected<'a>(node: Node<'a>, path: &[Selector<'_>]) -> Option<Node<'a>>
     let [selector, rest @ ..] = path else {
         return Some(node);
     };
-    let mut children = children_of(node, *selector);
+    let mut children = children_of(node, selector);
     while let Some(child) = next_child(&mut children) {
         if let Some(found) = first_selected(child, rest) {
             return Some(found);
@@ -123,23 +123,23 @@ fn first_selected<'a>(node: Node<'a>, path: &[Selector<'_>]) -> Option<Node<'a>>
 }
 
 // The children that a selector leads to.
-fn children_of<'a>(node: Node<'a>, selector: Selector<'_>) -> Chosen<'a>
-    ensures { chosen_trees result ≡ children_at selector.entry (node_tree node.entry) }
+fn children_of<'a>(node: Node<'a>, selector: &Selector<'_>) -> Chosen<'a>
+    ensures { chosen_trees result ≡ children_at selector.now (node_tree node.entry) }
 {
     match selector {
         Selector::Key(name) => Chosen::Child(child_of(node, Step::Key(name))),
-        Selector::Index(index) => Chosen::Child(child_of(node, Step::Index(index))),
-        Selector::FromEnd(index) => Chosen::Child(child_of(node, Step::FromEnd(index))),
+        Selector::Index(index) => Chosen::Child(child_of(node, Step::Index(*index))),
+        Selector::FromEnd(index) => Chosen::Child(child_of(node, Step::FromEnd(*index))),
         Selector::AllItems => items_between(node, Bound::FromStart(0), Bound::FromEnd(0)),
         Selector::AllMembers => values_of(node),
-        Selector::Range { first, last } => items_between(node, first, last),
+        Selector::Range { first, last } => items_between(node, *first, *last),
         Selector::Filter(condition) => filtered(node, condition),
     }
 }
 
 // The value itself, if the condition on it holds.
-fn filtered<'a>(node: Node<'a>, condition: Condition<'_>) -> Chosen<'a>
-    ensures { chosen_trees result ≡ filtered condition.entry (node_tree node.entry) }
+fn filtered<'a>(node: Node<'a>, condition: &Condition<'_>) -> Chosen<'a>
+    ensures { chosen_trees result ≡ filtered condition.now (node_tree node.entry) }
 {
     if holds(node, condition) {
         Chosen::Child(Some(node))

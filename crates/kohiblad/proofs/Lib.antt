@@ -13,5 +13,4 @@ pub mod PlaceLaws
 pub mod ResultLaws
 pub mod Scalars
 pub mod ScalarValues
-pub mod Unfiltered
 pub mod Walks

@@ -5,7 +5,7 @@ use Rattle.std.proofs.Common.{length}
 use Rattle.std.proofs.Common.{map, flat_map, take, drop, slice_get, Option, None, Some, option_map}
 use Rattle.std.proofs.Common.{Result, Ok, Err, IfSome, refl, sym, ap, subst, ◌∙◌, inl, inr, arith}
 use Rattle.std.proofs.Common.{length-drop}
-use Rattle.std.specs.Prelude.{is_some, option_to_list, nat_eq}
+use Rattle.std.specs.Prelude.{is_some, option_to_list, nat_eq, ⊤}
 use Rattle.std.specs.Cmp.Lexicographic.{pointwise}
 use Rattle.std.specs.Map.{keys_of, values_of}
 use Rattle.std.proofs.Math.Bool.{and-false}
@@ -23,7 +23,7 @@ use Rattle.jsonb_codec.specs.declared.constants.TheConstants.{ARRAY_CONTAINER_TA
 use Rattle.jsonb_codec.specs.declared.constants.TheConstants.{OBJECT_CONTAINER_TAG, CONTAINER_TAG}
 use Rattle.jsonb_codec.specs.declared.jentry.JEntry.{JEntry}
 use Rattle.jsonb_codec.specs.JEntry.{jentry_at}
-use Rattle.jsonb_codec.specs.Doc.{Doc, Payload, Scalar, type_of}
+use Rattle.jsonb_codec.specs.Doc.{Doc, IsDocument, Payload, Scalar, type_of}
 use Rattle.jsonb_codec.specs.Parts.{IsPayloadOf}
 use Rattle.jsonb_codec.specs.Word.{header_at, word}
 use Rattle.jsonb.specs.Children.{Pairwise}
@@ -35,17 +35,19 @@ use Rattle.jsonb.specs.StoredEntries.{ArePairsOf}
 use Rattle.jsonb.specs.declared.reads.lookup.Place.{Place}
 use Rattle.jsonb.proofs.KindLaws.{At-entry, IsTag-type_of, header_at-Scalar, header_at-array}
 use Rattle.jsonb.proofs.KindLaws.{header_at-object}
+use Rattle.jsonb.proofs.EntryTreeLaws.{entry_tree-is}
 use Rattle.jsonb.proofs.Places.{At, At-after_word, At-left}
 use Rattle.jsonb_functions.specs.Contains.{items_in}
+use Rattle.jsonb_functions.specs.Filter.{filtered, holds}
 use Rattle.jsonb_functions.specs.Found.{child_at, found_at, if_there, item_there}
 use Rattle.jsonb_functions.specs.Selected.{between, children_at, items_before, items_through}
 use Rattle.jsonb_functions.specs.Selected.{member_trees, selected}
+use Rattle.jsonb_functions.specs.declared.filter.Condition.{Condition}
 use Rattle.jsonb_functions.specs.declared.path.Step.{Step}
 use Rattle.jsonb_functions.specs.declared.path.Step.TheVariants as steps
 use Rattle.jsonb_functions.specs.declared.selection.Selector.{Selector}
 use Rattle.jsonb_functions.specs.declared.selection.Selector.TheVariants as selectors
 use Rattle.jsonb_functions.proofs.SelectLaws.{drop_take}
-use Rattle.kohiblad.proofs.Unfiltered.{AreUnfiltered, IsUnfiltered}
 use Rattle.kohiblad.specs.declared.children.Child.{Child}
 use Rattle.kohiblad.specs.ChildWalks.{IsWithin}
 use Rattle.kohiblad.specs.Children.{item_child, member_child, numbered_child, numbered_under}
@@ -53,13 +55,19 @@ use Rattle.kohiblad.specs.PathPlaces.{HoldTrees, HoldsFound, HoldsTree, at_place
 use Rattle.kohiblad.specs.PathPlaces.{children_from, chosen_children, chosen_items}
 use Rattle.kohiblad.specs.PathPlaces.{chosen_members, chosen_under, first_child, first_place}
 use Rattle.kohiblad.specs.PathPlaces.{has_key, named_child, path_place, path_place_in, place_from}
-use Rattle.kohiblad.specs.PathPlaces.{selected_from, selected_in, selected_places, step_selector}
+use Rattle.kohiblad.specs.PathPlaces.{places_at, selected_from, selected_in, selected_places, step_selector}
 use Rattle.kohiblad.specs.PathPlaces.{value_at, whole_place, whole_under}
+use Rattle.kohiblad.specs.PlaceWalks.{AreParts, IsPart}
 use Rattle.kohiblad.specs.Places.{entry_there, is_name, place_of_item, item_under, member_places}
 use Rattle.kohiblad.specs.Places.{member_there, member_under, part_place, part_start, place_at}
 use Rattle.kohiblad.specs.Places.{some_place}
 use Rattle.kohiblad.proofs.PartLaws.{EntriesMean, EntriesMean-items, entry_among}
 use Rattle.kohiblad.proofs.PlaceLaws.{place_of_item_stored, member_places_stored, place_stored}
+
+-- The selector is no filter.
+abbrev pub IsUnfiltered : Selector → Type 0
+IsUnfiltered (selectors.Filter condition) = ⊥
+IsUnfiltered s = ⊤
 
 -- A place that was found does not run past the end.
 module _ (bytes : List ℕ) (place : Place) where
@@ -372,7 +380,7 @@ module _ (b : List ℕ) (ts : Trees) (h : Payload (array ts) b) where
       held_as (min 0 n) (n - 0 - min 0 n) (tree_list ts)
       (all_taken (tree_list ts) (min 0 n) (n - 0 - min 0 n) (omega arith) (omega arith))
   items_held selectors.AllMembers plain = refl
-  items_held (selectors.Filter condition) plain = absurd (plain refl)
+  items_held (selectors.Filter condition) plain = absurd plain
   items_held (selectors.Range first last) plain =
       held_as (items_before first (count ts))
       (items_through last (count ts) - items_before first (count ts)) _
@@ -457,7 +465,7 @@ module _ (b : List ℕ) (ps : Pairs) (h : Payload (object ps) b) where
   members_held selectors.AllItems plain = refl
   members_held selectors.AllMembers plain =
       values_held (children_from b 0 (pair_count ps)) (pair_list ps) all_held
-  members_held (selectors.Filter condition) plain = absurd (plain refl)
+  members_held (selectors.Filter condition) plain = absurd plain
   members_held (selectors.Range first last) plain =
       nothing_taken (items_before first 0) (items_through last 0)
 
@@ -510,7 +518,7 @@ none_at (selectors.FromEnd i) plain t none items members =
     sym (ap option_to_list (none (steps.FromEnd i)))
 none_at selectors.AllItems plain t none items members = sym (ap tree_list items)
 none_at selectors.AllMembers plain t none items members = sym members
-none_at (selectors.Filter condition) plain t none items members = absurd (plain refl)
+none_at (selectors.Filter condition) plain t none items members = absurd plain
 none_at (selectors.Range first last) plain t none items members =
     sym (ap (λ (us : Trees). between first last (tree_list us)) items
     ∙ nothing_taken (items_before first 0) (items_through last 0))
@@ -592,22 +600,80 @@ module _ (bytes : List ℕ) (place : Place) (inside : IsWithin bytes place) wher
       scalar_held s (extension x) _ h.0 refl
       (none_at s plain (extension x) (no_child (extension x) (λ k. refl) refl) refl refl)
 
+-- A filter leads to the place itself, or to none.
+kept_held : (bytes : List ℕ) (place : Place) (t : Tree) (b : Bool) → Held bytes place t
+    → Pairwise (Held bytes) (if b then place ∷ [] else []) (if b then t ∷ [] else [])
+kept_held bytes place t true held = (held, refl)
+kept_held bytes place t false held = refl
+
+filter_held : (condition : Condition) (bytes : List ℕ) (place : Place) (t : Tree)
+    → Held bytes place t
+    → Pairwise (Held bytes) (places_at (selectors.Filter condition) bytes place)
+    (filtered condition t)
+filter_held condition bytes place t held =
+    let same = entry_tree-is place.type_code (entry_there bytes place).payload t held.1 in
+    subst
+    (λ u. Pairwise (Held bytes) (if holds condition u then place ∷ [] else [])
+    (filtered condition t)) (sym same) (kept_held bytes place t (holds condition t) held)
+
+pub other_places : (s : Selector) (bytes : List ℕ) (place : Place)
+    → ((condition : Condition) → s ≡ selectors.Filter condition → ⊥)
+    → child_places s bytes place ≡ places_at s bytes place
+other_places (selectors.Filter condition) bytes place other = absurd (other condition refl)
+other_places (selectors.Key k) bytes place other = refl
+other_places (selectors.Index i) bytes place other = refl
+other_places (selectors.FromEnd i) bytes place other = refl
+other_places selectors.AllItems bytes place other = refl
+other_places selectors.AllMembers bytes place other = refl
+other_places (selectors.Range first last) bytes place other = refl
+
+-- What is at the places to which a selector leads.
+selector_held : (s : Selector) (bytes : List ℕ) (place : Place) (t : Tree) → Held bytes place t
+    → Pairwise (Held bytes) (places_at s bytes place) (children_at s t)
+selector_held (selectors.Filter condition) bytes place t held =
+    filter_held condition bytes place t held
+selector_held (selectors.Key k) bytes place t held =
+    step_held bytes place held.0 (selectors.Key k) tt t held.1
+selector_held (selectors.Index i) bytes place t held =
+    step_held bytes place held.0 (selectors.Index i) tt t held.1
+selector_held (selectors.FromEnd i) bytes place t held =
+    step_held bytes place held.0 (selectors.FromEnd i) tt t held.1
+selector_held selectors.AllItems bytes place t held =
+    step_held bytes place held.0 selectors.AllItems tt t held.1
+selector_held selectors.AllMembers bytes place t held =
+    step_held bytes place held.0 selectors.AllMembers tt t held.1
+selector_held (selectors.Range first last) bytes place t held =
+    step_held bytes place held.0 (selectors.Range first last) tt t held.1
+
 -- What is at the places to which a path with wildcards leads.
-pub selected_held : (path : List Selector) → AreUnfiltered path → (bytes : List ℕ)
-    (place : Place) (t : Tree) → Held bytes place t
+pub selected_held : (path : List Selector) (bytes : List ℕ) (place : Place) (t : Tree)
+    → Held bytes place t
     → Pairwise (Held bytes) (selected_from path bytes place) (selected path t)
-selected_held [] plain bytes place t held = (held, refl)
-selected_held (s ∷ path) plain bytes place t held =
+selected_held [] bytes place t held = (held, refl)
+selected_held (s ∷ path) bytes place t held =
     Pairwise-flat_map (Held bytes) (Held bytes) (λ p. selected_from path bytes p)
-    (λ u. selected path u) (λ p u h. selected_held path plain.1 bytes p u h)
-    (child_places s bytes place) (children_at s t)
-    (step_held bytes place held.0 s plain.0 t held.1)
+    (λ u. selected path u) (λ p u h. selected_held path bytes p u h)
+    (places_at s bytes place) (children_at s t) (selector_held s bytes place t held)
+
+-- Each of the places to which a selector leads holds a tree.
+parts_held : (bytes : List ℕ) (places : List Place) (ts : List Tree)
+    → Pairwise (Held bytes) places ts → AreParts bytes places
+parts_held bytes [] ts held = tt
+parts_held bytes (place ∷ places) [] held = absurd held
+parts_held bytes (place ∷ places) (t ∷ ts) held =
+    ((t, held.0.0, held.0.1), parts_held bytes places ts held.1)
+
+pub parts_at : (s : Selector) (bytes : List ℕ) (place : Place) → IsPart bytes place
+    → AreParts bytes (places_at s bytes place)
+parts_at s bytes place part =
+    parts_held bytes (places_at s bytes place) (children_at s part.0)
+    (selector_held s bytes place part.0 (part.1, part.2))
 
 -- A step is no filter.
 step_unfiltered : (s : Step) → IsUnfiltered (step_selector s)
-step_unfiltered (steps.Key k) = λ is. let never : ⊥ = cc in never
-step_unfiltered (steps.Index i) = λ is. let never : ⊥ = cc in never
-step_unfiltered (steps.FromEnd i) = λ is. let never : ⊥ = cc in never
+step_unfiltered (steps.Key k) = tt
+step_unfiltered (steps.Index i) = tt
+step_unfiltered (steps.FromEnd i) = tt
 
 -- What is at the place to which a path leads.
 single_child : (s : Step) (t : Tree)
@@ -688,14 +754,14 @@ whole_held bytes (extension x) (inr (is, h)) = absurd (omega arith)
 whole_held bytes t (inl (other, h)) = whole_scalar bytes t h
 
 -- What the places of a document that a path selects hold, and the place at the end of a path.
-pub places_hold : (bytes : List ℕ) (t : Tree) (path : List Selector) → AreUnfiltered path
-    → Doc bytes t → HoldTrees bytes (selected_places path bytes) (selected path t)
-places_hold bytes t path plain doc =
+pub places_hold : (bytes : List ℕ) (t : Tree) (path : List Selector) → Doc bytes t
+    → HoldTrees bytes (selected_places path bytes) (selected path t)
+places_hold bytes t path doc =
     let (place, (is, held)) = whole_held bytes t doc in
     subst (λ (r : Result Place Error). HoldTrees bytes (selected_in path bytes r) (selected path t))
     (sym is)
     (Pairwise-weaker (Held bytes) (HoldsTree bytes) (λ p u h. h.1) (selected_from path bytes place)
-    (selected path t) (selected_held path plain bytes place t held))
+    (selected path t) (selected_held path bytes place t held))
 
 pub place_holds : (bytes : List ℕ) (t : Tree) (path : List Step) → Doc bytes t
     → HoldsFound bytes (path_place path bytes) (found_at path t)
@@ -704,3 +770,12 @@ place_holds bytes t path doc =
     subst
     (λ (r : Result Place Error). HoldsFound bytes (path_place_in path bytes r) (found_at path t))
     (sym is) (end_held path bytes place t held)
+
+-- The whole of a document is at its place.
+pub whole_part : (bytes : List ℕ) (place : Place) → IsDocument bytes
+    → whole_place bytes ≡ Ok place → IsPart bytes place
+whole_part bytes place (t, doc) found =
+    let (whole, (is, held)) = whole_held bytes t doc in
+    let both : Ok whole ≡ Ok place = sym is ∙ found in
+    let same : whole ≡ place = cc in
+    subst (IsPart bytes) same (t, held.0, held.1)

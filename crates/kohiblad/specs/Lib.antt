@@ -13,5 +13,6 @@ pub mod Scalars
 pub mod Functions
 pub mod PathPlaces
 pub mod ChildWalks
+pub mod PlaceWalks
 pub mod PathCalls
 pub mod Words

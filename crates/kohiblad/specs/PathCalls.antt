@@ -18,14 +18,14 @@ use Rattle.kohiblad.specs.Places.{place_answer}
 use Rattle.kohiblad.specs.Scalars.{no_place}
 use Rattle.kohiblad.specs.Status.{code, other_kind, IsHandedOver, IsOneAnswered, IsRefused}
 
--- The text is a path of these steps, without wildcards and ranges.
+-- The text is a path of these steps, without wildcards, ranges and filters.
 abbrev pub GivesSteps : List ℕ → List StepView → Type 0
 GivesSteps text path =
     (selectors : List SelectorView)
     × (PathText text selectors × (single_steps selectors ≡ Some path))
 
 -- The document of the path that a UTF-8 text gives is handed over; a text that is no path without
--- wildcards and ranges is refused; or there is not enough memory.
+-- wildcards, ranges and filters is refused; or there is not enough memory.
 abbrev pub IsPathTextRead : List ℕ → List ℕ → List ℕ → ℕ → ℕ → Type 0
 IsPathTextRead text before after size status =
     ((path : List StepView)

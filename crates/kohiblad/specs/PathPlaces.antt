@@ -9,7 +9,9 @@ use Rattle.jsonb_codec.specs.declared.constants.TheConstants.{OBJECT_CONTAINER_T
 use Rattle.jsonb_codec.specs.Parts.{IsPayloadOf}
 use Rattle.jsonb_codec.specs.Word.{header_at}
 use Rattle.jsonb.specs.Children.{Pairwise}
+use Rattle.jsonb.specs.EntryTrees.{entry_tree}
 use Rattle.jsonb.specs.declared.reads.lookup.Place.{Place}
+use Rattle.jsonb_functions.specs.Filter.{holds}
 use Rattle.jsonb_functions.specs.Selected.{items_before, items_through}
 use Rattle.jsonb_functions.specs.declared.path.Step.{Step}
 use Rattle.jsonb_functions.specs.declared.path.Step.TheVariants as steps
@@ -49,7 +51,7 @@ abbrev pub items_between : List ℕ → ℕ → Bound → Bound → List Child
 items_between bytes n first last =
     children_from bytes (items_before first n) (items_through last n - items_before first n)
 
--- The items of an array of n items to which a selector leads. No text of a path gives a filter.
+-- The items of an array of n items to which a selector leads; a filter leads to none.
 abbrev pub chosen_items : Selector → List ℕ → ℕ → List Child
 chosen_items (selectors.Key k) bytes n = []
 chosen_items (selectors.Index i) bytes n = items_between bytes n (FromStart i) (FromStart i)
@@ -59,7 +61,7 @@ chosen_items selectors.AllMembers bytes n = []
 chosen_items (selectors.Range first last) bytes n = items_between bytes n first last
 chosen_items (selectors.Filter condition) bytes n = []
 
--- The members of an object of n members to which a selector leads.
+-- The members of an object of n members to which a selector leads; a filter leads to none.
 abbrev pub chosen_members : Selector → List ℕ → ℕ → List Child
 chosen_members (selectors.Key k) bytes n = named_child k.now bytes (children_from bytes 0 n)
 chosen_members (selectors.Index i) bytes n = []
@@ -90,18 +92,25 @@ value_at start child = record {
   length = child.value.length;
 }
 
--- The places to which a selector leads from a place; none from a scalar's.
+-- The places of the children to which a selector leads from a place; none from a scalar's.
 abbrev pub child_places : Selector → List ℕ → Place → List Place
 child_places selector bytes place =
     if place.type_code == CONTAINER_TAG
     then map (value_at place.start) (chosen_children selector (entry_there bytes place).payload)
     else []
 
+-- The places to which a selector leads from a place: those of children, or that place itself, if
+-- the condition of a filter holds on the tree of its entry.
+abbrev pub places_at : Selector → List ℕ → Place → List Place
+places_at (selectors.Filter condition) bytes place =
+    if holds condition (entry_tree (entry_there bytes place)) then place ∷ [] else []
+places_at selector bytes place = child_places selector bytes place
+
 -- The places to which a path leads from a place, in the order in which they are stored.
 abbrev pub selected_from : List Selector → List ℕ → Place → List Place
 selected_from [] bytes place = place ∷ []
 selected_from (selector ∷ path) bytes place =
-    flat_map (λ child. selected_from path bytes child) (child_places selector bytes place)
+    flat_map (λ next. selected_from path bytes next) (places_at selector bytes place)
 
 -- The place of a whole array or object, or that of a scalar's payload after its two words.
 abbrev pub whole_under : List ℕ → Result (ℕ × ℕ) Error → Result Place Error

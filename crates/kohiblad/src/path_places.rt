@@ -3,26 +3,38 @@
 ghost use Rattle.std.specs.Prelude.{◌≡◌, ◌++◌, ◌<◌, ◌^◌, [], IfErr, IfOk, IfSome, OnOk, Ok, map};
 ghost use Rattle.std.specs.Iterator.{YieldsFirstBy};
 ghost use Rattle.jsonb_codec.specs.Word.{header_at};
+ghost use Rattle.jsonb.specs.EntryTrees.{entry_tree};
+ghost use Rattle.jsonb.specs.Node.{node_tree};
 ghost use Rattle.kohiblad.specs.ChildWalks.{IsWithin, children_left, found_child, places_left};
 ghost use Rattle.kohiblad.specs.PathPlaces.{child_places, children_from, chosen_children};
 ghost use Rattle.kohiblad.specs.PathPlaces.{chosen_items, chosen_members, has_key};
-ghost use Rattle.kohiblad.specs.PathPlaces.{items_between, named_child, place_from, selected_from};
-ghost use Rattle.kohiblad.specs.PathPlaces.{step_selector, whole_place};
+ghost use Rattle.kohiblad.specs.PathPlaces.{items_between, named_child, place_from, places_at};
+ghost use Rattle.kohiblad.specs.PathPlaces.{selected_from, step_selector, whole_place};
+ghost use Rattle.kohiblad.specs.PlaceWalks.{IsPart, walk_places};
 ghost use Rattle.kohiblad.specs.PathCalls.{found_answer};
 ghost use Rattle.kohiblad.specs.Words.{CanMove, Error, IsChildIn, IsPlaceIn, child_at_cursor};
 ghost use Rattle.kohiblad.specs.Words.{entry_there};
 
 use crate::children::{Child, KohibladCursor, child_at_cursor, cursor_after, first_cursor};
 use crate::places::{KohibladPlace, part_start, place_answer, place_at};
-use jsonb::{Error, Place, read_header};
+use jsonb::{Error, Node, Place, read_header};
 use jsonb_codec::constants::{ARRAY_CONTAINER_TAG, CONTAINER_TAG, OBJECT_CONTAINER_TAG};
-use jsonb_functions::{Bound, Selector, Step, count_before, count_through};
+use jsonb_codec::parts::Part;
+use jsonb_functions::{Bound, Selector, Step, count_before, count_through, holds};
 
 /// What is left in a walk over children: so many at most, from a cursor on.
 #[derive(Clone, Copy)]
 pub struct ChildWalk {
     pub cursor: KohibladCursor,
     pub left: usize,
+}
+
+/// What is left of the positions to which a selector leads from a position: that itself, or not, or
+/// those of children.
+#[derive(Clone, Copy)]
+pub enum PlaceWalk {
+    Itself(bool),
+    Children(ChildWalk),
 }
 
 /// The position of the whole array or object, or of the payload of a scalar. `InvalidEOF` if the
@@ -50,7 +62,7 @@ pub fn append_selected(
     path: &[Selector<'_>],
     found: &mut Vec<KohibladPlace>,
 ) -> Result<(), Error>
-    requires { IsWithin bytes.now place }
+    requires { IsPart bytes.now place }
     ensures appended { OnOk result (found.new.items
         ≡ found.old.items ++ map found_answer (selected_from path.now bytes.now place)) }
     ensures memory { IfErr result (λ e. e ≡ Error.OutOfMemory) }
@@ -59,11 +71,52 @@ pub fn append_selected(
         found.push(place_answer(Ok(Some(place))))?;
         return Ok(());
     };
-    let mut walk = walk_from(bytes, place, *selector);
-    while let Some(child) = next_place(bytes, place, &mut walk) {
-        append_selected(bytes, child, rest, found)?;
+    let mut walk = places_from(bytes, place, selector);
+    while let Some(next) = next_selected(bytes, place, &mut walk) {
+        append_selected(bytes, next, rest, found)?;
     }
     Ok(())
+}
+
+// The positions to which a selector leads from a position.
+fn places_from(bytes: &[u8], place: Place, selector: &Selector<'_>) -> PlaceWalk
+    requires { IsPart bytes.now place }
+    ensures { walk_places bytes.now place result ≡ places_at selector.now bytes.now place }
+{
+    match selector {
+        Selector::Filter(condition) => {
+            PlaceWalk::Itself(holds(node_there(bytes, place), condition))
+        }
+        _ => PlaceWalk::Children(walk_from(bytes, place, selector)),
+    }
+}
+
+// The next of these positions.
+fn next_selected(bytes: &[u8], place: Place, walk: &mut PlaceWalk) -> Option<Place>
+    requires { IsWithin bytes.now place }
+    ensures { YieldsFirstBy (λ it. it) (walk_places bytes.now place) walk.old result walk.new }
+{
+    match walk {
+        PlaceWalk::Itself(is_left) => {
+            if !*is_left {
+                return None;
+            }
+            *is_left = false;
+            Some(place)
+        }
+        PlaceWalk::Children(children) => next_place(bytes, place, children),
+    }
+}
+
+// The value at a position.
+fn node_there(bytes: &[u8], place: Place) -> Node<'_>
+    requires { IsPart bytes.now place }
+    ensures { node_tree result ≡ entry_tree (entry_there bytes.now place) }
+{
+    Node::of_part(Part {
+        type_code: place.type_code,
+        payload: bytes_at(bytes, place),
+    })
 }
 
 /// The position to which a path leads from a position. `None` if the path leads nowhere.
@@ -74,7 +127,7 @@ pub fn place_at_end(bytes: &[u8], from: Place, path: &[Step<'_>]) -> Option<Plac
     let mut place = from;
     let mut left = path;
     while let [step, rest @ ..] = left {
-        let mut walk = walk_from(bytes, place, selector_of(*step));
+        let mut walk = walk_from(bytes, place, &selector_of(*step));
         place = next_place(bytes, place, &mut walk)?;
         left = rest;
     }
@@ -93,9 +146,9 @@ fn selector_of<'a>(step: Step<'a>) -> Selector<'a>
 }
 
 // The children to which a selector leads from a position.
-fn walk_from(bytes: &[u8], place: Place, selector: Selector<'_>) -> ChildWalk
+fn walk_from(bytes: &[u8], place: Place, selector: &Selector<'_>) -> ChildWalk
     requires { IsWithin bytes.now place }
-    ensures { places_left bytes.now place result ≡ child_places selector.entry bytes.now place }
+    ensures { places_left bytes.now place result ≡ child_places selector.now bytes.now place }
 {
     if place.type_code == CONTAINER_TAG {
         chosen_children(bytes_at(bytes, place), selector)
@@ -162,8 +215,8 @@ fn no_children() -> ChildWalk
 }
 
 // The children of an array or object to which a selector leads.
-fn chosen_children(bytes: &[u8], selector: Selector<'_>) -> ChildWalk
-    ensures { children_left bytes.now result ≡ chosen_children selector.entry bytes.now }
+fn chosen_children(bytes: &[u8], selector: &Selector<'_>) -> ChildWalk
+    ensures { children_left bytes.now result ≡ chosen_children selector.now bytes.now }
 {
     match read_header(bytes, 0) {
         Ok((ARRAY_CONTAINER_TAG, count)) => chosen_items(bytes, count, selector),
@@ -173,17 +226,16 @@ fn chosen_children(bytes: &[u8], selector: Selector<'_>) -> ChildWalk
 }
 
 // The items of an array to which a selector leads.
-fn chosen_items(bytes: &[u8], count: usize, selector: Selector<'_>) -> ChildWalk
+fn chosen_items(bytes: &[u8], count: usize, selector: &Selector<'_>) -> ChildWalk
     requires header { header_at bytes.now 0 ≡ Ok (ARRAY_CONTAINER_TAG, count) }
     requires few { count < 2 ^ 29 }
-    ensures { children_left bytes.now result ≡ chosen_items selector.entry bytes.now count }
+    ensures { children_left bytes.now result ≡ chosen_items selector.now bytes.now count }
 {
     let (first, last) = match selector {
-        Selector::Index(index) => (Bound::FromStart(index), Bound::FromStart(index)),
-        Selector::FromEnd(index) => (Bound::FromEnd(index), Bound::FromEnd(index)),
+        Selector::Index(index) => (Bound::FromStart(*index), Bound::FromStart(*index)),
+        Selector::FromEnd(index) => (Bound::FromEnd(*index), Bound::FromEnd(*index)),
         Selector::AllItems => (Bound::FromStart(0), Bound::FromEnd(0)),
-        Selector::Range { first, last } => (first, last),
-        // No text of a path gives a filter.
+        Selector::Range { first, last } => (*first, *last),
         Selector::Key(_) | Selector::AllMembers | Selector::Filter(_) => return no_children(),
     };
     items_between(bytes, count, first, last)
@@ -211,9 +263,9 @@ fn items_between(bytes: &[u8], count: usize, first: Bound, last: Bound) -> Child
 }
 
 // The members of an object to which a selector leads.
-fn chosen_members(bytes: &[u8], count: usize, selector: Selector<'_>) -> ChildWalk
+fn chosen_members(bytes: &[u8], count: usize, selector: &Selector<'_>) -> ChildWalk
     requires { header_at bytes.now 0 ≡ Ok (OBJECT_CONTAINER_TAG, count) }
-    ensures { children_left bytes.now result ≡ chosen_members selector.entry bytes.now count }
+    ensures { children_left bytes.now result ≡ chosen_members selector.now bytes.now count }
 {
     match selector {
         Selector::Key(name) => named_member(bytes, count, name),

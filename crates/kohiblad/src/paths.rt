@@ -1,8 +1,8 @@
 //! Paths as texts, and the positions of the values to which paths lead.
 
 ghost use Rattle.std.specs.Prelude.{◌≡◌, ◌↔◌, IfErr, IfOk, List, Some, map, option_map};
+ghost use Rattle.jsonb_codec.specs.Doc.{IsDocument};
 ghost use Rattle.jsonb_functions.specs.Found.{found_at};
-ghost use Rattle.jsonb_functions.specs.PathText.{PathText, selector_view};
 ghost use Rattle.jsonb_functions.specs.Selected.{selected};
 ghost use Rattle.jsonb_functions.specs.StoredPath.{StepView, step_view};
 ghost use Rattle.jsonb_functions.specs.declared.path.Step.{Step as PathStep};
@@ -24,12 +24,12 @@ use std::str;
 
 /// Copies the document of the path that a text gives to `out`, and its length in bytes to `length`.
 /// The text is `$`, and then the steps: `.name` is the value of a key, and so is `."any name"`, if
-/// there are points or brackets in it; `[7]` is an item, `[#-1]` the last one, and `[#]` none, past
-/// the last one. The keys are the text's bytes, without escapes. The document is what
+/// there are points, brackets or question marks in it; `[7]` is an item, `[#-1]` the last one, and
+/// `[#]` none, past the last one. The keys are the text's bytes, without escapes. The document is what
 /// `kohiblad_edit` and `kohiblad_get_path` take: an array with a text for each key and a whole
 /// number for each item, where -1 is the last one. An index past 2^64 - 1 is stored as that, and
 /// one from the end past 2^63 as -2^63. `InvalidUtf8` if the text is not UTF-8; `OTHER_KIND` if it
-/// is not a path, or one with wildcards or ranges; `InvalidJsonb` if a key has 2^28 bytes or more,
+/// is not a path, or one with wildcards, ranges or filters; `InvalidJsonb` if a key has 2^28 bytes or more,
 /// or the path 2^29 steps or more; `OutOfMemory` if an allocation fails; `NO_ROOM` if `out` is
 /// shorter than the document. If the status is not `OK`, `out` is unchanged, and `length` is 0, or
 /// for `NO_ROOM` the length of the document.
@@ -59,7 +59,7 @@ fn write_path(alloc: Global, text: &str, out: &mut [u8], length: &mut usize) -> 
     }
 }
 
-// The steps that a text gives. `None` if it is not a path without wildcards and ranges.
+// The steps that a text gives. `None` if it is not a path without wildcards, ranges and filters.
 fn steps_of_text<'a>(alloc: Global, text: &'a str) -> Result<Option<Vec<Step<'a>>>, Error>
     ensures ok { IfOk result (λ steps. (path : List StepView) → GivesSteps text.now path
         ↔ (option_map (λ steps. map step_view steps.items) steps ≡ Some path)) }
@@ -117,9 +117,14 @@ fn path_place(alloc: Global, bytes: &[u8], path: Document<'_>) -> KohibladPlace
 
 /// Copies the positions of the values that a path selects to `out`, in the order in which they are
 /// stored, and how many they are to `count`. The path is a text as `kohiblad_path_of_text` reads
-/// it, in which `[*]` is each item of an array, `[0 to #-2]` the items from one to another, and
-/// `.*` each member's value of an object. `InvalidUtf8` if the text is not UTF-8; `InvalidJsonb` if
-/// the bytes are not a document of at most this depth; `OTHER_KIND` if the text is not a path;
+/// it, in which `[*]` is each item of an array, `[0 to #-2]` the items from one to another, `.*`
+/// each member's value of an object, and `?(@.price < 3)` keeps a value if what is at the end of
+/// the path that begins with `@` compares so with a literal, by the order of documents. That path
+/// has no wildcards, ranges and filters, and a key with a space in it is written between quotes.
+/// The comparison is `==`, `!=` or `<>`, `<`, `<=`, `>` or `>=`, with one space before and after
+/// it, and the literal `null`, `true`, `false`, a JSON number, which is read exactly, or a string
+/// without quotes and escapes in it. `InvalidUtf8` if the text is not UTF-8; `InvalidJsonb` if the
+/// bytes are not a document of at most this depth; `OTHER_KIND` if the text is not a path;
 /// `OutOfMemory` if an allocation fails; `NO_ROOM` if `out` is too short. If the status is not
 /// `OK`, `out` is unchanged, and `count` is 0, or for `NO_ROOM` the number of positions. A scalar
 /// has depth 0, an array or object one more than its deepest child, and at least 1. Deeper levels
@@ -137,7 +142,6 @@ pub extern "C" fn kohiblad_select(
 
     // In a document the values at these positions are those that the path selects.
     ensures document { (t : Tree) (selectors : List PathSelector) → Doc bytes.now t
-        → PathText path.now (map selector_view selectors)
         → HoldTrees bytes.now (selected_places selectors bytes.now) (selected selectors t) }
 {
     let Ok(path) = str::from_utf8(path) else {
@@ -157,6 +161,7 @@ fn write_selected(
     out: &mut [KohibladPlace],
     count: &mut usize,
 ) -> u32
+    requires { IsDocument bytes.now }
     ensures { AreTextPlaces bytes.now path.now out.old out.new count.new result }
 {
     match read_path_text(alloc, path) {
@@ -172,6 +177,7 @@ fn selected_places(
     bytes: &[u8],
     path: &[Selector<'_>],
 ) -> Result<Vec<KohibladPlace>, Error>
+    requires { IsDocument bytes.now }
     ensures ok { IfOk result (λ found. found.items
         ≡ map found_answer (selected_places path.now bytes.now)) }
     ensures memory { IfErr result (λ e. e ≡ Error.OutOfMemory) }

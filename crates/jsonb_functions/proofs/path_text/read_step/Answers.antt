@@ -1,13 +1,6 @@
-use Rattle.std.proofs.Common.{arith}
-use Rattle.jsonb_functions.proofs.PathStepLaws.{cut_after}
+use Rattle.jsonb_functions.proofs.FilterTextLaws.{no_filter}
 use Rattle.jsonb_functions.proofs.path_text.read_step.Goals as goal
 
-pub range_from-requires : goal.range_from-requires
-range_from-requires c = λ _.
-    cut_after c.args.text.now c.as_bytes.result.now 46 c.utf8.text c.as_bytes.ensures.value
-    c.in-len1-up.len_at_least c.if-first-eq46.true (omega arith)
-
-pub range_from-requires-then-first-eq91 : goal.range_from-requires-then-first-eq91
-range_from-requires-then-first-eq91 c = λ _.
-    cut_after c.args.text.now c.as_bytes.result.now 91 c.utf8.text c.as_bytes.ensures.value
-    c.in-len1-up.len_at_least c.if-first-eq91.true (omega arith)
+pub returns-in-None-clause-ok : goal.returns-in-None-clause-ok
+returns-in-None-clause-ok c =
+    no_filter c.args.text.now c.read_written.result c.in-None.ensures c.read_written.ensures

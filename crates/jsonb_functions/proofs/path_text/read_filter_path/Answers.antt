@@ -1,0 +1,24 @@
+use Rattle.std.proofs.Common.{rules, true}
+use Rattle.jsonb_functions.specs.PathText.{IsWritten}
+use Rattle.jsonb_functions.proofs.PathLaws.{filter_path_none, filter_path_read, path_begins}
+use Rattle.jsonb_functions.proofs.PathLaws.{read_on}
+use Rattle.jsonb_functions.proofs.path_text.read_filter_path.Goals as goal
+
+pub returns-in-Some-clause-ok : goal.returns-in-Some-clause-ok
+returns-in-Some-clause-ok c =
+    filter_path_read c.args.text.now c.loop-rest.left.now c.in-Some.rest c.loop-rest.steps
+    c.in-Some.ensures c.loop-rest.invariant.1
+
+pub returns-in_default-read_written-clause-ok : goal.returns-in_default-read_written-clause-ok
+returns-in_default-read_written-clause-ok c =
+    filter_path_none c.args.text.now c.loop-rest.left.now c.loop-rest.steps.items
+    c.in_default.ensures c.in_default-read_written.ensures c.loop-rest.invariant.1
+
+pub loop-rest-preserved : goal.loop-rest-preserved
+loop-rest-preserved c = (
+  search rules,
+  read_on (IsWritten true) true path_begins c.args.text.now c.loop-rest.left.now
+      c.in-Some-read_written.rest c.loop-rest.steps.items c.push.new.self.items
+      c.in-Some-read_written.selector (λ ends. c.in_default.ensures ends.0 ends.1)
+      c.in-Some-read_written.ensures c.in_ok-push.ensures.items c.loop-rest.invariant.1,
+)

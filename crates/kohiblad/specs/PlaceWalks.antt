@@ -1,0 +1,22 @@
+-- What is left of the places to which a selector leads.
+use Rattle.std.specs.Prelude.{ℕ, List, [], ◌∷◌, ⊤, if◌then◌else◌}
+use Rattle.jsonb_value.specs.Tree.{Tree}
+use Rattle.jsonb.specs.declared.reads.lookup.Place.{Place}
+use Rattle.kohiblad.specs.declared.path_places.PlaceWalk.{PlaceWalk}
+use Rattle.kohiblad.specs.declared.path_places.PlaceWalk.TheVariants as walks
+use Rattle.kohiblad.specs.ChildWalks.{IsWithin, places_left}
+use Rattle.kohiblad.specs.PathPlaces.{HoldsTree}
+
+-- The place is inside the bytes, and its entry holds a tree.
+abbrev pub IsPart : List ℕ → Place → Type 0
+IsPart bytes place = (t : Tree) × IsWithin bytes place × HoldsTree bytes place t
+
+-- So is each of the places.
+abbrev pub AreParts : List ℕ → List Place → Type 0
+AreParts bytes [] = ⊤
+AreParts bytes (place ∷ places) = IsPart bytes place × AreParts bytes places
+
+-- The places that are left in a walk over those to which a selector leads from a place.
+abbrev pub walk_places : List ℕ → Place → PlaceWalk → List Place
+walk_places bytes place (walks.Itself is_left) = if is_left then place ∷ [] else []
+walk_places bytes place (walks.Children walk) = places_left bytes place walk
