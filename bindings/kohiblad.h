@@ -7,12 +7,13 @@
  *         sizeof row, &length);
  *
  * BYTES go in as a pointer and a length. Any bytes may be given: no call reads outside them, and
- * each says what it returns if they are not a document. But a call may recurse as deep as the bytes
- * nest, and needs stack for that (see STACK): check untrusted bytes with kohiblad_check first,
- * which takes a limit. Checked bytes need no further check: no call writes to its input.
+ * each says what it returns if they are not a document. No call writes to its input.
  *
  * DEPTH: a scalar has depth 0, an array or object one more than its deepest child, and at least 1.
- * A call that takes a depth looks no deeper: to it a document that nests deeper is not a document.
+ * Each call that walks a document takes a depth, and looks no deeper: to it a document that nests
+ * deeper is not a document. Give the depth for which the thread has stack (see STACK). Bytes that
+ * were checked before, by kohiblad_check, need no limit again: SIZE_MAX is none, since bytes do not
+ * nest deeper than they are many.
  *
  * RESULTS that are bytes are written as snprintf writes: `out` has room for `room` bytes, and
  * `*length` is set to the number of bytes that the result has, also if they do not fit. Then the
@@ -24,25 +25,21 @@
  * What a call writes must lie apart from its input, and from all else that it writes. If it does
  * not, the functions below return KOHIBLAD_OVERLAP and write nothing, `*length` neither.
  *
- * MEMORY: calls that name OUT_OF_MEMORY below allocate by malloc and realloc, and free all of it
- * before they return. All other calls allocate nothing. Beside malloc, realloc and free the library
- * needs memcpy, memmove and memset, and nothing else.
- *
- * STATUSES are named below without their KOHIBLAD_.
+ * MEMORY: calls that say so allocate by malloc and realloc, and free all of it before they return.
+ * If an allocation fails, the status is KOHIBLAD_OUT_OF_MEMORY. All other calls allocate nothing.
+ * Beside malloc, realloc and free the library needs memcpy, memmove and memset, and nothing else.
  *
  * THREADS: the library is reentrant: it has no state. Any call may run in any thread, beside any
  * other, also over the same bytes, as long as nobody writes them. Do not call it in a signal
  * handler.
  *
- * STACK: calls on documents recurse as deep as a document nests. KOHIBLAD_LEVEL_STACK bytes for
- * each level, and KOHIBLAD_CALL_STACK beside them, are enough: 64 levels need 72 KB, and 1,000
- * levels 1,008 KB. So pass untrusted bytes through kohiblad_check, or use a call that takes a
- * depth. parse and text_fault do not recurse, but the depth given to kohiblad_parse is also how
- * deep its document nests. kohiblad_edit takes KOHIBLAD_EDIT_LEVEL_STACK bytes for each level of
- * its result, which may nest as deep as the path is long and the value nests together, also where
- * these are within the depth; the result of kohiblad_concat may nest one level deeper than that.
- * kind, get, find, part, begin, next, of_part, array_item, object_member, and the calls on scalars
- * do not recurse either.
+ * STACK: calls with a depth recurse as deep as the document nests, up to that depth.
+ * KOHIBLAD_LEVEL_STACK bytes for each level, and KOHIBLAD_CALL_STACK beside them, are enough: 64
+ * levels need 72 KB, and 1,000 levels 1,008 KB. kohiblad_edit takes KOHIBLAD_EDIT_LEVEL_STACK bytes
+ * for each level of its result, which may nest as deep as the path is long and the value nests
+ * together, also where these are within the depth; the result of kohiblad_concat may nest one level
+ * deeper than that. parse and text_fault do not recurse, but the depth given to kohiblad_parse is
+ * also how deep its document nests. The calls without a depth do not recurse.
  *
  * NULL is allowed for bytes, texts, offsets, out and order whose length is 0, and for `key` of
  * kohiblad_next. A `length` and a cursor are never null.
@@ -90,20 +87,20 @@ enum kohiblad_edit_kind {
 enum kohiblad_status {
     KOHIBLAD_OK = 0,
     KOHIBLAD_INVALID_EOF = 1,             /* the bytes are cut, or rows are outside them */
-    KOHIBLAD_INVALID_JSONB = 2,           /* not a document, or past a limit */
+    KOHIBLAD_INVALID_JSONB = 2,           /* no document, or past a limit of the format */
     KOHIBLAD_INVALID_JSONB_HEADER = 3,
     KOHIBLAD_INVALID_JSONB_JENTRY = 4,
     KOHIBLAD_INVALID_JSONB_NUMBER = 5,
     KOHIBLAD_INVALID_JSONB_EXTENSION = 6,
     KOHIBLAD_INVALID_UTF8 = 7,
     KOHIBLAD_OBJECT_DUPLICATE_KEY = 8,
-    KOHIBLAD_INVALID_JSON = 9,            /* the text is not JSON */
+    KOHIBLAD_INVALID_JSON = 9,            /* the text is no JSON */
     KOHIBLAD_OUT_OF_MEMORY = 10,
     KOHIBLAD_NO_ROOM = 11,
     KOHIBLAD_NONE = 12,                   /* no such item, member or key */
     KOHIBLAD_TOO_DEEP = 13,
     KOHIBLAD_OTHER_KIND = 14,             /* the value is of another kind */
-    KOHIBLAD_PAST_RANGE = 15,             /* the number is not a whole one of 64 bits */
+    KOHIBLAD_PAST_RANGE = 15,             /* the number is no whole one of 64 bits */
     KOHIBLAD_OVERLAP = 16,                /* what a call writes overlaps something else */
     KOHIBLAD_BAD_NUMBER = 17,             /* the text has an unfinished or too large number */
     KOHIBLAD_TOO_MANY_STEPS = 18          /* the call took more steps than it may */
@@ -210,19 +207,9 @@ static inline uint32_t kohiblad_status_name(uint32_t status, uint8_t *out, size_
 static inline bool kohiblad_check(const uint8_t *bytes, size_t size, size_t depth)
     KOHIBLAD_INLINE("kohiblad_check");
 
-/* Whether the bytes are a document, however deep it nests. */
-static inline bool kohiblad_is_document(const uint8_t *bytes, size_t size)
-    KOHIBLAD_INLINE("kohiblad_is_document");
-
-/* Compares byte strings by their meaning, with the result -1, 0 or 1: documents compare by their
- * values and are less than all other bytes, which compare as bytes. 5 and 5.0 are equal. The order
- * is total. */
-static inline int32_t kohiblad_compare(const uint8_t *left, size_t left_size,
-    const uint8_t *right, size_t right_size) KOHIBLAD_INLINE("kohiblad_compare");
-
 /* Compares byte strings by their meaning, with the result -1, 0 or 1: documents of at most this
  * depth compare by their values and are less than all other bytes, which compare as bytes. So a
- * document that nests deeper than `depth` levels counts as no document. The order is total. */
+ * document that nests deeper than `depth` levels compares by its bytes. The order is total. */
 static inline int32_t kohiblad_compare_within(const uint8_t *left, size_t left_size,
     const uint8_t *right, size_t right_size, size_t depth)
     KOHIBLAD_INLINE("kohiblad_compare_within");
@@ -386,23 +373,11 @@ static inline uint32_t kohiblad_of_extension(uint32_t tag, int64_t value, int32_
     size_t *length) KOHIBLAD_INLINE("kohiblad_of_extension");
 
 /* Copies the text of the bytes to `out`: the compact text of a document, `null` for no bytes, and
- * for all other bytes their own text, with U+FFFD in place of invalid UTF-8. OUT_OF_MEMORY if an
- * allocation fails; NO_ROOM if `out` is shorter than the text. */
-static inline uint32_t kohiblad_to_string(const uint8_t *bytes, size_t size, uint8_t *out,
-    size_t room, size_t *length) KOHIBLAD_INLINE("kohiblad_to_string");
-
-/* Copies the text of the bytes to `out`: the compact text of a document, `null` for no bytes, and
  * for all other bytes their own text, with U+FFFD in place of invalid UTF-8. A document that nests
  * deeper than `depth` levels counts as no document, so its text is that of its bytes. OUT_OF_MEMORY
  * if an allocation fails; NO_ROOM if `out` is shorter than the text. */
 static inline uint32_t kohiblad_to_string_within(const uint8_t *bytes, size_t size, size_t depth,
     uint8_t *out, size_t room, size_t *length) KOHIBLAD_INLINE("kohiblad_to_string_within");
-
-/* Copies the pretty text of the bytes to `out`: that of a document with each item or pair on its
- * own line, indented by two spaces for each enclosing container, and `null` for all other bytes.
- * OUT_OF_MEMORY if an allocation fails; NO_ROOM if `out` is shorter than the text. */
-static inline uint32_t kohiblad_to_pretty(const uint8_t *bytes, size_t size, uint8_t *out,
-    size_t room, size_t *length) KOHIBLAD_INLINE("kohiblad_to_pretty");
 
 /* Copies the pretty text of the bytes to `out`: that of a document with each item or pair on its
  * own line, indented by two spaces for each enclosing container, and `null` for all other bytes. A
@@ -442,29 +417,12 @@ static inline struct kohiblad_fault kohiblad_text_fault(const uint8_t *text, siz
  * less than the one before it, or past the bytes. */
 
 /* Builds the array of the documents in the rows, and copies it to `out`. INVALID_EOF if an offset
- * is below the previous one or beyond the bytes; INVALID_JSONB if a row is not a document, or a
- * limit of the format is exceeded; OUT_OF_MEMORY if an allocation fails; NO_ROOM if `out` is
- * shorter than the array. */
-static inline uint32_t kohiblad_build_array(const uint8_t *bytes, size_t size,
-    const size_t *offsets, size_t count, uint8_t *out, size_t room, size_t *length)
-    KOHIBLAD_INLINE("kohiblad_build_array");
-
-/* Builds the array of the documents in the rows, and copies it to `out`. INVALID_EOF if an offset
  * is below the previous one or beyond the bytes; then, before anything is built, INVALID_JSONB if a
  * row is not a document of at most this depth. INVALID_JSONB also if a limit of the format is
  * exceeded; OUT_OF_MEMORY if an allocation fails; NO_ROOM if `out` is shorter than the array. */
 static inline uint32_t kohiblad_build_array_within(const uint8_t *bytes, size_t size,
     const size_t *offsets, size_t count, size_t depth, uint8_t *out, size_t room, size_t *length)
     KOHIBLAD_INLINE("kohiblad_build_array_within");
-
-/* Builds the object of the pairs in the rows: a key, then its document, and so on. It is copied to
- * `out`. INVALID_EOF if an offset is below the previous one or beyond the bytes, or the number of
- * rows is odd; INVALID_UTF8 if a key is not UTF-8; OBJECT_DUPLICATE_KEY if a key occurs twice;
- * INVALID_JSONB if a document is not one, or a limit of the format is exceeded; OUT_OF_MEMORY if an
- * allocation fails; NO_ROOM if `out` is shorter than the object. */
-static inline uint32_t kohiblad_build_object(const uint8_t *bytes, size_t size,
-    const size_t *offsets, size_t count, uint8_t *out, size_t room, size_t *length)
-    KOHIBLAD_INLINE("kohiblad_build_object");
 
 /* Builds the object of the pairs in the rows: a key, then its document, and so on. It is copied to
  * `out`. INVALID_EOF if an offset is below the previous one or beyond the bytes, or the number of
@@ -476,20 +434,10 @@ static inline uint32_t kohiblad_build_object_within(const uint8_t *bytes, size_t
     const size_t *offsets, size_t count, size_t depth, uint8_t *out, size_t room, size_t *length)
     KOHIBLAD_INLINE("kohiblad_build_object_within");
 
-/* Whether the bytes are canonical: those that the encoder writes for some value. */
-static inline bool kohiblad_is_canonical(const uint8_t *bytes, size_t size)
-    KOHIBLAD_INLINE("kohiblad_is_canonical");
-
 /* Whether the bytes are a document of at most this depth, and canonical: those that the encoder
  * writes for some value. */
 static inline bool kohiblad_is_canonical_within(const uint8_t *bytes, size_t size, size_t depth)
     KOHIBLAD_INLINE("kohiblad_is_canonical_within");
-
-/* Copies the canonical document of the value that the bytes mean to `out`. INVALID_JSONB if the
- * bytes are not a document, or a payload in an older form exceeds its limit in its newer form;
- * OUT_OF_MEMORY if an allocation fails; NO_ROOM if `out` is shorter than the document. */
-static inline uint32_t kohiblad_to_canonical(const uint8_t *bytes, size_t size, uint8_t *out,
-    size_t room, size_t *length) KOHIBLAD_INLINE("kohiblad_to_canonical");
 
 /* Copies the canonical document of the value that the bytes mean to `out`. INVALID_JSONB if the
  * bytes are not a document of at most this depth, or a payload in an older form exceeds its limit
@@ -511,14 +459,6 @@ static inline uint32_t kohiblad_key_layout(void) KOHIBLAD_INLINE("kohiblad_key_l
  * the shorter first. */
 static inline uint32_t kohiblad_key(const uint8_t *bytes, size_t size, size_t depth, uint8_t *out,
     size_t room, size_t *length) KOHIBLAD_INLINE("kohiblad_key");
-
-/* Writes the numbers of the rows, counted from 0, to the start of `order`, sorted by the meaning of
- * the rows, as kohiblad_compare compares them; equal rows keep their order. Each row is checked
- * once. INVALID_EOF if an offset is below the previous one or beyond the bytes; NO_ROOM if `order`
- * has fewer numbers than there are rows; OUT_OF_MEMORY if an allocation fails. If the status is not
- * OK, `order` is unchanged. */
-static inline uint32_t kohiblad_sort(const uint8_t *bytes, size_t size, const size_t *offsets,
-    size_t count, size_t *order, size_t room) KOHIBLAD_INLINE("kohiblad_sort");
 
 /* Writes the numbers of the rows, counted from 0, to the start of `order`, sorted as
  * kohiblad_compare_within compares the rows at this depth; equal rows keep their order. A document
@@ -657,10 +597,6 @@ uint32_t kohiblad_export_status_name(uint32_t status, uint8_t *out, size_t room,
     KOHIBLAD_EXPORT("kohiblad_status_name");
 bool kohiblad_export_check(const uint8_t *bytes, size_t size, size_t depth)
     KOHIBLAD_EXPORT("kohiblad_check");
-bool kohiblad_export_is_document(const uint8_t *bytes, size_t size)
-    KOHIBLAD_EXPORT("kohiblad_is_document");
-int32_t kohiblad_export_compare(const uint8_t *left, size_t left_size, const uint8_t *right,
-    size_t right_size) KOHIBLAD_EXPORT("kohiblad_compare");
 int32_t kohiblad_export_compare_within(const uint8_t *left, size_t left_size,
     const uint8_t *right, size_t right_size, size_t depth)
     KOHIBLAD_EXPORT("kohiblad_compare_within");
@@ -706,43 +642,27 @@ uint32_t kohiblad_export_of_decimal(int64_t high, uint64_t low, uint32_t scale, 
 uint32_t kohiblad_export_of_extension(uint32_t tag, int64_t value, int32_t months, int32_t days,
     int32_t seconds, const uint8_t *data, size_t size, uint8_t *out, size_t room, size_t *length)
     KOHIBLAD_EXPORT("kohiblad_of_extension");
-uint32_t kohiblad_export_to_string(const uint8_t *bytes, size_t size, uint8_t *out, size_t room,
-    size_t *length) KOHIBLAD_EXPORT("kohiblad_to_string");
 uint32_t kohiblad_export_to_string_within(const uint8_t *bytes, size_t size, size_t depth,
     uint8_t *out, size_t room, size_t *length) KOHIBLAD_EXPORT("kohiblad_to_string_within");
-uint32_t kohiblad_export_to_pretty(const uint8_t *bytes, size_t size, uint8_t *out, size_t room,
-    size_t *length) KOHIBLAD_EXPORT("kohiblad_to_pretty");
 uint32_t kohiblad_export_to_pretty_within(const uint8_t *bytes, size_t size, size_t depth,
     uint8_t *out, size_t room, size_t *length) KOHIBLAD_EXPORT("kohiblad_to_pretty_within");
 uint32_t kohiblad_export_parse(const uint8_t *text, size_t size, size_t depth, uint32_t exponents,
     uint8_t *out, size_t room, size_t *length) KOHIBLAD_EXPORT("kohiblad_parse");
 struct kohiblad_fault kohiblad_export_text_fault(const uint8_t *text, size_t size, size_t depth,
     uint32_t exponents) KOHIBLAD_EXPORT("kohiblad_text_fault");
-uint32_t kohiblad_export_build_array(const uint8_t *bytes, size_t size, const size_t *offsets,
-    size_t count, uint8_t *out, size_t room, size_t *length)
-        KOHIBLAD_EXPORT("kohiblad_build_array");
 uint32_t kohiblad_export_build_array_within(const uint8_t *bytes, size_t size,
     const size_t *offsets, size_t count, size_t depth, uint8_t *out, size_t room, size_t *length)
     KOHIBLAD_EXPORT("kohiblad_build_array_within");
-uint32_t kohiblad_export_build_object(const uint8_t *bytes, size_t size, const size_t *offsets,
-    size_t count, uint8_t *out, size_t room, size_t *length)
-    KOHIBLAD_EXPORT("kohiblad_build_object");
 uint32_t kohiblad_export_build_object_within(const uint8_t *bytes, size_t size,
     const size_t *offsets, size_t count, size_t depth, uint8_t *out, size_t room, size_t *length)
     KOHIBLAD_EXPORT("kohiblad_build_object_within");
-bool kohiblad_export_is_canonical(const uint8_t *bytes, size_t size)
-    KOHIBLAD_EXPORT("kohiblad_is_canonical");
 bool kohiblad_export_is_canonical_within(const uint8_t *bytes, size_t size, size_t depth)
     KOHIBLAD_EXPORT("kohiblad_is_canonical_within");
-uint32_t kohiblad_export_to_canonical(const uint8_t *bytes, size_t size, uint8_t *out,
-    size_t room, size_t *length) KOHIBLAD_EXPORT("kohiblad_to_canonical");
 uint32_t kohiblad_export_to_canonical_within(const uint8_t *bytes, size_t size, size_t depth,
     uint8_t *out, size_t room, size_t *length) KOHIBLAD_EXPORT("kohiblad_to_canonical_within");
 uint32_t kohiblad_export_key_layout(void) KOHIBLAD_EXPORT("kohiblad_key_layout");
 uint32_t kohiblad_export_key(const uint8_t *bytes, size_t size, size_t depth, uint8_t *out,
     size_t room, size_t *length) KOHIBLAD_EXPORT("kohiblad_key");
-uint32_t kohiblad_export_sort(const uint8_t *bytes, size_t size, const size_t *offsets, size_t
-    count, size_t *order, size_t room) KOHIBLAD_EXPORT("kohiblad_sort");
 uint32_t kohiblad_export_sort_within(const uint8_t *bytes, size_t size, const size_t *offsets,
     size_t count, size_t depth, size_t *order, size_t room) KOHIBLAD_EXPORT("kohiblad_sort_within");
 struct kohiblad_truth kohiblad_export_contains(const uint8_t *left, size_t left_size,
@@ -828,13 +748,6 @@ static inline uint32_t kohiblad_status_name(uint32_t status, uint8_t *out, size_
 }
 static inline bool kohiblad_check(const uint8_t *bytes, size_t size, size_t depth) {
     return kohiblad_export_check(kohiblad_in(bytes), size, depth);
-}
-static inline bool kohiblad_is_document(const uint8_t *bytes, size_t size) {
-    return kohiblad_export_is_document(kohiblad_in(bytes), size);
-}
-static inline int32_t kohiblad_compare(const uint8_t *left, size_t left_size,
-    const uint8_t *right, size_t right_size) {
-    return kohiblad_export_compare(kohiblad_in(left), left_size, kohiblad_in(right), right_size);
 }
 static inline int32_t kohiblad_compare_within(const uint8_t *left, size_t left_size,
     const uint8_t *right, size_t right_size, size_t depth) {
@@ -962,13 +875,6 @@ static inline uint32_t kohiblad_of_extension(uint32_t tag, int64_t value, int32_
     return kohiblad_export_of_extension(tag, value, months, days, seconds, kohiblad_in(data), size,
         kohiblad_out(out), room, length);
 }
-static inline uint32_t kohiblad_to_string(const uint8_t *bytes, size_t size, uint8_t *out,
-    size_t room, size_t *length) {
-    if (!kohiblad_is_room(out, room, length)
-        || !kohiblad_is_apart(out, room, length, bytes, size))
-        return KOHIBLAD_OVERLAP;
-    return kohiblad_export_to_string(kohiblad_in(bytes), size, kohiblad_out(out), room, length);
-}
 static inline uint32_t kohiblad_to_string_within(const uint8_t *bytes, size_t size,
     size_t depth, uint8_t *out, size_t room, size_t *length) {
     if (!kohiblad_is_room(out, room, length)
@@ -976,13 +882,6 @@ static inline uint32_t kohiblad_to_string_within(const uint8_t *bytes, size_t si
         return KOHIBLAD_OVERLAP;
     return kohiblad_export_to_string_within(kohiblad_in(bytes), size, depth, kohiblad_out(out),
         room, length);
-}
-static inline uint32_t kohiblad_to_pretty(const uint8_t *bytes, size_t size, uint8_t *out,
-    size_t room, size_t *length) {
-    if (!kohiblad_is_room(out, room, length)
-        || !kohiblad_is_apart(out, room, length, bytes, size))
-        return KOHIBLAD_OVERLAP;
-    return kohiblad_export_to_pretty(kohiblad_in(bytes), size, kohiblad_out(out), room, length);
 }
 static inline uint32_t kohiblad_to_pretty_within(const uint8_t *bytes, size_t size,
     size_t depth, uint8_t *out, size_t room, size_t *length) {
@@ -1004,15 +903,6 @@ static inline struct kohiblad_fault kohiblad_text_fault(const uint8_t *text, siz
     size_t depth, uint32_t exponents) {
     return kohiblad_export_text_fault(kohiblad_in(text), size, depth, exponents);
 }
-static inline uint32_t kohiblad_build_array(const uint8_t *bytes, size_t size,
-    const size_t *offsets, size_t count, uint8_t *out, size_t room, size_t *length) {
-    if (!kohiblad_is_room(out, room, length)
-        || !kohiblad_is_apart(out, room, length, bytes, size)
-        || !kohiblad_is_apart(out, room, length, offsets, count * sizeof *offsets))
-        return KOHIBLAD_OVERLAP;
-    return kohiblad_export_build_array(kohiblad_in(bytes), size, kohiblad_offsets_in(offsets),
-        count, kohiblad_out(out), room, length);
-}
 static inline uint32_t kohiblad_build_array_within(const uint8_t *bytes, size_t size,
     const size_t *offsets, size_t count, size_t depth, uint8_t *out, size_t room, size_t *length) {
     if (!kohiblad_is_room(out, room, length)
@@ -1021,15 +911,6 @@ static inline uint32_t kohiblad_build_array_within(const uint8_t *bytes, size_t 
         return KOHIBLAD_OVERLAP;
     return kohiblad_export_build_array_within(kohiblad_in(bytes), size,
         kohiblad_offsets_in(offsets), count, depth, kohiblad_out(out), room, length);
-}
-static inline uint32_t kohiblad_build_object(const uint8_t *bytes, size_t size,
-    const size_t *offsets, size_t count, uint8_t *out, size_t room, size_t *length) {
-    if (!kohiblad_is_room(out, room, length)
-        || !kohiblad_is_apart(out, room, length, bytes, size)
-        || !kohiblad_is_apart(out, room, length, offsets, count * sizeof *offsets))
-        return KOHIBLAD_OVERLAP;
-    return kohiblad_export_build_object(kohiblad_in(bytes), size, kohiblad_offsets_in(offsets),
-        count, kohiblad_out(out), room, length);
 }
 static inline uint32_t kohiblad_build_object_within(const uint8_t *bytes, size_t size,
     const size_t *offsets, size_t count, size_t depth, uint8_t *out, size_t room, size_t *length) {
@@ -1040,18 +921,8 @@ static inline uint32_t kohiblad_build_object_within(const uint8_t *bytes, size_t
     return kohiblad_export_build_object_within(kohiblad_in(bytes), size,
         kohiblad_offsets_in(offsets), count, depth, kohiblad_out(out), room, length);
 }
-static inline bool kohiblad_is_canonical(const uint8_t *bytes, size_t size) {
-    return kohiblad_export_is_canonical(kohiblad_in(bytes), size);
-}
 static inline bool kohiblad_is_canonical_within(const uint8_t *bytes, size_t size, size_t depth) {
     return kohiblad_export_is_canonical_within(kohiblad_in(bytes), size, depth);
-}
-static inline uint32_t kohiblad_to_canonical(const uint8_t *bytes, size_t size, uint8_t *out,
-    size_t room, size_t *length) {
-    if (!kohiblad_is_room(out, room, length)
-        || !kohiblad_is_apart(out, room, length, bytes, size))
-        return KOHIBLAD_OVERLAP;
-    return kohiblad_export_to_canonical(kohiblad_in(bytes), size, kohiblad_out(out), room, length);
 }
 static inline uint32_t kohiblad_to_canonical_within(const uint8_t *bytes, size_t size,
     size_t depth, uint8_t *out, size_t room, size_t *length) {
@@ -1070,14 +941,6 @@ static inline uint32_t kohiblad_key(const uint8_t *bytes, size_t size, size_t de
         || !kohiblad_is_apart(out, room, length, bytes, size))
         return KOHIBLAD_OVERLAP;
     return kohiblad_export_key(kohiblad_in(bytes), size, depth, kohiblad_out(out), room, length);
-}
-static inline uint32_t kohiblad_sort(const uint8_t *bytes, size_t size, const size_t *offsets,
-    size_t count, size_t *order, size_t room) {
-    if (kohiblad_meet(order, room * sizeof *order, bytes, size)
-        || kohiblad_meet(order, room * sizeof *order, offsets, count * sizeof *offsets))
-        return KOHIBLAD_OVERLAP;
-    return kohiblad_export_sort(kohiblad_in(bytes), size, kohiblad_offsets_in(offsets), count,
-        kohiblad_order_out(order), room);
 }
 static inline uint32_t kohiblad_sort_within(const uint8_t *bytes, size_t size,
     const size_t *offsets, size_t count, size_t depth, size_t *order, size_t room) {

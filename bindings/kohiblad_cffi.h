@@ -117,9 +117,6 @@ struct kohiblad_extension_value {
 uint32_t kohiblad_version(void);
 uint32_t kohiblad_status_name(uint32_t status, uint8_t *out, size_t room, size_t *length);
 bool kohiblad_check(const uint8_t *bytes, size_t size, size_t depth);
-bool kohiblad_is_document(const uint8_t *bytes, size_t size);
-int32_t kohiblad_compare(const uint8_t *left, size_t left_size, const uint8_t *right,
-    size_t right_size);
 int32_t kohiblad_compare_within(const uint8_t *left, size_t left_size, const uint8_t *right,
     size_t right_size, size_t depth);
 struct kohiblad_value_kind kohiblad_kind(const uint8_t *bytes, size_t size);
@@ -151,37 +148,24 @@ uint32_t kohiblad_of_decimal(int64_t high, uint64_t low, uint32_t scale, uint8_t
     size_t *length);
 uint32_t kohiblad_of_extension(uint32_t tag, int64_t value, int32_t months, int32_t days,
     int32_t seconds, const uint8_t *data, size_t size, uint8_t *out, size_t room, size_t *length);
-uint32_t kohiblad_to_string(const uint8_t *bytes, size_t size, uint8_t *out, size_t room,
-    size_t *length);
 uint32_t kohiblad_to_string_within(const uint8_t *bytes, size_t size, size_t depth, uint8_t *out,
     size_t room, size_t *length);
-uint32_t kohiblad_to_pretty(const uint8_t *bytes, size_t size, uint8_t *out, size_t room,
-    size_t *length);
 uint32_t kohiblad_to_pretty_within(const uint8_t *bytes, size_t size, size_t depth, uint8_t *out,
     size_t room, size_t *length);
 uint32_t kohiblad_parse(const uint8_t *text, size_t size, size_t depth, uint32_t exponents,
     uint8_t *out, size_t room, size_t *length);
 struct kohiblad_fault kohiblad_text_fault(const uint8_t *text, size_t size, size_t depth,
     uint32_t exponents);
-uint32_t kohiblad_build_array(const uint8_t *bytes, size_t size, const size_t *offsets,
-    size_t count, uint8_t *out, size_t room, size_t *length);
 uint32_t kohiblad_build_array_within(const uint8_t *bytes, size_t size, const size_t *offsets,
     size_t count, size_t depth, uint8_t *out, size_t room, size_t *length);
-uint32_t kohiblad_build_object(const uint8_t *bytes, size_t size, const size_t *offsets,
-    size_t count, uint8_t *out, size_t room, size_t *length);
 uint32_t kohiblad_build_object_within(const uint8_t *bytes, size_t size, const size_t *offsets,
     size_t count, size_t depth, uint8_t *out, size_t room, size_t *length);
-bool kohiblad_is_canonical(const uint8_t *bytes, size_t size);
 bool kohiblad_is_canonical_within(const uint8_t *bytes, size_t size, size_t depth);
-uint32_t kohiblad_to_canonical(const uint8_t *bytes, size_t size, uint8_t *out, size_t room,
-    size_t *length);
 uint32_t kohiblad_to_canonical_within(const uint8_t *bytes, size_t size, size_t depth, uint8_t *out,
     size_t room, size_t *length);
 uint32_t kohiblad_key_layout(void);
 uint32_t kohiblad_key(const uint8_t *bytes, size_t size, size_t depth, uint8_t *out, size_t room,
     size_t *length);
-uint32_t kohiblad_sort(const uint8_t *bytes, size_t size, const size_t *offsets, size_t count,
-    size_t *order, size_t room);
 uint32_t kohiblad_sort_within(const uint8_t *bytes, size_t size, const size_t *offsets,
     size_t count, size_t depth, size_t *order, size_t room);
 struct kohiblad_truth kohiblad_contains(const uint8_t *left, size_t left_size, const uint8_t *right,

@@ -273,8 +273,8 @@ Row printing(const char *name, const Texts &texts) {
         texts,
         [room](const Parsed &it) {
             std::size_t length = 0;
-            kohiblad_to_string(it.document.data(), it.document.size(), room->data(), room->size(),
-                               &length);
+            kohiblad_to_string_within(it.document.data(), it.document.size(), SIZE_MAX,
+                                      room->data(), room->size(), &length);
             return length;
         },
         [room, out](const Parsed &it) {

@@ -13,7 +13,7 @@
 typedef uint32_t parse_call(const uint8_t *, size_t, size_t, uint32_t, uint8_t *, size_t, size_t *);
 typedef uint32_t get_call(const uint8_t *, size_t, const uint8_t *, size_t,
                           uint8_t *, size_t, size_t *);
-typedef uint32_t text_call(const uint8_t *, size_t, uint8_t *, size_t, size_t *);
+typedef uint32_t text_call(const uint8_t *, size_t, size_t, uint8_t *, size_t, size_t *);
 
 /* ISO C has no conversion from the pointer of dlsym to that of a function: its bytes are copied. */
 static int find_call(void *library, const char *name, void *call) {
@@ -37,13 +37,13 @@ int main(int count, char **words) {
     }
     if (!find_call(library, "kohiblad_parse", &parse)
         || !find_call(library, "kohiblad_get", &get)
-        || !find_call(library, "kohiblad_to_string", &to_string)) {
+        || !find_call(library, "kohiblad_to_string_within", &to_string)) {
         fprintf(stderr, "%s\n", dlerror());
         return 1;
     }
     if (parse((const uint8_t *)text, sizeof text - 1, 64, 1, row, sizeof row, &size)
         || get(row, size, (const uint8_t *)"price", 5, price, sizeof price, &price_size)
-        || to_string(price, price_size, shown, sizeof shown, &shown_size)) {
+        || to_string(price, price_size, 64, shown, sizeof shown, &shown_size)) {
         return 1;
     }
     printf("%.*s\n", (int)shown_size, (const char *)shown);

@@ -58,7 +58,7 @@ std::optional<Bytes> value_of(const Bytes &row, std::string_view name) {
 
 std::string text_of(const Bytes &row) {
     const Bytes text = *written([&](std::uint8_t *out, std::size_t room, std::size_t *length) {
-        return kohiblad_to_string(row.data(), row.size(), out, room, length);
+        return kohiblad_to_string_within(row.data(), row.size(), depth, out, room, length);
     });
     return std::string(text.begin(), text.end());
 }
@@ -76,8 +76,9 @@ int main() {
         offsets.push_back(column.size());
     }
     std::vector<std::size_t> order(rows.size());
-    const std::uint32_t status = kohiblad_sort(column.data(), column.size(), offsets.data(),
-                                               offsets.size(), order.data(), order.size());
+    const std::uint32_t status = kohiblad_sort_within(column.data(), column.size(), offsets.data(),
+                                                      offsets.size(), depth, order.data(),
+                                                      order.size());
     if (status != KOHIBLAD_OK) fail(status);
     for (std::size_t number : order) {
         std::cout << text_of(rows[number]);

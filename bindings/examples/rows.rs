@@ -27,18 +27,20 @@ mod library {
             room: usize,
             length: *mut usize,
         ) -> u32;
-        pub fn kohiblad_to_string(
+        pub fn kohiblad_to_string_within(
             bytes: *const u8,
             size: usize,
+            depth: usize,
             out: *mut u8,
             room: usize,
             length: *mut usize,
         ) -> u32;
-        pub fn kohiblad_sort(
+        pub fn kohiblad_sort_within(
             bytes: *const u8,
             size: usize,
             offsets: *const usize,
             count: usize,
+            depth: usize,
             order: *mut usize,
             room: usize,
         ) -> u32;
@@ -85,7 +87,7 @@ fn value_of(row: &[u8], name: &str) -> Result<Option<Vec<u8>>, u32> {
 
 fn text_of(row: &[u8]) -> Result<String, u32> {
     let text = written(|out, room, length| unsafe {
-        library::kohiblad_to_string(row.as_ptr(), row.len(), out, room, length)
+        library::kohiblad_to_string_within(row.as_ptr(), row.len(), DEPTH, out, room, length)
     })?;
     Ok(String::from_utf8(text).expect("texts are UTF-8"))
 }
@@ -101,8 +103,9 @@ fn order_of(rows: &[Vec<u8>]) -> Result<Vec<usize>, u32> {
     let mut order = vec![0; rows.len()];
     let status = unsafe {
         let (bytes, size) = (column.as_ptr(), column.len());
+        let (starts, count) = (offsets.as_ptr(), offsets.len());
         let (written, room) = (order.as_mut_ptr(), order.len());
-        library::kohiblad_sort(bytes, size, offsets.as_ptr(), offsets.len(), written, room)
+        library::kohiblad_sort_within(bytes, size, starts, count, DEPTH, written, room)
     };
     if status == OK {
         Ok(order)

@@ -9,7 +9,13 @@ import sys
 LIBRARY = ctypes.CDLL(sys.argv[1])
 SIZE = ctypes.c_size_t
 NO_ROOM, NONE, TOO_DEEP = 11, 12, 13
+ANY_DEPTH = 2 ** 64 - 1
 KINDS = ["null", "boolean", "number", "string", "extension", "array", "object"]
+# The calls that answer commands of jsonb_probe.
+CALLS = {"is_document": "check", "is_canonical": "is_canonical_within",
+         "to_string": "to_string_within", "to_pretty_string": "to_pretty_within",
+         "to_canonical": "to_canonical_within", "array_of": "build_array_within",
+         "object_of": "build_object_within"}
 
 
 class Kind(ctypes.Structure):
@@ -32,7 +38,7 @@ class Extension(ctypes.Structure):
                 ("offset", ctypes.c_uint64), ("length", ctypes.c_uint64)]
 
 
-for predicate in ("check", "is_document", "is_canonical"):
+for predicate in ("check", "is_canonical_within"):
     getattr(LIBRARY, "kohiblad_" + predicate).restype = ctypes.c_bool
 LIBRARY.kohiblad_kind.restype = Kind
 LIBRARY.kohiblad_number.restype = Decimal
@@ -76,6 +82,10 @@ def ask(call, *values):
 
 def parse(text, depth, exponents=0):
     return ask("parse", text, depth, exponents)
+
+
+def is_document(data):
+    return tell("check", data, ANY_DEPTH)
 
 
 def name_of(status):
@@ -139,8 +149,10 @@ def known_answers():
         assert parse(text, 0, 1) == parse(same, 0), text
         assert name_of(parse(text, 0)[0]) == "InvalidJson", text
     assert name_of(parse(b"1e999999999", 0, 1)[0]) == "InvalidJson"
-    assert ask("to_string", array) == (0, b'[false,10,{"k":"v"}]')
-    assert ask("to_pretty", array)[1].count(b"\n") == 6
+    assert ask("to_string_within", array, ANY_DEPTH) == (0, b'[false,10,{"k":"v"}]')
+    assert ask("to_string_within", array, 1)[1].startswith(b"\xef\xbf\xbd")
+    assert ask("to_pretty_within", array, 2)[1].count(b"\n") == 6
+    assert ask("to_pretty_within", array, 1) == (0, b"null")
     assert tell("check", array, 2)
     assert not tell("check", array, 1) and not tell("check", array[:-1], 9)
     kind = tell("kind", array)
@@ -165,14 +177,14 @@ def known_answers():
     for unknown in (0x70000000, 0x80000000, 0x10000001):
         assert name_of(ask("of_part", unknown, b"v")[0]) == "InvalidJsonbJEntry"
     parts = [ask("array_item", array, i)[1] for i in range(3)]
-    assert ask("build_array", *rows(parts)) == (0, array)
-    assert ask("build_object", *rows([b"k", parse(b'"v"', 0)[1]])) == (0, inner)
-    status, _ = ask("build_object", *rows([b"k", inner, b"k", inner]))
+    assert ask("build_array_within", *rows(parts), 1) == (0, array)
+    assert ask("build_object_within", *rows([b"k", parse(b'"v"', 0)[1]]), 0) == (0, inner)
+    status, _ = ask("build_object_within", *rows([b"k", inner, b"k", inner]), 1)
     assert name_of(status) == "ObjectDuplicateKey"
-    assert name_of(ask("build_array", array, [0, 40])[0]) == "InvalidEOF"
+    assert name_of(ask("build_array_within", array, [0, 40], 9)[0]) == "InvalidEOF"
     order = (SIZE * 4)(9, 9, 9, 9)
     documents = [parse(text, 9)[1] for text in (b"null", b'"a"', b"5.0", b"5")]
-    assert LIBRARY.kohiblad_sort(*given(rows(documents)), order, SIZE(4)) == 0
+    assert LIBRARY.kohiblad_sort_within(*given(rows(documents)), SIZE(9), order, SIZE(4)) == 0
     assert list(order) == [2, 3, 1, 0]
 
 
@@ -186,14 +198,14 @@ def probe(line, answer):
             parts = [bytes.fromhex(word) for word in words]
         else:
             parts = [bytes.fromhex(it) for word in words for it in word.split("=", 1)]
-        return said(ask("build_" + command[:-3], *rows(parts))) == answer
+        return said(ask(CALLS[command], *rows(parts), ANY_DEPTH)) == answer
     taken = {"is_document": 1, "is_canonical": 1, "within": 2, "to_canonical": 1, "item_type": 1,
              "cmp": 2, "to_string": 1, "to_pretty_string": 1, "lookup": 2, "array": 1, "pairs": 1}
     if len(words) != taken.get(command):
         return None
     given_bytes = bytes.fromhex(words[0])
     if command in ("is_document", "is_canonical"):
-        return str(tell(command, given_bytes)).lower() == answer
+        return str(tell(CALLS[command], given_bytes, ANY_DEPTH)).lower() == answer
     if command == "within":
         depth = int(words[1])
         return depth >= 2 ** 63 or str(tell("check", given_bytes, depth)).lower() == answer
@@ -204,17 +216,17 @@ def probe(line, answer):
             return f"error {name_of(kind.status)}" == answer
         return f"ok {KINDS[kind.kind]}{count}" == answer
     if command == "cmp":
-        sign = tell("compare", given_bytes, bytes.fromhex(words[1]))
+        sign = tell("compare_within", given_bytes, bytes.fromhex(words[1]), ANY_DEPTH)
         return ("equal", "greater", "less")[sign] == answer.split(" ")[0]
     if command in ("to_string", "to_pretty_string", "to_canonical"):
-        return said(ask(command.replace("_pretty_string", "_pretty"), given_bytes)) == answer
+        return said(ask(CALLS[command], given_bytes, ANY_DEPTH)) == answer
     if command == "lookup":
         status, value = ask("get", given_bytes, bytes.fromhex(words[1]))
         told = answer if answer.startswith("error") else answer.split(" ", 2)[2]
         if status == 0:
-            return not tell("is_document", given_bytes) or told.split(" ")[1] == value.hex()
+            return not is_document(given_bytes) or told.split(" ")[1] == value.hex()
         return told == ("none" if status == NONE else f"error {name_of(status)}")
-    if not tell("is_document", given_bytes):
+    if not is_document(given_bytes):
         return None
     if answer == "none":
         is_array = command == "array"

@@ -174,7 +174,8 @@ static long read_scalar(struct block b, bool is, struct kohiblad_value_kind kind
                    && (uint32_t)extension.days == (uint32_t)first);
     }
     if (!is || kind.kind >= KOHIBLAD_ARRAY || kind.kind == KOHIBLAD_EXTENSION) return 0;
-    assert(kohiblad_to_string(b.at, b.size, shown, sizeof shown, &size) == KOHIBLAD_OK);
+    assert(kohiblad_to_string_within(b.at, b.size, SIZE_MAX, shown, sizeof shown, &size)
+           == KOHIBLAD_OK);
     if (!number.status) {
         uint32_t scale;
         wide value = digits_of(shown, size, &scale);
@@ -206,14 +207,14 @@ static void make_scalar(void) {
     if (!status) {
         number = kohiblad_number(made, size);
         assert(!number.status && number.high == high && number.low == low && number.scale == scale);
-        assert(kohiblad_is_canonical(made, size));
-        assert(!kohiblad_to_string(made, size, shown, sizeof shown, &shown_size));
+        assert(kohiblad_is_canonical_within(made, size, SIZE_MAX));
+        assert(!kohiblad_to_string_within(made, size, SIZE_MAX, shown, sizeof shown, &shown_size));
         assert(!kohiblad_parse(shown, shown_size, 0, 0, parsed, sizeof parsed, &parsed_size));
         assert(size == parsed_size && !memcmp(made, parsed, size));
     }
     assert(!kohiblad_of_int64((int64_t)low, made, sizeof made, &size));
     assert(kohiblad_int64(made, size).value == (int64_t)low);
-    assert(!kohiblad_to_string(made, size, shown, sizeof shown, &shown_size));
+    assert(!kohiblad_to_string_within(made, size, SIZE_MAX, shown, sizeof shown, &shown_size));
     assert(!kohiblad_parse(shown, shown_size, 0, 0, parsed, sizeof parsed, &parsed_size));
     assert(size == parsed_size && !memcmp(made, parsed, size));
     struct block text = make(below(9));
@@ -224,7 +225,7 @@ static void make_scalar(void) {
         struct kohiblad_place place = kohiblad_text(made, size);
         assert(!place.status && place.length == text.size && size == 8 + text.size);
         assert(!text.size || !memcmp(made + place.offset, text.at, text.size));
-        assert(kohiblad_is_canonical(made, size));
+        assert(kohiblad_is_canonical_within(made, size, SIZE_MAX));
     } else {
         bool ascii = true;
         for (size_t i = 0; i < text.size; i++) ascii = ascii && text.at[i] < 128;
@@ -263,7 +264,8 @@ static int32_t model_within(const uint8_t *left, size_t left_size, const uint8_t
                             size_t right_size, size_t depth) {
     bool is_left = kohiblad_check(left, left_size, depth);
     bool is_right = kohiblad_check(right, right_size, depth);
-    if (is_left && is_right) return kohiblad_compare(left, left_size, right, right_size);
+    if (is_left && is_right)
+        return kohiblad_compare_within(left, left_size, right, right_size, SIZE_MAX);
     if (is_left != is_right) return is_left ? -1 : 1;
     size_t size = left_size < right_size ? left_size : right_size;
     int order = size ? memcmp(left, right, size) : 0;
@@ -279,7 +281,8 @@ static void make_extension(struct block b) {
     if (e.status == KOHIBLAD_OK) {
         assert(kohiblad_of_extension(e.tag, e.value, e.months, e.days, e.seconds, b.at + e.offset,
                                      e.length, made, sizeof made, &length) == KOHIBLAD_OK);
-        assert(!kohiblad_to_canonical(b.at, b.size, wanted, sizeof wanted, &needed));
+        assert(!kohiblad_to_canonical_within(b.at, b.size, SIZE_MAX, wanted, sizeof wanted,
+                                             &needed));
         assert(length == needed && !memcmp(made, wanted, needed));
     }
     uint32_t tag = below(3) ? 16 * below(17) : below(300);
@@ -367,20 +370,20 @@ static void answer_within(struct block b, bool shallow, size_t depth, struct blo
     ANSWER(status, out, length,
            kohiblad_to_canonical_within(b.at, b.size, depth, out.at, out.size, &length));
     ANSWER(wanted, other, needed,
-           kohiblad_to_canonical(b.at, b.size, other.at, other.size, &needed));
+           kohiblad_to_canonical_within(b.at, b.size, SIZE_MAX, other.at, other.size, &needed));
     if (shallow) same(out, status, length, other, wanted, needed);
     else assert(status == KOHIBLAD_INVALID_JSONB);
     ANSWER(status, out, length,
            kohiblad_to_pretty_within(b.at, b.size, depth, out.at, out.size, &length));
     ANSWER(wanted, other, needed,
-           kohiblad_to_pretty(b.at, b.size, other.at, other.size, &needed));
+           kohiblad_to_pretty_within(b.at, b.size, SIZE_MAX, other.at, other.size, &needed));
     if (shallow) same(out, status, length, other, wanted, needed);
     else assert(length == 4 && (status != KOHIBLAD_OK || !memcmp(out.at, "null", 4)));
     ANSWER(status, out, length,
            kohiblad_to_string_within(b.at, b.size, depth, out.at, out.size, &length));
     ANSWER(wanted, other, needed,
-           kohiblad_to_string(b.at, b.size, other.at, other.size, &needed));
-    if (shallow || !kohiblad_is_document(b.at, b.size))
+           kohiblad_to_string_within(b.at, b.size, SIZE_MAX, other.at, other.size, &needed));
+    if (shallow || !kohiblad_check(b.at, b.size, SIZE_MAX))
         same(out, status, length, other, wanted, needed);
     else if (status == KOHIBLAD_OK)
         is_text_of(b, out.at, length);
@@ -403,14 +406,16 @@ static void build_within(struct block rows, const size_t *offsets, size_t depth,
            kohiblad_build_array_within(rows.at, rows.size, offsets, 3, depth, out.at, out.size,
                                        &length));
     ANSWER(wanted, other, needed,
-           kohiblad_build_array(rows.at, rows.size, offsets, 3, other.at, other.size, &needed));
+           kohiblad_build_array_within(rows.at, rows.size, offsets, 3, SIZE_MAX, other.at,
+                                       other.size, &needed));
     if (shallow || !ascend) same(out, status, length, other, wanted, needed);
     else assert(status == KOHIBLAD_INVALID_JSONB);
     ANSWER(status, out, length,
            kohiblad_build_object_within(rows.at, rows.size, offsets, 3, depth, out.at, out.size,
                                         &length));
     ANSWER(wanted, other, needed,
-           kohiblad_build_object(rows.at, rows.size, offsets, 3, other.at, other.size, &needed));
+           kohiblad_build_object_within(rows.at, rows.size, offsets, 3, SIZE_MAX, other.at,
+                                        other.size, &needed));
     if (is_last || !ascend) same(out, status, length, other, wanted, needed);
     else assert(status == KOHIBLAD_INVALID_JSONB);
     /* Pairs have an even number of rows. */
@@ -468,12 +473,13 @@ static void patch_within(struct block b, struct block other, bool shallow, bool 
     if (!are) {
         assert(status == KOHIBLAD_INVALID_JSONB);
     } else if (status == KOHIBLAD_OK) {
-        assert(kohiblad_is_canonical(out.at, length));
+        assert(kohiblad_is_canonical_within(out.at, length, SIZE_MAX));
         if (kohiblad_kind(other.at, other.size).kind == KOHIBLAD_OBJECT)
             status = kohiblad_merge_patch(out.at, length, other.at, other.size, depth, again,
                                           sizeof again, &found);
         else
-            status = kohiblad_to_canonical(other.at, other.size, again, sizeof again, &found);
+            status = kohiblad_to_canonical_within(other.at, other.size, SIZE_MAX, again,
+                                                  sizeof again, &found);
         assert(status == KOHIBLAD_OK && found == length && !memcmp(again, out.at, length));
     } else {
         assert(status == KOHIBLAD_NO_ROOM);
@@ -483,7 +489,7 @@ static void patch_within(struct block b, struct block other, bool shallow, bool 
     if (!shallow) {
         assert(status == KOHIBLAD_INVALID_JSONB);
     } else if (status == KOHIBLAD_OK) {
-        assert(kohiblad_is_canonical(out.at, length));
+        assert(kohiblad_is_canonical_within(out.at, length, SIZE_MAX));
         assert(!kohiblad_strip_nulls(out.at, length, depth, again, sizeof again, &found));
         assert(found == length && !memcmp(again, out.at, length));
     } else {
@@ -514,9 +520,9 @@ static void edit_within(struct block b, struct block other, bool shallow, bool i
     }
     assert(status == KOHIBLAD_OK || status == KOHIBLAD_NO_ROOM);
     if (status != KOHIBLAD_OK) return;
-    assert(kohiblad_is_canonical(out.at, length));
+    assert(kohiblad_is_canonical_within(out.at, length, SIZE_MAX));
     if (kohiblad_kind(b.at, b.size).kind != KOHIBLAD_OBJECT) {
-        assert(!kohiblad_to_canonical(b.at, b.size, got, sizeof got, &found));
+        assert(!kohiblad_to_canonical_within(b.at, b.size, SIZE_MAX, got, sizeof got, &found));
         assert(found == length && !memcmp(got, out.at, length));
         return;
     }
@@ -525,7 +531,8 @@ static void edit_within(struct block b, struct block other, bool shallow, bool i
     if (edit == KOHIBLAD_REMOVE) {
         assert(status == KOHIBLAD_NONE);
     } else if (edit != KOHIBLAD_INSERT || !had) {
-        assert(!kohiblad_to_canonical(other.at, other.size, canonical, sizeof canonical, &needed));
+        assert(!kohiblad_to_canonical_within(other.at, other.size, SIZE_MAX, canonical,
+                                             sizeof canonical, &needed));
         assert(status == KOHIBLAD_OK && found == needed && !memcmp(got, canonical, found));
     } else {
         assert(status == KOHIBLAD_OK);
@@ -648,7 +655,7 @@ static void answer_functions(struct block b, struct block other, size_t depth, s
     if (!are) {
         assert(status == KOHIBLAD_INVALID_JSONB);
     } else if (status == KOHIBLAD_OK) {
-        assert(kohiblad_is_canonical(out.at, length));
+        assert(kohiblad_is_canonical_within(out.at, length, SIZE_MAX));
         bool is_object = kohiblad_kind(out.at, length).kind == KOHIBLAD_OBJECT;
         if (is_object || kind == KOHIBLAD_ARRAY)
             assert(kohiblad_contains(out.at, length, other.at, other.size, depth + 1, SIZE_MAX)
@@ -678,7 +685,7 @@ int main(int argc, char **argv) {
         assert(status != KOHIBLAD_OK || fault.offset == t.size);
         if (status == KOHIBLAD_OK) {
             assert(kohiblad_check(docs[count], length, DEPTH));
-            assert(kohiblad_is_canonical(docs[count], length));
+            assert(kohiblad_is_canonical_within(docs[count], length, SIZE_MAX));
             sizes[count++] = length;
         } else {
             assert(status == KOHIBLAD_INVALID_JSON || status == KOHIBLAD_TOO_DEEP);
@@ -696,14 +703,15 @@ int main(int argc, char **argv) {
             uint8_t other = below(2) ? (uint8_t)below(256) : (uint8_t)(1u << below(8));
             b.at[below((uint32_t)b.size)] = other;
         }
-        bool is = kohiblad_is_document(b.at, b.size);
+        bool is = kohiblad_check(b.at, b.size, SIZE_MAX);
         documents += is;
         assert(kohiblad_check(b.at, b.size, 1000) == is);
-        assert(is || !kohiblad_is_canonical(b.at, b.size));
-        assert(kohiblad_compare(b.at, b.size, b.at, b.size) == 0);
+        assert(is || !kohiblad_is_canonical_within(b.at, b.size, SIZE_MAX));
+        assert(kohiblad_compare_within(b.at, b.size, b.at, b.size, SIZE_MAX) == 0);
         uint32_t other = below(count);
-        int32_t order = kohiblad_compare(b.at, b.size, docs[other], sizes[other]);
-        assert(order == -kohiblad_compare(docs[other], sizes[other], b.at, b.size));
+        int32_t order = kohiblad_compare_within(b.at, b.size, docs[other], sizes[other], SIZE_MAX);
+        assert(order == -kohiblad_compare_within(docs[other], sizes[other], b.at, b.size,
+                                                 SIZE_MAX));
         assert(is || order > 0);
         struct kohiblad_value_kind kind = kohiblad_kind(b.at, b.size);
         assert(!is || (kind.status == KOHIBLAD_OK && kind.kind <= KOHIBLAD_OBJECT));
@@ -735,7 +743,7 @@ int main(int argc, char **argv) {
         } else if (is) {
             assert(status == KOHIBLAD_NONE);
         }
-        if (is && status == KOHIBLAD_OK) assert(kohiblad_is_document(out.at, length));
+        if (is && status == KOHIBLAD_OK) assert(kohiblad_check(out.at, length, SIZE_MAX));
         memset(key.at, 0xA5, key.size);
         memset(out.at, 0xA5, out.size);
         status = kohiblad_object_member(b.at, b.size, index, key.at, key.size, &key_length,
@@ -747,7 +755,7 @@ int main(int argc, char **argv) {
         size_t out_kept = status == KOHIBLAD_OK ? length : 0;
         for (size_t i = key_kept; i < key.size; i++) assert(key.at[i] == 0xA5);
         for (size_t i = out_kept; i < out.size; i++) assert(out.at[i] == 0xA5);
-        if (is && status == KOHIBLAD_OK) assert(kohiblad_is_document(out.at, length));
+        if (is && status == KOHIBLAD_OK) assert(kohiblad_check(out.at, length, SIZE_MAX));
         bool is_member = kind.kind == KOHIBLAD_OBJECT && index < kind.count;
         if (is) assert((status == KOHIBLAD_NONE) == !is_member);
         place = kohiblad_find(b.at, b.size, name.at, name.size);
@@ -756,31 +764,34 @@ int main(int argc, char **argv) {
                kohiblad_get(b.at, b.size, name.at, name.size, out.at, out.size, &length));
         if (status == KOHIBLAD_OK) found++;
         if (place.status == KOHIBLAD_OK) copied_part(b, place, out, status, length);
-        if (status == KOHIBLAD_OK && is) assert(kohiblad_is_document(out.at, length));
+        if (status == KOHIBLAD_OK && is) assert(kohiblad_check(out.at, length, SIZE_MAX));
         if (status != KOHIBLAD_NO_ROOM) assert(status == place.status);
         bool is_answer = status == KOHIBLAD_OK || status == KOHIBLAD_NO_ROOM;
         assert(!is || is_answer || status == KOHIBLAD_NONE);
 
         /* Texts, and read again. */
-        ANSWER(status, out, length, kohiblad_to_pretty(b.at, b.size, out.at, out.size, &length));
+        ANSWER(status, out, length, kohiblad_to_pretty_within(b.at, b.size, SIZE_MAX, out.at,
+                                                              out.size, &length));
         assert(status == KOHIBLAD_OK || status == KOHIBLAD_NO_ROOM);
-        ANSWER(status, out, length, kohiblad_to_string(b.at, b.size, out.at, out.size, &length));
+        ANSWER(status, out, length, kohiblad_to_string_within(b.at, b.size, SIZE_MAX, out.at,
+                                                              out.size, &length));
         assert(status == KOHIBLAD_OK || status == KOHIBLAD_NO_ROOM);
         struct block text = make(length);
-        status = kohiblad_to_string(b.at, b.size, text.at, text.size, &again);
+        status = kohiblad_to_string_within(b.at, b.size, SIZE_MAX, text.at, text.size, &again);
         assert(status == KOHIBLAD_OK && again == length);
         struct block back = make(4 * length + 8);
         status = kohiblad_parse(text.at, text.size, below(8), below(2), back.at, back.size, &again);
         assert(status == KOHIBLAD_OK || status == KOHIBLAD_TOO_DEEP || !is || again == 0);
-        assert(status != KOHIBLAD_OK || kohiblad_is_canonical(back.at, again));
-        ANSWER(status, out, length, kohiblad_to_canonical(b.at, b.size, out.at, out.size, &length));
+        assert(status != KOHIBLAD_OK || kohiblad_is_canonical_within(back.at, again, SIZE_MAX));
+        ANSWER(status, out, length, kohiblad_to_canonical_within(b.at, b.size, SIZE_MAX, out.at,
+                                                                 out.size, &length));
         if (is) assert(status == KOHIBLAD_OK || status == KOHIBLAD_NO_ROOM);
         else assert(status == KOHIBLAD_INVALID_JSONB);
 
         /* The same within a depth: as the call without one, or as of no document. */
         bool shallow = kohiblad_check(b.at, b.size, depth);
         assert(kohiblad_is_canonical_within(b.at, b.size, depth)
-               == (shallow && kohiblad_is_canonical(b.at, b.size)));
+               == (shallow && kohiblad_is_canonical_within(b.at, b.size, SIZE_MAX)));
         answer_within(b, shallow, depth, out);
         struct block asked = copy_of(docs[other], sizes[other]), wide = make(below(256));
         answer_functions(b, asked, depth, wide);
@@ -803,7 +814,7 @@ int main(int argc, char **argv) {
         const size_t *where = (const size_t *)(const void *)offsets.at;
         size_t *to = (size_t *)(void *)numbers.at;
         size_t room = below(5) ? 3 : below(3);
-        status = kohiblad_sort(rows.at, rows.size, where, 4, to, room);
+        status = kohiblad_sort_within(rows.at, rows.size, where, 4, SIZE_MAX, to, room);
         assert(status
                == (!good ? KOHIBLAD_INVALID_EOF : room < 3 ? KOHIBLAD_NO_ROOM : KOHIBLAD_OK));
         memcpy(order_of, numbers.at, sizeof order_of);
@@ -813,8 +824,8 @@ int main(int argc, char **argv) {
             for (int i = 0; i < 2; i++) {
                 size_t l = order_of[i], r = order_of[i + 1];
                 size_t ls = stops[l], rs = stops[r];
-                order = kohiblad_compare(rows.at + ls, stops[l + 1] - ls,
-                                         rows.at + rs, stops[r + 1] - rs);
+                order = kohiblad_compare_within(rows.at + ls, stops[l + 1] - ls, rows.at + rs,
+                                                stops[r + 1] - rs, SIZE_MAX);
                 assert(order < 0 || (order == 0 && l < r));
             }
             size_t order_within[3];
@@ -831,19 +842,21 @@ int main(int argc, char **argv) {
             assert(order_of[0] == 7 && order_of[1] == 7 && order_of[2] == 7);
         }
         ANSWER(status, out, length,
-               kohiblad_build_array(rows.at, rows.size, where, 3, out.at, out.size, &length));
+               kohiblad_build_array_within(rows.at, rows.size, where, 3, SIZE_MAX, out.at, out.size,
+                                           &length));
         if (!moved) assert(is == (status == KOHIBLAD_OK || status == KOHIBLAD_NO_ROOM));
         if (status == KOHIBLAD_OK) {
             built++;
-            assert(kohiblad_is_document(out.at, length));
+            assert(kohiblad_check(out.at, length, SIZE_MAX));
         }
         build_within(rows, where, depth, out);
         size_t pairs = 2 + below(2);
         ANSWER(status, out, length,
-               kohiblad_build_object(rows.at, rows.size, where, pairs + 1, out.at, out.size,
+               kohiblad_build_object_within(rows.at, rows.size, where, pairs + 1, SIZE_MAX, out.at,
+                                            out.size,
                                      &length));
         if (pairs == 3) assert(status == KOHIBLAD_INVALID_EOF);
-        if (status == KOHIBLAD_OK) assert(kohiblad_is_document(out.at, length));
+        if (status == KOHIBLAD_OK) assert(kohiblad_check(out.at, length, SIZE_MAX));
         drop(numbers); drop(offsets); drop(rows); drop(back); drop(text);
         drop(name); drop(key); drop(out); drop(b);
     }

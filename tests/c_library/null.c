@@ -11,9 +11,10 @@ int main(void) {
     assert(kohiblad_version() == KOHIBLAD_VERSION);
     assert(kohiblad_status_name(KOHIBLAD_NONE, NULL, 0, &length) == KOHIBLAD_NO_ROOM);
     assert(length == 4);
-    assert(!kohiblad_check(NULL, 0, 9) && !kohiblad_is_document(NULL, 0));
-    assert(!kohiblad_is_canonical(NULL, 0) && kohiblad_compare(NULL, 0, NULL, 0) == 0);
-    assert(kohiblad_compare(null, sizeof null, NULL, 0) < 0);
+    assert(!kohiblad_check(NULL, 0, 9) && !kohiblad_check(NULL, 0, SIZE_MAX));
+    assert(!kohiblad_is_canonical_within(NULL, 0, SIZE_MAX));
+    assert(kohiblad_compare_within(NULL, 0, NULL, 0, SIZE_MAX) == 0);
+    assert(kohiblad_compare_within(null, sizeof null, NULL, 0, SIZE_MAX) < 0);
     assert(kohiblad_kind(NULL, 0).status == KOHIBLAD_INVALID_EOF);
     assert(kohiblad_get(null, sizeof null, NULL, 0, NULL, 0, &length) == KOHIBLAD_NONE);
     assert(kohiblad_find(NULL, 0, NULL, 0).status == KOHIBLAD_INVALID_EOF);
@@ -21,18 +22,23 @@ int main(void) {
     assert(kohiblad_array_item(NULL, 0, 0, NULL, 0, &length) == KOHIBLAD_INVALID_EOF);
     assert(kohiblad_object_member(NULL, 0, 0, NULL, 0, &key_length, NULL, 0, &length)
            == KOHIBLAD_INVALID_EOF);
-    assert(kohiblad_to_string(null, sizeof null, NULL, 0, &length) == KOHIBLAD_NO_ROOM);
+    assert(kohiblad_to_string_within(null, sizeof null, SIZE_MAX, NULL, 0, &length)
+           == KOHIBLAD_NO_ROOM);
     assert(length == 4);
-    assert(kohiblad_to_pretty(NULL, 0, NULL, 0, &length) == KOHIBLAD_NO_ROOM && length == 4);
+    assert(kohiblad_to_pretty_within(NULL, 0, SIZE_MAX, NULL, 0, &length)
+           == KOHIBLAD_NO_ROOM && length == 4);
     assert(kohiblad_parse(NULL, 0, 9, 0, NULL, 0, &length) == KOHIBLAD_INVALID_JSON && length == 0);
     assert(kohiblad_text_fault(NULL, 0, 9, 0).status == KOHIBLAD_INVALID_JSON);
     assert(kohiblad_text_fault(NULL, 0, 9, 0).offset == 0);
-    assert(kohiblad_to_canonical(NULL, 0, NULL, 0, &length) == KOHIBLAD_INVALID_JSONB);
+    assert(kohiblad_to_canonical_within(NULL, 0, SIZE_MAX, NULL, 0, &length)
+           == KOHIBLAD_INVALID_JSONB);
     assert(kohiblad_key(NULL, 0, 64, NULL, 0, &length) == KOHIBLAD_NO_ROOM && length == 2);
-    assert(kohiblad_build_array(NULL, 0, NULL, 0, NULL, 0, &length) == KOHIBLAD_NO_ROOM);
-    assert(kohiblad_build_object(NULL, 0, NULL, 0, NULL, 0, &length) == KOHIBLAD_NO_ROOM);
+    assert(kohiblad_build_array_within(NULL, 0, NULL, 0, SIZE_MAX, NULL, 0, &length)
+           == KOHIBLAD_NO_ROOM);
+    assert(kohiblad_build_object_within(NULL, 0, NULL, 0, SIZE_MAX, NULL, 0, &length)
+           == KOHIBLAD_NO_ROOM);
     assert(length == 4);
-    assert(kohiblad_sort(NULL, 0, NULL, 0, NULL, 0) == KOHIBLAD_OK);
+    assert(kohiblad_sort_within(NULL, 0, NULL, 0, SIZE_MAX, NULL, 0) == KOHIBLAD_OK);
     struct kohiblad_cursor cursor = { 0, 0, 0 };
     struct kohiblad_place value;
     assert(kohiblad_begin(NULL, 0, &cursor) == KOHIBLAD_INVALID_EOF);
@@ -97,10 +103,12 @@ int main(void) {
     uint8_t block[64] = { 0x20 };
     size_t numbers[4] = { 0, 8, 8, 8 };
     length = 9;
-    assert(kohiblad_to_string(block, 8, block, 64, &length) == KOHIBLAD_OVERLAP);
-    assert(kohiblad_to_string(block, 8, block + 7, 57, &length) == KOHIBLAD_OVERLAP);
+    assert(kohiblad_to_string_within(block, 8, SIZE_MAX, block, 64, &length) == KOHIBLAD_OVERLAP);
+    assert(kohiblad_to_string_within(block, 8, SIZE_MAX, block + 7, 57, &length)
+           == KOHIBLAD_OVERLAP);
     assert(length == 9 && block[0] == 0x20 && block[8] == 0);
-    assert(kohiblad_to_string(block, 8, block + 8, 56, &length) == KOHIBLAD_OK && length == 4);
+    assert(kohiblad_to_string_within(block, 8, SIZE_MAX, block + 8, 56, &length)
+           == KOHIBLAD_OK && length == 4);
     length = 9;
     assert(kohiblad_to_string_within(block, 8, 0, block, 64, &length) == KOHIBLAD_OVERLAP);
     assert(kohiblad_to_pretty_within(block, 8, 0, block + 7, 57, &length) == KOHIBLAD_OVERLAP);
@@ -133,8 +141,9 @@ int main(void) {
     assert(kohiblad_build_object_within(block, 8, numbers, 2, 0, (uint8_t *)numbers, 8, &length)
            == KOHIBLAD_OVERLAP);
     assert(length == 9 && block[0] == 0x20 && numbers[0] == 0);
-    assert(kohiblad_sort(block, 8, numbers, 2, numbers, 4) == KOHIBLAD_OVERLAP);
-    assert(kohiblad_sort(block, 8, numbers, 2, numbers + 2, 2) == KOHIBLAD_OK && numbers[2] == 0);
+    assert(kohiblad_sort_within(block, 8, numbers, 2, SIZE_MAX, numbers, 4) == KOHIBLAD_OVERLAP);
+    assert(kohiblad_sort_within(block, 8, numbers, 2, SIZE_MAX, numbers + 2, 2)
+           == KOHIBLAD_OK && numbers[2] == 0);
     assert(kohiblad_object_member(block, 8, 0, block + 8, 8, &length, block + 12, 8, numbers)
            == KOHIBLAD_OVERLAP);
     assert(kohiblad_object_member(block, 8, 0, block + 8, 8, &length, block + 16, 8, &length)

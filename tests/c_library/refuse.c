@@ -26,7 +26,7 @@ void *__wrap_realloc(void *block, size_t size) {
 
 static const char text[] = "{\"a\":1,\"b\":[true,\"\\u00e9\"],"
                            "\"c\":{\"d\":\"e\",\"f\":-12.5,\"g\":[[],{}]}}";
-enum { ROOM = 1024, CALLS = 36 };
+enum { ROOM = 1024, CALLS = 29 };
 static uint8_t document[ROOM], pairs[ROOM];
 static size_t size, offsets[5], pairs_size, order[4];
 static uint64_t keys[ROOM / 8];
@@ -35,70 +35,62 @@ static uint8_t path[ROOM];
 static size_t path_size;
 
 static bool takes_memory(int which) {
-    return which < 7 || (which > 13 && which < 21) || (which > 22 && which < 28)
-        || (which > 29 && which < 35);
+    return which < 7 || which == 13 || which == 14 || (which > 16 && which < 22) || which > 23;
 }
 
 static uint32_t call(int which, uint8_t *out, size_t *length) {
     size_t key_length;
     switch (which) {
     case 0: return kohiblad_parse((const uint8_t *)text, sizeof text - 1, 8, 1, out, ROOM, length);
-    case 1: return kohiblad_to_string(document, size, out, ROOM, length);
-    case 2: return kohiblad_to_pretty(document, size, out, ROOM, length);
-    case 3: return kohiblad_to_canonical(document, size, out, ROOM, length);
-    case 4: return kohiblad_build_array(pairs, pairs_size, offsets + 1, 2, out, ROOM, length);
-    case 5: return kohiblad_build_object(pairs, pairs_size, offsets, 5, out, ROOM, length);
-    case 6: return kohiblad_sort(pairs, pairs_size, offsets, 5, order, 4);
+    case 1: return kohiblad_to_string_within(document, size, 8, out, ROOM, length);
+    case 2: return kohiblad_to_pretty_within(document, size, 8, out, ROOM, length);
+    case 3: return kohiblad_to_canonical_within(document, size, 8, out, ROOM, length);
+    case 4:
+        return kohiblad_build_array_within(pairs, pairs_size, offsets + 1, 2, 8, out, ROOM, length);
+    case 5:
+        return kohiblad_build_object_within(pairs, pairs_size, offsets, 5, 8, out, ROOM, length);
+    case 6: return kohiblad_sort_within(pairs, pairs_size, offsets, 5, 8, order, 4);
     case 7: return kohiblad_get(document, size, (const uint8_t *)"c", 1, out, ROOM, length);
     case 8: return kohiblad_object_member(document, size, 1, out, ROOM / 2, &key_length,
                                           out + ROOM / 2, ROOM / 2, length);
     case 9: return kohiblad_find(document, size, (const uint8_t *)"b", 1).status;
     case 10: return kohiblad_part(document, size, 4).status;
-    case 11: return kohiblad_is_document(document, size) ? KOHIBLAD_OK : KOHIBLAD_INVALID_JSONB;
-    case 12: return kohiblad_check(document, size, 8) ? KOHIBLAD_OK : KOHIBLAD_INVALID_JSONB;
-    case 13: return (uint32_t)kohiblad_compare(document, size, document, size);
-    case 14: return kohiblad_key(document, size, 8, out, ROOM, length);
-    case 15: return kohiblad_to_string_within(document, size, 8, out, ROOM, length);
-    case 16: return kohiblad_to_pretty_within(document, size, 8, out, ROOM, length);
-    case 17: return kohiblad_to_canonical_within(document, size, 8, out, ROOM, length);
-    case 18:
-        return kohiblad_build_array_within(pairs, pairs_size, offsets + 1, 2, 8, out, ROOM, length);
-    case 19:
-        return kohiblad_build_object_within(pairs, pairs_size, offsets, 5, 8, out, ROOM, length);
-    case 20:
+    case 11: return kohiblad_check(document, size, 8) ? KOHIBLAD_OK : KOHIBLAD_INVALID_JSONB;
+    case 12: return (uint32_t)kohiblad_compare_within(document, size, document, size, 8);
+    case 13: return kohiblad_key(document, size, 8, out, ROOM, length);
+    case 14:
         return kohiblad_of_extension(KOHIBLAD_DATE, 19000, 0, 0, 0, NULL, 0, out, ROOM, length);
-    case 21:
+    case 15:
         return kohiblad_is_canonical_within(document, size, 8) ? KOHIBLAD_OK
                                                                : KOHIBLAD_INVALID_JSONB;
-    case 22:
+    case 16:
         return kohiblad_of_part(KOHIBLAD_TYPE_CONTAINER, document, size, out, ROOM, length);
-    case 23: {
+    case 17: {
         struct kohiblad_fault fault =
             kohiblad_text_fault((const uint8_t *)text, sizeof text - 1, 8, 1);
         *length = fault.offset;
         return fault.status;
     }
-    case 24: return kohiblad_concat(document, size, document, size, 8, out, ROOM, length);
-    case 25:
+    case 18: return kohiblad_concat(document, size, document, size, 8, out, ROOM, length);
+    case 19:
         return kohiblad_edit(document, size, path, path_size, KOHIBLAD_PUT, document, size, 8, out,
                              ROOM, length);
-    case 26: return kohiblad_index_keys(document, size, 8, keys, ROOM / 8, length);
-    case 27: return kohiblad_top_keys(document, size, 8, keys, ROOM / 8, length);
-    case 28: return kohiblad_contains(document, size, document, size, 8, SIZE_MAX).status;
-    case 29: return kohiblad_exists(document, size, (const uint8_t *)"b", 1, 8).status;
-    case 30: return kohiblad_path_of_text((const uint8_t *)"$.c.g[0]", 8, out, ROOM, length);
-    case 31: {
+    case 20: return kohiblad_index_keys(document, size, 8, keys, ROOM / 8, length);
+    case 21: return kohiblad_top_keys(document, size, 8, keys, ROOM / 8, length);
+    case 22: return kohiblad_contains(document, size, document, size, 8, SIZE_MAX).status;
+    case 23: return kohiblad_exists(document, size, (const uint8_t *)"b", 1, 8).status;
+    case 24: return kohiblad_path_of_text((const uint8_t *)"$.c.g[0]", 8, out, ROOM, length);
+    case 25: {
         struct kohiblad_place place = kohiblad_get_path(document, size, path, path_size, 8);
         *length = place.length;
         return place.status;
     }
-    case 32:
+    case 26:
         return kohiblad_select(document, size, (const uint8_t *)"$.*", 3, 8, places, ROOM / 8,
                                length);
-    case 33:
+    case 27:
         return kohiblad_merge_patch(document, size, document, size, 8, out, ROOM, length);
-    case 34: return kohiblad_strip_nulls(document, size, 8, out, ROOM, length);
-    default: return kohiblad_is_canonical(document, size) ? KOHIBLAD_OK : KOHIBLAD_INVALID_JSONB;
+    default: return kohiblad_strip_nulls(document, size, 8, out, ROOM, length);
     }
 }
 

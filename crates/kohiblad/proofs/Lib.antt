@@ -1,3 +1,4 @@
+pub mod CheckedRows
 pub mod ChildWalkLaws
 pub mod ExponentRules
 pub mod FoundPlaces
@@ -14,3 +15,5 @@ pub mod ResultLaws
 pub mod Scalars
 pub mod ScalarValues
 pub mod Walks
+pub mod WithinLaws
+pub mod Yielded

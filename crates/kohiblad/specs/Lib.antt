@@ -8,7 +8,6 @@ pub mod SortOrder
 pub mod KindAnswer
 pub mod Output
 pub mod Children
-pub mod BoundedMeaning
 pub mod Scalars
 pub mod Functions
 pub mod PathPlaces

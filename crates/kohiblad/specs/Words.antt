@@ -1,8 +1,8 @@
 -- The names that the clauses of this crate cite, passed on from one place.
-pub use Rattle.std.specs.Map.{values_of}
+pub use Rattle.std.specs.Map.{keys_of, values_of}
 pub use Rattle.jsonb_value.specs.ExtCode.{extension_of}
 pub use Rattle.jsonb_value.specs.Json.Numeral.{number_of}
-pub use Rattle.jsonb_value.specs.Meaning.{Meaning, meaning_cmp}
+pub use Rattle.jsonb_value.specs.Meaning.{Meaning, document, meaning_cmp}
 pub use Rattle.jsonb_value.specs.Text.{compact, pretty}
 pub use Rattle.jsonb_value.specs.TextDepth.{text_depth}
 pub use Rattle.jsonb_value.specs.Tree.{Extension, Tree, boolean, extension, null, number, text}
@@ -17,11 +17,13 @@ pub use Rattle.jsonb_codec.specs.Depth.{IsDocumentWithin, depth}
 pub use Rattle.jsonb_codec.specs.Doc.{Doc, IsDocument}
 pub use Rattle.jsonb_codec.specs.Parts.{IsPayloadOf}
 pub use Rattle.jsonb.specs.Code.{scalar_bytes}
-pub use Rattle.jsonb.specs.Document.{document_tree}
+pub use Rattle.jsonb.specs.Building.{AreTexts}
+pub use Rattle.jsonb.specs.Document.{document_bytes, document_tree}
 pub use Rattle.jsonb.specs.ItemMeaning.{meaning_of}
 pub use Rattle.jsonb.specs.Kind.{kind, kind_of_tree}
 pub use Rattle.jsonb.specs.Owned.{bytes_of}
 pub use Rattle.jsonb.specs.Parsing.{ParsesUnder}
+pub use Rattle.jsonb.specs.Results.{document_pair}
 pub use Rattle.jsonb.specs.Texts.{display_text, lined_text, other_text, plain_text}
 pub use Rattle.jsonb.specs.Texts.{pretty_display_text}
 pub use Rattle.jsonb.specs.declared.reads.lookup.Place.{Place}
@@ -33,7 +35,6 @@ pub use Rattle.jsonb_functions.specs.Joined.{joined}
 pub use Rattle.jsonb_functions.specs.Patched.{patched}
 pub use Rattle.jsonb_functions.specs.Stripped.{stripped}
 pub use Rattle.jsonb_functions.specs.TopKeys.{top_hashes}
-pub use Rattle.kohiblad.specs.BoundedMeaning.{bounded_meaning}
 pub use Rattle.kohiblad.specs.Children.{CanMove, IsBegun, IsChildIn, child_at_cursor}
 pub use Rattle.kohiblad.specs.Children.{cursor_after, cursor_at}
 pub use Rattle.kohiblad.specs.Children.{key_answer, numbered_child, value_answer}
@@ -41,7 +42,7 @@ pub use Rattle.kohiblad.specs.Functions.{AreKeysWritten, IsContainedAnswer, IsEd
 pub use Rattle.kohiblad.specs.Functions.{MakesOfOne, MakesOfTwo}
 pub use Rattle.kohiblad.specs.Functions.{exists_answer, operation_in, operation_asked}
 pub use Rattle.kohiblad.specs.KindAnswer.{kind_answer}
-pub use Rattle.kohiblad.specs.Output.{IsReadWithin, IsRewritten, IsRewrittenWithin}
+pub use Rattle.kohiblad.specs.Output.{IsReadWithin, IsRewrittenWithin}
 pub use Rattle.kohiblad.specs.Output.{IsWritten, rule_of}
 pub use Rattle.kohiblad.specs.Parts.{IsPartDocument, is_entry_type, is_too_long, part_document}
 pub use Rattle.kohiblad.specs.Places.{AreInside, AreMemberPlaces, IsInside, IsItemPlace}
@@ -49,9 +50,8 @@ pub use Rattle.kohiblad.specs.Places.{IsMemberHandedOver, IsPartPlace, IsPlaceFo
 pub use Rattle.kohiblad.specs.Places.{IsPlaceHandedOver, IsPlaceIn, IsValuePlace, entry_document}
 pub use Rattle.kohiblad.specs.Places.{entry_there, place_of_item, member_places, part_place}
 pub use Rattle.kohiblad.specs.Places.{part_start, place_answer, place_at, place_in}
-pub use Rattle.kohiblad.specs.Results.{AreWithin, BuildsArray, BuildsObject}
-pub use Rattle.kohiblad.specs.Results.{IsArrayBuilt, IsArrayOfRows, IsArrayOfRowsWithin}
-pub use Rattle.kohiblad.specs.Results.{IsObjectBuilt, IsObjectOfRows, IsObjectOfRowsWithin}
+pub use Rattle.kohiblad.specs.Results.{AreWithin, BuildsArray, BuildsObject, IsArrayOfRows}
+pub use Rattle.kohiblad.specs.Results.{IsMember, IsObjectOfRows}
 pub use Rattle.kohiblad.specs.Rows.{are_offsets, pairs_in, rows, rows_from}
 pub use Rattle.kohiblad.specs.Scalars.{IsDecimalOf, IsGivenBy, IsShort, IsShortExtension}
 pub use Rattle.kohiblad.specs.Scalars.{coefficient, data_answer, data_of, extension_answer}

@@ -1,20 +1,11 @@
 //! The canonical form of documents.
 
 ghost use Rattle.std.specs.Prelude.{◌↔◌, IsTrue};
-ghost use Rattle.kohiblad.specs.Words.{IsCanonical, IsDocumentWithin, IsRewritten};
-ghost use Rattle.kohiblad.specs.Words.{IsRewrittenWithin};
+ghost use Rattle.kohiblad.specs.Words.{IsCanonical, IsDocumentWithin, IsRewrittenWithin};
 
 use crate::answer::{code, hand_over_made, refuse};
-use jsonb::{Document, Error, RawJsonb, is_canonical, is_document_within};
+use jsonb::{Document, Error};
 use std::alloc::Global;
-
-/// Whether the bytes are canonical: those that the encoder writes for some value.
-#[unsafe(no_mangle)]
-pub extern "C" fn kohiblad_is_canonical(bytes: &[u8]) -> bool
-    ensures { IsTrue result ↔ IsCanonical bytes.now }
-{
-    is_canonical(bytes)
-}
 
 /// Whether the bytes are a document of at most this depth, and canonical: those that the encoder
 /// writes for some value. A scalar has depth 0, an array or object one more than its deepest child,
@@ -27,23 +18,6 @@ pub extern "C" fn kohiblad_is_canonical_within(bytes: &[u8], depth: usize) -> bo
         Some(document) => document.is_canonical(),
         None => false,
     }
-}
-
-/// Copies the canonical document of the value that the bytes mean to `out`, and its length in bytes
-/// to `length`. `InvalidJsonb` if the bytes are not a document, or a payload in an older form
-/// exceeds its limit in its newer form; `OutOfMemory` if an allocation fails; `NO_ROOM` if `out` is
-/// shorter than the document. If the status is not `OK`, `out` is unchanged, and `length` is 0, or
-/// for `NO_ROOM` the length of the document.
-#[unsafe(no_mangle)]
-pub extern "C" fn kohiblad_to_canonical(
-    alloc: Global,
-    bytes: &[u8],
-    out: &mut [u8],
-    length: &mut usize,
-) -> u32
-    ensures { IsRewritten bytes.now out.old out.new length.new result }
-{
-    hand_over_made(RawJsonb::new(bytes).to_canonical(alloc), out, length)
 }
 
 /// Copies the canonical document of the value that the bytes mean to `out`, and its length in bytes
@@ -62,8 +36,8 @@ pub extern "C" fn kohiblad_to_canonical_within(
 ) -> u32
     ensures { IsRewrittenWithin depth bytes.now out.old out.new length.new result }
 {
-    if !is_document_within(bytes, depth) {
+    let Some(document) = Document::within(bytes, depth) else {
         return refuse(code(Error::InvalidJsonb), out, length);
-    }
-    kohiblad_to_canonical(alloc, bytes, out, length)
+    };
+    hand_over_made(document.to_canonical(alloc), out, length)
 }

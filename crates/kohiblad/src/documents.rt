@@ -1,13 +1,16 @@
 //! Checking bytes, their kind, and comparing them.
 
 ghost use Rattle.std.specs.Prelude.{◌≡◌, ◌↔◌, Ok, IsTrue};
-ghost use Rattle.kohiblad.specs.Words.{meaning_cmp, Tree, IsDocumentWithin, Doc, IsDocument, kind};
-ghost use Rattle.kohiblad.specs.Words.{kind_of_tree, meaning_of, meaning_within, sign, kind_answer};
+ghost use Rattle.kohiblad.specs.Words.{meaning_cmp, Tree, IsDocumentWithin, Doc, kind};
+ghost use Rattle.kohiblad.specs.Words.{kind_of_tree, meaning_within, sign, kind_answer};
 
 use crate::answer::{OK, code};
-use jsonb::{JsonbItemType, RawJsonb, is_document, is_document_within};
+use jsonb::{JsonbItemType, RawJsonb, document_text, is_document_within};
 use jsonb_comparable::CheckedBytes;
 use std::cmp::Ordering;
+
+// Bytes that are no longer are compared by their meaning at once: to check them takes few steps.
+const SHORT: usize = 128;
 
 /// Whether the bytes are a document of at most this depth: a scalar has depth 0, an array or object
 /// one more than its deepest child, and at least 1. Deeper levels are not examined.
@@ -18,35 +21,35 @@ pub extern "C" fn kohiblad_check(bytes: &[u8], depth: usize) -> bool
     is_document_within(bytes, depth)
 }
 
-/// Whether the bytes are a document, however deep it nests.
-#[unsafe(no_mangle)]
-pub extern "C" fn kohiblad_is_document(bytes: &[u8]) -> bool
-    ensures { IsTrue result ↔ IsDocument bytes.now }
-{
-    is_document(bytes)
-}
-
-/// Compares byte strings by their meaning, with the result -1, 0 or 1: documents compare by their
-/// values and are less than all other bytes, which compare as bytes.
-#[unsafe(no_mangle)]
-pub extern "C" fn kohiblad_compare(left: &[u8], right: &[u8]) -> i32
-    ensures { result ≡ sign (meaning_cmp (meaning_of left.now) (meaning_of right.now)) }
-{
-    sign(RawJsonb::new(left).cmp(&RawJsonb::new(right)))
-}
-
 /// Compares byte strings by their meaning, with the result -1, 0 or 1: documents of at most this
 /// depth compare by their values and are less than all other bytes, which compare as bytes. So a
-/// document that nests deeper than `depth` levels counts as no document. A scalar has depth 0, an
+/// document that nests deeper than `depth` levels compares by its bytes. A scalar has depth 0, an
 /// array or object one more than its deepest child, and at least 1. Deeper levels are not examined.
 #[unsafe(no_mangle)]
 pub extern "C" fn kohiblad_compare_within(left: &[u8], right: &[u8], depth: usize) -> i32
     ensures { result ≡ sign (meaning_cmp (meaning_within depth left.now)
         (meaning_within depth right.now)) }
 {
+    sign(cmp_within(left, right, depth))
+}
+
+// Compares byte strings by their meaning, where a document that nests deeper than `depth` levels
+// means its bytes.
+fn cmp_within(left: &[u8], right: &[u8], depth: usize) -> Ordering
+    ensures { result ≡ meaning_cmp (meaning_within depth left.now)
+        (meaning_within depth right.now) }
+{
+    // Strings are compared most often, and two words suffice to recognize them.
+    if let (Some(left), Some(right)) = (document_text(left), document_text(right)) {
+        return left.cmp(right);
+    }
+    // Equal bytes mean the same, whatever they are, and a check of both sides costs more than this.
+    if left.len() > SHORT && left == right {
+        return Ordering::Equal;
+    }
     let left = CheckedBytes::within(RawJsonb::new(left), depth);
     let right = CheckedBytes::within(RawJsonb::new(right), depth);
-    sign(left.cmp(&right))
+    left.cmp(&right)
 }
 
 // An order as C has it.

@@ -6,10 +6,12 @@
 mod answer;
 mod building;
 mod canonical;
+mod checked_rows;
 mod children;
 mod documents;
 mod functions;
 mod key;
+mod laws;
 mod path_places;
 mod paths;
 mod places;

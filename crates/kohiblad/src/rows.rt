@@ -79,7 +79,7 @@ impl<'a> Rows<'a> {
 
     /// The next key and the document after it. `None` if fewer than two rows are left.
     pub fn next_pair(&mut self) -> Option<(&'a [u8], &'a [u8])>
-        ensures { MatchOption result (pairs_in self.old ≡ [])
+        ensures { MatchOption result ((pairs_in self.old ≡ []) × (self.new ≡ []))
             (λ p. pairs_in self.old ≡ (p.0.now, p.1.now) ∷ pairs_in self.new) }
     {
         let key = self.next()?;

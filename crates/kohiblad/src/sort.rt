@@ -1,31 +1,13 @@
 //! Sorting consecutive rows.
 
 ghost use Rattle.std.specs.Prelude.{◌≡◌, ◌≤◌, ◌++◌, length, drop, map, IfOk, IfErr};
-ghost use Rattle.kohiblad.specs.Words.{meaning_of, checked_meaning, meaning_within, IsOrderOf};
-ghost use Rattle.kohiblad.specs.Words.{bounded_meaning, AreRowsOrdered};
+ghost use Rattle.kohiblad.specs.Words.{meaning_within, IsOrderOf, AreRowsOrdered};
 
 use crate::answer::{NO_ROOM, OK, code};
 use crate::rows::Rows;
 use jsonb::{Error, RawJsonb};
 use jsonb_comparable::CheckedBytes;
 use std::alloc::Global;
-
-/// Writes the numbers of the rows, counted from 0, to the start of `order`, sorted by the meaning
-/// of the rows, as `kohiblad_compare` compares them; equal rows keep their order. Row k begins at
-/// `offsets[k]` and ends at `offsets[k + 1]`. Each row is checked once. `InvalidEOF` if an offset
-/// is below the previous one or beyond the bytes; `NO_ROOM` if `order` has fewer numbers than there
-/// are rows; `OutOfMemory` if an allocation fails. If the status is not `OK`, `order` is unchanged.
-#[unsafe(no_mangle)]
-pub extern "C" fn kohiblad_sort(
-    alloc: Global,
-    bytes: &[u8],
-    offsets: &[usize],
-    order: &mut [usize],
-) -> u32
-    ensures { AreRowsOrdered meaning_of bytes.now offsets.now order.old order.new result }
-{
-    sort_rows(alloc, bytes, offsets, None, order)
-}
 
 /// Writes the numbers of the rows, counted from 0, to the start of `order`, sorted as
 /// `kohiblad_compare_within` compares the rows at this depth; equal rows keep their order. Row k
@@ -46,28 +28,13 @@ pub extern "C" fn kohiblad_sort_within(
     ensures { AreRowsOrdered (meaning_within depth)
         bytes.now offsets.now order.old order.new result }
 {
-    sort_rows(alloc, bytes, offsets, Some(depth), order)
-}
-
-// Sorts the rows and writes their numbers. With a limit, a document that nests deeper counts as no
-// document.
-fn sort_rows(
-    alloc: Global,
-    bytes: &[u8],
-    offsets: &[usize],
-    limit: Option<usize>,
-    order: &mut [usize],
-) -> u32
-    ensures { AreRowsOrdered (bounded_meaning limit)
-        bytes.now offsets.now order.old order.new result }
-{
     let Ok(rows) = Rows::new(bytes, offsets) else {
         return code(Error::InvalidEOF);
     };
     if order.len() < rows.len() {
         return NO_ROOM;
     }
-    match keys_in_order(alloc, rows, limit) {
+    match keys_in_order(alloc, rows, depth) {
         Ok(keys) => {
             put_numbers(&keys, order);
             OK
@@ -80,9 +47,9 @@ fn sort_rows(
 fn keys_in_order<'a>(
     alloc: Global,
     rows: Rows<'a>,
-    limit: Option<usize>,
+    depth: usize,
 ) -> Result<Vec<(CheckedBytes<'a>, usize)>, Error>
-    ensures ok { IfOk result (λ keys. IsOrderOf (bounded_meaning limit)
+    ensures ok { IfOk result (λ keys. IsOrderOf (meaning_within depth)
         rows.entry (map (λ key. key.1) keys.items)) }
     ensures len { IfOk result (λ keys. length keys.items ≡ length rows.entry) }
     ensures memory { IfErr result (λ e. e ≡ Error.OutOfMemory) }
@@ -90,21 +57,10 @@ fn keys_in_order<'a>(
     let mut left = rows;
     let mut keys = Vec::new(alloc);
     while let Some(row) = left.next() {
-        keys.push((check(row, limit), keys.len()))?;
+        keys.push((CheckedBytes::within(RawJsonb::new(row), depth), keys.len()))?;
     }
     keys.sort()?;
     Ok(keys)
-}
-
-// Checks bytes, where there may be a limit of depth.
-fn check<'a>(bytes: &'a [u8], limit: Option<usize>) -> CheckedBytes<'a>
-    ensures { checked_meaning result ≡ bounded_meaning limit bytes.now }
-{
-    let raw = RawJsonb::new(bytes);
-    match limit {
-        Some(depth) => CheckedBytes::within(raw, depth),
-        None => CheckedBytes::new(raw),
-    }
 }
 
 // Writes the numbers of the keys to the start of `order`.

@@ -1,7 +1,6 @@
 //! Printing bytes as texts, and parsing texts into documents.
 
-ghost use Rattle.kohiblad.specs.Words.{compact, pretty, Tree, Doc, display_text, plain_text};
-ghost use Rattle.kohiblad.specs.Words.{pretty_display_text, lined_text, other_text, meaning_within};
+ghost use Rattle.kohiblad.specs.Words.{plain_text, lined_text, other_text, meaning_within};
 ghost use Rattle.kohiblad.specs.Words.{IsWritten, IsReadWithin, ParsesUnder, rule_of, bytes_of};
 
 use crate::answer::{TOO_DEEP, code, hand_over, hand_over_made, refuse};
@@ -10,28 +9,6 @@ use jsonb::{Error, OwnedJsonb, RawJsonb, is_text_within};
 use jsonb_comparable::CheckedBytes;
 use std::alloc::Global;
 use std::str;
-
-/// Copies the text of the bytes to `out`, and its length in bytes to `length`: the compact text of
-/// a document, `null` for no bytes, and for all other bytes their own text, with U+FFFD in place of
-/// invalid UTF-8. `OutOfMemory` if an allocation fails; `NO_ROOM` if `out` is shorter than the
-/// text. If the status is not `OK`, `out` is unchanged, and `length` is 0, or for `NO_ROOM` the
-/// length of the text.
-#[unsafe(no_mangle)]
-pub extern "C" fn kohiblad_to_string(
-    alloc: Global,
-    bytes: &[u8],
-    out: &mut [u8],
-    length: &mut usize,
-) -> u32
-    ensures display { IsWritten (display_text bytes.now) out.old out.new length.new result }
-    ensures document { (t : Tree) → Doc bytes.now t
-        → IsWritten (compact t) out.old out.new length.new result }
-{
-    match RawJsonb::new(bytes).to_string(alloc) {
-        Ok(text) => hand_over(text.as_bytes(), out, length),
-        Err(error) => refuse(code(error), out, length),
-    }
-}
 
 /// Copies the text of the bytes to `out`, and its length in bytes to `length`: the compact text of
 /// a document, `null` for no bytes, and for all other bytes their own text, with U+FFFD in place of
@@ -70,28 +47,6 @@ fn write_other(alloc: Global, bytes: &[u8], out: &mut [u8], length: &mut usize) 
     match bytes.to_str_lossy(alloc) {
         Ok(text) => hand_over(text.as_bytes(), out, length),
         Err(_) => refuse(code(Error::OutOfMemory), out, length),
-    }
-}
-
-/// Copies the pretty text of the bytes to `out`, and its length in bytes to `length`: that of a
-/// document with each item or pair on its own line, indented by two spaces for each enclosing
-/// container, and `null` for all other bytes. `OutOfMemory` if an allocation fails; `NO_ROOM` if
-/// `out` is shorter than the text. If the status is not `OK`, `out` is unchanged, and `length` is
-/// 0, or for `NO_ROOM` the length of the text.
-#[unsafe(no_mangle)]
-pub extern "C" fn kohiblad_to_pretty(
-    alloc: Global,
-    bytes: &[u8],
-    out: &mut [u8],
-    length: &mut usize,
-) -> u32
-    ensures display { IsWritten (pretty_display_text bytes.now) out.old out.new length.new result }
-    ensures document { (t : Tree) → Doc bytes.now t
-        → IsWritten (pretty t) out.old out.new length.new result }
-{
-    match RawJsonb::new(bytes).to_pretty_string(alloc) {
-        Ok(text) => hand_over(text.as_bytes(), out, length),
-        Err(error) => refuse(code(error), out, length),
     }
 }
 

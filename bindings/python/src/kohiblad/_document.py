@@ -356,8 +356,9 @@ class Document:
         return self._written(library.to_string).decode()
 
     def _written(self, call: Any) -> bytes:
+        # A document of n bytes is less than n deep, so this depth excludes none.
         size = len(self._data)
-        return library.result_of(call, 2 * size + 64, self._data, size)
+        return library.result_of(call, 2 * size + 64, self._data, size, size)
 
     def __bytes__(self) -> bytes:
         return self._data
@@ -685,10 +686,11 @@ def dumps(value: Any) -> str:
 
 if IS_NATIVE:
     native.bind(
-        library.addresses("begin", "boolean", "build_array", "build_object", "check", "concat",
-                          "edit", "extension", "find", "key", "kind", "merge_patch", "next",
-                          "number", "of_extension", "of_part", "parse", "part", "select",
-                          "strip_nulls", "text", "to_canonical", "to_pretty", "to_string"),
+        library.addresses("begin", "boolean", "build_array_within", "build_object_within", "check",
+                          "concat", "edit", "extension", "find", "key", "kind", "merge_patch",
+                          "next", "number", "of_extension", "of_part", "parse", "part", "select",
+                          "strip_nulls", "text", "to_canonical_within", "to_pretty_within",
+                          "to_string_within"),
         {"scalar_document": ScalarDocument, "object_document": ObjectDocument,
          "array_document": ArrayDocument, "data_slot": vars(Document)["_data"],
          "key_slot": vars(Document)["_key"], "decimal": Decimal, "bytes_of_text": bytes_of_text,

@@ -184,13 +184,13 @@ extension = _export("extension", ExtensionValue, *_BYTES)
 parse = _export("parse", c_uint32, *_BYTES, c_size_t, c_uint32, *_OUT)
 text_fault = _export("text_fault", Fault, *_BYTES, c_size_t, c_uint32)
 key = _export("key", c_uint32, *_BYTES, c_size_t, *_OUT)
-to_string = _export("to_string", c_uint32, *_BYTES, *_OUT)
-to_pretty = _export("to_pretty", c_uint32, *_BYTES, *_OUT)
-to_canonical = _export("to_canonical", c_uint32, *_BYTES, *_OUT)
+to_string = _export("to_string_within", c_uint32, *_BYTES, c_size_t, *_OUT)
+to_pretty = _export("to_pretty_within", c_uint32, *_BYTES, c_size_t, *_OUT)
+to_canonical = _export("to_canonical_within", c_uint32, *_BYTES, c_size_t, *_OUT)
 of_extension = _export("of_extension", c_uint32, c_uint32, c_int64, c_int32, c_int32, c_int32,
                        *_BYTES, *_OUT)
-build_array = _export("build_array", c_uint32, *_ROWS, *_OUT)
-build_object = _export("build_object", c_uint32, *_ROWS, *_OUT)
+build_array = _export("build_array_within", c_uint32, *_ROWS, c_size_t, *_OUT)
+build_object = _export("build_object_within", c_uint32, *_ROWS, c_size_t, *_OUT)
 contains = _export("contains", Truth, *_BYTES, *_BYTES, c_size_t, c_size_t)
 exists = _export("exists", Truth, *_BYTES, *_BYTES, c_size_t)
 concat = _export("concat", c_uint32, *_BYTES, *_BYTES, c_size_t, *_OUT)
@@ -436,7 +436,7 @@ def payload_of(document: bytes, place: Place) -> bytes:
 
 
 def build(call: Callable[..., int], rows: Sequence[bytes]) -> bytes:
-    """What `build_array` or `build_object` make of rows."""
+    """What `build_array` or `build_object` make of rows that were checked before."""
     offsets = (c_size_t * (len(rows) + 1))()
     end = 0
     for index, row in enumerate(rows, 1):
@@ -444,7 +444,8 @@ def build(call: Callable[..., int], rows: Sequence[bytes]) -> bytes:
         offsets[index] = end
     guess = end + 4 * len(rows) + 8
     count = len(offsets)
-    return result_of(call, guess, b"".join(rows), end, ctypes.addressof(offsets), count)
+    # No row nests as deep as all have bytes.
+    return result_of(call, guess, b"".join(rows), end, ctypes.addressof(offsets), count, end)
 
 
 def _document_of_part(type_: int, payload: bytes) -> bytes:

@@ -57,7 +57,7 @@ def _printable(text: str) -> str:
 
 def _text_of(scalar: bytes) -> str:
     """The JSON text of a scalar's document, to be shown."""
-    text = library.result_of(library.to_string, 2 * len(scalar) + 64, scalar, len(scalar))
+    text = library.result_of(library.to_string, 2 * len(scalar) + 64, scalar, len(scalar), 0)
     return _printable(text.decode())
 
 
@@ -68,7 +68,7 @@ def _meaning_of(type_: int, payload: bytes) -> str:
     if type_ == library.TYPE_EXTENSION:
         tag = library.extension(scalar, size).tag
         meaning = f"{EXTENSIONS.get(tag) or f'opaque, tag {tag:02x}'} {meaning}"
-    if library.result_of(library.to_canonical, size, scalar, size) != scalar:
+    if library.result_of(library.to_canonical, size, scalar, size, 0) != scalar:
         meaning += " (old form)"
     return meaning
 

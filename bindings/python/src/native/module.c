@@ -5,11 +5,11 @@
 
 static const struct { const char *name; size_t offset; } exports[] = {
 #define EXPORT(name) { #name, offsetof(struct library, name) }
-    EXPORT(begin), EXPORT(boolean), EXPORT(build_array), EXPORT(build_object), EXPORT(check),
-    EXPORT(concat), EXPORT(edit), EXPORT(extension), EXPORT(find), EXPORT(key), EXPORT(kind),
-    EXPORT(merge_patch), EXPORT(next), EXPORT(number), EXPORT(of_extension), EXPORT(of_part),
-    EXPORT(parse), EXPORT(part), EXPORT(select), EXPORT(strip_nulls), EXPORT(text),
-    EXPORT(to_canonical), EXPORT(to_pretty), EXPORT(to_string),
+    EXPORT(begin), EXPORT(boolean), EXPORT(build_array_within), EXPORT(build_object_within),
+    EXPORT(check), EXPORT(concat), EXPORT(edit), EXPORT(extension), EXPORT(find), EXPORT(key),
+    EXPORT(kind), EXPORT(merge_patch), EXPORT(next), EXPORT(number), EXPORT(of_extension),
+    EXPORT(of_part), EXPORT(parse), EXPORT(part), EXPORT(select), EXPORT(strip_nulls),
+    EXPORT(text), EXPORT(to_canonical_within), EXPORT(to_pretty_within), EXPORT(to_string_within),
 };
 
 static const struct { const char *name; size_t offset; } objects[] = {
@@ -118,18 +118,18 @@ static uint32_t make_call(const struct library *library, enum call call, const u
                           size_t size, size_t depth, bool exponents, struct room *room)
 {
     uint8_t *out = room->at;
+    /* A document of n bytes is less than n deep, so the depth `size` excludes none. */
     switch (call) {
     case CALL_KEY:
-        /* A document of n bytes is less than n deep, so this depth excludes none. */
         return library->key(bytes, size, size, out, room->size, &room->length);
     case CALL_PARSE:
         return library->parse(bytes, size, depth, exponents, out, room->size, &room->length);
     case CALL_TO_CANONICAL:
-        return library->to_canonical(bytes, size, out, room->size, &room->length);
+        return library->to_canonical_within(bytes, size, size, out, room->size, &room->length);
     case CALL_TO_PRETTY:
-        return library->to_pretty(bytes, size, out, room->size, &room->length);
+        return library->to_pretty_within(bytes, size, size, out, room->size, &room->length);
     default:
-        return library->to_string(bytes, size, out, room->size, &room->length);
+        return library->to_string_within(bytes, size, size, out, room->size, &room->length);
     }
 }
 

@@ -36,8 +36,8 @@ static inline PyObject *Py_NewRef(PyObject *object)
 struct library {
     __typeof__(kohiblad_export_begin) *begin;
     __typeof__(kohiblad_export_boolean) *boolean;
-    __typeof__(kohiblad_export_build_array) *build_array;
-    __typeof__(kohiblad_export_build_object) *build_object;
+    __typeof__(kohiblad_export_build_array_within) *build_array_within;
+    __typeof__(kohiblad_export_build_object_within) *build_object_within;
     __typeof__(kohiblad_export_check) *check;
     __typeof__(kohiblad_export_concat) *concat;
     __typeof__(kohiblad_export_edit) *edit;
@@ -55,9 +55,9 @@ struct library {
     __typeof__(kohiblad_export_select) *select;
     __typeof__(kohiblad_export_strip_nulls) *strip_nulls;
     __typeof__(kohiblad_export_text) *text;
-    __typeof__(kohiblad_export_to_canonical) *to_canonical;
-    __typeof__(kohiblad_export_to_pretty) *to_pretty;
-    __typeof__(kohiblad_export_to_string) *to_string;
+    __typeof__(kohiblad_export_to_canonical_within) *to_canonical_within;
+    __typeof__(kohiblad_export_to_pretty_within) *to_pretty_within;
+    __typeof__(kohiblad_export_to_string_within) *to_string_within;
 };
 
 /* Names that were read lately, each at the place that its bytes choose. */

@@ -1,4 +1,4 @@
-use Rattle.std.proofs.Common.{◌≡◌, arith}
+use Rattle.std.proofs.Common.{arith}
 use Rattle.jsonb.specs.Owned.{bytes_of}
 use Rattle.jsonb.specs.Parsing.{ParsesUnder}
 use Rattle.kohiblad.proofs.ExponentRules.{forbidden, allowed}

@@ -1,9 +1,9 @@
 use Rattle.std.proofs.Common.{◌≤◌, ◌++◌, List, ℕ, length, drop, subst, sym, ◌∙◌, ap, ap₂, inl, inr}
 use Rattle.std.proofs.Common.{arith, refl}
-use Rattle.kohiblad.specs.BoundedMeaning.{bounded_meaning}
+use Rattle.jsonb_comparable.specs.Within.{meaning_within}
 use Rattle.kohiblad.specs.SortOrder.{IsOrderOf}
 use Rattle.kohiblad.proofs.Orders.{numbers_of}
-use Rattle.kohiblad.proofs.sort.sort_rows.Goals as goal
+use Rattle.kohiblad.proofs.sort.kohiblad_sort_within.Goals as goal
 
 pub put_numbers-requires : goal.put_numbers-requires
 put_numbers-requires c =
@@ -31,7 +31,7 @@ returns-in-Ok-keys_in_order c =
         inl (
           numbers_of keys,
           (
-            subst (λ (rs : List (List ℕ)). IsOrderOf (bounded_meaning c.args.limit) rs
+            subst (λ (rs : List (List ℕ)). IsOrderOf (meaning_within c.args.depth) rs
                 (numbers_of keys)) all c.in-Ok-keys_in_order.ensures.ok,
             (after, refl),
           ),

@@ -2,7 +2,7 @@ use Rattle.std.proofs.Common.{◌↔◌, length}
 use Rattle.std.specs.Map.{values_of}
 use Rattle.kohiblad.specs.Results.{AreWithin}
 use Rattle.kohiblad.specs.Rows.{pairs_in}
-use Rattle.kohiblad.proofs.building.are_pairs_within.Given as goal
+use Rattle.kohiblad.proofs.checked_rows.are_pairs_within.Given as goal
 
 abbrev pub invariant-loop-document : goal.invariant-loop-document
 invariant-loop-document l = AreWithin l.depth (values_of (pairs_in l.fn.rows))

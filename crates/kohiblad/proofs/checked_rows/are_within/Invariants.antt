@@ -1,6 +1,6 @@
 use Rattle.std.proofs.Common.{◌↔◌, length}
 use Rattle.kohiblad.specs.Results.{AreWithin}
-use Rattle.kohiblad.proofs.building.are_within.Given as goal
+use Rattle.kohiblad.proofs.checked_rows.are_within.Given as goal
 
 abbrev pub invariant-loop-document : goal.invariant-loop-document
 invariant-loop-document l = AreWithin l.depth l.fn.rows ↔ AreWithin l.depth l.left
