@@ -83,6 +83,9 @@ enum kohiblad_edit_kind {
     KOHIBLAD_CREATE = 3  /* as KOHIBLAD_PUT, and what the path lacks is made */
 };
 
+/* Which members kohiblad_pick keeps. */
+enum kohiblad_members { KOHIBLAD_NAMED = 0, KOHIBLAD_OTHERS = 1 };
+
 /* What a call returns. */
 enum kohiblad_status {
     KOHIBLAD_OK = 0,
@@ -460,6 +463,28 @@ static inline uint32_t kohiblad_key_layout(void) KOHIBLAD_INLINE("kohiblad_key_l
 static inline uint32_t kohiblad_key(const uint8_t *bytes, size_t size, size_t depth, uint8_t *out,
     size_t room, size_t *length) KOHIBLAD_INLINE("kohiblad_key");
 
+/* Copies the first bytes of the comparable key of any bytes to the start of `out`, as many as there
+ * is room, and the length of the whole key in bytes to `*length`: the key is cut if that is more
+ * than the length of `out`. It is `SIZE_MAX` if the key is longer. A cut key is a lower bound: it
+ * is never above its key, and where two keys cut to one length differ, the keys compare as they do.
+ * The key is that of kohiblad_key. No memory is requested, and the status is always OK. A document
+ * that nests deeper than `depth` levels counts as no document. */
+static inline uint32_t kohiblad_key_cut(const uint8_t *bytes, size_t size, size_t depth,
+    uint8_t *out, size_t room, size_t *length) KOHIBLAD_INLINE("kohiblad_key_cut");
+
+/* Copies the comparable keys of some members of a document to `out`, one after another, and their
+ * length in bytes to `*length`. `names` is the document of an array of texts, the members' keys. A
+ * member that is not there has the key of one byte, 0, which is below all other keys; a document
+ * that is not an object has no members. No key begins another, so these keys compare by their bytes
+ * as the lists of the members' values do. INVALID_JSONB if the bytes or the names are not a
+ * document of at most this depth; OTHER_KIND if the names are not an array of texts; OUT_OF_MEMORY
+ * if an allocation fails; NO_ROOM if `out` is shorter than the keys. If the status is not OK, `out`
+ * is unchanged, and `*length` is 0, or for NO_ROOM the length of the keys, or `SIZE_MAX` if they
+ * are longer. */
+static inline uint32_t kohiblad_member_key(const uint8_t *bytes, size_t size,
+    const uint8_t *names, size_t names_size, size_t depth, uint8_t *out, size_t room,
+    size_t *length) KOHIBLAD_INLINE("kohiblad_member_key");
+
 /* Writes the numbers of the rows, counted from 0, to the start of `order`, sorted as
  * kohiblad_compare_within compares the rows at this depth; equal rows keep their order. A document
  * that nests deeper than `depth` levels counts as no document, and sorts by its bytes after all
@@ -514,6 +539,57 @@ static inline uint32_t kohiblad_merge_patch(const uint8_t *target, size_t target
  * format; OUT_OF_MEMORY if an allocation fails; NO_ROOM if `out` is shorter than the document. */
 static inline uint32_t kohiblad_strip_nulls(const uint8_t *bytes, size_t size, size_t depth,
     uint8_t *out, size_t room, size_t *length) KOHIBLAD_INLINE("kohiblad_strip_nulls");
+
+/* Copies the canonical document of an object with some of its members to `out`. `names` is the
+ * document of an array of texts. With `others` 0 the members whose keys are among them are kept,
+ * and otherwise the others; it does not matter how often or in which order they are listed. What is
+ * not an object is kept whole. INVALID_JSONB if the bytes or the names are not a document of at
+ * most this depth, or the result exceeds a limit of the format; OTHER_KIND if the names are not an
+ * array of texts; OUT_OF_MEMORY if an allocation fails; NO_ROOM if `out` is shorter than the
+ * document. */
+static inline uint32_t kohiblad_pick(const uint8_t *bytes, size_t size, const uint8_t *names,
+    size_t names_size, uint32_t others, size_t depth, uint8_t *out, size_t room, size_t *length)
+    KOHIBLAD_INLINE("kohiblad_pick");
+
+/* Copies the canonical document of the array of an object's keys to `out`: texts in the order in
+ * which the keys are stored, which is that of their bytes. INVALID_JSONB if the bytes are not a
+ * document of at most this depth; NONE if the document is not an object; OUT_OF_MEMORY if an
+ * allocation fails; NO_ROOM if `out` is shorter than the document of the array. If the status is
+ * not OK, `out` is unchanged, and `*length` is 0, or for NO_ROOM the length of that document. */
+static inline uint32_t kohiblad_object_keys(const uint8_t *bytes, size_t size, size_t depth,
+    uint8_t *out, size_t room, size_t *length) KOHIBLAD_INLINE("kohiblad_object_keys");
+
+/* Copies the canonical document of an array's items without those that are equal to one before them
+ * to `out`. A value that is not an array is the one item. INVALID_JSONB if the bytes are not a
+ * document of at most this depth, or the result exceeds a limit of the format; OUT_OF_MEMORY if an
+ * allocation fails; NO_ROOM if `out` is shorter than the document. */
+static inline uint32_t kohiblad_array_distinct(const uint8_t *bytes, size_t size, size_t depth,
+    uint8_t *out, size_t room, size_t *length) KOHIBLAD_INLINE("kohiblad_array_distinct");
+
+/* Copies the canonical document of the items that both arrays have to `out`, in the order of
+ * `left`. Of equal items there are as many as both have: the first ones of `left`. A value that is
+ * not an array is one item. INVALID_JSONB if `left` or `right` is not a document of at most this
+ * depth, or the result exceeds a limit of the format; OUT_OF_MEMORY if an allocation fails; NO_ROOM
+ * if `out` is shorter than the document. */
+static inline uint32_t kohiblad_array_intersection(const uint8_t *left, size_t left_size,
+    const uint8_t *right, size_t right_size, size_t depth, uint8_t *out, size_t room,
+    size_t *length) KOHIBLAD_INLINE("kohiblad_array_intersection");
+
+/* Copies the canonical document of the items of `left` without one for each equal item of `right`
+ * to `out`. Of equal items the first ones go. A value that is not an array is one item.
+ * INVALID_JSONB if `left` or `right` is not a document of at most this depth, or the result exceeds
+ * a limit of the format; OUT_OF_MEMORY if an allocation fails; NO_ROOM if `out` is shorter than the
+ * document. */
+static inline uint32_t kohiblad_array_except(const uint8_t *left, size_t left_size,
+    const uint8_t *right, size_t right_size, size_t depth, uint8_t *out, size_t room,
+    size_t *length) KOHIBLAD_INLINE("kohiblad_array_except");
+
+/* Whether some item of the array `left` is equal to one of `right`, as 0 or 1. A value that is not
+ * an array is one item. INVALID_JSONB if `left` or `right` is not a document of at most this depth;
+ * OUT_OF_MEMORY if an allocation fails. If the status is not OK, the value is 0. */
+static inline struct kohiblad_truth kohiblad_array_overlap(const uint8_t *left,
+    size_t left_size, const uint8_t *right, size_t right_size, size_t depth)
+    KOHIBLAD_INLINE("kohiblad_array_overlap");
 
 /* Copies the canonical document of a document that is edited at the end of a path to `out`. `path`
  * is the document of an array: a text is the key of a member, and a whole number the index of an
@@ -663,6 +739,11 @@ uint32_t kohiblad_export_to_canonical_within(const uint8_t *bytes, size_t size, 
 uint32_t kohiblad_export_key_layout(void) KOHIBLAD_EXPORT("kohiblad_key_layout");
 uint32_t kohiblad_export_key(const uint8_t *bytes, size_t size, size_t depth, uint8_t *out,
     size_t room, size_t *length) KOHIBLAD_EXPORT("kohiblad_key");
+uint32_t kohiblad_export_key_cut(const uint8_t *bytes, size_t size, size_t depth, uint8_t *out,
+    size_t room, size_t *length) KOHIBLAD_EXPORT("kohiblad_key_cut");
+uint32_t kohiblad_export_member_key(const uint8_t *bytes, size_t size, const uint8_t *names,
+    size_t names_size, size_t depth, uint8_t *out, size_t room, size_t *length)
+    KOHIBLAD_EXPORT("kohiblad_member_key");
 uint32_t kohiblad_export_sort_within(const uint8_t *bytes, size_t size, const size_t *offsets,
     size_t count, size_t depth, size_t *order, size_t room) KOHIBLAD_EXPORT("kohiblad_sort_within");
 struct kohiblad_truth kohiblad_export_contains(const uint8_t *left, size_t left_size,
@@ -678,6 +759,22 @@ uint32_t kohiblad_export_merge_patch(const uint8_t *target, size_t target_size,
     size_t *length) KOHIBLAD_EXPORT("kohiblad_merge_patch");
 uint32_t kohiblad_export_strip_nulls(const uint8_t *bytes, size_t size, size_t depth,
     uint8_t *out, size_t room, size_t *length) KOHIBLAD_EXPORT("kohiblad_strip_nulls");
+uint32_t kohiblad_export_pick(const uint8_t *bytes, size_t size, const uint8_t *names,
+    size_t names_size, uint32_t others, size_t depth, uint8_t *out, size_t room, size_t *length)
+    KOHIBLAD_EXPORT("kohiblad_pick");
+uint32_t kohiblad_export_object_keys(const uint8_t *bytes, size_t size, size_t depth,
+    uint8_t *out, size_t room, size_t *length) KOHIBLAD_EXPORT("kohiblad_object_keys");
+uint32_t kohiblad_export_array_distinct(const uint8_t *bytes, size_t size, size_t depth,
+    uint8_t *out, size_t room, size_t *length) KOHIBLAD_EXPORT("kohiblad_array_distinct");
+uint32_t kohiblad_export_array_intersection(const uint8_t *left, size_t left_size,
+    const uint8_t *right, size_t right_size, size_t depth, uint8_t *out, size_t room,
+    size_t *length) KOHIBLAD_EXPORT("kohiblad_array_intersection");
+uint32_t kohiblad_export_array_except(const uint8_t *left, size_t left_size,
+    const uint8_t *right, size_t right_size, size_t depth, uint8_t *out, size_t room,
+    size_t *length) KOHIBLAD_EXPORT("kohiblad_array_except");
+struct kohiblad_truth kohiblad_export_array_overlap(const uint8_t *left, size_t left_size,
+    const uint8_t *right, size_t right_size, size_t depth)
+    KOHIBLAD_EXPORT("kohiblad_array_overlap");
 uint32_t kohiblad_export_edit(const uint8_t *bytes, size_t size, const uint8_t *path,
     size_t path_size, uint32_t edit, const uint8_t *value, size_t value_size, size_t depth,
     uint8_t *out, size_t room, size_t *length) KOHIBLAD_EXPORT("kohiblad_edit");
@@ -942,6 +1039,24 @@ static inline uint32_t kohiblad_key(const uint8_t *bytes, size_t size, size_t de
         return KOHIBLAD_OVERLAP;
     return kohiblad_export_key(kohiblad_in(bytes), size, depth, kohiblad_out(out), room, length);
 }
+static inline uint32_t kohiblad_key_cut(const uint8_t *bytes, size_t size, size_t depth,
+    uint8_t *out, size_t room, size_t *length) {
+    if (!kohiblad_is_room(out, room, length)
+        || !kohiblad_is_apart(out, room, length, bytes, size))
+        return KOHIBLAD_OVERLAP;
+    return kohiblad_export_key_cut(kohiblad_in(bytes), size, depth, kohiblad_out(out), room,
+        length);
+}
+static inline uint32_t kohiblad_member_key(const uint8_t *bytes, size_t size,
+    const uint8_t *names, size_t names_size, size_t depth, uint8_t *out, size_t room,
+    size_t *length) {
+    if (!kohiblad_is_room(out, room, length)
+        || !kohiblad_is_apart(out, room, length, bytes, size)
+        || !kohiblad_is_apart(out, room, length, names, names_size))
+        return KOHIBLAD_OVERLAP;
+    return kohiblad_export_member_key(kohiblad_in(bytes), size, kohiblad_in(names), names_size,
+        depth, kohiblad_out(out), room, length);
+}
 static inline uint32_t kohiblad_sort_within(const uint8_t *bytes, size_t size,
     const size_t *offsets, size_t count, size_t depth, size_t *order, size_t room) {
     if (kohiblad_meet(order, room * sizeof *order, bytes, size)
@@ -986,6 +1101,57 @@ static inline uint32_t kohiblad_strip_nulls(const uint8_t *bytes, size_t size, s
         return KOHIBLAD_OVERLAP;
     return kohiblad_export_strip_nulls(kohiblad_in(bytes), size, depth, kohiblad_out(out), room,
         length);
+}
+static inline uint32_t kohiblad_pick(const uint8_t *bytes, size_t size, const uint8_t *names,
+    size_t names_size, uint32_t others, size_t depth, uint8_t *out, size_t room,
+    size_t *length) {
+    if (!kohiblad_is_room(out, room, length)
+        || !kohiblad_is_apart(out, room, length, bytes, size)
+        || !kohiblad_is_apart(out, room, length, names, names_size))
+        return KOHIBLAD_OVERLAP;
+    return kohiblad_export_pick(kohiblad_in(bytes), size, kohiblad_in(names), names_size, others,
+        depth, kohiblad_out(out), room, length);
+}
+static inline uint32_t kohiblad_object_keys(const uint8_t *bytes, size_t size, size_t depth,
+    uint8_t *out, size_t room, size_t *length) {
+    if (!kohiblad_is_room(out, room, length)
+        || !kohiblad_is_apart(out, room, length, bytes, size))
+        return KOHIBLAD_OVERLAP;
+    return kohiblad_export_object_keys(kohiblad_in(bytes), size, depth, kohiblad_out(out), room,
+        length);
+}
+static inline uint32_t kohiblad_array_distinct(const uint8_t *bytes, size_t size, size_t depth,
+    uint8_t *out, size_t room, size_t *length) {
+    if (!kohiblad_is_room(out, room, length)
+        || !kohiblad_is_apart(out, room, length, bytes, size))
+        return KOHIBLAD_OVERLAP;
+    return kohiblad_export_array_distinct(kohiblad_in(bytes), size, depth, kohiblad_out(out), room,
+        length);
+}
+static inline uint32_t kohiblad_array_intersection(const uint8_t *left, size_t left_size,
+    const uint8_t *right, size_t right_size, size_t depth, uint8_t *out, size_t room,
+    size_t *length) {
+    if (!kohiblad_is_room(out, room, length)
+        || !kohiblad_is_apart(out, room, length, left, left_size)
+        || !kohiblad_is_apart(out, room, length, right, right_size))
+        return KOHIBLAD_OVERLAP;
+    return kohiblad_export_array_intersection(kohiblad_in(left), left_size, kohiblad_in(right),
+        right_size, depth, kohiblad_out(out), room, length);
+}
+static inline uint32_t kohiblad_array_except(const uint8_t *left, size_t left_size,
+    const uint8_t *right, size_t right_size, size_t depth, uint8_t *out, size_t room,
+    size_t *length) {
+    if (!kohiblad_is_room(out, room, length)
+        || !kohiblad_is_apart(out, room, length, left, left_size)
+        || !kohiblad_is_apart(out, room, length, right, right_size))
+        return KOHIBLAD_OVERLAP;
+    return kohiblad_export_array_except(kohiblad_in(left), left_size, kohiblad_in(right),
+        right_size, depth, kohiblad_out(out), room, length);
+}
+static inline struct kohiblad_truth kohiblad_array_overlap(const uint8_t *left,
+    size_t left_size, const uint8_t *right, size_t right_size, size_t depth) {
+    return kohiblad_export_array_overlap(kohiblad_in(left), left_size, kohiblad_in(right),
+        right_size, depth);
 }
 static inline uint32_t kohiblad_edit(const uint8_t *bytes, size_t size, const uint8_t *path,
     size_t path_size, uint32_t edit, const uint8_t *value, size_t value_size, size_t depth,

@@ -12,6 +12,9 @@ enum kohiblad_edit_kind {
     KOHIBLAD_CREATE = 3
 };
 
+enum kohiblad_members { KOHIBLAD_NAMED = 0, KOHIBLAD_OTHERS = 1 };
+
+
 enum kohiblad_status {
     KOHIBLAD_OK = 0,
     KOHIBLAD_INVALID_EOF = 1,
@@ -166,6 +169,10 @@ uint32_t kohiblad_to_canonical_within(const uint8_t *bytes, size_t size, size_t 
 uint32_t kohiblad_key_layout(void);
 uint32_t kohiblad_key(const uint8_t *bytes, size_t size, size_t depth, uint8_t *out, size_t room,
     size_t *length);
+uint32_t kohiblad_key_cut(const uint8_t *bytes, size_t size, size_t depth, uint8_t *out,
+    size_t room, size_t *length);
+uint32_t kohiblad_member_key(const uint8_t *bytes, size_t size, const uint8_t *names,
+    size_t names_size, size_t depth, uint8_t *out, size_t room, size_t *length);
 uint32_t kohiblad_sort_within(const uint8_t *bytes, size_t size, const size_t *offsets,
     size_t count, size_t depth, size_t *order, size_t room);
 struct kohiblad_truth kohiblad_contains(const uint8_t *left, size_t left_size, const uint8_t *right,
@@ -178,6 +185,18 @@ uint32_t kohiblad_merge_patch(const uint8_t *target, size_t target_size, const u
     size_t patch_size, size_t depth, uint8_t *out, size_t room, size_t *length);
 uint32_t kohiblad_strip_nulls(const uint8_t *bytes, size_t size, size_t depth, uint8_t *out,
     size_t room, size_t *length);
+uint32_t kohiblad_pick(const uint8_t *bytes, size_t size, const uint8_t *names, size_t names_size,
+    uint32_t others, size_t depth, uint8_t *out, size_t room, size_t *length);
+uint32_t kohiblad_object_keys(const uint8_t *bytes, size_t size, size_t depth, uint8_t *out,
+    size_t room, size_t *length);
+uint32_t kohiblad_array_distinct(const uint8_t *bytes, size_t size, size_t depth, uint8_t *out,
+    size_t room, size_t *length);
+uint32_t kohiblad_array_intersection(const uint8_t *left, size_t left_size, const uint8_t *right,
+    size_t right_size, size_t depth, uint8_t *out, size_t room, size_t *length);
+uint32_t kohiblad_array_except(const uint8_t *left, size_t left_size, const uint8_t *right,
+    size_t right_size, size_t depth, uint8_t *out, size_t room, size_t *length);
+struct kohiblad_truth kohiblad_array_overlap(const uint8_t *left, size_t left_size,
+    const uint8_t *right, size_t right_size, size_t depth);
 uint32_t kohiblad_edit(const uint8_t *bytes, size_t size, const uint8_t *path, size_t path_size,
     uint32_t edit, const uint8_t *value, size_t value_size, size_t depth, uint8_t *out, size_t room,
     size_t *length);

@@ -112,7 +112,8 @@ for kilobytes in 64 256 1024; do
     for shape in a o; do
         for call in check is_canonical_within compare_within sort_within to_string_within \
             to_pretty_within to_canonical_within build_array_within contains concat merge_patch \
-            strip_nulls index_keys edit get_path select; do
+            strip_nulls index_keys edit get_path select pick array_distinct array_intersection \
+            array_except array_overlap key_cut member_key; do
             level=$document_level
             [ $call = edit ] && level=$edit_level
             levels=$(((kilobytes * 1024 - call_stack) / level))

@@ -11,6 +11,8 @@
 static uint8_t *in, *out;
 static size_t in_size, room, levels;
 static const char *name;
+static const uint8_t no_names[] = { 0x80, 0, 0, 0 };
+static const uint8_t one_name[] = { 0x80, 0, 0, 1, 0x10, 0, 0, 1, 'a' };
 
 static bool reads_text(void) { return !strcmp(name, "parse") || !strcmp(name, "text_fault"); }
 
@@ -76,6 +78,21 @@ static void *work(void *unused) {
             != KOHIBLAD_INVALID_JSONB;
         status |= kohiblad_strip_nulls(in, in_size, 64, out, room, &length)
             != KOHIBLAD_INVALID_JSONB;
+        status |= kohiblad_pick(in, in_size, in, in_size, KOHIBLAD_NAMED, 64, out, room, &length)
+            != KOHIBLAD_INVALID_JSONB;
+        status |= kohiblad_object_keys(in, in_size, 64, out, room, &length)
+            != KOHIBLAD_INVALID_JSONB;
+        status |= kohiblad_array_distinct(in, in_size, 64, out, room, &length)
+            != KOHIBLAD_INVALID_JSONB;
+        status |= kohiblad_array_intersection(in, in_size, in, in_size, 64, out, room, &length)
+            != KOHIBLAD_INVALID_JSONB;
+        status |= kohiblad_array_except(in, in_size, in, in_size, 64, out, room, &length)
+            != KOHIBLAD_INVALID_JSONB;
+        status |= kohiblad_array_overlap(in, in_size, in, in_size, 64).status
+            != KOHIBLAD_INVALID_JSONB;
+        status |= kohiblad_key_cut(in, in_size, 64, NULL, 0, &length) != KOHIBLAD_OK;
+        status |= kohiblad_member_key(in, in_size, in, in_size, 64, out, room, &length)
+            != KOHIBLAD_INVALID_JSONB;
         status |= kohiblad_edit(in, in_size, in, in_size, KOHIBLAD_REMOVE, NULL, 0, 64, out, room,
                                 &length) != KOHIBLAD_INVALID_JSONB;
         status |= kohiblad_get_path(in, in_size, in, in_size, 64).status != KOHIBLAD_INVALID_JSONB;
@@ -108,6 +125,22 @@ static void *work(void *unused) {
         status = kohiblad_merge_patch(in, in_size, in, in_size, levels, out, room, &length);
     else if (!strcmp(name, "strip_nulls"))
         status = kohiblad_strip_nulls(in, in_size, levels, out, room, &length);
+    else if (!strcmp(name, "pick"))
+        status = kohiblad_pick(in, in_size, no_names, sizeof no_names, KOHIBLAD_OTHERS, levels, out,
+                               room, &length);
+    else if (!strcmp(name, "array_distinct"))
+        status = kohiblad_array_distinct(in, in_size, levels, out, room, &length);
+    else if (!strcmp(name, "array_intersection"))
+        status = kohiblad_array_intersection(in, in_size, in, in_size, levels, out, room, &length);
+    else if (!strcmp(name, "array_except"))
+        status = kohiblad_array_except(in, in_size, in, in_size, levels, out, room, &length);
+    else if (!strcmp(name, "array_overlap"))
+        status = kohiblad_array_overlap(in, in_size, in, in_size, levels).value != 1;
+    else if (!strcmp(name, "key_cut"))
+        status = kohiblad_key_cut(in, in_size, levels, out, room, &length);
+    else if (!strcmp(name, "member_key"))
+        status = kohiblad_member_key(in, in_size, one_name, sizeof one_name, levels, out, room,
+                                     &length);
     else if (!strcmp(name, "edit")) {
         size_t path_size;
         uint8_t *path = path_of(&path_size);

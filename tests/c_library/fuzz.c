@@ -460,6 +460,74 @@ static void index_within(struct block b, struct block other, bool shallow, size_
     if (has_a) assert(are_among(left, count, right, wanted));
 }
 
+/* Members that are picked, and the others; an array as a set; keys that are cut, and of members. */
+static void pick_within(struct block b, struct block other, bool shallow, bool are, size_t depth,
+                        struct block out) {
+    static uint8_t left[1 << 16], right[1 << 16], keys[1 << 16];
+    static const uint8_t a[] = { 0x80, 0, 0, 1, 0x10, 0, 0, 1, 'a' };
+    uint32_t status, others = below(3);
+    size_t length, found, count;
+    ANSWER(status, out, length,
+           kohiblad_pick(b.at, b.size, a, sizeof a, others, depth, out.at, out.size, &length));
+    if (!shallow || depth < 1) {
+        assert(status == KOHIBLAD_INVALID_JSONB);
+    } else if (status == KOHIBLAD_OK) {
+        assert(kohiblad_is_canonical(out.at, length));
+        bool has_a = kohiblad_find(b.at, b.size, a + 8, 1).status == KOHIBLAD_OK;
+        status = kohiblad_find(out.at, length, a + 8, 1).status;
+        assert((status == KOHIBLAD_OK) == (has_a && others == KOHIBLAD_NAMED));
+    } else {
+        assert(status == KOHIBLAD_NO_ROOM);
+    }
+    status = kohiblad_pick(b.at, b.size, other.at, other.size, others, depth, left, sizeof left,
+                           &length);
+    assert(status == KOHIBLAD_OK || status == KOHIBLAD_OTHER_KIND
+           || status == KOHIBLAD_INVALID_JSONB);
+    ANSWER(status, out, length,
+           kohiblad_object_keys(b.at, b.size, depth, out.at, out.size, &length));
+    if (!shallow)
+        assert(status == KOHIBLAD_INVALID_JSONB);
+    else if (kohiblad_kind(b.at, b.size).kind != KOHIBLAD_OBJECT)
+        assert(status == KOHIBLAD_NONE);
+    else if (status == KOHIBLAD_OK)
+        assert(kohiblad_kind(out.at, length).count == kohiblad_kind(b.at, b.size).count);
+    else
+        assert(status == KOHIBLAD_NO_ROOM);
+    /* What is common, and the rest, are the whole array together. */
+    uint32_t common = kohiblad_array_intersection(b.at, b.size, other.at, other.size, depth, left,
+                                                  sizeof left, &length);
+    ANSWER(status, out, found,
+           kohiblad_array_except(b.at, b.size, other.at, other.size, depth, out.at, out.size,
+                                 &found));
+    struct kohiblad_truth overlap =
+        kohiblad_array_overlap(b.at, b.size, other.at, other.size, depth);
+    assert(common == (are ? KOHIBLAD_OK : KOHIBLAD_INVALID_JSONB) && overlap.status == common);
+    assert(are ? status == KOHIBLAD_OK || status == KOHIBLAD_NO_ROOM : status == common);
+    if (are) {
+        assert(overlap.value == (kohiblad_kind(left, length).count > 0));
+        assert(!kohiblad_array_except(b.at, b.size, other.at, other.size, depth, right,
+                                      sizeof right, &found));
+        struct kohiblad_value_kind kind = kohiblad_kind(b.at, b.size);
+        count = kind.kind == KOHIBLAD_ARRAY ? kind.count : 1;
+        assert(kohiblad_kind(left, length).count + kohiblad_kind(right, found).count == count);
+    }
+    status = kohiblad_array_distinct(b.at, b.size, depth, left, sizeof left, &length);
+    assert(status == (shallow ? KOHIBLAD_OK : KOHIBLAD_INVALID_JSONB));
+    if (shallow) {
+        assert(!kohiblad_array_distinct(left, length, depth + 1, right, sizeof right, &found));
+        assert(found == length && !memcmp(left, right, length));
+    }
+    /* A cut key begins the whole, and what is past it is untouched. */
+    assert(!kohiblad_key(b.at, b.size, depth, keys, sizeof keys, &count));
+    memset(out.at, 0xA5, out.size);
+    assert(!kohiblad_key_cut(b.at, b.size, depth, out.at, out.size, &length) && length == count);
+    for (size_t i = 0; i < out.size; i++) assert(out.at[i] == (i < count ? keys[i] : 0xA5));
+    ANSWER(status, out, length,
+           kohiblad_member_key(b.at, b.size, a, sizeof a, depth, out.at, out.size, &length));
+    if (!shallow || depth < 1) assert(status == KOHIBLAD_INVALID_JSONB);
+    else assert(status == (length > out.size ? KOHIBLAD_NO_ROOM : KOHIBLAD_OK) && length > 0);
+}
+
 /* The value of the key a, put and removed. */
 /* A patch, merged once and once more, and what is left without nulls. */
 static void patch_within(struct block b, struct block other, bool shallow, bool are, size_t depth,
@@ -665,6 +733,7 @@ static void answer_functions(struct block b, struct block other, size_t depth, s
         assert(status == KOHIBLAD_NO_ROOM);
     }
     patch_within(b, other, shallow, are, depth, out);
+    pick_within(b, other, shallow, are, depth, out);
     edit_within(b, other, shallow, is_other, depth, out);
     path_within(b, shallow, depth);
     select_within(b, shallow, depth, kohiblad_kind(b.at, b.size));

@@ -36,6 +36,7 @@ class Place(ctypes.Structure):
 
 
 LIBRARY.kohiblad_contains.restype = LIBRARY.kohiblad_exists.restype = Truth
+LIBRARY.kohiblad_array_overlap.restype = Truth
 LIBRARY.kohiblad_get_path.restype = Place
 
 # A number or an extension value: what it is compared by, its stored payload, and the written one.
@@ -151,6 +152,94 @@ def are_equal(left, right):
     if isinstance(left, Scalar) and isinstance(right, Scalar):
         return (left.tag, left.meaning) == (right.tag, right.meaning)
     return type(left) is type(right) and left == right
+
+
+def are_same(left, right):
+    """Whether two values are equal."""
+    if isinstance(left, list) and isinstance(right, list):
+        return len(left) == len(right) and all(map(are_same, left, right))
+    if isinstance(left, dict) and isinstance(right, dict):
+        return left.keys() == right.keys() and all(are_same(left[it], right[it]) for it in left)
+    return not is_container(left) and not is_container(right) and are_equal(left, right)
+
+
+def items_of(value):
+    """The items of an array; any other value is one item."""
+    return value if isinstance(value, list) else [value]
+
+
+def distinct(value):
+    firsts = []
+    for item in items_of(value):
+        if not any(are_same(item, it) for it in firsts):
+            firsts.append(item)
+    return firsts
+
+
+def by_match(left, right):
+    """The items of the one for which the other has an equal that none before took, and the rest."""
+    matched, rest, others = [], [], list(items_of(right))
+    for item in items_of(left):
+        number = next((k for k, it in enumerate(others) if are_same(item, it)), None)
+        if number is None:
+            rest.append(item)
+        else:
+            matched.append(item)
+            del others[number]
+    return matched, rest
+
+
+def escaped(data):
+    return b"".join(bytes([2, it + 1]) if it < 3 else bytes([it]) for it in data) + b"\1"
+
+
+def number_key(value):
+    left = abs(value) * 10**256
+    assert left.denominator == 1
+    pairs, left = [], left.numerator
+    while left:
+        left, pair = divmod(left, 100)
+        pairs.insert(0, pair)
+    if not pairs:
+        return b"\x80"
+    count = bytes([len(pairs) + 1] if len(pairs) >= 129 else [0x81, len(pairs)])
+    while not pairs[-1]:
+        del pairs[-1]
+    key = count + bytes(2 * it + 1 for it in pairs[:-1]) + bytes([2 * pairs[-1]])
+    return bytes(255 - it for it in key) if value < 0 else key
+
+
+# The first byte of an extension value's key, and where its signed fields begin.
+FIELDS = {0x10: (17, [0]), 0x20: (18, [0]), 0x30: (19, [0, 8]), 0x40: (20, [0, 4, 8])}
+
+
+def extension_key(payload):
+    tag, fields = payload[0], bytearray(payload[1:])
+    if tag == 0:
+        return b"\x10" + escaped(fields)
+    if tag not in FIELDS:
+        return b"\x15" + bytes([tag]) + escaped(fields)
+    first, starts = FIELDS[tag]
+    for start in starts:
+        fields[start] ^= 0x80
+    return bytes([first]) + fields
+
+
+def key(value):
+    """The comparable key, by docs/COMPARABLE.md."""
+    if value is None:
+        return b"\xd0"
+    if isinstance(value, bool):
+        return b"\x21" if value else b"\x20"
+    if isinstance(value, str):
+        return b"\xa0" + escaped(value.encode())
+    if isinstance(value, Scalar):
+        of_tag = number_key if value.tag == NUMBER else extension_key
+        return of_tag(value.meaning)
+    if isinstance(value, list):
+        return b"\xc0" + b"".join(map(key, value)) + b"\0"
+    members = sorted((name.encode(), it) for name, it in value.items())
+    return b"\xb0" + b"".join(escaped(name) + key(it) for name, it in members) + b"\0"
 
 
 def contained(left, right):
@@ -561,6 +650,66 @@ def asks_no_path(chance, left, right):
         assert answer == (OTHER_KIND, b"")
 
 
+def any_names(chance, value):
+    """Names, of which some are likely to be keys of the value."""
+    keys = KEYS + list(value if isinstance(value, dict) else [])
+    return chance.choices(keys, k=chance.randint(0, 6))
+
+
+def asks_pick(chance, left, right):
+    names, others = any_names(chance, left), chance.choice([0, 1, 7])
+    wanted = left
+    if isinstance(left, dict):
+        wanted = {key: it for key, it in left.items() if (key in names) == (others == 0)}
+    depth = max(depth_of(left), 1)
+    answer = bytes_of("pick", document(left), document(names), ctypes.c_uint32(others), SIZE(depth))
+    assert answer == (OK, document(wanted, stored=False)), (names, others)
+
+
+def asks_object_keys(chance, left, right):
+    wanted = (NONE, b"")
+    if isinstance(left, dict):
+        wanted = (OK, document(sorted(left, key=str.encode), stored=False))
+    assert bytes_of("object_keys", document(left), SIZE(depth_of(left))) == wanted
+
+
+def asks_array_sets(chance, left, right):
+    stored, depth = (document(left), document(right)), SIZE(max(depth_of(left), depth_of(right)))
+    assert bytes_of("array_distinct", stored[0], depth) == (
+        OK, document(distinct(left), stored=False))
+    matched, rest = by_match(left, right)
+    assert bytes_of("array_intersection", *stored, depth) == (OK, document(matched, stored=False))
+    assert bytes_of("array_except", *stored, depth) == (OK, document(rest, stored=False))
+    assert truth_of("array_overlap", *stored, depth) == (OK, bool(matched))
+
+
+def asks_comparable_key(chance, left, right):
+    wanted, depth = key(left), SIZE(depth_of(left))
+    assert bytes_of("key", document(left), depth) == (OK, wanted)
+    export, crossed = call("key_cut", document(left), depth)
+    room, length = chance.choice([0, 1, 16, chance.randint(0, len(wanted) + 3)]), SIZE()
+    out = ctypes.create_string_buffer(b"\xa5" * (room + 1), room + 1)
+    assert export(*crossed, out, SIZE(room), ctypes.byref(length)) == OK
+    assert length.value == len(wanted)
+    assert out.raw == wanted[:room] + b"\xa5" * (room + 1 - min(room, len(wanted)))
+
+
+def asks_member_key(chance, left, right):
+    names, depth = any_names(chance, left), SIZE(max(depth_of(left), 1))
+    parts = [left[it] if isinstance(left, dict) and it in left else None for it in names]
+    there = [isinstance(left, dict) and it in left for it in names]
+    wanted = b"".join(key(it) if is_there else b"\0" for it, is_there in zip(parts, there))
+    assert bytes_of("member_key", document(left), document(names), depth) == (OK, wanted), names
+
+
+def asks_no_names(chance, left, right):
+    """A document that is not an array of names."""
+    if not isinstance(right, list) or not all(isinstance(it, str) for it in right):
+        stored = document(left), document(right)
+        answer = bytes_of("pick", *stored, ctypes.c_uint32(0), SIZE(9))
+        assert answer == bytes_of("member_key", *stored, SIZE(9)) == (OTHER_KIND, b"")
+
+
 def asks_keys(chance, left, right):
     for name, count in (("index_keys", scalars_in), ("top_keys", top_keys_in)):
         status, keys = keys_of(name, document(left), SIZE(depth_of(left)))
@@ -577,7 +726,8 @@ def asks_keys(chance, left, right):
 
 QUESTIONS = [asks_contains, asks_contains, asks_exists, asks_concat, asks_merge_patch,
              asks_strip_nulls, asks_select, asks_select, asks_get_path, asks_edit, asks_edit,
-             asks_edit, asks_no_path, asks_keys]
+             asks_edit, asks_no_path, asks_pick, asks_pick, asks_object_keys, asks_array_sets,
+             asks_array_sets, asks_comparable_key, asks_member_key, asks_no_names, asks_keys]
 
 
 def main():

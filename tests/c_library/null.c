@@ -73,6 +73,27 @@ int main(void) {
     assert(length == 0);
     assert(kohiblad_merge_patch(NULL, 0, NULL, 0, 9, NULL, 0, &length) == KOHIBLAD_INVALID_JSONB);
     assert(kohiblad_strip_nulls(NULL, 0, 9, NULL, 0, &length) == KOHIBLAD_INVALID_JSONB);
+    static const uint8_t array[] = { 0x80, 0, 0, 0 }, object[] = { 0x40, 0, 0, 0 };
+    assert(kohiblad_pick(NULL, 0, NULL, 0, KOHIBLAD_NAMED, 9, NULL, 0, &length)
+           == KOHIBLAD_INVALID_JSONB);
+    assert(kohiblad_pick(null, sizeof null, null, sizeof null, KOHIBLAD_NAMED, 9, NULL, 0, &length)
+           == KOHIBLAD_OTHER_KIND);
+    assert(kohiblad_pick(object, sizeof object, array, sizeof array, KOHIBLAD_OTHERS, 1, NULL, 0,
+                         &length) == KOHIBLAD_NO_ROOM);
+    assert(length == 4);
+    assert(kohiblad_object_keys(NULL, 0, 9, NULL, 0, &length) == KOHIBLAD_INVALID_JSONB);
+    assert(kohiblad_object_keys(array, sizeof array, 9, NULL, 0, &length) == KOHIBLAD_NONE);
+    assert(length == 0);
+    assert(kohiblad_array_distinct(NULL, 0, 9, NULL, 0, &length) == KOHIBLAD_INVALID_JSONB);
+    assert(kohiblad_array_intersection(NULL, 0, NULL, 0, 9, NULL, 0, &length)
+           == KOHIBLAD_INVALID_JSONB);
+    assert(kohiblad_array_except(NULL, 0, NULL, 0, 9, NULL, 0, &length) == KOHIBLAD_INVALID_JSONB);
+    assert(kohiblad_array_overlap(NULL, 0, NULL, 0, 9).status == KOHIBLAD_INVALID_JSONB);
+    assert(kohiblad_key_cut(NULL, 0, 9, NULL, 0, &length) == KOHIBLAD_OK && length == 2);
+    assert(kohiblad_member_key(NULL, 0, NULL, 0, 9, NULL, 0, &length) == KOHIBLAD_INVALID_JSONB);
+    assert(kohiblad_member_key(null, sizeof null, array, sizeof array, 9, NULL, 0, &length)
+           == KOHIBLAD_OK);
+    assert(length == 0);
     assert(kohiblad_edit(NULL, 0, NULL, 0, KOHIBLAD_REMOVE, NULL, 0, 9, NULL, 0, &length)
            == KOHIBLAD_INVALID_JSONB);
     assert(kohiblad_edit(null, sizeof null, null, sizeof null, KOHIBLAD_REMOVE, NULL, 0, 9, NULL, 0,
@@ -122,6 +143,17 @@ int main(void) {
     assert(kohiblad_merge_patch(block, 8, null, 8, 0, block, 64, &length) == KOHIBLAD_OVERLAP);
     assert(kohiblad_merge_patch(null, 8, block, 8, 0, block, 64, &length) == KOHIBLAD_OVERLAP);
     assert(kohiblad_strip_nulls(block, 8, 0, block, 64, &length) == KOHIBLAD_OVERLAP);
+    assert(kohiblad_pick(block, 8, array, 4, KOHIBLAD_NAMED, 1, block, 64, &length)
+           == KOHIBLAD_OVERLAP);
+    assert(kohiblad_pick(null, 8, block, 8, KOHIBLAD_NAMED, 1, block, 64, &length)
+           == KOHIBLAD_OVERLAP);
+    assert(kohiblad_object_keys(block, 8, 1, block, 64, &length) == KOHIBLAD_OVERLAP);
+    assert(kohiblad_array_distinct(block, 8, 1, block, 64, &length) == KOHIBLAD_OVERLAP);
+    assert(kohiblad_array_intersection(null, 8, block, 8, 1, block, 64, &length)
+           == KOHIBLAD_OVERLAP);
+    assert(kohiblad_array_except(block, 8, null, 8, 1, block, 64, &length) == KOHIBLAD_OVERLAP);
+    assert(kohiblad_key_cut(block, 8, 1, block, 64, &length) == KOHIBLAD_OVERLAP);
+    assert(kohiblad_member_key(null, 8, block, 8, 1, block, 64, &length) == KOHIBLAD_OVERLAP);
     assert(kohiblad_edit(null, 8, block, 8, KOHIBLAD_PUT, null, 8, 0, block, 64, &length)
            == KOHIBLAD_OVERLAP);
     assert(kohiblad_edit(null, 8, null, 8, KOHIBLAD_PUT, block, 8, 0, block, 64, &length)

@@ -26,16 +26,17 @@ void *__wrap_realloc(void *block, size_t size) {
 
 static const char text[] = "{\"a\":1,\"b\":[true,\"\\u00e9\"],"
                            "\"c\":{\"d\":\"e\",\"f\":-12.5,\"g\":[[],{}]}}";
-enum { ROOM = 1024, CALLS = 29 };
+enum { ROOM = 1024, CALLS = 37 };
 static uint8_t document[ROOM], pairs[ROOM];
 static size_t size, offsets[5], pairs_size, order[4];
 static uint64_t keys[ROOM / 8];
 static struct kohiblad_place places[ROOM / 8];
-static uint8_t path[ROOM];
-static size_t path_size;
+static uint8_t path[ROOM], names[ROOM];
+static size_t path_size, names_size;
 
 static bool takes_memory(int which) {
-    return which < 7 || which == 13 || which == 14 || (which > 16 && which < 22) || which > 23;
+    return which < 7 || which == 13 || which == 14 || (which > 16 && which < 22)
+        || (which > 23 && which < 36);
 }
 
 static uint32_t call(int which, uint8_t *out, size_t *length) {
@@ -90,7 +91,19 @@ static uint32_t call(int which, uint8_t *out, size_t *length) {
                                length);
     case 27:
         return kohiblad_merge_patch(document, size, document, size, 8, out, ROOM, length);
-    default: return kohiblad_strip_nulls(document, size, 8, out, ROOM, length);
+    case 28: return kohiblad_strip_nulls(document, size, 8, out, ROOM, length);
+    case 29:
+        return kohiblad_pick(document, size, names, names_size, KOHIBLAD_NAMED, 8, out, ROOM,
+                             length);
+    case 30: return kohiblad_object_keys(document, size, 8, out, ROOM, length);
+    case 31: return kohiblad_array_distinct(document, size, 8, out, ROOM, length);
+    case 32:
+        return kohiblad_array_intersection(document, size, document, size, 8, out, ROOM, length);
+    case 33: return kohiblad_array_except(document, size, names, names_size, 8, out, ROOM, length);
+    case 34: return kohiblad_array_overlap(document, size, names, names_size, 8).status;
+    case 35:
+        return kohiblad_member_key(document, size, names, names_size, 8, out, ROOM, length);
+    default: return kohiblad_key_cut(document, size, 8, out, ROOM, length);
     }
 }
 
@@ -109,6 +122,9 @@ int main(void) {
     static const char steps[] = "[\"c\",\"g\",-1]";
     assert(kohiblad_parse((const uint8_t *)steps, sizeof steps - 1, 8, 0, path, ROOM, &path_size)
            == KOHIBLAD_OK);
+    static const char listed[] = "[\"c\",\"a\",\"z\"]";
+    assert(kohiblad_parse((const uint8_t *)listed, sizeof listed - 1, 8, 0, names, ROOM,
+                          &names_size) == KOHIBLAD_OK);
     long runs = 0;
     for (int which = 0; which < CALLS; which++) {
         for (long nth = 0;; nth++) {
@@ -130,7 +146,7 @@ int main(void) {
             assert(takes_memory(which) && status == KOHIBLAD_OUT_OF_MEMORY);
             assert(!memcmp(out, clean, ROOM) && !memcmp(order, clean, sizeof order));
             assert(!memcmp(keys, clean, sizeof keys) && !memcmp(places, clean, ROOM));
-            assert(which == 6 || length == 0);
+            assert(which == 6 || which == 40 || length == 0);
         }
     }
     printf("%ld runs\n", runs);

@@ -1,9 +1,12 @@
 pub mod CheckedRows
 pub mod ChildWalkLaws
+pub mod CutLaws
 pub mod ExponentRules
 pub mod FoundPlaces
 pub mod Lookups
 pub mod MadeDocuments
+pub mod MemberKeyLaws
+pub mod NameLaws
 pub mod NumberLengths
 pub mod Objects
 pub mod Orders

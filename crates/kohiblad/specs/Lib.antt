@@ -14,4 +14,9 @@ pub mod PathPlaces
 pub mod ChildWalks
 pub mod PlaceWalks
 pub mod PathCalls
+pub mod Names
+pub mod Picked
+pub mod WithMemory
+pub mod KeySink
+pub mod KeyParts
 pub mod Words

@@ -4,6 +4,7 @@
 #![tactic(auto)]
 
 mod answer;
+mod array_sets;
 mod building;
 mod canonical;
 mod checked_rows;
@@ -11,9 +12,13 @@ mod children;
 mod documents;
 mod functions;
 mod key;
+mod key_parts;
+mod key_sink;
 mod laws;
+mod names;
 mod path_places;
 mod paths;
+mod picking;
 mod places;
 mod rows;
 mod scalar_documents;

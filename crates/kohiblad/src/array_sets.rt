@@ -1,0 +1,156 @@
+//! Arrays as sets of values, in which equal values are counted.
+
+ghost use Rattle.jsonb_functions.specs.ArraySets.{difference, distinct, intersection};
+ghost use Rattle.kohiblad.specs.WithMemory.{IsOverlapAnswer, MakesOfOneWithMemory};
+ghost use Rattle.kohiblad.specs.WithMemory.{MakesOfTwoWithMemory};
+ghost use Rattle.kohiblad.specs.Words.{IsOneAnswered, bytes_of, checked_meaning, meaning_within};
+
+use crate::answer::{code, hand_over_made};
+use crate::values::{KohibladTruth, no_truth, truth_of};
+use jsonb::{Error, OwnedJsonb, RawJsonb};
+use jsonb_comparable::CheckedBytes;
+use jsonb_functions::{array_distinct, array_except, array_intersection, array_overlap};
+use std::alloc::Global;
+
+/// Copies the canonical document of an array's items without those that are equal to one before
+/// them to `out`, and its length in bytes to `length`. A value that is not an array is the one
+/// item. `InvalidJsonb` if the bytes are not a document of at most this depth, or the result
+/// exceeds a limit of the format; `OutOfMemory` if an allocation fails; `NO_ROOM` if `out` is
+/// shorter than the document. If the status is not `OK`, `out` is unchanged, and `length` is 0, or
+/// for `NO_ROOM` the length of the document. A scalar has depth 0, an array or object one more than
+/// its deepest child, and at least 1. Deeper levels are not examined.
+#[unsafe(no_mangle)]
+pub extern "C" fn kohiblad_array_distinct(
+    alloc: Global,
+    bytes: &[u8],
+    depth: usize,
+    out: &mut [u8],
+    length: &mut usize,
+) -> u32
+    ensures { IsOneAnswered (MakesOfOneWithMemory distinct (meaning_within depth bytes.now))
+        out.old out.new length.new result }
+{
+    let bytes = CheckedBytes::within(RawJsonb::new(bytes), depth);
+    hand_over_made(distinct_items(alloc, bytes), out, length)
+}
+
+// The items of an array without those that are equal to one before them.
+fn distinct_items(alloc: Global, bytes: CheckedBytes<'_>) -> Result<OwnedJsonb, Error>
+    ensures { MakesOfOneWithMemory distinct (checked_meaning bytes.entry) (bytes_of result) }
+{
+    match bytes {
+        CheckedBytes::Document(document) => array_distinct(alloc, document),
+        CheckedBytes::Other(_) => Err(Error::InvalidJsonb),
+    }
+}
+
+/// Copies the canonical document of the items that both arrays have to `out`, in the order of
+/// `left`, and its length in bytes to `length`. Of equal items there are as many as both have: the
+/// first ones of `left`. A value that is not an array is one item. `InvalidJsonb` if `left` or
+/// `right` is not a document of at most this depth, or the result exceeds a limit of the format;
+/// `OutOfMemory` if an allocation fails; `NO_ROOM` if `out` is shorter than the document. If the
+/// status is not `OK`, `out` is unchanged, and `length` is 0, or for `NO_ROOM` the length of the
+/// document. A scalar has depth 0, an array or object one more than its deepest child, and at least
+/// 1. Deeper levels are not examined.
+#[unsafe(no_mangle)]
+pub extern "C" fn kohiblad_array_intersection(
+    alloc: Global,
+    left: &[u8],
+    right: &[u8],
+    depth: usize,
+    out: &mut [u8],
+    length: &mut usize,
+) -> u32
+    ensures { IsOneAnswered (MakesOfTwoWithMemory intersection (meaning_within depth left.now)
+        (meaning_within depth right.now)) out.old out.new length.new result }
+{
+    let left = CheckedBytes::within(RawJsonb::new(left), depth);
+    let right = CheckedBytes::within(RawJsonb::new(right), depth);
+    hand_over_made(common_items(alloc, left, right), out, length)
+}
+
+// The items that both arrays have.
+fn common_items(
+    alloc: Global,
+    left: CheckedBytes<'_>,
+    right: CheckedBytes<'_>,
+) -> Result<OwnedJsonb, Error>
+    ensures { MakesOfTwoWithMemory intersection (checked_meaning left.entry)
+        (checked_meaning right.entry) (bytes_of result) }
+{
+    match (left, right) {
+        (CheckedBytes::Document(left), CheckedBytes::Document(right)) => {
+            array_intersection(alloc, left, right)
+        }
+        _ => Err(Error::InvalidJsonb),
+    }
+}
+
+/// Copies the canonical document of the items of `left` without one for each equal item of `right`
+/// to `out`, and its length in bytes to `length`. Of equal items the first ones go. A value that is
+/// not an array is one item. `InvalidJsonb` if `left` or `right` is not a document of at most this
+/// depth, or the result exceeds a limit of the format; `OutOfMemory` if an allocation fails;
+/// `NO_ROOM` if `out` is shorter than the document. If the status is not `OK`, `out` is unchanged,
+/// and `length` is 0, or for `NO_ROOM` the length of the document. A scalar has depth 0, an array
+/// or object one more than its deepest child, and at least 1. Deeper levels are not examined.
+#[unsafe(no_mangle)]
+pub extern "C" fn kohiblad_array_except(
+    alloc: Global,
+    left: &[u8],
+    right: &[u8],
+    depth: usize,
+    out: &mut [u8],
+    length: &mut usize,
+) -> u32
+    ensures { IsOneAnswered (MakesOfTwoWithMemory difference (meaning_within depth left.now)
+        (meaning_within depth right.now)) out.old out.new length.new result }
+{
+    let left = CheckedBytes::within(RawJsonb::new(left), depth);
+    let right = CheckedBytes::within(RawJsonb::new(right), depth);
+    hand_over_made(items_left(alloc, left, right), out, length)
+}
+
+// The items of the one array without one for each equal item of the other.
+fn items_left(
+    alloc: Global,
+    left: CheckedBytes<'_>,
+    right: CheckedBytes<'_>,
+) -> Result<OwnedJsonb, Error>
+    ensures { MakesOfTwoWithMemory difference (checked_meaning left.entry)
+        (checked_meaning right.entry) (bytes_of result) }
+{
+    match (left, right) {
+        (CheckedBytes::Document(left), CheckedBytes::Document(right)) => {
+            array_except(alloc, left, right)
+        }
+        _ => Err(Error::InvalidJsonb),
+    }
+}
+
+/// Whether some item of the array `left` is equal to one of `right`, as 0 or 1. A value that is not
+/// an array is one item. `InvalidJsonb` if `left` or `right` is not a document of at most this
+/// depth; `OutOfMemory` if an allocation fails. If the status is not `OK`, the value is 0. A scalar
+/// has depth 0, an array or object one more than its deepest child, and at least 1. Deeper levels
+/// are not examined.
+#[unsafe(no_mangle)]
+pub extern "C" fn kohiblad_array_overlap(
+    alloc: Global,
+    left: &[u8],
+    right: &[u8],
+    depth: usize,
+) -> KohibladTruth
+    ensures { IsOverlapAnswer (meaning_within depth left.now) (meaning_within depth right.now)
+        result }
+{
+    let left = CheckedBytes::within(RawJsonb::new(left), depth);
+    let right = CheckedBytes::within(RawJsonb::new(right), depth);
+    match (left, right) {
+        (CheckedBytes::Document(left), CheckedBytes::Document(right)) => {
+            match array_overlap(alloc, left, right) {
+                Ok(overlap) => truth_of(overlap),
+                Err(error) => no_truth(code(error)),
+            }
+        }
+        _ => no_truth(code(Error::InvalidJsonb)),
+    }
+}

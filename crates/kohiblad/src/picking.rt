@@ -1,0 +1,108 @@
+//! Copies of objects with some of their members, and the keys of objects.
+
+ghost use Rattle.std.specs.Prelude.{◌≡◌};
+ghost use Rattle.kohiblad.specs.Picked.{AreKeysCopied, IsDocumentPicked, IsPicked, kept_by};
+ghost use Rattle.kohiblad.specs.Words.{Meaning, document_tree, meaning_within};
+
+use crate::answer::{NONE, OTHER_KIND, code, hand_over_made, refuse};
+use crate::names::read_names;
+use jsonb::{Document, Error, RawJsonb};
+use jsonb_comparable::CheckedBytes;
+use jsonb_functions::{Kept, object_keys, pick};
+use std::alloc::Global;
+
+/// Copies the canonical document of an object with some of its members to `out`, and its length in
+/// bytes to `length`. `names` is the document of an array of texts. With `others` 0 the members
+/// whose keys are among them are kept, and otherwise the others; it does not matter how often or in
+/// which order they are listed. What is not an object is kept whole. `InvalidJsonb` if the bytes or
+/// the names are not a document of at most this depth, or the result exceeds a limit of the format;
+/// `OTHER_KIND` if the names are not an array of texts; `OutOfMemory` if an allocation fails;
+/// `NO_ROOM` if `out` is shorter than the document. If the status is not `OK`, `out` is unchanged,
+/// and `length` is 0, or for `NO_ROOM` the length of the document. A scalar has depth 0, an array
+/// or object one more than its deepest child, and at least 1. Deeper levels are not examined.
+#[unsafe(no_mangle)]
+pub extern "C" fn kohiblad_pick(
+    alloc: Global,
+    bytes: &[u8],
+    names: &[u8],
+    others: u32,
+    depth: usize,
+    out: &mut [u8],
+    length: &mut usize,
+) -> u32
+    ensures { IsPicked (kept_by others) (meaning_within depth bytes.now)
+        (meaning_within depth names.now) out.old out.new length.new result }
+{
+    let document = CheckedBytes::within(RawJsonb::new(bytes), depth);
+    let names = CheckedBytes::within(RawJsonb::new(names), depth);
+    match (document, names) {
+        (CheckedBytes::Document(document), CheckedBytes::Document(names)) => {
+            write_picked(alloc, document, names, kept_by(others), out, length)
+        }
+        _ => refuse(code(Error::InvalidJsonb), out, length),
+    }
+}
+
+// Which members are kept, by a caller's number.
+fn kept_by(others: u32) -> Kept
+    ensures { result ≡ kept_by others }
+{
+    match others {
+        0 => Kept::Named,
+        _ => Kept::Others,
+    }
+}
+
+// Copies out an object with some of its members.
+fn write_picked(
+    alloc: Global,
+    document: Document<'_>,
+    names: Document<'_>,
+    which: Kept,
+    out: &mut [u8],
+    length: &mut usize,
+) -> u32
+    ensures { IsDocumentPicked which (document_tree document.entry) (document_tree names.entry)
+        out.old out.new length.new result }
+{
+    match read_names(alloc, names) {
+        Ok(Some(names)) => hand_over_made(pick(alloc, document, &names, which), out, length),
+        Ok(None) => refuse(OTHER_KIND, out, length),
+        Err(error) => refuse(code(error), out, length),
+    }
+}
+
+/// Copies the canonical document of the array of an object's keys to `out`, and its length in bytes
+/// to `length`: texts in the order in which the keys are stored, which is that of their bytes.
+/// `InvalidJsonb` if the bytes are not a document of at most this depth; `NONE` if the document is
+/// not an object; `OutOfMemory` if an allocation fails; `NO_ROOM` if `out` is shorter than the
+/// document of the array. If the status is not `OK`, `out` is unchanged, and `length` is 0, or for
+/// `NO_ROOM` the length of that document. A scalar has depth 0, an array or object one more than
+/// its deepest child, and at least 1. Deeper levels are not examined.
+#[unsafe(no_mangle)]
+pub extern "C" fn kohiblad_object_keys(
+    alloc: Global,
+    bytes: &[u8],
+    depth: usize,
+    out: &mut [u8],
+    length: &mut usize,
+) -> u32
+    ensures { AreKeysCopied (meaning_within depth bytes.now) out.old out.new length.new result }
+{
+    match CheckedBytes::within(RawJsonb::new(bytes), depth) {
+        CheckedBytes::Document(document) => write_keys(alloc, document, out, length),
+        CheckedBytes::Other(_) => refuse(code(Error::InvalidJsonb), out, length),
+    }
+}
+
+// Copies out the array of an object's keys.
+fn write_keys(alloc: Global, document: Document<'_>, out: &mut [u8], length: &mut usize) -> u32
+    ensures { AreKeysCopied (Meaning.document (document_tree document.entry))
+        out.old out.new length.new result }
+{
+    match object_keys(alloc, document) {
+        Ok(Some(keys)) => hand_over_made(Ok(keys), out, length),
+        Ok(None) => refuse(NONE, out, length),
+        Err(error) => refuse(code(error), out, length),
+    }
+}
