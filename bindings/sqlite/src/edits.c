@@ -1,8 +1,6 @@
 /* Documents changed at paths: jb_set, jb_insert, jb_replace and jb_remove. */
 #include "extension.h"
 
-#include <string.h>
-
 SQLITE_EXTENSION_INIT3
 
 struct edit_function {
@@ -17,35 +15,8 @@ struct target {
     bool is_there;
     bool can_be_made;   /* it is not there, and the containers that it needs can be made */
     struct buffer path; /* the document of its steps */
-    struct reader made; /* the steps after the first that leads nowhere */
-    size_t steps, followed;
+    size_t steps;
 };
-
-/* A JSON string of the name. A byte that is no UTF-8 stays, so that it is refused. */
-static void append_string(sqlite3_str *text, struct bytes name)
-{
-    const uint8_t *end = name.at + name.size, *start = name.at;
-    sqlite3_str_appendchar(text, 1, '"');
-    for (const uint8_t *at = start; at < end; at++) {
-        if (*at >= ' ' && *at != '"' && *at != '\\') continue;
-        sqlite3_str_append(text, (const char *)start, (int)(at - start));
-        sqlite3_str_appendf(text, "\\u%04x", *at);
-        start = at + 1;
-    }
-    sqlite3_str_append(text, (const char *)start, (int)(end - start));
-    sqlite3_str_appendchar(text, 1, '"');
-}
-
-/* The step as an item of the array that a path is to the library. */
-static uint32_t append_step(struct rows *path, const struct step *step)
-{
-    return append(path, write_part, &step->value, SCALAR_FRONT + step->value.payload.size);
-}
-
-static void discard(sqlite3_str *text)
-{
-    sqlite3_free(sqlite3_str_finish(text));
-}
 
 /* Whether a step that leads nowhere can be made in a part: a member of an object, or an item after
  * the last. */
@@ -81,8 +52,6 @@ static uint32_t find_target(const struct caller *caller, struct bytes document, 
         }
         status = take_step(&step, &part);
         target->can_be_made = status == KOHIBLAD_NONE && can_make(&step, &part);
-        target->followed++;
-        target->made = reader;
         if (status != KOHIBLAD_OK && status != KOHIBLAD_NONE) {
             release(&target->path);
             *message = status_message(caller->name, status, NULL);
@@ -93,89 +62,11 @@ static uint32_t find_target(const struct caller *caller, struct bytes document, 
     return KOHIBLAD_OK;
 }
 
-/* Whether all that was appended is there; reports why not. */
-static bool is_whole(const struct caller *caller, sqlite3_str *text)
-{
-    int code = sqlite3_str_errcode(text);
-    if (code == SQLITE_OK) return true;
-    fail(caller, code == SQLITE_TOOBIG ? RESULT_TOO_BIG : KOHIBLAD_OUT_OF_MEMORY);
-    return false;
-}
-
-/* The document of a JSON text, which is discarded. */
-static bool fill_parsed(const struct caller *caller, struct buffer *buffer, sqlite3_str *text)
-{
-    struct bytes bytes = { (const uint8_t *)sqlite3_str_value(text),
-                           (size_t)sqlite3_str_length(text) };
-    bool is_made = is_whole(caller, text)
-        && fill(caller, buffer, write_parsed, &bytes, 2 * bytes.size);
-    discard(text);
-    return is_made;
-}
-
 /* The document edited at the end of its path. */
 static bool fill_edited(const struct caller *caller, struct buffer *buffer, struct edit edit)
 {
     return fill(caller, buffer, write_edited, &edit,
                 edit.document.size + edit.path.size + edit.value.size);
-}
-
-/* The document edited at the end of these steps. */
-static bool fill_edited_at(const struct caller *caller, struct buffer *buffer, struct edit edit,
-                           const struct rows *steps)
-{
-    struct buffer path;
-    bool is_made;
-    if (!fill(caller, &path, write_array, steps, guess_of_rows(steps))) return false;
-    edit.path = bytes_in(&path);
-    is_made = fill_edited(caller, buffer, edit);
-    release(&path);
-    return is_made;
-}
-
-/* Containers inside one another, as the steps need them, around null, and the path to it. */
-static bool fill_containers(const struct caller *caller, struct buffer *buffer,
-                            struct reader reader, struct rows *path)
-{
-    sqlite3 *database = sqlite3_context_db_handle(caller->context);
-    sqlite3_str *text = sqlite3_str_new(database), *closed = sqlite3_str_new(database);
-    struct step step;
-    uint32_t status = KOHIBLAD_OK;
-    bool is_made;
-    while (status == KOHIBLAD_OK && read_step(&reader, &step)) {
-        bool is_name = step.kind == NAME;
-        status = append_step(path, &step);
-        sqlite3_str_appendchar(text, 1, is_name ? '{' : '[');
-        if (is_name) append_string(text, step.name);
-        if (is_name) sqlite3_str_appendchar(text, 1, ':');
-        sqlite3_str_appendchar(closed, 1, is_name ? '}' : ']');
-    }
-    sqlite3_str_appendall(text, "null");
-    for (int i = sqlite3_str_length(closed); i > 0; i--)
-        sqlite3_str_appendchar(text, 1, sqlite3_str_value(closed)[i - 1]);
-    if (status != KOHIBLAD_OK) fail(caller, status);
-    is_made = status == KOHIBLAD_OK && is_whole(caller, closed);
-    discard(closed);
-    if (is_made) return fill_parsed(caller, buffer, text);
-    discard(text);
-    return false;
-}
-
-/* The value, inside the containers that are made for it. */
-static bool fill_made(const struct caller *caller, struct buffer *buffer, struct reader steps,
-                      struct bytes value)
-{
-    struct buffer containers;
-    struct rows path = { 0 };
-    struct edit edit = { .value = value, .kind = KOHIBLAD_PUT };
-    bool is_made = fill_containers(caller, &containers, steps, &path);
-    if (is_made) {
-        edit.document = bytes_in(&containers);
-        is_made = fill_edited_at(caller, buffer, edit, &path);
-        release(&containers);
-    }
-    forget(&path);
-    return is_made;
 }
 
 /* Whether the value may be so many levels below the top. */
@@ -188,50 +79,20 @@ static bool is_shallow(const struct caller *caller, struct bytes value, size_t s
     return false;
 }
 
-/* The steps that were followed. Reports why not. */
-static bool append_followed(const struct caller *caller, const struct target *target,
-                            struct rows *path)
-{
-    struct reader reader = steps_of(&target->path);
-    struct step step;
-    for (size_t i = 0; i < target->followed && read_step(&reader, &step); i++) {
-        uint32_t status = append_step(path, &step);
-        if (status == KOHIBLAD_OK) continue;
-        fail(caller, status);
-        return false;
-    }
-    return true;
-}
-
-/* The document with the value at the target. */
-static bool fill_put(const struct caller *caller, struct buffer *buffer, struct bytes document,
-                     const struct target *target, struct bytes value)
-{
-    struct edit edit = { .document = document, .path = bytes_in(&target->path), .value = value,
-                         .kind = KOHIBLAD_PUT };
-    struct rows path = { 0 };
-    struct buffer made;
-    bool is_made;
-    if (target->followed == target->steps) return fill_edited(caller, buffer, edit);
-    if (!fill_made(caller, &made, target->made, value)) return false;
-    edit.value = bytes_in(&made);
-    is_made = append_followed(caller, target, &path) && fill_edited_at(caller, buffer, edit, &path);
-    forget(&path);
-    release(&made);
-    return is_made;
-}
-
+/* The document with the value at the target, and the containers that are made for it. */
 static bool put(const struct caller *caller, struct buffer *buffer, struct bytes document,
                 const struct target *target, sqlite3_value *argument)
 {
+    struct edit edit = { .document = document, .path = bytes_in(&target->path),
+                         .kind = KOHIBLAD_CREATE };
     struct buffer value;
     struct sql_value sql_value;
     bool is_made;
     if (!get_sql_value(caller, argument, has_json_subtype(argument), &sql_value)
         || !fill_document(caller, &value, &sql_value))
         return false;
-    is_made = is_shallow(caller, bytes_in(&value), target->steps)
-        && fill_put(caller, buffer, document, target, bytes_in(&value));
+    edit.value = bytes_in(&value);
+    is_made = is_shallow(caller, edit.value, target->steps) && fill_edited(caller, buffer, edit);
     release(&value);
     return is_made;
 }
