@@ -73,14 +73,16 @@ sed "s|^prefix=$prefix\$|prefix=/kohiblad|" "$prefix/lib/pkgconfig/kohiblad.pc" 
     diff "$work/stage/kohiblad/lib/pkgconfig/kohiblad.pc" -
 diff -r --no-dereference -x kohiblad.pc "$prefix" "$work/stage/kohiblad"
 
-note 'the same from what is installed, without the kit'
+note 'the same without the kit, from the archive of rt lib and from what is installed'
 if PATH=/usr/bin:/bin command -v rt > "$work/found"; then
     note 'skipped: rt is in /usr/bin or /bin'
     skipped=$((skipped + 1))
 else
-    PATH=/usr/bin:/bin DESTDIR=$work/again tools/install --archive "$archive" "$prefix" \
-        > "$work/second"
-    diff -r --no-dereference "$prefix" "$work/again$prefix"
+    for built in "${given[1]}" "$archive"; do
+        PATH=/usr/bin:/bin DESTDIR=$work/again tools/install --archive "$built" "$prefix" \
+            > "$work/second"
+        diff -r --no-dereference "$prefix" "$work/again$prefix"
+    done
 fi
 
 note 'the names in the libraries'
