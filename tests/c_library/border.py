@@ -198,6 +198,10 @@ def probe(line, answer):
             parts = [bytes.fromhex(word) for word in words]
         else:
             parts = [bytes.fromhex(it) for word in words for it in word.split("=", 1)]
+        # The call for C checks the documents before the keys.
+        documents = parts if command == "array_of" else parts[1::2]
+        if not all(map(is_document, documents)):
+            answer = "error InvalidJsonb"
         return said(ask(CALLS[command], *rows(parts), ANY_DEPTH)) == answer
     taken = {"is_document": 1, "is_canonical": 1, "within": 2, "to_canonical": 1, "item_type": 1,
              "cmp": 2, "to_string": 1, "to_pretty_string": 1, "lookup": 2, "array": 1, "pairs": 1}
