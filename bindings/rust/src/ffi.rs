@@ -104,6 +104,18 @@ struct Extension {
 /// An export from bytes to bytes, within a depth.
 type Bounded = unsafe extern "C" fn(*const u8, usize, usize, *mut u8, usize, *mut usize) -> u32;
 
+/// An export that makes bytes of two documents, within a depth.
+type OfTwo = unsafe extern "C" fn(
+    *const u8,
+    usize,
+    *const u8,
+    usize,
+    usize,
+    *mut u8,
+    usize,
+    *mut usize,
+) -> u32;
+
 /// An export that builds a document of rows, within a depth.
 type Building = unsafe extern "C" fn(
     *const u8,
@@ -271,6 +283,24 @@ extern "C" {
         room: usize,
         length: *mut usize,
     ) -> u32;
+    fn kohiblad_key_cut(
+        bytes: *const u8,
+        size: usize,
+        depth: usize,
+        out: *mut u8,
+        room: usize,
+        length: *mut usize,
+    ) -> u32;
+    fn kohiblad_member_key(
+        bytes: *const u8,
+        size: usize,
+        names: *const u8,
+        names_size: usize,
+        depth: usize,
+        out: *mut u8,
+        room: usize,
+        length: *mut usize,
+    ) -> u32;
     fn kohiblad_sort_within(
         bytes: *const u8,
         size: usize,
@@ -323,6 +353,60 @@ extern "C" {
         room: usize,
         length: *mut usize,
     ) -> u32;
+    fn kohiblad_pick(
+        bytes: *const u8,
+        size: usize,
+        names: *const u8,
+        names_size: usize,
+        others: u32,
+        depth: usize,
+        out: *mut u8,
+        room: usize,
+        length: *mut usize,
+    ) -> u32;
+    fn kohiblad_object_keys(
+        bytes: *const u8,
+        size: usize,
+        depth: usize,
+        out: *mut u8,
+        room: usize,
+        length: *mut usize,
+    ) -> u32;
+    fn kohiblad_array_distinct(
+        bytes: *const u8,
+        size: usize,
+        depth: usize,
+        out: *mut u8,
+        room: usize,
+        length: *mut usize,
+    ) -> u32;
+    fn kohiblad_array_intersection(
+        left: *const u8,
+        left_size: usize,
+        right: *const u8,
+        right_size: usize,
+        depth: usize,
+        out: *mut u8,
+        room: usize,
+        length: *mut usize,
+    ) -> u32;
+    fn kohiblad_array_except(
+        left: *const u8,
+        left_size: usize,
+        right: *const u8,
+        right_size: usize,
+        depth: usize,
+        out: *mut u8,
+        room: usize,
+        length: *mut usize,
+    ) -> u32;
+    fn kohiblad_array_overlap(
+        left: *const u8,
+        left_size: usize,
+        right: *const u8,
+        right_size: usize,
+        depth: usize,
+    ) -> Truth;
     fn kohiblad_edit(
         bytes: *const u8,
         size: usize,
@@ -483,6 +567,26 @@ fn bounded(
     all_written(first_room, |out, room, length| {
         // SAFETY: as above; each `Bounded` export requires that alone, and writes `length` bytes.
         unsafe { export(bytes.as_ptr(), bytes.len(), depth, out, room, length) }
+    })
+}
+
+/// What an export makes of two documents.
+fn of_two(export: OfTwo, left: &[u8], right: &[u8], first_room: usize) -> Result<Vec<u8>, Error> {
+    all_written(first_room, |out, room, length| {
+        // SAFETY: as above, of both; each `OfTwo` export requires that alone, and writes `length`
+        // bytes.
+        unsafe {
+            export(
+                left.as_ptr(),
+                left.len(),
+                right.as_ptr(),
+                right.len(),
+                MAX_DEPTH,
+                out,
+                room,
+                length,
+            )
+        }
     })
 }
 
@@ -838,6 +942,27 @@ pub(crate) fn key(bytes: &[u8]) -> Result<Vec<u8>, Error> {
     bounded(kohiblad_key, bytes, MAX_DEPTH, bytes.len())
 }
 
+/// Writes the beginning of the key; returns the length of the whole.
+pub(crate) fn key_cut(bytes: &[u8], out: &mut [u8]) -> usize {
+    let mut length = 0;
+    // SAFETY: as above, of the bytes and the buffer. The status is always `OK`.
+    unsafe {
+        kohiblad_key_cut(
+            bytes.as_ptr(),
+            bytes.len(),
+            MAX_DEPTH,
+            out.as_mut_ptr(),
+            out.len(),
+            &mut length,
+        )
+    };
+    length
+}
+
+pub(crate) fn member_key(bytes: &[u8], names: &[u8]) -> Result<Vec<u8>, Error> {
+    of_two(kohiblad_member_key, bytes, names, bytes.len())
+}
+
 pub(crate) fn build_array(rows: &Rows) -> Result<Vec<u8>, Error> {
     built(kohiblad_build_array_within, rows)
 }
@@ -881,33 +1006,42 @@ pub(crate) fn exists(bytes: &[u8], key: &str) -> Result<bool, Error> {
 pub(crate) fn concat(left: &[u8], right: &[u8]) -> Result<Vec<u8>, Error> {
     // A header, and entries of values that become items.
     let first_room = left.len() + right.len() + 12;
-    all_written(first_room, |out, room, length| {
-        // SAFETY: as above, of both; the call writes `length` bytes.
-        unsafe {
-            kohiblad_concat(
-                left.as_ptr(),
-                left.len(),
-                right.as_ptr(),
-                right.len(),
-                MAX_DEPTH,
-                out,
-                room,
-                length,
-            )
-        }
-    })
+    of_two(kohiblad_concat, left, right, first_room)
 }
 
 /// The result nests no deeper than the deeper of both.
 pub(crate) fn merge_patch(target: &[u8], patch: &[u8]) -> Result<Vec<u8>, Error> {
-    all_written(target.len() + patch.len(), |out, room, length| {
-        // SAFETY: as above, of both; the call writes `length` bytes.
+    of_two(
+        kohiblad_merge_patch,
+        target,
+        patch,
+        target.len() + patch.len(),
+    )
+}
+
+/// The result nests no deeper than the document.
+pub(crate) fn strip_nulls(bytes: &[u8]) -> Result<Vec<u8>, Error> {
+    bounded(kohiblad_strip_nulls, bytes, MAX_DEPTH, bytes.len())
+}
+
+/// Which members are kept.
+#[derive(Clone, Copy)]
+pub(crate) enum Kept {
+    Named = 0,
+    Others = 1,
+}
+
+/// The result nests no deeper than the document.
+pub(crate) fn pick(bytes: &[u8], names: &[u8], kept: Kept) -> Result<Vec<u8>, Error> {
+    all_written(bytes.len(), |out, room, length| {
+        // SAFETY: as above, of the bytes and the names; the call writes `length` bytes.
         unsafe {
-            kohiblad_merge_patch(
-                target.as_ptr(),
-                target.len(),
-                patch.as_ptr(),
-                patch.len(),
+            kohiblad_pick(
+                bytes.as_ptr(),
+                bytes.len(),
+                names.as_ptr(),
+                names.len(),
+                kept as u32,
                 MAX_DEPTH,
                 out,
                 room,
@@ -917,12 +1051,42 @@ pub(crate) fn merge_patch(target: &[u8], patch: &[u8]) -> Result<Vec<u8>, Error>
     })
 }
 
-/// The result nests no deeper than the document.
-pub(crate) fn strip_nulls(bytes: &[u8]) -> Result<Vec<u8>, Error> {
-    all_written(bytes.len(), |out, room, length| {
+/// `None` if the document is no object.
+pub(crate) fn object_keys(bytes: &[u8]) -> Result<Option<Vec<u8>>, Error> {
+    let (status, keys) = written(bytes.len(), |out, room, length| {
         // SAFETY: as above; the call writes `length` bytes.
-        unsafe { kohiblad_strip_nulls(bytes.as_ptr(), bytes.len(), MAX_DEPTH, out, room, length) }
-    })
+        unsafe { kohiblad_object_keys(bytes.as_ptr(), bytes.len(), MAX_DEPTH, out, room, length) }
+    })?;
+    optional(status, || keys)
+}
+
+/// The result of these three may nest one level deeper than [`MAX_DEPTH`], if the first document is
+/// no array.
+pub(crate) fn array_distinct(bytes: &[u8]) -> Result<Vec<u8>, Error> {
+    bounded(kohiblad_array_distinct, bytes, MAX_DEPTH, bytes.len() + 4)
+}
+
+pub(crate) fn array_intersection(left: &[u8], right: &[u8]) -> Result<Vec<u8>, Error> {
+    of_two(kohiblad_array_intersection, left, right, left.len() + 8)
+}
+
+pub(crate) fn array_except(left: &[u8], right: &[u8]) -> Result<Vec<u8>, Error> {
+    of_two(kohiblad_array_except, left, right, left.len() + 8)
+}
+
+pub(crate) fn array_overlap(left: &[u8], right: &[u8]) -> Result<bool, Error> {
+    // SAFETY: as above, of both.
+    let truth = unsafe {
+        kohiblad_array_overlap(
+            left.as_ptr(),
+            left.len(),
+            right.as_ptr(),
+            right.len(),
+            MAX_DEPTH,
+        )
+    };
+    tested(truth.status)?;
+    Ok(truth.value != 0)
 }
 
 /// What is done at the end of a path.

@@ -21,8 +21,8 @@
 //!
 //! Documents are changed without unpacking, by [`RawJsonb::set`], [`insert`](RawJsonb::insert),
 //! [`remove`](RawJsonb::remove), [`concat`](RawJsonb::concat),
-//! [`merge_patch`](RawJsonb::merge_patch) and [`strip_nulls`](RawJsonb::strip_nulls), and asked
-//! what they contain:
+//! [`merge_patch`](RawJsonb::merge_patch), [`strip_nulls`](RawJsonb::strip_nulls),
+//! [`pick`](RawJsonb::pick) and others, and asked what they contain:
 //!
 //! ```
 //! use kohiblad::{OwnedJsonb, Path};

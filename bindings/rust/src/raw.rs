@@ -459,6 +459,145 @@ impl<'a> RawJsonb<'a> {
         ffi::strip_nulls(self.bytes).map(OwnedJsonb::of_checked)
     }
 
+    /// The object with those of its members alone whose keys are named, in any order. What is no
+    /// object stays whole.
+    ///
+    /// ```
+    /// use kohiblad::OwnedJsonb;
+    ///
+    /// let row = OwnedJsonb::parse(r#"{"id": 7, "price": 1.50, "note": "x"}"#, 64)?;
+    /// let picked = row.as_raw().pick(["price", "id", "size"])?;
+    /// assert_eq!(picked.to_string(), r#"{"id":7,"price":1.50}"#);
+    /// # Ok::<(), kohiblad::Error>(())
+    /// ```
+    ///
+    /// # Errors
+    ///
+    /// - [`Error::InvalidJsonb`]: a limit of the format is passed.
+    /// - [`Error::OutOfMemory`]: an allocation failed.
+    pub fn pick<'n>(&self, names: impl IntoIterator<Item = &'n str>) -> Result<OwnedJsonb, Error> {
+        self.picked(names, ffi::Kept::Named)
+    }
+
+    /// The object without the members whose keys are named. What is no object stays whole.
+    ///
+    /// ```
+    /// use kohiblad::OwnedJsonb;
+    ///
+    /// let row = OwnedJsonb::parse(r#"{"id": 7, "price": 1.50, "note": "x"}"#, 64)?;
+    /// assert_eq!(row.as_raw().without(["note", "size"])?.to_string(), r#"{"id":7,"price":1.50}"#);
+    /// # Ok::<(), kohiblad::Error>(())
+    /// ```
+    ///
+    /// # Errors
+    ///
+    /// Those of [`pick`](Self::pick).
+    pub fn without<'n>(
+        &self,
+        names: impl IntoIterator<Item = &'n str>,
+    ) -> Result<OwnedJsonb, Error> {
+        self.picked(names, ffi::Kept::Others)
+    }
+
+    fn picked<'n>(
+        &self,
+        names: impl IntoIterator<Item = &'n str>,
+        kept: ffi::Kept,
+    ) -> Result<OwnedJsonb, Error> {
+        let names = OwnedJsonb::array_of(names)?;
+        ffi::pick(self.bytes, names.as_bytes(), kept).map(OwnedJsonb::of_checked)
+    }
+
+    /// The array of an object's keys, in ascending order by their bytes. `None` if the document is
+    /// no object. [`members`](Self::members) has them without a copy.
+    ///
+    /// ```
+    /// let row = kohiblad::OwnedJsonb::parse(r#"{"id": 7, "city": "Oslo"}"#, 64)?;
+    /// let keys = row.as_raw().object_keys()?.expect("the row is an object");
+    /// assert_eq!(keys.to_string(), r#"["city","id"]"#);
+    /// # Ok::<(), kohiblad::Error>(())
+    /// ```
+    ///
+    /// # Errors
+    ///
+    /// - [`Error::OutOfMemory`]: an allocation failed.
+    pub fn object_keys(&self) -> Result<Option<OwnedJsonb>, Error> {
+        Ok(ffi::object_keys(self.bytes)?.map(OwnedJsonb::of_checked))
+    }
+
+    /// The array of the items without those that are equal to one before them. A document that is
+    /// no array is the one item, as in the three calls below.
+    ///
+    /// ```
+    /// let row = kohiblad::OwnedJsonb::parse("[1, 2, 1.0, 2, 3]", 64)?;
+    /// assert_eq!(row.as_raw().array_distinct()?.to_string(), "[1,2,3]");
+    /// # Ok::<(), kohiblad::Error>(())
+    /// ```
+    ///
+    /// # Errors
+    ///
+    /// - [`Error::InvalidJsonb`]: a limit of the format is passed, or the array would nest deeper
+    ///   than [`MAX_DEPTH`].
+    /// - [`Error::OutOfMemory`]: an allocation failed.
+    pub fn array_distinct(&self) -> Result<OwnedJsonb, Error> {
+        self.of_items(ffi::array_distinct(self.bytes)?)
+    }
+
+    /// The array of the items that the other has too, in their order. Of equal items there are as
+    /// many as both have.
+    ///
+    /// ```
+    /// use kohiblad::OwnedJsonb;
+    ///
+    /// let left = OwnedJsonb::array_of([1, 2, 2, 3])?;
+    /// let right = OwnedJsonb::array_of([2, 3, 2, 2])?;
+    /// let both = left.as_raw().array_intersection(right.as_raw())?;
+    /// assert_eq!(both.to_string(), "[2,2,3]");
+    /// # Ok::<(), kohiblad::Error>(())
+    /// ```
+    ///
+    /// # Errors
+    ///
+    /// Those of [`array_distinct`](Self::array_distinct).
+    pub fn array_intersection(&self, other: RawJsonb<'_>) -> Result<OwnedJsonb, Error> {
+        self.of_items(ffi::array_intersection(self.bytes, other.bytes)?)
+    }
+
+    /// The array of the items without one for each equal item of the other.
+    ///
+    /// ```
+    /// use kohiblad::OwnedJsonb;
+    ///
+    /// let left = OwnedJsonb::array_of([1, 2, 2, 3])?;
+    /// let right = OwnedJsonb::array_of([2, 4])?;
+    /// assert_eq!(left.as_raw().array_except(right.as_raw())?.to_string(), "[1,2,3]");
+    /// # Ok::<(), kohiblad::Error>(())
+    /// ```
+    ///
+    /// # Errors
+    ///
+    /// Those of [`array_distinct`](Self::array_distinct).
+    pub fn array_except(&self, other: RawJsonb<'_>) -> Result<OwnedJsonb, Error> {
+        self.of_items(ffi::array_except(self.bytes, other.bytes)?)
+    }
+
+    /// Whether some item is equal to one of the other's.
+    ///
+    /// # Errors
+    ///
+    /// - [`Error::OutOfMemory`]: an allocation failed.
+    pub fn array_overlap(&self, other: RawJsonb<'_>) -> Result<bool, Error> {
+        ffi::array_overlap(self.bytes, other.bytes)
+    }
+
+    /// An array of items of this document, which nests one level deeper if it is no array itself.
+    fn of_items(&self, made: Vec<u8>) -> Result<OwnedJsonb, Error> {
+        match self.kind() {
+            Kind::Array(_) => Ok(OwnedJsonb::of_checked(made)),
+            _ => OwnedJsonb::new(made),
+        }
+    }
+
     /// The document with a value at a path, in place of what is there, or as a new member or item.
     /// An item past the last comes after it, and one before the first comes before it.
     ///
@@ -581,6 +720,45 @@ impl<'a> RawJsonb<'a> {
     /// - [`Error::OutOfMemory`]: an allocation failed.
     pub fn key(&self) -> Result<ComparableKey, Error> {
         ffi::key(self.bytes).map(ComparableKey)
+    }
+
+    /// Writes the first bytes of the [`key`](Self::key) to `out`, as many as there is room, and
+    /// returns the length of the whole key. No memory is taken. A cut key is never above its key,
+    /// and where two that are cut to one length differ, the keys compare as they do.
+    ///
+    /// ```
+    /// let row = kohiblad::OwnedJsonb::of("Longyearbyen")?;
+    /// let mut first = [0; 8];
+    /// assert_eq!(row.as_raw().key_cut(&mut first), 14);
+    /// assert_eq!(first, row.as_raw().key()?.as_bytes()[..8]);
+    /// # Ok::<(), kohiblad::Error>(())
+    /// ```
+    pub fn key_cut(&self, out: &mut [u8]) -> usize {
+        ffi::key_cut(self.bytes, out)
+    }
+
+    /// The keys of some members in a row, which compare as the lists of the members' values. A
+    /// member that is not there has a key of one byte, 0, below all others.
+    ///
+    /// ```
+    /// use kohiblad::OwnedJsonb;
+    ///
+    /// let key = |text| OwnedJsonb::parse(text, 64)?.as_raw().member_key(["city", "price"]);
+    /// let cheap = key(r#"{"city": "Oslo", "price": 9}"#)?;
+    /// let dear = key(r#"{"price": 10.0, "city": "Oslo"}"#)?;
+    /// assert!(cheap < dear && key("{}")? < cheap);
+    /// # Ok::<(), kohiblad::Error>(())
+    /// ```
+    ///
+    /// # Errors
+    ///
+    /// - [`Error::OutOfMemory`]: an allocation failed.
+    pub fn member_key<'n>(
+        &self,
+        names: impl IntoIterator<Item = &'n str>,
+    ) -> Result<ComparableKey, Error> {
+        let names = OwnedJsonb::array_of(names)?;
+        ffi::member_key(self.bytes, names.as_bytes()).map(ComparableKey)
     }
 }
 

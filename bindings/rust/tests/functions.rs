@@ -185,6 +185,75 @@ fn concatenation_joins_members_and_items() {
 
 /// RFC 7396, appendix A.
 #[test]
+fn members_are_picked_by_their_keys() {
+    let row = parsed(r#"{"":1,"a":[2],"b":{"c":3}}"#);
+    let row = row.as_raw();
+    for (names, picked, rest) in [
+        (&[][..], "{}", r#"{"":1,"a":[2],"b":{"c":3}}"#),
+        (&["b", ""], r#"{"":1,"b":{"c":3}}"#, r#"{"a":[2]}"#),
+        (&["a", "a", "c"], r#"{"a":[2]}"#, r#"{"":1,"b":{"c":3}}"#),
+    ] {
+        let names = || names.iter().copied();
+        assert_eq!(row.pick(names()).unwrap().to_string(), picked);
+        assert_eq!(row.without(names()).unwrap().to_string(), rest);
+    }
+    let array = parsed("[1,[2]]");
+    assert_eq!(array.as_raw().pick(["a"]).unwrap(), array);
+    assert_eq!(array.as_raw().without(["a"]).unwrap(), array);
+    let keys = row.object_keys().unwrap().unwrap();
+    assert_eq!(keys.to_string(), r#"["","a","b"]"#);
+    assert_eq!(array.as_raw().object_keys(), Ok(None));
+}
+
+#[test]
+fn arrays_are_sets_in_which_equal_items_count() {
+    for (left, right, distinct, both, rest) in [
+        ("[1,2,1.0,2]", "[2,2.0,2]", "[1,2]", "[2,2]", "[1,1.0]"),
+        ("[[1],[1]]", "[[1.0]]", "[[1]]", "[[1]]", "[[1]]"),
+        (
+            r#"["a",null]"#,
+            r#""a""#,
+            r#"["a",null]"#,
+            r#"["a"]"#,
+            "[null]",
+        ),
+        ("5", "[]", "[5]", "[]", "[5]"),
+    ] {
+        let (left, right) = (parsed(left), parsed(right));
+        let (left, right) = (left.as_raw(), right.as_raw());
+        assert_eq!(left.array_distinct().unwrap().to_string(), distinct);
+        assert_eq!(left.array_intersection(right).unwrap().to_string(), both);
+        assert_eq!(left.array_except(right).unwrap().to_string(), rest);
+        assert_eq!(left.array_overlap(right), Ok(both != "[]"));
+    }
+    let deepest = nested(MAX_DEPTH, r#"{"a":"#, "}");
+    assert_eq!(deepest.as_raw().array_distinct(), Err(Error::InvalidJsonb));
+}
+
+#[test]
+fn keys_are_cut_and_of_members() {
+    let row = parsed(r#"{"a":1,"b":"x"}"#);
+    let row = row.as_raw();
+    let (key, parts) = (row.key().unwrap(), [row.get("b").unwrap().unwrap()]);
+    for room in 0..key.as_bytes().len() + 2 {
+        let mut out = vec![9; room];
+        assert_eq!(row.key_cut(&mut out), key.as_bytes().len());
+        let cut = room.min(key.as_bytes().len());
+        assert_eq!(out[..cut], key.as_bytes()[..cut]);
+        assert!(out[cut..].iter().all(|&byte| byte == 9));
+    }
+    let mut wanted = parts[0].as_raw().key().unwrap().into_bytes();
+    wanted.push(0);
+    assert_eq!(row.member_key(["b", "c"]).unwrap().into_bytes(), wanted);
+    assert!(parsed("5")
+        .as_raw()
+        .member_key([])
+        .unwrap()
+        .as_bytes()
+        .is_empty());
+}
+
+#[test]
 fn merge_patches_are_those_of_the_rfc() {
     for (target, patch, result) in [
         (r#"{"a":"b"}"#, r#"{"a":"c"}"#, r#"{"a":"c"}"#),

@@ -99,6 +99,13 @@ fn refused_allocations_are_named() {
     refuse_each("concat", || row.concat(list));
     refuse_each("merge_patch", || row.merge_patch(row));
     refuse_each("strip_nulls", || row.strip_nulls());
+    refuse_each("pick", || row.pick(["list"]));
+    refuse_each("without", || row.without([long.as_str()]));
+    refuse_each("object_keys", || row.object_keys());
+    refuse_each("array_distinct", || list.array_distinct());
+    refuse_each("array_intersection", || list.array_intersection(list));
+    refuse_each("array_except", || list.array_except(row));
+    refuse_each("member_key", || row.member_key(["list", "none"]));
     refuse_each("a path", || Path::new().key("list").index(-1).to_document());
     let path = || Path::new().key("list").index(-1);
     refuse_each("set", || row.set(&path(), long.as_str()));
