@@ -186,6 +186,40 @@ def stripped(value):
     return list(map(stripped, value)) if isinstance(value, list) else value
 
 
+def picked(value, names, are_kept):
+    """An object with the members that are named, or with the others; other values as they are."""
+    if not isinstance(value, dict):
+        return value
+    return {name: it for name, it in value.items() if (name in names) == are_kept}
+
+
+def items_of(value):
+    """The items of an array; any other value is one item."""
+    return value if isinstance(value, list) else [value]
+
+
+def distinct(value, are_equal):
+    """The items without those that are equal to one before them."""
+    firsts = []
+    for it in items_of(value):
+        if not any(are_equal(it, first) for first in firsts):
+            firsts.append(it)
+    return firsts
+
+
+def by_match(value, other, are_equal):
+    """The items for which the other has an equal that none before took, and the others."""
+    matched, rest, left = [], [], list(items_of(other))
+    for it in items_of(value):
+        number = next((n for n, there in enumerate(left) if are_equal(it, there)), None)
+        if number is None:
+            rest.append(it)
+        else:
+            matched.append(it)
+            del left[number]
+    return matched, rest
+
+
 class Values:
     """Random values, the same for the same seed."""
 

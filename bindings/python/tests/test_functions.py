@@ -13,8 +13,8 @@ import kohiblad
 from kohiblad import (ArrayDocument, DEPTH, Document, FloatError, InvalidTextError, KohibladError,
                       NumberError, ObjectDocument, PathError, ScalarDocument, TooDeepError,
                       TooManyStepsError, _changes, _document)
-from models import (FewNames, at_path, contains, edited, has_key, merged, scalars, selected,
-                    stripped)
+from models import (FewNames, at_path, by_match, contains, distinct, edited, has_key, merged,
+                    picked, scalars, selected, stripped)
 
 ROUNDS = 3000
 # The deepest array.
@@ -266,6 +266,65 @@ class PathTest(FunctionTest):
                     call(path)
         with self.assertRaises(InvalidTextError):
             row.without(*["a"] * 20, "\ud800")
+
+
+class PickTest(FunctionTest):
+    def test_as_the_model(self):
+        values = FewNames(seed=48)
+        for _ in range(ROUNDS):
+            value = values.any(depth=3)
+            names = [it for it in values.path(value) if isinstance(it, str)] + ["a", "none"]
+            document = Document.of(value)
+            self.assert_is(document.pick(*names), picked(value, names, True))
+            self.assert_is(document.without(*names), picked(value, names, False))
+            self.assert_is(document.pick(), {} if isinstance(value, dict) else value)
+
+    def test_names_that_are_none_are_refused(self):
+        row = Document.parse('{"a": [1]}')
+        for call in (row.pick, row.member_key):
+            for name in (5, None, b"a", ["a"]):
+                with self.assertRaisesRegex(TypeError, "a key is a str"):
+                    call("a", name)
+            with self.assertRaises(InvalidTextError):
+                call("a", "\ud800")
+        self.assert_is(row.pick(Name("a")), row)
+        self.assertEqual(row.member_key(Name("a")), row.member("a").key())
+
+    def test_keys_of_members(self):
+        row = Document.parse('{"a": [1], "b": 5.0}')
+        self.assertEqual(row.member_key(), b"")
+        self.assertEqual(row.member_key("b", "c", "a"),
+                         Document.of(5).key() + b"\0" + Document.of([1]).key())
+        self.assertEqual(Document.of([1]).member_key("a", "b"), b"\0\0")
+
+
+class SetTest(FunctionTest):
+    def test_as_the_model(self):
+        values = FewNames(seed=49)
+        for _ in range(ROUNDS):
+            value, other = [values.any(depth=2) for _ in range(5)], values.any(depth=3)
+            if value[0] is None:
+                value = values.any(depth=2)
+            document = Document.of(value)
+            matched, rest = by_match(value, other, self.are_equal)
+            self.assert_is(document.distinct(), distinct(value, self.are_equal))
+            self.assert_is(document.intersection(other), matched)
+            self.assert_is(document.difference(Document.of(other)), rest)
+            self.assertIs(document.overlaps(other), bool(matched))
+
+    @staticmethod
+    def are_equal(left, right):
+        return Document.of(left) == Document.of(right)
+
+    def test_an_array_around_the_deepest_document_is_refused(self):
+        deepest = Document.parse('{"a":' * DEPTH + "0" + "}" * DEPTH)
+        for call in (deepest.distinct, lambda: deepest.difference([]),
+                     lambda: deepest.intersection(deepest)):
+            with self.assertRaises(TooDeepError):
+                call()
+        self.assert_is(deepest.difference(deepest), [])
+        self.assert_is(DEEPEST.distinct(), DEEPEST)
+        self.assertTrue(deepest.overlaps(deepest))
 
 
 class EditTest(FunctionTest):

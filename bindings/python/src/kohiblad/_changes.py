@@ -4,7 +4,7 @@ The library makes each copy, in the one form that is written today.
 """
 import operator
 from collections.abc import Sequence as AnySequence
-from typing import Any, Dict, Sequence, Tuple, Union
+from typing import Any, Callable, Dict, Sequence, Tuple, Union
 
 from . import _library as library
 from ._encode import DEPTH, parse, text_of_str
@@ -17,8 +17,6 @@ DocumentPath = Union[Step, Sequence[Step]]
 
 # No array has so many items, so what is further away is as far.
 _FAR = 1 << 32
-# So many edits one after another take about as long as one merge patch.
-_FEW = 3
 # The documents of paths that were used lately: most programs use the same few for many documents.
 _kept_paths: Dict[Tuple[Step, ...], bytes] = {}
 _MOST_KEPT = 256
@@ -42,7 +40,8 @@ def steps_of(path: Any) -> Tuple[Step, ...]:
     return (step_of(path),)
 
 
-def _document_of_path(steps: Tuple[Step, ...]) -> bytes:
+def document_of_path(steps: Tuple[Step, ...]) -> bytes:
+    """The document of some steps, or of names."""
     document = _kept_paths.get(steps)
     if document is None:
         texts = [text_of_str(it) if isinstance(it, str) else str(it) for it in steps]
@@ -59,7 +58,7 @@ def edited(data: bytes, steps: Tuple[Step, ...], edit: int, value: bytes = b"") 
 
     TooDeepError: it would nest too deep. InvalidDocumentError: it is past a limit of the format.
     """
-    path = _document_of_path(steps)
+    path = document_of_path(steps)
     # Each level of the value takes four bytes, so that most documents need no look at them.
     if len(steps) + len(value) // 4 > DEPTH \
             and not library.check(value, len(value), max(DEPTH - len(steps), 0)):
@@ -90,12 +89,18 @@ def _edited(data: bytes, path: bytes, edit: int, value: bytes) -> bytes:
 
 def without(data: bytes, paths: Sequence[Any]) -> bytes:
     """A document after what is at each of the paths is removed, in turn."""
-    if len(paths) > _FEW and _is_object(data) and all(isinstance(it, str) for it in paths):
-        nulls = [text_of_str(str.__str__(it)) + ":null" for it in paths]
-        return merged(data, parse("{" + ",".join(nulls) + "}"))
+    if len(paths) > 1 and _is_object(data) and all(isinstance(it, str) for it in paths):
+        return picked(data, tuple(map(str.__str__, paths)), library.OTHERS)
     for path in paths:
         data = edited(data, steps_of(path), library.REMOVE)
     return data
+
+
+def picked(data: bytes, names: Tuple[str, ...], kept: int) -> bytes:
+    """An object with the members that are named alone, or with all others."""
+    listed = document_of_path(names)
+    return library.result_of(library.pick, len(data) + 64, data, len(data), listed, len(listed),
+                             kept, DEPTH)
 
 
 def _is_object(data: bytes) -> bool:
@@ -116,6 +121,19 @@ def merged(target: bytes, patch: bytes) -> bytes:
         return native.merge_patch(target, patch)
     return library.result_of(library.merge_patch, len(target) + len(patch) + 64, target,
                              len(target), patch, len(patch), DEPTH)
+
+
+def of_items(call: Callable[..., int], data: bytes, *others: bytes) -> bytes:
+    """The array that a call on arrays as sets makes of one or two documents.
+
+    TooDeepError: it would nest too deep, since the first document is no array.
+    """
+    crossed = [argument for it in (data, *others) for argument in (it, len(it))]
+    result = library.result_of(call, len(data) + 64, *crossed, DEPTH)
+    is_array = data[0] & library.HEADER_TAG_MASK == library.ARRAY
+    if not is_array and not library.check(result, len(result), DEPTH):
+        raise library.error_of(library.TOO_DEEP, f"the array would nest more than {DEPTH} deep")
+    return result
 
 
 def without_nulls(data: bytes) -> bytes:

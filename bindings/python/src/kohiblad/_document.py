@@ -140,6 +140,23 @@ class Document:
                 self._key = library.result_of(library.key, 2 * size + 64, self._data, size, size)
         return self._key
 
+    def member_key(self, *names: str) -> bytes:
+        """The keys of some members in a row, which compare by their bytes as these members do.
+
+        >>> row = Document.parse('{"city": "Oslo", "price": 99}')
+        >>> row.member_key("city", "size") == row.member("city").key() + b"\\0"
+        True
+
+        A zero byte, below all keys, has the place of a member that is not there. ``kohiblad.keys``
+        has keys of parts that are deeper. Raises as ``pick``.
+        """
+        _expect_names(names)
+        listed = changes.document_of_path(tuple(map(str.__str__, names)))
+        size = len(self._data)
+        # A document of n bytes is less than n deep, and the names have depth 1.
+        return library.result_of(library.member_key, 2 * size + 64, self._data, size, listed,
+                                 len(listed), size)
+
     def canonical(self) -> "Document":
         """The same document with each value in the one form that is written today.
 
@@ -292,6 +309,66 @@ class Document:
         nowhere removes nothing. Otherwise as ``set``.
         """
         return _of_checked(changes.without(self._data, paths))
+
+    def pick(self, *names: str) -> "Document":
+        """A new document of an object with those of its members alone whose keys are named.
+
+        >>> row = Document.parse('{"id": 7, "ok": true, "price": 1.50}')
+        >>> row.pick("price", "id", "size")
+        <ObjectDocument {"id":7,"price":1.50}>
+
+        What is no object stays whole. The result is in the one form that is written today, as of
+        ``canonical``. TypeError: a name is no str; InvalidTextError: it has half of a surrogate
+        pair; InvalidDocumentError: the result is past a limit of the format.
+        """
+        _expect_names(names)
+        return _of_checked(changes.picked(self._data, tuple(map(str.__str__, names)),
+                                          library.NAMED))
+
+    def distinct(self) -> "Document":
+        """A new array of the items without those that are equal to one before them.
+
+        >>> Document.parse('[1, 2, 1.0, 2, 3]').distinct()
+        <ArrayDocument [1,2,3]>
+
+        A document that is no array is the one item, here and in ``intersection``, ``difference``
+        and ``overlaps``. TooDeepError: the array would nest more than 1,000 deep.
+        InvalidDocumentError: it is past a limit of the format.
+        """
+        return _of_checked(changes.of_items(library.array_distinct, self._data))
+
+    def intersection(self, other: Any) -> "Document":
+        """A new array of the items that another document, or a Python value, has too.
+
+        >>> Document.of([1, 2, 2, 3]).intersection([3, 2, 2, 2])
+        <ArrayDocument [2,2,3]>
+
+        Of equal items there are as many as both have. Raises as ``Document.of`` for the other
+        value, and otherwise as ``distinct``.
+        """
+        return _of_checked(changes.of_items(library.array_intersection, self._data,
+                                            _data_of(other)))
+
+    def difference(self, other: Any) -> "Document":
+        """A new array of the items without one for each equal item of another document or value.
+
+        >>> Document.of([1, 2, 2, 3]).difference([2, 4])
+        <ArrayDocument [1,2,3]>
+
+        Of equal items the first ones go. Raises as ``intersection``.
+        """
+        return _of_checked(changes.of_items(library.array_except, self._data, _data_of(other)))
+
+    def overlaps(self, other: Any) -> bool:
+        """Whether an item is equal to one of another document, or of a Python value.
+
+        >>> row = Document.parse('[1, "a", [2]]')
+        >>> row.overlaps([0, [2]]), row.overlaps([2])
+        (True, False)
+        """
+        other_data = _data_of(other)
+        return library.is_true(library.array_overlap(self._data, len(self._data), other_data,
+                                                     len(other_data), DEPTH))
 
     def merge(self, patch: Any) -> "Document":
         """A new document, changed by a merge patch: a Python value or a document, as in RFC 7396.
@@ -595,6 +672,12 @@ def _of_checked(data: bytes) -> Document:
 def _data_of(value: Any) -> bytes:
     """The bytes of a document, or of that of a Python value."""
     return (value if isinstance(value, Document) else Document.of(value))._data
+
+
+def _expect_names(names: Sequence[Any]) -> None:
+    for name in names:
+        if not isinstance(name, str):
+            raise TypeError(f"a key is a str, not {type(name).__name__}")
 
 
 def _utf8_of_name(name: str) -> Optional[bytes]:

@@ -41,6 +41,10 @@ PUT = 0
 INSERT = 1
 REMOVE = 2
 
+# Which members `pick` keeps.
+NAMED = 0
+OTHERS = 1
+
 # Of steps.
 NO_LIMIT = 2**64 - 1
 
@@ -196,6 +200,12 @@ exists = _export("exists", Truth, *_BYTES, *_BYTES, c_size_t)
 concat = _export("concat", c_uint32, *_BYTES, *_BYTES, c_size_t, *_OUT)
 merge_patch = _export("merge_patch", c_uint32, *_BYTES, *_BYTES, c_size_t, *_OUT)
 strip_nulls = _export("strip_nulls", c_uint32, *_BYTES, c_size_t, *_OUT)
+pick = _export("pick", c_uint32, *_BYTES, *_BYTES, c_uint32, c_size_t, *_OUT)
+array_distinct = _export("array_distinct", c_uint32, *_BYTES, c_size_t, *_OUT)
+array_intersection = _export("array_intersection", c_uint32, *_BYTES, *_BYTES, c_size_t, *_OUT)
+array_except = _export("array_except", c_uint32, *_BYTES, *_BYTES, c_size_t, *_OUT)
+array_overlap = _export("array_overlap", Truth, *_BYTES, *_BYTES, c_size_t)
+member_key = _export("member_key", c_uint32, *_BYTES, *_BYTES, c_size_t, *_OUT)
 edit = _export("edit", c_uint32, *_BYTES, *_BYTES, c_uint32, *_BYTES, c_size_t, *_OUT)
 select = _export("select", c_uint32, *_BYTES, *_BYTES, c_size_t, *_OUT)
 index_keys = _export("index_keys", c_uint32, *_BYTES, c_size_t, *_OUT)

@@ -15,9 +15,10 @@
 A key has the comparable keys of its values in a row, and compares by its bytes as a tuple of the
 values does: no comparable key begins another. docs/COMPARABLE.md says what is proved of them.
 """
-from typing import Any, Iterable, Optional, Sequence, Union
+from typing import Any, Iterable, Optional, Sequence, Tuple, Union, cast
 
 from ._document import ArrayDocument, Document, ObjectDocument
+from ._errors import InvalidTextError
 
 __all__ = ["MISSING", "Member", "above", "key_of", "key_of_members"]
 
@@ -46,7 +47,16 @@ def key_of_members(document: Document, members: Iterable[Member],
     """
     if cut is not None and cut < 0:
         raise ValueError("a key is cut to 0 bytes or more")
-    return b"".join(_key_at(document, it) for it in members)[:cut]
+    return _whole_key(document, tuple(members))[:cut]
+
+
+def _whole_key(document: Document, members: Tuple[Member, ...]) -> bytes:
+    if all(type(it) is str for it in members):
+        try:
+            return document.member_key(*cast(Tuple[str, ...], members))
+        except InvalidTextError:
+            pass  # A name with half of a surrogate pair, which no member has.
+    return b"".join(_key_at(document, it) for it in members)
 
 
 def _key_at(document: Document, member: Member) -> bytes:
