@@ -12,16 +12,19 @@ export HOME="$scratch"
 make -s OUT="$scratch"
 
 # bench/statements has three lines for each row of the table: its name, the statement over text, and
-# the statement over documents.
+# the statement over documents. What it makes is dropped again.
 {
     echo ".load $scratch/kohiblad"
     echo '.read bench/rows.sql'
     for _ in $(seq "$rounds"); do
         while read -r name && read -r text && read -r documents; do
-            printf '.timer on\n%s;\n.timer off\n' "$text"
-            [ "$name" != load ] || echo 'DROP TABLE x;'
-            printf '.timer on\n%s;\n.timer off\n' "$documents"
-            [ "$name" != load ] || echo 'DROP TABLE x;'
+            for statement in "$text" "$documents"; do
+                printf '.timer on\n%s;\n.timer off\n' "$statement"
+                case $name in
+                    load) echo 'DROP TABLE x;' ;;
+                    index*) echo 'DROP INDEX i;' ;;
+                esac
+            done
         done < bench/statements
     done
 } > "$scratch/all.sql"
