@@ -2,10 +2,10 @@
 use Rattle.std.proofs.Common.{◌≡◌, ℕ, ◌+◌, ◌*◌, ◌≤◌, ◌<◌, Bool, true, false}
 use Rattle.std.proofs.Common.{List, [], ◌∷◌, ◌++◌, length, take, sum_by, refl}
 use Rattle.std.proofs.Common.{sym, ap, ap₂, cond, ◌∙◌, inl, inr, arith}
-use Rattle.std.specs.Prelude.{filter, map, slice_index_or}
+use Rattle.std.specs.Prelude.{All, filter, map, slice_index_or}
 use Rattle.std.specs.List.{concat}
 use Rattle.std.proofs.lemmas.List.{append-nil, length-append, map-append}
-use Rattle.std.proofs.lemmas.List.Elements.{filter_more}
+use Rattle.std.proofs.lemmas.List.Elements.{All-head, All-tail, filter_more}
 use Rattle.std.proofs.lemmas.List.Sums.{sum_by-cons}
 use Rattle.jsonb_value.specs.Tree.{Tree, null, boolean, number, text, extension, array, object}
 use Rattle.jsonb_value.specs.Tree.{Pairs, no_pairs, pair, count, pair_count}
@@ -13,10 +13,12 @@ use Rattle.jsonb_codec.specs.declared.constants.TheConstants.{ARRAY_CONTAINER_TA
 use Rattle.jsonb_codec.specs.declared.constants.TheConstants.{OBJECT_CONTAINER_TAG}
 use Rattle.jsonb_codec.specs.declared.constants.TheConstants.{SCALAR_CONTAINER_TAG, STRING_TAG}
 use Rattle.jsonb_codec.specs.Word.{word}
-use Rattle.jsonb_codec.specs.Doc.{Doc, Scalar, Keys, Values, type_of}
+use Rattle.jsonb_codec.specs.Doc.{Doc, IsDocument, Scalar, Keys, Values, type_of}
 use Rattle.jsonb.specs.Document.{document_bytes}
 use Rattle.jsonb.specs.declared.document.Document.{Document}
 use Rattle.jsonb.specs.Lookup.{pairs_in}
+use Rattle.jsonb.proofs.DocumentLaws.{tree_in-is}
+use Rattle.jsonb_column.specs.Select.{most_reads, row_reads}
 
 -- The number of words is at most the number of bytes of the document.
 length-word : (k : ℕ) → length (word k) ≡ 4
@@ -90,6 +92,22 @@ words-Doc b (extension v) (inr h) = absurd (omega (arith, h.0))
 pub words-row : (raw row : List ℕ) (t : Tree) → Doc raw t → raw ≡ row
     → 2 * pairs_in t + 1 ≤ length row
 words-row raw row t means is = omega (arith, words-Doc raw t means, ap length is)
+
+row_reads-few : (row : List ℕ) → IsDocument row → row_reads row ≤ length row
+row_reads-few row (t, means) =
+    omega (arith, words-row row row t means refl, ap pairs_in (tree_in-is row t means))
+
+pub most_reads-few : (rows : List (List ℕ)) → All IsDocument rows
+    → most_reads rows ≤ length (concat rows)
+most_reads-few [] each = omega arith
+most_reads-few (row ∷ rows) each =
+    omega (
+      arith,
+      row_reads-few row (All-head IsDocument row rows each),
+      most_reads-few rows (All-tail IsDocument row rows each),
+      sum_by-cons row_reads row rows,
+      length-append row (concat rows),
+    )
 
 -- The number of bytes of all rows is the sum of their lengths.
 pub length-concat : (rows : List (List ℕ)) → length (concat rows) ≡ sum_by length rows

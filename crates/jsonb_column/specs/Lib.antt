@@ -1,5 +1,12 @@
+pub mod KeyStart
+pub mod Keys
+pub mod Limits
+pub mod Range
 pub mod Rows
 pub mod Select
 pub mod SortOrder
 pub mod Storage
 pub mod Words
+pub mod Zone
+pub mod ZoneMap
+pub mod Zones

@@ -109,11 +109,13 @@ impl Column {
         }
     }
 
-    // The row at an index below the number of rows. All rows together fit in memory.
-    fn row_within(&self, index: usize) -> Document<'_>
+    // The row at an index below the number of rows. All rows together fit in memory, and have at
+    // least as many bytes as words that a search reads.
+    pub(crate) fn row_within(&self, index: usize) -> Document<'_>
         requires { index < length self.now }
         ensures row { document_bytes result ≡ slice_index_or self.now index [] }
         ensures bound { length (concat self.now) ≤ MAX_READS }
+        ensures reads { most_reads self.now ≤ MAX_READS }
     {
         document_at(&self.bytes, self.places[index])
     }

@@ -3,10 +3,17 @@
 #![tactic(auto)]
 
 mod column;
+mod key_start;
+mod limits;
 mod place;
 mod select;
 mod sorted;
 mod storage;
+#[cfg(test)]
+mod tests;
+mod zone;
+mod zones;
 
 pub use column::{Column, Rows};
 pub use sorted::Sorted;
+pub use zones::Zones;

@@ -4,7 +4,9 @@ use Rattle.std.specs.List.{concat}
 use Rattle.jsonb_codec.specs.Doc.{IsDocument}
 use Rattle.jsonb.specs.declared.reads.lookup.TheConstants.{MAX_READS}
 use Rattle.jsonb_column.specs.Rows.{row_in}
+use Rattle.jsonb_column.specs.Select.{most_reads}
 use Rattle.jsonb_column.proofs.RowsLaws.{row_document}
+use Rattle.jsonb_column.proofs.SelectLaws.{most_reads-few}
 use Rattle.jsonb_column.proofs.column.Column.row_within.Goals as goal
 
 pub document_at-requires-clause-document : goal.document_at-requires-clause-document
@@ -27,3 +29,14 @@ returns-clause-bound c =
     let column = c.self.inside in
     subst (λ rows. length (concat rows) ≤ MAX_READS) c.self.view_is
     (omega (arith, ap length c.self.invariant.whole, column.bytes.small))
+
+pub returns-clause-reads : goal.returns-clause-reads
+returns-clause-reads c =
+    let column = c.self.inside in
+    subst (λ rows. most_reads rows ≤ MAX_READS) c.self.view_is
+    (omega (
+      arith,
+      most_reads-few _ c.self.invariant.rows.documents,
+      ap length c.self.invariant.whole,
+      column.bytes.small,
+    ))
