@@ -57,6 +57,27 @@ class CommandTest(unittest.TestCase):
         rows = ["[2]", '{"id":3.0}', "3.0", '{"id":3}', "3", '"a"', "null"]
         expected = ["3.0", "3", '"a"', '{"id":3.0}', '{"id":3}', "[2]", "null"]
         self.assertEqual(run("sort", given=stored(*rows)), (0, stored(*expected), ""))
+        # Each document is a part of its own.
+        self.assertEqual(run("sort", "--memory", "1", given=stored(*rows)),
+                         (0, stored(*expected), ""))
+
+    def test_sort_merges_parts_of_parts(self):
+        rows = [f'{{"id":{number % 7},"at":{number}}}' for number in range(333)]
+        expected = sorted(rows, key=lambda row: Document.parse(row).key())
+        for memory in ("0", "1K", "10K", "1M"):
+            self.assertEqual(run("sort", "--memory", memory, given=stored(*rows)),
+                             (0, stored(*expected), ""))
+
+    def test_sort_refuses_what_is_no_size(self):
+        for memory in ("", "-1", "1T", "1.5G", "much"):
+            status, output, message = run("sort", f"--memory={memory}")
+            self.assertEqual((status, output), (2, b""))
+            self.assertIn(f"{memory!r} is no size", message)
+
+    def test_sort_names_the_document_that_ends_the_input(self):
+        status, output, message = run("sort", "--memory", "1", given=stored("2", "1") + b"\0")
+        self.assertEqual((status, output), (1, b""))
+        self.assertIn("document 3: the file ends within it", message)
 
     def test_get_has_a_line_for_each_document(self):
         self.assertEqual(run("get", "town", given=stored(*LINES)),

@@ -5,6 +5,7 @@ import heapq
 import os
 import re
 import sys
+import tempfile
 import time
 from itertools import islice
 from typing import (IO, Any, Callable, ContextManager, Dict, Iterator, List, Optional, Tuple,
@@ -29,6 +30,13 @@ their first fault is and what, and the status is 1."""
 _LENGTH_BYTES = 8
 _READ_AT_ONCE = 1 << 20
 _SECONDS_BETWEEN_REPORTS = 0.5
+
+# What a document takes in memory while it is sorted, beside its bytes and those of its key, which
+# are about as many.
+_BYTES_OF_A_ROW = 200
+
+# So many temporary files of sorted documents are merged to one, since a process has few open files.
+_MOST_RUNS = 100
 _Row = TypeVar("_Row")
 
 
@@ -130,6 +138,42 @@ def merged(sources: List[Iterator[Document]]) -> Iterator[Document]:
     return iter(heapq.merge(*sources, key=Document.key))
 
 
+def sorted_documents(documents: Iterator[Document], memory: int) -> Iterator[Document]:
+    """The documents in their order, equal ones as they came. What takes more than about so many
+    bytes of memory is sorted in parts, each of which goes to a temporary file."""
+    with contextlib.ExitStack() as files:
+        runs: List[IO[bytes]] = []
+        rows: List[Document] = []
+        taken = 0
+        for document in documents:
+            rows.append(document)
+            taken += 2 * len(bytes(document)) + _BYTES_OF_A_ROW
+            if taken >= memory:
+                rows.sort(key=Document.key)
+                runs.append(_run_of(iter(rows), files))
+                rows, taken = [], 0
+            if len(runs) == _MOST_RUNS:
+                joined = _run_of(merged(list(map(_run_documents, runs))), files)
+                for run in runs:
+                    run.close()
+                runs = [joined]
+        rows.sort(key=Document.key)
+        yield from merged([*map(_run_documents, runs), iter(rows)])
+
+
+def _run_of(documents: Iterator[Document], files: contextlib.ExitStack) -> IO[bytes]:
+    """A temporary file of the documents, which is gone when it is closed."""
+    file = files.enter_context(tempfile.TemporaryFile())
+    for document in documents:
+        file.write(stored(document))
+    file.seek(0)
+    return file
+
+
+def _run_documents(file: IO[bytes]) -> Iterator[Document]:
+    return stored_documents(file, "a temporary file")
+
+
 def in_order(documents: Iterator[Document], name: str) -> Iterator[Document]:
     """The same documents. InputError: one of them is less than the one before it."""
     previous = None
@@ -147,7 +191,8 @@ def _parser() -> argparse.ArgumentParser:
     commands.required = True
     helps = {"encode": "JSON lines to documents; empty lines are left out",
              "decode": "documents to JSON lines",
-             "sort": "documents to documents in their order; all are kept in memory",
+             "sort": "documents to documents in their order; what does not fit the memory goes to "
+                     "temporary files",
              "get": "documents to the JSON lines of a member, empty where there is none",
              "keys": "documents to lines of hexadecimal: keys that sort as the documents do, or as "
                      "some of their members",
@@ -158,6 +203,10 @@ def _parser() -> argparse.ArgumentParser:
             command.add_argument("name", metavar="NAME", help="the member's key")
         if name == "keys":
             add_key_options(command)
+        if name == "sort":
+            command.add_argument("--memory", metavar="SIZE", type=_size, default=_size("1G"),
+                                 help="about how many bytes the documents may take in memory, as "
+                                      "500M or 2G; 1G if none")
         if name == "merge":
             command.add_argument("inputs", nargs="+", metavar="FILE", help="a sorted file")
         else:
@@ -171,6 +220,14 @@ def _parser() -> argparse.ArgumentParser:
     add_range_options(commands.add_parser("range", help=text, description=text))
     _add_show(commands)
     return parser
+
+
+def _size(text: str) -> int:
+    """A number of bytes, with K, M or G after it for so many times 1,024."""
+    found = re.fullmatch(r"([0-9]+)([KMG]?)", text, re.ASCII)
+    if not found:
+        raise argparse.ArgumentTypeError(f"{text!r} is no size, as 500M or 2G")
+    return int(found[1]) << {"": 0, "K": 10, "M": 20, "G": 30}[found[2]]
 
 
 def _row_number(text: str) -> int:
@@ -214,7 +271,7 @@ def _run(options: argparse.Namespace, sources: List[IO[bytes]], target: IO[bytes
     progress = Progress(is_shown, "line" if is_encode else "document")
     documents = progress.count(rows)
     if options.command == "sort":
-        documents = iter(sorted(documents, key=Document.key))
+        documents = sorted_documents(documents, options.memory)
     written: Dict[str, Callable[[Document], bytes]] = {
         "encode": stored, "decode": line_of, "sort": stored, "merge": stored,
         "get": lambda document: member_line(document, options.name),
