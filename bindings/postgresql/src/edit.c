@@ -197,7 +197,7 @@ Datum pg_kohiblad_insert(PG_FUNCTION_ARGS) {
     PG_RETURN_POINTER(edited(document, steps, KOHIBLAD_INSERT, value));
 }
 
-/* Names that go, sorted. */
+/* Names that go. */
 typedef struct Names {
     Bytes *at;
     size_t count;
@@ -209,17 +209,29 @@ static int compare_names(const void *left, const void *right) {
     return order ? order : (l->size > r->size) - (l->size < r->size);
 }
 
+/* Whether a name is among names in order. */
 static bool is_among(Names names, Bytes name) {
     return names.count && bsearch(&name, names.at, names.count, sizeof name, compare_names);
 }
 
-/* Whether a child goes: by its key, or as an item that is a text. */
-static bool is_named(Names names, Bytes document, struct kohiblad_place key, Part value) {
-    if (key.status == KOHIBLAD_OK) return is_among(names, part_at(document, key).payload);
-    return value.type == KOHIBLAD_TYPE_STRING && is_among(names, value.payload);
+static uint32_t pick_others(const uint8_t *bytes, size_t size, const uint8_t *names,
+                            size_t names_size, size_t depth, uint8_t *out, size_t room,
+                            size_t *length) {
+    return kohiblad_pick(bytes, size, names, names_size, KOHIBLAD_OTHERS, depth, out, room, length);
 }
 
-/* Gathers the children that stay; whether any goes. */
+/* An object without the members that are named, or as it was if there are none. */
+static struct varlena *without_members(struct varlena *given, Names names) {
+    Bytes document = bytes_of(given);
+    Rows *rows = new_rows();
+    for (size_t i = 0; i < names.count; i++) add_text(rows, names.at[i]);
+    struct varlena *listed = array_of_rows(rows);
+    struct varlena *result = made_of_two(pick_others, document, bytes_of(listed));
+    pfree(listed);
+    return kind_of(bytes_of(result)).count == kind_of(document).count ? given : result;
+}
+
+/* Gathers the items that stay; whether a text among them goes. */
 static bool gather_others(Bytes document, Names names, Rows *rows) {
     struct kohiblad_cursor cursor;
     struct kohiblad_place key, place;
@@ -229,13 +241,11 @@ static bool gather_others(Bytes document, Names names, Rows *rows) {
         CHECK_FOR_INTERRUPTS();
         status = kohiblad_next(document.at, document.size, &cursor, &key, &place);
         if (status != KOHIBLAD_OK) break;
-        Part value = part_at(document, place);
-        if (is_named(names, document, key, value)) {
+        Part item = part_at(document, place);
+        if (item.type == KOHIBLAD_TYPE_STRING && is_among(names, item.payload))
             any_goes = true;
-            continue;
-        }
-        if (key.status == KOHIBLAD_OK) add_row(rows, part_at(document, key).payload);
-        add_part(rows, value);
+        else
+            add_part(rows, item);
     }
     if (status != KOHIBLAD_NONE) refuse(status, ERRCODE_DATA_CORRUPTED);
     return any_goes;
@@ -244,11 +254,11 @@ static bool gather_others(Bytes document, Names names, Rows *rows) {
 static Datum without(struct varlena *given, Names names) {
     Bytes document = bytes_of(given);
     if (is_scalar(document)) refuse_edit("cannot delete from scalar");
+    if (kind_of(document).kind == KOHIBLAD_OBJECT) PG_RETURN_POINTER(without_members(given, names));
     if (names.count) qsort(names.at, names.count, sizeof *names.at, compare_names);
     Rows *rows = new_rows();
     if (!gather_others(document, names, rows)) PG_RETURN_POINTER(given);
-    bool is_list = kind_of(document).kind == KOHIBLAD_ARRAY;
-    PG_RETURN_POINTER(is_list ? array_of_rows(rows) : object_of_rows(rows));
+    PG_RETURN_POINTER(array_of_rows(rows));
 }
 
 PG_FUNCTION_INFO_V1(pg_kohiblad_delete);
