@@ -25,6 +25,8 @@ mod items;
 #[cfg(test)]
 mod lookup;
 #[cfg(test)]
+mod names;
+#[cfg(test)]
 mod no_requests;
 #[cfg(test)]
 mod queue;

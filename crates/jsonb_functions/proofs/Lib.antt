@@ -23,3 +23,6 @@ pub mod PathStepLaws
 pub mod FilterTextLaws
 pub mod PathDocumentLaws
 pub mod PathLaws
+pub mod NameLaws
+pub mod PointerLaws
+pub mod NameListLaws

@@ -109,7 +109,7 @@ stop_more : (q : ℕ → Bool) (c : ℕ) (cs : List ℕ) (b : Bool) → q c ≡ 
 stop_more q c cs true e h = rw (e, one-add) h
 stop_more q c cs false e h = rw e e
 
-back_stops : (q : ℕ → Bool) (cs : List ℕ) → StopsAt q (drop (prefix_len q cs) cs)
+pub back_stops : (q : ℕ → Bool) (cs : List ℕ) → StopsAt q (drop (prefix_len q cs) cs)
 back_stops q [] = tt
 back_stops q (c ∷ cs) = stop_more q c cs (q c) refl (back_stops q cs)
 

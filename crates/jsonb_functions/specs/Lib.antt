@@ -26,3 +26,7 @@ pub mod Stripped
 pub mod StripSource
 pub mod TopKeys
 pub mod Words
+pub mod NameList
+pub mod NamedSteps
+pub mod Names
+pub mod Pointer
