@@ -8,10 +8,11 @@ ghost use Rattle.jsonb_functions.specs.Words.{IsStep, IsWord, IsWritten, PathTex
 ghost use Rattle.jsonb_functions.specs.Words.{ReadsStep, SelectorView, StopsAt, Tree, all_are};
 ghost use Rattle.jsonb_functions.specs.Words.{bound_in, comparison_in, from_end_of, is_in_name};
 ghost use Rattle.jsonb_functions.specs.Words.{is_in_word, is_not, is_space, item_at, member_of};
-ghost use Rattle.jsonb_functions.specs.Words.{node_tree, number_in, path_view, place_in, range_in};
+ghost use Rattle.jsonb_functions.specs.Words.{node_tree, path_view, place_in, range_in};
 ghost use Rattle.jsonb_functions.specs.Words.{scalar_tree, selector_view, single_step};
 ghost use Rattle.jsonb_functions.specs.Words.{single_steps, step_view, tree_of};
 
+use crate::digits::read_number;
 use crate::filter::{Comparison, Condition};
 use crate::path::Step;
 use crate::selection::{Bound, Selector};
@@ -284,27 +285,6 @@ fn bound_from_end(number: usize) -> Bound
     } else {
         Bound::FromEnd(number - 1)
     }
-}
-
-// The number of decimal digits, or the greatest of 64 bits if it exceeds that.
-fn read_number(digits: &[u8]) -> Option<usize>
-    ensures { result ≡ number_in digits.now }
-{
-    if digits.is_empty() {
-        return None;
-    }
-    let mut number: usize = 0;
-    let mut left = digits;
-    while let [digit, rest @ ..] = left {
-        if !digit.is_ascii_digit() {
-            return None;
-        }
-        number = number
-            .saturating_mul(10)
-            .saturating_add((*digit - b'0') as usize);
-        left = rest;
-    }
-    Some(number)
 }
 
 // A filter after its question mark, and what is after it.
