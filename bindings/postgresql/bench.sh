@@ -3,8 +3,9 @@
 #
 #     bindings/postgresql/bench.sh [ROUNDS]
 #
-# Each time is what \timing of psql reports: the median of ROUNDS (5) rounds, in which both types
-# take turns. tests/server.sh has the settings that are needed.
+# Each time is what \timing of psql reports: the least of ROUNDS (5) rounds, in which both types
+# take turns, so that other work on the machine matters little. tests/server.sh has the settings
+# that are needed.
 set -euo pipefail
 folder=$(cd "$(dirname "$0")" && pwd)
 . "$folder/tests/server.sh"
@@ -16,21 +17,24 @@ open_server shared_buffers=512MB work_mem=256MB maintenance_work_mem=256MB jit=o
 # The milliseconds of a command.
 milliseconds() { psql -At -c '\timing on' -c "$1" | sed -n 's/^Time: \([0-9.]*\) ms.*/\1/p'; }
 
-median() { sort -n | awk '{ all[NR] = $1 } END { printf "%.0f", all[int((NR + 1) / 2)] }'; }
+least() { sort -n | awk 'NR == 1 { printf "%.0f", $1 }'; }
 
-# One line of the table: TABLE and TYPE in the command become those of each type.
+# One line of the table, of what a command takes, and a command after it that is not timed. TYPE in
+# them and in the name becomes the name of each type. jsonb has a command of its own if it is given.
 measure() {
-    local name=$1 command=$2 after=${3:-} type round
+    local name=$1 command=$2 after=${3:-} command_of_jsonb=${4:-$2} type round asked
     : > "$scratch/jsonb.times"
     : > "$scratch/kohiblad.times"
     for ((round = 0; round < rounds; round++)); do
         for type in jsonb kohiblad; do
-            command_of_type=${command//TYPE/$type}
-            milliseconds "$command_of_type" >> "$scratch/$type.times"
+            asked=$command
+            [ $type = kohiblad ] || asked=$command_of_jsonb
+            milliseconds "${asked//TYPE/$type}" >> "$scratch/$type.times"
             [ -z "$after" ] || psql -c "${after//TYPE/$type}"
         done
     done
-    echo "| $name | $(median < "$scratch/kohiblad.times") | $(median < "$scratch/jsonb.times") |"
+    echo "| ${name//TYPE/kohiblad} | $(least < "$scratch/kohiblad.times") |" \
+        "$(least < "$scratch/jsonb.times") |"
 }
 
 psql << SQL
@@ -46,6 +50,9 @@ CREATE TABLE in_kohiblad AS SELECT line::kohiblad AS doc FROM texts;
 VACUUM ANALYZE;
 SQL
 
+# A query that makes the value of an expression for all rows.
+in_all() { echo "SELECT count(it) FROM (SELECT $1 AS it FROM in_TYPE OFFSET 0) s"; }
+
 sizes=$(psql -At -F ' | ' -c "SELECT (SELECT sum(pg_column_size(doc)) / $rows FROM in_kohiblad),
                                      (SELECT sum(pg_column_size(doc)) / $rows FROM in_jsonb)")
 echo "| 100,000 rows, ms | kohiblad | jsonb |"
@@ -53,6 +60,7 @@ echo "|---|---|---|"
 measure 'load: texts to documents' \
     'CREATE TABLE loaded AS SELECT line::TYPE AS doc FROM texts' 'DROP TABLE loaded'
 measure "\`doc ->> 'id'\`" "SELECT sum((doc ->> 'id')::int) FROM in_TYPE"
+measure "\`doc #> '{tags,0}'\`" "$(in_all "doc #> '{tags,0}'")"
 measure 'text back: `doc::text`' 'SELECT sum(length(doc::text)) FROM in_TYPE'
 measure "index built on \`doc -> 'name'\`" \
     "CREATE INDEX built ON in_TYPE ((doc -> 'name'))" 'DROP INDEX built'
@@ -65,13 +73,22 @@ measure "\`ORDER BY doc -> 'name'\`" \
 measure "\`GROUP BY doc -> 'city'\`" \
     "SELECT count(*) FROM (SELECT doc -> 'city', count(*) FROM in_TYPE GROUP BY 1) s"
 measure '`SELECT DISTINCT doc`' 'SELECT count(*) FROM (SELECT DISTINCT doc FROM in_TYPE) s'
-in_all() { echo "SELECT count(it) FROM (SELECT $1 AS it FROM in_TYPE OFFSET 0) s"; }
 measure "\`doc @> '{\"city\": \"city 7\"}'\`" "$(in_all "doc @> '{\"city\": \"city 7\"}'")"
 measure "\`doc @> '{\"tags\": [\"t3\"]}'\`" "$(in_all "doc @> '{\"tags\": [\"t3\"]}'")"
 measure "\`doc ? 'name'\`" "$(in_all "doc ? 'name'")"
 measure "\`doc \|\| '{\"sold\": 1}'\`" "$(in_all "doc || '{\"sold\": 1}'")"
 measure "\`doc - 'name'\`" "$(in_all "doc - 'name'")"
 measure "\`TYPE_set(doc, '{tags,0}', '1')\`" "$(in_all "TYPE_set(doc, '{tags,0}', '1')")"
+measure "\`TYPE_insert(doc, '{tags,0}', '1')\`" "$(in_all "TYPE_insert(doc, '{tags,0}', '1')")"
+measure "\`doc #- '{tags,0}'\`" "$(in_all "doc #- '{tags,0}'")"
+measure "\`TYPE_strip_nulls(doc)\`" "$(in_all 'TYPE_strip_nulls(doc)')"
+measure "\`TYPE_merge_patch(doc, '{\"name\": null, \"sold\": 1}')\`" \
+    "$(in_all "TYPE_merge_patch(doc, '{\"name\": null, \"sold\": 1}')")" '' \
+    "$(in_all "(doc - 'name') || '{\"sold\": 1}'")"
+measure "\`TYPE_path_query(doc, '\$.tags[*]')\`" \
+    "SELECT count(*) FROM in_TYPE, TYPE_path_query(doc, '\$.tags[*]')"
+measure "\`TYPE_array_elements(doc -> 'tags')\`" \
+    "SELECT count(*) FROM in_TYPE, TYPE_array_elements(doc -> 'tags')"
 measure "\`doc @@ '\$.price > 100'\`" "$(in_all "doc @@ '\$.price > 100'")"
 measure 'GIN index built' 'CREATE INDEX built ON in_TYPE USING gin (doc)' 'DROP INDEX built'
 measure 'GIN index built, `TYPE_path_ops`' \
