@@ -23,6 +23,7 @@ from typing import (Any, Dict, Iterable, Iterator, List, Optional, Protocol, Seq
 
 from . import _library as library
 from ._document import Document
+from ._encode import DEPTH
 
 __all__ = ["Column"]
 
@@ -105,8 +106,8 @@ def _destructor(struct: _Struct, name: bytes) -> Any:
 _destroy_schema = _destructor(_Schema, _SCHEMA_NAME)
 _destroy_array = _destructor(_Array, _ARRAY_NAME)
 # The order of the rows, by addresses.
-_sort = library._export("sort", ctypes.c_uint32, c_void_p, c_size_t, c_void_p, c_size_t, c_void_p,
-                        c_size_t)
+_sort = library._export("sort_within", ctypes.c_uint32, c_void_p, c_size_t, c_void_p, c_size_t,
+                        c_size_t, c_void_p, c_size_t)
 
 
 def _capsule(it: Any, name: bytes, destroy: Any) -> Any:
@@ -235,12 +236,12 @@ class Column(Sequence[Optional[Document]]):
     def sorted_order(self) -> List[int]:
         """The numbers of the rows, in the order of the documents; missing ones are last.
 
-        Rows that are not documents come after all that are.
+        Rows that are not documents of at most ``DEPTH`` levels come after all that are.
         """
         order = (c_size_t * max(self._length, 1))()
         last = self._offsets[self._first + self._length]
         status = _sort(self._data, last, ctypes.addressof(self._offsets) + 8 * self._first,
-                       self._length + 1, order, self._length)
+                       self._length + 1, DEPTH, order, self._length)
         if status != library.OK:
             raise library.error_of(status)
         rows = list(order[:self._length])
