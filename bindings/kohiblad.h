@@ -212,7 +212,8 @@ static inline bool kohiblad_check(const uint8_t *bytes, size_t size, size_t dept
 
 /* Compares byte strings by their meaning, with the result -1, 0 or 1: documents of at most this
  * depth compare by their values and are less than all other bytes, which compare as bytes. So a
- * document that nests deeper than `depth` levels compares by its bytes. The order is total. */
+ * document that nests deeper than `depth` levels compares by its bytes. 5 and 5.0 are equal. The
+ * order is total. */
 static inline int32_t kohiblad_compare_within(const uint8_t *left, size_t left_size,
     const uint8_t *right, size_t right_size, size_t depth)
     KOHIBLAD_INLINE("kohiblad_compare_within");

@@ -472,7 +472,7 @@ static void pick_within(struct block b, struct block other, bool shallow, bool a
     if (!shallow || depth < 1) {
         assert(status == KOHIBLAD_INVALID_JSONB);
     } else if (status == KOHIBLAD_OK) {
-        assert(kohiblad_is_canonical(out.at, length));
+        assert(kohiblad_is_canonical_within(out.at, length, SIZE_MAX));
         bool has_a = kohiblad_find(b.at, b.size, a + 8, 1).status == KOHIBLAD_OK;
         status = kohiblad_find(out.at, length, a + 8, 1).status;
         assert((status == KOHIBLAD_OK) == (has_a && others == KOHIBLAD_NAMED));
