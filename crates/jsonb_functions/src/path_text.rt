@@ -52,8 +52,8 @@ pub fn read_path_text<'a>(alloc: Global, text: &'a str) -> Result<Option<Vec<Sel
     Ok(Some(path))
 }
 
-/// The steps of a path without wildcards, ranges and filters, as `get_path` and `edit_document` take
-/// them. `None` if it has any; `OutOfMemory`, the only error, if an allocation fails.
+/// The steps of a path without wildcards, ranges and filters, as `get_path` and `edit_document`
+/// take them. `None` if it has any; `OutOfMemory`, the only error, if an allocation fails.
 pub fn steps_of_path<'a>(
     alloc: Global,
     path: &[Selector<'a>],

@@ -4,7 +4,7 @@ use Rattle.std.proofs.Common.{if◌then◌else◌, nat_lt, min, Bool, true, fals
 use Rattle.std.proofs.Common.{length}
 use Rattle.std.proofs.Common.{map, flat_map, take, drop, slice_get, Option, None, Some, option_map}
 use Rattle.std.proofs.Common.{Result, Ok, Err, IfSome, refl, sym, ap, subst, ◌∙◌, inl, inr, arith}
-use Rattle.std.proofs.Common.{length-drop}
+use Rattle.std.proofs.Common.{length-drop, get_or}
 use Rattle.std.specs.Prelude.{is_some, option_to_list, nat_eq, ⊤}
 use Rattle.std.specs.Cmp.Lexicographic.{pointwise}
 use Rattle.std.specs.Map.{keys_of, values_of}
@@ -27,6 +27,7 @@ use Rattle.jsonb_codec.specs.Doc.{Doc, IsDocument, Payload, Scalar, type_of}
 use Rattle.jsonb_codec.specs.Parts.{IsPayloadOf}
 use Rattle.jsonb_codec.specs.Word.{header_at, word}
 use Rattle.jsonb.specs.Children.{Pairwise}
+use Rattle.jsonb.specs.EntryTrees.{entry_tree}
 use Rattle.jsonb.specs.Item.{Entry}
 use Rattle.jsonb.specs.Node.{items_of, pair_list, tree_list, value_of_key}
 use Rattle.jsonb.specs.Lookup.{find_pair}
@@ -57,7 +58,10 @@ use Rattle.kohiblad.specs.PathPlaces.{chosen_members, chosen_under, first_child,
 use Rattle.kohiblad.specs.PathPlaces.{has_key, named_child, path_place, path_place_in, place_from}
 use Rattle.kohiblad.specs.PathPlaces.{places_at, selected_from, selected_in, selected_places, step_selector}
 use Rattle.kohiblad.specs.PathPlaces.{value_at, whole_place, whole_under}
-use Rattle.kohiblad.specs.PlaceWalks.{AreParts, IsPart}
+use Rattle.kohiblad.specs.PathCalls.{found_answer}
+use Rattle.kohiblad.specs.declared.places.KohibladPlace.{KohibladPlace}
+use Rattle.kohiblad.specs.PlaceWalks.{AreParts, IsPart, keeps, walk_places}
+use Rattle.kohiblad.specs.declared.path_places.PlaceWalk.{PlaceWalk}
 use Rattle.kohiblad.specs.Places.{entry_there, is_name, place_of_item, item_under, member_places}
 use Rattle.kohiblad.specs.Places.{member_there, member_under, part_place, part_start, place_at}
 use Rattle.kohiblad.specs.Places.{some_place}
@@ -663,11 +667,62 @@ parts_held bytes (place ∷ places) [] held = absurd held
 parts_held bytes (place ∷ places) (t ∷ ts) held =
     ((t, held.0.0, held.0.1), parts_held bytes places ts held.1)
 
-pub parts_at : (s : Selector) (bytes : List ℕ) (place : Place) → IsPart bytes place
+parts_at : (s : Selector) (bytes : List ℕ) (place : Place) → IsPart bytes place
     → AreParts bytes (places_at s bytes place)
 parts_at s bytes place part =
     parts_held bytes (places_at s bytes place) (children_at s part.0)
     (selector_held s bytes place part.0 (part.1, part.2))
+
+pub walk_parts : (s : Selector) (bytes : List ℕ) (place : Place) (walk : PlaceWalk)
+    → IsPart bytes place → walk_places bytes place walk ≡ places_at s bytes place
+    → AreParts bytes (walk_places bytes place walk)
+walk_parts s bytes place walk part e =
+    subst (AreParts bytes) (sym e) (parts_at s bytes place part)
+
+-- The places to which the first step of a path leads are those from which the others go on.
+pub places_first : (path : List Selector) (s : Selector) (bytes : List ℕ) (place : Place)
+    (walk : PlaceWalk) (found : List KohibladPlace) → 1 ≤ length path → get_or path 0 s ≡ s
+    → walk_places bytes place walk ≡ places_at s bytes place
+    → found ++ map found_answer
+    (flat_map (λ next. selected_from (take (length path - 1) (drop 1 path)) bytes next)
+    (walk_places bytes place walk))
+    ≡ found ++ map found_answer (selected_from path bytes place)
+places_first [] s bytes place walk found some first e = absurd (omega (arith, some))
+places_first (x ∷ rest) s bytes place walk found some first e =
+    let fewer : length (x ∷ rest) - 1 ≡ length rest = omega arith in
+    let all : take (length (x ∷ rest) - 1) rest ≡ rest = rw fewer (take-length rest) in
+    ap
+    (λ places. found ++ map found_answer (flat_map
+    (λ next. selected_from (take (length (x ∷ rest) - 1) rest) bytes next) places))
+    (e ∙ ap (λ u. places_at u bytes place) (sym first))
+    ∙ ap
+    (λ later. found ++ map found_answer (flat_map (λ next. selected_from later bytes next)
+    (places_at x bytes place)))
+    all
+
+-- A filter that keeps what is at a place leads on from there.
+kept_place : (f : Place → List Place) (place : Place) (b : Bool) → b ≡ true
+    → flat_map f (if b then place ∷ [] else []) ≡ f place
+kept_place f place b is =
+    ap (λ (k : Bool). flat_map f (if k then place ∷ [] else [])) is ∙ append-nil (f place)
+
+kept_first : (s : Selector) (f : Place → List Place) (bytes : List ℕ) (place : Place)
+    → keeps s bytes place ≡ true → flat_map f (places_at s bytes place) ≡ f place
+kept_first (selectors.Filter condition) f bytes place is =
+    kept_place f place (holds condition (entry_tree (entry_there bytes place))) is
+kept_first s f bytes place is = let never : false ≡ true = is in absurd (cc)
+
+pub kept_on : (path : List Selector) (s : Selector) (bytes : List ℕ) (place : Place)
+    → 1 ≤ length path → get_or path 0 s ≡ s → keeps s bytes place ≡ true
+    → selected_from path bytes place
+    ≡ selected_from (take (length path - 1) (drop 1 path)) bytes place
+kept_on [] s bytes place some first is = absurd (omega (arith, some))
+kept_on (x ∷ rest) s bytes place some first is =
+    let fewer : length (x ∷ rest) - 1 ≡ length rest = omega arith in
+    let all : take (length (x ∷ rest) - 1) rest ≡ rest = rw fewer (take-length rest) in
+    ap (λ u. flat_map (λ next. selected_from rest bytes next) (places_at u bytes place)) first
+    ∙ kept_first s (λ next. selected_from rest bytes next) bytes place is
+    ∙ ap (λ later. selected_from later bytes place) (sym all)
 
 -- A step is no filter.
 step_unfiltered : (s : Step) → IsUnfiltered (step_selector s)

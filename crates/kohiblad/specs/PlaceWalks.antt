@@ -1,11 +1,16 @@
 -- What is left of the places to which a selector leads.
-use Rattle.std.specs.Prelude.{ℕ, List, [], ◌∷◌, ⊤, if◌then◌else◌}
+use Rattle.std.specs.Prelude.{ℕ, List, [], ◌∷◌, ⊤, Bool, false, if◌then◌else◌}
 use Rattle.jsonb_value.specs.Tree.{Tree}
+use Rattle.jsonb.specs.EntryTrees.{entry_tree}
+use Rattle.jsonb_functions.specs.Filter.{holds}
+use Rattle.jsonb_functions.specs.declared.selection.Selector.{Selector}
+use Rattle.jsonb_functions.specs.declared.selection.Selector.TheVariants as selectors
 use Rattle.jsonb.specs.declared.reads.lookup.Place.{Place}
 use Rattle.kohiblad.specs.declared.path_places.PlaceWalk.{PlaceWalk}
 use Rattle.kohiblad.specs.declared.path_places.PlaceWalk.TheVariants as walks
 use Rattle.kohiblad.specs.ChildWalks.{IsWithin, places_left}
 use Rattle.kohiblad.specs.PathPlaces.{HoldsTree}
+use Rattle.kohiblad.specs.Places.{entry_there}
 
 -- The place is inside the bytes, and its entry holds a tree.
 abbrev pub IsPart : List ℕ → Place → Type 0
@@ -20,3 +25,9 @@ AreParts bytes (place ∷ places) = IsPart bytes place × AreParts bytes places
 abbrev pub walk_places : List ℕ → Place → PlaceWalk → List Place
 walk_places bytes place (walks.Itself is_left) = if is_left then place ∷ [] else []
 walk_places bytes place (walks.Children walk) = places_left bytes place walk
+
+-- The selector is a filter that keeps what is at the place.
+abbrev pub keeps : Selector → List ℕ → Place → Bool
+keeps (selectors.Filter condition) bytes place =
+    holds condition (entry_tree (entry_there bytes place))
+keeps s bytes place = false

@@ -1,6 +1,7 @@
 //! The positions of the values to which paths lead.
 
-ghost use Rattle.std.specs.Prelude.{◌≡◌, ◌++◌, ◌<◌, ◌^◌, [], IfErr, IfOk, IfSome, OnOk, Ok, map};
+ghost use Rattle.std.specs.Prelude.{◌≡◌, ◌++◌, ◌<◌, ◌≤◌, ◌^◌, [], IfErr, IfOk, IfSome, OnOk};
+ghost use Rattle.std.specs.Prelude.{Ok, length, map};
 ghost use Rattle.std.specs.Iterator.{YieldsFirstBy};
 ghost use Rattle.jsonb_codec.specs.Word.{header_at};
 ghost use Rattle.jsonb.specs.EntryTrees.{entry_tree};
@@ -10,7 +11,7 @@ ghost use Rattle.kohiblad.specs.PathPlaces.{child_places, children_from, chosen_
 ghost use Rattle.kohiblad.specs.PathPlaces.{chosen_items, chosen_members, has_key};
 ghost use Rattle.kohiblad.specs.PathPlaces.{items_between, named_child, place_from, places_at};
 ghost use Rattle.kohiblad.specs.PathPlaces.{selected_from, step_selector, whole_place};
-ghost use Rattle.kohiblad.specs.PlaceWalks.{IsPart, walk_places};
+ghost use Rattle.kohiblad.specs.PlaceWalks.{IsPart, keeps, walk_places};
 ghost use Rattle.kohiblad.specs.PathCalls.{found_answer};
 ghost use Rattle.kohiblad.specs.Words.{CanMove, Error, IsChildIn, IsPlaceIn, child_at_cursor};
 ghost use Rattle.kohiblad.specs.Words.{entry_there};
@@ -67,7 +68,8 @@ pub fn append_selected(
         ≡ found.old.items ++ map found_answer (selected_from path.now bytes.now place)) }
     ensures memory { IfErr result (λ e. e ≡ Error.OutOfMemory) }
 {
-    let [selector, rest @ ..] = path else {
+    let left = after_filters(bytes, place, path);
+    let [selector, rest @ ..] = left else {
         found.push(place_answer(Ok(Some(place))))?;
         return Ok(());
     };
@@ -76,6 +78,36 @@ pub fn append_selected(
         append_selected(bytes, next, rest, found)?;
     }
     Ok(())
+}
+
+// The steps after those filters at the start of a path that keep what is at a position: so many
+// filters take no stack.
+fn after_filters<'p, 'a>(bytes: &[u8], place: Place, path: &'p [Selector<'a>]) -> &'p [Selector<'a>]
+    requires { IsPart bytes.now place }
+    ensures selects { selected_from path.now bytes.now place
+        ≡ selected_from result.now bytes.now place }
+    ensures fewer { length result.now ≤ length path.now }
+{
+    let mut left = path;
+    while let [selector, rest @ ..] = left {
+        if keeps(bytes, place, selector) {
+            left = rest;
+        } else {
+            return left;
+        }
+    }
+    left
+}
+
+// Whether a selector is a filter that keeps what is at a position.
+fn keeps(bytes: &[u8], place: Place, selector: &Selector<'_>) -> bool
+    requires { IsPart bytes.now place }
+    ensures { result ≡ keeps selector.now bytes.now place }
+{
+    match selector {
+        Selector::Filter(condition) => holds(node_there(bytes, place), condition),
+        _ => false,
+    }
 }
 
 // The positions to which a selector leads from a position.

@@ -25,14 +25,14 @@ use std::str;
 /// Copies the document of the path that a text gives to `out`, and its length in bytes to `length`.
 /// The text is `$`, and then the steps: `.name` is the value of a key, and so is `."any name"`, if
 /// there are points, brackets or question marks in it; `[7]` is an item, `[#-1]` the last one, and
-/// `[#]` none, past the last one. The keys are the text's bytes, without escapes. The document is what
-/// `kohiblad_edit` and `kohiblad_get_path` take: an array with a text for each key and a whole
+/// `[#]` none, past the last one. The keys are the text's bytes, without escapes. The document is
+/// what `kohiblad_edit` and `kohiblad_get_path` take: an array with a text for each key and a whole
 /// number for each item, where -1 is the last one. An index past 2^64 - 1 is stored as that, and
 /// one from the end past 2^63 as -2^63. `InvalidUtf8` if the text is not UTF-8; `OTHER_KIND` if it
-/// is not a path, or one with wildcards, ranges or filters; `InvalidJsonb` if a key has 2^28 bytes or more,
-/// or the path 2^29 steps or more; `OutOfMemory` if an allocation fails; `NO_ROOM` if `out` is
-/// shorter than the document. If the status is not `OK`, `out` is unchanged, and `length` is 0, or
-/// for `NO_ROOM` the length of the document.
+/// is not a path, or one with wildcards, ranges or filters; `InvalidJsonb` if a key has 2^28 bytes
+/// or more, or the path 2^29 steps or more; `OutOfMemory` if an allocation fails; `NO_ROOM` if
+/// `out` is shorter than the document. If the status is not `OK`, `out` is unchanged, and `length`
+/// is 0, or for `NO_ROOM` the length of the document.
 #[unsafe(no_mangle)]
 pub extern "C" fn kohiblad_path_of_text(
     alloc: Global,
