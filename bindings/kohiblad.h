@@ -622,6 +622,19 @@ static inline uint32_t kohiblad_edit(const uint8_t *bytes, size_t size, const ui
 static inline uint32_t kohiblad_path_of_text(const uint8_t *text, size_t size, uint8_t *out,
     size_t room, size_t *length) KOHIBLAD_INLINE("kohiblad_path_of_text");
 
+/* Copies the document of the path that a text gives in a document to `out`. The text is a path as
+ * kohiblad_path_of_text reads it, or names: a JSON pointer (RFC 6901) such as `/a/0`, or a list
+ * such as PostgreSQL's `{a,0,"b c"}`. A name is a key, but in an array of the document `0`, and
+ * other digits that do not begin with `0`, are an index, `-1` is the last item, and `-` is past it.
+ * kohiblad_edit and kohiblad_get_path take the result. INVALID_UTF8 if the text is not UTF-8;
+ * INVALID_JSONB if the bytes are not a document of at most this depth, or as for
+ * kohiblad_path_of_text; OTHER_KIND if the text is none of these, or a path with wildcards or
+ * ranges; OUT_OF_MEMORY if an allocation fails; NO_ROOM if `out` is shorter than the path's
+ * document. */
+static inline uint32_t kohiblad_path_in(const uint8_t *bytes, size_t size, const uint8_t *text,
+    size_t text_size, size_t depth, uint8_t *out, size_t room, size_t *length)
+    KOHIBLAD_INLINE("kohiblad_path_in");
+
 /* The place of the value at the end of a path. `path` is the document of an array: a text is the
  * key of a member, and a whole number the index of an item, counted from 0, or from -1 at the end.
  * At the end of an empty path is the whole value: all bytes of an array or object, and the payload
@@ -781,6 +794,9 @@ uint32_t kohiblad_export_edit(const uint8_t *bytes, size_t size, const uint8_t *
     uint8_t *out, size_t room, size_t *length) KOHIBLAD_EXPORT("kohiblad_edit");
 uint32_t kohiblad_export_path_of_text(const uint8_t *text, size_t size, uint8_t *out,
     size_t room, size_t *length) KOHIBLAD_EXPORT("kohiblad_path_of_text");
+uint32_t kohiblad_export_path_in(const uint8_t *bytes, size_t size, const uint8_t *text,
+    size_t text_size, size_t depth, uint8_t *out, size_t room, size_t *length)
+    KOHIBLAD_EXPORT("kohiblad_path_in");
 struct kohiblad_place kohiblad_export_get_path(const uint8_t *bytes, size_t size,
     const uint8_t *path, size_t path_size, size_t depth) KOHIBLAD_EXPORT("kohiblad_get_path");
 uint32_t kohiblad_export_select(const uint8_t *bytes, size_t size, const uint8_t *path,
@@ -1171,6 +1187,15 @@ static inline uint32_t kohiblad_path_of_text(const uint8_t *text, size_t size, u
         || !kohiblad_is_apart(out, room, length, text, size))
         return KOHIBLAD_OVERLAP;
     return kohiblad_export_path_of_text(kohiblad_in(text), size, kohiblad_out(out), room, length);
+}
+static inline uint32_t kohiblad_path_in(const uint8_t *bytes, size_t size, const uint8_t *text,
+    size_t text_size, size_t depth, uint8_t *out, size_t room, size_t *length) {
+    if (!kohiblad_is_room(out, room, length)
+        || !kohiblad_is_apart(out, room, length, bytes, size)
+        || !kohiblad_is_apart(out, room, length, text, text_size))
+        return KOHIBLAD_OVERLAP;
+    return kohiblad_export_path_in(kohiblad_in(bytes), size, kohiblad_in(text), text_size, depth,
+        kohiblad_out(out), room, length);
 }
 static inline struct kohiblad_place kohiblad_get_path(const uint8_t *bytes, size_t size,
     const uint8_t *path, size_t path_size, size_t depth) {

@@ -202,6 +202,8 @@ uint32_t kohiblad_edit(const uint8_t *bytes, size_t size, const uint8_t *path, s
     size_t *length);
 uint32_t kohiblad_path_of_text(const uint8_t *text, size_t size, uint8_t *out, size_t room,
     size_t *length);
+uint32_t kohiblad_path_in(const uint8_t *bytes, size_t size, const uint8_t *text, size_t text_size,
+    size_t depth, uint8_t *out, size_t room, size_t *length);
 struct kohiblad_place kohiblad_get_path(const uint8_t *bytes, size_t size, const uint8_t *path,
     size_t path_size, size_t depth);
 uint32_t kohiblad_select(const uint8_t *bytes, size_t size, const uint8_t *path, size_t path_size,

@@ -630,6 +630,10 @@ static void path_within(struct block b, bool shallow, size_t depth) {
     assert(length == size && status == (size > out.size ? KOHIBLAD_NO_ROOM : KOHIBLAD_OK));
     assert(!kohiblad_path_of_text(t.at, t.size, path, ROOM, &length));
     assert(length == size && !memcmp(path, wanted, size));
+    ANSWER(status, out, length,
+           kohiblad_path_in(b.at, b.size, t.at, t.size, depth, out.at, out.size, &length));
+    if (!shallow) assert(status == KOHIBLAD_INVALID_JSONB);
+    else assert(length == size && status == (size > out.size ? KOHIBLAD_NO_ROOM : KOHIBLAD_OK));
     struct block p = copy_of(path, size);
     struct kohiblad_place place = kohiblad_get_path(b.at, b.size, p.at, p.size, depth), one;
     memset(&one, 0, sizeof one);
@@ -649,6 +653,32 @@ static void path_within(struct block b, bool shallow, size_t depth) {
         assert(place.type == 0 && place.offset == 0 && place.length == 0);
     }
     drop(p); drop(out); drop(t);
+}
+
+/* Any bytes as names: the path that they give leads somewhere, or nowhere. */
+static void names_within(struct block b, bool shallow, size_t depth) {
+    static const char letters[] = "//~~01{{}},,\"\"\\-2ab $.[]N\xC3\xA9";
+    struct block t = make(below(9)), out = make(below(64));
+    size_t length;
+    uint32_t status;
+    for (size_t i = 0; i < t.size; i++) t.at[i] = (uint8_t)letters[below(sizeof letters - 1)];
+    if (t.size && below(2)) t.at[0] = '/';
+    if (t.size > 1 && below(2)) t.at[0] = '{', t.at[t.size - 1] = '}';
+    ANSWER(status, out, length,
+           kohiblad_path_in(b.at, b.size, t.at, t.size, depth, out.at, out.size, &length));
+    if (status == KOHIBLAD_OK) {
+        struct block p = copy_of(out.at, length);
+        struct kohiblad_place place = kohiblad_get_path(b.at, b.size, p.at, p.size, depth);
+        if (depth < 1) assert(place.status == KOHIBLAD_INVALID_JSONB);
+        else assert(place.status == KOHIBLAD_OK || place.status == KOHIBLAD_NONE);
+        drop(p);
+    } else if (shallow) {
+        assert(status == KOHIBLAD_NO_ROOM || status == KOHIBLAD_OTHER_KIND
+               || status == KOHIBLAD_INVALID_UTF8);
+    } else {
+        assert(status == KOHIBLAD_INVALID_JSONB || status == KOHIBLAD_INVALID_UTF8);
+    }
+    drop(out); drop(t);
 }
 
 /* The children of a document are what wildcards select, in order. */
@@ -736,6 +766,7 @@ static void answer_functions(struct block b, struct block other, size_t depth, s
     pick_within(b, other, shallow, are, depth, out);
     edit_within(b, other, shallow, is_other, depth, out);
     path_within(b, shallow, depth);
+    names_within(b, shallow, depth);
     select_within(b, shallow, depth, kohiblad_kind(b.at, b.size));
 }
 

@@ -10,6 +10,7 @@ import collections
 import ctypes
 import operator
 import random
+import re
 import struct
 import sys
 from fractions import Fraction
@@ -559,6 +560,84 @@ def path_text(chance, path):
     return ("$" + "".join(written(chance, step) for step in path)).encode()
 
 
+# Names that are an index, or nearly one, and names that have to be escaped or quoted.
+NAMES = KEYS + ["0", "1", "2", "-", "-1", "-2", "-0", "00", "01", "1a", "+1", str(2**64),
+                str(-2**64), "~", "a/b", "~1", "x y", "\t", '"', "\\", "a,b", "{}", "null", "NuLl"]
+
+
+def step_of(name, value):
+    """The step that a name is at a value: a key, but in an array."""
+    if isinstance(value, list):
+        if name == "-":
+            return NO_LIMIT
+        if re.fullmatch("0|[1-9][0-9]*", name):
+            return min(int(name), NO_LIMIT)
+        if re.fullmatch("-[1-9][0-9]*", name):
+            return max(int(name), -2**63)
+    return name
+
+
+def steps_of(names, value):
+    steps = []
+    for name in names:
+        steps.append(step_of(name, value))
+        kind = "key" if isinstance(steps[-1], str) else "index"
+        value, = children(value, (kind, steps[-1])) or [None]
+    return steps
+
+
+def quoted(chance, name):
+    """A name in a list as PostgreSQL writes an array of texts, at times with needless quotes."""
+    if name and name.upper() != "NULL" and not re.search(r'[\s{},"\\]', name):
+        if chance.random() < 0.8:
+            return name
+    return '"%s"' % re.sub(r'["\\]', r"\\\g<0>", name)
+
+
+def names_text(chance, names):
+    """A JSON pointer or a list of these names."""
+    if chance.random() < 0.5:
+        return "".join("/" + it.replace("~", "~0").replace("/", "~1") for it in names)
+    return "{%s}" % ",".join(quoted(chance, it) for it in names)
+
+
+def any_names(chance, value):
+    """Names that are likely to lead somewhere."""
+    names = []
+    while chance.random() < 0.8:
+        others = NAMES
+        if isinstance(value, list) and chance.random() < 0.8:
+            others = [str(it) for it in range(-len(value) - 1, len(value) + 1)]
+        elif isinstance(value, dict) and value and chance.random() < 0.8:
+            others = list(value)
+        names.append(chance.choice(others))
+        steps = steps_of(names[-1:], value)
+        kind = "key" if isinstance(steps[0], str) else "index"
+        value, = children(value, (kind, steps[0])) or [None]
+    return names
+
+
+def asks_names(chance, left, right):
+    names, depth = any_names(chance, left), max(depth_of(left), 1)
+    text = names_text(chance, names).encode()
+    answer = bytes_of("path_in", document(left), text, SIZE(depth))
+    assert answer == (OK, path_document(steps_of(names, left), stored=False)), text
+    if depth_of(left) > 0:
+        answer = bytes_of("path_in", document(left), text, SIZE(depth_of(left) - 1))
+        assert answer == (INVALID_JSONB, b""), text
+    cut = text[:-1] if text.startswith(b"{") else text + b"~"
+    answer = bytes_of("path_in", document(left), cut, SIZE(depth))
+    assert answer == (OTHER_KIND, b""), cut
+
+
+def asks_path_in(chance, left, right):
+    """Paths that are texts of their own are the same in each document."""
+    steps = [("key" if isinstance(it, str) else "index", it) for it in any_path(chance, left)]
+    text = path_text(chance, steps)
+    answer = bytes_of("path_in", document(left), text, SIZE(depth_of(left)))
+    assert answer == bytes_of("path_of_text", text), text
+
+
 def asks_contains(chance, left, right):
     wanted = contains(left, right)
     product = size_of(left) * size_of(right)
@@ -727,7 +806,8 @@ def asks_keys(chance, left, right):
 QUESTIONS = [asks_contains, asks_contains, asks_exists, asks_concat, asks_merge_patch,
              asks_strip_nulls, asks_select, asks_select, asks_get_path, asks_edit, asks_edit,
              asks_edit, asks_no_path, asks_pick, asks_pick, asks_object_keys, asks_array_sets,
-             asks_array_sets, asks_comparable_key, asks_member_key, asks_no_names, asks_keys]
+             asks_array_sets, asks_comparable_key, asks_member_key, asks_no_names, asks_keys, asks_names,
+             asks_names, asks_path_in]
 
 
 def main():

@@ -101,6 +101,10 @@ int main(void) {
     assert(kohiblad_path_of_text(NULL, 0, NULL, 0, &length) == KOHIBLAD_OTHER_KIND && length == 0);
     assert(kohiblad_path_of_text((const uint8_t *)"$", 1, NULL, 0, &length) == KOHIBLAD_NO_ROOM);
     assert(length == 4);
+    assert(kohiblad_path_in(NULL, 0, NULL, 0, 9, NULL, 0, &length) == KOHIBLAD_INVALID_JSONB);
+    assert(length == 0);
+    assert(kohiblad_path_in(null, sizeof null, NULL, 0, 0, NULL, 0, &length) == KOHIBLAD_NO_ROOM);
+    assert(length == 4);
     assert(kohiblad_get_path(NULL, 0, NULL, 0, 9).status == KOHIBLAD_INVALID_JSONB);
     assert(kohiblad_get_path(null, sizeof null, NULL, 0, 9).status == KOHIBLAD_INVALID_JSONB);
     assert(kohiblad_get_path(null, sizeof null, null, sizeof null, 0).status
@@ -162,6 +166,8 @@ int main(void) {
     assert(kohiblad_index_keys((uint8_t *)keys, 8, 0, keys, 8, &length) == KOHIBLAD_OVERLAP);
     assert(kohiblad_top_keys(null, 8, 0, keys, 8, (size_t *)keys) == KOHIBLAD_OVERLAP);
     assert(kohiblad_path_of_text(block, 8, block, 64, &length) == KOHIBLAD_OVERLAP);
+    assert(kohiblad_path_in(block, 8, null, 8, 0, block, 64, &length) == KOHIBLAD_OVERLAP);
+    assert(kohiblad_path_in(null, 8, block, 8, 0, block, 64, &length) == KOHIBLAD_OVERLAP);
     struct kohiblad_place places[2] = { { 0, 0, 0, 0 }, { 0, 0, 0, 0 } };
     assert(kohiblad_select((uint8_t *)places, 8, null, 8, 0, places, 2, &length)
            == KOHIBLAD_OVERLAP);

@@ -26,7 +26,7 @@ void *__wrap_realloc(void *block, size_t size) {
 
 static const char text[] = "{\"a\":1,\"b\":[true,\"\\u00e9\"],"
                            "\"c\":{\"d\":\"e\",\"f\":-12.5,\"g\":[[],{}]}}";
-enum { ROOM = 1024, CALLS = 37 };
+enum { ROOM = 1024, CALLS = 39 };
 static uint8_t document[ROOM], pairs[ROOM];
 static size_t size, offsets[5], pairs_size, order[4];
 static uint64_t keys[ROOM / 8];
@@ -36,7 +36,7 @@ static size_t path_size, names_size;
 
 static bool takes_memory(int which) {
     return which < 7 || which == 13 || which == 14 || (which > 16 && which < 22)
-        || (which > 23 && which < 36);
+        || (which > 23 && which < 38);
 }
 
 static uint32_t call(int which, uint8_t *out, size_t *length) {
@@ -103,6 +103,11 @@ static uint32_t call(int which, uint8_t *out, size_t *length) {
     case 34: return kohiblad_array_overlap(document, size, names, names_size, 8).status;
     case 35:
         return kohiblad_member_key(document, size, names, names_size, 8, out, ROOM, length);
+    case 36:
+        return kohiblad_path_in(document, size, (const uint8_t *)"/c/g/0", 6, 8, out, ROOM, length);
+    case 37:
+        return kohiblad_path_in(document, size, (const uint8_t *)"{c,\"g\",0}", 9, 8, out, ROOM,
+                                length);
     default: return kohiblad_key_cut(document, size, 8, out, ROOM, length);
     }
 }

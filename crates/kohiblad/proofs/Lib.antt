@@ -20,3 +20,4 @@ pub mod ScalarValues
 pub mod Walks
 pub mod WithinLaws
 pub mod Yielded
+pub mod NamedPathLaws

@@ -6,6 +6,7 @@ pub mod Parts
 pub mod Rows
 pub mod SortOrder
 pub mod KindAnswer
+pub mod NamedPaths
 pub mod Output
 pub mod Children
 pub mod Scalars

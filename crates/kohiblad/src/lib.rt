@@ -15,6 +15,7 @@ mod key;
 mod key_parts;
 mod key_sink;
 mod laws;
+mod named_paths;
 mod names;
 mod path_places;
 mod paths;

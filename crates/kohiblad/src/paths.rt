@@ -48,8 +48,8 @@ pub extern "C" fn kohiblad_path_of_text(
     }
 }
 
-// Copies out the document of the path that a text gives.
-fn write_path(alloc: Global, text: &str, out: &mut [u8], length: &mut usize) -> u32
+/// Copies out the document of the path that a text gives.
+pub fn write_path(alloc: Global, text: &str, out: &mut [u8], length: &mut usize) -> u32
     ensures { IsPathTextRead text.now out.old out.new length.new result }
 {
     match steps_of_text(alloc, text) {

@@ -1,0 +1,109 @@
+//! Paths whose steps are names, which a document makes keys or indexes.
+
+ghost use Rattle.std.specs.Prelude.{◌≡◌, IfErr, IfOk, List, MatchOption, Some, map, ℕ};
+ghost use Rattle.std.specs.Prelude.{string_bytes};
+ghost use Rattle.jsonb_functions.specs.Names.{names_of};
+ghost use Rattle.jsonb_functions.specs.NamedSteps.{steps_by};
+ghost use Rattle.kohiblad.specs.NamedPaths.{GivesNames, IsPathIn, IsPathInTree, IsPathMade};
+ghost use Rattle.kohiblad.specs.NamedPaths.{IsPathOf};
+ghost use Rattle.kohiblad.specs.Words.{Error, document_tree, meaning_within};
+
+use crate::answer::{code, hand_over_made, refuse};
+use crate::paths::write_path;
+use jsonb::{Document, Error, RawJsonb};
+use jsonb_comparable::CheckedBytes;
+use jsonb_functions::{document_of_path, read_name_list, read_pointer, steps_of_names};
+use std::alloc::Global;
+use std::str;
+
+/// Copies the document of the path that a text gives in a document to `out`, and its length in
+/// bytes to `length`. The text is a path as `kohiblad_path_of_text` reads it, or names: a JSON
+/// pointer (RFC 6901) such as `/a/0`, or a list such as PostgreSQL's `{a,0,"b c"}`. A name is a key,
+/// but in an array of the document `0`, and other digits that do not begin with `0`, are an index,
+/// `-1` is the last item, and `-` is past it. `kohiblad_edit` and `kohiblad_get_path` take the
+/// result. `InvalidUtf8` if the text is not UTF-8; `InvalidJsonb` if the bytes are not a document of
+/// at most this depth, or as for `kohiblad_path_of_text`; `OTHER_KIND` if the text is none of these,
+/// or a path with wildcards or ranges; `OutOfMemory` if an allocation fails; `NO_ROOM` if `out` is
+/// shorter than the path's document. If the status is not `OK`, `out` is unchanged, and `length` is
+/// 0, or for `NO_ROOM` the length of the document. A scalar has depth 0, an array or object one more
+/// than its deepest child, and at least 1. Deeper levels are not examined.
+#[unsafe(no_mangle)]
+pub extern "C" fn kohiblad_path_in(
+    alloc: Global,
+    bytes: &[u8],
+    text: &[u8],
+    depth: usize,
+    out: &mut [u8],
+    length: &mut usize,
+) -> u32
+    ensures { IsPathIn depth bytes.now text.now out.old out.new length.new result }
+{
+    match str::from_utf8(text) {
+        Ok(text) => write_path_within(alloc, bytes, text, depth, out, length),
+        Err(_) => refuse(code(Error::InvalidUtf8), out, length),
+    }
+}
+
+// Copies out the document of the path that a text gives in bytes, if they are a document.
+fn write_path_within(
+    alloc: Global,
+    bytes: &[u8],
+    text: &str,
+    depth: usize,
+    out: &mut [u8],
+    length: &mut usize,
+) -> u32
+    ensures { IsPathOf (meaning_within depth bytes.now) text.now out.old out.new length.new result }
+{
+    match CheckedBytes::within(RawJsonb::new(bytes), depth) {
+        CheckedBytes::Document(document) => write_path_in(alloc, document, text, out, length),
+        CheckedBytes::Other(_) => refuse(code(Error::InvalidJsonb), out, length),
+    }
+}
+
+// Copies out the document of the path that a text gives in a document.
+fn write_path_in(
+    alloc: Global,
+    document: Document<'_>,
+    text: &str,
+    out: &mut [u8],
+    length: &mut usize,
+) -> u32
+    ensures { IsPathInTree (document_tree document.entry) text.now out.old out.new length.new result }
+{
+    match names_of_text(alloc, text) {
+        Ok(Some(names)) => write_named_path(alloc, document, &names, out, length),
+        Ok(None) => write_path(alloc, text, out, length),
+        Err(error) => refuse(code(error), out, length),
+    }
+}
+
+// The names in a text. `None` if it is neither a JSON pointer nor a list.
+fn names_of_text(alloc: Global, text: &str) -> Result<Option<Vec<String>>, Error>
+    ensures ok { IfOk result (λ read. MatchOption read
+        ((names : List (List ℕ)) → GivesNames text.now names → ⊥)
+        (λ names. GivesNames text.now (names_of names))) }
+    ensures memory { IfErr result (λ e. e ≡ Error.OutOfMemory) }
+{
+    match read_pointer(alloc, text)? {
+        Some(names) => Ok(Some(names)),
+        None => read_name_list(alloc, text),
+    }
+}
+
+// Copies out the document of the path that names are in a document.
+fn write_named_path(
+    alloc: Global,
+    document: Document<'_>,
+    names: &[String],
+    out: &mut [u8],
+    length: &mut usize,
+) -> u32
+    ensures { IsPathMade (steps_by (map string_bytes names.now) (Some (document_tree document.entry)))
+        out.old out.new length.new result }
+{
+    match steps_of_names(alloc, document, names) {
+        Ok(steps) => hand_over_made(document_of_path(alloc, &steps), out, length),
+        Err(error) => refuse(code(error), out, length),
+    }
+}
