@@ -218,6 +218,24 @@ class PathTest(FunctionTest):
         self.assertRaises(InvalidTextError, Document.of(5).select, "$.\ud800")
         self.assertRaises(TypeError, Document.of(5).select, 5)
 
+    def test_paths_given_as_names(self):
+        row = Document.of({"": 0, "a/b": [1, {"m~n": 2}], "0": {"x y": 3}})
+        for text, path in (("", []), ("/", [""]), ("/a~1b/0", ["a/b", 0]), ("{}", []),
+                           ("/a~1b/-1/m~0n", ["a/b", -1, "m~n"]), ('{0,"x y"}', ["0", "x y"]),
+                           ('{"",0}', ["", "0"]), ("/a~1b/01/0", ["a/b", "01", "0"]),
+                           ('$."a/b"[#-1]', ["a/b", -1]), (b"/a~1b/-", ["a/b", 2**64 - 1])):
+            self.assertEqual(row.path_of(text), path, text)
+        self.assertEqual(row.get_path(*row.path_of("/a~1b/1/m~0n")), 2)
+        self.assertEqual(row.set(row.path_of("/a~1b/-"), 9).get_path("a/b", 2), 9)
+        self.assertEqual(Document.of([5]).path_of("/" + "9" * 30), [2**64 - 1])
+        self.assertEqual(Document.of(5).path_of("/0"), ["0"])
+        for text in ("a", "/~", "/~2", "{a", "{a,}", "{NULL}", "{a b}", "$[*]", "$.a[0 to 1]"):
+            with self.assertRaises(PathError) as refused:
+                row.path_of(text)
+            self.assertIn("not a path", str(refused.exception))
+        self.assertRaises(InvalidTextError, row.path_of, b"/\xff")
+        self.assertRaises(TypeError, row.path_of, 5)
+
     def test_a_text_that_looks_like_a_document_is_none(self):
         text = bytes(Document.of({"b": None})).decode()
         for row in ({"a": text}, {"a": text, "long": "x" * 5000}):

@@ -246,6 +246,24 @@ class Document:
         places = library.places_of(self._data, bytes_of_text(path))
         return [_child_of(type_, self._data[at:at + size]) for type_, at, size in places]
 
+    def path_of(self, text: Union[str, bytes]) -> List[Step]:
+        """The steps that a text gives in this document, for ``get_path``, ``set`` and the others.
+
+        >>> row = Document.parse('{"id": 7, "tags": ["a", {"b/c": null}]}')
+        >>> row.path_of("/tags/1/b~1c"), row.path_of("{tags,-1}"), row.path_of("$.tags[0]")
+        (['tags', 1, 'b/c'], ['tags', -1], ['tags', 0])
+        >>> row.set(row.path_of("/tags/-"), "c").get_path("tags", -1)
+        'c'
+
+        The text is a JSON pointer (RFC 6901), a list as PostgreSQL writes an array of texts, or a
+        path as for ``select`` that leads to one value. Of a pointer and a list this document
+        decides which names are keys and which are indexes: a name is a key, but in an array ``0``,
+        and other digits that do not begin with ``0``, are an index, ``-1`` is the last item, and
+        ``-`` is past it, as a great index. PathError: the text is none of these.
+        """
+        path = library.path_of_text(self._data, bytes_of_text(text))
+        return cast(List[Step], _of_checked(path).value())
+
     def _child_at(self, path: Sequence[Step], default: Any) -> Any:
         """As ``get_path``, by a copy of each array and object on the way."""
         child: Child = self

@@ -207,6 +207,7 @@ array_except = _export("array_except", c_uint32, *_BYTES, *_BYTES, c_size_t, *_O
 array_overlap = _export("array_overlap", Truth, *_BYTES, *_BYTES, c_size_t)
 member_key = _export("member_key", c_uint32, *_BYTES, *_BYTES, c_size_t, *_OUT)
 edit = _export("edit", c_uint32, *_BYTES, *_BYTES, c_uint32, *_BYTES, c_size_t, *_OUT)
+path_in = _export("path_in", c_uint32, *_BYTES, *_BYTES, c_size_t, *_OUT)
 select = _export("select", c_uint32, *_BYTES, *_BYTES, c_size_t, *_OUT)
 index_keys = _export("index_keys", c_uint32, *_BYTES, c_size_t, *_OUT)
 top_keys = _export("top_keys", c_uint32, *_BYTES, c_size_t, *_OUT)
@@ -295,6 +296,18 @@ def keys_of(call: Callable[..., int], document: bytes) -> List[int]:
     if room.size == _Room.USUAL_SIZE:
         _spare_rooms.append(room)
     return keys
+
+
+def path_of_text(document: bytes, text: bytes) -> bytes:
+    """The document of the path that a text gives in a document.
+
+    PathError: the text is not a path.
+    """
+    try:
+        return result_of(path_in, 2 * len(text) + 64, document, len(document), text, len(text),
+                         len(document))
+    except PathError as error:
+        raise error_of(error.status, "the text is not a path") from None
 
 
 def places_of(document: bytes, path: bytes) -> List[Tuple[int, int, int]]:
