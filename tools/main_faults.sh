@@ -246,10 +246,15 @@ case $usage in
     'usage: jsonb_column_cli '*) ;;
     *) echo 'help without a usage: FAILED' && failed=1 ;;
 esac
+short=$("$program" -h < "$work/line" 2> "$work/errors")$'\n'
+expect 'short help ends well' $? 0 '' ''
+[ "$short" = "$usage" ] || { echo 'short help: FAILED' && failed=1; }
+"$program" --version > "$work/output" 2> "$work/errors" < "$work/line"
+expect 'version answers no line' $? 0 '' $'jsonb_column_cli 0.7.0\n'
 "$program" --help > /dev/full 2> "$work/errors"
 expect 'help with output full' $? 1 $'jsonb_column_cli: write failed\n' ''
 unknown=$'jsonb_column_cli: unknown argument; try --help\n'
-for arguments in '-h' '--help a' 'a' '--help --help'; do
+for arguments in '-v' '--help a' 'a' '--help --help' '--version a'; do
     # shellcheck disable=SC2086  # the words are arguments
     "$program" $arguments < "$work/line" > "$work/output" 2> "$work/errors"
     expect "arguments: $arguments" $? 2 "$unknown" ''

@@ -5,7 +5,7 @@ ghost use Rattle.jsonb_column_cli.specs.Words.{request_in};
 
 /// What `--help` prints.
 pub const USAGE: &str = "\
-usage: jsonb_column_cli [--help]
+usage: jsonb_column_cli [--help | --version]
 
 Holds a column of documents. Each line of standard input is a command, and is
 answered by one line: `ok` with what the command answers, or `error` with why.
@@ -21,6 +21,9 @@ save              the rows as they are stored, in hexadecimal
 load HEX          these stored rows in place of the others
 ";
 
+/// What `--version` prints.
+pub const VERSION: &str = "jsonb_column_cli 0.7.0\n";
+
 /// What the program is to do.
 #[derive(Clone, Copy, Debug, PartialEq, Eq)]
 pub enum Request {
@@ -28,11 +31,14 @@ pub enum Request {
     Run,
     /// Print the usage.
     Help,
+    /// Print the version.
+    Version,
     /// Refuse its arguments.
     Unknown,
 }
 
-/// The request of the first two arguments: none is `Run`, `--help` alone is `Help`.
+/// The request of the first two arguments: none is `Run`, `--help` or `-h` alone is `Help`, and
+/// `--version` alone is `Version`.
 pub fn request_of(first: Option<String>, second: Option<String>) -> Request
     ensures { result
         ≡ request_in (option_map string_bytes first) (option_map string_bytes second) }
@@ -40,8 +46,11 @@ pub fn request_of(first: Option<String>, second: Option<String>) -> Request
     match (first, second) {
         (None, _) => Request::Run,
         (Some(word), None) => {
-            if word.as_str() == "--help" {
+            let word = word.as_str();
+            if word == "--help" || word == "-h" {
                 Request::Help
+            } else if word == "--version" {
+                Request::Version
             } else {
                 Request::Unknown
             }

@@ -7,7 +7,7 @@ mod command;
 mod run;
 
 use answer_lines::RunError;
-use arguments::{Request, USAGE, request_of};
+use arguments::{Request, USAGE, VERSION, request_of};
 use std::process::ExitCode;
 use std::{env, io};
 
@@ -22,15 +22,21 @@ fn main(rt: HostRuntime) -> ExitCode {
                 Err(error) => report(&rt, error),
             }
         }
-        Ok(Request::Help) => match print!(rt; "{USAGE}") {
-            Ok(()) => ExitCode::SUCCESS,
-            Err(_) => report(&rt, RunError::Write),
-        },
+        Ok(Request::Help) => print(&rt, USAGE),
+        Ok(Request::Version) => print(&rt, VERSION),
         Ok(Request::Unknown) => {
             let _ = eprintln!(rt; "jsonb_column_cli: unknown argument; try --help");
             ExitCode::from(USAGE_STATUS)
         }
         Err(error) => report(&rt, error),
+    }
+}
+
+// Prints a text in place of answers.
+fn print(rt: &HostRuntime, text: &str) -> ExitCode {
+    match print!(rt; "{text}") {
+        Ok(()) => ExitCode::SUCCESS,
+        Err(_) => report(rt, RunError::Write),
     }
 }
 
