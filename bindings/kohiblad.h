@@ -120,8 +120,8 @@ enum kohiblad_kind_number {
     KOHIBLAD_OBJECT = 6
 };
 
-/* The types of entries, as kohiblad_part and kohiblad_find return them, and kohiblad_of_part takes
- * them. */
+/* The types of entries, as kohiblad_find_index and kohiblad_find_key return them, and kohiblad_copy
+ * takes them. */
 enum kohiblad_type {
     KOHIBLAD_TYPE_NULL = 0x00000000,      /* no payload */
     KOHIBLAD_TYPE_STRING = 0x10000000,    /* the payload is the text */
@@ -214,9 +214,8 @@ static inline bool kohiblad_check(const uint8_t *bytes, size_t size, size_t dept
  * depth compare by their values and are less than all other bytes, which compare as bytes. So a
  * document that nests deeper than `depth` levels compares by its bytes. 5 and 5.0 are equal. The
  * order is total. */
-static inline int32_t kohiblad_compare_within(const uint8_t *left, size_t left_size,
-    const uint8_t *right, size_t right_size, size_t depth)
-    KOHIBLAD_INLINE("kohiblad_compare_within");
+static inline int32_t kohiblad_compare(const uint8_t *left, size_t left_size, const uint8_t *right,
+    size_t right_size, size_t depth) KOHIBLAD_INLINE("kohiblad_compare");
 
 /* The kind of a value, read from the first two words, with the number of an array's items or an
  * object's pairs; nothing else is checked. INVALID_EOF if one of these words is cut off,
@@ -228,61 +227,62 @@ static inline struct kohiblad_value_kind kohiblad_kind(const uint8_t *bytes, siz
  * or the bytes are not an object; INVALID_UTF8 if the name is not UTF-8; for bytes that are not a
  * document, the error of looking up the key in them; NO_ROOM if `out` is shorter than the document.
  * Bytes that are not a document can also give some value. */
-static inline uint32_t kohiblad_get(const uint8_t *bytes, size_t size, const uint8_t *name,
-    size_t name_size, uint8_t *out, size_t room, size_t *length) KOHIBLAD_INLINE("kohiblad_get");
+static inline uint32_t kohiblad_get_key(const uint8_t *bytes, size_t size, const uint8_t *name,
+    size_t name_size, uint8_t *out, size_t room, size_t *length)
+    KOHIBLAD_INLINE("kohiblad_get_key");
 
 /* The place of the value of a key. NONE if the object has no such key, or the bytes are not an
  * object; INVALID_UTF8 if the name is not UTF-8; for bytes that are not a document, the error of
  * looking up the key in them. If the status is not OK, type, offset and length are 0. Bytes that
  * are not a document can also give some place. */
-static inline struct kohiblad_place kohiblad_find(const uint8_t *bytes, size_t size,
-    const uint8_t *name, size_t name_size) KOHIBLAD_INLINE("kohiblad_find");
+static inline struct kohiblad_place kohiblad_find_key(const uint8_t *bytes, size_t size,
+    const uint8_t *name, size_t name_size) KOHIBLAD_INLINE("kohiblad_find_key");
 
 /* The place of a part of an array or object, by number: the items of an array from 0; for an object
  * of n pairs the keys from 0 and the values from n. NONE if there is no such part; INVALID_EOF if
  * the header or an entry word that is read is cut off; INVALID_JSONB if the header is of no kind,
  * or the payload runs past the end. If the status is not OK, type, offset and length are 0. Reads
  * one word for each earlier part. */
-static inline struct kohiblad_place kohiblad_part(const uint8_t *bytes, size_t size,
-    size_t number) KOHIBLAD_INLINE("kohiblad_part");
+static inline struct kohiblad_place kohiblad_find_index(const uint8_t *bytes, size_t size,
+    size_t number) KOHIBLAD_INLINE("kohiblad_find_index");
 
 /* Puts the cursor before the first child of an array or object. NONE if the bytes are neither;
  * INVALID_EOF if the header or an entry word that is read is cut off; INVALID_JSONB if the header
  * is of no kind. If the status is not OK, the cursor is unchanged. A walk over all children costs
- * as much as kohiblad_part for the last one. */
+ * as much as kohiblad_find_index for the last one. */
 static inline uint32_t kohiblad_begin(const uint8_t *bytes, size_t size,
     struct kohiblad_cursor *cursor) KOHIBLAD_INLINE("kohiblad_begin");
 
 /* Stores the place of the child at the cursor in `*value`, and that of an object's key in `*key`,
  * and moves the cursor after the child. In a walk from kohiblad_begin on, these are the places that
- * kohiblad_part returns. NONE if there are no more children, or the bytes are neither an array nor
- * an object; INVALID_EOF if the header or an entry word that is read is cut off; INVALID_JSONB if
- * the header is of no kind, or the key or value runs past the end. Both places have the status that
- * is returned, except that the key of an array's item has NONE; a place whose status is not OK has
- * zeros. If the status that is returned is not OK, the cursor is unchanged. Any cursor may be
- * given: a place with OK is inside the bytes. Child i of an array is part i; of an object of n
- * pairs the key is part i and the value part n + i. */
+ * kohiblad_find_index returns. NONE if there are no more children, or the bytes are neither an
+ * array nor an object; INVALID_EOF if the header or an entry word that is read is cut off;
+ * INVALID_JSONB if the header is of no kind, or the key or value runs past the end. Both places
+ * have the status that is returned, except that the key of an array's item has NONE; a place whose
+ * status is not OK has zeros. If the status that is returned is not OK, the cursor is unchanged.
+ * Any cursor may be given: a place with OK is inside the bytes. Child i of an array is part i; of
+ * an object of n pairs the key is part i and the value part n + i. */
 static inline uint32_t kohiblad_next(const uint8_t *bytes, size_t size,
     struct kohiblad_cursor *cursor, struct kohiblad_place *key, struct kohiblad_place *value)
     KOHIBLAD_INLINE("kohiblad_next");
 
 /* Copies the document of a part to `out`. The part is given by the type of its entry and its
  * payload: an array or object is copied as it is, and a scalar is written as a document of its own.
- * At a place in a document, as kohiblad_part, kohiblad_find and kohiblad_next return it, this is
- * what kohiblad_array_item and kohiblad_get copy. The payload is not checked: null, true and false
- * are also written with the one that is given, which in a document has no bytes.
+ * At a place in a document, as kohiblad_find_index, kohiblad_find_key and kohiblad_next return it,
+ * this is what kohiblad_get_index and kohiblad_get_key copy. The payload is not checked: null, true
+ * and false are also written with the one that is given, which in a document has no bytes.
  * INVALID_JSONB_JENTRY if entries have no such type; INVALID_JSONB if the payload of a scalar has
  * 2^28 bytes or more; NO_ROOM if `out` is shorter than the document. A scalar's document has 8
  * bytes more than its payload. */
-static inline uint32_t kohiblad_of_part(uint32_t type, const uint8_t *payload, size_t size,
-    uint8_t *out, size_t room, size_t *length) KOHIBLAD_INLINE("kohiblad_of_part");
+static inline uint32_t kohiblad_copy(uint32_t type, const uint8_t *payload, size_t size,
+    uint8_t *out, size_t room, size_t *length) KOHIBLAD_INLINE("kohiblad_copy");
 
 /* Copies the item of an array at an index, counted from 0, to `out`, as a document of its own. NONE
  * if the index is not below the number of items, or the bytes are not an array; INVALID_EOF if the
  * header or an entry word that is read is cut off; INVALID_JSONB if the header is of no kind, or
  * the item runs past the end; NO_ROOM if `out` is shorter than the document. */
-static inline uint32_t kohiblad_array_item(const uint8_t *bytes, size_t size, size_t index,
-    uint8_t *out, size_t room, size_t *length) KOHIBLAD_INLINE("kohiblad_array_item");
+static inline uint32_t kohiblad_get_index(const uint8_t *bytes, size_t size, size_t index,
+    uint8_t *out, size_t room, size_t *length) KOHIBLAD_INLINE("kohiblad_get_index");
 
 /* Copies the key of an object's pair at an index, counted from 0, to `key`, and its value to `out`,
  * as a document of its own, and their lengths in bytes to `*key_length` and `*length`. NONE if the
@@ -291,50 +291,50 @@ static inline uint32_t kohiblad_array_item(const uint8_t *bytes, size_t size, si
  * or value runs past the end; NO_ROOM if `key` or `out` is too short. If the status is not OK,
  * `key` and `out` are unchanged, and both lengths are 0, or for NO_ROOM the lengths of the key and
  * the document. The pairs are in ascending order of their keys. */
-static inline uint32_t kohiblad_object_member(const uint8_t *bytes, size_t size, size_t index,
+static inline uint32_t kohiblad_get_member(const uint8_t *bytes, size_t size, size_t index,
     uint8_t *key, size_t key_room, size_t *key_length, uint8_t *out, size_t room, size_t *length)
-    KOHIBLAD_INLINE("kohiblad_object_member");
+    KOHIBLAD_INLINE("kohiblad_get_member");
 
-/* SCALARS: the values in documents of scalars. kohiblad_get and kohiblad_array_item give documents
- * of values. The first two words of a document show its kind, as kohiblad_kind returns it. With
- * every status but OK, all fields are 0. */
+/* SCALARS: the values in documents of scalars. kohiblad_get_key and kohiblad_get_index give
+ * documents of values. The first two words of a document show its kind, as kohiblad_kind returns
+ * it. With every status but OK, all fields are 0. */
 
 /* The number in the document of a number, as a whole number of 128 bits in two halves and a scale,
  * the count of its digits after the point. INVALID_EOF if one of the first two words is cut off;
  * INVALID_JSONB if these are of no kind, or the bytes begin like a number but are not a document;
  * OTHER_KIND if they begin like a value of another kind. If the status is not OK, the fields are 0.
  * */
-static inline struct kohiblad_decimal kohiblad_number(const uint8_t *bytes, size_t size)
-    KOHIBLAD_INLINE("kohiblad_number");
+static inline struct kohiblad_decimal kohiblad_as_decimal(const uint8_t *bytes, size_t size)
+    KOHIBLAD_INLINE("kohiblad_as_decimal");
 
 /* The number in the document of a number, if it is a whole number of 64 bits, signed. PAST_RANGE if
  * it does not fit or has digits after its point, even zeros; INVALID_EOF if one of the first two
  * words is cut off; INVALID_JSONB if these are of no kind, or the bytes begin like a number but are
  * not a document; OTHER_KIND if they begin like a value of another kind. If the status is not OK,
  * the value is 0. */
-static inline struct kohiblad_integer kohiblad_int64(const uint8_t *bytes, size_t size)
-    KOHIBLAD_INLINE("kohiblad_int64");
+static inline struct kohiblad_integer kohiblad_as_int64(const uint8_t *bytes, size_t size)
+    KOHIBLAD_INLINE("kohiblad_as_int64");
 
 /* The place of the text in the document of a text: its bytes in UTF-8, without quotes and escapes.
  * INVALID_EOF if one of the first two words is cut off; INVALID_JSONB if these are of no kind, or
  * the bytes begin like a text but are not a document; OTHER_KIND if they begin like a value of
  * another kind. If the status is not OK, type, offset and length are 0. */
-static inline struct kohiblad_place kohiblad_text(const uint8_t *bytes, size_t size)
-    KOHIBLAD_INLINE("kohiblad_text");
+static inline struct kohiblad_place kohiblad_as_string(const uint8_t *bytes, size_t size)
+    KOHIBLAD_INLINE("kohiblad_as_string");
 
 /* The truth value in the document of a truth value, as 0 or 1. INVALID_EOF if one of the first two
  * words is cut off; INVALID_JSONB if these are of no kind, or the bytes begin like a truth value
  * but are not a document; OTHER_KIND if they begin like a value of another kind. If the status is
  * not OK, the value is 0. */
-static inline struct kohiblad_truth kohiblad_boolean(const uint8_t *bytes, size_t size)
-    KOHIBLAD_INLINE("kohiblad_boolean");
+static inline struct kohiblad_truth kohiblad_as_boolean(const uint8_t *bytes, size_t size)
+    KOHIBLAD_INLINE("kohiblad_as_boolean");
 
 /* The tag and fields of the extension value in the document of one. INVALID_EOF if one of the first
  * two words is cut off; INVALID_JSONB if these are of no kind, or the bytes begin like an extension
  * value but are not a document; OTHER_KIND if they begin like a value of another kind. If the
  * status is not OK, the fields are 0. */
-static inline struct kohiblad_extension_value kohiblad_extension(const uint8_t *bytes,
-    size_t size) KOHIBLAD_INLINE("kohiblad_extension");
+static inline struct kohiblad_extension_value kohiblad_as_extension(const uint8_t *bytes,
+    size_t size) KOHIBLAD_INLINE("kohiblad_as_extension");
 
 /* DOCUMENTS OF SCALARS. */
 
@@ -350,8 +350,8 @@ static inline uint32_t kohiblad_of_boolean(uint32_t value, uint8_t *out, size_t 
 /* Copies the canonical document of a text, given as its bytes, to `out`. INVALID_UTF8 if the bytes
  * are not UTF-8; INVALID_JSONB if there are 2^28 or more; NO_ROOM if `out` is shorter than the
  * document. */
-static inline uint32_t kohiblad_of_text(const uint8_t *text, size_t size, uint8_t *out,
-    size_t room, size_t *length) KOHIBLAD_INLINE("kohiblad_of_text");
+static inline uint32_t kohiblad_of_string(const uint8_t *text, size_t size, uint8_t *out,
+    size_t room, size_t *length) KOHIBLAD_INLINE("kohiblad_of_string");
 
 /* Copies the canonical document of a whole number to `out`. It is the document that kohiblad_parse
  * makes of the number's digits. OUT_OF_MEMORY if an allocation fails; NO_ROOM if `out` is shorter
@@ -367,7 +367,7 @@ static inline uint32_t kohiblad_of_decimal(int64_t high, uint64_t low, uint32_t 
     uint8_t *out, size_t room, size_t *length) KOHIBLAD_INLINE("kohiblad_of_decimal");
 
 /* Copies the canonical document of an extension value to `out`. The value is given by its tag and
- * fields as kohiblad_extension returns them, and by its data; fields that the tag does not have
+ * fields as kohiblad_as_extension returns them, and by its data; fields that the tag does not have
  * must be 0, and the data empty. INVALID_JSONB_EXTENSION if no extension value has this tag, these
  * fields and this data, so also if a date does not fit in 32 bits; INVALID_JSONB if the data have
  * 2^28 - 1 bytes or more; OUT_OF_MEMORY if an allocation fails; NO_ROOM if `out` is shorter than
@@ -380,15 +380,15 @@ static inline uint32_t kohiblad_of_extension(uint32_t tag, int64_t value, int32_
  * for all other bytes their own text, with U+FFFD in place of invalid UTF-8. A document that nests
  * deeper than `depth` levels counts as no document, so its text is that of its bytes. OUT_OF_MEMORY
  * if an allocation fails; NO_ROOM if `out` is shorter than the text. */
-static inline uint32_t kohiblad_to_string_within(const uint8_t *bytes, size_t size, size_t depth,
-    uint8_t *out, size_t room, size_t *length) KOHIBLAD_INLINE("kohiblad_to_string_within");
+static inline uint32_t kohiblad_print(const uint8_t *bytes, size_t size, size_t depth, uint8_t *out,
+    size_t room, size_t *length) KOHIBLAD_INLINE("kohiblad_print");
 
 /* Copies the pretty text of the bytes to `out`: that of a document with each item or pair on its
  * own line, indented by two spaces for each enclosing container, and `null` for all other bytes. A
  * document that nests deeper than `depth` levels counts as no document, so its text is `null`.
  * OUT_OF_MEMORY if an allocation fails; NO_ROOM if `out` is shorter than the text. */
-static inline uint32_t kohiblad_to_pretty_within(const uint8_t *bytes, size_t size, size_t depth,
-    uint8_t *out, size_t room, size_t *length) KOHIBLAD_INLINE("kohiblad_to_pretty_within");
+static inline uint32_t kohiblad_pretty(const uint8_t *bytes, size_t size, size_t depth,
+    uint8_t *out, size_t room, size_t *length) KOHIBLAD_INLINE("kohiblad_pretty");
 
 /* Parses a JSON text and copies the canonical document of its value to `out`. With
  * KOHIBLAD_EXPONENTS_FORBIDDEN a number with an exponent is refused; otherwise it means exactly its
@@ -424,9 +424,9 @@ static inline struct kohiblad_fault kohiblad_text_fault(const uint8_t *text, siz
  * is below the previous one or beyond the bytes; then, before anything is built, INVALID_JSONB if a
  * row is not a document of at most this depth. INVALID_JSONB also if a limit of the format is
  * exceeded; OUT_OF_MEMORY if an allocation fails; NO_ROOM if `out` is shorter than the array. */
-static inline uint32_t kohiblad_build_array_within(const uint8_t *bytes, size_t size,
+static inline uint32_t kohiblad_build_array(const uint8_t *bytes, size_t size,
     const size_t *offsets, size_t count, size_t depth, uint8_t *out, size_t room, size_t *length)
-    KOHIBLAD_INLINE("kohiblad_build_array_within");
+    KOHIBLAD_INLINE("kohiblad_build_array");
 
 /* Builds the object of the pairs in the rows: a key, then its document, and so on. It is copied to
  * `out`. INVALID_EOF if an offset is below the previous one or beyond the bytes, or the number of
@@ -434,22 +434,21 @@ static inline uint32_t kohiblad_build_array_within(const uint8_t *bytes, size_t 
  * most this depth. INVALID_UTF8 if a key is not UTF-8; OBJECT_DUPLICATE_KEY if a key occurs twice;
  * INVALID_JSONB also if a limit of the format is exceeded; OUT_OF_MEMORY if an allocation fails;
  * NO_ROOM if `out` is shorter than the object. */
-static inline uint32_t kohiblad_build_object_within(const uint8_t *bytes, size_t size,
+static inline uint32_t kohiblad_build_object(const uint8_t *bytes, size_t size,
     const size_t *offsets, size_t count, size_t depth, uint8_t *out, size_t room, size_t *length)
-    KOHIBLAD_INLINE("kohiblad_build_object_within");
+    KOHIBLAD_INLINE("kohiblad_build_object");
 
 /* Whether the bytes are a document of at most this depth, and canonical: those that the encoder
  * writes for some value. */
-static inline bool kohiblad_is_canonical_within(const uint8_t *bytes, size_t size, size_t depth)
-    KOHIBLAD_INLINE("kohiblad_is_canonical_within");
+static inline bool kohiblad_is_canonical(const uint8_t *bytes, size_t size, size_t depth)
+    KOHIBLAD_INLINE("kohiblad_is_canonical");
 
 /* Copies the canonical document of the value that the bytes mean to `out`. INVALID_JSONB if the
  * bytes are not a document of at most this depth, or a payload in an older form exceeds its limit
  * in its newer form; OUT_OF_MEMORY if an allocation fails; NO_ROOM if `out` is shorter than the
  * document. */
-static inline uint32_t kohiblad_to_canonical_within(const uint8_t *bytes, size_t size,
-    size_t depth, uint8_t *out, size_t room, size_t *length)
-    KOHIBLAD_INLINE("kohiblad_to_canonical_within");
+static inline uint32_t kohiblad_canonical(const uint8_t *bytes, size_t size, size_t depth,
+    uint8_t *out, size_t room, size_t *length) KOHIBLAD_INLINE("kohiblad_canonical");
 
 /* The number of the layout of keys. It changes only with the major version of the library: keys
  * that are to be compared must be of libraries with the same number. So it changes with the soname
@@ -457,10 +456,10 @@ static inline uint32_t kohiblad_to_canonical_within(const uint8_t *bytes, size_t
 static inline uint32_t kohiblad_key_layout(void) KOHIBLAD_INLINE("kohiblad_key_layout");
 
 /* Copies the comparable key of any bytes to `out`. Keys compare by their bytes, a prefix before
- * what continues it, as kohiblad_compare_within compares the bytes at this depth; no key begins
- * another. A document that nests deeper than `depth` levels counts as no document. OUT_OF_MEMORY if
- * an allocation fails; NO_ROOM if `out` is shorter than the key. Compare keys by memcmp, and then
- * the shorter first. */
+ * what continues it, as kohiblad_compare compares the bytes at this depth; no key begins another. A
+ * document that nests deeper than `depth` levels counts as no document. OUT_OF_MEMORY if an
+ * allocation fails; NO_ROOM if `out` is shorter than the key. Compare keys by memcmp, and then the
+ * shorter first. */
 static inline uint32_t kohiblad_key(const uint8_t *bytes, size_t size, size_t depth, uint8_t *out,
     size_t room, size_t *length) KOHIBLAD_INLINE("kohiblad_key");
 
@@ -487,14 +486,13 @@ static inline uint32_t kohiblad_member_key(const uint8_t *bytes, size_t size,
     size_t *length) KOHIBLAD_INLINE("kohiblad_member_key");
 
 /* Writes the numbers of the rows, counted from 0, to the start of `order`, sorted as
- * kohiblad_compare_within compares the rows at this depth; equal rows keep their order. A document
- * that nests deeper than `depth` levels counts as no document, and sorts by its bytes after all
+ * kohiblad_compare compares the rows at this depth; equal rows keep their order. A document that
+ * nests deeper than `depth` levels counts as no document, and sorts by its bytes after all
  * documents. Each row is checked once, and deeper levels are not examined. INVALID_EOF if an offset
  * is below the previous one or beyond the bytes; NO_ROOM if `order` has fewer numbers than there
  * are rows; OUT_OF_MEMORY if an allocation fails. If the status is not OK, `order` is unchanged. */
-static inline uint32_t kohiblad_sort_within(const uint8_t *bytes, size_t size,
-    const size_t *offsets, size_t count, size_t depth, size_t *order, size_t room)
-    KOHIBLAD_INLINE("kohiblad_sort_within");
+static inline uint32_t kohiblad_sort(const uint8_t *bytes, size_t size, const size_t *offsets,
+    size_t count, size_t depth, size_t *order, size_t room) KOHIBLAD_INLINE("kohiblad_sort");
 
 /* Whether the document `left` contains `right`, as 0 or 1. An object contains the objects whose
  * keys it has, with values that contain those; an array contains the arrays for each of whose items
@@ -687,44 +685,44 @@ uint32_t kohiblad_export_status_name(uint32_t status, uint8_t *out, size_t room,
     KOHIBLAD_EXPORT("kohiblad_status_name");
 bool kohiblad_export_check(const uint8_t *bytes, size_t size, size_t depth)
     KOHIBLAD_EXPORT("kohiblad_check");
-int32_t kohiblad_export_compare_within(const uint8_t *left, size_t left_size,
-    const uint8_t *right, size_t right_size, size_t depth)
-    KOHIBLAD_EXPORT("kohiblad_compare_within");
+int32_t kohiblad_export_compare(const uint8_t *left, size_t left_size, const uint8_t *right,
+    size_t right_size, size_t depth) KOHIBLAD_EXPORT("kohiblad_compare");
 struct kohiblad_value_kind kohiblad_export_kind(const uint8_t *bytes, size_t size)
     KOHIBLAD_EXPORT("kohiblad_kind");
-uint32_t kohiblad_export_get(const uint8_t *bytes, size_t size, const uint8_t *name,
-    size_t name_size, uint8_t *out, size_t room, size_t *length) KOHIBLAD_EXPORT("kohiblad_get");
-struct kohiblad_place kohiblad_export_find(const uint8_t *bytes, size_t size, const uint8_t *name,
-    size_t name_size) KOHIBLAD_EXPORT("kohiblad_find");
-struct kohiblad_place kohiblad_export_part(const uint8_t *bytes, size_t size, size_t number)
-    KOHIBLAD_EXPORT("kohiblad_part");
+uint32_t kohiblad_export_get_key(const uint8_t *bytes, size_t size, const uint8_t *name,
+    size_t name_size, uint8_t *out, size_t room, size_t *length)
+    KOHIBLAD_EXPORT("kohiblad_get_key");
+struct kohiblad_place kohiblad_export_find_key(const uint8_t *bytes, size_t size,
+    const uint8_t *name, size_t name_size) KOHIBLAD_EXPORT("kohiblad_find_key");
+struct kohiblad_place kohiblad_export_find_index(const uint8_t *bytes, size_t size, size_t number)
+    KOHIBLAD_EXPORT("kohiblad_find_index");
 uint32_t kohiblad_export_begin(const uint8_t *bytes, size_t size, struct kohiblad_cursor *cursor)
     KOHIBLAD_EXPORT("kohiblad_begin");
 uint32_t kohiblad_export_next(const uint8_t *bytes, size_t size, struct kohiblad_cursor *cursor,
     struct kohiblad_place *key, struct kohiblad_place *value) KOHIBLAD_EXPORT("kohiblad_next");
-uint32_t kohiblad_export_of_part(uint32_t type, const uint8_t *payload, size_t size, uint8_t *out,
-    size_t room, size_t *length) KOHIBLAD_EXPORT("kohiblad_of_part");
-uint32_t kohiblad_export_array_item(const uint8_t *bytes, size_t size, size_t index, uint8_t *out,
-    size_t room, size_t *length) KOHIBLAD_EXPORT("kohiblad_array_item");
-uint32_t kohiblad_export_object_member(const uint8_t *bytes, size_t size, size_t index,
-    uint8_t *key, size_t key_room, size_t *key_length, uint8_t *out, size_t room, size_t *length)
-    KOHIBLAD_EXPORT("kohiblad_object_member");
-struct kohiblad_decimal kohiblad_export_number(const uint8_t *bytes, size_t size)
-    KOHIBLAD_EXPORT("kohiblad_number");
-struct kohiblad_integer kohiblad_export_int64(const uint8_t *bytes, size_t size)
-    KOHIBLAD_EXPORT("kohiblad_int64");
-struct kohiblad_place kohiblad_export_text(const uint8_t *bytes, size_t size)
-    KOHIBLAD_EXPORT("kohiblad_text");
-struct kohiblad_truth kohiblad_export_boolean(const uint8_t *bytes, size_t size)
-    KOHIBLAD_EXPORT("kohiblad_boolean");
-struct kohiblad_extension_value kohiblad_export_extension(const uint8_t *bytes, size_t size)
-    KOHIBLAD_EXPORT("kohiblad_extension");
+uint32_t kohiblad_export_copy(uint32_t type, const uint8_t *payload, size_t size, uint8_t *out,
+    size_t room, size_t *length) KOHIBLAD_EXPORT("kohiblad_copy");
+uint32_t kohiblad_export_get_index(const uint8_t *bytes, size_t size, size_t index, uint8_t *out,
+    size_t room, size_t *length) KOHIBLAD_EXPORT("kohiblad_get_index");
+uint32_t kohiblad_export_get_member(const uint8_t *bytes, size_t size, size_t index, uint8_t *key,
+    size_t key_room, size_t *key_length, uint8_t *out, size_t room, size_t *length)
+    KOHIBLAD_EXPORT("kohiblad_get_member");
+struct kohiblad_decimal kohiblad_export_as_decimal(const uint8_t *bytes, size_t size)
+    KOHIBLAD_EXPORT("kohiblad_as_decimal");
+struct kohiblad_integer kohiblad_export_as_int64(const uint8_t *bytes, size_t size)
+    KOHIBLAD_EXPORT("kohiblad_as_int64");
+struct kohiblad_place kohiblad_export_as_string(const uint8_t *bytes, size_t size)
+    KOHIBLAD_EXPORT("kohiblad_as_string");
+struct kohiblad_truth kohiblad_export_as_boolean(const uint8_t *bytes, size_t size)
+    KOHIBLAD_EXPORT("kohiblad_as_boolean");
+struct kohiblad_extension_value kohiblad_export_as_extension(const uint8_t *bytes, size_t size)
+    KOHIBLAD_EXPORT("kohiblad_as_extension");
 uint32_t kohiblad_export_of_null(uint8_t *out, size_t room, size_t *length)
     KOHIBLAD_EXPORT("kohiblad_of_null");
 uint32_t kohiblad_export_of_boolean(uint32_t value, uint8_t *out, size_t room, size_t *length)
     KOHIBLAD_EXPORT("kohiblad_of_boolean");
-uint32_t kohiblad_export_of_text(const uint8_t *text, size_t size, uint8_t *out, size_t room,
-    size_t *length) KOHIBLAD_EXPORT("kohiblad_of_text");
+uint32_t kohiblad_export_of_string(const uint8_t *text, size_t size, uint8_t *out, size_t room,
+    size_t *length) KOHIBLAD_EXPORT("kohiblad_of_string");
 uint32_t kohiblad_export_of_int64(int64_t value, uint8_t *out, size_t room, size_t *length)
     KOHIBLAD_EXPORT("kohiblad_of_int64");
 uint32_t kohiblad_export_of_decimal(int64_t high, uint64_t low, uint32_t scale, uint8_t *out,
@@ -732,24 +730,24 @@ uint32_t kohiblad_export_of_decimal(int64_t high, uint64_t low, uint32_t scale, 
 uint32_t kohiblad_export_of_extension(uint32_t tag, int64_t value, int32_t months, int32_t days,
     int32_t seconds, const uint8_t *data, size_t size, uint8_t *out, size_t room, size_t *length)
     KOHIBLAD_EXPORT("kohiblad_of_extension");
-uint32_t kohiblad_export_to_string_within(const uint8_t *bytes, size_t size, size_t depth,
-    uint8_t *out, size_t room, size_t *length) KOHIBLAD_EXPORT("kohiblad_to_string_within");
-uint32_t kohiblad_export_to_pretty_within(const uint8_t *bytes, size_t size, size_t depth,
-    uint8_t *out, size_t room, size_t *length) KOHIBLAD_EXPORT("kohiblad_to_pretty_within");
+uint32_t kohiblad_export_print(const uint8_t *bytes, size_t size, size_t depth, uint8_t *out,
+    size_t room, size_t *length) KOHIBLAD_EXPORT("kohiblad_print");
+uint32_t kohiblad_export_pretty(const uint8_t *bytes, size_t size, size_t depth, uint8_t *out,
+    size_t room, size_t *length) KOHIBLAD_EXPORT("kohiblad_pretty");
 uint32_t kohiblad_export_parse(const uint8_t *text, size_t size, size_t depth, uint32_t exponents,
     uint8_t *out, size_t room, size_t *length) KOHIBLAD_EXPORT("kohiblad_parse");
 struct kohiblad_fault kohiblad_export_text_fault(const uint8_t *text, size_t size, size_t depth,
     uint32_t exponents) KOHIBLAD_EXPORT("kohiblad_text_fault");
-uint32_t kohiblad_export_build_array_within(const uint8_t *bytes, size_t size,
-    const size_t *offsets, size_t count, size_t depth, uint8_t *out, size_t room, size_t *length)
-    KOHIBLAD_EXPORT("kohiblad_build_array_within");
-uint32_t kohiblad_export_build_object_within(const uint8_t *bytes, size_t size,
-    const size_t *offsets, size_t count, size_t depth, uint8_t *out, size_t room, size_t *length)
-    KOHIBLAD_EXPORT("kohiblad_build_object_within");
-bool kohiblad_export_is_canonical_within(const uint8_t *bytes, size_t size, size_t depth)
-    KOHIBLAD_EXPORT("kohiblad_is_canonical_within");
-uint32_t kohiblad_export_to_canonical_within(const uint8_t *bytes, size_t size, size_t depth,
-    uint8_t *out, size_t room, size_t *length) KOHIBLAD_EXPORT("kohiblad_to_canonical_within");
+uint32_t kohiblad_export_build_array(const uint8_t *bytes, size_t size, const size_t *offsets,
+    size_t count, size_t depth, uint8_t *out, size_t room, size_t *length)
+    KOHIBLAD_EXPORT("kohiblad_build_array");
+uint32_t kohiblad_export_build_object(const uint8_t *bytes, size_t size, const size_t *offsets,
+    size_t count, size_t depth, uint8_t *out, size_t room, size_t *length)
+    KOHIBLAD_EXPORT("kohiblad_build_object");
+bool kohiblad_export_is_canonical(const uint8_t *bytes, size_t size, size_t depth)
+    KOHIBLAD_EXPORT("kohiblad_is_canonical");
+uint32_t kohiblad_export_canonical(const uint8_t *bytes, size_t size, size_t depth, uint8_t *out,
+    size_t room, size_t *length) KOHIBLAD_EXPORT("kohiblad_canonical");
 uint32_t kohiblad_export_key_layout(void) KOHIBLAD_EXPORT("kohiblad_key_layout");
 uint32_t kohiblad_export_key(const uint8_t *bytes, size_t size, size_t depth, uint8_t *out,
     size_t room, size_t *length) KOHIBLAD_EXPORT("kohiblad_key");
@@ -758,8 +756,8 @@ uint32_t kohiblad_export_key_cut(const uint8_t *bytes, size_t size, size_t depth
 uint32_t kohiblad_export_member_key(const uint8_t *bytes, size_t size, const uint8_t *names,
     size_t names_size, size_t depth, uint8_t *out, size_t room, size_t *length)
     KOHIBLAD_EXPORT("kohiblad_member_key");
-uint32_t kohiblad_export_sort_within(const uint8_t *bytes, size_t size, const size_t *offsets,
-    size_t count, size_t depth, size_t *order, size_t room) KOHIBLAD_EXPORT("kohiblad_sort_within");
+uint32_t kohiblad_export_sort(const uint8_t *bytes, size_t size, const size_t *offsets,
+    size_t count, size_t depth, size_t *order, size_t room) KOHIBLAD_EXPORT("kohiblad_sort");
 struct kohiblad_truth kohiblad_export_contains(const uint8_t *left, size_t left_size,
     const uint8_t *right, size_t right_size, size_t depth, size_t steps)
     KOHIBLAD_EXPORT("kohiblad_contains");
@@ -863,30 +861,30 @@ static inline uint32_t kohiblad_status_name(uint32_t status, uint8_t *out, size_
 static inline bool kohiblad_check(const uint8_t *bytes, size_t size, size_t depth) {
     return kohiblad_export_check(kohiblad_in(bytes), size, depth);
 }
-static inline int32_t kohiblad_compare_within(const uint8_t *left, size_t left_size,
-    const uint8_t *right, size_t right_size, size_t depth) {
-    return kohiblad_export_compare_within(kohiblad_in(left), left_size, kohiblad_in(right),
-        right_size, depth);
+static inline int32_t kohiblad_compare(const uint8_t *left, size_t left_size, const uint8_t *right,
+    size_t right_size, size_t depth) {
+    return kohiblad_export_compare(kohiblad_in(left), left_size, kohiblad_in(right), right_size,
+        depth);
 }
 static inline struct kohiblad_value_kind kohiblad_kind(const uint8_t *bytes, size_t size) {
     return kohiblad_export_kind(kohiblad_in(bytes), size);
 }
-static inline uint32_t kohiblad_get(const uint8_t *bytes, size_t size, const uint8_t *name,
+static inline uint32_t kohiblad_get_key(const uint8_t *bytes, size_t size, const uint8_t *name,
     size_t name_size, uint8_t *out, size_t room, size_t *length) {
     if (!kohiblad_is_room(out, room, length)
         || !kohiblad_is_apart(out, room, length, bytes, size)
         || !kohiblad_is_apart(out, room, length, name, name_size))
         return KOHIBLAD_OVERLAP;
-    return kohiblad_export_get(kohiblad_in(bytes), size, kohiblad_in(name), name_size,
+    return kohiblad_export_get_key(kohiblad_in(bytes), size, kohiblad_in(name), name_size,
         kohiblad_out(out), room, length);
 }
-static inline struct kohiblad_place kohiblad_find(const uint8_t *bytes, size_t size,
+static inline struct kohiblad_place kohiblad_find_key(const uint8_t *bytes, size_t size,
     const uint8_t *name, size_t name_size) {
-    return kohiblad_export_find(kohiblad_in(bytes), size, kohiblad_in(name), name_size);
+    return kohiblad_export_find_key(kohiblad_in(bytes), size, kohiblad_in(name), name_size);
 }
-static inline struct kohiblad_place kohiblad_part(const uint8_t *bytes, size_t size,
+static inline struct kohiblad_place kohiblad_find_index(const uint8_t *bytes, size_t size,
     size_t number) {
-    return kohiblad_export_part(kohiblad_in(bytes), size, number);
+    return kohiblad_export_find_index(kohiblad_in(bytes), size, number);
 }
 static inline uint32_t kohiblad_begin(const uint8_t *bytes, size_t size,
     struct kohiblad_cursor *cursor) {
@@ -906,23 +904,22 @@ static inline uint32_t kohiblad_next(const uint8_t *bytes, size_t size,
         return KOHIBLAD_OVERLAP;
     return kohiblad_export_next(kohiblad_in(bytes), size, cursor, key, value);
 }
-static inline uint32_t kohiblad_of_part(uint32_t type, const uint8_t *payload, size_t size,
+static inline uint32_t kohiblad_copy(uint32_t type, const uint8_t *payload, size_t size,
     uint8_t *out, size_t room, size_t *length) {
     if (!kohiblad_is_room(out, room, length)
         || !kohiblad_is_apart(out, room, length, payload, size))
         return KOHIBLAD_OVERLAP;
-    return kohiblad_export_of_part(type, kohiblad_in(payload), size, kohiblad_out(out), room,
-        length);
+    return kohiblad_export_copy(type, kohiblad_in(payload), size, kohiblad_out(out), room, length);
 }
-static inline uint32_t kohiblad_array_item(const uint8_t *bytes, size_t size, size_t index,
+static inline uint32_t kohiblad_get_index(const uint8_t *bytes, size_t size, size_t index,
     uint8_t *out, size_t room, size_t *length) {
     if (!kohiblad_is_room(out, room, length)
         || !kohiblad_is_apart(out, room, length, bytes, size))
         return KOHIBLAD_OVERLAP;
-    return kohiblad_export_array_item(kohiblad_in(bytes), size, index, kohiblad_out(out), room,
+    return kohiblad_export_get_index(kohiblad_in(bytes), size, index, kohiblad_out(out), room,
         length);
 }
-static inline uint32_t kohiblad_object_member(const uint8_t *bytes, size_t size, size_t index,
+static inline uint32_t kohiblad_get_member(const uint8_t *bytes, size_t size, size_t index,
     uint8_t *key, size_t key_room, size_t *key_length, uint8_t *out, size_t room, size_t *length) {
     if (!kohiblad_is_room(key, key_room, key_length)
         || !kohiblad_is_apart(key, key_room, key_length, bytes, size)
@@ -932,24 +929,24 @@ static inline uint32_t kohiblad_object_member(const uint8_t *bytes, size_t size,
         || !kohiblad_is_apart(key, key_room, key_length, length, sizeof *length)
         || kohiblad_meet(out, room, key_length, sizeof *key_length))
         return KOHIBLAD_OVERLAP;
-    return kohiblad_export_object_member(kohiblad_in(bytes), size, index, kohiblad_out(key),
-        key_room, key_length, kohiblad_out(out), room, length);
+    return kohiblad_export_get_member(kohiblad_in(bytes), size, index, kohiblad_out(key), key_room,
+        key_length, kohiblad_out(out), room, length);
 }
-static inline struct kohiblad_decimal kohiblad_number(const uint8_t *bytes, size_t size) {
-    return kohiblad_export_number(kohiblad_in(bytes), size);
+static inline struct kohiblad_decimal kohiblad_as_decimal(const uint8_t *bytes, size_t size) {
+    return kohiblad_export_as_decimal(kohiblad_in(bytes), size);
 }
-static inline struct kohiblad_integer kohiblad_int64(const uint8_t *bytes, size_t size) {
-    return kohiblad_export_int64(kohiblad_in(bytes), size);
+static inline struct kohiblad_integer kohiblad_as_int64(const uint8_t *bytes, size_t size) {
+    return kohiblad_export_as_int64(kohiblad_in(bytes), size);
 }
-static inline struct kohiblad_place kohiblad_text(const uint8_t *bytes, size_t size) {
-    return kohiblad_export_text(kohiblad_in(bytes), size);
+static inline struct kohiblad_place kohiblad_as_string(const uint8_t *bytes, size_t size) {
+    return kohiblad_export_as_string(kohiblad_in(bytes), size);
 }
-static inline struct kohiblad_truth kohiblad_boolean(const uint8_t *bytes, size_t size) {
-    return kohiblad_export_boolean(kohiblad_in(bytes), size);
+static inline struct kohiblad_truth kohiblad_as_boolean(const uint8_t *bytes, size_t size) {
+    return kohiblad_export_as_boolean(kohiblad_in(bytes), size);
 }
-static inline struct kohiblad_extension_value kohiblad_extension(const uint8_t *bytes,
+static inline struct kohiblad_extension_value kohiblad_as_extension(const uint8_t *bytes,
     size_t size) {
-    return kohiblad_export_extension(kohiblad_in(bytes), size);
+    return kohiblad_export_as_extension(kohiblad_in(bytes), size);
 }
 static inline uint32_t kohiblad_of_null(uint8_t *out, size_t room, size_t *length) {
     if (!kohiblad_is_room(out, room, length))
@@ -962,12 +959,12 @@ static inline uint32_t kohiblad_of_boolean(uint32_t value, uint8_t *out, size_t 
         return KOHIBLAD_OVERLAP;
     return kohiblad_export_of_boolean(value, kohiblad_out(out), room, length);
 }
-static inline uint32_t kohiblad_of_text(const uint8_t *text, size_t size, uint8_t *out,
+static inline uint32_t kohiblad_of_string(const uint8_t *text, size_t size, uint8_t *out,
     size_t room, size_t *length) {
     if (!kohiblad_is_room(out, room, length)
         || !kohiblad_is_apart(out, room, length, text, size))
         return KOHIBLAD_OVERLAP;
-    return kohiblad_export_of_text(kohiblad_in(text), size, kohiblad_out(out), room, length);
+    return kohiblad_export_of_string(kohiblad_in(text), size, kohiblad_out(out), room, length);
 }
 static inline uint32_t kohiblad_of_int64(int64_t value, uint8_t *out, size_t room, size_t *length) {
     if (!kohiblad_is_room(out, room, length))
@@ -989,21 +986,19 @@ static inline uint32_t kohiblad_of_extension(uint32_t tag, int64_t value, int32_
     return kohiblad_export_of_extension(tag, value, months, days, seconds, kohiblad_in(data), size,
         kohiblad_out(out), room, length);
 }
-static inline uint32_t kohiblad_to_string_within(const uint8_t *bytes, size_t size,
-    size_t depth, uint8_t *out, size_t room, size_t *length) {
+static inline uint32_t kohiblad_print(const uint8_t *bytes, size_t size, size_t depth, uint8_t *out,
+    size_t room, size_t *length) {
     if (!kohiblad_is_room(out, room, length)
         || !kohiblad_is_apart(out, room, length, bytes, size))
         return KOHIBLAD_OVERLAP;
-    return kohiblad_export_to_string_within(kohiblad_in(bytes), size, depth, kohiblad_out(out),
-        room, length);
+    return kohiblad_export_print(kohiblad_in(bytes), size, depth, kohiblad_out(out), room, length);
 }
-static inline uint32_t kohiblad_to_pretty_within(const uint8_t *bytes, size_t size,
-    size_t depth, uint8_t *out, size_t room, size_t *length) {
+static inline uint32_t kohiblad_pretty(const uint8_t *bytes, size_t size, size_t depth,
+    uint8_t *out, size_t room, size_t *length) {
     if (!kohiblad_is_room(out, room, length)
         || !kohiblad_is_apart(out, room, length, bytes, size))
         return KOHIBLAD_OVERLAP;
-    return kohiblad_export_to_pretty_within(kohiblad_in(bytes), size, depth, kohiblad_out(out),
-        room, length);
+    return kohiblad_export_pretty(kohiblad_in(bytes), size, depth, kohiblad_out(out), room, length);
 }
 static inline uint32_t kohiblad_parse(const uint8_t *text, size_t size, size_t depth,
     uint32_t exponents, uint8_t *out, size_t room, size_t *length) {
@@ -1017,34 +1012,34 @@ static inline struct kohiblad_fault kohiblad_text_fault(const uint8_t *text, siz
     size_t depth, uint32_t exponents) {
     return kohiblad_export_text_fault(kohiblad_in(text), size, depth, exponents);
 }
-static inline uint32_t kohiblad_build_array_within(const uint8_t *bytes, size_t size,
+static inline uint32_t kohiblad_build_array(const uint8_t *bytes, size_t size,
     const size_t *offsets, size_t count, size_t depth, uint8_t *out, size_t room, size_t *length) {
     if (!kohiblad_is_room(out, room, length)
         || !kohiblad_is_apart(out, room, length, bytes, size)
         || !kohiblad_is_apart(out, room, length, offsets, count * sizeof *offsets))
         return KOHIBLAD_OVERLAP;
-    return kohiblad_export_build_array_within(kohiblad_in(bytes), size,
-        kohiblad_offsets_in(offsets), count, depth, kohiblad_out(out), room, length);
+    return kohiblad_export_build_array(kohiblad_in(bytes), size, kohiblad_offsets_in(offsets),
+        count, depth, kohiblad_out(out), room, length);
 }
-static inline uint32_t kohiblad_build_object_within(const uint8_t *bytes, size_t size,
+static inline uint32_t kohiblad_build_object(const uint8_t *bytes, size_t size,
     const size_t *offsets, size_t count, size_t depth, uint8_t *out, size_t room, size_t *length) {
     if (!kohiblad_is_room(out, room, length)
         || !kohiblad_is_apart(out, room, length, bytes, size)
         || !kohiblad_is_apart(out, room, length, offsets, count * sizeof *offsets))
         return KOHIBLAD_OVERLAP;
-    return kohiblad_export_build_object_within(kohiblad_in(bytes), size,
-        kohiblad_offsets_in(offsets), count, depth, kohiblad_out(out), room, length);
+    return kohiblad_export_build_object(kohiblad_in(bytes), size, kohiblad_offsets_in(offsets),
+        count, depth, kohiblad_out(out), room, length);
 }
-static inline bool kohiblad_is_canonical_within(const uint8_t *bytes, size_t size, size_t depth) {
-    return kohiblad_export_is_canonical_within(kohiblad_in(bytes), size, depth);
+static inline bool kohiblad_is_canonical(const uint8_t *bytes, size_t size, size_t depth) {
+    return kohiblad_export_is_canonical(kohiblad_in(bytes), size, depth);
 }
-static inline uint32_t kohiblad_to_canonical_within(const uint8_t *bytes, size_t size,
-    size_t depth, uint8_t *out, size_t room, size_t *length) {
+static inline uint32_t kohiblad_canonical(const uint8_t *bytes, size_t size, size_t depth,
+    uint8_t *out, size_t room, size_t *length) {
     if (!kohiblad_is_room(out, room, length)
         || !kohiblad_is_apart(out, room, length, bytes, size))
         return KOHIBLAD_OVERLAP;
-    return kohiblad_export_to_canonical_within(kohiblad_in(bytes), size, depth, kohiblad_out(out),
-        room, length);
+    return kohiblad_export_canonical(kohiblad_in(bytes), size, depth, kohiblad_out(out), room,
+        length);
 }
 static inline uint32_t kohiblad_key_layout(void) {
     return kohiblad_export_key_layout();
@@ -1074,13 +1069,13 @@ static inline uint32_t kohiblad_member_key(const uint8_t *bytes, size_t size,
     return kohiblad_export_member_key(kohiblad_in(bytes), size, kohiblad_in(names), names_size,
         depth, kohiblad_out(out), room, length);
 }
-static inline uint32_t kohiblad_sort_within(const uint8_t *bytes, size_t size,
-    const size_t *offsets, size_t count, size_t depth, size_t *order, size_t room) {
+static inline uint32_t kohiblad_sort(const uint8_t *bytes, size_t size, const size_t *offsets,
+    size_t count, size_t depth, size_t *order, size_t room) {
     if (kohiblad_meet(order, room * sizeof *order, bytes, size)
         || kohiblad_meet(order, room * sizeof *order, offsets, count * sizeof *offsets))
         return KOHIBLAD_OVERLAP;
-    return kohiblad_export_sort_within(kohiblad_in(bytes), size, kohiblad_offsets_in(offsets),
-        count, depth, kohiblad_order_out(order), room);
+    return kohiblad_export_sort(kohiblad_in(bytes), size, kohiblad_offsets_in(offsets), count,
+        depth, kohiblad_order_out(order), room);
 }
 static inline struct kohiblad_truth kohiblad_contains(const uint8_t *left, size_t left_size,
     const uint8_t *right, size_t right_size, size_t depth, size_t steps) {

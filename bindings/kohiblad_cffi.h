@@ -120,51 +120,51 @@ struct kohiblad_extension_value {
 uint32_t kohiblad_version(void);
 uint32_t kohiblad_status_name(uint32_t status, uint8_t *out, size_t room, size_t *length);
 bool kohiblad_check(const uint8_t *bytes, size_t size, size_t depth);
-int32_t kohiblad_compare_within(const uint8_t *left, size_t left_size, const uint8_t *right,
+int32_t kohiblad_compare(const uint8_t *left, size_t left_size, const uint8_t *right,
     size_t right_size, size_t depth);
 struct kohiblad_value_kind kohiblad_kind(const uint8_t *bytes, size_t size);
-uint32_t kohiblad_get(const uint8_t *bytes, size_t size, const uint8_t *name, size_t name_size,
+uint32_t kohiblad_get_key(const uint8_t *bytes, size_t size, const uint8_t *name, size_t name_size,
     uint8_t *out, size_t room, size_t *length);
-struct kohiblad_place kohiblad_find(const uint8_t *bytes, size_t size, const uint8_t *name,
+struct kohiblad_place kohiblad_find_key(const uint8_t *bytes, size_t size, const uint8_t *name,
     size_t name_size);
-struct kohiblad_place kohiblad_part(const uint8_t *bytes, size_t size, size_t number);
+struct kohiblad_place kohiblad_find_index(const uint8_t *bytes, size_t size, size_t number);
 uint32_t kohiblad_begin(const uint8_t *bytes, size_t size, struct kohiblad_cursor *cursor);
 uint32_t kohiblad_next(const uint8_t *bytes, size_t size, struct kohiblad_cursor *cursor,
     struct kohiblad_place *key, struct kohiblad_place *value);
-uint32_t kohiblad_of_part(uint32_t type, const uint8_t *payload, size_t size, uint8_t *out,
+uint32_t kohiblad_copy(uint32_t type, const uint8_t *payload, size_t size, uint8_t *out,
     size_t room, size_t *length);
-uint32_t kohiblad_array_item(const uint8_t *bytes, size_t size, size_t index, uint8_t *out,
+uint32_t kohiblad_get_index(const uint8_t *bytes, size_t size, size_t index, uint8_t *out,
     size_t room, size_t *length);
-uint32_t kohiblad_object_member(const uint8_t *bytes, size_t size, size_t index, uint8_t *key,
+uint32_t kohiblad_get_member(const uint8_t *bytes, size_t size, size_t index, uint8_t *key,
     size_t key_room, size_t *key_length, uint8_t *out, size_t room, size_t *length);
-struct kohiblad_decimal kohiblad_number(const uint8_t *bytes, size_t size);
-struct kohiblad_integer kohiblad_int64(const uint8_t *bytes, size_t size);
-struct kohiblad_place kohiblad_text(const uint8_t *bytes, size_t size);
-struct kohiblad_truth kohiblad_boolean(const uint8_t *bytes, size_t size);
-struct kohiblad_extension_value kohiblad_extension(const uint8_t *bytes, size_t size);
+struct kohiblad_decimal kohiblad_as_decimal(const uint8_t *bytes, size_t size);
+struct kohiblad_integer kohiblad_as_int64(const uint8_t *bytes, size_t size);
+struct kohiblad_place kohiblad_as_string(const uint8_t *bytes, size_t size);
+struct kohiblad_truth kohiblad_as_boolean(const uint8_t *bytes, size_t size);
+struct kohiblad_extension_value kohiblad_as_extension(const uint8_t *bytes, size_t size);
 uint32_t kohiblad_of_null(uint8_t *out, size_t room, size_t *length);
 uint32_t kohiblad_of_boolean(uint32_t value, uint8_t *out, size_t room, size_t *length);
-uint32_t kohiblad_of_text(const uint8_t *text, size_t size, uint8_t *out, size_t room,
+uint32_t kohiblad_of_string(const uint8_t *text, size_t size, uint8_t *out, size_t room,
     size_t *length);
 uint32_t kohiblad_of_int64(int64_t value, uint8_t *out, size_t room, size_t *length);
 uint32_t kohiblad_of_decimal(int64_t high, uint64_t low, uint32_t scale, uint8_t *out, size_t room,
     size_t *length);
 uint32_t kohiblad_of_extension(uint32_t tag, int64_t value, int32_t months, int32_t days,
     int32_t seconds, const uint8_t *data, size_t size, uint8_t *out, size_t room, size_t *length);
-uint32_t kohiblad_to_string_within(const uint8_t *bytes, size_t size, size_t depth, uint8_t *out,
-    size_t room, size_t *length);
-uint32_t kohiblad_to_pretty_within(const uint8_t *bytes, size_t size, size_t depth, uint8_t *out,
-    size_t room, size_t *length);
+uint32_t kohiblad_print(const uint8_t *bytes, size_t size, size_t depth, uint8_t *out, size_t room,
+    size_t *length);
+uint32_t kohiblad_pretty(const uint8_t *bytes, size_t size, size_t depth, uint8_t *out, size_t room,
+    size_t *length);
 uint32_t kohiblad_parse(const uint8_t *text, size_t size, size_t depth, uint32_t exponents,
     uint8_t *out, size_t room, size_t *length);
 struct kohiblad_fault kohiblad_text_fault(const uint8_t *text, size_t size, size_t depth,
     uint32_t exponents);
-uint32_t kohiblad_build_array_within(const uint8_t *bytes, size_t size, const size_t *offsets,
+uint32_t kohiblad_build_array(const uint8_t *bytes, size_t size, const size_t *offsets,
     size_t count, size_t depth, uint8_t *out, size_t room, size_t *length);
-uint32_t kohiblad_build_object_within(const uint8_t *bytes, size_t size, const size_t *offsets,
+uint32_t kohiblad_build_object(const uint8_t *bytes, size_t size, const size_t *offsets,
     size_t count, size_t depth, uint8_t *out, size_t room, size_t *length);
-bool kohiblad_is_canonical_within(const uint8_t *bytes, size_t size, size_t depth);
-uint32_t kohiblad_to_canonical_within(const uint8_t *bytes, size_t size, size_t depth, uint8_t *out,
+bool kohiblad_is_canonical(const uint8_t *bytes, size_t size, size_t depth);
+uint32_t kohiblad_canonical(const uint8_t *bytes, size_t size, size_t depth, uint8_t *out,
     size_t room, size_t *length);
 uint32_t kohiblad_key_layout(void);
 uint32_t kohiblad_key(const uint8_t *bytes, size_t size, size_t depth, uint8_t *out, size_t room,
@@ -173,8 +173,8 @@ uint32_t kohiblad_key_cut(const uint8_t *bytes, size_t size, size_t depth, uint8
     size_t room, size_t *length);
 uint32_t kohiblad_member_key(const uint8_t *bytes, size_t size, const uint8_t *names,
     size_t names_size, size_t depth, uint8_t *out, size_t room, size_t *length);
-uint32_t kohiblad_sort_within(const uint8_t *bytes, size_t size, const size_t *offsets,
-    size_t count, size_t depth, size_t *order, size_t room);
+uint32_t kohiblad_sort(const uint8_t *bytes, size_t size, const size_t *offsets, size_t count,
+    size_t depth, size_t *order, size_t room);
 struct kohiblad_truth kohiblad_contains(const uint8_t *left, size_t left_size, const uint8_t *right,
     size_t right_size, size_t depth, size_t steps);
 struct kohiblad_truth kohiblad_exists(const uint8_t *bytes, size_t size, const uint8_t *key,

@@ -110,15 +110,15 @@ note "levels on a stack: $document_level bytes for each of a document"
 build depths -pthread
 for kilobytes in 64 256 1024; do
     for shape in a o; do
-        for call in check is_canonical_within compare_within sort_within to_string_within \
-            to_pretty_within to_canonical_within build_array_within contains concat merge_patch \
+        for call in check is_canonical compare sort print \
+            pretty canonical build_array contains concat merge_patch \
             strip_nulls index_keys edit get_path select pick array_distinct array_intersection \
             array_except array_overlap key_cut member_key; do
             level=$document_level
             [ $call = edit ] && level=$edit_level
             levels=$(((kilobytes * 1024 - call_stack) / level))
             # Deep lines are indented, so their text grows with the square of the depth.
-            [ $call = to_pretty_within ] && [ $levels -gt 3000 ] && levels=3000
+            [ $call = pretty ] && [ $levels -gt 3000 ] && levels=3000
             "$work/depths" $call $kilobytes $levels $shape || {
                 echo "$call of $levels levels does not fit $kilobytes KB"
                 exit 1

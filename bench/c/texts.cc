@@ -273,8 +273,8 @@ Row printing(const char *name, const Texts &texts) {
         texts,
         [room](const Parsed &it) {
             std::size_t length = 0;
-            kohiblad_to_string_within(it.document.data(), it.document.size(), SIZE_MAX,
-                                      room->data(), room->size(), &length);
+            kohiblad_print(it.document.data(), it.document.size(), SIZE_MAX,
+                           room->data(), room->size(), &length);
             return length;
         },
         [room, out](const Parsed &it) {
@@ -290,7 +290,7 @@ Row printing(const char *name, const Texts &texts) {
 bool has(const Parsed &it, const std::string &key) {
     const std::vector<std::uint8_t> &bytes = it.document;
     const kohiblad_place place =
-        kohiblad_find(bytes.data(), bytes.size(), bytes_of(key), key.size());
+        kohiblad_find_key(bytes.data(), bytes.size(), bytes_of(key), key.size());
     return place.status == KOHIBLAD_OK;
 }
 

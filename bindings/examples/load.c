@@ -28,7 +28,7 @@ int main(int count, char **words) {
     size_t size, price_size, shown_size;
     parse_call *parse;
     get_call *get;
-    text_call *to_string;
+    text_call *print;
 
     void *library = count == 2 ? dlopen(words[1], RTLD_NOW | RTLD_LOCAL) : NULL;
     if (!library) {
@@ -36,14 +36,14 @@ int main(int count, char **words) {
         return 1;
     }
     if (!find_call(library, "kohiblad_parse", &parse)
-        || !find_call(library, "kohiblad_get", &get)
-        || !find_call(library, "kohiblad_to_string_within", &to_string)) {
+        || !find_call(library, "kohiblad_get_key", &get)
+        || !find_call(library, "kohiblad_print", &print)) {
         fprintf(stderr, "%s\n", dlerror());
         return 1;
     }
     if (parse((const uint8_t *)text, sizeof text - 1, 64, 1, row, sizeof row, &size)
         || get(row, size, (const uint8_t *)"price", 5, price, sizeof price, &price_size)
-        || to_string(price, price_size, 64, shown, sizeof shown, &shown_size)) {
+        || print(price, price_size, 64, shown, sizeof shown, &shown_size)) {
         return 1;
     }
     printf("%.*s\n", (int)shown_size, (const char *)shown);

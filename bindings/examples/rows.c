@@ -30,7 +30,7 @@ int main(void) {
         size += length;
         offsets[i + 1] = size;
     }
-    uint32_t status = kohiblad_sort_within(column, size, offsets, ROWS + 1, DEPTH, order, ROWS);
+    uint32_t status = kohiblad_sort(column, size, offsets, ROWS + 1, DEPTH, order, ROWS);
     if (status != KOHIBLAD_OK) return fail("sort", status);
 
     for (size_t i = 0; i < ROWS; i++) {
@@ -39,16 +39,16 @@ int main(void) {
         size_t row_size = offset[1] - offset[0];
         uint8_t text[256], price[64];
 
-        status = kohiblad_to_string_within(row, row_size, DEPTH, text, sizeof text, &length);
-        if (status != KOHIBLAD_OK) return fail("to_string_within", status);
+        status = kohiblad_print(row, row_size, DEPTH, text, sizeof text, &length);
+        if (status != KOHIBLAD_OK) return fail("print", status);
         printf("%.*s", (int)length, (const char *)text);
 
-        status = kohiblad_get(row, row_size, (const uint8_t *)"price", 5,
-                              price, sizeof price, &length);
+        status = kohiblad_get_key(row, row_size, (const uint8_t *)"price", 5,
+                                  price, sizeof price, &length);
         if (status == KOHIBLAD_OK)
-            status = kohiblad_to_string_within(price, length, DEPTH, text, sizeof text, &length);
+            status = kohiblad_print(price, length, DEPTH, text, sizeof text, &length);
         if (status == KOHIBLAD_OK) printf("  costs %.*s", (int)length, (const char *)text);
-        else if (status != KOHIBLAD_NONE) return fail("get", status);
+        else if (status != KOHIBLAD_NONE) return fail("get_key", status);
         puts("");
     }
     return 0;

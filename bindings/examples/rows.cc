@@ -52,13 +52,14 @@ Bytes document_of(std::string_view text) {
 
 std::optional<Bytes> value_of(const Bytes &row, std::string_view name) {
     return written([&](std::uint8_t *out, std::size_t room, std::size_t *length) {
-        return kohiblad_get(row.data(), row.size(), bytes_of(name), name.size(), out, room, length);
+        return kohiblad_get_key(row.data(), row.size(), bytes_of(name), name.size(), out, room,
+                                length);
     });
 }
 
 std::string text_of(const Bytes &row) {
     const Bytes text = *written([&](std::uint8_t *out, std::size_t room, std::size_t *length) {
-        return kohiblad_to_string_within(row.data(), row.size(), depth, out, room, length);
+        return kohiblad_print(row.data(), row.size(), depth, out, room, length);
     });
     return std::string(text.begin(), text.end());
 }
@@ -76,9 +77,9 @@ int main() {
         offsets.push_back(column.size());
     }
     std::vector<std::size_t> order(rows.size());
-    const std::uint32_t status = kohiblad_sort_within(column.data(), column.size(), offsets.data(),
-                                                      offsets.size(), depth, order.data(),
-                                                      order.size());
+    const std::uint32_t status = kohiblad_sort(column.data(), column.size(), offsets.data(),
+                                               offsets.size(), depth, order.data(),
+                                               order.size());
     if (status != KOHIBLAD_OK) fail(status);
     for (std::size_t number : order) {
         std::cout << text_of(rows[number]);

@@ -47,15 +47,15 @@ column, offsets = b"".join(rows), (ctypes.c_size_t * (len(rows) + 1))()
 for i in range(len(rows)):
     offsets[i + 1] = offsets[i] + len(rows[i])
 order = (ctypes.c_size_t * len(rows))()
-status = library.kohiblad_sort_within(column, ctypes.c_size_t(len(column)),
-                                      offsets, ctypes.c_size_t(len(offsets)),
-                                      ctypes.c_size_t(DEPTH),
-                                      order, ctypes.c_size_t(len(order)))
+status = library.kohiblad_sort(column, ctypes.c_size_t(len(column)),
+                               offsets, ctypes.c_size_t(len(offsets)),
+                               ctypes.c_size_t(DEPTH),
+                               order, ctypes.c_size_t(len(order)))
 assert status == OK
 for row in (rows[i] for i in order):
-    status, price = call("kohiblad_get", row, b"price")
+    status, price = call("kohiblad_get_key", row, b"price")
     assert status in (OK, NONE)
     costs = ""
     if status == OK:
-        costs = "  costs " + bytes_of("kohiblad_to_string_within", price, DEPTH).decode()
-    print(bytes_of("kohiblad_to_string_within", row, DEPTH).decode() + costs)
+        costs = "  costs " + bytes_of("kohiblad_print", price, DEPTH).decode()
+    print(bytes_of("kohiblad_print", row, DEPTH).decode() + costs)

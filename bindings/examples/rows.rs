@@ -18,7 +18,7 @@ mod library {
             room: usize,
             length: *mut usize,
         ) -> u32;
-        pub fn kohiblad_get(
+        pub fn kohiblad_get_key(
             bytes: *const u8,
             size: usize,
             name: *const u8,
@@ -27,7 +27,7 @@ mod library {
             room: usize,
             length: *mut usize,
         ) -> u32;
-        pub fn kohiblad_to_string_within(
+        pub fn kohiblad_print(
             bytes: *const u8,
             size: usize,
             depth: usize,
@@ -35,7 +35,7 @@ mod library {
             room: usize,
             length: *mut usize,
         ) -> u32;
-        pub fn kohiblad_sort_within(
+        pub fn kohiblad_sort(
             bytes: *const u8,
             size: usize,
             offsets: *const usize,
@@ -77,7 +77,7 @@ fn document_of(text: &str) -> Result<Vec<u8>, u32> {
 fn value_of(row: &[u8], name: &str) -> Result<Option<Vec<u8>>, u32> {
     let found = written(|out, room, length| unsafe {
         let (bytes, size) = (row.as_ptr(), row.len());
-        library::kohiblad_get(bytes, size, name.as_ptr(), name.len(), out, room, length)
+        library::kohiblad_get_key(bytes, size, name.as_ptr(), name.len(), out, room, length)
     });
     match found {
         Err(NONE) => Ok(None),
@@ -87,7 +87,7 @@ fn value_of(row: &[u8], name: &str) -> Result<Option<Vec<u8>>, u32> {
 
 fn text_of(row: &[u8]) -> Result<String, u32> {
     let text = written(|out, room, length| unsafe {
-        library::kohiblad_to_string_within(row.as_ptr(), row.len(), DEPTH, out, room, length)
+        library::kohiblad_print(row.as_ptr(), row.len(), DEPTH, out, room, length)
     })?;
     Ok(String::from_utf8(text).expect("texts are UTF-8"))
 }
@@ -105,7 +105,7 @@ fn order_of(rows: &[Vec<u8>]) -> Result<Vec<usize>, u32> {
         let (bytes, size) = (column.as_ptr(), column.len());
         let (starts, count) = (offsets.as_ptr(), offsets.len());
         let (written, room) = (order.as_mut_ptr(), order.len());
-        library::kohiblad_sort_within(bytes, size, starts, count, DEPTH, written, room)
+        library::kohiblad_sort(bytes, size, starts, count, DEPTH, written, room)
     };
     if status == OK {
         Ok(order)

@@ -12,10 +12,10 @@ NO_ROOM, NONE, TOO_DEEP = 11, 12, 13
 ANY_DEPTH = 2 ** 64 - 1
 KINDS = ["null", "boolean", "number", "string", "extension", "array", "object"]
 # The calls that answer commands of jsonb_probe.
-CALLS = {"is_document": "check", "is_canonical": "is_canonical_within",
-         "to_string": "to_string_within", "to_pretty_string": "to_pretty_within",
-         "to_canonical": "to_canonical_within", "array_of": "build_array_within",
-         "object_of": "build_object_within"}
+CALLS = {"is_document": "check", "is_canonical": "is_canonical",
+         "to_string": "print", "to_pretty_string": "pretty",
+         "to_canonical": "canonical", "array_of": "build_array",
+         "object_of": "build_object"}
 
 
 class Kind(ctypes.Structure):
@@ -38,12 +38,12 @@ class Extension(ctypes.Structure):
                 ("offset", ctypes.c_uint64), ("length", ctypes.c_uint64)]
 
 
-for predicate in ("check", "is_canonical_within"):
+for predicate in ("check", "is_canonical"):
     getattr(LIBRARY, "kohiblad_" + predicate).restype = ctypes.c_bool
 LIBRARY.kohiblad_kind.restype = Kind
-LIBRARY.kohiblad_number.restype = Decimal
-LIBRARY.kohiblad_extension.restype = Extension
-LIBRARY.kohiblad_find.restype = LIBRARY.kohiblad_part.restype = Place
+LIBRARY.kohiblad_as_decimal.restype = Decimal
+LIBRARY.kohiblad_as_extension.restype = Extension
+LIBRARY.kohiblad_find_key.restype = LIBRARY.kohiblad_find_index.restype = Place
 
 
 def given(values):
@@ -102,7 +102,7 @@ def said(answer):
 def member(document, index):
     key, key_length = ctypes.create_string_buffer(4096), SIZE()
     out, length = ctypes.create_string_buffer(65536), SIZE()
-    status = LIBRARY.kohiblad_object_member(
+    status = LIBRARY.kohiblad_get_member(
         document, SIZE(len(document)), SIZE(index), key, SIZE(4096), ctypes.byref(key_length),
         out, SIZE(65536), ctypes.byref(length))
     return status, key.raw[:key_length.value], out.raw[:length.value]
@@ -131,13 +131,13 @@ def known_answers():
             ("2000000060000011 4000000001ffffffff0000000000000003", (0, 0x40, 3, 1, -1, 0, 0, 0)),
             ("2000000060000003 00abcd", (0, 0, 0, 0, 0, 0, 9, 2)),
             ("2000000060000002 50ff", (0, 0x50, 0, 0, 0, 0, 9, 1))):
-        fields = tell("extension", bytes.fromhex(document))
+        fields = tell("as_extension", bytes.fromhex(document))
         assert tuple(getattr(fields, name) for name, _ in Extension._fields_) == answer, document
     for document, answer in (
             ("200000002000000a 70ffffffffffffff6a02", (0, 2, -1, 2**64 - 150)),
             ("2000000020000012 700000000000000001000000000000000500", (0, 0, 1, 5)),
             ("2000000020000002 40ff", (0, 0, -1, 2**64 - 1))):
-        number = tell("number", bytes.fromhex(document))
+        number = tell("as_decimal", bytes.fromhex(document))
         assert (number.status, number.scale, number.high, number.low) == answer, document
     assert parse(b'[false,10,{"k":"v"}]', 2) == (0, array)
     assert parse(b'[false,10,{"k":"v"}]', 1) == (TOO_DEEP, b"")
@@ -149,42 +149,42 @@ def known_answers():
         assert parse(text, 0, 1) == parse(same, 0), text
         assert name_of(parse(text, 0)[0]) == "InvalidJson", text
     assert name_of(parse(b"1e999999999", 0, 1)[0]) == "InvalidJson"
-    assert ask("to_string_within", array, ANY_DEPTH) == (0, b'[false,10,{"k":"v"}]')
-    assert ask("to_string_within", array, 1)[1].startswith(b"\xef\xbf\xbd")
-    assert ask("to_pretty_within", array, 2)[1].count(b"\n") == 6
-    assert ask("to_pretty_within", array, 1) == (0, b"null")
+    assert ask("print", array, ANY_DEPTH) == (0, b'[false,10,{"k":"v"}]')
+    assert ask("print", array, 1)[1].startswith(b"\xef\xbf\xbd")
+    assert ask("pretty", array, 2)[1].count(b"\n") == 6
+    assert ask("pretty", array, 1) == (0, b"null")
     assert tell("check", array, 2)
     assert not tell("check", array, 1) and not tell("check", array[:-1], 9)
     kind = tell("kind", array)
     assert (kind.status, kind.kind, kind.count) == (0, 5, 3)
-    assert ask("array_item", array, 0) == (0, bytes.fromhex("2000000030000000"))
-    assert ask("array_item", array, 1) == (0, bytes.fromhex("2000000020000002500a"))
-    assert ask("array_item", array, 2) == (0, array[18:])
-    assert ask("array_item", array, 3) == (NONE, b"")
-    place = tell("part", array, 2)
+    assert ask("get_index", array, 0) == (0, bytes.fromhex("2000000030000000"))
+    assert ask("get_index", array, 1) == (0, bytes.fromhex("2000000020000002500a"))
+    assert ask("get_index", array, 2) == (0, array[18:])
+    assert ask("get_index", array, 3) == (NONE, b"")
+    place = tell("find_index", array, 2)
     assert (place.status, place.type, place.offset, place.length) == (0, 0x50000000, 18, 14)
     inner = array[18:]
     assert member(inner, 0) == (0, b"k", bytes.fromhex("200000001000000176"))
     assert member(inner, 1) == (NONE, b"", b"") and member(array, 0)[0] == NONE
-    assert ask("get", inner, b"k") == (0, bytes.fromhex("200000001000000176"))
-    assert ask("get", inner, b"j") == (NONE, b"") and ask("get", array, b"k")[0] == NONE
-    place = tell("find", inner, b"k")
+    assert ask("get_key", inner, b"k") == (0, bytes.fromhex("200000001000000176"))
+    assert ask("get_key", inner, b"j") == (NONE, b"") and ask("get_key", array, b"k")[0] == NONE
+    place = tell("find_key", inner, b"k")
     assert (place.status, place.type, place.offset, place.length) == (0, 0x10000000, 13, 1)
-    assert ask("of_part", 0x10000000, b"v") == (0, bytes.fromhex("200000001000000176"))
-    assert ask("of_part", 0x20000000, array[16:18]) == ask("array_item", array, 1)
-    assert ask("of_part", 0x30000000, b"") == (0, bytes.fromhex("2000000030000000"))
-    assert ask("of_part", 0x50000000, inner) == (0, inner)
+    assert ask("copy", 0x10000000, b"v") == (0, bytes.fromhex("200000001000000176"))
+    assert ask("copy", 0x20000000, array[16:18]) == ask("get_index", array, 1)
+    assert ask("copy", 0x30000000, b"") == (0, bytes.fromhex("2000000030000000"))
+    assert ask("copy", 0x50000000, inner) == (0, inner)
     for unknown in (0x70000000, 0x80000000, 0x10000001):
-        assert name_of(ask("of_part", unknown, b"v")[0]) == "InvalidJsonbJEntry"
-    parts = [ask("array_item", array, i)[1] for i in range(3)]
-    assert ask("build_array_within", *rows(parts), 1) == (0, array)
-    assert ask("build_object_within", *rows([b"k", parse(b'"v"', 0)[1]]), 0) == (0, inner)
-    status, _ = ask("build_object_within", *rows([b"k", inner, b"k", inner]), 1)
+        assert name_of(ask("copy", unknown, b"v")[0]) == "InvalidJsonbJEntry"
+    parts = [ask("get_index", array, i)[1] for i in range(3)]
+    assert ask("build_array", *rows(parts), 1) == (0, array)
+    assert ask("build_object", *rows([b"k", parse(b'"v"', 0)[1]]), 0) == (0, inner)
+    status, _ = ask("build_object", *rows([b"k", inner, b"k", inner]), 1)
     assert name_of(status) == "ObjectDuplicateKey"
-    assert name_of(ask("build_array_within", array, [0, 40], 9)[0]) == "InvalidEOF"
+    assert name_of(ask("build_array", array, [0, 40], 9)[0]) == "InvalidEOF"
     order = (SIZE * 4)(9, 9, 9, 9)
     documents = [parse(text, 9)[1] for text in (b"null", b'"a"', b"5.0", b"5")]
-    assert LIBRARY.kohiblad_sort_within(*given(rows(documents)), SIZE(9), order, SIZE(4)) == 0
+    assert LIBRARY.kohiblad_sort(*given(rows(documents)), SIZE(9), order, SIZE(4)) == 0
     assert list(order) == [2, 3, 1, 0]
 
 
@@ -220,12 +220,12 @@ def probe(line, answer):
             return f"error {name_of(kind.status)}" == answer
         return f"ok {KINDS[kind.kind]}{count}" == answer
     if command == "cmp":
-        sign = tell("compare_within", given_bytes, bytes.fromhex(words[1]), ANY_DEPTH)
+        sign = tell("compare", given_bytes, bytes.fromhex(words[1]), ANY_DEPTH)
         return ("equal", "greater", "less")[sign] == answer.split(" ")[0]
     if command in ("to_string", "to_pretty_string", "to_canonical"):
         return said(ask(CALLS[command], given_bytes, ANY_DEPTH)) == answer
     if command == "lookup":
-        status, value = ask("get", given_bytes, bytes.fromhex(words[1]))
+        status, value = ask("get_key", given_bytes, bytes.fromhex(words[1]))
         told = answer if answer.startswith("error") else answer.split(" ", 2)[2]
         if status == 0:
             return not is_document(given_bytes) or told.split(" ")[1] == value.hex()
@@ -234,11 +234,11 @@ def probe(line, answer):
         return None
     if answer == "none":
         is_array = command == "array"
-        first = ask("array_item", given_bytes, 0) if is_array else member(given_bytes, 0)
+        first = ask("get_index", given_bytes, 0) if is_array else member(given_bytes, 0)
         return first[0] == NONE
     items = answer.split(" | ")[1:-1]
     if command == "array":
-        mine = [ask("array_item", given_bytes, i) for i in range(len(items))]
+        mine = [ask("get_index", given_bytes, i) for i in range(len(items))]
         return [item.split(" ")[1] for item in items] == [value.hex() for _, value in mine]
     mine = [member(given_bytes, i) for i in range(len(items))]
     theirs = [item.split(" ") for item in items]

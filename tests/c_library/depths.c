@@ -37,36 +37,36 @@ static void *work(void *unused) {
     uint32_t status = 0;
     if (!strcmp(name, "check"))
         status = !kohiblad_check(in, in_size, levels);
-    else if (!strcmp(name, "is_canonical_within"))
-        status = !kohiblad_is_canonical_within(in, in_size, levels);
-    else if (!strcmp(name, "compare_within")) {
+    else if (!strcmp(name, "is_canonical"))
+        status = !kohiblad_is_canonical(in, in_size, levels);
+    else if (!strcmp(name, "compare")) {
         /* Equal bytes are not walked, so the innermost number is one more on one side. */
         uint8_t *more = malloc(in_size);
         if (!more) abort();
         memcpy(more, in, in_size);
         more[in_size - 1]++;
-        status = kohiblad_compare_within(in, in_size, more, in_size, levels) != -1;
+        status = kohiblad_compare(in, in_size, more, in_size, levels) != -1;
         free(more);
-    } else if (!strcmp(name, "sort_within"))
-        status = kohiblad_sort_within(in, in_size, (size_t[]){ 0, in_size }, 2, levels, &length, 1);
+    } else if (!strcmp(name, "sort"))
+        status = kohiblad_sort(in, in_size, (size_t[]){ 0, in_size }, 2, levels, &length, 1);
     else if (!strcmp(name, "bounded")) {
         /* Each call that looks no deeper than 64 levels, or into no child. */
         struct kohiblad_cursor cursor;
         struct kohiblad_place value;
         status = kohiblad_check(in, in_size, 64);
-        status |= kohiblad_compare_within(in, in_size, in, in_size - 1, 64) != 1;
+        status |= kohiblad_compare(in, in_size, in, in_size - 1, 64) != 1;
         size_t offsets[3] = { 0, 0, in_size };
-        status |= kohiblad_sort_within(in, in_size, offsets + 1, 2, 64, &length, 1);
+        status |= kohiblad_sort(in, in_size, offsets + 1, 2, 64, &length, 1);
         status |= kohiblad_key(in, in_size, 64, NULL, 0, &length) != KOHIBLAD_NO_ROOM;
-        status |= kohiblad_is_canonical_within(in, in_size, 64);
-        status |= kohiblad_to_string_within(in, in_size, 64, NULL, 0, &length) != KOHIBLAD_NO_ROOM;
-        status |= kohiblad_to_pretty_within(in, in_size, 64, NULL, 0, &length) != KOHIBLAD_NO_ROOM;
+        status |= kohiblad_is_canonical(in, in_size, 64);
+        status |= kohiblad_print(in, in_size, 64, NULL, 0, &length) != KOHIBLAD_NO_ROOM;
+        status |= kohiblad_pretty(in, in_size, 64, NULL, 0, &length) != KOHIBLAD_NO_ROOM;
         status |= length != 4;
-        status |= kohiblad_to_canonical_within(in, in_size, 64, out, room, &length)
+        status |= kohiblad_canonical(in, in_size, 64, out, room, &length)
             != KOHIBLAD_INVALID_JSONB;
-        status |= kohiblad_build_array_within(in, in_size, offsets + 1, 2, 64, out, room, &length)
+        status |= kohiblad_build_array(in, in_size, offsets + 1, 2, 64, out, room, &length)
             != KOHIBLAD_INVALID_JSONB;
-        status |= kohiblad_build_object_within(in, in_size, offsets, 3, 64, out, room, &length)
+        status |= kohiblad_build_object(in, in_size, offsets, 3, 64, out, room, &length)
             != KOHIBLAD_INVALID_JSONB;
         status |= kohiblad_contains(in, in_size, in, in_size, 64, 1).status
             != KOHIBLAD_INVALID_JSONB;
@@ -101,22 +101,22 @@ static void *work(void *unused) {
         status |= kohiblad_index_keys(in, in_size, 64, NULL, 0, &length) != KOHIBLAD_INVALID_JSONB;
         status |= kohiblad_top_keys(in, in_size, 64, NULL, 0, &length) != KOHIBLAD_INVALID_JSONB;
         status |= kohiblad_kind(in, in_size).status;
-        status |= kohiblad_part(in, in_size, 0).status;
+        status |= kohiblad_find_index(in, in_size, 0).status;
         status |= kohiblad_begin(in, in_size, &cursor);
         status |= kohiblad_next(in, in_size, &cursor, NULL, &value);
-        status |= kohiblad_number(in, in_size).status != KOHIBLAD_OTHER_KIND;
-        status |= kohiblad_int64(in, in_size).status != KOHIBLAD_OTHER_KIND;
-        status |= kohiblad_text(in, in_size).status != KOHIBLAD_OTHER_KIND;
-        status |= kohiblad_boolean(in, in_size).status != KOHIBLAD_OTHER_KIND;
-        (void)kohiblad_find(in, in_size, in, 1);
-        (void)kohiblad_get(in, in_size, in, 1, out, room, &length);
-        (void)kohiblad_array_item(in, in_size, 0, out, room, &length);
-    } else if (!strcmp(name, "to_string_within"))
-        status = kohiblad_to_string_within(in, in_size, levels, out, room, &length);
-    else if (!strcmp(name, "to_pretty_within"))
-        status = kohiblad_to_pretty_within(in, in_size, levels, out, 0, &length);
-    else if (!strcmp(name, "to_canonical_within"))
-        status = kohiblad_to_canonical_within(in, in_size, levels, out, room, &length);
+        status |= kohiblad_as_decimal(in, in_size).status != KOHIBLAD_OTHER_KIND;
+        status |= kohiblad_as_int64(in, in_size).status != KOHIBLAD_OTHER_KIND;
+        status |= kohiblad_as_string(in, in_size).status != KOHIBLAD_OTHER_KIND;
+        status |= kohiblad_as_boolean(in, in_size).status != KOHIBLAD_OTHER_KIND;
+        (void)kohiblad_find_key(in, in_size, in, 1);
+        (void)kohiblad_get_key(in, in_size, in, 1, out, room, &length);
+        (void)kohiblad_get_index(in, in_size, 0, out, room, &length);
+    } else if (!strcmp(name, "print"))
+        status = kohiblad_print(in, in_size, levels, out, room, &length);
+    else if (!strcmp(name, "pretty"))
+        status = kohiblad_pretty(in, in_size, levels, out, 0, &length);
+    else if (!strcmp(name, "canonical"))
+        status = kohiblad_canonical(in, in_size, levels, out, room, &length);
     else if (!strcmp(name, "contains"))
         status = kohiblad_contains(in, in_size, in, in_size, levels, SIZE_MAX).value != 1;
     else if (!strcmp(name, "concat"))
@@ -168,9 +168,9 @@ static void *work(void *unused) {
         free(path);
     } else if (!strcmp(name, "index_keys"))
         status = kohiblad_index_keys(in, in_size, levels, NULL, 0, &length);
-    else if (!strcmp(name, "build_array_within"))
-        status = kohiblad_build_array_within(in, in_size, (size_t[]){ 0, in_size }, 2, levels, out,
-                                             room, &length);
+    else if (!strcmp(name, "build_array"))
+        status = kohiblad_build_array(in, in_size, (size_t[]){ 0, in_size }, 2, levels, out,
+                                      room, &length);
     else if (!strcmp(name, "parse"))
         status = kohiblad_parse(in, in_size, levels, 0, out, room, &length);
     else if (!strcmp(name, "text_fault"))

@@ -46,7 +46,7 @@ static bool word_at(struct block b, size_t at, uint32_t *word) {
     return true;
 }
 
-/* Each child beside kohiblad_part, and the places by the format's words. */
+/* Each child beside kohiblad_find_index, and the places by the format's words. */
 static long walk(struct block b) {
     struct kohiblad_cursor cursor = { 7, 7, 7 }, before;
     struct kohiblad_place key, value, part;
@@ -79,18 +79,18 @@ static long walk(struct block b) {
         if (status != KOHIBLAD_OK) {
             assert(!memcmp(&cursor, &before, sizeof cursor));
             if (status == KOHIBLAD_NONE) return (long)i;
-            part = kohiblad_part(b.at, b.size, i + (is_object ? kind.count : 0));
+            part = kohiblad_find_index(b.at, b.size, i + (is_object ? kind.count : 0));
             assert(part.status == status
-                   || (is_object && kohiblad_part(b.at, b.size, i).status == status));
+                   || (is_object && kohiblad_find_index(b.at, b.size, i).status == status));
             return 0;
         }
-        part = kohiblad_part(b.at, b.size, i + (is_object ? kind.count : 0));
+        part = kohiblad_find_index(b.at, b.size, i + (is_object ? kind.count : 0));
         assert(!memcmp(&part, &value, sizeof part));
         assert(word_at(b, 4 + 4 * (i + (is_object ? kind.count : 0)), &word));
         assert(value.type == (word & 0x70000000) && value.length == (word & 0x0FFFFFFF));
         assert(value.offset == start);
         if (is_object) {
-            part = kohiblad_part(b.at, b.size, i);
+            part = kohiblad_find_index(b.at, b.size, i);
             assert(!memcmp(&part, &key, sizeof part));
             key_start += key.length;
         } else {
@@ -142,11 +142,11 @@ static wide digits_of(const uint8_t *text, size_t size, uint32_t *scale) {
 
 /* A scalar is read as its text tells it. */
 static long read_scalar(struct block b, bool is, struct kohiblad_value_kind kind) {
-    struct kohiblad_decimal number = kohiblad_number(b.at, b.size);
-    struct kohiblad_integer integer = kohiblad_int64(b.at, b.size);
-    struct kohiblad_place text = kohiblad_text(b.at, b.size);
-    struct kohiblad_truth truth = kohiblad_boolean(b.at, b.size);
-    struct kohiblad_extension_value extension = kohiblad_extension(b.at, b.size);
+    struct kohiblad_decimal number = kohiblad_as_decimal(b.at, b.size);
+    struct kohiblad_integer integer = kohiblad_as_int64(b.at, b.size);
+    struct kohiblad_place text = kohiblad_as_string(b.at, b.size);
+    struct kohiblad_truth truth = kohiblad_as_boolean(b.at, b.size);
+    struct kohiblad_extension_value extension = kohiblad_as_extension(b.at, b.size);
     uint32_t wanted[] = { KOHIBLAD_NUMBER, KOHIBLAD_NUMBER, KOHIBLAD_STRING, KOHIBLAD_BOOLEAN,
                           KOHIBLAD_EXTENSION };
     uint32_t statuses[] = { number.status, integer.status, text.status, truth.status,
@@ -174,7 +174,7 @@ static long read_scalar(struct block b, bool is, struct kohiblad_value_kind kind
                    && (uint32_t)extension.days == (uint32_t)first);
     }
     if (!is || kind.kind >= KOHIBLAD_ARRAY || kind.kind == KOHIBLAD_EXTENSION) return 0;
-    assert(kohiblad_to_string_within(b.at, b.size, SIZE_MAX, shown, sizeof shown, &size)
+    assert(kohiblad_print(b.at, b.size, SIZE_MAX, shown, sizeof shown, &size)
            == KOHIBLAD_OK);
     if (!number.status) {
         uint32_t scale;
@@ -205,27 +205,27 @@ static void make_scalar(void) {
     uint32_t status = kohiblad_of_decimal(high, low, scale, made, sizeof made, &size);
     assert(status == (scale > 255 ? KOHIBLAD_INVALID_JSONB : KOHIBLAD_OK));
     if (!status) {
-        number = kohiblad_number(made, size);
+        number = kohiblad_as_decimal(made, size);
         assert(!number.status && number.high == high && number.low == low && number.scale == scale);
-        assert(kohiblad_is_canonical_within(made, size, SIZE_MAX));
-        assert(!kohiblad_to_string_within(made, size, SIZE_MAX, shown, sizeof shown, &shown_size));
+        assert(kohiblad_is_canonical(made, size, SIZE_MAX));
+        assert(!kohiblad_print(made, size, SIZE_MAX, shown, sizeof shown, &shown_size));
         assert(!kohiblad_parse(shown, shown_size, 0, 0, parsed, sizeof parsed, &parsed_size));
         assert(size == parsed_size && !memcmp(made, parsed, size));
     }
     assert(!kohiblad_of_int64((int64_t)low, made, sizeof made, &size));
-    assert(kohiblad_int64(made, size).value == (int64_t)low);
-    assert(!kohiblad_to_string_within(made, size, SIZE_MAX, shown, sizeof shown, &shown_size));
+    assert(kohiblad_as_int64(made, size).value == (int64_t)low);
+    assert(!kohiblad_print(made, size, SIZE_MAX, shown, sizeof shown, &shown_size));
     assert(!kohiblad_parse(shown, shown_size, 0, 0, parsed, sizeof parsed, &parsed_size));
     assert(size == parsed_size && !memcmp(made, parsed, size));
     struct block text = make(below(9));
     for (size_t i = 0; i < text.size; i++)
         text.at[i] = (uint8_t)(below(4) ? below(128) : below(256));
-    status = kohiblad_of_text(text.at, text.size, made, sizeof made, &size);
+    status = kohiblad_of_string(text.at, text.size, made, sizeof made, &size);
     if (status == KOHIBLAD_OK) {
-        struct kohiblad_place place = kohiblad_text(made, size);
+        struct kohiblad_place place = kohiblad_as_string(made, size);
         assert(!place.status && place.length == text.size && size == 8 + text.size);
         assert(!text.size || !memcmp(made + place.offset, text.at, text.size));
-        assert(kohiblad_is_canonical_within(made, size, SIZE_MAX));
+        assert(kohiblad_is_canonical(made, size, SIZE_MAX));
     } else {
         bool ascii = true;
         for (size_t i = 0; i < text.size; i++) ascii = ascii && text.at[i] < 128;
@@ -233,7 +233,7 @@ static void make_scalar(void) {
     }
     drop(text);
     assert(!kohiblad_of_boolean(low != 0, made, sizeof made, &size) && size == 8);
-    assert(kohiblad_boolean(made, size).value == (low != 0));
+    assert(kohiblad_as_boolean(made, size).value == (low != 0));
     assert(!kohiblad_of_null(made, sizeof made, &size) && size == 8);
     assert(kohiblad_kind(made, size).kind == KOHIBLAD_NULL);
     assert(kohiblad_of_null(made, 7, &size) == KOHIBLAD_NO_ROOM && size == 8);
@@ -265,7 +265,7 @@ static int32_t model_within(const uint8_t *left, size_t left_size, const uint8_t
     bool is_left = kohiblad_check(left, left_size, depth);
     bool is_right = kohiblad_check(right, right_size, depth);
     if (is_left && is_right)
-        return kohiblad_compare_within(left, left_size, right, right_size, SIZE_MAX);
+        return kohiblad_compare(left, left_size, right, right_size, SIZE_MAX);
     if (is_left != is_right) return is_left ? -1 : 1;
     size_t size = left_size < right_size ? left_size : right_size;
     int order = size ? memcmp(left, right, size) : 0;
@@ -275,14 +275,14 @@ static int32_t model_within(const uint8_t *left, size_t left_size, const uint8_t
 
 /* An extension value's document, made of its fields: the canonical one; of wrong ones none. */
 static void make_extension(struct block b) {
-    struct kohiblad_extension_value e = kohiblad_extension(b.at, b.size);
+    struct kohiblad_extension_value e = kohiblad_as_extension(b.at, b.size);
     uint8_t made[ROOM], wanted[ROOM];
     size_t length, needed;
     if (e.status == KOHIBLAD_OK) {
         assert(kohiblad_of_extension(e.tag, e.value, e.months, e.days, e.seconds, b.at + e.offset,
                                      e.length, made, sizeof made, &length) == KOHIBLAD_OK);
-        assert(!kohiblad_to_canonical_within(b.at, b.size, SIZE_MAX, wanted, sizeof wanted,
-                                             &needed));
+        assert(!kohiblad_canonical(b.at, b.size, SIZE_MAX, wanted, sizeof wanted,
+                                   &needed));
         assert(length == needed && !memcmp(made, wanted, needed));
     }
     uint32_t tag = below(3) ? 16 * below(17) : below(300);
@@ -299,7 +299,7 @@ static void make_extension(struct block b) {
                                             sizeof made, &length);
     assert(status == (is ? KOHIBLAD_OK : KOHIBLAD_INVALID_JSONB_EXTENSION));
     if (!is) return;
-    e = kohiblad_extension(made, length);
+    e = kohiblad_as_extension(made, length);
     assert(!e.status && e.tag == tag && e.value == value && e.months == months && e.days == days);
     assert(e.seconds == seconds && e.length == size && e.offset == (has_data ? 9 : 0));
     assert(size == 0 || !memcmp(made + e.offset, b.at, size));
@@ -319,8 +319,8 @@ static void copied_part(struct block b, struct kohiblad_place place, struct bloc
     uint32_t made_status;
     size_t made_length;
     ANSWER(made_status, made, made_length,
-           kohiblad_of_part(place.type, payload.at, payload.size, made.at, made.size,
-                            &made_length));
+           kohiblad_copy(place.type, payload.at, payload.size, made.at, made.size,
+                         &made_length));
     if (place.type > KOHIBLAD_TYPE_EXTENSION) assert(made_status == KOHIBLAD_INVALID_JSONB_JENTRY);
     else same(copy, status, length, made, made_status, made_length);
     drop(payload);
@@ -336,7 +336,7 @@ static void make_part(struct block payload) {
     uint32_t status;
     size_t length, wanted = payload.size + (is_container ? 0 : 8);
     ANSWER(status, out, length,
-           kohiblad_of_part(type, payload.at, payload.size, out.at, out.size, &length));
+           kohiblad_copy(type, payload.at, payload.size, out.at, out.size, &length));
     if (!is_type) {
         assert(status == KOHIBLAD_INVALID_JSONB_JENTRY);
     } else {
@@ -368,21 +368,21 @@ static void answer_within(struct block b, bool shallow, size_t depth, struct blo
     uint32_t status, wanted;
     size_t length, needed;
     ANSWER(status, out, length,
-           kohiblad_to_canonical_within(b.at, b.size, depth, out.at, out.size, &length));
+           kohiblad_canonical(b.at, b.size, depth, out.at, out.size, &length));
     ANSWER(wanted, other, needed,
-           kohiblad_to_canonical_within(b.at, b.size, SIZE_MAX, other.at, other.size, &needed));
+           kohiblad_canonical(b.at, b.size, SIZE_MAX, other.at, other.size, &needed));
     if (shallow) same(out, status, length, other, wanted, needed);
     else assert(status == KOHIBLAD_INVALID_JSONB);
     ANSWER(status, out, length,
-           kohiblad_to_pretty_within(b.at, b.size, depth, out.at, out.size, &length));
+           kohiblad_pretty(b.at, b.size, depth, out.at, out.size, &length));
     ANSWER(wanted, other, needed,
-           kohiblad_to_pretty_within(b.at, b.size, SIZE_MAX, other.at, other.size, &needed));
+           kohiblad_pretty(b.at, b.size, SIZE_MAX, other.at, other.size, &needed));
     if (shallow) same(out, status, length, other, wanted, needed);
     else assert(length == 4 && (status != KOHIBLAD_OK || !memcmp(out.at, "null", 4)));
     ANSWER(status, out, length,
-           kohiblad_to_string_within(b.at, b.size, depth, out.at, out.size, &length));
+           kohiblad_print(b.at, b.size, depth, out.at, out.size, &length));
     ANSWER(wanted, other, needed,
-           kohiblad_to_string_within(b.at, b.size, SIZE_MAX, other.at, other.size, &needed));
+           kohiblad_print(b.at, b.size, SIZE_MAX, other.at, other.size, &needed));
     if (shallow || !kohiblad_check(b.at, b.size, SIZE_MAX))
         same(out, status, length, other, wanted, needed);
     else if (status == KOHIBLAD_OK)
@@ -403,23 +403,23 @@ static void build_within(struct block rows, const size_t *offsets, size_t depth,
             && kohiblad_check(rows.at + offsets[0], offsets[1] - offsets[0], depth);
     }
     ANSWER(status, out, length,
-           kohiblad_build_array_within(rows.at, rows.size, offsets, 3, depth, out.at, out.size,
-                                       &length));
+           kohiblad_build_array(rows.at, rows.size, offsets, 3, depth, out.at, out.size,
+                                &length));
     ANSWER(wanted, other, needed,
-           kohiblad_build_array_within(rows.at, rows.size, offsets, 3, SIZE_MAX, other.at,
-                                       other.size, &needed));
+           kohiblad_build_array(rows.at, rows.size, offsets, 3, SIZE_MAX, other.at,
+                                other.size, &needed));
     if (shallow || !ascend) same(out, status, length, other, wanted, needed);
     else assert(status == KOHIBLAD_INVALID_JSONB);
     ANSWER(status, out, length,
-           kohiblad_build_object_within(rows.at, rows.size, offsets, 3, depth, out.at, out.size,
-                                        &length));
+           kohiblad_build_object(rows.at, rows.size, offsets, 3, depth, out.at, out.size,
+                                 &length));
     ANSWER(wanted, other, needed,
-           kohiblad_build_object_within(rows.at, rows.size, offsets, 3, SIZE_MAX, other.at,
-                                        other.size, &needed));
+           kohiblad_build_object(rows.at, rows.size, offsets, 3, SIZE_MAX, other.at,
+                                 other.size, &needed));
     if (is_last || !ascend) same(out, status, length, other, wanted, needed);
     else assert(status == KOHIBLAD_INVALID_JSONB);
     /* Pairs have an even number of rows. */
-    assert(kohiblad_build_object_within(rows.at, rows.size, offsets, 2, depth, NULL, 0, &length)
+    assert(kohiblad_build_object(rows.at, rows.size, offsets, 2, depth, NULL, 0, &length)
            == KOHIBLAD_INVALID_EOF);
     drop(other);
 }
@@ -472,9 +472,9 @@ static void pick_within(struct block b, struct block other, bool shallow, bool a
     if (!shallow || depth < 1) {
         assert(status == KOHIBLAD_INVALID_JSONB);
     } else if (status == KOHIBLAD_OK) {
-        assert(kohiblad_is_canonical_within(out.at, length, SIZE_MAX));
-        bool has_a = kohiblad_find(b.at, b.size, a + 8, 1).status == KOHIBLAD_OK;
-        status = kohiblad_find(out.at, length, a + 8, 1).status;
+        assert(kohiblad_is_canonical(out.at, length, SIZE_MAX));
+        bool has_a = kohiblad_find_key(b.at, b.size, a + 8, 1).status == KOHIBLAD_OK;
+        status = kohiblad_find_key(out.at, length, a + 8, 1).status;
         assert((status == KOHIBLAD_OK) == (has_a && others == KOHIBLAD_NAMED));
     } else {
         assert(status == KOHIBLAD_NO_ROOM);
@@ -541,13 +541,13 @@ static void patch_within(struct block b, struct block other, bool shallow, bool 
     if (!are) {
         assert(status == KOHIBLAD_INVALID_JSONB);
     } else if (status == KOHIBLAD_OK) {
-        assert(kohiblad_is_canonical_within(out.at, length, SIZE_MAX));
+        assert(kohiblad_is_canonical(out.at, length, SIZE_MAX));
         if (kohiblad_kind(other.at, other.size).kind == KOHIBLAD_OBJECT)
             status = kohiblad_merge_patch(out.at, length, other.at, other.size, depth, again,
                                           sizeof again, &found);
         else
-            status = kohiblad_to_canonical_within(other.at, other.size, SIZE_MAX, again,
-                                                  sizeof again, &found);
+            status = kohiblad_canonical(other.at, other.size, SIZE_MAX, again,
+                                        sizeof again, &found);
         assert(status == KOHIBLAD_OK && found == length && !memcmp(again, out.at, length));
     } else {
         assert(status == KOHIBLAD_NO_ROOM);
@@ -557,7 +557,7 @@ static void patch_within(struct block b, struct block other, bool shallow, bool 
     if (!shallow) {
         assert(status == KOHIBLAD_INVALID_JSONB);
     } else if (status == KOHIBLAD_OK) {
-        assert(kohiblad_is_canonical_within(out.at, length, SIZE_MAX));
+        assert(kohiblad_is_canonical(out.at, length, SIZE_MAX));
         assert(!kohiblad_strip_nulls(out.at, length, depth, again, sizeof again, &found));
         assert(found == length && !memcmp(again, out.at, length));
     } else {
@@ -588,19 +588,19 @@ static void edit_within(struct block b, struct block other, bool shallow, bool i
     }
     assert(status == KOHIBLAD_OK || status == KOHIBLAD_NO_ROOM);
     if (status != KOHIBLAD_OK) return;
-    assert(kohiblad_is_canonical_within(out.at, length, SIZE_MAX));
+    assert(kohiblad_is_canonical(out.at, length, SIZE_MAX));
     if (kohiblad_kind(b.at, b.size).kind != KOHIBLAD_OBJECT) {
-        assert(!kohiblad_to_canonical_within(b.at, b.size, SIZE_MAX, got, sizeof got, &found));
+        assert(!kohiblad_canonical(b.at, b.size, SIZE_MAX, got, sizeof got, &found));
         assert(found == length && !memcmp(got, out.at, length));
         return;
     }
-    bool had = kohiblad_find(b.at, b.size, (const uint8_t *)"a", 1).status == KOHIBLAD_OK;
-    status = kohiblad_get(out.at, length, (const uint8_t *)"a", 1, got, sizeof got, &found);
+    bool had = kohiblad_find_key(b.at, b.size, (const uint8_t *)"a", 1).status == KOHIBLAD_OK;
+    status = kohiblad_get_key(out.at, length, (const uint8_t *)"a", 1, got, sizeof got, &found);
     if (edit == KOHIBLAD_REMOVE) {
         assert(status == KOHIBLAD_NONE);
     } else if (edit != KOHIBLAD_INSERT || !had) {
-        assert(!kohiblad_to_canonical_within(other.at, other.size, SIZE_MAX, canonical,
-                                             sizeof canonical, &needed));
+        assert(!kohiblad_canonical(other.at, other.size, SIZE_MAX, canonical,
+                                   sizeof canonical, &needed));
         assert(status == KOHIBLAD_OK && found == needed && !memcmp(got, canonical, found));
     } else {
         assert(status == KOHIBLAD_OK);
@@ -645,7 +645,7 @@ static void path_within(struct block b, bool shallow, size_t depth) {
         assert(status == KOHIBLAD_OK && count == 1 && !memcmp(&place, &one, sizeof one));
         assert(place.offset <= b.size && place.length <= b.size - place.offset);
         if (!strcmp(text, "$.a")) {
-            one = kohiblad_find(b.at, b.size, (const uint8_t *)"a", 1);
+            one = kohiblad_find_key(b.at, b.size, (const uint8_t *)"a", 1);
             assert(!memcmp(&place, &one, sizeof one));
         }
     } else {
@@ -718,7 +718,7 @@ static void select_within(struct block b, bool shallow, size_t depth,
             wanted = kind.count < first ? 0 : kind.count - first;
         assert(count == wanted);
         for (size_t i = 0; i < count; i++) {
-            struct kohiblad_place part = kohiblad_part(b.at, b.size, first + i);
+            struct kohiblad_place part = kohiblad_find_index(b.at, b.size, first + i);
             assert(!memcmp(&part, &out[i], sizeof part));
         }
     }
@@ -744,7 +744,7 @@ static void answer_functions(struct block b, struct block other, size_t depth, s
     uint32_t kind = kohiblad_kind(b.at, b.size).kind;
     if (shallow && kind == KOHIBLAD_OBJECT)
         assert(has.value
-               == (kohiblad_find(b.at, b.size, (const uint8_t *)"a", 1).status == KOHIBLAD_OK));
+               == (kohiblad_find_key(b.at, b.size, (const uint8_t *)"a", 1).status == KOHIBLAD_OK));
     index_within(b, other, shallow, depth, contained.value, has.value);
     uint32_t status;
     size_t length;
@@ -753,7 +753,7 @@ static void answer_functions(struct block b, struct block other, size_t depth, s
     if (!are) {
         assert(status == KOHIBLAD_INVALID_JSONB);
     } else if (status == KOHIBLAD_OK) {
-        assert(kohiblad_is_canonical_within(out.at, length, SIZE_MAX));
+        assert(kohiblad_is_canonical(out.at, length, SIZE_MAX));
         bool is_object = kohiblad_kind(out.at, length).kind == KOHIBLAD_OBJECT;
         if (is_object || kind == KOHIBLAD_ARRAY)
             assert(kohiblad_contains(out.at, length, other.at, other.size, depth + 1, SIZE_MAX)
@@ -785,7 +785,7 @@ int main(int argc, char **argv) {
         assert(status != KOHIBLAD_OK || fault.offset == t.size);
         if (status == KOHIBLAD_OK) {
             assert(kohiblad_check(docs[count], length, DEPTH));
-            assert(kohiblad_is_canonical_within(docs[count], length, SIZE_MAX));
+            assert(kohiblad_is_canonical(docs[count], length, SIZE_MAX));
             sizes[count++] = length;
         } else {
             assert(status == KOHIBLAD_INVALID_JSON || status == KOHIBLAD_TOO_DEEP);
@@ -806,12 +806,12 @@ int main(int argc, char **argv) {
         bool is = kohiblad_check(b.at, b.size, SIZE_MAX);
         documents += is;
         assert(kohiblad_check(b.at, b.size, 1000) == is);
-        assert(is || !kohiblad_is_canonical_within(b.at, b.size, SIZE_MAX));
-        assert(kohiblad_compare_within(b.at, b.size, b.at, b.size, SIZE_MAX) == 0);
+        assert(is || !kohiblad_is_canonical(b.at, b.size, SIZE_MAX));
+        assert(kohiblad_compare(b.at, b.size, b.at, b.size, SIZE_MAX) == 0);
         uint32_t other = below(count);
-        int32_t order = kohiblad_compare_within(b.at, b.size, docs[other], sizes[other], SIZE_MAX);
-        assert(order == -kohiblad_compare_within(docs[other], sizes[other], b.at, b.size,
-                                                 SIZE_MAX));
+        int32_t order = kohiblad_compare(b.at, b.size, docs[other], sizes[other], SIZE_MAX);
+        assert(order == -kohiblad_compare(docs[other], sizes[other], b.at, b.size,
+                                          SIZE_MAX));
         assert(is || order > 0);
         struct kohiblad_value_kind kind = kohiblad_kind(b.at, b.size);
         assert(!is || (kind.status == KOHIBLAD_OK && kind.kind <= KOHIBLAD_OBJECT));
@@ -822,17 +822,17 @@ int main(int argc, char **argv) {
         make_part(b);
         numbers_read += read_scalar(b, is, kind);
         size_t depth = below(5);
-        int32_t within = kohiblad_compare_within(b.at, b.size, docs[other], sizes[other], depth);
+        int32_t within = kohiblad_compare(b.at, b.size, docs[other], sizes[other], depth);
         assert(within == model_within(b.at, b.size, docs[other], sizes[other], depth));
         assert(within == order_of_keys(b.at, b.size, docs[other], sizes[other], depth));
 
         /* Parts: copied and told are the same. */
         struct block out = make(below(64)), key = make(below(8)), name = copy_of("a", below(2));
         size_t index = below(5), key_length;
-        struct kohiblad_place place = kohiblad_part(b.at, b.size, index);
+        struct kohiblad_place place = kohiblad_find_index(b.at, b.size, index);
         if (place.status == KOHIBLAD_OK) assert(place.offset + place.length <= b.size);
         ANSWER(status, out, length,
-               kohiblad_array_item(b.at, b.size, index, out.at, out.size, &length));
+               kohiblad_get_index(b.at, b.size, index, out.at, out.size, &length));
         if (kind.kind == KOHIBLAD_ARRAY && place.status == KOHIBLAD_OK)
             copied_part(b, place, out, status, length);
         if (is && kind.kind == KOHIBLAD_ARRAY) {
@@ -846,8 +846,8 @@ int main(int argc, char **argv) {
         if (is && status == KOHIBLAD_OK) assert(kohiblad_check(out.at, length, SIZE_MAX));
         memset(key.at, 0xA5, key.size);
         memset(out.at, 0xA5, out.size);
-        status = kohiblad_object_member(b.at, b.size, index, key.at, key.size, &key_length,
-                                        out.at, out.size, &length);
+        status = kohiblad_get_member(b.at, b.size, index, key.at, key.size, &key_length,
+                                     out.at, out.size, &length);
         if (status == KOHIBLAD_NO_ROOM) assert(key_length > key.size || length > out.size);
         else if (status == KOHIBLAD_OK) assert(key_length <= key.size && length <= out.size);
         else assert(key_length == 0 && length == 0);
@@ -858,10 +858,10 @@ int main(int argc, char **argv) {
         if (is && status == KOHIBLAD_OK) assert(kohiblad_check(out.at, length, SIZE_MAX));
         bool is_member = kind.kind == KOHIBLAD_OBJECT && index < kind.count;
         if (is) assert((status == KOHIBLAD_NONE) == !is_member);
-        place = kohiblad_find(b.at, b.size, name.at, name.size);
+        place = kohiblad_find_key(b.at, b.size, name.at, name.size);
         if (place.status == KOHIBLAD_OK) assert(place.offset + place.length <= b.size);
         ANSWER(status, out, length,
-               kohiblad_get(b.at, b.size, name.at, name.size, out.at, out.size, &length));
+               kohiblad_get_key(b.at, b.size, name.at, name.size, out.at, out.size, &length));
         if (status == KOHIBLAD_OK) found++;
         if (place.status == KOHIBLAD_OK) copied_part(b, place, out, status, length);
         if (status == KOHIBLAD_OK && is) assert(kohiblad_check(out.at, length, SIZE_MAX));
@@ -870,28 +870,28 @@ int main(int argc, char **argv) {
         assert(!is || is_answer || status == KOHIBLAD_NONE);
 
         /* Texts, and read again. */
-        ANSWER(status, out, length, kohiblad_to_pretty_within(b.at, b.size, SIZE_MAX, out.at,
-                                                              out.size, &length));
+        ANSWER(status, out, length, kohiblad_pretty(b.at, b.size, SIZE_MAX, out.at,
+                                                    out.size, &length));
         assert(status == KOHIBLAD_OK || status == KOHIBLAD_NO_ROOM);
-        ANSWER(status, out, length, kohiblad_to_string_within(b.at, b.size, SIZE_MAX, out.at,
-                                                              out.size, &length));
+        ANSWER(status, out, length, kohiblad_print(b.at, b.size, SIZE_MAX, out.at,
+                                                   out.size, &length));
         assert(status == KOHIBLAD_OK || status == KOHIBLAD_NO_ROOM);
         struct block text = make(length);
-        status = kohiblad_to_string_within(b.at, b.size, SIZE_MAX, text.at, text.size, &again);
+        status = kohiblad_print(b.at, b.size, SIZE_MAX, text.at, text.size, &again);
         assert(status == KOHIBLAD_OK && again == length);
         struct block back = make(4 * length + 8);
         status = kohiblad_parse(text.at, text.size, below(8), below(2), back.at, back.size, &again);
         assert(status == KOHIBLAD_OK || status == KOHIBLAD_TOO_DEEP || !is || again == 0);
-        assert(status != KOHIBLAD_OK || kohiblad_is_canonical_within(back.at, again, SIZE_MAX));
-        ANSWER(status, out, length, kohiblad_to_canonical_within(b.at, b.size, SIZE_MAX, out.at,
-                                                                 out.size, &length));
+        assert(status != KOHIBLAD_OK || kohiblad_is_canonical(back.at, again, SIZE_MAX));
+        ANSWER(status, out, length, kohiblad_canonical(b.at, b.size, SIZE_MAX, out.at,
+                                                       out.size, &length));
         if (is) assert(status == KOHIBLAD_OK || status == KOHIBLAD_NO_ROOM);
         else assert(status == KOHIBLAD_INVALID_JSONB);
 
         /* The same within a depth: as the call without one, or as of no document. */
         bool shallow = kohiblad_check(b.at, b.size, depth);
-        assert(kohiblad_is_canonical_within(b.at, b.size, depth)
-               == (shallow && kohiblad_is_canonical_within(b.at, b.size, SIZE_MAX)));
+        assert(kohiblad_is_canonical(b.at, b.size, depth)
+               == (shallow && kohiblad_is_canonical(b.at, b.size, SIZE_MAX)));
         answer_within(b, shallow, depth, out);
         struct block asked = copy_of(docs[other], sizes[other]), wide = make(below(256));
         answer_functions(b, asked, depth, wide);
@@ -914,7 +914,7 @@ int main(int argc, char **argv) {
         const size_t *where = (const size_t *)(const void *)offsets.at;
         size_t *to = (size_t *)(void *)numbers.at;
         size_t room = below(5) ? 3 : below(3);
-        status = kohiblad_sort_within(rows.at, rows.size, where, 4, SIZE_MAX, to, room);
+        status = kohiblad_sort(rows.at, rows.size, where, 4, SIZE_MAX, to, room);
         assert(status
                == (!good ? KOHIBLAD_INVALID_EOF : room < 3 ? KOHIBLAD_NO_ROOM : KOHIBLAD_OK));
         memcpy(order_of, numbers.at, sizeof order_of);
@@ -924,12 +924,12 @@ int main(int argc, char **argv) {
             for (int i = 0; i < 2; i++) {
                 size_t l = order_of[i], r = order_of[i + 1];
                 size_t ls = stops[l], rs = stops[r];
-                order = kohiblad_compare_within(rows.at + ls, stops[l + 1] - ls, rows.at + rs,
-                                                stops[r + 1] - rs, SIZE_MAX);
+                order = kohiblad_compare(rows.at + ls, stops[l + 1] - ls, rows.at + rs,
+                                         stops[r + 1] - rs, SIZE_MAX);
                 assert(order < 0 || (order == 0 && l < r));
             }
             size_t order_within[3];
-            assert(!kohiblad_sort_within(rows.at, rows.size, where, 4, depth, order_within, 3));
+            assert(!kohiblad_sort(rows.at, rows.size, where, 4, depth, order_within, 3));
             for (int i = 0; i < 2; i++) {
                 size_t l = order_within[i], r = order_within[i + 1];
                 size_t ls = stops[l], rs = stops[r];
@@ -942,8 +942,8 @@ int main(int argc, char **argv) {
             assert(order_of[0] == 7 && order_of[1] == 7 && order_of[2] == 7);
         }
         ANSWER(status, out, length,
-               kohiblad_build_array_within(rows.at, rows.size, where, 3, SIZE_MAX, out.at, out.size,
-                                           &length));
+               kohiblad_build_array(rows.at, rows.size, where, 3, SIZE_MAX, out.at, out.size,
+                                    &length));
         if (!moved) assert(is == (status == KOHIBLAD_OK || status == KOHIBLAD_NO_ROOM));
         if (status == KOHIBLAD_OK) {
             built++;
@@ -952,8 +952,8 @@ int main(int argc, char **argv) {
         build_within(rows, where, depth, out);
         size_t pairs = 2 + below(2);
         ANSWER(status, out, length,
-               kohiblad_build_object_within(rows.at, rows.size, where, pairs + 1, SIZE_MAX, out.at,
-                                            out.size,
+               kohiblad_build_object(rows.at, rows.size, where, pairs + 1, SIZE_MAX, out.at,
+                                     out.size,
                                      &length));
         if (pairs == 3) assert(status == KOHIBLAD_INVALID_EOF);
         if (status == KOHIBLAD_OK) assert(kohiblad_check(out.at, length, SIZE_MAX));

@@ -12,55 +12,55 @@ int main(void) {
     assert(kohiblad_status_name(KOHIBLAD_NONE, NULL, 0, &length) == KOHIBLAD_NO_ROOM);
     assert(length == 4);
     assert(!kohiblad_check(NULL, 0, 9) && !kohiblad_check(NULL, 0, SIZE_MAX));
-    assert(!kohiblad_is_canonical_within(NULL, 0, SIZE_MAX));
-    assert(kohiblad_compare_within(NULL, 0, NULL, 0, SIZE_MAX) == 0);
-    assert(kohiblad_compare_within(null, sizeof null, NULL, 0, SIZE_MAX) < 0);
+    assert(!kohiblad_is_canonical(NULL, 0, SIZE_MAX));
+    assert(kohiblad_compare(NULL, 0, NULL, 0, SIZE_MAX) == 0);
+    assert(kohiblad_compare(null, sizeof null, NULL, 0, SIZE_MAX) < 0);
     assert(kohiblad_kind(NULL, 0).status == KOHIBLAD_INVALID_EOF);
-    assert(kohiblad_get(null, sizeof null, NULL, 0, NULL, 0, &length) == KOHIBLAD_NONE);
-    assert(kohiblad_find(NULL, 0, NULL, 0).status == KOHIBLAD_INVALID_EOF);
-    assert(kohiblad_part(NULL, 0, 0).status == KOHIBLAD_INVALID_EOF);
-    assert(kohiblad_array_item(NULL, 0, 0, NULL, 0, &length) == KOHIBLAD_INVALID_EOF);
-    assert(kohiblad_object_member(NULL, 0, 0, NULL, 0, &key_length, NULL, 0, &length)
+    assert(kohiblad_get_key(null, sizeof null, NULL, 0, NULL, 0, &length) == KOHIBLAD_NONE);
+    assert(kohiblad_find_key(NULL, 0, NULL, 0).status == KOHIBLAD_INVALID_EOF);
+    assert(kohiblad_find_index(NULL, 0, 0).status == KOHIBLAD_INVALID_EOF);
+    assert(kohiblad_get_index(NULL, 0, 0, NULL, 0, &length) == KOHIBLAD_INVALID_EOF);
+    assert(kohiblad_get_member(NULL, 0, 0, NULL, 0, &key_length, NULL, 0, &length)
            == KOHIBLAD_INVALID_EOF);
-    assert(kohiblad_to_string_within(null, sizeof null, SIZE_MAX, NULL, 0, &length)
+    assert(kohiblad_print(null, sizeof null, SIZE_MAX, NULL, 0, &length)
            == KOHIBLAD_NO_ROOM);
     assert(length == 4);
-    assert(kohiblad_to_pretty_within(NULL, 0, SIZE_MAX, NULL, 0, &length)
+    assert(kohiblad_pretty(NULL, 0, SIZE_MAX, NULL, 0, &length)
            == KOHIBLAD_NO_ROOM && length == 4);
     assert(kohiblad_parse(NULL, 0, 9, 0, NULL, 0, &length) == KOHIBLAD_INVALID_JSON && length == 0);
     assert(kohiblad_text_fault(NULL, 0, 9, 0).status == KOHIBLAD_INVALID_JSON);
     assert(kohiblad_text_fault(NULL, 0, 9, 0).offset == 0);
-    assert(kohiblad_to_canonical_within(NULL, 0, SIZE_MAX, NULL, 0, &length)
+    assert(kohiblad_canonical(NULL, 0, SIZE_MAX, NULL, 0, &length)
            == KOHIBLAD_INVALID_JSONB);
     assert(kohiblad_key(NULL, 0, 64, NULL, 0, &length) == KOHIBLAD_NO_ROOM && length == 2);
-    assert(kohiblad_build_array_within(NULL, 0, NULL, 0, SIZE_MAX, NULL, 0, &length)
+    assert(kohiblad_build_array(NULL, 0, NULL, 0, SIZE_MAX, NULL, 0, &length)
            == KOHIBLAD_NO_ROOM);
-    assert(kohiblad_build_object_within(NULL, 0, NULL, 0, SIZE_MAX, NULL, 0, &length)
+    assert(kohiblad_build_object(NULL, 0, NULL, 0, SIZE_MAX, NULL, 0, &length)
            == KOHIBLAD_NO_ROOM);
     assert(length == 4);
-    assert(kohiblad_sort_within(NULL, 0, NULL, 0, SIZE_MAX, NULL, 0) == KOHIBLAD_OK);
+    assert(kohiblad_sort(NULL, 0, NULL, 0, SIZE_MAX, NULL, 0) == KOHIBLAD_OK);
     struct kohiblad_cursor cursor = { 0, 0, 0 };
     struct kohiblad_place value;
     assert(kohiblad_begin(NULL, 0, &cursor) == KOHIBLAD_INVALID_EOF);
     assert(kohiblad_next(NULL, 0, &cursor, NULL, &value) == KOHIBLAD_INVALID_EOF);
-    assert(kohiblad_compare_within(NULL, 0, NULL, 0, 0) == 0);
-    assert(kohiblad_sort_within(NULL, 0, NULL, 0, 0, NULL, 0) == KOHIBLAD_OK);
+    assert(kohiblad_compare(NULL, 0, NULL, 0, 0) == 0);
+    assert(kohiblad_sort(NULL, 0, NULL, 0, 0, NULL, 0) == KOHIBLAD_OK);
     assert(kohiblad_of_extension(KOHIBLAD_BINARY, 0, 0, 0, 0, NULL, 0, NULL, 0, &length)
            == KOHIBLAD_NO_ROOM);
     assert(length == 9);
-    assert(kohiblad_of_part(KOHIBLAD_TYPE_STRING, NULL, 0, NULL, 0, &length) == KOHIBLAD_NO_ROOM);
+    assert(kohiblad_copy(KOHIBLAD_TYPE_STRING, NULL, 0, NULL, 0, &length) == KOHIBLAD_NO_ROOM);
     assert(length == 8);
-    assert(kohiblad_of_part(KOHIBLAD_TYPE_CONTAINER, NULL, 0, NULL, 0, &length) == KOHIBLAD_OK);
+    assert(kohiblad_copy(KOHIBLAD_TYPE_CONTAINER, NULL, 0, NULL, 0, &length) == KOHIBLAD_OK);
     assert(length == 0);
-    assert(!kohiblad_is_canonical_within(NULL, 0, 9));
-    assert(kohiblad_to_string_within(NULL, 0, 9, NULL, 0, &length) == KOHIBLAD_NO_ROOM);
+    assert(!kohiblad_is_canonical(NULL, 0, 9));
+    assert(kohiblad_print(NULL, 0, 9, NULL, 0, &length) == KOHIBLAD_NO_ROOM);
     assert(length == 4);
-    assert(kohiblad_to_pretty_within(NULL, 0, 9, NULL, 0, &length) == KOHIBLAD_NO_ROOM);
+    assert(kohiblad_pretty(NULL, 0, 9, NULL, 0, &length) == KOHIBLAD_NO_ROOM);
     assert(length == 4);
-    assert(kohiblad_to_canonical_within(NULL, 0, 9, NULL, 0, &length) == KOHIBLAD_INVALID_JSONB);
-    assert(kohiblad_build_array_within(NULL, 0, NULL, 0, 0, NULL, 0, &length)
+    assert(kohiblad_canonical(NULL, 0, 9, NULL, 0, &length) == KOHIBLAD_INVALID_JSONB);
+    assert(kohiblad_build_array(NULL, 0, NULL, 0, 0, NULL, 0, &length)
            == KOHIBLAD_NO_ROOM);
-    assert(kohiblad_build_object_within(NULL, 0, NULL, 0, 0, NULL, 0, &length)
+    assert(kohiblad_build_object(NULL, 0, NULL, 0, 0, NULL, 0, &length)
            == KOHIBLAD_NO_ROOM);
     assert(length == 4);
     assert(kohiblad_contains(NULL, 0, null, sizeof null, 9, 9).status == KOHIBLAD_INVALID_JSONB);
@@ -119,29 +119,29 @@ int main(void) {
     assert(length == 1);
     assert(kohiblad_top_keys(null, sizeof null, 0, NULL, 0, &length) == KOHIBLAD_OK);
     assert(length == 0);
-    assert(kohiblad_number(NULL, 0).status == KOHIBLAD_INVALID_EOF);
-    assert(kohiblad_int64(NULL, 0).status == KOHIBLAD_INVALID_EOF);
-    assert(kohiblad_text(NULL, 0).status == KOHIBLAD_INVALID_EOF);
-    assert(kohiblad_boolean(NULL, 0).status == KOHIBLAD_INVALID_EOF);
+    assert(kohiblad_as_decimal(NULL, 0).status == KOHIBLAD_INVALID_EOF);
+    assert(kohiblad_as_int64(NULL, 0).status == KOHIBLAD_INVALID_EOF);
+    assert(kohiblad_as_string(NULL, 0).status == KOHIBLAD_INVALID_EOF);
+    assert(kohiblad_as_boolean(NULL, 0).status == KOHIBLAD_INVALID_EOF);
 
     /* What overlaps is refused, and nothing is written. */
     uint8_t block[64] = { 0x20 };
     size_t numbers[4] = { 0, 8, 8, 8 };
     length = 9;
-    assert(kohiblad_to_string_within(block, 8, SIZE_MAX, block, 64, &length) == KOHIBLAD_OVERLAP);
-    assert(kohiblad_to_string_within(block, 8, SIZE_MAX, block + 7, 57, &length)
+    assert(kohiblad_print(block, 8, SIZE_MAX, block, 64, &length) == KOHIBLAD_OVERLAP);
+    assert(kohiblad_print(block, 8, SIZE_MAX, block + 7, 57, &length)
            == KOHIBLAD_OVERLAP);
     assert(length == 9 && block[0] == 0x20 && block[8] == 0);
-    assert(kohiblad_to_string_within(block, 8, SIZE_MAX, block + 8, 56, &length)
+    assert(kohiblad_print(block, 8, SIZE_MAX, block + 8, 56, &length)
            == KOHIBLAD_OK && length == 4);
     length = 9;
-    assert(kohiblad_to_string_within(block, 8, 0, block, 64, &length) == KOHIBLAD_OVERLAP);
-    assert(kohiblad_to_pretty_within(block, 8, 0, block + 7, 57, &length) == KOHIBLAD_OVERLAP);
+    assert(kohiblad_print(block, 8, 0, block, 64, &length) == KOHIBLAD_OVERLAP);
+    assert(kohiblad_pretty(block, 8, 0, block + 7, 57, &length) == KOHIBLAD_OVERLAP);
     assert(kohiblad_of_extension(KOHIBLAD_BINARY, 0, 0, 0, 0, block, 8, block + 7, 57, &length)
            == KOHIBLAD_OVERLAP);
-    assert(kohiblad_of_part(KOHIBLAD_TYPE_STRING, block, 8, block + 7, 57, &length)
+    assert(kohiblad_copy(KOHIBLAD_TYPE_STRING, block, 8, block + 7, 57, &length)
            == KOHIBLAD_OVERLAP);
-    assert(kohiblad_to_canonical_within(block, 8, 0, block, 64, &length) == KOHIBLAD_OVERLAP);
+    assert(kohiblad_canonical(block, 8, 0, block, 64, &length) == KOHIBLAD_OVERLAP);
     assert(kohiblad_concat(block, 8, null, 8, 0, block, 64, &length) == KOHIBLAD_OVERLAP);
     assert(kohiblad_concat(null, 8, block, 8, 0, block, 64, &length) == KOHIBLAD_OVERLAP);
     assert(kohiblad_merge_patch(block, 8, null, 8, 0, block, 64, &length) == KOHIBLAD_OVERLAP);
@@ -174,33 +174,33 @@ int main(void) {
     assert(kohiblad_select(null, 8, (uint8_t *)places + 40, 8, 0, places, 2, &length)
            == KOHIBLAD_OVERLAP);
     assert(kohiblad_select(null, 8, null, 8, 0, places, 2, (size_t *)places) == KOHIBLAD_OVERLAP);
-    assert(kohiblad_build_array_within(block, 8, numbers, 2, 0, block, 64, &length)
+    assert(kohiblad_build_array(block, 8, numbers, 2, 0, block, 64, &length)
            == KOHIBLAD_OVERLAP);
-    assert(kohiblad_build_object_within(block, 8, numbers, 2, 0, (uint8_t *)numbers, 8, &length)
+    assert(kohiblad_build_object(block, 8, numbers, 2, 0, (uint8_t *)numbers, 8, &length)
            == KOHIBLAD_OVERLAP);
     assert(length == 9 && block[0] == 0x20 && numbers[0] == 0);
-    assert(kohiblad_sort_within(block, 8, numbers, 2, SIZE_MAX, numbers, 4) == KOHIBLAD_OVERLAP);
-    assert(kohiblad_sort_within(block, 8, numbers, 2, SIZE_MAX, numbers + 2, 2)
+    assert(kohiblad_sort(block, 8, numbers, 2, SIZE_MAX, numbers, 4) == KOHIBLAD_OVERLAP);
+    assert(kohiblad_sort(block, 8, numbers, 2, SIZE_MAX, numbers + 2, 2)
            == KOHIBLAD_OK && numbers[2] == 0);
-    assert(kohiblad_object_member(block, 8, 0, block + 8, 8, &length, block + 12, 8, numbers)
+    assert(kohiblad_get_member(block, 8, 0, block + 8, 8, &length, block + 12, 8, numbers)
            == KOHIBLAD_OVERLAP);
-    assert(kohiblad_object_member(block, 8, 0, block + 8, 8, &length, block + 16, 8, &length)
+    assert(kohiblad_get_member(block, 8, 0, block + 8, 8, &length, block + 16, 8, &length)
            == KOHIBLAD_OVERLAP);
 
     /* The limit of a scalar's payload, of which no byte is read where the room is too small. */
     size_t limit = (size_t)1 << 28;
     uint8_t *payload = calloc(limit, 1);
     assert(payload);
-    assert(kohiblad_of_part(KOHIBLAD_TYPE_STRING, payload, limit, NULL, 0, &length)
+    assert(kohiblad_copy(KOHIBLAD_TYPE_STRING, payload, limit, NULL, 0, &length)
            == KOHIBLAD_INVALID_JSONB);
     assert(length == 0);
-    assert(kohiblad_of_part(KOHIBLAD_TYPE_STRING, payload, limit - 1, NULL, 0, &length)
+    assert(kohiblad_copy(KOHIBLAD_TYPE_STRING, payload, limit - 1, NULL, 0, &length)
            == KOHIBLAD_NO_ROOM);
     assert(length == limit + 7);
-    assert(kohiblad_of_part(KOHIBLAD_TYPE_CONTAINER, payload, limit, NULL, 0, &length)
+    assert(kohiblad_copy(KOHIBLAD_TYPE_CONTAINER, payload, limit, NULL, 0, &length)
            == KOHIBLAD_NO_ROOM);
     assert(length == limit);
-    assert(kohiblad_of_part(KOHIBLAD_TYPE_EXTENSION + 1, payload, limit, NULL, 0, &length)
+    assert(kohiblad_copy(KOHIBLAD_TYPE_EXTENSION + 1, payload, limit, NULL, 0, &length)
            == KOHIBLAD_INVALID_JSONB_JENTRY);
     assert(length == 0);
     free(payload);

@@ -43,29 +43,29 @@ static uint32_t call(int which, uint8_t *out, size_t *length) {
     size_t key_length;
     switch (which) {
     case 0: return kohiblad_parse((const uint8_t *)text, sizeof text - 1, 8, 1, out, ROOM, length);
-    case 1: return kohiblad_to_string_within(document, size, 8, out, ROOM, length);
-    case 2: return kohiblad_to_pretty_within(document, size, 8, out, ROOM, length);
-    case 3: return kohiblad_to_canonical_within(document, size, 8, out, ROOM, length);
+    case 1: return kohiblad_print(document, size, 8, out, ROOM, length);
+    case 2: return kohiblad_pretty(document, size, 8, out, ROOM, length);
+    case 3: return kohiblad_canonical(document, size, 8, out, ROOM, length);
     case 4:
-        return kohiblad_build_array_within(pairs, pairs_size, offsets + 1, 2, 8, out, ROOM, length);
+        return kohiblad_build_array(pairs, pairs_size, offsets + 1, 2, 8, out, ROOM, length);
     case 5:
-        return kohiblad_build_object_within(pairs, pairs_size, offsets, 5, 8, out, ROOM, length);
-    case 6: return kohiblad_sort_within(pairs, pairs_size, offsets, 5, 8, order, 4);
-    case 7: return kohiblad_get(document, size, (const uint8_t *)"c", 1, out, ROOM, length);
-    case 8: return kohiblad_object_member(document, size, 1, out, ROOM / 2, &key_length,
-                                          out + ROOM / 2, ROOM / 2, length);
-    case 9: return kohiblad_find(document, size, (const uint8_t *)"b", 1).status;
-    case 10: return kohiblad_part(document, size, 4).status;
+        return kohiblad_build_object(pairs, pairs_size, offsets, 5, 8, out, ROOM, length);
+    case 6: return kohiblad_sort(pairs, pairs_size, offsets, 5, 8, order, 4);
+    case 7: return kohiblad_get_key(document, size, (const uint8_t *)"c", 1, out, ROOM, length);
+    case 8: return kohiblad_get_member(document, size, 1, out, ROOM / 2, &key_length,
+                                       out + ROOM / 2, ROOM / 2, length);
+    case 9: return kohiblad_find_key(document, size, (const uint8_t *)"b", 1).status;
+    case 10: return kohiblad_find_index(document, size, 4).status;
     case 11: return kohiblad_check(document, size, 8) ? KOHIBLAD_OK : KOHIBLAD_INVALID_JSONB;
-    case 12: return (uint32_t)kohiblad_compare_within(document, size, document, size, 8);
+    case 12: return (uint32_t)kohiblad_compare(document, size, document, size, 8);
     case 13: return kohiblad_key(document, size, 8, out, ROOM, length);
     case 14:
         return kohiblad_of_extension(KOHIBLAD_DATE, 19000, 0, 0, 0, NULL, 0, out, ROOM, length);
     case 15:
-        return kohiblad_is_canonical_within(document, size, 8) ? KOHIBLAD_OK
+        return kohiblad_is_canonical(document, size, 8) ? KOHIBLAD_OK
                                                                : KOHIBLAD_INVALID_JSONB;
     case 16:
-        return kohiblad_of_part(KOHIBLAD_TYPE_CONTAINER, document, size, out, ROOM, length);
+        return kohiblad_copy(KOHIBLAD_TYPE_CONTAINER, document, size, out, ROOM, length);
     case 17: {
         struct kohiblad_fault fault =
             kohiblad_text_fault((const uint8_t *)text, sizeof text - 1, 8, 1);

@@ -1,4 +1,4 @@
-// The order as std::sort and std::stable_sort need it, beside kohiblad_sort_within.
+// The order as std::sort and std::stable_sort need it, beside kohiblad_sort.
 #include "kohiblad.h"
 
 #include <algorithm>
@@ -40,7 +40,7 @@ int main() {
         }
     }
     auto less = [](const std::string &l, const std::string &r) {
-        return kohiblad_compare_within(at(l), l.size(), at(r), r.size(), SIZE_MAX) < 0;
+        return kohiblad_compare(at(l), l.size(), at(r), r.size(), SIZE_MAX) < 0;
     };
     std::string column;
     std::vector<size_t> offsets = {0}, order(rows.size()), stable(rows.size());
@@ -48,8 +48,8 @@ int main() {
         column += row;
         offsets.push_back(column.size());
     }
-    if (kohiblad_sort_within(at(column), column.size(), offsets.data(), offsets.size(), SIZE_MAX,
-                             order.data(), order.size())
+    if (kohiblad_sort(at(column), column.size(), offsets.data(), offsets.size(), SIZE_MAX,
+                      order.data(), order.size())
         != KOHIBLAD_OK) {
         return 1;
     }
@@ -58,7 +58,7 @@ int main() {
     std::stable_sort(stable.begin(), stable.end(), less_at);
     std::sort(rows.begin(), rows.end(), less);
     bool ascend = std::is_sorted(rows.begin(), rows.end(), less);
-    std::printf("std::sort %s, kohiblad_sort_within is std::stable_sort: %s\n",
+    std::printf("std::sort %s, kohiblad_sort is std::stable_sort: %s\n",
                 ascend ? "ascends" : "FAILED", order == stable ? "yes" : "NO");
     return ascend && order == stable ? 0 : 1;
 }

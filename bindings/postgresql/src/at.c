@@ -26,7 +26,7 @@ static int64 index_of_number(Part number) {
     uint8_t room[NUMBER_ROOM];
     if (room_of_part(number) > sizeof room) refuse_path();
     Bytes document = write_part(number, room, sizeof room);
-    struct kohiblad_integer index = kohiblad_int64(document.at, document.size);
+    struct kohiblad_integer index = kohiblad_as_int64(document.at, document.size);
     if (index.status != KOHIBLAD_OK) refuse_path();
     return index.value;
 }

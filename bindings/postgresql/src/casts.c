@@ -44,7 +44,7 @@ static void pg_attribute_noreturn() refuse_cast(uint32_t status, Bytes document,
 }
 
 static Datum numeric_of_document(Bytes document, const char *type) {
-    struct kohiblad_integer whole = kohiblad_int64(document.at, document.size);
+    struct kohiblad_integer whole = kohiblad_as_int64(document.at, document.size);
     if (whole.status == KOHIBLAD_OK) return NumericGetDatum(int64_to_numeric(whole.value));
     if (whole.status != KOHIBLAD_PAST_RANGE) refuse_cast(whole.status, document, type);
     char *digits = text_to_cstring(compact_text(document));
@@ -73,7 +73,7 @@ PG_FUNCTION_INFO_V1(pg_kohiblad_to_bool);
 Datum pg_kohiblad_to_bool(PG_FUNCTION_ARGS) {
     struct varlena *value = PG_GETARG_VARLENA_PP(0);
     Bytes document = bytes_of(value);
-    struct kohiblad_truth truth = kohiblad_boolean(document.at, document.size);
+    struct kohiblad_truth truth = kohiblad_as_boolean(document.at, document.size);
     if (truth.status != KOHIBLAD_OK) refuse_cast(truth.status, document, "boolean");
     PG_FREE_IF_COPY(value, 0);
     PG_RETURN_BOOL(truth.value);

@@ -135,7 +135,7 @@ static uint32_t type_of_scalar(Bytes document, uint32_t kind) {
         [KOHIBLAD_EXTENSION] = KOHIBLAD_TYPE_EXTENSION,
     };
     if (kind != KOHIBLAD_BOOLEAN) return types[kind];
-    struct kohiblad_truth truth = kohiblad_boolean(document.at, document.size);
+    struct kohiblad_truth truth = kohiblad_as_boolean(document.at, document.size);
     if (truth.status != KOHIBLAD_OK) refuse(truth.status, ERRCODE_DATA_CORRUPTED);
     return truth.value ? KOHIBLAD_TYPE_TRUE : KOHIBLAD_TYPE_FALSE;
 }
@@ -151,7 +151,7 @@ Part part_of_document(Bytes document) {
 Bytes write_part(Part part, uint8_t *out, size_t room) {
     size_t length;
     uint32_t status =
-        kohiblad_of_part(part.type, part.payload.at, part.payload.size, out, room, &length);
+        kohiblad_copy(part.type, part.payload.at, part.payload.size, out, room, &length);
     if (status != KOHIBLAD_OK) refuse(status, ERRCODE_DATA_CORRUPTED);
     return (Bytes){out, length};
 }
@@ -194,7 +194,7 @@ Datum pg_kohiblad_of_bytea(PG_FUNCTION_ARGS) {
 PG_FUNCTION_INFO_V1(pg_kohiblad_canonical);
 Datum pg_kohiblad_canonical(PG_FUNCTION_ARGS) {
     Bytes document = bytes_of(PG_GETARG_VARLENA_PP(0));
-    PG_RETURN_POINTER(write_value(kohiblad_to_canonical_within, document, document.size,
+    PG_RETURN_POINTER(write_value(kohiblad_canonical, document, document.size,
                                   ERRCODE_PROGRAM_LIMIT_EXCEEDED));
 }
 

@@ -68,7 +68,7 @@ static void append_shown_values(Keys *keys, Bytes document) {
     append_values(keys, document);
     if (!holds_extension(document)) return;
     size_t length;
-    char *shown = write_after(0, kohiblad_to_string_within, document, 2 * document.size,
+    char *shown = write_after(0, kohiblad_print, document, 2 * document.size,
                               ERRCODE_DATA_CORRUPTED, &length);
     append_values(keys, bytes_of(document_of_json((Bytes){(uint8_t *)shown, length})));
 }

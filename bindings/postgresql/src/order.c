@@ -1,9 +1,9 @@
 /* The order of documents, for B-trees, sorts and hashes. docs/FORMAT.md says what it is.
  *
- * kohiblad_compare_within checks both of its inputs each time. Stored documents were checked
- * before, so containers are compared here child by child, by the library's walk, and that call only
- * compares numbers and extension values. Sorts first compare parts of comparable keys, and hashes
- * are those of comparable keys: docs/COMPARABLE.md. */
+ * kohiblad_compare checks both of its inputs each time. Stored documents were checked before, so
+ * containers are compared here child by child, by the library's walk, and that call only compares
+ * numbers and extension values. Sorts first compare parts of comparable keys, and hashes are those
+ * of comparable keys: docs/COMPARABLE.md. */
 #include "document.h"
 
 #include "common/hashfn.h"
@@ -62,7 +62,7 @@ static int compare_scalars(Part left, Part right) {
     uint8_t small_left[SMALL_SCALAR], small_right[SMALL_SCALAR];
     if (are_same_bytes(left.payload, right.payload)) return 0;
     Bytes l = scalar_document(left, small_left), r = scalar_document(right, small_right);
-    int order = kohiblad_compare_within(l.at, l.size, r.at, r.size, 0);
+    int order = kohiblad_compare(l.at, l.size, r.at, r.size, 0);
     if (l.at != small_left) pfree((void *)l.at);
     if (r.at != small_right) pfree((void *)r.at);
     return order;

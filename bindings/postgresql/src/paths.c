@@ -43,7 +43,8 @@ static bool is_found(struct kohiblad_place place, Bytes document, Part *child) {
 }
 
 bool find_key(Bytes document, Bytes key, Part *child) {
-    return is_found(kohiblad_find(document.at, document.size, key.at, key.size), document, child);
+    return is_found(kohiblad_find_key(document.at, document.size, key.at, key.size), document,
+                    child);
 }
 
 bool find_index(Bytes document, int64 index, Part *child) {
@@ -51,7 +52,7 @@ bool find_index(Bytes document, int64 index, Part *child) {
     if (kind.kind != KOHIBLAD_ARRAY) return false;
     if (index < 0) index += kind.count;
     if (index < 0) return false;
-    return is_found(kohiblad_part(document.at, document.size, index), document, child);
+    return is_found(kohiblad_find_index(document.at, document.size, index), document, child);
 }
 
 bool find_step(Bytes container, Bytes element, Part *child) {

@@ -116,7 +116,7 @@ static void take_apart(HeapTupleHeader given, TupleDesc columns, Datum *values, 
 
 static bool find_column(Bytes object, const char *name, Part *part) {
     Bytes key = utf8_of_server(name, strlen(name));
-    struct kohiblad_place place = kohiblad_find(object.at, object.size, key.at, key.size);
+    struct kohiblad_place place = kohiblad_find_key(object.at, object.size, key.at, key.size);
     if (place.status == KOHIBLAD_NONE) return false;
     if (place.status != KOHIBLAD_OK) refuse(place.status, ERRCODE_DATA_CORRUPTED);
     *part = part_at(object, place);

@@ -128,11 +128,11 @@ static struct varlena *build(const Rows *rows, BuildCall call, size_t step) {
 }
 
 struct varlena *array_of_rows(const Rows *rows) {
-    return build(rows, kohiblad_build_array_within, 1);
+    return build(rows, kohiblad_build_array, 1);
 }
 
 struct varlena *object_of_unique_rows(const Rows *rows) {
-    struct varlena *built = build(rows, kohiblad_build_object_within, 2);
+    struct varlena *built = build(rows, kohiblad_build_object, 2);
     if (!built) refuse(KOHIBLAD_OBJECT_DUPLICATE_KEY, ERRCODE_DUPLICATE_JSON_OBJECT_KEY_VALUE);
     return built;
 }
@@ -167,6 +167,6 @@ static Rows *last_rows(const Rows *rows) {
 }
 
 struct varlena *object_of_rows(const Rows *rows) {
-    struct varlena *built = build(rows, kohiblad_build_object_within, 2);
+    struct varlena *built = build(rows, kohiblad_build_object, 2);
     return built ? built : object_of_unique_rows(last_rows(rows));
 }

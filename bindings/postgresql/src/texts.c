@@ -48,7 +48,7 @@ static size_t text_guess(Bytes document) {
 }
 
 text *compact_text(Bytes document) {
-    struct varlena *shown = write_value(kohiblad_to_string_within, document, text_guess(document),
+    struct varlena *shown = write_value(kohiblad_print, document, text_guess(document),
                                         ERRCODE_DATA_CORRUPTED);
     if (GetDatabaseEncoding() == PG_UTF8) return shown;
     text *result = text_of_utf8(bytes_of(shown));
@@ -97,7 +97,7 @@ bool holds_extension(Bytes document) {
 
 static char *json_of_document(Bytes document) {
     size_t length;
-    char *shown = write_after(0, kohiblad_to_string_within, document, text_guess(document),
+    char *shown = write_after(0, kohiblad_print, document, text_guess(document),
                               ERRCODE_DATA_CORRUPTED, &length);
     if (GetDatabaseEncoding() == PG_UTF8) return shown;
     return pg_any_to_server(shown, length, PG_UTF8);
@@ -161,7 +161,7 @@ Datum pg_kohiblad_out(PG_FUNCTION_ARGS) {
 PG_FUNCTION_INFO_V1(pg_kohiblad_pretty);
 Datum pg_kohiblad_pretty(PG_FUNCTION_ARGS) {
     Bytes document = bytes_of(PG_GETARG_VARLENA_PP(0));
-    struct varlena *shown = write_value(kohiblad_to_pretty_within, document,
+    struct varlena *shown = write_value(kohiblad_pretty, document,
                                         2 * text_guess(document), ERRCODE_DATA_CORRUPTED);
     PG_RETURN_TEXT_P(text_of_utf8(bytes_of(shown)));
 }

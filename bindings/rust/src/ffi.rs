@@ -133,7 +133,7 @@ extern "C" {
     #[cfg(test)]
     fn kohiblad_status_name(status: u32, out: *mut u8, room: usize, length: *mut usize) -> u32;
     fn kohiblad_check(bytes: *const u8, size: usize, depth: usize) -> bool;
-    fn kohiblad_compare_within(
+    fn kohiblad_compare(
         left: *const u8,
         left_size: usize,
         right: *const u8,
@@ -141,7 +141,7 @@ extern "C" {
         depth: usize,
     ) -> i32;
     fn kohiblad_kind(bytes: *const u8, size: usize) -> ValueKind;
-    fn kohiblad_get(
+    fn kohiblad_get_key(
         bytes: *const u8,
         size: usize,
         name: *const u8,
@@ -150,7 +150,8 @@ extern "C" {
         room: usize,
         length: *mut usize,
     ) -> u32;
-    fn kohiblad_find(bytes: *const u8, size: usize, name: *const u8, name_size: usize) -> Place;
+    fn kohiblad_find_key(bytes: *const u8, size: usize, name: *const u8, name_size: usize)
+        -> Place;
     fn kohiblad_begin(bytes: *const u8, size: usize, cursor: *mut Cursor) -> u32;
     fn kohiblad_next(
         bytes: *const u8,
@@ -159,7 +160,7 @@ extern "C" {
         key: *mut Place,
         value: *mut Place,
     ) -> u32;
-    fn kohiblad_of_part(
+    fn kohiblad_copy(
         entry_type: u32,
         payload: *const u8,
         size: usize,
@@ -167,7 +168,7 @@ extern "C" {
         room: usize,
         length: *mut usize,
     ) -> u32;
-    fn kohiblad_array_item(
+    fn kohiblad_get_index(
         bytes: *const u8,
         size: usize,
         index: usize,
@@ -175,7 +176,7 @@ extern "C" {
         room: usize,
         length: *mut usize,
     ) -> u32;
-    fn kohiblad_object_member(
+    fn kohiblad_get_member(
         bytes: *const u8,
         size: usize,
         index: usize,
@@ -186,14 +187,14 @@ extern "C" {
         room: usize,
         length: *mut usize,
     ) -> u32;
-    fn kohiblad_number(bytes: *const u8, size: usize) -> Decimal;
-    fn kohiblad_int64(bytes: *const u8, size: usize) -> Integer;
-    fn kohiblad_text(bytes: *const u8, size: usize) -> Place;
-    fn kohiblad_boolean(bytes: *const u8, size: usize) -> Truth;
-    fn kohiblad_extension(bytes: *const u8, size: usize) -> Extension;
+    fn kohiblad_as_decimal(bytes: *const u8, size: usize) -> Decimal;
+    fn kohiblad_as_int64(bytes: *const u8, size: usize) -> Integer;
+    fn kohiblad_as_string(bytes: *const u8, size: usize) -> Place;
+    fn kohiblad_as_boolean(bytes: *const u8, size: usize) -> Truth;
+    fn kohiblad_as_extension(bytes: *const u8, size: usize) -> Extension;
     fn kohiblad_of_null(out: *mut u8, room: usize, length: *mut usize) -> u32;
     fn kohiblad_of_boolean(value: u32, out: *mut u8, room: usize, length: *mut usize) -> u32;
-    fn kohiblad_of_text(
+    fn kohiblad_of_string(
         text: *const u8,
         size: usize,
         out: *mut u8,
@@ -220,7 +221,7 @@ extern "C" {
         room: usize,
         length: *mut usize,
     ) -> u32;
-    fn kohiblad_to_string_within(
+    fn kohiblad_print(
         bytes: *const u8,
         size: usize,
         depth: usize,
@@ -228,7 +229,7 @@ extern "C" {
         room: usize,
         length: *mut usize,
     ) -> u32;
-    fn kohiblad_to_pretty_within(
+    fn kohiblad_pretty(
         bytes: *const u8,
         size: usize,
         depth: usize,
@@ -246,7 +247,7 @@ extern "C" {
         length: *mut usize,
     ) -> u32;
     fn kohiblad_text_fault(text: *const u8, size: usize, depth: usize, exponents: u32) -> Fault;
-    fn kohiblad_build_array_within(
+    fn kohiblad_build_array(
         bytes: *const u8,
         size: usize,
         offsets: *const usize,
@@ -256,7 +257,7 @@ extern "C" {
         room: usize,
         length: *mut usize,
     ) -> u32;
-    fn kohiblad_build_object_within(
+    fn kohiblad_build_object(
         bytes: *const u8,
         size: usize,
         offsets: *const usize,
@@ -266,8 +267,8 @@ extern "C" {
         room: usize,
         length: *mut usize,
     ) -> u32;
-    fn kohiblad_is_canonical_within(bytes: *const u8, size: usize, depth: usize) -> bool;
-    fn kohiblad_to_canonical_within(
+    fn kohiblad_is_canonical(bytes: *const u8, size: usize, depth: usize) -> bool;
+    fn kohiblad_canonical(
         bytes: *const u8,
         size: usize,
         depth: usize,
@@ -301,7 +302,7 @@ extern "C" {
         room: usize,
         length: *mut usize,
     ) -> u32;
-    fn kohiblad_sort_within(
+    fn kohiblad_sort(
         bytes: *const u8,
         size: usize,
         offsets: *const usize,
@@ -646,13 +647,13 @@ pub(crate) fn check(bytes: &[u8], depth: usize) -> bool {
 
 pub(crate) fn is_canonical(bytes: &[u8]) -> bool {
     // SAFETY: as above.
-    unsafe { kohiblad_is_canonical_within(bytes.as_ptr(), bytes.len(), MAX_DEPTH) }
+    unsafe { kohiblad_is_canonical(bytes.as_ptr(), bytes.len(), MAX_DEPTH) }
 }
 
 pub(crate) fn compare(left: &[u8], right: &[u8]) -> Ordering {
     // SAFETY: as above, of both.
     let sign = unsafe {
-        kohiblad_compare_within(
+        kohiblad_compare(
             left.as_ptr(),
             left.len(),
             right.as_ptr(),
@@ -676,7 +677,7 @@ pub(crate) fn get(bytes: &[u8], name: &str) -> Result<Option<Vec<u8>>, Error> {
     let (status, value) = written(FIRST_ROOM, |out, room, length| {
         // SAFETY: as above; the call writes `length` bytes.
         unsafe {
-            kohiblad_get(
+            kohiblad_get_key(
                 bytes.as_ptr(),
                 bytes.len(),
                 name.as_ptr(),
@@ -692,7 +693,8 @@ pub(crate) fn get(bytes: &[u8], name: &str) -> Result<Option<Vec<u8>>, Error> {
 
 pub(crate) fn find<'a>(bytes: &'a [u8], name: &str) -> Result<Option<Part<'a>>, Error> {
     // SAFETY: as above, of the bytes and the name.
-    let place = unsafe { kohiblad_find(bytes.as_ptr(), bytes.len(), name.as_ptr(), name.len()) };
+    let place =
+        unsafe { kohiblad_find_key(bytes.as_ptr(), bytes.len(), name.as_ptr(), name.len()) };
     optional(place.status, || part_at(bytes, &place))
 }
 
@@ -723,7 +725,7 @@ pub(crate) fn of_part(part: Part<'_>, out: &mut [u8]) -> Result<usize, Error> {
     let mut length = 0;
     // SAFETY: as above, of the payload and the buffer.
     let status = unsafe {
-        kohiblad_of_part(
+        kohiblad_copy(
             part.entry_type,
             payload.as_ptr(),
             payload.len(),
@@ -739,7 +741,7 @@ pub(crate) fn of_part(part: Part<'_>, out: &mut [u8]) -> Result<usize, Error> {
 pub(crate) fn array_item(bytes: &[u8], index: usize) -> Result<Option<Vec<u8>>, Error> {
     let (status, item) = written(FIRST_ROOM, |out, room, length| {
         // SAFETY: as above; the call writes `length` bytes.
-        unsafe { kohiblad_array_item(bytes.as_ptr(), bytes.len(), index, out, room, length) }
+        unsafe { kohiblad_get_index(bytes.as_ptr(), bytes.len(), index, out, room, length) }
     })?;
     optional(status, || item)
 }
@@ -771,7 +773,7 @@ fn write_member(
     let (mut key_length, mut length) = (0, 0);
     // SAFETY: as above, of the bytes, both buffers and their lengths.
     let status = unsafe {
-        kohiblad_object_member(
+        kohiblad_get_member(
             bytes.as_ptr(),
             bytes.len(),
             index,
@@ -797,7 +799,7 @@ fn write_member(
 /// The digits and the scale.
 pub(crate) fn number(bytes: &[u8]) -> Result<(i128, u32), Error> {
     // SAFETY: as above.
-    let number = unsafe { kohiblad_number(bytes.as_ptr(), bytes.len()) };
+    let number = unsafe { kohiblad_as_decimal(bytes.as_ptr(), bytes.len()) };
     tested(number.status)?;
     let digits = (i128::from(number.high) << 64) | i128::from(number.low);
     Ok((digits, number.scale))
@@ -805,21 +807,21 @@ pub(crate) fn number(bytes: &[u8]) -> Result<(i128, u32), Error> {
 
 pub(crate) fn int64(bytes: &[u8]) -> Result<i64, Error> {
     // SAFETY: as above.
-    let integer = unsafe { kohiblad_int64(bytes.as_ptr(), bytes.len()) };
+    let integer = unsafe { kohiblad_as_int64(bytes.as_ptr(), bytes.len()) };
     tested(integer.status)?;
     Ok(integer.value)
 }
 
 pub(crate) fn text(bytes: &[u8]) -> Result<&[u8], Error> {
     // SAFETY: as above.
-    let place = unsafe { kohiblad_text(bytes.as_ptr(), bytes.len()) };
+    let place = unsafe { kohiblad_as_string(bytes.as_ptr(), bytes.len()) };
     tested(place.status)?;
     Ok(bytes_at(bytes, place.offset, place.length))
 }
 
 pub(crate) fn boolean(bytes: &[u8]) -> Result<bool, Error> {
     // SAFETY: as above.
-    let truth = unsafe { kohiblad_boolean(bytes.as_ptr(), bytes.len()) };
+    let truth = unsafe { kohiblad_as_boolean(bytes.as_ptr(), bytes.len()) };
     tested(truth.status)?;
     Ok(truth.value != 0)
 }
@@ -837,7 +839,7 @@ pub(crate) struct Fields<'a> {
 
 pub(crate) fn extension(bytes: &[u8]) -> Result<Fields<'_>, Error> {
     // SAFETY: as above.
-    let extension = unsafe { kohiblad_extension(bytes.as_ptr(), bytes.len()) };
+    let extension = unsafe { kohiblad_as_extension(bytes.as_ptr(), bytes.len()) };
     tested(extension.status)?;
     Ok(Fields {
         tag: extension.tag,
@@ -866,7 +868,7 @@ pub(crate) fn of_boolean(value: bool) -> Result<Vec<u8>, Error> {
 pub(crate) fn of_text(text: &str) -> Result<Vec<u8>, Error> {
     all_written(FIRST_ROOM, |out, room, length| {
         // SAFETY: as above; the call writes `length` bytes.
-        unsafe { kohiblad_of_text(text.as_ptr(), text.len(), out, room, length) }
+        unsafe { kohiblad_of_string(text.as_ptr(), text.len(), out, room, length) }
     })
 }
 
@@ -927,15 +929,15 @@ fn text_fault(text: &[u8], depth: usize, exponents: Exponents) -> Error {
 }
 
 pub(crate) fn to_string(bytes: &[u8]) -> Result<Vec<u8>, Error> {
-    bounded(kohiblad_to_string_within, bytes, MAX_DEPTH, bytes.len())
+    bounded(kohiblad_print, bytes, MAX_DEPTH, bytes.len())
 }
 
 pub(crate) fn to_pretty(bytes: &[u8]) -> Result<Vec<u8>, Error> {
-    bounded(kohiblad_to_pretty_within, bytes, MAX_DEPTH, 2 * bytes.len())
+    bounded(kohiblad_pretty, bytes, MAX_DEPTH, 2 * bytes.len())
 }
 
 pub(crate) fn to_canonical(bytes: &[u8]) -> Result<Vec<u8>, Error> {
-    bounded(kohiblad_to_canonical_within, bytes, MAX_DEPTH, bytes.len())
+    bounded(kohiblad_canonical, bytes, MAX_DEPTH, bytes.len())
 }
 
 pub(crate) fn key(bytes: &[u8]) -> Result<Vec<u8>, Error> {
@@ -964,11 +966,11 @@ pub(crate) fn member_key(bytes: &[u8], names: &[u8]) -> Result<Vec<u8>, Error> {
 }
 
 pub(crate) fn build_array(rows: &Rows) -> Result<Vec<u8>, Error> {
-    built(kohiblad_build_array_within, rows)
+    built(kohiblad_build_array, rows)
 }
 
 pub(crate) fn build_object(rows: &Rows) -> Result<Vec<u8>, Error> {
-    built(kohiblad_build_object_within, rows)
+    built(kohiblad_build_object, rows)
 }
 
 pub(crate) fn contains(left: &[u8], right: &[u8], steps: usize) -> Result<bool, Error> {
@@ -1206,7 +1208,7 @@ pub(crate) fn sort(rows: &Rows) -> Result<Vec<usize>, Error> {
     let mut order = with_room(count)?;
     // SAFETY: as above, of the rows, their offsets and the buffer for the order.
     let status = unsafe {
-        kohiblad_sort_within(
+        kohiblad_sort(
             rows.bytes.as_ptr(),
             rows.bytes.len(),
             rows.offsets.as_ptr(),

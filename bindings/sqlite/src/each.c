@@ -283,11 +283,11 @@ static int look_up(struct each *each)
     struct kohiblad_place place;
     if (level->kind.kind == KOHIBLAD_ARRAY) {
         level->index = (uint64_t)sqlite3_value_int64(each->wanted);
-        place = kohiblad_part(container.at, container.size, level->index);
+        place = kohiblad_find_index(container.at, container.size, level->index);
     } else {
         if (!bytes_of(each->wanted, &name)) return fail_each(each, NULL);
         level->key = (struct part){ KOHIBLAD_TYPE_STRING, name };
-        place = kohiblad_find(container.at, container.size, name.at, name.size);
+        place = kohiblad_find_key(container.at, container.size, name.at, name.size);
     }
     each->is_only_row = true;
     each->is_end = place.status == KOHIBLAD_NONE || place.status == KOHIBLAD_INVALID_UTF8;

@@ -97,8 +97,8 @@ static void with_both(const struct caller *caller, sqlite3_value **arguments,
 static void give_order(const struct caller *caller, const struct documents *both)
 {
     sqlite3_result_int(caller->context,
-                       kohiblad_compare_within(both->left.at, both->left.size, both->right.at,
-                                               both->right.size, KOHIBLAD_SQLITE_DEPTH));
+                       kohiblad_compare(both->left.at, both->left.size, both->right.at,
+                                        both->right.size, KOHIBLAD_SQLITE_DEPTH));
 }
 
 static void jb_compare(const struct caller *caller, sqlite3_value **arguments)
@@ -213,7 +213,7 @@ static void jb_get(const struct caller *caller, sqlite3_value **arguments)
     struct kohiblad_place place;
     if (!get_document(caller, arguments[0], &document) || !get_text(caller, arguments[1], &name))
         return;
-    place = kohiblad_find(document.at, document.size, name.at, name.size);
+    place = kohiblad_find_key(document.at, document.size, name.at, name.size);
     if (place.status == KOHIBLAD_OK)
         give_document(caller, &(struct part){
             place.type, { document.at + place.offset, place.length } });

@@ -43,9 +43,9 @@ static void read_index(struct step *step)
     uint8_t document[32];
     size_t length;
     struct kohiblad_decimal number = { .status = KOHIBLAD_OTHER_KIND };
-    if (kohiblad_of_part(step->value.type, step->value.payload.at, step->value.payload.size,
-                         document, sizeof document, &length) == KOHIBLAD_OK)
-        number = kohiblad_number(document, length);
+    if (kohiblad_copy(step->value.type, step->value.payload.at, step->value.payload.size,
+                      document, sizeof document, &length) == KOHIBLAD_OK)
+        number = kohiblad_as_decimal(document, length);
     step->kind = number.high < 0 || number.low == UINT64_MAX ? FROM_END : INDEX;
     step->index = number.high < 0 ? -number.low : step->kind == INDEX ? number.low : 0;
 }
@@ -75,7 +75,7 @@ static struct kohiblad_place find_item(struct bytes document, struct step *step)
         step->index = kind.count - step->index;
         step->kind = INDEX;
     }
-    return kohiblad_part(document.at, document.size, step->index);
+    return kohiblad_find_index(document.at, document.size, step->index);
 }
 
 uint32_t take_step(struct step *step, struct part *part)
@@ -85,7 +85,7 @@ uint32_t take_step(struct step *step, struct part *part)
     if (part->type != KOHIBLAD_TYPE_CONTAINER) return KOHIBLAD_NONE;
     place = step->kind != NAME
         ? find_item(document, step)
-        : kohiblad_find(document.at, document.size, step->name.at, step->name.size);
+        : kohiblad_find_key(document.at, document.size, step->name.at, step->name.size);
     if (place.status == KOHIBLAD_OK)
         *part = (struct part){ place.type, { document.at + place.offset, place.length } };
     return place.status;

@@ -84,7 +84,7 @@ static void give_null(const struct caller *caller, struct bytes document)
 
 static void give_boolean(const struct caller *caller, struct bytes document)
 {
-    struct kohiblad_truth truth = kohiblad_boolean(document.at, document.size);
+    struct kohiblad_truth truth = kohiblad_as_boolean(document.at, document.size);
     if (truth.status == KOHIBLAD_OK) sqlite3_result_int(caller->context, (int)truth.value);
     else fail(caller, truth.status);
 }
@@ -124,7 +124,7 @@ static void give_real(const struct caller *caller, struct bytes document)
 
 static void give_integer_or(giver *give_other, const struct caller *caller, struct bytes document)
 {
-    struct kohiblad_integer number = kohiblad_int64(document.at, document.size);
+    struct kohiblad_integer number = kohiblad_as_int64(document.at, document.size);
     if (number.status == KOHIBLAD_OK) sqlite3_result_int64(caller->context, number.value);
     else if (number.status == KOHIBLAD_PAST_RANGE) give_other(caller, document);
     else fail(caller, number.status);
@@ -142,7 +142,7 @@ static void give_nearest(const struct caller *caller, struct bytes document)
 
 static void give_string(const struct caller *caller, struct bytes document)
 {
-    struct kohiblad_place text = kohiblad_text(document.at, document.size);
+    struct kohiblad_place text = kohiblad_as_string(document.at, document.size);
     if (text.status == KOHIBLAD_OK)
         sqlite3_result_text64(caller->context, (const char *)document.at + text.offset, text.length,
                               SQLITE_TRANSIENT, SQLITE_UTF8);
@@ -153,7 +153,7 @@ static void give_string(const struct caller *caller, struct bytes document)
 static void give_extension(const struct caller *caller, struct bytes document)
 {
     struct buffer buffer;
-    uint32_t status = kohiblad_extension(document.at, document.size).status;
+    uint32_t status = kohiblad_as_extension(document.at, document.size).status;
     if (status != KOHIBLAD_OK) {
         fail(caller, status);
     } else if (fill(caller, &buffer, write_compact, &document, 2 * document.size)) {
@@ -165,7 +165,7 @@ static void give_extension(const struct caller *caller, struct bytes document)
 
 static void give_binary(const struct caller *caller, struct bytes document)
 {
-    struct kohiblad_extension_value value = kohiblad_extension(document.at, document.size);
+    struct kohiblad_extension_value value = kohiblad_as_extension(document.at, document.size);
     if (value.status != KOHIBLAD_OK) fail(caller, value.status);
     else if (value.tag == KOHIBLAD_BINARY)
         sqlite3_result_blob64(caller->context, document.at + value.offset, value.length,
@@ -206,14 +206,14 @@ static void give_if(uint32_t wanted, giver *give, const struct caller *caller,
 
 static void give_type_of_boolean(const struct caller *caller, struct bytes document)
 {
-    struct kohiblad_truth truth = kohiblad_boolean(document.at, document.size);
+    struct kohiblad_truth truth = kohiblad_as_boolean(document.at, document.size);
     if (truth.status == KOHIBLAD_OK) give_name(caller, truth.value ? "true" : "false");
     else fail(caller, truth.status);
 }
 
 static void give_type_of_number(const struct caller *caller, struct bytes document)
 {
-    struct kohiblad_decimal number = kohiblad_number(document.at, document.size);
+    struct kohiblad_decimal number = kohiblad_as_decimal(document.at, document.size);
     if (number.status == KOHIBLAD_OK) give_name(caller, number.scale ? "real" : "integer");
     else fail(caller, number.status);
 }

@@ -102,12 +102,12 @@ static uint32_t build(builder *build_within, const struct rows *rows, uint8_t *o
 
 uint32_t write_array(const void *input, uint8_t *out, size_t room, size_t *length)
 {
-    return build(kohiblad_build_array_within, input, out, room, length);
+    return build(kohiblad_build_array, input, out, room, length);
 }
 
 uint32_t write_object(const void *input, uint8_t *out, size_t room, size_t *length)
 {
-    return build(kohiblad_build_object_within, input, out, room, length);
+    return build(kohiblad_build_object, input, out, room, length);
 }
 
 /* The result is not longer than a header, an entry for each row, and the rows. */

@@ -24,7 +24,7 @@ uint32_t write_parsed(const void *input, uint8_t *out, size_t room, size_t *leng
 uint32_t write_string(const void *input, uint8_t *out, size_t room, size_t *length)
 {
     const struct bytes *text = input;
-    return kohiblad_of_text(text->at, text->size, out, room, length);
+    return kohiblad_of_string(text->at, text->size, out, room, length);
 }
 
 uint32_t write_sql_value(const void *input, uint8_t *out, size_t room, size_t *length)
@@ -47,28 +47,28 @@ size_t guess_of(const struct sql_value *value)
 uint32_t write_part(const void *input, uint8_t *out, size_t room, size_t *length)
 {
     const struct part *part = input;
-    return kohiblad_of_part(part->type, part->payload.at, part->payload.size, out, room, length);
+    return kohiblad_copy(part->type, part->payload.at, part->payload.size, out, room, length);
 }
 
 uint32_t write_compact(const void *input, uint8_t *out, size_t room, size_t *length)
 {
     const struct bytes *document = input;
-    return kohiblad_to_string_within(document->at, document->size, KOHIBLAD_SQLITE_DEPTH, out, room,
-                                     length);
+    return kohiblad_print(document->at, document->size, KOHIBLAD_SQLITE_DEPTH, out, room,
+                          length);
 }
 
 uint32_t write_pretty(const void *input, uint8_t *out, size_t room, size_t *length)
 {
     const struct bytes *document = input;
-    return kohiblad_to_pretty_within(document->at, document->size, KOHIBLAD_SQLITE_DEPTH, out, room,
-                                     length);
+    return kohiblad_pretty(document->at, document->size, KOHIBLAD_SQLITE_DEPTH, out, room,
+                           length);
 }
 
 uint32_t write_canonical(const void *input, uint8_t *out, size_t room, size_t *length)
 {
     const struct bytes *document = input;
-    return kohiblad_to_canonical_within(document->at, document->size, KOHIBLAD_SQLITE_DEPTH, out,
-                                        room, length);
+    return kohiblad_canonical(document->at, document->size, KOHIBLAD_SQLITE_DEPTH, out,
+                              room, length);
 }
 
 uint32_t write_key(const void *input, uint8_t *out, size_t room, size_t *length)

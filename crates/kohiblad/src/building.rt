@@ -18,7 +18,7 @@ use std::alloc::Global;
 /// the array. A scalar has depth 0, an array or object one more than its deepest child, and at
 /// least 1. Deeper levels are not examined.
 #[unsafe(no_mangle)]
-pub extern "C" fn kohiblad_build_array_within(
+pub extern "C" fn kohiblad_build_array(
     alloc: Global,
     bytes: &[u8],
     offsets: &[usize],
@@ -53,7 +53,7 @@ fn array_of(alloc: Global, rows: Rows, depth: usize) -> Result<OwnedJsonb, Error
 /// an array or object one more than its deepest child, and at least 1. Deeper levels are not
 /// examined.
 #[unsafe(no_mangle)]
-pub extern "C" fn kohiblad_build_object_within(
+pub extern "C" fn kohiblad_build_object(
     alloc: Global,
     bytes: &[u8],
     offsets: &[usize],

@@ -11,7 +11,7 @@ use std::alloc::Global;
 /// writes for some value. A scalar has depth 0, an array or object one more than its deepest child,
 /// and at least 1. Deeper levels are not examined.
 #[unsafe(no_mangle)]
-pub extern "C" fn kohiblad_is_canonical_within(bytes: &[u8], depth: usize) -> bool
+pub extern "C" fn kohiblad_is_canonical(bytes: &[u8], depth: usize) -> bool
     ensures { IsTrue result ↔ (IsDocumentWithin depth bytes.now × IsCanonical bytes.now) }
 {
     match Document::within(bytes, depth) {
@@ -27,7 +27,7 @@ pub extern "C" fn kohiblad_is_canonical_within(bytes: &[u8], depth: usize) -> bo
 /// and `length` is 0, or for `NO_ROOM` the length of the document. A scalar has depth 0, an array
 /// or object one more than its deepest child, and at least 1. Deeper levels are not examined.
 #[unsafe(no_mangle)]
-pub extern "C" fn kohiblad_to_canonical_within(
+pub extern "C" fn kohiblad_canonical(
     alloc: Global,
     bytes: &[u8],
     depth: usize,

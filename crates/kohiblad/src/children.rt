@@ -47,9 +47,9 @@ pub extern "C" fn kohiblad_begin(bytes: &[u8], cursor: &mut KohibladCursor) -> u
 
 /// Stores the position of the child at the cursor in `value`, and that of an object's key in `key`,
 /// and moves the cursor after the child. In a walk from `kohiblad_begin` on, these are the
-/// positions that `kohiblad_part` returns. `NONE` if there are no more children, or the bytes are
-/// neither an array nor an object; `InvalidEOF` if the header or an entry word that is read is cut
-/// off; `InvalidJsonb` if the header is of no kind, or the key or value runs past the end. Both
+/// positions that `kohiblad_find_index` returns. `NONE` if there are no more children, or the bytes
+/// are neither an array nor an object; `InvalidEOF` if the header or an entry word that is read is
+/// cut off; `InvalidJsonb` if the header is of no kind, or the key or value runs past the end. Both
 /// positions have the status that is returned, except that the key of an array's item has `NONE`; a
 /// position whose status is not `OK` has zeros. If the status that is returned is not `OK`, the
 /// cursor is unchanged. Any cursor may be given: a position with `OK` is inside the bytes.

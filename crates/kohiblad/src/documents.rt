@@ -26,7 +26,7 @@ pub extern "C" fn kohiblad_check(bytes: &[u8], depth: usize) -> bool
 /// document that nests deeper than `depth` levels compares by its bytes. A scalar has depth 0, an
 /// array or object one more than its deepest child, and at least 1. Deeper levels are not examined.
 #[unsafe(no_mangle)]
-pub extern "C" fn kohiblad_compare_within(left: &[u8], right: &[u8], depth: usize) -> i32
+pub extern "C" fn kohiblad_compare(left: &[u8], right: &[u8], depth: usize) -> i32
     ensures { result ≡ sign (meaning_cmp (meaning_within depth left.now)
         (meaning_within depth right.now)) }
 {

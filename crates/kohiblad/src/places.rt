@@ -36,7 +36,7 @@ pub struct KohibladPlace {
 /// header is of no kind, or the payload runs past the end. If the status is not `OK`, type, offset
 /// and length are 0.
 #[unsafe(no_mangle)]
-pub extern "C" fn kohiblad_part(bytes: &[u8], number: usize) -> KohibladPlace
+pub extern "C" fn kohiblad_find_index(bytes: &[u8], number: usize) -> KohibladPlace
     ensures value { result ≡ place_answer (place_in bytes.now number) }
     ensures document { (t : Tree) → Doc bytes.now t
         → IsPartPlace bytes.now t number (place_in bytes.now number) }
@@ -48,7 +48,7 @@ pub extern "C" fn kohiblad_part(bytes: &[u8], number: usize) -> KohibladPlace
 /// an object; `InvalidUtf8` if the name is not UTF-8; for bytes that are not a document, the error
 /// of looking up the key in them. If the status is not `OK`, type, offset and length are 0.
 #[unsafe(no_mangle)]
-pub extern "C" fn kohiblad_find(bytes: &[u8], name: &[u8]) -> KohibladPlace
+pub extern "C" fn kohiblad_find_key(bytes: &[u8], name: &[u8]) -> KohibladPlace
     ensures utf8 { (IsUtf8 name.now → ⊥) → result ≡ place_answer (Err Error.InvalidUtf8) }
     ensures place { IsUtf8 name.now → (found : Result (Option Place) Error)
         × (IsPlaceFound name.now bytes.now found × (result ≡ place_answer found)) }
@@ -65,7 +65,12 @@ pub extern "C" fn kohiblad_find(bytes: &[u8], name: &[u8]) -> KohibladPlace
 /// them; `NO_ROOM` if `out` is shorter than the document. If the status is not `OK`, `out` is
 /// unchanged, and `length` is 0, or for `NO_ROOM` the length of the document.
 #[unsafe(no_mangle)]
-pub extern "C" fn kohiblad_get(bytes: &[u8], name: &[u8], out: &mut [u8], length: &mut usize) -> u32
+pub extern "C" fn kohiblad_get_key(
+    bytes: &[u8],
+    name: &[u8],
+    out: &mut [u8],
+    length: &mut usize,
+) -> u32
     ensures utf8 { (IsUtf8 name.now → ⊥)
         → IsRefused (code Error.InvalidUtf8) out.old out.new length.new result }
     ensures place { IsUtf8 name.now → (found : Result (Option Place) Error)
@@ -81,15 +86,15 @@ pub extern "C" fn kohiblad_get(bytes: &[u8], name: &[u8], out: &mut [u8], length
 
 /// Copies the document of a part to `out`, and its length in bytes to `length`. The part is given
 /// by the type of its entry and its payload: an array or object is copied as it is, and a scalar is
-/// written as a document of its own. At a position in a document, as `kohiblad_part`,
-/// `kohiblad_find` and `kohiblad_next` return it, this is what `kohiblad_array_item` and
-/// `kohiblad_get` copy. The payload is not checked: null, true and false are also written with the
-/// one that is given, which in a document has no bytes. `InvalidJsonbJEntry` if entries have no
+/// written as a document of its own. At a position in a document, as `kohiblad_find_index`,
+/// `kohiblad_find_key` and `kohiblad_next` return it, this is what `kohiblad_get_index` and
+/// `kohiblad_get_key` copy. The payload is not checked: null, true and false are also written with
+/// the one that is given, which in a document has no bytes. `InvalidJsonbJEntry` if entries have no
 /// such type; `InvalidJsonb` if the payload of a scalar has 2^28 bytes or more; `NO_ROOM` if `out`
 /// is shorter than the document. If the status is not `OK`, `out` is unchanged, and `length` is 0,
 /// or for `NO_ROOM` the length of the document.
 #[unsafe(no_mangle)]
-pub extern "C" fn kohiblad_of_part(
+pub extern "C" fn kohiblad_copy(
     type_code: u32,
     payload: &[u8],
     out: &mut [u8],
@@ -128,7 +133,7 @@ pub extern "C" fn kohiblad_of_part(
 /// shorter than the document. If the status is not `OK`, `out` is unchanged, and `length` is 0, or
 /// for `NO_ROOM` the length of the document.
 #[unsafe(no_mangle)]
-pub extern "C" fn kohiblad_array_item(
+pub extern "C" fn kohiblad_get_index(
     bytes: &[u8],
     index: usize,
     out: &mut [u8],
@@ -150,7 +155,7 @@ pub extern "C" fn kohiblad_array_item(
 /// is not `OK`, `key` and `out` are unchanged, and both lengths are 0, or for `NO_ROOM` the lengths
 /// of the key and the document.
 #[unsafe(no_mangle)]
-pub extern "C" fn kohiblad_object_member(
+pub extern "C" fn kohiblad_get_member(
     bytes: &[u8],
     index: usize,
     key: &mut [u8],

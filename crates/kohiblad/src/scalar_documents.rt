@@ -49,7 +49,7 @@ pub extern "C" fn kohiblad_of_boolean(value: u32, out: &mut [u8], length: &mut u
 /// `NO_ROOM` if `out` is shorter than the document. If the status is not `OK`, `out` is unchanged,
 /// and `length` is 0, or for `NO_ROOM` the length of the document.
 #[unsafe(no_mangle)]
-pub extern "C" fn kohiblad_of_text(bytes: &[u8], out: &mut [u8], length: &mut usize) -> u32
+pub extern "C" fn kohiblad_of_string(bytes: &[u8], out: &mut [u8], length: &mut usize) -> u32
     ensures utf8 { (IsUtf8 bytes.now → ⊥)
         → IsRefused (code Error.InvalidUtf8) out.old out.new length.new result }
     ensures text { IsUtf8 bytes.now → IsShort bytes.now
@@ -112,8 +112,8 @@ pub extern "C" fn kohiblad_of_decimal(
 }
 
 /// Copies the canonical document of an extension value to `out`, and its length in bytes to
-/// `length`. The value is given by its tag and fields as `kohiblad_extension` returns them, and by
-/// its data; fields that the tag does not have must be 0, and the data empty.
+/// `length`. The value is given by its tag and fields as `kohiblad_as_extension` returns them, and
+/// by its data; fields that the tag does not have must be 0, and the data empty.
 /// `InvalidJsonbExtension` if no extension value has this tag, these fields and this data, so also
 /// if a date does not fit in 32 bits; `InvalidJsonb` if the data have 2^28 - 1 bytes or more;
 /// `OutOfMemory` if an allocation fails; `NO_ROOM` if `out` is shorter than the document. If the

@@ -18,7 +18,7 @@ use std::str;
 /// `NO_ROOM` if `out` is shorter than the text. If the status is not `OK`, `out` is unchanged, and
 /// `length` is 0, or for `NO_ROOM` the length of the text.
 #[unsafe(no_mangle)]
-pub extern "C" fn kohiblad_to_string_within(
+pub extern "C" fn kohiblad_print(
     alloc: Global,
     bytes: &[u8],
     depth: usize,
@@ -58,7 +58,7 @@ fn write_other(alloc: Global, bytes: &[u8], out: &mut [u8], length: &mut usize) 
 /// allocation fails; `NO_ROOM` if `out` is shorter than the text. If the status is not `OK`, `out`
 /// is unchanged, and `length` is 0, or for `NO_ROOM` the length of the text.
 #[unsafe(no_mangle)]
-pub extern "C" fn kohiblad_to_pretty_within(
+pub extern "C" fn kohiblad_pretty(
     alloc: Global,
     bytes: &[u8],
     depth: usize,

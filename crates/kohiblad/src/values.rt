@@ -78,7 +78,7 @@ pub struct KohibladExtension {
 /// `OTHER_KIND` if they begin like a value of another kind. If the status is not `OK`, the fields
 /// are 0.
 #[unsafe(no_mangle)]
-pub extern "C" fn kohiblad_number(bytes: &[u8]) -> KohibladDecimal
+pub extern "C" fn kohiblad_as_decimal(bytes: &[u8]) -> KohibladDecimal
     ensures number { (x : Number) → Doc bytes.now (number x) → IsDecimalOf x result }
     ensures other { ((x : Number) → Doc bytes.now (number x) → ⊥)
         → result ≡ no_decimal (why_none 2 (kind_answer (kind bytes.now))) }
@@ -100,7 +100,7 @@ pub extern "C" fn kohiblad_number(bytes: &[u8]) -> KohibladDecimal
 /// but are not a document; `OTHER_KIND` if they begin like a value of another kind. If the status
 /// is not `OK`, the value is 0.
 #[unsafe(no_mangle)]
-pub extern "C" fn kohiblad_int64(bytes: &[u8]) -> KohibladInteger
+pub extern "C" fn kohiblad_as_int64(bytes: &[u8]) -> KohibladInteger
     ensures number { (x : Number) → Doc bytes.now (number x) → result ≡ int64_answer x }
     ensures other { ((x : Number) → Doc bytes.now (number x) → ⊥)
         → result ≡ no_integer (why_none 2 (kind_answer (kind bytes.now))) }
@@ -119,7 +119,7 @@ pub extern "C" fn kohiblad_int64(bytes: &[u8]) -> KohibladInteger
 /// no kind, or the bytes begin like a text but are not a document; `OTHER_KIND` if they begin like
 /// a value of another kind. If the status is not `OK`, type, offset and length are 0.
 #[unsafe(no_mangle)]
-pub extern "C" fn kohiblad_text(bytes: &[u8]) -> KohibladPlace
+pub extern "C" fn kohiblad_as_string(bytes: &[u8]) -> KohibladPlace
     ensures text { (s : List ℕ) → Doc bytes.now (text s) → result ≡ text_place (length s) }
     ensures other { ((s : List ℕ) → Doc bytes.now (text s) → ⊥)
         → result ≡ no_place (why_none 3 (kind_answer (kind bytes.now))) }
@@ -140,7 +140,7 @@ pub extern "C" fn kohiblad_text(bytes: &[u8]) -> KohibladPlace
 /// value but are not a document; `OTHER_KIND` if they begin like a value of another kind. If the
 /// status is not `OK`, the value is 0.
 #[unsafe(no_mangle)]
-pub extern "C" fn kohiblad_boolean(bytes: &[u8]) -> KohibladTruth
+pub extern "C" fn kohiblad_as_boolean(bytes: &[u8]) -> KohibladTruth
     ensures boolean { (b : Bool) → Doc bytes.now (boolean b) → result ≡ truth_of b }
     ensures other { ((b : Bool) → Doc bytes.now (boolean b) → ⊥)
         → result ≡ no_truth (why_none 1 (kind_answer (kind bytes.now))) }
@@ -159,7 +159,7 @@ pub extern "C" fn kohiblad_boolean(bytes: &[u8]) -> KohibladTruth
 /// extension value but are not a document; `OTHER_KIND` if they begin like a value of another kind.
 /// If the status is not `OK`, the fields are 0.
 #[unsafe(no_mangle)]
-pub extern "C" fn kohiblad_extension(bytes: &[u8]) -> KohibladExtension
+pub extern "C" fn kohiblad_as_extension(bytes: &[u8]) -> KohibladExtension
     ensures extension { (e : Extension) → Doc bytes.now (extension e)
         → result ≡ extension_answer e }
     ensures other { ((e : Extension) → Doc bytes.now (extension e) → ⊥)

@@ -106,7 +106,7 @@ def _destructor(struct: _Struct, name: bytes) -> Any:
 _destroy_schema = _destructor(_Schema, _SCHEMA_NAME)
 _destroy_array = _destructor(_Array, _ARRAY_NAME)
 # The order of the rows, by addresses.
-_sort = library._export("sort_within", ctypes.c_uint32, c_void_p, c_size_t, c_void_p, c_size_t,
+_sort = library._export("sort", ctypes.c_uint32, c_void_p, c_size_t, c_void_p, c_size_t,
                         c_size_t, c_void_p, c_size_t)
 
 

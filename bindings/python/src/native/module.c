@@ -5,11 +5,11 @@
 
 static const struct { const char *name; size_t offset; } exports[] = {
 #define EXPORT(name) { #name, offsetof(struct library, name) }
-    EXPORT(begin), EXPORT(boolean), EXPORT(build_array_within), EXPORT(build_object_within),
-    EXPORT(check), EXPORT(concat), EXPORT(edit), EXPORT(extension), EXPORT(find), EXPORT(key),
-    EXPORT(kind), EXPORT(merge_patch), EXPORT(next), EXPORT(number), EXPORT(of_extension),
-    EXPORT(of_part), EXPORT(parse), EXPORT(part), EXPORT(select), EXPORT(strip_nulls),
-    EXPORT(text), EXPORT(to_canonical_within), EXPORT(to_pretty_within), EXPORT(to_string_within),
+    EXPORT(as_boolean), EXPORT(as_decimal), EXPORT(as_extension), EXPORT(as_string), EXPORT(begin),
+    EXPORT(build_array), EXPORT(build_object), EXPORT(canonical), EXPORT(check), EXPORT(concat),
+    EXPORT(copy), EXPORT(edit), EXPORT(find_index), EXPORT(find_key), EXPORT(key), EXPORT(kind),
+    EXPORT(merge_patch), EXPORT(next), EXPORT(of_extension), EXPORT(parse), EXPORT(pretty),
+    EXPORT(print), EXPORT(select), EXPORT(strip_nulls),
 };
 
 static const struct { const char *name; size_t offset; } objects[] = {
@@ -125,11 +125,11 @@ static uint32_t make_call(const struct library *library, enum call call, const u
     case CALL_PARSE:
         return library->parse(bytes, size, depth, exponents, out, room->size, &room->length);
     case CALL_TO_CANONICAL:
-        return library->to_canonical_within(bytes, size, size, out, room->size, &room->length);
+        return library->canonical(bytes, size, size, out, room->size, &room->length);
     case CALL_TO_PRETTY:
-        return library->to_pretty_within(bytes, size, size, out, room->size, &room->length);
+        return library->pretty(bytes, size, size, out, room->size, &room->length);
     default:
-        return library->to_string_within(bytes, size, size, out, room->size, &room->length);
+        return library->print(bytes, size, size, out, room->size, &room->length);
     }
 }
 

@@ -34,30 +34,30 @@ static inline PyObject *Py_NewRef(PyObject *object)
 
 /* The exports of the library that are called, each of the header's type. */
 struct library {
+    __typeof__(kohiblad_export_as_boolean) *as_boolean;
+    __typeof__(kohiblad_export_as_decimal) *as_decimal;
+    __typeof__(kohiblad_export_as_extension) *as_extension;
+    __typeof__(kohiblad_export_as_string) *as_string;
     __typeof__(kohiblad_export_begin) *begin;
-    __typeof__(kohiblad_export_boolean) *boolean;
-    __typeof__(kohiblad_export_build_array_within) *build_array_within;
-    __typeof__(kohiblad_export_build_object_within) *build_object_within;
+    __typeof__(kohiblad_export_build_array) *build_array;
+    __typeof__(kohiblad_export_build_object) *build_object;
+    __typeof__(kohiblad_export_canonical) *canonical;
     __typeof__(kohiblad_export_check) *check;
     __typeof__(kohiblad_export_concat) *concat;
+    __typeof__(kohiblad_export_copy) *copy;
     __typeof__(kohiblad_export_edit) *edit;
-    __typeof__(kohiblad_export_extension) *extension;
-    __typeof__(kohiblad_export_find) *find;
+    __typeof__(kohiblad_export_find_index) *find_index;
+    __typeof__(kohiblad_export_find_key) *find_key;
     __typeof__(kohiblad_export_key) *key;
     __typeof__(kohiblad_export_kind) *kind;
     __typeof__(kohiblad_export_merge_patch) *merge_patch;
     __typeof__(kohiblad_export_next) *next;
-    __typeof__(kohiblad_export_number) *number;
     __typeof__(kohiblad_export_of_extension) *of_extension;
-    __typeof__(kohiblad_export_of_part) *of_part;
     __typeof__(kohiblad_export_parse) *parse;
-    __typeof__(kohiblad_export_part) *part;
+    __typeof__(kohiblad_export_pretty) *pretty;
+    __typeof__(kohiblad_export_print) *print;
     __typeof__(kohiblad_export_select) *select;
     __typeof__(kohiblad_export_strip_nulls) *strip_nulls;
-    __typeof__(kohiblad_export_text) *text;
-    __typeof__(kohiblad_export_to_canonical_within) *to_canonical_within;
-    __typeof__(kohiblad_export_to_pretty_within) *to_pretty_within;
-    __typeof__(kohiblad_export_to_string_within) *to_string_within;
 };
 
 /* Names that were read lately, each at the place that its bytes choose. */

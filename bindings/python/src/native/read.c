@@ -83,7 +83,7 @@ static PyObject *decimal_of(struct state *state, const struct kohiblad_decimal *
 /* The value of a number's document. */
 static PyObject *number_of(struct state *state, const uint8_t *bytes, size_t size)
 {
-    struct kohiblad_decimal number = state->library.number(bytes, size);
+    struct kohiblad_decimal number = state->library.as_decimal(bytes, size);
     if (number.status) return raise_status(state, number.status);
     if (number.scale == 0) return whole_number_of(number.high, number.low);
     return decimal_of(state, &number);
@@ -92,7 +92,7 @@ static PyObject *number_of(struct state *state, const uint8_t *bytes, size_t siz
 /* What the package makes of an extension value's document. */
 static PyObject *extension_of(struct state *state, const uint8_t *bytes, size_t size)
 {
-    struct kohiblad_extension_value it = state->library.extension(bytes, size);
+    struct kohiblad_extension_value it = state->library.as_extension(bytes, size);
     if (it.status) return raise_status(state, it.status);
     return PyObject_CallFunction(state->extension_of, "kLiiiy#", (unsigned long)it.tag,
                                  (long long)it.value, (int)it.months, (int)it.days, (int)it.seconds,
@@ -107,7 +107,7 @@ static PyObject *copied_scalar_of(struct state *state, uint32_t type, const uint
     size_t room = size + 8, length;
     if (room > sizeof near && !(document = PyMem_Malloc(room))) return PyErr_NoMemory();
     PyObject *scalar = NULL;
-    uint32_t status = state->library.of_part(type, payload, size, document, room, &length);
+    uint32_t status = state->library.copy(type, payload, size, document, room, &length);
     if (status) raise_status(state, status);
     else if (type == KOHIBLAD_TYPE_NUMBER) scalar = number_of(state, document, length);
     else scalar = extension_of(state, document, length);
@@ -154,13 +154,13 @@ static PyObject *value_of_scalar(struct state *state, const uint8_t *bytes, size
     case KOHIBLAD_NULL:
         Py_RETURN_NONE;
     case KOHIBLAD_BOOLEAN:
-        truth = state->library.boolean(bytes, size);
+        truth = state->library.as_boolean(bytes, size);
         if (truth.status) return raise_status(state, truth.status);
         return PyBool_FromLong((long)truth.value);
     case KOHIBLAD_NUMBER:
         return number_of(state, bytes, size);
     case KOHIBLAD_STRING:
-        text = state->library.text(bytes, size);
+        text = state->library.as_string(bytes, size);
         if (text.status) return raise_status(state, text.status);
         return PyUnicode_DecodeUTF8((const char *)bytes + text.offset, (Py_ssize_t)text.length,
                                     NULL);
@@ -307,7 +307,7 @@ static int find_member(struct state *state, const struct input *input, PyObject 
         at = (const uint8_t *)PyBytes_AS_STRING(owner);
         size = PyBytes_GET_SIZE(owner);
     }
-    *place = state->library.find(input->at, input->size, at, (size_t)size);
+    *place = state->library.find_key(input->at, input->size, at, (size_t)size);
     Py_XDECREF(owner);
     return place->status == KOHIBLAD_OK;
 }
@@ -348,7 +348,7 @@ PyObject *native_item(PyObject *module, PyObject *const *arguments, Py_ssize_t c
         PyErr_SetString(PyExc_IndexError, "array index out of range");
         return NULL;
     }
-    struct kohiblad_place place = state->library.part(input.at, input.size, (size_t)index);
+    struct kohiblad_place place = state->library.find_index(input.at, input.size, (size_t)index);
     if (place.status) return raise_status(state, place.status);
     return child_of(state, input.at, &place);
 }

@@ -377,11 +377,11 @@ static PyObject *build(struct writing *writing)
         built = PyBytes_FromStringAndSize(NULL, (Py_ssize_t)room);
         if (!built) break;
         /* No row nests as deep as all have bytes. */
-        status = (PyDict_CheckExact(opened->container) ? library->build_object_within
-                  : library->build_array_within)((const uint8_t *)rows.bytes.at, rows.bytes.size,
-                                                 rows.offsets, rows.count + 1, rows.bytes.size,
-                                                 (uint8_t *)PyBytes_AS_STRING(built), room,
-                                                 &length);
+        status = (PyDict_CheckExact(opened->container) ? library->build_object
+                  : library->build_array)((const uint8_t *)rows.bytes.at, rows.bytes.size,
+                                          rows.offsets, rows.count + 1, rows.bytes.size,
+                                          (uint8_t *)PyBytes_AS_STRING(built), room,
+                                          &length);
     }
     if (built && status == KOHIBLAD_OK) {
         _PyBytes_Resize(&built, (Py_ssize_t)length); /* NULL with an exception: no memory */

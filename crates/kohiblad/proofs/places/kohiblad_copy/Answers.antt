@@ -1,5 +1,5 @@
 use Rattle.kohiblad.proofs.PartLaws.{entry_doc, part_made, place_document}
-use Rattle.kohiblad.proofs.places.kohiblad_of_part.Goals as goal
+use Rattle.kohiblad.proofs.places.kohiblad_copy.Goals as goal
 
 pub returns-clause-document : goal.returns-clause-document
 returns-clause-document c =

@@ -1,6 +1,6 @@
 use Rattle.std.proofs.Common.{inr, refl}
 use Rattle.kohiblad.proofs.ResultLaws.{rewritten}
-use Rattle.kohiblad.proofs.canonical.kohiblad_to_canonical_within.Goals as goal
+use Rattle.kohiblad.proofs.canonical.kohiblad_canonical.Goals as goal
 
 pub returns : goal.returns
 returns c =

@@ -4,7 +4,7 @@ use Rattle.jsonb.specs.Texts.{plain_text}
 use Rattle.jsonb_comparable.specs.CheckedBytes.{checked_meaning}
 use Rattle.kohiblad.specs.Output.{IsWritten}
 use Rattle.kohiblad.specs.Status.{IsHandedOver}
-use Rattle.kohiblad.proofs.texts.kohiblad_to_string_within.Goals as goal
+use Rattle.kohiblad.proofs.texts.kohiblad_print.Goals as goal
 
 pub returns-in-Other : goal.returns-in-Other
 returns-in-Other c = subst

@@ -3,7 +3,7 @@ use Rattle.std.proofs.Common.{arith, refl}
 use Rattle.jsonb_comparable.specs.Within.{meaning_within}
 use Rattle.kohiblad.specs.SortOrder.{IsOrderOf}
 use Rattle.kohiblad.proofs.Orders.{numbers_of}
-use Rattle.kohiblad.proofs.sort.kohiblad_sort_within.Goals as goal
+use Rattle.kohiblad.proofs.sort.kohiblad_sort.Goals as goal
 
 pub put_numbers-requires : goal.put_numbers-requires
 put_numbers-requires c =

@@ -1,5 +1,5 @@
 use Rattle.kohiblad.proofs.PlaceLaws.{place_in_stored}
-use Rattle.kohiblad.proofs.places.kohiblad_part.Goals as goal
+use Rattle.kohiblad.proofs.places.kohiblad_find_index.Goals as goal
 
 pub returns-clause-document : goal.returns-clause-document
 returns-clause-document c =
