@@ -207,6 +207,9 @@ struct reader {
 /* Reads the text of a path into the document of its steps. KOHIBLAD_OK: the caller releases it.
  * After another status *message is what to report; null if memory was refused. */
 uint32_t open_path(const char *name, struct bytes text, struct buffer *path, char **message);
+/* The same of an argument, which SQLite keeps for the next rows if it is a constant. Null after an
+ * error that was reported. */
+const struct buffer *kept_path(const struct caller *caller, sqlite3_value **arguments, int index);
 /* The steps of such a document, from the first on. */
 struct reader steps_of(const struct buffer *path);
 /* Reads the next step, if there is one. */

@@ -222,19 +222,16 @@ static void jb_get(const struct caller *caller, sqlite3_value **arguments)
 
 static void give_at(const struct caller *caller, sqlite3_value **arguments, part_giver *give)
 {
-    struct bytes document, text;
-    struct buffer path;
+    const struct buffer *path;
+    struct bytes document;
     struct step last;
     struct part part;
     char *message;
     uint32_t status;
-    if (!get_document(caller, arguments[0], &document) || !get_text(caller, arguments[1], &text))
+    if (!get_document(caller, arguments[0], &document)
+        || !(path = kept_path(caller, arguments, 1)))
         return;
-    status = open_path(caller->name, text, &path, &message);
-    if (status == KOHIBLAD_OK) {
-        status = follow_path(caller->name, document, &path, &part, &last, &message);
-        release(&path);
-    }
+    status = follow_path(caller->name, document, path, &part, &last, &message);
     if (status == KOHIBLAD_OK) give(caller, &part);
     else if (status != KOHIBLAD_NONE) fail_with(caller, message);
 }

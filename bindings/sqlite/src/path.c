@@ -30,6 +30,32 @@ uint32_t open_path(const char *name, struct bytes text, struct buffer *path, cha
     return status;
 }
 
+static void free_path(void *path)
+{
+    release(path);
+    sqlite3_free(path);
+}
+
+const struct buffer *kept_path(const struct caller *caller, sqlite3_value **arguments, int index)
+{
+    struct buffer *path = sqlite3_get_auxdata(caller->context, index);
+    struct bytes text;
+    char *message = NULL;
+    if (path) return path;
+    if (!get_text(caller, arguments[index], &text)) return NULL;
+    path = sqlite3_malloc(sizeof *path);
+    if (path && open_path(caller->name, text, path, &message) == KOHIBLAD_OK) {
+        sqlite3_set_auxdata(caller->context, index, path, free_path);
+        /* SQLite may have freed it, for want of memory. */
+        path = sqlite3_get_auxdata(caller->context, index);
+    } else {
+        sqlite3_free(path);
+        path = NULL;
+    }
+    if (!path) fail_with(caller, message);
+    return path;
+}
+
 struct reader steps_of(const struct buffer *path)
 {
     struct reader reader = { bytes_in(path), { 0, 0, 0 } };
