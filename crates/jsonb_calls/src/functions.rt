@@ -264,15 +264,14 @@ fn paths_given_as_texts(rt: HostRuntime) -> Result<(), Fail> {
     Ok(())
 }
 
-#[test]
-fn values_kept_by_a_filter(rt: HostRuntime) -> Result<(), Fail> {
-    let limit = OwnedJsonb::parse(rt.alloc(), "130")?;
-    let mut rate = Vec::new(rt.alloc());
-    rate.push(Step::Key("HR"))?;
+// Whether the one rate above a limit is this one.
+fn leads_above(alloc: Global, limit: Document, rate: u64) -> Result<bool, Error> {
+    let mut to_rate = Vec::new(alloc);
+    to_rate.push(Step::Key("HR"))?;
     let condition = Condition {
-        path: rate,
+        path: to_rate,
         comparison: Comparison::Greater,
-        value: document_of(&limit)?.value(),
+        value: limit.value(),
     };
     let path = [
         Selector::Key("segments"),
@@ -280,7 +279,14 @@ fn values_kept_by_a_filter(rt: HostRuntime) -> Result<(), Fail> {
         Selector::Filter(condition),
         Selector::Key("HR"),
     ];
-    assert!(rt; leads_to(rt.alloc(), &path, &[135])?);
+    leads_to(alloc, &path, &[rate])
+}
+
+#[test]
+fn values_kept_by_a_filter(rt: HostRuntime) -> Result<(), Fail> {
+    let limit = OwnedJsonb::parse(rt.alloc(), "130")?;
+    let limit = document_of(&limit)?;
+    assert!(rt; leads_above(rt.alloc(), limit, 135)?);
     Ok(())
 }
 
