@@ -1,4 +1,5 @@
 pub mod Lines
 pub mod Session
 pub mod Output
+pub mod Arguments
 pub mod Words

@@ -2,5 +2,4 @@ pub mod Commands
 pub mod Grammar
 pub mod Answers
 pub mod Fault
-pub mod Arguments
 pub mod Words

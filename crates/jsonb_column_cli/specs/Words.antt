@@ -11,7 +11,6 @@ pub use Rattle.answer_lines.specs.Session.{AreAnswers}
 pub use Rattle.jsonb_column_cli.specs.Answers.{AnswersLine, IsGiven, IsLineOutcome, IsOutcome}
 pub use Rattle.jsonb_column_cli.specs.Answers.{IsRefusal, Rows, refusal_name, refusal_of}
 pub use Rattle.jsonb_column_cli.specs.Answers.{reply_line, reply_of, rows_line}
-pub use Rattle.jsonb_column_cli.specs.Arguments.{request_in}
 pub use Rattle.jsonb_column_cli.specs.Commands.{add, count, escaped_after, find, find_in, form_in}
 pub use Rattle.jsonb_column_cli.specs.Commands.{is_space, load, name_len, name_word}
 pub use Rattle.jsonb_column_cli.specs.Commands.{open_after, range, row, save, sort}

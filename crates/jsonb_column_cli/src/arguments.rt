@@ -1,7 +1,4 @@
-//! The program's arguments.
-
-ghost use Rattle.std.specs.Prelude.{◌≡◌, option_map, string_bytes};
-ghost use Rattle.jsonb_column_cli.specs.Words.{request_in};
+//! What the program prints in answer to its arguments.
 
 /// What `--help` prints.
 pub const USAGE: &str = "\
@@ -23,38 +20,3 @@ load HEX          these stored rows in place of the others
 
 /// What `--version` prints.
 pub const VERSION: &str = "jsonb_column_cli 0.7.0\n";
-
-/// What the program is to do.
-#[derive(Clone, Copy, Debug, PartialEq, Eq)]
-pub enum Request {
-    /// Answer lines.
-    Run,
-    /// Print the usage.
-    Help,
-    /// Print the version.
-    Version,
-    /// Refuse its arguments.
-    Unknown,
-}
-
-/// The request of the first two arguments: none is `Run`, `--help` or `-h` alone is `Help`, and
-/// `--version` alone is `Version`.
-pub fn request_of(first: Option<String>, second: Option<String>) -> Request
-    ensures { result
-        ≡ request_in (option_map string_bytes first) (option_map string_bytes second) }
-{
-    match (first, second) {
-        (None, _) => Request::Run,
-        (Some(word), None) => {
-            let word = word.as_str();
-            if word == "--help" || word == "-h" {
-                Request::Help
-            } else if word == "--version" {
-                Request::Version
-            } else {
-                Request::Unknown
-            }
-        }
-        (Some(_), Some(_)) => Request::Unknown,
-    }
-}

@@ -6,8 +6,8 @@ mod arguments;
 mod command;
 mod run;
 
-use answer_lines::RunError;
-use arguments::{Request, USAGE, VERSION, request_of};
+use answer_lines::{Request, RunError, request_of};
+use arguments::{USAGE, VERSION};
 use std::process::ExitCode;
 use std::{env, io};
 

@@ -1,8 +1,8 @@
 -- What the program's arguments ask for.
 use Rattle.std.specs.Prelude.{if◌then◌else◌, ◌||◌, ℕ, List, Option, Some, None, codes, bytes_eq}
-use Rattle.jsonb_column_cli.specs.declared.arguments.Request.{Request}
-use Rattle.jsonb_column_cli.specs.declared.arguments.Request.TheVariants.{Run, Help, Version}
-use Rattle.jsonb_column_cli.specs.declared.arguments.Request.TheVariants.{Unknown}
+use Rattle.answer_lines.specs.declared.arguments.Request.{Request}
+use Rattle.answer_lines.specs.declared.arguments.Request.TheVariants.{Run, Help, Version}
+use Rattle.answer_lines.specs.declared.arguments.Request.TheVariants.{Unknown}
 
 -- The request in the first two arguments: to run if there is none, to print the usage for `--help`
 -- or `-h` alone, the version for `--version` alone, and otherwise unknown.
