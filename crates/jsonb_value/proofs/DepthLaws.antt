@@ -23,10 +23,9 @@ use Rattle.jsonb_value.specs.Depth.{depth, depths, pair_depths}
 use Rattle.jsonb_value.specs.Tree.{Tree}
 use Rattle.jsonb_value.specs.Value.{trees_of}
 use Rattle.jsonb_value.specs.declared.parser.number.Exponents.{Exponents}
-use Rattle.jsonb_value.specs.declared.parser.number.Exponents.TheVariants.{Forbidden}
 use Rattle.jsonb_value.specs.TextDepth.{state_after, level_after, greatest_level, text_depth}
 use Rattle.jsonb_value.specs.TextDepth.{syntax_depth, element_depth, items_depth, member_depth}
-use Rattle.jsonb_value.specs.TextDepth.{members_depth, HasDepthOfSpelled, HasItsDepth}
+use Rattle.jsonb_value.specs.TextDepth.{members_depth, HasDepthOfSpelled}
 use Rattle.jsonb_value.specs.Json.Characters.{all_blank}
 use Rattle.jsonb_value.specs.Json.Piece.{pieces_meaning}
 use Rattle.jsonb_value.specs.Json.Syntax.{Syntax, nothing, truth, numeral, string, empty_array}
@@ -34,7 +33,7 @@ use Rattle.jsonb_value.specs.Json.Syntax.{items, empty_object, members, Element,
 use Rattle.jsonb_value.specs.Json.Syntax.{no_item, next_item, Member, member, Members, no_member}
 use Rattle.jsonb_value.specs.Json.Syntax.{next_member, Entries, pairs, insert_all}
 use Rattle.jsonb_value.specs.Json.Syntax.{between, meaning, element_meaning, items_meaning}
-use Rattle.jsonb_value.specs.Json.Syntax.{member_meaning, members_meaning, JsonText, Json}
+use Rattle.jsonb_value.specs.Json.Syntax.{member_meaning, members_meaning, JsonText}
 use Rattle.jsonb_value.proofs.ScanLaws.{level_within}
 use Rattle.jsonb_value.proofs.Json.Scanned.{scanned}
 use Rattle.jsonb_value.proofs.Json.Tests.{bind_then, cond_some, and_true, bool_cases}
@@ -219,9 +218,6 @@ depth_of_spelled rule text utf8 = λ syntax t spelled meant. (
   element_deep rule syntax t meant,
 )
 
-pub its_depth : (text : List ℕ) → IsUtf8 text → HasItsDepth text
-its_depth = depth_of_spelled Forbidden
-
 pub spelled_within : (rule : Exponents) (text : List ℕ) (t : Tree) (limit : ℕ)
     → HasDepthOfSpelled rule text → JsonText rule (chars text) t → text_depth text ≤ limit
     → depth t ≤ limit
@@ -230,10 +226,6 @@ spelled_within rule text t limit nests json within =
     let exact = is.0 in
     let most = is.1 in
     omega arith
-
-pub tree_within : (text : List ℕ) (t : Tree) (limit : ℕ) → HasItsDepth text → Json (chars text) t
-    → text_depth text ≤ limit → depth t ≤ limit
-tree_within = spelled_within Forbidden
 
 -- a refusal at any depth has the reader's own error
 pub its_error : {A : Type 0} (r : Result A ParseError) (e f : Error)

@@ -4,7 +4,6 @@ use Rattle.std.specs.Prelude.{◌∷◌, Some, chars}
 use Rattle.jsonb_value.specs.declared.text_depth.ScanState.{ScanState}
 use Rattle.jsonb_value.specs.declared.text_depth.ScanState.TheVariants.{Outside, Inside, Escaped}
 use Rattle.jsonb_value.specs.declared.parser.number.Exponents.{Exponents}
-use Rattle.jsonb_value.specs.declared.parser.number.Exponents.TheVariants.{Forbidden, Allowed}
 use Rattle.jsonb_value.specs.Depth.{depth}
 use Rattle.jsonb_value.specs.Tree.{Tree}
 use Rattle.jsonb_value.specs.Json.Syntax.{Syntax, nothing, truth, numeral, string, empty_array}
@@ -25,7 +24,7 @@ level_after Outside level c = if (c == 91) || (c == 123) then suc level
 level_after Inside level c = level
 level_after Escaped level c = level
 
--- the greatest number of brackets that are open at once, where so many are open before the text
+-- the greatest number of brackets that are open at once, if this many are open before the text
 abbrev pub greatest_level : ScanState → ℕ → List ℕ → ℕ
 greatest_level state level [] = level
 greatest_level state level (c ∷ text) =
@@ -69,11 +68,3 @@ abbrev pub HasDepthOfSpelled : Exponents → List ℕ → Type 0
 HasDepthOfSpelled rule text = (syntax : Element) (t : Tree) → chars text ≡ element_text syntax
     → element_meaning rule syntax ≡ Some t
     → (text_depth text ≡ element_depth syntax) × (depth t ≤ element_depth syntax)
-
--- The same for texts without exponents.
-abbrev pub HasItsDepth : List ℕ → Type 0
-HasItsDepth = HasDepthOfSpelled Forbidden
-
--- The same for texts with or without exponents.
-abbrev pub HasItsDepthWithExponents : List ℕ → Type 0
-HasItsDepthWithExponents = HasDepthOfSpelled Allowed

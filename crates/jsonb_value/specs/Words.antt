@@ -46,9 +46,7 @@ pub use Rattle.jsonb_value.specs.Reader.Reading.{skip_blank, string_kind}
 pub use Rattle.jsonb_value.specs.Text.{NoneEscaped, byte_text, decimal_text, ends, escape}
 pub use Rattle.jsonb_value.specs.Text.{extension_text, hex_byte, hex_text, is_escaped, number_text}
 pub use Rattle.jsonb_value.specs.Text.{point_text, string_text}
-pub use Rattle.jsonb_value.specs.TextDepth.{HasDepthOfSpelled, HasItsDepth}
-pub use Rattle.jsonb_value.specs.TextDepth.{HasItsDepthWithExponents, level_after, state_after}
-pub use Rattle.jsonb_value.specs.TextDepth.{text_depth}
+pub use Rattle.jsonb_value.specs.TextDepth.{HasDepthOfSpelled, level_after, state_after, text_depth}
 pub use Rattle.jsonb_value.specs.Tree.{Ascend, Extension, Tree, date, interval, object, text}
 pub use Rattle.jsonb_value.specs.Tree.{timestamp, timestamp_tz}
 pub use Rattle.jsonb_value.specs.TreeOrder.{rank_of, tree_cmp}

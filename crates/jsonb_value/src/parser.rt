@@ -49,7 +49,8 @@ pub fn parse<'a>(alloc: Global, text: &'a str, exponents: Exponents) -> Result<V
     Ok(trees.into_value())
 }
 
-/// Parses a whole text. Strings without escapes are borrowed from the text.
+/// Parses a whole text. Strings without escapes are borrowed from the text. No text means two values
+/// (`json_laws`).
 ///
 /// The grammar is JSON without exponents. The kind of a number follows from its value and its
 /// number of fraction digits: an integer is `UInt64` (`-0` too), `Int64`, or `Decimal128` of scale
@@ -63,14 +64,13 @@ pub fn parse_value<'a>(alloc: Global, text: &'a str) -> Result<Value<'a>, Error>
     // A text refused as `InvalidJson` means no value.
     ensures invalid { result ≡ Err Error.InvalidJson → (t : Tree) → Json (chars text.now) t → ⊥ }
     ensures errors { IfErr result (λ e. (e ≡ Error.InvalidJson) ⊎ (e ≡ Error.OutOfMemory)) }
-    // No text means two different values.
-    ensures one { (t u : Tree) → Json (chars text.now) t → Json (chars text.now) u → t ≡ u }
 {
     parse(alloc, text, Exponents::Forbidden)
 }
 
 /// Parses a whole text as `parse_value` does, but takes a number with an exponent too, as `1.5e3`,
-/// which means exactly its value.
+/// which means exactly its value. No text means two values, and a text without exponents means what
+/// `parse_value` returns (`json_laws`).
 ///
 /// The scale of a number is the count of its fraction digits less its exponent. A number whose
 /// scale is 1 to 255 is a decimal of that scale, with the digits as written: `1.50e1` is a decimal
@@ -84,11 +84,6 @@ pub fn parse_value_with_exponents<'a>(alloc: Global, text: &'a str) -> Result<Va
     ensures invalid { result ≡ Err Error.InvalidJson
         → (t : Tree) → JsonWithExponents (chars text.now) t → ⊥ }
     ensures errors { IfErr result (λ e. (e ≡ Error.InvalidJson) ⊎ (e ≡ Error.OutOfMemory)) }
-    // No text means two different values.
-    ensures one { (t u : Tree) → JsonWithExponents (chars text.now) t
-        → JsonWithExponents (chars text.now) u → t ≡ u }
-    // What a text means without exponents, it means here too.
-    ensures same { (t : Tree) → Json (chars text.now) t → JsonWithExponents (chars text.now) t }
 {
     parse(alloc, text, Exponents::Allowed)
 }

@@ -3,8 +3,7 @@
 ghost use Rattle.std.specs.Prelude.{◌≡◌, ◌↔◌, ◌⊎◌, ◌<◌, ◌≤◌, Err, IfOk, IfErr, chars};
 ghost use Rattle.jsonb_value.specs.Depth.{depth as tree_depth};
 ghost use Rattle.jsonb_value.specs.Words.{Refused, Tree, tree_of, Json, JsonText, text_depth};
-ghost use Rattle.jsonb_value.specs.Words.{JsonWithExponents, HasDepthOfSpelled, HasItsDepth};
-ghost use Rattle.jsonb_value.specs.Words.{HasItsDepthWithExponents, parse_error_name};
+ghost use Rattle.jsonb_value.specs.Words.{JsonWithExponents, parse_error_name};
 
 use crate::error::Error;
 use crate::parser::{Exponents, parse};
@@ -43,7 +42,7 @@ impl From<Error> for ParseError {
     }
 }
 
-// The value of a whole text that nests at most that deep, with exponents if they are allowed.
+// The value of a whole text that nests at most `depth` deep, with exponents if they are allowed.
 fn parse_within<'a>(
     alloc: Global,
     text: &'a str,
@@ -52,7 +51,6 @@ fn parse_within<'a>(
 ) -> Result<Value<'a>, ParseError>
     ensures ok { IfOk result (λ value. JsonText exponents (chars text.now) (tree_of value)) }
     ensures deep { (result ≡ Err ParseError.TooDeep) ↔ (depth < text_depth text.now) }
-    ensures nests { HasDepthOfSpelled exponents text.now }
     ensures within { IfOk result (λ value. tree_depth (tree_of value) ≤ depth) }
     ensures invalid { result ≡ Err (ParseError.Refused Error.InvalidJson)
         → (t : Tree) → JsonText exponents (chars text.now) t → ⊥ }
@@ -66,14 +64,14 @@ fn parse_within<'a>(
     Ok(parse(alloc, text, exponents)?)
 }
 
-/// The value of a whole text that nests at most that deep, as `parse_value` reads it. Use this for
-/// untrusted texts: to read one takes no stack for its depth, but to encode, print or drop the
+/// The value of a whole text that nests at most `depth` deep, as `parse_value` reads it. Use this
+/// for untrusted texts: to read one takes no stack for its depth, but to encode, print or drop the
 /// value does.
 ///
-/// `TooDeep` exactly where more brackets than `depth` are open at once, those in strings not
-/// counted. This is found before the text is read, so it comes before any other refusal. Of a text
-/// that is read it is the depth of its value, or of a deeper value that an equal key replaces: a
-/// scalar has depth 0, an array or object 1 where it is empty, and otherwise one more than its
+/// `TooDeep` exactly if more brackets than `depth` are open at once, those in strings not counted.
+/// This is found before the text is read, so it comes before any other refusal. For JSON that
+/// number is the depth of its value, where values that a later equal key replaces count too
+/// (`json_laws`): a scalar has depth 0, an empty array or object 1, any other one more than its
 /// deepest child. `Refused` has the errors of `parse_value`: `InvalidJson` and `OutOfMemory`.
 pub fn parse_value_within<'a>(
     alloc: Global,
@@ -82,9 +80,8 @@ pub fn parse_value_within<'a>(
 ) -> Result<Value<'a>, ParseError>
     // What is read is what the text means.
     ensures ok { IfOk result (λ value. Json (chars text.now) (tree_of value)) }
-    // The depth is exact, and that of a text of JSON is that of what it spells.
+    // The depth is exact.
     ensures deep { (result ≡ Err ParseError.TooDeep) ↔ (depth < text_depth text.now) }
-    ensures nests { HasItsDepth text.now }
     ensures within { IfOk result (λ value. tree_depth (tree_of value) ≤ depth) }
     // What is refused at any depth means nothing.
     ensures invalid { result ≡ Err (ParseError.Refused Error.InvalidJson)
@@ -96,7 +93,7 @@ pub fn parse_value_within<'a>(
     parse_within(alloc, text, depth, Exponents::Forbidden)
 }
 
-/// The value of a whole text that nests at most that deep, as `parse_value_with_exponents` reads
+/// The value of a whole text that nests at most `depth` deep, as `parse_value_with_exponents` reads
 /// it.
 ///
 /// `TooDeep` comes as from `parse_value_within`, and `Refused` has the errors of
@@ -108,9 +105,8 @@ pub fn parse_value_with_exponents_within<'a>(
 ) -> Result<Value<'a>, ParseError>
     // What is read is what the text means.
     ensures ok { IfOk result (λ value. JsonWithExponents (chars text.now) (tree_of value)) }
-    // The depth is exact, and that of a text of JSON is that of what it spells.
+    // The depth is exact.
     ensures deep { (result ≡ Err ParseError.TooDeep) ↔ (depth < text_depth text.now) }
-    ensures nests { HasItsDepthWithExponents text.now }
     ensures within { IfOk result (λ value. tree_depth (tree_of value) ≤ depth) }
     // What is refused at any depth means nothing.
     ensures invalid { result ≡ Err (ParseError.Refused Error.InvalidJson)

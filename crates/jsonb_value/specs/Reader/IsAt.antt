@@ -1,4 +1,4 @@
--- Where the reader stands after a step.
+-- Where the reader is after a step.
 use Rattle.std.specs.Prelude.{◌≡◌, ℕ, suc, Bool, List, Option, Some, chars, length}
 use Rattle.jsonb_value.specs.declared.parser.number.Exponents.{Exponents}
 use Rattle.jsonb_value.specs.Tree.{Tree}

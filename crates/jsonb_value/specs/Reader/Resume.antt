@@ -79,7 +79,7 @@ AddsKey is old new key =
     (front : Entries) (cs : List Content) → is old (going (members front ∷ cs))
     → is new (going (at_key front key ∷ cs))
 
--- ---- where the reader stands
+-- ---- where the reader is
 
 abbrev pub contents : List Part → List Content
 contents [] = []

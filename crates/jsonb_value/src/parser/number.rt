@@ -198,7 +198,7 @@ fn signed(is_negative: bool, magnitude: u128) -> Option<i128>
     }
 }
 
-// The number with so many zeros appended, if 128 bits hold it. At most 38 zeros take time.
+// The number with this many zeros appended, if 128 bits hold it. At most 38 zeros take time.
 fn with_zeros(number: u128, zeros: u128) -> Option<u128>
     ensures { SomeIff result (number * 10 ^ zeros < 2 ^ 128) (number * 10 ^ zeros) }
 {

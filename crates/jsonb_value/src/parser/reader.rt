@@ -257,8 +257,8 @@ fn read_key<'a, S: Sink<'a>>(
     Ok(Step::Value(skip_blank(later)))
 }
 
-/// Reads a whole text, and calls the sink for each part of it. `InvalidJson` if it is not a JSON text,
-/// `OutOfMemory` if an allocation fails.
+/// Reads a whole text, and calls the sink for each part of it. `InvalidJson` if it is not a JSON
+/// text, `OutOfMemory` if an allocation fails.
 pub fn read_text<'a, S: Sink<'a>>(
     alloc: Global,
     sink: &mut S,
