@@ -28,6 +28,7 @@ pub mod RereadLaws
 pub mod WellFormed
 pub mod Decision
 pub mod ZeroLaws
+pub mod DocumentLaws
 pub mod Vectors
 pub mod SortOrder
 pub mod Building

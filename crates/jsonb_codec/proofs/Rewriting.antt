@@ -1,7 +1,7 @@
 -- The children of a container, array or object, and how the container is written from them.
 use Rattle.std.proofs.Common.{◌≡◌, ◌↔◌, ◌<◌, ◌≤◌, ◌+◌, ◌*◌, ◌^◌, ℕ, List, ◌++◌, length, take, drop}
 use Rattle.std.proofs.Common.{refl, sym, ap, subst, ◌∙◌, arith, lit<, length-append, append_assoc}
-use Rattle.jsonb_value.specs.Tree.{Tree, array, object, Trees, tree, Pairs, no_pairs}
+use Rattle.jsonb_value.specs.Tree.{Tree, array, object, Trees, Pairs, no_pairs}
 use Rattle.jsonb_value.specs.Tree.{pair}
 use Rattle.std.specs.declared.cmp.Ordering.TheVariants.{Equal}
 use Rattle.jsonb_value.specs.Norm.{norm}

@@ -29,7 +29,7 @@ AreContents (contents.Array items) t = (ts : Trees) × ((t ≡ array ts) × AreC
 AreContents (contents.Object it) t =
     (ps : Pairs) × ((t ≡ object ps) × IsObject it.count it.body.now ps)
 
--- Their entry words and payloads take fewer than so many bytes.
+-- Their entry words and payloads take fewer than this many bytes.
 abbrev pub AreInside : ℕ → Contents → Type 0
 AreInside n (contents.Array items) = length items.entries.now + length items.payloads.now < n
 AreInside n (contents.Object it) = length it.body.now < n

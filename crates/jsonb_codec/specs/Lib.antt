@@ -13,6 +13,7 @@ pub mod Contents
 pub mod Reread
 pub mod Depth
 pub mod Payloads
+pub mod DocumentLaws
 pub mod Room
 pub mod Code
 pub mod Source

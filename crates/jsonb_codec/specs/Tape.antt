@@ -130,8 +130,8 @@ abbrev pub LastBelow : Option (List ℕ) → Entries → List ℕ → Type 0
 LastBelow before [] k = IfSome before (λ b. slice_cmp nat_cmp b k ≡ Less)
 LastBelow before (e ∷ es) k = LastBelow (Some e.0) es k
 
--- The object that is being read has these members so far; `ascends` tells of the keys in the order
--- read.
+-- The object that is being read has these members so far; `ascends`: whether the keys ascend in the
+-- order read.
 pub record ObjectIs (s : Storage) (o : OpenObject) (front : Entries) : Type 0 where
   pub read : Entries
   pub members : MembersAre s o.members.items read

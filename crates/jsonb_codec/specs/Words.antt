@@ -24,6 +24,7 @@ pub use Rattle.jsonb_codec.specs.Decoder.{input_of}
 pub use Rattle.jsonb_codec.specs.Depth.{size}
 pub use Rattle.jsonb_codec.specs.Doc.{Doc, IsDocument, Payload}
 pub use Rattle.jsonb_codec.specs.DocumentBytes.{bytes_of}
+pub use Rattle.jsonb_codec.specs.DocumentLaws.{DocumentLaws}
 pub use Rattle.jsonb_codec.specs.Encoder.{ast_buffer, buffer}
 pub use Rattle.jsonb_codec.specs.Fault.{IsDecoderFault, IsTreeFault}
 pub use Rattle.jsonb_codec.specs.JEntry.{jentry_at, jentry_cmp, jentry_of}

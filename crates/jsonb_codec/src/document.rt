@@ -1,16 +1,16 @@
 //! Checking whether bytes are a document, and finding the first fault if they are not.
 
-ghost use Rattle.std.specs.Prelude.{◌≡◌, ◌≢◌, ◌+◌, ◌*◌, ◌/◌, ◌%◌, ◌<◌, ◌≤◌, ◌^◌, ◌↔◌, ◌++◌, [], ℕ};
-ghost use Rattle.std.specs.Prelude.{List, length, take, drop, IsTrue, None, IfOk, IfErr, IfSome};
-ghost use Rattle.std.specs.Prelude.{IfNone, OnOk, OnErr, option_map, All, IsUtf8};
+ghost use Rattle.std.specs.Prelude.{◌≡◌, ◌≢◌, ◌+◌, ◌%◌, ◌<◌, ◌≤◌, ◌^◌, ◌↔◌, ◌++◌, ℕ, List, length};
+ghost use Rattle.std.specs.Prelude.{take, drop, IsTrue, None, IfOk, IfErr, IfSome, IfNone, OnOk};
+ghost use Rattle.std.specs.Prelude.{OnErr, option_map, IsUtf8};
 ghost use Rattle.std.specs.Bool.{OnTrue, OnFalse};
 ghost use Rattle.std.specs.Cmp.Lexicographic.{slice_cmp};
 ghost use Rattle.std.specs.Ordering.{nat_cmp};
 ghost use Rattle.jsonb_value.specs.Tree.{Tree, text};
 ghost use Rattle.jsonb_codec.specs.Word.{word};
 ghost use Rattle.jsonb_codec.specs.Doc.{Doc, IsDocument};
-ghost use Rattle.jsonb_codec.specs.Depth.{depth, size, IsDocumentWithin};
-ghost use Rattle.jsonb_codec.specs.Payloads.{payloads_in};
+ghost use Rattle.jsonb_codec.specs.DocumentLaws.{DocumentLaws};
+ghost use Rattle.jsonb_codec.specs.Depth.{IsDocumentWithin};
 ghost use Rattle.jsonb_codec.specs.Parts.{IsFault, depth_fault, HoldsOrFaults, Excludes};
 ghost use Rattle.jsonb_codec.specs.Parts.{HoldsOrExcludes, HasScalar, HasPayload, HasArray};
 ghost use Rattle.jsonb_codec.specs.Parts.{HasObject, HasChildren, HasKeys, IsKeyAfter};
@@ -25,32 +25,14 @@ use crate::word::{Tagged, split_entry, split_header, split_word};
 use jsonb_value::{Error, ExtensionValue, Number};
 use std::cmp::Ordering;
 
-/// Laws of documents: each means exactly one tree, and none is a proper prefix of another.
-pub fn document_laws()
-    ensures one_tree { (b : List ℕ) (t u : Tree) → Doc b t → Doc b u → t ≡ u }
-    ensures prefix_free { (a c : List ℕ) → IsDocument a → IsDocument (a ++ c) → c ≡ [] }
-{}
-
-/// Whether the bytes are a document. A document means exactly one tree, whose size and depth are
-/// bounded by the number of bytes; no proper prefix and no proper extension of it is a document. A
-/// document without a zero byte has at least 65,793 payloads of at least 65,793 bytes each, hence
-/// more than 4,294,967,296 bytes, so no text of usual length is a document.
+/// Whether the bytes are a document. By `document_laws` a document means exactly one tree, whose
+/// size and depth are bounded by the number of bytes; no proper prefix and no proper extension of it
+/// is a document; and without a zero byte it has more than 4,294,967,296 bytes, so no text of usual
+/// length is a document.
 #[inline(always)]
 pub fn is_document(bytes: &[u8]) -> bool
     ensures exact { IsTrue result ↔ IsDocument bytes.now }
-    ensures one_tree { IsTrue result → (t u : Tree) → Doc bytes.now t → Doc bytes.now u → t ≡ u }
-    ensures no_beginning { IsTrue result → (a c : List ℕ) → bytes.now ≡ a ++ c → IsDocument a
-        → c ≡ [] }
-    ensures no_longer { IsTrue result → (c : List ℕ) → IsDocument (bytes.now ++ c) → c ≡ [] }
-    ensures size { IsTrue result → (t : Tree) → Doc bytes.now t → size t ≤ length bytes.now / 4 }
-    ensures depth { IsTrue result → (t : Tree) → Doc bytes.now t
-        → depth t ≤ (length bytes.now + 4) / 8 }
-    ensures many_payloads { IsTrue result → All (λ b. b ≢ 0) bytes.now
-        → (t : Tree) (d : Doc bytes.now t) → 65793 ≤ length (payloads_in bytes.now t d) }
-    ensures long_payloads { IsTrue result → All (λ b. b ≢ 0) bytes.now
-        → (t : Tree) (d : Doc bytes.now t)
-        → All (λ p. 65793 ≤ length p) (payloads_in bytes.now t d) }
-    ensures no_zero { IsTrue result → All (λ b. b ≢ 0) bytes.now → 4294967296 < length bytes.now }
+    ensures laws { IsTrue result → DocumentLaws bytes.now }
 {
     // The depth of a document is less than its number of bytes.
     is_document_within(bytes, bytes.len())
@@ -67,8 +49,8 @@ pub fn is_document_within(bytes: &[u8], depth: usize) -> bool
 
 /// Whether the bytes nest too deep to be checked within this depth: whether the check, which goes
 /// from front to back and stops at the first fault, reaches a container that is nested deeper. So
-/// it is never true of a document of at most this depth, and where it is false the bytes are a
-/// document exactly if they are one of at most this depth. It looks no deeper itself.
+/// it is false for a document of at most this depth, and if it is false, the bytes are a document
+/// exactly if they are one of at most this depth. Levels beyond the depth are not examined.
 pub fn nests_deeper(bytes: &[u8], depth: usize) -> bool
     ensures deeper { OnTrue result (IsDocumentWithin depth bytes.now → ⊥) }
     ensures within { OnFalse result (IsDocument bytes.now ↔ IsDocumentWithin depth bytes.now) }
@@ -109,7 +91,7 @@ pub fn document_text(bytes: &[u8]) -> Option<&str>
 pub enum FaultTable {
     Tree,
     Decoder,
-    /// As `Tree`, but a container that is nested too deep has the name that no other fault has.
+    /// Like `Tree`, but a container that is nested too deep has a name that no other fault has.
     Depth,
 }
 

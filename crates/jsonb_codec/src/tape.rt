@@ -272,8 +272,6 @@ pub fn encode_text(alloc: Global, text: &str, exponents: Exponents) -> Result<Ve
         → (t : Tree) × (JsonText exponents (chars text.now) t × (Fits t → ⊥)) }
     ensures only { IfErr result
         (λ e. (e ≡ InvalidJson) ⊎ ((e ≡ InvalidJsonb) ⊎ (e ≡ OutOfMemory))) }
-    ensures one { (t u : Tree) → JsonText exponents (chars text.now) t
-        → JsonText exponents (chars text.now) u → t ≡ u }
 {
     let mut tape = Tape::new(alloc);
     read_text(alloc, &mut tape, text, exponents)?;

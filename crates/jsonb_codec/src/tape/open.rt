@@ -22,7 +22,7 @@ use std::cmp::Ordering;
 use std::collections::BTreeMap;
 use std::mem::replace;
 
-// At most so many members are put in order one after another, and more by a map.
+// Up to this many members are put in order one by one, and more by a map.
 const FEW: usize = 32;
 
 /// An array that is being read: the entry words and the payloads of its items, `size` bytes, if all

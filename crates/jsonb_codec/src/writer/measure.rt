@@ -31,7 +31,7 @@ const NO_LIMIT: usize = 1 << 60;
 
 const FIRST_LIMIT: usize = 32;
 
-// The later siblings that are measured before a container: at most so many, up to this limit, and
+// The later siblings that are measured before a container: at most this many, up to this limit, and
 // only if they and the container are longer than this in total.
 const FEW: usize = 2;
 

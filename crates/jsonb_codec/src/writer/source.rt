@@ -81,8 +81,9 @@ pub trait Source {
         ensures held { LevelHeld meaning result → meaning.child_held child };
 
     /// Whether an item or its later siblings are read in less time, if that is known without
-    /// reading them. Only a hint, by which the writer chooses what to measure: the time stays within
-    /// n log n of all that is read if the other side is not shorter by more than a fixed factor.
+    /// reading them. Only a hint, by which the writer chooses what to measure: the time stays
+    /// within n log n of all that is read if the other side is not shorter by more than a fixed
+    /// factor.
     #[inline(always)]
     fn item_side(_: Self::Child, _: Self::Items) -> Option<Side> {
         None

@@ -1,14 +1,11 @@
-use Rattle.std.proofs.Common.{rules, ◌≡◌, ◌++◌, ◌∷◌, [], Some, slice_get, slice_set, sym, subst, ap}
-use Rattle.std.proofs.Common.{List, ℕ, ◌<◌, ◌≤◌, length, arith, refl}
+use Rattle.std.proofs.Common.{rules, ◌≡◌, slice_set, sym, subst, ap}
+use Rattle.std.proofs.Common.{◌<◌, length, arith, refl}
 use Rattle.std.proofs.lemmas.Option.{slice_get_read}
 use Rattle.std.specs.Ordering.{nat_cmp}
-use Rattle.std.specs.declared.cmp.Ordering.TheVariants.{Less, Equal, Greater}
+use Rattle.std.specs.declared.cmp.Ordering.TheVariants.{Less, Equal}
 use Rattle.std.specs.Cmp.Lexicographic.{slice_cmp}
-use Rattle.std.specs.List.{insert}
-use Rattle.jsonb_value.specs.Json.Syntax.{Entries}
 use Rattle.jsonb_value.specs.Value.{cow_bytes}
-use Rattle.jsonb_codec.specs.Tape.{MemberIs, MembersAre}
-use Rattle.jsonb_codec.specs.declared.tape.open.Member.{Member}
+use Rattle.jsonb_codec.specs.Tape.{MembersAre}
 use Rattle.jsonb_codec.proofs.OnTape.Inserting.{passed_none, goes_on, goes_before, takes_place}
 use Rattle.jsonb_codec.proofs.OnTape.Inserting.{goes_last, Passed}
 use Rattle.jsonb_codec.proofs.tape.open.insert.Goals as goal

@@ -1,4 +1,4 @@
-use Rattle.std.proofs.Common.{◌≡◌, ℕ, List}
+use Rattle.std.proofs.Common.{◌≡◌}
 use Rattle.jsonb_value.specs.Json.Syntax.{Entries}
 use Rattle.jsonb_value.specs.Value.{cow_bytes}
 use Rattle.jsonb_codec.specs.declared.tape.storage.Storage.{Storage}
