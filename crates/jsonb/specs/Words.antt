@@ -18,8 +18,6 @@ pub use Rattle.jsonb_value.specs.NumCode.{NumCode}
 pub use Rattle.jsonb_value.specs.Plain.{IsPlain}
 pub use Rattle.jsonb_value.specs.Text.{colon, compact, extension_text, inside, laid_out, line_start}
 pub use Rattle.jsonb_value.specs.Text.{pretty, quoted_text}
-pub use Rattle.jsonb_value.specs.TextDepth.{HasDepthOfSpelled, HasItsDepth}
-pub use Rattle.jsonb_value.specs.TextDepth.{HasItsDepthWithExponents}
 pub use Rattle.jsonb_value.specs.Tree.{Extension, Pairs, Tree, Trees, array, no_pairs, no_trees}
 pub use Rattle.jsonb_value.specs.Tree.{pair, text, tree}
 pub use Rattle.jsonb_value.specs.TreeOrder.{tree_cmp}

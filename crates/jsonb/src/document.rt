@@ -228,7 +228,7 @@ impl<'a> Document<'a> {
         }
     }
 
-    // The first key of an object, or `None` in it where the object is empty. It is read without the
+    // The first key of an object, or `Some(None)` if the object is empty. It is read without the
     // lengths of the other keys. `None` for all but objects.
     pub(crate) fn first_key(&self) -> Option<Option<&'a str>>
         ensures { option_map (option_map (λ key. key.now)) result
@@ -376,7 +376,7 @@ impl<'a> Node<'a> {
 
     /// The value as a document of its own: the bytes of an array or object, or the document of the
     /// scalar, with the payload that it has in its document. `InvalidJsonb`, before any allocation,
-    /// if the payload of a scalar exceeds 268,435,455 bytes, as none does that is in a document;
+    /// if the payload of a scalar exceeds 268,435,455 bytes, which no payload in a document does;
     /// `OutOfMemory` if an allocation fails.
     pub fn to_owned(&self, alloc: Global) -> Result<OwnedJsonb, Error>
         ensures ok { IfOk result (λ owned. owned_bytes owned ≡ item_document (node_view self.now)) }
@@ -393,7 +393,7 @@ impl<'a> Node<'a> {
         node_text(alloc, self.opened())
     }
 
-    // The same value, where a container is known to be one: not a scalar's document.
+    // The same value, whose container is known to hold an array or object and not a scalar.
     pub(crate) fn opened(self) -> Node<'a>
         ensures tree { node_tree result ≡ node_tree self.entry }
         ensures container { HoldsNoScalar result }

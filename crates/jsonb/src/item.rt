@@ -42,9 +42,9 @@ impl<'a> JsonbItem<'a> {
     /// its payload are ignored.
     ///
     /// `InvalidEOF` if the header or the entry word is cut off; `InvalidJsonb` for a header or an
-    /// entry of no kind, for a payload that runs past the end, and for a container's entry under a
-    /// scalar's header; `InvalidUtf8`, `InvalidJsonbNumber` or `InvalidJsonbExtension` if the
-    /// payload is invalid for its type.
+    /// entry of an unknown kind, for a payload that runs past the end, and for a container's entry
+    /// under a scalar's header; `InvalidUtf8`, `InvalidJsonbNumber` or `InvalidJsonbExtension` if
+    /// the payload is invalid for its type.
     pub fn from_raw_jsonb(raw: RawJsonb<'a>) -> Result<JsonbItem<'a>, Error>
         ensures item { result_view result ≡ item_in (raw_bytes raw.entry) }
 
@@ -61,7 +61,7 @@ impl<'a> JsonbItem<'a> {
 
     /// The kind, from the variant or, for `Raw` and `Owned`, from their bytes. Errors occur only
     /// for these two: `InvalidEOF` if the header or the entry word is cut off, `InvalidJsonb` for a
-    /// header or an entry of no kind, and for a container's entry under a scalar's header.
+    /// header or an entry of an unknown kind, and for a container's entry under a scalar's header.
     pub fn jsonb_item_type(&self) -> Result<JsonbItemType, Error>
         ensures { result ≡ kind_of_view (item_view self.now) }
     {

@@ -72,7 +72,7 @@ impl JsonbItemType {
 }
 
 /// The kind, read from the first two words. `InvalidEOF` if a word is cut off, `InvalidJsonb` for a
-/// header or an entry of no kind, and for a container's entry under a scalar's header.
+/// header or an entry of an unknown kind, and for a container's entry under a scalar's header.
 #[tactic(auto, unfolding(crate::specs::Kind::kind))]
 pub fn kind_of(bytes: &[u8]) -> Result<JsonbItemType, Error>
     ensures { result ≡ kind bytes.now }

@@ -31,16 +31,17 @@ pub use iterator::{
 };
 pub use jsonb_codec::{
     Decoder, DocumentBytes, Encoder, JEntry, JsonAstEncoder, append_canonical,
-    append_canonical_document, constants, decode_header, document_laws, document_text, encode_text,
-    is_canonical, is_canonical_document, is_document, is_document_within, nests_deeper, parts,
-    printed_text_laws, read_header, read_jentry, read_word, value_of, value_of_document, writer,
+    append_canonical_document, canonical_laws, constants, decode_header, document_laws,
+    document_text, encode_text, is_canonical, is_canonical_document, is_document,
+    is_document_within, nests_deeper, parts, printed_text_laws, read_header, read_jentry,
+    read_word, value_of, value_of_document, writer,
 };
 pub use jsonb_value::{
     Date, Decimal64, Decimal128, Error, Exponents, ExtensionValue, Interval, JsonAst, Number,
     Object, Opaque, ParseError, Sink, Timestamp, TimestampTz, Value, extension_text, is_json,
-    is_text_within, order_of_extension_values, order_of_meanings, order_of_numbers, order_of_trees,
-    parse_string, parse_value, parse_value_with_exponents, parse_value_with_exponents_within,
-    parse_value_within, read_text, write_number, write_string,
+    is_text_within, json_laws, order_of_extension_values, order_of_meanings, order_of_numbers,
+    order_of_trees, parse_string, parse_value, parse_value_with_exponents,
+    parse_value_with_exponents_within, parse_value_within, read_text, write_number, write_string,
 };
 pub use nodes::{Items, Members};
 pub use number_item::NumberItem;

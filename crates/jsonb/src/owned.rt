@@ -22,12 +22,10 @@ pub struct OwnedJsonb {
 }
 
 impl OwnedJsonb {
-    ghost use Rattle.std.specs.Prelude.{◌↔◌, chars, IfSome, IsSome, IsTrue};
-    ghost use Rattle.jsonb.specs.Words.{Json, JsonText, JsonWithExponents, IsParsed, IsParsedUnder};
-    ghost use Rattle.jsonb.specs.Words.{IsParsedWithExponents, ParsesTo, ParsesUnder, ParsesWithin};
-    ghost use Rattle.jsonb.specs.Words.{ParsesUnderWithin, ParsesWithExponentsTo};
-    ghost use Rattle.jsonb.specs.Words.{ParsesWithExponentsWithin, bytes_of, Tree};
-    ghost use Rattle.jsonb.specs.Words.{HasDepthOfSpelled, HasItsDepth, HasItsDepthWithExponents};
+    ghost use Rattle.std.specs.Prelude.{◌↔◌, IfSome, IsSome, IsTrue};
+    ghost use Rattle.jsonb.specs.Words.{IsParsed, IsParsedUnder, IsParsedWithExponents, ParsesTo};
+    ghost use Rattle.jsonb.specs.Words.{ParsesUnder, ParsesWithin, ParsesUnderWithin};
+    ghost use Rattle.jsonb.specs.Words.{ParsesWithExponentsTo, ParsesWithExponentsWithin, bytes_of};
     ghost use Rattle.jsonb.specs.Words.{IsDocumentWithin, IsDocument, raw_bytes, item_document};
     ghost use Rattle.jsonb.specs.Words.{CanBeStored, document_bytes, item_view};
 
@@ -84,8 +82,8 @@ impl OwnedJsonb {
         Document::new(self.as_bytes())
     }
 
-    /// The bytes as a document that nests at most that deep, as `Document::within` takes them.
-    /// `None` where they are none.
+    /// The bytes as a checked document that nests at most `depth` deep, like `Document::within`.
+    /// `None` if they are not.
     pub fn as_document_within(&self, depth: usize) -> Option<Document<'_>>
         ensures exact { IsSome result ↔ IsDocumentWithin depth (owned_bytes self.now) }
         ensures bytes { IfSome result (λ d. document_bytes d ≡ owned_bytes self.now) }
@@ -123,29 +121,26 @@ impl OwnedJsonb {
         OwnedJsonb::from_bytes(alloc, self.as_bytes())
     }
 
-    /// Parses a JSON text into the canonical document of its value. `InvalidJson` if the text is
-    /// not accepted by `parse_value`, `InvalidJsonb` if a payload, a key or a count of its value
-    /// exceeds its limit, `OutOfMemory` if an allocation fails. No stack is taken for the depth of
-    /// the text.
+    /// Parses a JSON text into the canonical document of its value; no text has two values
+    /// (`json_laws`). `InvalidJson` if the text is not accepted by `parse_value`, `InvalidJsonb` if
+    /// a payload, a key or a count of its value exceeds its limit, `OutOfMemory` if an allocation
+    /// fails. No stack is taken for the depth of the text.
     pub fn parse(alloc: Global, text: &str) -> Result<OwnedJsonb, Error>
         ensures value { ParsesTo text.now (bytes_of result) }
         ensures parsed { IfOk result (λ owned. IsParsed text.now (owned_bytes owned)) }
-        ensures one { (t u : Tree) → Json (chars text.now) t → Json (chars text.now) u → t ≡ u }
     {
         OwnedJsonb::parse_under(alloc, text, Exponents::Forbidden)
     }
 
-    /// Parses a JSON text as `parse` does, but takes numbers with an exponent too, each of which
-    /// means exactly its value, as `parse_value_with_exponents` reads them: `1e5` is the integer
-    /// 100000, and `1.50e1` the decimal 15.0. `InvalidJson` if the text is not accepted by
+    /// Parses a JSON text like `parse`, but takes numbers with an exponent too, each of which means
+    /// exactly its value, as `parse_value_with_exponents` reads them: `1e5` is the integer 100000,
+    /// and `1.50e1` the decimal 15.0. `InvalidJson` if the text is not accepted by
     /// `parse_value_with_exponents`, among them numbers past 128 bits or with more than 255 digits
     /// after the point; the other errors are those of `parse`.
     pub fn parse_with_exponents(alloc: Global, text: &str) -> Result<OwnedJsonb, Error>
         ensures value { ParsesWithExponentsTo text.now (bytes_of result) }
         ensures parsed { IfOk result
             (λ owned. IsParsedWithExponents text.now (owned_bytes owned)) }
-        ensures one { (t u : Tree) → JsonWithExponents (chars text.now) t
-            → JsonWithExponents (chars text.now) u → t ≡ u }
     {
         OwnedJsonb::parse_under(alloc, text, Exponents::Allowed)
     }
@@ -155,33 +150,29 @@ impl OwnedJsonb {
         ensures value { ParsesUnder exponents text.now (bytes_of result) }
         ensures parsed { IfOk result
             (λ owned. IsParsedUnder exponents text.now (owned_bytes owned)) }
-        ensures one { (t u : Tree) → JsonText exponents (chars text.now) t
-            → JsonText exponents (chars text.now) u → t ≡ u }
     {
         Ok(OwnedJsonb::new(encode_text(alloc, text, exponents)?))
     }
 
-    /// The canonical document of a JSON text that nests at most that deep, which a caller may want
-    /// where the document is walked by recursion later.
+    /// The canonical document of a JSON text that nests at most `depth` deep, for callers that walk
+    /// the document by recursion later.
     ///
-    /// `TooDeep` exactly where more brackets than `depth` are open at once, those in strings not
-    /// counted. This is found before the text is read, so it comes before any other refusal. Every
-    /// other text is answered as by `parse`: by its document, which is within the depth, or by
-    /// `Refused` with the error of `parse`.
+    /// `TooDeep` exactly if more brackets than `depth` are open at once, those in strings not
+    /// counted. This is found before the text is read, so it comes before any other refusal. For
+    /// JSON that number is the depth of its value, where values that a later equal key replaces
+    /// count too (`json_laws`). Every other text has the result of `parse`: its document, which is
+    /// within the depth, or `Refused` with the error of `parse`.
     pub fn parse_within(alloc: Global, text: &str, depth: usize) -> Result<OwnedJsonb, ParseError>
         ensures value { ParsesWithin depth text.now (bytes_of result) }
         ensures parsed { IfOk result (λ owned. IsParsed text.now (owned_bytes owned)) }
-
-        // The depth of a text of JSON is that of what it spells.
-        ensures nests { HasItsDepth text.now }
         ensures within { IfOk result (λ owned. IsDocumentWithin depth (owned_bytes owned)) }
     {
         OwnedJsonb::parse_under_within(alloc, text, depth, Exponents::Forbidden)
     }
 
-    /// The canonical document of a JSON text that nests at most that deep, as
-    /// `parse_with_exponents` reads it. `TooDeep` comes as from `parse_within`; every other text is
-    /// answered as by `parse_with_exponents`.
+    /// The canonical document of a JSON text that nests at most `depth` deep, as
+    /// `parse_with_exponents` reads it. `TooDeep` comes as from `parse_within`; every other text has
+    /// the result of `parse_with_exponents`.
     pub fn parse_with_exponents_within(
         alloc: Global,
         text: &str,
@@ -190,7 +181,6 @@ impl OwnedJsonb {
         ensures value { ParsesWithExponentsWithin depth text.now (bytes_of result) }
         ensures parsed { IfOk result
             (λ owned. IsParsedWithExponents text.now (owned_bytes owned)) }
-        ensures nests { HasItsDepthWithExponents text.now }
         ensures within { IfOk result (λ owned. IsDocumentWithin depth (owned_bytes owned)) }
     {
         OwnedJsonb::parse_under_within(alloc, text, depth, Exponents::Allowed)
@@ -206,7 +196,6 @@ impl OwnedJsonb {
         ensures value { ParsesUnderWithin exponents depth text.now (bytes_of result) }
         ensures parsed { IfOk result
             (λ owned. IsParsedUnder exponents text.now (owned_bytes owned)) }
-        ensures nests { HasDepthOfSpelled exponents text.now }
         ensures within { IfOk result (λ owned. IsDocumentWithin depth (owned_bytes owned)) }
     {
         if !is_text_within(text.as_bytes(), depth) {

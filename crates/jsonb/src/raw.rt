@@ -113,9 +113,9 @@ impl<'a> RawJsonb<'a> {
         Document::new(self.as_bytes())
     }
 
-    /// The bytes as a document that nests at most that deep, as `Document::within` takes them.
-    /// `None` where they are none. The calls of a view that read, compare or print a document take
-    /// stack for its depth: for untrusted bytes make them of this document.
+    /// The bytes as a checked document that nests at most `depth` deep, like `Document::within`.
+    /// `None` if they are not. The calls of a view that read, compare or print a document take stack
+    /// for its depth: for untrusted bytes call those of this document.
     pub fn as_document_within(&self, depth: usize) -> Option<Document<'a>>
         ensures exact { IsSome result ↔ IsDocumentWithin depth (raw_bytes self.now) }
         ensures bytes { IfSome result (λ d. document_bytes d ≡ raw_bytes self.now) }
@@ -127,8 +127,8 @@ impl<'a> RawJsonb<'a> {
 
     /// The kind, read from the header or, for a scalar, from its entry; an array or object with its
     /// count. Nothing else is checked. `InvalidEOF` if one of these words is cut off,
-    /// `InvalidJsonb` for a header or an entry of no kind, and for a container's entry under a
-    /// scalar's header.
+    /// `InvalidJsonb` for a header or an entry of an unknown kind, and for a container's entry under
+    /// a scalar's header.
     pub fn jsonb_item_type(&self) -> Result<JsonbItemType, Error>
         ensures kind { result ≡ kind (raw_bytes self.now) }
 
@@ -152,18 +152,10 @@ impl<'a> RawJsonb<'a> {
         Some(self.as_document()?.cmp(&other.as_document()?))
     }
 
-    /// The value of the first key, in stored order, that has the name's length in bytes and for
-    /// which `eq_func(name, key)` is true; `eq_func` is called only for keys of that length. `None`
-    /// for a scalar, an array and `{}`, and if no key is accepted.
-    ///
-    /// `reads` is raised by one for each word that is read: the header, each key's entry, and, if a
-    /// key is accepted, the values' entries up to that of its value. It must be at most `MAX_READS`
+    /// The value of a key, like `get_object_value_by_key_name` with its errors, counting the words
+    /// that are read: `reads` is raised by one for the header, for each key's entry, and, if a key
+    /// is accepted, for the values' entries up to that of its value. It must be at most `MAX_READS`
     /// before the call.
-    ///
-    /// `InvalidEOF` if the header or an entry word that is read is cut off; `InvalidJsonb` for a
-    /// header of no kind, if a key of the name's length or the value runs past the end, and for a
-    /// value of an unknown type; `InvalidUtf8`, `InvalidJsonbNumber` or `InvalidJsonbExtension` if
-    /// the value's payload is invalid.
     pub fn get_object_value_by_key_name_counted<F: Fn(&[u8], &[u8]) -> bool + Drop>(
         &self,
         name: &str,
@@ -193,17 +185,10 @@ impl<'a> RawJsonb<'a> {
         }
     }
 
-    /// The value of the first key, in stored order, that has the name's length in bytes and for
-    /// which `eq_func(name, key)` is true, and where its payload is in the bytes: the type of its
-    /// entry, and the payload's offset and length. `eq_func` is called only for keys of that
-    /// length. `None` for a scalar, an array and `{}`, and if no key is accepted. No word is read
-    /// twice: `reads` is raised as by `get_object_value_by_key_name_counted`, and must be at most
-    /// `MAX_READS` before the call.
-    ///
-    /// `InvalidEOF` if the header or an entry word that is read is cut off; `InvalidJsonb` for a
-    /// header of no kind, if a key of the name's length or the value runs past the end, and for a
-    /// value of an unknown type; `InvalidUtf8`, `InvalidJsonbNumber` or `InvalidJsonbExtension` if
-    /// the value's payload is invalid.
+    /// The value of a key, like `get_object_value_by_key_name` with its errors, and where its
+    /// payload is in the bytes: the type of its entry, and the payload's offset and length. No word
+    /// is read twice: `reads` is raised as by `get_object_value_by_key_name_counted`, and must be at
+    /// most `MAX_READS` before the call.
     pub fn find_object_value_counted<F: Fn(&[u8], &[u8]) -> bool + Drop>(
         &self,
         name: &str,
@@ -250,9 +235,9 @@ impl<'a> RawJsonb<'a> {
     /// 2n + 1 words are read.
     ///
     /// `InvalidEOF` if the header or an entry word that is read is cut off; `InvalidJsonb` for a
-    /// header of no kind, if a key of the name's length or the value runs past the end, and for a
-    /// value of an unknown type; `InvalidUtf8`, `InvalidJsonbNumber` or `InvalidJsonbExtension` if
-    /// the value's payload is invalid.
+    /// header of an unknown kind, if a key of the name's length or the value runs past the
+    /// end, and for a value of an unknown type; `InvalidUtf8`, `InvalidJsonbNumber` or
+    /// `InvalidJsonbExtension` if the value's payload is invalid.
     pub fn get_object_value_by_key_name<F: Fn(&[u8], &[u8]) -> bool + Drop>(
         &self,
         name: &str,

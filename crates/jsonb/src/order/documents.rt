@@ -11,7 +11,7 @@ use crate::nodes::{Items, Members};
 use jsonb_codec::constants::{CONTAINER_TAG, NUMBER_TAG, STRING_TAG};
 use std::cmp::Ordering;
 
-// In so many bytes the lengths of all keys are added up about as fast as two keys are compared.
+// Up to this length the lengths of all keys are added up about as fast as two keys are compared.
 const SHORT: usize = 1024;
 
 /// Compares two documents by their values.
@@ -59,8 +59,8 @@ fn cmp_kinds(left: Node<'_>, right: Node<'_>) -> Ordering
         .unwrap_or(Ordering::Equal)
 }
 
-// The order of two objects as far as their first keys tell it, which takes no step for each key;
-// `Equal` where they do not.
+// The order of two objects if their first keys decide it, which takes no step for each key; `Equal`
+// if they do not.
 #[inline(always)]
 fn cmp_first_keys(left: Document<'_>, right: Document<'_>) -> Ordering
     ensures { (result ≡ Ordering.Equal → ⊥)

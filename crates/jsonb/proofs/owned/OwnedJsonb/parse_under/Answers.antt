@@ -3,6 +3,7 @@ use Rattle.jsonb_value.specs.Json.Syntax.{JsonText}
 use Rattle.jsonb_value.specs.Norm.{norm}
 use Rattle.jsonb_value.specs.Text.{in_one_line, on_lines}
 use Rattle.jsonb_value.specs.Tree.{Tree}
+use Rattle.jsonb_value.proofs.Json.SpelledLaws.{same_meaning}
 use Rattle.jsonb_value.proofs.NormTexts.{laid_out-norm}
 use Rattle.jsonb_codec.specs.Canon.{canon}
 use Rattle.jsonb_codec.specs.Doc.{Doc}
@@ -31,10 +32,8 @@ returns-clause-parsed c =
     let b = owned_bytes c.new.result in
     let bytes : b ≡ canon u = search rules in
     let doc = subst (λ x. Doc x (norm u)) (sym bytes) (Doc-canon u is fits) in
-    let one : (t : Tree) → JsonText c.args.exponents (chars c.args.text.now) t → u ≡ t =
-    λ t h. c.in_ok-encode_text.ensures.one u t json h in
     let means : (t : Tree) → JsonText c.args.exponents (chars c.args.text.now) t → Doc b (norm t) =
-    λ t h. rw (one t h) at doc in
+    λ t h. rw (same_meaning c.args.exponents (chars c.args.text.now) u t json h) at doc in
     record {
       means = means;
       prints = λ t h. display_text-Doc b (norm t) (means t h) ∙ laid_out-norm in_one_line t;

@@ -4,14 +4,6 @@ use Rattle.jsonb.specs.Owned.{owned_bytes}
 use Rattle.jsonb.proofs.ParseLaws.{document_within, refused_within}
 use Rattle.jsonb.proofs.owned.OwnedJsonb.parse_under_within.Goals as goal
 
-pub returns-then-not-is_text_within-clause-nests : goal.returns-then-not-is_text_within-clause-nests
-returns-then-not-is_text_within-clause-nests c =
-    depth_of_spelled c.args.exponents c.args.text.now c.utf8.text
-
-pub returns-in_err-parse_under-clause-nests : goal.returns-in_err-parse_under-clause-nests
-returns-in_err-parse_under-clause-nests c =
-    depth_of_spelled c.args.exponents c.args.text.now c.utf8.text
-
 pub returns-in_err-parse_under-clause-value : goal.returns-in_err-parse_under-clause-value
 returns-in_err-parse_under-clause-value c =
     refused_within c.args.exponents c.args.depth c.args.text.now c.from_residual.result
@@ -19,9 +11,6 @@ returns-in_err-parse_under-clause-value c =
 
 pub returns-clause-value : goal.returns-clause-value
 returns-clause-value c = (search rules, c.in_ok-parse_under.ensures.value)
-
-pub returns-clause-nests : goal.returns-clause-nests
-returns-clause-nests c = depth_of_spelled c.args.exponents c.args.text.now c.utf8.text
 
 pub returns-clause-within : goal.returns-clause-within
 returns-clause-within c =
