@@ -27,9 +27,11 @@ pub mod TextLaws
 pub mod ResultMeanings
 pub mod Classes
 pub mod DocumentLaws
+pub mod WithinLaws
 pub mod EntryTreeLaws
 pub mod NodeLaws
 pub mod StableLaws
 pub mod PutLaws
 pub mod DocumentInputLaws
+pub mod KeyOrderLaws
 pub mod SortLaws

@@ -2,13 +2,14 @@
 -- too.
 use Rattle.std.proofs.Common.{◌≡◌, ◌⊎◌, inl, inr, ◌&&◌, Bool, true, false, not, cond, List, [], ◌∷◌}
 use Rattle.std.proofs.Common.{map, refl, sym, ap, ap₂, ◌∙◌}
+use Rattle.std.specs.List.{All}
 use Rattle.std.specs.Prelude.{filter}
 use Rattle.std.specs.Cmp.{IsTotalOrder, alike_right, tied_back}
 use Rattle.std.specs.Ordering.{is_lt, on, ordering_reverse}
 use Rattle.std.specs.List.Sorted.{IsStable, ties}
 use Rattle.std.specs.declared.cmp.Ordering.{Ordering}
 use Rattle.std.specs.declared.cmp.Ordering.TheVariants.{Less, Equal, Greater}
-use Rattle.std.proofs.lemmas.List.Elements.{filter_agree}
+use Rattle.std.proofs.lemmas.List.Elements.{filter_agree, All-head, All-tail}
 
 pub filter-map : {X B : Type 0} (f : X → B) (p : B → Bool) (xs : List X)
     → filter p (map f xs) ≡ map f (filter (λ x. p (f x)) xs)
@@ -67,7 +68,7 @@ module _ {B K : Type 0} (R : K → K → Ordering) (o : IsTotalOrder R) (key : B
         (λ y. alike b (f x) e (f y)) in
         same ys ∙ stable x ∙ sym (same xs)
 
-    kept : (b : B) → filter (λ y. tie b (f y)) ys ≡ filter (λ y. tie b (f y)) xs
+    pub kept : (b : B) → filter (λ y. tie b (f y)) ys ≡ filter (λ y. tie b (f y)) xs
     kept b = by (passes (λ y. tie b (f y)) xs) (passes (λ y. tie b (f y)) ys)
       where
         by : (filter (λ y. tie b (f y)) xs ≡ []) ⊎ ((x : X) × (tie b (f x) ≡ true))
@@ -79,3 +80,21 @@ module _ {B K : Type 0} (R : K → K → Ordering) (o : IsTotalOrder R) (key : B
 
     pub IsStable-map : IsStable (on key R) (map f xs) (map f ys)
     IsStable-map b = filter-map f (tie b) ys ∙ ap (map f) (kept b) ∙ sym (filter-map f (tie b) xs)
+
+-- The same if the elements are sorted by a key that each has of its part.
+pub IsStable-by : {X B K : Type 0} (R : K → K → Ordering) → IsTotalOrder R → (key : B → K)
+    (own : X → K) (f : X → B) (xs ys : List X) → All (λ x. own x ≡ key (f x)) xs
+    → All (λ x. own x ≡ key (f x)) ys → IsStable (on own R) xs ys
+    → IsStable (on key R) (map f xs) (map f ys)
+IsStable-by {X} {B} {K} R o key own f xs ys left right stable b =
+    filter-map f (tie R o key b) ys
+    ∙ ap (map f) (sym (agree ys right) ∙ kept R o (λ k. k) own xs ys stable (key b) ∙ agree xs left)
+    ∙ sym (filter-map f (tie R o key b) xs)
+  where
+    agree : (zs : List X) → All (λ x. own x ≡ key (f x)) zs
+        → filter (λ x. tie R o (λ k. k) (key b) (own x)) zs ≡ filter (λ x. tie R o key b (f x)) zs
+    agree [] all = refl
+    agree (z ∷ zs) all =
+        ap₂ (λ (k : K) (kept : List X). cond (tie R o (λ k. k) (key b) k) (z ∷ kept) kept)
+        (All-head (λ x. own x ≡ key (f x)) z zs all)
+        (agree zs (All-tail (λ x. own x ≡ key (f x)) z zs all))

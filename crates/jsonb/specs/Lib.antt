@@ -30,5 +30,7 @@ pub mod Document
 pub mod EntryTrees
 pub mod Node
 pub mod Contents
+pub mod Within
 pub mod SortKey
+pub mod KeyOrder
 pub mod Words

@@ -1,21 +1,16 @@
--- The meaning of bytes that were checked once.
+-- The bytes and the meaning of bytes that were checked once.
 use Rattle.std.specs.Prelude.{ℕ, List}
 use Rattle.jsonb_value.specs.Meaning.{Meaning, document, other_bytes}
-use Rattle.jsonb.specs.declared.sort_key.OtherBytes.{OtherBytes}
 use Rattle.jsonb.specs.declared.sort_key.SortKey.{SortKey}
 use Rattle.jsonb.specs.declared.sort_key.SortKey.TheVariants as keys
 use Rattle.jsonb.specs.Document.{document_bytes, document_tree}
 
--- The bytes of a key that are not a document.
-abbrev pub other_key_bytes : OtherBytes → List ℕ
-other_key_bytes other = other.bytes.now
-
 -- The bytes of a key.
 abbrev pub key_bytes : SortKey → List ℕ
 key_bytes (keys.Document d) = document_bytes d
-key_bytes (keys.Other other) = other_key_bytes other
+key_bytes (keys.Other bytes) = bytes.now
 
 -- The meaning of a key: the tree of a document; other bytes mean themselves.
 abbrev pub key_meaning : SortKey → Meaning
 key_meaning (keys.Document d) = document (document_tree d)
-key_meaning (keys.Other other) = other_bytes (other_key_bytes other)
+key_meaning (keys.Other bytes) = other_bytes bytes.now

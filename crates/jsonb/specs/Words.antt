@@ -78,7 +78,7 @@ pub use Rattle.jsonb.specs.Results.{IsArrayOfInputs, IsArrayUpToZeros, IsObjectO
 pub use Rattle.jsonb.specs.Results.{IsObjectOfInputs, IsObjectUpToZeros, MakeNoObject}
 pub use Rattle.jsonb.specs.Results.{PairsExceedLimits, TakesAll, TakesUpTo, document_pair}
 pub use Rattle.jsonb.specs.Results.{input_pair}
-pub use Rattle.jsonb.specs.SortKey.{key_meaning, other_key_bytes}
+pub use Rattle.jsonb.specs.SortKey.{key_meaning}
 pub use Rattle.jsonb.specs.StoredEntries.{IsFoundIn}
 pub use Rattle.jsonb.specs.Storage.{IsHeld, IsStored, document_code, pair_of, stored_code}
 pub use Rattle.jsonb.specs.Tally.{CountsOneLess, CountsOneMore, Lists, SetsCount, Tally, count_at}
@@ -93,4 +93,5 @@ pub use Rattle.jsonb.specs.ItemAnswers.{kind_of_view, raw_in, text_in}
 pub use Rattle.jsonb.specs.Walk.{Advances, IsBounded, Walk, child_entries, children_walk}
 pub use Rattle.jsonb.specs.Walk.{container_tag, count_under, item_read, items_in, key_of}
 pub use Rattle.jsonb.specs.Walk.{pair_read, pairs_walk}
+pub use Rattle.jsonb.specs.Within.{meaning_within}
 pub use Rattle.jsonb.specs.declared.item.JsonbItem.{JsonbItem}

@@ -45,11 +45,11 @@ pub use jsonb_value::{
 };
 pub use nodes::{Items, Members};
 pub use number_item::NumberItem;
-pub use order::{byte_order_laws, meaning_laws};
+pub use order::{byte_order_laws, key_order_laws, meaning_laws};
 pub use owned::OwnedJsonb;
 pub use raw::RawJsonb;
 pub use reads::Reads;
 pub use reads::lookup::{FoundValue, MAX_READS, Place};
-pub use sort_key::{OtherBytes, SortKey};
+pub use sort_key::SortKey;
 pub use sorting::sort_views;
 pub use text::text_laws;

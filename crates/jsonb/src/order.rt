@@ -5,12 +5,13 @@ ghost use Rattle.jsonb.specs.Code.{Means};
 ghost use Rattle.jsonb.specs.Words.{IsTotalOrder, on, document, other_bytes, meaning_cmp, norm};
 ghost use Rattle.jsonb.specs.Words.{Tree, tree_cmp, Doc, IsDocument, kind, rank_order, meaning_of};
 ghost use Rattle.jsonb.specs.Words.{view_meaning, item_meaning, ItemView, item_view};
-ghost use Rattle.jsonb.specs.Words.{node_tree, HoldsNoScalar, bytes_in};
+ghost use Rattle.jsonb.specs.Words.{node_tree, HoldsNoScalar, bytes_in, key_meaning};
+ghost use Rattle.jsonb.specs.Words.{as_partial_cmp, eq_by_cmp};
+ghost use Rattle.jsonb.specs.KeyOrder.{key_cmp, key_partial_cmp, key_eq};
 
 mod document;
 mod documents;
 mod item;
-mod key;
 mod node;
 mod owned;
 mod raw;
@@ -53,6 +54,15 @@ pub fn byte_order_laws()
         → meaning_cmp (meaning_of m) (meaning_of r) ≡ meaning_cmp (meaning_of l) (meaning_of r) }
     ensures norm_right { (l r m : List ℕ) (u : Tree) → Doc r u → Doc m (norm u)
         → meaning_cmp (meaning_of l) (meaning_of m) ≡ meaning_cmp (meaning_of l) (meaning_of r) }
+{}
+
+/// The order that `SortKey` derives is that of the meanings of its keys (`cmp`, `partial_cmp`), and
+/// keys are equal if their meanings are `Equal` in it (`eq`).
+pub fn key_order_laws()
+    ensures cmp { (x y : SortKey) → key_cmp x y ≡ on key_meaning meaning_cmp x y }
+    ensures partial_cmp { (x y : SortKey)
+        → key_partial_cmp x y ≡ as_partial_cmp (on key_meaning meaning_cmp) x y }
+    ensures eq { (x y : SortKey) → key_eq x y ≡ eq_by_cmp (on key_meaning meaning_cmp) x y }
 {}
 
 /// Compares two byte strings by their meaning.

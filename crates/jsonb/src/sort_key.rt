@@ -1,42 +1,21 @@
 //! Any bytes, checked once for many comparisons.
 
-ghost use Rattle.jsonb_codec.specs.Doc.{IsDocument};
-
 use crate::document::Document;
 
-/// Bytes that were checked and are not a document.
-#[derive(Clone, Copy, Debug)]
-pub struct OtherBytes<'a> {
-    bytes: &'a [u8],
-    ghost fact: { IsDocument bytes.now → ⊥ },
-}
-
-/// Any bytes, with the result of checking them once. A key is ordered as the `RawJsonb` of its
-/// bytes, but no comparison checks them again. Use it to sort a column that may hold bytes that are
-/// not documents.
-#[derive(Clone, Copy, Debug)]
+/// Bytes with the result of checking them once: a document, or other bytes. Keys are ordered as
+/// `RawJsonb`s are: documents by their values, and after them all other bytes, which compare as
+/// bytes. No comparison checks them again. Use it to sort a column that may hold bytes that are not
+/// documents.
+#[derive(Clone, Copy, Debug, PartialEq, Eq, PartialOrd, Ord)]
 pub enum SortKey<'a> {
     Document(Document<'a>),
-    Other(OtherBytes<'a>),
-}
-
-impl<'a> OtherBytes<'a> {
-    ghost use Rattle.std.specs.Prelude.{◌≡◌};
-    ghost use Rattle.jsonb.specs.Words.{other_key_bytes};
-
-    /// The bytes of the key.
-    pub fn as_bytes(&self) -> &'a [u8]
-        ensures bytes { result.now ≡ other_key_bytes self.now }
-        ensures other { IsDocument result.now → ⊥ }
-    {
-        self.bytes
-    }
+    Other(&'a [u8]),
 }
 
 impl<'a> SortKey<'a> {
     ghost use Rattle.std.specs.Prelude.{◌≡◌};
     ghost use Rattle.jsonb.specs.SortKey.{key_bytes};
-    ghost use Rattle.jsonb.specs.Words.{meaning_of, key_meaning};
+    ghost use Rattle.jsonb.specs.Words.{meaning_of, meaning_within, key_meaning};
 
     /// Checks the bytes and returns their key.
     pub fn new(bytes: &'a [u8]) -> Self
@@ -45,18 +24,31 @@ impl<'a> SortKey<'a> {
     {
         match Document::new(bytes) {
             Some(document) => SortKey::Document(document),
-            None => SortKey::Other(OtherBytes { bytes }),
+            None => SortKey::Other(bytes),
+        }
+    }
+
+    /// Checks the bytes and their depth, and returns their key: a document that nests deeper than
+    /// `depth` levels is ordered by its bytes, after all documents that do not. A scalar has depth
+    /// 0, an empty array or object 1, any other array or object one more than its deepest child.
+    /// Levels beyond `depth` are not examined, so bytes from outside are safe.
+    pub fn within(bytes: &'a [u8], depth: usize) -> Self
+        ensures bytes { key_bytes result ≡ bytes.now }
+        ensures meaning { key_meaning result ≡ meaning_within depth bytes.now }
+    {
+        match Document::within(bytes, depth) {
+            Some(document) => SortKey::Document(document),
+            None => SortKey::Other(bytes),
         }
     }
 
     /// The bytes of the key.
     pub fn as_bytes(&self) -> &'a [u8]
-        ensures bytes { result.now ≡ key_bytes self.now }
-        ensures meaning { key_meaning self.now ≡ meaning_of result.now }
+        ensures { result.now ≡ key_bytes self.now }
     {
         match self {
             SortKey::Document(document) => document.as_bytes(),
-            SortKey::Other(other) => other.as_bytes(),
+            SortKey::Other(bytes) => bytes,
         }
     }
 }

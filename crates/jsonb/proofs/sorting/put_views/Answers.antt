@@ -12,7 +12,7 @@ loop-number-preserved c =
     omega (arith, c.requires, length-map c.args.views.now raw_bytes) in
     map-set raw_bytes walk.views walk.number c.new.result
     ∙ ap (λ (b : List ℕ). slice_set (map raw_bytes walk.views) walk.number b)
-    (c.new.ensures ∙ c.as_bytes.ensures.bytes ∙ ap key_bytes c.index-keys-number.is)
+    (c.new.ensures ∙ c.as_bytes.ensures ∙ ap key_bytes c.index-keys-number.is)
     ∙ one_more_put key_bytes c.args.keys.now (map raw_bytes c.args.views.now)
     (map raw_bytes walk.views) walk.number c.index-keys-number.result c.loop-number-test.true fits
     walk.invariant

@@ -1,14 +1,12 @@
 use Rattle.std.proofs.Common.{rules, ℕ, List, map, subst, sym}
-use Rattle.std.proofs.lemmas.List.Sorted.{IsPermutation-map}
+use Rattle.std.proofs.lemmas.List.Sorted.{IsPermutation-map, All-permutation}
 use Rattle.std.specs.List.Sorted.{IsPermutation, IsStable}
 use Rattle.std.specs.Ordering.{on}
 use Rattle.jsonb_value.specs.Meaning.{meaning_cmp}
-use Rattle.jsonb_value.proofs.MeaningLaws.{meaning_cmp_total}
 use Rattle.jsonb.specs.ItemMeaning.{meaning_of}
 use Rattle.jsonb.specs.Raw.{raw_bytes}
 use Rattle.jsonb.specs.SortKey.{key_bytes}
-use Rattle.jsonb.proofs.SortLaws.{stable_by_bytes, sorted_views, all_put}
-use Rattle.jsonb.proofs.StableLaws.{IsStable-map}
+use Rattle.jsonb.proofs.SortLaws.{MeansItsBytes, stable_bytes, sorted_views, all_put}
 use Rattle.jsonb.proofs.sorting.sort_views.Goals as goal
 
 pub returns-clause-permutation : goal.returns-clause-permutation
@@ -16,7 +14,8 @@ returns-clause-permutation c =
     let ks = c.loop-view.keys.items in
     let sorted = c.sort.new.self.items in
     let (all, put) = all_put ks sorted _ c.args.views.now c.put_views.new.views _ (search rules)
-    c.loop-view.invariant c.sort.ensures.permutation c.deref.ensures.value c.put_views.ensures in
+    c.loop-view.invariant.bytes c.sort.ensures.permutation c.deref.ensures.value
+    c.put_views.ensures in
     subst (λ (bs : List (List ℕ)). IsPermutation (map raw_bytes c.args.views.now) bs) (sym put)
     (subst (λ (bs : List (List ℕ)). IsPermutation bs (map key_bytes sorted)) all
     (IsPermutation-map key_bytes ks sorted c.sort.ensures.permutation))
@@ -26,18 +25,22 @@ returns-clause-order c =
     let ks = c.loop-view.keys.items in
     let sorted = c.sort.new.self.items in
     let (all, put) = all_put ks sorted _ c.args.views.now c.put_views.new.views _ (search rules)
-    c.loop-view.invariant c.sort.ensures.permutation c.deref.ensures.value c.put_views.ensures in
-    sorted_views sorted c.put_views.new.views put c.in_ok-sort.ensures.sorted
+    c.loop-view.invariant.bytes c.sort.ensures.permutation c.deref.ensures.value
+    c.put_views.ensures in
+    sorted_views sorted c.put_views.new.views put
+    (All-permutation MeansItsBytes ks sorted c.sort.ensures.permutation c.loop-view.invariant.mean)
+    c.in_ok-sort.ensures.sorted
 
 pub returns-clause-stable : goal.returns-clause-stable
 returns-clause-stable c =
     let ks = c.loop-view.keys.items in
     let sorted = c.sort.new.self.items in
     let (all, put) = all_put ks sorted _ c.args.views.now c.put_views.new.views _ (search rules)
-    c.loop-view.invariant c.sort.ensures.permutation c.deref.ensures.value c.put_views.ensures in
+    c.loop-view.invariant.bytes c.sort.ensures.permutation c.deref.ensures.value
+    c.put_views.ensures in
     subst (λ (bs : List (List ℕ)). IsStable (on meaning_of meaning_cmp)
     (map raw_bytes c.args.views.now) bs) (sym put)
     (subst (λ (bs : List (List ℕ)). IsStable (on meaning_of meaning_cmp) bs
     (map key_bytes sorted)) all
-    (IsStable-map meaning_cmp meaning_cmp_total meaning_of key_bytes ks sorted
-    (stable_by_bytes ks sorted c.sort.ensures.stable)))
+    (stable_bytes ks sorted c.loop-view.invariant.mean c.sort.ensures.permutation
+    c.sort.ensures.stable))

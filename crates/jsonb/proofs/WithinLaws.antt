@@ -11,7 +11,7 @@ use Rattle.jsonb_codec.proofs.Decision.{decide}
 use Rattle.jsonb_codec.proofs.Unique.{Doc-unique}
 use Rattle.jsonb.specs.Document.{tree_in, tree_or_null}
 use Rattle.jsonb.specs.ItemMeaning.{meaning_of, meaning_or_bytes}
-use Rattle.jsonb_comparable.specs.Within.{limited, meaning_within}
+use Rattle.jsonb.specs.Within.{limited, meaning_within}
 
 shallow : (t : Tree) (d : ℕ) → depth t ≤ d → nat_le (depth t) d ≡ true
 shallow t d h = grind (arith, nat_tests)
