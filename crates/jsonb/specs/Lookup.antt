@@ -11,16 +11,16 @@ use Rattle.jsonb_value.specs.declared.error.Error.TheVariants.{InvalidJsonbExten
 use Rattle.jsonb_value.specs.Tree.{Tree, object, Pairs, no_pairs, pair, pair_count}
 use Rattle.jsonb_codec.specs.declared.constants.TheConstants.{OBJECT_CONTAINER_TAG}
 use Rattle.jsonb_codec.specs.Word.{header_at}
+use Rattle.jsonb.specs.declared.entries.Entry.{Entry as PlacedEntry}
 use Rattle.jsonb.specs.declared.item.JsonbItem.{JsonbItem}
 use Rattle.jsonb.specs.declared.reads.lookup.Accepted.{Accepted}
-use Rattle.jsonb.specs.declared.reads.lookup.FoundEntry.{FoundEntry}
 use Rattle.jsonb.specs.declared.reads.lookup.FoundValue.{FoundValue}
 use Rattle.jsonb.specs.ItemView.{ItemView, item_view}
 use Rattle.jsonb.specs.Steps.{◌>>=◌}
 use Rattle.jsonb.specs.Item.{Entry}
-use Rattle.jsonb.specs.Entries.{entry_of}
+use Rattle.jsonb.specs.Entries.{entry_there}
 use Rattle.jsonb.specs.Parts.{part_start, value_entry, PassedBefore, IsAccepted, IsNoneFound}
-use Rattle.jsonb.specs.Parts.{IsUnreadable, IsValueFound}
+use Rattle.jsonb.specs.Parts.{IsPlaceOf, IsUnreadable, IsValueFound}
 use Rattle.jsonb.specs.StoredEntries.{HasMembers, entry_item}
 use Rattle.jsonb.specs.Walk.{count_under}
 use Rattle.jsonb.specs.DocumentWalk.{IsItemOf}
@@ -134,11 +134,11 @@ FindsKey answers size b n (Err e) reads = IsUnreadable answers size b n e
 -- The result of searching n pairs, with the number of words read: the entry of the accepted key's
 -- value and where its payload begins, nothing if all keys are passed over, or the first error.
 abbrev pub FindsEntry : (List ℕ → Bool → Type 0) → ℕ → List ℕ → ℕ
-    → Result (Option FoundEntry) Error → ℕ → Type 0
+    → Result (Option PlacedEntry) Error → ℕ → Type 0
 FindsEntry answers size b n (Ok None) reads = IsNoneFound answers size b n reads
-FindsEntry answers size b n (Ok (Some found)) reads =
-    IsValueFound answers size b n (entry_of found.entry) reads
-    × (found.start ≡ part_start b n (reads - 1))
+FindsEntry answers size b n (Ok (Some entry)) reads =
+    IsValueFound answers size b n (entry_there b entry) reads
+    × IsPlaceOf b n (reads - 1) entry
 FindsEntry answers size b n (Err e) reads = IsUnreadable answers size b n e
 
 -- The result of a look-up on any bytes, with the number of words read: the header's error; nothing

@@ -6,7 +6,7 @@ use Rattle.std.specs.Prelude.{Err, IsOkAnd}
 use Rattle.jsonb_value.specs.declared.error.Error.{Error}
 use Rattle.jsonb_codec.specs.declared.jentry.JEntry.{JEntry}
 use Rattle.jsonb_codec.specs.JEntry.{jentry_at}
-use Rattle.jsonb.specs.declared.reads.lookup.Place.{Place}
+use Rattle.jsonb.specs.declared.entries.Entry.{Entry as PlacedEntry}
 use Rattle.jsonb.specs.Item.{Entry, entry_at, part_at}
 use Rattle.jsonb.specs.Steps.{◌>>=◌}
 
@@ -45,7 +45,7 @@ value_entry bytes n pair = entry_at bytes (4 + 4 * (n + pair)) (part_start bytes
 
 -- The place of the payload of the entry with this number: its type and length are those in the
 -- entry's word, and it is inside the bytes.
-pub record IsPlaceOf (bytes : List ℕ) (n part : ℕ) (place : Place) : Type 0 where
+pub record IsPlaceOf (bytes : List ℕ) (n part : ℕ) (place : PlacedEntry) : Type 0 where
   pub entry : jentry_at bytes (4 + 4 * part)
       ≡ Ok record { type_code = place.type_code; length = place.length }
   pub start : place.start ≡ part_start bytes n part

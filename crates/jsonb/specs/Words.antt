@@ -52,7 +52,8 @@ pub use Rattle.jsonb.specs.CutKeys.{IsFirstUnread, NoneOfSize}
 pub use Rattle.jsonb.specs.Document.{document_bytes, document_tree}
 pub use Rattle.jsonb.specs.DocumentWalk.{IsItemIn, IsItemOf, WalksChildren, WalksEntries}
 pub use Rattle.jsonb.specs.DocumentWalk.{WalksMembers, WalksPairs}
-pub use Rattle.jsonb.specs.Entries.{entry_of, entry_view}
+pub use Rattle.jsonb.specs.Entries.{IsEntryIn, Run, entries_in, entries_of, entry_count}
+pub use Rattle.jsonb.specs.Entries.{entry_read, entry_there, left_after, placed_at, placed_from}
 pub use Rattle.jsonb.specs.EntryTrees.{part_tree, rest_pairs, rest_trees}
 pub use Rattle.jsonb.specs.Item.{extension_item, item_in, item_of, number_item, part_at}
 pub use Rattle.jsonb.specs.Item.{scalar_item, text_item}
@@ -79,7 +80,7 @@ pub use Rattle.jsonb.specs.Results.{IsObjectOfInputs, IsObjectUpToZeros, MakeNoO
 pub use Rattle.jsonb.specs.Results.{PairsExceedLimits, TakesAll, TakesUpTo, document_pair}
 pub use Rattle.jsonb.specs.Results.{input_pair}
 pub use Rattle.jsonb.specs.SortKey.{key_meaning}
-pub use Rattle.jsonb.specs.StoredEntries.{IsFoundIn}
+pub use Rattle.jsonb.specs.StoredEntries.{IsFoundIn, entry_item}
 pub use Rattle.jsonb.specs.Storage.{IsHeld, IsStored, document_code, pair_of, stored_code}
 pub use Rattle.jsonb.specs.Tally.{CountsOneLess, CountsOneMore, Lists, SetsCount, Tally, count_at}
 pub use Rattle.jsonb.specs.Tally.{count_of, has_equal, list_with}
@@ -90,7 +91,7 @@ pub use Rattle.jsonb.specs.Texts.{display_text, layout_of, lossy_text, other_tex
 pub use Rattle.jsonb.specs.Texts.{pretty_display_text}
 pub use Rattle.jsonb.specs.Values.{bytes_in}
 pub use Rattle.jsonb.specs.ItemAnswers.{kind_of_view, raw_in, text_in}
-pub use Rattle.jsonb.specs.Walk.{Advances, IsBounded, Walk, child_entries, children_walk}
+pub use Rattle.jsonb.specs.Walk.{Advances, IsBounded, Walk, child_run, children_walk}
 pub use Rattle.jsonb.specs.Walk.{container_tag, count_under, item_read, items_in, key_of}
 pub use Rattle.jsonb.specs.Walk.{pair_read, pairs_walk}
 pub use Rattle.jsonb.specs.Within.{meaning_within}

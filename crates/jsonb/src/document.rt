@@ -209,8 +209,9 @@ impl<'a> Document<'a> {
     pub fn items(&self) -> Option<Items<'a>>
         ensures { option_map rest_trees result ≡ items_of (document_tree self.now) }
     {
-        match Cursor::over_array(self.as_bytes()) {
-            Ok(Some(entries)) => Some(Items::new(entries)),
+        let bytes = self.as_bytes();
+        match count_under(bytes, ARRAY_CONTAINER_TAG) {
+            Ok(Some(count)) => Some(Items::new(Cursor::over_items(bytes, count))),
             Ok(None) => None,
             Err(_) => unreachable!(),
         }
@@ -221,11 +222,10 @@ impl<'a> Document<'a> {
     pub fn members(&self) -> Option<Members<'a>>
         ensures { option_map rest_pairs result ≡ members_of (document_tree self.now) }
     {
-        match Cursor::over_object(self.as_bytes()) {
-            Ok(Some((keys, values))) => Some(Members::new(keys, values)),
-            Ok(None) => None,
-            Err(_) => unreachable!(),
-        }
+        let Contents::Object(members) = self.contents()? else {
+            return None;
+        };
+        Some(members)
     }
 
     // The first key of an object, or `Some(None)` if the object is empty. It is read without the
@@ -300,9 +300,9 @@ impl<'a> Document<'a> {
         };
         let is_name = |name: &[u8], key: &[u8]| name == key;
         match find_value(bytes, count, name, &is_name, reads) {
-            Ok(Some(found)) => Some(Part {
-                type_code: found.entry.type_code,
-                payload: found.entry.payload,
+            Ok(Some(entry)) => Some(Part {
+                type_code: entry.type_code,
+                payload: entry.payload(bytes),
             }),
             Ok(None) => None,
             Err(_) => unreachable!(),

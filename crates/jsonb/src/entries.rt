@@ -1,58 +1,82 @@
-//! Reading entry words and their payloads from the bytes.
+//! The entries of arrays and objects, with their places, read from the bytes one by one.
 
-ghost use Rattle.std.specs.Prelude.{◌≡◌, ◌≤◌, ◌<◌, ◌+◌, ◌*◌, ◌^◌, List, [], length, Result, Ok};
-ghost use Rattle.std.specs.Prelude.{IfOk, IfSome};
+ghost use Rattle.std.specs.Prelude.{◌≡◌, ◌≤◌, ◌<◌, ◌+◌, ◌*◌, ◌^◌, length, IfOk, IfErr, IfSome};
+ghost use Rattle.std.specs.Prelude.{Ok, Err, [], slice_get};
 ghost use Rattle.std.specs.Iterator.{YieldsFirstBy};
-ghost use Rattle.jsonb_value.specs.declared.error.Error.{Error};
 ghost use Rattle.jsonb_codec.specs.declared.constants.TheConstants.{ARRAY_CONTAINER_TAG};
 ghost use Rattle.jsonb_codec.specs.declared.constants.TheConstants.{OBJECT_CONTAINER_TAG};
-ghost use Rattle.jsonb.specs.Item.{Entry as ItemEntry, entry_at};
-ghost use Rattle.jsonb.specs.Entries.{entry_view};
+ghost use Rattle.jsonb.specs.Entries.{IsEntryIn, Run, entries_of, entry_read, entry_there, item_run};
+ghost use Rattle.jsonb.specs.Entries.{key_run, left_after, others_left, payloads_end, placed_at};
+ghost use Rattle.jsonb.specs.Entries.{placed_by, run_from, run_in, value_run};
 ghost use Rattle.jsonb.specs.EntryTrees.{AreParts, entry_of_part};
-ghost use Rattle.jsonb.specs.Walk.{count_under, payloads_end, entries_from, item_entries};
-ghost use Rattle.jsonb.specs.Walk.{key_entries, value_entries, array_entries, object_entries};
+ghost use Rattle.jsonb.specs.Walk.{count_under};
 
 use jsonb_codec::constants::{ARRAY_CONTAINER_TAG, OBJECT_CONTAINER_TAG};
 use jsonb_codec::parts::Part;
-use jsonb_codec::{read_header, read_jentry};
+use jsonb_codec::{JEntry, read_header, read_jentry};
 use jsonb_value::Error;
 use std::marker::Model;
 
-/// An entry: its type, and the bytes of its payload.
+/// An entry of an array or object: its type, and the offset and length of its payload in bytes.
 #[derive(Clone, Copy)]
-pub struct Entry<'a> {
+pub struct Entry {
     pub type_code: u32,
-    pub payload: &'a [u8],
-}
-
-/// Consecutive entry words and their payloads: the offset of the first entry word, and the offset
-/// of its payload, in bytes.
-#[derive(Clone, Copy)]
-pub struct Entries<'a> {
-    pub bytes: &'a [u8],
-    pub place: usize,
     pub start: usize,
+    pub length: usize,
 }
 
-impl<'a> Entries<'a> {
-    /// The first entry. `InvalidEOF` if its word is cut off, `InvalidJsonb` if its payload runs
-    /// past the end.
-    #[tactic(auto, unfolding(crate::specs::Item::entry_at, crate::specs::Item::part_at))]
-    pub fn first(&self) -> Result<Entry<'a>, Error>
-        requires { self.now.start ≤ 2 ^ 63 }
-        ensures entry { entry_view result
-            ≡ entry_at self.now.bytes.now self.now.place self.now.start }
-        ensures short { IfOk result (λ entry. length entry.payload.now < 2 ^ 32) }
+impl Entry {
+    /// The entry whose word is at `word` and whose payload begins at `start`. `InvalidEOF` if the
+    /// word is cut off, `InvalidJsonb` if the payload runs past the end.
+    pub fn read(bytes: &[u8], word: usize, start: usize) -> Result<Self, Error>
+        ensures value { result ≡ placed_at bytes.now word start }
+        ensures inside { IfOk result (IsEntryIn bytes.now) }
     {
-        let jentry = read_jentry(self.bytes, self.place)?;
-        let end = self.start + jentry.length as usize;
-        if self.bytes.len() < end {
+        let jentry = read_jentry(bytes, word)?;
+        if usize::MAX - (jentry.length as usize) < start {
+            return Err(Error::InvalidJsonb);
+        }
+        Entry::of_word(bytes, start, jentry)
+    }
+
+    // The same, where no sum overflows.
+    #[inline(always)]
+    fn read_near(bytes: &[u8], word: usize, start: usize) -> Result<Self, Error>
+        requires { start ≤ 2 ^ 63 }
+        ensures value { result ≡ placed_at bytes.now word start }
+        ensures inside { IfOk result (IsEntryIn bytes.now) }
+    {
+        Entry::of_word(bytes, start, read_jentry(bytes, word)?)
+    }
+
+    // The entry of this word, whose payload begins at `start`. `InvalidJsonb` if it runs past the
+    // end.
+    #[inline(always)]
+    pub(crate) fn of_word(bytes: &[u8], start: usize, jentry: JEntry) -> Result<Self, Error>
+        requires room { start + jentry.length < 2 ^ 64 }
+        requires word { jentry.type_code + jentry.length < 2 ^ 31 }
+        ensures value { result ≡ placed_by bytes.now start jentry }
+        ensures inside { IfOk result (IsEntryIn bytes.now) }
+    {
+        let length = jentry.length as usize;
+        if bytes.len() < start + length {
             return Err(Error::InvalidJsonb);
         }
         Ok(Entry {
             type_code: jentry.type_code,
-            payload: &self.bytes[self.start..end],
+            start,
+            length,
         })
+    }
+
+    /// The bytes of the payload. The entry must be one of these bytes.
+    #[inline(always)]
+    pub fn payload<'a>(self, bytes: &'a [u8]) -> &'a [u8]
+        requires { IsEntryIn bytes.now self }
+        ensures bytes { result.now ≡ (entry_there bytes.entry.now self).payload }
+        ensures long { length result.now ≡ self.length }
+    {
+        &bytes[self.start..self.start + self.length]
     }
 }
 
@@ -72,20 +96,22 @@ pub fn count_under(bytes: &[u8], tag: u32) -> Result<Option<usize>, Error>
     }
 }
 
-// The offset at which the payloads of an object's keys end. `InvalidEOF` if the entry word of a key
-// is cut off.
+// The offset at which the payloads of `count` entries end. Their words begin at `word`, and their
+// payloads at `start`. `InvalidEOF` if a word is cut off.
 #[inline(always)]
-fn keys_end(bytes: &[u8], count: usize) -> Result<usize, Error>
-    requires count { count < 2 ^ 29 }
-    requires header { 4 ≤ length bytes.now }
-    ensures value { result ≡ payloads_end bytes.now count 4 (4 + 8 * count) }
-    ensures near { IfOk result (λ end. end ≤ 4 + 8 * count + 2 ^ 32 * count) }
+fn payloads_end(bytes: &[u8], word: usize, start: usize, count: usize) -> Result<usize, Error>
+    requires count { count < 2 ^ 30 }
+    requires word { word ≤ 2 ^ 34 }
+    requires start { start ≤ 2 ^ 62 }
+    requires there { count ≡ 0 → word ≤ length bytes.now }
+    ensures value { result ≡ payloads_end bytes.now count word start }
+    ensures near { IfOk result (λ end. end ≤ start + 2 ^ 32 * count) }
 {
     // All words are checked to be present at once, so that the loop has a single exit.
-    let Some(mut words) = bytes.get(4..4 + 4 * count) else {
+    let Some(mut words) = bytes.get(word..word + 4 * count) else {
         return Err(Error::InvalidEOF);
     };
-    let mut end = 4 + 8 * count;
+    let mut end = start;
     while let Ok(entry) = read_jentry(words, 0) {
         end += entry.length as usize;
         words = &words[4..];
@@ -93,48 +119,62 @@ fn keys_end(bytes: &[u8], count: usize) -> Result<usize, Error>
     Ok(end)
 }
 
-/// A position among entry words and their payloads, from which entries are read one by one up to
+/// A position among the entries of an array or object, from which they are read one by one up to
 /// the first error: the offset of the next entry word, the offset of its payload, and the number of
 /// entries left.
 #[derive(Drop)]
 pub struct Cursor<'a> {
     bytes: &'a [u8],
-    place: usize,
+    word: usize,
     start: usize,
     left: usize,
 }
 
 impl<'a> Model for Cursor<'a> {
-    ghost Value = { List (Result ItemEntry Error) };
+    ghost Value = { Run };
 
-    ghost view = { λ s. entries_from s.bytes.now s.left s.place s.start };
+    ghost view = { λ s. run_from s.bytes.now s.left s.word s.start };
 
-    ghost invariant = { λ s. (s.place + 4 * s.left ≤ 2 ^ 34)
+    ghost invariant = { λ s. (s.word + 4 * s.left ≤ 2 ^ 34)
         × (s.start + 2 ^ 32 * s.left ≤ 2 ^ 63) };
 }
 
 impl<'a> Cursor<'a> {
     // A cursor at the first of `left` entries.
     #[inline(always)]
-    fn new(bytes: &'a [u8], place: usize, start: usize, left: usize) -> Self
-        requires few { left < 2 ^ 29 }
-        requires place { place ≤ 2 ^ 33 }
+    fn new(bytes: &'a [u8], word: usize, start: usize, left: usize) -> Self
+        requires few { left < 2 ^ 30 }
+        requires word { word ≤ 2 ^ 33 }
         requires start { start ≤ 2 ^ 62 }
-        ensures { result ≡ entries_from bytes.entry.now left place start }
+        ensures { result ≡ run_from bytes.entry.now left word start }
     {
         Cursor {
             bytes,
-            place,
+            word,
             start,
             left,
         }
+    }
+
+    /// All entries of an array or object: of an object those of its keys and then those of its
+    /// values. A scalar has none. `InvalidEOF` if the header is cut off, `InvalidJsonb` if it is of
+    /// no kind.
+    pub fn over_entries(bytes: &'a [u8]) -> Result<Self, Error>
+        ensures { result ≡ run_in bytes.entry.now }
+    {
+        let count = match read_header(bytes, 0)? {
+            (ARRAY_CONTAINER_TAG, count) => count,
+            (OBJECT_CONTAINER_TAG, count) => 2 * count,
+            _ => 0,
+        };
+        Ok(Cursor::new(bytes, 4, 4 + 4 * count, count))
     }
 
     /// The entries of an array of `count` items.
     #[inline(always)]
     pub fn over_items(bytes: &'a [u8], count: usize) -> Self
         requires { count < 2 ^ 29 }
-        ensures { result ≡ item_entries bytes.entry.now count }
+        ensures { result ≡ item_run bytes.entry.now count }
     {
         Cursor::new(bytes, 4, 4 + 4 * count, count)
     }
@@ -143,65 +183,83 @@ impl<'a> Cursor<'a> {
     #[inline(always)]
     pub fn over_keys(bytes: &'a [u8], count: usize) -> Self
         requires { count < 2 ^ 29 }
-        ensures { result ≡ key_entries bytes.entry.now count }
+        ensures { result ≡ key_run bytes.entry.now count }
     {
         Cursor::new(bytes, 4, 4 + 8 * count, count)
     }
 
-    /// The entries of the values of an object of `count` pairs. `InvalidEOF` if the entry word of a
-    /// key is cut off.
+    /// The entries of the values of an object of `count` pairs, in bytes that have its header.
+    /// `InvalidEOF` if the entry word of a key is cut off.
     #[inline(always)]
     pub fn over_values(bytes: &'a [u8], count: usize) -> Result<Self, Error>
         requires count { count < 2 ^ 29 }
         requires header { 4 ≤ length bytes.now }
-        ensures { result ≡ value_entries bytes.entry.now count }
+        ensures { result ≡ value_run bytes.entry.now count }
     {
-        let start = keys_end(bytes, count)?;
+        let start = payloads_end(bytes, 4, 4 + 8 * count, count)?;
         Ok(Cursor::new(bytes, 4 + 4 * count, start, count))
     }
 
-    /// The entries of an array, `None` if the header is of another kind. `InvalidEOF` if the header
-    /// is cut off, `InvalidJsonb` if it is of no kind.
-    pub fn over_array(bytes: &'a [u8]) -> Result<Option<Self>, Error>
-        ensures { result ≡ array_entries bytes.entry.now }
-    {
-        let Some(count) = count_under(bytes, ARRAY_CONTAINER_TAG)? else {
-            return Ok(None);
-        };
-        Ok(Some(Cursor::over_items(bytes, count)))
-    }
-
-    /// The entries of an object's keys and of its values, `None` if the header is of another kind.
-    /// `InvalidEOF` if the header or the entry word of a key is cut off, `InvalidJsonb` if the
-    /// header is of no kind.
-    pub fn over_object(bytes: &'a [u8]) -> Result<Option<(Self, Self)>, Error>
-        ensures { result ≡ object_entries bytes.entry.now }
-    {
-        let Some(count) = count_under(bytes, OBJECT_CONTAINER_TAG)? else {
-            return Ok(None);
-        };
-        let values = Cursor::over_values(bytes, count)?;
-        Ok(Some((Cursor::over_keys(bytes, count), values)))
-    }
-
-    /// The next entry. `InvalidEOF` if its word is cut off, `InvalidJsonb` if its payload runs past
-    /// the end; after an error there is no next entry.
+    /// The bytes that the entries are in.
     #[inline(always)]
-    pub fn next(&mut self) -> Option<Result<Entry<'a>, Error>>
-        ensures steps { YieldsFirstBy entry_view (λ it. it) self.old result self.new }
+    pub fn bytes(&self) -> &'a [u8]
+        ensures { result.now ≡ self.now.bytes }
+    {
+        self.bytes
+    }
+
+    /// The number of entries left.
+    pub fn len(&self) -> usize
+        ensures { result ≡ length self.now.entries }
+    {
+        self.left
+    }
+
+    /// Passes over `count` entries, or over all that are left if there are fewer, without looking
+    /// at their payloads. `InvalidEOF` if the word of one of them is cut off; no entry is left
+    /// then.
+    pub fn skip(&mut self, count: usize) -> Result<(), Error>
+        ensures rest { IfOk result (λ _. left_after count self.old.entries ≡ Ok self.new.entries) }
+        ensures cut { IfErr result (λ e. (left_after count self.old.entries ≡ Err e)
+            × (self.new.entries ≡ [])) }
+        ensures bytes { self.new.bytes ≡ self.old.bytes }
+    {
+        let count = if count < self.left { count } else { self.left };
+        if count == 0 {
+            return Ok(());
+        }
+        match payloads_end(self.bytes, self.word, self.start, count) {
+            Ok(start) => {
+                self.word += 4 * count;
+                self.start = start;
+                self.left -= count;
+                Ok(())
+            }
+            Err(error) => {
+                self.end();
+                Err(error)
+            }
+        }
+    }
+
+    /// The next entry, which is in the bytes. `InvalidEOF` if its word is cut off, `InvalidJsonb`
+    /// if its payload runs past the end; after an error there is no next entry.
+    #[inline(always)]
+    pub fn next(&mut self) -> Option<Result<Entry, Error>>
+        ensures first { result ≡ slice_get self.old.entries 0 }
+        ensures rest { self.new
+            ≡ record { bytes = self.old.bytes; entries = others_left self.old.entries } }
+        ensures inside { IfSome result (λ read. IfOk read (IsEntryIn self.old.bytes)) }
+        ensures steps { YieldsFirstBy
+            (entry_read self.old.bytes) entries_of self.old result self.new }
     {
         if self.left == 0 {
             return None;
         }
-        let entries = Entries {
-            bytes: self.bytes,
-            place: self.place,
-            start: self.start,
-        };
-        match entries.first() {
+        match Entry::read_near(self.bytes, self.word, self.start) {
             Ok(entry) => {
-                self.place += 4;
-                self.start += entry.payload.len();
+                self.word += 4;
+                self.start += entry.length;
                 self.left -= 1;
                 Some(Ok(entry))
             }
@@ -214,7 +272,7 @@ impl<'a> Cursor<'a> {
 
     /// Ends the iteration: no entry is left.
     pub fn end(&mut self)
-        ensures { self.new ≡ [] }
+        ensures { self.new ≡ record { bytes = self.old.bytes; entries = [] } }
     {
         self.left = 0;
     }
@@ -222,26 +280,19 @@ impl<'a> Cursor<'a> {
     /// The next entry of a document, as a part.
     #[inline(always)]
     pub fn next_part(&mut self) -> Option<Part<'a>>
-        requires { AreParts self.old }
+        requires { AreParts (entries_of self.old) }
         ensures steps { YieldsFirstBy (λ part. Ok (entry_of_part part))
-            (λ it. it) self.old result self.new }
-        ensures others { AreParts self.new }
+            entries_of self.old result self.new }
+        ensures others { AreParts (entries_of self.new) }
     {
+        let bytes = self.bytes;
         match self.next() {
             Some(Ok(entry)) => Some(Part {
                 type_code: entry.type_code,
-                payload: entry.payload,
+                payload: entry.payload(bytes),
             }),
             Some(Err(_)) => unreachable!(),
             None => None,
         }
-    }
-
-    /// The number of entries left in a document.
-    pub fn len(&self) -> usize
-        requires { AreParts self.now }
-        ensures { result ≡ length self.now }
-    {
-        self.left
     }
 }

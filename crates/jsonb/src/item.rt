@@ -4,10 +4,11 @@ ghost use Rattle.std.specs.Prelude.{◌≡◌, ◌↔◌, None, Some, Ok, Err, o
 ghost use Rattle.std.specs.Prelude.{IfErr, IsOkAnd, IsSome};
 ghost use Rattle.jsonb.specs.Words.{Tree, cow_bytes, Doc, raw_bytes, item_view};
 ghost use Rattle.jsonb.specs.Words.{result_view, null, item_in, item_of, scalar_item, text_item};
-ghost use Rattle.jsonb.specs.Words.{number_item, extension_item, entry_of, item_document, IsItemIn};
+ghost use Rattle.jsonb.specs.Words.{number_item, extension_item, entry_item, entry_there};
+ghost use Rattle.jsonb.specs.Words.{item_document, IsEntryIn, IsItemIn};
 ghost use Rattle.jsonb.specs.Words.{CanBeStored, kind_of_view, raw_in, text_in};
 
-use crate::entries::{Entries, Entry};
+use crate::entries::Entry;
 use crate::extension_item::ExtensionItem;
 use crate::item_type::JsonbItemType;
 use crate::number_item::NumberItem;
@@ -152,17 +153,19 @@ fn clone_text<'a>(text: &CowStr<'a>, alloc: Global) -> Result<CowStr<'a>, Error>
 /// not examined. `InvalidUtf8`, `InvalidJsonbNumber` or `InvalidJsonbExtension` if the payload is
 /// invalid for its type, `InvalidJsonb` for an unknown type.
 #[tactic(auto, unfolding(crate::specs::Item::item_of))]
-pub fn item_of_entry<'a>(entry: Entry<'a>) -> Result<JsonbItem<'a>, Error>
-    ensures { result_view result ≡ item_of entry.entry.type_code entry.entry.payload.now }
+pub fn item_of_entry<'a>(bytes: &'a [u8], entry: Entry) -> Result<JsonbItem<'a>, Error>
+    requires { IsEntryIn bytes.now entry }
+    ensures { result_view result ≡ entry_item (entry_there bytes.entry.now entry) }
 {
+    let payload = entry.payload(bytes);
     match entry.type_code {
         NULL_TAG => Ok(JsonbItem::Null),
         FALSE_TAG => Ok(JsonbItem::Boolean(false)),
         TRUE_TAG => Ok(JsonbItem::Boolean(true)),
-        STRING_TAG => text_item(entry.payload),
-        NUMBER_TAG => number_item(entry.payload),
-        EXTENSION_TAG => extension_item(entry.payload),
-        CONTAINER_TAG => Ok(JsonbItem::Raw(RawJsonb::new(entry.payload))),
+        STRING_TAG => text_item(payload),
+        NUMBER_TAG => number_item(payload),
+        EXTENSION_TAG => extension_item(payload),
+        CONTAINER_TAG => Ok(JsonbItem::Raw(RawJsonb::new(payload))),
         _ => Err(Error::InvalidJsonb),
     }
 }
@@ -170,13 +173,14 @@ pub fn item_of_entry<'a>(entry: Entry<'a>) -> Result<JsonbItem<'a>, Error>
 // The item of the entry under a scalar's header. `InvalidJsonb` for a container's entry, otherwise
 // as `item_of_entry`.
 #[tactic(auto, unfolding(crate::specs::Item::scalar_item))]
-fn scalar_item<'a>(entry: Entry<'a>) -> Result<JsonbItem<'a>, Error>
-    ensures { result_view result ≡ scalar_item (entry_of entry.entry) }
+fn scalar_item<'a>(bytes: &'a [u8], entry: Entry) -> Result<JsonbItem<'a>, Error>
+    requires { IsEntryIn bytes.now entry }
+    ensures { result_view result ≡ scalar_item (entry_there bytes.entry.now entry) }
 {
     if entry.type_code == CONTAINER_TAG {
         return Err(Error::InvalidJsonb);
     }
-    item_of_entry(entry)
+    item_of_entry(bytes, entry)
 }
 
 #[tactic(auto, using(crate::proofs::Utf8::is_text_yes, crate::proofs::Utf8::is_text_no))]
@@ -211,10 +215,5 @@ fn item_of_bytes<'a>(raw: RawJsonb<'a>) -> Result<JsonbItem<'a>, Error>
     if tag != SCALAR_CONTAINER_TAG {
         return Ok(JsonbItem::Raw(raw));
     }
-    let entries = Entries {
-        bytes,
-        place: 4,
-        start: 8,
-    };
-    scalar_item(entries.first()?)
+    scalar_item(bytes, Entry::read(bytes, 4, 8)?)
 }

@@ -3,8 +3,9 @@
 ghost use Rattle.std.specs.Prelude.{◌≡◌, ◌<◌, ◌≤◌, ◌^◌, ℕ, List, length, IfOk, IfErr, IfSome};
 ghost use Rattle.jsonb.specs.Walk.{pairs_in};
 ghost use Rattle.jsonb.specs.Words.{YieldsFirstBy, Advances, item_count, raw_bytes, ItemView};
-ghost use Rattle.jsonb.specs.Words.{result_view, pair_view, entry_of, entry_view, Walk, item_read};
-ghost use Rattle.jsonb.specs.Words.{key_of, pair_read, items_in, container_tag, child_entries};
+ghost use Rattle.jsonb.specs.Words.{result_view, pair_view, IsEntryIn, entries_of, entry_read};
+ghost use Rattle.jsonb.specs.Words.{entry_there, Walk, item_read};
+ghost use Rattle.jsonb.specs.Words.{key_of, pair_read, items_in, container_tag, child_run};
 ghost use Rattle.jsonb.specs.Words.{children_walk, pairs_walk, IsBounded, Tree, Doc, WalksChildren};
 ghost use Rattle.jsonb.specs.Words.{WalksEntries, WalksPairs, WalksMembers};
 
@@ -17,10 +18,11 @@ use std::marker::{Model, PhantomData};
 use std::str;
 
 // The item of an entry, or the error with which the entry was read.
-fn item_read<'a>(entry: Result<Entry<'a>, Error>) -> Result<JsonbItem<'a>, Error>
-    ensures { result_view result ≡ item_read (entry_view entry.entry) }
+fn item_read<'a>(bytes: &'a [u8], entry: Result<Entry, Error>) -> Result<JsonbItem<'a>, Error>
+    requires { IfOk entry (IsEntryIn bytes.now) }
+    ensures { result_view result ≡ item_read (entry_read bytes.entry.now entry) }
 {
-    item_of_entry(entry?)
+    item_of_entry(bytes, entry?)
 }
 
 /// Which children of a container an iterator yields.
@@ -46,7 +48,7 @@ impl ChildKind {
     fn entries<'a>(self, bytes: &'a [u8], count: usize) -> Result<Cursor<'a>, Error>
         requires count { count < 2 ^ 29 }
         requires header { 4 ≤ length bytes.now }
-        ensures { result ≡ child_entries self bytes.entry.now count }
+        ensures { result ≡ child_run self bytes.entry.now count }
     {
         match self {
             Self::ArrayItem => Ok(Cursor::over_items(bytes, count)),
@@ -132,7 +134,7 @@ pub struct ItemIterator<'a, C: Children> {
 impl<'a, C: Children> Model for ItemIterator<'a, C> {
     ghost Value = { Walk ItemView };
 
-    ghost view = { λ s. record { count = s.count; rest = items_in s.entries } };
+    ghost view = { λ s. record { count = s.count; rest = items_in (entries_of s.entries) } };
 }
 
 impl<'a, C: Children> ItemIterator<'a, C> {
@@ -194,7 +196,7 @@ impl<'a, C: Children> Iterator for ItemIterator<'a, C> {
         ensures { Advances result_view self.old result self.new }
     {
         let entry = self.entries.next()?;
-        match item_read(entry) {
+        match item_read(self.entries.bytes(), entry) {
             Ok(item) => Some(Ok(item)),
             Err(error) => {
                 self.entries.end();
@@ -207,14 +209,15 @@ impl<'a, C: Children> Iterator for ItemIterator<'a, C> {
 // The key of an entry. `InvalidJsonb` if the entry is not a string, `InvalidUtf8` if its payload is
 // not UTF-8.
 #[tactic(auto, using(crate::proofs::Utf8::is_text_yes, crate::proofs::Utf8::is_text_no))]
-fn key_of_entry<'a>(entry: Entry<'a>) -> Result<&'a str, Error>
-    ensures ok { IfOk result (λ key. key_of (entry_of entry.entry) ≡ Ok key.now) }
-    ensures err { IfErr result (λ e. key_of (entry_of entry.entry) ≡ Err e) }
+fn key_of_entry<'a>(bytes: &'a [u8], entry: Entry) -> Result<&'a str, Error>
+    requires { IsEntryIn bytes.now entry }
+    ensures ok { IfOk result (λ key. key_of (entry_there bytes.entry.now entry) ≡ Ok key.now) }
+    ensures err { IfErr result (λ e. key_of (entry_there bytes.entry.now entry) ≡ Err e) }
 {
     if entry.type_code != STRING_TAG {
         return Err(Error::InvalidJsonb);
     }
-    match str::from_utf8(entry.payload) {
+    match str::from_utf8(entry.payload(bytes)) {
         Ok(key) => Ok(key),
         Err(_) => Err(Error::InvalidUtf8),
     }
@@ -222,12 +225,16 @@ fn key_of_entry<'a>(entry: Entry<'a>) -> Result<&'a str, Error>
 
 // The key of one entry and the item of another, or the first error of the two.
 fn pair_read<'a>(
-    key: Result<Entry<'a>, Error>,
-    value: Result<Entry<'a>, Error>,
+    bytes: &'a [u8],
+    key: Result<Entry, Error>,
+    value: Result<Entry, Error>,
 ) -> Result<(&'a str, JsonbItem<'a>), Error>
-    ensures { pair_view result ≡ pair_read (entry_view key.entry, entry_view value.entry) }
+    requires key { IfOk key (IsEntryIn bytes.now) }
+    requires value { IfOk value (IsEntryIn bytes.now) }
+    ensures { pair_view result
+        ≡ pair_read (entry_read bytes.entry.now key, entry_read bytes.entry.now value) }
 {
-    Ok((key_of_entry(key?)?, item_read(value)?))
+    Ok((key_of_entry(bytes, key?)?, item_read(bytes, value)?))
 }
 
 /// The pairs of an object, in stored order: each key with the item of its value. On bytes that are
@@ -245,7 +252,12 @@ pub struct ObjectIterator<'a> {
 impl<'a> Model for ObjectIterator<'a> {
     ghost Value = { Walk (List ℕ × ItemView) };
 
-    ghost view = { λ s. record { count = s.pair_count; rest = pairs_in s.keys s.values } };
+    ghost view = { λ s. record {
+      count = s.pair_count;
+      rest = pairs_in (entries_of s.keys) (entries_of s.values);
+    } };
+
+    ghost invariant = { λ s. s.keys.bytes ≡ s.values.bytes };
 }
 
 impl<'a> ObjectIterator<'a> {
@@ -310,7 +322,7 @@ impl<'a> Iterator for ObjectIterator<'a> {
             self.keys.end();
             return None;
         };
-        match pair_read(key, value) {
+        match pair_read(self.keys.bytes(), key, value) {
             Ok(pair) => Some(Ok(pair)),
             Err(error) => {
                 self.keys.end();

@@ -22,6 +22,7 @@ mod text;
 
 pub use builder::{ArrayBuilder, ArrayDistinctBuilder, ObjectBuilder};
 pub use document::{Contents, Document, Node};
+pub use entries::{Cursor, Entry};
 pub use extension_item::ExtensionItem;
 pub use item::JsonbItem;
 pub use item_type::JsonbItemType;
@@ -49,7 +50,7 @@ pub use order::{byte_order_laws, key_order_laws, meaning_laws};
 pub use owned::OwnedJsonb;
 pub use raw::RawJsonb;
 pub use reads::Reads;
-pub use reads::lookup::{FoundValue, MAX_READS, Place};
+pub use reads::lookup::{FoundValue, MAX_READS};
 pub use sort_key::SortKey;
 pub use sorting::sort_views;
 pub use text::text_laws;

@@ -5,6 +5,7 @@ ghost use Rattle.std.specs.Prelude.{option_map};
 ghost use Rattle.std.specs.Cmp.Lexicographic.{pointwise};
 ghost use Rattle.std.specs.Iterator.{YieldsFirstBy, MakesProgress, item_count};
 ghost use Rattle.jsonb_value.specs.declared.error.Error.{Error};
+ghost use Rattle.jsonb.specs.Entries.{entries_of};
 ghost use Rattle.jsonb.specs.Item.{Entry};
 ghost use Rattle.jsonb.specs.EntryTrees.{AreParts, AreMembers, rest_trees, rest_pairs, part_tree};
 ghost use Rattle.jsonb.specs.EntryTrees.{member_part_tree, entry_of_part};
@@ -25,16 +26,16 @@ pub struct Items<'a> {
 impl<'a> Model for Items<'a> {
     ghost Value = { List (Result Entry Error) };
 
-    ghost view = { λ s. s.entries };
+    ghost view = { λ s. entries_of s.entries };
 
-    ghost invariant = { λ s. AreParts s.entries };
+    ghost invariant = { λ s. AreParts (entries_of s.entries) };
 }
 
 impl<'a> Items<'a> {
     /// The items of these entries.
     pub(crate) fn new(entries: Cursor<'a>) -> Self
-        requires { AreParts entries }
-        ensures { result ≡ entries.entry }
+        requires { AreParts (entries_of entries) }
+        ensures { result ≡ entries_of entries.entry }
     {
         Items { entries }
     }
@@ -98,16 +99,16 @@ pub struct Members<'a> {
 impl<'a> Model for Members<'a> {
     ghost Value = { List (Result Entry Error) × List (Result Entry Error) };
 
-    ghost view = { λ s. (s.keys, s.values) };
+    ghost view = { λ s. (entries_of s.keys, entries_of s.values) };
 
-    ghost invariant = { λ s. AreMembers (s.keys, s.values) };
+    ghost invariant = { λ s. AreMembers (entries_of s.keys, entries_of s.values) };
 }
 
 impl<'a> Members<'a> {
     /// The members with these entries of keys and values.
     pub(crate) fn new(keys: Cursor<'a>, values: Cursor<'a>) -> Self
-        requires { AreMembers (keys, values) }
-        ensures { result ≡ (keys.entry, values.entry) }
+        requires { AreMembers (entries_of keys, entries_of values) }
+        ensures { result ≡ (entries_of keys.entry, entries_of values.entry) }
     {
         Members { keys, values }
     }

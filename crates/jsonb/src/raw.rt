@@ -5,7 +5,7 @@ use crate::item::{JsonbItem, item_of_entry};
 use crate::item_type::{JsonbItemType, kind_of};
 use crate::owned::OwnedJsonb;
 use crate::reads::Reads;
-use crate::reads::lookup::{FoundValue, MAX_READS, Place, count_pairs, find_value};
+use crate::reads::lookup::{FoundValue, MAX_READS, count_pairs, find_value};
 use crate::text::{finish_text, write_pretty, write_view};
 use jsonb_codec::{append_canonical, value_of};
 use jsonb_value::{Error, Value};
@@ -209,24 +209,17 @@ impl<'a> RawJsonb<'a> {
         // The entry is the one whose word was read last.
         ensures place { IfOk result (λ o. IfSome o (λ found.
             IsPlaceOf (raw_bytes self.now) (header_count (raw_bytes self.now))
-            (reads.new - reads.old - 2) found.place)) }
+            (reads.new - reads.old - 2) found.entry)) }
     {
         let bytes = self.as_bytes();
         let Some(count) = count_pairs(bytes, reads)? else {
             return Ok(None);
         };
-        let Some(found) = find_value(bytes, count, name, &eq_func, reads)? else {
+        let Some(entry) = find_value(bytes, count, name, &eq_func, reads)? else {
             return Ok(None);
         };
-        let place = Place {
-            type_code: found.entry.type_code,
-            start: found.start,
-            length: found.entry.payload.len(),
-        };
-        Ok(Some(FoundValue {
-            item: item_of_entry(found.entry)?,
-            place,
-        }))
+        let item = item_of_entry(bytes, entry)?;
+        Ok(Some(FoundValue { item, entry }))
     }
 
     /// The value of the first key, in stored order, that has the name's length in bytes and for

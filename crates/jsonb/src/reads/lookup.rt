@@ -1,9 +1,9 @@
 //! Looking up the value of a key in the bytes, with a counted number of word reads.
 
-ghost use Rattle.std.specs.Prelude.{◌≡◌, ◌+◌, ◌-◌, ◌*◌, ◌<◌, ◌≤◌, ◌↔◌, ◌^◌, length, Ok, Err, IfOk};
+ghost use Rattle.std.specs.Prelude.{◌≡◌, ◌+◌, ◌-◌, ◌*◌, ◌<◌, ◌≤◌, ◌^◌, length, Ok, IfOk};
 ghost use Rattle.std.specs.Prelude.{IfErr, IfSome, IsOk, OnOk};
 ghost use Rattle.jsonb.specs.Words.{FnReturnsAtPair, OBJECT_CONTAINER_TAG, FindsEntry, FindsKey};
-ghost use Rattle.jsonb.specs.Words.{jentry_at, part_at, count_under, part_length, part_start};
+ghost use Rattle.jsonb.specs.Words.{jentry_at, count_under, part_length, part_start, IsEntryIn};
 ghost use Rattle.jsonb.specs.Words.{HasParts, IsRefusal, NoneOfSize, IsFirstUnread, header_count};
 
 use crate::entries::Entry;
@@ -13,26 +13,11 @@ use jsonb_codec::constants::OBJECT_CONTAINER_TAG;
 use jsonb_codec::{JEntry, decode_header};
 use jsonb_value::Error;
 
-/// The type of an entry, and the offset and length of its payload in bytes.
-#[derive(Clone, Copy)]
-pub struct Place {
-    pub type_code: u32,
-    pub start: usize,
-    pub length: usize,
-}
-
-/// A value that a look-up found, and where its payload is.
+/// A value that a look-up found, and its entry, with the place of its payload.
 #[derive(Drop)]
 pub struct FoundValue<'a> {
     pub item: JsonbItem<'a>,
-    pub place: Place,
-}
-
-/// The entry of a value that was found, and the offset of its payload.
-#[derive(Clone, Copy)]
-pub struct FoundEntry<'a> {
-    pub entry: Entry<'a>,
-    pub start: usize,
+    pub entry: Entry,
 }
 
 /// The greatest tally at which a look-up may begin.
@@ -56,21 +41,8 @@ pub fn count_pairs(bytes: &[u8], reads: &mut Reads) -> Result<Option<usize>, Err
     }
 }
 
-// The entry word with this number: first those of the keys, then those of the values.
-#[inline(always)]
-#[tactic(auto, unfolding(crate::specs::Parts::part_length))]
-fn read_entry(bytes: &[u8], number: usize, reads: &mut Reads) -> Result<JEntry, Error>
-    requires number { number < 2 ^ 30 }
-    requires room { reads.old < u64.MAX }
-    ensures value { result ≡ jentry_at bytes.now (4 + 4 * number) }
-    ensures cut { IfErr result (λ e. e ≡ Error.InvalidEOF) }
-    ensures cost { OnOk result (reads.new ≡ reads.old + 1) }
-    ensures bound { (reads.old ≤ reads.new) × (reads.new ≤ reads.old + 1) }
-{
-    Ok(JEntry::decode_jentry(reads.word(bytes, 4 + 4 * number)?))
-}
-
-// The same, where it is known to be there.
+// The entry word with this number: first those of the keys, then those of the values. It is known
+// to be there.
 #[inline(always)]
 #[tactic(auto, unfolding(crate::specs::Parts::part_length))]
 fn entry_within(bytes: &[u8], number: usize, reads: &mut Reads) -> JEntry
@@ -80,28 +52,10 @@ fn entry_within(bytes: &[u8], number: usize, reads: &mut Reads) -> JEntry
     ensures value { Ok result ≡ jentry_at bytes.now (4 + 4 * number) }
     ensures long { result.length ≡ part_length bytes.now number }
     ensures short { result.length < 2 ^ 28 }
+    ensures word { result.type_code + result.length < 2 ^ 31 }
     ensures cost { reads.new ≡ reads.old + 1 }
 {
     JEntry::decode_jentry(reads.word_within(bytes, 4 + 4 * number))
-}
-
-// A range of `size` bytes from `start`. `InvalidJsonb` if it runs past the end.
-#[inline(always)]
-#[tactic(auto, unfolding(crate::specs::Item::part_at))]
-fn payload(bytes: &[u8], start: usize, size: usize) -> Result<&[u8], Error>
-    requires { start + size < 2 ^ 64 }
-    ensures value { IfOk result (λ part. part_at bytes.now start size ≡ Ok part.now) }
-    ensures fault { IfErr result (λ e. part_at bytes.now start size ≡ Err e) }
-    ensures long { IfOk result (λ part. length part.now ≡ size) }
-    ensures there { IsOk result ↔ (start + size ≤ length bytes.now) }
-    ensures past { IfErr result (λ e. e ≡ Error.InvalidJsonb) }
-{
-    // The last valid start does not depend on `start`, so a loop over keys of one size finds it
-    // once.
-    if bytes.len() < size || bytes.len() - size < start {
-        return Err(Error::InvalidJsonb);
-    }
-    Ok(&bytes[start..start + size])
 }
 
 // Reads the entry words of the keys where those of all pairs are not there, and so no payload is.
@@ -119,7 +73,10 @@ fn read_cut_keys(bytes: &[u8], count: usize, size: usize, reads: &mut Reads) -> 
     ensures refused { IfErr result IsRefusal }
 {
     for pair in 0..count {
-        let key_size = read_entry(bytes, pair, reads)?.length as usize;
+        if bytes.len() < 8 + 4 * pair {
+            return Err(Error::InvalidEOF);
+        }
+        let key_size = entry_within(bytes, pair, reads).length as usize;
         if key_size == size {
             return Err(Error::InvalidJsonb);
         }
@@ -157,12 +114,16 @@ fn matching_key<F: Fn(&[u8], &[u8]) -> bool>(
 {
     let mut start = 4 + 8 * count;
     for pair in 0..count {
-        let size = entry_within(bytes, pair, reads).length as usize;
-        if size == name.len() && eq_func(name, payload(bytes, start, size)?) {
-            return Ok(Some(Accepted {
-                pair,
-                end: start + size,
-            }));
+        let jentry = entry_within(bytes, pair, reads);
+        let size = jentry.length as usize;
+        if size == name.len() {
+            let key = Entry::of_word(bytes, start, jentry)?;
+            if eq_func(name, key.payload(bytes)) {
+                return Ok(Some(Accepted {
+                    pair,
+                    end: start + size,
+                }));
+            }
         }
         start += size;
     }
@@ -193,19 +154,20 @@ fn skip_parts(bytes: &[u8], count: usize, from: Accepted, to: usize, reads: &mut
 /// accepted. `InvalidEOF` if an entry word that is read is cut off, `InvalidJsonb` if a key of the
 /// name's length or the value runs past the end.
 #[tactic(auto, using(crate::proofs::PartLaws::before_bound, crate::proofs::PartLaws::part_fits))]
-pub fn find_value<'a, F: Fn(&[u8], &[u8]) -> bool>(
-    bytes: &'a [u8],
+pub fn find_value<F: Fn(&[u8], &[u8]) -> bool>(
+    bytes: &[u8],
     count: usize,
     name: &str,
     eq_func: &F,
     reads: &mut Reads,
-) -> Result<Option<FoundEntry<'a>>, Error>
+) -> Result<Option<Entry>, Error>
     requires count { count < 2 ^ 29 }
     requires callable { (a b : _) → a.now ≡ name.now → length b.now ≡ length name.now
         → F.pre eq_func.now a b }
     requires room { reads.old + 2 * count < 2 ^ 64 }
     ensures found { FindsEntry (FnReturnsAtPair F.Fn eq_func.now name.now) (length name.now)
         bytes.now count result (reads.new - reads.old) }
+    ensures inside { IfOk result (λ o. IfSome o (IsEntryIn bytes.now)) }
     ensures bound { (reads.old ≤ reads.new) × (reads.new ≤ reads.old + 2 * count) }
     ensures whole { HasParts bytes.now count → IsOk result }
     ensures refused { IfErr result IsRefusal }
@@ -221,9 +183,5 @@ pub fn find_value<'a, F: Fn(&[u8], &[u8]) -> bool>(
     let wanted = count + key.pair;
     let start = skip_parts(bytes, count, key, wanted, reads);
     let jentry = entry_within(bytes, wanted, reads);
-    let entry = Entry {
-        type_code: jentry.type_code,
-        payload: payload(bytes, start, jentry.length as usize)?,
-    };
-    Ok(Some(FoundEntry { entry, start }))
+    Ok(Some(Entry::of_word(bytes, start, jentry)?))
 }

@@ -2,7 +2,7 @@ use Rattle.std.proofs.Common.{◌≡◌, ◌+◌, ◌*◌, length, sym, ap, ◌�
 use Rattle.std.proofs.lemmas.List.{take_rest, length-drop}
 use Rattle.jsonb.proofs.KeyEnds.{payloads_end-short, ends_by-all, ends_by-others}
 use Rattle.jsonb.proofs.KeyEnds.{ends_by-none, no_entry, some_entry, short_entry}
-use Rattle.jsonb.proofs.entries.keys_end.Goals as goal
+use Rattle.jsonb.proofs.entries.payloads_end.Goals as goal
 
 pub returns-in_default-clause-value : goal.returns-in_default-clause-value
 returns-in_default-clause-value c =
