@@ -2,6 +2,7 @@ pub mod PayloadLaws
 pub mod Utf8
 pub mod Places
 pub mod KindLaws
+pub mod EntryLaws
 pub mod WalkLaws
 pub mod ItemLaws
 pub mod StorageLaws
@@ -14,7 +15,7 @@ pub mod ParseLaws
 pub mod CanonicalLaws
 pub mod LookupLaws
 pub mod CutKeyLaws
-pub mod KeyEnds
+pub mod PayloadEnds
 pub mod ResultLaws
 pub mod ObjectLaws
 pub mod SameEntryLaws

@@ -2,7 +2,7 @@
 use Rattle.std.proofs.Common.{◌≡◌, ℕ, zero, suc, ◌+◌, ◌-◌, ◌*◌, ◌^◌, ◌<◌, ◌≤◌, ◌≢◌, List}
 use Rattle.std.proofs.Common.{length, Some, None, Result, Ok, Err, Bool, true, false, take, drop}
 use Rattle.std.proofs.Common.{refl, sym, ap, ap₂, subst, ◌∙◌, nat_le, if◌then◌else◌}
-use Rattle.std.proofs.Common.{arith, add-zero, add-suc, ne_eqb}
+use Rattle.std.proofs.Common.{arith, add-zero, add-suc, le-leb, ne_eqb}
 use Rattle.std.proofs.Common.{eq-eqb}
 use Rattle.std.proofs.lemmas.Bool.{lt-leb, leb-true}
 use Rattle.std.proofs.lemmas.List.{length-drop, length-take-le}
@@ -12,7 +12,8 @@ use Rattle.jsonb_codec.specs.JEntry.{jentry_in, jentry_at}
 use Rattle.jsonb_codec.specs.Word.{word_at}
 use Rattle.jsonb_codec.specs.declared.jentry.JEntry.{JEntry}
 use Rattle.jsonb.specs.Steps.{◌>>=◌}
-use Rattle.jsonb.specs.declared.reads.lookup.Place.{Place}
+use Rattle.jsonb.specs.declared.entries.Entry.{Entry as PlacedEntry}
+use Rattle.jsonb.specs.Entries.{placed_by}
 use Rattle.jsonb.specs.Item.{Entry, entry_at, part_at}
 use Rattle.jsonb.specs.Parts.{length_in, part_length, length_before, part_start, HasParts}
 use Rattle.jsonb.specs.Parts.{key_of_size, value_entry, IsPlaceOf}
@@ -90,56 +91,13 @@ module _ (bytes : List ℕ) (n pair : ℕ) where
   unfolding entry_at
   value_known start jentry read begins r part = let part = rw begins at part in rw (← read, part)
 
--- the place of an entry that was read
-module _ (bytes : List ℕ) (n part : ℕ) (c : Entry) (place : Place) where
-  placed_if : (jentry : JEntry) → jentry_at bytes (4 + 4 * part) ≡ Ok jentry → (inside : Bool)
-      → nat_le (part_start bytes n part + jentry.length) (length bytes) ≡ inside
-      → (if inside then Ok (take jentry.length (drop (part_start bytes n part) bytes))
-      else Err InvalidJsonb)
-      >>= (λ (payload : List ℕ). Ok record { type = jentry.type_code; payload = payload }) ≡ Ok c
-      → place.type_code ≡ c.type → place.start ≡ part_start bytes n part
-      → place.length ≡ length c.payload → IsPlaceOf bytes n part place
-  placed_if jentry read true inside found type start long =
-      let within = leb-true _ _ inside in
-      let is : record {
-        type = jentry.type_code;
-        payload = take jentry.length (drop (part_start bytes n part) bytes);
-      } ≡ c = cc in
-      let rest = length-drop (part_start bytes n part) bytes in
-      let size : length c.payload ≡ jentry.length =
-      ap (λ (x : Entry). length x.payload) (sym is) ∙ length-take-le _ _ (omega arith) in
-      let kind : jentry.type_code ≡ c.type = ap (λ (x : Entry). x.type) is in
-      record {
-        entry = read ∙ ap₂ (λ (t n : ℕ). Ok (record { type_code = t; length = n }))
-            (kind ∙ sym type) (sym size ∙ sym long);
-        start = start;
-        inside = omega arith;
-      }
-  placed_if jentry read false inside found type start long = let never : ⊥ = cc in absurd never
-
-  placed_by : (r : Result JEntry Error) → jentry_at bytes (4 + 4 * part) ≡ r
-      → r >>= (λ (jentry : JEntry). part_at bytes (part_start bytes n part) jentry.length
-      >>= (λ (payload : List ℕ). Ok record { type = jentry.type_code; payload = payload })) ≡ Ok c
-      → place.type_code ≡ c.type → place.start ≡ part_start bytes n part
-      → place.length ≡ length c.payload → IsPlaceOf bytes n part place
-  unfolding part_at
-  placed_by (Ok jentry) read found type start long =
-      placed_if jentry read _ refl found type start long
-  placed_by (Err e) read found type start long = let never : ⊥ = cc in absurd never
-
-  entry_placed : entry_at bytes (4 + 4 * part) (part_start bytes n part) ≡ Ok c
-      → place.type_code ≡ c.type → place.start ≡ part_start bytes n part
-      → place.length ≡ length c.payload → IsPlaceOf bytes n part place
-  unfolding entry_at
-  entry_placed found type start long = placed_by _ refl found type start long
-
--- the place of a value, by the number of its entry
-pub value_placed : (bytes : List ℕ) (n count pair part : ℕ) (c : Entry) (place : Place)
-    → n ≡ count → part ≡ n + pair → value_entry bytes n pair ≡ Ok c → place.type_code ≡ c.type
-    → place.start ≡ part_start bytes n part → place.length ≡ length c.payload
-    → IsPlaceOf bytes count part place
-value_placed bytes n count pair part c place same numbered found type start long =
-    subst (λ (k : ℕ). IsPlaceOf bytes k part place) same
-    (subst (λ (k : ℕ). IsPlaceOf bytes n k place) (sym numbered)
-    (entry_placed bytes n (n + pair) c place found type
-    (start ∙ ap (part_start bytes n) numbered) long))
+-- the place of an entry, given its word and its offset
+pub placed_part : (bytes : List ℕ) (n part start : ℕ) (jentry : JEntry) (entry : PlacedEntry)
+    → Ok jentry ≡ jentry_at bytes (4 + 4 * part) → start ≡ part_start bytes n part
+    → Ok entry ≡ placed_by bytes start jentry → start + jentry.length ≤ length bytes
+    → IsPlaceOf bytes n part entry
+placed_part bytes n part start jentry entry read begins is inside =
+    let placed = rw (le-leb (start + jentry.length) (length bytes) inside) at is in
+    let this : entry
+    ≡ record { type_code = jentry.type_code; start = start; length = jentry.length } = cc in
+    rw this record { entry = sym read; start = begins; inside = inside }

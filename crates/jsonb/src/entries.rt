@@ -100,9 +100,8 @@ pub fn count_under(bytes: &[u8], tag: u32) -> Result<Option<usize>, Error>
 // payloads at `start`. `InvalidEOF` if a word is cut off.
 #[inline(always)]
 fn payloads_end(bytes: &[u8], word: usize, start: usize, count: usize) -> Result<usize, Error>
-    requires count { count < 2 ^ 30 }
-    requires word { word ≤ 2 ^ 34 }
-    requires start { start ≤ 2 ^ 62 }
+    requires words { word + 4 * count ≤ 2 ^ 34 }
+    requires payloads { start + 2 ^ 32 * count ≤ 2 ^ 63 }
     requires there { count ≡ 0 → word ≤ length bytes.now }
     ensures value { result ≡ payloads_end bytes.now count word start }
     ensures near { IfOk result (λ end. end ≤ start + 2 ^ 32 * count) }
