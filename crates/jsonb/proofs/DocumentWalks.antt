@@ -93,7 +93,7 @@ module _ (b : List ℕ) (t : Tree) (doc : Doc b t) where
       (object_walked b Shows (walk_of_children ObjectValue b) refl (λ ps o.
       let mean = (both_are _ _ ps o.stored.mean).1 in
       let shown = shown_items (maps.values_of o.members) (value_trees ps) mean o.stored.short in
-      rw o.values (refl, rw shown.0 (shows ps o.members o.stored shown.1))) t doc)
+      rw (o.ends, o.values) (refl, rw shown.0 (shows ps o.members o.stored shown.1))) t doc)
 
   pairs_shown : (Shows : Pairs → List (Result (List ℕ × ItemView) Error) → Type 0)
       → ((ps : Pairs) (ms : List (List ℕ × Entry)) → HasMembers b ps ms
@@ -102,7 +102,7 @@ module _ (b : List ℕ) (t : Tree) (doc : Doc b t) where
   pairs_shown Shows shows = rw (count_under-Doc b t 1073741824 doc)
       (object_walked b Shows (pairs_of b) refl (λ ps o.
       let shown = shown_members o.members ps o.stored.mean o.texts o.stored.short in
-      rw (o.values, o.keys) (refl, rw shown.0 (shows ps o.members o.stored shown.1))) t doc)
+      rw (o.ends, o.values, o.keys) (refl, rw shown.0 (shows ps o.members o.stored shown.1))) t doc)
 
   -- the children
   pub children_walk-Doc : (kind : ChildKind) → WalksChildren kind t (children_walk kind b)

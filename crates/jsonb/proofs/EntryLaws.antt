@@ -6,11 +6,13 @@ use Rattle.std.specs.Int.{w32, from_be_bytes}
 use Rattle.jsonb_value.specs.declared.error.Error.{Error}
 use Rattle.jsonb_value.specs.declared.error.Error.TheVariants.{InvalidEOF, InvalidJsonb}
 use Rattle.jsonb_codec.specs.declared.jentry.JEntry.{JEntry}
+use Rattle.jsonb_codec.specs.declared.constants.TheConstants.{SCALAR_CONTAINER_TAG}
 use Rattle.jsonb_codec.specs.JEntry.{jentry_at, jentry_in}
+use Rattle.jsonb_codec.specs.Word.{header_at}
 use Rattle.jsonb.specs.declared.entries.Entry.{Entry as PlacedEntry}
 use Rattle.jsonb.specs.Entries.{Run, entries_of, entry_read, entry_there, left_after, payloads_end}
 use Rattle.jsonb.specs.Entries.{placed_at, placed_by, placed_from, run_from, until_error}
-use Rattle.jsonb.specs.Item.{Entry, entry_at, part_at}
+use Rattle.jsonb.specs.Item.{Entry, entry_at, item_in, part_at, scalar_item}
 use Rattle.jsonb.specs.Parts.{length_in}
 use Rattle.jsonb.specs.Steps.{◌>>=◌}
 
@@ -73,6 +75,15 @@ module _ (bytes : List ℕ) (start : ℕ) where
       ≡ entry_at bytes word start
   unfolding entry_at
   entry_read-at word = read_by (jentry_at bytes word)
+
+-- the item of a scalar's document, by its entry
+pub item_in-scalar : (bytes : List ℕ) (tag n : ℕ) → tag ≡ SCALAR_CONTAINER_TAG
+    → Ok (tag, n) ≡ header_at bytes 0
+    → item_in bytes ≡ (entry_read bytes (placed_at bytes 4 8) >>= scalar_item)
+unfolding item_in
+item_in-scalar bytes tag n scalar header =
+    rw (← header, scalar)
+    (ap (λ (r : Result Entry Error). r >>= scalar_item) (sym (entry_read-at bytes 8 4)))
 
 -- The first of a run, and those after it.
 module _ (bytes : List ℕ) (word start : ℕ) where

@@ -1,6 +1,7 @@
 -- The entries of a document can be read, and mean the trees of its children.
 use Rattle.std.proofs.Common.{◌≡◌, ℕ, zero, suc, ◌+◌, List, [], ◌∷◌, length, map, Option, Some}
 use Rattle.std.proofs.Common.{None, option_map, Result, Ok, Err, refl, sym, ap, ap₂, ◌∙◌, arith}
+use Rattle.std.proofs.lemmas.List.{length-map}
 use Rattle.std.specs.Map.{keys_of, values_of}
 use Rattle.jsonb_value.specs.declared.error.Error.{Error}
 use Rattle.jsonb_value.specs.Tree.{Tree, text, array, object, Trees, no_trees, tree, Pairs}
@@ -14,11 +15,11 @@ use Rattle.jsonb.specs.declared.document.Node.{Node}
 use Rattle.jsonb.specs.ItemView.{ItemView}
 use Rattle.jsonb.specs.ItemView as items
 use Rattle.jsonb.specs.Code.{Means}
-use Rattle.jsonb.specs.Item.{Entry, item_of, entry_at}
+use Rattle.jsonb.specs.Item.{Entry, item_of}
 use Rattle.jsonb.specs.Building.{AreTexts, key_codes}
 use Rattle.jsonb.specs.StoredEntries.{AreCodesOf, ArePairsOf}
-use Rattle.jsonb.specs.Walk.{entries_from, item_entries, array_entries, member_entries}
-use Rattle.jsonb.specs.Walk.{object_entries, key_entries, count_if, count_under, length_at}
+use Rattle.jsonb.specs.Entries.{Run, entries_of, entry_read, item_run, key_run, until_error}
+use Rattle.jsonb.specs.Walk.{count_if, count_under}
 use Rattle.jsonb.specs.EntryTrees.{view_tree, item_tree, entry_tree, entry_of_part, AreParts}
 use Rattle.jsonb.specs.EntryTrees.{AreKeys, AreMembers, key_read, rest_trees, rest_pairs}
 use Rattle.jsonb_value.specs.Value.{trees_of}
@@ -27,23 +28,21 @@ use Rattle.jsonb.specs.Node.{items_of, members_of, first_key_of}
 use Rattle.jsonb.proofs.ItemLaws.{found_item}
 use Rattle.jsonb.proofs.DocumentLaws.{tree_in-is}
 use Rattle.jsonb.proofs.KindLaws.{header_of_tree}
-use Rattle.jsonb.proofs.WalkLaws.{ahead}
 use Rattle.jsonb.proofs.StoredEntryLaws.{array_holds, object_holds}
 use Rattle.jsonb.proofs.DocumentWalks.{array_payload, object_payload, count_under-Doc}
 
-length-ahead : (r : Result Entry Error) (rest : List (Result Entry Error)) (n : ℕ)
-    → (AreParts rest → n ≡ length rest) → AreParts (ahead r rest) → suc n ≡ length (ahead r rest)
-length-ahead (Ok entry) rest n others h = ap suc (others h.1)
-length-ahead (Err e) rest n others h = absurd h
+-- every entry of a run can be read
+length-until_error : (xs : List (Result Entry Error)) → AreParts (until_error xs)
+    → length xs ≡ length (until_error xs)
+length-until_error [] h = refl
+length-until_error (Ok x ∷ xs) h = ap suc (length-until_error xs h.1)
+length-until_error (Err e ∷ xs) h = absurd h
 
--- every remaining entry can be read
-pub length-AreParts : (bytes : List ℕ) (left place start : ℕ)
-    → AreParts (entries_from bytes left place start)
-    → left ≡ length (entries_from bytes left place start)
-length-AreParts bytes zero place start h = refl
-length-AreParts bytes (suc left) place start h =
-    length-ahead (entry_at bytes place start) _ left
-    (length-AreParts bytes left (place + 4) (start + length_at bytes place start)) h
+pub length-AreParts : (run : Run) → AreParts (entries_of run)
+    → length run.entries ≡ length (entries_of run)
+length-AreParts run h =
+    sym (length-map run.entries (entry_read run.bytes))
+    ∙ length-until_error (map (entry_read run.bytes) run.entries) h
 
 -- the tree of an entry is the one that it means
 pub view_tree-is : (x : ItemView) (t : Tree) → Means x t → view_tree x ≡ t
@@ -71,21 +70,22 @@ means_trees (c ∷ cs) (tree t ts) h =
     let more = means_trees cs ts h.1 in
     (((t, h.0), more.0), cc (entry_tree-is c.type c.payload t h.0, more.1))
 
-abbrev pub FindsItems : Tree → Result (Option Entries) Error → Type 0
-FindsItems t (Ok (Some xs)) = AreParts xs × (Some (rest_trees xs) ≡ items_of t)
-FindsItems t (Ok None) = None ≡ items_of t
-FindsItems t (Err e) = ⊥
+abbrev pub FindsItems : List ℕ → Tree → Result (Option ℕ) Error → Type 0
+FindsItems b t (Ok (Some n)) = AreParts (entries_of (item_run b n))
+    × (Some (rest_trees (entries_of (item_run b n))) ≡ items_of t)
+FindsItems b t (Ok None) = None ≡ items_of t
+FindsItems b t (Err e) = ⊥
 
 finds_items : (b : List ℕ) (t : Tree) → Doc b t
-    → FindsItems t (Ok (option_map (item_entries b) (count_if 2147483648 (header_of_tree t))))
+    → FindsItems b t (Ok (count_if 2147483648 (header_of_tree t)))
 finds_items b (array ts) doc =
     let holds = array_holds b ts (array_payload b ts doc) in
     let mean = means_trees holds.entries ts holds.stored.mean in
     rw holds.read (mean.0, ap Some mean.1)
 finds_items b t doc = refl
 
-pub array_entries-Doc : (b : List ℕ) (t : Tree) → Doc b t → FindsItems t (array_entries b)
-array_entries-Doc b t doc = rw (count_under-Doc b t 2147483648 doc) (finds_items b t doc)
+pub items-Doc : (b : List ℕ) (t : Tree) → Doc b t → FindsItems b t (count_under b 2147483648)
+items-Doc b t doc = rw (count_under-Doc b t 2147483648 doc) (finds_items b t doc)
 
 -- The entries of keys and values mean the pairs of an object.
 pub means_pairs : (ms : List (List ℕ × Entry)) (ps : Pairs) → ArePairsOf (keys_of ms) (values_of ms) ps
@@ -104,22 +104,6 @@ means_pairs (m ∷ ms) (pair k t ps) h texts =
       ap₂ (λ x xs. x ∷ xs) (ap₂ (λ k u. (k, u)) h.0 value) are,
     )
 
-abbrev pub FindsMembers : Tree → Result (Option (Entries × Entries)) Error → Type 0
-FindsMembers t (Ok (Some x)) = AreMembers x × (Some (rest_pairs x) ≡ members_of t)
-FindsMembers t (Ok None) = None ≡ members_of t
-FindsMembers t (Err e) = ⊥
-
-finds_members : (b : List ℕ) (t : Tree) → Doc b t
-    → FindsMembers t (member_entries b (count_if 1073741824 (header_of_tree t)))
-finds_members b (object ps) doc =
-    let holds = object_holds b ps (object_payload b ps doc) in
-    let mean = means_pairs holds.members ps holds.stored.mean holds.texts in
-    rw (holds.values, holds.keys) (mean.0, ap Some mean.1)
-finds_members b t doc = refl
-
-pub object_entries-Doc : (b : List ℕ) (t : Tree) → Doc b t → FindsMembers t (object_entries b)
-object_entries-Doc b t doc = rw (count_under-Doc b t 1073741824 doc) (finds_members b t doc)
-
 -- The first of a document's keys is read alone.
 abbrev pub first_read : Entries → Option (List ℕ)
 first_read [] = None
@@ -132,8 +116,9 @@ first_is (m ∷ ms) no_pairs h = absurd h
 first_is (m ∷ ms) (pair k t ps) h = ap (λ x. Some (Some x)) h.0
 
 abbrev pub FindsFirstKey : List ℕ → Tree → Result (Option ℕ) Error → Type 0
-FindsFirstKey b t (Ok (Some n)) = (AreParts (key_entries b n) × AreKeys (key_entries b n))
-    × (Some (first_read (key_entries b n)) ≡ first_key_of t)
+FindsFirstKey b t (Ok (Some n)) =
+    (AreParts (entries_of (key_run b n)) × AreKeys (entries_of (key_run b n)))
+    × (Some (first_read (entries_of (key_run b n))) ≡ first_key_of t)
 FindsFirstKey b t (Ok None) = None ≡ first_key_of t
 FindsFirstKey b t (Err e) = ⊥
 
@@ -183,3 +168,12 @@ pub object_of-members : (t : Tree) (ms : List (List ℕ × Tree)) → Some ms �
 object_of-members (object ps) ms e =
     let same : ms ≡ pair_list ps = cc in cc (same, pairs_of-pair_list ps)
 object_of-members t ms e = cc
+
+-- The pairs of an object, by its content.
+pair_list-pairs_of : (ms : List (List ℕ × Tree)) → pair_list (pairs_of ms) ≡ ms
+pair_list-pairs_of [] = refl
+pair_list-pairs_of (m ∷ ms) = cc (pair_list-pairs_of ms)
+
+pub members_of-object : (t : Tree) (ms : List (List ℕ × Tree)) → object_of ms ≡ t
+    → Some ms ≡ members_of t
+members_of-object t ms is = ap Some (sym (pair_list-pairs_of ms)) ∙ ap members_of is

@@ -26,7 +26,7 @@ use Rattle.jsonb.specs.EntryTrees.{AreParts, AreMembers, rest_trees, rest_pairs}
 use Rattle.jsonb.specs.Lookup.{find, find_pair, IsItemFound}
 use Rattle.jsonb.specs.Node.{IsContainer, array_of, object_of, node_tree, node_view}
 use Rattle.jsonb.specs.StoredEntries.{AreEntriesOf, ArePairsOf, IsFoundIn, entry_item, find_entry}
-use Rattle.jsonb.specs.Walk.{item_entries, key_entries, value_entries}
+use Rattle.jsonb.specs.Entries.{Run, entries_of, item_run, key_run, value_run}
 use Rattle.jsonb.proofs.DocumentWalks.{array_payload, object_payload}
 use Rattle.jsonb.proofs.EntryTreeLaws.{means_trees, means_pairs, array_of-items, object_of-members}
 use Rattle.jsonb.proofs.EntryTreeLaws.{view_tree-is}
@@ -56,7 +56,7 @@ pub record IsArrayOpened (b : List ℕ) (t : Tree) (read : Entries) : Type 0 whe
   pub stored : AreStoredIn b t (contents.Array read)
 
 pub array_opened : (b : List ℕ) (t : Tree) (n : ℕ) → Doc b t → Ok (2147483648, n) ≡ header_at b 0
-    → IsArrayOpened b t (item_entries b n)
+    → IsArrayOpened b t (entries_of (item_run b n))
 array_opened b (array ts) n doc read =
     let same : n ≡ count ts = ap header_number (read ∙ header_at-Doc b (array ts) doc) in
     let holds = array_holds b ts (array_payload b ts doc) in
@@ -77,17 +77,17 @@ pub record IsObjectOpened (b : List ℕ) (t : Tree) (read : Entries × Entries) 
   pub tree : object_of (rest_pairs read) ≡ t
   pub stored : AreStoredIn b t (contents.Object read)
 
-abbrev pub OpensObject : List ℕ → Tree → Entries → Result Entries Error → Type 0
-OpensObject b t keys (Ok values) = IsObjectOpened b t (keys, values)
+abbrev pub OpensObject : List ℕ → Tree → Run → Result Run Error → Type 0
+OpensObject b t keys (Ok values) = IsObjectOpened b t (entries_of keys, entries_of values)
 OpensObject b t keys (Err e) = ⊥
 
 pub object_opened : (b : List ℕ) (t : Tree) (n : ℕ) → Doc b t → Ok (1073741824, n) ≡ header_at b 0
-    → OpensObject b t (key_entries b n) (value_entries b n)
+    → OpensObject b t (key_run b n) (value_run b n)
 object_opened b (object ps) n doc read =
     let same : n ≡ pair_count ps = ap header_number (read ∙ header_at-Doc b (object ps) doc) in
     let holds = object_holds b ps (object_payload b ps doc) in
     let mean = means_pairs holds.members ps holds.stored.mean holds.texts in
-    rw (same, holds.values, holds.keys) record {
+    rw (same, holds.ends, holds.values, holds.keys) record {
       members = mean.0;
       tree = object_of-members (object ps) _ (ap Some mean.1);
       stored = (holds.members, (holds.stored, (refl, refl)));

@@ -2,7 +2,7 @@
 use Rattle.std.proofs.Common.{◌≡◌, ℕ, zero, suc, ◌+◌, ◌-◌, ◌*◌, ◌^◌, ◌<◌, ◌≤◌, ◌≢◌, List}
 use Rattle.std.proofs.Common.{length, Some, None, Result, Ok, Err, Bool, true, false, take, drop}
 use Rattle.std.proofs.Common.{refl, sym, ap, ap₂, subst, ◌∙◌, nat_le, if◌then◌else◌}
-use Rattle.std.proofs.Common.{arith, add-zero, add-suc, le-leb, ne_eqb}
+use Rattle.std.proofs.Common.{arith, add-zero, add-suc, ne_eqb}
 use Rattle.std.proofs.Common.{eq-eqb}
 use Rattle.std.proofs.lemmas.Bool.{lt-leb, leb-true}
 use Rattle.std.proofs.lemmas.List.{length-drop, length-take-le}
@@ -13,7 +13,7 @@ use Rattle.jsonb_codec.specs.Word.{word_at}
 use Rattle.jsonb_codec.specs.declared.jentry.JEntry.{JEntry}
 use Rattle.jsonb.specs.Steps.{◌>>=◌}
 use Rattle.jsonb.specs.declared.entries.Entry.{Entry as PlacedEntry}
-use Rattle.jsonb.specs.Entries.{placed_by}
+use Rattle.jsonb.specs.Entries.{entry_there, placed_by}
 use Rattle.jsonb.specs.Item.{Entry, entry_at, part_at}
 use Rattle.jsonb.specs.Parts.{length_in, part_length, length_before, part_start, HasParts}
 use Rattle.jsonb.specs.Parts.{key_of_size, value_entry, IsPlaceOf}
@@ -91,13 +91,63 @@ module _ (bytes : List ℕ) (n pair : ℕ) where
   unfolding entry_at
   value_known start jentry read begins r part = let part = rw begins at part in rw (← read, part)
 
--- the place of an entry, given its word and its offset
-pub placed_part : (bytes : List ℕ) (n part start : ℕ) (jentry : JEntry) (entry : PlacedEntry)
-    → Ok jentry ≡ jentry_at bytes (4 + 4 * part) → start ≡ part_start bytes n part
-    → Ok entry ≡ placed_by bytes start jentry → start + jentry.length ≤ length bytes
-    → IsPlaceOf bytes n part entry
-placed_part bytes n part start jentry entry read begins is inside =
-    let placed = rw (le-leb (start + jentry.length) (length bytes) inside) at is in
-    let this : entry
-    ≡ record { type_code = jentry.type_code; start = start; length = jentry.length } = cc in
-    rw this record { entry = sym read; start = begins; inside = inside }
+-- The payload and the place of an entry, given its word and its offset.
+module _ (bytes : List ℕ) (start : ℕ) (jentry : JEntry) where
+  abbrev placed_if : Bool → Result PlacedEntry Error
+  placed_if inside = if inside
+      then Ok (record { type_code = jentry.type_code; start = start; length = jentry.length })
+      else Err InvalidJsonb
+
+  part_read-if : (inside : Bool) (entry : PlacedEntry) → placed_if inside ≡ Ok entry
+      → (if inside then Ok (take jentry.length (drop start bytes)) else Err InvalidJsonb)
+      ≡ Ok (take entry.length (drop entry.start bytes))
+  part_read-if true entry is = cc
+  part_read-if false entry is = absurd cc
+
+  part_past-if : (inside : Bool) (e : Error) → placed_if inside ≡ Err e
+      → (if inside then Ok (take jentry.length (drop start bytes)) else Err InvalidJsonb) ≡ Err e
+  part_past-if true e is = absurd cc
+  part_past-if false e is = cc
+
+  pub part_read : (entry : PlacedEntry) (payload : List ℕ) → Ok entry ≡ placed_by bytes start jentry
+      → payload ≡ (entry_there bytes entry).payload
+      → part_at bytes start jentry.length ≡ Ok payload
+  unfolding part_at
+  part_read entry payload is bytes = part_read-if _ entry (sym is) ∙ ap (λ p. Ok p) (sym bytes)
+
+  pub part_past : (e : Error) → Err e ≡ placed_by bytes start jentry
+      → part_at bytes start jentry.length ≡ Err e
+  unfolding part_at
+  part_past e is = part_past-if _ e (sym is)
+
+  placed_part-if : (inside : Bool) (entry : PlacedEntry)
+      → nat_le (start + jentry.length) (length bytes) ≡ inside → placed_if inside ≡ Ok entry
+      → (n part : ℕ)
+      → Ok jentry ≡ jentry_at bytes (4 + 4 * part) → start ≡ part_start bytes n part
+      → IsPlaceOf bytes n part entry
+  placed_part-if true entry inside is n part read begins =
+      let this : entry
+      ≡ record { type_code = jentry.type_code; start = start; length = jentry.length } = cc in
+      let within = leb-true _ _ inside in
+      rw this record { entry = sym read; start = begins; inside = omega arith }
+  placed_part-if false entry inside is n part read begins = absurd cc
+
+  pub placed_part : (entry : PlacedEntry) → Ok entry ≡ placed_by bytes start jentry → (n part : ℕ)
+      → Ok jentry ≡ jentry_at bytes (4 + 4 * part) → start ≡ part_start bytes n part
+      → IsPlaceOf bytes n part entry
+  placed_part entry is n part read begins =
+      placed_part-if _ entry refl (sym is) n part read begins
+
+  placed_type-if : (inside : Bool) (entry : PlacedEntry) → placed_if inside ≡ Ok entry
+      → jentry.type_code ≡ entry.type_code
+  placed_type-if true entry is = cc
+  placed_type-if false entry is = absurd cc
+
+  -- it is the value's entry
+  pub value_placed : (entry : PlacedEntry) → Ok entry ≡ placed_by bytes start jentry → (n pair : ℕ)
+      → Ok jentry ≡ jentry_at bytes (4 + 4 * (n + pair)) → start ≡ part_start bytes n (n + pair)
+      → value_entry bytes n pair ≡ Ok (entry_there bytes entry)
+  value_placed entry is n pair read begins =
+      value_known bytes n pair start jentry read begins _ (part_read entry _ is refl)
+      ∙ ap (λ (type : ℕ). Ok record { type = type; payload = (entry_there bytes entry).payload })
+      (placed_type-if _ entry (sym is))

@@ -12,6 +12,7 @@ use Rattle.jsonb_codec.specs.Word.{word, header_at}
 use Rattle.jsonb_codec.specs.JEntry.{jentry_at}
 use Rattle.jsonb_codec.specs.Doc.{Keys, Values, Children, Payload, type_of}
 use Rattle.jsonb_codec.specs.Parts.{IsPayloadOf}
+use Rattle.jsonb.specs.Steps.{◌>>=◌}
 use Rattle.jsonb.specs.ItemView.{ItemView}
 use Rattle.jsonb.specs.Item.{Entry, entry_at}
 use Rattle.jsonb.specs.Building.{AreShort, AreTexts, key_codes}
@@ -20,15 +21,15 @@ use Rattle.jsonb.specs.Building.{array_of, object_of}
 use Rattle.jsonb.specs.StoredEntries.{AreCodesOf, ArePairsOf, HasItems, HasMembers, entry_item}
 use Rattle.jsonb.specs.StoredEntries.{member_item, find_entry, IsFoundIn}
 use Rattle.jsonb.specs.Lookup.{count_or_zero}
-use Rattle.jsonb.specs.Walk.{entries_from, payloads_end, items_in, pairs_in, item_entries}
-use Rattle.jsonb.specs.Walk.{key_entries, value_entries}
+use Rattle.jsonb.specs.Entries.{entries_of, item_run, key_run, payloads_end, run_from, value_run}
+use Rattle.jsonb.specs.Walk.{items_in, pairs_in}
 use Rattle.jsonb.specs.DocumentWalk.{IsItemOf, ShowsTrees, key_views, ShowsPairs}
 use Rattle.jsonb.proofs.Utf8.{is_text_yes}
 use Rattle.jsonb.proofs.Places.{At, At-whole, At-all, At-left, At-right, At-after_word, IsTag}
 use Rattle.jsonb.proofs.Places.{jentry_at-At, header_at-At, header_of-array, header_of-object}
 use Rattle.jsonb.proofs.KindLaws.{IsTag-type_of}
 use Rattle.jsonb.proofs.ItemLaws.{item_of-text, IsItemOf-Payload, entry_at-entry}
-use Rattle.jsonb.proofs.WalkLaws.{entries_from-first, value_entries-end}
+use Rattle.jsonb.proofs.EntryLaws.{entries_of-next}
 use Rattle.jsonb.proofs.StorageLaws.{length-code_entries}
 
 -- the keys of pairs, and their values
@@ -114,15 +115,15 @@ first_entry bytes i j c cs is a b =
     }
 
 -- what is read at the position of entries
-entries_from-entries : (bytes : List ℕ) (i j : ℕ) (cs : List Entry) → AreEntries cs
+entries_of-entries : (bytes : List ℕ) (i j : ℕ) (cs : List Entry) → AreEntries cs
     → At bytes i (code_entries cs) → At bytes j (code_payloads cs)
-    → entries_from bytes (length cs) i j ≡ map Ok cs
-entries_from-entries bytes i j [] is a b = refl
-entries_from-entries bytes i j (c ∷ cs) is a b =
+    → entries_of (run_from bytes (length cs) i j) ≡ map Ok cs
+entries_of-entries bytes i j [] is a b = refl
+entries_of-entries bytes i j (c ∷ cs) is a b =
     let f = first_entry bytes i j c cs is.0 a b in
-    entries_from-first bytes (length cs) i j c f.entry
+    entries_of-next bytes i j (length cs) _ c f.jentry f.entry
     ∙ ap (λ rs. Ok c ∷ rs)
-    (entries_from-entries bytes (i + 4) _ cs is.1 f.other_entries f.other_payloads)
+    (entries_of-entries bytes (i + 4) _ cs is.1 f.other_entries f.other_payloads)
 
 payloads_end-entries : (bytes : List ℕ) (i j : ℕ) (cs : List Entry) → AreEntries cs
     → At bytes i (code_entries cs) → At bytes j (code_payloads cs)
@@ -347,8 +348,10 @@ members_at b ms few written =
 
 -- what is read at the positions of an object's members
 record MembersRead (b : List ℕ) (ms : List (List ℕ × Entry)) : Type 0 where
-  keys : key_entries b (length ms) ≡ map Ok (key_codes (keys_of ms))
-  values : value_entries b (length ms) ≡ Ok (map Ok (values_of ms))
+  keys : entries_of (key_run b (length ms)) ≡ map Ok (key_codes (keys_of ms))
+  end : ℕ
+  ends : payloads_end b (length ms) 4 (4 + 8 * length ms) ≡ Ok end
+  values : entries_of (run_from b (length ms) (4 + 4 * length ms) end) ≡ map Ok (values_of ms)
 
 members_read : (b : List ℕ) (ps : Pairs) (ms : List (List ℕ × Entry)) → HasMembers b ps ms
     → MembersRead b ms
@@ -361,20 +364,28 @@ members_read b ps ms h =
     let keys = AreEntries-keys (keys_of ms) h.short_keys in
     let values = AreEntries-pairs (keys_of ms) (values_of ms) ps h.mean h.short in
     record {
-      keys = rw key_count at (entries_from-entries b 4 _ ks keys at.key_entries_at
+      keys = rw key_count at (entries_of-entries b 4 _ ks keys at.key_entries_at
           at.key_payloads_at);
-      values = value_entries-end b n start
-          (rw key_count at (payloads_end-entries b 4 _ ks keys at.key_entries_at
-          at.key_payloads_at))
-          ∙ ap Ok (rw (length-values_of ms) at (entries_from-entries b _ _ (values_of ms) values
-          at.entries_at at.payloads_at));
+      end = start;
+      ends = rw key_count at (payloads_end-entries b 4 _ ks keys at.key_entries_at
+          at.key_payloads_at);
+      values = rw (length-values_of ms) at (entries_of-entries b _ _ (values_of ms) values
+          at.entries_at at.payloads_at);
     }
+
+-- the values that are read
+abbrev values_read : List ℕ → ℕ → Result (List (Result Entry Error)) Error
+values_read b n = value_run b n >>= λ run. Ok (entries_of run)
+
+values_are : (b : List ℕ) (ms : List (List ℕ × Entry)) → MembersRead b ms
+    → values_read b (length ms) ≡ Ok (map Ok (values_of ms))
+values_are b ms read = rw read.ends (ap Ok read.values)
 
 -- what is read from an array, and from an object
 pub record ArrayHolds (b : List ℕ) (ts : Trees) : Type 0 where
   pub entries : List Entry
   pub stored : HasItems b ts entries
-  pub read : item_entries b (count ts) ≡ map Ok entries
+  pub read : entries_of (item_run b (count ts)) ≡ map Ok entries
 
 pub array_holds : (b : List ℕ) (ts : Trees) → Payload (array ts) b → ArrayHolds b ts
 array_holds b ts h =
@@ -383,7 +394,7 @@ array_holds b ts h =
     record {
       entries = cs;
       stored = stored;
-      read = rw (length-AreCodesOf cs ts stored.mean) at (entries_from-entries b 4 _ cs
+      read = rw (length-AreCodesOf cs ts stored.mean) at (entries_of-entries b 4 _ cs
           (AreEntries-trees cs ts stored.mean stored.short)
           at.entries_at at.payloads_at);
     }
@@ -393,8 +404,11 @@ pub record ObjectHolds (b : List ℕ) (ps : Pairs) : Type 0 where
   pub stored : HasMembers b ps members
   pub texts : AreTexts (keys_of members)
   pub counted : length members ≡ pair_count ps
-  pub keys : key_entries b (pair_count ps) ≡ map Ok (key_codes (keys_of members))
-  pub values : value_entries b (pair_count ps) ≡ Ok (map Ok (values_of members))
+  pub keys : entries_of (key_run b (pair_count ps)) ≡ map Ok (key_codes (keys_of members))
+  pub end : ℕ
+  pub ends : payloads_end b (pair_count ps) 4 (4 + 8 * pair_count ps) ≡ Ok end
+  pub values : entries_of (run_from b (pair_count ps) (4 + 4 * pair_count ps) end)
+      ≡ map Ok (values_of members)
 
 pub object_holds : (b : List ℕ) (ps : Pairs) → Payload (object ps) b → ObjectHolds b ps
 object_holds b ps h =
@@ -408,6 +422,8 @@ object_holds b ps h =
       texts = texts;
       counted = counted;
       keys = rw counted at read.keys;
+      end = read.end;
+      ends = rw counted at read.ends;
       values = rw counted at read.values;
     }
 
@@ -444,8 +460,8 @@ HasMembers-one b ps qs ms ns h k =
     (sym (members_at b ms h.few h.written).header ∙ (members_at b ns k.few k.written).header) in
     let codes : key_codes (keys_of ms) ≡ key_codes (keys_of ns) =
     read_one _ _ _ left.keys (cc (n, right.keys)) in
-    let left_values = left.values in
-    let right_values = ap (value_entries b) n ∙ right.values in
+    let left_values = values_are b ms left in
+    let right_values = ap (values_read b) n ∙ values_are b ns right in
     let entries : List Entry → List (Result Entry Error) = map Ok in
     let values : entries (values_of ms) ≡ entries (values_of ns) = cc in
     same_members ms ns

@@ -9,40 +9,12 @@ use Rattle.jsonb_value.specs.declared.error.Error.{Error}
 use Rattle.jsonb.specs.declared.iterator.ChildKind.{ChildKind}
 use Rattle.jsonb.specs.declared.iterator.ChildKind.TheVariants.{ArrayItem, ObjectKey, ObjectValue}
 use Rattle.jsonb.specs.Steps.{◌>>=◌}
-use Rattle.jsonb.specs.Item.{Entry, entry_at}
-use Rattle.jsonb.specs.Walk.{Walk, ErrsLast, IsBounded, length_at, entries_from}
-use Rattle.jsonb.specs.Walk.{until_error, item_read, pair_read, payloads_end}
-use Rattle.jsonb.specs.Walk.{count_under, key_entries, value_entries, item_walk, pair_walk}
+use Rattle.jsonb.specs.Entries.{Run, entries_of, entry_read, key_run, payloads_end, run_from}
+use Rattle.jsonb.specs.Entries.{until_error, value_run}
+use Rattle.jsonb.specs.Walk.{Walk, ErrsLast, IsBounded, item_read, pair_read, count_under}
+use Rattle.jsonb.specs.Walk.{item_walk, pair_walk}
 use Rattle.jsonb.specs.Walk.{container_tag, walk_of_children, children_walk, pairs_of, pairs_walk}
-
--- one more result, and nothing after an error
-abbrev pub ahead : {A : Type 0} → Result A Error → List (Result A Error) → List (Result A Error)
-ahead r rest = r ∷ (if is_ok r then rest else [])
-
-length-ahead : {A : Type 0} (r : Result A Error) (rest : List (Result A Error)) (n : ℕ)
-    → length rest ≤ n → length (ahead r rest) ≤ suc n
-length-ahead (Ok x) rest n few = omega arith
-length-ahead (Err e) rest n few = omega arith
-
--- the first of the entries from an offset, and the entries after it
-pub entries_from-first : (bytes : List ℕ) (left place start : ℕ) (entry : Entry)
-    → entry_at bytes place start ≡ Ok entry
-    → entries_from bytes (suc left) place start ≡ Ok entry
-    ∷ entries_from bytes left (place + 4) (start + length entry.payload)
-entries_from-first bytes left place start entry e = rw e
-
--- the entries of values, if the end of the keys' payloads is known
-pub value_entries-end : (bytes : List ℕ) (n start : ℕ)
-    → payloads_end bytes n 4 (4 + 8 * n) ≡ Ok start
-    → value_entries bytes n ≡ Ok (entries_from bytes n (4 + 4 * n) start)
-value_entries-end bytes n start e = rw e
-
-length-entries_from : (bytes : List ℕ) (left place start : ℕ)
-    → length (entries_from bytes left place start) ≤ left
-length-entries_from bytes zero place start = omega arith
-length-entries_from bytes (suc left) place start =
-    length-ahead (entry_at bytes place start) _ left
-    (length-entries_from bytes left (place + 4) (start + length_at bytes place start))
+use Rattle.jsonb.proofs.EntryLaws.{length-placed_from}
 
 length-until_error : {A : Type 0} (xs : List (Result A Error)) → length (until_error xs) ≤ length xs
 length-until_error [] = omega arith
@@ -54,22 +26,32 @@ ErrsLast-until_error [] = tt
 ErrsLast-until_error (Ok x ∷ xs) = ErrsLast-until_error xs
 ErrsLast-until_error (Err e ∷ xs) = refl
 
+-- there are at most as many entries as words
+length-entries_of : (bytes : List ℕ) (n word start : ℕ)
+    → length (entries_of (run_from bytes n word start)) ≤ n
+length-entries_of bytes n word start =
+    let run = run_from bytes n word start in
+    let all = length-map run.entries (entry_read bytes) in
+    let few = length-until_error (map (entry_read bytes) run.entries) in
+    omega (arith, length-placed_from bytes n word start, all, few)
+
 -- there are at most as many items as entries
-bounded_items : (bytes : List ℕ) (n place start : ℕ)
-    → IsBounded (item_walk n (entries_from bytes n place start))
-bounded_items bytes n place start =
-    let entries = entries_from bytes n place start in
-    let few = length-entries_from bytes n place start in
+bounded_items : (bytes : List ℕ) (n word start : ℕ)
+    → IsBounded (item_walk n (run_from bytes n word start))
+bounded_items bytes n word start =
+    let entries = entries_of (run_from bytes n word start) in
+    let few = length-entries_of bytes n word start in
     let items = length-until_error (map item_read entries) in
     let all = length-map entries item_read in
     record { few = omega arith; last = ErrsLast-until_error (map item_read entries) }
 
 -- there are at most as many pairs as keys
-bounded_pairs : (bytes : List ℕ) (n : ℕ) (values : List (Result Entry Error))
-    → IsBounded (pair_walk n (key_entries bytes n) values)
-bounded_pairs bytes n values =
-    let keys = key_entries bytes n in
-    let few = length-entries_from bytes n 4 (4 + 8 * n) in
+bounded_pairs : (bytes : List ℕ) (n : ℕ) (run : Run)
+    → IsBounded (pair_walk n (key_run bytes n) run)
+bounded_pairs bytes n run =
+    let keys = entries_of (key_run bytes n) in
+    let values = entries_of run in
+    let few = length-entries_of bytes n 4 (4 + 8 * n) in
     let both = length-zip keys values in
     let pairs = length-until_error (map pair_read (zip keys values)) in
     let all = length-map (zip keys values) pair_read in
@@ -85,8 +67,8 @@ bounded_steps f bounded (Ok x) = bounded x
 bounded_steps f bounded (Err e) = tt
 
 values_found : (bytes : List ℕ) (n : ℕ) (r : Result ℕ Error)
-    → AreBounded (r >>= (λ start. Ok (entries_from bytes n (4 + 4 * n) start))
-    >>= (λ values. Ok (Some (item_walk n values))))
+    → AreBounded (r >>= (λ start. Ok (run_from bytes n (4 + 4 * n) start))
+    >>= (λ run. Ok (Some (item_walk n run))))
 values_found bytes n (Ok start) = bounded_items bytes n (4 + 4 * n) start
 values_found bytes n (Err e) = tt
 
@@ -105,7 +87,7 @@ children_walk-bounded kind bytes = bounded_steps (walk_of_children kind bytes)
 
 pairs_of-bounded : (bytes : List ℕ) (o : Option ℕ) → AreBounded (pairs_of bytes o)
 pairs_of-bounded bytes None = tt
-pairs_of-bounded bytes (Some n) = bounded_steps _ (bounded_pairs bytes n) (value_entries bytes n)
+pairs_of-bounded bytes (Some n) = bounded_steps _ (bounded_pairs bytes n) (value_run bytes n)
 
 pub pairs_walk-bounded : (bytes : List ℕ) → AreBounded (pairs_walk bytes)
 pairs_walk-bounded bytes =

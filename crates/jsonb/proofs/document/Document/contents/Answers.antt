@@ -2,7 +2,7 @@ use Rattle.std.proofs.Common.{rules, ◌≡◌, Ok, sym, ap, subst, ◌∙◌}
 use Rattle.jsonb.specs.declared.document.Contents.TheVariants as contents
 use Rattle.jsonb.specs.Contents.{AreStoredIn}
 use Rattle.jsonb.specs.Document.{document_tree}
-use Rattle.jsonb.specs.Walk.{item_entries, key_entries}
+use Rattle.jsonb.specs.Entries.{entries_of, item_run, key_run}
 use Rattle.jsonb.proofs.NodeLaws.{header_read, array_opened, object_opened, scalar_opened}
 use Rattle.jsonb.proofs.document.Document.contents.Goals as goal
 
@@ -34,7 +34,7 @@ returns-in-2147483648-clause-entries c =
     let opened = array_opened _ t _ c.as_bytes-bytes.ensures.document read in
     rw (c.new.ensures, c.over_items-items.ensures)
     (subst (λ b. AreStoredIn b t
-    (contents.Array (item_entries c.as_bytes-bytes.result.now c.in-Ok.count)))
+    (contents.Array (entries_of (item_run c.as_bytes-bytes.result.now c.in-Ok.count))))
     c.as_bytes-bytes.ensures.bytes opened.stored)
 
 -- an object
@@ -71,8 +71,8 @@ returns-in-Ok-over_values-clause-entries c =
     rw (c.new-in-1073741824.ensures, c.over_keys-keys.ensures)
     (subst (λ b. AreStoredIn b t
     (contents.Object (
-      key_entries c.as_bytes-bytes.result.now c.in-Ok.count,
-      c.in-Ok-over_values.values,
+      entries_of (key_run c.as_bytes-bytes.result.now c.in-Ok.count),
+      entries_of c.in-Ok-over_values.values,
     )))
     c.as_bytes-bytes.ensures.bytes opened.stored)
 

@@ -1,5 +1,6 @@
 use Rattle.std.proofs.Common.{rules, Ok, length}
-use Rattle.std.proofs.Common.{nat_eq, sym, ap, ◌∙◌, arith}
+use Rattle.std.proofs.Common.{nat_eq, subst, sym, ap, ◌∙◌, arith}
+use Rattle.jsonb_codec.specs.Parts.{IsPayloadOf}
 use Rattle.std.proofs.lemmas.Grind.{merely}
 use Rattle.std.specs.Cmp.Lexicographic.{pointwise}
 use Rattle.jsonb.specs.Document.{document_tree}
@@ -41,7 +42,10 @@ invariant_of-result c =
     _ _ _ c.as_bytes-bytes.ensures.document
     (sym (ap Ok c.in-Ok-Some.field-0-is) ∙ c.in-Ok-Some.ensures.value)
     ((rw c.in-Ok-Some-find_value.field-0-is at c.in-Ok-Some-find_value.ensures.found).0) in
-    record { fact = merely (v, means) }
+    record {
+      fact = merely (v, subst (λ p. IsPayloadOf c.in-Ok-Some-find_value.entry.type_code p v)
+          (sym c.payload.ensures.bytes) means);
+    }
 
 pub returns-in-Ok-Some-find_value-clause-found : goal.returns-in-Ok-Some-find_value-clause-found
 returns-in-Ok-Some-find_value-clause-found c =
@@ -50,7 +54,14 @@ returns-in-Ok-Some-find_value-clause-found c =
     _ _ _ c.as_bytes-bytes.ensures.document
     (sym (ap Ok c.in-Ok-Some.field-0-is) ∙ c.in-Ok-Some.ensures.value)
     ((rw c.in-Ok-Some-find_value.field-0-is at c.in-Ok-Some-find_value.ensures.found).0) in
-    (v, (found, means))
+    (
+      v,
+      (
+        found,
+        subst (λ p. IsPayloadOf c.in-Ok-Some-find_value.entry.type_code p v)
+            (sym c.payload.ensures.bytes) means,
+      ),
+    )
 
 pub returns-in-Ok-Some-find_value-clause-cost : goal.returns-in-Ok-Some-find_value-clause-cost
 returns-in-Ok-Some-find_value-clause-cost c =

@@ -1,6 +1,7 @@
 -- The name is found among the members that are left as it is among all.
 use Rattle.std.proofs.Common.{◌≡◌, ℕ, List, length, nat_eq}
 use Rattle.std.specs.Cmp.Lexicographic.{pointwise}
+use Rattle.jsonb.specs.Entries.{entries_of}
 use Rattle.jsonb.specs.EntryTrees.{AreMembers}
 use Rattle.jsonb.specs.Item.{Entry}
 use Rattle.jsonb.specs.StoredEntries.{AreEntriesOf, find_entry}
@@ -8,13 +9,13 @@ use Rattle.jsonb.proofs.nodes.Members.find.Given as goal
 
 abbrev pub invariant-loop-key : goal.invariant-loop-key
 invariant-loop-key l = record {
-  readable : AreMembers (l.keys, l.values);
+  readable : AreMembers (entries_of l.keys, entries_of l.values);
   same : (members : List (List ℕ × Entry)) → AreEntriesOf members l.fn.self
       → (later : List (List ℕ × Entry))
-      × (AreEntriesOf later (l.keys, l.values)
+      × (AreEntriesOf later (entries_of l.keys, entries_of l.values)
       × (find_entry (pointwise nat_eq l.name) (length l.name) members
       ≡ find_entry (pointwise nat_eq l.name) (length l.name) later));
 }
 
 abbrev pub decreases-loop-key : goal.decreases-loop-key
-decreases-loop-key l = length l.keys
+decreases-loop-key l = length (entries_of l.keys)

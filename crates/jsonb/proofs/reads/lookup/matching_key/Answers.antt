@@ -1,27 +1,28 @@
 use Rattle.std.proofs.Common.{rules, ◌≡◌, Err, length}
 use Rattle.std.specs.Fn.{FnReturnsAtPair}
 use Rattle.jsonb.specs.Parts.{IsPassedAt, key_unread}
-use Rattle.jsonb.proofs.PartLaws.{key_of_other_length, key_known}
+use Rattle.jsonb.proofs.PartLaws.{key_of_other_length, key_known, part_past, part_read}
 use Rattle.jsonb.proofs.reads.lookup.matching_key.Goals as goal
-use Rattle.jsonb.proofs.reads.lookup.matching_key.Goals.{else-size-name-via-then-size-name+in_ok-payload+else-call}
-use Rattle.jsonb.proofs.reads.lookup.matching_key.Goals.{else-size-name-via-else-size-name}
+use Rattle.jsonb.proofs.reads.lookup.matching_key.Goals.{then-size-name+in_ok-key+else-eq_func}
+use Rattle.jsonb.proofs.reads.lookup.matching_key.Goals.{else-size-name}
 use borrow.Author.Count.{below_more}
 
-pub returns-in_err-payload-clause-found : goal.returns-in_err-payload-clause-found
-returns-in_err-payload-clause-found g c =
-    let refused : c.from_residual.result ≡ Err c.in_err-payload.field-0.0 =
+pub returns-in_err-key-clause-found : goal.returns-in_err-key-clause-found
+returns-in_err-key-clause-found g c =
+    let refused : c.from_residual.result ≡ Err c.in_err-key.field-0.0 =
     search rules in
     rw refused (key_unread c.loop-pair.pair c.loop-pair-test.true c.loop-pair.invariant.passed
-    (key_known _ _ _ _ _ c.loop-pair.start c.entry_within.ensures.value (search rules)
-    c.loop-pair.invariant.start _ c.in_err-payload.ensures.fault))
+    (key_known _ _ _ _ _ c.loop-pair.start c.entry_within-jentry.ensures.value (search rules)
+    c.loop-pair.invariant.start _ (part_past _ _ _ _ c.in_err-key.ensures.value)))
 
-pub returns-then-call-clause-found : goal.returns-then-call-clause-found
-returns-then-call-clause-found g c = (
+pub returns-then-eq_func-clause-found : goal.returns-then-eq_func-clause-found
+returns-then-eq_func-clause-found g c = (
   record {
     among = c.loop-pair-test.true;
-    key = c.in_ok-payload.field-0.now;
-    there = key_known _ _ _ _ _ c.loop-pair.start c.entry_within.ensures.value (search rules)
-        c.loop-pair.invariant.start _ c.in_ok-payload.ensures.value;
+    key = c.payload.result.now;
+    there = key_known _ _ _ _ _ c.loop-pair.start c.entry_within-jentry.ensures.value (search rules)
+        c.loop-pair.invariant.start _ (part_read _ _ _ _ _ c.in_ok-key.ensures.value
+        c.payload.ensures.bytes);
     accepted = search rules;
     earlier = c.loop-pair.invariant.passed;
   },
@@ -39,13 +40,13 @@ loop-pair-preserved g c =
     record {
       start = search rules;
       cost = search rules;
-      passed = elim c.else-size-name.branch [
-        | else-size-name-via-then-size-name+in_ok-payload+else-call w ↦
+      passed = elim c.if-size-name.branch [
+        | then-size-name+in_ok-key+else-eq_func w ↦
             more (rw (key_known size bytes c.args.count pair _ c.loop-pair.start
-            c.entry_within.ensures.value (search rules) c.loop-pair.invariant.start _
-            w.in_ok-payload.ensures.value) (search rules))
-        | else-size-name-via-else-size-name w ↦
+            c.entry_within-jentry.ensures.value (search rules) c.loop-pair.invariant.start _
+            (part_read _ _ _ _ _ w.in_ok-key.ensures.value w.payload.ensures.bytes)) (search rules))
+        | else-size-name w ↦
             more (rw (key_of_other_length size bytes c.args.count pair _
-            c.entry_within.ensures.value (search rules)) tt)
+            c.entry_within-jentry.ensures.value (search rules)) tt)
       ];
     }

@@ -1,26 +1,26 @@
-use Rattle.std.proofs.Common.{rules, ◌≡◌, Ok, Err, None, arith}
+use Rattle.std.proofs.Common.{rules, ◌≡◌, ◌+◌, ◌*◌, Ok, None, sym, ap, arith}
+use Rattle.jsonb_codec.specs.JEntry.{jentry_in}
 use Rattle.jsonb.specs.Parts.{key_of_size}
-use Rattle.jsonb.proofs.PartLaws.{key_cut, key_of_other_length}
+use Rattle.jsonb.proofs.PartLaws.{key_cut, key_of_other_length, word_cut}
 use Rattle.jsonb.proofs.CutKeyLaws.{key_past}
 use Rattle.jsonb.proofs.reads.lookup.read_cut_keys.Goals as goal
 use borrow.Author.Count.{below_more}
 
-pub returns-in_err-key_size-clause-unread : goal.returns-in_err-key_size-clause-unread
-returns-in_err-key_size-clause-unread c =
-    let refused : c.from_residual.result ≡ Err c.in_err-key_size.field-0.0 = search rules in
-    rw refused record {
-      pair = c.loop-pair.pair;
-      among = c.loop-pair-test.true;
-      others = c.loop-pair.invariant.others;
-      unread = key_cut _ _ _ _ _ c.in_err-key_size.ensures.value;
-    }
+pub returns-then-bytes-pair-clause-unread : goal.returns-then-bytes-pair-clause-unread
+returns-then-bytes-pair-clause-unread c = record {
+  pair = c.loop-pair.pair;
+  among = c.loop-pair-test.true;
+  others = c.loop-pair.invariant.others;
+  unread = key_cut _ _ _ _ _ (sym (ap jentry_in (word_cut c.args.bytes.now
+      (4 + 4 * c.loop-pair.pair) (omega (arith, c.if-bytes-pair.true)))));
+}
 
 pub returns-then-key_size-size-clause-unread : goal.returns-then-key_size-size-clause-unread
 returns-then-key_size-size-clause-unread c = record {
   pair = c.loop-pair.pair;
   among = c.loop-pair-test.true;
   others = c.loop-pair.invariant.others;
-  unread = key_past _ _ _ _ _ c.in_ok-key_size.ensures.value (search rules)
+  unread = key_past _ _ _ _ _ c.entry_within-key_size.ensures.value (search rules)
       (omega (arith, c.requires.cut));
 }
 
@@ -33,6 +33,6 @@ loop-pair-preserved c =
       cost = search rules;
       others = below_more (λ k. key_of_size size bytes c.args.count k ≡ Ok None) pair
           c.loop-pair.invariant.others
-          (key_of_other_length size bytes c.args.count pair _ c.in_ok-key_size.ensures.value
+          (key_of_other_length size bytes c.args.count pair _ c.entry_within-key_size.ensures.value
           (search rules));
     }
