@@ -25,9 +25,9 @@ use Rattle.jsonb.specs.ItemMeaning.{meaning_of, meaning_or_bytes}
 use Rattle.jsonb_comparable.specs.Escaped.{escaped}
 use Rattle.jsonb_codec.specs.Depth.{depth}
 use Rattle.jsonb.specs.Node.{array_of, object_of, pairs_of}
+use Rattle.jsonb.specs.Within.{limited, meaning_within}
 use Rattle.jsonb_comparable.specs.TreeKey.{tree_key, trees_key, pairs_key, member_key, meaning_key}
 use Rattle.jsonb_comparable.specs.KeyLaws.{KeyLaws, key_by, cmp_by}
-use Rattle.jsonb_comparable.specs.Within.{limited, meaning_within}
 use Rattle.jsonb_comparable.proofs.Comparing.{Compared, ended, same, below, above, compared_whole}
 use Rattle.jsonb_comparable.proofs.Comparing.{cmp_below, cmp_above}
 use Rattle.jsonb_comparable.proofs.EscapedLaws.{escaped_decides}
@@ -231,3 +231,8 @@ pub object_key : (ps : List (List ℕ × Tree))
     → tree_key (object_of ps) ≡ 176 ∷ (flat_map member_key ps ++ (0 ∷ []))
 unfolding tree_key
 object_key ps = ap (λ xs. 176 ∷ xs) (members_key ps)
+
+-- The key of a document is that of its tree.
+pub key_of_tree : (t : Tree) → meaning_key (document t) ≡ tree_key t
+unfolding meaning_key
+key_of_tree t = refl

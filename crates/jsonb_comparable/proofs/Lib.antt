@@ -8,5 +8,4 @@ pub mod TreeLaws
 pub mod PowerLaws
 pub mod SplitLaws
 pub mod WalkLaws
-pub mod WithinLaws
 pub mod KeyLaws

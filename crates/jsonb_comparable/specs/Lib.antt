@@ -6,7 +6,5 @@ pub mod SplitDigits
 pub mod ExtensionKey
 pub mod TreeKey
 pub mod KeyLaws
-pub mod Within
-pub mod CheckedBytes
 pub mod ComparableKey
 pub mod Words

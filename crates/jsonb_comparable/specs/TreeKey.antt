@@ -37,7 +37,7 @@ unfoldable mutual
 abbrev pub member_key : List ℕ × Tree → List ℕ
 member_key member = escaped member.0 ++ tree_key member.1
 
--- Bytes that are no document are above each document, and ordered as bytes.
+-- Bytes that are not a document are above each document, and ordered as bytes.
 unfoldable pub meaning_key : Meaning → List ℕ
 meaning_key (document t) = tree_key t
 meaning_key (other_bytes b) = 255 ∷ escaped b

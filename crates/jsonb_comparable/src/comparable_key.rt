@@ -8,9 +8,8 @@ ghost use Rattle.jsonb_comparable.specs.Words.{partial_equiv_from_equiv, nat_lis
 ghost use Rattle.jsonb_comparable.specs.Words.{nat_list_eq_equiv, slice_cmp, texts_po, texts_ties};
 ghost use Rattle.jsonb_comparable.specs.Words.{hashing, nat_cmp, comparable_bytes};
 
-use crate::checked_bytes::CheckedBytes;
-use crate::key::append_checked_key;
-use jsonb::{Document, Error, RawJsonb};
+use crate::key::append_key;
+use jsonb::{Error, SortKey};
 use std::alloc::Global;
 use std::cmp::Ordering;
 use std::hash::{Hash, Hasher};
@@ -24,46 +23,17 @@ pub struct ComparableKey {
 
 impl ComparableKey {
     ghost use Rattle.std.specs.Prelude.{◌≡◌, IfErr, IfOk};
-    ghost use Rattle.jsonb_comparable.specs.Words.{document_tree, raw_meaning, raw_bytes, tree_key};
-    ghost use Rattle.jsonb_comparable.specs.Words.{checked_meaning, meaning_key, meaning_within};
+    ghost use Rattle.jsonb_comparable.specs.Words.{key_meaning, meaning_key};
 
-    /// The key of a document, as `append_key` appends it. `OutOfMemory` is the only error.
-    #[tactic(auto, unfolding(crate::specs::TreeKey::meaning_key))]
-    pub fn of_document(alloc: Global, document: Document<'_>) -> Result<Self, Error>
+    /// The key of a document or of any bytes, as `append_key` appends it. `OutOfMemory` is the only
+    /// error.
+    pub fn new(alloc: Global, key: SortKey<'_>) -> Result<Self, Error>
         ensures ok { IfOk result
-            (λ key. comparable_bytes key ≡ tree_key (document_tree document.entry)) }
-        ensures memory { IfErr result (λ e. e ≡ Error.OutOfMemory) }
-    {
-        Self::of_checked(alloc, CheckedBytes::Document(document))
-    }
-
-    /// The key of any bytes, as `append_key_of` appends it. `OutOfMemory` is the only error.
-    pub fn key_of(alloc: Global, raw: RawJsonb<'_>) -> Result<Self, Error>
-        ensures ok { IfOk result
-            (λ key. comparable_bytes key ≡ meaning_key (raw_meaning raw.entry)) }
-        ensures memory { IfErr result (λ e. e ≡ Error.OutOfMemory) }
-    {
-        Self::of_checked(alloc, CheckedBytes::new(raw))
-    }
-
-    /// The key of untrusted bytes, as `append_key_within` appends it. `OutOfMemory` is the
-    /// only error.
-    pub fn within(alloc: Global, raw: RawJsonb<'_>, depth: usize) -> Result<Self, Error>
-        ensures ok { IfOk result (λ key. comparable_bytes key
-            ≡ meaning_key (meaning_within depth (raw_bytes raw.entry))) }
-        ensures memory { IfErr result (λ e. e ≡ Error.OutOfMemory) }
-    {
-        Self::of_checked(alloc, CheckedBytes::within(raw, depth))
-    }
-
-    // The key of bytes that were checked.
-    fn of_checked(alloc: Global, checked: CheckedBytes<'_>) -> Result<Self, Error>
-        ensures ok { IfOk result
-            (λ key. comparable_bytes key ≡ meaning_key (checked_meaning checked.entry)) }
+            (λ made. comparable_bytes made ≡ meaning_key (key_meaning key.entry)) }
         ensures memory { IfErr result (λ e. e ≡ Error.OutOfMemory) }
     {
         let mut bytes = Vec::new(alloc);
-        append_checked_key(checked, &mut bytes)?;
+        append_key(key, &mut bytes)?;
         Ok(ComparableKey { bytes })
     }
 

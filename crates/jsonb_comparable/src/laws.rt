@@ -5,21 +5,22 @@ ghost use Rattle.jsonb_value.proofs.BigEndian.{AreBytes};
 ghost use Rattle.jsonb_comparable.specs.Words.{slice_cmp, nat_cmp, ordering_then, KeyLaws, Doc};
 ghost use Rattle.jsonb_comparable.specs.Words.{Tree, tree_cmp, IsTree, AreTrees, trees_of};
 ghost use Rattle.jsonb_comparable.specs.Words.{meaning_of, array_of, object_of, tree_key};
-ghost use Rattle.jsonb_comparable.specs.Words.{member_key, meaning_within};
+ghost use Rattle.jsonb_comparable.specs.Words.{member_key, meaning_key, meaning_within, document};
 
 use std::cmp::Ordering;
 
 /// The laws of the keys of documents. `documents` says that they are laws of the trees of all
 /// documents.
 ///
-/// - `order`: keys compare as the documents do, and `equal`: they are the same exactly where the
+/// - `order`: keys compare as the documents do, and `equal`: they are the same exactly if the
 ///   documents are equal.
-/// - `followed`: what follows a key counts only where the documents are equal. So `no_beginning`:
-///   no key properly begins another; and `lists`: the keys of a list of documents, one after the
+/// - `followed`: what follows a key counts only if the documents are equal. So `no_beginning`: no
+///   key properly begins another; and `lists`: the keys of a list of documents, one after the
 ///   other, compare as the lists.
-/// - `cut`: a beginning of a key is a lower bound: where it is above another key, its document is
-///   above the other. `cut_both`: where beginnings of one length differ, they decide.
+/// - `cut`: a beginning of a key is a lower bound: if it is above another key, its document is
+///   above the other. `cut_both`: if beginnings of one length differ, they decide.
 /// - `array`, `object`: the keys of items and members are parts of the key of the whole.
+/// - `meaning`: the key of a `SortKey` that is a document is that of the document's tree.
 pub fn key_laws()
     ensures order { (t u : Tree) → IsTree t → IsTree u
         → slice_cmp nat_cmp (tree_key t) (tree_key u) ≡ tree_cmp t u }
@@ -43,6 +44,7 @@ pub fn key_laws()
         ≡ 192 ∷ (flat_map tree_key ts ++ (0 ∷ [])) }
     ensures object { (ps : List (List ℕ × Tree)) → tree_key (object_of ps)
         ≡ 176 ∷ (flat_map member_key ps ++ (0 ∷ [])) }
+    ensures meaning { (t : Tree) → meaning_key (document t) ≡ tree_key t }
     ensures documents { (b : List ℕ) (t : Tree) → AreBytes b → Doc b t → IsTree t }
 {}
 

@@ -2,7 +2,6 @@
 //! order of the documents. A store that sorts byte strings sorts documents by their keys.
 #![tactic(auto)]
 
-mod checked_bytes;
 mod comparable_key;
 mod escape;
 mod extension;
@@ -12,12 +11,9 @@ mod number;
 mod sink;
 mod walk;
 
-pub use checked_bytes::CheckedBytes;
 pub use comparable_key::ComparableKey;
 pub use escape::append_escaped;
-pub use key::{
-    KEY_LAYOUT, append_key, append_key_of, append_key_within, key_len, key_len_of, key_len_within,
-};
+pub use key::{KEY_LAYOUT, append_key, key_len};
 pub use laws::{key_laws, key_laws_of_bytes, key_laws_within};
 pub use sink::Sink;
-pub use walk::append_node;
+pub use walk::{append_key_to, append_node};

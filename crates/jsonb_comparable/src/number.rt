@@ -54,7 +54,7 @@ fn count_pairs(number: u128) -> usize
     19
 }
 
-// A byte of a number's key, complemented where the number is negative.
+// A byte of a number's key, complemented if the number is negative.
 #[inline(always)]
 fn append_signed<S: Sink>(negative: bool, byte: u8, sink: &mut S)
     requires { S.room sink.old (signed negative (byte ∷ [])) }

@@ -3,15 +3,14 @@
 ghost use Rattle.std.specs.Prelude.{IfSome};
 ghost use Rattle.jsonb_comparable.specs.Words.{YieldsFirstBy, trees_of, document_tree, rest_trees};
 ghost use Rattle.jsonb_comparable.specs.Words.{rest_pairs, node_tree, member_tree, pairs_of};
-ghost use Rattle.jsonb_comparable.specs.Words.{HoldsNoScalar, IsContainer, checked_meaning};
+ghost use Rattle.jsonb_comparable.specs.Words.{HoldsNoScalar, IsContainer, key_meaning};
 ghost use Rattle.jsonb_comparable.specs.Words.{tree_key, trees_key, pairs_key, meaning_key};
 
-use crate::checked_bytes::CheckedBytes;
 use crate::escape::{append_escaped, append_marked};
 use crate::extension::append_extension;
 use crate::number::append_number;
 use crate::sink::Sink;
-use jsonb::{Document, Items, Members, Node};
+use jsonb::{Document, Items, Members, Node, SortKey};
 
 // The first bytes of keys, which rise with the kind. Those of extension values are below them, and
 // those of numbers between `TRUE` and `TEXT`.
@@ -34,15 +33,15 @@ const ARRAY_END: u8 = 0;
 
 const OBJECT_END: u8 = 0;
 
-/// Appends the key of checked bytes.
+/// Appends the comparable key of a document or of any bytes to any `Sink`.
 #[tactic(auto, unfolding(crate::specs::TreeKey::meaning_key))]
-pub fn append_checked<S: Sink>(checked: CheckedBytes<'_>, sink: &mut S)
-    requires { S.room sink.old (meaning_key (checked_meaning checked)) }
-    ensures { S.appends sink.old sink.new (meaning_key (checked_meaning checked.entry)) }
+pub fn append_key_to<S: Sink>(key: SortKey<'_>, sink: &mut S)
+    requires { S.room sink.old (meaning_key (key_meaning key)) }
+    ensures { S.appends sink.old sink.new (meaning_key (key_meaning key.entry)) }
 {
-    match checked {
-        CheckedBytes::Document(document) => append_node(document.value(), sink),
-        CheckedBytes::Other(bytes) => append_marked(OTHER_BYTES, bytes, sink),
+    match key {
+        SortKey::Document(document) => append_node(document.value(), sink),
+        SortKey::Other(bytes) => append_marked(OTHER_BYTES, bytes, sink),
     }
 }
 

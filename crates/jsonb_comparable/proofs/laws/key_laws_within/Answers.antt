@@ -1,4 +1,4 @@
-use Rattle.jsonb_comparable.specs.Within.{meaning_within}
+use Rattle.jsonb.specs.Within.{meaning_within}
 use Rattle.jsonb_comparable.proofs.KeyLaws.{is_meaning_within, meanings_laws}
 use Rattle.jsonb_comparable.proofs.laws.key_laws_within.Goals as goal
 
