@@ -1,7 +1,8 @@
 -- Entries with their places, one by one and in runs.
-use Rattle.std.proofs.Common.{◌≡◌, ◌⊎◌, inl, inr, ℕ, zero, suc, ◌+◌, ◌-◌, ◌*◌, ◌≤◌, Bool, true, false, List, []}
-use Rattle.std.proofs.Common.{◌∷◌, length, map, take, drop, Result, Ok, Err, Some, None, refl, sym}
-use Rattle.std.proofs.Common.{ap, ap₂, subst, ◌∙◌, nat_le, if◌then◌else◌, is_ok, slice_get, arith}
+use Rattle.std.proofs.Common.{◌≡◌, ◌⊎◌, inl, inr, ℕ, zero, suc, ◌+◌, ◌-◌, ◌*◌, ◌<◌, ◌≤◌, Bool, true, false, List, []}
+use Rattle.std.proofs.Common.{◌∷◌, length, map, take, drop, Result, Ok, Err, Some, refl, sym}
+use Rattle.std.proofs.Common.{ap, ap₂, ◌∙◌, if◌then◌else◌, is_ok, slice_get, arith}
+use Rattle.std.proofs.lemmas.Bool.Decides.{leb_tells}
 use Rattle.std.specs.Int.{w32, from_be_bytes}
 use Rattle.jsonb_value.specs.declared.error.Error.{Error}
 use Rattle.jsonb_value.specs.declared.error.Error.TheVariants.{InvalidEOF, InvalidJsonb}
@@ -9,17 +10,24 @@ use Rattle.jsonb_codec.specs.declared.jentry.JEntry.{JEntry}
 use Rattle.jsonb_codec.specs.declared.constants.TheConstants.{SCALAR_CONTAINER_TAG}
 use Rattle.jsonb_codec.specs.JEntry.{jentry_at, jentry_in}
 use Rattle.jsonb_codec.specs.Word.{header_at}
+use Rattle.jsonb_codec.proofs.RoomLaws.{word_at-inside}
 use Rattle.jsonb.specs.declared.entries.Entry.{Entry as PlacedEntry}
-use Rattle.jsonb.specs.Entries.{Run, entries_of, entry_read, entry_there, left_after, payloads_end}
+use Rattle.jsonb.specs.Entries.{entries_of, entry_read, entry_there, left_after, payloads_end}
 use Rattle.jsonb.specs.Entries.{placed_at, placed_by, placed_from, run_from, until_error}
 use Rattle.jsonb.specs.Item.{Entry, entry_at, item_in, part_at, scalar_item}
 use Rattle.jsonb.specs.Parts.{length_in}
 use Rattle.jsonb.specs.Steps.{◌>>=◌}
+use Rattle.jsonb.proofs.PartLaws.{word_cut}
 
 pub length-placed_from : (bytes : List ℕ) (left word start : ℕ)
     → length (placed_from bytes left word start) ≡ left
 length-placed_from bytes zero word start = refl
 length-placed_from bytes (suc left) word start = ap suc (length-placed_from bytes left (word + 4) _)
+
+-- the error of a result, where there is one
+abbrev error_of : Result (List (Result PlacedEntry Error)) Error → Result PlacedEntry Error
+error_of (Ok entries) = Err InvalidEOF
+error_of (Err e) = Err e
 
 -- A word that cannot be read is cut off.
 word_error : (bytes : List ℕ) (word : ℕ) (e : Error) → jentry_at bytes word ≡ Err e → e ≡ InvalidEOF
@@ -242,3 +250,44 @@ left_after-get zero xs ys is = cc
 left_after-get (suc n) [] ys is = let none : [] ≡ ys = cc in ap (λ zs. slice_get zs 0) (sym none)
 left_after-get (suc n) (Err InvalidEOF ∷ xs) ys is = absurd cc
 left_after-get (suc n) (x ∷ xs) ys is = left_after-get n xs ys is
+
+-- A word after one that is cut off is cut off too.
+module _ (bytes : List ℕ) where
+  word_short : (word : ℕ) (e : Error) → jentry_at bytes word ≡ Err e → length bytes < word + 4
+  word_short word e cut = elim (leb_tells (word + 4) (length bytes)) [
+    | inl fits ↦ let there = ap jentry_in (word_at-inside bytes word fits.1) in absurd cc
+    | inr short ↦ short.1
+  ]
+
+  all_cut : (n count word start : ℕ) → n < count → length bytes < word + 4
+      → slice_get (placed_from bytes count word start) n ≡ Some (Err InvalidEOF)
+  all_cut n zero word start among short = absurd (omega arith)
+  all_cut zero (suc count) word start among short =
+      ap (λ (r : Result ℕ Error). Some (jentry_in r >>= placed_by bytes start))
+      (word_cut bytes word short)
+  all_cut (suc n) (suc count) word start among short =
+      all_cut n count (word + 4) _ (omega arith) (omega arith)
+
+  pub cut_later : (n count word start : ℕ) (e : Error) → n < count
+      → left_after n (placed_from bytes count word start) ≡ Err e
+      → slice_get (placed_from bytes count word start) n ≡ Some (Err e)
+  cut_later zero count word start e among is = absurd cc
+  cut_later (suc n) zero word start e among is = absurd (omega arith)
+  cut_later (suc n) (suc count) word start e among is =
+      by (λ k later. cut_later n count (word + 4) k e (omega arith) later)
+      (jentry_at bytes word) refl
+    where
+      by : ((k : ℕ) → left_after n (placed_from bytes count (word + 4) k) ≡ Err e
+          → slice_get (placed_from bytes count (word + 4) k) n ≡ Some (Err e))
+          → (r : Result JEntry Error) → jentry_at bytes word ≡ r
+          → slice_get (placed_from bytes (suc count) word start) (suc n) ≡ Some (Err e)
+      by more (Ok jentry) read =
+          ap (λ (r : Result JEntry Error). slice_get
+          (placed_from bytes count (word + 4) (start + length_in r)) n) read
+          ∙ more (start + jentry.length)
+          (sym (after_word bytes n count word start jentry read) ∙ is)
+      by more (Err d) read =
+          let cut : d ≡ InvalidEOF = word_error bytes word d read in
+          let here = rw (read, cut) at is in
+          all_cut n count (word + 4) _ (omega arith) (omega (arith, word_short word d read))
+          ∙ ap (λ (r : Result (List (Result PlacedEntry Error)) Error). Some (error_of r)) here

@@ -1,11 +1,10 @@
 -- The positions of an object's entries and payloads.
 use Rattle.std.proofs.Common.{◌≡◌, ℕ, zero, suc, ◌+◌, ◌-◌, ◌*◌, ◌^◌, ◌<◌, ◌≤◌, ◌≢◌, List}
 use Rattle.std.proofs.Common.{length, Some, None, Result, Ok, Err, Bool, true, false, take, drop}
-use Rattle.std.proofs.Common.{refl, sym, ap, ap₂, subst, ◌∙◌, nat_le, if◌then◌else◌}
+use Rattle.std.proofs.Common.{refl, sym, ap, ◌∙◌, nat_le, if◌then◌else◌}
 use Rattle.std.proofs.Common.{arith, add-zero, add-suc, ne_eqb}
 use Rattle.std.proofs.Common.{eq-eqb}
 use Rattle.std.proofs.lemmas.Bool.{lt-leb, leb-true}
-use Rattle.std.proofs.lemmas.List.{length-drop, length-take-le}
 use Rattle.jsonb_value.specs.declared.error.Error.{Error}
 use Rattle.jsonb_value.specs.declared.error.Error.TheVariants.{InvalidEOF, InvalidJsonb}
 use Rattle.jsonb_codec.specs.JEntry.{jentry_in, jentry_at}
@@ -14,7 +13,7 @@ use Rattle.jsonb_codec.specs.declared.jentry.JEntry.{JEntry}
 use Rattle.jsonb.specs.Steps.{◌>>=◌}
 use Rattle.jsonb.specs.declared.entries.Entry.{Entry as PlacedEntry}
 use Rattle.jsonb.specs.Entries.{entry_there, placed_by}
-use Rattle.jsonb.specs.Item.{Entry, entry_at, part_at}
+use Rattle.jsonb.specs.Item.{entry_at, part_at}
 use Rattle.jsonb.specs.Parts.{length_in, part_length, length_before, part_start, HasParts}
 use Rattle.jsonb.specs.Parts.{key_of_size, value_entry, IsPlaceOf}
 

@@ -96,10 +96,10 @@ pub fn count_under(bytes: &[u8], tag: u32) -> Result<Option<usize>, Error>
     }
 }
 
-// The offset at which the payloads of `count` entries end. Their words begin at `word`, and their
-// payloads at `start`. `InvalidEOF` if a word is cut off.
+/// The offset at which the payloads of `count` entries end. Their words begin at `word`, and their
+/// payloads at `start`. `InvalidEOF` if a word is cut off.
 #[inline(always)]
-fn payloads_end(bytes: &[u8], word: usize, start: usize, count: usize) -> Result<usize, Error>
+pub fn payloads_end(bytes: &[u8], word: usize, start: usize, count: usize) -> Result<usize, Error>
     requires words { word + 4 * count ≤ 2 ^ 34 }
     requires payloads { start + 2 ^ 32 * count ≤ 2 ^ 63 }
     requires there { count ≡ 0 → word ≤ length bytes.now }

@@ -22,7 +22,7 @@ mod text;
 
 pub use builder::{ArrayBuilder, ArrayDistinctBuilder, ObjectBuilder};
 pub use document::{Contents, Document, Node};
-pub use entries::{Cursor, Entry};
+pub use entries::{Cursor, Entry, payloads_end};
 pub use extension_item::ExtensionItem;
 pub use item::JsonbItem;
 pub use item_type::JsonbItemType;

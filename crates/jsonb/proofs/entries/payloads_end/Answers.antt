@@ -1,4 +1,4 @@
-use Rattle.std.proofs.Common.{◌≡◌, ◌+◌, ◌*◌, length, sym, ap, ◌∙◌, arith}
+use Rattle.std.proofs.Common.{◌≡◌, ◌*◌, length, sym, ap, ◌∙◌, arith}
 use Rattle.std.proofs.lemmas.List.{take_rest, length-drop}
 use Rattle.jsonb.proofs.PayloadEnds.{payloads_end-short, ends_by-all, ends_by-others}
 use Rattle.jsonb.proofs.PayloadEnds.{ends_by-none, no_entry, some_entry, short_entry}

@@ -43,8 +43,11 @@ invariant_of-result c =
     (sym (ap Ok c.in-Ok-Some.field-0-is) ∙ c.in-Ok-Some.ensures.value)
     ((rw c.in-Ok-Some-find_value.field-0-is at c.in-Ok-Some-find_value.ensures.found).0) in
     record {
-      fact = merely (v, subst (λ p. IsPayloadOf c.in-Ok-Some-find_value.entry.type_code p v)
-          (sym c.payload.ensures.bytes) means);
+      fact = merely (
+        v,
+        subst (λ p. IsPayloadOf c.in-Ok-Some-find_value.entry.type_code p v)
+            (sym c.payload.ensures.bytes) means,
+      );
     }
 
 pub returns-in-Ok-Some-find_value-clause-found : goal.returns-in-Ok-Some-find_value-clause-found
@@ -53,8 +56,7 @@ returns-in-Ok-Some-find_value-clause-found c =
     value_by_entry _ (pointwise nat_eq c.args.name.now) _ (λ key b same answers. search rules) _ _
     _ _ _ c.as_bytes-bytes.ensures.document
     (sym (ap Ok c.in-Ok-Some.field-0-is) ∙ c.in-Ok-Some.ensures.value)
-    ((rw c.in-Ok-Some-find_value.field-0-is at c.in-Ok-Some-find_value.ensures.found).0) in
-    (
+    ((rw c.in-Ok-Some-find_value.field-0-is at c.in-Ok-Some-find_value.ensures.found).0) in (
       v,
       (
         found,

@@ -1,4 +1,4 @@
-use Rattle.std.proofs.Common.{Ok, Err, inl, inr, sym, ap, ◌∙◌, arith}
+use Rattle.std.proofs.Common.{inl, inr, sym, ap, ◌∙◌, arith}
 use Rattle.jsonb.specs.Entries.{Run, left_after}
 use Rattle.jsonb.proofs.EntryLaws.{IsLess, skipped, skip_cut}
 use Rattle.jsonb.proofs.entries.Cursor.skip.Goals.{then-count-self, else-count-self}

@@ -28,14 +28,14 @@ pub returns-clause-found : goal.returns-clause-found
 returns-clause-found g c =
     let number : c.args.count + c.in-Some.key.pair
     ≡ c.entry_within-jentry.new.reads - c.args.reads.now - 1 = search rules in (
-  record {
-    pair = c.in-Some.key.pair;
-    key = search rules;
-    there = value_placed _ _ _ _ c.in_ok-of_word.ensures.value _ c.in-Some.key.pair
-        c.entry_within-jentry.ensures.value c.skip_parts-start.ensures.start;
-    cost = search rules;
-  },
-  subst (λ part. IsPlaceOf c.args.bytes.now c.args.count part c.in_ok-of_word.field-0) number
-      (placed_part _ _ _ _ c.in_ok-of_word.ensures.value _ _ c.entry_within-jentry.ensures.value
-      c.skip_parts-start.ensures.start),
-)
+      record {
+        pair = c.in-Some.key.pair;
+        key = search rules;
+        there = value_placed _ _ _ _ c.in_ok-of_word.ensures.value _ c.in-Some.key.pair
+            c.entry_within-jentry.ensures.value c.skip_parts-start.ensures.start;
+        cost = search rules;
+      },
+      subst (λ part. IsPlaceOf c.args.bytes.now c.args.count part c.in_ok-of_word.field-0) number
+          (placed_part _ _ _ _ c.in_ok-of_word.ensures.value _ _ c.entry_within-jentry.ensures.value
+          c.skip_parts-start.ensures.start),
+    )
