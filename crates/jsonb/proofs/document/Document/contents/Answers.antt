@@ -1,4 +1,4 @@
-use Rattle.std.proofs.Common.{rules, ◌≡◌, Ok, sym, ap, subst, ◌∙◌}
+use Rattle.std.proofs.Common.{rules, Ok, sym, ap, subst, ◌∙◌}
 use Rattle.jsonb.specs.declared.document.Contents.TheVariants as contents
 use Rattle.jsonb.specs.Contents.{AreStoredIn}
 use Rattle.jsonb.specs.Document.{document_tree}

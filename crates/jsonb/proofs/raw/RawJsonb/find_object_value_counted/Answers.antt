@@ -1,7 +1,7 @@
-use Rattle.std.proofs.Common.{rules, ◌≡◌, ◌+◌, ◌-◌, Some, None, Ok, Err, refl, subst, sym, ap, ◌∙◌, arith}
+use Rattle.std.proofs.Common.{rules, ◌≡◌, ◌-◌, Some, Ok, Err, refl, subst, sym, ap, ◌∙◌, arith}
 use Rattle.jsonb.specs.Parts.{IsPlaceOf}
 use Rattle.jsonb.specs.Steps.{◌>>=◌}
-use Rattle.jsonb.specs.Lookup.{found_view, no_header, other_header, unread, all_passed}
+use Rattle.jsonb.specs.Lookup.{found_view, no_header, unread, all_passed}
 use Rattle.jsonb.specs.Lookup.{one_accepted}
 use Rattle.jsonb.proofs.LookupLaws.{item_of-refused}
 use Rattle.jsonb.proofs.raw.RawJsonb.find_object_value_counted.Goals as goal
