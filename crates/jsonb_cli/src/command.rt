@@ -3,7 +3,7 @@
 ghost use Rattle.std.specs.Prelude.{◌≡◌, ◌⊎◌, ◌↔◌, ◌++◌, ℕ, List, codes, IfSome, IfNone, IfOk};
 ghost use Rattle.std.specs.Prelude.{IfErr, IsErrOf};
 ghost use Rattle.jsonb_cli.specs.Names.{OutOfMemory, Form, IsOfForm, form_of, outcome_line};
-ghost use Rattle.jsonb_cli.specs.Names.{IsAnswer, IsFormAnswer, IsReply, IsLineReply, IsHexOf};
+ghost use Rattle.jsonb_cli.specs.Names.{IsFormAnswer, IsReply, IsLineReply, IsHexOf};
 ghost use Rattle.jsonb_cli.specs.Names.{IsDocument, IsDocumentWithin};
 
 use crate::answer::{Answer, Refusal};
@@ -111,11 +111,10 @@ impl Command<'_> {
     }
 }
 
-/// The outcome of a line: that of its command, or `BadCommand` if it has none.
+/// The outcome of a line: that of its command, or `BadCommand` if it has none. A line has only one
+/// answer (`answer_laws`).
 pub fn answer(alloc: Global, line: &[u8]) -> Result<Answer, Refusal>
-    ensures reply { IsLineReply line.now (outcome_line result) }
-    // The answer to a line is unique.
-    ensures one { (a b : List ℕ) → IsAnswer line.now a → IsAnswer line.now b → a ≡ b }
+    ensures { IsLineReply line.now (outcome_line result) }
 {
     match Command::parse(line) {
         Some(command) => command.answer(alloc),

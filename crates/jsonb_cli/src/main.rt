@@ -4,6 +4,7 @@
 mod answer;
 mod calls;
 mod command;
+mod laws;
 mod run;
 mod words;
 
