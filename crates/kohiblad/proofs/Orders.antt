@@ -11,26 +11,27 @@ use Rattle.std.specs.List.Sorted.{IsPermutation, IsSorted}
 use Rattle.std.specs.Ordering.{nat_cmp, ordering_then, is_lt}
 use Rattle.std.specs.declared.cmp.Ordering.{Ordering}
 use Rattle.jsonb_value.specs.Meaning.{Meaning, meaning_cmp}
-use Rattle.jsonb_comparable.specs.declared.checked_bytes.CheckedBytes.{CheckedBytes}
-use Rattle.jsonb_comparable.specs.CheckedBytes.{checked_meaning}
+use Rattle.jsonb.specs.declared.sort_key.SortKey.{SortKey}
+use Rattle.jsonb.specs.KeyOrder.{key_cmp}
+use Rattle.jsonb.specs.SortKey.{key_meaning}
+use Rattle.jsonb.proofs.KeyOrderLaws.{key_cmp-is}
 use Rattle.kohiblad.specs.Rows.{rows_from}
 use Rattle.kohiblad.specs.SortOrder.{row_cmp, IsOrderOf}
 
-abbrev pub numbers_of : List (CheckedBytes × ℕ) → List ℕ
+abbrev pub numbers_of : List (SortKey × ℕ) → List ℕ
 numbers_of keys = map (λ key. key.1) keys
 
 -- The key means what the row with its number means.
-abbrev pub IsKeyOf : (List ℕ → Meaning) → List (List ℕ) → CheckedBytes × ℕ → Type 0
-IsKeyOf means rows key = checked_meaning key.0 ≡ means (slice_index_or rows key.1 [])
+abbrev pub IsKeyOf : (List ℕ → Meaning) → List (List ℕ) → SortKey × ℕ → Type 0
+IsKeyOf means rows key = key_meaning key.0 ≡ means (slice_index_or rows key.1 [])
 
 -- the order of keys, and of equal ones by their numbers
-abbrev pub key_cmp : CheckedBytes × ℕ → CheckedBytes × ℕ → Ordering
-key_cmp x y = ordering_then (meaning_cmp (checked_meaning x.0) (checked_meaning y.0))
-    (nat_cmp x.1 y.1)
+abbrev pub pair_cmp : SortKey × ℕ → SortKey × ℕ → Ordering
+pair_cmp x y = ordering_then (key_cmp x.0 y.0) (nat_cmp x.1 y.1)
 
 -- the keys of the first rows, and the rows that are left
 pub record KeysSoFar (means : List ℕ → Meaning) (rows left : List (List ℕ))
-    (keys : List (CheckedBytes × ℕ)) : Type 0 where
+    (keys : List (SortKey × ℕ)) : Type 0 where
   pub numbers : numbers_of keys ≡ range_with_len 0 (length keys)
   pub later : drop (length keys) rows ≡ left
   pub count : length keys + length left ≡ length rows
@@ -44,9 +45,9 @@ range_with_len-push a (suc n) =
     (range_with_len-push (a + 1) n ∙ ap (λ (k : ℕ). range_with_len (a + 1) n ++ k ∷ []) next)
 
 pub one_more_key : (means : List ℕ → Meaning) (rows left later : List (List ℕ)) (row : List ℕ)
-    (keys : List (CheckedBytes × ℕ))
-    (key : CheckedBytes) → KeysSoFar means rows left keys → left ≡ row ∷ later
-    → checked_meaning key ≡ means row
+    (keys : List (SortKey × ℕ))
+    (key : SortKey) → KeysSoFar means rows left keys → left ≡ row ∷ later
+    → key_meaning key ≡ means row
     → KeysSoFar means rows later (keys ++ (key, length keys) ∷ [])
 one_more_key means rows left later row keys key so_far cut is =
     let n = length keys in
@@ -64,7 +65,7 @@ one_more_key means rows left later row keys key so_far cut is =
     let this : 0 + length keys ≡ length keys = omega arith in
     record {
       numbers =
-          map-append (λ (key : CheckedBytes × ℕ). key.1) keys ((key, length keys) ∷ [])
+          map-append (λ (key : SortKey × ℕ). key.1) keys ((key, length keys) ∷ [])
           ∙ ap (λ (ks : List ℕ). ks ++ length keys ∷ []) so_far.numbers
           ∙ ap (λ (k : ℕ). range_with_len 0 (length keys) ++ k ∷ []) (sym this)
           ∙ sym (range_with_len-push 0 (length keys))
@@ -77,36 +78,37 @@ one_more_key means rows left later row keys key so_far cut is =
           (All-nil (IsKeyOf means rows)));
     }
 
-ordered_at : (means : List ℕ → Meaning) (rows : List (List ℕ)) (keys : List (CheckedBytes × ℕ))
-    (d : CheckedBytes × ℕ)
-    → All (IsKeyOf means rows) keys → IsSorted key_cmp keys → IsSorted (row_cmp means rows)
+ordered_at : (means : List ℕ → Meaning) (rows : List (List ℕ)) (keys : List (SortKey × ℕ))
+    (d : SortKey × ℕ)
+    → All (IsKeyOf means rows) keys → IsSorted pair_cmp keys → IsSorted (row_cmp means rows)
     (numbers_of keys)
 ordered_at means rows keys d are sorted = λ k e low high.
     let long : length (numbers_of keys) ≡ length keys =
-    length-map keys (λ (key : CheckedBytes × ℕ). key.1) in
-    let x : CheckedBytes × ℕ = slice_index_or keys (k + 1) d in
-    let y : CheckedBytes × ℕ = slice_index_or keys k d in
-    let first = get_or-map (λ (key : CheckedBytes × ℕ). key.1) keys k d e (omega arith) in
-    let second = get_or-map (λ (key : CheckedBytes × ℕ). key.1) keys (k + 1) d e (omega arith) in
+    length-map keys (λ (key : SortKey × ℕ). key.1) in
+    let x : SortKey × ℕ = slice_index_or keys (k + 1) d in
+    let y : SortKey × ℕ = slice_index_or keys k d in
+    let first = get_or-map (λ (key : SortKey × ℕ). key.1) keys k d e (omega arith) in
+    let second = get_or-map (λ (key : SortKey × ℕ). key.1) keys (k + 1) d e (omega arith) in
     let first_means = All-get_or (IsKeyOf means rows) keys k d (omega arith) are in
     let second_means = All-get_or (IsKeyOf means rows) keys (k + 1) d (omega arith) are in
     ap is_lt (
     ap₂ (row_cmp means rows) second first
     ∙ ap₂ (λ (m n : Meaning). ordering_then (meaning_cmp m n) (nat_cmp x.1 y.1)) (sym second_means)
     (sym first_means)
+    ∙ ap (λ (o : Ordering). ordering_then o (nat_cmp x.1 y.1)) (sym (key_cmp-is x.0 y.0))
     )
     ∙ sorted k d low (omega arith)
 
-ordered : (means : List ℕ → Meaning) (rows : List (List ℕ)) (keys : List (CheckedBytes × ℕ))
+ordered : (means : List ℕ → Meaning) (rows : List (List ℕ)) (keys : List (SortKey × ℕ))
     → All (IsKeyOf means rows) keys
-    → IsSorted key_cmp keys → IsSorted (row_cmp means rows) (numbers_of keys)
+    → IsSorted pair_cmp keys → IsSorted (row_cmp means rows) (numbers_of keys)
 ordered means rows [] are sorted = λ k e low high. absurd (omega arith)
 ordered means rows (key ∷ keys) are sorted = ordered_at means rows (key ∷ keys) key are sorted
 
 -- sorted keys give the order of the rows
 pub order_of_keys : (means : List ℕ → Meaning) (rows left : List (List ℕ))
-    (before after : List (CheckedBytes × ℕ)) → left ≡ []
-    → KeysSoFar means rows left before → IsPermutation before after → IsSorted key_cmp after
+    (before after : List (SortKey × ℕ)) → left ≡ []
+    → KeysSoFar means rows left before → IsPermutation before after → IsSorted pair_cmp after
     → IsOrderOf means rows (numbers_of after)
 order_of_keys means rows left before after ended all moved sorted =
     let none : length left ≡ 0 = ap length ended in
@@ -116,7 +118,7 @@ order_of_keys means rows left before after ended all moved sorted =
     record {
       each_once = subst
           (λ (ks : List ℕ). IsPermutation ks (numbers_of after)) numbers
-          (IsPermutation-map (λ (key : CheckedBytes × ℕ). key.1) before after moved);
+          (IsPermutation-map (λ (key : SortKey × ℕ). key.1) before after moved);
       ascend = ordered means rows after
           (All-permutation (IsKeyOf means rows) before after moved all.keys_of_rows) sorted;
     }

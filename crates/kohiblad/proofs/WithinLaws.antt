@@ -10,8 +10,8 @@ use Rattle.jsonb_codec.proofs.DepthLaws.{Doc-depth}
 use Rattle.jsonb.specs.ItemMeaning.{meaning_of}
 use Rattle.jsonb.proofs.DocumentLaws.{tree_in-is}
 use Rattle.jsonb.proofs.ItemMeaningLaws.{meaning_of-document, meaning_of-other}
-use Rattle.jsonb_comparable.specs.Within.{meaning_within}
-use Rattle.jsonb_comparable.proofs.WithinLaws.{tree_within, bytes_within}
+use Rattle.jsonb.specs.Within.{meaning_within}
+use Rattle.jsonb.proofs.WithinLaws.{tree_within, bytes_within}
 
 -- A document that does not nest deeper means its tree.
 pub document_within : (b : List ℕ) (t : Tree) (d : ℕ) → Doc b t → depth t ≤ d

@@ -5,7 +5,7 @@ use Rattle.jsonb_value.specs.declared.error.Error.TheVariants.{InvalidJsonb, Inv
 use Rattle.jsonb_value.specs.declared.error.Error.TheVariants.{OutOfMemory}
 use Rattle.jsonb_value.specs.Meaning.{Meaning, document, other_bytes}
 use Rattle.jsonb_value.specs.Tree.{Tree}
-use Rattle.jsonb_comparable.specs.Within.{meaning_within}
+use Rattle.jsonb.specs.Within.{meaning_within}
 use Rattle.jsonb_functions.specs.NamedSteps.{steps_by}
 use Rattle.jsonb_functions.specs.NameList.{NameList}
 use Rattle.jsonb_functions.specs.PathDocument.{path_tree}

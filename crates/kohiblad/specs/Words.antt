@@ -24,12 +24,12 @@ pub use Rattle.jsonb.specs.Kind.{kind, kind_of_tree}
 pub use Rattle.jsonb.specs.Owned.{bytes_of}
 pub use Rattle.jsonb.specs.Parsing.{ParsesUnder}
 pub use Rattle.jsonb.specs.Results.{document_pair}
+pub use Rattle.jsonb.specs.SortKey.{key_meaning}
 pub use Rattle.jsonb.specs.Texts.{display_text, lined_text, other_text, plain_text}
 pub use Rattle.jsonb.specs.Texts.{pretty_display_text}
+pub use Rattle.jsonb.specs.Within.{meaning_within}
 pub use Rattle.jsonb.specs.declared.reads.lookup.Place.{Place}
-pub use Rattle.jsonb_comparable.specs.CheckedBytes.{checked_meaning}
 pub use Rattle.jsonb_comparable.specs.TreeKey.{meaning_key}
-pub use Rattle.jsonb_comparable.specs.Within.{meaning_within}
 pub use Rattle.jsonb_functions.specs.IndexHash.{tree_hashes}
 pub use Rattle.jsonb_functions.specs.Joined.{joined}
 pub use Rattle.jsonb_functions.specs.Patched.{patched}

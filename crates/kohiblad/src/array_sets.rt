@@ -3,12 +3,11 @@
 ghost use Rattle.jsonb_functions.specs.ArraySets.{difference, distinct, intersection};
 ghost use Rattle.kohiblad.specs.WithMemory.{IsOverlapAnswer, MakesOfOneWithMemory};
 ghost use Rattle.kohiblad.specs.WithMemory.{MakesOfTwoWithMemory};
-ghost use Rattle.kohiblad.specs.Words.{IsOneAnswered, bytes_of, checked_meaning, meaning_within};
+ghost use Rattle.kohiblad.specs.Words.{IsOneAnswered, bytes_of, key_meaning, meaning_within};
 
 use crate::answer::{code, hand_over_made};
 use crate::values::{KohibladTruth, no_truth, truth_of};
-use jsonb::{Error, OwnedJsonb, RawJsonb};
-use jsonb_comparable::CheckedBytes;
+use jsonb::{Error, OwnedJsonb, SortKey};
 use jsonb_functions::{array_distinct, array_except, array_intersection, array_overlap};
 use std::alloc::Global;
 
@@ -30,17 +29,17 @@ pub extern "C" fn kohiblad_array_distinct(
     ensures { IsOneAnswered (MakesOfOneWithMemory distinct (meaning_within depth bytes.now))
         out.old out.new length.new result }
 {
-    let bytes = CheckedBytes::within(RawJsonb::new(bytes), depth);
+    let bytes = SortKey::within(bytes, depth);
     hand_over_made(distinct_items(alloc, bytes), out, length)
 }
 
 // The items of an array without those that are equal to one before them.
-fn distinct_items(alloc: Global, bytes: CheckedBytes<'_>) -> Result<OwnedJsonb, Error>
-    ensures { MakesOfOneWithMemory distinct (checked_meaning bytes.entry) (bytes_of result) }
+fn distinct_items(alloc: Global, bytes: SortKey<'_>) -> Result<OwnedJsonb, Error>
+    ensures { MakesOfOneWithMemory distinct (key_meaning bytes.entry) (bytes_of result) }
 {
     match bytes {
-        CheckedBytes::Document(document) => array_distinct(alloc, document),
-        CheckedBytes::Other(_) => Err(Error::InvalidJsonb),
+        SortKey::Document(document) => array_distinct(alloc, document),
+        SortKey::Other(_) => Err(Error::InvalidJsonb),
     }
 }
 
@@ -64,22 +63,18 @@ pub extern "C" fn kohiblad_array_intersection(
     ensures { IsOneAnswered (MakesOfTwoWithMemory intersection (meaning_within depth left.now)
         (meaning_within depth right.now)) out.old out.new length.new result }
 {
-    let left = CheckedBytes::within(RawJsonb::new(left), depth);
-    let right = CheckedBytes::within(RawJsonb::new(right), depth);
+    let left = SortKey::within(left, depth);
+    let right = SortKey::within(right, depth);
     hand_over_made(common_items(alloc, left, right), out, length)
 }
 
 // The items that both arrays have.
-fn common_items(
-    alloc: Global,
-    left: CheckedBytes<'_>,
-    right: CheckedBytes<'_>,
-) -> Result<OwnedJsonb, Error>
-    ensures { MakesOfTwoWithMemory intersection (checked_meaning left.entry)
-        (checked_meaning right.entry) (bytes_of result) }
+fn common_items(alloc: Global, left: SortKey<'_>, right: SortKey<'_>) -> Result<OwnedJsonb, Error>
+    ensures { MakesOfTwoWithMemory intersection (key_meaning left.entry)
+        (key_meaning right.entry) (bytes_of result) }
 {
     match (left, right) {
-        (CheckedBytes::Document(left), CheckedBytes::Document(right)) => {
+        (SortKey::Document(left), SortKey::Document(right)) => {
             array_intersection(alloc, left, right)
         }
         _ => Err(Error::InvalidJsonb),
@@ -105,24 +100,18 @@ pub extern "C" fn kohiblad_array_except(
     ensures { IsOneAnswered (MakesOfTwoWithMemory difference (meaning_within depth left.now)
         (meaning_within depth right.now)) out.old out.new length.new result }
 {
-    let left = CheckedBytes::within(RawJsonb::new(left), depth);
-    let right = CheckedBytes::within(RawJsonb::new(right), depth);
+    let left = SortKey::within(left, depth);
+    let right = SortKey::within(right, depth);
     hand_over_made(items_left(alloc, left, right), out, length)
 }
 
 // The items of the one array without one for each equal item of the other.
-fn items_left(
-    alloc: Global,
-    left: CheckedBytes<'_>,
-    right: CheckedBytes<'_>,
-) -> Result<OwnedJsonb, Error>
-    ensures { MakesOfTwoWithMemory difference (checked_meaning left.entry)
-        (checked_meaning right.entry) (bytes_of result) }
+fn items_left(alloc: Global, left: SortKey<'_>, right: SortKey<'_>) -> Result<OwnedJsonb, Error>
+    ensures { MakesOfTwoWithMemory difference (key_meaning left.entry)
+        (key_meaning right.entry) (bytes_of result) }
 {
     match (left, right) {
-        (CheckedBytes::Document(left), CheckedBytes::Document(right)) => {
-            array_except(alloc, left, right)
-        }
+        (SortKey::Document(left), SortKey::Document(right)) => { array_except(alloc, left, right) }
         _ => Err(Error::InvalidJsonb),
     }
 }
@@ -142,10 +131,10 @@ pub extern "C" fn kohiblad_array_overlap(
     ensures { IsOverlapAnswer (meaning_within depth left.now) (meaning_within depth right.now)
         result }
 {
-    let left = CheckedBytes::within(RawJsonb::new(left), depth);
-    let right = CheckedBytes::within(RawJsonb::new(right), depth);
+    let left = SortKey::within(left, depth);
+    let right = SortKey::within(right, depth);
     match (left, right) {
-        (CheckedBytes::Document(left), CheckedBytes::Document(right)) => {
+        (SortKey::Document(left), SortKey::Document(right)) => {
             match array_overlap(alloc, left, right) {
                 Ok(overlap) => truth_of(overlap),
                 Err(error) => no_truth(code(error)),

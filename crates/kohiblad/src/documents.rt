@@ -5,8 +5,7 @@ ghost use Rattle.kohiblad.specs.Words.{meaning_cmp, Tree, IsDocumentWithin, Doc,
 ghost use Rattle.kohiblad.specs.Words.{kind_of_tree, meaning_within, sign, kind_answer};
 
 use crate::answer::{OK, code};
-use jsonb::{JsonbItemType, RawJsonb, document_text, is_document_within};
-use jsonb_comparable::CheckedBytes;
+use jsonb::{JsonbItemType, RawJsonb, SortKey, document_text, is_document_within};
 use std::cmp::Ordering;
 
 // Bytes that are no longer are compared by their meaning at once: to check them takes few steps.
@@ -47,8 +46,8 @@ fn cmp_within(left: &[u8], right: &[u8], depth: usize) -> Ordering
     if left.len() > SHORT && left == right {
         return Ordering::Equal;
     }
-    let left = CheckedBytes::within(RawJsonb::new(left), depth);
-    let right = CheckedBytes::within(RawJsonb::new(right), depth);
+    let left = SortKey::within(left, depth);
+    let right = SortKey::within(right, depth);
     left.cmp(&right)
 }
 

@@ -3,15 +3,14 @@
 ghost use Rattle.std.specs.Prelude.{◌≡◌, [], IfErr, IfOk, IsUtf8};
 ghost use Rattle.kohiblad.specs.Words.{AreKeysWritten, Error, IsContainedAnswer, IsEdited};
 ghost use Rattle.kohiblad.specs.Words.{IsOneAnswered, MakesOfOne, MakesOfTwo, Meaning};
-ghost use Rattle.kohiblad.specs.Words.{bytes_of, checked_meaning, code, document_tree};
+ghost use Rattle.kohiblad.specs.Words.{bytes_of, code, document_tree, key_meaning};
 ghost use Rattle.kohiblad.specs.Words.{exists_answer, joined, meaning_within, no_truth};
 ghost use Rattle.kohiblad.specs.Words.{operation_asked, operation_in, patched, stripped};
 ghost use Rattle.kohiblad.specs.Words.{top_hashes, tree_hashes};
 
 use crate::answer::{OTHER_KIND, TOO_MANY_STEPS, code, hand_over_items, hand_over_made, refuse};
 use crate::values::{KohibladTruth, no_truth, truth_of};
-use jsonb::{Document, Error, OwnedJsonb, RawJsonb};
-use jsonb_comparable::CheckedBytes;
+use jsonb::{Document, Error, OwnedJsonb, SortKey};
 use jsonb_functions::{
     Edit, append_index_keys, append_top_keys, concat, contains_within, edit_document, exists,
     merge_patch, read_path, strip_nulls,
@@ -38,10 +37,10 @@ pub extern "C" fn kohiblad_contains(
     ensures { IsContainedAnswer steps (meaning_within depth left.now)
         (meaning_within depth right.now) result }
 {
-    let left = CheckedBytes::within(RawJsonb::new(left), depth);
-    let right = CheckedBytes::within(RawJsonb::new(right), depth);
+    let left = SortKey::within(left, depth);
+    let right = SortKey::within(right, depth);
     match (left, right) {
-        (CheckedBytes::Document(left), CheckedBytes::Document(right)) => {
+        (SortKey::Document(left), SortKey::Document(right)) => {
             match contains_within(left, right, steps) {
                 Some(is_contained) => truth_of(is_contained),
                 None => no_truth(TOO_MANY_STEPS),
@@ -64,9 +63,9 @@ pub extern "C" fn kohiblad_exists(bytes: &[u8], key: &[u8], depth: usize) -> Koh
     let Ok(key) = str::from_utf8(key) else {
         return no_truth(code(Error::InvalidUtf8));
     };
-    match CheckedBytes::within(RawJsonb::new(bytes), depth) {
-        CheckedBytes::Document(document) => truth_of(exists(document, key)),
-        CheckedBytes::Other(_) => no_truth(code(Error::InvalidJsonb)),
+    match SortKey::within(bytes, depth) {
+        SortKey::Document(document) => truth_of(exists(document, key)),
+        SortKey::Other(_) => no_truth(code(Error::InvalidJsonb)),
     }
 }
 
@@ -90,22 +89,18 @@ pub extern "C" fn kohiblad_concat(
     ensures { IsOneAnswered (MakesOfTwo joined (meaning_within depth left.now)
         (meaning_within depth right.now)) out.old out.new length.new result }
 {
-    let left = CheckedBytes::within(RawJsonb::new(left), depth);
-    let right = CheckedBytes::within(RawJsonb::new(right), depth);
+    let left = SortKey::within(left, depth);
+    let right = SortKey::within(right, depth);
     hand_over_made(both_joined(alloc, left, right), out, length)
 }
 
 // Two documents put together.
-fn both_joined(
-    alloc: Global,
-    left: CheckedBytes<'_>,
-    right: CheckedBytes<'_>,
-) -> Result<OwnedJsonb, Error>
-    ensures { MakesOfTwo joined (checked_meaning left.entry) (checked_meaning right.entry)
+fn both_joined(alloc: Global, left: SortKey<'_>, right: SortKey<'_>) -> Result<OwnedJsonb, Error>
+    ensures { MakesOfTwo joined (key_meaning left.entry) (key_meaning right.entry)
         (bytes_of result) }
 {
     match (left, right) {
-        (CheckedBytes::Document(left), CheckedBytes::Document(right)) => concat(alloc, left, right),
+        (SortKey::Document(left), SortKey::Document(right)) => concat(alloc, left, right),
         _ => Err(Error::InvalidJsonb),
     }
 }
@@ -132,22 +127,22 @@ pub extern "C" fn kohiblad_merge_patch(
     ensures { IsOneAnswered (MakesOfTwo patched (meaning_within depth target.now)
         (meaning_within depth patch.now)) out.old out.new length.new result }
 {
-    let target = CheckedBytes::within(RawJsonb::new(target), depth);
-    let patch = CheckedBytes::within(RawJsonb::new(patch), depth);
+    let target = SortKey::within(target, depth);
+    let patch = SortKey::within(patch, depth);
     hand_over_made(target_patched(alloc, target, patch), out, length)
 }
 
 // A document that a patch is merged into.
 fn target_patched(
     alloc: Global,
-    target: CheckedBytes<'_>,
-    patch: CheckedBytes<'_>,
+    target: SortKey<'_>,
+    patch: SortKey<'_>,
 ) -> Result<OwnedJsonb, Error>
-    ensures { MakesOfTwo patched (checked_meaning target.entry) (checked_meaning patch.entry)
+    ensures { MakesOfTwo patched (key_meaning target.entry) (key_meaning patch.entry)
         (bytes_of result) }
 {
     match (target, patch) {
-        (CheckedBytes::Document(target), CheckedBytes::Document(patch)) => {
+        (SortKey::Document(target), SortKey::Document(patch)) => {
             merge_patch(alloc, target, patch)
         }
         _ => Err(Error::InvalidJsonb),
@@ -172,17 +167,17 @@ pub extern "C" fn kohiblad_strip_nulls(
     ensures { IsOneAnswered (MakesOfOne stripped (meaning_within depth bytes.now))
         out.old out.new length.new result }
 {
-    let bytes = CheckedBytes::within(RawJsonb::new(bytes), depth);
+    let bytes = SortKey::within(bytes, depth);
     hand_over_made(without_nulls(alloc, bytes), out, length)
 }
 
 // A document without the members that are null.
-fn without_nulls(alloc: Global, bytes: CheckedBytes<'_>) -> Result<OwnedJsonb, Error>
-    ensures { MakesOfOne stripped (checked_meaning bytes.entry) (bytes_of result) }
+fn without_nulls(alloc: Global, bytes: SortKey<'_>) -> Result<OwnedJsonb, Error>
+    ensures { MakesOfOne stripped (key_meaning bytes.entry) (bytes_of result) }
 {
     match bytes {
-        CheckedBytes::Document(document) => strip_nulls(alloc, document),
-        CheckedBytes::Other(_) => Err(Error::InvalidJsonb),
+        SortKey::Document(document) => strip_nulls(alloc, document),
+        SortKey::Other(_) => Err(Error::InvalidJsonb),
     }
 }
 
@@ -205,12 +200,12 @@ pub extern "C" fn kohiblad_index_keys(
     ensures { AreKeysWritten (tree_hashes []) (meaning_within depth bytes.now)
         out.old out.new count.new result }
 {
-    match CheckedBytes::within(RawJsonb::new(bytes), depth) {
-        CheckedBytes::Document(document) => {
+    match SortKey::within(bytes, depth) {
+        SortKey::Document(document) => {
             let keys = index_keys(alloc, document);
             hand_over_items(keys, out, count)
         }
-        CheckedBytes::Other(_) => refuse(code(Error::InvalidJsonb), out, count),
+        SortKey::Other(_) => refuse(code(Error::InvalidJsonb), out, count),
     }
 }
 
@@ -244,12 +239,12 @@ pub extern "C" fn kohiblad_top_keys(
     ensures { AreKeysWritten top_hashes (meaning_within depth bytes.now)
         out.old out.new count.new result }
 {
-    match CheckedBytes::within(RawJsonb::new(bytes), depth) {
-        CheckedBytes::Document(document) => {
+    match SortKey::within(bytes, depth) {
+        SortKey::Document(document) => {
             let keys = top_keys(alloc, document);
             hand_over_items(keys, out, count)
         }
-        CheckedBytes::Other(_) => refuse(code(Error::InvalidJsonb), out, count),
+        SortKey::Other(_) => refuse(code(Error::InvalidJsonb), out, count),
     }
 }
 
@@ -293,11 +288,11 @@ pub extern "C" fn kohiblad_edit(
         (operation_asked edit (meaning_within depth value.now))
         out.old out.new length.new result }
 {
-    let document = CheckedBytes::within(RawJsonb::new(bytes), depth);
-    let path = CheckedBytes::within(RawJsonb::new(path), depth);
-    let edit = edit_of(edit, CheckedBytes::within(RawJsonb::new(value), depth));
+    let document = SortKey::within(bytes, depth);
+    let path = SortKey::within(path, depth);
+    let edit = edit_of(edit, SortKey::within(value, depth));
     match (document, path) {
-        (CheckedBytes::Document(document), CheckedBytes::Document(path)) => {
+        (SortKey::Document(document), SortKey::Document(path)) => {
             write_edited(alloc, document, path, edit, out, length)
         }
         _ => refuse(code(Error::InvalidJsonb), out, length),
@@ -305,15 +300,15 @@ pub extern "C" fn kohiblad_edit(
 }
 
 // The edit of this number with this value, or the status that refuses it.
-fn edit_of<'a>(number: u32, value: CheckedBytes<'a>) -> Result<Edit<'a>, u32>
-    ensures { operation_in result ≡ operation_asked number (checked_meaning value.entry) }
+fn edit_of<'a>(number: u32, value: SortKey<'a>) -> Result<Edit<'a>, u32>
+    ensures { operation_in result ≡ operation_asked number (key_meaning value.entry) }
 {
     match (number, value) {
-        (0, CheckedBytes::Document(value)) => Ok(Edit::Put(value)),
-        (1, CheckedBytes::Document(value)) => Ok(Edit::Insert(value)),
+        (0, SortKey::Document(value)) => Ok(Edit::Put(value)),
+        (1, SortKey::Document(value)) => Ok(Edit::Insert(value)),
         (2, _) => Ok(Edit::Remove),
-        (3, CheckedBytes::Document(value)) => Ok(Edit::Create(value)),
-        (0 | 1 | 3, CheckedBytes::Other(_)) => Err(code(Error::InvalidJsonb)),
+        (3, SortKey::Document(value)) => Ok(Edit::Create(value)),
+        (0 | 1 | 3, SortKey::Other(_)) => Err(code(Error::InvalidJsonb)),
         _ => Err(OTHER_KIND),
     }
 }

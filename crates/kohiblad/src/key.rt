@@ -4,7 +4,7 @@ ghost use Rattle.std.specs.Prelude.{◌≡◌};
 ghost use Rattle.kohiblad.specs.Words.{meaning_key, meaning_within, IsWritten};
 
 use crate::answer::{code, hand_over, refuse};
-use jsonb::RawJsonb;
+use jsonb::SortKey;
 use jsonb_comparable::{ComparableKey, KEY_LAYOUT};
 use std::alloc::Global;
 
@@ -35,7 +35,7 @@ pub extern "C" fn kohiblad_key(
     ensures { IsWritten (meaning_key (meaning_within depth bytes.now)) out.old out.new length.new
         result }
 {
-    match ComparableKey::within(alloc, RawJsonb::new(bytes), depth) {
+    match ComparableKey::new(alloc, SortKey::within(bytes, depth)) {
         Ok(key) => hand_over(key.as_bytes(), out, length),
         Err(error) => refuse(code(error), out, length),
     }

@@ -1,28 +1,24 @@
 //! Keys that are cut to the caller's buffer, and keys of some members of an object.
 
-ghost use Rattle.std.specs.Prelude.{◌≡◌, ◌∷◌, ℕ, List, map};
+ghost use Rattle.std.specs.Prelude.{◌≡◌, ℕ, List, map};
 ghost use Rattle.std.specs.Cmp.Lexicographic.{slice_cmp};
 ghost use Rattle.std.specs.Ordering.{nat_cmp};
 ghost use Rattle.jsonb_value.specs.WellFormed.{IsTree};
 ghost use Rattle.jsonb.specs.Node.{node_tree, value_of_key};
-ghost use Rattle.jsonb_comparable.specs.Escaped.{escaped};
 ghost use Rattle.jsonb_comparable.specs.Sink.{length_64};
 ghost use Rattle.jsonb_comparable.specs.TreeKey.{tree_key};
 ghost use Rattle.kohiblad.specs.KeyParts.{IsCutKey, IsKeyOfMembers, IsMembersKey, keys_of_members};
 ghost use Rattle.kohiblad.specs.KeyParts.{IsLongHandedOver, members_named, part_cmp, part_key};
 ghost use Rattle.kohiblad.specs.KeySink.{cut_into};
-ghost use Rattle.kohiblad.specs.Words.{Tree, checked_meaning, document_tree, meaning_key};
+ghost use Rattle.kohiblad.specs.Words.{Tree, document_tree, key_meaning, meaning_key};
 ghost use Rattle.kohiblad.specs.Words.{meaning_within};
 
 use crate::answer::{NO_ROOM, OK, OTHER_KIND, code, refuse};
 use crate::key_sink::KeyWriter;
 use crate::names::read_names;
-use jsonb::{Document, Error, Node, RawJsonb};
-use jsonb_comparable::{CheckedBytes, Sink, append_escaped, append_node};
+use jsonb::{Document, Error, Node, SortKey};
+use jsonb_comparable::{Sink, append_key_to, append_node};
 use std::alloc::Global;
-
-// The first byte of the key of bytes that are not a document.
-const OTHER_BYTES: u8 = 255;
 
 // The key of a member that is not there, which is below all others.
 const MISSING: u8 = 0;
@@ -45,40 +41,18 @@ pub extern "C" fn kohiblad_key_cut(
     ensures { IsCutKey (meaning_key (meaning_within depth bytes.now))
         out.old out.new length.new result }
 {
-    let checked = CheckedBytes::within(RawJsonb::new(bytes), depth);
-    *length = cut_key(checked, out);
+    *length = cut_key(SortKey::within(bytes, depth), out);
     OK
 }
 
 // Writes the first bytes of a key, as many as there is room. Returns its length.
-fn cut_key(checked: CheckedBytes<'_>, out: &mut [u8]) -> usize
-    ensures out { out.new ≡ cut_into (meaning_key (checked_meaning checked.entry)) out.old }
-    ensures len { result ≡ length_64 (meaning_key (checked_meaning checked.entry)) }
+fn cut_key(key: SortKey<'_>, out: &mut [u8]) -> usize
+    ensures out { out.new ≡ cut_into (meaning_key (key_meaning key.entry)) out.old }
+    ensures len { result ≡ length_64 (meaning_key (key_meaning key.entry)) }
 {
     let mut writer = KeyWriter { out, len: 0 };
-    append_key(checked, &mut writer);
+    append_key_to(key, &mut writer);
     writer.len
-}
-
-// Appends the key of checked bytes.
-#[tactic(auto, unfolding(jsonb_comparable::specs::TreeKey::meaning_key))]
-fn append_key<S: Sink>(checked: CheckedBytes<'_>, sink: &mut S)
-    requires { S.room sink.old (meaning_key (checked_meaning checked)) }
-    ensures { S.appends sink.old sink.new (meaning_key (checked_meaning checked.entry)) }
-{
-    match checked {
-        CheckedBytes::Document(document) => append_node(document.value(), sink),
-        CheckedBytes::Other(bytes) => append_other(bytes, sink),
-    }
-}
-
-// Appends the key of bytes that are not a document.
-fn append_other<S: Sink>(bytes: &[u8], sink: &mut S)
-    requires { S.room sink.old (255 ∷ escaped bytes.now) }
-    ensures { S.appends sink.old sink.new (255 ∷ escaped bytes.now) }
-{
-    sink.append(&[OTHER_BYTES]);
-    append_escaped(bytes, sink);
 }
 
 /// Copies the comparable keys of some members of a document to `out`, one after another, and their
@@ -108,10 +82,10 @@ pub extern "C" fn kohiblad_member_key(
         → slice_cmp nat_cmp (keys_of_members names t) (keys_of_members names u)
         ≡ slice_cmp part_cmp (members_named names t) (members_named names u) }
 {
-    let document = CheckedBytes::within(RawJsonb::new(bytes), depth);
-    let names = CheckedBytes::within(RawJsonb::new(names), depth);
+    let document = SortKey::within(bytes, depth);
+    let names = SortKey::within(names, depth);
     match (document, names) {
-        (CheckedBytes::Document(document), CheckedBytes::Document(names)) => {
+        (SortKey::Document(document), SortKey::Document(names)) => {
             write_member_keys(alloc, document, names, out, length)
         }
         _ => refuse(code(Error::InvalidJsonb), out, length),

@@ -10,8 +10,7 @@ ghost use Rattle.kohiblad.specs.Words.{Error, document_tree, meaning_within};
 
 use crate::answer::{code, hand_over_made, refuse};
 use crate::paths::write_path;
-use jsonb::{Document, Error, RawJsonb};
-use jsonb_comparable::CheckedBytes;
+use jsonb::{Document, Error, SortKey};
 use jsonb_functions::{document_of_path, read_name_list, read_pointer, steps_of_names};
 use std::alloc::Global;
 use std::str;
@@ -55,9 +54,9 @@ fn write_path_within(
 ) -> u32
     ensures { IsPathOf (meaning_within depth bytes.now) text.now out.old out.new length.new result }
 {
-    match CheckedBytes::within(RawJsonb::new(bytes), depth) {
-        CheckedBytes::Document(document) => write_path_in(alloc, document, text, out, length),
-        CheckedBytes::Other(_) => refuse(code(Error::InvalidJsonb), out, length),
+    match SortKey::within(bytes, depth) {
+        SortKey::Document(document) => write_path_in(alloc, document, text, out, length),
+        SortKey::Other(_) => refuse(code(Error::InvalidJsonb), out, length),
     }
 }
 

@@ -16,8 +16,7 @@ ghost use Rattle.kohiblad.specs.Words.{Doc, Error, Meaning, Tree, document_tree,
 use crate::answer::{OTHER_KIND, code, hand_over_items, hand_over_made, refuse};
 use crate::path_places::{append_selected, place_at_end, whole_place};
 use crate::places::{KohibladPlace, no_place, place_answer};
-use jsonb::{Document, Error, RawJsonb, is_document_within};
-use jsonb_comparable::CheckedBytes;
+use jsonb::{Document, Error, SortKey, is_document_within};
 use jsonb_functions::{Selector, Step, document_of_path, read_path, read_path_text, steps_of_path};
 use std::alloc::Global;
 use std::str;
@@ -95,9 +94,9 @@ pub extern "C" fn kohiblad_get_path(
     if !is_document_within(bytes, depth) {
         return no_place(code(Error::InvalidJsonb));
     }
-    match CheckedBytes::within(RawJsonb::new(path), depth) {
-        CheckedBytes::Document(path) => path_place(alloc, bytes, path),
-        CheckedBytes::Other(_) => no_place(code(Error::InvalidJsonb)),
+    match SortKey::within(path, depth) {
+        SortKey::Document(path) => path_place(alloc, bytes, path),
+        SortKey::Other(_) => no_place(code(Error::InvalidJsonb)),
     }
 }
 

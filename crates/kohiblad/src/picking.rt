@@ -6,8 +6,7 @@ ghost use Rattle.kohiblad.specs.Words.{Meaning, document_tree, meaning_within};
 
 use crate::answer::{NONE, OTHER_KIND, code, hand_over_made, refuse};
 use crate::names::read_names;
-use jsonb::{Document, Error, RawJsonb};
-use jsonb_comparable::CheckedBytes;
+use jsonb::{Document, Error, SortKey};
 use jsonb_functions::{Kept, object_keys, pick};
 use std::alloc::Global;
 
@@ -33,10 +32,10 @@ pub extern "C" fn kohiblad_pick(
     ensures { IsPicked (kept_by others) (meaning_within depth bytes.now)
         (meaning_within depth names.now) out.old out.new length.new result }
 {
-    let document = CheckedBytes::within(RawJsonb::new(bytes), depth);
-    let names = CheckedBytes::within(RawJsonb::new(names), depth);
+    let document = SortKey::within(bytes, depth);
+    let names = SortKey::within(names, depth);
     match (document, names) {
-        (CheckedBytes::Document(document), CheckedBytes::Document(names)) => {
+        (SortKey::Document(document), SortKey::Document(names)) => {
             write_picked(alloc, document, names, kept_by(others), out, length)
         }
         _ => refuse(code(Error::InvalidJsonb), out, length),
@@ -89,9 +88,9 @@ pub extern "C" fn kohiblad_object_keys(
 ) -> u32
     ensures { AreKeysCopied (meaning_within depth bytes.now) out.old out.new length.new result }
 {
-    match CheckedBytes::within(RawJsonb::new(bytes), depth) {
-        CheckedBytes::Document(document) => write_keys(alloc, document, out, length),
-        CheckedBytes::Other(_) => refuse(code(Error::InvalidJsonb), out, length),
+    match SortKey::within(bytes, depth) {
+        SortKey::Document(document) => write_keys(alloc, document, out, length),
+        SortKey::Other(_) => refuse(code(Error::InvalidJsonb), out, length),
     }
 }
 

@@ -5,8 +5,7 @@ ghost use Rattle.kohiblad.specs.Words.{meaning_within, IsOrderOf, AreRowsOrdered
 
 use crate::answer::{NO_ROOM, OK, code};
 use crate::rows::Rows;
-use jsonb::{Error, RawJsonb};
-use jsonb_comparable::CheckedBytes;
+use jsonb::{Error, SortKey};
 use std::alloc::Global;
 
 /// Writes the numbers of the rows, counted from 0, to the start of `order`, sorted as
@@ -48,7 +47,7 @@ fn keys_in_order<'a>(
     alloc: Global,
     rows: Rows<'a>,
     depth: usize,
-) -> Result<Vec<(CheckedBytes<'a>, usize)>, Error>
+) -> Result<Vec<(SortKey<'a>, usize)>, Error>
     ensures ok { IfOk result (λ keys. IsOrderOf (meaning_within depth)
         rows.entry (map (λ key. key.1) keys.items)) }
     ensures len { IfOk result (λ keys. length keys.items ≡ length rows.entry) }
@@ -57,14 +56,14 @@ fn keys_in_order<'a>(
     let mut left = rows;
     let mut keys = Vec::new(alloc);
     while let Some(row) = left.next() {
-        keys.push((CheckedBytes::within(RawJsonb::new(row), depth), keys.len()))?;
+        keys.push((SortKey::within(row, depth), keys.len()))?;
     }
     keys.sort()?;
     Ok(keys)
 }
 
 // Writes the numbers of the keys to the start of `order`.
-fn put_numbers(keys: &[(CheckedBytes, usize)], order: &mut [usize])
+fn put_numbers(keys: &[(SortKey, usize)], order: &mut [usize])
     requires { length keys.now ≤ length order.old }
     ensures { order.new ≡ map (λ key. key.1) keys.now ++ drop (length keys.now) order.old }
 {

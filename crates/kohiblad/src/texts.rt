@@ -5,8 +5,7 @@ ghost use Rattle.kohiblad.specs.Words.{IsWritten, IsReadWithin, ParsesUnder, rul
 
 use crate::answer::{TOO_DEEP, code, hand_over, hand_over_made, refuse};
 use bstr::ByteSlice;
-use jsonb::{Error, OwnedJsonb, RawJsonb, is_text_within};
-use jsonb_comparable::CheckedBytes;
+use jsonb::{Error, OwnedJsonb, SortKey, is_text_within};
 use std::alloc::Global;
 use std::str;
 
@@ -28,12 +27,12 @@ pub extern "C" fn kohiblad_print(
     ensures { IsWritten (plain_text (meaning_within depth bytes.now)) out.old out.new length.new
         result }
 {
-    match CheckedBytes::within(RawJsonb::new(bytes), depth) {
-        CheckedBytes::Document(document) => match document.to_string(alloc) {
+    match SortKey::within(bytes, depth) {
+        SortKey::Document(document) => match document.to_string(alloc) {
             Ok(text) => hand_over(text.as_bytes(), out, length),
             Err(error) => refuse(code(error), out, length),
         },
-        CheckedBytes::Other(other) => write_other(alloc, other, out, length),
+        SortKey::Other(other) => write_other(alloc, other, out, length),
     }
 }
 
@@ -68,12 +67,12 @@ pub extern "C" fn kohiblad_pretty(
     ensures { IsWritten (lined_text (meaning_within depth bytes.now)) out.old out.new length.new
         result }
 {
-    match CheckedBytes::within(RawJsonb::new(bytes), depth) {
-        CheckedBytes::Document(document) => match document.to_pretty_string(alloc) {
+    match SortKey::within(bytes, depth) {
+        SortKey::Document(document) => match document.to_pretty_string(alloc) {
             Ok(text) => hand_over(text.as_bytes(), out, length),
             Err(error) => refuse(code(error), out, length),
         },
-        CheckedBytes::Other(_) => hand_over(b"null", out, length),
+        SortKey::Other(_) => hand_over(b"null", out, length),
     }
 }
 

@@ -3,7 +3,7 @@ use Rattle.std.specs.Cmp.{tied_itself}
 use Rattle.jsonb_value.specs.Meaning.{meaning_cmp}
 use Rattle.jsonb_value.specs.Tree.{text}
 use Rattle.jsonb_value.proofs.MeaningLaws.{meaning_cmp_total}
-use Rattle.jsonb_comparable.specs.Within.{meaning_within}
+use Rattle.jsonb.specs.Within.{meaning_within}
 use Rattle.kohiblad.proofs.WithinLaws.{document_within}
 use Rattle.kohiblad.proofs.documents.cmp_within.Goals as goal
 

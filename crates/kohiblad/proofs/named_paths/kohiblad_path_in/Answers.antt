@@ -1,5 +1,5 @@
 use Rattle.std.proofs.Common.{ℕ, List, inr, subst}
-use Rattle.jsonb_comparable.specs.Within.{meaning_within}
+use Rattle.jsonb.specs.Within.{meaning_within}
 use Rattle.kohiblad.specs.NamedPaths.{IsPathOf}
 use Rattle.kohiblad.proofs.named_paths.kohiblad_path_in.Goals as goal
 

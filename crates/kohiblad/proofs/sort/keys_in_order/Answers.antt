@@ -1,7 +1,7 @@
 use Rattle.std.proofs.Common.{◌≡◌, ◌∷◌, ◌++◌, [], ℕ, length, subst, sym, ◌∙◌, ap, arith}
 use Rattle.std.proofs.lemmas.Grind.{common_steps}
 use Rattle.std.proofs.lemmas.List.{length-map}
-use Rattle.jsonb_comparable.specs.Within.{meaning_within}
+use Rattle.jsonb.specs.Within.{meaning_within}
 use Rattle.kohiblad.proofs.Orders.{KeysSoFar, one_more_key, order_of_keys, numbers_of}
 use Rattle.kohiblad.proofs.Orders.{length-IsOrderOf}
 use Rattle.kohiblad.proofs.sort.keys_in_order.Goals as goal
@@ -9,7 +9,7 @@ use Rattle.kohiblad.proofs.sort.keys_in_order.Goals as goal
 pub loop-row-preserved : goal.loop-row-preserved
 loop-row-preserved c =
     let walk = c.loop-row in
-    let means = rw c.new.ensures at c.within.ensures in
+    let means = c.within.ensures.meaning in
     let more =
     one_more_key (meaning_within c.args.depth) c.args.rows walk.left c.next.new.self
     c.in-Some.row.now walk.keys.items

@@ -1,5 +1,5 @@
 use Rattle.std.proofs.Common.{length}
-use Rattle.jsonb_comparable.specs.Within.{meaning_within}
+use Rattle.jsonb.specs.Within.{meaning_within}
 use Rattle.kohiblad.proofs.Orders.{KeysSoFar}
 use Rattle.kohiblad.proofs.sort.keys_in_order.Given as goal
 

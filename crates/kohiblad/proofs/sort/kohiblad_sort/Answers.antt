@@ -1,6 +1,6 @@
 use Rattle.std.proofs.Common.{◌≤◌, ◌++◌, List, ℕ, length, drop, subst, sym, ◌∙◌, ap, ap₂, inl, inr}
 use Rattle.std.proofs.Common.{arith, refl}
-use Rattle.jsonb_comparable.specs.Within.{meaning_within}
+use Rattle.jsonb.specs.Within.{meaning_within}
 use Rattle.kohiblad.specs.SortOrder.{IsOrderOf}
 use Rattle.kohiblad.proofs.Orders.{numbers_of}
 use Rattle.kohiblad.proofs.sort.kohiblad_sort.Goals as goal
