@@ -1,6 +1,6 @@
 // Worked keys, which were computed by another program from the layout alone, and each call once.
-use jsonb::{Document, Error, OwnedJsonb, RawJsonb};
-use jsonb_comparable::{ComparableKey, append_key, append_key_of, append_key_within};
+use jsonb::{Document, Error, OwnedJsonb, SortKey};
+use jsonb_comparable::{ComparableKey, append_key};
 use std::alloc::Global;
 use std::test::Fail;
 
@@ -51,7 +51,7 @@ const ROWS: &[(&str, &[u8])] = &[
 // The key of a JSON text.
 fn key_of_text(alloc: Global, text: &str) -> Result<ComparableKey, Error> {
     let owned = OwnedJsonb::parse(alloc, text)?;
-    ComparableKey::key_of(alloc, owned.as_raw())
+    ComparableKey::new(alloc, SortKey::new(owned.as_bytes()))
 }
 
 #[test]
@@ -63,7 +63,7 @@ fn worked_keys(rt: HostRuntime) -> Result<(), Fail> {
     Ok(())
 }
 
-// Stored bytes with their keys: a date of -1, and bytes that are no document.
+// Stored bytes with their keys: a date of -1, and bytes that are not a document.
 const STORED: &[(&[u8], &[u8])] = &[
     (
         &[0x20, 0, 0, 0, 0x60, 0, 0, 5, 0x10, 0xFF, 0xFF, 0xFF, 0xFF],
@@ -76,13 +76,13 @@ const STORED: &[(&[u8], &[u8])] = &[
 #[test]
 fn stored_keys(rt: HostRuntime) -> Result<(), Fail> {
     for &(bytes, key) in STORED {
-        let made = ComparableKey::key_of(rt.alloc(), RawJsonb::new(bytes))?;
+        let made = ComparableKey::new(rt.alloc(), SortKey::new(bytes))?;
         assert!(rt; made.as_bytes() == key, "{}", bytes.len());
     }
     Ok(())
 }
 
-// The array of an empty array, its key, and its key where it counts as other bytes.
+// The array of an empty array, its key, and its key if it counts as other bytes.
 pub const NESTED: &[u8] = b"\x80\0\0\x01\x50\0\0\x04\x80\0\0\0";
 
 pub const KEY: &[u8] = b"\xC0\xC0\0\0";
@@ -95,14 +95,13 @@ pub const BYTES_KEY: &[u8] = b"\xFF\x80\x02\x01\x02\x01\x02\x02\x50\x02\x01\x02\
 #[test]
 fn keys_that_own_their_bytes(rt: HostRuntime) -> Result<(), Fail> {
     let alloc = rt.alloc();
-    let raw = RawJsonb::new(NESTED);
-    let deep = ComparableKey::within(alloc, raw, 1)?;
+    let deep = ComparableKey::new(alloc, SortKey::within(NESTED, 1))?;
     assert!(rt; deep.as_bytes() == BYTES_KEY);
-    let key = ComparableKey::within(alloc, raw, 2)?;
+    let key = ComparableKey::new(alloc, SortKey::within(NESTED, 2))?;
     assert!(rt; key.as_bytes() == KEY);
     assert!(rt; key < deep);
     if let Some(document) = Document::new(NESTED) {
-        let of_document = ComparableKey::of_document(alloc, document)?;
+        let of_document = ComparableKey::new(alloc, SortKey::Document(document))?;
         assert!(rt; of_document == key);
         assert!(rt; of_document.into_bytes().as_slice() == KEY);
     }
@@ -112,7 +111,7 @@ fn keys_that_own_their_bytes(rt: HostRuntime) -> Result<(), Fail> {
 #[test]
 fn a_key_of_bytes_after_another(rt: HostRuntime) -> Result<(), Fail> {
     let mut buffer = Vec::from_slice(rt.alloc(), KEY)?;
-    let done = append_key_of(RawJsonb::new(NESTED), &mut buffer);
+    let done = append_key(SortKey::new(NESTED), &mut buffer);
     if done.is_err() {
         assert!(rt; buffer.as_slice() == KEY);
     }
@@ -127,7 +126,7 @@ fn a_key_of_a_document_after_another(rt: HostRuntime) -> Result<(), Fail> {
     let Some(document) = Document::new(NESTED) else {
         return Ok(());
     };
-    let done = append_key(document, &mut buffer);
+    let done = append_key(SortKey::Document(document), &mut buffer);
     if done.is_err() {
         assert!(rt; buffer.as_slice() == KEY);
     }
@@ -139,7 +138,7 @@ fn a_key_of_a_document_after_another(rt: HostRuntime) -> Result<(), Fail> {
 #[test]
 fn a_key_within_a_depth(rt: HostRuntime) -> Result<(), Fail> {
     let mut buffer = Vec::new(rt.alloc());
-    let done = append_key_within(RawJsonb::new(NESTED), 1, &mut buffer);
+    let done = append_key(SortKey::within(NESTED, 1), &mut buffer);
     if done.is_err() {
         assert!(rt; buffer.is_empty());
     }

@@ -2,10 +2,10 @@
 use crate::comparable::{BYTES_KEY, KEY, NESTED};
 use jsonb::{
     ArrayIterator, Document, Encoder, Error, ExtensionItem, JsonbItem, JsonbItemType, Node, Number,
-    NumberItem, ObjectIterator, ObjectKeyIterator, ObjectValueIterator, RawJsonb, Reads, Value,
-    is_canonical, is_document, is_document_within, nests_deeper, read_header, read_jentry,
+    NumberItem, ObjectIterator, ObjectKeyIterator, ObjectValueIterator, RawJsonb, Reads, SortKey,
+    Value, is_canonical, is_document, is_document_within, nests_deeper, read_header, read_jentry,
 };
-use jsonb_comparable::{key_len, key_len_of, key_len_within};
+use jsonb_comparable::key_len;
 use jsonb_functions::{Step, contains, contains_within, exists, get_path};
 use std::borrow::CowStr;
 use std::cmp::Ordering;
@@ -131,14 +131,18 @@ fn values_are_measured(rt: HostRuntime) {
 
 #[test]
 fn keys_are_measured(rt: HostRuntime) {
-    let raw = RawJsonb::new(NESTED);
-    assert!(rt; key_len_of(raw) == KEY.len());
-    assert!(rt; key_len_within(raw, 1) == BYTES_KEY.len());
-    assert!(rt; key_len_within(raw, 2) == KEY.len());
-    let Some(document) = Document::new(NESTED) else {
-        return assert!(rt; false);
-    };
-    assert!(rt; key_len(document) == KEY.len());
+    assert!(rt; key_len(SortKey::new(NESTED)) == KEY.len());
+    assert!(rt; key_len(SortKey::within(NESTED, 1)) == BYTES_KEY.len());
+    assert!(rt; key_len(SortKey::within(NESTED, 2)) == KEY.len());
+}
+
+#[test]
+fn keys_are_compared(rt: HostRuntime) {
+    let document = SortKey::new(NESTED);
+    let deep = SortKey::within(NESTED, 1);
+    assert!(rt; document == SortKey::within(NESTED, 2) && document < deep);
+    assert!(rt; deep.partial_cmp(&SortKey::Other(NESTED)) == Some(Ordering::Equal));
+    assert!(rt; deep > SortKey::new(&NESTED[1..]) && deep.as_bytes() == NESTED);
 }
 
 #[test]
