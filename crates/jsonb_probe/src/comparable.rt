@@ -2,14 +2,14 @@
 
 use crate::line::{decode_hex, number_in, ok_hex};
 use crate::refusal::Refusal;
-use jsonb::RawJsonb;
+use jsonb::SortKey;
 use jsonb_comparable::ComparableKey;
 use std::alloc::Global;
 
 /// The key of the bytes.
 pub fn key(alloc: Global, word: &[u8]) -> Result<String, Refusal> {
     let bytes = decode_hex(alloc, word)?;
-    let key = ComparableKey::key_of(alloc, RawJsonb::new(&bytes))?;
+    let key = ComparableKey::new(alloc, SortKey::new(&bytes))?;
     ok_hex(alloc, key.as_bytes())
 }
 
@@ -17,6 +17,6 @@ pub fn key(alloc: Global, word: &[u8]) -> Result<String, Refusal> {
 pub fn key_within(alloc: Global, word: &[u8], depth: &[u8]) -> Result<String, Refusal> {
     let depth = number_in(depth)?;
     let bytes = decode_hex(alloc, word)?;
-    let key = ComparableKey::within(alloc, RawJsonb::new(&bytes), depth)?;
+    let key = ComparableKey::new(alloc, SortKey::within(&bytes, depth))?;
     ok_hex(alloc, key.as_bytes())
 }
