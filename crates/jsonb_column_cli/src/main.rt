@@ -4,6 +4,7 @@
 mod answer;
 mod arguments;
 mod command;
+mod laws;
 mod run;
 
 use answer_lines::{Request, RunError, request_of};

@@ -1,7 +1,7 @@
 //! The loop from lines to replies, over any reader and any writer.
 
 ghost use Rattle.std.specs.Prelude.{◌≡◌, [], List, ℕ, OnOk, OnErr, IfSome, IsErrOf};
-ghost use Rattle.jsonb_column_cli.specs.Words.{IsAtEnd, AreAnswers, AppendsReplies, AppendsWhole};
+ghost use Rattle.jsonb_column_cli.specs.Words.{IsAtEnd, AppendsReplies, AppendsWhole};
 ghost use Rattle.jsonb_column_cli.specs.Words.{AppendsBeginning, Rows, AnswersLine, fault_line};
 
 use crate::answer::line_text;
@@ -65,7 +65,7 @@ impl LineAnswerer for Commands {
 /// the run continues. After an error, a prefix of the replies was written. `Read`: the reader
 /// failed, or was called 18,446,744,073,709,551,615 times without reaching the end of the input.
 /// `Write`: the writer failed, or accepted no byte. `Memory`: the allocation of a line or of a
-/// reply failed.
+/// reply failed. An input has only one output if no reply is `error OutOfMemory` (`reply_laws`).
 pub fn run<R: Read, W: Write>(alloc: Global, reader: &mut R, writer: &mut W) -> Result<(), RunError>
     ensures done { OnOk result (IfSome (R.remaining reader.old) (λ input. (rows : Rows)
         × AppendsReplies AnswersLine [] rows input
@@ -79,10 +79,6 @@ pub fn run<R: Read, W: Write>(alloc: Global, reader: &mut R, writer: &mut W) -> 
         IfSome (R.remaining reader.new) (λ left. (start : List ℕ) × ((rows : Rows)
         × AppendsWhole AnswersLine [] rows input start left
         (W.contents writer.old) (W.contents writer.new)))) }
-
-    // If no reply is `error OutOfMemory`, the output is determined by the input.
-    ensures one_output { (input a b : List ℕ) → AreAnswers AnswersLine [] input a
-        → AreAnswers AnswersLine [] input b → a ≡ b }
 {
     let mut commands = Commands::new(alloc);
     answer_lines(alloc, &mut commands, reader, writer)

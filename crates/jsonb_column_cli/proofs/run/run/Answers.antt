@@ -1,7 +1,6 @@
 use Rattle.std.proofs.Common.{[]}
 use Rattle.answer_lines.specs.Session.{AppendsReplies, AppendsWhole}
 use Rattle.jsonb_column_cli.specs.Answers.{AnswersLine}
-use Rattle.jsonb_column_cli.proofs.OneAnswer.{one_output}
 use Rattle.jsonb_column_cli.proofs.Replies.{some_rows, some_start}
 use Rattle.jsonb_column_cli.proofs.run.run.Goals as goal
 
@@ -24,6 +23,3 @@ returns-clause-prompt g c fault =
     (λ input left start rows. AppendsWhole AnswersLine [] rows input start left
     (g.W.Write.contents c.args.writer.now) (g.W.Write.contents c.answer_lines.new.writer))
     c.answer_lines.new.answerer prompt
-
-pub returns-clause-one_output : goal.returns-clause-one_output
-returns-clause-one_output g c = one_output
