@@ -1,22 +1,22 @@
 -- What is left in a walk over children.
-use Rattle.std.proofs.Common.{◌≡◌, ℕ, zero, suc, ◌-◌, ◌<◌, if◌then◌else◌, Bool}
-use Rattle.std.proofs.Common.{true}
-use Rattle.std.proofs.Common.{false, List, [], ◌∷◌, map, Option, None, Some, Result, Ok, Err, refl}
-use Rattle.std.proofs.Common.{sym, ap, ap₂, ◌∙◌, arith}
+use Rattle.std.proofs.Common.{◌≡◌, ℕ, zero, suc, ◌+◌, ◌-◌, ◌*◌, ◌<◌}
+use Rattle.std.proofs.Common.{if◌then◌else◌, Bool, true, false, List, [], ◌∷◌, map, Option}
+use Rattle.std.proofs.Common.{None, Some, Result, Ok, Err, refl, sym, ap, ap₂, subst, ◌∙◌, arith}
+use Rattle.std.proofs.Common.{zero-add}
 use Rattle.jsonb_value.specs.declared.error.Error.{Error}
 use Rattle.jsonb_codec.specs.declared.constants.TheConstants.{ARRAY_CONTAINER_TAG}
 use Rattle.jsonb_codec.specs.Word.{header_at}
+use Rattle.jsonb.specs.Entries.{entry_there, payloads_end}
 use Rattle.jsonb.specs.Steps.{◌>>=◌}
-use Rattle.jsonb.specs.declared.reads.lookup.Place.{Place}
+use Rattle.jsonb.specs.declared.entries.Entry.{Entry as PlacedEntry}
 use Rattle.kohiblad.specs.declared.children.Child.{Child}
 use Rattle.kohiblad.specs.declared.children.KohibladCursor.{KohibladCursor}
 use Rattle.kohiblad.specs.declared.path_places.ChildWalk.{ChildWalk}
 use Rattle.kohiblad.specs.ChildWalks.{found_child, places_left, walked_children}
-use Rattle.kohiblad.specs.Children.{child_at_cursor, cursor_after, cursor_at, cursor_under}
-use Rattle.kohiblad.specs.Children.{numbered_child}
+use Rattle.kohiblad.specs.Children.{child_at_cursor, cursor_after, cursor_among, cursor_at}
+use Rattle.kohiblad.specs.Children.{layout_under, numbered_child}
 use Rattle.kohiblad.specs.PathPlaces.{children_from, first_child, has_key, named_child, value_at}
-use Rattle.kohiblad.specs.Places.{entry_there, part_start}
-use Rattle.kohiblad.proofs.Walks.{next_child, same_child}
+use Rattle.kohiblad.proofs.Walks.{IsUnstarted, next_child, same_child, unstarted}
 
 -- A walk from the cursor before a child goes over the children from that one on.
 module _ (bytes : List ℕ) where
@@ -54,28 +54,51 @@ module _ (bytes : List ℕ) where
       walked_by n i cursor (child_at_cursor bytes cursor) is refl
       (λ next later. walked_from n (suc i) next later)
 
--- The walk from the cursor before an item.
+-- No child is found where a walk cannot begin.
+none_first : (r : Result (Option Child) Error) (more : List Child) → None ≡ found_child r
+    → first_child r more ≡ []
+none_first (Ok None) more is = refl
+none_first (Ok (Some child)) more is = let never : ⊥ = cc in absurd never
+none_first (Err e) more is = refl
+
+module _ (bytes : List ℕ) where
+  pub none_started : (i n : ℕ) → IsUnstarted (cursor_at bytes i) → [] ≡ children_from bytes i n
+  none_started i zero none = refl
+  none_started i (suc n) none =
+      sym (none_first (numbered_child bytes i) (children_from bytes (suc i) n)
+      (unstarted bytes i none))
+
+-- The items of an array from one on.
 module _ (bytes : List ℕ) (count : ℕ)
     (header : header_at bytes 0 ≡ Ok (ARRAY_CONTAINER_TAG, count)) where
-  pub items_walked : (i n v : ℕ) → part_start bytes count i ≡ Ok v
+  items_start : (i : ℕ) → payloads_end bytes i 4 (4 + 4 * count) >>= (λ (v : ℕ). Ok
+      (Some record { index = i; key = 0; value = v })) ≡ cursor_at bytes i
+  items_start i =
+      ap₂ (λ (k n : ℕ). payloads_end bytes k 4 (4 + 4 * n)
+      >>= (λ (v : ℕ). Ok (Some record { index = i; key = 0; value = v })))
+      (sym (zero-add i)) (sym (zero-add count))
+      ∙ sym (ap (λ (r : Result (ℕ × ℕ) Error). (r >>= (λ (h : ℕ × ℕ). Ok (layout_under h)))
+      >>= cursor_among bytes i) header)
+
+  pub items_walked : (i n v : ℕ) → Ok v ≡ payloads_end bytes i 4 (4 + 4 * count)
       → walked_children bytes n (record { index = i; key = 0; value = v }) ≡ children_from bytes i n
   items_walked i n v is =
       walked_from bytes n i _
-      (ap (λ (r : Result (ℕ × ℕ) Error). r >>= cursor_under bytes i) header
-      ∙ ap (λ (r : Result ℕ Error). r
-      >>= (λ (value : ℕ). Ok (Some record { index = i; key = 0; value = value }))) is)
+      (sym (ap (λ (r : Result ℕ Error). r
+      >>= (λ (v : ℕ). Ok (Some record { index = i; key = 0; value = v }))) is ∙ items_start i))
+
+  pub items_cut : (i n : ℕ) (e : Error) → Err e ≡ payloads_end bytes i 4 (4 + 4 * count)
+      → [] ≡ children_from bytes i n
+  items_cut i n e is =
+      none_started bytes i n
+      (subst IsUnstarted (ap (λ (r : Result ℕ Error). r
+      >>= (λ (v : ℕ). Ok (Some record { index = i; key = 0; value = v }))) is ∙ items_start i) tt)
 
 -- The next child of a walk, by what was found.
 found_is : (r : Result (Option Child) Error) (child : Child) → Some child ≡ found_child r
     → r ≡ Ok (Some child)
 found_is (Ok o) child is = ap (λ (o : Option Child). Ok o) (sym is)
 found_is (Err e) child is = let never : ⊥ = cc in absurd never
-
-none_first : (r : Result (Option Child) Error) (more : List Child) → None ≡ found_child r
-    → first_child r more ≡ []
-none_first (Ok None) more is = refl
-none_first (Ok (Some child)) more is = let never : ⊥ = cc in absurd never
-none_first (Err e) more is = refl
 
 module _ (bytes : List ℕ) where
   pub none_walked : (n : ℕ) (cursor : KohibladCursor)
@@ -96,30 +119,30 @@ module _ (bytes : List ℕ) where
       ∙ ap₂ (λ (m : ℕ) (c : KohibladCursor). child ∷ walked_children bytes m c) same (sym moved)
 
 -- The places that are left in a walk over the children at a place.
-module _ (bytes inside : List ℕ) (place : Place) (is : inside ≡ (entry_there bytes place).payload)
-  where
-    pub no_place_left : (walk : ChildWalk)
-        → None ≡ found_child (child_at_cursor inside walk.cursor)
-        → places_left bytes place walk ≡ []
-    no_place_left walk none =
-        ap (λ (b : List ℕ). map (value_at place.start) (walked_children b walk.left walk.cursor))
-        (sym is)
-        ∙ ap (map (value_at place.start)) (none_walked inside walk.left walk.cursor none)
+module _ (bytes inside : List ℕ) (place : PlacedEntry)
+    (is : inside ≡ (entry_there bytes place).payload) where
+  pub no_place_left : (walk : ChildWalk)
+      → None ≡ found_child (child_at_cursor inside walk.cursor)
+      → places_left bytes place walk ≡ []
+  no_place_left walk none =
+      ap (λ (b : List ℕ). map (value_at place.start) (walked_children b walk.left walk.cursor))
+      (sym is)
+      ∙ ap (map (value_at place.start)) (none_walked inside walk.left walk.cursor none)
 
-    pub next_place_left : (walk : ChildWalk) (left : ℕ) (next : KohibladCursor) (child : Child)
-        → (walk.left ≡ 0 → ⊥) → left ≡ walk.left - 1
-        → Some child ≡ found_child (child_at_cursor inside walk.cursor)
-        → next ≡ cursor_after (Ok (Some child)) walk.cursor
-        → places_left bytes place walk
-        ≡ value_at place.start child
-        ∷ places_left bytes place (record { cursor = next; left = left })
-    next_place_left walk left next child some less here moved =
-        ap (λ (b : List ℕ). map (value_at place.start) (walked_children b walk.left walk.cursor))
-        (sym is)
-        ∙ ap (map (value_at place.start))
-        (one_walked inside walk.left left walk.cursor next child some less here moved)
-        ∙ ap (λ (b : List ℕ). value_at place.start child
-        ∷ map (value_at place.start) (walked_children b left next)) is
+  pub next_place_left : (walk : ChildWalk) (left : ℕ) (next : KohibladCursor) (child : Child)
+      → (walk.left ≡ 0 → ⊥) → left ≡ walk.left - 1
+      → Some child ≡ found_child (child_at_cursor inside walk.cursor)
+      → next ≡ cursor_after (Ok (Some child)) walk.cursor
+      → places_left bytes place walk
+      ≡ value_at place.start child
+      ∷ places_left bytes place (record { cursor = next; left = left })
+  next_place_left walk left next child some less here moved =
+      ap (λ (b : List ℕ). map (value_at place.start) (walked_children b walk.left walk.cursor))
+      (sym is)
+      ∙ ap (map (value_at place.start))
+      (one_walked inside walk.left left walk.cursor next child some less here moved)
+      ∙ ap (λ (b : List ℕ). value_at place.start child
+      ∷ map (value_at place.start) (walked_children b left next)) is
 
 -- The walk to the member with a key.
 module _ (name bytes : List ℕ) where

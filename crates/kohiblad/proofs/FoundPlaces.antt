@@ -1,13 +1,13 @@
 -- The position in a document of the value that a look-up finds.
-use Rattle.std.proofs.Common.{◌≡◌, ℕ, ◌+◌, ◌-◌, ◌*◌, Bool, List, length, slice_get, Option, None}
-use Rattle.std.proofs.Common.{Some, option_map, Result, Ok, Err, IsOkAnd, refl, sym, ap, ap₂, subst}
+use Rattle.std.proofs.Common.{◌≡◌, ℕ, ◌+◌, ◌-◌, Bool, List, length, slice_get, Option, None}
+use Rattle.std.proofs.Common.{Some, option_map, Result, Ok, Err, IsOkAnd, refl, sym, ap, subst}
 use Rattle.std.proofs.Common.{◌∙◌, inl, inr, arith}
 use Rattle.std.specs.Map.{values_of}
 use Rattle.jsonb_value.specs.declared.error.Error.{Error}
 use Rattle.jsonb_value.specs.Tree.{Tree, null, boolean, number, text, extension, array, object}
 use Rattle.jsonb_value.specs.Tree.{Pairs}
 use Rattle.jsonb_codec.specs.Doc.{Doc, Payload}
-use Rattle.jsonb.specs.declared.reads.lookup.Place.{Place}
+use Rattle.jsonb.specs.declared.entries.Entry.{Entry as PlacedEntry}
 use Rattle.jsonb.specs.Item.{Entry}
 use Rattle.jsonb.specs.ItemView.{ItemView}
 use Rattle.jsonb.specs.Lookup.{AnswersBy, IsFound, IsNotFound, LooksUp}
@@ -15,8 +15,7 @@ use Rattle.jsonb.specs.StoredEntries.{entry_item}
 use Rattle.jsonb.proofs.KindLaws.{header_at-object}
 use Rattle.jsonb.proofs.LookupLaws.{find_entry-first, find_entry-none, tree_found}
 use Rattle.jsonb.proofs.StoredEntryLaws.{HasMembers-Payload, members_at}
-use Rattle.kohiblad.specs.Places.{is_name, part_place, some_place, value_place, IsPlaceFound}
-use Rattle.kohiblad.specs.Places.{IsValuePlace}
+use Rattle.kohiblad.specs.Places.{is_name, part_in, value_place, IsPlaceFound, IsValuePlace}
 use Rattle.kohiblad.proofs.Lookups.{counted}
 use Rattle.kohiblad.proofs.PlaceLaws.{value_stored}
 
@@ -45,23 +44,21 @@ module _ (name b : List ℕ) where
       → IsValuePlace b (object ps) name (value_place b reads (Ok (Some x)))
   some_among ps x reads doc h =
       let ms = h.members in
-      let members = counted b _ (members_at b ms h.stored.few h.stored.written).header in
-      let pairs = counted b _ (header_at-object b ps doc) in
-      let value = value_with (slice_get (values_of ms) h.index) x h.entry in
-      let stored = value_stored b ps ms h.stored h.index value.0 value.1 in
-      let cost = h.cost in
-      let which : reads - 2 ≡ length ms + h.index = omega arith in
-      let found = ap₂ (λ (n i : ℕ). part_place b (2 * n) i) members which ∙ stored.1.0 in
+      let pairs = counted b _ (members_at b ms h.stored.few h.stored.written).header in
+      let count = counted b _ (header_at-object b ps doc) in
+      let (c, there) = value_with (slice_get (values_of ms) h.index) x h.entry in
+      let at = value_stored b ps ms h.stored h.index c there in
+      let which : reads - 2 ≡ length ms + h.index = omega (arith, pairs, count, h.cost) in
       let first = find_entry-first answers (is_name name) (length name) by ms ps h.index h.value
       h.stored.mean h.first in (
         ms,
         (
           h.stored,
           (
-            Some stored.0,
+            Some at.place,
             (
-              ap some_place found,
-              ap (λ (c : Entry). Some c) stored.1.1 ∙ sym (first ∙ value.1),
+              ap (part_in b) which ∙ at.found,
+              ap (λ (c : Entry). Some c) at.there ∙ sym (first ∙ there),
             ),
           ),
         ),
@@ -87,7 +84,7 @@ module _ (name b : List ℕ) where
   by_item t (Err e) reads doc h = absurd h
 
   -- What the look-up finds in the bytes of a document is the position of the value.
-  pub found_stored : (t : Tree) (found : Result (Option Place) Error) → Doc b t
+  pub found_stored : (t : Tree) (found : Result (Option PlacedEntry) Error) → Doc b t
       → IsPlaceFound name b found → IsValuePlace b t name found
   found_stored t found doc h =
       subst (IsValuePlace b t name) (sym h.place)

@@ -1,23 +1,28 @@
 -- The result of a look-up, with the closure's results in another form, and the position in it.
-use Rattle.std.proofs.Common.{◌≡◌, ℕ, zero, suc, ◌+◌, ◌-◌, ◌*◌, ◌≤◌, Bool, true, false, nat_le}
-use Rattle.std.proofs.Common.{List, length, Option, None, Some, IfSome, option_map, Result, Ok, Err}
-use Rattle.std.proofs.Common.{IsOkAnd, IfOk, refl, ap, subst, sym, ◌∙◌, arith}
-use Rattle.std.proofs.lemmas.Bool.{le-leb, leb-true}
-use Rattle.jsonb_codec.specs.declared.jentry.JEntry.{JEntry}
-use Rattle.jsonb_codec.specs.JEntry.{jentry_at}
-use Rattle.jsonb_codec.specs.Word.{header_at}
-use Rattle.jsonb.specs.declared.reads.lookup.FoundValue.{FoundValue}
-use Rattle.jsonb.specs.declared.reads.lookup.Place.{Place}
-use Rattle.jsonb.specs.Steps.{◌>>=◌}
-use Rattle.jsonb.specs.Lookup as lookup
-use Rattle.kohiblad.specs.Places.{is_name, start_after, place_at, part_place, some_place}
-use Rattle.kohiblad.specs.Places.{value_place, IsPlaceFound}
+use Rattle.std.proofs.Common.{◌≡◌, ℕ, zero, suc, ◌+◌, ◌-◌, ◌*◌, ◌<◌, ◌≤◌, ◌==◌, nat_le, Bool}
+use Rattle.std.proofs.Common.{true, false, if◌then◌else◌, List, length, Option, None, Some, IfSome}
+use Rattle.std.proofs.Common.{option_map, Result, Ok, Err, IsOkAnd, IfOk, refl, ap, ap₂, subst, sym}
+use Rattle.std.proofs.Common.{◌∙◌, arith}
+use Rattle.std.proofs.lemmas.Bool.{eqb-true, le-leb, leb-true}
 use Rattle.jsonb_value.specs.declared.error.Error.{Error}
+use Rattle.jsonb_codec.specs.declared.constants.TheConstants.{OBJECT_CONTAINER_TAG}
+use Rattle.jsonb_codec.specs.JEntry.{jentry_at, jentry_in}
+use Rattle.jsonb_codec.specs.Word.{header_at}
+use Rattle.jsonb_codec.specs.declared.jentry.JEntry.{JEntry}
+use Rattle.jsonb_codec.proofs.RoomLaws.{word_at-inside}
+use Rattle.jsonb.specs.declared.entries.Entry.{Entry as PlacedEntry}
+use Rattle.jsonb.specs.declared.reads.lookup.FoundValue.{FoundValue}
+use Rattle.jsonb.specs.Entries.{payloads_end}
 use Rattle.jsonb.specs.ItemView.{ItemView}
-use Rattle.jsonb.specs.Parts.{key_of_size, length_in, part_length, length_before, PassedBefore}
-use Rattle.jsonb.specs.Parts.{IsAccepted, IsPlaceOf, IsUnreadable, key_unread, value_unread}
+use Rattle.jsonb.specs.Lookup as lookup
 use Rattle.jsonb.specs.Lookup.{LooksUpBytes, no_header, other_header, unread, all_passed}
 use Rattle.jsonb.specs.Lookup.{one_accepted}
+use Rattle.jsonb.specs.Parts.{key_of_size, length_before, length_in, part_length, PassedBefore}
+use Rattle.jsonb.specs.Parts.{IsAccepted, IsPlaceOf, IsUnreadable, key_unread, value_unread}
+use Rattle.jsonb.specs.Steps.{◌>>=◌}
+use Rattle.jsonb.specs.Walk.{count_if, count_under}
+use Rattle.kohiblad.specs.Places.{is_name, part_in, value_place, IsPlaceFound}
+use Rattle.kohiblad.proofs.PlaceLaws.{part_from}
 
 module _ (answers others : List ℕ → Bool → Type 0)
     (imply : (key : List ℕ) (b : Bool) → answers key b → others key b) (size : ℕ)
@@ -65,59 +70,73 @@ pub counted : (bytes : List ℕ) (header : ℕ × ℕ) → header_at bytes 0 ≡
 unfolding lookup.header_count
 counted bytes header is = ap lookup.count_or_zero is
 
--- the positions of an entry that was read: by the words before it, and by its own
+-- the header of an object
+module _ (bytes : List ℕ) (n : ℕ) where
+  object_if : (header : ℕ × ℕ) (b : Bool) → (header.0 == OBJECT_CONTAINER_TAG) ≡ b
+      → (if b then Some header.1 else None) ≡ Some n → header ≡ (OBJECT_CONTAINER_TAG, n)
+  object_if header true is count =
+      let same : header.1 ≡ n = cc in
+      ap₂ (λ (t m : ℕ). (t, m)) (eqb-true header.0 OBJECT_CONTAINER_TAG is) same
+  object_if header false is count = let never : ⊥ = cc in absurd never
+
+  object_by : (r : Result (ℕ × ℕ) Error)
+      → r >>= (λ (h : ℕ × ℕ). Ok (count_if OBJECT_CONTAINER_TAG h)) ≡ Ok (Some n)
+      → r ≡ Ok (OBJECT_CONTAINER_TAG, n)
+  object_by (Ok header) is =
+      let count : count_if OBJECT_CONTAINER_TAG header ≡ Some n = cc in
+      ap (λ (h : ℕ × ℕ). Ok h) (object_if header _ refl count)
+  object_by (Err e) is = let never : ⊥ = cc in absurd never
+
+  object_header : count_under bytes OBJECT_CONTAINER_TAG ≡ Ok (Some n)
+      → header_at bytes 0 ≡ Ok (OBJECT_CONTAINER_TAG, n)
+  unfolding count_under
+  object_header is = object_by (header_at bytes 0) is
+
+-- Where the payloads before one end, by the lengths in their words.
 module _ (bytes : List ℕ) where
-  step_by : (n i s : ℕ) (r : Result JEntry Error) → ((e : Error) → r ≡ Err e → ⊥)
-      → r >>= (λ (x : JEntry). start_after bytes n i (s + x.length))
-      ≡ start_after bytes n i (s + length_in r)
-  step_by n i s (Ok x) read = refl
-  step_by n i s (Err e) read = absurd (read e refl)
+  word_there : (word : ℕ) (e : JEntry) (b : Bool) → nat_le (word + 4) (length bytes) ≡ b
+      → jentry_at bytes word ≡ Ok e → word + 4 ≤ length bytes
+  word_there word e true fits read = leb-true (word + 4) (length bytes) fits
+  word_there word e false fits read = let never : ⊥ = cc (rw fits at read) in absurd never
 
-  is_read : (i : ℕ) (e : Error) → i + 4 ≤ length bytes → jentry_at bytes i ≡ Err e → ⊥
-  is_read i e fits cut =
-      let inside = le-leb (i + 4) (length bytes) fits in
-      let never : ⊥ = cc (rw inside at cut) in never
-
-  starts : (n k base s v : ℕ) → 4 + 4 * (k + n) ≤ length bytes → s ≡ base + length_before bytes k
-      → v ≡ base + length_before bytes (k + n) → start_after bytes n (4 + 4 * k) s ≡ Ok v
+  ends_there : (n part base word start : ℕ) → 4 + 4 * (part + n) ≤ length bytes
+      → word ≡ 4 + 4 * part → start ≡ base + length_before bytes part
+      → payloads_end bytes n word start ≡ Ok (base + length_before bytes (part + n))
   unfolding part_length
-  starts zero k base s v fits here there =
-      let same : k + zero ≡ k = omega arith in
-      ap (λ (x : ℕ). Ok x)
-      (here ∙ ap (λ (m : ℕ). base + length_before bytes m) (sym same) ∙ sym there)
-  starts (suc n) k base s v fits here there =
-      let index : 4 + 4 * k + 4 ≡ 4 + 4 * suc k = omega arith in
-      let count : suc k + n ≡ k + suc n = omega arith in
-      let next : s + part_length bytes k ≡ base + length_before bytes (suc k) =
-      omega (arith, here) in
-      step_by n (4 + 4 * k + 4) s (jentry_at bytes (4 + 4 * k))
-      (λ e cut. is_read (4 + 4 * k) e (omega arith) cut)
-      ∙ ap (λ (i : ℕ). start_after bytes n i (s + part_length bytes k)) index
-      ∙ starts n (suc k) base _ v (omega arith) next
-      (there ∙ ap (λ (m : ℕ). base + length_before bytes m) (sym count))
+  ends_there zero part base word start fits at from =
+      let same : part ≡ part + zero = omega arith in
+      ap (λ (s : ℕ). Ok s) from ∙ ap (λ (p : ℕ). Ok (base + length_before bytes p)) same
+  ends_there (suc n) part base word start fits at from =
+      let read = ap jentry_in (word_at-inside bytes word (omega arith)) in
+      let size = ap (λ (w : ℕ). length_in (jentry_at bytes w)) (sym at) ∙ ap length_in read in
+      let number : suc part + n ≡ part + suc n = omega arith in
+      ap (λ (r : Result JEntry Error). r
+      >>= (λ (e : JEntry). payloads_end bytes n (word + 4) (start + e.length))) read
+      ∙ ends_there n (suc part) base (word + 4) _ (omega arith) (omega arith)
+      (omega (arith, size, from))
+      ∙ ap (λ (p : ℕ). Ok (base + length_before bytes p)) number
 
-  read_within : (i : ℕ) (e : JEntry) (b : Bool) → nat_le (i + 4) (length bytes) ≡ b
-      → jentry_at bytes i ≡ Ok e → i + 4 ≤ length bytes
-  read_within i e true fits read = leb-true (i + 4) (length bytes) fits
-  read_within i e false fits read = let never : ⊥ = cc (rw fits at read) in absurd never
-
-  pub placed : (n part : ℕ) (place : Place) → IsPlaceOf bytes n part place
-      → part_place bytes (2 * n) part ≡ Ok place
-  placed n part place is =
-      let fits = read_within (4 + 4 * part) _ _ refl is.entry in
+  -- the part of an object with a place
+  part_placed : (n : ℕ) → count_under bytes OBJECT_CONTAINER_TAG ≡ Ok (Some n) → (part : ℕ)
+      → part < 2 * n → (entry : PlacedEntry) → IsPlaceOf bytes n part entry
+      → part_in bytes part ≡ Ok (Some entry)
+  part_placed n count part among entry is =
+      let fits = word_there (4 + 4 * part) _ _ refl is.entry in
       let none : length_before bytes 0 ≡ 0 = refl in
-      let number : 0 + part ≡ part = omega arith in
-      let all = ap (length_before bytes) number in
-      let started = starts part 0 (4 + 4 * (2 * n)) (4 + 4 * (2 * n)) place.start (omega arith)
-      (omega (arith, none)) (omega (arith, all, is.start)) in
-      let inside = le-leb (place.start + place.length) (length bytes) is.inside in
-      let entry = is.entry in
-      ap (λ (r : Result ℕ Error). r >>= place_at bytes (4 + 4 * part)) started
-      ∙ rw (entry, inside) refl
+      let all : 0 + part ≡ part = omega arith in
+      let lengths = ap (length_before bytes) all in
+      let same : 4 + 4 * (2 * n) + length_before bytes (0 + part) ≡ entry.start =
+      omega (arith, lengths, is.start) in
+      let inside = le-leb (entry.start + entry.length) (length bytes) is.inside in
+      let word = is.entry in
+      part_from bytes _ (object_header bytes n count) part among entry.start
+      (ends_there part 0 (4 + 4 * (2 * n)) 4 (4 + 4 * (2 * n)) (omega (arith, fits)) (omega arith)
+      (omega (arith, none)) ∙ ap (λ (s : ℕ). Ok s) same)
+      ∙ rw (word, inside) refl
 
 -- The positions in the result of a look-up.
-abbrev pub places_of : Result (Option FoundValue) Error → Result (Option Place) Error
-places_of (Ok found) = Ok (option_map (λ (f : FoundValue). f.place) found)
+abbrev pub places_of : Result (Option FoundValue) Error → Result (Option PlacedEntry) Error
+places_of (Ok found) = Ok (option_map (λ (f : FoundValue). f.entry) found)
 places_of (Err e) = Err e
 
 -- what is found, given the result of the call
@@ -137,23 +156,40 @@ module _ (answers : List ℕ → Bool → Type 0) (name given bytes viewed : Lis
       (λ key b. b ≡ is_name given key) imply (length given) viewed
       (lookup.found_view r) reads looks_up))
 
+  place_by : (f : FoundValue) (n pair : ℕ)
+      → count_under bytes OBJECT_CONTAINER_TAG ≡ Ok (Some n) → pair < n → reads ≡ n + pair + 2
+      → IsPlaceOf bytes (lookup.header_count bytes) (reads - 2) f.entry
+      → Ok (Some f.entry) ≡ part_in bytes (reads - 2)
+  place_by f n pair count among cost is =
+      let same = counted bytes _ (object_header bytes n count) in
+      sym (part_placed bytes n count (reads - 2) (omega (arith, cost, among)) f.entry
+      (subst (λ (m : ℕ). IsPlaceOf bytes m (reads - 2) f.entry) same is))
+
   place_of : (r : Result (Option FoundValue) Error)
+      → LooksUpBytes (λ key b. b ≡ is_name name key) (length name) bytes (lookup.found_view r) reads
       → IfOk r (λ o. IfSome o
-      (λ f. IsPlaceOf bytes (lookup.header_count bytes) (reads - 2) f.place))
+      (λ f. IsPlaceOf bytes (lookup.header_count bytes) (reads - 2) f.entry))
       → places_of r ≡ value_place bytes reads (lookup.found_view r)
-  place_of (Ok (Some f)) is = ap some_place (sym (placed bytes _ _ f.place is))
-  place_of (Ok None) is = refl
-  place_of (Err e) is = refl
+  place_of (Ok (Some f)) (no_header e count is) place = let never : ⊥ = cc in absurd never
+  place_of (Ok (Some f)) (other_header count is one) place = let never : ⊥ = cc in absurd never
+  place_of (Ok (Some f)) (unread n e count past is) place = let never : ⊥ = cc in absurd never
+  place_of (Ok (Some f)) (all_passed n count none is cost) place =
+      let never : ⊥ = cc in absurd never
+  place_of (Ok (Some f)) (one_accepted n pair entry count key there is cost) place =
+      place_by f n pair count key.among cost place
+  place_of (Ok None) looks_up place = refl
+  place_of (Err e) looks_up place = refl
 
   pub place_found : (r : Result (Option FoundValue) Error)
       → LooksUpBytes answers (length given) viewed (lookup.found_view r) reads
       → IfOk r (λ o. IfSome o
-      (λ f. IsPlaceOf viewed (lookup.header_count viewed) (reads - 2) f.place))
+      (λ f. IsPlaceOf viewed (lookup.header_count viewed) (reads - 2) f.entry))
       → IsPlaceFound name bytes (places_of r)
   place_found r looks_up is = record {
     item = lookup.found_view r;
     reads = reads;
     looks_up = looked_up r looks_up;
-    place = place_of r (subst (λ (b : List ℕ). IfOk r (λ o. IfSome o
-        (λ f. IsPlaceOf b (lookup.header_count b) (reads - 2) f.place))) same is);
+    place = place_of r (looked_up r looks_up)
+        (subst (λ (b : List ℕ). IfOk r (λ o. IfSome o
+        (λ f. IsPlaceOf b (lookup.header_count b) (reads - 2) f.entry))) same is);
   }

@@ -14,15 +14,16 @@ use Rattle.jsonb_codec.specs.Doc.{Doc, Payload, type_of}
 use Rattle.jsonb_codec.specs.Parts.{IsPayloadOf}
 use Rattle.jsonb.specs.Building.{AreShort, AreTexts, key_codes}
 use Rattle.jsonb.specs.Code.{scalar_bytes}
+use Rattle.jsonb.specs.Entries.{entry_there}
 use Rattle.jsonb.specs.Item.{Entry}
 use Rattle.jsonb.specs.Node.{tree_list, pair_list}
 use Rattle.jsonb.specs.StoredEntries.{AreCodesOf, ArePairsOf}
 use Rattle.jsonb.proofs.StoredEntryLaws.{both_are, object_holds}
-use Rattle.jsonb.specs.declared.reads.lookup.Place.{Place}
+use Rattle.jsonb.specs.declared.entries.Entry.{Entry as PlacedEntry}
 use Rattle.kohiblad.specs.Parts.{is_entry_type, is_too_long, part_document, part_trees}
 use Rattle.kohiblad.specs.Parts.{IsPartDocument}
-use Rattle.kohiblad.specs.Places.{entry_there, entry_document, place_in, IsPartPlace}
-use Rattle.kohiblad.proofs.PlaceLaws.{by_kind, place_in_stored}
+use Rattle.kohiblad.specs.Places.{entry_document, part_in, IsPartPlace}
+use Rattle.kohiblad.proofs.PlaceLaws.{by_kind, part_in_stored}
 
 -- the document of an entry that means a tree
 is_type : (t : Tree) → is_entry_type (type_of t) ≡ true
@@ -147,9 +148,9 @@ EntriesMean-keys (k ∷ ks) (c ∷ cs) (pair l t ps) h texts short = (
 )
 
 -- the entry at the position of a part
-module _ (b : List ℕ) (nth : ℕ) (place : Place)
-    (found : place_in b nth ≡ Ok (Some place)) where
-  among_items : (ts : Trees) → IsPartPlace b (array ts) nth (place_in b nth)
+module _ (b : List ℕ) (nth : ℕ) (place : PlacedEntry)
+    (found : part_in b nth ≡ Ok (Some place)) where
+  among_items : (ts : Trees) → IsPartPlace b (array ts) nth (part_in b nth)
       → IsAmong (part_trees (array ts)) nth (entry_there b place)
   among_items ts (entries, (stored, (o, (is, there)))) =
       let same : o ≡ Some place = cc in
@@ -158,7 +159,7 @@ module _ (b : List ℕ) (nth : ℕ) (place : Place)
       (sym there ∙ ap (option_map (entry_there b)) same)
 
   among_members : (ps : Pairs) → Payload (object ps) b
-      → IsPartPlace b (object ps) nth (place_in b nth)
+      → IsPartPlace b (object ps) nth (part_in b nth)
       → IsAmong (part_trees (object ps)) nth (entry_there b place)
   among_members ps h (members, (stored, (o, (is, there)))) =
       let same : o ≡ Some place = cc in
@@ -175,19 +176,19 @@ module _ (b : List ℕ) (nth : ℕ) (place : Place)
       (EntriesMean-values (keys_of members) (values_of members) ps stored.mean stored.short))
       (sym there ∙ ap (option_map (entry_there b)) same)
 
-  none_among : (t : Tree) → place_in b nth ≡ Ok None
+  none_among : (t : Tree) → part_in b nth ≡ Ok None
       → IsAmong (part_trees t) nth (entry_there b place)
   none_among t none = let never : ⊥ = cc in absurd never
 
   among_parts : (t : Tree) → Doc b t → IsAmong (part_trees t) nth (entry_there b place)
   among_parts t document =
       by_kind
-      (λ (u : Tree). IsPartPlace b u nth (place_in b nth)
+      (λ (u : Tree). IsPartPlace b u nth (part_in b nth)
       → IsAmong (part_trees u) nth (entry_there b place)) b
       (λ ts h. among_items ts)
       (λ ps h. among_members ps h) (λ h. none_among null) (λ x h. none_among (boolean x))
       (λ x h. none_among (number x)) (λ x h. none_among (text x))
-      (λ x h. none_among (extension x)) t document (place_in_stored b t nth document)
+      (λ x h. none_among (extension x)) t document (part_in_stored b t nth document)
 
 and_false : (b : Bool) → (b && false) ≡ false
 and_false true = refl
@@ -200,8 +201,8 @@ short_enough type p short =
     ∙ and_false (not (type == CONTAINER_TAG))
 
 -- what is made of the part at a position
-pub place_document : (b : List ℕ) (t : Tree) (nth : ℕ) (place : Place) (type : ℕ) (p : List ℕ)
-    → Doc b t → place_in b nth ≡ Ok (Some place)
+pub place_document : (b : List ℕ) (t : Tree) (nth : ℕ) (place : PlacedEntry) (type : ℕ) (p : List ℕ)
+    → Doc b t → part_in b nth ≡ Ok (Some place)
     → entry_there b place ≡ record { type = type; payload = p }
     → (part_document type p ≡ Ok (entry_document (entry_there b place)))
     × IsPartDocument t nth (entry_document (entry_there b place))

@@ -1,39 +1,39 @@
 -- What is at the places to which paths lead in a document.
-use Rattle.std.proofs.Common.{◌≡◌, ◌⊎◌, ℕ, zero, suc, ◌+◌, ◌-◌, ◌*◌, ◌≤◌, ◌==◌, ◌&&◌, nat_le}
+use Rattle.std.proofs.Common.{◌≡◌, ◌⊎◌, ℕ, zero, suc, ◌+◌, ◌-◌, ◌<◌, ◌≤◌, ◌==◌, ◌&&◌, nat_le}
 use Rattle.std.proofs.Common.{if◌then◌else◌, nat_lt, min, Bool, true, false, List, [], ◌∷◌, ◌++◌}
 use Rattle.std.proofs.Common.{length}
-use Rattle.std.proofs.Common.{map, flat_map, take, drop, slice_get, Option, None, Some, option_map}
-use Rattle.std.proofs.Common.{Result, Ok, Err, IfSome, refl, sym, ap, subst, ◌∙◌, inl, inr, arith}
-use Rattle.std.proofs.Common.{length-drop, get_or}
+use Rattle.std.proofs.Common.{map, flat_map, take, drop, slice_get, Option, None, Some}
+use Rattle.std.proofs.Common.{Result, Ok, IfSome, refl, sym, ap, subst, ◌∙◌, inl, inr, arith}
+use Rattle.std.proofs.Common.{length-drop, get_or, zero-add}
 use Rattle.std.specs.Prelude.{is_some, option_to_list, nat_eq, ⊤}
 use Rattle.std.specs.Cmp.Lexicographic.{pointwise}
 use Rattle.std.specs.Map.{keys_of, values_of}
 use Rattle.std.proofs.Math.Bool.{and-false}
 use Rattle.std.proofs.Math.Seq.{take-length}
-use Rattle.std.proofs.lemmas.Bool.{eq-eqb, leb-true, ltb-false, ltb-true}
+use Rattle.std.proofs.lemmas.Bool.{eq-eqb, le-leb, lt-leb, ltb-false, ltb-true}
+use Rattle.std.proofs.lemmas.Option.{slice_get_cases}
 use Rattle.std.proofs.lemmas.Bool.Decides.{Decides-eqb}
 use Rattle.std.proofs.lemmas.List.{append-nil, drop-drop, drop-take, length-take, take-take}
 use Rattle.std.proofs.lemmas.List.{take_all}
 use Rattle.std.proofs.lemmas.Slice.Eq.{slice_eq-Decides}
 use Rattle.jsonb_value.specs.declared.error.Error.{Error}
-use Rattle.jsonb_value.specs.declared.error.Error.TheVariants.{InvalidJsonb}
 use Rattle.jsonb_value.specs.Tree.{Tree, null, boolean, number, text, extension, array, object}
 use Rattle.jsonb_value.specs.Tree.{Trees, no_trees, tree, Pairs, no_pairs, pair, count, pair_count}
 use Rattle.jsonb_codec.specs.declared.constants.TheConstants.{ARRAY_CONTAINER_TAG}
 use Rattle.jsonb_codec.specs.declared.constants.TheConstants.{OBJECT_CONTAINER_TAG, CONTAINER_TAG}
-use Rattle.jsonb_codec.specs.declared.jentry.JEntry.{JEntry}
-use Rattle.jsonb_codec.specs.JEntry.{jentry_at}
 use Rattle.jsonb_codec.specs.Doc.{Doc, IsDocument, Payload, Scalar, type_of}
 use Rattle.jsonb_codec.specs.Parts.{IsPayloadOf}
 use Rattle.jsonb_codec.specs.Word.{header_at, word}
 use Rattle.jsonb.specs.Children.{Pairwise}
+use Rattle.jsonb.specs.Entries.{entry_there}
 use Rattle.jsonb.specs.EntryTrees.{entry_tree}
 use Rattle.jsonb.specs.Item.{Entry}
 use Rattle.jsonb.specs.Node.{items_of, pair_list, tree_list, value_of_key}
 use Rattle.jsonb.specs.Lookup.{find_pair}
 use Rattle.jsonb.specs.Steps.{◌>>=◌}
-use Rattle.jsonb.specs.StoredEntries.{ArePairsOf}
-use Rattle.jsonb.specs.declared.reads.lookup.Place.{Place}
+use Rattle.jsonb.specs.StoredEntries.{ArePairsOf, HasItems, HasMembers}
+use Rattle.jsonb.proofs.StoredEntryLaws.{HasItems-Payload, HasMembers-Payload, items_at, members_at}
+use Rattle.jsonb.specs.declared.entries.Entry.{Entry as PlacedEntry}
 use Rattle.jsonb.proofs.KindLaws.{At-entry, IsTag-type_of, header_at-Scalar, header_at-array}
 use Rattle.jsonb.proofs.KindLaws.{header_at-object}
 use Rattle.jsonb.proofs.EntryTreeLaws.{entry_tree-is}
@@ -51,54 +51,26 @@ use Rattle.jsonb_functions.specs.declared.selection.Selector.TheVariants as sele
 use Rattle.jsonb_functions.proofs.SelectLaws.{drop_take}
 use Rattle.kohiblad.specs.declared.children.Child.{Child}
 use Rattle.kohiblad.specs.ChildWalks.{IsWithin}
-use Rattle.kohiblad.specs.Children.{item_child, member_child, numbered_child, numbered_under}
+use Rattle.kohiblad.specs.Children.{child_of, layout_under, numbered_among, numbered_child}
 use Rattle.kohiblad.specs.PathPlaces.{HoldTrees, HoldsFound, HoldsTree, at_place, child_places}
 use Rattle.kohiblad.specs.PathPlaces.{children_from, chosen_children, chosen_items}
 use Rattle.kohiblad.specs.PathPlaces.{chosen_members, chosen_under, first_child, first_place}
 use Rattle.kohiblad.specs.PathPlaces.{has_key, named_child, path_place, path_place_in, place_from}
-use Rattle.kohiblad.specs.PathPlaces.{places_at, selected_from, selected_in, selected_places, step_selector}
-use Rattle.kohiblad.specs.PathPlaces.{value_at, whole_place, whole_under}
+use Rattle.kohiblad.specs.PathPlaces.{places_at, selected_from, selected_in, selected_places}
+use Rattle.kohiblad.specs.PathPlaces.{step_selector, value_at, whole_place, whole_under}
 use Rattle.kohiblad.specs.PathCalls.{found_answer}
 use Rattle.kohiblad.specs.declared.places.KohibladPlace.{KohibladPlace}
 use Rattle.kohiblad.specs.PlaceWalks.{AreParts, IsPart, keeps, walk_places}
 use Rattle.kohiblad.specs.declared.path_places.PlaceWalk.{PlaceWalk}
-use Rattle.kohiblad.specs.Places.{entry_there, is_name, place_of_item, item_under, member_places}
-use Rattle.kohiblad.specs.Places.{member_there, member_under, part_place, part_start, place_at}
-use Rattle.kohiblad.specs.Places.{some_place}
+use Rattle.kohiblad.specs.Places.{is_name, part_in}
 use Rattle.kohiblad.proofs.PartLaws.{EntriesMean, EntriesMean-items, entry_among}
-use Rattle.kohiblad.proofs.PlaceLaws.{place_of_item_stored, member_places_stored, place_stored}
+use Rattle.kohiblad.proofs.PlaceLaws.{hold_items, member_key_at, member_value_at, part_at}
+use Rattle.kohiblad.proofs.PlaceLaws.{place_stored}
 
 -- The selector is no filter.
 abbrev pub IsUnfiltered : Selector → Type 0
 IsUnfiltered (selectors.Filter condition) = ⊥
 IsUnfiltered s = ⊤
-
--- A place that was found does not run past the end.
-module _ (bytes : List ℕ) (place : Place) where
-  within_if : (v n type : ℕ) (b : Bool) → nat_le (v + n) (length bytes) ≡ b
-      → (if b then Ok (record { type_code = type; start = v; length = n }) else Err InvalidJsonb)
-      ≡ Ok place
-      → IsWithin bytes place
-  within_if v n type true fits here =
-      let same : record { type_code = type; start = v; length = n } ≡ place = cc in
-      subst (IsWithin bytes) same (leb-true (v + n) (length bytes) fits)
-  within_if v n type false fits here = let never : ⊥ = cc in absurd never
-
-  within_by : (v : ℕ) (r : Result JEntry Error)
-      → r >>= (λ (e : JEntry). if nat_le (v + e.length) (length bytes)
-      then Ok (record { type_code = e.type_code; start = v; length = e.length })
-      else Err InvalidJsonb) ≡ Ok place
-      → IsWithin bytes place
-  within_by v (Ok e) here = within_if v e.length e.type_code _ refl here
-  within_by v (Err e) here = let never : ⊥ = cc in absurd never
-
-  pub place_within : (i v : ℕ) → place_at bytes i v ≡ Ok place → IsWithin bytes place
-  place_within i v here = within_by v (jentry_at bytes i) here
-
-  pub start_within : (i : ℕ) (r : Result ℕ Error) → r >>= place_at bytes i ≡ Ok place
-      → IsWithin bytes place
-  start_within i (Ok v) here = place_within i v here
-  start_within i (Err e) here = let never : ⊥ = cc in absurd never
 
 -- A child whose value is inside the bytes, and holds the tree.
 abbrev pub Holds : List ℕ → Child → Tree → Type 0
@@ -152,61 +124,62 @@ module _ {A : Type 0} (bytes : List ℕ) (R : Child → A → Type 0) (xs : List
 
 -- the children of an array
 module _ (b : List ℕ) (ts : Trees) (h : Payload (array ts) b) (i : ℕ) where
-  item_number : numbered_child b i ≡ item_child (place_of_item b i)
-  item_number =
-      ap (λ (r : Result (ℕ × ℕ) Error). r >>= numbered_under b i) (header_at-array b ts h)
-      ∙ sym (ap (λ (r : Result (ℕ × ℕ) Error). item_child (r >>= item_under b i))
-      (header_at-array b ts h))
-
-  found_within : (place : Place) (past : Bool) (r : Result Place Error)
-      → (r ≡ Ok place → IsWithin b place)
-      → (if past then Ok None else some_place r) ≡ Ok (Some place) → IsWithin b place
-  found_within place true r inside found = let never : ⊥ = cc in absurd never
-  found_within place false (Ok p) inside found =
-      let same : Ok p ≡ Ok place = cc in inside same
-  found_within place false (Err e) inside found = let never : ⊥ = cc in absurd never
-
-  item_within : (place : Place) → place_of_item b i ≡ Ok (Some place) → IsWithin b place
-  item_within place found =
-      found_within place (nat_le (count ts) i) (part_place b (count ts) i)
-      (λ is. start_within b place (4 + 4 * i) (part_start b (count ts) i) is)
-      (sym (ap (λ (r : Result (ℕ × ℕ) Error). r >>= item_under b i) (header_at-array b ts h))
-      ∙ found)
-
   past_items : (cs : List Entry) (us : List Tree) (k : ℕ) → EntriesMean cs us
       → slice_get cs k ≡ None → slice_get us k ≡ None
   past_items [] [] k mean past = refl
   past_items [] (u ∷ us) k mean past = absurd mean
   past_items (c ∷ cs) [] k mean past = absurd mean
-  past_items (c ∷ cs) (u ∷ us) zero mean past = let never : ⊥ = cc in absurd never
+  past_items (c ∷ cs) (u ∷ us) zero mean past = absurd cc
   past_items (c ∷ cs) (u ∷ us) (suc k) mean past = past_items cs us k mean.1 past
 
-  item_holds : (cs : List Entry) (o : Option Place) → EntriesMean cs (tree_list ts)
-      → place_of_item b i ≡ Ok o → option_map (entry_there b) o ≡ slice_get cs i
+  item_number : (n : ℕ) → header_at b 0 ≡ Ok (ARRAY_CONTAINER_TAG, n)
+      → numbered_child b i ≡ (if nat_le n i then Ok None
+      else child_of false (part_in b i) (part_in b i))
+  item_number n header =
+      ap (λ (r : Result (ℕ × ℕ) Error). (r >>= (λ (g : ℕ × ℕ). Ok (layout_under g)))
+      >>= numbered_among b i) header
+      ∙ ap (λ (k : ℕ). if nat_le n i then Ok None
+      else child_of false (part_in b i) (part_in b k)) (zero-add i)
+
+  items_at_index : (cs : List Entry) → HasItems b ts cs
+      → ((c : Entry) × (i < length cs) × (slice_get cs i ≡ Some c) × (get_or cs i c ≡ c))
+      ⊎ ((length cs ≤ i) × (slice_get cs i ≡ None))
       → IsNumbered b (Holds b) (tree_list ts) i
-  item_holds cs (Some place) mean found there =
-      let among = entry_among cs (tree_list ts) i (entry_there b place) mean (sym there) in
+  items_at_index cs stored (inl (c, inside, there, here)) =
+      let at = part_at b cs (hold_items b ts cs stored) i c there in
+      let among = entry_among cs (tree_list ts) i c
+      (EntriesMean-items cs ts stored.mean stored.short) there in
+      let test = lt-leb (length cs) i inside in
+      let found = at.found in
       inl (
-        record { key = None; value = place },
+        record { key = None; value = at.place },
         (
           among.tree,
           (
-            item_number ∙ ap item_child found,
-            (among.there, (item_within place found, among.entry.means)),
+            item_number (length cs) (items_at b cs stored.few stored.written).header
+                ∙ rw (test, found) refl,
+            (
+              among.there,
+              (
+                at.inside,
+                subst (λ (e : Entry). IsPayloadOf e.type e.payload among.tree)
+                    (sym at.there) among.entry.means,
+              ),
+            ),
           ),
         ),
       )
-  item_holds cs None mean found there =
+  items_at_index cs stored (inr (past, none)) =
+      let test = le-leb (length cs) i past in
       inr (
-        item_number ∙ ap item_child found,
-        past_items cs (tree_list ts) i mean (sym there),
+        item_number (length cs) (items_at b cs stored.few stored.written).header ∙ rw test refl,
+        past_items cs (tree_list ts) i (EntriesMean-items cs ts stored.mean stored.short) none,
       )
 
   pub items_numbered : IsNumbered b (Holds b) (tree_list ts) i
   items_numbered =
-      let (entries, (stored, (o, (found, there)))) =
-      place_of_item_stored b (array ts) i (inr (refl, h)) in
-      item_holds entries o (EntriesMean-items entries ts stored.mean stored.short) found there
+      let (cs, stored) = HasItems-Payload b ts h in
+      items_at_index cs stored (slice_get_cases cs i).1
 
 -- A child whose key is that of a pair, and whose value holds the pair's tree.
 abbrev pub HoldsPair : List ℕ → Child → List ℕ × Tree → Type 0
@@ -215,34 +188,6 @@ HoldsPair b child p = IfSome child.key (λ key. (entry_there b key).payload ≡ 
 
 -- the children of an object
 module _ (b : List ℕ) (ps : Pairs) (h : Payload (object ps) b) (i : ℕ) where
-  member_number : numbered_child b i ≡ member_child (member_places b i)
-  member_number =
-      ap (λ (r : Result (ℕ × ℕ) Error). r >>= numbered_under b i) (header_at-object b ps h)
-      ∙ sym (ap (λ (r : Result (ℕ × ℕ) Error). member_child (r >>= member_under b i))
-      (header_at-object b ps h))
-
-  both_within : (places : Place × Place) (past : Bool) (r q : Result Place Error)
-      → (q ≡ Ok places.1 → IsWithin b places.1)
-      → (if past then Ok None
-      else (r >>= (λ (key : Place). q >>= (λ (value : Place). Ok (Some (key, value))))))
-      ≡ Ok (Some places)
-      → IsWithin b places.1
-  both_within places true r q inside found = let never : ⊥ = cc in absurd never
-  both_within places false (Ok p) (Ok v) inside found =
-      let same : (p, v) ≡ places = cc in
-      inside (ap (λ (x : Place × Place). Ok x.1) same)
-  both_within places false (Ok p) (Err e) inside found = let never : ⊥ = cc in absurd never
-  both_within places false (Err e) q inside found = let never : ⊥ = cc in absurd never
-
-  value_within : (places : Place × Place) → member_places b i ≡ Ok (Some places)
-      → IsWithin b places.1
-  value_within places found =
-      let n = pair_count ps in
-      both_within places (nat_le n i) (part_place b (2 * n) i) (part_place b (2 * n) (n + i))
-      (λ is. start_within b places.1 (4 + 4 * (n + i)) (part_start b (2 * n) (n + i)) is)
-      (sym (ap (λ (r : Result (ℕ × ℕ) Error). r >>= member_under b i) (header_at-object b ps h))
-      ∙ found)
-
   -- the pair at the index of a member
   abbrev IsPairAt : Pairs → ℕ → List ℕ × Entry → Type 0
   IsPairAt qs k m = (t : Tree)
@@ -268,30 +213,58 @@ module _ (b : List ℕ) (ps : Pairs) (h : Payload (object ps) b) (i : ℕ) where
   past_pairs (x ∷ ms) (pair l t qs) zero mean past = let never : ⊥ = cc in absurd never
   past_pairs (x ∷ ms) (pair l t qs) (suc k) mean past = past_pairs ms qs k mean.1.1 past
 
-  member_holds : (ms : List (List ℕ × Entry)) (o : Option (Place × Place))
-      → ArePairsOf (keys_of ms) (values_of ms) ps
-      → member_places b i ≡ Ok o → option_map (member_there b) o ≡ slice_get ms i
+  member_number : (n : ℕ) → header_at b 0 ≡ Ok (OBJECT_CONTAINER_TAG, n)
+      → numbered_child b i ≡ (if nat_le n i then Ok None
+      else child_of true (part_in b i) (part_in b (n + i)))
+  member_number n header =
+      ap (λ (r : Result (ℕ × ℕ) Error). (r >>= (λ (g : ℕ × ℕ). Ok (layout_under g)))
+      >>= numbered_among b i) header
+
+  members_at_index : (ms : List (List ℕ × Entry)) → HasMembers b ps ms
+      → ((m : List ℕ × Entry) × (i < length ms) × (slice_get ms i ≡ Some m) × (get_or ms i m ≡ m))
+      ⊎ ((length ms ≤ i) × (slice_get ms i ≡ None))
       → IsNumbered b (HoldsPair b) (pair_list ps) i
-  member_holds ms (Some places) mean found there =
-      let (t, (paired, means)) = pair_at ms ps i (member_there b places) mean (sym there) in
+  members_at_index ms stored (inl (m, inside, there, here)) =
+      let key = member_key_at b ps ms stored i m there in
+      let value = member_value_at b ps ms stored i m there in
+      let (t, (paired, means)) = pair_at ms ps i m stored.mean there in
+      let test = lt-leb (length ms) i inside in
+      let key_found = key.found in
+      let value_found = value.found in
       inl (
-        record { key = Some places.0; value = places.1 },
+        record { key = Some key.place; value = value.place },
         (
-          ((entry_there b places.0).payload, t),
+          (m.0, t),
           (
-            member_number ∙ ap member_child found,
-            (paired, (refl, refl, (value_within places found, means))),
+            member_number (length ms) (members_at b ms stored.few stored.written).header
+                ∙ rw (test, key_found, value_found) refl,
+            (
+              paired,
+              (
+                ap (λ (e : Entry). e.payload) key.there,
+                refl,
+                (
+                  value.inside,
+                  subst (λ (e : Entry). IsPayloadOf e.type e.payload t)
+                      (sym value.there) means,
+                ),
+              ),
+            ),
           ),
         ),
       )
-  member_holds ms None mean found there =
-      inr (member_number ∙ ap member_child found, past_pairs ms ps i mean (sym there))
+  members_at_index ms stored (inr (past, none)) =
+      let test = le-leb (length ms) i past in
+      inr (
+        member_number (length ms) (members_at b ms stored.few stored.written).header
+            ∙ rw test refl,
+        past_pairs ms ps i stored.mean none,
+      )
 
   pub members_numbered : IsNumbered b (HoldsPair b) (pair_list ps) i
   members_numbered =
-      let (members, (stored, (o, (found, there)))) =
-      member_places_stored b (object ps) i (inr (refl, h)) in
-      member_holds members o stored.mean found there
+      let (ms, stored) = HasMembers-Payload b ps h in
+      members_at_index ms stored (slice_get_cases ms i).1
 
 -- lists of places, children and trees
 Pairwise-append : {A B : Type 0} (R : A → B → Type 0) (xs : List A) (ys : List B) (us : List A)
@@ -429,7 +402,7 @@ module _ (b : List ℕ) (name : List ℕ) where
   named_by true child t cs o held more = (held, refl)
   named_by false child t cs o held more = more
 
-  same_test : (key : Option Place) (l : List ℕ) → is_some key ≡ true
+  same_test : (key : Option PlacedEntry) (l : List ℕ) → is_some key ≡ true
       → IfSome key (λ place. (entry_there b place).payload ≡ l)
       → has_key name b key ≡ ((length l == length name) && pointwise nat_eq name l)
   same_test None l some is = let never : ⊥ = cc in absurd never
@@ -480,7 +453,7 @@ module _ (b : List ℕ) (ps : Pairs) (h : Payload (object ps) b) where
       (children_at s (object ps))) (sym (header_at-object b ps h)) (members_held s plain)
 
 -- A place inside the bytes, where the tree is.
-abbrev pub Held : List ℕ → Place → Tree → Type 0
+abbrev pub Held : List ℕ → PlacedEntry → Tree → Type 0
 Held bytes place t = IsWithin bytes place × HoldsTree bytes place t
 
 -- a child of the array or object at a place, as a place in all bytes
@@ -494,7 +467,8 @@ payload_moved bytes s l c k inside =
     ∙ take-take k (l - c) (drop c (drop s bytes)) (omega arith)
     ∙ ap (take k) (drop-drop c s bytes)
 
-child_moved : (bytes : List ℕ) (place : Place) (child : Child) (t : Tree) → IsWithin bytes place
+child_moved : (bytes : List ℕ) (place : PlacedEntry) (child : Child) (t : Tree)
+    → IsWithin bytes place
     → Holds (entry_there bytes place).payload child t
     → Held bytes (value_at place.start child) t
 child_moved bytes place child t inside held =
@@ -550,7 +524,7 @@ no_child (object ps) keys items (steps.Index i) = refl
 no_child (object ps) keys items (steps.FromEnd i) = refl
 
 -- The children to which a selector leads.
-module _ (bytes : List ℕ) (place : Place) (inside : IsWithin bytes place) where
+module _ (bytes : List ℕ) (place : PlacedEntry) (inside : IsWithin bytes place) where
   chosen_moved : (cs : List Child) (ts : List Tree)
       → Pairwise (Holds (entry_there bytes place).payload) cs ts
       → Pairwise (Held bytes) (map (value_at place.start) cs) ts
@@ -584,7 +558,8 @@ module _ (bytes : List ℕ) (place : Place) (inside : IsWithin bytes place) wher
   step_held s plain (array ts) h =
       container_held s (array ts) h.0 (array_held (entry_there bytes place).payload ts h.1 s plain)
   step_held s plain (object ps) h =
-      container_held s (object ps) h.0 (object_held (entry_there bytes place).payload ps h.1 s plain)
+      container_held s (object ps) h.0
+      (object_held (entry_there bytes place).payload ps h.1 s plain)
   step_held s plain null h =
       scalar_held s null _ h.0 refl
       (none_at s plain null (no_child null (λ k. refl) refl) refl refl)
@@ -605,12 +580,12 @@ module _ (bytes : List ℕ) (place : Place) (inside : IsWithin bytes place) wher
       (none_at s plain (extension x) (no_child (extension x) (λ k. refl) refl) refl refl)
 
 -- A filter leads to the place itself, or to none.
-kept_held : (bytes : List ℕ) (place : Place) (t : Tree) (b : Bool) → Held bytes place t
+kept_held : (bytes : List ℕ) (place : PlacedEntry) (t : Tree) (b : Bool) → Held bytes place t
     → Pairwise (Held bytes) (if b then place ∷ [] else []) (if b then t ∷ [] else [])
 kept_held bytes place t true held = (held, refl)
 kept_held bytes place t false held = refl
 
-filter_held : (condition : Condition) (bytes : List ℕ) (place : Place) (t : Tree)
+filter_held : (condition : Condition) (bytes : List ℕ) (place : PlacedEntry) (t : Tree)
     → Held bytes place t
     → Pairwise (Held bytes) (places_at (selectors.Filter condition) bytes place)
     (filtered condition t)
@@ -620,7 +595,7 @@ filter_held condition bytes place t held =
     (λ u. Pairwise (Held bytes) (if holds condition u then place ∷ [] else [])
     (filtered condition t)) (sym same) (kept_held bytes place t (holds condition t) held)
 
-pub other_places : (s : Selector) (bytes : List ℕ) (place : Place)
+pub other_places : (s : Selector) (bytes : List ℕ) (place : PlacedEntry)
     → ((condition : Condition) → s ≡ selectors.Filter condition → ⊥)
     → child_places s bytes place ≡ places_at s bytes place
 other_places (selectors.Filter condition) bytes place other = absurd (other condition refl)
@@ -632,7 +607,8 @@ other_places selectors.AllMembers bytes place other = refl
 other_places (selectors.Range first last) bytes place other = refl
 
 -- What is at the places to which a selector leads.
-selector_held : (s : Selector) (bytes : List ℕ) (place : Place) (t : Tree) → Held bytes place t
+selector_held : (s : Selector) (bytes : List ℕ) (place : PlacedEntry) (t : Tree)
+    → Held bytes place t
     → Pairwise (Held bytes) (places_at s bytes place) (children_at s t)
 selector_held (selectors.Filter condition) bytes place t held =
     filter_held condition bytes place t held
@@ -650,7 +626,7 @@ selector_held (selectors.Range first last) bytes place t held =
     step_held bytes place held.0 (selectors.Range first last) tt t held.1
 
 -- What is at the places to which a path with wildcards leads.
-pub selected_held : (path : List Selector) (bytes : List ℕ) (place : Place) (t : Tree)
+pub selected_held : (path : List Selector) (bytes : List ℕ) (place : PlacedEntry) (t : Tree)
     → Held bytes place t
     → Pairwise (Held bytes) (selected_from path bytes place) (selected path t)
 selected_held [] bytes place t held = (held, refl)
@@ -660,27 +636,27 @@ selected_held (s ∷ path) bytes place t held =
     (places_at s bytes place) (children_at s t) (selector_held s bytes place t held)
 
 -- Each of the places to which a selector leads holds a tree.
-parts_held : (bytes : List ℕ) (places : List Place) (ts : List Tree)
+parts_held : (bytes : List ℕ) (places : List PlacedEntry) (ts : List Tree)
     → Pairwise (Held bytes) places ts → AreParts bytes places
 parts_held bytes [] ts held = tt
 parts_held bytes (place ∷ places) [] held = absurd held
 parts_held bytes (place ∷ places) (t ∷ ts) held =
     ((t, held.0.0, held.0.1), parts_held bytes places ts held.1)
 
-parts_at : (s : Selector) (bytes : List ℕ) (place : Place) → IsPart bytes place
+parts_at : (s : Selector) (bytes : List ℕ) (place : PlacedEntry) → IsPart bytes place
     → AreParts bytes (places_at s bytes place)
 parts_at s bytes place part =
     parts_held bytes (places_at s bytes place) (children_at s part.0)
     (selector_held s bytes place part.0 (part.1, part.2))
 
-pub walk_parts : (s : Selector) (bytes : List ℕ) (place : Place) (walk : PlaceWalk)
+pub walk_parts : (s : Selector) (bytes : List ℕ) (place : PlacedEntry) (walk : PlaceWalk)
     → IsPart bytes place → walk_places bytes place walk ≡ places_at s bytes place
     → AreParts bytes (walk_places bytes place walk)
 walk_parts s bytes place walk part e =
     subst (AreParts bytes) (sym e) (parts_at s bytes place part)
 
 -- The places to which the first step of a path leads are those from which the others go on.
-pub places_first : (path : List Selector) (s : Selector) (bytes : List ℕ) (place : Place)
+pub places_first : (path : List Selector) (s : Selector) (bytes : List ℕ) (place : PlacedEntry)
     (walk : PlaceWalk) (found : List KohibladPlace) → 1 ≤ length path → get_or path 0 s ≡ s
     → walk_places bytes place walk ≡ places_at s bytes place
     → found ++ map found_answer
@@ -701,18 +677,19 @@ places_first (x ∷ rest) s bytes place walk found some first e =
     all
 
 -- A filter that keeps what is at a place leads on from there.
-kept_place : (f : Place → List Place) (place : Place) (b : Bool) → b ≡ true
+kept_place : (f : PlacedEntry → List PlacedEntry) (place : PlacedEntry) (b : Bool) → b ≡ true
     → flat_map f (if b then place ∷ [] else []) ≡ f place
 kept_place f place b is =
     ap (λ (k : Bool). flat_map f (if k then place ∷ [] else [])) is ∙ append-nil (f place)
 
-kept_first : (s : Selector) (f : Place → List Place) (bytes : List ℕ) (place : Place)
+kept_first : (s : Selector) (f : PlacedEntry → List PlacedEntry) (bytes : List ℕ)
+    (place : PlacedEntry)
     → keeps s bytes place ≡ true → flat_map f (places_at s bytes place) ≡ f place
 kept_first (selectors.Filter condition) f bytes place is =
     kept_place f place (holds condition (entry_tree (entry_there bytes place))) is
 kept_first s f bytes place is = let never : false ≡ true = is in absurd (cc)
 
-pub kept_on : (path : List Selector) (s : Selector) (bytes : List ℕ) (place : Place)
+pub kept_on : (path : List Selector) (s : Selector) (bytes : List ℕ) (place : PlacedEntry)
     → 1 ≤ length path → get_or path 0 s ≡ s → keeps s bytes place ≡ true
     → selected_from path bytes place
     ≡ selected_from (take (length path - 1) (drop 1 path)) bytes place
@@ -737,9 +714,9 @@ single_child (steps.Key k) t = refl
 single_child (steps.Index i) t = refl
 single_child (steps.FromEnd i) t = refl
 
-first_held : (bytes : List ℕ) (places : List Place) (o : Option Tree)
-    (f : Place → Option Place) (g : Tree → Option Tree)
-    → ((p : Place) (u : Tree) → Held bytes p u → HoldsFound bytes (f p) (g u))
+first_held : (bytes : List ℕ) (places : List PlacedEntry) (o : Option Tree)
+    (f : PlacedEntry → Option PlacedEntry) (g : Tree → Option Tree)
+    → ((p : PlacedEntry) (u : Tree) → Held bytes p u → HoldsFound bytes (f p) (g u))
     → Pairwise (Held bytes) places (option_to_list o)
     → HoldsFound bytes (at_place (first_place places) f) (if_there o g)
 first_held bytes [] None f g each h = tt
@@ -747,7 +724,7 @@ first_held bytes [] (Some u) f g each h = let never : ⊥ = cc in absurd never
 first_held bytes (p ∷ places) None f g each h = absurd h
 first_held bytes (p ∷ places) (Some u) f g each h = each p u h.0
 
-pub end_held : (path : List Step) (bytes : List ℕ) (place : Place) (t : Tree)
+pub end_held : (path : List Step) (bytes : List ℕ) (place : PlacedEntry) (t : Tree)
     → Held bytes place t → HoldsFound bytes (place_from path bytes place) (found_at path t)
 end_held [] bytes place t held = held.1
 end_held (s ∷ path) bytes place t held =
@@ -759,7 +736,7 @@ end_held (s ∷ path) bytes place t held =
 
 -- The place of a whole document.
 abbrev IsWhole : List ℕ → Tree → Type 0
-IsWhole bytes t = (place : Place) × ((whole_place bytes ≡ Ok place) × Held bytes place t)
+IsWhole bytes t = (place : PlacedEntry) × ((whole_place bytes ≡ Ok place) × Held bytes place t)
 
 whole_container : (bytes : List ℕ) (t : Tree) (tag n : ℕ) → header_at bytes 0 ≡ Ok (tag, n)
     → whole_under bytes (Ok (tag, n))
@@ -783,12 +760,12 @@ whole_scalar bytes t h =
     (At-after_word bytes 4 8 (type_of t + length h.payload) h.payload refl at) in
     let found = place_stored bytes 4 8 c []
     (record { tag = IsTag-type_of t; short = h.short }, tt) entries payloads in (
-      found.0,
+      found.place,
       (
-        ap (whole_under bytes) (header_at-Scalar bytes t h) ∙ found.1.0,
+        ap (whole_under bytes) (header_at-Scalar bytes t h) ∙ found.found,
         (
-          place_within bytes found.0 4 8 found.1.0,
-          subst (λ (e : Entry). IsPayloadOf e.type e.payload t) (sym found.1.1) (refl, h.means),
+          found.inside,
+          subst (λ (e : Entry). IsPayloadOf e.type e.payload t) (sym found.there) (refl, h.means),
         ),
       ),
     )
@@ -813,7 +790,9 @@ pub places_hold : (bytes : List ℕ) (t : Tree) (path : List Selector) → Doc b
     → HoldTrees bytes (selected_places path bytes) (selected path t)
 places_hold bytes t path doc =
     let (place, (is, held)) = whole_held bytes t doc in
-    subst (λ (r : Result Place Error). HoldTrees bytes (selected_in path bytes r) (selected path t))
+    subst
+    (λ (r : Result PlacedEntry Error). HoldTrees bytes (selected_in path bytes r)
+    (selected path t))
     (sym is)
     (Pairwise-weaker (Held bytes) (HoldsTree bytes) (λ p u h. h.1) (selected_from path bytes place)
     (selected path t) (selected_held path bytes place t held))
@@ -823,11 +802,12 @@ pub place_holds : (bytes : List ℕ) (t : Tree) (path : List Step) → Doc bytes
 place_holds bytes t path doc =
     let (place, (is, held)) = whole_held bytes t doc in
     subst
-    (λ (r : Result Place Error). HoldsFound bytes (path_place_in path bytes r) (found_at path t))
+    (λ (r : Result PlacedEntry Error). HoldsFound bytes (path_place_in path bytes r)
+    (found_at path t))
     (sym is) (end_held path bytes place t held)
 
 -- The whole of a document is at its place.
-pub whole_part : (bytes : List ℕ) (place : Place) → IsDocument bytes
+pub whole_part : (bytes : List ℕ) (place : PlacedEntry) → IsDocument bytes
     → whole_place bytes ≡ Ok place → IsPart bytes place
 whole_part bytes place (t, doc) found =
     let (whole, (is, held)) = whole_held bytes t doc in

@@ -1,107 +1,223 @@
 -- The positions of the parts of an array or object.
-use Rattle.std.proofs.Common.{◌≡◌, ℕ, zero, suc, ◌+◌, ◌*◌, ◌<◌, ◌≤◌, ◌^◌, ◌⊎◌, true, false, List}
-use Rattle.std.proofs.Common.{[], ◌∷◌, ◌++◌, length, slice_get, slice_index_or, Option, None, Some}
-use Rattle.std.proofs.Common.{option_map, Result, Ok, Err, refl, sym, ap, ap₂, subst, ◌∙◌, inl, inr}
-use Rattle.std.proofs.Common.{arith, le-leb, append_assoc, length-append}
+use Rattle.std.proofs.Common.{◌≡◌, ℕ, zero, suc, ◌+◌, ◌-◌, ◌*◌, ◌<◌, ◌≤◌, ◌^◌, ◌⊎◌, true, false}
+use Rattle.std.proofs.Common.{List, [], ◌∷◌, ◌++◌, length, slice_get, slice_index_or, Option, None}
+use Rattle.std.proofs.Common.{Some, option_map, Result, Ok, Err, refl, sym, ap, ap₂, subst, ◌∙◌}
+use Rattle.std.proofs.Common.{Bool, inl, inr, arith, le-leb, append_assoc, length-append}
 use Rattle.std.specs.Map.{keys_of, values_of}
-use Rattle.std.proofs.lemmas.Map.Entries.{length-keys_of, length-values_of}
+use Rattle.std.specs.Option.{option_transpose}
 use Rattle.std.proofs.lemmas.Bool.{lt-leb}
-use Rattle.std.proofs.lemmas.Option.{slice_get_cases}
+use Rattle.std.proofs.lemmas.Map.Entries.{length-keys_of, length-values_of}
+use Rattle.std.proofs.lemmas.Option.{slice_get_cases, slice_get_past}
 use Rattle.jsonb_value.specs.declared.error.Error.{Error}
 use Rattle.jsonb_value.specs.Tree.{Tree, null, boolean, number, text, extension, array, object}
 use Rattle.jsonb_value.specs.Tree.{Trees, Pairs, Extension}
 use Rattle.jsonb_value.specs.declared.number.Number.{Number}
-use Rattle.std.proofs.Common.{Bool}
-use Rattle.jsonb_codec.specs.declared.jentry.JEntry.{JEntry}
 use Rattle.jsonb_codec.specs.JEntry.{jentry_at}
 use Rattle.jsonb_codec.specs.Doc.{Doc, Payload, Scalar}
 use Rattle.jsonb_codec.specs.Word.{word, header_at}
 use Rattle.jsonb.specs.Building.{key_codes, object_of}
 use Rattle.jsonb.proofs.LeafLaws.{code_entries, code_payloads, object_of-parts}
+use Rattle.jsonb.specs.Entries.{Run, entries_in, entry_count, entry_there, left_after, payloads_end}
+use Rattle.jsonb.specs.Entries.{placed_at, placed_from, run_in}
 use Rattle.jsonb.specs.Item.{Entry}
-use Rattle.jsonb.specs.StoredEntries.{HasMembers}
+use Rattle.jsonb.specs.Parts.{length_in}
+use Rattle.jsonb.specs.StoredEntries.{HasItems, HasMembers}
 use Rattle.jsonb.specs.Steps.{◌>>=◌}
+use Rattle.jsonb.proofs.EntryLaws.{IsLess, cut_later, left_after-get, length-placed_from, skip_cut}
+use Rattle.jsonb.proofs.EntryLaws.{skipped}
 use Rattle.jsonb.proofs.KindLaws.{header_at-Scalar, header_at-array, header_at-object}
 use Rattle.jsonb.proofs.Places.{At, At-all, At-left, At-right, At-after_word, take-At, within-At}
 use Rattle.jsonb.proofs.StoredEntryLaws.{AreEntries, AreEntries-trees, AreEntries-keys}
 use Rattle.jsonb.proofs.StoredEntryLaws.{AreEntries-pairs, HasItems-Payload, HasMembers-Payload}
 use Rattle.jsonb.proofs.StoredEntryLaws.{first_entry, items_at, members_at}
 use Rattle.jsonb.proofs.StorageLaws.{length-code_entries}
-use Rattle.jsonb.specs.declared.reads.lookup.Place.{Place}
-use Rattle.kohiblad.specs.Places.{start_after, place_at, part_place, item_under, place_of_item}
-use Rattle.kohiblad.specs.Places.{member_under, member_places, entry_there, member_there}
-use Rattle.kohiblad.specs.Places.{place_in, place_under, place_among, all_entries}
+use Rattle.jsonb.specs.declared.entries.Entry.{Entry as PlacedEntry}
+use Rattle.kohiblad.specs.Children.{some_entry}
+use Rattle.kohiblad.specs.Places.{all_entries, item_under, member_places, member_there}
+use Rattle.kohiblad.specs.Places.{member_under, part_in, place_of_item}
 use Rattle.kohiblad.specs.Places.{IsItemPlace, IsPartPlace, AreMemberPlaces}
 
-pub start_after-cut : (bytes : List ℕ) (nth index start : ℕ) (e : Error) → 0 < nth
-    → jentry_at bytes index ≡ Err e → start_after bytes nth index start ≡ Err e
-start_after-cut bytes zero index start e some cut = absurd (omega arith)
-start_after-cut bytes (suc nth) index start e some cut =
-    ap (λ (r : Result JEntry Error). r
-    >>= (λ (entry : JEntry). start_after bytes nth (index + 4) (start + entry.length))) cut
+-- The entries under a header.
+abbrev parts_under : List ℕ → ℕ × ℕ → List (Result PlacedEntry Error)
+parts_under bytes header = placed_from bytes (entry_count header) 4 (4 + 4 * entry_count header)
 
--- the position of an entry in the bytes
-abbrev pub IsItemAt : List ℕ → Result Place Error → Entry → Type 0
-IsItemAt bytes found entry =
-    (place : Place) × ((found ≡ Ok place) × (entry_there bytes place ≡ entry))
+one_part : (r : Result PlacedEntry Error) → option_transpose (Some r) ≡ some_entry r
+one_part (Ok entry) = refl
+one_part (Err e) = refl
+
+-- A part of any bytes that have a header.
+module _ (bytes : List ℕ) (header : ℕ × ℕ) (is : header_at bytes 0 ≡ Ok header) (k : ℕ) where
+  listed : part_in bytes k ≡ option_transpose (slice_get (parts_under bytes header) k)
+  listed = ap (λ (r : Result (ℕ × ℕ) Error). (r >>= (λ (h : ℕ × ℕ). Ok (parts_under bytes h)))
+      >>= (λ parts. option_transpose (slice_get parts k))) is
+
+  part_past : entry_count header ≤ k → part_in bytes k ≡ Ok None
+  part_past past =
+      let long = length-placed_from bytes (entry_count header) 4 (4 + 4 * entry_count header) in
+      listed ∙ ap option_transpose (slice_get_past _ k (omega (arith, long)))
+
+  module _ (among : k < entry_count header) where
+    abbrev n : ℕ
+    n = entry_count header
+
+    abbrev less : IsLess k n k
+    less = inl (refl, omega (arith, among))
+
+    -- It begins where the payloads before it end.
+    pub part_from : (v : ℕ) → payloads_end bytes k 4 (4 + 4 * n) ≡ Ok v
+        → part_in bytes k ≡ some_entry (placed_at bytes (4 + 4 * k) v)
+    part_from v ends =
+        let some : n - k ≡ suc (n - suc k) = omega (arith, among) in
+        listed
+        ∙ ap option_transpose
+        (sym (left_after-get k (parts_under bytes header) _
+        (skipped bytes k n k 4 (4 + 4 * n) less v ends))
+        ∙ ap (λ (l : ℕ). slice_get (placed_from bytes l (4 + 4 * k) v) 0) some)
+        ∙ one_part (placed_at bytes (4 + 4 * k) v)
+
+    pub part_cut_off : (e : Error) → payloads_end bytes k 4 (4 + 4 * n) ≡ Err e
+        → part_in bytes k ≡ Err e
+    part_cut_off e cut =
+        listed
+        ∙ ap option_transpose (cut_later bytes k n 4 (4 + 4 * n) e among
+        (skip_cut bytes k n k 4 (4 + 4 * n) less e cut))
+
+-- The part to which a cursor over all entries comes.
+module _ (bytes : List ℕ) (number : ℕ) (run : Run) (is : run_in bytes ≡ Ok run) where
+  entries_by : (r : Result (List (Result PlacedEntry Error)) Error)
+      → r >>= (λ entries. Ok (record { bytes = bytes; entries = entries })) ≡ Ok run
+      → r ≡ Ok run.entries
+  entries_by (Ok entries) is =
+      let same : record { bytes = bytes; entries = entries } ≡ run = cc in
+      ap (λ (x : Run). Ok x.entries) same
+  entries_by (Err e) is = let never : ⊥ = cc in absurd never
+
+  number_listed : option_transpose (slice_get run.entries number) ≡ part_in bytes number
+  number_listed =
+      sym (ap (λ r. r >>= (λ parts. option_transpose (slice_get parts number)))
+      (entries_by (entries_in bytes) is))
+
+  pub part_after : (left : List (Result PlacedEntry Error))
+      → left_after number run.entries ≡ Ok left
+      → option_transpose (slice_get left 0) ≡ part_in bytes number
+  part_after left after =
+      ap option_transpose (left_after-get number run.entries left after) ∙ number_listed
+
+  cut_by : (e : Error) → number < length run.entries → left_after number run.entries ≡ Err e
+      → (r : Result (ℕ × ℕ) Error)
+      → r >>= (λ (h : ℕ × ℕ). Ok (parts_under bytes h)) ≡ Ok run.entries
+      → slice_get run.entries number ≡ Some (Err e)
+  cut_by e among cut (Ok h) listed =
+      let count = entry_count h in
+      let same : parts_under bytes h ≡ run.entries = cc in
+      let long = length-placed_from bytes count 4 (4 + 4 * count) in
+      let less = ap length same in
+      ap (λ xs. slice_get xs number) (sym same)
+      ∙ cut_later bytes number count 4 (4 + 4 * count) e (omega (arith, among, long, less))
+      (ap (left_after number) same ∙ cut)
+  cut_by e among cut (Err d) listed = let never : ⊥ = cc in absurd never
+
+  pub part_cut : (e : Error) → number < length run.entries → left_after number run.entries ≡ Err e
+      → Err e ≡ part_in bytes number
+  part_cut e among cut =
+      ap option_transpose (sym (cut_by e among cut (header_at bytes 0)
+      (entries_by (entries_in bytes) is)))
+      ∙ number_listed
+
+-- An entry that is stored in the bytes, and its place.
+pub record IsStoredAt (bytes : List ℕ) (r : Result PlacedEntry Error) (c : Entry) : Type 0 where
+  pub place : PlacedEntry
+  pub found : r ≡ Ok place
+  pub there : entry_there bytes place ≡ c
+  pub inside : place.start + place.length ≤ length bytes
 
 pub place_stored : (bytes : List ℕ) (i j : ℕ) (c : Entry) (cs : List Entry) → AreEntries (c ∷ cs)
     → At bytes i (code_entries (c ∷ cs)) → At bytes j (code_payloads (c ∷ cs))
-    → IsItemAt bytes (place_at bytes i j) c
+    → IsStoredAt bytes (placed_at bytes i j) c
 place_stored bytes i j c cs is a b =
-    let f = first_entry bytes i j c cs is.0 a b in
     let payload = At-left bytes j c.payload (code_payloads cs) b in
-    let inside =
-    le-leb (j + length c.payload) (length bytes) (within-At bytes j c.payload payload) in
-    let jentry = f.jentry in (
-      record { type_code = c.type; start = j; length = length c.payload },
+    let within = within-At bytes j c.payload payload in
+    let inside = le-leb (j + length c.payload) (length bytes) within in
+    let jentry = (first_entry bytes i j c cs is.0 a b).jentry in
+    record {
+      place = record { type_code = c.type; start = j; length = length c.payload };
+      found = rw (jentry, inside) refl;
+      there = ap (λ (p : List ℕ). record { type = c.type; payload = p })
+          (take-At bytes j c.payload payload);
+      inside = within;
+    }
+
+-- The entry with a number among those that are stored.
+nth_stored : (bytes : List ℕ) (n k i j : ℕ) (cs : List Entry) (c : Entry) → n ≡ length cs
+    → AreEntries cs → At bytes i (code_entries cs) → At bytes j (code_payloads cs)
+    → slice_get cs k ≡ Some c
+    → (r : Result PlacedEntry Error)
+    × ((slice_get (placed_from bytes n i j) k ≡ Some r) × IsStoredAt bytes r c)
+nth_stored bytes n zero i j [] c count is a b there = absurd cc
+nth_stored bytes n (suc k) i j [] c count is a b there = absurd cc
+nth_stored bytes zero k i j (x ∷ cs) c count is a b there = absurd (omega arith)
+nth_stored bytes (suc n) zero i j (x ∷ cs) c count is a b there =
+    let same : x ≡ c = cc in (
+      _,
       (
-        rw (jentry, inside) refl,
-        ap
-            (λ (p : List ℕ). record { type = c.type; payload = p })
-            (take-At bytes j c.payload payload),
+        refl,
+        subst (IsStoredAt bytes (placed_at bytes i j)) same
+            (place_stored bytes i j x cs is a b),
       ),
     )
-
-part_stored_at : (bytes : List ℕ) (nth i j k : ℕ) (cs : List Entry) (c : Entry) → k ≡ i + 4 * nth
-    → AreEntries cs → At bytes i (code_entries cs) → At bytes j (code_payloads cs)
-    → slice_get cs nth ≡ Some c
-    → IsItemAt bytes (start_after bytes nth i j >>= place_at bytes k) c
-part_stored_at bytes zero i j k [] c at is a b there = let never : ⊥ = cc in absurd never
-part_stored_at bytes (suc nth) i j k [] c at is a b there = let never : ⊥ = cc in absurd never
-part_stored_at bytes zero i j k (x ∷ cs) c at is a b there =
-    let same : x ≡ c = cc in
-    let first : i ≡ k = omega arith in
-    subst (λ (w : ℕ). IsItemAt bytes (place_at bytes w j) c) first
-    (subst (IsItemAt bytes (place_at bytes i j)) same (place_stored bytes i j x cs is a b))
-part_stored_at bytes (suc nth) i j k (x ∷ cs) c at is a b there =
+nth_stored bytes (suc n) (suc k) i j (x ∷ cs) c count is a b there =
     let f = first_entry bytes i j x cs is.0 a b in
-    let more = part_stored_at bytes nth (i + 4)
-    (j + length x.payload) k cs c (omega arith) is.1 f.other_entries f.other_payloads there in
-    let next = ap
-    (λ (r : Result JEntry Error). (r
-    >>= (λ (entry : JEntry). start_after bytes nth (i + 4) (j + entry.length)))
-    >>= place_at bytes k) f.jentry in
-    (more.0, (next ∙ more.1.0, more.1.1))
+    let next : j + length x.payload ≡ j + length_in (jentry_at bytes i) =
+    ap (λ (m : ℕ). j + m) (sym (ap length_in f.jentry)) in
+    let (r, (found, stored)) = nth_stored bytes n k (i + 4) (j + length x.payload) cs c
+    (omega arith) is.1 f.other_entries f.other_payloads there in
+    (r, (ap (λ (s : ℕ). slice_get (placed_from bytes n (i + 4) s) k) (sym next) ∙ found, stored))
 
-module _ (b : List ℕ) (cs : List Entry) (is : AreEntries cs) (entries_at : At b 4 (code_entries cs))
-    (n : ℕ) (counted : n ≡ length cs) (payloads_at : At b (4 + 4 * n) (code_payloads cs))
-    (nth : ℕ) where
-  part_there :
-      ((x : Entry) × (nth < length cs) × (slice_get cs nth ≡ Some x)
-      × (slice_index_or cs nth x ≡ x)) ⊎ ((length cs ≤ nth) × (slice_get cs nth ≡ None))
-      → (o : Option Place)
-      × ((place_among b nth n ≡ Ok o)
-      × (option_map (entry_there b) o ≡ slice_get cs nth))
-  part_there (inl (x, inside, there, here)) =
-      let stored = part_stored_at b nth 4 (4 + 4 * n) (4 + 4 * nth) cs x refl is entries_at
-      payloads_at there in
-      let test = lt-leb n nth (omega arith) in
-      let found = stored.1.0 in
-      (Some stored.0, (rw (test, found) refl, ap (λ (c : Entry). Some c) stored.1.1 ∙ sym there))
-  part_there (inr (past, absent)) =
-      let test = le-leb n nth (omega arith) in
-      (None, (rw test refl, sym absent))
+-- The parts of the bytes are these entries.
+pub record HoldEntries (b : List ℕ) (cs : List Entry) : Type 0 where
+  header : ℕ × ℕ
+  is : header_at b 0 ≡ Ok header
+  count : entry_count header ≡ length cs
+  are : AreEntries cs
+  entries_at : At b 4 (code_entries cs)
+  payloads_at : At b (4 + 4 * length cs) (code_payloads cs)
+
+-- The part with a number.
+pub record IsPartAt (b : List ℕ) (k : ℕ) (c : Entry) : Type 0 where
+  pub place : PlacedEntry
+  pub found : part_in b k ≡ Ok (Some place)
+  pub there : entry_there b place ≡ c
+  pub inside : place.start + place.length ≤ length b
+
+past_end : (cs : List Entry) (k : ℕ) → slice_get cs k ≡ None → length cs ≤ k
+past_end [] k past = omega arith
+past_end (c ∷ cs) zero past = absurd cc
+past_end (c ∷ cs) (suc k) past = let more = past_end cs k past in omega (arith, more)
+
+module _ (b : List ℕ) (cs : List Entry) (h : HoldEntries b cs) where
+  pub part_at : (k : ℕ) (c : Entry) → slice_get cs k ≡ Some c → IsPartAt b k c
+  part_at k c there =
+      let count = h.count in
+      let (r, (found, stored)) = nth_stored b (entry_count h.header) k 4
+      (4 + 4 * entry_count h.header) cs c count h.are h.entries_at
+      (subst (λ (n : ℕ). At b (4 + 4 * n) (code_payloads cs)) (sym count) h.payloads_at) there in
+      record {
+        place = stored.place;
+        found = listed b h.header h.is k ∙ ap option_transpose found ∙ one_part r
+            ∙ ap some_entry stored.found;
+        there = stored.there;
+        inside = stored.inside;
+      }
+
+  part_by : (k : ℕ) (o : Option Entry) → slice_get cs k ≡ o
+      → (o : Option PlacedEntry) × ((part_in b k ≡ Ok o)
+      × (option_map (entry_there b) o ≡ slice_get cs k))
+  part_by k None past =
+      let count = h.count in
+      (None, (part_past b h.header h.is k (omega (arith, count, past_end cs k past)), sym past))
+  part_by k (Some c) there =
+      let at = part_at k c there in
+      (Some at.place, (at.found, ap (λ (e : Entry). Some e) at.there ∙ sym there))
 
 -- What holds of the documents of each kind of tree holds of every document.
 pub by_kind : (P : Tree → Type 0) (b : List ℕ)
@@ -127,28 +243,24 @@ by_kind P b a o n c d e f (number x) (inr (is, h)) = absurd (omega arith)
 by_kind P b a o n c d e f (text x) (inr (is, h)) = absurd (omega arith)
 by_kind P b a o n c d e f (extension x) (inr (is, h)) = absurd (omega arith)
 
-item_stored : (b : List ℕ) (ts : Trees) (index : ℕ) → Payload (array ts) b
-    → IsItemPlace b (array ts) index (place_of_item b index)
-item_stored b ts index h =
-    let m = HasItems-Payload b ts h in
-    let at = items_at b m.0 m.1.few m.1.written in
-    let there = part_there b m.0
-    (AreEntries-trees m.0 ts m.1.mean m.1.short) at.entries_at
-    (length m.0) refl at.payloads_at index
-    (slice_get_cases m.0 index).1 in (
-      m.0,
-      (
-        m.1,
-        (
-          there.0,
-          (
-            ap (λ (r : Result (ℕ × ℕ) Error). r >>= item_under b index) at.header
-                ∙ there.1.0,
-            there.1.1,
-          ),
-        ),
-      ),
-    )
+-- An array's items.
+pub hold_items : (b : List ℕ) (ts : Trees) (cs : List Entry) → HasItems b ts cs → HoldEntries b cs
+hold_items b ts cs h =
+    let at = items_at b cs h.few h.written in
+    record {
+      header = (2147483648, length cs);
+      is = at.header;
+      count = refl;
+      are = AreEntries-trees cs ts h.mean h.short;
+      entries_at = at.entries_at;
+      payloads_at = at.payloads_at;
+    }
+
+items_part : (b : List ℕ) (ts : Trees) (k : ℕ) → Payload (array ts) b
+    → IsPartPlace b (array ts) k (part_in b k)
+items_part b ts k h =
+    let (cs, stored) = HasItems-Payload b ts h in
+    (cs, (stored, part_by b cs (hold_items b ts cs stored) k _ refl))
 
 no_item : (b : List ℕ) (t : Tree) (index : ℕ) → Scalar t b → place_of_item b index ≡ Ok None
 no_item b t index h =
@@ -158,7 +270,9 @@ pub place_of_item_stored : (b : List ℕ) (t : Tree) (index : ℕ) → Doc b t
     → IsItemPlace b t index (place_of_item b index)
 place_of_item_stored b t index =
     by_kind (λ (u : Tree). IsItemPlace b u index (place_of_item b index)) b
-    (λ ts h. item_stored b ts index h)
+    (λ ts h. subst (IsItemPlace b (array ts) index)
+    (sym (ap (λ (r : Result (ℕ × ℕ) Error). r >>= item_under b index) (header_at-array b ts h)))
+    (items_part b ts index h))
     (λ ps h. ap (λ (r : Result (ℕ × ℕ) Error). r >>= item_under b index) (header_at-object b ps h))
     (no_item b null index) (λ x. no_item b (boolean x) index) (λ x. no_item b (number x) index)
     (λ x. no_item b (text x) index) (λ x. no_item b (extension x) index) t
@@ -240,131 +354,93 @@ all_at b ms few written =
           (code_payloads (all_entries ms)) (omega arith) both;
     }
 
-module _ (b : List ℕ) (ms : List (List ℕ × Entry)) (is : AreEntries (all_entries ms))
-    (at : AllAt b ms) (index : ℕ) where
+hold_members : (b : List ℕ) (ps : Pairs) (ms : List (List ℕ × Entry)) → HasMembers b ps ms
+    → HoldEntries b (all_entries ms)
+hold_members b ps ms h =
+    let at = all_at b ms h.few h.written in
+    let keys = length-all_keys ms in
+    let values = length-values_of ms in
+    let all = length-append (key_codes (keys_of ms)) (values_of ms) in
+    let count : 2 * length ms ≡ length (all_entries ms) = omega arith in
+    record {
+      header = (1073741824, length ms);
+      is = at.header;
+      count = count;
+      are = AreEntries-append (key_codes (keys_of ms)) (values_of ms)
+          (AreEntries-keys (keys_of ms) h.short_keys)
+          (AreEntries-pairs (keys_of ms) (values_of ms) ps h.mean h.short);
+      entries_at = at.entries_at;
+      payloads_at = subst (λ (n : ℕ). At b (4 + 4 * n) (code_payloads (all_entries ms))) count
+          at.payloads_at;
+    }
+
+module _ (b : List ℕ) (ps : Pairs) (ms : List (List ℕ × Entry)) (h : HasMembers b ps ms)
+    (index : ℕ) where
+  pub member_key_at : (m : List ℕ × Entry) → slice_get ms index ≡ Some m
+      → IsPartAt b index (record { type = 268435456; payload = m.0 })
+  member_key_at m there = part_at b (all_entries ms) (hold_members b ps ms h) index _
+      (key_at_index ms (values_of ms) index m there)
+
+  pub value_stored : (c : Entry) → slice_get (values_of ms) index ≡ Some c
+      → IsPartAt b (length ms + index) c
+  value_stored c there =
+      let number_of : length ms + index ≡ length (key_codes (keys_of ms)) + index =
+      ap (λ (n : ℕ). n + index) (sym (length-all_keys ms)) in
+      part_at b (all_entries ms) (hold_members b ps ms h) (length ms + index) c
+      (after_keys (key_codes (keys_of ms)) (values_of ms) (length ms + index) index c number_of
+      there)
+
+  pub member_value_at : (m : List ℕ × Entry) → slice_get ms index ≡ Some m
+      → IsPartAt b (length ms + index) m.1
+  member_value_at m there = value_stored m.1 (value_at_index ms index m there)
+
   member_at :
       ((m : List ℕ × Entry) × (index < length ms) × (slice_get ms index ≡ Some m)
       × (slice_index_or ms index m ≡ m)) ⊎ ((length ms ≤ index) × (slice_get ms index ≡ None))
-      → (o : Option (Place × Place))
+      → (o : Option (PlacedEntry × PlacedEntry))
       × ((member_under b index (1073741824, length ms) ≡ Ok o)
       × (option_map (member_there b) o ≡ slice_get ms index))
   member_at (inl (m, inside, there, here)) =
-      let number_of : length ms + index ≡ length (key_codes (keys_of ms)) + index =
-      ap (λ (n : ℕ). n + index) (sym (length-all_keys ms)) in
-      let key = part_stored_at b index 4 (4 + 4 * (2 * length ms)) (4 + 4 * index)
-      (all_entries ms) _ refl is at.entries_at at.payloads_at
-      (key_at_index ms (values_of ms) index m there) in
-      let value =
-      part_stored_at b (length ms + index) 4 (4 + 4 * (2 * length ms))
-      (4 + 4 * (length ms + index)) (all_entries ms) m.1 refl is at.entries_at at.payloads_at
-      (after_keys (key_codes (keys_of ms)) (values_of ms) (length ms + index) index m.1 number_of
-      (value_at_index ms index m there)) in
+      let key = member_key_at m there in
+      let value = member_value_at m there in
       let test = lt-leb (length ms) index inside in
-      let key_found = key.1.0 in
-      let value_found = value.1.0 in
-      let same = ap₂
-      (λ (k : List ℕ) (c : Entry). (k, c)) (ap (λ (c : Entry). c.payload) key.1.1) value.1.1 in (
-        Some (key.0, value.0),
+      let key_found = key.found in
+      let value_found = value.found in (
+        Some (key.place, value.place),
         (
           rw (test, key_found, value_found) refl,
-          ap (λ (x : List ℕ × Entry). Some x) same
-              ∙ sym there,
+          ap₂ (λ (k v : Entry). Some (k.payload, v)) key.there value.there ∙ sym there,
         ),
       )
   member_at (inr (past, absent)) =
       let test = le-leb (length ms) index past in
       (None, (rw test refl, sym absent))
 
--- the position of a value's entry
-pub value_stored : (b : List ℕ) (ps : Pairs) (ms : List (List ℕ × Entry)) → HasMembers b ps ms
-    → (index : ℕ) (c : Entry) → slice_get (values_of ms) index ≡ Some c
-    → IsItemAt b (part_place b (2 * length ms) (length ms + index)) c
-value_stored b ps ms h index c there =
-    let at = all_at b ms h.few h.written in
-    let is = AreEntries-append (key_codes (keys_of ms)) (values_of ms)
-    (AreEntries-keys (keys_of ms) h.short_keys)
-    (AreEntries-pairs (keys_of ms) (values_of ms) ps h.mean h.short) in
-    let number_of : length ms + index ≡ length (key_codes (keys_of ms)) + index =
-    ap (λ (n : ℕ). n + index) (sym (length-all_keys ms)) in
-    part_stored_at b (length ms + index) 4 (4 + 4 * (2 * length ms)) (4 + 4 * (length ms + index))
-    (all_entries ms) c refl is at.entries_at at.payloads_at
-    (after_keys (key_codes (keys_of ms)) (values_of ms) (length ms + index) index c number_of
-    there)
-
 member_stored : (b : List ℕ) (ps : Pairs) (index : ℕ) → Payload (object ps) b
     → AreMemberPlaces b (object ps) index (member_places b index)
 member_stored b ps index h =
-    let m = HasMembers-Payload b ps h in
-    let at = all_at b m.0 m.1.few m.1.written in
-    let is = AreEntries-append (key_codes (keys_of m.0)) (values_of m.0)
-    (AreEntries-keys (keys_of m.0) m.1.short_keys)
-    (AreEntries-pairs (keys_of m.0) (values_of m.0) ps m.1.mean m.1.short) in
-    let there = member_at b m.0 is at index (slice_get_cases m.0 index).1 in (
-      m.0,
-      (
-        m.1,
-        (
-          there.0,
-          (
-            ap (λ (r : Result (ℕ × ℕ) Error). r >>= member_under b index) at.header
-                ∙ there.1.0,
-            there.1.1,
-          ),
-        ),
-      ),
-    )
+    let (ms, stored) = HasMembers-Payload b ps h in
+    let at = all_at b ms stored.few stored.written in
+    let (o, (found, there)) = member_at b ps ms stored index (slice_get_cases ms index).1 in
+    let here = ap (λ (r : Result (ℕ × ℕ) Error). r >>= member_under b index) at.header in
+    (ms, (stored, (o, (here ∙ found, there))))
 
-part_stored : (b : List ℕ) (ps : Pairs) (nth : ℕ) → Payload (object ps) b
-    → IsPartPlace b (object ps) nth (place_in b nth)
-part_stored b ps nth h =
-    let m = HasMembers-Payload b ps h in
-    let at = all_at b m.0 m.1.few m.1.written in
-    let is = AreEntries-append (key_codes (keys_of m.0)) (values_of m.0)
-    (AreEntries-keys (keys_of m.0) m.1.short_keys)
-    (AreEntries-pairs (keys_of m.0) (values_of m.0) ps m.1.mean m.1.short) in
-    let keys = length-all_keys m.0 in
-    let values = length-values_of m.0 in
-    let all = length-append (key_codes (keys_of m.0)) (values_of m.0) in
-    let there = part_there b (all_entries m.0) is at.entries_at
-    (2 * length m.0) (omega arith) at.payloads_at nth
-    (slice_get_cases (all_entries m.0) nth).1 in (
-      m.0,
-      (
-        m.1,
-        (
-          there.0,
-          (
-            ap (λ (r : Result (ℕ × ℕ) Error). r >>= place_under b nth) at.header
-                ∙ there.1.0,
-            there.1.1,
-          ),
-        ),
-      ),
-    )
+members_part : (b : List ℕ) (ps : Pairs) (k : ℕ) → Payload (object ps) b
+    → IsPartPlace b (object ps) k (part_in b k)
+members_part b ps k h =
+    let (ms, stored) = HasMembers-Payload b ps h in
+    (ms, (stored, part_by b (all_entries ms) (hold_members b ps ms stored) k _ refl))
 
-items_part : (b : List ℕ) (ts : Trees) (nth : ℕ) → Payload (array ts) b
-    → IsPartPlace b (array ts) nth (place_in b nth)
-items_part b ts nth h =
-    let part =
-    ap (λ (r : Result (ℕ × ℕ) Error). r >>= place_under b nth) (header_at-array b ts h) in
-    let item =
-    ap (λ (r : Result (ℕ × ℕ) Error). r >>= item_under b nth) (header_at-array b ts h) in
-    subst (IsItemPlace b (array ts) nth) (item ∙ sym part) (item_stored b ts nth h)
+no_part : (b : List ℕ) (t : Tree) (k : ℕ) → Scalar t b → part_in b k ≡ Ok None
+no_part b t k h = part_past b _ (header_at-Scalar b t h) k (omega arith)
 
-no_part : (b : List ℕ) (t : Tree) (nth : ℕ) → Scalar t b → place_in b nth ≡ Ok None
-no_part b t nth h =
-    let test = le-leb 0 nth (omega arith) in
-    let none : place_among b nth 0 ≡ Ok None = rw test refl in
-    ap (λ (r : Result (ℕ × ℕ) Error). r >>= place_under b nth) (header_at-Scalar b t h) ∙ none
-
-pub place_in_stored : (b : List ℕ) (t : Tree) (nth : ℕ) → Doc b t
-    → IsPartPlace b t nth (place_in b nth)
-place_in_stored b t nth =
-    by_kind (λ (u : Tree). IsPartPlace b u nth (place_in b nth)) b
-    (λ ts h. items_part b ts nth h)
-    (λ ps h. part_stored b ps nth h)
-    (no_part b null nth) (λ x. no_part b (boolean x) nth) (λ x. no_part b (number x) nth)
-    (λ x. no_part b (text x) nth) (λ x. no_part b (extension x) nth) t
+pub part_in_stored : (b : List ℕ) (t : Tree) (k : ℕ) → Doc b t → IsPartPlace b t k (part_in b k)
+part_in_stored b t k =
+    by_kind (λ (u : Tree). IsPartPlace b u k (part_in b k)) b
+    (λ ts h. items_part b ts k h)
+    (λ ps h. members_part b ps k h)
+    (no_part b null k) (λ x. no_part b (boolean x) k) (λ x. no_part b (number x) k)
+    (λ x. no_part b (text x) k) (λ x. no_part b (extension x) k) t
 
 no_member : (b : List ℕ) (t : Tree) (index : ℕ) → Scalar t b → member_places b index ≡ Ok None
 no_member b t index h =

@@ -1,281 +1,320 @@
 -- Walks over the children of an array or object.
-use Rattle.std.proofs.Common.{◌≡◌, ℕ, zero, suc, ◌+◌, ◌*◌, ◌==◌, nat_le, if◌then◌else◌, Bool}
-use Rattle.std.proofs.Common.{true, false, List, length, Option, None, Some, Result, Ok, Err, refl}
+use Rattle.std.proofs.Common.{◌≡◌, ℕ, zero, suc, ◌+◌, ◌*◌, ◌<◌, ◌==◌, nat_le, if◌then◌else◌, Bool}
+use Rattle.std.proofs.Common.{true, false, List, Option, None, Some, Result, Ok, Err, refl}
 use Rattle.std.proofs.Common.{sym, ap, ap₂, subst, ◌∙◌, arith}
-use Rattle.std.proofs.lemmas.Bool.{eqb-true}
+use Rattle.std.specs.Prelude.{⊤}
+use Rattle.std.proofs.lemmas.Bool.{leb-false}
 use Rattle.jsonb_value.specs.declared.error.Error.{Error}
 use Rattle.jsonb_value.specs.declared.error.Error.TheVariants as errors
+use Rattle.jsonb_value.specs.declared.error.Error.TheVariants.{InvalidJsonb}
 use Rattle.jsonb_codec.specs.declared.constants.TheConstants.{ARRAY_CONTAINER_TAG}
 use Rattle.jsonb_codec.specs.declared.constants.TheConstants.{OBJECT_CONTAINER_TAG}
 use Rattle.jsonb_codec.specs.declared.jentry.JEntry.{JEntry}
 use Rattle.jsonb_codec.specs.JEntry.{jentry_at}
 use Rattle.jsonb_codec.specs.Word.{header_at}
+use Rattle.jsonb.specs.Entries.{entry_count, payloads_end, placed_at, placed_by}
 use Rattle.jsonb.specs.Steps.{◌>>=◌}
+use Rattle.jsonb.specs.declared.entries.Entry.{Entry as PlacedEntry}
 use Rattle.kohiblad.specs.declared.children.Child.{Child}
 use Rattle.kohiblad.specs.declared.children.KohibladCursor.{KohibladCursor}
-use Rattle.jsonb.specs.declared.reads.lookup.Place.{Place}
-use Rattle.kohiblad.specs.Places.{start_after, part_start, place_at, part_place, some_place}
-use Rattle.kohiblad.specs.Places.{both_places}
-use Rattle.kohiblad.specs.Children.{item_cursor, member_cursor}
-use Rattle.kohiblad.specs.Children.{cursor_under, cursor_at, item_child, member_child}
-use Rattle.kohiblad.specs.Children.{numbered_under, numbered_child, item_at_cursor}
-use Rattle.kohiblad.specs.Children.{member_at_cursor}
-use Rattle.kohiblad.specs.Children.{child_under, child_at_cursor, end_of, cursor_after}
+use Rattle.kohiblad.specs.declared.children.Layout.{Layout}
+use Rattle.kohiblad.specs.ChildWalks.{found_child}
+use Rattle.kohiblad.specs.Children.{child_among, child_at_cursor, child_of, cursor_after}
+use Rattle.kohiblad.specs.Children.{cursor_among, cursor_at, end_of, first_value, key_end}
+use Rattle.kohiblad.specs.Children.{key_start, layout_in, layout_under, numbered_among}
+use Rattle.kohiblad.specs.Children.{numbered_child, part_at_cursor, payload_start, some_entry}
 use Rattle.kohiblad.specs.Children.{value_answer}
+use Rattle.kohiblad.specs.Places.{part_in}
 use Rattle.kohiblad.specs.Status.{code}
+use Rattle.kohiblad.proofs.PlaceLaws.{part_cut_off, part_from}
 
 -- one entry more
 module _ (bytes : List ℕ) (v : ℕ) (e : JEntry) where
-  step_under : (n i s : ℕ) (r : Result JEntry Error)
-      → ((x : JEntry) → start_after bytes n i (s + x.length) ≡ Ok v
-      → start_after bytes (suc n) i (s + x.length) ≡ Ok (v + e.length))
-      → r >>= (λ (x : JEntry). start_after bytes n i (s + x.length)) ≡ Ok v
-      → r >>= (λ (x : JEntry). start_after bytes (suc n) i (s + x.length)) ≡ Ok (v + e.length)
-  step_under n i s (Ok x) more here = more x here
-  step_under n i s (Err e) more here = let never : ⊥ = cc in absurd never
+  step_by : (n i s : ℕ) (r : Result JEntry Error)
+      → ((x : JEntry) → payloads_end bytes n i (s + x.length) ≡ Ok v
+      → payloads_end bytes (suc n) i (s + x.length) ≡ Ok (v + e.length))
+      → r >>= (λ (x : JEntry). payloads_end bytes n i (s + x.length)) ≡ Ok v
+      → r >>= (λ (x : JEntry). payloads_end bytes (suc n) i (s + x.length)) ≡ Ok (v + e.length)
+  step_by n i s (Ok x) more here = more x here
+  step_by n i s (Err d) more here = absurd cc
 
-  pub start_step : (n i s j : ℕ) → j ≡ i + 4 * n → start_after bytes n i s ≡ Ok v
-      → jentry_at bytes j ≡ Ok e → start_after bytes (suc n) i s ≡ Ok (v + e.length)
-  start_step zero i s j at here there =
+  end_step : (n i s j : ℕ) → j ≡ i + 4 * n → payloads_end bytes n i s ≡ Ok v
+      → jentry_at bytes j ≡ Ok e → payloads_end bytes (suc n) i s ≡ Ok (v + e.length)
+  end_step zero i s j at here there =
       let same : s ≡ v = cc in
-      let first : j ≡ i = omega arith in
+      let first : i ≡ j = omega arith in
       ap (λ (r : Result JEntry Error). r >>= (λ (x : JEntry). Ok (s + x.length)))
-      (ap (jentry_at bytes) (sym first) ∙ there)
+      (ap (jentry_at bytes) first ∙ there)
       ∙ ap (λ (k : ℕ). Ok (k + e.length)) same
-  start_step (suc n) i s j at here there =
-      step_under n (i + 4) s (jentry_at bytes i)
-      (λ x more. start_step n (i + 4) (s + x.length) j (omega arith) more there) here
+  end_step (suc n) i s j at here there =
+      step_by n (i + 4) s (jentry_at bytes i)
+      (λ x more. end_step n (i + 4) (s + x.length) j (omega arith) more there) here
 
--- where the payload of a place that was found ends
-abbrev EndsBy : ℕ → Place → Result JEntry Error → Type 0
-EndsBy v place r = (e : JEntry) × ((r ≡ Ok e) × (v + e.length ≡ end_of place))
+-- The payload of an entry that was read ends where the next one begins.
+module _ (bytes : List ℕ) (v : ℕ) (entry : PlacedEntry) where
+  abbrev EndsBy : Result JEntry Error → Type 0
+  EndsBy r = (e : JEntry) × ((r ≡ Ok e) × (v + e.length ≡ end_of entry))
 
-module _ (bytes : List ℕ) (v : ℕ) (place : Place) where
-  ends_if : (e : JEntry) (b : Bool)
-      → (if b then Ok (record { type_code = e.type_code; start = v; length = e.length })
-      else Err errors.InvalidJsonb) ≡ Ok place
-      → v + e.length ≡ end_of place
-  ends_if e true here =
-      let same : record { type_code = e.type_code; start = v; length = e.length } ≡ place = cc in
+  ends_if : (e : JEntry) (inside : Bool)
+      → (if inside then Ok (record { type_code = e.type_code; start = v; length = e.length })
+      else Err InvalidJsonb) ≡ Ok entry → v + e.length ≡ end_of entry
+  ends_if e true is =
+      let same : record { type_code = e.type_code; start = v; length = e.length } ≡ entry = cc in
       ap end_of same
-  ends_if e false here = let never : ⊥ = cc in absurd never
+  ends_if e false is = absurd cc
 
-  ends_under : (r : Result JEntry Error)
-      → r >>= (λ (e : JEntry). if nat_le (v + e.length) (length bytes)
-      then Ok (record { type_code = e.type_code; start = v; length = e.length })
-      else Err errors.InvalidJsonb) ≡ Ok place
-      → EndsBy v place r
-  ends_under (Ok e) here = (e, (refl, ends_if e (nat_le (v + e.length) (length bytes)) here))
-  ends_under (Err e) here = let never : ⊥ = cc in absurd never
+  ends_by : (r : Result JEntry Error) → r >>= placed_by bytes v ≡ Ok entry → EndsBy r
+  ends_by (Ok e) is = (e, (refl, ends_if e _ is))
+  ends_by (Err e) is = absurd cc
 
-  pub place_ends : (j : ℕ) → place_at bytes j v ≡ Ok place → EndsBy v place (jentry_at bytes j)
-  place_ends j here = ends_under (jentry_at bytes j) here
+  next_start : (part start : ℕ) → payloads_end bytes part 4 start ≡ Ok v
+      → placed_at bytes (4 + 4 * part) v ≡ Ok entry
+      → payloads_end bytes (suc part) 4 start ≡ Ok (end_of entry)
+  next_start part start here is =
+      let (e, (read, ends)) = ends_by (jentry_at bytes (4 + 4 * part)) is in
+      end_step bytes v e part 4 start (4 + 4 * part) refl here read ∙ ap (λ (k : ℕ). Ok k) ends
 
--- the next payload begins where this one ends
-pub next_start : (bytes : List ℕ) (entries n j v : ℕ) (place : Place) → j ≡ 4 + 4 * n
-    → part_start bytes entries n ≡ Ok v → place_at bytes j v ≡ Ok place
-    → part_start bytes entries (suc n) ≡ Ok (end_of place)
-next_start bytes entries n j v place at here there =
-    let ends = place_ends bytes v place j there in
-    start_step bytes v ends.0 n 4 (4 + 4 * entries) j at here ends.1.0
-    ∙ ap (λ (k : ℕ). Ok k) ends.1.1
+-- The entries of a layout are all that are under its header.
+count_if : (n : ℕ) (layout : Layout) (a o : Bool)
+    → (if a then Some (record { keyed = false; count = n })
+    else if o then Some (record { keyed = true; count = n }) else None) ≡ Some layout
+    → (if a then n else if o then 2 * n else 0) ≡ first_value layout + layout.count
+count_if n layout true o laid =
+    let same : record { keyed = false; count = n } ≡ layout = cc in
+    let all = ap (λ (l : Layout). first_value l + l.count) same in
+    omega (arith, all)
+count_if n layout false true laid =
+    let same : record { keyed = true; count = n } ≡ layout = cc in
+    let all = ap (λ (l : Layout). first_value l + l.count) same in
+    omega (arith, all)
+count_if n layout false false laid = absurd cc
 
--- Where the cursors of items and members come from.
-item_from : (bytes : List ℕ) (i count : ℕ) (cursor : KohibladCursor) (r : Result ℕ Error)
-    → r >>= (λ (v : ℕ). Ok (Some record { index = i; key = 0; value = v })) ≡ Ok (Some cursor)
-    → (v : ℕ) × ((r ≡ Ok v) × (cursor ≡ record { index = i; key = 0; value = v }))
-item_from bytes i count cursor (Ok v) here = (v, (refl, cc))
-item_from bytes i count cursor (Err e) here = let never : ⊥ = cc in absurd never
+entries_laid : (header : ℕ × ℕ) (layout : Layout) → layout_under header ≡ Some layout
+    → entry_count header ≡ first_value layout + layout.count
+entries_laid header layout laid =
+    count_if header.1 layout (header.0 == ARRAY_CONTAINER_TAG) (header.0 == OBJECT_CONTAINER_TAG)
+    laid
 
-abbrev MemberCursor : ℕ → KohibladCursor → Result ℕ Error → Result ℕ Error → Type 0
-MemberCursor i cursor r q =
-    (k : ℕ)
-    × ((v : ℕ)
-    × ((r ≡ Ok k) × ((q ≡ Ok v) × (cursor ≡ record { index = i; key = k; value = v }))))
+-- The key of a child, if it has one, and its value.
+key_same : (keyed : Bool) (r q value : Result (Option PlacedEntry) Error)
+    → (keyed ≡ true → r ≡ q) → child_of keyed r value ≡ child_of keyed q value
+key_same true r q value same = ap (λ k. child_of true k value) (same refl)
+key_same false r q value same = refl
 
-member_from : (i : ℕ) (cursor : KohibladCursor) (r q : Result ℕ Error)
-    → r >>= (λ (k : ℕ). q >>= (λ (v : ℕ). Ok (Some record { index = i; key = k; value = v })))
-    ≡ Ok (Some cursor)
-    → MemberCursor i cursor r q
-member_from i cursor (Ok k) (Ok v) here = (k, (v, (refl, (refl, cc))))
-member_from i cursor (Ok k) (Err e) here = let never : ⊥ = cc in absurd never
-member_from i cursor (Err e) q here = let never : ⊥ = cc in absurd never
+abbrev IsKey : Bool → Result PlacedEntry Error → Option PlacedEntry → Type 0
+IsKey true r o = (key : PlacedEntry) × ((r ≡ Ok key) × (o ≡ Some key))
+IsKey false r o = o ≡ None
 
--- the child of an item's place, and of those of a key and a value
-item_of : (r : Result Place Error)
-    → r >>= (λ (value : Place). Ok (Some record { key = None; value = value }))
-    ≡ item_child (some_place r)
-item_of (Ok value) = refl
-item_of (Err e) = refl
+child_found_by : (keyed : Bool) (r q : Result PlacedEntry Error) (child : Child)
+    → child_of keyed (some_entry r) (some_entry q) ≡ Ok (Some child)
+    → IsKey keyed r child.key × (q ≡ Ok child.value)
+child_found_by true (Ok key) (Ok value) child is =
+    let same : record { key = Some key; value = value } ≡ child = cc in
+    ((key, (refl, sym (ap (λ (c : Child). c.key) same))), ap (λ (c : Child). Ok c.value) same)
+child_found_by true (Ok key) (Err e) child is = absurd cc
+child_found_by true (Err e) q child is = absurd cc
+child_found_by false r (Ok value) child is =
+    let same : record { key = None; value = value } ≡ child = cc in
+    (sym (ap (λ (c : Child). c.key) same), ap (λ (c : Child). Ok c.value) same)
+child_found_by false r (Err e) child is = absurd cc
 
-member_of : (r q : Result Place Error)
-    → r >>= (λ (key : Place). q
-    >>= (λ (value : Place). Ok (Some record { key = Some key; value = value })))
-    ≡ member_child (r >>= (λ (key : Place). q >>= (λ (value : Place). Ok (Some (key, value)))))
-member_of (Ok key) (Ok value) = refl
-member_of (Ok key) (Err e) = refl
-member_of (Err e) q = refl
+-- No child is found where a part of it cannot be.
+no_value : (keyed : Bool) (key value : Result (Option PlacedEntry) Error) (e : Error)
+    → value ≡ Err e → None ≡ found_child (child_of keyed key value)
+no_value true (Ok key) value e is = sym (ap (λ v. found_child (child_of true (Ok key) v)) is)
+no_value true (Err d) value e is = refl
+no_value false key value e is = sym (ap (λ v. found_child (child_of false key v)) is)
 
-module _ (bytes : List ℕ) (i count v : ℕ) (here : part_start bytes count i ≡ Ok v) where
-  item_same : (b : Bool)
-      → (if b then Ok None else item_at_cursor bytes (record { index = i; key = 0; value = v }))
-      ≡ item_child (if b then Ok None else some_place (part_place bytes count i))
-  item_same true = refl
-  item_same false =
-      item_of (place_at bytes (4 + 4 * i) v)
-      ∙ ap (λ (r : Result Place Error). item_child (some_place r))
-      (sym (ap (λ (r : Result ℕ Error). r >>= place_at bytes (4 + 4 * i)) here))
+no_key : (keyed : Bool) (start : Result ℕ Error) (key value : Result (Option PlacedEntry) Error)
+    (e : Error) → (if keyed then start else Ok 0) ≡ Err e → (start ≡ Err e → key ≡ Err e)
+    → None ≡ found_child (child_of keyed key value)
+no_key true start key value e is cut =
+    sym (ap (λ k. found_child (child_of true k value)) (cut is))
+no_key false start key value e is cut = absurd cc
 
-  item_next_of : (child : Child) (r : Result Place Error)
-      → ((value : Place) → r ≡ Ok value → part_start bytes count (suc i) ≡ Ok (end_of value))
-      → r >>= (λ (value : Place). Ok (Some record { key = None; value = value }))
-      ≡ Ok (Some child)
-      → item_cursor bytes (suc i) count
-      ≡ Ok (Some (cursor_after (Ok (Some child)) (record { index = i; key = 0; value = v })))
-  item_next_of child (Ok value) next found =
-      let same : record { key = None; value = value } ≡ child = cc in
-      ap (λ (r : Result ℕ Error). r
-      >>= (λ (v : ℕ). Ok (Some record { index = suc i; key = 0; value = v })))
-      (next value refl)
-      ∙ ap (λ (c : Child). Ok
-      (Some (cursor_after (Ok (Some c)) (record { index = i; key = 0; value = v })))) same
-  item_next_of child (Err e) next found = let never : ⊥ = cc in absurd never
+-- There is no cursor.
+abbrev pub IsUnstarted : Result (Option KohibladCursor) Error → Type 0
+IsUnstarted (Ok (Some cursor)) = ⊥
+IsUnstarted (Ok None) = ⊤
+IsUnstarted (Err e) = ⊤
 
-  item_next : (child : Child) (b : Bool)
-      → (if b then Ok None else item_at_cursor bytes (record { index = i; key = 0; value = v }))
-      ≡ Ok (Some child)
-      → item_cursor bytes (suc i) count
-      ≡ Ok (Some (cursor_after (Ok (Some child)) (record { index = i; key = 0; value = v })))
-  item_next child true found = let never : ⊥ = cc in absurd never
-  item_next child false found =
-      item_next_of child (place_at bytes (4 + 4 * i) v)
-      (λ value there. next_start bytes count i (4 + 4 * i) v value refl here there) found
+-- What is found at the cursor before the child with an index in this layout, and where it comes.
+module _ (bytes : List ℕ) (i : ℕ) (header : ℕ × ℕ) (is : header_at bytes 0 ≡ Ok header)
+    (layout : Layout) (laid : layout_under header ≡ Some layout) where
+  abbrev first : ℕ
+  first = first_value layout
 
-module _ (bytes : List ℕ) (i count k v : ℕ) (keys : part_start bytes (2 * count) i ≡ Ok k)
-    (values : part_start bytes (2 * count) (count + i) ≡ Ok v) where
-  member_same : (b : Bool)
-      → (if b then Ok None
-      else member_at_cursor bytes (record { index = i; key = k; value = v }) count)
-      ≡ member_child (if b then Ok None else both_places bytes count i)
-  member_same true = refl
-  member_same false =
-      member_of (place_at bytes (4 + 4 * i) k) (place_at bytes (4 + 4 * (count + i)) v)
-      ∙ ap₂ (λ (r q : Result Place Error). member_child
-      (r >>= (λ (key : Place). q >>= (λ (value : Place). Ok (Some (key, value))))))
-      (sym (ap (λ (r : Result ℕ Error). r >>= place_at bytes (4 + 4 * i)) keys))
-      (sym (ap (λ (r : Result ℕ Error). r >>= place_at bytes (4 + 4 * (count + i))) values))
+  part_here : (k v : ℕ) → k < first + layout.count → payload_start bytes layout k ≡ Ok v
+      → part_in bytes k ≡ part_at_cursor bytes k v
+  part_here k v among starts =
+      let all = entries_laid header layout laid in
+      part_from bytes header is k (omega (arith, all)) v
+      (ap (λ (n : ℕ). payloads_end bytes k 4 (4 + 4 * n)) all ∙ starts)
 
-  member_next_of : (child : Child) (r q : Result Place Error)
-      → ((key : Place) → r ≡ Ok key → part_start bytes (2 * count) (suc i) ≡ Ok (end_of key))
-      → ((value : Place) → q ≡ Ok value
-      → part_start bytes (2 * count) (count + suc i) ≡ Ok (end_of value))
-      → r >>= (λ (key : Place). q
-      >>= (λ (value : Place). Ok (Some record { key = Some key; value = value })))
-      ≡ Ok (Some child)
-      → member_cursor bytes (suc i) count
-      ≡ Ok (Some (cursor_after (Ok (Some child)) (record { index = i; key = k; value = v })))
-  member_next_of child (Ok key) (Ok value) next_key next_value found =
-      let same : record { key = Some key; value = value } ≡ child = cc in
-      ap₂ (λ (r q : Result ℕ Error). r
-      >>= (λ (k : ℕ). q
-      >>= (λ (v : ℕ). Ok (Some record { index = suc i; key = k; value = v }))))
-      (next_key key refl) (next_value value refl)
-      ∙ ap (λ (c : Child). Ok
-      (Some (cursor_after (Ok (Some c)) (record { index = i; key = k; value = v })))) same
-  member_next_of child (Ok key) (Err e) next_key next_value found =
-      let never : ⊥ = cc in absurd never
-  member_next_of child (Err e) q next_key next_value found = let never : ⊥ = cc in absurd never
+  cut_here : (k : ℕ) (e : Error) → k < first + layout.count → payload_start bytes layout k ≡ Err e
+      → part_in bytes k ≡ Err e
+  cut_here k e among cut =
+      let all = entries_laid header layout laid in
+      part_cut_off bytes header is k (omega (arith, all)) e
+      (ap (λ (n : ℕ). payloads_end bytes k 4 (4 + 4 * n)) all ∙ cut)
 
-  member_next : (child : Child) (b : Bool)
-      → (if b then Ok None
-      else member_at_cursor bytes (record { index = i; key = k; value = v }) count)
-      ≡ Ok (Some child)
-      → member_cursor bytes (suc i) count
-      ≡ Ok (Some (cursor_after (Ok (Some child)) (record { index = i; key = k; value = v })))
-  member_next child true found = let never : ⊥ = cc in absurd never
-  member_next child false found =
-      let next : suc (count + i) ≡ count + suc i = omega arith in
-      member_next_of child (place_at bytes (4 + 4 * i) k) (place_at bytes (4 + 4 * (count + i)) v)
-      (λ key there. next_start bytes (2 * count) i (4 + 4 * i) k key refl keys there)
-      (λ value there. ap (part_start bytes (2 * count)) (sym next)
-      ∙ next_start bytes (2 * count) (count + i) (4 + 4 * (count + i)) v value refl values there)
-      found
+  unstarted_if : (past : Bool) → nat_le layout.count i ≡ past → (k v : Result ℕ Error)
+      → key_start bytes layout i ≡ k → payload_start bytes layout (first + i) ≡ v
+      → IsUnstarted (k >>= (λ (key : ℕ). v
+      >>= (λ (value : ℕ). Ok (Some record { index = i; key = key; value = value }))))
+      → None ≡ found_child (if past then Ok None
+      else child_of layout.keyed (part_in bytes i) (part_in bytes (first + i)))
+  unstarted_if true past k v key value none = refl
+  unstarted_if false past (Ok k) (Ok v) key value none = absurd none
+  unstarted_if false past (Ok k) (Err e) key value none =
+      let among = leb-false layout.count i past in
+      no_value layout.keyed (part_in bytes i) (part_in bytes (first + i)) e
+      (cut_here (first + i) e (omega (arith, among)) value)
+  unstarted_if false past (Err e) v key value none =
+      let among = leb-false layout.count i past in
+      no_key layout.keyed (payload_start bytes layout i) (part_in bytes i)
+      (part_in bytes (first + i)) e key (cut_here i e (omega (arith, among)))
 
--- What the cursor before a child answers, and where it comes.
-pub record Walks (bytes : List ℕ) (i : ℕ) (cursor : KohibladCursor) (header : ℕ × ℕ) : Type 0 where
-  pub same : child_under bytes cursor header ≡ numbered_under bytes i header
-  pub next : (child : Child) → child_under bytes cursor header ≡ Ok (Some child)
-      → cursor_under bytes (suc i) header ≡ Ok (Some (cursor_after (Ok (Some child)) cursor))
+  module _ (k v : ℕ) (key_is : key_start bytes layout i ≡ Ok k)
+      (value_is : payload_start bytes layout (first + i) ≡ Ok v) where
+    abbrev here : KohibladCursor
+    here = record { index = i; key = k; value = v }
 
-walks_array : (bytes : List ℕ) (i count : ℕ) (cursor : KohibladCursor)
-    → item_cursor bytes i count ≡ Ok (Some cursor)
-    → Walks bytes i cursor (ARRAY_CONTAINER_TAG, count)
-walks_array bytes i count cursor is =
-    let from = item_from bytes i count cursor (part_start bytes count i) is in
-    subst (λ (c : KohibladCursor). Walks bytes i c (ARRAY_CONTAINER_TAG, count)) (sym from.1.1)
-    (record {
-      same = item_same bytes i count from.0 from.1.0 (nat_le count i);
-      next = λ child found. item_next bytes i count from.0 from.1.0 child (nat_le count i) found;
-    })
+    same_if : (past : Bool) → nat_le layout.count i ≡ past
+        → (if past then Ok None else child_of layout.keyed (part_at_cursor bytes i k)
+        (part_at_cursor bytes (first + i) v))
+        ≡ (if past then Ok None
+        else child_of layout.keyed (part_in bytes i) (part_in bytes (first + i)))
+    same_if true past = refl
+    same_if false past =
+        let among = leb-false layout.count i past in
+        key_same layout.keyed (part_at_cursor bytes i k) (part_in bytes i)
+        (part_at_cursor bytes (first + i) v)
+        (λ keyed. sym (part_here i k (omega (arith, among))
+        (sym (ap (λ (b : Bool). if b then payload_start bytes layout i else Ok 0) keyed) ∙ key_is)))
+        ∙ ap (child_of layout.keyed (part_in bytes i))
+        (sym (part_here (first + i) v (omega (arith, among)) value_is))
 
-walks_object : (bytes : List ℕ) (i count : ℕ) (cursor : KohibladCursor)
-    → member_cursor bytes i count ≡ Ok (Some cursor)
-    → Walks bytes i cursor (OBJECT_CONTAINER_TAG, count)
-walks_object bytes i count cursor is =
-    let from = member_from i cursor (part_start bytes (2 * count) i)
-    (part_start bytes (2 * count) (count + i)) is in
-    subst (λ (c : KohibladCursor). Walks bytes i c (OBJECT_CONTAINER_TAG, count))
-    (sym from.1.1.1.1)
-    (record {
-      same = member_same bytes i count from.0 from.1.0 from.1.1.0 from.1.1.1.0 (nat_le count i);
-      next = λ child found.
-          member_next bytes i count from.0 from.1.0 from.1.1.0 from.1.1.1.0 child (nat_le count i)
-          found;
-    })
+    key_next : (keyed : Bool) (key : Option PlacedEntry)
+        → (if keyed then payload_start bytes layout i else Ok 0) ≡ Ok k
+        → IsKey keyed (placed_at bytes (4 + 4 * i) k) key
+        → (if keyed then payload_start bytes layout (suc i) else Ok 0) ≡ Ok (key_end key k)
+    key_next true key starts (entry, (found, is)) =
+        next_start bytes k entry i _ starts found
+        ∙ ap (λ (o : Option PlacedEntry). Ok (key_end o k)) (sym is)
+    key_next false key starts is =
+        starts ∙ ap (λ (o : Option PlacedEntry). Ok (key_end o k)) (sym is)
 
-walks_if : (bytes : List ℕ) (i tag count : ℕ) (cursor : KohibladCursor) (a o : Bool)
-    → (tag == ARRAY_CONTAINER_TAG) ≡ a → (tag == OBJECT_CONTAINER_TAG) ≡ o
-    → (if a then item_cursor bytes i count else if o then member_cursor bytes i count else Ok None)
-    ≡ Ok (Some cursor)
-    → Walks bytes i cursor (tag, count)
-walks_if bytes i tag count cursor true o array object is =
-    subst (λ (t : ℕ). Walks bytes i cursor (t, count))
-    (sym (eqb-true tag ARRAY_CONTAINER_TAG array)) (walks_array bytes i count cursor is)
-walks_if bytes i tag count cursor false true array object is =
-    subst (λ (t : ℕ). Walks bytes i cursor (t, count))
-    (sym (eqb-true tag OBJECT_CONTAINER_TAG object)) (walks_object bytes i count cursor is)
-walks_if bytes i tag count cursor false false array object is =
-    let never : ⊥ = cc in absurd never
+    next_if : (child : Child) (past : Bool)
+        → (if past then Ok None else child_of layout.keyed (part_at_cursor bytes i k)
+        (part_at_cursor bytes (first + i) v)) ≡ Ok (Some child)
+        → cursor_among bytes (suc i) (Some layout)
+        ≡ Ok (Some (cursor_after (Ok (Some child)) here))
+    next_if child true found = absurd cc
+    next_if child false found =
+        let (key, value) = child_found_by layout.keyed (placed_at bytes (4 + 4 * i) k)
+        (placed_at bytes (4 + 4 * (first + i)) v) child found in
+        let number : first + suc i ≡ suc (first + i) = omega arith in
+        ap₂ (λ (r q : Result ℕ Error). r >>= (λ (k : ℕ). q
+        >>= (λ (v : ℕ). Ok (Some record { index = suc i; key = k; value = v }))))
+        (key_next layout.keyed child.key key_is key)
+        (ap (payload_start bytes layout) number
+        ∙ next_start bytes v child.value (first + i) _ value_is value)
 
-walks_under : (bytes : List ℕ) (i : ℕ) (cursor : KohibladCursor) (header : ℕ × ℕ)
-    → cursor_under bytes i header ≡ Ok (Some cursor) → Walks bytes i cursor header
-walks_under bytes i cursor (tag, count) is =
-    walks_if bytes i tag count cursor (tag == ARRAY_CONTAINER_TAG) (tag == OBJECT_CONTAINER_TAG)
-    refl refl is
+-- Where a cursor comes from.
+record Starts (bytes : List ℕ) (i : ℕ) (cursor : KohibladCursor) : Type 0 where
+  header : ℕ × ℕ
+  is : header_at bytes 0 ≡ Ok header
+  layout : Layout
+  laid : layout_under header ≡ Some layout
+  key : ℕ
+  value : ℕ
+  key_is : key_start bytes layout i ≡ Ok key
+  value_is : payload_start bytes layout (first_value layout + i) ≡ Ok value
+  same : record { index = i; key = key; value = value } ≡ cursor
 
-same_by : (bytes : List ℕ) (i : ℕ) (cursor : KohibladCursor) (r : Result (ℕ × ℕ) Error)
-    → r >>= cursor_under bytes i ≡ Ok (Some cursor)
-    → r >>= child_under bytes cursor ≡ r >>= numbered_under bytes i
-same_by bytes i cursor (Ok header) is = (walks_under bytes i cursor header is).same
-same_by bytes i cursor (Err e) is = refl
+module _ (bytes : List ℕ) (i : ℕ) (cursor : KohibladCursor) where
+  starts_at : (header : ℕ × ℕ) → header_at bytes 0 ≡ Ok header → (layout : Layout)
+      → layout_under header ≡ Some layout → (k v : Result ℕ Error)
+      → key_start bytes layout i ≡ k → payload_start bytes layout (first_value layout + i) ≡ v
+      → k >>= (λ (key : ℕ). v
+      >>= (λ (value : ℕ). Ok (Some record { index = i; key = key; value = value })))
+      ≡ Ok (Some cursor)
+      → Starts bytes i cursor
+  starts_at header is layout laid (Ok k) (Ok v) key value at = record {
+    header = header;
+    is = is;
+    layout = layout;
+    laid = laid;
+    key = k;
+    value = v;
+    key_is = key;
+    value_is = value;
+    same = cc;
+  }
+  starts_at header is layout laid (Ok k) (Err e) key value at = absurd cc
+  starts_at header is layout laid (Err e) v key value at = absurd cc
 
-next_by : (bytes : List ℕ) (i : ℕ) (cursor : KohibladCursor) (child : Child)
-    (r : Result (ℕ × ℕ) Error)
-    → r >>= cursor_under bytes i ≡ Ok (Some cursor)
-    → r >>= child_under bytes cursor ≡ Ok (Some child)
-    → r >>= cursor_under bytes (suc i) ≡ Ok (Some (cursor_after (Ok (Some child)) cursor))
-next_by bytes i cursor child (Ok header) is found =
-    (walks_under bytes i cursor header is).next child found
-next_by bytes i cursor child (Err e) is found = let never : ⊥ = cc in absurd never
+  starts_among : (header : ℕ × ℕ) → header_at bytes 0 ≡ Ok header → (o : Option Layout)
+      → layout_under header ≡ o → cursor_among bytes i o ≡ Ok (Some cursor)
+      → Starts bytes i cursor
+  starts_among header is None laid at = absurd cc
+  starts_among header is (Some layout) laid at = starts_at header is layout laid _ _ refl refl at
+
+  starts_by : (r : Result (ℕ × ℕ) Error) → header_at bytes 0 ≡ r
+      → (r >>= (λ (h : ℕ × ℕ). Ok (layout_under h))) >>= cursor_among bytes i ≡ Ok (Some cursor)
+      → Starts bytes i cursor
+  starts_by (Ok header) is at = starts_among header is (layout_under header) refl at
+  starts_by (Err e) is at = absurd cc
+
+layout_is : (bytes : List ℕ) (header : ℕ × ℕ) (layout : Layout) → header_at bytes 0 ≡ Ok header
+    → layout_under header ≡ Some layout → layout_in bytes ≡ Ok (Some layout)
+layout_is bytes header layout is laid =
+    ap (λ (r : Result (ℕ × ℕ) Error). r >>= (λ (h : ℕ × ℕ). Ok (layout_under h))) is
+    ∙ ap (λ (o : Option Layout). Ok o) laid
 
 pub same_child : (bytes : List ℕ) (i : ℕ) (cursor : KohibladCursor)
     → cursor_at bytes i ≡ Ok (Some cursor) → child_at_cursor bytes cursor ≡ numbered_child bytes i
-same_child bytes i cursor is = same_by bytes i cursor (header_at bytes 0) is
+same_child bytes i cursor at =
+    let s = starts_by bytes i cursor (header_at bytes 0) refl at in
+    let laid = layout_is bytes s.header s.layout s.is s.laid in
+    subst (λ (c : KohibladCursor). child_at_cursor bytes c ≡ numbered_child bytes i) s.same
+    (ap (λ (r : Result (Option Layout) Error). r >>= child_among bytes
+    (record { index = i; key = s.key; value = s.value })) laid
+    ∙ same_if bytes i s.header s.is s.layout s.laid s.key s.value s.key_is s.value_is _ refl
+    ∙ sym (ap (λ (r : Result (Option Layout) Error). r >>= numbered_among bytes i) laid))
 
 pub next_child : (bytes : List ℕ) (i : ℕ) (cursor : KohibladCursor) (child : Child)
     → cursor_at bytes i ≡ Ok (Some cursor) → child_at_cursor bytes cursor ≡ Ok (Some child)
     → cursor_at bytes (suc i) ≡ Ok (Some (cursor_after (Ok (Some child)) cursor))
-next_child bytes i cursor child is found = next_by bytes i cursor child (header_at bytes 0) is found
+next_child bytes i cursor child at found =
+    let s = starts_by bytes i cursor (header_at bytes 0) refl at in
+    let laid = layout_is bytes s.header s.layout s.is s.laid in
+    ap (λ (r : Result (Option Layout) Error). r >>= cursor_among bytes (suc i)) laid
+    ∙ next_if bytes i s.header s.is s.layout s.laid s.key s.value s.key_is s.value_is child _
+    (sym (ap (λ (r : Result (Option Layout) Error). r >>= child_among bytes
+    (record { index = i; key = s.key; value = s.value })) laid)
+    ∙ ap (child_at_cursor bytes) s.same ∙ found)
+    ∙ ap (λ (c : KohibladCursor). Ok (Some (cursor_after (Ok (Some child)) c))) s.same
+
+-- No child is found where there is no cursor before it.
+module _ (bytes : List ℕ) (i : ℕ) where
+  unstarted_at : (header : ℕ × ℕ) → header_at bytes 0 ≡ Ok header → (o : Option Layout)
+      → layout_under header ≡ o → IsUnstarted (cursor_among bytes i o)
+      → None ≡ found_child (numbered_among bytes i o)
+  unstarted_at header is None laid none = refl
+  unstarted_at header is (Some layout) laid none =
+      unstarted_if bytes i header is layout laid _ refl _ _ refl refl none
+
+  unstarted_by : (r : Result (ℕ × ℕ) Error) → header_at bytes 0 ≡ r
+      → IsUnstarted ((r >>= (λ (h : ℕ × ℕ). Ok (layout_under h))) >>= cursor_among bytes i)
+      → None ≡ found_child
+      ((r >>= (λ (h : ℕ × ℕ). Ok (layout_under h))) >>= numbered_among bytes i)
+  unstarted_by (Ok header) is none = unstarted_at header is (layout_under header) refl none
+  unstarted_by (Err e) is none = refl
+
+  pub unstarted : IsUnstarted (cursor_at bytes i) → None ≡ found_child (numbered_child bytes i)
+  unstarted none = unstarted_by (header_at bytes 0) refl none
 
 -- a child was found where the status is 0
 no_code : (e : Error) → code e ≡ 0 → ⊥

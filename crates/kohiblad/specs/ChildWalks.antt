@@ -2,16 +2,16 @@
 use Rattle.std.specs.Prelude.{ℕ, zero, suc, ◌+◌, ◌≤◌, List, [], length, map, Option, None}
 use Rattle.std.specs.Prelude.{Result, Ok, Err}
 use Rattle.jsonb_value.specs.declared.error.Error.{Error}
-use Rattle.jsonb.specs.declared.reads.lookup.Place.{Place}
+use Rattle.jsonb.specs.declared.entries.Entry.{Entry as PlacedEntry}
 use Rattle.kohiblad.specs.declared.children.Child.{Child}
 use Rattle.kohiblad.specs.declared.children.KohibladCursor.{KohibladCursor}
 use Rattle.kohiblad.specs.declared.path_places.ChildWalk.{ChildWalk}
 use Rattle.kohiblad.specs.Children.{child_at_cursor, cursor_after}
 use Rattle.kohiblad.specs.PathPlaces.{first_child, value_at}
-use Rattle.kohiblad.specs.Places.{entry_there}
+use Rattle.jsonb.specs.Entries.{entry_there}
 
 -- The place does not run past the end of the bytes.
-abbrev pub IsWithin : List ℕ → Place → Type 0
+abbrev pub IsWithin : List ℕ → PlacedEntry → Type 0
 IsWithin bytes place = place.start + place.length ≤ length bytes
 
 -- The child, if one was found.
@@ -30,6 +30,6 @@ abbrev pub children_left : List ℕ → ChildWalk → List Child
 children_left bytes walk = walked_children bytes walk.left walk.cursor
 
 -- The places of the values that are left in a walk over the children at a place.
-abbrev pub places_left : List ℕ → Place → ChildWalk → List Place
+abbrev pub places_left : List ℕ → PlacedEntry → ChildWalk → List PlacedEntry
 places_left bytes place walk =
     map (value_at place.start) (children_left (entry_there bytes place).payload walk)

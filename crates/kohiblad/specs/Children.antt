@@ -1,43 +1,57 @@
 -- The children of an array or object, one after another, and where a walk over them has come.
-use Rattle.std.specs.Prelude.{◌≡◌, ℕ, suc, ◌+◌, ◌*◌, ◌==◌, nat_le, if◌then◌else◌, List}
-use Rattle.std.specs.Prelude.{Option, Some, None, Result, Ok, Err, IfOk, IfSome, ◌<◌, ◌^◌}
+use Rattle.std.specs.Prelude.{◌≡◌, ℕ, suc, ◌+◌, ◌*◌, ◌^◌, ◌<◌, ◌==◌, nat_le, if◌then◌else◌}
+use Rattle.std.specs.Prelude.{Bool, true, false, List, Option, Some, None, option_map}
+use Rattle.std.specs.Prelude.{Result, Ok, Err, IfOk, IfSome}
 use Rattle.jsonb_value.specs.declared.error.Error.{Error}
 use Rattle.jsonb_codec.specs.declared.constants.TheConstants.{ARRAY_CONTAINER_TAG}
 use Rattle.jsonb_codec.specs.declared.constants.TheConstants.{OBJECT_CONTAINER_TAG}
 use Rattle.jsonb_codec.specs.Word.{header_at}
+use Rattle.jsonb.specs.Entries.{IsEntryIn, payloads_end, placed_at}
 use Rattle.jsonb.specs.Steps.{◌>>=◌}
+use Rattle.jsonb.specs.declared.entries.Entry.{Entry as PlacedEntry}
 use Rattle.kohiblad.specs.declared.children.Child.{Child}
 use Rattle.kohiblad.specs.declared.children.KohibladCursor.{KohibladCursor}
-use Rattle.jsonb.specs.declared.reads.lookup.Place.{Place}
+use Rattle.kohiblad.specs.declared.children.Layout.{Layout}
 use Rattle.kohiblad.specs.declared.places.KohibladPlace.{KohibladPlace}
-use Rattle.kohiblad.specs.Places.{part_start, place_at, place_answer, item_under, member_under}
-use Rattle.kohiblad.specs.Places.{IsPlaceIn}
+use Rattle.kohiblad.specs.Places.{part_in, place_answer}
 use Rattle.kohiblad.specs.Status.{code, none}
 
--- The cursor before the item of an array at an index.
-abbrev pub item_cursor : List ℕ → ℕ → ℕ → Result (Option KohibladCursor) Error
-item_cursor bytes index count = do
-  value ← part_start bytes count index
-  Ok (Some (record { index = index; key = 0; value = value }))
+-- How the children of an array or object are laid out. `None` for a scalar.
+abbrev pub layout_under : ℕ × ℕ → Option Layout
+layout_under header =
+    if header.0 == ARRAY_CONTAINER_TAG then Some (record { keyed = false; count = header.1 })
+    else if header.0 == OBJECT_CONTAINER_TAG then Some (record { keyed = true; count = header.1 })
+    else None
 
--- The cursor before the member of an object at an index: its keys come first, and then its values.
-abbrev pub member_cursor : List ℕ → ℕ → ℕ → Result (Option KohibladCursor) Error
-member_cursor bytes index count = do
-  key ← part_start bytes (2 * count) index
-  value ← part_start bytes (2 * count) (count + index)
+-- The layout of the children that the bytes hold.
+abbrev pub layout_in : List ℕ → Result (Option Layout) Error
+layout_in bytes = header_at bytes 0 >>= λ header. Ok (layout_under header)
+
+-- The number of the first value's part, which comes after all keys.
+abbrev pub first_value : Layout → ℕ
+first_value layout = if layout.keyed then layout.count else 0
+
+-- The offset of the payload of a part: where the payloads before it end. `InvalidEOF` if the word
+-- of one of them is cut off.
+abbrev pub payload_start : List ℕ → Layout → ℕ → Result ℕ Error
+payload_start bytes layout part =
+    payloads_end bytes part 4 (4 + 4 * (first_value layout + layout.count))
+
+-- The offset of the payload of a key; 0 if there are no keys.
+abbrev pub key_start : List ℕ → Layout → ℕ → Result ℕ Error
+key_start bytes layout index = if layout.keyed then payload_start bytes layout index else Ok 0
+
+-- The cursor before the child at an index, given the layout.
+abbrev pub cursor_among : List ℕ → ℕ → Option Layout → Result (Option KohibladCursor) Error
+cursor_among bytes index None = Ok None
+cursor_among bytes index (Some layout) = do
+  key ← key_start bytes layout index
+  value ← payload_start bytes layout (first_value layout + index)
   Ok (Some (record { index = index; key = key; value = value }))
 
--- The cursor before the child at an index, given the header. `None` if the bytes are neither an
--- array nor an object.
-abbrev pub cursor_under : List ℕ → ℕ → ℕ × ℕ → Result (Option KohibladCursor) Error
-cursor_under bytes index header =
-    if header.0 == ARRAY_CONTAINER_TAG then item_cursor bytes index header.1
-    else if header.0 == OBJECT_CONTAINER_TAG then member_cursor bytes index header.1
-    else Ok None
-
--- The cursor before the child at an index.
+-- The cursor before the child at an index. `None` if the bytes are neither an array nor an object.
 abbrev pub cursor_at : List ℕ → ℕ → Result (Option KohibladCursor) Error
-cursor_at bytes index = header_at bytes 0 >>= cursor_under bytes index
+cursor_at bytes index = layout_in bytes >>= cursor_among bytes index
 
 -- The walk is begun: the cursor is before the first child; or it is as before, and the status says
 -- why.
@@ -47,62 +61,53 @@ IsBegun (Ok (Some first)) before after status = (status ≡ 0) × (after ≡ fir
 IsBegun (Ok None) before after status = (status ≡ none) × (after ≡ before)
 IsBegun (Err e) before after status = (status ≡ code e) × (after ≡ before)
 
--- The item of an array as a child: it has no key.
-abbrev pub item_child : Result (Option Place) Error → Result (Option Child) Error
-item_child (Ok (Some value)) = Ok (Some (record { key = None; value = value }))
-item_child (Ok None) = Ok None
-item_child (Err e) = Err e
+-- A child with this value, and with this key if there are keys; or the first error.
+abbrev pub child_of : Bool → Result (Option PlacedEntry) Error → Result (Option PlacedEntry) Error
+    → Result (Option Child) Error
+child_of keyed first second = do
+  key ← (if keyed then first else Ok None)
+  value ← second
+  Ok (option_map (λ (entry : PlacedEntry). record { key = key; value = entry }) value)
 
--- The member of an object as a child: it has a key.
-abbrev pub member_child : Result (Option (Place × Place)) Error → Result (Option Child) Error
-member_child (Ok (Some places)) = Ok (Some (record { key = Some places.0; value = places.1 }))
-member_child (Ok None) = Ok None
-member_child (Err e) = Err e
-
--- The child at an index, given the header.
-abbrev pub numbered_under : List ℕ → ℕ → ℕ × ℕ → Result (Option Child) Error
-numbered_under bytes index header =
-    if header.0 == ARRAY_CONTAINER_TAG then item_child (item_under bytes index header)
-    else member_child (member_under bytes index header)
+-- The child at an index, by the parts of the bytes. `None` after the last child.
+abbrev pub numbered_among : List ℕ → ℕ → Option Layout → Result (Option Child) Error
+numbered_among bytes index None = Ok None
+numbered_among bytes index (Some layout) =
+    if nat_le layout.count index then Ok None
+    else child_of layout.keyed (part_in bytes index) (part_in bytes (first_value layout + index))
 
 -- The child at an index.
 abbrev pub numbered_child : List ℕ → ℕ → Result (Option Child) Error
-numbered_child bytes index = header_at bytes 0 >>= numbered_under bytes index
+numbered_child bytes index = layout_in bytes >>= numbered_among bytes index
 
--- The item at any cursor: its entry word is found by the index, its payload by the offset in the
--- cursor.
-abbrev pub item_at_cursor : List ℕ → KohibladCursor → Result (Option Child) Error
-item_at_cursor bytes cursor = do
-  value ← place_at bytes (4 + 4 * cursor.index) cursor.value
-  Ok (Some (record { key = None; value = value }))
+-- An entry that was read, or the error.
+abbrev pub some_entry : Result PlacedEntry Error → Result (Option PlacedEntry) Error
+some_entry (Ok entry) = Ok (Some entry)
+some_entry (Err e) = Err e
 
--- The member at any cursor: its entry words are found by the index, its payloads by the offsets in
--- the cursor.
-abbrev pub member_at_cursor : List ℕ → KohibladCursor → ℕ → Result (Option Child) Error
-member_at_cursor bytes cursor count = do
-  key ← place_at bytes (4 + 4 * cursor.index) cursor.key
-  value ← place_at bytes (4 + 4 * (count + cursor.index)) cursor.value
-  Ok (Some (record { key = Some key; value = value }))
+-- The entry of a part whose payload is said to begin at `start`.
+abbrev pub part_at_cursor : List ℕ → ℕ → ℕ → Result (Option PlacedEntry) Error
+part_at_cursor bytes part start = some_entry (placed_at bytes (4 + 4 * part) start)
 
--- The child at any cursor, given the header. `None` after the last child.
-abbrev pub child_under : List ℕ → KohibladCursor → ℕ × ℕ → Result (Option Child) Error
-child_under bytes cursor header =
-    if header.0 == ARRAY_CONTAINER_TAG
-    then (if nat_le header.1 cursor.index then Ok None else item_at_cursor bytes cursor)
-    else if header.0 == OBJECT_CONTAINER_TAG
-    then (if nat_le header.1 cursor.index then Ok None else member_at_cursor bytes cursor header.1)
-    else Ok None
+-- The child at any cursor: its entry words are found by the index, its payloads by the offsets in
+-- the cursor. `None` after the last child.
+abbrev pub child_among : List ℕ → KohibladCursor → Option Layout → Result (Option Child) Error
+child_among bytes cursor None = Ok None
+child_among bytes cursor (Some layout) =
+    if nat_le layout.count cursor.index then Ok None
+    else child_of layout.keyed (part_at_cursor bytes cursor.index cursor.key)
+    (part_at_cursor bytes (first_value layout + cursor.index) cursor.value)
 
 -- The child at any cursor.
 abbrev pub child_at_cursor : List ℕ → KohibladCursor → Result (Option Child) Error
-child_at_cursor bytes cursor = header_at bytes 0 >>= child_under bytes cursor
+child_at_cursor bytes cursor = layout_in bytes >>= child_among bytes cursor
 
--- The offset at which a place ends.
-abbrev pub end_of : Place → ℕ
-end_of place = place.start + place.length
+-- The offset at which the payload of an entry ends.
+abbrev pub end_of : PlacedEntry → ℕ
+end_of entry = entry.start + entry.length
 
 -- The offset at which a key ends, or `before` if there is none.
-abbrev pub key_end : Option Place → ℕ → ℕ
+abbrev pub key_end : Option PlacedEntry → ℕ → ℕ
 key_end (Some key) before = end_of key
 key_end None before = before
 
@@ -122,10 +127,10 @@ CanMove found cursor = IfOk found (λ o. IfSome o (λ child.
     (suc cursor.index < 2 ^ 64)
     × ((key_end child.key 0 < 2 ^ 64) × (end_of child.value < 2 ^ 64))))
 
--- The places of a child that was found satisfy `IsPlaceIn`.
+-- The entries of a child that was found satisfy `IsEntryIn`.
 abbrev pub IsChildIn : List ℕ → Result (Option Child) Error → Type 0
 IsChildIn bytes found = IfOk found (λ o. IfSome o (λ child.
-    IfSome child.key (IsPlaceIn bytes) × IsPlaceIn bytes child.value))
+    IfSome child.key (IsEntryIn bytes) × IsEntryIn bytes child.value))
 
 -- The position of a child's key as C receives it: `NONE` for an array's item.
 abbrev pub key_answer : Result (Option Child) Error → KohibladPlace

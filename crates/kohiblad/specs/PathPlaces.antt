@@ -10,7 +10,7 @@ use Rattle.jsonb_codec.specs.Parts.{IsPayloadOf}
 use Rattle.jsonb_codec.specs.Word.{header_at}
 use Rattle.jsonb.specs.Children.{Pairwise}
 use Rattle.jsonb.specs.EntryTrees.{entry_tree}
-use Rattle.jsonb.specs.declared.reads.lookup.Place.{Place}
+use Rattle.jsonb.specs.declared.entries.Entry.{Entry as PlacedEntry}
 use Rattle.jsonb_functions.specs.Filter.{holds}
 use Rattle.jsonb_functions.specs.Selected.{items_before, items_through}
 use Rattle.jsonb_functions.specs.declared.path.Step.{Step}
@@ -21,7 +21,8 @@ use Rattle.jsonb_functions.specs.declared.selection.Selector.{Selector}
 use Rattle.jsonb_functions.specs.declared.selection.Selector.TheVariants as selectors
 use Rattle.kohiblad.specs.declared.children.Child.{Child}
 use Rattle.kohiblad.specs.Children.{numbered_child}
-use Rattle.kohiblad.specs.Places.{entry_there, is_name, place_at}
+use Rattle.kohiblad.specs.Places.{is_name}
+use Rattle.jsonb.specs.Entries.{entry_there, placed_at}
 
 -- A child, if there is one, and the children after it.
 abbrev pub first_child : Result (Option Child) Error → List Child → List Child
@@ -36,7 +37,7 @@ children_from bytes index (suc n) =
     first_child (numbered_child bytes index) (children_from bytes (suc index) n)
 
 -- The child has this key.
-abbrev pub has_key : List ℕ → List ℕ → Option Place → Bool
+abbrev pub has_key : List ℕ → List ℕ → Option PlacedEntry → Bool
 has_key name bytes None = false
 has_key name bytes (Some key) = is_name name (entry_there bytes key).payload
 
@@ -85,7 +86,7 @@ abbrev pub chosen_children : Selector → List ℕ → List Child
 chosen_children selector bytes = chosen_under selector bytes (header_at bytes 0)
 
 -- The place of a child's value, in the bytes in which its array or object begins at `start`.
-abbrev pub value_at : ℕ → Child → Place
+abbrev pub value_at : ℕ → Child → PlacedEntry
 value_at start child = record {
   type_code = child.value.type_code;
   start = start + child.value.start;
@@ -93,7 +94,7 @@ value_at start child = record {
 }
 
 -- The places of the children to which a selector leads from a place; none from a scalar's.
-abbrev pub child_places : Selector → List ℕ → Place → List Place
+abbrev pub child_places : Selector → List ℕ → PlacedEntry → List PlacedEntry
 child_places selector bytes place =
     if place.type_code == CONTAINER_TAG
     then map (value_at place.start) (chosen_children selector (entry_there bytes place).payload)
@@ -101,38 +102,38 @@ child_places selector bytes place =
 
 -- The places to which a selector leads from a place: those of children, or that place itself, if
 -- the condition of a filter holds on the tree of its entry.
-abbrev pub places_at : Selector → List ℕ → Place → List Place
+abbrev pub places_at : Selector → List ℕ → PlacedEntry → List PlacedEntry
 places_at (selectors.Filter condition) bytes place =
     if holds condition (entry_tree (entry_there bytes place)) then place ∷ [] else []
 places_at selector bytes place = child_places selector bytes place
 
 -- The places to which a path leads from a place, in the order in which they are stored.
-abbrev pub selected_from : List Selector → List ℕ → Place → List Place
+abbrev pub selected_from : List Selector → List ℕ → PlacedEntry → List PlacedEntry
 selected_from [] bytes place = place ∷ []
 selected_from (selector ∷ path) bytes place =
     flat_map (λ next. selected_from path bytes next) (places_at selector bytes place)
 
 -- The place of a whole array or object, or that of a scalar's payload after its two words.
-abbrev pub whole_under : List ℕ → Result (ℕ × ℕ) Error → Result Place Error
+abbrev pub whole_under : List ℕ → Result (ℕ × ℕ) Error → Result PlacedEntry Error
 whole_under bytes (Err e) = Err e
 whole_under bytes (Ok header) =
     if header.0 == ARRAY_CONTAINER_TAG
     then Ok (record { type_code = CONTAINER_TAG; start = 0; length = length bytes })
     else if header.0 == OBJECT_CONTAINER_TAG
     then Ok (record { type_code = CONTAINER_TAG; start = 0; length = length bytes })
-    else place_at bytes 4 8
+    else placed_at bytes 4 8
 
-abbrev pub whole_place : List ℕ → Result Place Error
+abbrev pub whole_place : List ℕ → Result PlacedEntry Error
 whole_place bytes = whole_under bytes (header_at bytes 0)
 
 -- The places to which a path leads from the place of the whole document.
-abbrev pub selected_in : List Selector → List ℕ → Result Place Error → List Place
+abbrev pub selected_in : List Selector → List ℕ → Result PlacedEntry Error → List PlacedEntry
 selected_in path bytes (Ok place) = selected_from path bytes place
 selected_in path bytes (Err e) = []
 
 -- The places of the values that a path selects in a document, in the order in which they are
 -- stored.
-abbrev pub selected_places : List Selector → List ℕ → List Place
+abbrev pub selected_places : List Selector → List ℕ → List PlacedEntry
 selected_places path bytes = selected_in path bytes (whole_place bytes)
 
 -- A step as one of a path with wildcards.
@@ -142,41 +143,41 @@ step_selector (steps.Index i) = selectors.Index i
 step_selector (steps.FromEnd i) = selectors.FromEnd i
 
 -- The first place, if there is one.
-abbrev pub first_place : List Place → Option Place
+abbrev pub first_place : List PlacedEntry → Option PlacedEntry
 first_place [] = None
 first_place (place ∷ places) = Some place
 
 -- What a function answers at a place, if there is one.
-abbrev pub at_place : Option Place → (Place → Option Place) → Option Place
+abbrev pub at_place : Option PlacedEntry → (PlacedEntry → Option PlacedEntry) → Option PlacedEntry
 at_place None f = None
 at_place (Some place) f = f place
 
 -- The place to which a path leads from a place, if it leads to a value.
-abbrev pub place_from : List Step → List ℕ → Place → Option Place
+abbrev pub place_from : List Step → List ℕ → PlacedEntry → Option PlacedEntry
 place_from [] bytes place = Some place
 place_from (s ∷ path) bytes place =
     at_place (first_place (child_places (step_selector s) bytes place))
     (λ child. place_from path bytes child)
 
 -- The place to which a path leads from the place of the whole document.
-abbrev pub path_place_in : List Step → List ℕ → Result Place Error → Option Place
+abbrev pub path_place_in : List Step → List ℕ → Result PlacedEntry Error → Option PlacedEntry
 path_place_in path bytes (Ok place) = place_from path bytes place
 path_place_in path bytes (Err e) = None
 
 -- The place of the value at the end of a path in a document, if the path leads to one.
-abbrev pub path_place : List Step → List ℕ → Option Place
+abbrev pub path_place : List Step → List ℕ → Option PlacedEntry
 path_place path bytes = path_place_in path bytes (whole_place bytes)
 
 -- The entry at the place holds the tree.
-abbrev pub HoldsTree : List ℕ → Place → Tree → Type 0
+abbrev pub HoldsTree : List ℕ → PlacedEntry → Tree → Type 0
 HoldsTree bytes place t = IsPayloadOf place.type_code (entry_there bytes place).payload t
 
 -- The entries at the places hold these trees, one each.
-abbrev pub HoldTrees : List ℕ → List Place → List Tree → Type 0
+abbrev pub HoldTrees : List ℕ → List PlacedEntry → List Tree → Type 0
 HoldTrees bytes places ts = Pairwise (HoldsTree bytes) places ts
 
 -- The entry at the place holds the tree, and there is a place exactly if there is a tree.
-abbrev pub HoldsFound : List ℕ → Option Place → Option Tree → Type 0
+abbrev pub HoldsFound : List ℕ → Option PlacedEntry → Option Tree → Type 0
 HoldsFound bytes (Some place) (Some t) = HoldsTree bytes place t
 HoldsFound bytes (Some place) None = ⊥
 HoldsFound bytes None (Some t) = ⊥

@@ -5,29 +5,29 @@ use Rattle.jsonb.specs.EntryTrees.{entry_tree}
 use Rattle.jsonb_functions.specs.Filter.{holds}
 use Rattle.jsonb_functions.specs.declared.selection.Selector.{Selector}
 use Rattle.jsonb_functions.specs.declared.selection.Selector.TheVariants as selectors
-use Rattle.jsonb.specs.declared.reads.lookup.Place.{Place}
+use Rattle.jsonb.specs.declared.entries.Entry.{Entry as PlacedEntry}
 use Rattle.kohiblad.specs.declared.path_places.PlaceWalk.{PlaceWalk}
 use Rattle.kohiblad.specs.declared.path_places.PlaceWalk.TheVariants as walks
 use Rattle.kohiblad.specs.ChildWalks.{IsWithin, places_left}
 use Rattle.kohiblad.specs.PathPlaces.{HoldsTree}
-use Rattle.kohiblad.specs.Places.{entry_there}
+use Rattle.jsonb.specs.Entries.{entry_there}
 
 -- The place is inside the bytes, and its entry holds a tree.
-abbrev pub IsPart : List ℕ → Place → Type 0
+abbrev pub IsPart : List ℕ → PlacedEntry → Type 0
 IsPart bytes place = (t : Tree) × IsWithin bytes place × HoldsTree bytes place t
 
 -- So is each of the places.
-abbrev pub AreParts : List ℕ → List Place → Type 0
+abbrev pub AreParts : List ℕ → List PlacedEntry → Type 0
 AreParts bytes [] = ⊤
 AreParts bytes (place ∷ places) = IsPart bytes place × AreParts bytes places
 
 -- The places that are left in a walk over those to which a selector leads from a place.
-abbrev pub walk_places : List ℕ → Place → PlaceWalk → List Place
+abbrev pub walk_places : List ℕ → PlacedEntry → PlaceWalk → List PlacedEntry
 walk_places bytes place (walks.Itself is_left) = if is_left then place ∷ [] else []
 walk_places bytes place (walks.Children walk) = places_left bytes place walk
 
 -- The selector is a filter that keeps what is at the place.
-abbrev pub keeps : Selector → List ℕ → Place → Bool
+abbrev pub keeps : Selector → List ℕ → PlacedEntry → Bool
 keeps (selectors.Filter condition) bytes place =
     holds condition (entry_tree (entry_there bytes place))
 keeps s bytes place = false

@@ -19,6 +19,7 @@ pub use Rattle.jsonb_codec.specs.Parts.{IsPayloadOf}
 pub use Rattle.jsonb.specs.Code.{scalar_bytes}
 pub use Rattle.jsonb.specs.Building.{AreTexts}
 pub use Rattle.jsonb.specs.Document.{document_bytes, document_tree}
+pub use Rattle.jsonb.specs.Entries.{IsEntryIn, entry_there}
 pub use Rattle.jsonb.specs.ItemMeaning.{meaning_of}
 pub use Rattle.jsonb.specs.Kind.{kind, kind_of_tree}
 pub use Rattle.jsonb.specs.Owned.{bytes_of}
@@ -28,7 +29,7 @@ pub use Rattle.jsonb.specs.SortKey.{key_meaning}
 pub use Rattle.jsonb.specs.Texts.{display_text, lined_text, other_text, plain_text}
 pub use Rattle.jsonb.specs.Texts.{pretty_display_text}
 pub use Rattle.jsonb.specs.Within.{meaning_within}
-pub use Rattle.jsonb.specs.declared.reads.lookup.Place.{Place}
+pub use Rattle.jsonb.specs.declared.entries.Entry.{Entry as PlacedEntry}
 pub use Rattle.jsonb_comparable.specs.TreeKey.{meaning_key}
 pub use Rattle.jsonb_functions.specs.IndexHash.{tree_hashes}
 pub use Rattle.jsonb_functions.specs.Joined.{joined}
@@ -36,8 +37,8 @@ pub use Rattle.jsonb_functions.specs.Patched.{patched}
 pub use Rattle.jsonb_functions.specs.Stripped.{stripped}
 pub use Rattle.jsonb_functions.specs.TopKeys.{top_hashes}
 pub use Rattle.kohiblad.specs.Children.{CanMove, IsBegun, IsChildIn, child_at_cursor}
-pub use Rattle.kohiblad.specs.Children.{cursor_after, cursor_at}
-pub use Rattle.kohiblad.specs.Children.{key_answer, numbered_child, value_answer}
+pub use Rattle.kohiblad.specs.Children.{cursor_after, cursor_at, first_value, key_answer}
+pub use Rattle.kohiblad.specs.Children.{layout_in, numbered_child, value_answer}
 pub use Rattle.kohiblad.specs.Functions.{AreKeysWritten, IsContainedAnswer, IsEdited}
 pub use Rattle.kohiblad.specs.Functions.{MakesOfOne, MakesOfTwo}
 pub use Rattle.kohiblad.specs.Functions.{exists_answer, operation_in, operation_asked}
@@ -47,9 +48,8 @@ pub use Rattle.kohiblad.specs.Output.{IsWritten, rule_of}
 pub use Rattle.kohiblad.specs.Parts.{IsPartDocument, is_entry_type, is_too_long, part_document}
 pub use Rattle.kohiblad.specs.Places.{AreInside, AreMemberPlaces, IsInside, IsItemPlace}
 pub use Rattle.kohiblad.specs.Places.{IsMemberHandedOver, IsPartPlace, IsPlaceFound}
-pub use Rattle.kohiblad.specs.Places.{IsPlaceHandedOver, IsPlaceIn, IsValuePlace, entry_document}
-pub use Rattle.kohiblad.specs.Places.{entry_there, place_of_item, member_places, part_place}
-pub use Rattle.kohiblad.specs.Places.{part_start, place_answer, place_at, place_in}
+pub use Rattle.kohiblad.specs.Places.{IsPlaceHandedOver, IsValuePlace, entry_document}
+pub use Rattle.kohiblad.specs.Places.{member_places, part_in, place_answer, place_of_item}
 pub use Rattle.kohiblad.specs.Results.{AreWithin, BuildsArray, BuildsObject, IsArrayOfRows}
 pub use Rattle.kohiblad.specs.Results.{IsMember, IsObjectOfRows}
 pub use Rattle.kohiblad.specs.Rows.{are_offsets, pairs_in, rows, rows_from}

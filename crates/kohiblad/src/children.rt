@@ -1,13 +1,13 @@
 //! The children of an array or object, one after another in one pass.
 
-ghost use Rattle.std.specs.Prelude.{◌≡◌, ℕ, suc, Ok, Some};
-ghost use Rattle.kohiblad.specs.Words.{cursor_at, child_at_cursor, numbered_child, key_answer};
-ghost use Rattle.kohiblad.specs.Words.{CanMove};
-ghost use Rattle.kohiblad.specs.Words.{cursor_after, value_answer, IsBegun, IsChildIn};
+ghost use Rattle.std.specs.Prelude.{◌≡◌, ◌<◌, ◌≤◌, ◌^◌, ℕ, suc, length, IfOk, IfSome, Ok, Some};
+ghost use Rattle.kohiblad.specs.Words.{CanMove, IsBegun, IsChildIn, child_at_cursor, cursor_after};
+ghost use Rattle.kohiblad.specs.Words.{cursor_at, first_value, key_answer, layout_in};
+ghost use Rattle.kohiblad.specs.Words.{numbered_child, value_answer};
 
 use crate::answer::{NONE, OK, code};
-use crate::places::{KohibladPlace, part_start, place_answer, place_at};
-use jsonb::{Error, Place, read_header};
+use crate::places::{KohibladPlace, place_answer};
+use jsonb::{Entry, Error, payloads_end, read_header};
 use jsonb_codec::constants::{ARRAY_CONTAINER_TAG, OBJECT_CONTAINER_TAG};
 
 /// The state of a walk over the children of an array or object: the index of the next child, and
@@ -21,11 +21,19 @@ pub struct KohibladCursor {
     pub value: u64,
 }
 
-/// The position of a child's payload, and for an object's member that of its key.
+/// The entry of a child, and for an object's member that of its key.
 #[derive(Clone, Copy)]
 pub struct Child {
-    pub key: Option<Place>,
-    pub value: Place,
+    pub key: Option<Entry>,
+    pub value: Entry,
+}
+
+/// How the children of an array or object are laid out: whether they have keys, whose entries come
+/// before those of the values, and how many there are.
+#[derive(Clone, Copy)]
+struct Layout {
+    keyed: bool,
+    count: usize,
 }
 
 /// Puts the cursor before the first child of an array or object. `NONE` if the bytes are neither;
@@ -79,26 +87,44 @@ pub extern "C" fn kohiblad_next(
     value.status
 }
 
+// The layout of the children. `None` if the bytes are neither an array nor an object.
+fn layout_in(bytes: &[u8]) -> Result<Option<Layout>, Error>
+    ensures value { result ≡ layout_in bytes.now }
+    ensures few { IfOk result (λ o. IfSome o (λ layout. layout.count < 2 ^ 29)) }
+    ensures header { IfOk result (λ _. 4 ≤ length bytes.now) }
+{
+    match read_header(bytes, 0)? {
+        (ARRAY_CONTAINER_TAG, count) => Ok(Some(Layout {
+            keyed: false,
+            count,
+        })),
+        (OBJECT_CONTAINER_TAG, count) => Ok(Some(Layout { keyed: true, count })),
+        _ => Ok(None),
+    }
+}
+
+// The number of the first value's entry.
+fn first_value(layout: Layout) -> usize
+    ensures { result ≡ first_value layout }
+{
+    if layout.keyed { layout.count } else { 0 }
+}
+
 /// The cursor before the first child. `None` if the bytes are neither an array nor an object.
 pub fn first_cursor(bytes: &[u8]) -> Result<Option<KohibladCursor>, Error>
     ensures { result ≡ cursor_at bytes.now 0 }
 {
-    match read_header(bytes, 0)? {
-        (ARRAY_CONTAINER_TAG, count) => Ok(Some(KohibladCursor {
-            index: 0,
-            key: 0,
-            value: (4 + 4 * count) as u64,
-        })),
-        (OBJECT_CONTAINER_TAG, count) => {
-            let value = part_start(bytes, 2 * count, count)?;
-            Ok(Some(KohibladCursor {
-                index: 0,
-                key: (4 + 8 * count) as u64,
-                value: value as u64,
-            }))
-        }
-        _ => Ok(None),
-    }
+    let Some(layout) = layout_in(bytes)? else {
+        return Ok(None);
+    };
+    let first = first_value(layout);
+    let start = 4 + 4 * (first + layout.count);
+    let value = payloads_end(bytes, 4, start, first)?;
+    Ok(Some(KohibladCursor {
+        index: 0,
+        key: if layout.keyed { start as u64 } else { 0 },
+        value: value as u64,
+    }))
 }
 
 /// The child at the cursor. `None` after the last one.
@@ -107,22 +133,21 @@ pub fn child_at_cursor(bytes: &[u8], cursor: KohibladCursor) -> Result<Option<Ch
     ensures moves { CanMove result cursor }
     ensures inside { IsChildIn bytes.now result }
 {
+    let Some(layout) = layout_in(bytes)? else {
+        return Ok(None);
+    };
     let index = cursor.index as usize;
-    match read_header(bytes, 0)? {
-        (ARRAY_CONTAINER_TAG, count) if index < count => {
-            let value = place_at(bytes, 4 + 4 * index, cursor.value as usize)?;
-            Ok(Some(Child { key: None, value }))
-        }
-        (OBJECT_CONTAINER_TAG, count) if index < count => {
-            let key = place_at(bytes, 4 + 4 * index, cursor.key as usize)?;
-            let value = place_at(bytes, 4 + 4 * (count + index), cursor.value as usize)?;
-            Ok(Some(Child {
-                key: Some(key),
-                value,
-            }))
-        }
-        _ => Ok(None),
+    if layout.count <= index {
+        return Ok(None);
     }
+    let key = if layout.keyed {
+        Some(Entry::read(bytes, 4 + 4 * index, cursor.key as usize)?)
+    } else {
+        None
+    };
+    let number = first_value(layout) + index;
+    let value = Entry::read(bytes, 4 + 4 * number, cursor.value as usize)?;
+    Ok(Some(Child { key, value }))
 }
 
 /// The cursor after a child that was found, or the unchanged cursor if none was.

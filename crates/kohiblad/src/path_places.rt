@@ -13,12 +13,12 @@ ghost use Rattle.kohiblad.specs.PathPlaces.{items_between, named_child, place_fr
 ghost use Rattle.kohiblad.specs.PathPlaces.{selected_from, step_selector, whole_place};
 ghost use Rattle.kohiblad.specs.PlaceWalks.{IsPart, keeps, walk_places};
 ghost use Rattle.kohiblad.specs.PathCalls.{found_answer};
-ghost use Rattle.kohiblad.specs.Words.{CanMove, Error, IsChildIn, IsPlaceIn, child_at_cursor};
+ghost use Rattle.kohiblad.specs.Words.{CanMove, Error, IsChildIn, IsEntryIn, child_at_cursor};
 ghost use Rattle.kohiblad.specs.Words.{entry_there};
 
 use crate::children::{Child, KohibladCursor, child_at_cursor, cursor_after, first_cursor};
-use crate::places::{KohibladPlace, part_start, place_answer, place_at};
-use jsonb::{Error, Node, Place, read_header};
+use crate::places::{KohibladPlace, place_answer};
+use jsonb::{Entry, Error, Node, payloads_end, read_header};
 use jsonb_codec::constants::{ARRAY_CONTAINER_TAG, CONTAINER_TAG, OBJECT_CONTAINER_TAG};
 use jsonb_codec::parts::Part;
 use jsonb_functions::{Bound, Selector, Step, count_before, count_through, holds};
@@ -41,17 +41,17 @@ pub enum PlaceWalk {
 /// The position of the whole array or object, or of the payload of a scalar. `InvalidEOF` if the
 /// header or a scalar's entry word is cut off, `InvalidJsonb` if the header is of no kind or the
 /// payload runs past the end.
-pub fn whole_place(bytes: &[u8]) -> Result<Place, Error>
+pub fn whole_place(bytes: &[u8]) -> Result<Entry, Error>
     ensures value { result ≡ whole_place bytes.now }
     ensures inside { IfOk result (IsWithin bytes.now) }
 {
     match read_header(bytes, 0)? {
-        (ARRAY_CONTAINER_TAG | OBJECT_CONTAINER_TAG, _) => Ok(Place {
+        (ARRAY_CONTAINER_TAG | OBJECT_CONTAINER_TAG, _) => Ok(Entry {
             type_code: CONTAINER_TAG,
             start: 0,
             length: bytes.len(),
         }),
-        _ => place_at(bytes, 4, 8),
+        _ => Entry::read(bytes, 4, 8),
     }
 }
 
@@ -59,7 +59,7 @@ pub fn whole_place(bytes: &[u8]) -> Result<Place, Error>
 /// they are stored. `OutOfMemory` is the only error.
 pub fn append_selected(
     bytes: &[u8],
-    place: Place,
+    place: Entry,
     path: &[Selector<'_>],
     found: &mut Vec<KohibladPlace>,
 ) -> Result<(), Error>
@@ -82,7 +82,7 @@ pub fn append_selected(
 
 // The steps after those filters at the start of a path that keep what is at a position: so many
 // filters take no stack.
-fn after_filters<'p, 'a>(bytes: &[u8], place: Place, path: &'p [Selector<'a>]) -> &'p [Selector<'a>]
+fn after_filters<'p, 'a>(bytes: &[u8], place: Entry, path: &'p [Selector<'a>]) -> &'p [Selector<'a>]
     requires { IsPart bytes.now place }
     ensures selects { selected_from path.now bytes.now place
         ≡ selected_from result.now bytes.now place }
@@ -100,7 +100,7 @@ fn after_filters<'p, 'a>(bytes: &[u8], place: Place, path: &'p [Selector<'a>]) -
 }
 
 // Whether a selector is a filter that keeps what is at a position.
-fn keeps(bytes: &[u8], place: Place, selector: &Selector<'_>) -> bool
+fn keeps(bytes: &[u8], place: Entry, selector: &Selector<'_>) -> bool
     requires { IsPart bytes.now place }
     ensures { result ≡ keeps selector.now bytes.now place }
 {
@@ -111,7 +111,7 @@ fn keeps(bytes: &[u8], place: Place, selector: &Selector<'_>) -> bool
 }
 
 // The positions to which a selector leads from a position.
-fn places_from(bytes: &[u8], place: Place, selector: &Selector<'_>) -> PlaceWalk
+fn places_from(bytes: &[u8], place: Entry, selector: &Selector<'_>) -> PlaceWalk
     requires { IsPart bytes.now place }
     ensures { walk_places bytes.now place result ≡ places_at selector.now bytes.now place }
 {
@@ -124,7 +124,7 @@ fn places_from(bytes: &[u8], place: Place, selector: &Selector<'_>) -> PlaceWalk
 }
 
 // The next of these positions.
-fn next_selected(bytes: &[u8], place: Place, walk: &mut PlaceWalk) -> Option<Place>
+fn next_selected(bytes: &[u8], place: Entry, walk: &mut PlaceWalk) -> Option<Entry>
     requires { IsWithin bytes.now place }
     ensures { YieldsFirstBy (λ it. it) (walk_places bytes.now place) walk.old result walk.new }
 {
@@ -141,7 +141,7 @@ fn next_selected(bytes: &[u8], place: Place, walk: &mut PlaceWalk) -> Option<Pla
 }
 
 // The value at a position.
-fn node_there(bytes: &[u8], place: Place) -> Node<'_>
+fn node_there(bytes: &[u8], place: Entry) -> Node<'_>
     requires { IsPart bytes.now place }
     ensures { node_tree result ≡ entry_tree (entry_there bytes.now place) }
 {
@@ -152,7 +152,7 @@ fn node_there(bytes: &[u8], place: Place) -> Node<'_>
 }
 
 /// The position to which a path leads from a position. `None` if the path leads nowhere.
-pub fn place_at_end(bytes: &[u8], from: Place, path: &[Step<'_>]) -> Option<Place>
+pub fn place_at_end(bytes: &[u8], from: Entry, path: &[Step<'_>]) -> Option<Entry>
     requires { IsWithin bytes.now from }
     ensures { result ≡ place_from path.now bytes.now from }
 {
@@ -178,7 +178,7 @@ fn selector_of<'a>(step: Step<'a>) -> Selector<'a>
 }
 
 // The children to which a selector leads from a position.
-fn walk_from(bytes: &[u8], place: Place, selector: &Selector<'_>) -> ChildWalk
+fn walk_from(bytes: &[u8], place: Entry, selector: &Selector<'_>) -> ChildWalk
     requires { IsWithin bytes.now place }
     ensures { places_left bytes.now place result ≡ child_places selector.now bytes.now place }
 {
@@ -190,7 +190,7 @@ fn walk_from(bytes: &[u8], place: Place, selector: &Selector<'_>) -> ChildWalk
 }
 
 // The position of the next child's value, in a walk over the children at a position.
-fn next_place(bytes: &[u8], place: Place, walk: &mut ChildWalk) -> Option<Place>
+fn next_place(bytes: &[u8], place: Entry, walk: &mut ChildWalk) -> Option<Entry>
     requires { IsWithin bytes.now place }
     ensures steps { YieldsFirstBy (λ it. it) (places_left bytes.now place)
         walk.old result walk.new }
@@ -205,7 +205,7 @@ fn next_place(bytes: &[u8], place: Place, walk: &mut ChildWalk) -> Option<Place>
     };
     walk.cursor = cursor_after(Ok(Some(child)), walk.cursor);
     walk.left -= 1;
-    Some(Place {
+    Some(Entry {
         type_code: child.value.type_code,
         start: place.start + child.value.start,
         length: child.value.length,
@@ -213,7 +213,7 @@ fn next_place(bytes: &[u8], place: Place, walk: &mut ChildWalk) -> Option<Place>
 }
 
 // The payload at a position.
-fn bytes_at(bytes: &[u8], place: Place) -> &[u8]
+fn bytes_at(bytes: &[u8], place: Entry) -> &[u8]
     requires { IsWithin bytes.now place }
     ensures { result.now ≡ (entry_there bytes.now place).payload }
 {
@@ -281,7 +281,7 @@ fn items_between(bytes: &[u8], count: usize, first: Bound, last: Bound) -> Child
 {
     let before = count_before(first, count);
     let through = count_through(last, count);
-    match part_start(bytes, count, before) {
+    match payloads_end(bytes, 4, 4 + 4 * count, before) {
         Ok(value) => ChildWalk {
             cursor: KohibladCursor {
                 index: before as u64,
@@ -344,12 +344,12 @@ fn named_member(bytes: &[u8], count: usize, name: &str) -> ChildWalk
 }
 
 // Whether there is a key, and it is this name.
-fn has_key(bytes: &[u8], key: Option<Place>, name: &str) -> bool
-    requires { IfSome key (IsPlaceIn bytes.now) }
+fn has_key(bytes: &[u8], key: Option<Entry>, name: &str) -> bool
+    requires { IfSome key (IsEntryIn bytes.now) }
     ensures { result ≡ has_key name.now bytes.now key }
 {
     match key {
-        Some(key) => name.as_bytes() == &bytes[key.start..key.start + key.length],
+        Some(key) => name.as_bytes() == key.payload(bytes),
         None => false,
     }
 }

@@ -2,17 +2,17 @@
 
 ghost use Rattle.std.specs.Prelude.{◌≡◌, ◌≢◌, ◌+◌, ◌<◌, ◌^◌, ℕ, List, length, false, Option};
 ghost use Rattle.std.specs.Prelude.{Some, Result, Ok, Err, IfOk, IsUtf8};
-ghost use Rattle.kohiblad.specs.Words.{Error, Place, code, IsAnswered, IsHandedOver, IsRefused};
-ghost use Rattle.kohiblad.specs.Words.{Tree, Doc, IsPayloadOf, IsItemPlace, AreMemberPlaces};
-ghost use Rattle.kohiblad.specs.Words.{part_place, part_start, place_at, place_in, place_of_item};
-ghost use Rattle.kohiblad.specs.Words.{IsPlaceFound, IsPlaceIn};
+ghost use Rattle.kohiblad.specs.Words.{Error, PlacedEntry, code, IsAnswered, IsHandedOver};
+ghost use Rattle.kohiblad.specs.Words.{IsRefused, Tree, Doc, IsPayloadOf, IsItemPlace};
+ghost use Rattle.kohiblad.specs.Words.{AreMemberPlaces, IsEntryIn, IsPlaceFound, part_in};
+ghost use Rattle.kohiblad.specs.Words.{place_of_item};
 ghost use Rattle.kohiblad.specs.Words.{IsInside, AreInside, member_places, IsMemberHandedOver};
 ghost use Rattle.kohiblad.specs.Words.{place_answer, entry_there, IsPartPlace, entry_document};
 ghost use Rattle.kohiblad.specs.Words.{IsPlaceHandedOver, IsValuePlace, is_entry_type, is_too_long};
 ghost use Rattle.kohiblad.specs.Words.{part_document, IsPartDocument};
 
 use crate::answer::{NO_ROOM, NONE, OK, PAYLOAD_LIMIT, code, hand_over, hand_over_scalar, refuse};
-use jsonb::{Error, Place, RawJsonb, Reads, read_header, read_jentry};
+use jsonb::{Cursor, Entry, Error, RawJsonb, Reads, read_header};
 use jsonb_codec::constants::{
     ARRAY_CONTAINER_TAG, CONTAINER_TAG, EXTENSION_TAG, FALSE_TAG, NULL_TAG, NUMBER_TAG,
     OBJECT_CONTAINER_TAG, STRING_TAG, TRUE_TAG,
@@ -37,11 +37,11 @@ pub struct KohibladPlace {
 /// and length are 0.
 #[unsafe(no_mangle)]
 pub extern "C" fn kohiblad_find_index(bytes: &[u8], number: usize) -> KohibladPlace
-    ensures value { result ≡ place_answer (place_in bytes.now number) }
+    ensures value { result ≡ place_answer (part_in bytes.now number) }
     ensures document { (t : Tree) → Doc bytes.now t
-        → IsPartPlace bytes.now t number (place_in bytes.now number) }
+        → IsPartPlace bytes.now t number (part_in bytes.now number) }
 {
-    place_answer(place_in(bytes, number))
+    place_answer(part_in(bytes, number))
 }
 
 /// The position of the value of a key. `NONE` if the object has no such key, or the bytes are not
@@ -50,10 +50,10 @@ pub extern "C" fn kohiblad_find_index(bytes: &[u8], number: usize) -> KohibladPl
 #[unsafe(no_mangle)]
 pub extern "C" fn kohiblad_find_key(bytes: &[u8], name: &[u8]) -> KohibladPlace
     ensures utf8 { (IsUtf8 name.now → ⊥) → result ≡ place_answer (Err Error.InvalidUtf8) }
-    ensures place { IsUtf8 name.now → (found : Result (Option Place) Error)
+    ensures place { IsUtf8 name.now → (found : Result (Option PlacedEntry) Error)
         × (IsPlaceFound name.now bytes.now found × (result ≡ place_answer found)) }
     ensures document { IsUtf8 name.now → (t : Tree) → Doc bytes.now t
-        → (found : Result (Option Place) Error)
+        → (found : Result (Option PlacedEntry) Error)
         × (IsValuePlace bytes.now t name.now found × (result ≡ place_answer found)) }
 {
     place_answer(place_of_key(bytes, name))
@@ -73,11 +73,11 @@ pub extern "C" fn kohiblad_get_key(
 ) -> u32
     ensures utf8 { (IsUtf8 name.now → ⊥)
         → IsRefused (code Error.InvalidUtf8) out.old out.new length.new result }
-    ensures place { IsUtf8 name.now → (found : Result (Option Place) Error)
+    ensures place { IsUtf8 name.now → (found : Result (Option PlacedEntry) Error)
         × (IsPlaceFound name.now bytes.now found
         × IsPlaceHandedOver bytes.now found out.old out.new length.new result) }
     ensures document { IsUtf8 name.now → (t : Tree) → Doc bytes.now t
-        → (found : Result (Option Place) Error)
+        → (found : Result (Option PlacedEntry) Error)
         × (IsValuePlace bytes.now t name.now found
         × IsPlaceHandedOver bytes.now found out.old out.new length.new result) }
 {
@@ -111,8 +111,8 @@ pub extern "C" fn kohiblad_copy(
 
     // At the position of a part of a document, it is what the calls that copy parts hand over, and
     // a document of the part's tree.
-    ensures place { (bytes : List ℕ) (t : Tree) (number : ℕ) (place : Place) → Doc bytes t
-        → place_in bytes number ≡ Ok (Some place)
+    ensures place { (bytes : List ℕ) (t : Tree) (number : ℕ) (place : PlacedEntry) → Doc bytes t
+        → part_in bytes number ≡ Ok (Some place)
         → entry_there bytes place ≡ record { type = type_code; payload = payload.now }
         → (part_document type_code payload.now ≡ Ok (entry_document (entry_there bytes place)))
         × IsPartDocument t number (entry_document (entry_there bytes place)) }
@@ -170,7 +170,7 @@ pub extern "C" fn kohiblad_get_member(
 {
     match member_places(bytes, index) {
         Ok(Some((name, value))) => {
-            let text = &bytes[name.start..name.start + name.length];
+            let text = name.payload(bytes);
             if key.len() < text.len() {
                 let _ = hand_over_place(bytes, value, &mut out[..0], length);
                 *key_length = text.len();
@@ -196,7 +196,7 @@ pub extern "C" fn kohiblad_get_member(
 }
 
 // The positions of an object's key and its value. `None` if there are none.
-fn member_places(bytes: &[u8], index: usize) -> Result<Option<(Place, Place)>, Error>
+fn member_places(bytes: &[u8], index: usize) -> Result<Option<(Entry, Entry)>, Error>
     ensures value { result ≡ member_places bytes.now index }
     ensures document { (t : Tree) → Doc bytes.now t
         → AreMemberPlaces bytes.now t index (member_places bytes.now index) }
@@ -204,29 +204,29 @@ fn member_places(bytes: &[u8], index: usize) -> Result<Option<(Place, Place)>, E
 {
     match read_header(bytes, 0)? {
         (OBJECT_CONTAINER_TAG, count) if index < count => {
-            let key = part_place(bytes, 2 * count, index)?;
-            let value = part_place(bytes, 2 * count, count + index)?;
-            Ok(Some((key, value)))
+            let key = part_in(bytes, index)?;
+            let value = part_in(bytes, count + index)?;
+            Ok(key.zip(value))
         }
         _ => Ok(None),
     }
 }
 
 // The position of an item of an array. `None` if there is none.
-fn place_of_item(bytes: &[u8], index: usize) -> Result<Option<Place>, Error>
+fn place_of_item(bytes: &[u8], index: usize) -> Result<Option<Entry>, Error>
     ensures value { result ≡ place_of_item bytes.now index }
     ensures document { (t : Tree) → Doc bytes.now t
         → IsItemPlace bytes.now t index (place_of_item bytes.now index) }
     ensures inside { IsInside bytes.now result }
 {
     match read_header(bytes, 0)? {
-        (ARRAY_CONTAINER_TAG, _) => place_in(bytes, index),
+        (ARRAY_CONTAINER_TAG, _) => part_in(bytes, index),
         _ => Ok(None),
     }
 }
 
 // The position of the value of a key. `None` if there is none.
-fn place_of_key(bytes: &[u8], name: &[u8]) -> Result<Option<Place>, Error>
+fn place_of_key(bytes: &[u8], name: &[u8]) -> Result<Option<Entry>, Error>
     ensures utf8 { (IsUtf8 name.now → ⊥) → result ≡ Err Error.InvalidUtf8 }
     ensures place { IsUtf8 name.now → IsPlaceFound name.now bytes.now result }
     ensures document { IsUtf8 name.now → (t : Tree) → Doc bytes.now t
@@ -239,7 +239,7 @@ fn place_of_key(bytes: &[u8], name: &[u8]) -> Result<Option<Place>, Error>
     let mut reads = Reads::new();
     let object = RawJsonb::new(bytes);
     match object.find_object_value_counted(name, |wanted, key| wanted == key, &mut reads)? {
-        Some(found) => Ok(Some(found.place)),
+        Some(found) => Ok(Some(found.entry)),
         None => Ok(None),
     }
 }
@@ -247,7 +247,7 @@ fn place_of_key(bytes: &[u8], name: &[u8]) -> Result<Option<Place>, Error>
 // Copies out the document at this position, if one was found.
 fn hand_over_item(
     bytes: &[u8],
-    found: Result<Option<Place>, Error>,
+    found: Result<Option<Entry>, Error>,
     out: &mut [u8],
     size: &mut usize,
 ) -> u32
@@ -262,13 +262,12 @@ fn hand_over_item(
 }
 
 // Copies out the document at this position.
-fn hand_over_place(bytes: &[u8], place: Place, out: &mut [u8], size: &mut usize) -> u32
-    requires { IsPlaceIn bytes.now place }
+fn hand_over_place(bytes: &[u8], place: Entry, out: &mut [u8], size: &mut usize) -> u32
+    requires { IsEntryIn bytes.now place }
     ensures { IsHandedOver (entry_document (entry_there bytes.now place))
         out.old out.new size.new result }
 {
-    let payload = &bytes[place.start..place.start + place.length];
-    hand_over_entry(place.type_code, payload, out, size)
+    hand_over_entry(place.type_code, place.payload(bytes), out, size)
 }
 
 // Whether entries may have this type.
@@ -296,7 +295,7 @@ fn hand_over_entry(type_code: u32, payload: &[u8], out: &mut [u8], size: &mut us
 
 /// The result of a search for a position, as C receives it: `OK` with the type, offset and length;
 /// `NONE` or the status of the error with zeros.
-pub fn place_answer(found: Result<Option<Place>, Error>) -> KohibladPlace
+pub fn place_answer(found: Result<Option<Entry>, Error>) -> KohibladPlace
     ensures { result ≡ place_answer found }
 {
     match found {
@@ -323,65 +322,17 @@ pub fn no_place(status: u32) -> KohibladPlace
     }
 }
 
-// The position of a part of an array or object, by number. `None` if there is none.
-fn place_in(bytes: &[u8], number: usize) -> Result<Option<Place>, Error>
-    ensures value { result ≡ place_in bytes.now number }
+/// The part with this number, `None` if there is none. `InvalidEOF` if the header or an entry word
+/// that is read is cut off, `InvalidJsonb` if the header is of no kind or the payload runs past the
+/// end.
+fn part_in(bytes: &[u8], number: usize) -> Result<Option<Entry>, Error>
+    ensures value { result ≡ part_in bytes.now number }
     ensures inside { IsInside bytes.now result }
 {
-    let entries = match read_header(bytes, 0)? {
-        (ARRAY_CONTAINER_TAG, count) => count,
-        (OBJECT_CONTAINER_TAG, count) => 2 * count,
-        _ => 0,
-    };
-    if entries <= number {
+    let mut parts = Cursor::over_entries(bytes)?;
+    if parts.len() <= number {
         return Ok(None);
     }
-    Ok(Some(part_place(bytes, entries, number)?))
-}
-
-// The position of a part by number, given the number of all entries.
-fn part_place(bytes: &[u8], entries: usize, number: usize) -> Result<Place, Error>
-    requires entries { entries < 2 ^ 30 }
-    requires number { number < 2 ^ 31 }
-    ensures value { result ≡ part_place bytes.now entries number }
-    ensures inside { IfOk result (IsPlaceIn bytes.now) }
-{
-    place_at(bytes, 4 + 4 * number, part_start(bytes, entries, number)?)
-}
-
-/// The offset of a part's payload, by number, given the number of all entries. `InvalidEOF` if an
-/// entry word before it is cut off.
-pub fn part_start(bytes: &[u8], entries: usize, number: usize) -> Result<usize, Error>
-    requires entries { entries < 2 ^ 30 }
-    requires number { number < 2 ^ 31 }
-    ensures { result ≡ part_start bytes.now entries number }
-{
-    let mut left = number;
-    let mut index = 4;
-    let mut start = 4 + 4 * entries;
-    while left > 0 {
-        start += read_jentry(bytes, index)?.length as usize;
-        index += 4;
-        left -= 1;
-    }
-    Ok(start)
-}
-
-/// The position of the payload that begins at `start` and whose entry word is at `entry`.
-/// `InvalidEOF` if the word is cut off, `InvalidJsonb` if the payload runs past the end.
-pub fn place_at(bytes: &[u8], entry: usize, start: usize) -> Result<Place, Error>
-    requires { entry < 2 ^ 40 }
-    ensures value { result ≡ place_at bytes.now entry start }
-    ensures inside { IfOk result (IsPlaceIn bytes.now) }
-{
-    let entry = read_jentry(bytes, entry)?;
-    let length = entry.length as usize;
-    if bytes.len() < start || bytes.len() - start < length {
-        return Err(Error::InvalidJsonb);
-    }
-    Ok(Place {
-        type_code: entry.type_code,
-        start,
-        length,
-    })
+    parts.skip(number)?;
+    parts.next().transpose()
 }
