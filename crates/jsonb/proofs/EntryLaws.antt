@@ -1,5 +1,6 @@
 -- Entries with their places, one by one and in runs.
-use Rattle.std.proofs.Common.{◌≡◌, ◌⊎◌, inl, inr, ℕ, zero, suc, ◌+◌, ◌-◌, ◌*◌, ◌<◌, ◌≤◌, Bool, true, false, List, []}
+use Rattle.std.proofs.Common.{◌≡◌, ◌⊎◌, inl, inr, ℕ, zero, suc, ◌+◌, ◌-◌, ◌*◌, ◌<◌, ◌≤◌}
+use Rattle.std.proofs.Common.{Bool, true, false, List, []}
 use Rattle.std.proofs.Common.{◌∷◌, length, map, take, drop, Result, Ok, Err, Some, refl, sym}
 use Rattle.std.proofs.Common.{ap, ap₂, ◌∙◌, if◌then◌else◌, is_ok, slice_get, arith}
 use Rattle.std.proofs.lemmas.Bool.Decides.{leb_tells}
@@ -138,7 +139,8 @@ module _ (bytes : List ℕ) (start : ℕ) (jentry : JEntry) where
   passed_if true n others = refl
   passed_if false n others = refl
 
-  passed : (word n : ℕ) (others : List (Result PlacedEntry Error)) → jentry_at bytes word ≡ Ok jentry
+  passed : (word n : ℕ) (others : List (Result PlacedEntry Error))
+      → jentry_at bytes word ≡ Ok jentry
       → left_after (suc n) (placed_at bytes word start ∷ others) ≡ left_after n others
   passed word n others read =
       ap (λ (r : Result JEntry Error). left_after (suc n) ((r >>= placed_by bytes start) ∷ others))

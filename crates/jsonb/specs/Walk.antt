@@ -92,7 +92,8 @@ children_walk kind bytes = count_under bytes (container_tag kind) >>= walk_of_ch
 
 -- The iterator over the pairs of n keys and values.
 abbrev pub pair_walk : ℕ → Run → Run → Walk (List ℕ × ItemView)
-pair_walk n keys values = record { count = n; rest = pairs_in (entries_of keys) (entries_of values) }
+pair_walk n keys values =
+    record { count = n; rest = pairs_in (entries_of keys) (entries_of values) }
 
 -- The iterator over the pairs of an object with this count.
 abbrev pub pairs_of : List ℕ → Option ℕ → Result (Option (Walk (List ℕ × ItemView))) Error

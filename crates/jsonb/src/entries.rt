@@ -5,9 +5,9 @@ ghost use Rattle.std.specs.Prelude.{Ok, Err, [], slice_get};
 ghost use Rattle.std.specs.Iterator.{YieldsFirstBy};
 ghost use Rattle.jsonb_codec.specs.declared.constants.TheConstants.{ARRAY_CONTAINER_TAG};
 ghost use Rattle.jsonb_codec.specs.declared.constants.TheConstants.{OBJECT_CONTAINER_TAG};
-ghost use Rattle.jsonb.specs.Entries.{IsEntryIn, Run, entries_of, entry_read, entry_there, item_run};
-ghost use Rattle.jsonb.specs.Entries.{key_run, left_after, others_left, payloads_end, placed_at};
-ghost use Rattle.jsonb.specs.Entries.{placed_by, run_from, run_in, value_run};
+ghost use Rattle.jsonb.specs.Entries.{IsEntryIn, Run, entries_of, entry_read, entry_there};
+ghost use Rattle.jsonb.specs.Entries.{item_run, key_run, left_after, others_left, payloads_end};
+ghost use Rattle.jsonb.specs.Entries.{placed_at, placed_by, run_from, run_in, value_run};
 ghost use Rattle.jsonb.specs.EntryTrees.{AreParts, entry_of_part};
 ghost use Rattle.jsonb.specs.Walk.{count_under};
 
@@ -76,7 +76,8 @@ impl Entry {
         })
     }
 
-    /// The bytes of the payload. The entry must be one of these bytes.
+    /// The bytes of the payload. The entry must be inside these bytes, as one that was read from
+    /// them is.
     #[inline(always)]
     pub fn payload<'a>(self, bytes: &'a [u8]) -> &'a [u8]
         requires { IsEntryIn bytes.now self }
@@ -104,7 +105,8 @@ pub fn count_under(bytes: &[u8], tag: u32) -> Result<Option<usize>, Error>
 }
 
 /// The offset at which the payloads of `count` entries end. Their words begin at `word`, and their
-/// payloads at `start`. `InvalidEOF` if a word is cut off.
+/// payloads at `start`. `InvalidEOF` if a word is cut off. The words must end at 2^34 at most, the
+/// payloads at 2^63 if each has 2^32 bytes, and if there are none, `word` must be inside the bytes.
 #[inline(always)]
 pub fn payloads_end(bytes: &[u8], word: usize, start: usize, count: usize) -> Result<usize, Error>
     requires words { word + 4 * count ≤ 2 ^ 34 }
@@ -176,7 +178,7 @@ impl<'a> Cursor<'a> {
         Ok(Cursor::new(bytes, 4, 4 + 4 * count, count))
     }
 
-    /// The entries of an array of `count` items.
+    /// The entries of an array of `count` items, which must be below 2^29, as in a header.
     #[inline(always)]
     pub fn over_items(bytes: &'a [u8], count: usize) -> Self
         requires { count < 2 ^ 29 }
@@ -185,7 +187,8 @@ impl<'a> Cursor<'a> {
         Cursor::new(bytes, 4, 4 + 4 * count, count)
     }
 
-    /// The entries of the keys of an object of `count` pairs.
+    /// The entries of the keys of an object of `count` pairs, which must be below 2^29, as in a
+    /// header.
     #[inline(always)]
     pub fn over_keys(bytes: &'a [u8], count: usize) -> Self
         requires { count < 2 ^ 29 }
@@ -194,8 +197,9 @@ impl<'a> Cursor<'a> {
         Cursor::new(bytes, 4, 4 + 8 * count, count)
     }
 
-    /// The entries of the values of an object of `count` pairs, in bytes that have its header.
-    /// `InvalidEOF` if the entry word of a key is cut off.
+    /// The entries of the values of an object of `count` pairs, which must be below 2^29, as in a
+    /// header; the bytes must have four bytes of a header. `InvalidEOF` if the entry word of a key
+    /// is cut off.
     #[inline(always)]
     pub fn over_values(bytes: &'a [u8], count: usize) -> Result<Self, Error>
         requires count { count < 2 ^ 29 }
