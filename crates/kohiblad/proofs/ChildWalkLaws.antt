@@ -58,7 +58,7 @@ module _ (bytes : List ℕ) where
 none_first : (r : Result (Option Child) Error) (more : List Child) → None ≡ found_child r
     → first_child r more ≡ []
 none_first (Ok None) more is = refl
-none_first (Ok (Some child)) more is = let never : ⊥ = cc in absurd never
+none_first (Ok (Some child)) more is = absurd cc
 none_first (Err e) more is = refl
 
 module _ (bytes : List ℕ) where
@@ -98,7 +98,7 @@ module _ (bytes : List ℕ) (count : ℕ)
 found_is : (r : Result (Option Child) Error) (child : Child) → Some child ≡ found_child r
     → r ≡ Ok (Some child)
 found_is (Ok o) child is = ap (λ (o : Option Child). Ok o) (sym is)
-found_is (Err e) child is = let never : ⊥ = cc in absurd never
+found_is (Err e) child is = absurd cc
 
 module _ (bytes : List ℕ) where
   pub none_walked : (n : ℕ) (cursor : KohibladCursor)

@@ -4,7 +4,7 @@ use Rattle.std.proofs.Common.{Some, option_map, Result, Ok, Err, IsOkAnd, refl, 
 use Rattle.std.proofs.Common.{◌∙◌, inl, inr, arith}
 use Rattle.std.specs.Map.{values_of}
 use Rattle.jsonb_value.specs.declared.error.Error.{Error}
-use Rattle.jsonb_value.specs.Tree.{Tree, null, boolean, number, text, extension, array, object}
+use Rattle.jsonb_value.specs.Tree.{Tree, object}
 use Rattle.jsonb_value.specs.Tree.{Pairs}
 use Rattle.jsonb_codec.specs.Doc.{Doc, Payload}
 use Rattle.jsonb.specs.declared.entries.Entry.{Entry as PlacedEntry}
@@ -21,7 +21,7 @@ use Rattle.kohiblad.proofs.PlaceLaws.{value_stored}
 
 value_with : (o : Option Entry) (x : ItemView) → option_map entry_item o ≡ Some (Ok x)
     → (c : Entry) × (o ≡ Some c)
-value_with None x is = let never : ⊥ = cc in absurd never
+value_with None x is = absurd cc
 value_with (Some c) x is = (c, refl)
 
 module _ (name b : List ℕ) where
@@ -70,12 +70,7 @@ module _ (name b : List ℕ) where
   in_tree (object ps) None reads (inr (is, doc)) h = none_among ps reads doc h
   in_tree (object ps) (Some x) reads (inr (is, doc)) h = some_among ps x reads doc h
   in_tree (object ps) o reads (inl (other, doc)) h = absurd (other refl)
-  in_tree null o reads doc h = ap (λ (o : Option ItemView). value_place b reads (Ok o)) h.0
-  in_tree (boolean x) o reads doc h = ap (λ (o : Option ItemView). value_place b reads (Ok o)) h.0
-  in_tree (number x) o reads doc h = ap (λ (o : Option ItemView). value_place b reads (Ok o)) h.0
-  in_tree (text x) o reads doc h = ap (λ (o : Option ItemView). value_place b reads (Ok o)) h.0
-  in_tree (extension x) o reads doc h = ap (λ (o : Option ItemView). value_place b reads (Ok o)) h.0
-  in_tree (array ts) o reads doc h = ap (λ (o : Option ItemView). value_place b reads (Ok o)) h.0
+  in_tree t o reads doc h = ap (λ (o : Option ItemView). value_place b reads (Ok o)) h.0
 
   by_item : (t : Tree) (item : Result (Option ItemView) Error) (reads : ℕ) → Doc b t
       → IsOkAnd item (λ o. LooksUp answers (length name) b t o reads)

@@ -77,7 +77,7 @@ module _ (bytes : List ℕ) (n : ℕ) where
   object_if header true is count =
       let same : header.1 ≡ n = cc in
       ap₂ (λ (t m : ℕ). (t, m)) (eqb-true header.0 OBJECT_CONTAINER_TAG is) same
-  object_if header false is count = let never : ⊥ = cc in absurd never
+  object_if header false is count = absurd cc
 
   object_by : (r : Result (ℕ × ℕ) Error)
       → r >>= (λ (h : ℕ × ℕ). Ok (count_if OBJECT_CONTAINER_TAG h)) ≡ Ok (Some n)
@@ -85,7 +85,7 @@ module _ (bytes : List ℕ) (n : ℕ) where
   object_by (Ok header) is =
       let count : count_if OBJECT_CONTAINER_TAG header ≡ Some n = cc in
       ap (λ (h : ℕ × ℕ). Ok h) (object_if header _ refl count)
-  object_by (Err e) is = let never : ⊥ = cc in absurd never
+  object_by (Err e) is = absurd cc
 
   object_header : count_under bytes OBJECT_CONTAINER_TAG ≡ Ok (Some n)
       → header_at bytes 0 ≡ Ok (OBJECT_CONTAINER_TAG, n)
@@ -97,7 +97,7 @@ module _ (bytes : List ℕ) where
   word_there : (word : ℕ) (e : JEntry) (b : Bool) → nat_le (word + 4) (length bytes) ≡ b
       → jentry_at bytes word ≡ Ok e → word + 4 ≤ length bytes
   word_there word e true fits read = leb-true (word + 4) (length bytes) fits
-  word_there word e false fits read = let never : ⊥ = cc (rw fits at read) in absurd never
+  word_there word e false fits read = absurd (cc (rw fits at read))
 
   ends_there : (n part base word start : ℕ) → 4 + 4 * (part + n) ≤ length bytes
       → word ≡ 4 + 4 * part → start ≡ base + length_before bytes part
@@ -170,13 +170,12 @@ module _ (answers : List ℕ → Bool → Type 0) (name given bytes viewed : Lis
       → IfOk r (λ o. IfSome o
       (λ f. IsPlaceOf bytes (lookup.header_count bytes) (reads - 2) f.entry))
       → places_of r ≡ value_place bytes reads (lookup.found_view r)
-  place_of (Ok (Some f)) (no_header e count is) place = let never : ⊥ = cc in absurd never
-  place_of (Ok (Some f)) (other_header count is one) place = let never : ⊥ = cc in absurd never
-  place_of (Ok (Some f)) (unread n e count past is) place = let never : ⊥ = cc in absurd never
-  place_of (Ok (Some f)) (all_passed n count none is cost) place =
-      let never : ⊥ = cc in absurd never
   place_of (Ok (Some f)) (one_accepted n pair entry count key there is cost) place =
       place_by f n pair count key.among cost place
+  place_of (Ok (Some f)) (no_header e count is) place = absurd cc
+  place_of (Ok (Some f)) (other_header count is one) place = absurd cc
+  place_of (Ok (Some f)) (unread n e count past is) place = absurd cc
+  place_of (Ok (Some f)) (all_passed n count none is cost) place = absurd cc
   place_of (Ok None) looks_up place = refl
   place_of (Err e) looks_up place = refl
 

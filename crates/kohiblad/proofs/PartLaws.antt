@@ -1,13 +1,13 @@
 -- The documents of parts.
 use Rattle.std.proofs.Common.{◌≡◌, ◌≢◌, ℕ, zero, suc, ◌<◌, ◌^◌, Bool, true, false, not, ◌&&◌}
 use Rattle.std.proofs.Common.{if◌then◌else◌, List, [], ◌∷◌, ◌++◌, length, map, slice_get}
-use Rattle.std.proofs.Common.{None, Some, option_map, Ok, Err, refl, sym, ap, subst, ◌∙◌}
+use Rattle.std.proofs.Common.{Some, option_map, Ok, Err, refl, sym, ap, subst, ◌∙◌}
 use Rattle.std.proofs.Common.{inl, inr, arith, ◌==◌}
 use Rattle.std.specs.Map.{keys_of, values_of}
 use Rattle.std.specs.Str.{IsUtf8}
 use Rattle.std.proofs.lemmas.Bool.{leb-false, lt-leb}
 use Rattle.jsonb_value.specs.declared.error.Error.TheVariants.{InvalidJsonb, InvalidJsonbJEntry}
-use Rattle.jsonb_value.specs.Tree.{Tree, null, boolean, number, text, extension, array, object}
+use Rattle.jsonb_value.specs.Tree.{Tree, boolean, text, array, object}
 use Rattle.jsonb_value.specs.Tree.{Trees, no_trees, tree, Pairs, no_pairs, pair}
 use Rattle.jsonb_codec.specs.declared.constants.TheConstants.{CONTAINER_TAG}
 use Rattle.jsonb_codec.specs.Doc.{Doc, Payload, type_of}
@@ -18,23 +18,18 @@ use Rattle.jsonb.specs.Entries.{entry_there}
 use Rattle.jsonb.specs.Item.{Entry}
 use Rattle.jsonb.specs.Node.{tree_list, pair_list}
 use Rattle.jsonb.specs.StoredEntries.{AreCodesOf, ArePairsOf}
+use Rattle.jsonb.proofs.KindLaws.{container_cases, header_at-Scalar}
 use Rattle.jsonb.proofs.StoredEntryLaws.{both_are, object_holds}
 use Rattle.jsonb.specs.declared.entries.Entry.{Entry as PlacedEntry}
 use Rattle.kohiblad.specs.Parts.{is_entry_type, is_too_long, part_document, part_trees}
 use Rattle.kohiblad.specs.Parts.{IsPartDocument}
 use Rattle.kohiblad.specs.Places.{entry_document, part_in, IsPartPlace}
-use Rattle.kohiblad.proofs.PlaceLaws.{by_kind, part_in_stored}
+use Rattle.kohiblad.proofs.PlaceLaws.{part_in_stored, part_past}
 
 -- the document of an entry that means a tree
 is_type : (t : Tree) → is_entry_type (type_of t) ≡ true
-is_type null = refl
 is_type (boolean true) = refl
-is_type (boolean false) = refl
-is_type (number x) = refl
-is_type (text s) = refl
-is_type (extension e) = refl
-is_type (array ts) = refl
-is_type (object ps) = refl
+is_type t = refl
 
 scalar_doc : (t : Tree) (p : List ℕ) → type_of t ≢ CONTAINER_TAG → Payload t p → length p < 2 ^ 28
     → Doc (scalar_bytes (type_of t) p) t
@@ -43,19 +38,11 @@ scalar_doc t p other means short =
 
 doc_of : (t : Tree) (p : List ℕ) → Payload t p → is_too_long (type_of t) p ≡ false
     → Doc (entry_document (record { type = type_of t; payload = p })) t
-doc_of null p h fits = scalar_doc null p (λ is. omega arith) h (leb-false (2 ^ 28) (length p) fits)
-doc_of (boolean true) p h fits =
-    scalar_doc (boolean true) p (λ is. omega arith) h (leb-false (2 ^ 28) (length p) fits)
-doc_of (boolean false) p h fits =
-    scalar_doc (boolean false) p (λ is. omega arith) h (leb-false (2 ^ 28) (length p) fits)
-doc_of (number x) p h fits =
-    scalar_doc (number x) p (λ is. omega arith) h (leb-false (2 ^ 28) (length p) fits)
-doc_of (text s) p h fits =
-    scalar_doc (text s) p (λ is. omega arith) h (leb-false (2 ^ 28) (length p) fits)
-doc_of (extension e) p h fits =
-    scalar_doc (extension e) p (λ is. omega arith) h (leb-false (2 ^ 28) (length p) fits)
 doc_of (array ts) p h fits = inr (refl, h)
 doc_of (object ps) p h fits = inr (refl, h)
+doc_of (boolean true) p h fits =
+    scalar_doc (boolean true) p (λ is. omega arith) h (leb-false (2 ^ 28) (length p) fits)
+doc_of t p h fits = scalar_doc t p (λ is. omega arith) h (leb-false (2 ^ 28) (length p) fits)
 
 pub entry_doc : (type : ℕ) (p : List ℕ) (t : Tree) → IsPayloadOf type p t
     → is_too_long type p ≡ false → Doc (entry_document (record { type = type; payload = p })) t
@@ -69,8 +56,8 @@ by_tests : (known long : Bool) (answer : List ℕ) → known ≡ true → long �
     → (if not known then Err InvalidJsonbJEntry else if long then Err InvalidJsonb else Ok answer)
     ≡ Ok answer
 by_tests true false answer is fits = refl
-by_tests true true answer is fits = let never : ⊥ = cc in absurd never
-by_tests false long answer is fits = let never : ⊥ = cc in absurd never
+by_tests true true answer is fits = absurd cc
+by_tests false long answer is fits = absurd cc
 
 pub part_made : (type : ℕ) (p : List ℕ) (t : Tree) → IsPayloadOf type p t
     → is_too_long type p ≡ false
@@ -98,8 +85,8 @@ pub record IsAmong (ts : List Tree) (nth : ℕ) (c : Entry) : Type 0 where
 
 pub entry_among : (cs : List Entry) (ts : List Tree) (nth : ℕ) (c : Entry) → EntriesMean cs ts
     → slice_get cs nth ≡ Some c → IsAmong ts nth c
-entry_among [] ts zero c h there = let never : ⊥ = cc in absurd never
-entry_among [] ts (suc nth) c h there = let never : ⊥ = cc in absurd never
+entry_among [] ts zero c h there = absurd cc
+entry_among [] ts (suc nth) c h there = absurd cc
 entry_among (x ∷ cs) [] nth c h there = absurd h
 entry_among (x ∷ cs) (t ∷ ts) zero c h there =
     let same : x ≡ c = cc in
@@ -119,7 +106,7 @@ EntriesMean-append (c ∷ cs) ds (t ∷ ts) us h k =
 pub EntriesMean-items : (cs : List Entry) (ts : Trees) → AreCodesOf cs ts → AreShort cs
     → EntriesMean cs (tree_list ts)
 EntriesMean-items [] no_trees h short = tt
-EntriesMean-items [] (tree t ts) h short = let never : ⊥ = cc in absurd never
+EntriesMean-items [] (tree t ts) h short = absurd cc
 EntriesMean-items (c ∷ cs) no_trees h short = absurd h
 EntriesMean-items (c ∷ cs) (tree t ts) h short =
     (record { means = h.0; short = short.0 }, EntriesMean-items cs ts h.1 short.1)
@@ -127,7 +114,7 @@ EntriesMean-items (c ∷ cs) (tree t ts) h short =
 EntriesMean-values : (ks : List (List ℕ)) (cs : List Entry) (ps : Pairs) → ArePairsOf ks cs ps
     → AreShort cs → EntriesMean cs (values_of (pair_list ps))
 EntriesMean-values [] [] no_pairs h short = tt
-EntriesMean-values [] [] (pair k t ps) h short = let never : ⊥ = cc in absurd never
+EntriesMean-values [] [] (pair k t ps) h short = absurd cc
 EntriesMean-values [] (c ∷ cs) ps h short = absurd h
 EntriesMean-values (k ∷ ks) [] ps h short = absurd h
 EntriesMean-values (k ∷ ks) (c ∷ cs) no_pairs h short = absurd h
@@ -138,7 +125,7 @@ EntriesMean-keys : (ks : List (List ℕ)) (cs : List Entry) (ps : Pairs) → Are
     → AreTexts ks → AreShort (key_codes ks)
     → EntriesMean (key_codes ks) (map text (keys_of (pair_list ps)))
 EntriesMean-keys [] [] no_pairs h texts short = tt
-EntriesMean-keys [] [] (pair k t ps) h texts short = let never : ⊥ = cc in absurd never
+EntriesMean-keys [] [] (pair k t ps) h texts short = absurd cc
 EntriesMean-keys [] (c ∷ cs) ps h texts short = absurd h
 EntriesMean-keys (k ∷ ks) [] ps h texts short = absurd h
 EntriesMean-keys (k ∷ ks) (c ∷ cs) no_pairs h texts short = absurd h
@@ -176,19 +163,14 @@ module _ (b : List ℕ) (nth : ℕ) (place : PlacedEntry)
       (EntriesMean-values (keys_of members) (values_of members) ps stored.mean stored.short))
       (sym there ∙ ap (option_map (entry_there b)) same)
 
-  none_among : (t : Tree) → part_in b nth ≡ Ok None
-      → IsAmong (part_trees t) nth (entry_there b place)
-  none_among t none = let never : ⊥ = cc in absurd never
-
   among_parts : (t : Tree) → Doc b t → IsAmong (part_trees t) nth (entry_there b place)
-  among_parts t document =
-      by_kind
-      (λ (u : Tree). IsPartPlace b u nth (part_in b nth)
-      → IsAmong (part_trees u) nth (entry_there b place)) b
-      (λ ts h. among_items ts)
-      (λ ps h. among_members ps h) (λ h. none_among null) (λ x h. none_among (boolean x))
-      (λ x h. none_among (number x)) (λ x h. none_among (text x))
-      (λ x h. none_among (extension x)) t document (part_in_stored b t nth document)
+  among_parts t (inr (is, h)) =
+      container_cases
+      (λ (u : Tree). Payload u b → IsAmong (part_trees u) nth (entry_there b place)) t is
+      (λ ts h. among_items ts (part_in_stored b (array ts) nth (inr (refl, h))))
+      (λ ps h. among_members ps h (part_in_stored b (object ps) nth (inr (refl, h)))) h
+  among_parts t (inl (other, h)) =
+      let none = part_past b _ (header_at-Scalar b t h) nth (omega arith) in absurd cc
 
 and_false : (b : Bool) → (b && false) ≡ false
 and_false true = refl

@@ -17,7 +17,7 @@ use Rattle.std.proofs.lemmas.List.{append-nil, drop-drop, drop-take, length-take
 use Rattle.std.proofs.lemmas.List.{take_all}
 use Rattle.std.proofs.lemmas.Slice.Eq.{slice_eq-Decides}
 use Rattle.jsonb_value.specs.declared.error.Error.{Error}
-use Rattle.jsonb_value.specs.Tree.{Tree, null, boolean, number, text, extension, array, object}
+use Rattle.jsonb_value.specs.Tree.{Tree, boolean, array, object}
 use Rattle.jsonb_value.specs.Tree.{Trees, no_trees, tree, Pairs, no_pairs, pair, count, pair_count}
 use Rattle.jsonb_codec.specs.declared.constants.TheConstants.{ARRAY_CONTAINER_TAG}
 use Rattle.jsonb_codec.specs.declared.constants.TheConstants.{OBJECT_CONTAINER_TAG, CONTAINER_TAG}
@@ -34,8 +34,8 @@ use Rattle.jsonb.specs.Steps.{◌>>=◌}
 use Rattle.jsonb.specs.StoredEntries.{ArePairsOf, HasItems, HasMembers}
 use Rattle.jsonb.proofs.StoredEntryLaws.{HasItems-Payload, HasMembers-Payload, items_at, members_at}
 use Rattle.jsonb.specs.declared.entries.Entry.{Entry as PlacedEntry}
-use Rattle.jsonb.proofs.KindLaws.{At-entry, IsTag-type_of, header_at-Scalar, header_at-array}
-use Rattle.jsonb.proofs.KindLaws.{header_at-object}
+use Rattle.jsonb.proofs.KindLaws.{At-entry, IsTag-type_of, container_cases, header_at-Scalar}
+use Rattle.jsonb.proofs.KindLaws.{header_at-array, header_at-object}
 use Rattle.jsonb.proofs.EntryTreeLaws.{entry_tree-is}
 use Rattle.jsonb.proofs.Places.{At, At-after_word, At-left}
 use Rattle.jsonb_functions.specs.Contains.{items_in}
@@ -86,8 +86,8 @@ IsNumbered {A} bytes R xs i =
 module _ {A : Type 0} where
   taken_there : (xs : List A) (i n : ℕ) (x : A) → slice_get xs i ≡ Some x
       → x ∷ take n (drop (suc i) xs) ≡ take (suc n) (drop i xs)
-  taken_there [] zero n x there = let never : ⊥ = cc in absurd never
-  taken_there [] (suc i) n x there = let never : ⊥ = cc in absurd never
+  taken_there [] zero n x there = absurd cc
+  taken_there [] (suc i) n x there = absurd cc
   taken_there (y ∷ xs) zero n x there =
       let same : x ≡ y = cc in ap (λ (z : A). z ∷ take n xs) same
   taken_there (y ∷ xs) (suc i) n x there = taken_there xs i n x there
@@ -95,7 +95,7 @@ module _ {A : Type 0} where
   taken_past : (xs : List A) (i n : ℕ) → slice_get xs i ≡ None → [] ≡ take (suc n) (drop i xs)
   taken_past [] zero n past = refl
   taken_past [] (suc i) n past = refl
-  taken_past (y ∷ xs) zero n past = let never : ⊥ = cc in absurd never
+  taken_past (y ∷ xs) zero n past = absurd cc
   taken_past (y ∷ xs) (suc i) n past = taken_past xs i n past
 
 -- The children from an index on are related to the elements from there on.
@@ -195,8 +195,8 @@ module _ (b : List ℕ) (ps : Pairs) (h : Payload (object ps) b) (i : ℕ) where
 
   pair_at : (ms : List (List ℕ × Entry)) (qs : Pairs) (k : ℕ) (m : List ℕ × Entry)
       → ArePairsOf (keys_of ms) (values_of ms) qs → slice_get ms k ≡ Some m → IsPairAt qs k m
-  pair_at [] qs zero m mean there = let never : ⊥ = cc in absurd never
-  pair_at [] qs (suc k) m mean there = let never : ⊥ = cc in absurd never
+  pair_at [] qs zero m mean there = absurd cc
+  pair_at [] qs (suc k) m mean there = absurd cc
   pair_at (x ∷ ms) no_pairs k m mean there = absurd mean
   pair_at (x ∷ ms) (pair l t qs) zero m mean there =
       let same : x ≡ m = cc in
@@ -208,9 +208,9 @@ module _ (b : List ℕ) (ps : Pairs) (h : Payload (object ps) b) (i : ℕ) where
       → ArePairsOf (keys_of ms) (values_of ms) qs → slice_get ms k ≡ None
       → slice_get (pair_list qs) k ≡ None
   past_pairs [] no_pairs k mean past = refl
-  past_pairs [] (pair l t qs) k mean past = let never : ⊥ = cc in absurd never
+  past_pairs [] (pair l t qs) k mean past = absurd cc
   past_pairs (x ∷ ms) no_pairs k mean past = absurd mean
-  past_pairs (x ∷ ms) (pair l t qs) zero mean past = let never : ⊥ = cc in absurd never
+  past_pairs (x ∷ ms) (pair l t qs) zero mean past = absurd cc
   past_pairs (x ∷ ms) (pair l t qs) (suc k) mean past = past_pairs ms qs k mean.1.1 past
 
   member_number : (n : ℕ) → header_at b 0 ≡ Ok (OBJECT_CONTAINER_TAG, n)
@@ -405,14 +405,14 @@ module _ (b : List ℕ) (name : List ℕ) where
   same_test : (key : Option PlacedEntry) (l : List ℕ) → is_some key ≡ true
       → IfSome key (λ place. (entry_there b place).payload ≡ l)
       → has_key name b key ≡ ((length l == length name) && pointwise nat_eq name l)
-  same_test None l some is = let never : ⊥ = cc in absurd never
+  same_test None l some is = absurd cc
   same_test (Some place) l some is = ap (is_name name) is ∙ name_test name l
 
   named_held : (cs : List Child) (ps : Pairs) → Pairwise (HoldsPair b) cs (pair_list ps)
       → Pairwise (Holds b) (named_child name b cs)
       (option_to_list (find_pair (pointwise nat_eq name) (length name) ps))
   named_held [] no_pairs h = refl
-  named_held [] (pair l t ps) h = let never : ⊥ = cc in absurd never
+  named_held [] (pair l t ps) h = absurd cc
   named_held (c ∷ cs) no_pairs h = absurd h
   named_held (c ∷ cs) (pair l t ps) h =
       let test = same_test c.key l h.0.1 h.0.0 in
@@ -503,25 +503,10 @@ none_at (selectors.Range first last) plain t none items members =
 
 no_child : (t : Tree) → ((k : List ℕ) → value_of_key k t ≡ None) → items_of t ≡ None
     → (step : Step) → child_at step t ≡ None
-no_child null keys items (steps.Key k) = refl
-no_child null keys items (steps.Index i) = refl
-no_child null keys items (steps.FromEnd i) = refl
-no_child (boolean x) keys items (steps.Key k) = refl
-no_child (boolean x) keys items (steps.Index i) = refl
-no_child (boolean x) keys items (steps.FromEnd i) = refl
-no_child (number x) keys items (steps.Key k) = refl
-no_child (number x) keys items (steps.Index i) = refl
-no_child (number x) keys items (steps.FromEnd i) = refl
-no_child (text x) keys items (steps.Key k) = refl
-no_child (text x) keys items (steps.Index i) = refl
-no_child (text x) keys items (steps.FromEnd i) = refl
-no_child (extension x) keys items (steps.Key k) = refl
-no_child (extension x) keys items (steps.Index i) = refl
-no_child (extension x) keys items (steps.FromEnd i) = refl
-no_child (array ts) keys items step = let never : ⊥ = cc in absurd never
+no_child (array ts) keys items step = absurd cc
 no_child (object ps) keys items (steps.Key k) = keys k.now
-no_child (object ps) keys items (steps.Index i) = refl
-no_child (object ps) keys items (steps.FromEnd i) = refl
+no_child t keys items (steps.Key k) = refl
+no_child t keys items step = refl
 
 -- The children to which a selector leads.
 module _ (bytes : List ℕ) (place : PlacedEntry) (inside : IsWithin bytes place) where
@@ -560,24 +545,11 @@ module _ (bytes : List ℕ) (place : PlacedEntry) (inside : IsWithin bytes place
   step_held s plain (object ps) h =
       container_held s (object ps) h.0
       (object_held (entry_there bytes place).payload ps h.1 s plain)
-  step_held s plain null h =
-      scalar_held s null _ h.0 refl
-      (none_at s plain null (no_child null (λ k. refl) refl) refl refl)
   step_held s plain (boolean true) h =
       scalar_held s (boolean true) _ h.0 refl
       (none_at s plain (boolean true) (no_child (boolean true) (λ k. refl) refl) refl refl)
-  step_held s plain (boolean false) h =
-      scalar_held s (boolean false) _ h.0 refl
-      (none_at s plain (boolean false) (no_child (boolean false) (λ k. refl) refl) refl refl)
-  step_held s plain (number x) h =
-      scalar_held s (number x) _ h.0 refl
-      (none_at s plain (number x) (no_child (number x) (λ k. refl) refl) refl refl)
-  step_held s plain (text x) h =
-      scalar_held s (text x) _ h.0 refl
-      (none_at s plain (text x) (no_child (text x) (λ k. refl) refl) refl refl)
-  step_held s plain (extension x) h =
-      scalar_held s (extension x) _ h.0 refl
-      (none_at s plain (extension x) (no_child (extension x) (λ k. refl) refl) refl refl)
+  step_held s plain t h =
+      scalar_held s t _ h.0 refl (none_at s plain t (no_child t (λ k. refl) refl) refl refl)
 
 -- A filter leads to the place itself, or to none.
 kept_held : (bytes : List ℕ) (place : PlacedEntry) (t : Tree) (b : Bool) → Held bytes place t
@@ -599,12 +571,7 @@ pub other_places : (s : Selector) (bytes : List ℕ) (place : PlacedEntry)
     → ((condition : Condition) → s ≡ selectors.Filter condition → ⊥)
     → child_places s bytes place ≡ places_at s bytes place
 other_places (selectors.Filter condition) bytes place other = absurd (other condition refl)
-other_places (selectors.Key k) bytes place other = refl
-other_places (selectors.Index i) bytes place other = refl
-other_places (selectors.FromEnd i) bytes place other = refl
-other_places selectors.AllItems bytes place other = refl
-other_places selectors.AllMembers bytes place other = refl
-other_places (selectors.Range first last) bytes place other = refl
+other_places s bytes place other = refl
 
 -- What is at the places to which a selector leads.
 selector_held : (s : Selector) (bytes : List ℕ) (place : PlacedEntry) (t : Tree)
@@ -612,18 +579,7 @@ selector_held : (s : Selector) (bytes : List ℕ) (place : PlacedEntry) (t : Tre
     → Pairwise (Held bytes) (places_at s bytes place) (children_at s t)
 selector_held (selectors.Filter condition) bytes place t held =
     filter_held condition bytes place t held
-selector_held (selectors.Key k) bytes place t held =
-    step_held bytes place held.0 (selectors.Key k) tt t held.1
-selector_held (selectors.Index i) bytes place t held =
-    step_held bytes place held.0 (selectors.Index i) tt t held.1
-selector_held (selectors.FromEnd i) bytes place t held =
-    step_held bytes place held.0 (selectors.FromEnd i) tt t held.1
-selector_held selectors.AllItems bytes place t held =
-    step_held bytes place held.0 selectors.AllItems tt t held.1
-selector_held selectors.AllMembers bytes place t held =
-    step_held bytes place held.0 selectors.AllMembers tt t held.1
-selector_held (selectors.Range first last) bytes place t held =
-    step_held bytes place held.0 (selectors.Range first last) tt t held.1
+selector_held s bytes place t held = step_held bytes place held.0 s tt t held.1
 
 -- What is at the places to which a path with wildcards leads.
 pub selected_held : (path : List Selector) (bytes : List ℕ) (place : PlacedEntry) (t : Tree)
@@ -720,7 +676,7 @@ first_held : (bytes : List ℕ) (places : List PlacedEntry) (o : Option Tree)
     → Pairwise (Held bytes) places (option_to_list o)
     → HoldsFound bytes (at_place (first_place places) f) (if_there o g)
 first_held bytes [] None f g each h = tt
-first_held bytes [] (Some u) f g each h = let never : ⊥ = cc in absurd never
+first_held bytes [] (Some u) f g each h = absurd cc
 first_held bytes (p ∷ places) None f g each h = absurd h
 first_held bytes (p ∷ places) (Some u) f g each h = each p u h.0
 
@@ -771,18 +727,12 @@ whole_scalar bytes t h =
     )
 
 whole_held : (bytes : List ℕ) (t : Tree) → Doc bytes t → IsWhole bytes t
-whole_held bytes (array ts) (inr (is, h)) =
-    whole_container bytes (array ts) ARRAY_CONTAINER_TAG (count ts) (header_at-array bytes ts h)
-    refl refl h
-whole_held bytes (object ps) (inr (is, h)) =
-    whole_container bytes (object ps) OBJECT_CONTAINER_TAG (pair_count ps)
-    (header_at-object bytes ps h) refl refl h
-whole_held bytes null (inr (is, h)) = absurd (omega arith)
-whole_held bytes (boolean true) (inr (is, h)) = absurd (omega arith)
-whole_held bytes (boolean false) (inr (is, h)) = absurd (omega arith)
-whole_held bytes (number x) (inr (is, h)) = absurd (omega arith)
-whole_held bytes (text x) (inr (is, h)) = absurd (omega arith)
-whole_held bytes (extension x) (inr (is, h)) = absurd (omega arith)
+whole_held bytes t (inr (is, h)) =
+    container_cases (λ (u : Tree). Payload u bytes → IsWhole bytes u) t is
+    (λ ts h. whole_container bytes (array ts) ARRAY_CONTAINER_TAG (count ts)
+    (header_at-array bytes ts h) refl refl h)
+    (λ ps h. whole_container bytes (object ps) OBJECT_CONTAINER_TAG (pair_count ps)
+    (header_at-object bytes ps h) refl refl h) h
 whole_held bytes t (inl (other, h)) = whole_scalar bytes t h
 
 -- What the places of a document that a path selects hold, and the place at the end of a path.

@@ -1,21 +1,18 @@
 -- The positions of the parts of an array or object.
-use Rattle.std.proofs.Common.{◌≡◌, ℕ, zero, suc, ◌+◌, ◌-◌, ◌*◌, ◌<◌, ◌≤◌, ◌^◌, ◌⊎◌, true, false}
+use Rattle.std.proofs.Common.{◌≡◌, ℕ, zero, suc, ◌+◌, ◌-◌, ◌*◌, ◌<◌, ◌≤◌, ◌⊎◌}
 use Rattle.std.proofs.Common.{List, [], ◌∷◌, ◌++◌, length, slice_get, slice_index_or, Option, None}
 use Rattle.std.proofs.Common.{Some, option_map, Result, Ok, Err, refl, sym, ap, ap₂, subst, ◌∙◌}
-use Rattle.std.proofs.Common.{Bool, inl, inr, arith, le-leb, append_assoc, length-append}
+use Rattle.std.proofs.Common.{inl, inr, arith, le-leb, append_assoc, length-append}
 use Rattle.std.specs.Map.{keys_of, values_of}
 use Rattle.std.specs.Option.{option_transpose}
 use Rattle.std.proofs.lemmas.Bool.{lt-leb}
 use Rattle.std.proofs.lemmas.Map.Entries.{length-keys_of, length-values_of}
 use Rattle.std.proofs.lemmas.Option.{slice_get_cases, slice_get_past}
 use Rattle.jsonb_value.specs.declared.error.Error.{Error}
-use Rattle.jsonb_value.specs.Tree.{Tree, null, boolean, number, text, extension, array, object}
-use Rattle.jsonb_value.specs.Tree.{Trees, Pairs, Extension}
-use Rattle.jsonb_value.specs.declared.number.Number.{Number}
-use Rattle.jsonb_codec.specs.JEntry.{jentry_at}
-use Rattle.jsonb_codec.specs.Doc.{Doc, Payload, Scalar}
+use Rattle.jsonb_value.specs.Tree.{Tree, array, object, Trees, Pairs}
+use Rattle.jsonb_codec.specs.Doc.{Doc, Payload}
 use Rattle.jsonb_codec.specs.Word.{word, header_at}
-use Rattle.jsonb.specs.Building.{key_codes, object_of}
+use Rattle.jsonb.specs.Building.{key_codes}
 use Rattle.jsonb.proofs.LeafLaws.{code_entries, code_payloads, object_of-parts}
 use Rattle.jsonb.specs.Entries.{Run, entries_in, entry_count, entry_there, left_after, payloads_end}
 use Rattle.jsonb.specs.Entries.{placed_at, placed_from, run_in}
@@ -25,11 +22,12 @@ use Rattle.jsonb.specs.StoredEntries.{HasItems, HasMembers}
 use Rattle.jsonb.specs.Steps.{◌>>=◌}
 use Rattle.jsonb.proofs.EntryLaws.{IsLess, cut_later, left_after-get, length-placed_from, skip_cut}
 use Rattle.jsonb.proofs.EntryLaws.{skipped}
-use Rattle.jsonb.proofs.KindLaws.{header_at-Scalar, header_at-array, header_at-object}
+use Rattle.jsonb.proofs.KindLaws.{container_cases, header_at-Scalar, header_at-array}
+use Rattle.jsonb.proofs.KindLaws.{header_at-object}
 use Rattle.jsonb.proofs.Places.{At, At-all, At-left, At-right, At-after_word, take-At, within-At}
 use Rattle.jsonb.proofs.StoredEntryLaws.{AreEntries, AreEntries-trees, AreEntries-keys}
 use Rattle.jsonb.proofs.StoredEntryLaws.{AreEntries-pairs, HasItems-Payload, HasMembers-Payload}
-use Rattle.jsonb.proofs.StoredEntryLaws.{first_entry, items_at, members_at}
+use Rattle.jsonb.proofs.StoredEntryLaws.{first_entry, items_at, length-key_codes, members_at}
 use Rattle.jsonb.proofs.StorageLaws.{length-code_entries}
 use Rattle.jsonb.specs.declared.entries.Entry.{Entry as PlacedEntry}
 use Rattle.kohiblad.specs.Children.{some_entry}
@@ -51,7 +49,7 @@ module _ (bytes : List ℕ) (header : ℕ × ℕ) (is : header_at bytes 0 ≡ Ok
   listed = ap (λ (r : Result (ℕ × ℕ) Error). (r >>= (λ (h : ℕ × ℕ). Ok (parts_under bytes h)))
       >>= (λ parts. option_transpose (slice_get parts k))) is
 
-  part_past : entry_count header ≤ k → part_in bytes k ≡ Ok None
+  pub part_past : entry_count header ≤ k → part_in bytes k ≡ Ok None
   part_past past =
       let long = length-placed_from bytes (entry_count header) 4 (4 + 4 * entry_count header) in
       listed ∙ ap option_transpose (slice_get_past _ k (omega (arith, long)))
@@ -90,7 +88,7 @@ module _ (bytes : List ℕ) (number : ℕ) (run : Run) (is : run_in bytes ≡ Ok
   entries_by (Ok entries) is =
       let same : record { bytes = bytes; entries = entries } ≡ run = cc in
       ap (λ (x : Run). Ok x.entries) same
-  entries_by (Err e) is = let never : ⊥ = cc in absurd never
+  entries_by (Err e) is = absurd cc
 
   number_listed : option_transpose (slice_get run.entries number) ≡ part_in bytes number
   number_listed =
@@ -115,7 +113,7 @@ module _ (bytes : List ℕ) (number : ℕ) (run : Run) (is : run_in bytes ≡ Ok
       ap (λ xs. slice_get xs number) (sym same)
       ∙ cut_later bytes number count 4 (4 + 4 * count) e (omega (arith, among, long, less))
       (ap (left_after number) same ∙ cut)
-  cut_by e among cut (Err d) listed = let never : ⊥ = cc in absurd never
+  cut_by e among cut (Err d) listed = absurd cc
 
   pub part_cut : (e : Error) → number < length run.entries → left_after number run.entries ≡ Err e
       → Err e ≡ part_in bytes number
@@ -124,16 +122,16 @@ module _ (bytes : List ℕ) (number : ℕ) (run : Run) (is : run_in bytes ≡ Ok
       (entries_by (entries_in bytes) is)))
       ∙ number_listed
 
--- An entry that is stored in the bytes, and its place.
-pub record IsStoredAt (bytes : List ℕ) (r : Result PlacedEntry Error) (c : Entry) : Type 0 where
+-- The place of an entry that is stored in the bytes, and where it was found.
+pub record IsPlaced (bytes : List ℕ) (Found : PlacedEntry → Type 0) (c : Entry) : Type 0 where
   pub place : PlacedEntry
-  pub found : r ≡ Ok place
+  pub found : Found place
   pub there : entry_there bytes place ≡ c
   pub inside : place.start + place.length ≤ length bytes
 
 pub place_stored : (bytes : List ℕ) (i j : ℕ) (c : Entry) (cs : List Entry) → AreEntries (c ∷ cs)
     → At bytes i (code_entries (c ∷ cs)) → At bytes j (code_payloads (c ∷ cs))
-    → IsStoredAt bytes (placed_at bytes i j) c
+    → IsPlaced bytes (λ place. placed_at bytes i j ≡ Ok place) c
 place_stored bytes i j c cs is a b =
     let payload = At-left bytes j c.payload (code_payloads cs) b in
     let within = within-At bytes j c.payload payload in
@@ -151,27 +149,26 @@ place_stored bytes i j c cs is a b =
 nth_stored : (bytes : List ℕ) (n k i j : ℕ) (cs : List Entry) (c : Entry) → n ≡ length cs
     → AreEntries cs → At bytes i (code_entries cs) → At bytes j (code_payloads cs)
     → slice_get cs k ≡ Some c
-    → (r : Result PlacedEntry Error)
-    × ((slice_get (placed_from bytes n i j) k ≡ Some r) × IsStoredAt bytes r c)
+    → IsPlaced bytes (λ place. slice_get (placed_from bytes n i j) k ≡ Some (Ok place)) c
 nth_stored bytes n zero i j [] c count is a b there = absurd cc
 nth_stored bytes n (suc k) i j [] c count is a b there = absurd cc
 nth_stored bytes zero k i j (x ∷ cs) c count is a b there = absurd (omega arith)
 nth_stored bytes (suc n) zero i j (x ∷ cs) c count is a b there =
-    let same : x ≡ c = cc in (
-      _,
-      (
-        refl,
-        subst (IsStoredAt bytes (placed_at bytes i j)) same
-            (place_stored bytes i j x cs is a b),
-      ),
-    )
+    let same : x ≡ c = cc in
+    let first = place_stored bytes i j x cs is a b in
+    record {
+      place = first.place;
+      found = ap (λ (r : Result PlacedEntry Error). Some r) first.found;
+      there = first.there ∙ same;
+      inside = first.inside;
+    }
 nth_stored bytes (suc n) (suc k) i j (x ∷ cs) c count is a b there =
     let f = first_entry bytes i j x cs is.0 a b in
-    let next : j + length x.payload ≡ j + length_in (jentry_at bytes i) =
-    ap (λ (m : ℕ). j + m) (sym (ap length_in f.jentry)) in
-    let (r, (found, stored)) = nth_stored bytes n k (i + 4) (j + length x.payload) cs c
-    (omega arith) is.1 f.other_entries f.other_payloads there in
-    (r, (ap (λ (s : ℕ). slice_get (placed_from bytes n (i + 4) s) k) (sym next) ∙ found, stored))
+    let size = ap length_in f.jentry in
+    subst (λ (m : ℕ). IsPlaced bytes (λ place. slice_get (placed_from bytes n (i + 4) (j + m)) k
+    ≡ Some (Ok place)) c) (sym size)
+    (nth_stored bytes n k (i + 4) (j + length x.payload) cs c (omega arith) is.1 f.other_entries
+    f.other_payloads there)
 
 -- The parts of the bytes are these entries.
 pub record HoldEntries (b : List ℕ) (cs : List Entry) : Type 0 where
@@ -183,65 +180,34 @@ pub record HoldEntries (b : List ℕ) (cs : List Entry) : Type 0 where
   payloads_at : At b (4 + 4 * length cs) (code_payloads cs)
 
 -- The part with a number.
-pub record IsPartAt (b : List ℕ) (k : ℕ) (c : Entry) : Type 0 where
-  pub place : PlacedEntry
-  pub found : part_in b k ≡ Ok (Some place)
-  pub there : entry_there b place ≡ c
-  pub inside : place.start + place.length ≤ length b
-
-past_end : (cs : List Entry) (k : ℕ) → slice_get cs k ≡ None → length cs ≤ k
-past_end [] k past = omega arith
-past_end (c ∷ cs) zero past = absurd cc
-past_end (c ∷ cs) (suc k) past = let more = past_end cs k past in omega (arith, more)
+abbrev pub IsPartAt : List ℕ → ℕ → Entry → Type 0
+IsPartAt b k = IsPlaced b (λ place. part_in b k ≡ Ok (Some place))
 
 module _ (b : List ℕ) (cs : List Entry) (h : HoldEntries b cs) where
   pub part_at : (k : ℕ) (c : Entry) → slice_get cs k ≡ Some c → IsPartAt b k c
   part_at k c there =
       let count = h.count in
-      let (r, (found, stored)) = nth_stored b (entry_count h.header) k 4
-      (4 + 4 * entry_count h.header) cs c count h.are h.entries_at
+      let at = nth_stored b (entry_count h.header) k 4 (4 + 4 * entry_count h.header) cs c count
+      h.are h.entries_at
       (subst (λ (n : ℕ). At b (4 + 4 * n) (code_payloads cs)) (sym count) h.payloads_at) there in
       record {
-        place = stored.place;
-        found = listed b h.header h.is k ∙ ap option_transpose found ∙ one_part r
-            ∙ ap some_entry stored.found;
-        there = stored.there;
-        inside = stored.inside;
+        place = at.place;
+        found = listed b h.header h.is k ∙ ap option_transpose at.found;
+        there = at.there;
+        inside = at.inside;
       }
 
-  part_by : (k : ℕ) (o : Option Entry) → slice_get cs k ≡ o
+  part_by : (k : ℕ)
+      → ((c : Entry) × (k < length cs) × (slice_get cs k ≡ Some c) × (slice_index_or cs k c ≡ c))
+      ⊎ ((length cs ≤ k) × (slice_get cs k ≡ None))
       → (o : Option PlacedEntry) × ((part_in b k ≡ Ok o)
       × (option_map (entry_there b) o ≡ slice_get cs k))
-  part_by k None past =
-      let count = h.count in
-      (None, (part_past b h.header h.is k (omega (arith, count, past_end cs k past)), sym past))
-  part_by k (Some c) there =
+  part_by k (inl (c, among, there, here)) =
       let at = part_at k c there in
       (Some at.place, (at.found, ap (λ (e : Entry). Some e) at.there ∙ sym there))
-
--- What holds of the documents of each kind of tree holds of every document.
-pub by_kind : (P : Tree → Type 0) (b : List ℕ)
-    → ((ts : Trees) → Payload (array ts) b → P (array ts))
-    → ((ps : Pairs) → Payload (object ps) b → P (object ps)) → (Scalar null b → P null)
-    → ((x : Bool) → Scalar (boolean x) b → P (boolean x))
-    → ((x : Number) → Scalar (number x) b → P (number x))
-    → ((x : List ℕ) → Scalar (text x) b → P (text x))
-    → ((x : Extension) → Scalar (extension x) b → P (extension x)) → (t : Tree) → Doc b t → P t
-by_kind P b a o n c d e f (array ts) (inr (is, h)) = a ts h
-by_kind P b a o n c d e f (array ts) (inl (other, h)) = absurd (other refl)
-by_kind P b a o n c d e f (object ps) (inr (is, h)) = o ps h
-by_kind P b a o n c d e f (object ps) (inl (other, h)) = absurd (other refl)
-by_kind P b a o n c d e f null (inl (other, h)) = n h
-by_kind P b a o n c d e f (boolean x) (inl (other, h)) = c x h
-by_kind P b a o n c d e f (number x) (inl (other, h)) = d x h
-by_kind P b a o n c d e f (text x) (inl (other, h)) = e x h
-by_kind P b a o n c d e f (extension x) (inl (other, h)) = f x h
-by_kind P b a o n c d e f null (inr (is, h)) = absurd (omega arith)
-by_kind P b a o n c d e f (boolean true) (inr (is, h)) = absurd (omega arith)
-by_kind P b a o n c d e f (boolean false) (inr (is, h)) = absurd (omega arith)
-by_kind P b a o n c d e f (number x) (inr (is, h)) = absurd (omega arith)
-by_kind P b a o n c d e f (text x) (inr (is, h)) = absurd (omega arith)
-by_kind P b a o n c d e f (extension x) (inr (is, h)) = absurd (omega arith)
+  part_by k (inr (past, none)) =
+      let count = h.count in
+      (None, (part_past b h.header h.is k (omega (arith, count)), sym none))
 
 -- An array's items.
 pub hold_items : (b : List ℕ) (ts : Trees) (cs : List Entry) → HasItems b ts cs → HoldEntries b cs
@@ -260,22 +226,20 @@ items_part : (b : List ℕ) (ts : Trees) (k : ℕ) → Payload (array ts) b
     → IsPartPlace b (array ts) k (part_in b k)
 items_part b ts k h =
     let (cs, stored) = HasItems-Payload b ts h in
-    (cs, (stored, part_by b cs (hold_items b ts cs stored) k _ refl))
-
-no_item : (b : List ℕ) (t : Tree) (index : ℕ) → Scalar t b → place_of_item b index ≡ Ok None
-no_item b t index h =
-    ap (λ (r : Result (ℕ × ℕ) Error). r >>= item_under b index) (header_at-Scalar b t h)
+    (cs, (stored, part_by b cs (hold_items b ts cs stored) k (slice_get_cases cs k).1))
 
 pub place_of_item_stored : (b : List ℕ) (t : Tree) (index : ℕ) → Doc b t
     → IsItemPlace b t index (place_of_item b index)
-place_of_item_stored b t index =
-    by_kind (λ (u : Tree). IsItemPlace b u index (place_of_item b index)) b
+place_of_item_stored b t index (inr (is, h)) =
+    container_cases (λ (u : Tree). Payload u b → IsItemPlace b u index (place_of_item b index)) t is
     (λ ts h. subst (IsItemPlace b (array ts) index)
     (sym (ap (λ (r : Result (ℕ × ℕ) Error). r >>= item_under b index) (header_at-array b ts h)))
     (items_part b ts index h))
     (λ ps h. ap (λ (r : Result (ℕ × ℕ) Error). r >>= item_under b index) (header_at-object b ps h))
-    (no_item b null index) (λ x. no_item b (boolean x) index) (λ x. no_item b (number x) index)
-    (λ x. no_item b (text x) index) (λ x. no_item b (extension x) index) t
+    h
+place_of_item_stored b (array ts) index (inl (other, h)) = absurd (other refl)
+place_of_item_stored b t index (inl (other, h)) =
+    ap (λ (r : Result (ℕ × ℕ) Error). r >>= item_under b index) (header_at-Scalar b t h)
 
 AreEntries-append : (cs ds : List Entry) → AreEntries cs → AreEntries ds → AreEntries (cs ++ ds)
 AreEntries-append [] ds is are = are
@@ -297,14 +261,13 @@ code_payloads-append (c ∷ cs) ds =
     ∙ sym (append_assoc c.payload (code_payloads cs) (code_payloads ds))
 
 length-all_keys : (ms : List (List ℕ × Entry)) → length (key_codes (keys_of ms)) ≡ length ms
-length-all_keys [] = refl
-length-all_keys (m ∷ ms) = ap suc (length-all_keys ms)
+length-all_keys ms = length-key_codes (keys_of ms) ∙ length-keys_of ms
 
 key_at_index : (ms : List (List ℕ × Entry)) (ds : List Entry) (i : ℕ) (m : List ℕ × Entry)
     → slice_get ms i ≡ Some m
     → slice_get (key_codes (keys_of ms) ++ ds) i ≡ Some record { type = 268435456; payload = m.0 }
-key_at_index [] ds zero m there = let never : ⊥ = cc in absurd never
-key_at_index [] ds (suc i) m there = let never : ⊥ = cc in absurd never
+key_at_index [] ds zero m there = absurd cc
+key_at_index [] ds (suc i) m there = absurd cc
 key_at_index (x ∷ ms) ds zero m there =
     let same : x ≡ m = cc in
     ap (λ (y : List ℕ × Entry). Some record { type = 268435456; payload = y.0 }) same
@@ -312,8 +275,8 @@ key_at_index (x ∷ ms) ds (suc i) m there = key_at_index ms ds i m there
 
 value_at_index : (ms : List (List ℕ × Entry)) (i : ℕ) (m : List ℕ × Entry) → slice_get ms i ≡ Some m
     → slice_get (values_of ms) i ≡ Some m.1
-value_at_index [] zero m there = let never : ⊥ = cc in absurd never
-value_at_index [] (suc i) m there = let never : ⊥ = cc in absurd never
+value_at_index [] zero m there = absurd cc
+value_at_index [] (suc i) m there = absurd cc
 value_at_index (x ∷ ms) zero m there =
     let same : x ≡ m = cc in
     ap (λ (y : List ℕ × Entry). Some y.1) same
@@ -325,53 +288,31 @@ after_keys [] ds k i c e there = let same : k ≡ i = omega arith in ap (slice_g
 after_keys (x ∷ cs) ds zero i c e there = absurd (omega arith)
 after_keys (x ∷ cs) ds (suc k) i c e there = after_keys cs ds k i c (omega arith) there
 
--- the positions of an object's entries
-record AllAt (b : List ℕ) (ms : List (List ℕ × Entry)) : Type 0 where
-  header : header_at b 0 ≡ Ok (1073741824, length ms)
-  entries_at : At b 4 (code_entries (all_entries ms))
-  payloads_at : At b (4 + 4 * (2 * length ms)) (code_payloads (all_entries ms))
-
-all_at : (b : List ℕ) (ms : List (List ℕ × Entry)) → length ms < 2 ^ 29
-    → b ≡ object_of (keys_of ms) (values_of ms) → AllAt b ms
-all_at b ms few written =
+hold_members : (b : List ℕ) (ps : Pairs) (ms : List (List ℕ × Entry)) → HasMembers b ps ms
+    → HoldEntries b (all_entries ms)
+hold_members b ps ms h =
     let ks = key_codes (keys_of ms) in
     let vs = values_of ms in
     let laid = object_of-parts (keys_of ms) vs (length-keys_of ms ∙ sym (length-values_of ms)) in
-    let whole = At-after_word b 0 4 (1073741824 + length vs) _ refl (At-all b _ (written ∙ laid)) in
     let parts =
     ap₂ (λ (x y : List ℕ). x ++ y) (code_entries-append ks vs) (code_payloads-append ks vs)
     ∙ append_assoc (code_entries ks) (code_entries vs) (code_payloads ks ++ code_payloads vs) in
-    let both = subst (At b 4) (sym parts) whole in
+    let both = subst (At b 4) (sym parts) (At-after_word b 0 4 (1073741824 + length vs) _ refl
+    (At-all b _ (h.written ∙ laid))) in
     let keys = length-all_keys ms in
     let values = length-values_of ms in
     let all = length-append ks vs in
     let long = length-code_entries (all_entries ms) in
     record {
-      header = (members_at b ms few written).header;
+      header = (1073741824, length ms);
+      is = (members_at b ms h.few h.written).header;
+      count = omega (arith, keys, values, all);
+      are = AreEntries-append ks vs (AreEntries-keys (keys_of ms) h.short_keys)
+          (AreEntries-pairs (keys_of ms) vs ps h.mean h.short);
       entries_at =
           At-left b 4 (code_entries (all_entries ms)) (code_payloads (all_entries ms)) both;
-      payloads_at = At-right b 4 (4 + 4 * (2 * length ms)) (code_entries (all_entries ms))
-          (code_payloads (all_entries ms)) (omega arith) both;
-    }
-
-hold_members : (b : List ℕ) (ps : Pairs) (ms : List (List ℕ × Entry)) → HasMembers b ps ms
-    → HoldEntries b (all_entries ms)
-hold_members b ps ms h =
-    let at = all_at b ms h.few h.written in
-    let keys = length-all_keys ms in
-    let values = length-values_of ms in
-    let all = length-append (key_codes (keys_of ms)) (values_of ms) in
-    let count : 2 * length ms ≡ length (all_entries ms) = omega arith in
-    record {
-      header = (1073741824, length ms);
-      is = at.header;
-      count = count;
-      are = AreEntries-append (key_codes (keys_of ms)) (values_of ms)
-          (AreEntries-keys (keys_of ms) h.short_keys)
-          (AreEntries-pairs (keys_of ms) (values_of ms) ps h.mean h.short);
-      entries_at = at.entries_at;
-      payloads_at = subst (λ (n : ℕ). At b (4 + 4 * n) (code_payloads (all_entries ms))) count
-          at.payloads_at;
+      payloads_at = At-right b 4 (4 + 4 * length (all_entries ms)) (code_entries (all_entries ms))
+          (code_payloads (all_entries ms)) (omega (arith, long)) both;
     }
 
 module _ (b : List ℕ) (ps : Pairs) (ms : List (List ℕ × Entry)) (h : HasMembers b ps ms)
@@ -420,7 +361,7 @@ member_stored : (b : List ℕ) (ps : Pairs) (index : ℕ) → Payload (object ps
     → AreMemberPlaces b (object ps) index (member_places b index)
 member_stored b ps index h =
     let (ms, stored) = HasMembers-Payload b ps h in
-    let at = all_at b ms stored.few stored.written in
+    let at = members_at b ms stored.few stored.written in
     let (o, (found, there)) = member_at b ps ms stored index (slice_get_cases ms index).1 in
     let here = ap (λ (r : Result (ℕ × ℕ) Error). r >>= member_under b index) at.header in
     (ms, (stored, (o, (here ∙ found, there))))
@@ -429,29 +370,24 @@ members_part : (b : List ℕ) (ps : Pairs) (k : ℕ) → Payload (object ps) b
     → IsPartPlace b (object ps) k (part_in b k)
 members_part b ps k h =
     let (ms, stored) = HasMembers-Payload b ps h in
-    (ms, (stored, part_by b (all_entries ms) (hold_members b ps ms stored) k _ refl))
-
-no_part : (b : List ℕ) (t : Tree) (k : ℕ) → Scalar t b → part_in b k ≡ Ok None
-no_part b t k h = part_past b _ (header_at-Scalar b t h) k (omega arith)
+    (ms, (stored, part_by b (all_entries ms) (hold_members b ps ms stored) k
+    (slice_get_cases (all_entries ms) k).1))
 
 pub part_in_stored : (b : List ℕ) (t : Tree) (k : ℕ) → Doc b t → IsPartPlace b t k (part_in b k)
-part_in_stored b t k =
-    by_kind (λ (u : Tree). IsPartPlace b u k (part_in b k)) b
-    (λ ts h. items_part b ts k h)
-    (λ ps h. members_part b ps k h)
-    (no_part b null k) (λ x. no_part b (boolean x) k) (λ x. no_part b (number x) k)
-    (λ x. no_part b (text x) k) (λ x. no_part b (extension x) k) t
-
-no_member : (b : List ℕ) (t : Tree) (index : ℕ) → Scalar t b → member_places b index ≡ Ok None
-no_member b t index h =
-    ap (λ (r : Result (ℕ × ℕ) Error). r >>= member_under b index) (header_at-Scalar b t h)
+part_in_stored b t k (inr (is, h)) =
+    container_cases (λ (u : Tree). Payload u b → IsPartPlace b u k (part_in b k)) t is
+    (λ ts. items_part b ts k) (λ ps. members_part b ps k) h
+part_in_stored b (array ts) k (inl (other, h)) = absurd (other refl)
+part_in_stored b (object ps) k (inl (other, h)) = absurd (other refl)
+part_in_stored b t k (inl (other, h)) = part_past b _ (header_at-Scalar b t h) k (omega arith)
 
 pub member_places_stored : (b : List ℕ) (t : Tree) (index : ℕ) → Doc b t
     → AreMemberPlaces b t index (member_places b index)
-member_places_stored b t index =
-    by_kind (λ (u : Tree). AreMemberPlaces b u index (member_places b index)) b
+member_places_stored b t index (inr (is, h)) =
+    container_cases (λ (u : Tree). Payload u b → AreMemberPlaces b u index (member_places b index)) t
+    is
     (λ ts h. ap (λ (r : Result (ℕ × ℕ) Error). r >>= member_under b index) (header_at-array b ts h))
-    (λ ps h. member_stored b ps index h)
-    (no_member b null index) (λ x. no_member b (boolean x) index)
-    (λ x. no_member b (number x) index) (λ x. no_member b (text x) index)
-    (λ x. no_member b (extension x) index) t
+    (λ ps. member_stored b ps index) h
+member_places_stored b (object ps) index (inl (other, h)) = absurd (other refl)
+member_places_stored b t index (inl (other, h)) =
+    ap (λ (r : Result (ℕ × ℕ) Error). r >>= member_under b index) (header_at-Scalar b t h)

@@ -111,12 +111,10 @@ child_found_by : (keyed : Bool) (r q : Result PlacedEntry Error) (child : Child)
 child_found_by true (Ok key) (Ok value) child is =
     let same : record { key = Some key; value = value } ≡ child = cc in
     ((key, (refl, sym (ap (λ (c : Child). c.key) same))), ap (λ (c : Child). Ok c.value) same)
-child_found_by true (Ok key) (Err e) child is = absurd cc
-child_found_by true (Err e) q child is = absurd cc
 child_found_by false r (Ok value) child is =
     let same : record { key = None; value = value } ≡ child = cc in
     (sym (ap (λ (c : Child). c.key) same), ap (λ (c : Child). Ok c.value) same)
-child_found_by false r (Err e) child is = absurd cc
+child_found_by keyed r q child is = absurd cc
 
 -- No child is found where a part of it cannot be.
 no_value : (keyed : Bool) (key value : Result (Option PlacedEntry) Error) (e : Error)
@@ -221,81 +219,62 @@ module _ (bytes : List ℕ) (i : ℕ) (header : ℕ × ℕ) (is : header_at byte
         (ap (payload_start bytes layout) number
         ∙ next_start bytes v child.value (first + i) _ value_is value)
 
--- Where a cursor comes from.
-record Starts (bytes : List ℕ) (i : ℕ) (cursor : KohibladCursor) : Type 0 where
-  header : ℕ × ℕ
-  is : header_at bytes 0 ≡ Ok header
-  layout : Layout
-  laid : layout_under header ≡ Some layout
-  key : ℕ
-  value : ℕ
-  key_is : key_start bytes layout i ≡ Ok key
-  value_is : payload_start bytes layout (first_value layout + i) ≡ Ok value
-  same : record { index = i; key = key; value = value } ≡ cursor
+-- What the cursor before a child answers, and where it comes.
+record Walks (bytes : List ℕ) (i : ℕ) (cursor : KohibladCursor) (o : Option Layout) : Type 0 where
+  same : child_among bytes cursor o ≡ numbered_among bytes i o
+  next : (child : Child) → child_among bytes cursor o ≡ Ok (Some child)
+      → cursor_among bytes (suc i) o ≡ Ok (Some (cursor_after (Ok (Some child)) cursor))
 
 module _ (bytes : List ℕ) (i : ℕ) (cursor : KohibladCursor) where
-  starts_at : (header : ℕ × ℕ) → header_at bytes 0 ≡ Ok header → (layout : Layout)
+  walks_from : (header : ℕ × ℕ) → header_at bytes 0 ≡ Ok header → (layout : Layout)
       → layout_under header ≡ Some layout → (k v : Result ℕ Error)
       → key_start bytes layout i ≡ k → payload_start bytes layout (first_value layout + i) ≡ v
       → k >>= (λ (key : ℕ). v
       >>= (λ (value : ℕ). Ok (Some record { index = i; key = key; value = value })))
       ≡ Ok (Some cursor)
-      → Starts bytes i cursor
-  starts_at header is layout laid (Ok k) (Ok v) key value at = record {
-    header = header;
-    is = is;
-    layout = layout;
-    laid = laid;
-    key = k;
-    value = v;
-    key_is = key;
-    value_is = value;
-    same = cc;
-  }
-  starts_at header is layout laid (Ok k) (Err e) key value at = absurd cc
-  starts_at header is layout laid (Err e) v key value at = absurd cc
+      → Walks bytes i cursor (Some layout)
+  walks_from header is layout laid (Ok k) (Ok v) key value at =
+      let same : record { index = i; key = k; value = v } ≡ cursor = cc in
+      subst (λ (c : KohibladCursor). Walks bytes i c (Some layout)) same (record {
+        same = same_if bytes i header is layout laid k v key value _ refl;
+        next = λ child. next_if bytes i header is layout laid k v key value child _;
+      })
+  walks_from header is layout laid k v key value at = absurd cc
 
-  starts_among : (header : ℕ × ℕ) → header_at bytes 0 ≡ Ok header → (o : Option Layout)
+  walks_at : (header : ℕ × ℕ) → header_at bytes 0 ≡ Ok header → (o : Option Layout)
       → layout_under header ≡ o → cursor_among bytes i o ≡ Ok (Some cursor)
-      → Starts bytes i cursor
-  starts_among header is None laid at = absurd cc
-  starts_among header is (Some layout) laid at = starts_at header is layout laid _ _ refl refl at
+      → Walks bytes i cursor o
+  walks_at header is None laid at = absurd cc
+  walks_at header is (Some layout) laid at = walks_from header is layout laid _ _ refl refl at
 
-  starts_by : (r : Result (ℕ × ℕ) Error) → header_at bytes 0 ≡ r
+  walks_by : (r : Result (ℕ × ℕ) Error) → header_at bytes 0 ≡ r
       → (r >>= (λ (h : ℕ × ℕ). Ok (layout_under h))) >>= cursor_among bytes i ≡ Ok (Some cursor)
-      → Starts bytes i cursor
-  starts_by (Ok header) is at = starts_among header is (layout_under header) refl at
-  starts_by (Err e) is at = absurd cc
+      → (o : Option Layout) × ((layout_in bytes ≡ Ok o) × Walks bytes i cursor o)
+  walks_by (Ok header) is at = (
+    layout_under header,
+    (
+      ap (λ (r : Result (ℕ × ℕ) Error). r >>= (λ (h : ℕ × ℕ). Ok (layout_under h))) is,
+      walks_at header is (layout_under header) refl at,
+    ),
+  )
+  walks_by (Err e) is at = absurd cc
 
-layout_is : (bytes : List ℕ) (header : ℕ × ℕ) (layout : Layout) → header_at bytes 0 ≡ Ok header
-    → layout_under header ≡ Some layout → layout_in bytes ≡ Ok (Some layout)
-layout_is bytes header layout is laid =
-    ap (λ (r : Result (ℕ × ℕ) Error). r >>= (λ (h : ℕ × ℕ). Ok (layout_under h))) is
-    ∙ ap (λ (o : Option Layout). Ok o) laid
+  pub same_child : cursor_at bytes i ≡ Ok (Some cursor)
+      → child_at_cursor bytes cursor ≡ numbered_child bytes i
+  same_child at =
+      let (o, (is, walks)) = walks_by (header_at bytes 0) refl at in
+      ap (λ (r : Result (Option Layout) Error). r >>= child_among bytes cursor) is
+      ∙ walks.same
+      ∙ sym (ap (λ (r : Result (Option Layout) Error). r >>= numbered_among bytes i) is)
 
-pub same_child : (bytes : List ℕ) (i : ℕ) (cursor : KohibladCursor)
-    → cursor_at bytes i ≡ Ok (Some cursor) → child_at_cursor bytes cursor ≡ numbered_child bytes i
-same_child bytes i cursor at =
-    let s = starts_by bytes i cursor (header_at bytes 0) refl at in
-    let laid = layout_is bytes s.header s.layout s.is s.laid in
-    subst (λ (c : KohibladCursor). child_at_cursor bytes c ≡ numbered_child bytes i) s.same
-    (ap (λ (r : Result (Option Layout) Error). r >>= child_among bytes
-    (record { index = i; key = s.key; value = s.value })) laid
-    ∙ same_if bytes i s.header s.is s.layout s.laid s.key s.value s.key_is s.value_is _ refl
-    ∙ sym (ap (λ (r : Result (Option Layout) Error). r >>= numbered_among bytes i) laid))
-
-pub next_child : (bytes : List ℕ) (i : ℕ) (cursor : KohibladCursor) (child : Child)
-    → cursor_at bytes i ≡ Ok (Some cursor) → child_at_cursor bytes cursor ≡ Ok (Some child)
-    → cursor_at bytes (suc i) ≡ Ok (Some (cursor_after (Ok (Some child)) cursor))
-next_child bytes i cursor child at found =
-    let s = starts_by bytes i cursor (header_at bytes 0) refl at in
-    let laid = layout_is bytes s.header s.layout s.is s.laid in
-    ap (λ (r : Result (Option Layout) Error). r >>= cursor_among bytes (suc i)) laid
-    ∙ next_if bytes i s.header s.is s.layout s.laid s.key s.value s.key_is s.value_is child _
-    (sym (ap (λ (r : Result (Option Layout) Error). r >>= child_among bytes
-    (record { index = i; key = s.key; value = s.value })) laid)
-    ∙ ap (child_at_cursor bytes) s.same ∙ found)
-    ∙ ap (λ (c : KohibladCursor). Ok (Some (cursor_after (Ok (Some child)) c))) s.same
+  pub next_child : (child : Child) → cursor_at bytes i ≡ Ok (Some cursor)
+      → child_at_cursor bytes cursor ≡ Ok (Some child)
+      → cursor_at bytes (suc i) ≡ Ok (Some (cursor_after (Ok (Some child)) cursor))
+  next_child child at found =
+      let (o, (is, walks)) = walks_by (header_at bytes 0) refl at in
+      ap (λ (r : Result (Option Layout) Error). r >>= cursor_among bytes (suc i)) is
+      ∙ walks.next child
+      (sym (ap (λ (r : Result (Option Layout) Error). r >>= child_among bytes cursor) is) ∙ found)
 
 -- No child is found where there is no cursor before it.
 module _ (bytes : List ℕ) (i : ℕ) where
@@ -319,15 +298,7 @@ module _ (bytes : List ℕ) (i : ℕ) where
 -- a child was found where the status is 0
 no_code : (e : Error) → code e ≡ 0 → ⊥
 no_code errors.InvalidEOF is = omega arith
-no_code errors.InvalidJsonb is = omega arith
-no_code errors.InvalidJsonbHeader is = omega arith
-no_code errors.InvalidJsonbJEntry is = omega arith
-no_code errors.InvalidJsonbNumber is = omega arith
-no_code errors.InvalidJsonbExtension is = omega arith
-no_code errors.InvalidUtf8 is = omega arith
-no_code errors.ObjectDuplicateKey is = omega arith
-no_code errors.InvalidJson is = omega arith
-no_code errors.OutOfMemory is = omega arith
+no_code e is = omega arith
 
 pub child_found : (r : Result (Option Child) Error) → (value_answer r).status ≡ 0
     → (child : Child) × (r ≡ Ok (Some child))

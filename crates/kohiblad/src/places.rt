@@ -196,6 +196,7 @@ pub extern "C" fn kohiblad_get_member(
 }
 
 // The positions of an object's key and its value. `None` if there are none.
+#[tactic(auto, using(crate::proofs::PlaceLaws::member_places_stored))]
 fn member_places(bytes: &[u8], index: usize) -> Result<Option<(Entry, Entry)>, Error>
     ensures value { result ≡ member_places bytes.now index }
     ensures document { (t : Tree) → Doc bytes.now t
@@ -213,6 +214,7 @@ fn member_places(bytes: &[u8], index: usize) -> Result<Option<(Entry, Entry)>, E
 }
 
 // The position of an item of an array. `None` if there is none.
+#[tactic(auto, using(crate::proofs::PlaceLaws::place_of_item_stored))]
 fn place_of_item(bytes: &[u8], index: usize) -> Result<Option<Entry>, Error>
     ensures value { result ≡ place_of_item bytes.now index }
     ensures document { (t : Tree) → Doc bytes.now t
