@@ -88,7 +88,8 @@ pub items-Doc : (b : List ℕ) (t : Tree) → Doc b t → FindsItems b t (count_
 items-Doc b t doc = rw (count_under-Doc b t 2147483648 doc) (finds_items b t doc)
 
 -- The entries of keys and values mean the pairs of an object.
-pub means_pairs : (ms : List (List ℕ × Entry)) (ps : Pairs) → ArePairsOf (keys_of ms) (values_of ms) ps
+pub means_pairs : (ms : List (List ℕ × Entry)) (ps : Pairs)
+    → ArePairsOf (keys_of ms) (values_of ms) ps
     → AreTexts (keys_of ms)
     → AreMembers (map Ok (key_codes (keys_of ms)), map Ok (values_of ms))
     × (rest_pairs (map Ok (key_codes (keys_of ms)), map Ok (values_of ms)) ≡ pair_list ps)

@@ -403,7 +403,8 @@ module _ (answers : List ℕ → Bool → Type 0) (accepts : List ℕ → Bool) 
         let known = count_under-Doc b (object ps) 1073741824 doc in
         let same : n ≡ pair_count ps = cc in
         let at = numbered b ps (object_payload b ps doc) in
-        let f = value_at answers size b ps at h.pair entry (rw same at h.key) (rw same at h.there) in (
+        let f =
+        value_at answers size b ps at h.pair entry (rw same at h.key) (rw same at h.there) in (
           f.value,
           (
             find_pair-first ps h.pair f.value f.first,

@@ -263,8 +263,8 @@ impl OwnedJsonb {
     }
 
     /// The array of these checked documents, like `build_array` of their bytes, but none is checked
-    /// again. The iterator must end. `InvalidJsonb` if a payload exceeds 268,435,455 bytes, or there
-    /// are more than 536,870,911 documents; `OutOfMemory` if an allocation fails.
+    /// again. The iterator must end. `InvalidJsonb` if a payload exceeds 268,435,455 bytes, or
+    /// there are more than 536,870,911 documents; `OutOfMemory` if an allocation fails.
     pub fn build_array_of_documents<'a, I: IntoIterator<Item = Document<'a>>>(
         alloc: Global,
         inputs: I,
@@ -289,8 +289,8 @@ impl OwnedJsonb {
 
     /// The object of these checked documents at their keys, like `build_object` of their bytes, but
     /// none is checked again. The iterator must end. `ObjectDuplicateKey` at the first key that
-    /// occurred before; otherwise `InvalidJsonb` if a key or a payload exceeds 268,435,455 bytes, or
-    /// there are more than 536,870,911 documents; `OutOfMemory` if an allocation fails.
+    /// occurred before; otherwise `InvalidJsonb` if a key or a payload exceeds 268,435,455 bytes,
+    /// or there are more than 536,870,911 documents; `OutOfMemory` if an allocation fails.
     pub fn build_object_of_documents<'a, I: IntoIterator<Item = (&'a str, Document<'a>)>>(
         alloc: Global,
         inputs: I,

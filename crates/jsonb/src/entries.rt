@@ -44,8 +44,8 @@ impl Entry {
         ensures inside { IfOk result (IsEntryIn bytes.now) }
     {
         let length = jentry.length as usize;
-        // The last valid start does not depend on `start`, so a look-up among keys of one size finds
-        // it once.
+        // The last valid start does not depend on `start`, so a look-up among keys of one size
+        // finds it once.
         if bytes.len() < length || bytes.len() - length < start {
             return Err(Error::InvalidJsonb);
         }

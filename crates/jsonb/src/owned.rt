@@ -171,8 +171,8 @@ impl OwnedJsonb {
     }
 
     /// The canonical document of a JSON text that nests at most `depth` deep, as
-    /// `parse_with_exponents` reads it. `TooDeep` comes as from `parse_within`; every other text has
-    /// the result of `parse_with_exponents`.
+    /// `parse_with_exponents` reads it. `TooDeep` comes as from `parse_within`; every other text
+    /// has the result of `parse_with_exponents`.
     pub fn parse_with_exponents_within(
         alloc: Global,
         text: &str,

@@ -114,8 +114,8 @@ impl<'a> RawJsonb<'a> {
     }
 
     /// The bytes as a checked document that nests at most `depth` deep, like `Document::within`.
-    /// `None` if they are not. The calls of a view that read, compare or print a document take stack
-    /// for its depth: for untrusted bytes call those of this document.
+    /// `None` if they are not. The calls of a view that read, compare or print a document take
+    /// stack for its depth: for untrusted bytes call those of this document.
     pub fn as_document_within(&self, depth: usize) -> Option<Document<'a>>
         ensures exact { IsSome result ↔ IsDocumentWithin depth (raw_bytes self.now) }
         ensures bytes { IfSome result (λ d. document_bytes d ≡ raw_bytes self.now) }
@@ -127,8 +127,8 @@ impl<'a> RawJsonb<'a> {
 
     /// The kind, read from the header or, for a scalar, from its entry; an array or object with its
     /// count. Nothing else is checked. `InvalidEOF` if one of these words is cut off,
-    /// `InvalidJsonb` for a header or an entry of an unknown kind, and for a container's entry under
-    /// a scalar's header.
+    /// `InvalidJsonb` for a header or an entry of an unknown kind, and for a container's entry
+    /// under a scalar's header.
     pub fn jsonb_item_type(&self) -> Result<JsonbItemType, Error>
         ensures kind { result ≡ kind (raw_bytes self.now) }
 
@@ -187,8 +187,8 @@ impl<'a> RawJsonb<'a> {
 
     /// The value of a key, like `get_object_value_by_key_name` with its errors, and where its
     /// payload is in the bytes: the type of its entry, and the payload's offset and length. No word
-    /// is read twice: `reads` is raised as by `get_object_value_by_key_name_counted`, and must be at
-    /// most `MAX_READS` before the call.
+    /// is read twice: `reads` is raised as by `get_object_value_by_key_name_counted`, and must be
+    /// at most `MAX_READS` before the call.
     pub fn find_object_value_counted<F: Fn(&[u8], &[u8]) -> bool + Drop>(
         &self,
         name: &str,

@@ -26,9 +26,9 @@ use jsonb_value::{Error, ExtensionValue, Number};
 use std::cmp::Ordering;
 
 /// Whether the bytes are a document. By `document_laws` a document means exactly one tree, whose
-/// size and depth are bounded by the number of bytes; no proper prefix and no proper extension of it
-/// is a document; and without a zero byte it has more than 4,294,967,296 bytes, so no text of usual
-/// length is a document.
+/// size and depth are bounded by the number of bytes; no proper prefix and no proper extension of
+/// it is a document; and without a zero byte it has more than 4,294,967,296 bytes, so no text of
+/// usual length is a document.
 #[inline(always)]
 pub fn is_document(bytes: &[u8]) -> bool
     ensures exact { IsTrue result ↔ IsDocument bytes.now }

@@ -185,7 +185,8 @@ module _ (Whole : List (List ℕ) → Type 0) (read : List ℕ → Option (List 
 
   -- All names were read.
   pub all_read : read end ≡ None → (left : List ℕ) (names : List (List ℕ)) → left ≡ end
-      → IsRead Whole read end left names → (all : List (List ℕ)) → Whole all ↔ (Some names ≡ Some all)
+      → IsRead Whole read end left names → (all : List (List ℕ))
+      → Whole all ↔ (Some names ≡ Some all)
   all_read ends left names at h all = (
     λ whole.
         let was = h.only all whole in

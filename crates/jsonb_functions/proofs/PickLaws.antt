@@ -40,7 +40,8 @@ search_finds names k (Ok i) sorted range found =
     sym (list_any_at (λ name. bytes_eq name.now k.now) names i k range
     (texts_ties (get_or names i k).now k.now ∙ ap is_eq (found k)))
 search_finds names k (Err i) sorted range found =
-    let (less, more) = found (searchable_from_sorted nat_list_cmp_total (λ (y : Bor (List ℕ)). y.now)
+    let (less, more) =
+    found (searchable_from_sorted nat_list_cmp_total (λ (y : Bor (List ℕ)). y.now)
     names k.now sorted) in
     sym (list_any_none (λ name. bytes_eq name.now k.now) names
     (λ j d low. texts_ties (get_or names j d).now k.now

@@ -197,7 +197,8 @@ pub first_by : (c : ℕ) (bytes name rest : List ℕ) (b : Bool) → (c == 47) �
     → pointer_name (c ∷ bytes) ≡ Some (name, rest) → c ∷ bytes ≡ 47 ∷ (escaped name ++ rest)
 first_by c bytes name rest true e is =
     let later : unescaped false bytes ≡ Some (name, rest) = rw e at is in
-    ap (λ x. x ∷ bytes) (eqb-true c 47 e) ∙ ap (λ x. 47 ∷ x) (name_spelled bytes false name rest later)
+    ap (λ x. x ∷ bytes) (eqb-true c 47 e)
+    ∙ ap (λ x. 47 ∷ x) (name_spelled bytes false name rest later)
 first_by c bytes name rest false e is =
     let none : ◌≡◌ {A = Option (List ℕ × List ℕ)} None (Some (name, rest)) = rw e at is in
     absurd (none_some name rest none)

@@ -87,8 +87,8 @@ fn matched_document(
 ) -> Result<OwnedJsonb, Error>
     ensures ok { IfOk result (λ owned. owned_bytes owned ≡ canon
         (matched_array matched (document_tree left.entry) (document_tree right.entry))) }
-    ensures limits { MadeWithMemory
-        (Fits (matched_array matched (document_tree left.entry) (document_tree right.entry))) result }
+    ensures limits { MadeWithMemory (Fits
+        (matched_array matched (document_tree left.entry) (document_tree right.entry))) result }
 {
     let items = items_of(alloc, left)?;
     let others = items_of(alloc, right)?;

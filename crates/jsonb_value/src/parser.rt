@@ -49,8 +49,8 @@ pub fn parse<'a>(alloc: Global, text: &'a str, exponents: Exponents) -> Result<V
     Ok(trees.into_value())
 }
 
-/// Parses a whole text. Strings without escapes are borrowed from the text. No text means two values
-/// (`json_laws`).
+/// Parses a whole text. Strings without escapes are borrowed from the text. No text means two
+/// values (`json_laws`).
 ///
 /// The grammar is JSON without exponents. The kind of a number follows from its value and its
 /// number of fraction digits: an integer is `UInt64` (`-0` too), `Int64`, or `Decimal128` of scale

@@ -27,7 +27,8 @@ cut_joined (k ∷ key) bytes [] =
     let none : min (suc (length key)) 0 ≡ 0 = omega arith in
     ap (λ (k : ℕ). copied_at k bytes []) none ∙ drop-nil (length bytes)
 cut_joined (k ∷ key) bytes (b ∷ before) =
-    let less : min (suc (length key)) (suc (length before)) ≡ suc (min (length key) (length before)) =
+    let less : min (suc (length key)) (suc (length before))
+    ≡ suc (min (length key) (length before)) =
     omega arith in
     ap (λ (n : ℕ). copied_at n bytes (k ∷ cut_into key before)) less
     ∙ ap (λ (xs : List ℕ). k ∷ xs) (cut_joined key bytes before)

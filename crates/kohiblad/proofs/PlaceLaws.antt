@@ -369,9 +369,14 @@ member_stored b ps index h =
 members_part : (b : List ℕ) (ps : Pairs) (k : ℕ) → Payload (object ps) b
     → IsPartPlace b (object ps) k (part_in b k)
 members_part b ps k h =
-    let (ms, stored) = HasMembers-Payload b ps h in
-    (ms, (stored, part_by b (all_entries ms) (hold_members b ps ms stored) k
-    (slice_get_cases (all_entries ms) k).1))
+    let (ms, stored) = HasMembers-Payload b ps h in (
+      ms,
+      (
+        stored,
+        part_by b (all_entries ms) (hold_members b ps ms stored) k
+            (slice_get_cases (all_entries ms) k).1,
+      ),
+    )
 
 pub part_in_stored : (b : List ℕ) (t : Tree) (k : ℕ) → Doc b t → IsPartPlace b t k (part_in b k)
 part_in_stored b t k (inr (is, h)) =
@@ -384,8 +389,8 @@ part_in_stored b t k (inl (other, h)) = part_past b _ (header_at-Scalar b t h) k
 pub member_places_stored : (b : List ℕ) (t : Tree) (index : ℕ) → Doc b t
     → AreMemberPlaces b t index (member_places b index)
 member_places_stored b t index (inr (is, h)) =
-    container_cases (λ (u : Tree). Payload u b → AreMemberPlaces b u index (member_places b index)) t
-    is
+    container_cases
+    (λ (u : Tree). Payload u b → AreMemberPlaces b u index (member_places b index)) t is
     (λ ts h. ap (λ (r : Result (ℕ × ℕ) Error). r >>= member_under b index) (header_at-array b ts h))
     (λ ps. member_stored b ps index) h
 member_places_stored b (object ps) index (inl (other, h)) = absurd (other refl)

@@ -17,15 +17,16 @@ use std::str;
 
 /// Copies the document of the path that a text gives in a document to `out`, and its length in
 /// bytes to `length`. The text is a path as `kohiblad_path_of_text` reads it, or names: a JSON
-/// pointer (RFC 6901) such as `/a/0`, or a list such as PostgreSQL's `{a,0,"b c"}`. A name is a key,
-/// but in an array of the document `0`, and other digits that do not begin with `0`, are an index,
-/// `-1` is the last item, and `-` is past it. `kohiblad_edit` and `kohiblad_get_path` take the
-/// result. `InvalidUtf8` if the text is not UTF-8; `InvalidJsonb` if the bytes are not a document of
-/// at most this depth, or as for `kohiblad_path_of_text`; `OTHER_KIND` if the text is none of these,
-/// or a path with wildcards or ranges; `OutOfMemory` if an allocation fails; `NO_ROOM` if `out` is
-/// shorter than the path's document. If the status is not `OK`, `out` is unchanged, and `length` is
-/// 0, or for `NO_ROOM` the length of the document. A scalar has depth 0, an array or object one more
-/// than its deepest child, and at least 1. Deeper levels are not examined.
+/// pointer (RFC 6901) such as `/a/0`, or a list such as PostgreSQL's `{a,0,"b c"}`. A name is a
+/// key, but in an array of the document `0`, and other digits that do not begin with `0`, are an
+/// index, `-1` is the last item, and `-` is past it. `kohiblad_edit` and `kohiblad_get_path` take
+/// the result. `InvalidUtf8` if the text is not UTF-8; `InvalidJsonb` if the bytes are not a
+/// document of at most this depth, or as for `kohiblad_path_of_text`; `OTHER_KIND` if the text is
+/// none of these, or a path with wildcards or ranges; `OutOfMemory` if an allocation fails;
+/// `NO_ROOM` if `out` is shorter than the path's document. If the status is not `OK`, `out` is
+/// unchanged, and `length` is 0, or for `NO_ROOM` the length of the document. A scalar has depth 0,
+/// an array or object one more than its deepest child, and at least 1. Deeper levels are not
+/// examined.
 #[unsafe(no_mangle)]
 pub extern "C" fn kohiblad_path_in(
     alloc: Global,
@@ -68,7 +69,8 @@ fn write_path_in(
     out: &mut [u8],
     length: &mut usize,
 ) -> u32
-    ensures { IsPathInTree (document_tree document.entry) text.now out.old out.new length.new result }
+    ensures { IsPathInTree (document_tree document.entry) text.now
+        out.old out.new length.new result }
 {
     match names_of_text(alloc, text) {
         Ok(Some(names)) => write_named_path(alloc, document, &names, out, length),
@@ -98,7 +100,8 @@ fn write_named_path(
     out: &mut [u8],
     length: &mut usize,
 ) -> u32
-    ensures { IsPathMade (steps_by (map string_bytes names.now) (Some (document_tree document.entry)))
+    ensures { IsPathMade
+        (steps_by (map string_bytes names.now) (Some (document_tree document.entry)))
         out.old out.new length.new result }
 {
     match steps_of_names(alloc, document, names) {

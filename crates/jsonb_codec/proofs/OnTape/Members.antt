@@ -16,7 +16,8 @@ use Rattle.std.specs.BTreeMap.{insert_entry}
 use Rattle.jsonb_value.specs.Json.Syntax.{Entries, insert_all, pairs}
 use Rattle.jsonb_value.specs.Tree.{Tree, Ascend}
 use Rattle.jsonb_value.specs.Value.{cow_bytes}
-use Rattle.jsonb_codec.specs.Tape.{IsMade, LastBelow, MemberIs, MembersAre, ObjectIs, ObjectAt, member_of}
+use Rattle.jsonb_codec.specs.Tape.{IsMade, LastBelow, MemberIs, MembersAre, ObjectIs, ObjectAt}
+use Rattle.jsonb_codec.specs.Tape.{member_of}
 use Rattle.jsonb_codec.specs.declared.tape.storage.Storage.{Storage}
 use Rattle.jsonb_codec.specs.declared.tape.entry.Entry.{Entry}
 use Rattle.jsonb_codec.specs.declared.tape.open.OpenObject.{OpenObject}

@@ -6,11 +6,8 @@ use Rattle.jsonb_codec.proofs.Words.{length-word-append}
 use Rattle.jsonb_codec.proofs.Steps.{reading}
 use Rattle.jsonb_codec.proofs.TextDocuments.{text_room, text_header, text_entry}
 use Rattle.jsonb_codec.proofs.document.document_text.Goals as goal
-use Rattle.jsonb_codec.proofs.document.document_text.Goals.{}
 use Rattle.jsonb_codec.proofs.document.document_text.Goals.{then-header-ne-SCALAR_CONTAINER_TAG-via-then-header-ne-SCALAR_CONTAINER_TAG}
-use Rattle.jsonb_codec.proofs.document.document_text.Goals.{}
 use Rattle.jsonb_codec.proofs.document.document_text.Goals.{then-header-ne-SCALAR_CONTAINER_TAG-via-else-header-ne-SCALAR_CONTAINER_TAG+then-entry-ne-STRING_TAG}
-use Rattle.jsonb_codec.proofs.document.document_text.Goals.{}
 use Rattle.jsonb_codec.proofs.document.document_text.Goals.{then-header-ne-SCALAR_CONTAINER_TAG-via-else-header-ne-SCALAR_CONTAINER_TAG+else-entry-ne-STRING_TAG+then-entry}
 
 pub returns-in_err-header-clause-none : goal.returns-in_err-header-clause-none
@@ -40,8 +37,10 @@ returns-then-header-ne-SCALAR_CONTAINER_TAG-clause-none c = λ s d.
     elim c.then-header-ne-SCALAR_CONTAINER_TAG.branch [
       | then-header-ne-SCALAR_CONTAINER_TAG-via-then-header-ne-SCALAR_CONTAINER_TAG
           w ↦ w.if-header-ne-SCALAR_CONTAINER_TAG.true (sym header.0)
-      | then-header-ne-SCALAR_CONTAINER_TAG-via-else-header-ne-SCALAR_CONTAINER_TAG+then-entry-ne-STRING_TAG w ↦ w.if-entry-ne-STRING_TAG.true (sym entry.0)
-      | then-header-ne-SCALAR_CONTAINER_TAG-via-else-header-ne-SCALAR_CONTAINER_TAG+else-entry-ne-STRING_TAG+then-entry w ↦ w.if-entry.true entry.1.0
+      | then-header-ne-SCALAR_CONTAINER_TAG-via-else-header-ne-SCALAR_CONTAINER_TAG+then-entry-ne-STRING_TAG
+          w ↦ w.if-entry-ne-STRING_TAG.true (sym entry.0)
+      | then-header-ne-SCALAR_CONTAINER_TAG-via-else-header-ne-SCALAR_CONTAINER_TAG+else-entry-ne-STRING_TAG+then-entry
+          w ↦ w.if-entry.true entry.1.0
     ]
 
 pub returns-in-Err-clause-none : goal.returns-in-Err-clause-none

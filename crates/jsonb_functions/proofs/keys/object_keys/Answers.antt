@@ -7,7 +7,8 @@ use Rattle.jsonb_functions.proofs.keys.object_keys.Goals as goal
 pub returns-then-part-ne-CONTAINER_TAG-clause-ok : goal.returns-then-part-ne-CONTAINER_TAG-clause-ok
 returns-then-part-ne-CONTAINER_TAG-clause-ok c =
     let t = document_tree c.args.document in
-    rw (keys_of_other t (λ e. c.if-part-ne-CONTAINER_TAG.true (sym c.part-part.ensures.means.0 ∙ e))) refl
+    rw (keys_of_other t (λ e. c.if-part-ne-CONTAINER_TAG.true
+    (sym c.part-part.ensures.means.0 ∙ e))) refl
 
 pub returns-in-Array-clause-ok : goal.returns-in-Array-clause-ok
 returns-in-Array-clause-ok c =

@@ -9,6 +9,7 @@ abbrev pub invariant-loop-name : goal.invariant-loop-name
 invariant-loop-name l = record {
   same_buffer : l.writer.out.ghost_name ≡ l.initial.writer.out.ghost_name;
   written : HasWritten
-      (keys_of_members (map (λ name. name.now) (take l.name-index l.names)) (document_tree l.fn.document))
+      (keys_of_members (map (λ name. name.now) (take l.name-index l.names))
+      (document_tree l.fn.document))
       l.fn.out l.writer;
 }

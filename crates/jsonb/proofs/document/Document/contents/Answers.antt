@@ -51,7 +51,8 @@ new-requires-in-1073741824 c =
     ∙ c.read_header.ensures in
     rw c.over_keys-keys.ensures
     (rw (sym c.over_values.ensures ∙ c.in-Ok-over_values.is) at
-    (object_opened _ (document_tree c.args.self.now) _ c.as_bytes-bytes.ensures.document read)).members
+    (object_opened _ (document_tree c.args.self.now) _
+    c.as_bytes-bytes.ensures.document read)).members
 
 pub returns-in-Ok-over_values-clause-tree : goal.returns-in-Ok-over_values-clause-tree
 returns-in-Ok-over_values-clause-tree c =

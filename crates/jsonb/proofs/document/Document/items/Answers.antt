@@ -25,5 +25,6 @@ returns-in-Ok-Some c =
     (items-Doc _ (document_tree c.args.self.now) c.as_bytes-bytes.ensures.document)).1
 
 pub returns-in-Ok-None : goal.returns-in-Ok-None
-returns-in-Ok-None c = rw (← c.count_under.ensures.value, c.in-Ok-None.is, c.in-Ok-None.field-0-is) at
+returns-in-Ok-None c =
+    rw (← c.count_under.ensures.value, c.in-Ok-None.is, c.in-Ok-None.field-0-is) at
     (items-Doc _ (document_tree c.args.self.now) c.as_bytes-bytes.ensures.document)

@@ -22,7 +22,8 @@ pub returns-clause-steps : goal.returns-clause-steps
 returns-clause-steps c =
     let i = c.self.inside in
     let entry = c.in-Ok.entry in
-    let rest = entries_of (run_from i.bytes.now (i.left - 1) (i.word + 4) (i.start + entry.length)) in
+    let rest =
+    entries_of (run_from i.bytes.now (i.left - 1) (i.word + 4) (i.start + entry.length)) in
     sym (ap entries_of c.self.view_is)
     ∙ entries_of-first i.bytes.now i.word i.start i.left (i.left - 1) entry (omega arith)
     (sym c.in-Ok.ensures.value)

@@ -7,7 +7,8 @@ use Rattle.jsonb.proofs.owned.OwnedJsonb.parse_under_within.Goals as goal
 pub returns-in_err-parse_under-clause-value : goal.returns-in_err-parse_under-clause-value
 returns-in_err-parse_under-clause-value c =
     refused_within c.args.exponents c.args.depth c.args.text.now c.from_residual.result
-    c.in_err-parse_under.field-0.0 c.from_residual.ensures.1 (search rules) c.in_err-parse_under.ensures.value
+    c.in_err-parse_under.field-0.0 c.from_residual.ensures.1 (search rules)
+    c.in_err-parse_under.ensures.value
 
 pub returns-clause-value : goal.returns-clause-value
 returns-clause-value c = (search rules, c.in_ok-parse_under.ensures.value)

@@ -13,6 +13,7 @@ returns-clause-ok c = λ content cs is h.
     in
     let all = one_more_open mid.storage c.args.container content
     (mid.innermost ∷ reverse mid.outer.items) cs inner rest in
-    let reversed = pushed mid.outer.items c.push.new.self.items c.replace.result c.in_ok-push.ensures.items
+    let reversed =
+    pushed mid.outer.items c.push.new.self.items c.replace.result c.in_ok-push.ensures.items
     in
     search rules

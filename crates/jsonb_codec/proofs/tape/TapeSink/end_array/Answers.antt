@@ -21,8 +21,8 @@ returns-clause-ok c =
     let ended = c.end.ensures.ended (items front) cs h in
     let is = subst (λ s. ArrayIs s c.in-Array.array front) (sym c.end.ensures.storage)
     (subst (λ d. ContainerIs old.storage d (items front)) c.in-Array.is ended.0) in
-    let made = subst (λ s. IsMade s entry (array (trees_of front))) (sym c.keep_array.ensures.storage)
-    (c.in_ok-entry.ensures.ok front is) in
+    let made = subst (λ s. IsMade s entry (array (trees_of front)))
+    (sym c.keep_array.ensures.storage) (c.in_ok-entry.ensures.ok front is) in
     let grows = subst (Grows outer.storage) (sym c.keep_array.ensures.storage)
     c.in_ok-entry.ensures.grows in
     added_after outer mid new (array (trees_of front)) grows c.keep_array.ensures.innermost

@@ -24,8 +24,8 @@ returns-clause-ok c =
     let sorted = c.in_ok-members.ensures.ok outer.storage front is in
     let given : MembersAre outer.storage c.deref.result.now front =
     subst (λ ms. MembersAre outer.storage ms front) (sym c.deref.ensures.value) sorted.0 in
-    let made = subst (λ s. IsMade s entry (object (pairs front))) (sym c.keep_members.ensures.storage)
-    (c.in_ok-entry.ensures.ok front given sorted.1) in
+    let made = subst (λ s. IsMade s entry (object (pairs front)))
+    (sym c.keep_members.ensures.storage) (c.in_ok-entry.ensures.ok front given sorted.1) in
     let grows = subst (Grows outer.storage) (sym c.keep_members.ensures.storage)
     c.in_ok-entry.ensures.grows in
     added_after outer mid new (object (pairs front)) grows c.keep_members.ensures.innermost

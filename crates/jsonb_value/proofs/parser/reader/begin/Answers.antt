@@ -88,7 +88,8 @@ returns-in_ok-string-in-String-clause-ok g c = λ target h.
     string_reads n _ _ _ (c.in_ok-content-in-String.ensures n k)))
     c.in_ok-string-in-String.ensures.ok
 
-pub returns-in_ok-string-in-String-clause-shorter : goal.returns-in_ok-string-in-String-clause-shorter
+pub returns-in_ok-string-in-String-clause-shorter :
+    goal.returns-in_ok-string-in-String-clause-shorter
 returns-in_ok-string-in-String-clause-shorter g c =
     past_scalar c.args.exponents _ _ _
     (reads_kind c.args.exponents _ _ _ string_kind _ _ c.in-Some.ensures c.in-String.ensures (λ n k.
@@ -108,7 +109,8 @@ returns-in_ok-number-in-Number-clause-ok g c = λ target h.
     number_reads c.args.exponents _ _ _ _ _ c.in-Some.ensures (sym c.in-Some-read_number.ensures)))
     c.in_ok-number-in-Number.ensures.ok
 
-pub returns-in_ok-number-in-Number-clause-shorter : goal.returns-in_ok-number-in-Number-clause-shorter
+pub returns-in_ok-number-in-Number-clause-shorter :
+    goal.returns-in_ok-number-in-Number-clause-shorter
 returns-in_ok-number-in-Number-clause-shorter g c =
     past_scalar c.args.exponents _ _ _
     (reads_kind c.args.exponents _ _ _ number_kind _ _ c.in-Some.ensures c.in-Number.ensures (λ _ _.

@@ -10,7 +10,8 @@ use Rattle.jsonb_codec.specs.Word.{word}
 use Rattle.jsonb_codec.proofs.Words.{length-word}
 use Rattle.jsonb_codec.proofs.OnTape.Closing.{bytes_grow, grows_further, head_begins, head_goes_on}
 use Rattle.jsonb_codec.proofs.OnTape.Closing.{long_key, nothing_grows, object_closed, object_head}
-use Rattle.jsonb_codec.proofs.OnTape.Closing.{next_item, same_grows, object_unfit, stored_grows, too_many}
+use Rattle.jsonb_codec.proofs.OnTape.Closing.{next_item, same_grows, object_unfit, stored_grows}
+use Rattle.jsonb_codec.proofs.OnTape.Closing.{too_many}
 use Rattle.jsonb_codec.proofs.OnTape.Growth.{made_grows}
 use Rattle.jsonb_codec.proofs.tape.storage.Storage.close_object.Goals as goal
 
@@ -67,7 +68,8 @@ loop-member-preserved c =
             c.loop-member.keys c.push_member.new.keys c.loop-member.values c.push_member.new.values
             (drop index c.args.members.now) (drop (index + 1) c.args.members.now) member front
             (c.loop-member.invariant.1.1 front h)
-            (next_item c.args.members.now index member c.loop-member-test.true c.member-item.is) pushed,
+            (next_item c.args.members.now index member c.loop-member-test.true c.member-item.is)
+            pushed,
       ),
     )
 
@@ -141,7 +143,8 @@ returns-clause-ok c = λ front h ascend.
     c.in_ok-entry.entry (drop c.len-start.result mid.bytes.items) done none
     c.if-not-values.false h (search rules) (search rules) ascend
     (grows_further old now mid c.loop-member.invariant.0
-    (stored_grows now mid c.extend_from_slice.new.self.items values.words.items keys more last refl))
+    (stored_grows now mid c.extend_from_slice.new.self.items values.words.items keys more last
+    refl))
     (object_head old now n keys c.extend_from_slice.new.self.items mid.bytes.items values left front
     c.len-start.result done none (search rules) more last)
     (c.in_ok-entry.ensures.tag, c.in_ok-entry.ensures.ok))
