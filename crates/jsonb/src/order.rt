@@ -24,7 +24,7 @@ use documents::cmp_nodes;
 use jsonb_codec::document_text;
 use std::cmp::Ordering;
 
-// Bytes that are no longer are compared by their meaning at once: to check them takes few steps.
+// Bytes of at most this length are compared by their meaning at once: checking takes few steps.
 const SHORT: usize = 128;
 
 /// The meaning of bytes and of items: a document means its tree, other bytes mean themselves, and
@@ -36,9 +36,9 @@ pub fn meaning_laws()
 {}
 
 /// The order of byte strings by meaning is total. Two documents compare as their trees, so
-/// documents and items that mean one tree are `Equal` whatever their bytes. Where `rank_cmp` orders
-/// the kinds of two documents, it orders the documents. A tree and its normal form, in which signed
-/// zeros are made unsigned, compare alike.
+/// documents and items that mean one tree are `Equal` whatever their bytes. If `rank_cmp` orders
+/// the kinds of two documents, the documents have that order. A tree and its normal form, in which
+/// signed zeros are made unsigned, compare alike.
 pub fn byte_order_laws()
     ensures total { IsTotalOrder (on meaning_of meaning_cmp) }
     ensures trees { (l r : List ℕ) (t u : Tree) → Doc l t → Doc r u

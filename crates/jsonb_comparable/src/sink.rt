@@ -4,7 +4,7 @@ ghost use Rattle.std.specs.Prelude.{ℕ, List, ⊤};
 ghost use Rattle.jsonb_comparable.specs.Words.{HasRoom, AppendsBytes, SinkLaws, Counts, vec_laws};
 ghost use Rattle.jsonb_comparable.specs.Words.{length_laws};
 
-/// Takes the bytes of a key, of which the length is known before.
+/// Takes the bytes of a key, whose length is known before.
 pub trait Sink {
     ghost room: { Self → List ℕ → Type 0 };
 

@@ -8,7 +8,7 @@ use crate::answer::{OK, code};
 use jsonb::{JsonbItemType, RawJsonb, SortKey, document_text, is_document_within};
 use std::cmp::Ordering;
 
-// Bytes that are no longer are compared by their meaning at once: to check them takes few steps.
+// Bytes of at most this length are compared by their meaning at once: checking takes few steps.
 const SHORT: usize = 128;
 
 /// Whether the bytes are a document of at most this depth: a scalar has depth 0, an array or object
