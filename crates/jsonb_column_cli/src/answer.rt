@@ -23,7 +23,7 @@ pub const MAX_ROW_DEPTH: usize = 4096;
 /// Why the reply to a line is an error.
 #[derive(Clone, Copy, Debug, PartialEq, Eq)]
 pub enum Refusal {
-    /// The line names no command, or its index is no number.
+    /// The line does not name a command, or its index is not a number.
     BadCommand,
     /// A text nests deeper than `MAX_DEPTH`.
     TooDeep,

@@ -97,8 +97,8 @@ fn read_step<'a>(alloc: Global, text: &'a str) -> Result<Option<(Selector<'a>, &
     }
 }
 
-// A step that is no filter, and what is after it. In a filter, a name as it is ends before a space
-// too.
+// A step that is not a filter, and what is after it. In a filter, a name as it is ends before a
+// space too.
 fn read_written<'a>(text: &'a str, in_filter: bool) -> Option<(Selector<'a>, &'a str)>
     ensures { ReadsStep (IsWritten in_filter) in_filter text.now result }
 {

@@ -28,9 +28,9 @@ const MISSING: u8 = 0;
 /// more than the length of `out`. It is `SIZE_MAX` if the key is longer. A cut key is a lower
 /// bound: it is never above its key, and where two keys cut to one length differ, the keys compare
 /// as they do. The key is that of `kohiblad_key`. No memory is requested, and the status is always
-/// `OK`. A document that nests deeper than `depth` levels counts as no document. A scalar has depth
-/// 0, an array or object one more than its deepest child, and at least 1. Deeper levels are not
-/// examined.
+/// `OK`. A document that nests deeper than `depth` levels counts as bytes that are not a document.
+/// A scalar has depth 0, an array or object one more than its deepest child, and at least 1. Deeper
+/// levels are not examined.
 #[unsafe(no_mangle)]
 pub extern "C" fn kohiblad_key_cut(
     bytes: &[u8],

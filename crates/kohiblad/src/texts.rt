@@ -11,11 +11,11 @@ use std::str;
 
 /// Copies the text of the bytes to `out`, and its length in bytes to `length`: the compact text of
 /// a document, `null` for no bytes, and for all other bytes their own text, with U+FFFD in place of
-/// invalid UTF-8. A document that nests deeper than `depth` levels counts as no document, so its
-/// text is that of its bytes. A scalar has depth 0, an array or object one more than its deepest
-/// child, and at least 1. Deeper levels are not examined. `OutOfMemory` if an allocation fails;
-/// `NO_ROOM` if `out` is shorter than the text. If the status is not `OK`, `out` is unchanged, and
-/// `length` is 0, or for `NO_ROOM` the length of the text.
+/// invalid UTF-8. A document that nests deeper than `depth` levels counts as bytes that are not a
+/// document, so its text is that of its bytes. A scalar has depth 0, an array or object one more
+/// than its deepest child, and at least 1. Deeper levels are not examined. `OutOfMemory` if an
+/// allocation fails; `NO_ROOM` if `out` is shorter than the text. If the status is not `OK`, `out`
+/// is unchanged, and `length` is 0, or for `NO_ROOM` the length of the text.
 #[unsafe(no_mangle)]
 pub extern "C" fn kohiblad_print(
     alloc: Global,
@@ -36,7 +36,7 @@ pub extern "C" fn kohiblad_print(
     }
 }
 
-// Copies out the text of bytes that count as no document: `null` for no bytes.
+// Copies out the text of bytes that are not read as a document: `null` for no bytes.
 fn write_other(alloc: Global, bytes: &[u8], out: &mut [u8], length: &mut usize) -> u32
     ensures { IsWritten (other_text bytes.now) out.old out.new length.new result }
 {
@@ -52,10 +52,10 @@ fn write_other(alloc: Global, bytes: &[u8], out: &mut [u8], length: &mut usize) 
 /// Copies the pretty text of the bytes to `out`, and its length in bytes to `length`: that of a
 /// document with each item or pair on its own line, indented by two spaces for each enclosing
 /// container, and `null` for all other bytes. A document that nests deeper than `depth` levels
-/// counts as no document, so its text is `null`. A scalar has depth 0, an array or object one more
-/// than its deepest child, and at least 1. Deeper levels are not examined. `OutOfMemory` if an
-/// allocation fails; `NO_ROOM` if `out` is shorter than the text. If the status is not `OK`, `out`
-/// is unchanged, and `length` is 0, or for `NO_ROOM` the length of the text.
+/// counts as bytes that are not a document, so its text is `null`. A scalar has depth 0, an array
+/// or object one more than its deepest child, and at least 1. Deeper levels are not examined.
+/// `OutOfMemory` if an allocation fails; `NO_ROOM` if `out` is shorter than the text. If the status
+/// is not `OK`, `out` is unchanged, and `length` is 0, or for `NO_ROOM` the length of the text.
 #[unsafe(no_mangle)]
 pub extern "C" fn kohiblad_pretty(
     alloc: Global,
