@@ -34,18 +34,8 @@ module _ (bytes : List ℕ) where
       (ap (λ (r : Result (Option Child) Error). walked_children bytes n (cursor_after r cursor))
       here
       ∙ more _ later)
-  walked_by n i cursor (Ok None) is here more =
-      let there : numbered_child bytes i ≡ Ok None = sym (same_child bytes i cursor is) ∙ here in
-      ap (λ (r : Result (Option Child) Error). first_child r
-      (walked_children bytes n (cursor_after (child_at_cursor bytes cursor) cursor))) here
-      ∙ sym (ap (λ (r : Result (Option Child) Error). first_child r
-      (children_from bytes (suc i) n)) there)
-  walked_by n i cursor (Err e) is here more =
-      let there : numbered_child bytes i ≡ Err e = sym (same_child bytes i cursor is) ∙ here in
-      ap (λ (r : Result (Option Child) Error). first_child r
-      (walked_children bytes n (cursor_after (child_at_cursor bytes cursor) cursor))) here
-      ∙ sym (ap (λ (r : Result (Option Child) Error). first_child r
-      (children_from bytes (suc i) n)) there)
+  walked_by n i cursor (Ok None) is here more = rw (← same_child bytes i cursor is, here) refl
+  walked_by n i cursor (Err e) is here more = rw (← same_child bytes i cursor is, here) refl
 
   pub walked_from : (n i : ℕ) (cursor : KohibladCursor) → cursor_at bytes i ≡ Ok (Some cursor)
       → walked_children bytes n cursor ≡ children_from bytes i n

@@ -1,9 +1,10 @@
 -- The result of a look-up, with the closure's results in another form, and the position in it.
-use Rattle.std.proofs.Common.{◌≡◌, ℕ, zero, suc, ◌+◌, ◌-◌, ◌*◌, ◌<◌, ◌≤◌, ◌==◌, nat_le, Bool}
-use Rattle.std.proofs.Common.{true, false, if◌then◌else◌, List, length, Option, None, Some, IfSome}
-use Rattle.std.proofs.Common.{option_map, Result, Ok, Err, IsOkAnd, IfOk, refl, ap, ap₂, subst, sym}
+use Rattle.std.proofs.Common.{◌≡◌, ℕ, zero, suc, ◌+◌, ◌-◌, ◌*◌, ◌<◌, ◌≤◌, Bool}
+use Rattle.std.proofs.Common.{true, false, List, length, Option, None, Some, IfSome}
+use Rattle.std.proofs.Common.{option_map, Result, Ok, Err, IsOkAnd, IfOk, refl, ap, subst, sym}
 use Rattle.std.proofs.Common.{◌∙◌, arith}
-use Rattle.std.proofs.lemmas.Bool.{eqb-true, le-leb, leb-true}
+use Rattle.std.proofs.lemmas.Bool.{eqb-true, le-leb}
+use Rattle.std.proofs.lemmas.Bool.Decides.{nat_tests}
 use Rattle.jsonb_value.specs.declared.error.Error.{Error}
 use Rattle.jsonb_codec.specs.declared.constants.TheConstants.{OBJECT_CONTAINER_TAG}
 use Rattle.jsonb_codec.specs.JEntry.{jentry_at, jentry_in}
@@ -71,33 +72,21 @@ unfolding lookup.header_count
 counted bytes header is = ap lookup.count_or_zero is
 
 -- the header of an object
-module _ (bytes : List ℕ) (n : ℕ) where
-  object_if : (header : ℕ × ℕ) (b : Bool) → (header.0 == OBJECT_CONTAINER_TAG) ≡ b
-      → (if b then Some header.1 else None) ≡ Some n → header ≡ (OBJECT_CONTAINER_TAG, n)
-  object_if header true is count =
-      let same : header.1 ≡ n = cc in
-      ap₂ (λ (t m : ℕ). (t, m)) (eqb-true header.0 OBJECT_CONTAINER_TAG is) same
-  object_if header false is count = absurd cc
+object_by : (n : ℕ) (r : Result (ℕ × ℕ) Error)
+    → r >>= (λ (h : ℕ × ℕ). Ok (count_if OBJECT_CONTAINER_TAG h)) ≡ Ok (Some n)
+    → r ≡ Ok (OBJECT_CONTAINER_TAG, n)
+object_by n (Ok (tag, m)) is = grind (arith, eqb-true)
+object_by n (Err e) is = absurd cc
 
-  object_by : (r : Result (ℕ × ℕ) Error)
-      → r >>= (λ (h : ℕ × ℕ). Ok (count_if OBJECT_CONTAINER_TAG h)) ≡ Ok (Some n)
-      → r ≡ Ok (OBJECT_CONTAINER_TAG, n)
-  object_by (Ok header) is =
-      let count : count_if OBJECT_CONTAINER_TAG header ≡ Some n = cc in
-      ap (λ (h : ℕ × ℕ). Ok h) (object_if header _ refl count)
-  object_by (Err e) is = absurd cc
-
-  object_header : count_under bytes OBJECT_CONTAINER_TAG ≡ Ok (Some n)
-      → header_at bytes 0 ≡ Ok (OBJECT_CONTAINER_TAG, n)
-  unfolding count_under
-  object_header is = object_by (header_at bytes 0) is
+object_header : (bytes : List ℕ) (n : ℕ) → count_under bytes OBJECT_CONTAINER_TAG ≡ Ok (Some n)
+    → header_at bytes 0 ≡ Ok (OBJECT_CONTAINER_TAG, n)
+unfolding count_under
+object_header bytes n is = object_by n (header_at bytes 0) is
 
 -- Where the payloads before one end, by the lengths in their words.
 module _ (bytes : List ℕ) where
-  word_there : (word : ℕ) (e : JEntry) (b : Bool) → nat_le (word + 4) (length bytes) ≡ b
-      → jentry_at bytes word ≡ Ok e → word + 4 ≤ length bytes
-  word_there word e true fits read = leb-true (word + 4) (length bytes) fits
-  word_there word e false fits read = absurd (cc (rw fits at read))
+  word_there : (word : ℕ) (e : JEntry) → jentry_at bytes word ≡ Ok e → word + 4 ≤ length bytes
+  word_there word e read = grind (arith, nat_tests)
 
   ends_there : (n part base word start : ℕ) → 4 + 4 * (part + n) ≤ length bytes
       → word ≡ 4 + 4 * part → start ≡ base + length_before bytes part
@@ -121,7 +110,7 @@ module _ (bytes : List ℕ) where
       → part < 2 * n → (entry : PlacedEntry) → IsPlaceOf bytes n part entry
       → part_in bytes part ≡ Ok (Some entry)
   part_placed n count part among entry is =
-      let fits = word_there (4 + 4 * part) _ _ refl is.entry in
+      let fits = word_there (4 + 4 * part) _ is.entry in
       let none : length_before bytes 0 ≡ 0 = refl in
       let all : 0 + part ≡ part = omega arith in
       let lengths = ap (length_before bytes) all in

@@ -54,9 +54,9 @@ use Rattle.kohiblad.specs.ChildWalks.{IsWithin}
 use Rattle.kohiblad.specs.Children.{child_of, layout_under, numbered_among, numbered_child}
 use Rattle.kohiblad.specs.PathPlaces.{HoldTrees, HoldsFound, HoldsTree, at_place, child_places}
 use Rattle.kohiblad.specs.PathPlaces.{children_from, chosen_children, chosen_items}
-use Rattle.kohiblad.specs.PathPlaces.{chosen_members, chosen_under, first_child, first_place}
-use Rattle.kohiblad.specs.PathPlaces.{has_key, named_child, path_place, path_place_in, place_from}
-use Rattle.kohiblad.specs.PathPlaces.{places_at, selected_from, selected_in, selected_places}
+use Rattle.kohiblad.specs.PathPlaces.{chosen_members, first_place}
+use Rattle.kohiblad.specs.PathPlaces.{has_key, named_child, path_place, place_from}
+use Rattle.kohiblad.specs.PathPlaces.{places_at, selected_from, selected_places}
 use Rattle.kohiblad.specs.PathPlaces.{step_selector, value_at, whole_place, whole_under}
 use Rattle.kohiblad.specs.PathCalls.{found_answer}
 use Rattle.kohiblad.specs.declared.places.KohibladPlace.{KohibladPlace}
@@ -76,11 +76,16 @@ IsUnfiltered s = ⊤
 abbrev pub Holds : List ℕ → Child → Tree → Type 0
 Holds bytes child t = IsWithin bytes child.value × HoldsTree bytes child.value t
 
+holds_entry : (b : List ℕ) (place : PlacedEntry) (c : Entry) (t : Tree)
+    → entry_there b place ≡ c → IsPayloadOf c.type c.payload t → HoldsTree b place t
+holds_entry b place c t there =
+    subst (λ (e : Entry). IsPayloadOf e.type e.payload t) (sym there)
+
 -- The child at an index, if there is one, is related to the element there.
 abbrev pub IsNumbered : {A : Type 0} → List ℕ → (Child → A → Type 0) → List A → ℕ → Type 0
 IsNumbered {A} bytes R xs i =
-    ((child : Child) × ((x : A)
-    × ((numbered_child bytes i ≡ Ok (Some child)) × ((slice_get xs i ≡ Some x) × R child x))))
+    ((child : Child) × (x : A) × (numbered_child bytes i ≡ Ok (Some child))
+    × (slice_get xs i ≡ Some x) × R child x)
     ⊎ ((numbered_child bytes i ≡ Ok None) × (slice_get xs i ≡ None))
 
 module _ {A : Type 0} where
@@ -104,18 +109,9 @@ module _ {A : Type 0} (bytes : List ℕ) (R : Child → A → Type 0) (xs : List
   more_related : (i n : ℕ) → IsNumbered bytes R xs i
       → Pairwise R (children_from bytes (suc i) n) (take n (drop (suc i) xs))
       → Pairwise R (children_from bytes i (suc n)) (take (suc n) (drop i xs))
-  more_related i n (inl (child, (x, (found, (there, related))))) more =
-      subst (Pairwise R (children_from bytes i (suc n))) (taken_there xs i n x there)
-      (subst
-      (λ (r : Result (Option Child) Error). Pairwise R
-      (first_child r (children_from bytes (suc i) n)) (x ∷ take n (drop (suc i) xs)))
-      (sym found) (related, more))
-  more_related i n (inr (none, past)) more =
-      subst (Pairwise R (children_from bytes i (suc n))) (taken_past xs i n past)
-      (subst
-      (λ (r : Result (Option Child) Error). Pairwise R
-      (first_child r (children_from bytes (suc i) n)) [])
-      (sym none) refl)
+  more_related i n (inl (child, x, found, there, related)) more =
+      rw (found, ← taken_there xs i n x there) (related, more)
+  more_related i n (inr (none, past)) more = rw (none, ← taken_past xs i n past) refl
 
   pub children_related : (i n : ℕ)
       → Pairwise R (children_from bytes i n) (take n (drop i xs))
@@ -153,21 +149,11 @@ module _ (b : List ℕ) (ts : Trees) (h : Payload (array ts) b) (i : ℕ) where
       let found = at.found in
       inl (
         record { key = None; value = at.place },
-        (
-          among.tree,
-          (
-            item_number (length cs) (items_at b cs stored.few stored.written).header
-                ∙ rw (test, found) refl,
-            (
-              among.there,
-              (
-                at.inside,
-                subst (λ (e : Entry). IsPayloadOf e.type e.payload among.tree)
-                    (sym at.there) among.entry.means,
-              ),
-            ),
-          ),
-        ),
+        among.tree,
+        item_number (length cs) (items_at b cs stored.few stored.written).header
+            ∙ rw (test, found) refl,
+        among.there,
+        (at.inside, holds_entry b at.place c among.tree at.there among.entry.means),
       )
   items_at_index cs stored (inr (past, none)) =
       let test = le-leb (length cs) i past in
@@ -233,24 +219,14 @@ module _ (b : List ℕ) (ps : Pairs) (h : Payload (object ps) b) (i : ℕ) where
       let value_found = value.found in
       inl (
         record { key = Some key.place; value = value.place },
+        (m.0, t),
+        member_number (length ms) (members_at b ms stored.few stored.written).header
+            ∙ rw (test, key_found, value_found) refl,
+        paired,
         (
-          (m.0, t),
-          (
-            member_number (length ms) (members_at b ms stored.few stored.written).header
-                ∙ rw (test, key_found, value_found) refl,
-            (
-              paired,
-              (
-                ap (λ (e : Entry). e.payload) key.there,
-                refl,
-                (
-                  value.inside,
-                  subst (λ (e : Entry). IsPayloadOf e.type e.payload t)
-                      (sym value.there) means,
-                ),
-              ),
-            ),
-          ),
+          ap (λ (e : Entry). e.payload) key.there,
+          refl,
+          (value.inside, holds_entry b value.place m.1 t value.there means),
         ),
       )
   members_at_index ms stored (inr (past, none)) =
@@ -368,8 +344,7 @@ module _ (b : List ℕ) (ts : Trees) (h : Payload (array ts) b) where
   pub array_held : (s : Selector) → IsUnfiltered s
       → Pairwise (Holds b) (chosen_children s b) (children_at s (array ts))
   array_held s plain =
-      subst (λ (r : Result (ℕ × ℕ) Error). Pairwise (Holds b) (chosen_under s b r)
-      (children_at s (array ts))) (sym (header_at-array b ts h)) (items_held s plain)
+      rw (header_at-array b ts h) (items_held s plain)
 
 -- The members of an object to which a selector leads.
 nothing_taken : (m n : ℕ) → ◌≡◌ {A = List Tree} (drop m (take n [])) []
@@ -416,9 +391,7 @@ module _ (b : List ℕ) (name : List ℕ) where
   named_held (c ∷ cs) no_pairs h = absurd h
   named_held (c ∷ cs) (pair l t ps) h =
       let test = same_test c.key l h.0.1 h.0.0 in
-      subst (λ (x : Bool). Pairwise (Holds b) (if x then c ∷ [] else named_child name b cs)
-      (option_to_list (find_pair (pointwise nat_eq name) (length name) (pair l t ps)))) (sym test)
-      (named_by ((length l == length name) && pointwise nat_eq name l) c t
+      rw test (named_by ((length l == length name) && pointwise nat_eq name l) c t
       (named_child name b cs) (find_pair (pointwise nat_eq name) (length name) ps) h.0.2
       (named_held cs ps h.1))
 
@@ -449,8 +422,7 @@ module _ (b : List ℕ) (ps : Pairs) (h : Payload (object ps) b) where
   pub object_held : (s : Selector) → IsUnfiltered s
       → Pairwise (Holds b) (chosen_children s b) (children_at s (object ps))
   object_held s plain =
-      subst (λ (r : Result (ℕ × ℕ) Error). Pairwise (Holds b) (chosen_under s b r)
-      (children_at s (object ps))) (sym (header_at-object b ps h)) (members_held s plain)
+      rw (header_at-object b ps h) (members_held s plain)
 
 -- A place inside the bytes, where the tree is.
 abbrev pub Held : List ℕ → PlacedEntry → Tree → Type 0
@@ -524,19 +496,15 @@ module _ (bytes : List ℕ) (place : PlacedEntry) (inside : IsWithin bytes place
       → Pairwise (Held bytes) (child_places s bytes place) (children_at s t)
   container_held s t is h =
       let test = eq-eqb place.type_code CONTAINER_TAG (sym is) in
-      subst
-      (λ (b : Bool). Pairwise (Held bytes) (if b then map (value_at place.start)
-      (chosen_children s (entry_there bytes place).payload) else []) (children_at s t)) (sym test)
+      rw test
       (chosen_moved (chosen_children s (entry_there bytes place).payload) (children_at s t) h)
 
   scalar_held : (s : Selector) (t : Tree) (type : ℕ) → type ≡ place.type_code
       → (type == CONTAINER_TAG) ≡ false → [] ≡ children_at s t
       → Pairwise (Held bytes) (child_places s bytes place) (children_at s t)
   scalar_held s t type is other none =
-      subst
-      (λ (b : Bool). Pairwise (Held bytes) (if b then map (value_at place.start)
-      (chosen_children s (entry_there bytes place).payload) else []) (children_at s t))
-      (sym (ap (λ (n : ℕ). n == CONTAINER_TAG) (sym is) ∙ other)) (sym none)
+      let test = ap (λ (n : ℕ). n == CONTAINER_TAG) (sym is) ∙ other in
+      rw test (sym none)
 
   pub step_held : (s : Selector) → IsUnfiltered s → (t : Tree) → HoldsTree bytes place t
       → Pairwise (Held bytes) (child_places s bytes place) (children_at s t)
@@ -563,9 +531,7 @@ filter_held : (condition : Condition) (bytes : List ℕ) (place : PlacedEntry) (
     (filtered condition t)
 filter_held condition bytes place t held =
     let same = entry_tree-is place.type_code (entry_there bytes place).payload t held.1 in
-    subst
-    (λ u. Pairwise (Held bytes) (if holds condition u then place ∷ [] else [])
-    (filtered condition t)) (sym same) (kept_held bytes place t (holds condition t) held)
+    rw same (kept_held bytes place t (holds condition t) held)
 
 pub other_places : (s : Selector) (bytes : List ℕ) (place : PlacedEntry)
     → ((condition : Condition) → s ≡ selectors.Filter condition → ⊥)
@@ -721,7 +687,7 @@ whole_scalar bytes t h =
         ap (whole_under bytes) (header_at-Scalar bytes t h) ∙ found.found,
         (
           found.inside,
-          subst (λ (e : Entry). IsPayloadOf e.type e.payload t) (sym found.there) (refl, h.means),
+          holds_entry bytes found.place c t found.there (refl, h.means),
         ),
       ),
     )
@@ -740,10 +706,7 @@ pub places_hold : (bytes : List ℕ) (t : Tree) (path : List Selector) → Doc b
     → HoldTrees bytes (selected_places path bytes) (selected path t)
 places_hold bytes t path doc =
     let (place, (is, held)) = whole_held bytes t doc in
-    subst
-    (λ (r : Result PlacedEntry Error). HoldTrees bytes (selected_in path bytes r)
-    (selected path t))
-    (sym is)
+    rw is
     (Pairwise-weaker (Held bytes) (HoldsTree bytes) (λ p u h. h.1) (selected_from path bytes place)
     (selected path t) (selected_held path bytes place t held))
 
@@ -751,10 +714,7 @@ pub place_holds : (bytes : List ℕ) (t : Tree) (path : List Step) → Doc bytes
     → HoldsFound bytes (path_place path bytes) (found_at path t)
 place_holds bytes t path doc =
     let (place, (is, held)) = whole_held bytes t doc in
-    subst
-    (λ (r : Result PlacedEntry Error). HoldsFound bytes (path_place_in path bytes r)
-    (found_at path t))
-    (sym is) (end_held path bytes place t held)
+    rw is (end_held path bytes place t held)
 
 -- The whole of a document is at its place.
 pub whole_part : (bytes : List ℕ) (place : PlacedEntry) → IsDocument bytes

@@ -85,9 +85,7 @@ module _ (bytes : List ℕ) (number : ℕ) (run : Run) (is : run_in bytes ≡ Ok
   entries_by : (r : Result (List (Result PlacedEntry Error)) Error)
       → r >>= (λ entries. Ok (record { bytes = bytes; entries = entries })) ≡ Ok run
       → r ≡ Ok run.entries
-  entries_by (Ok entries) is =
-      let same : record { bytes = bytes; entries = entries } ≡ run = cc in
-      ap (λ (x : Run). Ok x.entries) same
+  entries_by (Ok entries) is = cc
   entries_by (Err e) is = absurd cc
 
   number_listed : option_transpose (slice_get run.entries number) ≡ part_in bytes number
@@ -268,18 +266,14 @@ key_at_index : (ms : List (List ℕ × Entry)) (ds : List Entry) (i : ℕ) (m : 
     → slice_get (key_codes (keys_of ms) ++ ds) i ≡ Some record { type = 268435456; payload = m.0 }
 key_at_index [] ds zero m there = absurd cc
 key_at_index [] ds (suc i) m there = absurd cc
-key_at_index (x ∷ ms) ds zero m there =
-    let same : x ≡ m = cc in
-    ap (λ (y : List ℕ × Entry). Some record { type = 268435456; payload = y.0 }) same
+key_at_index (x ∷ ms) ds zero m there = cc
 key_at_index (x ∷ ms) ds (suc i) m there = key_at_index ms ds i m there
 
 value_at_index : (ms : List (List ℕ × Entry)) (i : ℕ) (m : List ℕ × Entry) → slice_get ms i ≡ Some m
     → slice_get (values_of ms) i ≡ Some m.1
 value_at_index [] zero m there = absurd cc
 value_at_index [] (suc i) m there = absurd cc
-value_at_index (x ∷ ms) zero m there =
-    let same : x ≡ m = cc in
-    ap (λ (y : List ℕ × Entry). Some y.1) same
+value_at_index (x ∷ ms) zero m there = cc
 value_at_index (x ∷ ms) (suc i) m there = value_at_index ms i m there
 
 after_keys : (cs ds : List Entry) (k i : ℕ) (c : Entry) → k ≡ length cs + i

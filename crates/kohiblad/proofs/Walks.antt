@@ -1,5 +1,5 @@
 -- Walks over the children of an array or object.
-use Rattle.std.proofs.Common.{◌≡◌, ℕ, zero, suc, ◌+◌, ◌*◌, ◌<◌, ◌==◌, nat_le, if◌then◌else◌, Bool}
+use Rattle.std.proofs.Common.{◌≡◌, ℕ, zero, suc, ◌+◌, ◌*◌, ◌<◌, nat_le, if◌then◌else◌, Bool}
 use Rattle.std.proofs.Common.{true, false, List, Option, None, Some, Result, Ok, Err, refl}
 use Rattle.std.proofs.Common.{sym, ap, ap₂, subst, ◌∙◌, arith}
 use Rattle.std.specs.Prelude.{⊤}
@@ -7,8 +7,6 @@ use Rattle.std.proofs.lemmas.Bool.{leb-false}
 use Rattle.jsonb_value.specs.declared.error.Error.{Error}
 use Rattle.jsonb_value.specs.declared.error.Error.TheVariants as errors
 use Rattle.jsonb_value.specs.declared.error.Error.TheVariants.{InvalidJsonb}
-use Rattle.jsonb_codec.specs.declared.constants.TheConstants.{ARRAY_CONTAINER_TAG}
-use Rattle.jsonb_codec.specs.declared.constants.TheConstants.{OBJECT_CONTAINER_TAG}
 use Rattle.jsonb_codec.specs.declared.jentry.JEntry.{JEntry}
 use Rattle.jsonb_codec.specs.JEntry.{jentry_at}
 use Rattle.jsonb_codec.specs.Word.{header_at}
@@ -55,16 +53,8 @@ module _ (bytes : List ℕ) (v : ℕ) (entry : PlacedEntry) where
   abbrev EndsBy : Result JEntry Error → Type 0
   EndsBy r = (e : JEntry) × ((r ≡ Ok e) × (v + e.length ≡ end_of entry))
 
-  ends_if : (e : JEntry) (inside : Bool)
-      → (if inside then Ok (record { type_code = e.type_code; start = v; length = e.length })
-      else Err InvalidJsonb) ≡ Ok entry → v + e.length ≡ end_of entry
-  ends_if e true is =
-      let same : record { type_code = e.type_code; start = v; length = e.length } ≡ entry = cc in
-      ap end_of same
-  ends_if e false is = absurd cc
-
   ends_by : (r : Result JEntry Error) → r >>= placed_by bytes v ≡ Ok entry → EndsBy r
-  ends_by (Ok e) is = (e, (refl, ends_if e _ is))
+  ends_by (Ok e) is = (e, (refl, grind arith))
   ends_by (Err e) is = absurd cc
 
   next_start : (part start : ℕ) → payloads_end bytes part 4 start ≡ Ok v
@@ -75,25 +65,9 @@ module _ (bytes : List ℕ) (v : ℕ) (entry : PlacedEntry) where
       end_step bytes v e part 4 start (4 + 4 * part) refl here read ∙ ap (λ (k : ℕ). Ok k) ends
 
 -- The entries of a layout are all that are under its header.
-count_if : (n : ℕ) (layout : Layout) (a o : Bool)
-    → (if a then Some (record { keyed = false; count = n })
-    else if o then Some (record { keyed = true; count = n }) else None) ≡ Some layout
-    → (if a then n else if o then 2 * n else 0) ≡ first_value layout + layout.count
-count_if n layout true o laid =
-    let same : record { keyed = false; count = n } ≡ layout = cc in
-    let all = ap (λ (l : Layout). first_value l + l.count) same in
-    omega (arith, all)
-count_if n layout false true laid =
-    let same : record { keyed = true; count = n } ≡ layout = cc in
-    let all = ap (λ (l : Layout). first_value l + l.count) same in
-    omega (arith, all)
-count_if n layout false false laid = absurd cc
-
 entries_laid : (header : ℕ × ℕ) (layout : Layout) → layout_under header ≡ Some layout
     → entry_count header ≡ first_value layout + layout.count
-entries_laid header layout laid =
-    count_if header.1 layout (header.0 == ARRAY_CONTAINER_TAG) (header.0 == OBJECT_CONTAINER_TAG)
-    laid
+entries_laid (tag, n) layout laid = grind arith
 
 -- The key of a child, if it has one, and its value.
 key_same : (keyed : Bool) (r q value : Result (Option PlacedEntry) Error)

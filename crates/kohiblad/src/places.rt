@@ -35,6 +35,7 @@ pub struct KohibladPlace {
 /// `InvalidEOF` if the header or an entry word that is read is cut off; `InvalidJsonb` if the
 /// header is of no kind, or the payload runs past the end. If the status is not `OK`, type, offset
 /// and length are 0.
+#[tactic(auto, using(crate::proofs::PlaceLaws::part_in_stored))]
 #[unsafe(no_mangle)]
 pub extern "C" fn kohiblad_find_index(bytes: &[u8], number: usize) -> KohibladPlace
     ensures value { result ≡ place_answer (part_in bytes.now number) }
@@ -324,9 +325,7 @@ pub fn no_place(status: u32) -> KohibladPlace
     }
 }
 
-/// The part with this number, `None` if there is none. `InvalidEOF` if the header or an entry word
-/// that is read is cut off, `InvalidJsonb` if the header is of no kind or the payload runs past the
-/// end.
+// The part with this number. `None` if there is none.
 fn part_in(bytes: &[u8], number: usize) -> Result<Option<Entry>, Error>
     ensures value { result ≡ part_in bytes.now number }
     ensures inside { IsInside bytes.now result }
