@@ -378,15 +378,16 @@ static inline uint32_t kohiblad_of_extension(uint32_t tag, int64_t value, int32_
 
 /* Copies the text of the bytes to `out`: the compact text of a document, `null` for no bytes, and
  * for all other bytes their own text, with U+FFFD in place of invalid UTF-8. A document that nests
- * deeper than `depth` levels counts as no document, so its text is that of its bytes. OUT_OF_MEMORY
- * if an allocation fails; NO_ROOM if `out` is shorter than the text. */
+ * deeper than `depth` levels counts as bytes that are not a document, so its text is that of its
+ * bytes. OUT_OF_MEMORY if an allocation fails; NO_ROOM if `out` is shorter than the text. */
 static inline uint32_t kohiblad_print(const uint8_t *bytes, size_t size, size_t depth, uint8_t *out,
     size_t room, size_t *length) KOHIBLAD_INLINE("kohiblad_print");
 
 /* Copies the pretty text of the bytes to `out`: that of a document with each item or pair on its
  * own line, indented by two spaces for each enclosing container, and `null` for all other bytes. A
- * document that nests deeper than `depth` levels counts as no document, so its text is `null`.
- * OUT_OF_MEMORY if an allocation fails; NO_ROOM if `out` is shorter than the text. */
+ * document that nests deeper than `depth` levels counts as bytes that are not a document, so its
+ * text is `null`. OUT_OF_MEMORY if an allocation fails; NO_ROOM if `out` is shorter than the text.
+ * */
 static inline uint32_t kohiblad_pretty(const uint8_t *bytes, size_t size, size_t depth,
     uint8_t *out, size_t room, size_t *length) KOHIBLAD_INLINE("kohiblad_pretty");
 
@@ -457,9 +458,9 @@ static inline uint32_t kohiblad_key_layout(void) KOHIBLAD_INLINE("kohiblad_key_l
 
 /* Copies the comparable key of any bytes to `out`. Keys compare by their bytes, a prefix before
  * what continues it, as kohiblad_compare compares the bytes at this depth; no key begins another. A
- * document that nests deeper than `depth` levels counts as no document. OUT_OF_MEMORY if an
- * allocation fails; NO_ROOM if `out` is shorter than the key. Compare keys by memcmp, and then the
- * shorter first. */
+ * document that nests deeper than `depth` levels counts as bytes that are not a document.
+ * OUT_OF_MEMORY if an allocation fails; NO_ROOM if `out` is shorter than the key. Compare keys by
+ * memcmp, and then the shorter first. */
 static inline uint32_t kohiblad_key(const uint8_t *bytes, size_t size, size_t depth, uint8_t *out,
     size_t room, size_t *length) KOHIBLAD_INLINE("kohiblad_key");
 
@@ -468,7 +469,7 @@ static inline uint32_t kohiblad_key(const uint8_t *bytes, size_t size, size_t de
  * than the length of `out`. It is `SIZE_MAX` if the key is longer. A cut key is a lower bound: it
  * is never above its key, and where two keys cut to one length differ, the keys compare as they do.
  * The key is that of kohiblad_key. No memory is requested, and the status is always OK. A document
- * that nests deeper than `depth` levels counts as no document. */
+ * that nests deeper than `depth` levels counts as bytes that are not a document. */
 static inline uint32_t kohiblad_key_cut(const uint8_t *bytes, size_t size, size_t depth,
     uint8_t *out, size_t room, size_t *length) KOHIBLAD_INLINE("kohiblad_key_cut");
 
@@ -487,10 +488,11 @@ static inline uint32_t kohiblad_member_key(const uint8_t *bytes, size_t size,
 
 /* Writes the numbers of the rows, counted from 0, to the start of `order`, sorted as
  * kohiblad_compare compares the rows at this depth; equal rows keep their order. A document that
- * nests deeper than `depth` levels counts as no document, and sorts by its bytes after all
- * documents. Each row is checked once, and deeper levels are not examined. INVALID_EOF if an offset
- * is below the previous one or beyond the bytes; NO_ROOM if `order` has fewer numbers than there
- * are rows; OUT_OF_MEMORY if an allocation fails. If the status is not OK, `order` is unchanged. */
+ * nests deeper than `depth` levels counts as bytes that are not a document, and sorts by its bytes
+ * after all documents. Each row is checked once, and deeper levels are not examined. INVALID_EOF if
+ * an offset is below the previous one or beyond the bytes; NO_ROOM if `order` has fewer numbers
+ * than there are rows; OUT_OF_MEMORY if an allocation fails. If the status is not OK, `order` is
+ * unchanged. */
 static inline uint32_t kohiblad_sort(const uint8_t *bytes, size_t size, const size_t *offsets,
     size_t count, size_t depth, size_t *order, size_t room) KOHIBLAD_INLINE("kohiblad_sort");
 
