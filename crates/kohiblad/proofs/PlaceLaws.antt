@@ -31,7 +31,7 @@ use Rattle.jsonb.proofs.StoredEntryLaws.{first_entry, items_at, length-key_codes
 use Rattle.jsonb.proofs.StorageLaws.{length-code_entries}
 use Rattle.jsonb.specs.declared.entries.Entry.{Entry as PlacedEntry}
 use Rattle.kohiblad.specs.Children.{some_entry}
-use Rattle.kohiblad.specs.Places.{all_entries, item_under, member_places, member_there}
+use Rattle.kohiblad.specs.Places.{all_entries, item_part, member_places, member_there}
 use Rattle.kohiblad.specs.Places.{member_under, part_in, place_of_item}
 use Rattle.kohiblad.specs.Places.{IsItemPlace, IsPartPlace, AreMemberPlaces}
 
@@ -231,13 +231,13 @@ pub place_of_item_stored : (b : List ℕ) (t : Tree) (index : ℕ) → Doc b t
 place_of_item_stored b t index (inr (is, h)) =
     container_cases (λ (u : Tree). Payload u b → IsItemPlace b u index (place_of_item b index)) t is
     (λ ts h. subst (IsItemPlace b (array ts) index)
-    (sym (ap (λ (r : Result (ℕ × ℕ) Error). r >>= item_under b index) (header_at-array b ts h)))
+    (sym (ap (λ (r : Result (ℕ × ℕ) Error). r >>= item_part b index) (header_at-array b ts h)))
     (items_part b ts index h))
-    (λ ps h. ap (λ (r : Result (ℕ × ℕ) Error). r >>= item_under b index) (header_at-object b ps h))
+    (λ ps h. ap (λ (r : Result (ℕ × ℕ) Error). r >>= item_part b index) (header_at-object b ps h))
     h
 place_of_item_stored b (array ts) index (inl (other, h)) = absurd (other refl)
 place_of_item_stored b t index (inl (other, h)) =
-    ap (λ (r : Result (ℕ × ℕ) Error). r >>= item_under b index) (header_at-Scalar b t h)
+    ap (λ (r : Result (ℕ × ℕ) Error). r >>= item_part b index) (header_at-Scalar b t h)
 
 AreEntries-append : (cs ds : List Entry) → AreEntries cs → AreEntries ds → AreEntries (cs ++ ds)
 AreEntries-append [] ds is are = are

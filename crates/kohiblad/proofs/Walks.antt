@@ -15,11 +15,11 @@ use Rattle.jsonb.specs.Steps.{◌>>=◌}
 use Rattle.jsonb.specs.declared.entries.Entry.{Entry as PlacedEntry}
 use Rattle.kohiblad.specs.declared.children.Child.{Child}
 use Rattle.kohiblad.specs.declared.children.KohibladCursor.{KohibladCursor}
-use Rattle.kohiblad.specs.declared.children.Layout.{Layout}
+use Rattle.kohiblad.specs.declared.children.ChildLayout.{ChildLayout}
 use Rattle.kohiblad.specs.ChildWalks.{found_child}
 use Rattle.kohiblad.specs.Children.{child_among, child_at_cursor, child_of, cursor_after}
 use Rattle.kohiblad.specs.Children.{cursor_among, cursor_at, end_of, first_value, key_end}
-use Rattle.kohiblad.specs.Children.{key_start, layout_in, layout_under, numbered_among}
+use Rattle.kohiblad.specs.Children.{key_offset, layout_in, layout_under, numbered_among}
 use Rattle.kohiblad.specs.Children.{numbered_child, part_at_cursor, payload_start, some_entry}
 use Rattle.kohiblad.specs.Children.{value_answer}
 use Rattle.kohiblad.specs.Places.{part_in}
@@ -65,7 +65,7 @@ module _ (bytes : List ℕ) (v : ℕ) (entry : PlacedEntry) where
       end_step bytes v e part 4 start (4 + 4 * part) refl here read ∙ ap (λ (k : ℕ). Ok k) ends
 
 -- The entries of a layout are all that are under its header.
-entries_laid : (header : ℕ × ℕ) (layout : Layout) → layout_under header ≡ Some layout
+entries_laid : (header : ℕ × ℕ) (layout : ChildLayout) → layout_under header ≡ Some layout
     → entry_count header ≡ first_value layout + layout.count
 entries_laid (tag, n) layout laid = grind arith
 
@@ -112,7 +112,7 @@ IsUnstarted (Err e) = ⊤
 
 -- What is found at the cursor before the child with an index in this layout, and where it comes.
 module _ (bytes : List ℕ) (i : ℕ) (header : ℕ × ℕ) (is : header_at bytes 0 ≡ Ok header)
-    (layout : Layout) (laid : layout_under header ≡ Some layout) where
+    (layout : ChildLayout) (laid : layout_under header ≡ Some layout) where
   abbrev first : ℕ
   first = first_value layout
 
@@ -131,7 +131,7 @@ module _ (bytes : List ℕ) (i : ℕ) (header : ℕ × ℕ) (is : header_at byte
       (ap (λ (n : ℕ). payloads_end bytes k 4 (4 + 4 * n)) all ∙ cut)
 
   unstarted_if : (past : Bool) → nat_le layout.count i ≡ past → (k v : Result ℕ Error)
-      → key_start bytes layout i ≡ k → payload_start bytes layout (first + i) ≡ v
+      → key_offset bytes layout i ≡ k → payload_start bytes layout (first + i) ≡ v
       → IsUnstarted (k >>= (λ (key : ℕ). v
       >>= (λ (value : ℕ). Ok (Some record { index = i; key = key; value = value }))))
       → None ≡ found_child (if past then Ok None
@@ -147,7 +147,7 @@ module _ (bytes : List ℕ) (i : ℕ) (header : ℕ × ℕ) (is : header_at byte
       no_key layout.keyed (payload_start bytes layout i) (part_in bytes i)
       (part_in bytes (first + i)) e key (cut_here i e (omega (arith, among)))
 
-  module _ (k v : ℕ) (key_is : key_start bytes layout i ≡ Ok k)
+  module _ (k v : ℕ) (key_is : key_offset bytes layout i ≡ Ok k)
       (value_is : payload_start bytes layout (first + i) ≡ Ok v) where
     abbrev here : KohibladCursor
     here = record { index = i; key = k; value = v }
@@ -194,15 +194,16 @@ module _ (bytes : List ℕ) (i : ℕ) (header : ℕ × ℕ) (is : header_at byte
         ∙ next_start bytes v child.value (first + i) _ value_is value)
 
 -- What the cursor before a child answers, and where it comes.
-record Walks (bytes : List ℕ) (i : ℕ) (cursor : KohibladCursor) (o : Option Layout) : Type 0 where
+record Walks (bytes : List ℕ) (i : ℕ) (cursor : KohibladCursor) (o : Option ChildLayout) :
+    Type 0 where
   same : child_among bytes cursor o ≡ numbered_among bytes i o
   next : (child : Child) → child_among bytes cursor o ≡ Ok (Some child)
       → cursor_among bytes (suc i) o ≡ Ok (Some (cursor_after (Ok (Some child)) cursor))
 
 module _ (bytes : List ℕ) (i : ℕ) (cursor : KohibladCursor) where
-  walks_from : (header : ℕ × ℕ) → header_at bytes 0 ≡ Ok header → (layout : Layout)
+  walks_from : (header : ℕ × ℕ) → header_at bytes 0 ≡ Ok header → (layout : ChildLayout)
       → layout_under header ≡ Some layout → (k v : Result ℕ Error)
-      → key_start bytes layout i ≡ k → payload_start bytes layout (first_value layout + i) ≡ v
+      → key_offset bytes layout i ≡ k → payload_start bytes layout (first_value layout + i) ≡ v
       → k >>= (λ (key : ℕ). v
       >>= (λ (value : ℕ). Ok (Some record { index = i; key = key; value = value })))
       ≡ Ok (Some cursor)
@@ -215,7 +216,7 @@ module _ (bytes : List ℕ) (i : ℕ) (cursor : KohibladCursor) where
       })
   walks_from header is layout laid k v key value at = absurd cc
 
-  walks_at : (header : ℕ × ℕ) → header_at bytes 0 ≡ Ok header → (o : Option Layout)
+  walks_at : (header : ℕ × ℕ) → header_at bytes 0 ≡ Ok header → (o : Option ChildLayout)
       → layout_under header ≡ o → cursor_among bytes i o ≡ Ok (Some cursor)
       → Walks bytes i cursor o
   walks_at header is None laid at = absurd cc
@@ -223,7 +224,7 @@ module _ (bytes : List ℕ) (i : ℕ) (cursor : KohibladCursor) where
 
   walks_by : (r : Result (ℕ × ℕ) Error) → header_at bytes 0 ≡ r
       → (r >>= (λ (h : ℕ × ℕ). Ok (layout_under h))) >>= cursor_among bytes i ≡ Ok (Some cursor)
-      → (o : Option Layout) × ((layout_in bytes ≡ Ok o) × Walks bytes i cursor o)
+      → (o : Option ChildLayout) × ((layout_in bytes ≡ Ok o) × Walks bytes i cursor o)
   walks_by (Ok header) is at = (
     layout_under header,
     (
@@ -237,22 +238,23 @@ module _ (bytes : List ℕ) (i : ℕ) (cursor : KohibladCursor) where
       → child_at_cursor bytes cursor ≡ numbered_child bytes i
   same_child at =
       let (o, (is, walks)) = walks_by (header_at bytes 0) refl at in
-      ap (λ (r : Result (Option Layout) Error). r >>= child_among bytes cursor) is
+      ap (λ (r : Result (Option ChildLayout) Error). r >>= child_among bytes cursor) is
       ∙ walks.same
-      ∙ sym (ap (λ (r : Result (Option Layout) Error). r >>= numbered_among bytes i) is)
+      ∙ sym (ap (λ (r : Result (Option ChildLayout) Error). r >>= numbered_among bytes i) is)
 
   pub next_child : (child : Child) → cursor_at bytes i ≡ Ok (Some cursor)
       → child_at_cursor bytes cursor ≡ Ok (Some child)
       → cursor_at bytes (suc i) ≡ Ok (Some (cursor_after (Ok (Some child)) cursor))
   next_child child at found =
       let (o, (is, walks)) = walks_by (header_at bytes 0) refl at in
-      ap (λ (r : Result (Option Layout) Error). r >>= cursor_among bytes (suc i)) is
+      ap (λ (r : Result (Option ChildLayout) Error). r >>= cursor_among bytes (suc i)) is
       ∙ walks.next child
-      (sym (ap (λ (r : Result (Option Layout) Error). r >>= child_among bytes cursor) is) ∙ found)
+      (sym (ap (λ (r : Result (Option ChildLayout) Error). r >>= child_among bytes cursor) is)
+      ∙ found)
 
 -- No child is found where there is no cursor before it.
 module _ (bytes : List ℕ) (i : ℕ) where
-  unstarted_at : (header : ℕ × ℕ) → header_at bytes 0 ≡ Ok header → (o : Option Layout)
+  unstarted_at : (header : ℕ × ℕ) → header_at bytes 0 ≡ Ok header → (o : Option ChildLayout)
       → layout_under header ≡ o → IsUnstarted (cursor_among bytes i o)
       → None ≡ found_child (numbered_among bytes i o)
   unstarted_at header is None laid none = refl

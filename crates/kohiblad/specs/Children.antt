@@ -11,41 +11,41 @@ use Rattle.jsonb.specs.Steps.{◌>>=◌}
 use Rattle.jsonb.specs.declared.entries.Entry.{Entry as PlacedEntry}
 use Rattle.kohiblad.specs.declared.children.Child.{Child}
 use Rattle.kohiblad.specs.declared.children.KohibladCursor.{KohibladCursor}
-use Rattle.kohiblad.specs.declared.children.Layout.{Layout}
+use Rattle.kohiblad.specs.declared.children.ChildLayout.{ChildLayout}
 use Rattle.kohiblad.specs.declared.places.KohibladPlace.{KohibladPlace}
 use Rattle.kohiblad.specs.Places.{part_in, place_answer}
 use Rattle.kohiblad.specs.Status.{code, none}
 
 -- How the children of an array or object are laid out. `None` for a scalar.
-abbrev pub layout_under : ℕ × ℕ → Option Layout
+abbrev pub layout_under : ℕ × ℕ → Option ChildLayout
 layout_under header =
     if header.0 == ARRAY_CONTAINER_TAG then Some (record { keyed = false; count = header.1 })
     else if header.0 == OBJECT_CONTAINER_TAG then Some (record { keyed = true; count = header.1 })
     else None
 
 -- The layout of the children that the bytes hold.
-abbrev pub layout_in : List ℕ → Result (Option Layout) Error
+abbrev pub layout_in : List ℕ → Result (Option ChildLayout) Error
 layout_in bytes = header_at bytes 0 >>= λ header. Ok (layout_under header)
 
 -- The number of the first value's part, which comes after all keys.
-abbrev pub first_value : Layout → ℕ
+abbrev pub first_value : ChildLayout → ℕ
 first_value layout = if layout.keyed then layout.count else 0
 
 -- The offset of the payload of a part: where the payloads before it end. `InvalidEOF` if the word
 -- of one of them is cut off.
-abbrev pub payload_start : List ℕ → Layout → ℕ → Result ℕ Error
+abbrev pub payload_start : List ℕ → ChildLayout → ℕ → Result ℕ Error
 payload_start bytes layout part =
     payloads_end bytes part 4 (4 + 4 * (first_value layout + layout.count))
 
 -- The offset of the payload of a key; 0 if there are no keys.
-abbrev pub key_start : List ℕ → Layout → ℕ → Result ℕ Error
-key_start bytes layout index = if layout.keyed then payload_start bytes layout index else Ok 0
+abbrev pub key_offset : List ℕ → ChildLayout → ℕ → Result ℕ Error
+key_offset bytes layout index = if layout.keyed then payload_start bytes layout index else Ok 0
 
 -- The cursor before the child at an index, given the layout.
-abbrev pub cursor_among : List ℕ → ℕ → Option Layout → Result (Option KohibladCursor) Error
+abbrev pub cursor_among : List ℕ → ℕ → Option ChildLayout → Result (Option KohibladCursor) Error
 cursor_among bytes index None = Ok None
 cursor_among bytes index (Some layout) = do
-  key ← key_start bytes layout index
+  key ← key_offset bytes layout index
   value ← payload_start bytes layout (first_value layout + index)
   Ok (Some (record { index = index; key = key; value = value }))
 
@@ -70,7 +70,7 @@ child_of keyed first second = do
   Ok (option_map (λ (entry : PlacedEntry). record { key = key; value = entry }) value)
 
 -- The child at an index, by the parts of the bytes. `None` after the last child.
-abbrev pub numbered_among : List ℕ → ℕ → Option Layout → Result (Option Child) Error
+abbrev pub numbered_among : List ℕ → ℕ → Option ChildLayout → Result (Option Child) Error
 numbered_among bytes index None = Ok None
 numbered_among bytes index (Some layout) =
     if nat_le layout.count index then Ok None
@@ -91,7 +91,7 @@ part_at_cursor bytes part start = some_entry (placed_at bytes (4 + 4 * part) sta
 
 -- The child at any cursor: its entry words are found by the index, its payloads by the offsets in
 -- the cursor. `None` after the last child.
-abbrev pub child_among : List ℕ → KohibladCursor → Option Layout → Result (Option Child) Error
+abbrev pub child_among : List ℕ → KohibladCursor → Option ChildLayout → Result (Option Child) Error
 child_among bytes cursor None = Ok None
 child_among bytes cursor (Some layout) =
     if nat_le layout.count cursor.index then Ok None

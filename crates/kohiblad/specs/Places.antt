@@ -28,13 +28,13 @@ abbrev pub part_in : List ℕ → ℕ → Result (Option PlacedEntry) Error
 part_in bytes number = entries_in bytes >>= λ parts. option_transpose (slice_get parts number)
 
 -- The item with this index under this header; none unless it is an array's.
-abbrev pub item_under : List ℕ → ℕ → ℕ × ℕ → Result (Option PlacedEntry) Error
-item_under bytes index header =
+abbrev pub item_part : List ℕ → ℕ → ℕ × ℕ → Result (Option PlacedEntry) Error
+item_part bytes index header =
     if header.0 == ARRAY_CONTAINER_TAG then part_in bytes index else Ok None
 
 -- The position of an item of an array.
 abbrev pub place_of_item : List ℕ → ℕ → Result (Option PlacedEntry) Error
-place_of_item bytes index = header_at bytes 0 >>= item_under bytes index
+place_of_item bytes index = header_at bytes 0 >>= item_part bytes index
 
 -- Both of two parts, or the first error.
 abbrev pub both_parts : Result (Option PlacedEntry) Error → Result (Option PlacedEntry) Error

@@ -31,7 +31,7 @@ pub struct Child {
 /// How the children of an array or object are laid out: whether they have keys, whose entries come
 /// before those of the values, and how many there are.
 #[derive(Clone, Copy)]
-struct Layout {
+struct ChildLayout {
     keyed: bool,
     count: usize,
 }
@@ -88,23 +88,23 @@ pub extern "C" fn kohiblad_next(
 }
 
 // The layout of the children. `None` if the bytes are neither an array nor an object.
-fn layout_in(bytes: &[u8]) -> Result<Option<Layout>, Error>
+fn layout_in(bytes: &[u8]) -> Result<Option<ChildLayout>, Error>
     ensures value { result ≡ layout_in bytes.now }
     ensures few { IfOk result (λ o. IfSome o (λ layout. layout.count < 2 ^ 29)) }
     ensures header { IfOk result (λ _. 4 ≤ length bytes.now) }
 {
     match read_header(bytes, 0)? {
-        (ARRAY_CONTAINER_TAG, count) => Ok(Some(Layout {
+        (ARRAY_CONTAINER_TAG, count) => Ok(Some(ChildLayout {
             keyed: false,
             count,
         })),
-        (OBJECT_CONTAINER_TAG, count) => Ok(Some(Layout { keyed: true, count })),
+        (OBJECT_CONTAINER_TAG, count) => Ok(Some(ChildLayout { keyed: true, count })),
         _ => Ok(None),
     }
 }
 
 // The number of the first value's entry.
-fn first_value(layout: Layout) -> usize
+fn first_value(layout: ChildLayout) -> usize
     ensures { result ≡ first_value layout }
 {
     if layout.keyed { layout.count } else { 0 }
