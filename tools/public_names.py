@@ -5,7 +5,7 @@ import re
 TOP = os.path.dirname(os.path.dirname(os.path.abspath(__file__)))
 # The crates that callers name: `jsonb` exports what the two below it do.
 CRATES = ("jsonb", "jsonb_functions", "jsonb_comparable", "jsonb_column", "json_fault",
-          "jsonb_composition")
+          "uses")
 
 
 def text_of(path):

@@ -1,6 +1,6 @@
 // Known documents, and functions that the tests share.
 ghost use Rattle.std.specs.Prelude.{◌≡◌, Err, IfOk};
-ghost use Rattle.jsonb_composition.specs.Words.{tree_of, canon, Fits};
+ghost use Rattle.uses.specs.Words.{tree_of, canon, Fits};
 
 use jsonb_codec::{Decoder, Encoder, value_of};
 use jsonb_value::{Error, Value};

@@ -7,13 +7,13 @@ use jsonb::{
     ExtensionValue, JsonAst, JsonAstEncoder, JsonbItem, Number, NumberItem, ObjectBuilder,
     OwnedJsonb, RawJsonb, Value, append_canonical, parse_value, sort_views, value_of,
 };
-use jsonb_composition::{ask, encode_and_ask};
 use std::alloc::Global;
 use std::borrow::CowStr;
 use std::cmp::Ordering;
 use std::fmt;
 use std::process::Abort;
 use std::test::Fail;
+use uses::{ask, encode_and_ask};
 
 // An array of a truth value, a number and an object.
 const TEXT: &str = r#"[false,10,{"k":"v"}]"#;

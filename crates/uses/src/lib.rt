@@ -1,10 +1,12 @@
 //! Small callers of `jsonb`, one for each main use, and what each obtains from the contracts of the
-//! library alone.
+//! library alone; and how the layers of `jsonb` compose: `ask` queries a document in every way, and
+//! `encode_and_ask` first encodes a value.
 #![tactic(auto)]
 
 mod build;
 mod canonical;
 mod compare;
+mod composition;
 mod document;
 mod encode;
 mod look_up;
@@ -17,6 +19,7 @@ mod walk;
 pub use build::{array_of_two, row_of};
 pub use canonical::canonical_bytes;
 pub use compare::is_same_value;
+pub use composition::{Answers, ask, encode_and_ask};
 pub use document::title_of;
 pub use encode::point;
 pub use look_up::name_of;

@@ -9,7 +9,7 @@ use Rattle.jsonb_value.specs.Text.{compact, pretty}
 use Rattle.jsonb_value.specs.Tree.{Tree}
 use Rattle.jsonb_value.specs.TreeOrder.{tree_cmp}
 use Rattle.jsonb_codec.specs.Doc.{Doc, IsDocument}
-use Rattle.jsonb_composition.specs.declared.composition.Answers.{Answers}
+use Rattle.uses.specs.declared.composition.Answers.{Answers}
 use Rattle.jsonb.specs.declared.item.JsonbItem.{JsonbItem}
 use Rattle.jsonb.specs.Kind.{kind_of_tree}
 use Rattle.jsonb.specs.ItemMeaning.{meaning_of}

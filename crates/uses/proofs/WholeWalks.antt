@@ -20,7 +20,7 @@ use Rattle.jsonb.specs.ItemView.{ItemView}
 use Rattle.jsonb.specs.Walk.{Walk}
 use Rattle.jsonb.specs.DocumentWalk.{ShowsTrees, key_views, ShowsValues, ShowsPairs, WalksArray}
 use Rattle.jsonb.specs.DocumentWalk.{WalksKeys, WalksValues, WalksPairs}
-use Rattle.jsonb_composition.specs.Question.{walk_of}
+use Rattle.uses.specs.Question.{walk_of}
 
 -- there are n results, and none is an error
 abbrev AreOk : {A : Type 0} → ℕ → List (Result A Error) → Type 0

@@ -13,4 +13,4 @@ pub use Rattle.jsonb.specs.Lookup.{IsItemFound, find}
 pub use Rattle.jsonb.specs.Node.{value_of_key, words_for_key}
 pub use Rattle.jsonb.specs.Raw.{raw_bytes}
 pub use Rattle.jsonb.specs.StoredEntries.{IsFoundIn}
-pub use Rattle.jsonb_composition.specs.Question.{AnswersOf, walk_of_items, walk_of_pairs}
+pub use Rattle.uses.specs.Question.{AnswersOf, walk_of_items, walk_of_pairs}

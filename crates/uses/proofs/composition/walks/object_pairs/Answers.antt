@@ -2,8 +2,8 @@ use Rattle.std.proofs.Common.{refl}
 use Rattle.jsonb.specs.ItemView.{pair_view}
 use Rattle.jsonb.specs.Raw.{raw_bytes}
 use Rattle.jsonb.specs.DocumentWalk.{WalksPairs, WalksMembers}
-use Rattle.jsonb_composition.proofs.WholeWalks.{whole_walk, only_memory, WalksPairs-all}
-use Rattle.jsonb_composition.proofs.walks.object_pairs.Goals as goal
+use Rattle.uses.proofs.WholeWalks.{whole_walk, only_memory, WalksPairs-all}
+use Rattle.uses.proofs.composition.walks.object_pairs.Goals as goal
 
 pub returns-clause-all : goal.returns-clause-all
 returns-clause-all c = λ t h.

@@ -1,8 +1,8 @@
 use Rattle.std.proofs.Common.{refl}
 use Rattle.jsonb.specs.ItemView.{result_view}
 use Rattle.jsonb.specs.DocumentWalk.{WalksKeys}
-use Rattle.jsonb_composition.proofs.WholeWalks.{whole_walk, only_memory, WalksKeys-all}
-use Rattle.jsonb_composition.proofs.walks.object_keys.Goals as goal
+use Rattle.uses.proofs.WholeWalks.{whole_walk, only_memory, WalksKeys-all}
+use Rattle.uses.proofs.composition.walks.object_keys.Goals as goal
 
 pub returns-clause-all : goal.returns-clause-all
 returns-clause-all c = λ t h.

@@ -2,8 +2,8 @@ use Rattle.std.proofs.Common.{refl}
 use Rattle.jsonb.specs.ItemView.{result_view}
 use Rattle.jsonb.specs.Raw.{raw_bytes}
 use Rattle.jsonb.specs.DocumentWalk.{WalksArray, WalksItems}
-use Rattle.jsonb_composition.proofs.WholeWalks.{whole_walk, only_memory, WalksArray-all}
-use Rattle.jsonb_composition.proofs.walks.array_items.Goals as goal
+use Rattle.uses.proofs.WholeWalks.{whole_walk, only_memory, WalksArray-all}
+use Rattle.uses.proofs.composition.walks.array_items.Goals as goal
 
 pub returns-clause-all : goal.returns-clause-all
 returns-clause-all c = λ t h.

@@ -1,7 +1,7 @@
 use Rattle.std.proofs.Common.{rules, nat_eq, length, arith}
 use Rattle.std.specs.Cmp.Lexicographic.{pointwise}
 use Rattle.jsonb.proofs.LookupLaws.{item_found, found_stored, words_found}
-use Rattle.jsonb_composition.proofs.composition.find_counted.Goals as goal
+use Rattle.uses.proofs.composition.find_counted.Goals as goal
 
 pub returns-clause-value : goal.returns-clause-value
 returns-clause-value c = λ t h.

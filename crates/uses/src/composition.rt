@@ -1,12 +1,14 @@
 //! Encoding a value and querying the document, using only the contracts of the public calls.
 
+mod walks;
+
 ghost use Rattle.std.specs.Prelude.{◌≡◌, ◌⊎◌, nat_eq, length, option_map, Err, IfOk, IfErr};
 ghost use Rattle.std.specs.Prelude.{IsOkAnd, string_bytes};
-ghost use Rattle.jsonb_composition.specs.Words.{pointwise, norm, compact, Tree, tree_of, canon};
-ghost use Rattle.jsonb_composition.specs.Words.{Fits, Doc, raw_bytes, AnswersOf, find, IsItemFound};
-ghost use Rattle.jsonb_composition.specs.Words.{value_of_key, words_for_key, IsFoundIn, item_view};
+ghost use Rattle.uses.specs.Words.{pointwise, norm, compact, Tree, tree_of, canon};
+ghost use Rattle.uses.specs.Words.{Fits, Doc, raw_bytes, AnswersOf, find, IsItemFound};
+ghost use Rattle.uses.specs.Words.{value_of_key, words_for_key, IsFoundIn, item_view};
 
-use crate::walks::{array_items, object_keys, object_pairs, object_values};
+use crate::composition::walks::{array_items, object_keys, object_pairs, object_values};
 use jsonb::{Encoder, Error, JsonbItem, JsonbItemType, RawJsonb, Reads, Value, meaning_laws};
 use std::alloc::Global;
 use std::cmp::Ordering;

@@ -1,6 +1,6 @@
 use Rattle.std.proofs.Common.{ap, ◌∙◌}
 use Rattle.jsonb.specs.Texts.{plain_text, display_text}
-use Rattle.jsonb_composition.proofs.composition.display.Goals as goal
+use Rattle.uses.proofs.composition.display.Goals as goal
 
 pub returns-clause-text : goal.returns-clause-text
 returns-clause-text c = λ t means.

@@ -3,7 +3,7 @@ use Rattle.jsonb_value.specs.Meaning.{meaning_cmp}
 use Rattle.jsonb.specs.ItemMeaning.{meaning_of}
 use Rattle.jsonb.specs.Kind.{kind_of_tree}
 use Rattle.jsonb.specs.Raw.{raw_bytes}
-use Rattle.jsonb_composition.proofs.composition.ask.Goals as goal
+use Rattle.uses.proofs.composition.ask.Goals as goal
 
 pub returns-clause-answers : goal.returns-clause-answers
 returns-clause-answers c = λ t means.

@@ -2,8 +2,8 @@ use Rattle.std.proofs.Common.{refl}
 use Rattle.jsonb.specs.ItemView.{result_view}
 use Rattle.jsonb.specs.Raw.{raw_bytes}
 use Rattle.jsonb.specs.DocumentWalk.{WalksValues, WalksValueItems}
-use Rattle.jsonb_composition.proofs.WholeWalks.{whole_walk, only_memory, WalksValues-all}
-use Rattle.jsonb_composition.proofs.walks.object_values.Goals as goal
+use Rattle.uses.proofs.WholeWalks.{whole_walk, only_memory, WalksValues-all}
+use Rattle.uses.proofs.composition.walks.object_values.Goals as goal
 
 pub returns-clause-all : goal.returns-clause-all
 returns-clause-all c = λ t h.

@@ -1,9 +1,9 @@
 //! Complete iterations, using only the contracts of the iterators.
 
 ghost use Rattle.std.specs.Prelude.{◌≡◌, IfOk, IfErr, option_map};
-ghost use Rattle.jsonb_composition.specs.Words.{Tree, Doc, raw_bytes, walk_of_items, walk_of_pairs};
-ghost use Rattle.jsonb_composition.specs.Words.{WalksArray, WalksKeys, WalksValues, WalksPairs};
-ghost use Rattle.jsonb_composition.specs.Words.{WalksItems, WalksValueItems, WalksMembers};
+ghost use Rattle.uses.specs.Words.{Tree, Doc, raw_bytes, walk_of_items, walk_of_pairs};
+ghost use Rattle.uses.specs.Words.{WalksArray, WalksKeys, WalksValues, WalksPairs};
+ghost use Rattle.uses.specs.Words.{WalksItems, WalksValueItems, WalksMembers};
 
 use jsonb::{
     ArrayIterator, Error, JsonbItem, ObjectIterator, ObjectKeyIterator, ObjectValueIterator,
