@@ -21,7 +21,7 @@ use Rattle.jsonb.specs.Node.{node_tree}
 use Rattle.jsonb_functions.specs.ArraySets.{are_equal, distinct_items, equals, is_first, is_matched}
 use Rattle.jsonb_functions.specs.ArraySets.{items_by_counts, matched_items, some_shared}
 use Rattle.jsonb_functions.specs.ChosenSource.{listed_trees}
-use Rattle.jsonb_functions.specs.ItemCounts.{count_at, Counts, SetsCount}
+use Rattle.jsonb_functions.specs.ItemCounts.{equals_count, CountsEquals, SetsEqualsCount}
 use Rattle.jsonb_functions.specs.Joined.{append_trees, items_or_one}
 
 equal_laws : IsEquivalence are_equal
@@ -42,47 +42,47 @@ equals_bound t (tree u ts) = more (are_equal t u) (equals_bound t ts) where
 
 -- The count of a value's equals is raised when the value is passed.
 pub raised_counts : (old new : List (Node × ℕ)) (node : Node) (t : Tree) (before : Trees)
-    → node_tree node ≡ t → Counts old before → SetsCount old new node (suc (count_at old node))
-    → Counts new (tree t before)
+    → node_tree node ≡ t → CountsEquals old before
+    → SetsEqualsCount old new node (suc (equals_count old node)) → CountsEquals new (tree t before)
 raised_counts old new node t before is counted sets x =
     rw (← is) (case (are_equal (node_tree node) (node_tree x)) refl)
   where
     case : (b : Bool) → are_equal (node_tree node) (node_tree x) ≡ b
-        → count_at new x ≡ equals (node_tree x) (tree (node_tree node) before)
+        → equals_count new x ≡ equals (node_tree x) (tree (node_tree node) before)
     case true same =
         let back : are_equal (node_tree x) (node_tree node) ≡ true =
         equal_laws.symm (node_tree x) (node_tree node) ∙ same in
-        let raised : count_at new x ≡ suc (count_at old node) = sets x ∙ rw same refl in
+        let raised : equals_count new x ≡ suc (equals_count old node) = sets x ∙ rw same refl in
         raised ∙ ap suc (counted node ∙ equals_same (node_tree node) (node_tree x) before same)
         ∙ sym (rw back refl)
     case false other =
         let back : are_equal (node_tree x) (node_tree node) ≡ false =
         equal_laws.symm (node_tree x) (node_tree node) ∙ other in
-        let kept : count_at new x ≡ count_at old x = sets x ∙ rw other refl in
+        let kept : equals_count new x ≡ equals_count old x = sets x ∙ rw other refl in
         kept ∙ counted x ∙ sym (rw back refl)
 
 -- What is left of the counts of some items, where others took one each.
 abbrev pub AreLeft : List (Node × ℕ) → Trees → Trees → Type 0
 AreLeft counts us before = (x : Node)
-    → count_at counts x ≡ equals (node_tree x) us - equals (node_tree x) before
+    → equals_count counts x ≡ equals (node_tree x) us - equals (node_tree x) before
 
-pub all_left : (counts : List (Node × ℕ)) (us : Trees) → Counts counts us
+pub all_left : (counts : List (Node × ℕ)) (us : Trees) → CountsEquals counts us
     → AreLeft counts us no_trees
 all_left counts us h x = omega (arith, h x)
 
 pub lowered_counts : (old new : List (Node × ℕ)) (node : Node) (t : Tree) (us before : Trees)
-    → node_tree node ≡ t → AreLeft old us before → SetsCount old new node (count_at old node - 1)
-    → AreLeft new us (tree t before)
+    → node_tree node ≡ t → AreLeft old us before
+    → SetsEqualsCount old new node (equals_count old node - 1) → AreLeft new us (tree t before)
 lowered_counts old new node t us before is left sets x =
     rw (← is) (case (are_equal (node_tree node) (node_tree x)) refl)
   where
     case : (b : Bool) → are_equal (node_tree node) (node_tree x) ≡ b
-        → count_at new x
+        → equals_count new x
         ≡ equals (node_tree x) us - equals (node_tree x) (tree (node_tree node) before)
     case true same =
         let back : are_equal (node_tree x) (node_tree node) ≡ true =
         equal_laws.symm (node_tree x) (node_tree node) ∙ same in
-        let lowered : count_at new x ≡ count_at old node - 1 = sets x ∙ rw same refl in
+        let lowered : equals_count new x ≡ equals_count old node - 1 = sets x ∙ rw same refl in
         let more : equals (node_tree x) (tree (node_tree node) before)
         ≡ suc (equals (node_tree x) before) = rw back refl in
         omega (
@@ -96,7 +96,7 @@ lowered_counts old new node t us before is left sets x =
     case false other =
         let back : are_equal (node_tree x) (node_tree node) ≡ false =
         equal_laws.symm (node_tree x) (node_tree node) ∙ other in
-        let kept : count_at new x ≡ count_at old x = sets x ∙ rw other refl in
+        let kept : equals_count new x ≡ equals_count old x = sets x ∙ rw other refl in
         kept ∙ left x ∙ sym (rw back refl)
 
 -- Something is left exactly if fewer took one.
@@ -134,7 +134,7 @@ next_listed items i part low is = rw add-one (ap listed_trees (drop-cons items i
 
 -- The first items are counted, and with those that are left they are all.
 abbrev pub AreCounted : List (Node × ℕ) → List Part → ℕ → Type 0
-AreCounted counts items i = (before : Trees) × (Counts counts before × ((count before ≡ i)
+AreCounted counts items i = (before : Trees) × (CountsEquals counts before × ((count before ≡ i)
     × ((t : Tree) → equals t before + equals t (listed_trees (drop i items))
     ≡ equals t (listed_trees items))))
 
@@ -152,7 +152,7 @@ counted_none counts items e = (no_trees, ((λ x. rw e refl), (refl, (λ t. omega
 pub counted_next : (old new : List (Node × ℕ)) (items : List Part) (i : ℕ) (part : Part)
     (node : Node) → i < length items → part ≡ get_or items i part
     → node_tree node ≡ part_tree part → AreCounted old items i
-    → SetsCount old new node (suc (count_at old node)) → AreCounted new items (i + 1)
+    → SetsEqualsCount old new node (suc (equals_count old node)) → AreCounted new items (i + 1)
 counted_next old new items i part node low is means h sets =
     let (before, (counted, (n, all))) = h in
     let t = part_tree part in
@@ -170,13 +170,13 @@ counted_next old new items i part node low is means h sets =
     )
 
 pub counted_few : (counts : List (Node × ℕ)) (items : List Part) (i : ℕ) (node : Node)
-    → AreCounted counts items i → count_at counts node ≤ i
+    → AreCounted counts items i → equals_count counts node ≤ i
 counted_few counts items i node h =
     let (before, (counted, (n, all))) = h in
     omega (arith, n, counted node, equals_bound (node_tree node) before)
 
 pub counted_all : (counts : List (Node × ℕ)) (items : List Part) (i : ℕ) → length items ≤ i
-    → AreCounted counts items i → Counts counts (listed_trees items)
+    → AreCounted counts items i → CountsEquals counts (listed_trees items)
 counted_all counts items i done h x =
     let (before, (counted, (n, all))) = h in
     let u = node_tree x in
@@ -224,7 +224,7 @@ chosen_all test us list items i before done h =
 
 -- The distinct items so far, with the counts of all items so far.
 abbrev pub AreDistinct : List (Node × ℕ) → List Part → List Part → ℕ → Type 0
-AreDistinct counts list items i = (before : Trees) × (Counts counts before
+AreDistinct counts list items i = (before : Trees) × (CountsEquals counts before
     × ((count before ≡ i) × AreChosen is_first no_trees list items i before))
 
 pub distinct_none : (counts : List (Node × ℕ)) (list items : List Part) → counts ≡ [] → list ≡ []
@@ -242,15 +242,15 @@ distinct_none counts list items e f = (
 )
 
 pub distinct_few : (counts : List (Node × ℕ)) (list items : List Part) (i : ℕ) (node : Node)
-    → AreDistinct counts list items i → count_at counts node ≤ i
+    → AreDistinct counts list items i → equals_count counts node ≤ i
 distinct_few counts list items i node h =
     let (before, (counted, (n, chosen))) = h in
     omega (arith, n, counted node, equals_bound (node_tree node) before)
 
 pub distinct_next : (old new : List (Node × ℕ)) (list next items : List Part) (i : ℕ)
     (part : Part) (node : Node) (n : ℕ) → i < length items → part ≡ get_or items i part
-    → node_tree node ≡ part_tree part → AreDistinct old list items i → n ≡ count_at old node
-    → SetsCount old new node (suc (count_at old node))
+    → node_tree node ≡ part_tree part → AreDistinct old list items i → n ≡ equals_count old node
+    → SetsEqualsCount old new node (suc (equals_count old node))
     → next ≡ (if n == 0 then list ++ part ∷ [] else list) → AreDistinct new next items (i + 1)
 distinct_next old new list next items i part node n low is means h same sets more =
     let (before, (counted, (m, chosen))) = h in
@@ -281,7 +281,7 @@ AreMatched m us counts list items i = (before : Trees) × (AreLeft counts us bef
     × AreChosen (is_matched m) us list items i before)
 
 pub matched_none : (m : Bool) (us : Trees) (counts : List (Node × ℕ)) (list items : List Part)
-    → Counts counts us → list ≡ [] → AreMatched m us counts list items 0
+    → CountsEquals counts us → list ≡ [] → AreMatched m us counts list items 0
 matched_none m us counts list items counted e = (
   no_trees,
   (
@@ -294,8 +294,8 @@ matched_none m us counts list items counted e = (
 pub matched_next : (m : Bool) (us : Trees) (old new : List (Node × ℕ)) (list next items : List Part)
     (i : ℕ) (part : Part) (node : Node) (r : Bool) → i < length items
     → part ≡ get_or items i part → node_tree node ≡ part_tree part
-    → AreMatched m us old list items i → r ≡ nat_lt 0 (count_at old node)
-    → SetsCount old new node (count_at old node - 1)
+    → AreMatched m us old list items i → r ≡ nat_lt 0 (equals_count old node)
+    → SetsEqualsCount old new node (equals_count old node - 1)
     → next ≡ (if beq r m then list ++ part ∷ [] else list)
     → AreMatched m us new next items (i + 1)
 matched_next m us old new list next items i part node r low is means h was sets more =
@@ -322,7 +322,7 @@ matched_all m us counts list items i done h =
 -- No item that was passed has an equal.
 pub shared_next : (us : Trees) (counts : List (Node × ℕ)) (items : List Part) (i : ℕ) (part : Part)
     (node : Node) → i < length items → part ≡ get_or items i part
-    → node_tree node ≡ part_tree part → Counts counts us → count_at counts node ≤ 0
+    → node_tree node ≡ part_tree part → CountsEquals counts us → equals_count counts node ≤ 0
     → some_shared (listed_trees (drop i items)) us
     ≡ some_shared (listed_trees (drop (i + 1) items)) us
 shared_next us counts items i part node low is means counted none =
@@ -333,7 +333,7 @@ shared_next us counts items i part node low is means counted none =
 
 pub shared_found : (us : Trees) (counts : List (Node × ℕ)) (items : List Part) (i : ℕ) (part : Part)
     (node : Node) → i < length items → part ≡ get_or items i part
-    → node_tree node ≡ part_tree part → Counts counts us → 0 < count_at counts node
+    → node_tree node ≡ part_tree part → CountsEquals counts us → 0 < equals_count counts node
     → some_shared (listed_trees (drop i items)) us ≡ true
 shared_found us counts items i part node low is means counted some =
     let there : 0 < equals (part_tree part) us =
@@ -385,13 +385,13 @@ matched_trees m list kept ps items qs others ts us a b c d e f =
 -- Equal values have one count.
 pub same_count : (counts : List (Node × ℕ)) (node other : Node)
     → are_equal (node_tree node) (node_tree other) ≡ true
-    → count_at counts node ≡ count_at counts other
+    → equals_count counts node ≡ equals_count counts other
 same_count [] node other same = refl
 same_count (e ∷ es) node other same =
     rw (equal_laws.congr (node_tree node) (node_tree other) (node_tree e.0) same)
     (case (are_equal (node_tree other) (node_tree e.0)) (same_count es node other same))
   where
-    case : (b : Bool) → count_at es node ≡ count_at es other
+    case : (b : Bool) → equals_count es node ≡ equals_count es other
         → unwrap_or (if b then Some e.1 else lookup
         (λ key. are_equal (node_tree node) (node_tree key)) es) 0
         ≡ unwrap_or (if b then Some e.1 else lookup
@@ -400,12 +400,12 @@ same_count (e ∷ es) node other same =
     case false h = h
 
 -- The count of a value that has none is not lowered.
-pub none_set : (counts : List (Node × ℕ)) (node : Node) → count_at counts node ≡ 0
-    → SetsCount counts counts node (count_at counts node - 1)
+pub none_set : (counts : List (Node × ℕ)) (node : Node) → equals_count counts node ≡ 0
+    → SetsEqualsCount counts counts node (equals_count counts node - 1)
 none_set counts node none other = case (are_equal (node_tree node) (node_tree other)) refl where
   case : (b : Bool) → are_equal (node_tree node) (node_tree other) ≡ b
-      → count_at counts other
-      ≡ (if b then count_at counts node - 1 else count_at counts other)
+      → equals_count counts other
+      ≡ (if b then equals_count counts node - 1 else equals_count counts other)
   case true same = omega (arith, none, same_count counts node other same)
   case false apart = refl
 

@@ -24,12 +24,14 @@ use Rattle.jsonb_functions.specs.declared.chosen.ChosenItems.{ChosenItems}
 use Rattle.jsonb_functions.specs.declared.chosen.ChosenItems.TheVariants.{Stored, Listed}
 use Rattle.jsonb_functions.specs.declared.chosen.ChosenObject.{ChosenObject}
 use Rattle.jsonb_functions.specs.declared.chosen.ChosenMembers.{ChosenMembers}
-use Rattle.jsonb_functions.specs.ChosenSource.{AreItems, ChosenIs, ItemsAre, ObjectIs, MembersAre}
-use Rattle.jsonb_functions.specs.ChosenSource.{FirstKept, kept_pairs, listed_trees}
+use Rattle.jsonb_functions.specs.ChosenSource.{AreChosenItems, ChosenIs, ChosenItemsAre}
+use Rattle.jsonb_functions.specs.ChosenSource.{ChosenObjectIs, ChosenMembersAre, FirstKept}
+use Rattle.jsonb_functions.specs.ChosenSource.{kept_pairs, listed_trees}
 use Rattle.jsonb_functions.specs.Picked.{picked_pairs}
 use Rattle.jsonb_functions.proofs.EditLaws.{part_is, part_tree_is}
 
-items_unique : (x : ChosenItems) (ts us : Trees) → AreItems x ts → AreItems x us → ts ≡ us
+items_unique : (x : ChosenItems) (ts us : Trees) → AreChosenItems x ts → AreChosenItems x us
+    → ts ≡ us
 items_unique (Stored items) ts us h k = Children-unique _ _ h k
 items_unique (Listed list) ts us h k = h ∙ sym k
 
@@ -46,12 +48,13 @@ pub count_listed : (list : List Part) → length list ≡ trees.count (listed_tr
 count_listed [] = refl
 count_listed (part ∷ list) = omega (arith, count_listed list)
 
-pub items_chosen : (x : ChosenItems) (ts : Trees) → AreItems x ts → ItemsAre x (items_shapes ts)
+pub items_chosen : (x : ChosenItems) (ts : Trees) → AreChosenItems x ts
+    → ChosenItemsAre x (items_shapes ts)
 items_chosen x ts h = ((ts, h), λ us k. ap items_shapes (items_unique x ts us h k))
 
 pub members_chosen : (x : ChosenMembers) (ps : Pairs) → AreMembers ps x.members
     → x.count ≡ pair_count (kept_pairs x.choice ps)
-    → MembersAre x (pairs_shapes (kept_pairs x.choice ps))
+    → ChosenMembersAre x (pairs_shapes (kept_pairs x.choice ps))
 members_chosen x ps h n = (
   (ps, (h, n)),
   λ qs g. ap (λ y. pairs_shapes (kept_pairs x.choice y)) (pairs_unique ps qs _ _ _ _ h g.0),
@@ -59,28 +62,29 @@ members_chosen x ps h n = (
 
 pub object_chosen : (x : ChosenObject) (ps : Pairs) → IsObject x.object.count x.object.body.now ps
     → x.count ≡ pair_count (kept_pairs x.choice ps)
-    → ObjectIs x (pairs_shapes (kept_pairs x.choice ps))
+    → ChosenObjectIs x (pairs_shapes (kept_pairs x.choice ps))
 object_chosen x ps h n = (
   (ps, (h, n)),
   λ qs g. ap (λ y. pairs_shapes (kept_pairs x.choice y)) (object_unique _ _ ps qs h g.0),
 )
 
-pub items_number : (x : ChosenItems) (n : ℕ) → ((ts : Trees) → AreItems x ts → n ≡ trees.count ts)
-    → (ss : Shapes) → ItemsAre x ss → n ≡ count ss
+pub items_number : (x : ChosenItems) (n : ℕ)
+    → ((ts : Trees) → AreChosenItems x ts → n ≡ trees.count ts)
+    → (ss : Shapes) → ChosenItemsAre x ss → n ≡ count ss
 items_number x n first ss h =
     first h.0.0 h.0.1 ∙ sym (ap count (h.1 h.0.0 h.0.1) ∙ count-items_shapes h.0.0)
 
-pub members_number : (x : ChosenMembers) (ss : Shapes) → MembersAre x ss → x.count ≡ count ss
+pub members_number : (x : ChosenMembers) (ss : Shapes) → ChosenMembersAre x ss → x.count ≡ count ss
 members_number x ss h =
     h.0.1.1 ∙ sym (ap count (h.1 h.0.0 h.0.1) ∙ count-pairs_shapes (kept_pairs x.choice h.0.0))
 
-pub object_number : (x : ChosenObject) (ss : Shapes) → ObjectIs x ss → x.count ≡ count ss
+pub object_number : (x : ChosenObject) (ss : Shapes) → ChosenObjectIs x ss → x.count ≡ count ss
 object_number x ss h =
     h.0.1.1 ∙ sym (ap count (h.1 h.0.0 h.0.1) ∙ count-pairs_shapes (kept_pairs x.choice h.0.0))
 
 pub object_lifted : (x : Object) (choice : Choice) → choice.names.now ≡ []
     → choice.which ≡ Others → (ss : Shapes) → parts.ObjectIs x ss
-    → ObjectIs (record { object = x; choice = choice; count = x.count }) ss
+    → ChosenObjectIs (record { object = x; choice = choice; count = x.count }) ss
 object_lifted x choice e f ss h = (
   (h.0.0, (h.0.1, sym h.0.1.0 ∙ ap pair_count (sym (kept_all choice h.0.0 e f)))),
   λ ps g. h.1 ps g.0 ∙ ap pairs_shapes (sym (kept_all choice ps e f)),
@@ -88,33 +92,33 @@ object_lifted x choice e f ss h = (
 
 pub members_of_object : (x : ChosenObject) (members : Members)
     → ((ps : Pairs) → IsObject x.object.count x.object.body.now ps → AreMembers ps members)
-    → (ss : Shapes) → ObjectIs x ss
-    → MembersAre (record { members = members; choice = x.choice; count = x.count }) ss
+    → (ss : Shapes) → ChosenObjectIs x ss
+    → ChosenMembersAre (record { members = members; choice = x.choice; count = x.count }) ss
 members_of_object x members are ss h =
     let k = h.0 in
     let rest : ChosenMembers =
     record { members = members; choice = x.choice; count = x.count } in
-    subst (MembersAre rest) (sym (h.1 k.0 k.1))
+    subst (ChosenMembersAre rest) (sym (h.1 k.0 k.1))
     (members_chosen rest k.0 (are k.0 k.1.0) k.1.1)
 
 pub stored_item : (items later : declared.Children) (part : Part)
     → ((ts : Trees) → AreChildren ts items → FirstChild ts part.type_code part.payload.now
     later.entries.now later.payloads.now)
-    → (ss : Shapes) → ItemsAre (Stored items) ss
-    → AreSplit (λ key. key ≡ []) ChosenIs ItemsAre (record { part = part }, Stored later) ss
+    → (ss : Shapes) → ChosenItemsAre (Stored items) ss
+    → AreSplit (λ key. key ≡ []) ChosenIs ChosenItemsAre (record { part = part }, Stored later) ss
 stored_item items later part first ss h =
     let f = first h.0.0 h.0.1 in
     let child : Chosen = record { part = part } in
-    subst (AreSplit (λ key. key ≡ []) ChosenIs ItemsAre (child, Stored later))
+    subst (AreSplit (λ key. key ≡ []) ChosenIs ChosenItemsAre (child, Stored later))
     (sym (h.1 h.0.0 h.0.1 ∙ ap items_shapes f.are))
     (refl, (part_is part f.first f.is, items_chosen (Stored later) f.others f.later))
 
 pub listed_item : (list later : Bor (List Part)) (part : Part) → list.now ≡ part ∷ later.now
-    → (ss : Shapes) → ItemsAre (Listed list) ss
-    → AreSplit (λ key. key ≡ []) ChosenIs ItemsAre (record { part = part }, Listed later) ss
+    → (ss : Shapes) → ChosenItemsAre (Listed list) ss
+    → AreSplit (λ key. key ≡ []) ChosenIs ChosenItemsAre (record { part = part }, Listed later) ss
 listed_item list later part e ss h =
     let child : Chosen = record { part = part } in
-    subst (AreSplit (λ key. key ≡ []) ChosenIs ItemsAre (child, Listed later))
+    subst (AreSplit (λ key. key ≡ []) ChosenIs ChosenItemsAre (child, Listed later))
     (sym (h.1 h.0.0 h.0.1 ∙ ap items_shapes (h.0.1 ∙ ap listed_trees e)))
     (refl, (part_tree_is part, items_chosen (Listed later) (listed_trees later.now) refl))
 
@@ -125,8 +129,8 @@ one_fewer n m ps rest k t e is fewer = omega (arith, e, ap pair_count is, fewer)
 pub member_split : (IsKey : List ℕ → Type 0) (x : ChosenMembers) (m : Member) (left : ℕ)
     → IsKey m.key.now → left ≡ x.count - 1
     → ((ps : Pairs) → AreMembers ps x.members → FirstKept (kept_pairs x.choice ps) x.choice m)
-    → (ss : Shapes) → MembersAre x ss
-    → AreSplit IsKey ChosenIs MembersAre (
+    → (ss : Shapes) → ChosenMembersAre x ss
+    → AreSplit IsKey ChosenIs ChosenMembersAre (
       record { part = m.value },
       record { members = m.later; choice = x.choice; count = left },
     ) ss
@@ -134,7 +138,7 @@ member_split IsKey x m left keyed fewer first ss h =
     let f = first h.0.0 h.0.1.0 in
     let later : ChosenMembers = record { members = m.later; choice = x.choice; count = left } in
     let child : Chosen = record { part = m.value } in
-    subst (AreSplit IsKey ChosenIs MembersAre (child, later))
+    subst (AreSplit IsKey ChosenIs ChosenMembersAre (child, later))
     (sym (h.1 h.0.0 h.0.1 ∙ ap pairs_shapes f.are)) (
       keyed,
       (

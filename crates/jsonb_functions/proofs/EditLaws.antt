@@ -48,21 +48,22 @@ use Rattle.jsonb_functions.specs.declared.edit.EditedMembers.{EditedMembers}
 use Rattle.jsonb_functions.specs.declared.edit.EditedObject.{EditedObject}
 use Rattle.jsonb_functions.specs.Edited.{Here, nothing, replaced, before, removed, edited}
 use Rattle.jsonb_functions.specs.Edited.{Operation, put, create, insert, remove, here_at}
-use Rattle.jsonb_functions.specs.Edited.{has_key, if_less, equal_or_later, edited_whole}
+use Rattle.jsonb_functions.specs.Edited.{pairs_have_key, if_less, equal_or_later, edited_whole}
 use Rattle.jsonb_functions.specs.Edited.{before_if, can_wrap, here_last, here_missing, keys_before}
 use Rattle.jsonb_functions.specs.Edited.{wrapped}
-use Rattle.jsonb_functions.specs.Edited.{done_after, pairs_done_after, IsWithin, count_done}
-use Rattle.jsonb_functions.specs.EditSource.{here_of, EditedIs, ItemsAre, MembersAre}
-use Rattle.jsonb_functions.specs.EditSource.{ObjectIs, edited_along, made_tree}
+use Rattle.jsonb_functions.specs.Edited.{done_after, pairs_done_after, IsPlaceAmong, count_done}
+use Rattle.jsonb_functions.specs.EditSource.{here_of, EditedIs, EditedItemsAre, EditedMembersAre}
+use Rattle.jsonb_functions.specs.EditSource.{EditedObjectIs, edited_along, made_tree}
 
 -- The place among one child fewer.
-pub within_later : (here : Here) (n c : ℕ) → IsWithin here (suc n) (suc c) → IsWithin here n c
+pub within_later : (here : Here) (n c : ℕ) → IsPlaceAmong here (suc n) (suc c)
+    → IsPlaceAmong here n c
 within_later nothing n c w = tt
 within_later (before v) n c w = omega (arith, w)
 within_later (replaced f) n c w = omega (arith, w)
 within_later removed n c w = omega (arith, w)
 
-count_more : (here : Here) (n c : ℕ) → IsWithin here n c
+count_more : (here : Here) (n c : ℕ) → IsPlaceAmong here n c
     → count_done here (suc c) ≡ suc (count_done here c)
 count_more nothing n c w = refl
 count_more (before v) n c w = refl
@@ -71,7 +72,7 @@ count_more removed n (suc c) w = refl
 count_more removed n zero w = absurd (omega (arith, w))
 
 -- How many items there are then.
-count_items : (here : Here) (n : ℕ) (ts : Trees) → IsWithin here n (trees.count ts)
+count_items : (here : Here) (n : ℕ) (ts : Trees) → IsPlaceAmong here n (trees.count ts)
     → trees.count (done_after here n ts) ≡ count_done here (trees.count ts)
 count_items nothing zero ts w = refl
 count_items (before v) zero ts w = refl
@@ -87,7 +88,8 @@ count_items (before v) (suc n) no_trees w = absurd (omega (arith, w))
 count_items (replaced f) (suc n) no_trees w = absurd (omega (arith, w))
 count_items removed (suc n) no_trees w = absurd (omega (arith, w))
 
-count_pairs : (key : List ℕ) (here : Here) (n : ℕ) (ps : Pairs) → IsWithin here n (pair_count ps)
+count_pairs : (key : List ℕ) (here : Here) (n : ℕ) (ps : Pairs)
+    → IsPlaceAmong here n (pair_count ps)
     → pair_count (pairs_done_after key here n ps) ≡ count_done here (pair_count ps)
 count_pairs key nothing zero ps w = refl
 count_pairs key (before v) zero ps w = refl
@@ -123,8 +125,8 @@ along_is part plan t h = (
 
 -- What items are written as, by the place of a change among them.
 pub items_by : (x : EditedItems) (ts : Trees) → AreChildren ts x.items
-    → IsWithin (here_of x.what) x.before (trees.count ts)
-    → ItemsAre x (items_shapes (done_after (here_of x.what) x.before ts))
+    → IsPlaceAmong (here_of x.what) x.before (trees.count ts)
+    → EditedItemsAre x (items_shapes (done_after (here_of x.what) x.before ts))
 items_by x ts h w = (
   (ts, (h, w)),
   λ us k. ap (λ vs. items_shapes (done_after (here_of x.what) x.before vs))
@@ -133,7 +135,7 @@ items_by x ts h w = (
 
 pub unchanged_are : (x : EditedItems) (items : declared.Children) (ts : Trees) → x.items ≡ items
     → x.before ≡ 0 → here_of x.what ≡ nothing → AreChildren ts items
-    → ItemsAre x (items_shapes ts)
+    → EditedItemsAre x (items_shapes ts)
 unchanged_are x items ts same start none h =
     let are : AreChildren ts x.items = rw same h in (
       (ts, (are, rw none tt)),
@@ -141,12 +143,13 @@ unchanged_are x items ts same start none h =
     )
 
 pub split_as : (child : Edited) (rest : EditedItems) (s : Shape) (us ss : Shapes)
-    → ss ≡ shape [] s us → EditedIs child s → ItemsAre rest us
-    → AreSplit (λ key. key ≡ []) EditedIs ItemsAre (child, rest) ss
+    → ss ≡ shape [] s us → EditedIs child s → EditedItemsAre rest us
+    → AreSplit (λ key. key ≡ []) EditedIs EditedItemsAre (child, rest) ss
 split_as child rest s us ss e is are =
-    subst (AreSplit (λ key. key ≡ []) EditedIs ItemsAre (child, rest)) (sym e) (refl, (is, are))
+    subst (AreSplit (λ key. key ≡ []) EditedIs EditedItemsAre (child, rest)) (sym e)
+    (refl, (is, are))
 
-pub items_count : (x : EditedItems) (ss : Shapes) → ItemsAre x ss
+pub items_count : (x : EditedItems) (ss : Shapes) → EditedItemsAre x ss
     → count_done (here_of x.what) (length x.items.entries.now / 4) ≡ count ss
 items_count x ss h =
     let ts = h.0.0 in
@@ -166,8 +169,8 @@ step_before : (here : Here) (m n : ℕ) (ts others : Trees) (t : Tree) → m ≡
 step_before here m n ts others t e are = rw (e, are) refl
 
 step_within : (here : Here) (m n : ℕ) (ts others : Trees) (t : Tree) → m ≡ suc n
-    → ts ≡ tree t others → IsWithin here m (trees.count ts)
-    → IsWithin here n (trees.count others)
+    → ts ≡ tree t others → IsPlaceAmong here m (trees.count ts)
+    → IsPlaceAmong here n (trees.count others)
 step_within here m n ts others t e are w =
     within_later here n (trees.count others) (rw (e, are) at w)
 
@@ -198,8 +201,8 @@ pub kept_before : (x : EditedItems) (part : Part) (later : declared.Children) (n
     → x.before ≡ suc n
     → ((ts : Trees) → AreChildren ts x.items → FirstChild ts part.type_code part.payload.now
     later.entries.now later.payloads.now)
-    → (ss : Shapes) → ItemsAre x ss
-    → AreSplit (λ key. key ≡ []) EditedIs ItemsAre
+    → (ss : Shapes) → EditedItemsAre x ss
+    → AreSplit (λ key. key ≡ []) EditedIs EditedItemsAre
     (Kept part, record { items = later; before = n; what = x.what }) ss
 kept_before x part later n e first ss h =
     let f = first h.0.0 h.0.1.0 in
@@ -214,15 +217,15 @@ kept_before x part later n e first ss h =
 
 pub none_before : (x : EditedItems) (n : ℕ) → x.before ≡ suc n
     → ((ts : Trees) → AreChildren ts x.items → ts ≡ no_trees)
-    → (ss : Shapes) → ItemsAre x ss → ss ≡ no_shapes
+    → (ss : Shapes) → EditedItemsAre x ss → ss ≡ no_shapes
 none_before x n e none ss h = h.1 h.0.0 h.0.1 ∙ rw (e, none h.0.0 h.0.1.0) refl
 
 -- What is done at the place of a change.
 pub insert_first : (x rest : EditedItems) (made : Made) → x.before ≡ 0
     → x.what ≡ whats.Insert made → rest.items ≡ x.items → rest.before ≡ 0
     → here_of rest.what ≡ nothing
-    → (ss : Shapes) → ItemsAre x ss
-    → AreSplit (λ key. key ≡ []) EditedIs ItemsAre (children.Made made, rest) ss
+    → (ss : Shapes) → EditedItemsAre x ss
+    → AreSplit (λ key. key ≡ []) EditedIs EditedItemsAre (children.Made made, rest) ss
 insert_first x rest made e w same start none ss h =
     let ts = h.0.0 in
     split_as (children.Made made) rest (shape_of (made_tree made)) (items_shapes ts) ss
@@ -234,8 +237,8 @@ pub put_first : (x rest : EditedItems) (value : Bor Part) (part : Part) (later :
     → here_of rest.what ≡ nothing
     → ((ts : Trees) → AreChildren ts x.items → FirstChild ts part.type_code part.payload.now
     later.entries.now later.payloads.now)
-    → (ss : Shapes) → ItemsAre x ss
-    → AreSplit (λ key. key ≡ []) EditedIs ItemsAre (Kept value.now, rest) ss
+    → (ss : Shapes) → EditedItemsAre x ss
+    → AreSplit (λ key. key ≡ []) EditedIs EditedItemsAre (Kept value.now, rest) ss
 put_first x rest value part later e w same start none first ss h =
     let f = first h.0.0 h.0.1.0 in
     split_as (Kept value.now) rest (shape_of (part_tree value.now)) (items_shapes f.others) ss
@@ -248,8 +251,8 @@ pub below_first : (x rest : EditedItems) (plan : Plan) (part : Part) (later : de
     → here_of rest.what ≡ nothing
     → ((ts : Trees) → AreChildren ts x.items → FirstChild ts part.type_code part.payload.now
     later.entries.now later.payloads.now)
-    → (ss : Shapes) → ItemsAre x ss
-    → AreSplit (λ key. key ≡ []) EditedIs ItemsAre (Along part plan, rest) ss
+    → (ss : Shapes) → EditedItemsAre x ss
+    → AreSplit (λ key. key ≡ []) EditedIs EditedItemsAre (Along part plan, rest) ss
 below_first x rest plan part later e w same start none first ss h =
     let f = first h.0.0 h.0.1.0 in
     split_as (Along part plan) rest
@@ -265,8 +268,8 @@ pub remove_first : (x rest : EditedItems) (gone part : Part) (between later : de
     between.entries.now between.payloads.now)
     → ((ts : Trees) → AreChildren ts between → FirstChild ts part.type_code part.payload.now
     later.entries.now later.payloads.now)
-    → (ss : Shapes) → ItemsAre x ss
-    → AreSplit (λ key. key ≡ []) EditedIs ItemsAre (Kept part, rest) ss
+    → (ss : Shapes) → EditedItemsAre x ss
+    → AreSplit (λ key. key ≡ []) EditedIs EditedItemsAre (Kept part, rest) ss
 remove_first x rest gone part between later e w same start none first second ss h =
     let f = first h.0.0 h.0.1.0 in
     let g = second f.others f.later in
@@ -281,8 +284,8 @@ pub keep_first : (x rest : EditedItems) (part : Part) (later : declared.Children
     → here_of rest.what ≡ nothing
     → ((ts : Trees) → AreChildren ts x.items → FirstChild ts part.type_code part.payload.now
     later.entries.now later.payloads.now)
-    → (ss : Shapes) → ItemsAre x ss
-    → AreSplit (λ key. key ≡ []) EditedIs ItemsAre (Kept part, rest) ss
+    → (ss : Shapes) → EditedItemsAre x ss
+    → AreSplit (λ key. key ≡ []) EditedIs EditedItemsAre (Kept part, rest) ss
 keep_first x rest part later e w same start none first ss h =
     let f = first h.0.0 h.0.1.0 in
     split_as (Kept part) rest (shape_of f.first) (items_shapes f.others) ss
@@ -293,8 +296,8 @@ keep_first x rest part later e w same start none first ss h =
 -- ---- members
 
 pub members_by : (x : EditedMembers) (ps : Pairs) → AreMembers ps x.members
-    → IsWithin (here_of x.what) x.before (pair_count ps)
-    → MembersAre x (pairs_shapes (pairs_done_after x.key.now (here_of x.what) x.before ps))
+    → IsPlaceAmong (here_of x.what) x.before (pair_count ps)
+    → EditedMembersAre x (pairs_shapes (pairs_done_after x.key.now (here_of x.what) x.before ps))
 members_by x ps h w = (
   (ps, (h, w)),
   λ us k. ap (λ vs. pairs_shapes (pairs_done_after x.key.now (here_of x.what) x.before vs))
@@ -303,7 +306,7 @@ members_by x ps h w = (
 
 pub unchanged_members_are : (x : EditedMembers) (members : Members) (ps : Pairs)
     → x.members ≡ members → x.before ≡ 0 → here_of x.what ≡ nothing → AreMembers ps members
-    → MembersAre x (pairs_shapes ps)
+    → EditedMembersAre x (pairs_shapes ps)
 unchanged_members_are x members ps same start none h =
     let are : AreMembers ps x.members = rw same h in (
       (ps, (are, rw none tt)),
@@ -312,16 +315,16 @@ unchanged_members_are x members ps same start none h =
 
 pub object_members : (x : EditedObject) (ms : Members)
     → ((ps : Pairs) → IsObject x.object.count x.object.body.now ps → AreMembers ps ms)
-    → (ss : Shapes) → ObjectIs x ss
-    → MembersAre (record { members = ms; before = x.before; key = x.key; what = x.what }) ss
+    → (ss : Shapes) → EditedObjectIs x ss
+    → EditedMembersAre (record { members = ms; before = x.before; key = x.key; what = x.what }) ss
 object_members x ms are ss h =
     let k = h.0 in
     let rest : EditedMembers =
     record { members = ms; before = x.before; key = x.key; what = x.what } in
-    subst (MembersAre rest) (sym (h.1 k.0 k.1))
+    subst (EditedMembersAre rest) (sym (h.1 k.0 k.1))
     (members_by rest k.0 (are k.0 k.1.0) k.1.1)
 
-pub members_left_count : (x : EditedMembers) (ss : Shapes) → MembersAre x ss
+pub members_left_count : (x : EditedMembers) (ss : Shapes) → EditedMembersAre x ss
     → count_done (here_of x.what) (length x.members.values.entries.now / 4) ≡ count ss
 members_left_count x ss h =
     let ps = h.0.0 in
@@ -337,7 +340,7 @@ members_left_count x ss h =
       count_pairs x.key.now (here_of x.what) x.before ps h.0.1.1,
     ) refl
 
-pub object_count_done : (x : EditedObject) (ss : Shapes) → ObjectIs x ss
+pub object_count_done : (x : EditedObject) (ss : Shapes) → EditedObjectIs x ss
     → count_done (here_of x.what) x.object.count ≡ count ss
 object_count_done x ss h =
     let ps = h.0.0 in
@@ -350,15 +353,15 @@ object_count_done x ss h =
 
 pub no_member_before : (x : EditedMembers) (n : ℕ) → x.before ≡ suc n
     → ((ps : Pairs) → AreMembers ps x.members → ps ≡ no_pairs)
-    → (ss : Shapes) → MembersAre x ss → ss ≡ no_shapes
+    → (ss : Shapes) → EditedMembersAre x ss → ss ≡ no_shapes
 no_member_before x n e none ss h = h.1 h.0.0 h.0.1 ∙ rw (e, none h.0.0 h.0.1.0) refl
 
 module _ (IsKey : List ℕ → Type 0) where
   pub split_member_as : (child : Edited) (rest : EditedMembers) (key : List ℕ) (s : Shape)
-      (us ss : Shapes) → ss ≡ shape key s us → IsKey key → EditedIs child s → MembersAre rest us
-      → AreSplit IsKey EditedIs MembersAre (child, rest) ss
+      (us ss : Shapes) → ss ≡ shape key s us → IsKey key → EditedIs child s
+      → EditedMembersAre rest us → AreSplit IsKey EditedIs EditedMembersAre (child, rest) ss
   split_member_as child rest key s us ss e keyed is are =
-      subst (AreSplit IsKey EditedIs MembersAre (child, rest)) (sym e) (keyed, (is, are))
+      subst (AreSplit IsKey EditedIs EditedMembersAre (child, rest)) (sym e) (keyed, (is, are))
 
   member_before : (new : List ℕ) (here : Here) (m n : ℕ) (ps others : Pairs) (k : List ℕ) (t : Tree)
       → m ≡ suc n → ps ≡ pair k t others → pairs_shapes (pairs_done_after new here m ps)
@@ -366,7 +369,8 @@ module _ (IsKey : List ℕ → Type 0) where
   member_before new here m n ps others k t e are = rw (e, are) refl
 
   member_within : (here : Here) (m n : ℕ) (ps others : Pairs) (k : List ℕ) (t : Tree) → m ≡ suc n
-      → ps ≡ pair k t others → IsWithin here m (pair_count ps) → IsWithin here n (pair_count others)
+      → ps ≡ pair k t others → IsPlaceAmong here m (pair_count ps)
+      → IsPlaceAmong here n (pair_count others)
   member_within here m n ps others k t e are w =
       within_later here n (pair_count others) (rw (e, are) at w)
 
@@ -399,8 +403,8 @@ module _ (IsKey : List ℕ → Type 0) where
       (n : ℕ) → IsKey key → x.before ≡ suc n
       → ((ps : Pairs) → AreMembers ps x.members
       → FirstMember ps key part.type_code part.payload.now later)
-      → (ss : Shapes) → MembersAre x ss
-      → AreSplit IsKey EditedIs MembersAre
+      → (ss : Shapes) → EditedMembersAre x ss
+      → AreSplit IsKey EditedIs EditedMembersAre
       (Kept part, record { members = later; before = n; key = x.key; what = x.what }) ss
   kept_member_before x key part later n keyed e first ss h =
       let f = first h.0.0 h.0.1.0 in
@@ -418,8 +422,8 @@ module _ (IsKey : List ℕ → Type 0) where
   pub insert_member_first : (x rest : EditedMembers) (made : Made) → IsKey x.key.now
       → x.before ≡ 0 → x.what ≡ whats.Insert made → rest.members ≡ x.members → rest.before ≡ 0
       → here_of rest.what ≡ nothing
-      → (ss : Shapes) → MembersAre x ss
-      → AreSplit IsKey EditedIs MembersAre (children.Made made, rest) ss
+      → (ss : Shapes) → EditedMembersAre x ss
+      → AreSplit IsKey EditedIs EditedMembersAre (children.Made made, rest) ss
   insert_member_first x rest made keyed e w same start none ss h =
       let ps = h.0.0 in
       split_member_as (children.Made made) rest x.key.now (shape_of (made_tree made))
@@ -431,8 +435,8 @@ module _ (IsKey : List ℕ → Type 0) where
       → rest.members ≡ later → rest.before ≡ 0 → here_of rest.what ≡ nothing
       → ((ps : Pairs) → AreMembers ps x.members
       → FirstMember ps key part.type_code part.payload.now later)
-      → (ss : Shapes) → MembersAre x ss
-      → AreSplit IsKey EditedIs MembersAre (Kept value.now, rest) ss
+      → (ss : Shapes) → EditedMembersAre x ss
+      → AreSplit IsKey EditedIs EditedMembersAre (Kept value.now, rest) ss
   put_member_first x rest value part key later keyed e w same start none first ss h =
       let f = first h.0.0 h.0.1.0 in
       split_member_as (Kept value.now) rest key (shape_of (part_tree value.now))
@@ -447,8 +451,8 @@ module _ (IsKey : List ℕ → Type 0) where
       → rest.members ≡ later → rest.before ≡ 0 → here_of rest.what ≡ nothing
       → ((ps : Pairs) → AreMembers ps x.members
       → FirstMember ps key part.type_code part.payload.now later)
-      → (ss : Shapes) → MembersAre x ss
-      → AreSplit IsKey EditedIs MembersAre (Along part plan, rest) ss
+      → (ss : Shapes) → EditedMembersAre x ss
+      → AreSplit IsKey EditedIs EditedMembersAre (Along part plan, rest) ss
   below_member_first x rest plan part key later keyed e w same start none first ss h =
       let f = first h.0.0 h.0.1.0 in
       split_member_as (Along part plan) rest key
@@ -466,8 +470,8 @@ module _ (IsKey : List ℕ → Type 0) where
       → FirstMember ps old gone.type_code gone.payload.now between)
       → ((ps : Pairs) → AreMembers ps between
       → FirstMember ps key part.type_code part.payload.now later)
-      → (ss : Shapes) → MembersAre x ss
-      → AreSplit IsKey EditedIs MembersAre (Kept part, rest) ss
+      → (ss : Shapes) → EditedMembersAre x ss
+      → AreSplit IsKey EditedIs EditedMembersAre (Kept part, rest) ss
   remove_member_first x rest gone part old key between later keyed e w same start none first second
       ss h =
       let f = first h.0.0 h.0.1.0 in
@@ -484,8 +488,8 @@ module _ (IsKey : List ℕ → Type 0) where
       → rest.before ≡ 0 → here_of rest.what ≡ nothing
       → ((ps : Pairs) → AreMembers ps x.members
       → FirstMember ps key part.type_code part.payload.now later)
-      → (ss : Shapes) → MembersAre x ss
-      → AreSplit IsKey EditedIs MembersAre (Kept part, rest) ss
+      → (ss : Shapes) → EditedMembersAre x ss
+      → AreSplit IsKey EditedIs EditedMembersAre (Kept part, rest) ss
   keep_member_first x rest part key later keyed e w same start none first ss h =
       let f = first h.0.0 h.0.1.0 in
       split_member_as (Kept part) rest key (shape_of f.value) (pairs_shapes f.others) ss
@@ -528,12 +532,12 @@ path_split (r ∷ path) d s h e =
     let all : later_steps (r ∷ path) ≡ path = rw fewer (take-length path) in
     rw (all, ← first) refl
 
-within_before : (b : Bool) (v : Tree) (m n : ℕ) → m ≤ n → IsWithin (before_if b v) m n
+within_before : (b : Bool) (v : Tree) (m n : ℕ) → m ≤ n → IsPlaceAmong (before_if b v) m n
 within_before true v m n all = all
 within_before false v m n all = tt
 
 within_last : (items : Bool) (operation : Operation) (m n : ℕ) → m < n
-    → IsWithin (here_last items operation) m n
+    → IsPlaceAmong (here_last items operation) m n
 within_last items (put v) m n some = some
 within_last items (create v) m n some = some
 within_last true (insert v) m n some = omega (arith, some)
@@ -541,7 +545,7 @@ within_last false (insert v) m n some = tt
 within_last items remove m n some = some
 
 within_missing : (next : Bool) (path : List Step) (operation : Operation) (m n : ℕ) → m ≤ n
-    → IsWithin (here_missing next path operation) m n
+    → IsPlaceAmong (here_missing next path operation) m n
 within_missing next path (put v) m n all = within_before (length path == 0) v m n all
 within_missing next path (create v) m n all =
     within_before (next && can_wrap path) (wrapped path v) m n all
@@ -550,7 +554,7 @@ within_missing next path remove m n all = tt
 
 within_at : (items there next : Bool) (path : List Step) (operation : Operation)
     (f : Tree → Tree) (m n : ℕ) → m ≤ n
-    → (there ≡ true → m < n) → IsWithin (here_at items there next path operation f) m n
+    → (there ≡ true → m < n) → IsPlaceAmong (here_at items there next path operation f) m n
 within_at items true next [] operation f m n all some =
     within_last items operation m n (some refl)
 within_at items true next (s ∷ path) operation f m n all some = some refl
@@ -559,7 +563,7 @@ within_at items false next path operation f m n all some =
 
 within_item : (s : Step) (n : ℕ) (place : ℕ × Bool) (next : Bool) (path : List Step)
     (operation : Operation) (f : Tree → Tree) → Some place ≡ item_place s n
-    → IsWithin (here_at true place.1 next path operation f) place.0 n
+    → IsPlaceAmong (here_at true place.1 next path operation f) place.0 n
 within_item (Key k) n place next path operation f e = absurd (cc)
 within_item (Index i) n place next path operation f e =
     let is : place ≡ (min i n, nat_lt i n) = cc in
@@ -586,20 +590,20 @@ there_more Less b m n h e = omega (arith, h e)
 there_more Equal b m n h e = omega arith
 there_more Greater b m n h e = absurd (cc)
 
-key_there : (key : List ℕ) (ps : Pairs) → has_key key ps ≡ true
+key_there : (key : List ℕ) (ps : Pairs) → pairs_have_key key ps ≡ true
     → keys_before key ps < pair_count ps
 key_there key no_pairs e = absurd (cc)
 key_there key (pair k t ps) e =
-    there_more (slice_cmp nat_cmp k key) (has_key key ps) (keys_before key ps) (pair_count ps)
-    (key_there key ps) e
+    there_more (slice_cmp nat_cmp k key) (pairs_have_key key ps) (keys_before key ps)
+    (pair_count ps) (key_there key ps) e
 
 within_key : (key : List ℕ) (ps : Pairs) (path : List Step) (operation : Operation)
     (f : Tree → Tree)
-    → IsWithin (here_at false (has_key key ps) true path operation f) (keys_before key ps)
-    (pair_count ps)
+    → IsPlaceAmong (here_at false (pairs_have_key key ps) true path operation f)
+    (keys_before key ps) (pair_count ps)
 within_key key ps path operation f =
-    within_at false (has_key key ps) true path operation f (keys_before key ps) (pair_count ps)
-    (keys_within key ps) (key_there key ps)
+    within_at false (pairs_have_key key ps) true path operation f (keys_before key ps)
+    (pair_count ps) (keys_within key ps) (key_there key ps)
 
 pub array_edited : (path rest : List Step) (s : Step) (operation : Operation) (t : Tree)
     (ts : Trees)
@@ -616,7 +620,7 @@ pub level_array : (x : EditedItems) (s : Step) (path rest : List Step) (operatio
     → Some place ≡ item_place s (trees.count ts) → x.before ≡ place.0
     → here_of x.what ≡ here_at true place.1 (is_next s (trees.count ts)) rest operation
     (λ u. edited rest operation u)
-    → (ss : Shapes) × ((shape_of (edited path operation t) ≡ shapes.array ss) × ItemsAre x ss)
+    → (ss : Shapes) × ((shape_of (edited path operation t) ≡ shapes.array ss) × EditedItemsAre x ss)
 level_array x s path rest operation t ts place path_is is are e start what =
     let within = within_item s (trees.count ts) place (is_next s (trees.count ts)) rest operation
     (λ u. edited rest operation u) e in (
@@ -632,15 +636,15 @@ pub level_same_array : (x : EditedItems) (items : declared.Children) (s : Step)
     ≡ array ts
     → AreChildren ts items → None ≡ item_place s (trees.count ts) → x.items ≡ items
     → x.before ≡ 0 → here_of x.what ≡ nothing
-    → (ss : Shapes) × ((shape_of (edited path operation t) ≡ shapes.array ss) × ItemsAre x ss)
+    → (ss : Shapes) × ((shape_of (edited path operation t) ≡ shapes.array ss) × EditedItemsAre x ss)
 level_same_array x items s path rest operation t ts path_is is are e same start what = (
   items_shapes ts,
   (rw (path_is, is, ← e) refl, unchanged_are x items ts same start what are),
 )
 
 pub object_by : (x : EditedObject) (ps : Pairs) → IsObject x.object.count x.object.body.now ps
-    → IsWithin (here_of x.what) x.before (pair_count ps)
-    → ObjectIs x (pairs_shapes (pairs_done_after x.key.now (here_of x.what) x.before ps))
+    → IsPlaceAmong (here_of x.what) x.before (pair_count ps)
+    → EditedObjectIs x (pairs_shapes (pairs_done_after x.key.now (here_of x.what) x.before ps))
 object_by x ps h w = (
   (ps, (h, w)),
   λ us k. ap (λ vs. pairs_shapes (pairs_done_after x.key.now (here_of x.what) x.before vs))
@@ -660,9 +664,10 @@ pub level_object : (x : EditedObject) (key : Bor (List ℕ)) (path rest : List S
     (t : Tree) (ps : Pairs) → path ≡ Key key ∷ rest → t ≡ object ps
     → IsObject x.object.count x.object.body.now ps → x.key.now ≡ key.now
     → x.before ≡ keys_before key.now ps
-    → here_of x.what ≡ here_at false (has_key key.now ps) true rest operation
+    → here_of x.what ≡ here_at false (pairs_have_key key.now ps) true rest operation
     (λ u. edited rest operation u)
-    → (ss : Shapes) × ((shape_of (edited path operation t) ≡ shapes.object ss) × ObjectIs x ss)
+    → (ss : Shapes)
+    × ((shape_of (edited path operation t) ≡ shapes.object ss) × EditedObjectIs x ss)
 level_object x key path rest operation t ps path_is is are same start what = (
   pairs_shapes (pairs_done_after x.key.now (here_of x.what) x.before ps),
   (

@@ -21,8 +21,8 @@ use Rattle.jsonb_functions.specs.declared.selection.Selector.TheVariants as sele
 use Rattle.jsonb_functions.specs.declared.path.Step.{Step}
 use Rattle.jsonb_functions.specs.StoredPath.{StepView, step_view}
 use Rattle.jsonb_functions.specs.PathText.{AreSteps, BeginsWith, BeginsWithLiteral, IsComparison}
-use Rattle.jsonb_functions.specs.PathText.{IsFilter, IsFilterPath, IsLiteral, IsStep, IsWord}
-use Rattle.jsonb_functions.specs.PathText.{IsWritten, Literal, Reads, ReadsStep, SelectorView}
+use Rattle.jsonb_functions.specs.PathText.{IsFilter, IsFilterPath, IsLiteral, IsLiteralWord, IsStep}
+use Rattle.jsonb_functions.specs.PathText.{IsWrittenStep, Literal, Reads, ReadsStep, SelectorView}
 use Rattle.jsonb_functions.specs.PathText.{StopsAt, WrittenFilter, all_are, comparison_in, filter}
 use Rattle.jsonb_functions.specs.PathText.{filter_bytes, is_in_word, is_not, literal_bytes}
 use Rattle.jsonb_functions.specs.PathText.{path_view, scalar_tree, selector_view, single_steps}
@@ -161,20 +161,20 @@ string_goes_on s v after e all other = record {
 word_from_by : (text : List ℕ) (t : Tree) (rest : List ℕ) (l : Literal)
     → ((later : List ℕ) → text ≡ 34 ∷ later → ⊥)
     → text ≡ literal_bytes l ++ (41 ∷ rest) → IsLiteral l t
-    → (w : List ℕ) × (text ≡ w ++ (41 ∷ rest)) × (all_are is_in_word w ≡ true) × IsWord w t
+    → (w : List ℕ) × (text ≡ w ++ (41 ∷ rest)) × (all_are is_in_word w ≡ true) × IsLiteralWord w t
 word_from_by text t rest (string v) other e is =
     absurd (other ((v ++ (34 ∷ [])) ++ (41 ∷ rest)) e)
 word_from_by text t rest (word w) other e is = (w, e, is.0, is.1)
 
 word_from : (text : List ℕ) (t : Tree) (rest : List ℕ)
     → ((later : List ℕ) → text ≡ 34 ∷ later → ⊥) → BeginsWithLiteral text t rest
-    → (w : List ℕ) × (text ≡ w ++ (41 ∷ rest)) × (all_are is_in_word w ≡ true) × IsWord w t
+    → (w : List ℕ) × (text ≡ w ++ (41 ∷ rest)) × (all_are is_in_word w ≡ true) × IsLiteralWord w t
 word_from text t rest other h = word_from_by text t rest h.0 other h.1 h.2
 
 pub word_read : (text w after : List ℕ) (rest : Bor (List ℕ)) (node : Node)
     → ((later : List ℕ) → text ≡ 34 ∷ later → ⊥) → text ≡ w ++ after
     → all_are is_in_word w ≡ true → StopsAt is_in_word after → after ≡ 41 ∷ rest.now
-    → IsWord w (node_tree node)
+    → IsLiteralWord w (node_tree node)
     → Reads node_tree (BeginsWithLiteral text) (Some (node, rest))
 word_read text w after rest node other e all stops ends means = record {
   is = (word w, e ∙ ap (λ xs. w ++ xs) ends, (all, means));
@@ -202,7 +202,7 @@ word_goes_on text w after other e all stops ends = record {
 
 pub no_word : (text w after : List ℕ) → ((later : List ℕ) → text ≡ 34 ∷ later → ⊥)
     → text ≡ w ++ after → all_are is_in_word w ≡ true → StopsAt is_in_word after
-    → ((t : Tree) → IsWord w t → ⊥)
+    → ((t : Tree) → IsLiteralWord w t → ⊥)
     → Reads node_tree (BeginsWithLiteral text) None
 no_word text w after other e all stops none = record {
   is = tt;
@@ -210,7 +210,7 @@ no_word text w after other e all stops none = record {
       let u = word_from text t later other h in
       let same = split_once is_in_word w after u.0 (41 ∷ later) all u.2 stops refl
       (sym e ∙ u.1) in
-      none t (subst (λ xs. IsWord xs t) (sym same.0) u.3);
+      none t (subst (λ xs. IsLiteralWord xs t) (sym same.0) u.3);
 }
 
 -- The value of a word that was parsed.
@@ -222,7 +222,7 @@ scalar_is u t e = absurd (cc)
 
 pub scalar_found : (w : List ℕ) (u : Tree) (r : Option Node) → JsonWithExponents (chars w) u
     → option_map node_tree r ≡ scalar_tree u
-    → MatchOption r ((t : Tree) → IsWord w t → ⊥) (λ node. IsWord w (node_tree node))
+    → MatchOption r ((t : Tree) → IsLiteralWord w t → ⊥) (λ node. IsLiteralWord w (node_tree node))
 scalar_found w u None json e = λ t is.
     let same = same_meaning Allowed (chars w) u t json is.0 in
     let none : None ≡ Some t = e ∙ ap scalar_tree same ∙ is.1 in
@@ -234,7 +234,7 @@ scalar_found w u (Some node) json e =
     )
 
 pub scalar_refused : (w : List ℕ) → ((t : Tree) → JsonWithExponents (chars w) t → ⊥)
-    → (t : Tree) → IsWord w t → ⊥
+    → (t : Tree) → IsLiteralWord w t → ⊥
 scalar_refused w none t is = none t is.0
 
 -- Steps before an end.
@@ -316,8 +316,8 @@ module _ (text condition : List ℕ) (start : text ≡ 40 ∷ (64 ∷ condition)
       let both : 40 ∷ (64 ∷ (f.0.path ++ (32 ∷ after_path f.0 rest))) ≡ 40 ∷ (64 ∷ condition) =
       sym f.1 ∙ start in
       let same : f.0.path ++ (32 ∷ after_path f.0 rest) ≡ condition = cc in
-      subst (λ b. AreSteps (IsWritten true) (32 ∷ after_path f.0 rest) b f.2.path) same
-      (then_end (IsWritten true) f.0.path (32 ∷ after_path f.0 rest) f.2.path f.2.is_path)
+      subst (λ b. AreSteps (IsWrittenStep true) (32 ∷ after_path f.0 rest) b f.2.path) same
+      (then_end (IsWrittenStep true) f.0.path (32 ∷ after_path f.0 rest) f.2.path f.2.is_path)
 
   pub no_path : Reads {A = Vec Selector} path_view (IsFilterPath condition) None
       → ReadsStep IsStep false (63 ∷ text) None
@@ -383,7 +383,7 @@ module _ (text condition : List ℕ) (start : text ≡ 40 ∷ (64 ∷ condition)
             rest,
           ))
       filter_read steps value rest single literal_read =
-          let p = before_end (IsWritten true) condition (32 ∷ after.now) (path_view path)
+          let p = before_end (IsWrittenStep true) condition (32 ∷ after.now) (path_view path)
           path_read.is in
           let c = comparison_read.is in
           let l = literal_read.is in
@@ -439,20 +439,20 @@ single_path path now same o is =
 
 -- Without a question mark a step is no filter.
 as_step : (text : List ℕ) (r : Option (Selector × Bor (List ℕ)))
-    → IfSome r (λ x. BeginsWith (IsWritten false) text (selector_view x.0) x.1.now)
+    → IfSome r (λ x. BeginsWith (IsWrittenStep false) text (selector_view x.0) x.1.now)
     → IfSome r (λ x. BeginsWith IsStep text (selector_view x.0) x.1.now)
 as_step text None h = h
 as_step text (Some x) h = (h.0, h.1, inl h.2)
 
 as_written : (text front : List ℕ) (s : SelectorView) (rest : List ℕ)
     → ((later : List ℕ) → text ≡ 63 ∷ later → ⊥) → text ≡ front ++ rest → IsStep front s
-    → BeginsWith (IsWritten false) text s rest
+    → BeginsWith (IsWrittenStep false) text s rest
 as_written text front s rest other e (inl is) = (front, e, is)
 as_written text front s rest other e (inr (f, is, means)) =
     absurd (other _ (e ∙ ap (λ b. b ++ rest) is))
 
 pub no_filter : (text : List ℕ) (r : Option (Selector × Bor (List ℕ)))
-    → ((rest : List ℕ) → text ≡ 63 ∷ rest → ⊥) → ReadsStep (IsWritten false) false text r
+    → ((rest : List ℕ) → text ≡ 63 ∷ rest → ⊥) → ReadsStep (IsWrittenStep false) false text r
     → ReadsStep IsStep false text r
 no_filter text r other h = record {
   is = as_step text r h.is;

@@ -14,7 +14,7 @@ use Rattle.jsonb_value.specs.WellFormed.{IsTree, AreTrees, ArePairs}
 use Rattle.jsonb.specs.Node.{value_of_key}
 use Rattle.jsonb_functions.specs.Contains.{contained, items_contained, members_contained}
 use Rattle.jsonb_functions.specs.Contains.{contains_whole, some_tree, some_value}
-use Rattle.jsonb_functions.specs.IndexKeys.{IsIn, AreIn, index_keys, items_keys, members_keys}
+use Rattle.jsonb_functions.specs.IndexKeys.{IsIn, AreAllIn, index_keys, items_keys, members_keys}
 
 pub both : (a b : Bool) → (a && b) ≡ true → (a ≡ true) × (b ≡ true)
 both true true h = (refl, refl)
@@ -39,7 +39,7 @@ in_second : (x : List ℕ) (xs ys : List (List ℕ)) → IsIn x ys → IsIn x (x
 in_second x [] ys h = h
 in_second x (y ∷ xs) ys h = inr (in_second x xs ys h)
 
-both_in : (xs ys zs : List (List ℕ)) → AreIn xs zs → AreIn ys zs → AreIn (xs ++ ys) zs
+both_in : (xs ys zs : List (List ℕ)) → AreAllIn xs zs → AreAllIn ys zs → AreAllIn (xs ++ ys) zs
 both_in [] ys zs f g x h = g x h
 both_in (y ∷ xs) ys zs f g x (inl h) = f x (inl h)
 both_in (y ∷ xs) ys zs f g x (inr h) = both_in xs ys zs (λ z i. f z (inr i)) g x h
@@ -69,15 +69,15 @@ module _ (step : List ℕ → List ℕ) (scalar_key : Tree → List ℕ)
     → scalar_key t ≡ scalar_key u) where
   -- Equal scalars at one path have one key.
   one_key : (path : List ℕ) (t u : Tree) → IsTree t → IsTree u → is_eq (tree_cmp t u) ≡ true
-      → AreIn ((path ++ (0 ∷ scalar_key u)) ∷ []) ((path ++ (0 ∷ scalar_key t)) ∷ [])
+      → AreAllIn ((path ++ (0 ∷ scalar_key u)) ∷ []) ((path ++ (0 ∷ scalar_key t)) ∷ [])
   one_key path t u it iu h x (inl e) =
       inl (rw (same t u it iu (are_equal (tree_cmp t u) h)) e)
   one_key path t u it iu h x (inr i) = absurd i
 
   some_keys_at : (path : List ℕ) (keys : List (List ℕ)) (t : Tree) (ts : Trees)
-      → AreIn keys (index_keys step scalar_key path t)
-      ⊎ AreIn keys (items_keys step scalar_key path ts)
-      → AreIn keys (items_keys step scalar_key path (tree t ts))
+      → AreAllIn keys (index_keys step scalar_key path t)
+      ⊎ AreAllIn keys (items_keys step scalar_key path ts)
+      → AreAllIn keys (items_keys step scalar_key path (tree t ts))
   some_keys_at path keys t ts (inl f) x i =
       in_first x (index_keys step scalar_key path t) (items_keys step scalar_key path ts) (f x i)
   some_keys_at path keys t ts (inr f) x i =
@@ -88,9 +88,10 @@ module _ (step : List ℕ → List ℕ) (scalar_key : Tree → List ℕ)
       → (((length j == length k) && pointwise nat_eq k j) ≡ true) × (t ≡ v)
       ⊎ ((((length j == length k) && pointwise nat_eq k j) ≡ false)
       × (value_of_key k (object ps) ≡ Some v))
-      → (value_of_key k (object ps) ≡ Some v → AreIn (index_keys step scalar_key (path ++ step k) v)
+      → (value_of_key k (object ps) ≡ Some v
+      → AreAllIn (index_keys step scalar_key (path ++ step k) v)
       (members_keys step scalar_key path ps))
-      → AreIn (index_keys step scalar_key (path ++ step k) v)
+      → AreAllIn (index_keys step scalar_key (path ++ step k) v)
       (members_keys step scalar_key path (pair j t ps))
   value_keys_at path k j t v ps (inl found) later x h =
       let key = same_key k j (both _ _ found.0).1 in
@@ -101,7 +102,7 @@ module _ (step : List ℕ → List ℕ) (scalar_key : Tree → List ℕ)
       (members_keys step scalar_key path ps) (later found.1 x h)
 
   value_keys : (path k : List ℕ) (ps : Pairs) (v : Tree) → value_of_key k (object ps) ≡ Some v
-      → AreIn (index_keys step scalar_key (path ++ step k) v)
+      → AreAllIn (index_keys step scalar_key (path ++ step k) v)
       (members_keys step scalar_key path ps)
   value_keys path k no_pairs v e = absurd (cc)
   value_keys path k (pair j t ps) v e =
@@ -110,8 +111,8 @@ module _ (step : List ℕ → List ℕ) (scalar_key : Tree → List ℕ)
 
   -- What is in the keys of each tree that passes a test is in those of an array with such an item.
   some_keys : (path : List ℕ) (keys : List (List ℕ)) (test : Tree → Bool) (ts : Trees)
-      → ((t : Tree) → IsTree t → test t ≡ true → AreIn keys (index_keys step scalar_key path t))
-      → AreTrees ts → some_tree test ts ≡ true → AreIn keys (items_keys step scalar_key path ts)
+      → ((t : Tree) → IsTree t → test t ≡ true → AreAllIn keys (index_keys step scalar_key path t))
+      → AreTrees ts → some_tree test ts ≡ true → AreAllIn keys (items_keys step scalar_key path ts)
   some_keys path keys test no_trees each its h = absurd (cc)
   some_keys path keys test (tree t ts) each its h =
       some_keys_at path keys t ts
@@ -136,16 +137,16 @@ module _ (step : List ℕ → List ℕ) (scalar_key : Tree → List ℕ)
 
   some_value_keys : (path k : List ℕ) (keys : List (List ℕ)) (test : Tree → Bool) (ps : Pairs)
       → ((t : Tree) → IsTree t → test t ≡ true
-      → AreIn keys (index_keys step scalar_key (path ++ step k) t))
+      → AreAllIn keys (index_keys step scalar_key (path ++ step k) t))
       → ArePairs ps → (found : Option Tree) → value_of_key k (object ps) ≡ found
-      → some_value test found ≡ true → AreIn keys (members_keys step scalar_key path ps)
+      → some_value test found ≡ true → AreAllIn keys (members_keys step scalar_key path ps)
   some_value_keys path k keys test ps each ips None e h x i = absurd (cc)
   some_value_keys path k keys test ps each ips (Some v) e h x i =
       value_keys path k ps v e x (each v (value_tree k ps v ips e) h x i)
 
   mutual
     pub contained_keys : (path : List ℕ) (u t : Tree) → IsTree u → IsTree t → contained u t ≡ true
-        → AreIn (index_keys step scalar_key path u) (index_keys step scalar_key path t)
+        → AreAllIn (index_keys step scalar_key path u) (index_keys step scalar_key path t)
     contained_keys path (array us) (array ts) iu it h = items_contained_keys path us ts iu it h
     contained_keys path (object qs) (object ps) iu it h =
         members_contained_keys path qs ps iu.1 it.1 h
@@ -161,7 +162,7 @@ module _ (step : List ℕ → List ℕ) (scalar_key : Tree → List ℕ)
 
     items_contained_keys : (path : List ℕ) (us ts : Trees) → AreTrees us → AreTrees ts
         → items_contained us ts ≡ true
-        → AreIn (items_keys step scalar_key path us) (items_keys step scalar_key path ts)
+        → AreAllIn (items_keys step scalar_key path us) (items_keys step scalar_key path ts)
     items_contained_keys path no_trees ts ius its h x i = absurd i
     items_contained_keys path (tree u us) ts ius its h x i =
         let (first, others) =
@@ -174,7 +175,7 @@ module _ (step : List ℕ → List ℕ) (scalar_key : Tree → List ℕ)
 
     members_contained_keys : (path : List ℕ) (qs ps : Pairs) → ArePairs qs → ArePairs ps
         → members_contained qs (object ps) ≡ true
-        → AreIn (members_keys step scalar_key path qs) (members_keys step scalar_key path ps)
+        → AreAllIn (members_keys step scalar_key path qs) (members_keys step scalar_key path ps)
     members_contained_keys path no_pairs ps iqs ips h x i = absurd i
     members_contained_keys path (pair k u qs) ps iqs ips h x i =
         let (first, others) = both (some_value (λ v. contained u v) (value_of_key k (object ps)))
@@ -188,7 +189,7 @@ module _ (step : List ℕ → List ℕ) (scalar_key : Tree → List ℕ)
 
   -- The same of whole documents.
   pub whole_keys : (t u : Tree) → IsTree t → IsTree u → contains_whole t u ≡ true
-      → AreIn (index_keys step scalar_key [] u) (index_keys step scalar_key [] t)
+      → AreAllIn (index_keys step scalar_key [] u) (index_keys step scalar_key [] t)
   whole_keys (array ts) (array us) it iu h = contained_keys [] (array us) (array ts) iu it h
   whole_keys (array ts) (object qs) it iu h = absurd (cc)
   whole_keys (array ts) u its iu h =

@@ -25,9 +25,9 @@ use Rattle.jsonb_functions.specs.declared.join.JoinedObject.{JoinedObject}
 use Rattle.jsonb_functions.specs.declared.join.JoinedMembers.{JoinedMembers}
 use Rattle.jsonb_functions.specs.declared.join.NextMember.{NextMember}
 use Rattle.jsonb_functions.specs.Joined.{merged, append_trees, joined, items_or_one}
-use Rattle.jsonb_functions.specs.JoinSource.{RunIs, MaybeMembers, MaybeObject, JoinedIs, ItemsAre}
-use Rattle.jsonb_functions.specs.JoinSource.{ObjectIs, MembersAre, FirstOfRun, FirstMerged}
-use Rattle.jsonb_functions.specs.JoinSource.{IsNoObject}
+use Rattle.jsonb_functions.specs.JoinSource.{RunIs, MaybeMembers, MaybeObject, JoinedIs}
+use Rattle.jsonb_functions.specs.JoinSource.{JoinedItemsAre, JoinedObjectIs, JoinedMembersAre}
+use Rattle.jsonb_functions.specs.JoinSource.{FirstOfRun, FirstMerged, IsNoObject}
 use Rattle.jsonb_functions.proofs.EditLaws.{part_is}
 
 run_unique : (run : Run) (ts us : Trees) → RunIs run ts → RunIs run us → ts ≡ us
@@ -56,7 +56,7 @@ count_append no_trees us = omega arith
 count_append (tree t ts) us = omega (arith, count_append ts us)
 
 pub items_joined : (x : JoinedItems) (ts us : Trees) → RunIs x.first ts → RunIs x.second us
-    → ItemsAre x (items_shapes (append_trees ts us))
+    → JoinedItemsAre x (items_shapes (append_trees ts us))
 items_joined x ts us h k = (
   ((ts, us), (h, k)),
   λ p g. ap (λ y. items_shapes (append_trees y us)) (run_unique x.first ts p.0 h g.0)
@@ -65,7 +65,7 @@ items_joined x ts us h k = (
 
 pub members_joined : (x : JoinedMembers) (ps qs : Pairs) → AreMembers ps x.left
     → MaybeMembers x.right qs → x.count ≡ pair_count (merged ps qs)
-    → MembersAre x (pairs_shapes (merged ps qs))
+    → JoinedMembersAre x (pairs_shapes (merged ps qs))
 members_joined x ps qs h k n = (
   ((ps, qs), ((h, k), n)),
   λ p g. ap (λ y. pairs_shapes (merged y qs)) (pairs_unique ps p.0 _ _ _ _ h g.0.0)
@@ -74,24 +74,24 @@ members_joined x ps qs h k n = (
 
 pub object_joined : (x : JoinedObject) (ps qs : Pairs) → IsObject x.left.count x.left.body.now ps
     → MaybeObject x.right qs → x.count ≡ pair_count (merged ps qs)
-    → ObjectIs x (pairs_shapes (merged ps qs))
+    → JoinedObjectIs x (pairs_shapes (merged ps qs))
 object_joined x ps qs h k n = (
   ((ps, qs), ((h, k), n)),
   λ p g. ap (λ y. pairs_shapes (merged y qs)) (object_unique _ _ ps p.0 h g.0.0)
       ∙ ap (λ y. pairs_shapes (merged p.0 y)) (maybe_object_unique x.right qs p.1 k g.0.1),
 )
 
-pub members_number : (x : JoinedMembers) (ss : Shapes) → MembersAre x ss → x.count ≡ count ss
+pub members_number : (x : JoinedMembers) (ss : Shapes) → JoinedMembersAre x ss → x.count ≡ count ss
 members_number x ss h =
     h.0.1.1 ∙ sym (ap count (h.1 h.0.0 h.0.1) ∙ count-pairs_shapes (merged h.0.0.0 h.0.0.1))
 
-pub object_number : (x : JoinedObject) (ss : Shapes) → ObjectIs x ss → x.count ≡ count ss
+pub object_number : (x : JoinedObject) (ss : Shapes) → JoinedObjectIs x ss → x.count ≡ count ss
 object_number x ss h =
     h.0.1.1 ∙ sym (ap count (h.1 h.0.0 h.0.1) ∙ count-pairs_shapes (merged h.0.0.0 h.0.0.1))
 
 pub items_number : (x : JoinedItems) (m n : ℕ) → ((ts : Trees) → RunIs x.first ts
     → m ≡ trees.count ts) → ((ts : Trees) → RunIs x.second ts → n ≡ trees.count ts)
-    → (ss : Shapes) → ItemsAre x ss → m + n ≡ count ss
+    → (ss : Shapes) → JoinedItemsAre x ss → m + n ≡ count ss
 items_number x m n first second ss h = omega (
   arith,
   first h.0.0.0 h.0.1.0,
@@ -102,7 +102,7 @@ items_number x m n first second ss h = omega (
 )
 
 pub array_lifted : (items : declared.Children) (ss : Shapes) → parts.ItemsAre items ss
-    → ItemsAre (record { first = runs.Many items; second = runs.Nothing }) ss
+    → JoinedItemsAre (record { first = runs.Many items; second = runs.Nothing }) ss
 array_lifted items ss h = (
   ((h.0.0, no_trees), (h.0.1, refl)),
   λ p g. h.1 p.0 g.0
@@ -110,7 +110,7 @@ array_lifted items ss h = (
 )
 
 pub object_lifted : (x : Object) (ss : Shapes) → parts.ObjectIs x ss
-    → ObjectIs (record { left = x; right = None; count = x.count }) ss
+    → JoinedObjectIs (record { left = x; right = None; count = x.count }) ss
 object_lifted x ss h = (
   ((h.0.0, no_pairs), ((h.0.1, refl), sym h.0.1.0)),
   λ p g. h.1 p.0 g.0.0 ∙ ap (λ y. pairs_shapes (merged p.0 y)) (sym g.0.1),
@@ -119,37 +119,39 @@ object_lifted x ss h = (
 pub members_of_object : (x : JoinedObject) (left : Members) (right : Option Members)
     → ((ps : Pairs) → IsObject x.left.count x.left.body.now ps → AreMembers ps left)
     → ((ps : Pairs) → MaybeObject x.right ps → MaybeMembers right ps)
-    → (ss : Shapes) → ObjectIs x ss
-    → MembersAre (record { left = left; right = right; count = x.count }) ss
+    → (ss : Shapes) → JoinedObjectIs x ss
+    → JoinedMembersAre (record { left = left; right = right; count = x.count }) ss
 members_of_object x left right first second ss h =
     let k = h.0 in
     let rest : JoinedMembers = record { left = left; right = right; count = x.count } in
-    subst (MembersAre rest) (sym (h.1 k.0 k.1))
+    subst (JoinedMembersAre rest) (sym (h.1 k.0 k.1))
     (members_joined rest k.0.0 k.0.1 (first k.0.0 k.1.0.0) (second k.0.1 k.1.0.1) k.1.1)
 
 -- The first of the items.
 pub item_of_first : (x : JoinedItems) (part : Part) (rest : Run)
-    → ((ts : Trees) → RunIs x.first ts → FirstOfRun ts part rest) → (ss : Shapes) → ItemsAre x ss
-    → AreSplit (λ key. key ≡ []) JoinedIs ItemsAre
+    → ((ts : Trees) → RunIs x.first ts → FirstOfRun ts part rest) → (ss : Shapes)
+    → JoinedItemsAre x ss
+    → AreSplit (λ key. key ≡ []) JoinedIs JoinedItemsAre
     (record { part = part }, record { first = rest; second = x.second }) ss
 item_of_first x part rest first ss h =
     let f = first h.0.0.0 h.0.1.0 in
     let later : JoinedItems = record { first = rest; second = x.second } in
     let child : Joined = record { part = part } in
-    subst (AreSplit (λ key. key ≡ []) JoinedIs ItemsAre (child, later))
+    subst (AreSplit (λ key. key ≡ []) JoinedIs JoinedItemsAre (child, later))
     (sym (h.1 h.0.0 h.0.1 ∙ ap (λ y. items_shapes (append_trees y h.0.0.1)) f.are))
     (refl, (part_is part f.first f.is, items_joined later f.others h.0.0.1 f.later h.0.1.1))
 
 pub item_of_second : (x : JoinedItems) (part : Part) (rest : Run)
     → ((ts : Trees) → RunIs x.first ts → ts ≡ no_trees)
-    → ((ts : Trees) → RunIs x.second ts → FirstOfRun ts part rest) → (ss : Shapes) → ItemsAre x ss
-    → AreSplit (λ key. key ≡ []) JoinedIs ItemsAre
+    → ((ts : Trees) → RunIs x.second ts → FirstOfRun ts part rest) → (ss : Shapes)
+    → JoinedItemsAre x ss
+    → AreSplit (λ key. key ≡ []) JoinedIs JoinedItemsAre
     (record { part = part }, record { first = runs.Nothing; second = rest }) ss
 item_of_second x part rest none second ss h =
     let f = second h.0.0.1 h.0.1.1 in
     let later : JoinedItems = record { first = runs.Nothing; second = rest } in
     let child : Joined = record { part = part } in
-    subst (AreSplit (λ key. key ≡ []) JoinedIs ItemsAre (child, later))
+    subst (AreSplit (λ key. key ≡ []) JoinedIs JoinedItemsAre (child, later))
     (sym (h.1 h.0.0 h.0.1
     ∙ ap (λ y. items_shapes (append_trees y h.0.0.1)) (none h.0.0.0 h.0.1.0)
     ∙ ap items_shapes f.are))
@@ -162,8 +164,8 @@ one_fewer n m ps rest k t e is fewer = omega (arith, e, ap pair_count is, fewer)
 pub member_split : (IsKey : List ℕ → Type 0) (x : JoinedMembers) (m : NextMember) (left : ℕ)
     → IsKey m.key.now → left ≡ x.count - 1
     → ((ps qs : Pairs) → AreMembers ps x.left → MaybeMembers x.right qs
-    → FirstMerged (merged ps qs) m) → (ss : Shapes) → MembersAre x ss
-    → AreSplit IsKey JoinedIs MembersAre (
+    → FirstMerged (merged ps qs) m) → (ss : Shapes) → JoinedMembersAre x ss
+    → AreSplit IsKey JoinedIs JoinedMembersAre (
       record { part = m.value },
       record { left = m.left; right = m.right; count = left },
     ) ss
@@ -171,7 +173,7 @@ member_split IsKey x m left keyed fewer first ss h =
     let f = first h.0.0.0 h.0.0.1 h.0.1.0.0 h.0.1.0.1 in
     let later : JoinedMembers = record { left = m.left; right = m.right; count = left } in
     let child : Joined = record { part = m.value } in
-    subst (AreSplit IsKey JoinedIs MembersAre (child, later))
+    subst (AreSplit IsKey JoinedIs JoinedMembersAre (child, later))
     (sym (h.1 h.0.0 h.0.1 ∙ ap pairs_shapes f.are)) (
       keyed,
       (
@@ -207,7 +209,7 @@ joined_other t u h = refl
 
 pub array_level : (x : JoinedItems) (t u v : Tree) → v ≡ array (append_trees (items_or_one t)
     (items_or_one u)) → RunIs x.first (items_or_one t) → RunIs x.second (items_or_one u)
-    → (ss : Shapes) × ((shape_of v ≡ shapes.array ss) × ItemsAre x ss)
+    → (ss : Shapes) × ((shape_of v ≡ shapes.array ss) × JoinedItemsAre x ss)
 array_level x t u v e h k = (
   items_shapes (append_trees (items_or_one t) (items_or_one u)),
   (ap shape_of e, items_joined x (items_or_one t) (items_or_one u) h k),
@@ -216,6 +218,6 @@ array_level x t u v e h k = (
 pub object_level : (x : JoinedObject) (t u : Tree) (ps qs : Pairs) → t ≡ object ps → u ≡ object qs
     → IsObject x.left.count x.left.body.now ps → MaybeObject x.right qs
     → x.count ≡ pair_count (merged ps qs)
-    → (ss : Shapes) × ((shape_of (joined t u) ≡ shapes.object ss) × ObjectIs x ss)
+    → (ss : Shapes) × ((shape_of (joined t u) ≡ shapes.object ss) × JoinedObjectIs x ss)
 object_level x t u ps qs e f h k n =
     (pairs_shapes (merged ps qs), (rw (e, f) refl, object_joined x ps qs h k n))

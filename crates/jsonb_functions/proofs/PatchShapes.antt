@@ -28,7 +28,7 @@ use Rattle.jsonb_functions.specs.declared.patch.NextPatched.{NextPatched}
 use Rattle.jsonb_functions.specs.Patched.{patched, pairs_patched, pairs_or_none}
 use Rattle.jsonb_functions.specs.JoinSource.{MaybeMembers, MaybeObject, IsNoObject}
 use Rattle.jsonb_functions.specs.PatchSource.{MaybeMeans, PatchedMeans, PatchedIs, AreBoth}
-use Rattle.jsonb_functions.specs.PatchSource.{ObjectIs, MembersAre, FirstPatched}
+use Rattle.jsonb_functions.specs.PatchSource.{PatchedObjectIs, PatchedMembersAre, FirstPatched}
 use Rattle.jsonb_functions.proofs.JoinShapes.{maybe_unique, maybe_object_unique, one_fewer}
 
 part_unique : (part : Part) (t u : Tree) → Means part t → Means part u → t ≡ u
@@ -51,7 +51,7 @@ child_is child t h = ((t, h), λ u k. ap shape_of (child_unique child t u h k))
 
 pub members_are : (x : PatchedMembers) (ps qs : Pairs) → AreBoth x.left ps qs
     → x.count ≡ pair_count (pairs_patched ps qs)
-    → MembersAre x (pairs_shapes (pairs_patched ps qs))
+    → PatchedMembersAre x (pairs_shapes (pairs_patched ps qs))
 members_are x ps qs h n = (
   ((ps, qs), (h, n)),
   λ p g. ap (λ y. pairs_shapes (pairs_patched y qs))
@@ -62,7 +62,7 @@ members_are x ps qs h n = (
 
 pub object_is : (x : PatchedObject) (ps qs : Pairs) → MaybeObject x.target ps
     → MaybeObject x.patch qs → x.count ≡ pair_count (pairs_patched ps qs)
-    → ObjectIs x (pairs_shapes (pairs_patched ps qs))
+    → PatchedObjectIs x (pairs_shapes (pairs_patched ps qs))
 object_is x ps qs h k n = (
   ((ps, qs), ((h, k), n)),
   λ p g. ap (λ y. pairs_shapes (pairs_patched y qs))
@@ -71,18 +71,19 @@ object_is x ps qs h k n = (
       (maybe_object_unique x.patch qs p.1 k g.0.1),
 )
 
-pub object_number : (x : PatchedObject) (ss : Shapes) → ObjectIs x ss → x.count ≡ count ss
+pub object_number : (x : PatchedObject) (ss : Shapes) → PatchedObjectIs x ss → x.count ≡ count ss
 object_number x ss h =
     h.0.1.1
     ∙ sym (ap count (h.1 h.0.0 h.0.1) ∙ count-pairs_shapes (pairs_patched h.0.0.0 h.0.0.1))
 
-pub members_number : (x : PatchedMembers) (ss : Shapes) → MembersAre x ss → x.count ≡ count ss
+pub members_number : (x : PatchedMembers) (ss : Shapes) → PatchedMembersAre x ss
+    → x.count ≡ count ss
 members_number x ss h =
     h.0.1.1
     ∙ sym (ap count (h.1 h.0.0 h.0.1) ∙ count-pairs_shapes (pairs_patched h.0.0.0 h.0.0.1))
 
 pub object_lifted : (x : Object) (ss : Shapes) → parts.ObjectIs x ss
-    → ObjectIs (record { target = Some x; patch = None; count = x.count }) ss
+    → PatchedObjectIs (record { target = Some x; patch = None; count = x.count }) ss
 object_lifted x ss h = (
   ((h.0.0, no_pairs), ((h.0.1, refl), sym h.0.1.0)),
   λ p g. h.1 p.0 g.0.0 ∙ ap (λ y. pairs_shapes (pairs_patched p.0 y)) (sym g.0.1),
@@ -91,12 +92,12 @@ object_lifted x ss h = (
 pub members_of_object : (x : PatchedObject) (left : BothMembers)
     → ((ps : Pairs) → MaybeObject x.target ps → MaybeMembers left.target ps)
     → ((ps : Pairs) → MaybeObject x.patch ps → MaybeMembers left.patch ps)
-    → (ss : Shapes) → ObjectIs x ss
-    → MembersAre (record { left = left; count = x.count }) ss
+    → (ss : Shapes) → PatchedObjectIs x ss
+    → PatchedMembersAre (record { left = left; count = x.count }) ss
 members_of_object x left target patch ss h =
     let k = h.0 in
     let rest : PatchedMembers = record { left = left; count = x.count } in
-    subst (MembersAre rest) (sym (h.1 k.0 k.1))
+    subst (PatchedMembersAre rest) (sym (h.1 k.0 k.1))
     (members_are rest k.0.0 k.0.1 (target k.0.0 k.1.0.0, patch k.0.1 k.1.0.1) k.1.1)
 
 pub item_split : (part : Part) (items later : declared.Children)
@@ -118,12 +119,13 @@ item_split part items later first ss h =
 pub member_split : (IsKey : List ℕ → Type 0) (x : PatchedMembers) (m : NextPatched) (left : ℕ)
     → IsKey m.key.now → left ≡ x.count - 1
     → ((ps qs : Pairs) → AreBoth x.left ps qs → FirstPatched (pairs_patched ps qs) m)
-    → (ss : Shapes) → MembersAre x ss
-    → AreSplit IsKey PatchedIs MembersAre (m.value, record { left = m.later; count = left }) ss
+    → (ss : Shapes) → PatchedMembersAre x ss
+    → AreSplit IsKey PatchedIs PatchedMembersAre
+    (m.value, record { left = m.later; count = left }) ss
 member_split IsKey x m left keyed fewer first ss h =
     let f = first h.0.0.0 h.0.0.1 h.0.1.0 in
     let later : PatchedMembers = record { left = m.later; count = left } in
-    subst (AreSplit IsKey PatchedIs MembersAre (m.value, later))
+    subst (AreSplit IsKey PatchedIs PatchedMembersAre (m.value, later))
     (sym (h.1 h.0.0 h.0.1 ∙ ap pairs_shapes f.are)) (
       keyed,
       (
@@ -156,7 +158,7 @@ no_pairs_in (array ts) h = refl
 pub object_level : (x : PatchedObject) (t u : Tree) (qs : Pairs) → u ≡ object qs
     → MaybeObject x.target (pairs_or_none t) → MaybeObject x.patch qs
     → x.count ≡ pair_count (pairs_patched (pairs_or_none t) qs)
-    → (ss : Shapes) × ((shape_of (patched t u) ≡ shapes.object ss) × ObjectIs x ss)
+    → (ss : Shapes) × ((shape_of (patched t u) ≡ shapes.object ss) × PatchedObjectIs x ss)
 object_level x t u qs e h k n = (
   pairs_shapes (pairs_patched (pairs_or_none t) qs),
   (rw e refl, object_is x (pairs_or_none t) qs h k n),

@@ -6,7 +6,7 @@ use Rattle.std.specs.Prelude.{Option, None, Some, ◌↔◌}
 use Rattle.std.specs.Global.{Vec}
 use Rattle.jsonb_functions.specs.declared.selection.Selector.{Selector}
 use Rattle.jsonb_functions.specs.PathText.{SelectorView, selector_view, AreSteps, BeginsWith}
-use Rattle.jsonb_functions.specs.PathText.{IsFilterPath, IsStep, IsWritten, PathText, Reads}
+use Rattle.jsonb_functions.specs.PathText.{IsFilterPath, IsStep, IsWrittenStep, PathText, Reads}
 use Rattle.jsonb_functions.specs.PathText.{ReadsStep, StopsAt, is_in_name, path_view}
 use Rattle.jsonb_functions.proofs.HashLaws.{map_joined}
 use Rattle.jsonb_functions.proofs.PathStepLaws.{written_begins}
@@ -128,7 +128,7 @@ module _ (IsOne : List ℕ → SelectorView → Type 0) (in_filter : Bool)
 
 -- A byte that begins a step.
 written_step_begins : (in_filter : Bool) (text : List ℕ) (s : SelectorView) (rest : List ℕ)
-    → BeginsWith (IsWritten in_filter) text s rest
+    → BeginsWith (IsWrittenStep in_filter) text s rest
     → StopsAt (is_in_name in_filter) text
 written_step_begins true text s rest h =
     elim (written_begins true text s rest h) [
@@ -149,7 +149,7 @@ no_bytes_begin : (c : ℕ) (text xs : List ℕ) → text ≡ c ∷ xs → text �
 no_bytes_begin c text xs x y = let both : c ∷ xs ≡ [] = sym x ∙ y in absurd (cc)
 
 pub path_begins : (text : List ℕ) (s : SelectorView) (rest : List ℕ)
-    → BeginsWith (IsWritten true) text s rest
+    → BeginsWith (IsWrittenStep true) text s rest
     → StopsAt (is_in_name true) text × (EndsAs true text → ⊥)
 path_begins text s rest h = (
   written_step_begins true text s rest h,
@@ -162,7 +162,7 @@ path_begins text s rest h = (
 step_begins_by : (text front : List ℕ) (s : SelectorView) (rest : List ℕ) → text ≡ front ++ rest
     → IsStep front s → StopsAt (is_in_name false) text × (text ≡ [] → ⊥)
 step_begins_by text front s rest e (inl is) =
-    let h : BeginsWith (IsWritten false) text s rest = (front, e, is) in (
+    let h : BeginsWith (IsWrittenStep false) text s rest = (front, e, is) in (
       written_step_begins false text s rest h,
       λ none. elim (written_begins false text s rest h) [
         | inl w ↦ no_bytes_begin 46 text w.0 w.1 none
@@ -220,13 +220,14 @@ all_read text start left read e end h p = (
 
 -- The path of a filter.
 pub filter_path_read : (text left : List ℕ) (rest : Bor (List ℕ)) (read : Vec Selector)
-    → left ≡ 32 ∷ rest.now → IsRead (IsWritten true) true text left read.items
+    → left ≡ 32 ∷ rest.now → IsRead (IsWrittenStep true) true text left read.items
     → Reads path_view (IsFilterPath text) (Some (read, rest))
 filter_path_read text left rest read e h = record {
-  is = subst (λ xs. AreSteps (IsWritten true) xs text (path_view read)) e
-      (all_steps (IsWritten true) true path_begins text left read.items h);
+  is = subst (λ xs. AreSteps (IsWrittenStep true) xs text (path_view read)) e
+      (all_steps (IsWrittenStep true) true path_begins text left read.items h);
   only = λ p later is.
-      let same = read_only (IsWritten true) true path_begins text left read.items (rest.now, e) h
+      let same =
+      read_only (IsWrittenStep true) true path_begins text left read.items (rest.now, e) h
       (32 ∷ later) (later, refl) p is in
       let tail : 32 ∷ rest.now ≡ 32 ∷ later = sym e ∙ same.1 in
       (same.0, cc);
@@ -234,11 +235,12 @@ filter_path_read text left rest read e h = record {
 
 pub filter_path_none : (text left : List ℕ) (read : List Selector)
     → ((rest : List ℕ) → left ≡ 32 ∷ rest → ⊥)
-    → ReadsStep (IsWritten true) true left None → IsRead (IsWritten true) true text left read
+    → ReadsStep (IsWrittenStep true) true left None
+    → IsRead (IsWrittenStep true) true text left read
     → Reads {A = Vec Selector} path_view (IsFilterPath text) None
 filter_path_none text left read other step h = record {
   is = tt;
   only = λ p later is.
-      none_read (IsWritten true) true path_begins text left read (λ ends. other ends.0 ends.1)
+      none_read (IsWrittenStep true) true path_begins text left read (λ ends. other ends.0 ends.1)
       step h (32 ∷ later) (later, refl) p is;
 }

@@ -7,10 +7,10 @@ use Rattle.std.proofs.lemmas.List.{append-nil}
 use Rattle.std.specs.Prelude.{Option, None, Some, ◌⊎◌, ◌==◌, ◌&&◌, if◌then◌else◌}
 use Rattle.jsonb_functions.specs.declared.selection.Selector.{Selector}
 use Rattle.jsonb_functions.specs.declared.selection.Selector.TheVariants as selectors
-use Rattle.jsonb_functions.specs.PathText.{SelectorView, step, selector_view}
-use Rattle.jsonb_functions.specs.PathText.{Written, plain, quoted, bracketed, written_bytes}
-use Rattle.jsonb_functions.specs.PathText.{all_are, is_in_name, is_not, is_plain, member_of}
-use Rattle.jsonb_functions.specs.PathText.{place_in, written_step, StopsAt, BeginsWith, IsWritten}
+use Rattle.jsonb_functions.specs.PathText.{SelectorView, step, selector_view, Written, plain}
+use Rattle.jsonb_functions.specs.PathText.{quoted, bracketed, written_bytes, all_are, is_in_name}
+use Rattle.jsonb_functions.specs.PathText.{is_not, is_unquoted_key, member_step, place_in}
+use Rattle.jsonb_functions.specs.PathText.{written_step, StopsAt, BeginsWith, IsWrittenStep}
 use Rattle.jsonb_functions.specs.PathText.{ReadsStep}
 use Rattle.jsonb_functions.specs.StoredPath.{key}
 use Rattle.jsonb_functions.proofs.IndexLaws.{both}
@@ -42,7 +42,7 @@ if_some false x s e = absurd (cc)
 
 -- A step that is no filter, as a text begins with it.
 pub written_from : (in_filter : Bool) (text : List ℕ) (s : SelectorView) (rest : List ℕ)
-    → BeginsWith (IsWritten in_filter) text s rest
+    → BeginsWith (IsWrittenStep in_filter) text s rest
     → (w : Written) × (text ≡ written_bytes w ++ rest) × (written_step in_filter w ≡ Some s)
 written_from in_filter text s rest (front, e, is) =
     (is.0, e ∙ ap (λ b. b ++ rest) is.1, is.2)
@@ -72,10 +72,10 @@ module _ (in_filter : Bool) where
   plain_from : (text : List ℕ) (s : SelectorView) (rest : List ℕ) (w : Written)
       → ((later : List ℕ) → text ≡ 34 ∷ later → ⊥) → 46 ∷ text ≡ written_bytes w ++ rest
       → written_step in_filter w ≡ Some s → (name : List ℕ) × ((text ≡ name ++ rest)
-      × ((is_plain in_filter name ≡ true) × (member_of name ≡ s)))
+      × ((is_unquoted_key in_filter name ≡ true) × (member_step name ≡ s)))
   plain_from text s rest (plain name) other spelled meant =
       let is = if_some _ _ s meant in
-      let same : Some (member_of name) ≡ Some s = is.1 in
+      let same : Some (member_step name) ≡ Some s = is.1 in
       (name, (cc, (is.0, cc)))
   plain_from text s rest (quoted name) other spelled meant =
       let tail : text ≡ 34 ∷ ((name ++ (34 ∷ [])) ++ rest) = cc in
@@ -99,7 +99,7 @@ module _ (in_filter : Bool) where
   -- The first step was read: a key between quotes, a key as it is, or a place between brackets.
   pub quoted_read : (text : List ℕ) (name rest : Bor (List ℕ))
       → text ≡ name.now ++ (34 ∷ rest.now) → all_are (is_not 34) name.now ≡ true
-      → ReadsStep (IsWritten in_filter) in_filter (46 ∷ (34 ∷ text))
+      → ReadsStep (IsWrittenStep in_filter) in_filter (46 ∷ (34 ∷ text))
       (Some (selectors.Key name, rest))
   quoted_read text name rest e all = record {
     is = (
@@ -117,7 +117,7 @@ module _ (in_filter : Bool) where
   }
 
   pub quoted_none : (text : List ℕ) → all_are (is_not 34) text ≡ true
-      → ReadsStep (IsWritten in_filter) in_filter (46 ∷ (34 ∷ text)) None
+      → ReadsStep (IsWrittenStep in_filter) in_filter (46 ∷ (34 ∷ text)) None
   quoted_none text all = record {
     is = tt;
     only = λ s later h stops.
@@ -129,14 +129,14 @@ module _ (in_filter : Bool) where
         absurd (cc);
   }
 
-  plain_all : (name : List ℕ) → is_plain in_filter name ≡ true
+  plain_all : (name : List ℕ) → is_unquoted_key in_filter name ≡ true
       → all_are (is_in_name in_filter) name ≡ true
   plain_all [] h = absurd (cc)
   plain_all (c ∷ name) h = (both _ _ h).1
 
   is_plain_name : (text name rest : List ℕ) → ((later : List ℕ) → text ≡ 34 ∷ later → ⊥)
       → text ≡ name ++ rest → (name ≡ [] → ⊥) → all_are (is_in_name in_filter) name ≡ true
-      → is_plain in_filter name ≡ true
+      → is_unquoted_key in_filter name ≡ true
   is_plain_name text [] rest other e some all = absurd (some refl)
   is_plain_name text (c ∷ name) rest other e some all =
       let first : (c == 34) ≡ false =
@@ -147,8 +147,8 @@ module _ (in_filter : Bool) where
       → ((later : List ℕ) → text ≡ 34 ∷ later → ⊥) → text ≡ name ++ rest.now
       → all_are (is_in_name in_filter) name ≡ true
       → StopsAt (is_in_name in_filter) rest.now → (name ≡ [] → ⊥)
-      → selector_view selector ≡ member_of name
-      → ReadsStep (IsWritten in_filter) in_filter (46 ∷ text) (Some (selector, rest))
+      → selector_view selector ≡ member_step name
+      → ReadsStep (IsWrittenStep in_filter) in_filter (46 ∷ text) (Some (selector, rest))
   plain_read text name rest selector other e all stops some view =
       let ok = is_plain_name text name rest.now other e some all in record {
         is = (46 ∷ name, ap (λ xs. 46 ∷ xs) e, (plain name, refl, rw (ok, view) refl));
@@ -157,12 +157,12 @@ module _ (in_filter : Bool) where
             let w = plain_from text s later t.0 other t.1 t.2 in
             let same = split_once (is_in_name in_filter) name rest.now w.0 later all
             (plain_all w.0 w.1.1.0) stops goes (sym e ∙ w.1.0) in
-            (view ∙ ap member_of same.0 ∙ w.1.1.1, same.1);
+            (view ∙ ap member_step same.0 ∙ w.1.1.1, same.1);
       }
 
   pub plain_none : (text rest : List ℕ) → ((later : List ℕ) → text ≡ 34 ∷ later → ⊥)
       → text ≡ rest → StopsAt (is_in_name in_filter) rest
-      → ReadsStep (IsWritten in_filter) in_filter (46 ∷ text) None
+      → ReadsStep (IsWrittenStep in_filter) in_filter (46 ∷ text) None
   plain_none text rest other e stops = record {
     is = tt;
     only = λ s later h goes.
@@ -170,7 +170,7 @@ module _ (in_filter : Bool) where
         let w = plain_from text s later t.0 other t.1 t.2 in
         let same = split_once (is_in_name in_filter) [] rest w.0 later refl
         (plain_all w.0 w.1.1.0) stops goes (sym e ∙ w.1.0) in
-        let none : false ≡ true = ap (is_plain in_filter) same.0 ∙ w.1.1.0 in
+        let none : false ≡ true = ap (is_unquoted_key in_filter) same.0 ∙ w.1.1.0 in
         absurd (cc);
   }
 
@@ -178,7 +178,7 @@ module _ (in_filter : Bool) where
       (selector : Selector)
       → text ≡ place ++ (93 ∷ rest.now) → all_are (is_not 93) place ≡ true
       → Some (selector_view selector) ≡ place_in place
-      → ReadsStep (IsWritten in_filter) in_filter (91 ∷ text) (Some (selector, rest))
+      → ReadsStep (IsWrittenStep in_filter) in_filter (91 ∷ text) (Some (selector, rest))
   bracketed_read text place rest selector e all view = record {
     is = (
       written_bytes (bracketed place),
@@ -197,7 +197,7 @@ module _ (in_filter : Bool) where
   }
 
   pub bracketed_none : (text : List ℕ) → all_are (is_not 93) text ≡ true
-      → ReadsStep (IsWritten in_filter) in_filter (91 ∷ text) None
+      → ReadsStep (IsWrittenStep in_filter) in_filter (91 ∷ text) None
   bracketed_none text all = record {
     is = tt;
     only = λ s later h goes.
@@ -211,7 +211,7 @@ module _ (in_filter : Bool) where
 
   pub place_none : (text place rest : List ℕ) → text ≡ place ++ (93 ∷ rest)
       → all_are (is_not 93) place ≡ true → None ≡ place_in place
-      → ReadsStep (IsWritten in_filter) in_filter (91 ∷ text) None
+      → ReadsStep (IsWrittenStep in_filter) in_filter (91 ∷ text) None
   place_none text place rest e all view = record {
     is = tt;
     only = λ s later h goes.
@@ -231,14 +231,14 @@ module _ (in_filter : Bool) where
   begins text rest (bracketed place) spelled = inr ((place ++ (93 ∷ [])) ++ rest, spelled)
 
   pub written_begins : (text : List ℕ) (s : SelectorView) (rest : List ℕ)
-      → BeginsWith (IsWritten in_filter) text s rest
+      → BeginsWith (IsWrittenStep in_filter) text s rest
       → ((later : List ℕ) × (text ≡ 46 ∷ later)) ⊎ ((later : List ℕ) × (text ≡ 91 ∷ later))
   written_begins text s rest h =
       let t = written_from in_filter text s rest h in begins text rest t.0 t.1
 
   pub other_none : (text : List ℕ) → ((later : List ℕ) → text ≡ 46 ∷ later → ⊥)
       → ((later : List ℕ) → text ≡ 91 ∷ later → ⊥)
-      → ReadsStep (IsWritten in_filter) in_filter text None
+      → ReadsStep (IsWrittenStep in_filter) in_filter text None
   other_none text point bracket = record {
     is = tt;
     only = λ s later h goes.

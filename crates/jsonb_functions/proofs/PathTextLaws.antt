@@ -13,7 +13,7 @@ use Rattle.std.proofs.Math.Seq.{take-length}
 use Rattle.std.proofs.lemmas.Bool.Decides.{nat_tests}
 use Rattle.std.proofs.lemmas.List.Sums.{prefix_len-le-length, prefix_len_stops}
 use Rattle.jsonb_value.specs.Json.Characters.{all_digits}
-use Rattle.jsonb_functions.specs.PathText.{all_are, is_in_name, is_in_word, is_not, number_in}
+use Rattle.jsonb_functions.specs.PathText.{all_are, is_in_name, is_in_word, is_not, capped_number}
 use Rattle.jsonb_functions.specs.PathText.{StopsAt}
 
 -- The bytes after the first one, as a pattern gives them.
@@ -66,7 +66,7 @@ pub number_read : (ds left : List ℕ) (n : ℕ) → (length ds == 0) ≡ false 
     → all_digits ds ≡ all_digits left
     → min (digits_value_after 10 0 ds) (2 ^ 64 - 1)
     ≡ min (digits_value_after 10 n left) (2 ^ 64 - 1)
-    → n < 2 ^ 64 → Some n ≡ number_in ds
+    → n < 2 ^ 64 → Some n ≡ capped_number ds
 number_read [] left n some none are value fits = absurd (cc)
 number_read (d ∷ ds) (c ∷ left) n some none are value fits = absurd (omega (arith, none))
 number_read (d ∷ ds) [] n some none are value fits =

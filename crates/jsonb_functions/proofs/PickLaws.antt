@@ -21,7 +21,7 @@ use Rattle.jsonb_codec.specs.Shape as shapes
 use Rattle.jsonb_codec.specs.Shape.{Shapes}
 use Rattle.jsonb_functions.specs.declared.choice.Kept.{Kept}
 use Rattle.jsonb_functions.specs.declared.chosen.ChosenObject.{ChosenObject}
-use Rattle.jsonb_functions.specs.ChosenSource.{ObjectIs, kept_pairs}
+use Rattle.jsonb_functions.specs.ChosenSource.{ChosenObjectIs, kept_pairs}
 use Rattle.jsonb_functions.specs.Picked.{AreSorted, is_named, keeps, picked, picked_pairs}
 use Rattle.jsonb_functions.proofs.ChosenLaws.{object_chosen}
 
@@ -96,6 +96,6 @@ picked_array names which t ts e = rw e refl
 pub picked_object : (x : ChosenObject) (t : Tree) (ps : Pairs) → t ≡ object ps
     → IsObject x.object.count x.object.body.now ps → x.count ≡ pair_count (kept_pairs x.choice ps)
     → (ss : Shapes) × ((shape_of (picked x.choice.names.now x.choice.which t) ≡ shapes.object ss)
-    × ObjectIs x ss)
+    × ChosenObjectIs x ss)
 picked_object x t ps e h n =
     (pairs_shapes (kept_pairs x.choice ps), (rw e refl, object_chosen x ps h n))

@@ -6,7 +6,7 @@ use Rattle.std.specs.Prelude.{Option, None, Some, ◌==◌, ◌&&◌, ◌⊎◌,
 use Rattle.std.proofs.lemmas.Bool.Decides.{nat_tests}
 use Rattle.jsonb_functions.specs.Names.{with_byte, AreNames, BeginsNoMark}
 use Rattle.jsonb_functions.specs.PathText.{StopsAt}
-use Rattle.jsonb_functions.specs.Pointer.{is_unescaped, unescaped, escaped, pointer_of}
+use Rattle.jsonb_functions.specs.Pointer.{is_unescaped, unescaped, escaped_name, pointer_of}
 use Rattle.jsonb_functions.specs.Pointer.{pointer_name, character_of, with_character}
 use Rattle.jsonb_functions.proofs.NameLaws.{IsRead, none_some, same_read, without_byte}
 
@@ -108,43 +108,43 @@ abbrev marked : Bool → List ℕ → List ℕ
 marked true bytes = 126 ∷ bytes
 marked false bytes = bytes
 
-escaped_tilde : (name : List ℕ) → escaped (126 ∷ name) ≡ 126 ∷ (48 ∷ escaped name)
+escaped_tilde : (name : List ℕ) → escaped_name (126 ∷ name) ≡ 126 ∷ (48 ∷ escaped_name name)
 escaped_tilde name = refl
 
-escaped_slash : (name : List ℕ) → escaped (47 ∷ name) ≡ 126 ∷ (49 ∷ escaped name)
+escaped_slash : (name : List ℕ) → escaped_name (47 ∷ name) ≡ 126 ∷ (49 ∷ escaped_name name)
 escaped_slash name = refl
 
 escaped_plain : (c : ℕ) (name : List ℕ) → (c == 126) ≡ false → (c == 47) ≡ false
-    → escaped (c ∷ name) ≡ c ∷ escaped name
+    → escaped_name (c ∷ name) ≡ c ∷ escaped_name name
 escaped_plain c name e f = rw (e, f) refl
 
 module _ (c : ℕ) (bytes : List ℕ)
     (spelled : (b : Bool) (name rest : List ℕ) → unescaped b bytes ≡ Some (name, rest)
-    → marked b bytes ≡ escaped name ++ rest) where
+    → marked b bytes ≡ escaped_name name ++ rest) where
   code_spelled : (code : Option ℕ) → code ≡ character_of c → (name rest : List ℕ)
       → with_character code (unescaped false bytes) ≡ Some (name, rest)
-      → 126 ∷ (c ∷ bytes) ≡ escaped name ++ rest
+      → 126 ∷ (c ∷ bytes) ≡ escaped_name name ++ rest
   code_spelled None is name rest e = absurd (none_some name rest e)
   code_spelled (Some character) is name rest e =
       let parts = without_byte character (unescaped false bytes) name rest e in
-      let more : bytes ≡ escaped parts.0 ++ rest = spelled false parts.0 rest parts.1 in
+      let more : bytes ≡ escaped_name parts.0 ++ rest = spelled false parts.0 rest parts.1 in
       elim (character_is c character is) [
         | inl both ↦
             ap (λ x. 126 ∷ (x ∷ bytes)) both.0 ∙ ap (λ x. 126 ∷ (48 ∷ x)) more
-            ∙ ap (λ x. escaped x ++ rest)
+            ∙ ap (λ x. escaped_name x ++ rest)
             (sym (parts.2 ∙ ap (λ x. x ∷ parts.0) both.1))
         | inr both ↦
             ap (λ x. 126 ∷ (x ∷ bytes)) both.0 ∙ ap (λ x. 126 ∷ (49 ∷ x)) more
-            ∙ ap (λ x. escaped x ++ rest)
+            ∙ ap (λ x. escaped_name x ++ rest)
             (sym (parts.2 ∙ ap (λ x. x ∷ parts.0) both.1))
       ]
 
   plain_spelled : (a b : Bool) → (c == 47) ≡ a → (c == 126) ≡ b → (name rest : List ℕ)
-      → unescaped false (c ∷ bytes) ≡ Some (name, rest) → c ∷ bytes ≡ escaped name ++ rest
+      → unescaped false (c ∷ bytes) ≡ Some (name, rest) → c ∷ bytes ≡ escaped_name name ++ rest
   plain_spelled true b e f name rest is =
       let ends : Some ([], c ∷ bytes) ≡ Some (name, rest) = rw e at is in
       let same = same_read [] (c ∷ bytes) name rest ends in
-      same.1 ∙ ap (λ x. escaped x ++ rest) same.0
+      same.1 ∙ ap (λ x. escaped_name x ++ rest) same.0
   plain_spelled false true e f name rest is =
       let later : unescaped true bytes ≡ Some (name, rest) = rw (e, f) at is in
       ap (λ x. x ∷ bytes) (eqb-true c 126 f) ∙ spelled true name rest later
@@ -153,13 +153,13 @@ module _ (c : ℕ) (bytes : List ℕ)
       let parts = without_byte c (unescaped false bytes) name rest later in
       ap (λ x. c ∷ x) (spelled false parts.0 rest parts.1)
       ∙ ap (λ x. x ++ rest) (sym (escaped_plain c parts.0 f e))
-      ∙ ap (λ x. escaped x ++ rest) (sym parts.2)
+      ∙ ap (λ x. escaped_name x ++ rest) (sym parts.2)
 
 pub name_spelled : (bytes : List ℕ) (b : Bool) (name rest : List ℕ)
-    → unescaped b bytes ≡ Some (name, rest) → marked b bytes ≡ escaped name ++ rest
+    → unescaped b bytes ≡ Some (name, rest) → marked b bytes ≡ escaped_name name ++ rest
 name_spelled [] true name rest e = absurd (none_some name rest e)
 name_spelled [] false name rest e =
-    let same = same_read [] [] name rest e in same.1 ∙ ap (λ x. escaped x ++ rest) same.0
+    let same = same_read [] [] name rest e in same.1 ∙ ap (λ x. escaped_name x ++ rest) same.0
 name_spelled (c ∷ bytes) true name rest e =
     code_spelled c bytes (name_spelled bytes) (character_of c) refl name rest e
 name_spelled (c ∷ bytes) false name rest e =
@@ -168,23 +168,23 @@ name_spelled (c ∷ bytes) false name rest e =
 -- And what is written so is read.
 module _ (rest : List ℕ) (ends : unescaped false rest ≡ Some ([], rest)) where
   byte_reads : (c : ℕ) (name : List ℕ)
-      → unescaped false (escaped name ++ rest) ≡ Some (name, rest) → (a b : Bool)
+      → unescaped false (escaped_name name ++ rest) ≡ Some (name, rest) → (a b : Bool)
       → (c == 126) ≡ a → (c == 47) ≡ b
-      → unescaped false (escaped (c ∷ name) ++ rest) ≡ Some (c ∷ name, rest)
+      → unescaped false (escaped_name (c ∷ name) ++ rest) ≡ Some (c ∷ name, rest)
   byte_reads c name h true b e f =
       let is : c ≡ 126 = eqb-true c 126 e in
-      ap (λ x. unescaped false (escaped (x ∷ name) ++ rest)) is ∙ ap (λ x. with_byte 126 x) h
+      ap (λ x. unescaped false (escaped_name (x ∷ name) ++ rest)) is ∙ ap (λ x. with_byte 126 x) h
       ∙ ap (λ x. Some (x ∷ name, rest)) (sym is)
   byte_reads c name h false true e f =
       let is : c ≡ 47 = eqb-true c 47 f in
-      ap (λ x. unescaped false (escaped (x ∷ name) ++ rest)) is ∙ ap (λ x. with_byte 47 x) h
+      ap (λ x. unescaped false (escaped_name (x ∷ name) ++ rest)) is ∙ ap (λ x. with_byte 47 x) h
       ∙ ap (λ x. Some (x ∷ name, rest)) (sym is)
   byte_reads c name h false false e f =
       let plain : is_unescaped c ≡ true = rw (f, e) refl in
       ap (λ x. unescaped false (x ++ rest)) (escaped_plain c name e f)
-      ∙ takes_plain c (escaped name ++ rest) plain ∙ ap (λ x. with_byte c x) h
+      ∙ takes_plain c (escaped_name name ++ rest) plain ∙ ap (λ x. with_byte c x) h
 
-  pub name_reads : (name : List ℕ) → unescaped false (escaped name ++ rest) ≡ Some (name, rest)
+  pub name_reads : (name : List ℕ) → unescaped false (escaped_name name ++ rest) ≡ Some (name, rest)
   name_reads [] = ends
   name_reads (c ∷ name) = byte_reads c name (name_reads name) (c == 126) (c == 47) refl refl
 
@@ -194,7 +194,7 @@ pointer_ends [] = refl
 pointer_ends (name ∷ names) = refl
 
 pub first_by : (c : ℕ) (bytes name rest : List ℕ) (b : Bool) → (c == 47) ≡ b
-    → pointer_name (c ∷ bytes) ≡ Some (name, rest) → c ∷ bytes ≡ 47 ∷ (escaped name ++ rest)
+    → pointer_name (c ∷ bytes) ≡ Some (name, rest) → c ∷ bytes ≡ 47 ∷ (escaped_name name ++ rest)
 first_by c bytes name rest true e is =
     let later : unescaped false bytes ≡ Some (name, rest) = rw e at is in
     ap (λ x. x ∷ bytes) (eqb-true c 47 e)
@@ -205,14 +205,18 @@ first_by c bytes name rest false e is =
 
 -- The first name of a pointer is written so.
 pub first_spelled : (text name rest : List ℕ) → pointer_name text ≡ Some (name, rest)
-    → text ≡ 47 ∷ (escaped name ++ rest)
+    → text ≡ 47 ∷ (escaped_name name ++ rest)
 first_spelled [] name rest is = absurd (none_some name rest is)
 first_spelled (c ∷ bytes) name rest is = first_by c bytes name rest (c == 47) refl is
 
 pub first_shorter : (text name rest : List ℕ) → pointer_name text ≡ Some (name, rest)
     → length rest < length text
 first_shorter text name rest is =
-    omega (arith, ap length (first_spelled text name rest is), length-append (escaped name) rest)
+    omega (
+      arith,
+      ap length (first_spelled text name rest is),
+      length-append (escaped_name name) rest,
+    )
 
 -- The names that are read are those of whose pointer the text is.
 pub pointer_is : (names : List (List ℕ)) (text : List ℕ) → AreNames pointer_name [] text names
@@ -220,7 +224,7 @@ pub pointer_is : (names : List (List ℕ)) (text : List ℕ) → AreNames pointe
 pointer_is [] text is = is
 pointer_is (name ∷ names) text are =
     first_spelled text name are.0 are.1
-    ∙ ap (λ x. 47 ∷ (escaped name ++ x)) (pointer_is names are.0 are.2)
+    ∙ ap (λ x. 47 ∷ (escaped_name name ++ x)) (pointer_is names are.0 are.2)
 
 pub pointer_reads : (names : List (List ℕ)) (text : List ℕ) → text ≡ pointer_of names
     → AreNames pointer_name [] text names

@@ -9,8 +9,8 @@ use Rattle.jsonb_value.specs.Value.{trees_of}
 use Rattle.jsonb.specs.declared.document.Node.{Node}
 use Rattle.jsonb.specs.Node.{node_tree, array_of, tree_list}
 use Rattle.jsonb_functions.specs.declared.selection.Bound.{Bound}
-use Rattle.jsonb_functions.specs.Contains.{items_in}
-use Rattle.jsonb_functions.specs.Selected.{between, items_before, items_through}
+use Rattle.jsonb_functions.specs.Contains.{items_or_none}
+use Rattle.jsonb_functions.specs.Selected.{items_before, items_through, trees_between}
 
 take_nil : (n : ℕ) → take {A = Tree} n [] ≡ []
 take_nil zero = refl
@@ -41,14 +41,14 @@ items_listed [] = refl
 items_listed (t ∷ ts) = ap (λ us. t ∷ us) (items_listed ts)
 
 array_between : (first last : Bound) (t : Tree) (ts : List Tree) → t ≡ array_of ts
-    → between first last ts ≡ between first last (tree_list (items_in t))
+    → trees_between first last ts ≡ trees_between first last (tree_list (items_or_none t))
 array_between first last t ts e = rw (e, items_listed ts) refl
 
 -- The items of an array after some that were passed over.
 pub items_taken : (first last : Bound) (t : Tree) (ts rest : List Tree)
     (before through left n : ℕ) → t ≡ array_of ts → n ≡ length ts → before ≡ items_before first n
     → through ≡ items_through last n → rest ≡ drop before ts → left ≡ through - before
-    → take left rest ≡ between first last (tree_list (items_in t))
+    → take left rest ≡ trees_between first last (tree_list (items_or_none t))
 items_taken first last t ts rest before through left n e all from to passed many =
     ap (λ k. take k rest) many ∙ ap (λ us. take (through - before) us) passed
     ∙ drop_take before through ts

@@ -22,8 +22,8 @@ use Rattle.jsonb_functions.specs.declared.strip.Stripped.{Stripped}
 use Rattle.jsonb_functions.specs.declared.strip.StrippedObject.{StrippedObject}
 use Rattle.jsonb_functions.specs.declared.strip.StrippedMembers.{StrippedMembers}
 use Rattle.jsonb_functions.specs.Stripped.{stripped, items_stripped, members_stripped}
-use Rattle.jsonb_functions.specs.StripSource.{StrippedIs, ItemsAre, ObjectIs, MembersAre}
-use Rattle.jsonb_functions.specs.StripSource.{FirstStripped}
+use Rattle.jsonb_functions.specs.StripSource.{StrippedIs, StrippedItemsAre, StrippedObjectIs}
+use Rattle.jsonb_functions.specs.StripSource.{StrippedMembersAre, FirstStripped}
 use Rattle.jsonb_functions.proofs.JoinShapes.{one_fewer}
 
 -- ---- members that are null
@@ -65,13 +65,13 @@ stripped_is part t h =
     ((t, h), λ u k. ap (λ x. shape_of (stripped x)) (same_tree t u (h.0 ∙ sym k.0) _ h.1 k.1))
 
 pub items_are : (ts : Trees) (items : declared.Children) → AreChildren ts items
-    → ItemsAre items (items_shapes (items_stripped ts))
+    → StrippedItemsAre items (items_shapes (items_stripped ts))
 items_are ts items h =
     ((ts, h), λ us k. ap (λ x. items_shapes (items_stripped x)) (Children-unique _ _ h k))
 
 pub object_is : (ps : Pairs) (x : StrippedObject) → IsObject x.object.count x.object.body.now ps
     → x.count ≡ pair_count (members_stripped ps)
-    → ObjectIs x (pairs_shapes (members_stripped ps))
+    → StrippedObjectIs x (pairs_shapes (members_stripped ps))
 object_is ps x h n = (
   (ps, (h, n)),
   λ qs k. ap (λ y. pairs_shapes (members_stripped y)) (object_unique _ _ ps qs h k.0),
@@ -79,7 +79,7 @@ object_is ps x h n = (
 
 pub members_are : (ps : Pairs) (x : StrippedMembers) → AreMembers ps x.members
     → x.count ≡ pair_count (members_stripped ps)
-    → MembersAre x (pairs_shapes (members_stripped ps))
+    → StrippedMembersAre x (pairs_shapes (members_stripped ps))
 members_are ps x h n = (
   (ps, (h, n)),
   λ qs k. ap (λ y. pairs_shapes (members_stripped y)) (pairs_unique ps qs _ _ _ _ h k.0),
@@ -91,7 +91,7 @@ count_stripped (tree t ts) = omega (arith, count_stripped ts)
 
 pub items_number : (items : declared.Children) (n : ℕ)
     → ((ts : Trees) → AreChildren ts items → n ≡ trees.count ts)
-    → (ss : Shapes) → ItemsAre items ss → n ≡ count ss
+    → (ss : Shapes) → StrippedItemsAre items ss → n ≡ count ss
 items_number items n known ss h = omega (
   arith,
   known h.0.0 h.0.1,
@@ -100,46 +100,47 @@ items_number items n known ss h = omega (
   ap count (h.1 h.0.0 h.0.1),
 )
 
-pub object_number : (x : StrippedObject) (ss : Shapes) → ObjectIs x ss → x.count ≡ count ss
+pub object_number : (x : StrippedObject) (ss : Shapes) → StrippedObjectIs x ss → x.count ≡ count ss
 object_number x ss h =
     h.0.1.1 ∙ sym (ap count (h.1 h.0.0 h.0.1) ∙ count-pairs_shapes (members_stripped h.0.0))
 
-pub members_number : (x : StrippedMembers) (ss : Shapes) → MembersAre x ss → x.count ≡ count ss
+pub members_number : (x : StrippedMembers) (ss : Shapes) → StrippedMembersAre x ss
+    → x.count ≡ count ss
 members_number x ss h =
     h.0.1.1 ∙ sym (ap count (h.1 h.0.0 h.0.1) ∙ count-pairs_shapes (members_stripped h.0.0))
 
 pub members_of_object : (x : StrippedObject) (members : Members)
     → ((ps : Pairs) → IsObject x.object.count x.object.body.now ps → AreMembers ps members)
-    → (ss : Shapes) → ObjectIs x ss
-    → MembersAre (record { members = members; count = x.count }) ss
+    → (ss : Shapes) → StrippedObjectIs x ss
+    → StrippedMembersAre (record { members = members; count = x.count }) ss
 members_of_object x members are ss h =
     let rest : StrippedMembers = record { members = members; count = x.count } in
-    subst (MembersAre rest) (sym (h.1 h.0.0 h.0.1))
+    subst (StrippedMembersAre rest) (sym (h.1 h.0.0 h.0.1))
     (members_are h.0.0 rest (are h.0.0 h.0.1.0) h.0.1.1)
 
 pub item_split : (part : Part) (items later : declared.Children)
     → ((ts : Trees) → AreChildren ts items
     → FirstChild ts part.type_code part.payload.now later.entries.now later.payloads.now)
-    → (ss : Shapes) → ItemsAre items ss
-    → AreSplit (λ key. key ≡ []) StrippedIs ItemsAre (record { part = part }, later) ss
+    → (ss : Shapes) → StrippedItemsAre items ss
+    → AreSplit (λ key. key ≡ []) StrippedIs StrippedItemsAre (record { part = part }, later) ss
 item_split part items later first ss h =
     let f = first h.0.0 h.0.1 in
     let child : Stripped = record { part = part } in
-    subst (AreSplit (λ key. key ≡ []) StrippedIs ItemsAre (child, later))
+    subst (AreSplit (λ key. key ≡ []) StrippedIs StrippedItemsAre (child, later))
     (sym (h.1 h.0.0 h.0.1 ∙ ap (λ x. items_shapes (items_stripped x)) f.are))
     (refl, (stripped_is part f.first f.is, items_are f.others later f.later))
 
 pub member_split : (IsKey : List ℕ → Type 0) (x : StrippedMembers) (m : Member) (left : ℕ)
     → IsKey m.key.now → left ≡ x.count - 1
     → ((ps : Pairs) → AreMembers ps x.members → FirstStripped (members_stripped ps) m)
-    → (ss : Shapes) → MembersAre x ss
-    → AreSplit IsKey StrippedIs MembersAre
+    → (ss : Shapes) → StrippedMembersAre x ss
+    → AreSplit IsKey StrippedIs StrippedMembersAre
     (record { part = m.value }, record { members = m.later; count = left }) ss
 member_split IsKey x m left keyed fewer first ss h =
     let f = first h.0.0 h.0.1.0 in
     let later : StrippedMembers = record { members = m.later; count = left } in
     let child : Stripped = record { part = m.value } in
-    subst (AreSplit IsKey StrippedIs MembersAre (child, later))
+    subst (AreSplit IsKey StrippedIs StrippedMembersAre (child, later))
     (sym (h.1 h.0.0 h.0.1 ∙ ap pairs_shapes f.are)) (
       keyed,
       (

@@ -30,22 +30,22 @@ abbrev pub kept_pairs : Choice → Pairs → Pairs
 kept_pairs choice ps = picked_pairs choice.names.now choice.which ps
 
 -- The trees of stored items, or those of a list.
-abbrev pub AreItems : ChosenItems → Trees → Type 0
-AreItems (Stored items) ts = AreChildren ts items
-AreItems (Listed list) ts = ts ≡ listed_trees list.now
+abbrev pub AreChosenItems : ChosenItems → Trees → Type 0
+AreChosenItems (Stored items) ts = AreChildren ts items
+AreChosenItems (Listed list) ts = ts ≡ listed_trees list.now
 
 abbrev pub ChosenIs : Chosen → Shape → Type 0
 ChosenIs child = PartIs child.part
 
-abbrev pub ItemsAre : ChosenItems → Shapes → Type 0
-ItemsAre x = Shaped (AreItems x) items_shapes
+abbrev pub ChosenItemsAre : ChosenItems → Shapes → Type 0
+ChosenItemsAre x = Shaped (AreChosenItems x) items_shapes
 
-abbrev pub ObjectIs : ChosenObject → Shapes → Type 0
-ObjectIs x = Shaped (λ ps. IsObject x.object.count x.object.body.now ps
+abbrev pub ChosenObjectIs : ChosenObject → Shapes → Type 0
+ChosenObjectIs x = Shaped (λ ps. IsObject x.object.count x.object.body.now ps
     × (x.count ≡ pair_count (kept_pairs x.choice ps))) (λ ps. pairs_shapes (kept_pairs x.choice ps))
 
-abbrev pub MembersAre : ChosenMembers → Shapes → Type 0
-MembersAre x = Shaped (λ ps. AreMembers ps x.members
+abbrev pub ChosenMembersAre : ChosenMembers → Shapes → Type 0
+ChosenMembersAre x = Shaped (λ ps. AreMembers ps x.members
     × (x.count ≡ pair_count (kept_pairs x.choice ps))) (λ ps. pairs_shapes (kept_pairs x.choice ps))
 
 -- More than the number of bytes in the payloads of a list.
@@ -62,9 +62,9 @@ chosen_meaning = record {
   child = ChosenIs;
   child_size = λ child. length child.part.payload.now;
   child_held = λ child. ⊤;
-  items = ItemsAre;
-  object = ObjectIs;
-  members = MembersAre;
+  items = ChosenItemsAre;
+  object = ChosenObjectIs;
+  members = ChosenMembersAre;
   items_size = chosen_size;
   object_size = λ x. length x.object.body.now;
   members_size = λ x. parts.items_size x.members.values;

@@ -26,7 +26,7 @@ use Rattle.jsonb_functions.specs.declared.edit.EditedObject.{EditedObject}
 use Rattle.jsonb_functions.specs.declared.edit.EditedMembers.{EditedMembers}
 use Rattle.jsonb_functions.specs.Edited.{Operation, put, create, insert, remove, Here, nothing}
 use Rattle.jsonb_functions.specs.Edited.{replaced, before, removed, edited, done_after, wrapped}
-use Rattle.jsonb_functions.specs.Edited.{pairs_done_after, IsWithin}
+use Rattle.jsonb_functions.specs.Edited.{pairs_done_after, IsPlaceAmong}
 
 -- What a change does, by its value's tree.
 abbrev pub operation_of : Change → Operation
@@ -66,20 +66,20 @@ EditedIs (children.Along part plan) s =
 EditedIs (children.Made made) s = s ≡ shape_of (made_tree made)
 
 -- The shapes of items, after what is done among them.
-abbrev pub ItemsAre : EditedItems → Shapes → Type 0
-ItemsAre x =
-    Shaped (λ ts. AreChildren ts x.items × IsWithin (here_of x.what) x.before (count ts))
+abbrev pub EditedItemsAre : EditedItems → Shapes → Type 0
+EditedItemsAre x =
+    Shaped (λ ts. AreChildren ts x.items × IsPlaceAmong (here_of x.what) x.before (count ts))
     (λ ts. items_shapes (done_after (here_of x.what) x.before ts))
 
-abbrev pub ObjectIs : EditedObject → Shapes → Type 0
-ObjectIs x =
+abbrev pub EditedObjectIs : EditedObject → Shapes → Type 0
+EditedObjectIs x =
     Shaped (λ ps. IsObject x.object.count x.object.body.now ps
-    × IsWithin (here_of x.what) x.before (pair_count ps))
+    × IsPlaceAmong (here_of x.what) x.before (pair_count ps))
     (λ ps. pairs_shapes (pairs_done_after x.key.now (here_of x.what) x.before ps))
 
-abbrev pub MembersAre : EditedMembers → Shapes → Type 0
-MembersAre x =
-    Shaped (λ ps. AreMembers ps x.members × IsWithin (here_of x.what) x.before (pair_count ps))
+abbrev pub EditedMembersAre : EditedMembers → Shapes → Type 0
+EditedMembersAre x =
+    Shaped (λ ps. AreMembers ps x.members × IsPlaceAmong (here_of x.what) x.before (pair_count ps))
     (λ ps. pairs_shapes (pairs_done_after x.key.now (here_of x.what) x.before ps))
 
 -- How much the walk has still to go into what is put there.
@@ -112,9 +112,9 @@ edit_meaning = record {
   child = EditedIs;
   child_size = edited_size;
   child_held = λ child. ⊤;
-  items = ItemsAre;
-  object = ObjectIs;
-  members = MembersAre;
+  items = EditedItemsAre;
+  object = EditedObjectIs;
+  members = EditedMembersAre;
   items_size = λ x. parts.items_size x.items + what_size x.what;
   object_size = λ x. length x.object.body.now + what_size x.what;
   members_size = λ x. parts.items_size x.members.values + what_size x.what;

@@ -125,9 +125,9 @@ equal_or_later Equal later = true
 equal_or_later Greater later = false
 
 -- Whether a pair of ascending ones has this key.
-abbrev pub has_key : List ℕ → Pairs → Bool
-has_key key no_pairs = false
-has_key key (pair k t ps) = equal_or_later (slice_cmp nat_cmp k key) (has_key key ps)
+abbrev pub pairs_have_key : List ℕ → Pairs → Bool
+pairs_have_key key no_pairs = false
+pairs_have_key key (pair k t ps) = equal_or_later (slice_cmp nat_cmp k key) (pairs_have_key key ps)
 
 -- Items, with something done at a place among them, if there is one. `next` says whether that is
 -- right after them.
@@ -141,7 +141,7 @@ items_done (Some place) next path operation below ts =
 abbrev pub pairs_done : Option (List ℕ) → List Step → Operation → (Tree → Tree) → Pairs → Pairs
 pairs_done None path operation below ps = ps
 pairs_done (Some key) path operation below ps =
-    pairs_done_after key (here_at false (has_key key ps) true path operation below)
+    pairs_done_after key (here_at false (pairs_have_key key ps) true path operation below)
     (keys_before key ps) ps
 
 -- The tree, edited at the end of a path that has a step at least. It is unchanged if the path leads
@@ -163,11 +163,11 @@ edited_whole [] (create v) t = v
 edited_whole path operation t = edited path operation t
 
 -- The place is one of c children, or after them if a value is inserted.
-abbrev pub IsWithin : Here → ℕ → ℕ → Type 0
-IsWithin nothing n c = ⊤
-IsWithin (before v) n c = n ≤ c
-IsWithin (replaced f) n c = n < c
-IsWithin removed n c = n < c
+abbrev pub IsPlaceAmong : Here → ℕ → ℕ → Type 0
+IsPlaceAmong nothing n c = ⊤
+IsPlaceAmong (before v) n c = n ≤ c
+IsPlaceAmong (replaced f) n c = n < c
+IsPlaceAmong removed n c = n < c
 
 -- How many children there are then, of c before.
 abbrev pub count_done : Here → ℕ → ℕ

@@ -5,7 +5,7 @@ use Rattle.jsonb_value.specs.Tree.{Tree, array}
 use Rattle.jsonb.specs.Node.{value_of_key}
 use Rattle.jsonb_functions.specs.declared.path.Step.TheVariants.{Index, FromEnd}
 use Rattle.jsonb_functions.specs.Found.{child_at, if_there}
-use Rattle.jsonb_functions.specs.PathText.{number_in}
+use Rattle.jsonb_functions.specs.PathText.{capped_number}
 use Rattle.jsonb_functions.specs.StoredPath.{StepView, key, index, from_end}
 
 -- There are digits after a first `0`.
@@ -15,7 +15,7 @@ has_leading_zero ds = nat_lt 1 (length ds) && (slice_index ds 0 == 48)
 -- The number of decimal digits without a leading zero, or the greatest of 64 bits if it exceeds
 -- that.
 abbrev pub index_in : List ℕ → Option ℕ
-index_in ds = if has_leading_zero ds then None else number_in ds
+index_in ds = if has_leading_zero ds then None else capped_number ds
 
 -- The step to the item of this index, if there is one, and otherwise to a key.
 abbrev pub index_or_key : List ℕ → Option ℕ → StepView

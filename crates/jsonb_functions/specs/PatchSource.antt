@@ -41,12 +41,13 @@ PatchedIs child = Shaped (λ t. PatchedMeans child t) shape_of
 abbrev pub AreBoth : BothMembers → Pairs → Pairs → Type 0
 AreBoth x ps qs = MaybeMembers x.target ps × MaybeMembers x.patch qs
 
-abbrev pub ObjectIs : PatchedObject → Shapes → Type 0
-ObjectIs x = Shaped {A = Pairs × Pairs} (λ p. (MaybeObject x.target p.0 × MaybeObject x.patch p.1)
+abbrev pub PatchedObjectIs : PatchedObject → Shapes → Type 0
+PatchedObjectIs x = Shaped {A = Pairs × Pairs}
+    (λ p. (MaybeObject x.target p.0 × MaybeObject x.patch p.1)
     × (x.count ≡ pair_count (pairs_patched p.0 p.1))) (λ p. pairs_shapes (pairs_patched p.0 p.1))
 
-abbrev pub MembersAre : PatchedMembers → Shapes → Type 0
-MembersAre x = Shaped {A = Pairs × Pairs} (λ p. AreBoth x.left p.0 p.1
+abbrev pub PatchedMembersAre : PatchedMembers → Shapes → Type 0
+PatchedMembersAre x = Shaped {A = Pairs × Pairs} (λ p. AreBoth x.left p.0 p.1
     × (x.count ≡ pair_count (pairs_patched p.0 p.1))) (λ p. pairs_shapes (pairs_patched p.0 p.1))
 
 abbrev pub maybe_size : Option Part → ℕ
@@ -66,8 +67,8 @@ patch_meaning = record {
   child_size = patched_size;
   child_held = λ child. ⊤;
   items = parts.ItemsAre;
-  object = ObjectIs;
-  members = MembersAre;
+  object = PatchedObjectIs;
+  members = PatchedMembersAre;
   items_size = parts.items_size;
   object_size = λ x. maybe_object_size x.target + maybe_object_size x.patch;
   members_size = λ x. both_size x.left;

@@ -79,17 +79,17 @@ abbrev pub is_not : ℕ → ℕ → Bool
 is_not end c = not (c == end)
 
 -- A key can be written as it is: it is not empty and does not begin with a quote.
-abbrev pub is_plain : Bool → List ℕ → Bool
-is_plain in_filter [] = false
-is_plain in_filter (c ∷ name) = is_not 34 c && all_are (is_in_name in_filter) (c ∷ name)
+abbrev pub is_unquoted_key : Bool → List ℕ → Bool
+is_unquoted_key in_filter [] = false
+is_unquoted_key in_filter (c ∷ name) = is_not 34 c && all_are (is_in_name in_filter) (c ∷ name)
 
 -- `*` is each member, and any other name a key.
-abbrev pub member_of : List ℕ → SelectorView
-member_of name = if bytes_eq name (codes "*") then all_members else step (key name)
+abbrev pub member_step : List ℕ → SelectorView
+member_step name = if bytes_eq name (codes "*") then all_members else step (key name)
 
 -- The number of decimal digits, or the greatest of 64 bits if it exceeds that.
-abbrev pub number_in : List ℕ → Option ℕ
-number_in ds = if are_digits ds then Some (min (digits_value 10 ds) (2 ^ 64 - 1)) else None
+abbrev pub capped_number : List ℕ → Option ℕ
+capped_number ds = if are_digits ds then Some (min (digits_value 10 ds) (2 ^ 64 - 1)) else None
 
 -- The item so far from the end, where 1 is the last item, and 0 is past the last one of any array.
 abbrev pub from_end_of : ℕ → Bound
@@ -101,10 +101,10 @@ abbrev pub bound_in : List ℕ → Option Bound
 bound_in [] = None
 bound_in (c ∷ []) =
     if c == 35 then Some (from_end_of 0)
-    else option_map (λ n. bounds.FromStart n) (number_in (c ∷ []))
+    else option_map (λ n. bounds.FromStart n) (capped_number (c ∷ []))
 bound_in (c ∷ (d ∷ ds)) =
-    if (c == 35) && (d == 45) then option_map from_end_of (number_in ds)
-    else option_map (λ n. bounds.FromStart n) (number_in (c ∷ (d ∷ ds)))
+    if (c == 35) && (d == 45) then option_map from_end_of (capped_number ds)
+    else option_map (λ n. bounds.FromStart n) (capped_number (c ∷ (d ∷ ds)))
 
 -- The step to an item.
 abbrev pub item_at : Bound → SelectorView
@@ -138,15 +138,15 @@ place_in place =
 -- between brackets.
 abbrev pub written_step : Bool → Written → Option SelectorView
 written_step in_filter (plain name) =
-    if is_plain in_filter name then Some (member_of name) else None
+    if is_unquoted_key in_filter name then Some (member_step name) else None
 written_step in_filter (quoted name) =
     if all_are (is_not 34) name then Some (step (key name)) else None
 written_step in_filter (bracketed place) =
     if all_are (is_not 93) place then place_in place else None
 
 -- The bytes are those of this step, which is no filter.
-abbrev pub IsWritten : Bool → List ℕ → SelectorView → Type 0
-IsWritten in_filter bytes s =
+abbrev pub IsWrittenStep : Bool → List ℕ → SelectorView → Type 0
+IsWrittenStep in_filter bytes s =
     (w : Written) × (bytes ≡ written_bytes w) × (written_step in_filter w ≡ Some s)
 
 -- The bytes are these steps, each as `IsOne` says, and then the end.
@@ -178,13 +178,13 @@ scalar_tree (trees.number x) = Some (trees.number x)
 scalar_tree t = None
 
 -- The word is null, a truth value or a number, with or without an exponent, as JSON spells it.
-abbrev pub IsWord : List ℕ → Tree → Type 0
-IsWord w t = JsonWithExponents (chars w) t × (scalar_tree t ≡ Some t)
+abbrev pub IsLiteralWord : List ℕ → Tree → Type 0
+IsLiteralWord w t = JsonWithExponents (chars w) t × (scalar_tree t ≡ Some t)
 
 -- The literal means the tree. There is no quote in a string.
 abbrev pub IsLiteral : Literal → Tree → Type 0
 IsLiteral (string s) t = (all_are (is_not 34) s ≡ true) × (t ≡ trees.text s)
-IsLiteral (word w) t = (all_are is_in_word w ≡ true) × IsWord w t
+IsLiteral (word w) t = (all_are is_in_word w ≡ true) × IsLiteralWord w t
 
 -- The comparison that is written so, if it is one.
 abbrev pub comparison_in : List ℕ → Option Comparison
@@ -215,7 +215,7 @@ pub record IsFilter (f : WrittenFilter) (s : SelectorView) : Type 0 where
   pub steps : List StepView
   pub comparison : Comparison
   pub value : Tree
-  pub is_path : AreSteps (IsWritten true) [] f.path path
+  pub is_path : AreSteps (IsWrittenStep true) [] f.path path
   pub is_single : single_steps path ≡ Some steps
   pub is_comparison : comparison_in f.comparison ≡ Some comparison
   pub is_value : IsLiteral f.literal value
@@ -223,7 +223,7 @@ pub record IsFilter (f : WrittenFilter) (s : SelectorView) : Type 0 where
 
 -- The bytes are those of this step.
 abbrev pub IsStep : List ℕ → SelectorView → Type 0
-IsStep bytes s = IsWritten false bytes s
+IsStep bytes s = IsWrittenStep false bytes s
     ⊎ ((f : WrittenFilter) × (bytes ≡ filter_bytes f) × IsFilter f s)
 
 -- The text is `$` and these steps.
@@ -260,7 +260,7 @@ path_view path = map selector_view path.items
 
 -- The text begins with a filter's path and a space.
 abbrev pub IsFilterPath : List ℕ → List SelectorView → List ℕ → Type 0
-IsFilterPath text path rest = AreSteps (IsWritten true) (32 ∷ rest) text path
+IsFilterPath text path rest = AreSteps (IsWrittenStep true) (32 ∷ rest) text path
 
 -- The text begins with a comparison and a space.
 abbrev pub IsComparison : List ℕ → Comparison → List ℕ → Type 0

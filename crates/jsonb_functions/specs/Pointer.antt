@@ -4,17 +4,17 @@ use Rattle.std.specs.Prelude.{not, ◌&&◌, Option, None, Some}
 use Rattle.jsonb_functions.specs.Names.{with_byte}
 
 -- A name as a pointer writes it, with `~0` for `~` and `~1` for `/`.
-abbrev pub escaped : List ℕ → List ℕ
-escaped [] = []
-escaped (c ∷ name) =
-    if c == 126 then 126 ∷ (48 ∷ escaped name)
-    else if c == 47 then 126 ∷ (49 ∷ escaped name)
-    else c ∷ escaped name
+abbrev pub escaped_name : List ℕ → List ℕ
+escaped_name [] = []
+escaped_name (c ∷ name) =
+    if c == 126 then 126 ∷ (48 ∷ escaped_name name)
+    else if c == 47 then 126 ∷ (49 ∷ escaped_name name)
+    else c ∷ escaped_name name
 
 -- The pointer of these names: each after a `/`.
 abbrev pub pointer_of : List (List ℕ) → List ℕ
 pointer_of [] = []
-pointer_of (name ∷ names) = 47 ∷ (escaped name ++ pointer_of names)
+pointer_of (name ∷ names) = 47 ∷ (escaped_name name ++ pointer_of names)
 
 -- The byte that is written as `~` and this one.
 abbrev pub character_of : ℕ → Option ℕ

@@ -14,7 +14,7 @@ use Rattle.jsonb_functions.specs.declared.selection.Selector.{Selector}
 use Rattle.jsonb_functions.specs.declared.selection.Selector.TheVariants.{AllItems, AllMembers}
 use Rattle.jsonb_functions.specs.declared.selection.Selector.TheVariants.{FromEnd, Index, Key}
 use Rattle.jsonb_functions.specs.declared.selection.Selector.TheVariants.{Filter, Range}
-use Rattle.jsonb_functions.specs.Contains.{items_in}
+use Rattle.jsonb_functions.specs.Contains.{items_or_none}
 use Rattle.jsonb_functions.specs.Filter.{filtered}
 use Rattle.jsonb_functions.specs.Found.{child_at}
 
@@ -29,8 +29,8 @@ items_through (bounds.FromStart i) n = min (suc i) n
 items_through (bounds.FromEnd i) n = n - i
 
 -- The items from the first bound to the last one.
-abbrev pub between : Bound → Bound → List Tree → List Tree
-between first last ts =
+abbrev pub trees_between : Bound → Bound → List Tree → List Tree
+trees_between first last ts =
     drop (items_before first (length ts)) (take (items_through last (length ts)) ts)
 
 -- The values of an object's members; none of any other tree.
@@ -44,9 +44,9 @@ abbrev pub children_at : Selector → Tree → List Tree
 children_at (Key k) t = option_to_list (child_at (steps.Key k) t)
 children_at (Index i) t = option_to_list (child_at (steps.Index i) t)
 children_at (FromEnd i) t = option_to_list (child_at (steps.FromEnd i) t)
-children_at AllItems t = tree_list (items_in t)
+children_at AllItems t = tree_list (items_or_none t)
 children_at AllMembers t = member_trees t
-children_at (Range first last) t = between first last (tree_list (items_in t))
+children_at (Range first last) t = trees_between first last (tree_list (items_or_none t))
 children_at (Filter condition) t = filtered condition t
 
 -- What is at the ends of all ways that a path allows, in the order in which it is stored.

@@ -19,15 +19,16 @@ use Rattle.jsonb_functions.specs.Stripped.{stripped, items_stripped, members_str
 abbrev pub StrippedIs : Stripped → Shape → Type 0
 StrippedIs child = Shaped (λ t. Means child.part t) (λ t. shape_of (stripped t))
 
-abbrev pub ItemsAre : Children → Shapes → Type 0
-ItemsAre items = Shaped (λ ts. AreChildren ts items) (λ ts. items_shapes (items_stripped ts))
+abbrev pub StrippedItemsAre : Children → Shapes → Type 0
+StrippedItemsAre items =
+    Shaped (λ ts. AreChildren ts items) (λ ts. items_shapes (items_stripped ts))
 
-abbrev pub ObjectIs : StrippedObject → Shapes → Type 0
-ObjectIs x = Shaped (λ ps. IsObject x.object.count x.object.body.now ps
+abbrev pub StrippedObjectIs : StrippedObject → Shapes → Type 0
+StrippedObjectIs x = Shaped (λ ps. IsObject x.object.count x.object.body.now ps
     × (x.count ≡ pair_count (members_stripped ps))) (λ ps. pairs_shapes (members_stripped ps))
 
-abbrev pub MembersAre : StrippedMembers → Shapes → Type 0
-MembersAre x = Shaped (λ ps. AreMembers ps x.members
+abbrev pub StrippedMembersAre : StrippedMembers → Shapes → Type 0
+StrippedMembersAre x = Shaped (λ ps. AreMembers ps x.members
     × (x.count ≡ pair_count (members_stripped ps))) (λ ps. pairs_shapes (members_stripped ps))
 
 abbrev pub strip_meaning : Meaning Stripped Children StrippedObject StrippedMembers
@@ -35,9 +36,9 @@ strip_meaning = record {
   child = StrippedIs;
   child_size = λ child. length child.part.payload.now;
   child_held = λ child. ⊤;
-  items = ItemsAre;
-  object = ObjectIs;
-  members = MembersAre;
+  items = StrippedItemsAre;
+  object = StrippedObjectIs;
+  members = StrippedMembersAre;
   items_size = parts.items_size;
   object_size = λ x. length x.object.body.now;
   members_size = λ x. parts.items_size x.members.values;

@@ -25,18 +25,18 @@ pub use Rattle.jsonb_functions.specs.ArraySets.{difference, distinct, distinct_i
 pub use Rattle.jsonb_functions.specs.ArraySets.{matched_array, matched_items, overlaps, some_shared}
 pub use Rattle.jsonb_functions.specs.ChosenSource.{FirstKept, kept_pairs, listed_trees}
 pub use Rattle.jsonb_functions.specs.Contains.{contained, contains_whole, has_top_key}
-pub use Rattle.jsonb_functions.specs.Contains.{items_contained, items_in, members_contained}
+pub use Rattle.jsonb_functions.specs.Contains.{items_contained, items_or_none, members_contained}
 pub use Rattle.jsonb_functions.specs.Contains.{some_tree}
 pub use Rattle.jsonb_functions.specs.EditSource.{edit_operation, edited_along, here_of, made_size}
 pub use Rattle.jsonb_functions.specs.EditSource.{made_tree, operation_of, plan_size, what_size}
 pub use Rattle.jsonb_functions.specs.Edited.{before_if, can_wrap, count_done, edited, edited_whole}
-pub use Rattle.jsonb_functions.specs.Edited.{has_key, here_at, here_missing, keys_before}
-pub use Rattle.jsonb_functions.specs.Edited.{makes_container, wrapped}
+pub use Rattle.jsonb_functions.specs.Edited.{here_at, here_missing, keys_before, makes_container}
+pub use Rattle.jsonb_functions.specs.Edited.{pairs_have_key, wrapped}
 pub use Rattle.jsonb_functions.specs.Filter.{compares, filtered, holds}
 pub use Rattle.jsonb_functions.specs.Found.{child_at, found_at}
 pub use Rattle.jsonb_functions.specs.IndexHash.{AppendsSome, AreAmong, IsAmong, hash_64}
 pub use Rattle.jsonb_functions.specs.IndexHash.{items_hashes, members_hashes, tree_hashes}
-pub use Rattle.jsonb_functions.specs.ItemCounts.{Counts, SetsCount, count_at}
+pub use Rattle.jsonb_functions.specs.ItemCounts.{CountsEquals, SetsEqualsCount, equals_count}
 pub use Rattle.jsonb_functions.specs.JoinSource.{FirstMerged, FirstOfRun, IsNoObject, MaybeMembers}
 pub use Rattle.jsonb_functions.specs.JoinSource.{MaybeObject, RunIs, keys_size, maybe_keys_size}
 pub use Rattle.jsonb_functions.specs.JoinSource.{maybe_members_size, maybe_object_size, run_size}
@@ -51,16 +51,17 @@ pub use Rattle.jsonb_functions.specs.Patched.{pairs_or_none, pairs_patched, patc
 pub use Rattle.jsonb_functions.specs.Path.{is_next, item_place, position_view}
 pub use Rattle.jsonb_functions.specs.PathDocument.{path_tree, step_tree, stored_step}
 pub use Rattle.jsonb_functions.specs.PathText.{BeginsWithLiteral, IsComparison, IsFilterPath}
-pub use Rattle.jsonb_functions.specs.PathText.{IsStep, IsWord, IsWritten, PathText, Reads}
-pub use Rattle.jsonb_functions.specs.PathText.{ReadsStep, SelectorView, StopsAt, all_are, bound_in}
-pub use Rattle.jsonb_functions.specs.PathText.{comparison_in, from_end_of, is_in_name, is_in_word}
-pub use Rattle.jsonb_functions.specs.PathText.{is_not, is_space, item_at, member_of, number_in}
-pub use Rattle.jsonb_functions.specs.PathText.{path_view, place_in, range_in, scalar_tree}
-pub use Rattle.jsonb_functions.specs.PathText.{selector_view, single_step, single_steps}
+pub use Rattle.jsonb_functions.specs.PathText.{IsLiteralWord, IsStep, IsWrittenStep, PathText}
+pub use Rattle.jsonb_functions.specs.PathText.{Reads, ReadsStep, SelectorView, StopsAt, all_are}
+pub use Rattle.jsonb_functions.specs.PathText.{bound_in, capped_number, comparison_in, from_end_of}
+pub use Rattle.jsonb_functions.specs.PathText.{is_in_name, is_in_word, is_not, is_space, item_at}
+pub use Rattle.jsonb_functions.specs.PathText.{member_step, path_view, place_in, range_in}
+pub use Rattle.jsonb_functions.specs.PathText.{scalar_tree, selector_view, single_step}
+pub use Rattle.jsonb_functions.specs.PathText.{single_steps}
 pub use Rattle.jsonb_functions.specs.Picked.{AreSorted, is_named, keeps, picked}
-pub use Rattle.jsonb_functions.specs.Selected.{between, children_at, chosen_trees, first_tree}
-pub use Rattle.jsonb_functions.specs.Selected.{first_trees, items_before, items_through}
-pub use Rattle.jsonb_functions.specs.Selected.{member_trees, selected}
+pub use Rattle.jsonb_functions.specs.Selected.{children_at, chosen_trees, first_tree, first_trees}
+pub use Rattle.jsonb_functions.specs.Selected.{items_before, items_through, member_trees, selected}
+pub use Rattle.jsonb_functions.specs.Selected.{trees_between}
 pub use Rattle.jsonb_functions.specs.Steps.{FoundIn}
 pub use Rattle.jsonb_functions.specs.StoredPath.{StepView, path_in, step_in, step_to, step_view}
 pub use Rattle.jsonb_functions.specs.StripSource.{FirstStripped}

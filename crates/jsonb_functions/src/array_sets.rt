@@ -3,9 +3,9 @@
 ghost use Rattle.std.specs.Prelude.{◌≡◌, ◌-◌, ◌<◌, ◌++◌, ◌∷◌, [], IfErr, IfOk, OnOk, nat_lt, suc};
 ghost use Rattle.std.specs.Prelude.{if◌then◌else◌};
 ghost use Rattle.jsonb_functions.specs.ChosenSource.{chosen_meaning};
-ghost use Rattle.jsonb_functions.specs.Words.{AreChildren, Counts, Fits, LevelIs, MadeIfFit};
-ghost use Rattle.jsonb_functions.specs.Words.{MadeWithMemory, SetsCount, Trees, array, canon};
-ghost use Rattle.jsonb_functions.specs.Words.{count_at, difference, distinct, distinct_items};
+ghost use Rattle.jsonb_functions.specs.Words.{AreChildren, CountsEquals, Fits, LevelIs, MadeIfFit};
+ghost use Rattle.jsonb_functions.specs.Words.{MadeWithMemory, SetsEqualsCount, Trees, array, canon};
+ghost use Rattle.jsonb_functions.specs.Words.{difference, distinct, distinct_items, equals_count};
 ghost use Rattle.jsonb_functions.specs.Words.{document_tree, intersection, items_or_one};
 ghost use Rattle.jsonb_functions.specs.Words.{listed_trees, matched_array, matched_items};
 ghost use Rattle.jsonb_functions.specs.Words.{code_of, node_tree, overlaps, owned_bytes, part_tree};
@@ -206,7 +206,7 @@ fn push_if<'a>(is_kept: bool, list: &mut Vec<Part<'a>>, part: Part<'a>) -> Resul
 
 // Whether some item has a count.
 fn has_shared<'a>(items: &[Part<'a>], counts: &BTreeMap<Node<'a>, usize>) -> bool
-    ensures { (us : Trees) → Counts counts.now.entries us
+    ensures { (us : Trees) → CountsEquals counts.now.entries us
         → result ≡ some_shared (listed_trees items.now) us }
 {
     for part in items {
@@ -219,7 +219,7 @@ fn has_shared<'a>(items: &[Part<'a>], counts: &BTreeMap<Node<'a>, usize>) -> boo
 
 // How many of the items are equal to each value.
 fn count_items<'a>(alloc: Global, items: &[Part<'a>]) -> Result<BTreeMap<Node<'a>, usize>, Error>
-    ensures counts { IfOk result (λ counts. Counts counts.entries (listed_trees items.now)) }
+    ensures counts { IfOk result (λ counts. CountsEquals counts.entries (listed_trees items.now)) }
     ensures memory { IfErr result (λ e. e ≡ Error.OutOfMemory) }
 {
     let mut counts = BTreeMap::new(alloc);
@@ -240,17 +240,17 @@ fn node_of<'a>(part: Part<'a>) -> Node<'a>
 // The count of a value's equals.
 #[inline(always)]
 fn count_of<'a>(counts: &BTreeMap<Node<'a>, usize>, node: &Node<'a>) -> usize
-    ensures { result ≡ count_at counts.now.entries node.now }
+    ensures { result ≡ equals_count counts.now.entries node.now }
 {
     counts.get(node).copied().unwrap_or(0)
 }
 
 // Raises the count of a value's equals by one; returns what it was.
 fn raise_count<'a>(counts: &mut BTreeMap<Node<'a>, usize>, node: Node<'a>) -> Result<usize, Error>
-    requires { count_at counts.old.entries node < usize.MAX }
-    ensures before { IfOk result (λ count. count ≡ count_at counts.old.entries node.entry) }
-    ensures raised { OnOk result (SetsCount counts.old.entries counts.new.entries node.entry
-        (suc (count_at counts.old.entries node.entry))) }
+    requires { equals_count counts.old.entries node < usize.MAX }
+    ensures before { IfOk result (λ count. count ≡ equals_count counts.old.entries node.entry) }
+    ensures raised { OnOk result (SetsEqualsCount counts.old.entries counts.new.entries node.entry
+        (suc (equals_count counts.old.entries node.entry))) }
     ensures memory { IfErr result (λ e. e ≡ Error.OutOfMemory) }
 {
     let count = count_of(counts, &node);
@@ -260,9 +260,9 @@ fn raise_count<'a>(counts: &mut BTreeMap<Node<'a>, usize>, node: Node<'a>) -> Re
 
 // Lowers the count of a value's equals by one. `false` if it is 0.
 fn lower_count<'a>(counts: &mut BTreeMap<Node<'a>, usize>, node: Node<'a>) -> bool
-    ensures was { result ≡ nat_lt 0 (count_at counts.old.entries node.entry) }
-    ensures lowered { SetsCount counts.old.entries counts.new.entries node.entry
-        (count_at counts.old.entries node.entry - 1) }
+    ensures was { result ≡ nat_lt 0 (equals_count counts.old.entries node.entry) }
+    ensures lowered { SetsEqualsCount counts.old.entries counts.new.entries node.entry
+        (equals_count counts.old.entries node.entry - 1) }
 {
     let Some(count) = count_of(counts, &node).checked_sub(1) else {
         return false;

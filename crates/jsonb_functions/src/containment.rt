@@ -4,7 +4,7 @@ ghost use Rattle.std.specs.Prelude.{◌≡◌, ◌<◌, ◌≤◌, ◌+◌, ◌*
 ghost use Rattle.std.specs.Prelude.{option_map};
 ghost use Rattle.jsonb_functions.specs.Words.{Ascend, FoundIn, contained, contains_whole};
 ghost use Rattle.jsonb_functions.specs.Words.{document_tree, has_top_key, items_contained};
-ghost use Rattle.jsonb_functions.specs.Words.{items_in, members_contained, nat_cmp, node_tree};
+ghost use Rattle.jsonb_functions.specs.Words.{items_or_none, members_contained, nat_cmp, node_tree};
 ghost use Rattle.jsonb_functions.specs.Words.{object_of, pair_sizes, pairs_of, rest_pairs};
 ghost use Rattle.jsonb_functions.specs.Words.{rest_trees, size, sizes, slice_cmp, some_tree, text};
 ghost use Rattle.jsonb_functions.specs.Words.{trees_of, value_of_key};
@@ -138,8 +138,9 @@ fn contains_documents(left: Document<'_>, right: Document<'_>, steps: &mut u128)
 fn contains_items(array: Document<'_>, mut wanted: Items<'_>, steps: &mut u128) -> Option<bool>
     ensures { FoundIn result
         (items_contained (trees_of (rest_trees wanted.entry))
-        (items_in (document_tree array.entry)))
-        (sizes (items_in (document_tree array.entry)) * sizes (trees_of (rest_trees wanted.entry)))
+        (items_or_none (document_tree array.entry)))
+        (sizes (items_or_none (document_tree array.entry))
+        * sizes (trees_of (rest_trees wanted.entry)))
         steps.old steps.new }
 {
     while let Some(item) = next_item(&mut wanted) {

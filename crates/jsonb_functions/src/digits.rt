@@ -1,12 +1,12 @@
 //! Numbers in texts.
 
 ghost use Rattle.std.specs.Prelude.{◌≡◌};
-ghost use Rattle.jsonb_functions.specs.Words.{number_in};
+ghost use Rattle.jsonb_functions.specs.Words.{capped_number};
 
 /// The number of decimal digits, or the greatest of 64 bits if it exceeds that. `None` if there are
 /// no digits, or other bytes among them.
 pub fn read_number(digits: &[u8]) -> Option<usize>
-    ensures { result ≡ number_in digits.now }
+    ensures { result ≡ capped_number digits.now }
 {
     if digits.is_empty() {
         return None;

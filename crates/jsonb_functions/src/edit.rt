@@ -6,11 +6,12 @@ ghost use Rattle.jsonb_functions.specs.Words.{AreChildren, AreMembers, Fits, IsO
 ghost use Rattle.jsonb_functions.specs.Words.{MadeIfFit, Means, Pairs, Shape, Tree, before_if};
 ghost use Rattle.jsonb_functions.specs.Words.{can_wrap, canon, code_of, count_done, document_tree};
 ghost use Rattle.jsonb_functions.specs.Words.{edit_operation, edited, edited_along, edited_whole};
-ghost use Rattle.jsonb_functions.specs.Words.{has_key, here_at, here_missing, here_of, items_size};
+ghost use Rattle.jsonb_functions.specs.Words.{here_at, here_missing, here_of, items_size};
 ghost use Rattle.jsonb_functions.specs.Words.{keys_before, level_size, made_size, made_tree};
 ghost use Rattle.jsonb_functions.specs.Words.{makes_container, no_pairs, no_trees, operation_of};
-ghost use Rattle.jsonb_functions.specs.Words.{owned_bytes, part_meaning, part_tree, plan_size};
-ghost use Rattle.jsonb_functions.specs.Words.{position_view, shape_of, what_size, wrapped};
+ghost use Rattle.jsonb_functions.specs.Words.{owned_bytes, pairs_have_key, part_meaning, part_tree};
+ghost use Rattle.jsonb_functions.specs.Words.{plan_size, position_view, shape_of, what_size};
+ghost use Rattle.jsonb_functions.specs.Words.{wrapped};
 
 use crate::path::{Position, Step, is_next, item_position};
 use jsonb::constants::CONTAINER_TAG;
@@ -364,7 +365,7 @@ fn no_items<'a>() -> Children<'a>
 // How many members have lesser keys, and whether one has this key.
 fn position_of_key(members: Members<'_>, key: &str) -> Position
     ensures { (ps : Pairs) → AreMembers ps members.entry
-        → position_view result ≡ (keys_before key.now ps, has_key key.now ps) }
+        → position_view result ≡ (keys_before key.now ps, pairs_have_key key.now ps) }
 {
     let mut left = members;
     let mut before = 0;

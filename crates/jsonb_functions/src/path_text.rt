@@ -4,12 +4,12 @@ ghost use Rattle.std.specs.Prelude.{◌≡◌, ◌↔◌, ◌∷◌, ◌++◌, �
 ghost use Rattle.std.specs.Prelude.{Some, map, option_map, true, false};
 ghost use Rattle.std.specs.List.{after_first, before_first, prefix_len};
 ghost use Rattle.jsonb_functions.specs.Words.{BeginsWithLiteral, IsComparison, IsFilterPath};
-ghost use Rattle.jsonb_functions.specs.Words.{IsStep, IsWord, IsWritten, PathText, Reads};
-ghost use Rattle.jsonb_functions.specs.Words.{ReadsStep, SelectorView, StopsAt, Tree, all_are};
-ghost use Rattle.jsonb_functions.specs.Words.{bound_in, comparison_in, from_end_of, is_in_name};
-ghost use Rattle.jsonb_functions.specs.Words.{is_in_word, is_not, is_space, item_at, member_of};
-ghost use Rattle.jsonb_functions.specs.Words.{node_tree, path_view, place_in, range_in};
-ghost use Rattle.jsonb_functions.specs.Words.{scalar_tree, selector_view, single_step};
+ghost use Rattle.jsonb_functions.specs.Words.{IsLiteralWord, IsStep, IsWrittenStep, PathText};
+ghost use Rattle.jsonb_functions.specs.Words.{Reads, ReadsStep, SelectorView, StopsAt, Tree};
+ghost use Rattle.jsonb_functions.specs.Words.{all_are, bound_in, comparison_in, from_end_of};
+ghost use Rattle.jsonb_functions.specs.Words.{is_in_name, is_in_word, is_not, is_space, item_at};
+ghost use Rattle.jsonb_functions.specs.Words.{member_step, node_tree, path_view, place_in};
+ghost use Rattle.jsonb_functions.specs.Words.{range_in, scalar_tree, selector_view, single_step};
 ghost use Rattle.jsonb_functions.specs.Words.{single_steps, step_view, tree_of};
 
 use crate::digits::read_number;
@@ -100,7 +100,7 @@ fn read_step<'a>(alloc: Global, text: &'a str) -> Result<Option<(Selector<'a>, &
 // A step that is not a filter, and what is after it. In a filter, a name as it is ends before a
 // space too.
 fn read_written<'a>(text: &'a str, in_filter: bool) -> Option<(Selector<'a>, &'a str)>
-    ensures { ReadsStep (IsWritten in_filter) in_filter text.now result }
+    ensures { ReadsStep (IsWrittenStep in_filter) in_filter text.now result }
 {
     if let Some(name) = after_char(text, '.') {
         return read_member(name, in_filter);
@@ -111,7 +111,7 @@ fn read_written<'a>(text: &'a str, in_filter: bool) -> Option<(Selector<'a>, &'a
 
 // A step after a point, and what is after it.
 fn read_member<'a>(text: &'a str, in_filter: bool) -> Option<(Selector<'a>, &'a str)>
-    ensures { ReadsStep (IsWritten in_filter) in_filter (46 ∷ text.now) result }
+    ensures { ReadsStep (IsWrittenStep in_filter) in_filter (46 ∷ text.now) result }
 {
     match after_char(text, '"') {
         Some(quoted) => read_quoted(quoted, in_filter),
@@ -121,7 +121,7 @@ fn read_member<'a>(text: &'a str, in_filter: bool) -> Option<(Selector<'a>, &'a 
 
 // A key up to a quote, and what is after that.
 fn read_quoted<'a>(text: &'a str, in_filter: bool) -> Option<(Selector<'a>, &'a str)>
-    ensures { ReadsStep (IsWritten in_filter) in_filter (46 ∷ (34 ∷ text.now)) result }
+    ensures { ReadsStep (IsWrittenStep in_filter) in_filter (46 ∷ (34 ∷ text.now)) result }
 {
     match split_at(text, '"') {
         Some((name, rest)) => Some((Selector::Key(name), rest)),
@@ -132,7 +132,7 @@ fn read_quoted<'a>(text: &'a str, in_filter: bool) -> Option<(Selector<'a>, &'a 
 // A key as it is, or the step to each member, and what is after it.
 fn read_plain<'a>(text: &'a str, in_filter: bool) -> Option<(Selector<'a>, &'a str)>
     requires { (rest : List ℕ) → text.now ≡ 34 ∷ rest → ⊥ }
-    ensures { ReadsStep (IsWritten in_filter) in_filter (46 ∷ text.now) result }
+    ensures { ReadsStep (IsWrittenStep in_filter) in_filter (46 ∷ text.now) result }
 {
     let (name, rest) = split_name(text, in_filter);
     if name.is_empty() {
@@ -144,7 +144,7 @@ fn read_plain<'a>(text: &'a str, in_filter: bool) -> Option<(Selector<'a>, &'a s
 
 // The step to a key, or to each member.
 fn member_of<'a>(name: &'a str) -> Selector<'a>
-    ensures { selector_view result ≡ member_of name.now }
+    ensures { selector_view result ≡ member_step name.now }
 {
     if name == "*" {
         Selector::AllMembers
@@ -203,7 +203,7 @@ fn split_at(text: &str, end: char) -> Option<(&str, &str)>
 
 // A step up to a closing bracket, and what is after that.
 fn read_bracketed<'a>(text: &'a str, in_filter: bool) -> Option<(Selector<'a>, &'a str)>
-    ensures { ReadsStep (IsWritten in_filter) in_filter (91 ∷ text.now) result }
+    ensures { ReadsStep (IsWrittenStep in_filter) in_filter (91 ∷ text.now) result }
 {
     match split_at(text, ']') {
         Some((place, rest)) => match read_place(place) {
@@ -442,8 +442,8 @@ fn is_in_word(byte: u8) -> bool
 
 // The value of a word: null, a truth value or a number, as JSON spells it.
 fn read_scalar<'a>(alloc: Global, word: &str) -> Result<Option<Node<'a>>, Error>
-    ensures ok { IfOk result (λ value. MatchOption value ((t : Tree) → IsWord word.now t → ⊥)
-        (λ node. IsWord word.now (node_tree node))) }
+    ensures ok { IfOk result (λ value. MatchOption value ((t : Tree) → IsLiteralWord word.now t → ⊥)
+        (λ node. IsLiteralWord word.now (node_tree node))) }
     ensures memory { IfErr result (λ e. e ≡ Error.OutOfMemory) }
 {
     match parse_value_with_exponents(alloc, word) {

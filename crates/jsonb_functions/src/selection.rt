@@ -2,11 +2,11 @@
 
 ghost use Rattle.std.specs.Prelude.{◌≡◌, ◌++◌, IfErr, IfOk, OnOk, drop, length, map, option_map};
 ghost use Rattle.std.specs.Prelude.{is_some};
-ghost use Rattle.jsonb_functions.specs.Words.{YieldsFirstBy, between, children_at, chosen_trees};
+ghost use Rattle.jsonb_functions.specs.Words.{YieldsFirstBy, children_at, chosen_trees};
 ghost use Rattle.jsonb_functions.specs.Words.{document_tree, filtered, first_tree, first_trees};
-ghost use Rattle.jsonb_functions.specs.Words.{items_before};
-ghost use Rattle.jsonb_functions.specs.Words.{items_in, items_through, member_trees, node_tree};
-ghost use Rattle.jsonb_functions.specs.Words.{rest_trees, selected, tree_list};
+ghost use Rattle.jsonb_functions.specs.Words.{items_before, items_or_none, items_through};
+ghost use Rattle.jsonb_functions.specs.Words.{member_trees, node_tree, rest_trees, selected};
+ghost use Rattle.jsonb_functions.specs.Words.{tree_list, trees_between};
 
 use crate::filter::{Condition, holds};
 use crate::found::child_of;
@@ -151,7 +151,7 @@ fn filtered<'a>(node: Node<'a>, condition: &Condition<'_>) -> Chosen<'a>
 // The items of an array between two bounds.
 fn items_between<'a>(node: Node<'a>, first: Bound, last: Bound) -> Chosen<'a>
     ensures { chosen_trees result
-        ≡ between first last (tree_list (items_in (node_tree node.entry))) }
+        ≡ trees_between first last (tree_list (items_or_none (node_tree node.entry))) }
 {
     let Node::Container(document) = node else {
         return Chosen::Child(None);

@@ -38,10 +38,10 @@ use Rattle.jsonb.proofs.KindLaws.{At-entry, IsTag-type_of, container_cases, head
 use Rattle.jsonb.proofs.KindLaws.{header_at-array, header_at-object}
 use Rattle.jsonb.proofs.EntryTreeLaws.{entry_tree-is}
 use Rattle.jsonb.proofs.Places.{At, At-after_word, At-left}
-use Rattle.jsonb_functions.specs.Contains.{items_in}
+use Rattle.jsonb_functions.specs.Contains.{items_or_none}
 use Rattle.jsonb_functions.specs.Filter.{filtered, holds}
 use Rattle.jsonb_functions.specs.Found.{child_at, found_at, if_there, item_there}
-use Rattle.jsonb_functions.specs.Selected.{between, children_at, items_before, items_through}
+use Rattle.jsonb_functions.specs.Selected.{trees_between, children_at, items_before, items_through}
 use Rattle.jsonb_functions.specs.Selected.{member_trees, selected}
 use Rattle.jsonb_functions.specs.declared.filter.Condition.{Condition}
 use Rattle.jsonb_functions.specs.declared.path.Step.{Step}
@@ -459,7 +459,7 @@ child_moved bytes place child t inside held =
 -- Nothing is chosen from a scalar.
 none_at : (s : Selector) → IsUnfiltered s → (t : Tree)
     → ((step : Step) → child_at step t ≡ None)
-    → items_in t ≡ no_trees → member_trees t ≡ [] → [] ≡ children_at s t
+    → items_or_none t ≡ no_trees → member_trees t ≡ [] → [] ≡ children_at s t
 none_at (selectors.Key k) plain t none items members =
     sym (ap option_to_list (none (steps.Key k)))
 none_at (selectors.Index i) plain t none items members =
@@ -470,7 +470,7 @@ none_at selectors.AllItems plain t none items members = sym (ap tree_list items)
 none_at selectors.AllMembers plain t none items members = sym members
 none_at (selectors.Filter condition) plain t none items members = absurd plain
 none_at (selectors.Range first last) plain t none items members =
-    sym (ap (λ (us : Trees). between first last (tree_list us)) items
+    sym (ap (λ (us : Trees). trees_between first last (tree_list us)) items
     ∙ nothing_taken (items_before first 0) (items_through last 0))
 
 no_child : (t : Tree) → ((k : List ℕ) → value_of_key k t ≡ None) → items_of t ≡ None

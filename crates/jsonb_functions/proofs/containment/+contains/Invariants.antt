@@ -7,7 +7,7 @@ use Rattle.jsonb.specs.EntryTrees.{rest_trees, rest_pairs}
 use Rattle.jsonb_value.specs.Tree.{Ascend}
 use Rattle.jsonb.specs.Node.{node_tree, pairs_of, object_of}
 use Rattle.jsonb_functions.specs.Contains.{contained, items_contained, some_tree, members_contained}
-use Rattle.jsonb_functions.specs.Contains.{items_in}
+use Rattle.jsonb_functions.specs.Contains.{items_or_none}
 use Rattle.jsonb_functions.proofs.containment.+contains.Given as goal
 
 abbrev pub decreases-contains_node : goal.decreases-contains_node
@@ -32,12 +32,13 @@ decreases-contains_members l =
 abbrev pub invariant-contains_items-loop-item : goal.invariant-contains_items-loop-item
 invariant-contains_items-loop-item l = record {
   decides : items_contained (trees_of (rest_trees l.fn.wanted))
-      (items_in (document_tree l.fn.array))
-      ≡ items_contained (trees_of (rest_trees l.wanted)) (items_in (document_tree l.fn.array));
+      (items_or_none (document_tree l.fn.array))
+      ≡ items_contained (trees_of (rest_trees l.wanted)) (items_or_none (document_tree l.fn.array));
   spent : l.fn.steps
-      + sizes (items_in (document_tree l.fn.array)) * sizes (trees_of (rest_trees l.wanted))
+      + sizes (items_or_none (document_tree l.fn.array)) * sizes (trees_of (rest_trees l.wanted))
       ≤ l.steps
-      + sizes (items_in (document_tree l.fn.array)) * sizes (trees_of (rest_trees l.fn.wanted));
+      + sizes (items_or_none (document_tree l.fn.array))
+      * sizes (trees_of (rest_trees l.fn.wanted));
   less : sizes (trees_of (rest_trees l.wanted)) ≤ sizes (trees_of (rest_trees l.fn.wanted));
 }
 
