@@ -15,7 +15,8 @@ use Rattle.kohiblad.specs.declared.path_places.ChildWalk.{ChildWalk}
 use Rattle.kohiblad.specs.ChildWalks.{found_child, places_left, walked_children}
 use Rattle.kohiblad.specs.Children.{child_at_cursor, cursor_after, cursor_among, cursor_at}
 use Rattle.kohiblad.specs.Children.{layout_under, numbered_child}
-use Rattle.kohiblad.specs.PathPlaces.{children_from, first_child, has_key, named_child, value_at}
+use Rattle.kohiblad.specs.PathPlaces.{child_has_key, children_from, first_child, named_child}
+use Rattle.kohiblad.specs.PathPlaces.{value_at}
 use Rattle.kohiblad.proofs.Walks.{IsUnstarted, next_child, same_child, unstarted}
 
 -- A walk from the cursor before a child goes over the children from that one on.
@@ -136,7 +137,7 @@ module _ (bytes inside : List ℕ) (place : PlacedEntry)
 
 -- The walk to the member with a key.
 module _ (name bytes : List ℕ) where
-  named_if : (b : Bool) (child : Child) (more : List Child) → has_key name bytes child.key ≡ b
+  named_if : (b : Bool) (child : Child) (more : List Child) → child_has_key name bytes child.key ≡ b
       → (if b then child ∷ [] else named_child name bytes more)
       ≡ named_child name bytes (child ∷ more)
   named_if b child more is =
@@ -144,7 +145,7 @@ module _ (name bytes : List ℕ) where
 
   pub named_here : (n : ℕ) (cursor : KohibladCursor) (child : Child) → 0 < n
       → Some child ≡ found_child (child_at_cursor bytes cursor)
-      → has_key name bytes child.key ≡ true
+      → child_has_key name bytes child.key ≡ true
       → walked_children bytes 1 cursor ≡ named_child name bytes (walked_children bytes n cursor)
   named_here n cursor child some here is =
       let next = cursor_after (Ok (Some child)) cursor in
@@ -155,7 +156,7 @@ module _ (name bytes : List ℕ) where
 
   pub named_later : (n left : ℕ) (cursor next : KohibladCursor) (child : Child) → 0 < n
       → left ≡ n - 1 → Some child ≡ found_child (child_at_cursor bytes cursor)
-      → has_key name bytes child.key ≡ false → next ≡ cursor_after (Ok (Some child)) cursor
+      → child_has_key name bytes child.key ≡ false → next ≡ cursor_after (Ok (Some child)) cursor
       → named_child name bytes (walked_children bytes left next)
       ≡ named_child name bytes (walked_children bytes n cursor)
   named_later n left cursor next child some less here is moved =

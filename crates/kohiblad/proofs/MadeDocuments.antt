@@ -15,7 +15,7 @@ use Rattle.jsonb.specs.Code.{scalar_bytes, extension_bytes, item_document, CanBe
 use Rattle.jsonb.specs.ItemValues.{extension_source, extension_of_item}
 use Rattle.jsonb.specs.ItemView.{ItemView, item_view}
 use Rattle.jsonb.specs.Owned.{owned_bytes, bytes_of}
-use Rattle.kohiblad.specs.Output.{IsWritten}
+use Rattle.kohiblad.specs.Output.{IsWrittenOut}
 use Rattle.kohiblad.specs.Status.{code, IsAnswered, IsHandedOver, IsRefused}
 
 abbrev error_result : Error → Result OwnedJsonb Error
@@ -32,7 +32,7 @@ only_memory e Fits fits (inr is) past = is
 pub written : (r : Result OwnedJsonb Error) (item : ItemView) (text before after : List ℕ)
     (size status : ℕ) → item_document item ≡ text → CanBeStored item
     → IfOk r (λ owned. owned_bytes owned ≡ item_document item) → MadeIfFit (CanBeStored item) r
-    → IsAnswered (bytes_of r) before after size status → IsWritten text before after size status
+    → IsAnswered (bytes_of r) before after size status → IsWrittenOut text before after size status
 written (Ok owned) item text before after size status is fits ok limits answered =
     inl (subst (λ (b : List ℕ). IsHandedOver b before after size status) (ok ∙ is) answered)
 written (Err e) item text before after size status is fits ok limits answered =

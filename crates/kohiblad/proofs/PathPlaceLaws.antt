@@ -41,8 +41,8 @@ use Rattle.jsonb.proofs.Places.{At, At-after_word, At-left}
 use Rattle.jsonb_functions.specs.Contains.{items_or_none}
 use Rattle.jsonb_functions.specs.Filter.{filtered, holds}
 use Rattle.jsonb_functions.specs.Found.{child_at, found_at, if_there, item_there}
-use Rattle.jsonb_functions.specs.Selected.{trees_between, children_at, items_before, items_through}
-use Rattle.jsonb_functions.specs.Selected.{member_trees, selected}
+use Rattle.jsonb_functions.specs.Selected.{children_at, items_before, items_through, member_trees}
+use Rattle.jsonb_functions.specs.Selected.{selected, trees_between}
 use Rattle.jsonb_functions.specs.declared.filter.Condition.{Condition}
 use Rattle.jsonb_functions.specs.declared.path.Step.{Step}
 use Rattle.jsonb_functions.specs.declared.path.Step.TheVariants as steps
@@ -50,17 +50,16 @@ use Rattle.jsonb_functions.specs.declared.selection.Selector.{Selector}
 use Rattle.jsonb_functions.specs.declared.selection.Selector.TheVariants as selectors
 use Rattle.jsonb_functions.proofs.SelectLaws.{drop_take}
 use Rattle.kohiblad.specs.declared.children.Child.{Child}
-use Rattle.kohiblad.specs.ChildWalks.{IsWithin}
+use Rattle.kohiblad.specs.ChildWalks.{IsPlaceWithin}
 use Rattle.kohiblad.specs.Children.{child_of, layout_under, numbered_among, numbered_child}
-use Rattle.kohiblad.specs.PathPlaces.{HoldTrees, HoldsFound, HoldsTree, at_place, child_places}
-use Rattle.kohiblad.specs.PathPlaces.{children_from, chosen_children, chosen_items}
-use Rattle.kohiblad.specs.PathPlaces.{chosen_members, first_place}
-use Rattle.kohiblad.specs.PathPlaces.{has_key, named_child, path_place, place_from}
-use Rattle.kohiblad.specs.PathPlaces.{places_at, selected_from, selected_places}
+use Rattle.kohiblad.specs.PathPlaces.{HoldTrees, HoldsFound, HoldsTree, at_place, child_has_key}
+use Rattle.kohiblad.specs.PathPlaces.{child_places, children_from, chosen_children, chosen_items}
+use Rattle.kohiblad.specs.PathPlaces.{chosen_members, first_place, named_child, path_place}
+use Rattle.kohiblad.specs.PathPlaces.{place_from, places_at, selected_from, selected_places}
 use Rattle.kohiblad.specs.PathPlaces.{step_selector, value_at, whole_place, whole_under}
 use Rattle.kohiblad.specs.PathCalls.{found_answer}
 use Rattle.kohiblad.specs.declared.places.KohibladPlace.{KohibladPlace}
-use Rattle.kohiblad.specs.PlaceWalks.{AreParts, IsPart, keeps, walk_places}
+use Rattle.kohiblad.specs.PlaceWalks.{AreAllParts, IsPart, filter_keeps, walk_places}
 use Rattle.kohiblad.specs.declared.path_places.PlaceWalk.{PlaceWalk}
 use Rattle.kohiblad.specs.Places.{is_name, part_in}
 use Rattle.kohiblad.proofs.PartLaws.{EntriesMean, EntriesMean-items, entry_among}
@@ -74,7 +73,7 @@ IsUnfiltered s = ⊤
 
 -- A child whose value is inside the bytes, and holds the tree.
 abbrev pub Holds : List ℕ → Child → Tree → Type 0
-Holds bytes child t = IsWithin bytes child.value × HoldsTree bytes child.value t
+Holds bytes child t = IsPlaceWithin bytes child.value × HoldsTree bytes child.value t
 
 holds_entry : (b : List ℕ) (place : PlacedEntry) (c : Entry) (t : Tree)
     → entry_there b place ≡ c → IsPayloadOf c.type c.payload t → HoldsTree b place t
@@ -379,7 +378,7 @@ module _ (b : List ℕ) (name : List ℕ) where
 
   same_test : (key : Option PlacedEntry) (l : List ℕ) → is_some key ≡ true
       → IfSome key (λ place. (entry_there b place).payload ≡ l)
-      → has_key name b key ≡ ((length l == length name) && pointwise nat_eq name l)
+      → child_has_key name b key ≡ ((length l == length name) && pointwise nat_eq name l)
   same_test None l some is = absurd cc
   same_test (Some place) l some is = ap (is_name name) is ∙ name_test name l
 
@@ -426,7 +425,7 @@ module _ (b : List ℕ) (ps : Pairs) (h : Payload (object ps) b) where
 
 -- A place inside the bytes, where the tree is.
 abbrev pub Held : List ℕ → PlacedEntry → Tree → Type 0
-Held bytes place t = IsWithin bytes place × HoldsTree bytes place t
+Held bytes place t = IsPlaceWithin bytes place × HoldsTree bytes place t
 
 -- a child of the array or object at a place, as a place in all bytes
 payload_moved : (bytes : List ℕ) (s l c k : ℕ) → c + k ≤ length (take l (drop s bytes))
@@ -440,7 +439,7 @@ payload_moved bytes s l c k inside =
     ∙ ap (take k) (drop-drop c s bytes)
 
 child_moved : (bytes : List ℕ) (place : PlacedEntry) (child : Child) (t : Tree)
-    → IsWithin bytes place
+    → IsPlaceWithin bytes place
     → Holds (entry_there bytes place).payload child t
     → Held bytes (value_at place.start child) t
 child_moved bytes place child t inside held =
@@ -481,7 +480,7 @@ no_child t keys items (steps.Key k) = refl
 no_child t keys items step = refl
 
 -- The children to which a selector leads.
-module _ (bytes : List ℕ) (place : PlacedEntry) (inside : IsWithin bytes place) where
+module _ (bytes : List ℕ) (place : PlacedEntry) (inside : IsPlaceWithin bytes place) where
   chosen_moved : (cs : List Child) (ts : List Tree)
       → Pairwise (Holds (entry_there bytes place).payload) cs ts
       → Pairwise (Held bytes) (map (value_at place.start) cs) ts
@@ -559,23 +558,23 @@ selected_held (s ∷ path) bytes place t held =
 
 -- Each of the places to which a selector leads holds a tree.
 parts_held : (bytes : List ℕ) (places : List PlacedEntry) (ts : List Tree)
-    → Pairwise (Held bytes) places ts → AreParts bytes places
+    → Pairwise (Held bytes) places ts → AreAllParts bytes places
 parts_held bytes [] ts held = tt
 parts_held bytes (place ∷ places) [] held = absurd held
 parts_held bytes (place ∷ places) (t ∷ ts) held =
     ((t, held.0.0, held.0.1), parts_held bytes places ts held.1)
 
 parts_at : (s : Selector) (bytes : List ℕ) (place : PlacedEntry) → IsPart bytes place
-    → AreParts bytes (places_at s bytes place)
+    → AreAllParts bytes (places_at s bytes place)
 parts_at s bytes place part =
     parts_held bytes (places_at s bytes place) (children_at s part.0)
     (selector_held s bytes place part.0 (part.1, part.2))
 
 pub walk_parts : (s : Selector) (bytes : List ℕ) (place : PlacedEntry) (walk : PlaceWalk)
     → IsPart bytes place → walk_places bytes place walk ≡ places_at s bytes place
-    → AreParts bytes (walk_places bytes place walk)
+    → AreAllParts bytes (walk_places bytes place walk)
 walk_parts s bytes place walk part e =
-    subst (AreParts bytes) (sym e) (parts_at s bytes place part)
+    subst (AreAllParts bytes) (sym e) (parts_at s bytes place part)
 
 -- The places to which the first step of a path leads are those from which the others go on.
 pub places_first : (path : List Selector) (s : Selector) (bytes : List ℕ) (place : PlacedEntry)
@@ -606,13 +605,13 @@ kept_place f place b is =
 
 kept_first : (s : Selector) (f : PlacedEntry → List PlacedEntry) (bytes : List ℕ)
     (place : PlacedEntry)
-    → keeps s bytes place ≡ true → flat_map f (places_at s bytes place) ≡ f place
+    → filter_keeps s bytes place ≡ true → flat_map f (places_at s bytes place) ≡ f place
 kept_first (selectors.Filter condition) f bytes place is =
     kept_place f place (holds condition (entry_tree (entry_there bytes place))) is
 kept_first s f bytes place is = let never : false ≡ true = is in absurd (cc)
 
 pub kept_on : (path : List Selector) (s : Selector) (bytes : List ℕ) (place : PlacedEntry)
-    → 1 ≤ length path → get_or path 0 s ≡ s → keeps s bytes place ≡ true
+    → 1 ≤ length path → get_or path 0 s ≡ s → filter_keeps s bytes place ≡ true
     → selected_from path bytes place
     ≡ selected_from (take (length path - 1) (drop 1 path)) bytes place
 kept_on [] s bytes place some first is = absurd (omega (arith, some))

@@ -11,8 +11,8 @@ use Rattle.kohiblad.specs.PathPlaces.{first_child, value_at}
 use Rattle.jsonb.specs.Entries.{entry_there}
 
 -- The place does not run past the end of the bytes.
-abbrev pub IsWithin : List ℕ → PlacedEntry → Type 0
-IsWithin bytes place = place.start + place.length ≤ length bytes
+abbrev pub IsPlaceWithin : List ℕ → PlacedEntry → Type 0
+IsPlaceWithin bytes place = place.start + place.length ≤ length bytes
 
 -- The child, if one was found.
 abbrev pub found_child : Result (Option Child) Error → Option Child

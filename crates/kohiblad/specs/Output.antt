@@ -11,8 +11,8 @@ use Rattle.jsonb.specs.Parsing.{ParsesUnder}
 use Rattle.kohiblad.specs.Status.{code, too_deep, IsHandedOver, IsOneAnswered, IsRefused}
 
 -- The text is handed over, or there is not enough memory.
-abbrev pub IsWritten : List ℕ → List ℕ → List ℕ → ℕ → ℕ → Type 0
-IsWritten text before after size status = IsHandedOver text before after size status
+abbrev pub IsWrittenOut : List ℕ → List ℕ → List ℕ → ℕ → ℕ → Type 0
+IsWrittenOut text before after size status = IsHandedOver text before after size status
     ⊎ IsRefused (code errors.OutOfMemory) before after size status
 
 -- The bytes are brought to canonical form, as the library does it.

@@ -37,15 +37,15 @@ children_from bytes index (suc n) =
     first_child (numbered_child bytes index) (children_from bytes (suc index) n)
 
 -- The child has this key.
-abbrev pub has_key : List ℕ → List ℕ → Option PlacedEntry → Bool
-has_key name bytes None = false
-has_key name bytes (Some key) = is_name name (entry_there bytes key).payload
+abbrev pub child_has_key : List ℕ → List ℕ → Option PlacedEntry → Bool
+child_has_key name bytes None = false
+child_has_key name bytes (Some key) = is_name name (entry_there bytes key).payload
 
 -- The first of these children that has this key.
 abbrev pub named_child : List ℕ → List ℕ → List Child → List Child
 named_child name bytes [] = []
 named_child name bytes (child ∷ children) =
-    if has_key name bytes child.key then child ∷ [] else named_child name bytes children
+    if child_has_key name bytes child.key then child ∷ [] else named_child name bytes children
 
 -- Of n items those from one bound to another.
 abbrev pub items_between : List ℕ → ℕ → Bound → Bound → List Child

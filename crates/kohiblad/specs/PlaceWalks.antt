@@ -8,18 +8,18 @@ use Rattle.jsonb_functions.specs.declared.selection.Selector.TheVariants as sele
 use Rattle.jsonb.specs.declared.entries.Entry.{Entry as PlacedEntry}
 use Rattle.kohiblad.specs.declared.path_places.PlaceWalk.{PlaceWalk}
 use Rattle.kohiblad.specs.declared.path_places.PlaceWalk.TheVariants as walks
-use Rattle.kohiblad.specs.ChildWalks.{IsWithin, places_left}
+use Rattle.kohiblad.specs.ChildWalks.{IsPlaceWithin, places_left}
 use Rattle.kohiblad.specs.PathPlaces.{HoldsTree}
 use Rattle.jsonb.specs.Entries.{entry_there}
 
 -- The place is inside the bytes, and its entry holds a tree.
 abbrev pub IsPart : List ℕ → PlacedEntry → Type 0
-IsPart bytes place = (t : Tree) × IsWithin bytes place × HoldsTree bytes place t
+IsPart bytes place = (t : Tree) × IsPlaceWithin bytes place × HoldsTree bytes place t
 
 -- So is each of the places.
-abbrev pub AreParts : List ℕ → List PlacedEntry → Type 0
-AreParts bytes [] = ⊤
-AreParts bytes (place ∷ places) = IsPart bytes place × AreParts bytes places
+abbrev pub AreAllParts : List ℕ → List PlacedEntry → Type 0
+AreAllParts bytes [] = ⊤
+AreAllParts bytes (place ∷ places) = IsPart bytes place × AreAllParts bytes places
 
 -- The places that are left in a walk over those to which a selector leads from a place.
 abbrev pub walk_places : List ℕ → PlacedEntry → PlaceWalk → List PlacedEntry
@@ -27,7 +27,7 @@ walk_places bytes place (walks.Itself is_left) = if is_left then place ∷ [] el
 walk_places bytes place (walks.Children walk) = places_left bytes place walk
 
 -- The selector is a filter that keeps what is at the place.
-abbrev pub keeps : Selector → List ℕ → PlacedEntry → Bool
-keeps (selectors.Filter condition) bytes place =
+abbrev pub filter_keeps : Selector → List ℕ → PlacedEntry → Bool
+filter_keeps (selectors.Filter condition) bytes place =
     holds condition (entry_tree (entry_there bytes place))
-keeps s bytes place = false
+filter_keeps s bytes place = false

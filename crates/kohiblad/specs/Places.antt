@@ -82,8 +82,8 @@ abbrev pub IsInside : List ℕ → Result (Option PlacedEntry) Error → Type 0
 IsInside bytes found = IfOk found (λ o. IfSome o (IsEntryIn bytes))
 
 -- Both positions of a member that was found satisfy `IsEntryIn`.
-abbrev pub AreInside : List ℕ → Result (Option (PlacedEntry × PlacedEntry)) Error → Type 0
-AreInside bytes found =
+abbrev pub AreBothInside : List ℕ → Result (Option (PlacedEntry × PlacedEntry)) Error → Type 0
+AreBothInside bytes found =
     IfOk found (λ o. IfSome o (λ places. IsEntryIn bytes places.0 × IsEntryIn bytes places.1))
 
 -- A position, none, or an error, as C receives it.

@@ -14,7 +14,7 @@ use Rattle.jsonb.specs.Building.{AreTexts}
 use Rattle.jsonb.specs.Results.{AreWithinLimits, IsArrayOfDocuments, IsObjectOfDocuments}
 use Rattle.jsonb.specs.Results.{PairsExceedLimits}
 use Rattle.kohiblad.specs.Status.{code, IsOneAnswered, IsRefused}
-use Rattle.kohiblad.specs.Rows.{are_offsets, rows, pairs_in}
+use Rattle.kohiblad.specs.Rows.{are_offsets, rows, row_pairs}
 
 -- Each of these is a document of at most this depth.
 abbrev pub AreWithin : ℕ → List (List ℕ) → Type 0
@@ -72,4 +72,4 @@ abbrev pub IsObjectOfRows : ℕ → List ℕ → List ℕ → List ℕ → List 
 IsObjectOfRows depth bytes offsets before after size status =
     ((are_pairs bytes offsets ≡ false) × IsRefused (code InvalidEOF) before after size status)
     ⊎ ((are_pairs bytes offsets ≡ true)
-    × IsOneAnswered (BuildsObject depth (pairs_in (rows bytes offsets))) before after size status)
+    × IsOneAnswered (BuildsObject depth (row_pairs (rows bytes offsets))) before after size status)

@@ -20,7 +20,7 @@ rows bytes [] = []
 rows bytes (start ∷ ends) = rows_from bytes start ends
 
 -- The rows as pairs: a key, then its document, and so on.
-abbrev pub pairs_in : List (List ℕ) → List (List ℕ × List ℕ)
-pairs_in [] = []
-pairs_in (key ∷ []) = []
-pairs_in (key ∷ document ∷ left) = (key, document) ∷ pairs_in left
+abbrev pub row_pairs : List (List ℕ) → List (List ℕ × List ℕ)
+row_pairs [] = []
+row_pairs (key ∷ []) = []
+row_pairs (key ∷ document ∷ left) = (key, document) ∷ row_pairs left

@@ -43,16 +43,15 @@ pub use Rattle.kohiblad.specs.Functions.{AreKeysWritten, IsContainedAnswer, IsEd
 pub use Rattle.kohiblad.specs.Functions.{MakesOfOne, MakesOfTwo}
 pub use Rattle.kohiblad.specs.Functions.{exists_answer, operation_in, operation_asked}
 pub use Rattle.kohiblad.specs.KindAnswer.{kind_answer}
-pub use Rattle.kohiblad.specs.Output.{IsReadWithin, IsRewrittenWithin}
-pub use Rattle.kohiblad.specs.Output.{IsWritten, rule_of}
+pub use Rattle.kohiblad.specs.Output.{IsReadWithin, IsRewrittenWithin, IsWrittenOut, rule_of}
 pub use Rattle.kohiblad.specs.Parts.{IsPartDocument, is_entry_type, is_too_long, part_document}
-pub use Rattle.kohiblad.specs.Places.{AreInside, AreMemberPlaces, IsInside, IsItemPlace}
+pub use Rattle.kohiblad.specs.Places.{AreBothInside, AreMemberPlaces, IsInside, IsItemPlace}
 pub use Rattle.kohiblad.specs.Places.{IsMemberHandedOver, IsPartPlace, IsPlaceFound}
 pub use Rattle.kohiblad.specs.Places.{IsPlaceHandedOver, IsValuePlace, entry_document}
 pub use Rattle.kohiblad.specs.Places.{member_places, part_in, place_answer, place_of_item}
 pub use Rattle.kohiblad.specs.Results.{AreWithin, BuildsArray, BuildsObject, IsArrayOfRows}
 pub use Rattle.kohiblad.specs.Results.{IsMember, IsObjectOfRows}
-pub use Rattle.kohiblad.specs.Rows.{are_offsets, pairs_in, rows, rows_from}
+pub use Rattle.kohiblad.specs.Rows.{are_offsets, row_pairs, rows, rows_from}
 pub use Rattle.kohiblad.specs.Scalars.{IsDecimalOf, IsGivenBy, IsShort, IsShortExtension}
 pub use Rattle.kohiblad.specs.Scalars.{coefficient, data_answer, data_of, extension_answer}
 pub use Rattle.kohiblad.specs.Scalars.{from_halves, int64_answer, int64_number, is_true, no_decimal}

@@ -1,7 +1,7 @@
 //! Building arrays and objects from documents in consecutive rows.
 
 ghost use Rattle.kohiblad.specs.Words.{BuildsArray, BuildsObject, IsArrayOfRows, IsObjectOfRows};
-ghost use Rattle.kohiblad.specs.Words.{bytes_of, pairs_in};
+ghost use Rattle.kohiblad.specs.Words.{bytes_of, row_pairs};
 
 use crate::answer::{code, hand_over_made, refuse};
 use crate::checked_rows::{Documents, Members};
@@ -72,7 +72,7 @@ pub extern "C" fn kohiblad_build_object(
 
 // Builds the object of these rows, a key, then its document, and so on; each is checked once.
 fn object_of(alloc: Global, rows: Rows, depth: usize) -> Result<OwnedJsonb, Error>
-    ensures { BuildsObject depth (pairs_in rows.entry) (bytes_of result) }
+    ensures { BuildsObject depth (row_pairs rows.entry) (bytes_of result) }
 {
     let members = Members::within(rows, depth)?;
     OwnedJsonb::build_object_of_documents(alloc, members)

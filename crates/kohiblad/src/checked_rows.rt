@@ -4,7 +4,7 @@ ghost use Rattle.std.specs.Prelude.{◌≡◌, ◌↔◌, ◌⊎◌, ℕ, List, 
 ghost use Rattle.std.specs.Iterator.{YieldsFirstBy, item_count};
 ghost use Rattle.std.specs.List.{AllByRecursion};
 ghost use Rattle.kohiblad.specs.Words.{AreTexts, AreWithin, IsDocument, IsMember, document_bytes};
-ghost use Rattle.kohiblad.specs.Words.{document_pair, keys_of, pairs_in, values_of};
+ghost use Rattle.kohiblad.specs.Words.{document_pair, keys_of, row_pairs, values_of};
 
 use crate::rows::Rows;
 use jsonb::{Document, Error, is_document_within};
@@ -76,23 +76,23 @@ pub struct Members<'a> {
 impl<'a> Model for Members<'a> {
     ghost Value = { List (List ℕ × List ℕ) };
 
-    ghost view = { λ s. pairs_in s.rows };
+    ghost view = { λ s. row_pairs s.rows };
 
-    ghost invariant = { λ s. AllByRecursion IsMember (pairs_in s.rows) };
+    ghost invariant = { λ s. AllByRecursion IsMember (row_pairs s.rows) };
 }
 
 impl<'a> Members<'a> {
     /// Checks the rows. `InvalidJsonb` if the document of a pair is not one of at most this depth,
     /// and otherwise `InvalidUtf8` if a key is not UTF-8.
     pub fn within(rows: Rows<'a>, depth: usize) -> Result<Self, Error>
-        ensures ok { IfOk result (λ members. (members ≡ pairs_in rows.entry)
-            × (AreWithin depth (values_of (pairs_in rows.entry))
-            × AreTexts (keys_of (pairs_in rows.entry)))) }
+        ensures ok { IfOk result (λ members. (members ≡ row_pairs rows.entry)
+            × (AreWithin depth (values_of (row_pairs rows.entry))
+            × AreTexts (keys_of (row_pairs rows.entry)))) }
         ensures err { IfErr result (λ e. ((e ≡ Error.InvalidJsonb)
-            × (AreWithin depth (values_of (pairs_in rows.entry)) → ⊥))
+            × (AreWithin depth (values_of (row_pairs rows.entry)) → ⊥))
             ⊎ ((e ≡ Error.InvalidUtf8)
-            × (AreWithin depth (values_of (pairs_in rows.entry))
-            × (AreTexts (keys_of (pairs_in rows.entry)) → ⊥)))) }
+            × (AreWithin depth (values_of (row_pairs rows.entry))
+            × (AreTexts (keys_of (row_pairs rows.entry)) → ⊥)))) }
     {
         if !are_pairs_within(rows.again(), depth) {
             return Err(Error::InvalidJsonb);
@@ -121,7 +121,7 @@ impl<'a> Iterator for Members<'a> {
 
 // Whether the document of each pair is one of at most this depth.
 fn are_pairs_within(rows: Rows, depth: usize) -> bool
-    ensures { IsTrue result ↔ AreWithin depth (values_of (pairs_in rows.entry)) }
+    ensures { IsTrue result ↔ AreWithin depth (values_of (row_pairs rows.entry)) }
 {
     let mut left = rows;
     while let Some((_, document)) = left.next_pair() {
@@ -134,7 +134,7 @@ fn are_pairs_within(rows: Rows, depth: usize) -> bool
 
 // Whether the key of each pair is UTF-8.
 fn are_texts(rows: Rows) -> bool
-    ensures { IsTrue result ↔ AreTexts (keys_of (pairs_in rows.entry)) }
+    ensures { IsTrue result ↔ AreTexts (keys_of (row_pairs rows.entry)) }
 {
     let mut left = rows;
     while let Some((key, _)) = left.next_pair() {

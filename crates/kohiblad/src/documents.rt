@@ -9,7 +9,7 @@ use jsonb::{JsonbItemType, RawJsonb, SortKey, document_text, is_document_within}
 use std::cmp::Ordering;
 
 // Bytes of at most this length are compared by their meaning at once: checking takes few steps.
-const SHORT: usize = 128;
+const QUICK_TO_CHECK: usize = 128;
 
 /// Whether the bytes are a document of at most this depth: a scalar has depth 0, an array or object
 /// one more than its deepest child, and at least 1. Deeper levels are not examined.
@@ -43,7 +43,7 @@ fn cmp_within(left: &[u8], right: &[u8], depth: usize) -> Ordering
         return left.cmp(right);
     }
     // Equal bytes mean the same, whatever they are, and a check of both sides costs more than this.
-    if left.len() > SHORT && left == right {
+    if left.len() > QUICK_TO_CHECK && left == right {
         return Ordering::Equal;
     }
     let left = SortKey::within(left, depth);

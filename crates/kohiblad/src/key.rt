@@ -1,7 +1,7 @@
 //! Comparable keys: byte strings that sort as the documents do.
 
 ghost use Rattle.std.specs.Prelude.{◌≡◌};
-ghost use Rattle.kohiblad.specs.Words.{meaning_key, meaning_within, IsWritten};
+ghost use Rattle.kohiblad.specs.Words.{meaning_key, meaning_within, IsWrittenOut};
 
 use crate::answer::{code, hand_over, refuse};
 use jsonb::SortKey;
@@ -32,7 +32,7 @@ pub extern "C" fn kohiblad_key(
     out: &mut [u8],
     length: &mut usize,
 ) -> u32
-    ensures { IsWritten (meaning_key (meaning_within depth bytes.now)) out.old out.new length.new
+    ensures { IsWrittenOut (meaning_key (meaning_within depth bytes.now)) out.old out.new length.new
         result }
 {
     match ComparableKey::new(alloc, SortKey::within(bytes, depth)) {

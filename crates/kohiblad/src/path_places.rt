@@ -6,12 +6,12 @@ ghost use Rattle.std.specs.Iterator.{YieldsFirstBy};
 ghost use Rattle.jsonb_codec.specs.Word.{header_at};
 ghost use Rattle.jsonb.specs.EntryTrees.{entry_tree};
 ghost use Rattle.jsonb.specs.Node.{node_tree};
-ghost use Rattle.kohiblad.specs.ChildWalks.{IsWithin, children_left, found_child, places_left};
-ghost use Rattle.kohiblad.specs.PathPlaces.{child_places, children_from, chosen_children};
-ghost use Rattle.kohiblad.specs.PathPlaces.{chosen_items, chosen_members, has_key};
+ghost use Rattle.kohiblad.specs.ChildWalks.{IsPlaceWithin, children_left, found_child, places_left};
+ghost use Rattle.kohiblad.specs.PathPlaces.{child_has_key, child_places, children_from};
+ghost use Rattle.kohiblad.specs.PathPlaces.{chosen_children, chosen_items, chosen_members};
 ghost use Rattle.kohiblad.specs.PathPlaces.{items_between, named_child, place_from, places_at};
 ghost use Rattle.kohiblad.specs.PathPlaces.{selected_from, step_selector, whole_place};
-ghost use Rattle.kohiblad.specs.PlaceWalks.{IsPart, keeps, walk_places};
+ghost use Rattle.kohiblad.specs.PlaceWalks.{IsPart, filter_keeps, walk_places};
 ghost use Rattle.kohiblad.specs.PathCalls.{found_answer};
 ghost use Rattle.kohiblad.specs.Words.{CanMove, Error, IsChildIn, IsEntryIn, child_at_cursor};
 ghost use Rattle.kohiblad.specs.Words.{entry_there};
@@ -43,7 +43,7 @@ pub enum PlaceWalk {
 /// payload runs past the end.
 pub fn whole_place(bytes: &[u8]) -> Result<Entry, Error>
     ensures value { result ≡ whole_place bytes.now }
-    ensures inside { IfOk result (IsWithin bytes.now) }
+    ensures inside { IfOk result (IsPlaceWithin bytes.now) }
 {
     match read_header(bytes, 0)? {
         (ARRAY_CONTAINER_TAG | OBJECT_CONTAINER_TAG, _) => Ok(Entry {
@@ -102,7 +102,7 @@ fn after_filters<'p, 'a>(bytes: &[u8], place: Entry, path: &'p [Selector<'a>]) -
 // Whether a selector is a filter that keeps what is at a position.
 fn keeps(bytes: &[u8], place: Entry, selector: &Selector<'_>) -> bool
     requires { IsPart bytes.now place }
-    ensures { result ≡ keeps selector.now bytes.now place }
+    ensures { result ≡ filter_keeps selector.now bytes.now place }
 {
     match selector {
         Selector::Filter(condition) => holds(node_there(bytes, place), condition),
@@ -125,7 +125,7 @@ fn places_from(bytes: &[u8], place: Entry, selector: &Selector<'_>) -> PlaceWalk
 
 // The next of these positions.
 fn next_selected(bytes: &[u8], place: Entry, walk: &mut PlaceWalk) -> Option<Entry>
-    requires { IsWithin bytes.now place }
+    requires { IsPlaceWithin bytes.now place }
     ensures { YieldsFirstBy (λ it. it) (walk_places bytes.now place) walk.old result walk.new }
 {
     match walk {
@@ -153,7 +153,7 @@ fn node_there(bytes: &[u8], place: Entry) -> Node<'_>
 
 /// The position to which a path leads from a position. `None` if the path leads nowhere.
 pub fn place_at_end(bytes: &[u8], from: Entry, path: &[Step<'_>]) -> Option<Entry>
-    requires { IsWithin bytes.now from }
+    requires { IsPlaceWithin bytes.now from }
     ensures { result ≡ place_from path.now bytes.now from }
 {
     let mut place = from;
@@ -179,7 +179,7 @@ fn selector_of<'a>(step: Step<'a>) -> Selector<'a>
 
 // The children to which a selector leads from a position.
 fn walk_from(bytes: &[u8], place: Entry, selector: &Selector<'_>) -> ChildWalk
-    requires { IsWithin bytes.now place }
+    requires { IsPlaceWithin bytes.now place }
     ensures { places_left bytes.now place result ≡ child_places selector.now bytes.now place }
 {
     if place.type_code == CONTAINER_TAG {
@@ -191,10 +191,10 @@ fn walk_from(bytes: &[u8], place: Entry, selector: &Selector<'_>) -> ChildWalk
 
 // The position of the next child's value, in a walk over the children at a position.
 fn next_place(bytes: &[u8], place: Entry, walk: &mut ChildWalk) -> Option<Entry>
-    requires { IsWithin bytes.now place }
+    requires { IsPlaceWithin bytes.now place }
     ensures steps { YieldsFirstBy (λ it. it) (places_left bytes.now place)
         walk.old result walk.new }
-    ensures inside { IfSome result (IsWithin bytes.now) }
+    ensures inside { IfSome result (IsPlaceWithin bytes.now) }
 {
     if walk.left == 0 {
         return None;
@@ -214,7 +214,7 @@ fn next_place(bytes: &[u8], place: Entry, walk: &mut ChildWalk) -> Option<Entry>
 
 // The payload at a position.
 fn bytes_at(bytes: &[u8], place: Entry) -> &[u8]
-    requires { IsWithin bytes.now place }
+    requires { IsPlaceWithin bytes.now place }
     ensures { result.now ≡ (entry_there bytes.now place).payload }
 {
     &bytes[place.start..place.start + place.length]
@@ -346,7 +346,7 @@ fn named_member(bytes: &[u8], count: usize, name: &str) -> ChildWalk
 // Whether there is a key, and it is this name.
 fn has_key(bytes: &[u8], key: Option<Entry>, name: &str) -> bool
     requires { IfSome key (IsEntryIn bytes.now) }
-    ensures { result ≡ has_key name.now bytes.now key }
+    ensures { result ≡ child_has_key name.now bytes.now key }
 {
     match key {
         Some(key) => name.as_bytes() == key.payload(bytes),

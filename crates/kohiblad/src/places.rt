@@ -6,7 +6,7 @@ ghost use Rattle.kohiblad.specs.Words.{Error, PlacedEntry, code, IsAnswered, IsH
 ghost use Rattle.kohiblad.specs.Words.{IsRefused, Tree, Doc, IsPayloadOf, IsItemPlace};
 ghost use Rattle.kohiblad.specs.Words.{AreMemberPlaces, IsEntryIn, IsPlaceFound, part_in};
 ghost use Rattle.kohiblad.specs.Words.{place_of_item};
-ghost use Rattle.kohiblad.specs.Words.{IsInside, AreInside, member_places, IsMemberHandedOver};
+ghost use Rattle.kohiblad.specs.Words.{IsInside, AreBothInside, member_places, IsMemberHandedOver};
 ghost use Rattle.kohiblad.specs.Words.{place_answer, entry_there, IsPartPlace, entry_document};
 ghost use Rattle.kohiblad.specs.Words.{IsPlaceHandedOver, IsValuePlace, is_entry_type, is_too_long};
 ghost use Rattle.kohiblad.specs.Words.{part_document, IsPartDocument};
@@ -202,7 +202,7 @@ fn member_places(bytes: &[u8], index: usize) -> Result<Option<(Entry, Entry)>, E
     ensures value { result ≡ member_places bytes.now index }
     ensures document { (t : Tree) → Doc bytes.now t
         → AreMemberPlaces bytes.now t index (member_places bytes.now index) }
-    ensures inside { AreInside bytes.now result }
+    ensures inside { AreBothInside bytes.now result }
 {
     match read_header(bytes, 0)? {
         (OBJECT_CONTAINER_TAG, count) if index < count => {

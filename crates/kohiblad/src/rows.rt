@@ -2,7 +2,7 @@
 
 ghost use Rattle.std.specs.Prelude.{◌≡◌, ◌∷◌, [], ℕ, List, length, IfOk, IfErr, IsTrue, is_ok};
 ghost use Rattle.std.specs.Prelude.{MatchOption};
-ghost use Rattle.kohiblad.specs.Words.{are_offsets, rows_from, rows, pairs_in};
+ghost use Rattle.kohiblad.specs.Words.{are_offsets, rows_from, rows, row_pairs};
 
 use jsonb::Error;
 use std::marker::Model;
@@ -79,8 +79,8 @@ impl<'a> Rows<'a> {
 
     /// The next key and the document after it. `None` if fewer than two rows are left.
     pub fn next_pair(&mut self) -> Option<(&'a [u8], &'a [u8])>
-        ensures { MatchOption result ((pairs_in self.old ≡ []) × (self.new ≡ []))
-            (λ p. pairs_in self.old ≡ (p.0.now, p.1.now) ∷ pairs_in self.new) }
+        ensures { MatchOption result ((row_pairs self.old ≡ []) × (self.new ≡ []))
+            (λ p. row_pairs self.old ≡ (p.0.now, p.1.now) ∷ row_pairs self.new) }
     {
         let key = self.next()?;
         let document = self.next()?;

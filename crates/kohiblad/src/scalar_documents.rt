@@ -2,10 +2,10 @@
 
 ghost use Rattle.std.specs.Prelude.{◌≡◌, Some, None, IfSome, IfNone, length, IsUtf8};
 ghost use Rattle.kohiblad.specs.Words.{Error, Number, number_of, extension_of, null, boolean, text};
-ghost use Rattle.kohiblad.specs.Words.{number, extension, Extension, IsExtension, canon, IsWritten};
-ghost use Rattle.kohiblad.specs.Words.{int64_number, is_true, from_halves, IsShort, data_of, code};
-ghost use Rattle.kohiblad.specs.Words.{extension_answer, IsGivenBy, IsShortExtension, IsHandedOver};
-ghost use Rattle.kohiblad.specs.Words.{IsRefused};
+ghost use Rattle.kohiblad.specs.Words.{number, extension, Extension, IsExtension, canon};
+ghost use Rattle.kohiblad.specs.Words.{IsWrittenOut, int64_number, is_true, from_halves, IsShort};
+ghost use Rattle.kohiblad.specs.Words.{data_of, code, extension_answer, IsGivenBy};
+ghost use Rattle.kohiblad.specs.Words.{IsShortExtension, IsHandedOver, IsRefused};
 
 use crate::answer::{PAYLOAD_LIMIT, code, hand_over_made, hand_over_scalar, refuse};
 use crate::values::fields_of;
@@ -77,7 +77,7 @@ pub extern "C" fn kohiblad_of_int64(
     out: &mut [u8],
     length: &mut usize,
 ) -> u32
-    ensures { IsWritten (canon (number (int64_number value))) out.old out.new length.new result }
+    ensures { IsWrittenOut (canon (number (int64_number value))) out.old out.new length.new result }
 {
     match u64::try_from(value) {
         Ok(value) => write_number(alloc, Number::UInt64(value), out, length),
@@ -101,7 +101,7 @@ pub extern "C" fn kohiblad_of_decimal(
     length: &mut usize,
 ) -> u32
     ensures number { (x : Number) → number_of scale (from_halves high low) ≡ Some x
-        → IsWritten (canon (number x)) out.old out.new length.new result }
+        → IsWrittenOut (canon (number x)) out.old out.new length.new result }
     ensures past { number_of scale (from_halves high low) ≡ None
         → IsRefused (code Error.InvalidJsonb) out.old out.new length.new result }
 {
@@ -132,7 +132,8 @@ pub extern "C" fn kohiblad_of_extension(
     length: &mut usize,
 ) -> u32
     ensures value { (e : Extension) → IsGivenBy e tag value months days seconds content.now
-        → IsShortExtension e → IsWritten (canon (extension e)) out.old out.new length.new result }
+        → IsShortExtension e
+        → IsWrittenOut (canon (extension e)) out.old out.new length.new result }
     ensures past { (e : Extension) → IsGivenBy e tag value months days seconds content.now
         → (IsShortExtension e → ⊥)
         → IsRefused (code Error.InvalidJsonb) out.old out.new length.new result }
@@ -219,7 +220,7 @@ fn extension_at<'a>(
 // Copies out the document of an extension value.
 fn write_extension(alloc: Global, value: ExtensionValue, out: &mut [u8], length: &mut usize) -> u32
     ensures value { IsShortExtension (extension_of value.entry)
-        → IsWritten (canon (extension (extension_of value.entry))) out.old out.new length.new
+        → IsWrittenOut (canon (extension (extension_of value.entry))) out.old out.new length.new
         result }
     ensures past { (IsShortExtension (extension_of value.entry) → ⊥)
         → IsRefused (code Error.InvalidJsonb) out.old out.new length.new result }
@@ -237,7 +238,7 @@ fn whole_of(high: i64, low: u64) -> i128
 
 // Copies out the document of a number.
 fn write_number(alloc: Global, value: Number, out: &mut [u8], length: &mut usize) -> u32
-    ensures { IsWritten (canon (number value)) out.old out.new length.new result }
+    ensures { IsWrittenOut (canon (number value)) out.old out.new length.new result }
 {
     let item = JsonbItem::Number(NumberItem::from_number(value));
     hand_over_made(OwnedJsonb::from_item(alloc, item), out, length)

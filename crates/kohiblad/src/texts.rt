@@ -1,7 +1,7 @@
 //! Printing bytes as texts, and parsing texts into documents.
 
 ghost use Rattle.kohiblad.specs.Words.{plain_text, lined_text, other_text, meaning_within};
-ghost use Rattle.kohiblad.specs.Words.{IsWritten, IsReadWithin, ParsesUnder, rule_of, bytes_of};
+ghost use Rattle.kohiblad.specs.Words.{IsWrittenOut, IsReadWithin, ParsesUnder, rule_of, bytes_of};
 
 use crate::answer::{TOO_DEEP, code, hand_over, hand_over_made, refuse};
 use bstr::ByteSlice;
@@ -24,7 +24,7 @@ pub extern "C" fn kohiblad_print(
     out: &mut [u8],
     length: &mut usize,
 ) -> u32
-    ensures { IsWritten (plain_text (meaning_within depth bytes.now)) out.old out.new length.new
+    ensures { IsWrittenOut (plain_text (meaning_within depth bytes.now)) out.old out.new length.new
         result }
 {
     match SortKey::within(bytes, depth) {
@@ -38,7 +38,7 @@ pub extern "C" fn kohiblad_print(
 
 // Copies out the text of bytes that are not read as a document: `null` for no bytes.
 fn write_other(alloc: Global, bytes: &[u8], out: &mut [u8], length: &mut usize) -> u32
-    ensures { IsWritten (other_text bytes.now) out.old out.new length.new result }
+    ensures { IsWrittenOut (other_text bytes.now) out.old out.new length.new result }
 {
     if bytes.is_empty() {
         return hand_over(b"null", out, length);
@@ -64,7 +64,7 @@ pub extern "C" fn kohiblad_pretty(
     out: &mut [u8],
     length: &mut usize,
 ) -> u32
-    ensures { IsWritten (lined_text (meaning_within depth bytes.now)) out.old out.new length.new
+    ensures { IsWrittenOut (lined_text (meaning_within depth bytes.now)) out.old out.new length.new
         result }
 {
     match SortKey::within(bytes, depth) {

@@ -3,7 +3,7 @@
 use Rattle.std.proofs.Common.{◌≡◌, ◌++◌, flat_map, length, map}
 use Rattle.kohiblad.specs.PathCalls.{found_answer}
 use Rattle.kohiblad.specs.PathPlaces.{selected_from}
-use Rattle.kohiblad.specs.PlaceWalks.{AreParts, walk_places}
+use Rattle.kohiblad.specs.PlaceWalks.{AreAllParts, walk_places}
 use Rattle.kohiblad.proofs.path_places.+append_selected.Given as goal
 
 abbrev pub decreases-append_selected : goal.decreases-append_selected
@@ -15,7 +15,7 @@ invariant-loop-next l = record {
       ++ map found_answer
       (flat_map (λ next. selected_from l.rest l.bytes next) (walk_places l.bytes l.place l.walk))
       ≡ l.fn.found.items ++ map found_answer (selected_from l.fn.path l.bytes l.place);
-  parts : AreParts l.bytes (walk_places l.bytes l.place l.walk);
+  parts : AreAllParts l.bytes (walk_places l.bytes l.place l.walk);
 }
 
 abbrev pub decreases-loop-next : goal.decreases-loop-next

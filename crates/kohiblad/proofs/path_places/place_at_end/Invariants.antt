@@ -1,12 +1,12 @@
 -- The steps that are left lead from here to the end of the path.
 use Rattle.std.proofs.Common.{◌≡◌, length}
-use Rattle.kohiblad.specs.ChildWalks.{IsWithin}
+use Rattle.kohiblad.specs.ChildWalks.{IsPlaceWithin}
 use Rattle.kohiblad.specs.PathPlaces.{place_from}
 use Rattle.kohiblad.proofs.path_places.place_at_end.Given as goal
 
 abbrev pub invariant-loop-left : goal.invariant-loop-left
 invariant-loop-left l = record {
-  inside : IsWithin l.bytes l.place;
+  inside : IsPlaceWithin l.bytes l.place;
   leads : place_from l.left l.bytes l.place ≡ place_from l.fn.path l.bytes l.fn.from;
 }
 

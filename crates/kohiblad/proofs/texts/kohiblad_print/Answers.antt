@@ -2,13 +2,13 @@ use Rattle.std.proofs.Common.{ℕ, List, ap, subst, inl, sym, ◌∙◌}
 use Rattle.jsonb_value.specs.Meaning.{Meaning}
 use Rattle.jsonb.specs.Texts.{plain_text}
 use Rattle.jsonb.specs.SortKey.{key_meaning}
-use Rattle.kohiblad.specs.Output.{IsWritten}
+use Rattle.kohiblad.specs.Output.{IsWrittenOut}
 use Rattle.kohiblad.specs.Status.{IsHandedOver}
 use Rattle.kohiblad.proofs.texts.kohiblad_print.Goals as goal
 
 pub returns-in-Other : goal.returns-in-Other
 returns-in-Other c = subst
-    (λ (m : Meaning). IsWritten (plain_text m) c.args.out.now c.write_other.new.out
+    (λ (m : Meaning). IsWrittenOut (plain_text m) c.args.out.now c.write_other.new.out
     c.write_other.new.length c.write_other.result)
     (ap key_meaning (sym c.in-Other.is) ∙ c.within.ensures.meaning)
     c.write_other.ensures
