@@ -33,7 +33,7 @@ use Rattle.jsonb.specs.Lookup.{find, find_pair}
 use Rattle.jsonb.specs.Node.{value_of_key}
 use Rattle.jsonb_column.specs.Keys.{block_keys, key_start, member_key_start}
 use Rattle.jsonb_column.specs.Limits.{IsLimit}
-use Rattle.jsonb_column.specs.Range.{has_member_within, is_within}
+use Rattle.jsonb_column.specs.Range.{has_member_within, is_member_within}
 use Rattle.jsonb_column.specs.Select.{has_member, is_member, most_reads, row_reads}
 use Rattle.jsonb_column.specs.Zone.{IsSpan}
 use Rattle.jsonb_column.specs.Zones.{AreBlocks, AreZones, HasTree, IsZone, block_reads}
@@ -394,7 +394,7 @@ equal_case Equal = refl
 equal_case Greater = refl
 
 equal_within : (value : Tree) (member : Option Tree)
-    → is_member value member ≡ is_within (Included value) (Included value) member
+    → is_member value member ≡ is_member_within (Included value) (Included value) member
 equal_within value None = refl
 equal_within value (Some member) = equal_case (tree_cmp member value)
 

@@ -13,7 +13,8 @@ use Rattle.jsonb_value.specs.declared.error.Error.{Error}
 use Rattle.jsonb_value.specs.declared.error.Error.TheVariants.{InvalidEOF, InvalidJsonb}
 use Rattle.jsonb_value.specs.declared.error.Error.TheVariants.{OutOfMemory}
 use Rattle.jsonb_codec.specs.Doc.{IsDocument}
-use Rattle.jsonb_column.specs.Storage.{row_bytes, storage, IsRow, AreStored, IsCut, HasFaultyRow}
+use Rattle.jsonb_column.specs.Storage.{row_bytes, storage, IsRow, AreStoredRows, IsCut}
+use Rattle.jsonb_column.specs.Storage.{HasFaultyRow}
 
 pub length-row_bytes : (row : List ℕ) → length (row_bytes row) ≡ 8 + length row
 length-row_bytes row = length-append (to_be_bytes w64 (length row)) row
@@ -112,12 +113,12 @@ pub record IsRead (bytes : List ℕ) (rows : List (List ℕ)) (rest : List ℕ) 
   pub parts : bytes ≡ storage rows ++ rest
 
 goes_on : (bytes rest : List ℕ) (front rows : List (List ℕ)) → IsRead bytes front rest
-    → AreStored rows bytes → GoesOn front rows rest
+    → AreStoredRows rows bytes → GoesOn front rows rest
 goes_on bytes rest front rows read all =
     storage-front front rows rest read.each all.each (sym read.parts ∙ all.written)
 
 pub IsRead-all : (bytes rest : List ℕ) (front rows : List (List ℕ)) → IsRead bytes front rest
-    → length rest ≡ 0 → AreStored rows bytes → front ≡ rows
+    → length rest ≡ 0 → AreStoredRows rows bytes → front ≡ rows
 IsRead-all bytes rest front rows read none all =
     let on = goes_on bytes rest front rows read all in
     ended on.more on.rows_are (sym (ap length on.rest_is) ∙ none)
@@ -128,7 +129,7 @@ IsRead-all bytes rest front rows read none all =
         absurd (omega (arith, length-append (row_bytes r) (storage more), length-row_bytes r))
 
 pub IsRead-first : (bytes rest : List ℕ) (front rows : List (List ℕ)) → IsRead bytes front rest
-    → 0 < length rest → AreStored rows bytes
+    → 0 < length rest → AreStoredRows rows bytes
     → (row : List ℕ) × (IsRow row × ((later : List ℕ) × (rest ≡ row_bytes row ++ later)))
 IsRead-first bytes rest front rows read some all =
     let on = goes_on bytes rest front rows read all in begun on.more on.each on.rest_is
@@ -141,7 +142,7 @@ IsRead-first bytes rest front rows read some all =
 -- The bytes are not in stored form if the rest begins with no whole row, or with one that is not a
 -- document.
 pub IsRead-cut : (bytes rest : List ℕ) (front rows : List (List ℕ)) → IsRead bytes front rest
-    → 0 < length rest → AreStored rows bytes
+    → 0 < length rest → AreStoredRows rows bytes
     → ((row later : List ℕ) → length row < 2 ^ 64 → rest ≡ row_bytes row ++ later → ⊥) → ⊥
 IsRead-cut bytes rest front rows read some all cut =
     let (row, (means, (later, is))) =
@@ -149,7 +150,7 @@ IsRead-cut bytes rest front rows read some all cut =
 
 pub IsRead-document : (bytes rest row later : List ℕ) (front rows : List (List ℕ))
     → IsRead bytes front rest → rest ≡ row_bytes row ++ later → length row < 2 ^ 64
-    → AreStored rows bytes
+    → AreStoredRows rows bytes
     → IsDocument row
 IsRead-document bytes rest row later front rows read is short all =
     let some : 0 < length rest =
@@ -172,7 +173,7 @@ IsRead-more bytes rest row later front rows read is means rows_are =
     }
 
 pub IsRead-stored : (bytes rest : List ℕ) (rows : List (List ℕ)) → IsRead bytes rows rest
-    → length rest ≡ 0 → AreStored rows bytes
+    → length rest ≡ 0 → AreStoredRows rows bytes
 IsRead-stored bytes [] rows read none =
     record { each = read.each; written = read.parts ∙ append-nil (storage rows) }
 IsRead-stored bytes (b ∷ rest) rows read none = absurd (omega (arith, none))
@@ -208,8 +209,8 @@ IsRead-HasFaultyRow bytes rest row later rows read is short fault =
 -- ---- the rows that bytes store
 
 -- there is at most one list of rows
-pub one_stored : (bytes : List ℕ) (rows others : List (List ℕ)) → AreStored rows bytes
-    → AreStored others bytes → rows ≡ others
+pub one_stored : (bytes : List ℕ) (rows others : List (List ℕ)) → AreStoredRows rows bytes
+    → AreStoredRows others bytes → rows ≡ others
 one_stored bytes rows others first second =
     IsRead-all bytes [] rows others
     record {
@@ -219,12 +220,12 @@ one_stored bytes rows others first second =
     } refl second
 
 -- bytes with stored rows are not cut off
-pub not_cut : (bytes : List ℕ) (rows : List (List ℕ)) → AreStored rows bytes → IsCut bytes → ⊥
+pub not_cut : (bytes : List ℕ) (rows : List (List ℕ)) → AreStoredRows rows bytes → IsCut bytes → ⊥
 not_cut bytes rows all cut =
     IsRead-cut bytes cut.rest cut.rows rows record { each = cut.each; parts = cut.parts } cut.some
     all cut.no_row
 
-pub not_faulty : (bytes : List ℕ) (rows : List (List ℕ)) → AreStored rows bytes
+pub not_faulty : (bytes : List ℕ) (rows : List (List ℕ)) → AreStoredRows rows bytes
     → HasFaultyRow bytes → ⊥
 not_faulty bytes rows all faulty =
     faulty.no_document
@@ -270,7 +271,7 @@ cut_refused bytes (Err x) e is (inr kind) faulty cut = inr (is ∙ kind)
 
 pub told_memory : {T : Type 0} (bytes : List ℕ) (r : Result T Error) (e : Error)
     → IsErrAnd r (λ x. x ≡ e) → (e ≡ InvalidJsonb) ⊎ (e ≡ OutOfMemory)
-    → (e ≡ InvalidJsonb → HasFaultyRow bytes) → (rows : List (List ℕ)) → AreStored rows bytes
+    → (e ≡ InvalidJsonb → HasFaultyRow bytes) → (rows : List (List ℕ)) → AreStoredRows rows bytes
     → IfErr r (λ x. x ≡ OutOfMemory)
 told_memory bytes (Ok x) e is kind faulty rows all = absurd is
 told_memory bytes (Err x) e is (inl kind) faulty rows all =

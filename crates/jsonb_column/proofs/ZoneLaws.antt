@@ -26,7 +26,7 @@ use Rattle.jsonb.specs.Node.{value_of_key}
 use Rattle.jsonb_comparable.proofs.KeyLaws.{keys_both_cut}
 use Rattle.jsonb_column.specs.Keys.{block_keys, key_start}
 use Rattle.jsonb_column.specs.Limits.{IsLimit}
-use Rattle.jsonb_column.specs.Range.{has_member_within, is_from, is_to, is_within}
+use Rattle.jsonb_column.specs.Range.{has_member_within, is_from, is_member_within, is_to}
 use Rattle.jsonb_column.specs.Zone.{IsSpan}
 use Rattle.jsonb_column.specs.Zones.{HasTree, is_skipped, starts_above, starts_below}
 use Rattle.jsonb_column.specs.declared.zone.Zone.{Zone}
@@ -234,7 +234,7 @@ module _ (name : List ℕ) (size : ℕ) (low high : Bound Tree) (test : List ℕ
     → (is_from low t && is_to high t) ≡ false) where
   none_first : (found : Option Tree) (keys : List (List ℕ)) → IfSome found IsTree
       → list_all test (cons_option (option_map (key_start size) found) keys) ≡ true
-      → (is_within low high found ≡ false) × (list_all test keys ≡ true)
+      → (is_member_within low high found ≡ false) × (list_all test keys ≡ true)
   none_first None keys tree e = (refl, e)
   none_first (Some t) keys tree e =
       let (here, later) = and_parts _ _ e in (outside t tree here, later)

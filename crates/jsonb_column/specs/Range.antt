@@ -23,13 +23,13 @@ is_to (Excluded high) value = is_lt (tree_cmp value high)
 is_to Unbounded value = true
 
 -- There is a member, and it is within the limits.
-abbrev pub is_within : Bound Tree → Bound Tree → Option Tree → Bool
-is_within low high None = false
-is_within low high (Some member) = is_from low member && is_to high member
+abbrev pub is_member_within : Bound Tree → Bound Tree → Option Tree → Bool
+is_member_within low high None = false
+is_member_within low high (Some member) = is_from low member && is_to high member
 
 -- The row is an object with a member of this name that is within the limits.
 abbrev pub has_member_within : List ℕ → Bound Tree → Bound Tree → List ℕ → Bool
-has_member_within name low high row = is_within low high (value_of_key name (tree_in row))
+has_member_within name low high row = is_member_within low high (value_of_key name (tree_in row))
 
 -- A limit as a tree.
 abbrev pub limit_tree : Bound Document → Bound Tree

@@ -18,8 +18,8 @@ row_order s key i d =
     tree_cmp (document_tree (slice_index_or (sorted_rows s) i d)) (document_tree key)
 
 -- The tree of the row is at least `low` and at most `high`.
-abbrev pub is_between : Tree → Tree → Document → Bool
-is_between low high row = not (is_lt (tree_cmp (document_tree row) low))
+abbrev pub is_row_between : Tree → Tree → Document → Bool
+is_row_between low high row = not (is_lt (tree_cmp (document_tree row) low))
     && not (is_gt (tree_cmp (document_tree row) high))
 
 -- The tree of the row equals the key.

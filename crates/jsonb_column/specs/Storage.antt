@@ -18,7 +18,7 @@ pub record IsRow (row : List ℕ) : Type 0 where
   pub short : length row < 2 ^ 64
 
 -- The bytes are these rows in stored form.
-pub record AreStored (rows : List (List ℕ)) (bytes : List ℕ) : Type 0 where
+pub record AreStoredRows (rows : List (List ℕ)) (bytes : List ℕ) : Type 0 where
   pub each : All IsRow rows
   pub written : bytes ≡ storage rows
 

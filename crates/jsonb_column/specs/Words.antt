@@ -16,8 +16,8 @@ pub use Rattle.jsonb_column.specs.Limits.{AreLimits, IsLimit, limit_key, start_b
 pub use Rattle.jsonb_column.specs.Range.{has_member_within, is_from, is_to, limit_tree}
 pub use Rattle.jsonb_column.specs.Rows.{AreRows, FillBytes, IsWithin, row_in, rows_in}
 pub use Rattle.jsonb_column.specs.Select.{has_member, most_reads, row_reads}
-pub use Rattle.jsonb_column.specs.SortOrder.{is_between, is_equal, row_order, sorted_rows}
-pub use Rattle.jsonb_column.specs.Storage.{AreStored, HasFaultyRow, IsCut, IsRow, row_bytes}
+pub use Rattle.jsonb_column.specs.SortOrder.{is_equal, is_row_between, row_order, sorted_rows}
+pub use Rattle.jsonb_column.specs.Storage.{AreStoredRows, HasFaultyRow, IsCut, IsRow, row_bytes}
 pub use Rattle.jsonb_column.specs.Storage.{storage}
 pub use Rattle.jsonb_column.specs.Zone.{IsSpan}
 pub use Rattle.jsonb_column.specs.Zones.{is_skipped, starts_above, starts_below}

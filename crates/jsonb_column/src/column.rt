@@ -3,10 +3,10 @@
 ghost use Rattle.std.specs.Prelude.{◌≡◌, ◌+◌, ◌<◌, ◌≤◌, ◌∷◌, ◌++◌, ◌⊎◌, [], ℕ, List, All, Err, map};
 ghost use Rattle.std.specs.Prelude.{IfOk, IfErr, IsErrAnd, OnOk, OnErr, filter, length};
 ghost use Rattle.std.specs.Prelude.{option_map, slice_get, slice_index_or};
-ghost use Rattle.jsonb_column.specs.Words.{ParsesTo, IsDocument, document_bytes};
-ghost use Rattle.jsonb_column.specs.Words.{document_tree, concat, YieldsFirstBy, item_count, IsCut};
-ghost use Rattle.jsonb_column.specs.Words.{has_member, most_reads, AreStored, HasFaultyRow, IsRow};
-ghost use Rattle.jsonb_column.specs.Words.{storage, row_in, rows_in, IsWithin, AreRows, FillBytes};
+ghost use Rattle.jsonb_column.specs.Words.{ParsesTo, IsDocument, document_bytes, document_tree};
+ghost use Rattle.jsonb_column.specs.Words.{concat, YieldsFirstBy, item_count, IsCut, has_member};
+ghost use Rattle.jsonb_column.specs.Words.{most_reads, AreStoredRows, HasFaultyRow, IsRow, storage};
+ghost use Rattle.jsonb_column.specs.Words.{row_in, rows_in, IsWithin, AreRows, FillBytes};
 ghost use Rattle.jsonb_column.specs.Words.{IsDocumentWithin};
 
 use crate::place::Place;
@@ -174,7 +174,7 @@ impl Column {
     /// eight bytes. `OutOfMemory` is the only error; the bytes of `buf` are then unchanged.
     pub fn write_to(&self, buf: &mut Vec<u8>) -> Result<(), Error>
         ensures written { OnOk result (buf.new.items ≡ buf.old.items ++ storage self.now) }
-        ensures storage { AreStored self.now (storage self.now) }
+        ensures storage { AreStoredRows self.now (storage self.now) }
         ensures kept { OnErr result (buf.new.items ≡ buf.old.items) }
         ensures memory { IfErr result (λ e. e ≡ Error.OutOfMemory) }
     {
@@ -193,10 +193,10 @@ impl Column {
     /// off; `InvalidJsonb` if, after valid rows, a row is not a document; `OutOfMemory` if an
     /// allocation fails. Bytes in stored form fail only with `OutOfMemory`.
     pub fn read_from(alloc: Global, bytes: &[u8]) -> Result<Column, Error>
-        ensures storage { IfOk result (λ column. AreStored column bytes.now) }
-        ensures same { (rows : List (List ℕ)) → AreStored rows bytes.now
+        ensures storage { IfOk result (λ column. AreStoredRows column bytes.now) }
+        ensures same { (rows : List (List ℕ)) → AreStoredRows rows bytes.now
             → IfOk result (λ column. column ≡ rows) }
-        ensures memory { (rows : List (List ℕ)) → AreStored rows bytes.now
+        ensures memory { (rows : List (List ℕ)) → AreStoredRows rows bytes.now
             → IfErr result (λ e. e ≡ Error.OutOfMemory) }
         ensures cut { result ≡ Err Error.InvalidEOF → IsCut bytes.now }
         ensures cut_refused { IsCut bytes.now
@@ -216,11 +216,11 @@ impl Column {
     /// stack has. Levels beyond it are not examined. A row of more than 8 bytes for each level that
     /// is allowed is checked twice.
     pub fn read_within(alloc: Global, bytes: &[u8], depth: usize) -> Result<Column, Error>
-        ensures storage { IfOk result (λ column. AreStored column bytes.now) }
+        ensures storage { IfOk result (λ column. AreStoredRows column bytes.now) }
         ensures shallow { IfOk result (λ column. All (IsDocumentWithin depth) column) }
-        ensures same { (rows : List (List ℕ)) → AreStored rows bytes.now
+        ensures same { (rows : List (List ℕ)) → AreStoredRows rows bytes.now
             → IfOk result (λ column. column ≡ rows) }
-        ensures memory { (rows : List (List ℕ)) → AreStored rows bytes.now
+        ensures memory { (rows : List (List ℕ)) → AreStoredRows rows bytes.now
             → IfErr result (λ e. e ≡ Error.OutOfMemory) }
         ensures cut { result ≡ Err Error.InvalidEOF → IsCut bytes.now }
         ensures cut_refused { IsCut bytes.now

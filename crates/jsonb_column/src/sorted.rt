@@ -20,7 +20,7 @@ pub struct Sorted<'c> {
 }
 
 impl<'c> Sorted<'c> {
-    ghost use Rattle.jsonb_column.specs.Words.{sorted_rows, row_order, is_between, is_equal};
+    ghost use Rattle.jsonb_column.specs.Words.{sorted_rows, row_order, is_row_between, is_equal};
 
     /// Sorts the rows of the column; equal rows keep their order. `OutOfMemory` is the only error.
     pub fn new(alloc: Global, column: &'c Column) -> Result<Self, Error>
@@ -75,7 +75,7 @@ impl<'c> Sorted<'c> {
     /// than `high`.
     pub fn range(&self, low: Document<'_>, high: Document<'_>) -> &[Document<'c>]
         ensures { result.now ≡ filter
-            (is_between (document_tree low.entry) (document_tree high.entry))
+            (is_row_between (document_tree low.entry) (document_tree high.entry))
             (sorted_rows self.now) }
     {
         let from = self.lower(low);

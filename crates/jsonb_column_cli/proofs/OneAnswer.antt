@@ -16,8 +16,8 @@ use Rattle.jsonb_codec.specs.Canon.{canon, Fits}
 use Rattle.jsonb.specs.declared.document.Document.{Document}
 use Rattle.jsonb.specs.Document.{document_bytes, tree_in}
 use Rattle.jsonb_column.specs.Select.{has_member}
-use Rattle.jsonb_column.specs.SortOrder.{is_between}
-use Rattle.jsonb_column.specs.Storage.{AreStored}
+use Rattle.jsonb_column.specs.SortOrder.{is_row_between}
+use Rattle.jsonb_column.specs.Storage.{AreStoredRows}
 use Rattle.jsonb.proofs.StableLaws.{filter-map}
 use Rattle.jsonb_column.proofs.StorageLaws.{one_stored, not_cut, not_faulty, cut_or_faulty}
 use Rattle.answer_lines.specs.Session.{AreAnswers, IsRefused}
@@ -25,12 +25,12 @@ use Rattle.answer_lines.proofs.OneOutput as session
 use Rattle.jsonb_column_cli.specs.declared.answer.Refusal.{Refusal}
 use Rattle.jsonb_column_cli.specs.declared.answer.Refusal.TheVariants.{BadCommand, BadHex, NoRow}
 use Rattle.jsonb_column_cli.specs.declared.answer.Refusal.TheVariants.{Call, TooDeep}
-use Rattle.jsonb_column_cli.specs.Commands.{Form, add, count, row, sort, find, range, save, load}
-use Rattle.jsonb_column_cli.specs.Commands.{unknown, form_in, Name, name_word, name_json}
-use Rattle.jsonb_column_cli.specs.Answers.{Rows, AnswersLine, IsAnswer, IsGiven, IsHexOf}
-use Rattle.jsonb_column_cli.specs.Answers.{IsLineOutcome, IsOrderOf, IsOutcome, IsRefusal}
+use Rattle.jsonb_column_cli.specs.Commands.{ColumnForm, add, count, row, sort, find, range, save}
+use Rattle.jsonb_column_cli.specs.Commands.{load, unknown, form_in, Name, name_word, name_json}
+use Rattle.jsonb_column_cli.specs.Answers.{Rows, AnswersLine, IsRowsAnswer, IsGiven, IsHexOf}
+use Rattle.jsonb_column_cli.specs.Answers.{IsLineOutcome, AreRowsSorted, IsOutcome, IsRowsRefusal}
 use Rattle.jsonb_column_cli.specs.Answers.{RefusesBytes, RefusesText, reply_line, rows_line}
-use Rattle.jsonb_column_cli.specs.Answers.{IsName, RefusesName, IsIndexNumeral, index_in}
+use Rattle.jsonb_column_cli.specs.Answers.{IsMemberName, RefusesName, IsIndexNumeral, row_index}
 use Rattle.jsonb_column_cli.proofs.OneOrder.{one_order}
 
 -- ---- a text has one document, or is refused for one reason
@@ -85,12 +85,13 @@ one_of_both low high r s (inr first) (inr second) = one_error high r s first.1 s
 
 -- ---- a name is one, or refused for one reason
 
-one_name : (name : Name) (a b : List ℕ) → IsName name a → IsName name b → a ≡ b
+one_name : (name : Name) (a b : List ℕ) → IsMemberName name a → IsMemberName name b → a ≡ b
 one_name (name_word word) a b first second = first ∙ sym second
 one_name (name_json json) a b first second =
     let same = one_meaning (chars json) (trees.text a) (trees.text b) first second in cc
 
-not_unnamed : (name : Name) (own : List ℕ) (r : Refusal) → IsName name own → RefusesName name r → ⊥
+not_unnamed : (name : Name) (own : List ℕ) (r : Refusal) → IsMemberName name own
+    → RefusesName name r → ⊥
 not_unnamed (name_json json) own (Call InvalidJson) named none = none own named
 not_unnamed name own r named why = absurd why
 
@@ -102,7 +103,7 @@ one_name_error name r s first second = absurd first
 -- the value is refused where the name is not
 abbrev RefusesFind : Name → List ℕ → Refusal → Type 0
 RefusesFind name value r =
-    RefusesName name r ⊎ (((own : List ℕ) × IsName name own) × RefusesText value r)
+    RefusesName name r ⊎ (((own : List ℕ) × IsMemberName name own) × RefusesText value r)
 
 one_of_find : (name : Name) (value : List ℕ) (r s : Refusal) → RefusesFind name value r
     → RefusesFind name value s → r ≡ s
@@ -118,7 +119,7 @@ one_of_find name value r s (inr first) (inr second) = one_error value r s first.
 one_hex : (a b word : List ℕ) → IsHexOf a word → IsHexOf b word → a ≡ b
 one_hex a b word first second = let same = sym first ∙ second in cc
 
-not_stored : (rows : Rows) (bytes : List ℕ) (e : Error) → AreStored rows bytes
+not_stored : (rows : Rows) (bytes : List ℕ) (e : Error) → AreStoredRows rows bytes
     → RefusesBytes bytes e → ⊥
 not_stored rows bytes InvalidEOF all cut = not_cut bytes rows all cut
 not_stored rows bytes InvalidJsonb all faulty = not_faulty bytes rows all faulty
@@ -135,8 +136,8 @@ one_fault bytes e g first second = absurd first
 
 -- ---- the rows have one order
 
-one_sorted : (rows : Rows) (order other : List Document) → IsOrderOf rows order
-    → IsOrderOf rows other → map document_bytes order ≡ map document_bytes other
+one_sorted : (rows : Rows) (order other : List Document) → AreRowsSorted rows order
+    → AreRowsSorted rows other → map document_bytes order ≡ map document_bytes other
 one_sorted rows order other first second =
     one_order tree_cmp tree_cmp_total tree_in document_bytes order other first.ordered
     second.ordered (λ b. first.stable b ∙ sym (second.stable b))
@@ -150,15 +151,15 @@ abbrev shown : List ℕ → List ℕ → Rows → List ℕ
 shown low high rows = rows_line (filter (is_within (tree_in low) (tree_in high)) rows)
 
 range_line : (low high : List ℕ) (order : List Document)
-    → rows_line (map document_bytes (filter (is_between (tree_in low) (tree_in high)) order))
+    → rows_line (map document_bytes (filter (is_row_between (tree_in low) (tree_in high)) order))
     ≡ shown low high (map document_bytes order)
 range_line low high order =
     ap rows_line (sym (filter-map document_bytes (is_within (tree_in low) (tree_in high)) order))
 
 -- ---- each command
 
-one_reply : (rows x y : Rows) (form : Form) (a b : List ℕ) → IsAnswer rows form a x
-    → IsAnswer rows form b y → (a ≡ b) × (x ≡ y)
+one_reply : (rows x y : Rows) (form : ColumnForm) (a b : List ℕ) → IsRowsAnswer rows form a x
+    → IsRowsAnswer rows form b y → (a ≡ b) × (x ≡ y)
 one_reply rows x y (add text) a b (doc, (given, (is, next))) (other, (also, (then, left))) = (
   is ∙ sym then,
   next ∙ ap (λ (d : List ℕ). rows ++ d ∷ []) (one_given text doc other given also) ∙ sym left,
@@ -193,7 +194,7 @@ one_reply rows x y save a b first second =
 one_reply rows x y (load word) a b (bytes, (hex, (storage, is))) (more, (again, (also, then))) = (
   is ∙ sym then,
   one_stored more x y
-      (subst (λ (d : List ℕ). AreStored x d) (one_hex bytes more word hex again) storage) also,
+      (subst (λ (d : List ℕ). AreStoredRows x d) (one_hex bytes more word hex again) storage) also,
 )
 one_reply rows x y unknown a b first second = absurd first
 
@@ -201,10 +202,10 @@ abbrev RefusesWord : List ℕ → Error → Type 0
 RefusesWord word e = (bytes : List ℕ) × (IsHexOf bytes word × RefusesBytes bytes e)
 
 -- why a command is refused, except for lack of memory
-abbrev Cause : Rows → Form → Refusal → Type 0
+abbrev Cause : Rows → ColumnForm → Refusal → Type 0
 Cause rows (add text) r = RefusesText text r
 Cause rows (row index) r =
-    ((r ≡ NoRow) × (IsIndexNumeral index × (length rows ≤ index_in index)))
+    ((r ≡ NoRow) × (IsIndexNumeral index × (length rows ≤ row_index index)))
     ⊎ ((r ≡ BadCommand) × (IsIndexNumeral index → ⊥))
 Cause rows (find name value) r = RefusesFind name value r
 Cause rows (range low high) r = RefusesTexts low high r
@@ -213,7 +214,7 @@ Cause rows (load word) r = ((r ≡ BadHex) × ((bytes : List ℕ) → IsHexOf by
 Cause rows unknown r = r ≡ BadCommand
 Cause rows form r = ⊥
 
-cause_of : (rows : Rows) (form : Form) (r : Refusal) → IsRefusal rows form r
+cause_of : (rows : Rows) (form : ColumnForm) (r : Refusal) → IsRowsRefusal rows form r
     → (r ≡ Call OutOfMemory → ⊥) → Cause rows form r
 cause_of rows form (Call OutOfMemory) why given = absurd (given refl)
 cause_of rows (add text) r why given = why
@@ -226,8 +227,8 @@ cause_of rows (load word) (Call e) why given = inr (e, (refl, why))
 cause_of rows unknown BadCommand why given = refl
 cause_of rows form r why given = absurd why
 
-one_cause : (rows : Rows) (form : Form) (r s : Refusal) → Cause rows form r → Cause rows form s
-    → r ≡ s
+one_cause : (rows : Rows) (form : ColumnForm) (r s : Refusal) → Cause rows form r
+    → Cause rows form s → r ≡ s
 one_cause rows (add text) r s first second = one_error text r s first second
 one_cause rows (row index) r s (inl first) (inl second) = first.0 ∙ sym second.0
 one_cause rows (row index) r s (inl first) (inr second) = absurd (second.1 first.1.0)
@@ -249,8 +250,8 @@ one_cause rows (load word) r s (inr (e, (is, (bytes, (hex, why)))))
 one_cause rows unknown r s first second = first ∙ sym second
 one_cause rows form r s first second = absurd first
 
-answered_or_refused : (rows x : Rows) (form : Form) (a : List ℕ) (r : Refusal)
-    → IsAnswer rows form a x → Cause rows form r → ⊥
+answered_or_refused : (rows x : Rows) (form : ColumnForm) (a : List ℕ) (r : Refusal)
+    → IsRowsAnswer rows form a x → Cause rows form r → ⊥
 answered_or_refused rows x (add text) a r (doc, (given, others)) why =
     not_refused text doc r given why
 answered_or_refused rows x (row index) a r ((numeral, low), others) (inl (is, (also, past))) =
@@ -267,7 +268,7 @@ answered_or_refused rows x (load word) a r (bytes, (hex, others)) (inl bad) = ba
 answered_or_refused rows x (load word) a r (bytes, (hex, (storage, same)))
     (inr (e, (is, (more, (again, why))))) =
     not_stored x more e
-    (subst (λ (d : List ℕ). AreStored x d) (one_hex bytes more word hex again) storage) why
+    (subst (λ (d : List ℕ). AreStoredRows x d) (one_hex bytes more word hex again) storage) why
 answered_or_refused rows x unknown a r answer cause = absurd answer
 answered_or_refused rows x form a r answer cause = absurd cause
 
@@ -276,7 +277,7 @@ answered_or_refused rows x form a r answer cause = absurd cause
 abbrev IsTold : Result (List ℕ) Refusal → Type 0
 IsTold outcome = outcome ≡ Err (Call OutOfMemory) → ⊥
 
-one_outcome : (rows x y : Rows) (form : Form) (o p : Result (List ℕ) Refusal)
+one_outcome : (rows x y : Rows) (form : ColumnForm) (o p : Result (List ℕ) Refusal)
     → IsOutcome rows form o x → IsOutcome rows form p y → IsTold o → IsTold p
     → (reply_line o ≡ reply_line p) × (x ≡ y)
 one_outcome rows x y form (Ok a) (Ok b) first second known also =

@@ -22,11 +22,11 @@ use Rattle.jsonb.specs.Parsing.{ParsesTo, ParsesWithin}
 use Rattle.answer_lines.specs.Session.{IsReply}
 use Rattle.jsonb_column_cli.specs.declared.answer.Refusal.{Refusal}
 use Rattle.jsonb_column_cli.specs.declared.answer.Refusal.TheVariants.{Call}
-use Rattle.jsonb_column_cli.specs.declared.answer.TheConstants.{MAX_DEPTH}
-use Rattle.jsonb_column_cli.specs.Commands.{Form, add, find, name_word, name_json}
-use Rattle.jsonb_column_cli.specs.Answers.{Rows, spoken, rows_line, reply_of, IsAnswer, IsOutcome}
-use Rattle.jsonb_column_cli.specs.Answers.{IsRefusal, IsLineOutcome, AnswersLine, reply_line}
-use Rattle.jsonb_column_cli.specs.Answers.{IsShallow, refusal_of}
+use Rattle.jsonb_column_cli.specs.declared.answer.TheConstants.{MAX_TEXT_DEPTH}
+use Rattle.jsonb_column_cli.specs.Commands.{ColumnForm, add, find, name_word, name_json}
+use Rattle.jsonb_column_cli.specs.Answers.{Rows, spoken, rows_line, reply_of, IsRowsAnswer}
+use Rattle.jsonb_column_cli.specs.Answers.{IsOutcome, IsRowsRefusal, IsLineOutcome, AnswersLine}
+use Rattle.jsonb_column_cli.specs.Answers.{reply_line, IsShallow, refusal_of}
 
 spoken-append : (xs ys : Rows) → spoken (xs ++ ys) ≡ spoken xs ++ spoken ys
 spoken-append [] ys = refl
@@ -65,8 +65,8 @@ call_errors P e (inr (inl is)) first second memory = subst P (sym is) (second is
 call_errors P e (inr (inr is)) first second memory = subst P (sym is) memory
 
 -- what the library's reader refused
-pub text_refused : (text : List ℕ) (e : ParseError) → ParsesWithin MAX_DEPTH text (Err e)
-    → IsRefusal [] (add text) (refusal_of e)
+pub text_refused : (text : List ℕ) (e : ParseError) → ParsesWithin MAX_TEXT_DEPTH text (Err e)
+    → IsRowsRefusal [] (add text) (refusal_of e)
 text_refused text deep.TooDeep past = past
 text_refused text (deep.Refused InvalidJson) none = none
 text_refused text (deep.Refused InvalidJsonb) past = past
@@ -87,13 +87,13 @@ if_err P (Ok a) refusal is p = absurd is
 if_err P (Err x) refusal is p = subst P (sym is) p
 
 -- the outcome of a command that replies with rows
-pub shows : (rows shown : Rows) (form : Form) (r : Result (String Global) Refusal)
+pub shows : (rows shown : Rows) (form : ColumnForm) (r : Result (String Global) Refusal)
     → IfOk r (λ line. string_bytes line ≡ rows_line shown) → IfErr r (λ x. x ≡ Call OutOfMemory)
-    → ((reply : List ℕ) → reply ≡ rows_line shown → IsAnswer rows form reply rows)
+    → ((reply : List ℕ) → reply ≡ rows_line shown → IsRowsAnswer rows form reply rows)
     → IsOutcome rows form (reply_of r) rows
 shows rows shown form (Ok line) ok memory answers = answers (string_bytes line) ok
 shows rows shown form (Err x) ok memory answers =
-    (subst (IsRefusal rows form) (sym memory) tt, refl)
+    (subst (IsRowsRefusal rows form) (sym memory) tt, refl)
 
 -- ---- a line, and a run
 

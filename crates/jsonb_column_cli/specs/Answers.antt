@@ -27,14 +27,14 @@ use Rattle.jsonb.specs.declared.document.Document.{Document}
 use Rattle.jsonb.specs.Document.{document_bytes, document_tree, tree_in}
 use Rattle.jsonb.specs.Parsing.{ParsesTo}
 use Rattle.jsonb_column.specs.Select.{has_member}
-use Rattle.jsonb_column.specs.SortOrder.{is_between}
-use Rattle.jsonb_column.specs.Storage.{AreStored, HasFaultyRow, IsCut, storage}
+use Rattle.jsonb_column.specs.SortOrder.{is_row_between}
+use Rattle.jsonb_column.specs.Storage.{AreStoredRows, HasFaultyRow, IsCut, storage}
 use Rattle.jsonb_column_cli.specs.declared.answer.Refusal.{Refusal}
 use Rattle.jsonb_column_cli.specs.declared.answer.Refusal.TheVariants.{BadCommand, BadHex, NoRow}
 use Rattle.jsonb_column_cli.specs.declared.answer.Refusal.TheVariants.{Call, TooDeep}
-use Rattle.jsonb_column_cli.specs.Commands.{Form, add, count, row, sort, find, range, save, load}
-use Rattle.jsonb_column_cli.specs.Commands.{unknown, form_in, Name, name_word, name_json}
-use Rattle.jsonb_column_cli.specs.declared.answer.TheConstants.{MAX_DEPTH}
+use Rattle.jsonb_column_cli.specs.Commands.{ColumnForm, add, count, row, sort, find, range, save}
+use Rattle.jsonb_column_cli.specs.Commands.{load, unknown, form_in, Name, name_word, name_json}
+use Rattle.jsonb_column_cli.specs.declared.answer.TheConstants.{MAX_TEXT_DEPTH}
 
 -- The rows of a column, each by its bytes.
 abbrev pub Rows : Type 0
@@ -51,7 +51,7 @@ rows_line rows = codes "ok" ++ spoken rows
 
 -- The text nests within the greatest depth.
 abbrev pub IsShallow : List ℕ → Type 0
-IsShallow text = text_depth text ≤ MAX_DEPTH
+IsShallow text = text_depth text ≤ MAX_TEXT_DEPTH
 
 -- The text means a tree, and the bytes are its canonical document.
 abbrev pub IsGiven : List ℕ → List ℕ → Type 0
@@ -59,7 +59,7 @@ IsGiven text bytes = IsShallow text × ParsesTo text (Ok bytes)
 
 -- Why a text gives no document, where memory is not refused.
 abbrev pub RefusesText : List ℕ → Refusal → Type 0
-RefusesText text TooDeep = MAX_DEPTH < text_depth text
+RefusesText text TooDeep = MAX_TEXT_DEPTH < text_depth text
 RefusesText text (Call InvalidJson) = IsShallow text × ParsesTo text (Err InvalidJson)
 RefusesText text (Call InvalidJsonb) = IsShallow text × ParsesTo text (Err InvalidJsonb)
 RefusesText text refusal = ⊥
@@ -70,9 +70,9 @@ refusal_of deep.TooDeep = TooDeep
 refusal_of (deep.Refused e) = Call e
 
 -- The name of a member is these bytes.
-abbrev pub IsName : Name → List ℕ → Type 0
-IsName (name_word word) name = name ≡ word
-IsName (name_json json) name = Json (chars json) (trees.text name)
+abbrev pub IsMemberName : Name → List ℕ → Type 0
+IsMemberName (name_word word) name = name ≡ word
+IsMemberName (name_json json) name = Json (chars json) (trees.text name)
 
 -- Why a name is none, where memory is not refused.
 abbrev pub RefusesName : Name → Refusal → Type 0
@@ -81,14 +81,14 @@ RefusesName (name_json json) (Call InvalidJson) =
 RefusesName name refusal = ⊥
 
 -- The documents are the rows sorted by value; equal ones keep their order in the column.
-pub record IsOrderOf (rows : Rows) (order : List Document) : Type 0 where
+pub record AreRowsSorted (rows : Rows) (order : List Document) : Type 0 where
   pub permutation : IsPermutation rows (map document_bytes order)
   pub ordered : IsSorted (on document_tree tree_cmp) order
   pub stable : IsStable (on tree_in tree_cmp) rows (map document_bytes order)
 
 -- The index that decimal digits mean.
-abbrev pub index_in : List ℕ → ℕ
-index_in digits = digits_value 10 (without_leading_plus digits)
+abbrev pub row_index : List ℕ → ℕ
+row_index digits = digits_value 10 (without_leading_plus digits)
 
 -- The digits, which may follow a plus sign, are a numeral.
 abbrev pub IsIndexNumeral : List ℕ → Type 0
@@ -96,7 +96,7 @@ IsIndexNumeral digits = IsNumeral 10 (without_leading_plus digits)
 
 -- The digits, which may follow a plus sign, are the index of a row.
 abbrev pub IsIndex : Rows → List ℕ → Type 0
-IsIndex rows digits = IsIndexNumeral digits × (index_in digits < length rows)
+IsIndex rows digits = IsIndexNumeral digits × (row_index digits < length rows)
 
 -- The word is hexadecimal of either case, two digits for each byte.
 abbrev pub IsHexOf : List ℕ → List ℕ → Type 0
@@ -109,49 +109,52 @@ RefusesBytes bytes InvalidJsonb = HasFaultyRow bytes
 RefusesBytes bytes e = ⊥
 
 -- The reply to a command on these rows, and the rows after it.
-abbrev pub IsAnswer : Rows → Form → List ℕ → Rows → Type 0
-IsAnswer rows (add text) reply next =
+abbrev pub IsRowsAnswer : Rows → ColumnForm → List ℕ → Rows → Type 0
+IsRowsAnswer rows (add text) reply next =
     (bytes : List ℕ) × (IsGiven text bytes × ((reply ≡ codes "ok") × (next ≡ rows ++ bytes ∷ [])))
-IsAnswer rows count reply next = (reply ≡ codes "ok " ++ decimal (length rows)) × (next ≡ rows)
-IsAnswer rows (row index) reply next = IsIndex rows index
-    × ((reply ≡ rows_line (slice_index_or rows (index_in index) [] ∷ [])) × (next ≡ rows))
-IsAnswer rows sort reply next = (order : List Document)
-    × (IsOrderOf rows order × ((reply ≡ rows_line (map document_bytes order)) × (next ≡ rows)))
-IsAnswer rows (find name value) reply next =
+IsRowsAnswer rows count reply next = (reply ≡ codes "ok " ++ decimal (length rows)) × (next ≡ rows)
+IsRowsAnswer rows (row index) reply next = IsIndex rows index
+    × ((reply ≡ rows_line (slice_index_or rows (row_index index) [] ∷ [])) × (next ≡ rows))
+IsRowsAnswer rows sort reply next = (order : List Document)
+    × (AreRowsSorted rows order × ((reply ≡ rows_line (map document_bytes order)) × (next ≡ rows)))
+IsRowsAnswer rows (find name value) reply next =
     (own : List ℕ)
     × ((bytes : List ℕ)
-    × (IsName name own × (IsGiven value bytes
+    × (IsMemberName name own × (IsGiven value bytes
     × ((reply ≡ rows_line (filter (has_member own (tree_in bytes)) rows)) × (next ≡ rows)))))
-IsAnswer rows (range low high) reply next =
+IsRowsAnswer rows (range low high) reply next =
     (a : List ℕ)
     × ((b : List ℕ)
-    × ((order : List Document) × (IsGiven low a × (IsGiven high b × (IsOrderOf rows order
-    × ((reply ≡ rows_line (map document_bytes (filter (is_between (tree_in a) (tree_in b)) order)))
+    × ((order : List Document) × (IsGiven low a × (IsGiven high b × (AreRowsSorted rows order
+    × ((reply
+    ≡ rows_line (map document_bytes (filter (is_row_between (tree_in a) (tree_in b)) order)))
     × (next ≡ rows)))))))
-IsAnswer rows save reply next = (reply ≡ codes "ok " ++ encode_lower (storage rows)) × (next ≡ rows)
-IsAnswer rows (load word) reply next =
-    (bytes : List ℕ) × (IsHexOf bytes word × (AreStored next bytes × (reply ≡ codes "ok")))
-IsAnswer rows unknown reply next = ⊥
+IsRowsAnswer rows save reply next =
+    (reply ≡ codes "ok " ++ encode_lower (storage rows)) × (next ≡ rows)
+IsRowsAnswer rows (load word) reply next =
+    (bytes : List ℕ) × (IsHexOf bytes word × (AreStoredRows next bytes × (reply ≡ codes "ok")))
+IsRowsAnswer rows unknown reply next = ⊥
 
 -- A command on these rows is refused for this reason.
-abbrev pub IsRefusal : Rows → Form → Refusal → Type 0
-IsRefusal rows form (Call OutOfMemory) = ⊤
-IsRefusal rows (add text) refusal = RefusesText text refusal
-IsRefusal rows (row index) BadCommand = IsIndexNumeral index → ⊥
-IsRefusal rows (row index) NoRow = IsIndexNumeral index × (length rows ≤ index_in index)
-IsRefusal rows (find name value) refusal = RefusesName name refusal
-    ⊎ (((own : List ℕ) × IsName name own) × RefusesText value refusal)
-IsRefusal rows (range low high) refusal = RefusesText low refusal
+abbrev pub IsRowsRefusal : Rows → ColumnForm → Refusal → Type 0
+IsRowsRefusal rows form (Call OutOfMemory) = ⊤
+IsRowsRefusal rows (add text) refusal = RefusesText text refusal
+IsRowsRefusal rows (row index) BadCommand = IsIndexNumeral index → ⊥
+IsRowsRefusal rows (row index) NoRow = IsIndexNumeral index × (length rows ≤ row_index index)
+IsRowsRefusal rows (find name value) refusal = RefusesName name refusal
+    ⊎ (((own : List ℕ) × IsMemberName name own) × RefusesText value refusal)
+IsRowsRefusal rows (range low high) refusal = RefusesText low refusal
     ⊎ (((bytes : List ℕ) × IsGiven low bytes) × RefusesText high refusal)
-IsRefusal rows (load word) BadHex = (bytes : List ℕ) → IsHexOf bytes word → ⊥
-IsRefusal rows (load word) (Call e) = (bytes : List ℕ) × (IsHexOf bytes word × RefusesBytes bytes e)
-IsRefusal rows unknown BadCommand = ⊤
-IsRefusal rows form refusal = ⊥
+IsRowsRefusal rows (load word) BadHex = (bytes : List ℕ) → IsHexOf bytes word → ⊥
+IsRowsRefusal rows (load word) (Call e) =
+    (bytes : List ℕ) × (IsHexOf bytes word × RefusesBytes bytes e)
+IsRowsRefusal rows unknown BadCommand = ⊤
+IsRowsRefusal rows form refusal = ⊥
 
 -- A command is answered, or it is refused and the rows are unchanged.
-abbrev pub IsOutcome : Rows → Form → Result (List ℕ) Refusal → Rows → Type 0
-IsOutcome rows form (Ok reply) next = IsAnswer rows form reply next
-IsOutcome rows form (Err refusal) next = IsRefusal rows form refusal × (next ≡ rows)
+abbrev pub IsOutcome : Rows → ColumnForm → Result (List ℕ) Refusal → Rows → Type 0
+IsOutcome rows form (Ok reply) next = IsRowsAnswer rows form reply next
+IsOutcome rows form (Err refusal) next = IsRowsRefusal rows form refusal × (next ≡ rows)
 
 -- The outcome of a line: that of its command, or `InvalidUtf8` if it is not UTF-8.
 abbrev pub IsLineOutcome : Rows → List ℕ → Result (List ℕ) Refusal → Rows → Type 0
@@ -160,12 +163,12 @@ IsLineOutcome rows line outcome next =
     ⊎ ((IsUtf8 line → ⊥) × ((outcome ≡ Err (Call InvalidUtf8)) × (next ≡ rows)))
 
 -- The word that reports the reason of a refusal.
-abbrev pub refusal_name : Refusal → List ℕ
-refusal_name BadCommand = codes "BadCommand"
-refusal_name TooDeep = codes "TooDeep"
-refusal_name BadHex = codes "BadHex"
-refusal_name NoRow = codes "NoRow"
-refusal_name (Call e) = name_of e
+abbrev pub column_refusal_name : Refusal → List ℕ
+column_refusal_name BadCommand = codes "BadCommand"
+column_refusal_name TooDeep = codes "TooDeep"
+column_refusal_name BadHex = codes "BadHex"
+column_refusal_name NoRow = codes "NoRow"
+column_refusal_name (Call e) = name_of e
 
 -- The bytes of a reply.
 abbrev pub reply_of : Result (String Global) Refusal → Result (List ℕ) Refusal
@@ -175,7 +178,7 @@ reply_of (Err refusal) = Err refusal
 -- The reply line, without its line feed.
 abbrev pub reply_line : Result (List ℕ) Refusal → List ℕ
 reply_line (Ok reply) = reply
-reply_line (Err refusal) = codes "error " ++ refusal_name refusal
+reply_line (Err refusal) = codes "error " ++ column_refusal_name refusal
 
 -- The reply to a line on these rows, and the rows after it.
 pub record AnswersLine (rows : Rows) (line reply : List ℕ) (next : Rows) : Type 0 where

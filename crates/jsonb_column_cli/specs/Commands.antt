@@ -9,16 +9,16 @@ pub data Name : Type 0 where
   name_json : (text : List ℕ) → Name
 
 -- A command with its arguments.
-pub data Form : Type 0 where
-  add : (text : List ℕ) → Form
-  count : Form
-  row : (index : List ℕ) → Form
-  sort : Form
-  find : (name : Name) (value : List ℕ) → Form
-  range : (low high : List ℕ) → Form
-  save : Form
-  load : (word : List ℕ) → Form
-  unknown : Form
+pub data ColumnForm : Type 0 where
+  add : (text : List ℕ) → ColumnForm
+  count : ColumnForm
+  row : (index : List ℕ) → ColumnForm
+  sort : ColumnForm
+  find : (name : Name) (value : List ℕ) → ColumnForm
+  range : (low high : List ℕ) → ColumnForm
+  save : ColumnForm
+  load : (word : List ℕ) → ColumnForm
+  unknown : ColumnForm
 
 -- The character is a space.
 abbrev pub is_space : ℕ → Bool
@@ -45,14 +45,14 @@ name_len is_open is_escaped (b ∷ bytes) = if (b == 32) && not is_open then 0
     else suc (name_len (open_after is_open is_escaped b) (escaped_after is_open is_escaped b) bytes)
 
 -- The name and the text that `find` receives: the name is a JSON string if it begins with a quote.
-abbrev pub find_in : List ℕ → Form
+abbrev pub find_in : List ℕ → ColumnForm
 find_in given = if begins_with_quote given
     then find (name_json (take (name_len false false given) given))
     (drop (name_len false false given + 1) given)
     else find (name_word (before_first is_space given)) (after_first is_space given)
 
 -- The command with this name and these arguments.
-abbrev pub form_named : List ℕ → List ℕ → Form
+abbrev pub form_named : List ℕ → List ℕ → ColumnForm
 form_named name given =
     if bytes_eq name (codes "add") then add given
     else if bytes_eq name (codes "count") then count
@@ -66,5 +66,5 @@ form_named name given =
     else unknown
 
 -- The command of a line: its name is before the first space.
-abbrev pub form_in : List ℕ → Form
+abbrev pub form_in : List ℕ → ColumnForm
 form_in line = form_named (before_first is_space line) (after_first is_space line)

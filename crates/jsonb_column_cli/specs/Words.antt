@@ -9,11 +9,11 @@ pub use Rattle.jsonb.specs.Owned.{owned_bytes}
 pub use Rattle.answer_lines.specs.Session.{AppendsBeginning, AppendsReplies, AppendsWhole}
 pub use Rattle.answer_lines.specs.Session.{AreAnswers}
 pub use Rattle.jsonb_column_cli.specs.Answers.{AnswersLine, IsGiven, IsLineOutcome, IsOutcome}
-pub use Rattle.jsonb_column_cli.specs.Answers.{IsRefusal, Rows, refusal_name, refusal_of}
+pub use Rattle.jsonb_column_cli.specs.Answers.{IsRowsRefusal, Rows, column_refusal_name, refusal_of}
 pub use Rattle.jsonb_column_cli.specs.Answers.{reply_line, reply_of, rows_line}
 pub use Rattle.jsonb_column_cli.specs.Commands.{add, count, escaped_after, find, find_in, form_in}
 pub use Rattle.jsonb_column_cli.specs.Commands.{is_space, load, name_len, name_word}
 pub use Rattle.jsonb_column_cli.specs.Commands.{open_after, range, row, save, sort}
 pub use Rattle.jsonb_column_cli.specs.Fault.{fault_line}
-pub use Rattle.jsonb_column_cli.specs.Grammar.{form_of, name_view}
+pub use Rattle.jsonb_column_cli.specs.Grammar.{column_form, name_view}
 pub use Rattle.jsonb_column_cli.specs.declared.answer.Refusal.TheVariants.{Call}

@@ -5,9 +5,9 @@ ghost use Rattle.std.specs.Prelude.{IsTrue, string_bytes};
 ghost use Rattle.jsonb_column_cli.specs.Words.{AllDigits, IsNumeral, without_leading_plus, Call};
 ghost use Rattle.jsonb_column_cli.specs.Words.{OutOfMemory, IsDocument, document_bytes, add, count};
 ghost use Rattle.jsonb_column_cli.specs.Words.{owned_bytes, row, sort, find, range, save, load};
-ghost use Rattle.jsonb_column_cli.specs.Words.{IsGiven, IsOutcome, IsRefusal, refusal_name};
-ghost use Rattle.jsonb_column_cli.specs.Words.{refusal_of, name_word, name_view};
-ghost use Rattle.jsonb_column_cli.specs.Words.{reply_line, rows_line, reply_of};
+ghost use Rattle.jsonb_column_cli.specs.Words.{IsGiven, IsOutcome, IsRowsRefusal};
+ghost use Rattle.jsonb_column_cli.specs.Words.{column_refusal_name, refusal_of, name_word};
+ghost use Rattle.jsonb_column_cli.specs.Words.{name_view, reply_line, rows_line, reply_of};
 
 use hex::FromHexError;
 use jsonb::{Document, Error, OwnedJsonb, ParseError, Reads, is_text_within, parse_string};
@@ -15,7 +15,7 @@ use jsonb_column::{Column, Sorted};
 use std::alloc::{AllocError, Global};
 
 /// How deep the text of a line may nest. Reading it takes about 2 KB of stack for each level.
-pub const MAX_DEPTH: usize = 1024;
+pub const MAX_TEXT_DEPTH: usize = 1024;
 
 /// How deep a row may nest that is loaded. Walking it takes less than 1 KB of stack for each level.
 pub const MAX_ROW_DEPTH: usize = 4096;
@@ -25,7 +25,7 @@ pub const MAX_ROW_DEPTH: usize = 4096;
 pub enum Refusal {
     /// The line does not name a command, or its index is not a number.
     BadCommand,
-    /// A text nests deeper than `MAX_DEPTH`.
+    /// A text nests deeper than `MAX_TEXT_DEPTH`.
     TooDeep,
     /// A word is not hexadecimal.
     BadHex,
@@ -65,7 +65,7 @@ impl From<AllocError> for Refusal {
 impl Refusal {
     /// The word after `error` in the reply.
     pub fn name(&self) -> &'static str
-        ensures { result.now ≡ refusal_name self.now }
+        ensures { result.now ≡ column_refusal_name self.now }
     {
         match self {
             Refusal::BadCommand => "BadCommand",
@@ -111,9 +111,9 @@ fn answer_rows(alloc: Global, rows: &[Document<'_>]) -> Result<String, Refusal>
 fn parse_document(alloc: Global, text: &str) -> Result<OwnedJsonb, Refusal>
     ensures meaning { IfOk result (λ document. IsGiven text.now (owned_bytes document)) }
     ensures document { IfOk result (λ document. IsDocument (owned_bytes document)) }
-    ensures refused { IfErr result (λ refusal. IsRefusal [] (add text.now) refusal) }
+    ensures refused { IfErr result (λ refusal. IsRowsRefusal [] (add text.now) refusal) }
 {
-    Ok(OwnedJsonb::parse_within(alloc, text, MAX_DEPTH)?)
+    Ok(OwnedJsonb::parse_within(alloc, text, MAX_TEXT_DEPTH)?)
 }
 
 /// Adds a row with the value of a JSON text.
@@ -122,7 +122,7 @@ pub fn answer_add(alloc: Global, column: &mut Column, text: &str) -> Result<Stri
 {
     // The reply is allocated before the rows change.
     let reply = String::from_str(alloc, "ok")?;
-    if !is_text_within(text.as_bytes(), MAX_DEPTH) {
+    if !is_text_within(text.as_bytes(), MAX_TEXT_DEPTH) {
         return Err(Refusal::TooDeep);
     }
     column.push_json(alloc, text)?;

@@ -3,7 +3,7 @@
 ghost use Rattle.std.specs.Prelude.{◌≡◌, ◌+◌, ◌<◌, ◌≤◌, false, take, drop, length, slice_index};
 ghost use Rattle.jsonb_column_cli.specs.Words.{before_first, after_first, IsLineOutcome, reply_of};
 ghost use Rattle.jsonb_column_cli.specs.Words.{is_space, form_in, find_in, name_len, open_after};
-ghost use Rattle.jsonb_column_cli.specs.Words.{escaped_after, form_of};
+ghost use Rattle.jsonb_column_cli.specs.Words.{escaped_after, column_form};
 
 use crate::answer::{
     Name, Refusal, answer_add, answer_count, answer_find, answer_load, answer_range, answer_row,
@@ -38,7 +38,7 @@ fn split_space(text: &str) -> (&str, &str)
 
 // What `find` is given: a name, which is a JSON string where it begins with a quote, and a text.
 fn parse_find(given: &str) -> Command<'_>
-    ensures { form_of result ≡ find_in given.now }
+    ensures { column_form result ≡ find_in given.now }
 {
     let (name, value) = match given.as_bytes() {
         [b'"', ..] => {
@@ -109,7 +109,7 @@ impl<'a> Command<'a> {
 
     /// The command of a line.
     pub fn parse(line: &'a str) -> Command<'a>
-        ensures { form_of result ≡ form_in line.now }
+        ensures { column_form result ≡ form_in line.now }
     {
         let (command, given) = split_space(line);
         if command == "add" {
@@ -136,7 +136,7 @@ impl<'a> Command<'a> {
 
     /// Executes the command and returns its reply. Only `Add` and `Load` change the rows.
     pub fn answer(self, alloc: Global, column: &mut Column) -> Result<String, Refusal>
-        ensures { IsOutcome column.old (form_of self.entry) (reply_of result) column.new }
+        ensures { IsOutcome column.old (column_form self.entry) (reply_of result) column.new }
     {
         match self {
             Command::Add(text) => answer_add(alloc, column, text),

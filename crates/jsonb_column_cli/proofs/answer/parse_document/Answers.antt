@@ -1,5 +1,5 @@
 use Rattle.std.proofs.Common.{[]}
-use Rattle.jsonb_column_cli.specs.Answers.{IsRefusal, refusal_of}
+use Rattle.jsonb_column_cli.specs.Answers.{IsRowsRefusal, refusal_of}
 use Rattle.jsonb_column_cli.specs.Commands.{add}
 use Rattle.jsonb_column_cli.proofs.Replies.{if_err, text_refused}
 use Rattle.jsonb_column_cli.proofs.answer.parse_document.Goals as goal
@@ -8,7 +8,7 @@ pub returns-in_err-parse_within-clause-refused : goal.returns-in_err-parse_withi
 returns-in_err-parse_within-clause-refused c =
     let e = c.in_err-parse_within.field-0.0 in
     let text = c.args.text.now in
-    if_err (IsRefusal [] (add text)) c.from_residual.result (refusal_of e)
+    if_err (IsRowsRefusal [] (add text)) c.from_residual.result (refusal_of e)
     c.from_residual.ensures.1 (text_refused text e c.in_err-parse_within.ensures.value)
 
 pub returns-clause-meaning : goal.returns-clause-meaning
